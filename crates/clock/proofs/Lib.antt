@@ -1,0 +1,2 @@
+pub mod While
+pub mod Midnight

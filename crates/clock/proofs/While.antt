@@ -1,0 +1,56 @@
+-- A `while` whose size falls with each turn is one turn and then the same again: any count of turns that is not below the size gives the same.
+use mathlib.Core.Path.{_≡_, refl, sym, _∙_}
+use mathlib.Core.Bool.{Bool, true, false, cond}
+use Prim.Native.Nat.{ℕ, zero, suc, _≤_, _<_}
+use native.Mathlib.Omega.{arith}
+use native.Mathlib.Nat.{le-refl}
+use Rattle.clock.specs.While.{turns, while}
+
+-- where the test fails, no count of turns changes anything
+stays : {A : Type 0} (test : A → Bool) (turn : A → A) (n : ℕ) (a : A) → test a ≡ false → turns n test turn a ≡ a
+unfolding turns
+stays test turn zero a e = refl
+stays test turn (suc n) a e = rw (e, turns)
+
+pub rests : {A : Type 0} (size : A → ℕ) (test : A → Bool) (turn : A → A) (a : A) → test a ≡ false → while size test turn a ≡ a
+unfolding while
+rests size test turn a e = stays test turn (size a) a e
+
+module _ {A : Type 0} (size : A → ℕ) (test : A → Bool) (turn : A → A) (falls : (a : A) → test a ≡ true → size (turn a) < size a) where
+  turned : (n : ℕ) (a : A) → test a ≡ true → turns (suc n) test turn a ≡ turns n test turn (turn a)
+  unfolding turns
+  turned n a e = rw (e, turns)
+
+  enough : (n m : ℕ) (a : A) → size a ≤ n → size a ≤ m → turns n test turn a ≡ turns m test turn a
+  enough zero m a h k = go (test a) refl
+    where
+      go : (b : Bool) → test a ≡ b → turns zero test turn a ≡ turns m test turn a
+      go true e = absurd (omega (arith, falls a e))
+      go false e = stays test turn zero a e ∙ sym (stays test turn m a e)
+  enough (suc n) zero a h k = go (test a) refl
+    where
+      go : (b : Bool) → test a ≡ b → turns (suc n) test turn a ≡ turns zero test turn a
+      go true e = absurd (omega (arith, falls a e))
+      go false e = stays test turn (suc n) a e ∙ sym (stays test turn zero a e)
+  enough (suc n) (suc m) a h k = go (enough n m (turn a)) (test a) refl
+    where
+      go : (size (turn a) ≤ n → size (turn a) ≤ m → turns n test turn (turn a) ≡ turns m test turn (turn a))
+          → (b : Bool) → test a ≡ b → turns (suc n) test turn a ≡ turns (suc m) test turn a
+      go again true e =
+          turned n a e ∙ again (omega (arith, falls a e)) (omega (arith, falls a e)) ∙ sym (turned m a e)
+      go again false e = stays test turn (suc n) a e ∙ sym (stays test turn (suc m) a e)
+
+  pub again : (a : A) → test a ≡ true → while size test turn a ≡ while size test turn (turn a)
+  unfolding while
+  again a e = go (size a) (falls a e) (le-refl _)
+    where
+      go : (n : ℕ) → size (turn a) < n → size a ≤ n → turns n test turn a ≡ turns (size (turn a)) test turn (turn a)
+      go zero h k = absurd (omega arith)
+      go (suc n) h k = turned n a e ∙ enough n (size (turn a)) (turn a) (omega arith) (le-refl _)
+
+  pub unrolls : (a : A) → while size test turn a ≡ cond (test a) (while size test turn (turn a)) a
+  unrolls a = go (test a) refl
+    where
+      go : (b : Bool) → test a ≡ b → while size test turn a ≡ cond b (while size test turn (turn a)) a
+      go true e = again a e
+      go false e = rests size test turn a e

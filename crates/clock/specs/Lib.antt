@@ -1,0 +1,3 @@
+pub mod While
+pub mod Midnight
+pub mod Clock

@@ -1,0 +1,156 @@
+-- Demand 3: one claim about every list of calls in a room.
+use mathlib.Core.Path.{_≡_}
+use mathlib.Core.Bool.{Bool, true, cond, _||_}
+use mathlib.Core.List.{List, [], _∷_, List·Memᴰ}
+use Prim.Native.Nat.{ℕ, _*_, _≤_, _<_}
+use lib.Dec.{T, eqb}
+use lib.IntN.{ℤ, pos, _+ℤ_, _-ℤ_, _*ℤ_, natAbs}
+use lib.ListN.{getD}
+use lib.Signed.{_≤ℤ_, _<ℤ_}
+use Rattle.answer.specs.declared.Answer.{Answer}
+use Rattle.answer.specs.declared.Answer.the-variants.{Done}
+use Rattle.answer.specs.Answer.{number}
+use Rattle.clock.specs.Midnight.{dayMillis}
+use Rattle.clock.specs.Clock.{reading}
+use Rattle.table.specs.declared.Entry.{Entry}
+use Rattle.table.specs.Entry.{freshEntry, up}
+use Rattle.host.specs.Guard.{done}
+use Rattle.host.specs.Outcome.{Outcome}
+use Rattle.network.specs.Call.{Call, messageOf}
+use Rattle.network.specs.History.{Event, State, Left, leftBy, places, Lends, outcome, after}
+use Rattle.network.specs.Room.{Room, at, afresh, HostAt, Proper}
+
+-- ---- the calls of the list
+
+-- "ticks, sends, arrivals, self-reports and seconds"; a send and an arrival have the room's millisecond
+pub data RoomCall : Type 0 where
+  ticks : RoomCall
+  seconds : RoomCall
+  reports : RoomCall
+  sends : (link : ℕ) (buffer : List ℕ) (ms : ℤ) → RoomCall
+  arrives : (link : ℕ) (packet : List ℕ) (ms : ℤ) → RoomCall
+
+abbrev pub callOf : RoomCall → Call
+callOf ticks = Call.ticks
+callOf seconds = Call.seconds
+callOf reports = Call.reports
+callOf (sends i buffer t) = Call.sends i buffer
+callOf (arrives i packet t) = Call.arrives i packet
+
+-- a call at a seat, with the run that it is lent
+pub record Step : Type 0 where
+  pub seat : ℕ
+  pub run : List Entry
+  pub call : RoomCall
+
+-- "Each call gets its seat's settings"
+abbrev pub eventOf : Room → Step → Event
+eventOf r x =
+    record { number = r .number (x .seat); settings = r .settings (x .seat); run = x .run; call = callOf (x .call) }
+
+-- ---- the room after a list of calls
+
+-- a message that was sent with answer 0: from which link of which seat, when, and its octets
+pub record Message : Type 0 where
+  pub seat : ℕ
+  pub link : ℕ
+  pub ms : ℤ
+  pub octets : List ℕ
+
+-- what each number's last call left, and all that was sent so far
+pub record World : Type 0 where
+  pub state : State
+  pub mail : List Message
+
+abbrev pub result : Room → World → Step → Outcome
+result r w x = outcome (w .state) (eventOf r x)
+
+-- the mail after a call that left this
+abbrev pub mailAfter : (seat : ℕ) → Outcome → RoomCall → List Message → List Message
+mailAfter a o ticks mail = mail
+mailAfter a o seconds mail = mail
+mailAfter a o reports mail = mail
+mailAfter a o (sends i buffer t) mail =
+    cond (done (o .answer)) (record { seat = a; link = i; ms = t; octets = messageOf o } ∷ mail) mail
+mailAfter a o (arrives i packet t) mail = mail
+
+unfoldable pub step : Room → World → Step → World
+step r w x =
+    record { state = after (w .state) (eventOf r x); mail = mailAfter (x .seat) (result r w x) (x .call) (w .mail) }
+
+unfoldable pub history : Room → World → List Step → World
+history r w [] = w
+history r w (x ∷ xs) = history r (step r w x) xs
+
+-- ---- what demand 3 asks of each call
+
+-- "Our reading in that call is this number plus the seat's fixed number, and is below 86,400,000."
+pub record Reads (r : Room) (w : World) (a : ℕ) (t : ℤ) : Type 0 where
+  pub clock : reading (w .state (r .number a) .clock) .time .0 ≡ t +ℤ r .fixed a
+  pub no-midnight : reading (w .state (r .number a) .clock) .time .0 <ℤ dayMillis .0
+
+-- "each arrival answered 0, 10 or 11, has a whole number, the room's millisecond"
+abbrev pub timed : Answer → Bool
+timed a = eqb (number a) 0 || eqb (number a) 10 || eqb (number a) 11
+
+-- ".. where the arrival has a millisecond, that is 0 to 16,383 above the send's"
+pub record Later (r : Room) (w : World) (a : ℕ) (t : ℤ) (m : Message) : Type 0 where
+  pub reads : Reads r w a t
+  pub way : ℕ
+  pub short : way ≤ 16383
+  pub later : t ≡ m .ms +ℤ pos way
+
+-- "Each arrival is given a copy of the message that one earlier send of the list, answered 0, wrote at the cable's other end"
+pub record Delivered (r : Room) (w : World) (a i : ℕ) (packet : List ℕ) (t : ℤ) (answer : Answer) : Type 0 where
+  pub message : Message
+  pub earlier : List·Memᴰ message (w .mail)
+  pub a-copy : packet ≡ message .octets
+  pub other-end : r .cable a i ≡ at (message .seat) (message .link)
+  pub in-time : T (timed answer) → Later r w a t message
+
+-- nothing is asked of the reading in other calls; a send may name any link and lend any buffer
+abbrev pub Timely : Room → World → (seat : ℕ) → Outcome → RoomCall → Type 0
+Timely r w a o ticks = Unit {0}
+Timely r w a o seconds = Unit {0}
+Timely r w a o reports = Unit {0}
+Timely r w a o (sends i buffer t) = o .answer ≡ Done → Reads r w a t
+Timely r w a o (arrives i packet t) = Delivered r w a i packet t (o .answer)
+
+pub record Allowed (r : Room) (w : World) (x : Step) : Type 0 where
+  pub seat-in : x .seat < r .seats
+  -- "Each call gets .. the clock, links and entries as that seat's last call left them"
+  pub lends : Lends (w .state) (eventOf r x)
+  pub timely : Timely r w (x .seat) (result r w x) (x .call)
+
+-- each call of a list is allowed in the world that those before it made
+unfoldable pub Allows : Room → World → List Step → Type 0
+Allows r w [] = Unit {0}
+Allows r w (x ∷ xs) = Allowed r w x × Allows r (step r w x) xs
+
+-- ---- the claim
+
+-- "setting each afresh gave 0; the list starts there", with nothing sent
+pub record Starts (r : Room) (w : World) : Type 0 where
+  pub set-afresh : (a : ℕ) → a < r .seats → w .state (r .number a) ≡ leftBy (r .number a) [] (afresh r a)
+  pub no-mail : w .mail ≡ []
+
+-- the entry of id i in the table of seat b
+abbrev pub entryOf : Room → World → (b i : ℕ) → Entry
+entryOf r w b i = getD (w .state (r .number b) .places) i freshEntry
+
+-- The entry "is for a host at one of these seats. Its offset differs from the true difference, the fixed number of that seat less that of the table's seat, by at most 101/200 of the delay."
+pub record Right (r : Room) (b i : ℕ) (e : Entry) : Type 0 where
+  pub seat : ℕ
+  pub seat-in : seat < r .seats
+  pub host-there : HostAt r i seat
+  pub close : pos (200 * natAbs (e .offset .0 -ℤ (r .fixed seat -ℤ r .fixed b))) ≤ℤ (pos 101 *ℤ e .delay .0)
+
+-- "An entry with a delay under 30,000, in any seat's table": "An entry here is one of a seat's first NHOSTS."
+unfoldable pub Claim : Room → World → Type 0
+Claim r w =
+    (b i : ℕ) → b < r .seats → i < r .settings b .layout .nhosts → up (entryOf r w b i) ≡ true
+    → Right r b i (entryOf r w b i)
+
+unfoldable pub Demand3 : Type 0
+Demand3 =
+    (r : Room) → Proper r → (w : World) → Starts r w → (xs : List Step) → Allows r w xs → Claim r (history r w xs)

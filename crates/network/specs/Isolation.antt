@@ -1,0 +1,131 @@
+-- Demand 1, lists: "A seat's answers depend only on its own settings, its own calls, the packets given to it and the lengths of what is lent, provided each call is lent what the seat's last one left."
+use mathlib.Core.Path.{_≡_}
+use mathlib.Core.Bool.{cond}
+use mathlib.Core.List.{List, [], _∷_}
+use Prim.Native.Nat.{ℕ}
+use lib.Dec.{eqb}
+use lib.ListN.{length, take}
+use Rattle.answer.specs.declared.Answer.the-variants.{Done}
+use Rattle.clock.specs.declared.Clock.{Clock}
+use Rattle.table.specs.declared.Entry.{Entry}
+use Rattle.host.specs.declared.Settings.{Settings}
+use Rattle.host.specs.declared.Links.{Links}
+use Rattle.host.specs.State.{hostCount}
+use Rattle.host.specs.Guard.{guardFresh}
+use Rattle.host.specs.Outcome.{Outcome}
+use Rattle.network.specs.Call.{Call, initializes, perform}
+use Rattle.network.specs.Locality.{SameInput, Told, told}
+use Rattle.network.specs.History.{Event, State, Left, outcome, places, put, after, afterAll, LendsAll}
+
+-- ---- a host's own calls
+
+-- the events of a list at number k
+abbrev pub own : (number : ℕ) → List Event → List Event
+own k [] = []
+own k (e ∷ es) = cond (eqb (e .number) k) (e ∷ own k es) (own k es)
+
+-- what is told at number k, call by call
+unfoldable pub toldAt : (number : ℕ) → State → List Event → List Told
+toldAt k w [] = []
+toldAt k w (e ∷ es) =
+    cond (eqb (e .number) k) (told (outcome w e) ∷ toldAt k (after w e) es) (toldAt k (after w e) es)
+
+-- two calls that agree in settings, input and lengths
+pub record Agree (e f : Event) : Type 0 where
+  pub settings-same : e .settings ≡ f .settings
+  pub input-same : SameInput (e .call) (f .call)
+  pub length-same : length (e .run) ≡ length (f .run)
+
+unfoldable pub Pairwise : List Event → List Event → Type 0
+Pairwise [] [] = Unit {0}
+Pairwise [] (f ∷ fs) = ⊥
+Pairwise (e ∷ es) [] = ⊥
+Pairwise (e ∷ es) (f ∷ fs) = Agree e f × Pairwise es fs
+
+-- ---- isolation
+
+unfoldable pub Isolation : Type 0
+Isolation =
+    (k : ℕ) (w v : State) (es fs : List Event) → LendsAll w es → LendsAll v fs → Pairwise (own k es) (own k fs)
+    → w k ≡ v k → (toldAt k w es ≡ toldAt k v fs) × (afterAll w es k ≡ afterAll v fs k)
+
+-- ---- isolation from a setting afresh on
+
+-- The call is a setting afresh that is answered 0.
+pub record SetsAfresh (e : Event) : Type 0 where
+  pub call-is : e .call ≡ initializes
+  pub answered : guardFresh (e .settings) (e .number) (e .run) ≡ Done
+
+-- The settings stay s up to the next setting afresh that is answered 0, and so on; they end as t.
+pub data Steady : Settings → List Event → Settings → Type 0 where
+  stays : {s : Settings} → Steady s [] s
+  goes-on : {s t : Settings} {e : Event} {es : List Event} → e .settings ≡ s → Steady s es t → Steady s (e ∷ es) t
+  begins-anew : {s t : Settings} {e : Event} {es : List Event} → SetsAfresh e → Steady (e .settings) es t → Steady s (e ∷ es) t
+
+-- The first call sets afresh, and the settings are steady from there; they end as t.
+pub data FromAfresh : List Event → Settings → Type 0 where
+  begins : {t : Settings} {e : Event} {es : List Event} → SetsAfresh e → Steady (e .settings) es t → FromAfresh (e ∷ es) t
+
+-- what is left agrees, in the places that the settings count
+pub record LeftAlike (s : Settings) (x y : Left) : Type 0 where
+  pub clock-same : x .clock ≡ y .clock
+  pub links-same : x .links ≡ y .links
+  pub entries-same : take (hostCount s) (x .places) ≡ take (hostCount s) (y .places)
+
+unfoldable pub IsolationFromAfresh : Type 0
+IsolationFromAfresh =
+    (k : ℕ) (w v : State) (es fs : List Event) (t : Settings) → LendsAll w es → LendsAll v fs
+    → Pairwise (own k es) (own k fs) → FromAfresh (own k es) t
+    → (toldAt k w es ≡ toldAt k v fs) × LeftAlike t (afterAll w es k) (afterAll v fs k)
+
+-- ---- one run that all hosts share
+
+-- a call at a number, with its settings; the run is the shared one
+pub record SharedEvent : Type 0 where
+  pub number : ℕ
+  pub settings : Settings
+  pub call : Call
+
+-- each host's clock and links, and the one run
+pub record Shared : Type 0 where
+  pub clock : ℕ → Clock
+  pub links : ℕ → Links
+  pub run : List Entry
+
+abbrev pub sharedOutcome : Shared → SharedEvent → Outcome
+sharedOutcome w e =
+    perform (e .settings) (e .number) (w .clock (e .number)) (w .links (e .number)) (w .run) (e .call)
+
+unfoldable pub sharedAfter : Shared → SharedEvent → Shared
+sharedAfter w e =
+    record {
+      clock = put (e .number) (sharedOutcome w e .clock) (w .clock);
+      links = put (e .number) (sharedOutcome w e .links) (w .links);
+      run = sharedOutcome w e .run;
+    }
+
+unfoldable pub sharedAfterAll : Shared → List SharedEvent → Shared
+sharedAfterAll w [] = w
+sharedAfterAll w (e ∷ es) = sharedAfterAll (sharedAfter w e) es
+
+unfoldable pub sharedTold : (number : ℕ) → Shared → List SharedEvent → List Told
+sharedTold k w [] = []
+sharedTold k w (e ∷ es) =
+    cond (eqb (e .number) k) (told (sharedOutcome w e) ∷ sharedTold k (sharedAfter w e) es) (sharedTold k (sharedAfter w e) es)
+
+-- the list without every other host's calls
+abbrev pub alone : (number : ℕ) → List SharedEvent → List SharedEvent
+alone k [] = []
+alone k (e ∷ es) = cond (eqb (e .number) k) (e ∷ alone k es) (alone k es)
+
+-- what is left at number k
+pub record SharedAlike (k : ℕ) (w v : Shared) : Type 0 where
+  pub clock-same : w .clock k ≡ v .clock k
+  pub links-same : w .links k ≡ v .links k
+  pub places-same : places k (w .run) ≡ places k (v .run)
+
+-- Deleting every other host's calls changes nothing at k.
+unfoldable pub Alone : Type 0
+Alone =
+    (k : ℕ) (w : Shared) (es : List SharedEvent)
+    → (sharedTold k w es ≡ sharedTold k w (alone k es)) × SharedAlike k (sharedAfterAll w es) (sharedAfterAll w (alone k es))

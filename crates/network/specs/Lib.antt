@@ -1,0 +1,11 @@
+pub mod Call
+pub mod Answers
+pub mod Refusals
+pub mod Frame
+pub mod Locality
+pub mod Range
+pub mod History
+pub mod Isolation
+pub mod Room
+pub mod Demand3
+pub mod SharedRun

@@ -1,0 +1,68 @@
+-- "The room of demand 3."
+use mathlib.Core.Path.{_≡_}
+use mathlib.Core.Bool.{true, false}
+use mathlib.Core.List.{List}
+use Prim.Native.Nat.{ℕ, _≤_, _<_}
+use lib.IntN.{ℤ, _-ℤ_, natAbs}
+use Rattle.answer.specs.declared.Answer.the-variants.{Done}
+use Rattle.clock.specs.declared.Clock.{Clock}
+use Rattle.route.specs.declared.Found.the-variants.{Host}
+use Rattle.route.specs.Find.{sameNet}
+use Rattle.table.specs.declared.Entry.{Entry}
+use Rattle.host.specs.declared.Settings.{Settings}
+use Rattle.host.specs.declared.Links.{Links}
+use Rattle.host.specs.Settings.{clockSettingOff, ownId}
+use Rattle.host.specs.State.{broadcast}
+use Rattle.host.specs.Guard.{noLink}
+use Rattle.host.specs.Outcome.{Outcome}
+use Rattle.host.specs.Calls.{initialize}
+
+-- where the cable of a link leads: nowhere, or to a link of a seat
+pub data End : Type 0 where
+  loose : End
+  at : (seat link : ℕ) → End
+
+-- The seats are counted from 0; `number` is a seat's number k. A seat's clock reads the room's millisecond plus its fixed number.
+-- `cable a i` is the other end of the cable of link i of seat a: so no link has more than one.
+pub record Room : Type 0 where
+  pub seats : ℕ
+  pub number : ℕ → ℕ
+  pub settings : ℕ → Settings
+  pub fixed : ℕ → ℤ
+  pub cable : (seat link : ℕ) → End
+  -- what was lent to the setting afresh of each seat
+  pub clock : ℕ → Clock
+  pub links : ℕ → Links
+  pub run : ℕ → List Entry
+
+-- the setting afresh of seat a
+abbrev pub afresh : Room → ℕ → Outcome
+afresh r a = initialize (r .settings a) (r .number a) (r .clock a) (r .links a) (r .run a)
+
+-- "An id's host is at the seat whose LOCAL-ADDRESS gives it."
+abbrev pub HostAt : Room → (id seat : ℕ) → Type 0
+HostAt r i a = ownId (r .settings a) ≡ Host i
+
+-- "Each cable joins, for good, point-to-point links of two different seats."
+pub record Cabled (r : Room) (a i b j : ℕ) : Type 0 where
+  pub seat-in : a < r .seats
+  pub link-in : noLink (r .settings a) i ≡ false
+  pub point-to-point : broadcast (r .settings a) i ≡ false
+  pub two-seats : a ≡ b → ⊥
+  pub other-end : r .cable b j ≡ at a i
+
+pub record Proper (r : Room) : Type 0 where
+  -- "Take up to sixteen freshly set seats": "The seats have different numbers k, and setting each afresh gave 0"
+  pub sixteen : r .seats ≤ 16
+  pub numbers-differ : (a b : ℕ) → a < r .seats → b < r .seats → r .number a ≡ r .number b → a ≡ b
+  pub set-afresh : (a : ℕ) → a < r .seats → afresh r a .answer ≡ Done
+  -- "on one net": "Their LOCAL-ADDRESSes agree in the octets compared when an id is found, and give different ids"
+  pub one-net : (a b : ℕ) → a < r .seats → b < r .seats → sameNet (r .settings a .address) (r .settings b .address) ≡ true
+  pub ids-differ : (a b : ℕ) → a < r .seats → b < r .seats → ownId (r .settings a) ≡ ownId (r .settings b) → a ≡ b
+  -- "with one shared layout of host ids": "ADDRESS-OFFSET and NHOSTS are the same at all"
+  pub one-layout : (a b : ℕ) → a < r .seats → b < r .seats → r .settings a .layout ≡ r .settings b .layout
+  -- "clock setting off"
+  pub setting-off : (a : ℕ) → a < r .seats → r .settings a .«clock_host» ≡ clockSettingOff
+  -- "any two of these numbers differ by at most 16,384"
+  pub fixed-near : (a b : ℕ) → a < r .seats → b < r .seats → natAbs (r .fixed a -ℤ r .fixed b) ≤ 16384
+  pub cables : (a i b j : ℕ) → r .cable a i ≡ at b j → Cabled r a i b j

@@ -1,0 +1,1 @@
+// Theorems about hosts and rooms of hosts.

@@ -1,0 +1,5 @@
+pub mod Forms
+pub mod Entry
+pub mod Update
+pub mod Sweep
+pub mod Switching

@@ -1,0 +1,4 @@
+pub mod Octets
+pub mod Ip
+pub mod Hello
+pub mod Packet
