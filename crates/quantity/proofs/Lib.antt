@@ -1,1 +1,2 @@
 pub mod Ints
+pub mod Bits
