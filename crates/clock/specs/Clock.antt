@@ -64,10 +64,15 @@ reading c = record { clock = c; time = wholeMillis (c .clock) }
 unfoldable pub holdSecond : Clock → Clock
 holdSecond c = record { clock = c .clock; delta = c .delta; hold = fallSeconds (c .hold); date = c .date }
 
--- ---- ranges of what is lent: "CLOCK 0 to 86,400,000 ms, DELTA -512 to +511 ms, HOLD up to 255, DATE real"
+-- ---- ranges of what is set: "CLOCK-TICK 1 to 65,536,000 units", a second at most
 
 abbrev pub within : (least most : Units) → Units → Bool
 within least most u = not (lessUnits u least) && not (lessUnits most u)
+
+unfoldable pub tickInRange : Units → Bool
+tickInRange t = within (units (pos 1)) (toUnits (millis (pos 1000))) t
+
+-- ---- ranges of what is lent: "CLOCK 0 to 86,400,000 ms, DELTA -512 to +511 ms, HOLD up to 255, DATE real"
 
 unfoldable pub clockInRange : Clock → Bool
 clockInRange c =

@@ -3,11 +3,10 @@ use mathlib.Core.Bool.{Bool, true, false, not, _&&_, _||_}
 use Prim.Native.Nat.{ℕ}
 use lib.Dec.{ltb, leb, eqb}
 use lib.IntN.{pos}
-use Rattle.quantity.specs.declared.Units.{Units}
-use Rattle.quantity.specs.Quantity.{units, millis, toUnits, lessMillis}
+use Rattle.quantity.specs.Quantity.{millis, lessMillis}
 use Rattle.calendar.specs.Date.{real}
 use Rattle.clock.specs.Midnight.{dayMillis}
-use Rattle.clock.specs.Clock.{within}
+use Rattle.clock.specs.Clock.{tickInRange}
 use Rattle.route.specs.declared.Found.{Found}
 use Rattle.route.specs.declared.Found.the-variants.{Host, Nothing}
 use Rattle.route.specs.declared.Row.{Row}
@@ -17,10 +16,6 @@ use Rattle.host.specs.declared.Settings.{Settings}
 
 abbrev pub fromTo : (least most n : ℕ) → Bool
 fromTo least most n = leb least n && leb n most
-
--- "CLOCK-TICK 1 to 65,536,000 units", which are a second
-abbrev pub mostTick : Units
-mostTick = toUnits (millis (pos 1000))
 
 -- 255: clock setting off
 abbrev pub clockSettingOff : ℕ
@@ -43,7 +38,7 @@ settingsGood s =
     && fromTo 1 223 (s .address .first)
     && (eqb (s .«clock_host») clockSettingOff || ltb (s .«clock_host») (s .layout .nhosts))
     && fromTo 1 255 (s .«hold_interval» .0)
-    && within (units (pos 1)) mostTick (s .«clock_tick»)
+    && tickInRange (s .«clock_tick»)
     && (not (lessMillis (s .time) (millis (pos 0))) && lessMillis (s .time) dayMillis)
     && real (s .date)
     && every (λ (r : Row). ltb (r .host) (s .layout .nhosts)) (rowsOf (s .net))

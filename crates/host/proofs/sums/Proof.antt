@@ -4,7 +4,7 @@ use Rattle.calendar.specs.Date.{lastDay, real, next, previous}
 use Rattle.checksum.specs.Checksum.{fold, folded, checksumGood, checksumOf}
 use Rattle.clock.specs.While.{turns, while}
 use Rattle.clock.specs.Midnight.{dayOn, dayBack, daysOn, daysBack, midnight}
-use Rattle.clock.specs.Clock.{freshClock, reading, setBy, clockInRange}
+use Rattle.clock.specs.Clock.{freshClock, reading, setBy, tickInRange, clockInRange}
 use Rattle.wire.specs.Ip.{ipForm, ipChecksum, protocol, header}
 use Rattle.wire.specs.Hello.{helloForm, helloChecksum, reportAt, hello}
 use Rattle.wire.specs.Packet.{fields, parse, message}
@@ -26,7 +26,7 @@ use Rattle.host.proofs.sums.Statement.{statement}
 use Rattle.host.proofs.sums.Tie as tie
 
 sums-hold : Sums
-unfolding lastDay real next previous fold folded checksumGood checksumOf turns while dayOn dayBack daysOn daysBack midnight freshClock reading setBy clockInRange ipForm ipChecksum protocol header helloForm helloChecksum reportAt hello fields parse message sameNet localId search find freshEntry advertised entryInRange lineA lineB lineC lines lineD update selfReported sweep settingsGood freshLinks entries withEntries noPlaces noLink lentInRange guard guardLink sentMessage send otherLayout looped inspect step2 step3 step4 steps2to4 step5 action arrival selfReport aSends bGets bAnswers aGets learnt
+unfolding lastDay real next previous fold folded checksumGood checksumOf turns while dayOn dayBack daysOn daysBack midnight freshClock reading setBy tickInRange clockInRange ipForm ipChecksum protocol header helloForm helloChecksum reportAt hello fields parse message sameNet localId search find freshEntry advertised entryInRange lineA lineB lineC lines lineD update selfReported sweep settingsGood freshLinks entries withEntries noPlaces noLink lentInRange guard guardLink sentMessage send otherLayout looped inspect step2 step3 step4 steps2to4 step5 action arrival selfReport aSends bGets bAnswers aGets learnt
 sums-hold =
     record {
       checksum = refl;
