@@ -1,0 +1,78 @@
+-- A call is its guard and then its work: a refusal of the guard's, or work that has passed all of the guard's tests.
+use mathlib.Core.Path.{_≡_, refl, _∙_}
+use mathlib.Core.Bool.{Bool, true, false, true≢false, false≢true, cond, not, _||_}
+use mathlib.Core.List.{List}
+use Prim.Native.Nat.{ℕ, _+_}
+use borrow.Author.Tests.{ltb-false}
+use lib.Dec.{ltb}
+use lib.ListN.{length}
+use Rattle.answer.specs.declared.Answer.{Answer}
+use Rattle.answer.specs.declared.Answer.the-variants.{Done, Setting, Lent}
+use Rattle.answer.specs.Answer.{number}
+use Rattle.clock.specs.declared.Clock.{Clock}
+use Rattle.table.specs.declared.Entry.{Entry}
+use Rattle.host.specs.declared.Settings.{Settings}
+use Rattle.host.specs.declared.Links.{Links}
+use Rattle.host.specs.Settings.{settingsGood}
+use Rattle.host.specs.State.{placesPerHost, firstPlace}
+use Rattle.host.specs.Guard.{noPlaces, noLink, lentInRange, guard, guardLink, guardFresh, done}
+use Rattle.host.proofs.Places.{Holds}
+
+-- what is so of the refusal and of the work is so of the call
+pub either : {O : Type 0} (P : O → Type 0) (a : Answer) {refusal work : O}
+    → (done a ≡ false → P refusal) → (done a ≡ true → P work) → P (cond (not (done a)) refusal work)
+either P a {refusal} {work} refuses goes-on = go (done a) refl
+  where
+    go : (b : Bool) → done a ≡ b → P (cond (not b) refusal work)
+    go true e = goes-on e
+    go false e = refuses e
+
+-- ---- what a call that goes on has
+
+pub record Passed (s : Settings) (k : ℕ) (c : Clock) (l : Links) (run : List Entry) : Type 0 where
+  pub places-there : noPlaces k run ≡ false
+  pub lent-good : lentInRange s k c l run ≡ true
+  pub settings-good : settingsGood s ≡ true
+
+-- the tests as they stand in the guards
+past : (a b : Bool) → done (cond a Lent (cond (not b) Setting Done)) ≡ true → (a ≡ false) × (b ≡ true)
+past true b e = absurd (false≢true e)
+past false true e = (refl, refl)
+past false false e = absurd (false≢true e)
+
+neither : (a b : Bool) → a || not b ≡ false → (a ≡ false) × (b ≡ true)
+neither true b e = absurd (true≢false e)
+neither false true e = (refl, refl)
+neither false false e = absurd (true≢false e)
+
+pub passed : (s : Settings) (k : ℕ) (c : Clock) (l : Links) (run : List Entry) → done (guard s k c l run) ≡ true
+    → Passed s k c l run
+unfolding guard
+passed s k c l run e =
+    let p = past (noPlaces k run || not (lentInRange s k c l run)) (settingsGood s) e in
+    let q = neither (noPlaces k run) (lentInRange s k c l run) (p .0) in
+    record { places-there = q .0; lent-good = q .1; settings-good = p .1 }
+
+pub passed-link : (s : Settings) (k : ℕ) (c : Clock) (l : Links) (run : List Entry) (i : ℕ)
+    → done (guardLink s k c l run i) ≡ true → (noLink s i ≡ false) × Passed s k c l run
+unfolding guardLink
+passed-link s k c l run i = go (noLink s i)
+  where
+    go : (b : Bool) → done (cond b Lent (guard s k c l run)) ≡ true → (b ≡ false) × Passed s k c l run
+    go true e = absurd (false≢true e)
+    go false e = (refl, passed s k c l run e)
+
+pub passed-fresh : (s : Settings) (k : ℕ) (run : List Entry) → done (guardFresh s k run) ≡ true
+    → (noPlaces k run ≡ false) × (settingsGood s ≡ true)
+unfolding guardFresh
+passed-fresh s k run = past (noPlaces k run) (settingsGood s)
+
+-- ---- what the tests say in numbers
+
+pub holds : (k : ℕ) (run : List Entry) → noPlaces k run ≡ false → Holds k run
+unfolding noPlaces
+holds k run = go (ltb 15 k) (ltb (length run) (firstPlace k + placesPerHost)) refl
+  where
+    go : (a b : Bool) → ltb (length run) (firstPlace k + placesPerHost) ≡ b → a || b ≡ false → Holds k run
+    go true b t e = absurd (true≢false e)
+    go false b t e = ltb-false _ _ (t ∙ e)
