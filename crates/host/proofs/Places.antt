@@ -1,5 +1,5 @@
 -- A host's places in the run: what is written there is read there and no other place is changed, since both cut the run at the same two points.
-use mathlib.Core.Path.{_≡_, refl, ap, _∙_}
+use mathlib.Core.Path.{_≡_, ap, _∙_}
 use mathlib.Core.List.{List, _++_, append-assoc}
 use Prim.Native.Nat.{ℕ, _+_, _-_, _≤_, _<_}
 use native.Mathlib.Omega.{arith}
@@ -45,6 +45,7 @@ module _ (k : ℕ) (es run : List Entry) (fits : firstPlace k + length es ≤ le
     where
       rest : ℕ
       rest = i - (firstPlace k + length es)
+
       at-rest : i ≡ length (take (firstPlace k) run ++ es) + rest
       at-rest = omega (arith, written-length)
 

@@ -1,0 +1,3 @@
+pub mod Performs
+pub mod Arrivals
+pub mod Demand1

@@ -1,0 +1,77 @@
+-- Every call is its guard and then its work: what is so of a refusal by the guard and of the work is so of the call.
+use mathlib.Core.Path.{_≡_, refl}
+use mathlib.Core.Bool.{true, false, cond, not}
+use mathlib.Core.List.{List, map}
+use Prim.Native.Nat.{ℕ}
+use lib.Dec.{ltb}
+use lib.ListN.{length, replicate}
+use Rattle.answer.specs.declared.Answer.{Answer}
+use Rattle.answer.specs.declared.Answer.the-variants.{Done, Buffer}
+use Rattle.clock.specs.declared.Clock.{Clock}
+use Rattle.clock.specs.Clock.{freshClock, reading, holdSecond}
+use Rattle.clock.specs.Clock as clock
+use Rattle.route.specs.Find.{find}
+use Rattle.table.specs.declared.Entry.{Entry}
+use Rattle.table.specs.Entry.{freshEntry, aged}
+use Rattle.host.specs.declared.Settings.{Settings}
+use Rattle.host.specs.declared.Links.{Links}
+use Rattle.host.specs.Settings.{ownId}
+use Rattle.host.specs.State.{freshLinks, hostCount, linkOf, entries, withEntries}
+use Rattle.host.specs.Guard.{guard, guardLink, guardFresh, done}
+use Rattle.host.specs.Outcome.{Outcome, leaves, unsent, tells, timeValues}
+use Rattle.host.specs.Send.{sentLength, sentOutcome, send}
+use Rattle.host.specs.Inspection.{inspect}
+use Rattle.host.specs.Calls.{initialize, tick, adjust, setBy, read, second, arrived, arrival, reported, selfReport, looked, lookup}
+use Rattle.host.proofs.Guarded.{either}
+use Rattle.network.specs.Call.{Call, initializes, ticks, adjusts, sets, reads, seconds, sends, arrives, reports, looksUp, perform, lentBuffer}
+
+module _ (s : Settings) (k : ℕ) (c : Clock) (l : Links) (run : List Entry) where
+  -- the guard of each call
+  abbrev pub guardOf : Call → Answer
+  guardOf initializes = guardFresh s k run
+  guardOf ticks = guard s k c l run
+  guardOf adjusts = guard s k c l run
+  guardOf (sets ms) = guard s k c l run
+  guardOf reads = guard s k c l run
+  guardOf seconds = guard s k c l run
+  guardOf (sends i buffer) = guardLink s k c l run i
+  guardOf (arrives i packet) = guardLink s k c l run i
+  guardOf reports = guard s k c l run
+  guardOf (looksUp a) = guard s k c l run
+
+  -- what each call does behind its guard
+  abbrev pub workOf : Call → Outcome
+  workOf initializes =
+      leaves Done (freshClock (s .time) (s .date)) (freshLinks s) (withEntries k (replicate (hostCount s) freshEntry) run)
+  workOf ticks = leaves Done (clock.tick (s .«clock_tick») (s .«hold_interval») c) l run
+  workOf adjusts = leaves Done (clock.adjust (s .«hold_interval») c) l run
+  workOf (sets ms) = leaves Done (clock.setBy (s .«hold_interval») ms c) l run
+  workOf reads = tells (timeValues (reading c .time) (reading c .clock .date)) (reading c .clock) l run
+  workOf seconds = leaves Done (holdSecond c) l (withEntries k (map aged (entries s k run)) run)
+  workOf (sends i buffer) =
+      cond (ltb (length buffer) (sentLength s i (linkOf l i) (entries s k run))) (unsent Buffer c l run buffer)
+      (sentOutcome s k (reading c) l run i buffer)
+  workOf (arrives i packet) = arrived s k c l run i packet (inspect s i packet)
+  workOf reports = reported k (reading c) l run (entries s k run) (ownId s)
+  workOf (looksUp a) = looked c l run (entries s k run) (find (s .address) (s .layout) (s .net) a)
+
+  -- a call that its guard refuses changes nothing
+  abbrev pub refusal : Call → Outcome
+  refusal x = unsent (guardOf x) c l run (lentBuffer x)
+
+  pub perform-is : (x : Call) → perform s k c l run x ≡ cond (not (done (guardOf x))) (refusal x) (workOf x)
+  unfolding perform initialize tick adjust setBy read second send arrival selfReport lookup
+  perform-is initializes = refl
+  perform-is ticks = refl
+  perform-is adjusts = refl
+  perform-is (sets ms) = refl
+  perform-is reads = refl
+  perform-is seconds = refl
+  perform-is (sends i buffer) = refl
+  perform-is (arrives i packet) = refl
+  perform-is reports = refl
+  perform-is (looksUp a) = refl
+
+  pub performs : (P : Outcome → Type 0) (x : Call) → (done (guardOf x) ≡ false → P (refusal x))
+      → (done (guardOf x) ≡ true → P (workOf x)) → P (perform s k c l run x)
+  performs P x refuses works = rw perform-is (either P (guardOf x) refuses works)
