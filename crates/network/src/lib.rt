@@ -1,7 +1,13 @@
 // Theorems about hosts and rooms of hosts.
 ghost use Rattle.network.specs.Answers.{Answers};
+ghost use Rattle.network.specs.Refusals.{Refusals};
 
 // Each call gives the first answer whose condition holds: 12, then upwards; and 0 where none does.
 pub fn answers()
     ensures { λ _. ⌜ Answers ⌝ }
+{}
+
+// A refusal changes nothing, but for 10 and 11 at an arrival, which change its link alone.
+pub fn refusals()
+    ensures { λ _. ⌜ Refusals ⌝ }
 {}
