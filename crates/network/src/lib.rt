@@ -1,6 +1,7 @@
 // Theorems about hosts and rooms of hosts.
 ghost use Rattle.network.specs.Answers.{Answers};
 ghost use Rattle.network.specs.Refusals.{Refusals};
+ghost use Rattle.network.specs.Frame.{Frame};
 
 // Each call gives the first answer whose condition holds: 12, then upwards; and 0 where none does.
 pub fn answers()
@@ -10,4 +11,9 @@ pub fn answers()
 // A refusal changes nothing, but for 10 and 11 at an arrival, which change its link alone.
 pub fn refusals()
     ensures { λ _. ⌜ Refusals ⌝ }
+{}
+
+// A call keeps the run's length and every place in it but its host's first NHOSTS.
+pub fn frame()
+    ensures { λ _. ⌜ Frame ⌝ }
 {}
