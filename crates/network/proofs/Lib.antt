@@ -1,3 +1,4 @@
 pub mod Performs
 pub mod Arrivals
+pub mod Sends
 pub mod Demand1

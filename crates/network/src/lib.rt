@@ -2,6 +2,7 @@
 ghost use Rattle.network.specs.Answers.{Answers};
 ghost use Rattle.network.specs.Refusals.{Refusals};
 ghost use Rattle.network.specs.Frame.{Frame};
+ghost use Rattle.network.specs.Locality.{Locality};
 
 // Each call gives the first answer whose condition holds: 12, then upwards; and 0 where none does.
 pub fn answers()
@@ -16,4 +17,9 @@ pub fn refusals()
 // A call keeps the run's length and every place in it but its host's first NHOSTS.
 pub fn frame()
     ensures { λ _. ⌜ Frame ⌝ }
+{}
+
+// What a call answers and leaves depends only on its number, settings, clock, links and entries, its input, and the lengths of what it is lent.
+pub fn locality()
+    ensures { λ _. ⌜ Locality ⌝ }
 {}
