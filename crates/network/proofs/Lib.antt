@@ -1,4 +1,5 @@
 pub mod Performs
 pub mod Arrivals
 pub mod Sends
+pub mod HostPlaces
 pub mod Demand1

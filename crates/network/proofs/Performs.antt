@@ -1,12 +1,12 @@
 -- Every call is its guard and then its work: what is so of a refusal by the guard and of the work is so of the call.
-use mathlib.Core.Path.{_≡_, refl}
-use mathlib.Core.Bool.{true, false, cond, not}
+use mathlib.Core.Path.{_≡_, refl, _∙_}
+use mathlib.Core.Bool.{Bool, true, false, cond, not}
 use mathlib.Core.List.{List, map}
 use Prim.Native.Nat.{ℕ}
 use lib.Dec.{ltb}
 use lib.ListN.{length, replicate}
 use Rattle.answer.specs.declared.Answer.{Answer}
-use Rattle.answer.specs.declared.Answer.the-variants.{Done, Buffer}
+use Rattle.answer.specs.declared.Answer.the-variants.{Done, Buffer, Lent}
 use Rattle.clock.specs.declared.Clock.{Clock}
 use Rattle.clock.specs.Clock.{freshClock, reading, holdSecond}
 use Rattle.clock.specs.Clock as clock
@@ -17,7 +17,7 @@ use Rattle.host.specs.declared.Settings.{Settings}
 use Rattle.host.specs.declared.Links.{Links}
 use Rattle.host.specs.Settings.{ownId}
 use Rattle.host.specs.State.{freshLinks, hostCount, linkOf, entries, withEntries}
-use Rattle.host.specs.Guard.{guard, guardLink, guardFresh, done}
+use Rattle.host.specs.Guard.{noPlaces, noLink, guard, guardLink, guardFresh, done}
 use Rattle.host.specs.Outcome.{Outcome, leaves, unsent, tells, timeValues}
 use Rattle.host.specs.Send.{sentLength, sentOutcome, send}
 use Rattle.host.specs.Inspection.{inspect}
@@ -75,3 +75,33 @@ module _ (s : Settings) (k : ℕ) (c : Clock) (l : Links) (run : List Entry) whe
   pub performs : (P : Outcome → Type 0) (x : Call) → (done (guardOf x) ≡ false → P (refusal x))
       → (done (guardOf x) ≡ true → P (workOf x)) → P (perform s k c l run x)
   performs P x refuses works = rw perform-is (either P (guardOf x) refuses works)
+
+  -- ---- a run that does not hold all of the host's places
+
+  guard-lent : noPlaces k run ≡ true → guard s k c l run ≡ Lent
+  unfolding guard
+  guard-lent e = rw e
+
+  guardLink-lent : (i : ℕ) → noPlaces k run ≡ true → guardLink s k c l run i ≡ Lent
+  unfolding guardLink
+  guardLink-lent i e = go (noLink s i)
+    where
+      go : (b : Bool) → cond b Lent (guard s k c l run) ≡ Lent
+      go true = refl
+      go false = guard-lent e
+
+  guards-lent : (x : Call) → noPlaces k run ≡ true → guardOf x ≡ Lent
+  unfolding guardFresh
+  guards-lent initializes e = rw e
+  guards-lent ticks e = guard-lent e
+  guards-lent adjusts e = guard-lent e
+  guards-lent (sets ms) e = guard-lent e
+  guards-lent reads e = guard-lent e
+  guards-lent seconds e = guard-lent e
+  guards-lent (sends i buffer) e = guardLink-lent i e
+  guards-lent (arrives i packet) e = guardLink-lent i e
+  guards-lent reports e = guard-lent e
+  guards-lent (looksUp a) e = guard-lent e
+
+  pub perform-lent : (x : Call) → noPlaces k run ≡ true → perform s k c l run x ≡ unsent Lent c l run (lentBuffer x)
+  perform-lent x e = perform-is x ∙ rw guards-lent

@@ -3,6 +3,7 @@ ghost use Rattle.network.specs.Answers.{Answers};
 ghost use Rattle.network.specs.Refusals.{Refusals};
 ghost use Rattle.network.specs.Frame.{Frame};
 ghost use Rattle.network.specs.Locality.{Locality};
+ghost use Rattle.network.specs.Isolation.{Isolation, IsolationFromAfresh};
 
 // Each call gives the first answer whose condition holds: 12, then upwards; and 0 where none does.
 pub fn answers()
@@ -22,4 +23,14 @@ pub fn frame()
 // What a call answers and leaves depends only on its number, settings, clock, links and entries, its input, and the lengths of what it is lent.
 pub fn locality()
     ensures { λ _. ⌜ Locality ⌝ }
+{}
+
+// Lists of calls that agree at a number tell and leave the same there, whatever is called at other numbers.
+pub fn isolation()
+    ensures { λ _. ⌜ Isolation ⌝ }
+{}
+
+// From a setting afresh on, whatever was there before it.
+pub fn isolation_from_afresh()
+    ensures { λ _. ⌜ IsolationFromAfresh ⌝ }
 {}
