@@ -5,3 +5,4 @@ pub mod Locality
 pub mod OwnCalls
 pub mod Isolation
 pub mod Afresh
+pub mod Alone

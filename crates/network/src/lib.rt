@@ -3,7 +3,7 @@ ghost use Rattle.network.specs.Answers.{Answers};
 ghost use Rattle.network.specs.Refusals.{Refusals};
 ghost use Rattle.network.specs.Frame.{Frame};
 ghost use Rattle.network.specs.Locality.{Locality};
-ghost use Rattle.network.specs.Isolation.{Isolation, IsolationFromAfresh};
+ghost use Rattle.network.specs.Isolation.{Isolation, IsolationFromAfresh, Alone};
 
 // Each call gives the first answer whose condition holds: 12, then upwards; and 0 where none does.
 pub fn answers()
@@ -33,4 +33,9 @@ pub fn isolation()
 // From a setting afresh on, whatever was there before it.
 pub fn isolation_from_afresh()
     ensures { λ _. ⌜ IsolationFromAfresh ⌝ }
+{}
+
+// In one run that all hosts share, deleting every other host's calls changes nothing at a number.
+pub fn alone()
+    ensures { λ _. ⌜ Alone ⌝ }
 {}
