@@ -1,3 +1,4 @@
 pub mod Places
 pub mod Guarded
 pub mod Sweeps
+pub mod Sound

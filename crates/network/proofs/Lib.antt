@@ -3,3 +3,5 @@ pub mod Arrivals
 pub mod Sends
 pub mod HostPlaces
 pub mod Demand1
+pub mod Exchange
+pub mod Demand3

@@ -143,7 +143,7 @@ pub record Right (r : Room) (b i : ℕ) (e : Entry) : Type 0 where
   pub seat : ℕ
   pub seat-in : seat < r .seats
   pub host-there : HostAt r i seat
-  pub close : pos (200 * natAbs (e .offset .0 -ℤ (r .fixed seat -ℤ r .fixed b))) ≤ℤ (pos 101 *ℤ e .delay .0)
+  pub close : pos (200 * natAbs (e .offset .0 -ℤ (r .fixed seat -ℤ r .fixed b))) ≤ℤ (e .delay .0 *ℤ pos 101)
 
 -- "An entry with a delay under 30,000, in any seat's table": "An entry here is one of a seat's first NHOSTS."
 unfoldable pub Claim : Room → World → Type 0

@@ -6,6 +6,7 @@ pub mod Locality
 pub mod Range
 pub mod History
 pub mod Isolation
+pub mod Exchange
 pub mod Room
 pub mod Demand3
 pub mod SharedRun

@@ -8,7 +8,7 @@ use native.Mathlib.Omega.{arith}
 use lib.IntN.{ℤ, pos, negsuc, negℤ, natAbs, _+ℤ_, _-ℤ_, _*ℤ_}
 use lib.Signed.{ltZ, leZ, shrZ, _≤ℤ_, _<ℤ_}
 use lib.Dec.{T, ltb}
-use borrow.Author.Tests.{ltb-true, ltb-false, leb-true, leb-false}
+use borrow.Author.Tests.{ltb-true, ltb-false, leb-true, leb-false, le-leb}
 use mir.Syntax.{Width}
 use mir.Val.{SFits, hbits}
 
@@ -153,6 +153,15 @@ of-≤ℤ {a} {b} h = le-yes a b (true-of (h .le))
 
 pub of-<ℤ : {a b : ℤ} → a <ℤ b → Lt a b
 of-<ℤ {a} {b} h = lt-yes a b (true-of (h .lt))
+
+t-of : {b : Bool} → b ≡ true → T b
+t-of e = subst T (sym e) tt
+
+pub to-≤ℤ : (a b : ℤ) → up a + dn b ≤ up b + dn a → a ≤ℤ b
+to-≤ℤ (pos a) (pos b) h = record { le = t-of (le-leb a b (omega arith)) }
+to-≤ℤ (pos a) (negsuc b) h = absurd (omega arith)
+to-≤ℤ (negsuc a) (pos b) h = record { le = tt }
+to-≤ℤ (negsuc a) (negsuc b) h = record { le = t-of (le-leb b a (omega arith)) }
 
 -- ---- ranges: -l ≤ z ≤ h, with fields that omega reads by itself
 

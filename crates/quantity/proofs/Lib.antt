@@ -1,2 +1,4 @@
+pub mod Tests
 pub mod Ints
 pub mod Bits
+pub mod Wrap

@@ -1,0 +1,10 @@
+pub mod Lists
+pub mod Near
+pub mod Invariant
+pub mod Entries
+pub mod Outcomes
+pub mod Seats
+pub mod ReadBack
+pub mod Sending
+pub mod Arrival
+pub mod Histories

@@ -1,0 +1,46 @@
+-- A predicate over the elements of a list, with their places. Nothing here knows of hosts.
+use mathlib.Core.Path.{_≡_}
+use mathlib.Core.Bool.{Bool, true}
+use mathlib.Core.List.{List, [], _∷_, map}
+use Prim.Native.Nat.{ℕ, zero, suc}
+use lib.ListN.{getD, replicate, set}
+use Rattle.quantity.proofs.Tests.{both}
+use Rattle.table.specs.Forms.{every}
+
+-- P holds of each element and its place, from 0
+abbrev pub All : {A : Type 0} → (ℕ → A → Type 0) → List A → Type 0
+All P [] = Unit {0}
+All P (a ∷ l) = P 0 a × All (λ i. P (suc i)) l
+
+-- of the element at place i, or of a default that satisfies P everywhere
+pub all-at : {A : Type 0} (P : ℕ → A → Type 0) (d : A) → ((i : ℕ) → P i d) → (l : List A) → All P l → (i : ℕ) → P i (getD l i d)
+all-at P d h [] t i = h i
+all-at P d h (a ∷ l) t zero = t .0
+all-at P d h (a ∷ l) t (suc i) = all-at (λ j. P (suc j)) d (λ j. h (suc j)) l (t .1) i
+
+pub all-replicate : {A : Type 0} (P : ℕ → A → Type 0) (a : A) → ((i : ℕ) → P i a) → (n : ℕ) → All P (replicate n a)
+all-replicate P a h zero = tt
+all-replicate P a h (suc n) = (h 0, all-replicate (λ i. P (suc i)) a (λ i. h (suc i)) n)
+
+pub all-map : {A B : Type 0} (P : ℕ → A → Type 0) (Q : ℕ → B → Type 0) (f : A → B) → ((i : ℕ) (a : A) → P i a → Q i (f a))
+    → (l : List A) → All P l → All Q (map f l)
+all-map P Q f h [] t = tt
+all-map P Q f h (a ∷ l) t = (h 0 a (t .0), all-map (λ i. P (suc i)) (λ i. Q (suc i)) f (λ i. h (suc i)) l (t .1))
+
+pub all-set : {A : Type 0} (P : ℕ → A → Type 0) (i : ℕ) (a : A) → P i a → (l : List A) → All P l → All P (set l i a)
+all-set P i a p [] t = tt
+all-set P zero a p (b ∷ l) t = (p, t .1)
+all-set P (suc i) a p (b ∷ l) t = (t .0, all-set (λ j. P (suc j)) i a p l (t .1))
+
+pub all-made : {A B : Type 0} (P : ℕ → B → Type 0) (f : A → B) → ((i : ℕ) (a : A) → P i (f a)) → (l : List A) → All P (map f l)
+all-made P f h [] = tt
+all-made P f h (a ∷ l) = (h 0 a, all-made (λ i. P (suc i)) f (λ i. h (suc i)) l)
+
+-- a test of every element, as a predicate; two predicates at once
+pub every-all : {A : Type 0} (test : A → Bool) (l : List A) → every test l ≡ true → All (λ (i : ℕ) (a : A). test a ≡ true) l
+every-all test [] e = tt
+every-all test (a ∷ l) e = let b = both (test a) (every test l) e in (b .0, every-all test l (b .1))
+
+pub all-both : {A : Type 0} (P Q : ℕ → A → Type 0) (l : List A) → All P l → All Q l → All (λ (i : ℕ) (a : A). P i a × Q i a) l
+all-both P Q [] s t = tt
+all-both P Q (a ∷ l) s t = ((s .0, t .0), all-both (λ i. P (suc i)) (λ i. Q (suc i)) l (s .1) (t .1))

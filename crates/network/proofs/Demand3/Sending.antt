@@ -1,0 +1,224 @@
+-- A send keeps a seat right, and what it writes is a right message: its time is our reading, its reports are the table's, and its TSP has the bits that the link's TSP and our reading make.
+use mathlib.Core.Path.{_≡_, refl, sym, ap, subst, _∙_}
+use mathlib.Core.Bool.{Bool, true, false, true≢false, false≢true, not, cond, _&&_, _||_}
+use mathlib.Core.List.{List, [], _∷_, map, _++_}
+use Prim.Native.Nat.{ℕ, zero, suc, _+_, _-_, _*_, _≤_, _<_}
+use native.Mathlib.Omega.{arith}
+use borrow.Author.Tests.{eqb-true, eqb-false, eq-eqb, ne-eqb}
+use lib.Dec.{ltb, leb, eqb, lit<}
+use lib.IntN.{ℤ, pos, _+ℤ_}
+use lib.ListN.{length, getD, take, drop, length-append}
+use lib.Seq.{take-at}
+use lib.Signed.{ltZ, shrZ, _<ℤ_}
+use Rattle.quantity.proofs.Tests.{either, both, is-not}
+use Rattle.quantity.specs.declared.Millis.{Millis}
+use Rattle.quantity.specs.declared.Word.{Word}
+use Rattle.quantity.specs.Quantity.{units, lessMillis, unitsPerMilli, toUnits}
+use Rattle.quantity.specs.Words.{word, toWord, ofWord, wrap, zeroWord}
+use Rattle.quantity.proofs.Ints.{up, dn, lt-no, floor, of-<ℤ}
+use Rattle.quantity.proofs.Wrap.{wrap-range}
+use Rattle.answer.specs.declared.Answer.the-variants.{Done, Buffer}
+use Rattle.clock.specs.declared.Clock.{Clock}
+use Rattle.clock.specs.declared.Reading.{Reading}
+use Rattle.calendar.specs.Date.{real}
+use Rattle.clock.specs.Midnight.{day, dayMillis}
+use Rattle.clock.specs.Clock.{reading, within, slewLeast, slewMost, clockInRange}
+use Rattle.wire.specs.declared.Address.{Address}
+use Rattle.wire.specs.declared.Packet.{Packet}
+use Rattle.wire.specs.declared.Report.{Report}
+use Rattle.wire.specs.Ip.{header}
+use Rattle.wire.specs.Hello.{reportsOctets, hello}
+use Rattle.wire.specs.Packet.{packetLength, message}
+use Rattle.table.specs.declared.Entry.{Entry}
+use Rattle.table.specs.Forms.{every}
+use Rattle.table.specs.Entry.{maxDelay, holdDown, advertised, upTo, entryInRange}
+use Rattle.host.specs.declared.Settings.{Settings}
+use Rattle.host.specs.declared.Link.{Link}
+use Rattle.host.specs.declared.Links.{Links}
+use Rattle.host.specs.State.{unset, freshLink, linkOf, withLink, entries}
+use Rattle.host.specs.Guard.{linkInRange, linkCount, noLink, lentInRange, guardLink, done}
+use Rattle.host.specs.Outcome.{Outcome, unsent}
+use Rattle.host.specs.Send.{tableGoes, reports, sentTsp, linkSent, packetSent, sentMessage, sentLength, sentOutcome, send}
+use Rattle.host.proofs.Guarded.{passed-link, holds, Passed}
+use Rattle.host.proofs.Guarded as guarded
+use Rattle.network.specs.Call.{messageOf}
+use Rattle.network.specs.Room.{Room, at}
+use Rattle.network.specs.Demand3.{Message}
+use Rattle.network.proofs.Exchange.{word-same}
+use Rattle.network.proofs.Demand3.Lists.{All, all-at, all-map, all-set, every-all, all-both}
+use Rattle.network.proofs.Demand3.Near.{Fits16}
+use Rattle.network.proofs.Demand3.Invariant.{RightEntry, RightReport, RightLink, RightLinks, Carries, RightMessage}
+use Rattle.network.proofs.Demand3.Outcomes.{RightOutcome, RightLent, same-right}
+
+-- ---- the length of a message
+
+reports-length : (rs : List Report) → length (reportsOctets rs) ≡ 4 * length rs
+reports-length [] = refl
+reports-length (r ∷ rs) = omega (arith, reports-length rs)
+
+message-length : (d : Address) (p : Packet) (rs : List Report) → length (message d p rs) ≡ packetLength (length rs)
+unfolding message header hello
+message-length d p rs = omega (arith, reports-length rs)
+
+-- ---- tests
+
+-- a link that is there has a number from 1 on
+pub link-from-1 : (s : Settings) (i : ℕ) → noLink s i ≡ false → suc (i - 1) ≡ i
+unfolding noLink
+link-from-1 s i e = go (eqb i 0) refl e
+  where
+    go : (b : Bool) → eqb i 0 ≡ b → (b || ltb (linkCount s) i) ≡ false → suc (i - 1) ≡ i
+    go true t e = absurd (true≢false e)
+    go false t e = let n = eqb-false i 0 t in omega arith
+
+-- what is lent in range: our reading is not negative, and each entry's DELAY fits a word
+clock-low : (c : Clock) → clockInRange c ≡ true → dn (c .clock .0) ≤ 0
+unfolding clockInRange
+clock-low c e =
+    let a = both (within (units (pos 0)) day (c .clock) && within (toUnits slewLeast) (toUnits slewMost) (c .delta) && leb (c .hold .0) 255) (real (c .date)) e .0 in
+    let b = both (within (units (pos 0)) day (c .clock) && within (toUnits slewLeast) (toUnits slewMost) (c .delta)) (leb (c .hold .0) 255) a .0 in
+    let d = both (within (units (pos 0)) day (c .clock)) (within (toUnits slewLeast) (toUnits slewMost) (c .delta)) b .0 in
+    let f = both (not (ltZ (c .clock .0) (pos 0))) (not (ltZ (day .0) (c .clock .0))) d .0 in
+    omega (arith, lt-no (c .clock .0) (pos 0) (is-not (ltZ (c .clock .0) (pos 0)) f))
+
+pub reading-low : (s : Settings) (k : ℕ) (c : Clock) (l : Links) (run : List Entry) → lentInRange s k c l run ≡ true
+    → dn (reading c .time .0) ≤ 0
+unfolding lentInRange reading
+reading-low s k c l run e =
+    let a = both (clockInRange c && every linkInRange (take (linkCount s) (l .all))) (every entryInRange (entries s k run)) e .0 in
+    let b = both (clockInRange c) (every linkInRange (take (linkCount s) (l .all))) a .0 in
+    omega (arith, clock-low c b, floor (c .clock .0) unitsPerMilli (lit< tt))
+
+entries-in-range : (s : Settings) (k : ℕ) (c : Clock) (l : Links) (run : List Entry) → lentInRange s k c l run ≡ true
+    → every entryInRange (entries s k run) ≡ true
+unfolding lentInRange
+entries-in-range s k c l run e =
+    both (clockInRange c && every linkInRange (take (linkCount s) (l .all))) (every entryInRange (entries s k run)) e .1
+
+delay-range : (e : Entry) → entryInRange e ≡ true → (dn (e .delay .0) ≤ 0) × (up (e .delay .0) ≤ 30000)
+unfolding entryInRange
+delay-range e t =
+    let a = both (upTo maxDelay (e .delay) && leb (e .ttl .0) (holdDown .0) && leb (e .pid) 8) (upTo dayMillis (e .time)) t .0 in
+    let b = both (upTo maxDelay (e .delay) && leb (e .ttl .0) (holdDown .0)) (leb (e .pid) 8) a .0 in
+    let d = both (upTo maxDelay (e .delay)) (leb (e .ttl .0) (holdDown .0)) b .0 in
+    let f = both (not (ltZ (e .delay .0) (pos 0))) (not (ltZ (pos 30000) (e .delay .0))) d in
+    omega (arith, lt-no (e .delay .0) (pos 0) (is-not (ltZ (e .delay .0) (pos 0)) (f .0)), lt-no (pos 30000) (e .delay .0) (is-not (ltZ (pos 30000) (e .delay .0)) (f .1)))
+
+-- ---- the message of a send at seat a on link i, at millisecond t
+
+module _ (r : Room) (a i : ℕ) (inside : a < r .seats) (c : Clock) (l : Links) (run : List Entry) (lent : RightLent r a l run) (there : noLink (r .settings a) i ≡ false) where
+  abbrev x : Link
+  x = linkOf l i
+
+  abbrev es : List Entry
+  es = entries (r .settings a) (r .number a) run
+
+  -- the link as it stands
+  link-right : RightLink r a i x
+  link-right =
+      subst (λ (n : ℕ). RightLink r a n x) (link-from-1 (r .settings a) i there)
+      (all-at (λ (j : ℕ). RightLink r a (suc j)) (freshLink unset) (λ j b n cable alive. absurd (true≢false alive)) (l .all) (lent .links) (i - 1))
+
+  -- KEEP-ALIVE falls, and TSP stays
+  sent-links : RightLinks r a (withLink i (linkSent x) l .all)
+  sent-links =
+      all-set (λ (j : ℕ). RightLink r a (suc j)) (i - 1) (linkSent x)
+      (subst (λ (n : ℕ). RightLink r a n (linkSent x)) (sym (link-from-1 (r .settings a) i there))
+      (λ b j cable alive. link-right b j cable (ne-eqb (x .«keep_alive») 0 (λ z. eqb-false (x .«keep_alive» - 1) 0 alive (omega arith)))))
+      (l .all) (lent .links)
+
+  -- what is advertised for an entry
+  advertised-right : (n : ℕ) (e : Entry) → RightEntry r a n e × (entryInRange e ≡ true) → RightReport r a n (advertised i e)
+  unfolding advertised
+  advertised-right n e h =
+      let d = delay-range e (h .1) in
+      either (λ (m : Millis). RightReport r a n record { delay = m; offset = e .offset }) (eqb (e .pid) i) _ _
+      (λ t. record { not-negative = omega arith; delay-fits = omega arith; fits = h .0 .fits; known = λ low. absurd (false≢true low) })
+      (λ t. record { not-negative = d .0; delay-fits = omega arith; fits = h .0 .fits; known = h .0 .known })
+
+  module _ (ok : Passed (r .settings a) (r .number a) c l run) (t : ℤ) (clock : reading c .time .0 ≡ t +ℤ r .fixed a) (early : reading c .time .0 <ℤ dayMillis .0) where
+    reports-right : All (RightReport r a) (reports (r .settings a) i x es)
+    reports-right =
+        either (All (RightReport r a)) (tableGoes (r .settings a) x) _ _
+        (λ _.
+        all-map (λ (n : ℕ) (e : Entry). RightEntry r a n e × (entryInRange e ≡ true)) (RightReport r a) (advertised i) advertised-right es
+        (all-both (RightEntry r a) (λ (n : ℕ) (e : Entry). entryInRange e ≡ true) es (lent .table (holds (r .number a) run (ok .places-there)))
+        (every-all entryInRange es (entries-in-range (r .settings a) (r .number a) c l run (ok .lent-good)))))
+        (λ _. tt)
+
+    tsp-fits : Fits16 (sentTsp x (reading c .time) .0)
+    tsp-fits =
+        either (λ (v : Word). Fits16 (v .0)) (eqb (x .«keep_alive») 0) _ _ (λ _. omega arith)
+        (λ _. let w = wrap-range 16 (omega arith) (x .tsp .0 +ℤ reading c .time .0) in record { high = w .0; low = w .1 })
+
+    tsp-right : (b j : ℕ) → r .cable a i ≡ at b j → zeroWord (sentTsp x (reading c .time)) ≡ false → Carries r b t (sentTsp x (reading c .time) .0)
+    tsp-right b j cable =
+        either (λ (v : Word). zeroWord v ≡ false → Carries r b t (v .0)) (eqb (x .«keep_alive») 0) _ _ (λ _ z. absurd (true≢false z))
+        (λ alive z.
+        let tied = link-right b j cable alive in
+        record {
+          way = tied .way;
+          short = tied .short;
+          bits = word-same 16 (omega arith) (r .fixed b) (r .fixed a) t (x .tsp .0) (reading c .time .0) (tied .way) (tied .bits) clock;
+        })
+
+    -- the octets that a send answers for
+    written : (buffer : List ℕ) → messageOf (sentOutcome (r .settings a) (r .number a) (reading c) l run i buffer)
+        ≡ sentMessage (r .settings a) i x (reading c .time) (reading c .clock .date) es
+    unfolding sentMessage
+    written buffer = take-at _ (drop (sentLength (r .settings a) i x es) buffer) (sentLength (r .settings a) i x es) (message-length (x .neighbor) _ (reports (r .settings a) i x es))
+
+    message-right : (buffer : List ℕ) → RightMessage r record { seat = a; link = i; ms = t; octets = messageOf (sentOutcome (r .settings a) (r .number a) (reading c) l run i buffer) }
+    unfolding sentMessage
+    message-right buffer =
+        record {
+          seat-in = inside;
+          destination = x .neighbor;
+          packet = packetSent (r .settings a) x (reading c .time) (reading c .clock .date) (length (reports (r .settings a) i x es));
+          reports = reports (r .settings a) i x es;
+          octets-are = written buffer;
+          source = refl;
+          time = clock;
+          time-low = reading-low (r .settings a) (r .number a) c l run (ok .lent-good);
+          time-high = omega (arith, of-<ℤ early, reading-low (r .settings a) (r .number a) c l run (ok .lent-good));
+          count = refl;
+          right = reports-right;
+          tsp-fits = tsp-fits;
+          tsp = tsp-right;
+        }
+
+-- ---- the whole call
+
+-- the room's time of a call of seat a
+abbrev pub Clocked : (r : Room) (a : ℕ) (c : Clock) (t : ℤ) → Type 0
+Clocked r a c t = (reading c .time .0 ≡ t +ℤ r .fixed a) × (reading c .time .0 <ℤ dayMillis .0)
+
+pub record SendRight (r : Room) (a i : ℕ) (run : List Entry) (t : ℤ) (o : Outcome) : Type 0 where
+  pub seat : RightOutcome r a run o
+  pub message : done (o .answer) ≡ true → RightMessage r record { seat = a; link = i; ms = t; octets = messageOf o }
+
+pub send-right : (r : Room) (a i : ℕ) → a < r .seats → (c : Clock) (l : Links) (run : List Entry) → RightLent r a l run → (buffer : List ℕ) (t : ℤ)
+    → (send (r .settings a) (r .number a) c l run i buffer .answer ≡ Done → Clocked r a c t)
+    → SendRight r a i run t (send (r .settings a) (r .number a) c l run i buffer)
+unfolding send
+send-right r a i inside c l run lent buffer t =
+    guarded.either Kept (guardLink (r .settings a) (r .number a) c l run i)
+    (λ d _. record { seat = same-right r a l run _ lent refl refl; message = λ e. absurd (false≢true (sym d ∙ e)) })
+    (λ d.
+    let p = passed-link (r .settings a) (r .number a) c l run i d in
+    either Kept (ltb (length buffer) (sentLength (r .settings a) i (linkOf l i) (entries (r .settings a) (r .number a) run))) _ _
+    (λ _ _. record { seat = same-right r a l run _ lent refl refl; message = λ e. absurd (false≢true e) })
+    (λ _ time.
+    let now = time refl in
+    record {
+      seat =
+          record {
+            links = sent-links r a i inside c l run lent (p .0);
+            table = lent .table;
+            same-length = refl;
+          };
+      message = λ _. message-right r a i inside c l run lent (p .0) (p .1) t (now .0) (now .1) buffer;
+    }))
+  where
+    Kept : Outcome → Type 0
+    Kept o = (o .answer ≡ Done → Clocked r a c t) → SendRight r a i run t o
