@@ -1,5 +1,5 @@
 -- "DATE (school, the RT-11 word): bits 0-4 year less 1972, 5-9 day, 10-13 month, 14 zero, 15 one while a master's date is awaited."
-use mathlib.Core.Bool.{Bool, cond, not, _&&_}
+use mathlib.Core.Bool.{Bool, cond, _&&_}
 use mathlib.Core.List.{List, [], _∷_}
 use Prim.Native.Nat.{ℕ, _+_, _*_, _-_, _/_, _%_}
 use lib.Dec.{ltb, leb, eqb}

@@ -1,12 +1,12 @@
 -- The two whiles of the midnight rule unroll, since each turn brings CLOCK a day nearer; and they leave a CLOCK within its day alone.
-use mathlib.Core.Path.{_≡_, refl, sym, ap, _∙_}
+use mathlib.Core.Path.{_≡_, refl, ap, _∙_}
 use mathlib.Core.Bool.{Bool, true, false}
-use Prim.Native.Nat.{ℕ, suc, _≤_, _<_}
+use Prim.Native.Nat.{suc, _≤_, _<_}
 use native.Mathlib.Omega.{arith}
 use borrow.Author.Tests.{ltb-true, ltb-false, le-ltb}
 use lib.Dec.{ltb}
 use lib.IntN.{ℤ, pos, negsuc, natAbs, _+ℤ_, _-ℤ_}
-use lib.Signed.{ltZ, shrZ}
+use lib.Signed.{shrZ}
 use Rattle.quantity.specs.declared.Seconds.{Seconds}
 use Rattle.quantity.proofs.Ints.{up, dn, lt-yes, of-≤ℤ, not-lt}
 use Rattle.clock.specs.declared.Clock.{Clock}

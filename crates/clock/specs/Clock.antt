@@ -1,5 +1,5 @@
 -- The clock procedures: tick, adjust, set, read, and what a second does to HOLD. Each takes of the settings what it needs.
-use mathlib.Core.Bool.{Bool, cond, not, _&&_, _||_}
+use mathlib.Core.Bool.{Bool, cond, not, _&&_}
 use Prim.Native.Nat.{ℕ, _^_}
 use lib.Dec.{leb}
 use lib.IntN.{pos, negsuc}

@@ -18,7 +18,7 @@ use Rattle.route.specs.Find.{find}
 use Rattle.table.specs.declared.Entry.{Entry}
 use Rattle.table.specs.Entry.{freshEntry, up, aged}
 use Rattle.table.specs.Update.{selfReported}
-use Rattle.table.specs.Sweep.{Swept, sweep, only}
+use Rattle.table.specs.Sweep.{sweep, only}
 use Rattle.host.specs.declared.Settings.{Settings}
 use Rattle.host.specs.declared.Links.{Links}
 use Rattle.host.specs.Settings.{ownId}

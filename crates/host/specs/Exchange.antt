@@ -1,20 +1,17 @@
 -- The exchange of the blackboard, over the octets that send writes and arrival reads: A is host 0, at 192.0.2.1; B is host 1, at 192.0.2.2, 500 ms ahead.
-use mathlib.Core.Bool.{false}
 use mathlib.Core.List.{List}
 use Prim.Native.Nat.{ℕ}
 use lib.IntN.{pos}
-use lib.ListN.{getD, take, replicate}
-use Rattle.quantity.specs.Quantity.{units, millis, seconds, toUnits}
+use lib.ListN.{getD, replicate}
+use Rattle.quantity.specs.Quantity.{units, millis, seconds}
 use Rattle.calendar.specs.Date.{firstDate}
 use Rattle.clock.specs.declared.Clock.{Clock}
 use Rattle.clock.specs.Clock.{freshClock}
 use Rattle.wire.specs.declared.Address.{Address}
-use Rattle.wire.specs.Octets.{zeroAddress}
 use Rattle.route.specs.Find.{zeroNet}
 use Rattle.table.specs.declared.Entry.{Entry}
 use Rattle.table.specs.Entry.{freshEntry}
 use Rattle.host.specs.declared.Settings.{Settings}
-use Rattle.host.specs.declared.Link.{Link}
 use Rattle.host.specs.declared.Links.{Links}
 use Rattle.host.specs.Settings.{clockSettingOff}
 use Rattle.host.specs.State.{unset, freshLinks, withLink, placesPerHost}

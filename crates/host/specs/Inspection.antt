@@ -9,7 +9,6 @@ use Rattle.wire.specs.declared.Parsed.{Parsed}
 use Rattle.wire.specs.declared.Parsed.the-variants.{Good, Bad}
 use Rattle.wire.specs.Octets.{sameAddress}
 use Rattle.wire.specs.Packet.{parse}
-use Rattle.table.specs.Forms.{on}
 use Rattle.host.specs.declared.Settings.{Settings}
 use Rattle.host.specs.State.{broadcast}
 

@@ -12,7 +12,6 @@ use Rattle.wire.specs.declared.Packet.{Packet}
 use Rattle.wire.specs.Octets.{sameAddress}
 use Rattle.table.specs.Forms.{Stage, on, end}
 use Rattle.table.specs.Entry.{maxDelay}
-use Rattle.table.specs.Sweep.{only}
 use Rattle.host.specs.declared.Link.{Link}
 use Rattle.host.specs.declared.Flight.{Flight}
 use Rattle.host.specs.State.{broadcast}

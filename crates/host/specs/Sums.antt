@@ -1,24 +1,22 @@
 -- "Sums on the blackboard (P: proved)": the thirteen sums, each about the definition of its rule.
 use mathlib.Core.Path.{_≡_}
-use mathlib.Core.List.{List, [], _∷_}
-use Prim.Native.Nat.{ℕ, _+_}
+use mathlib.Core.List.{[]}
+use Prim.Native.Nat.{ℕ}
 use lib.IntN.{ℤ, pos, negsuc, _+ℤ_}
-use lib.ListN.{getD}
-use Rattle.quantity.specs.Quantity.{units, millis, seconds, toUnits, addUnits, halfMillis}
+use Rattle.quantity.specs.Quantity.{units, millis, seconds, halfMillis}
 use Rattle.quantity.specs.Words.{word, signed16}
 use Rattle.calendar.specs.declared.Date.{Date}
 use Rattle.calendar.specs.Date.{next, await, firstDate}
 use Rattle.answer.specs.declared.Answer.the-variants.{Done}
 use Rattle.clock.specs.declared.Clock.{Clock}
 use Rattle.clock.specs.Midnight.{day, midnight}
-use Rattle.wire.specs.declared.Packet.{Packet}
 use Rattle.wire.specs.Octets.{zeroAddress, twoAt}
 use Rattle.wire.specs.Hello.{hello}
 use Rattle.wire.specs.Packet.{fields}
 use Rattle.table.specs.declared.Entry.{Entry}
 use Rattle.table.specs.declared.Update.{Update}
 use Rattle.table.specs.Forms.{Stage, on, end}
-use Rattle.table.specs.Entry.{maxDelay, holdDown}
+use Rattle.table.specs.Entry.{holdDown}
 use Rattle.table.specs.Update.{lines}
 use Rattle.host.specs.Steps.{delayOf}
 use Rattle.host.specs.Exchange.{bAnswers, aGets, learnt}

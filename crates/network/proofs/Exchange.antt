@@ -1,14 +1,14 @@
 -- One exchange, step by step, over the width of the words: each step says which number the word holds, as a congruence, until it is in range.
-use mathlib.Core.Path.{_≡_, _∙_, refl, sym, ap}
+use mathlib.Core.Path.{_≡_, _∙_, ap}
 use Prim.Native.Nat.{ℕ, _+_, _*_, _-_, _^_, _≤_, _<_}
 use native.Mathlib.Omega.{arith}
 use lib.Dec.{lit<}
-use lib.IntN.{ℤ, pos, _+ℤ_, _-ℤ_, natAbs}
+use lib.IntN.{ℤ, pos, _+ℤ_, _-ℤ_}
 use lib.Signed.{shrZ}
 use Rattle.quantity.specs.Words.{wrap}
-use Rattle.quantity.proofs.Ints.{up, dn, same, sum, Sum, diff, floor, abs, one, of-≤ℤ, of-<ℤ}
+use Rattle.quantity.proofs.Ints.{up, dn, same, sum, diff, floor, abs, one, of-≤ℤ, of-<ℤ}
 use Rattle.quantity.proofs.Wrap.{Same, wrap-same, wrap-is, wrap-fits}
-use Rattle.network.specs.Exchange.{Readings, tsp, packetTsp, delay, offset, Holds, Measured, HalfDelay}
+use Rattle.network.specs.Exchange.{tsp, packetTsp, delay, offset, Holds, HalfDelay}
 
 -- an equation of numbers, as omega reads it
 pub read : (a b : ℤ) → a ≡ b → (up a ≡ up b) × (dn a ≡ dn b)

@@ -1,7 +1,7 @@
 -- The arithmetic of one exchange between two clocks, over the width w of the words, in bits; apart from packets, tables and lists.
 -- The clocks of A and B read the room's time plus f and plus g. A sends at its reading T1, and B gets that d later, at its T2; B sends at its T3, and A gets that e later, at its T4.
 use mathlib.Core.Path.{_≡_}
-use Prim.Native.Nat.{ℕ, _+_, _*_, _-_, _^_, _≤_, _<_}
+use Prim.Native.Nat.{ℕ, _+_, _*_, _-_, _^_, _≤_}
 use lib.IntN.{ℤ, pos, _+ℤ_, _-ℤ_, natAbs}
 use lib.Signed.{shrZ, _≤ℤ_, _<ℤ_}
 use Rattle.quantity.specs.Words.{wrap}

@@ -2,16 +2,13 @@
 use mathlib.Core.Path.{_≡_}
 use mathlib.Core.Bool.{true}
 use mathlib.Core.List.{List, [], _∷_}
-use Prim.Native.Nat.{ℕ, zero, suc, _<_}
+use Prim.Native.Nat.{ℕ, suc, _<_}
 use lib.ListN.{getD}
-use Rattle.answer.specs.declared.Answer.the-variants.{Done}
 use Rattle.table.specs.declared.Entry.{Entry}
 use Rattle.table.specs.Entry.{freshEntry, up}
-use Rattle.host.specs.Calls.{initialize}
-use Rattle.host.specs.Outcome.{Outcome}
-use Rattle.network.specs.History.{State, Left, leftBy, places}
+use Rattle.network.specs.History.{places}
 use Rattle.network.specs.Room.{Room, afresh, Proper}
-use Rattle.network.specs.Demand3.{RoomCall, Step, World, result, step, history, Timely, Starts, Right}
+use Rattle.network.specs.Demand3.{RoomCall, Step, World, result, step, Timely, Starts, Right}
 
 -- a call at a seat; the run is the shared one
 pub record SharedStep : Type 0 where

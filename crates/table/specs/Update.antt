@@ -1,6 +1,5 @@
 -- "Update: (a) .. (b) .. (c) .. (d) ..", the RFC's UPDATE procedure: each line by itself, and all in turn.
 use mathlib.Core.Bool.{Bool, cond, not, _&&_}
-use Prim.Native.Nat.{ℕ}
 use lib.Dec.{eqb}
 use lib.IntN.{pos}
 use Rattle.quantity.specs.declared.Millis.{Millis}

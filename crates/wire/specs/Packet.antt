@@ -1,10 +1,9 @@
 -- A packet: the IP header and the HELLO behind its 20 octets; read, with the answers 3 to 7 in their order, and written.
-use mathlib.Core.Path.{_≡_}
 use mathlib.Core.Bool.{cond, not}
 use mathlib.Core.List.{List, _++_}
-use Prim.Native.Nat.{ℕ, _+_, _<_}
-use lib.IntN.{ℤ, pos}
-use lib.ListN.{length, drop}
+use Prim.Native.Nat.{ℕ, _+_}
+use lib.IntN.{pos}
+use lib.ListN.{drop}
 use Rattle.quantity.specs.Quantity.{millis}
 use Rattle.quantity.specs.Words.{word, signed16}
 use Rattle.answer.specs.declared.Answer.the-variants.{IpForm, IpChecksum, Protocol, HelloForm, HelloChecksum}

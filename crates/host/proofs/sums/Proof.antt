@@ -1,5 +1,5 @@
 -- The sums of the blackboard hold, by computing.
-use mathlib.Core.Path.{_≡_, refl}
+use mathlib.Core.Path.{refl}
 use Rattle.calendar.specs.Date.{lastDay, real, next, previous}
 use Rattle.checksum.specs.Checksum.{fold, folded, checksumGood, checksumOf}
 use Rattle.clock.specs.While.{turns, while}

@@ -4,21 +4,20 @@ use mathlib.Core.Bool.{Bool, true, false, true≢false, false≢true, not, cond,
 use mathlib.Core.List.{List}
 use Prim.Native.Nat.{ℕ, suc, _+_, _-_, _≤_, _<_}
 use native.Mathlib.Omega.{arith}
-use borrow.Author.Tests.{eqb-true, eqb-false}
+use borrow.Author.Tests.{eqb-true}
 use lib.Dec.{T, eqb}
-use lib.IntN.{ℤ, pos, _+ℤ_, _-ℤ_}
+use lib.IntN.{pos, _+ℤ_, _-ℤ_}
 use lib.ListN.{length, getD}
 use lib.Signed.{shrZ}
-use Rattle.quantity.proofs.Tests.{either, both, is-so, neither}
+use Rattle.quantity.proofs.Tests.{either, is-so, neither}
 use Rattle.quantity.specs.declared.Millis.{Millis}
-use Rattle.quantity.specs.declared.Seconds.{Seconds}
 use Rattle.quantity.specs.declared.Word.{Word}
 use Rattle.quantity.specs.Quantity.{millis, addMillis, lessMillis}
-use Rattle.quantity.specs.Words.{word, wrap, toWord, ofWord, zeroWord}
+use Rattle.quantity.specs.Words.{word, wrap, zeroWord}
 use Rattle.quantity.proofs.Ints.{up, dn, sum, diff, one, lt-yes, lt-no, is-lt}
 use Rattle.quantity.proofs.Wrap.{wrap-range}
 use Rattle.answer.specs.declared.Answer.{Answer}
-use Rattle.answer.specs.declared.Answer.the-variants.{Done, Delay, Unknown}
+use Rattle.answer.specs.declared.Answer.the-variants.{Done}
 use Rattle.clock.specs.declared.Clock.{Clock}
 use Rattle.clock.specs.Clock.{reading}
 use Rattle.wire.specs.declared.Address.{Address}
@@ -43,26 +42,27 @@ use Rattle.host.specs.declared.Settings.{Settings}
 use Rattle.host.specs.declared.Link.{Link}
 use Rattle.host.specs.declared.Links.{Links}
 use Rattle.host.specs.declared.Flight.{Flight}
-use Rattle.host.specs.Settings.{ownId}
 use Rattle.host.specs.State.{broadcast, linkOf, withLink, entries, hostCount}
-use Rattle.host.specs.Guard.{guardLink, done}
-use Rattle.host.specs.Outcome.{Outcome, leaves}
+use Rattle.host.specs.Guard.{guardLink}
+use Rattle.host.specs.Outcome.{Outcome}
 use Rattle.host.specs.Inspection.{otherLayout, looped, inspected, inspect}
-use Rattle.host.specs.Steps.{step2, step3, step4, steps2to4, newNeighbor, tspOf, delayOf, offsetOf}
+use Rattle.host.specs.Steps.{step2, step3, step4, steps2to4, tspOf, delayOf, offsetOf}
 use Rattle.host.specs.Arrival.{atLeastMin, neighborUpdate, reportUpdate, updateId, noTable, withTable, step5, concluded, action}
 use Rattle.host.specs.Calls.{arrived, arrival}
 use Rattle.host.proofs.Places.{Holds, entries-length}
+use Rattle.host.proofs.Sweeps.{sweep-length}
 use Rattle.host.proofs.Guarded.{passed-link, holds}
 use Rattle.host.proofs.Guarded as guarded
 use Rattle.network.specs.Room.{Room, at, HostAt, Proper}
 use Rattle.network.specs.Demand3.{Message, timed}
+use Rattle.network.proofs.Arrivals.{same-address}
 use Rattle.network.proofs.Exchange.{tsp-same, tsp-exact, delay-exact}
-use Rattle.network.proofs.Demand3.Lists.{All, all-at, all-set}
+use Rattle.network.proofs.Demand3.Lists.{all-at, all-set}
 use Rattle.network.proofs.Demand3.Near.{Fits16, Near, Apart, apart, offset-exact, offset-near, relay-near, relay-exact}
-use Rattle.network.proofs.Demand3.Entries.{stored, update-keeps, sweep-keeps, sweep-length, only-keeps}
+use Rattle.network.proofs.Demand3.Entries.{stored, update-keeps, sweep-keeps, only-keeps}
 use Rattle.network.proofs.Demand3.Invariant.{Known, RightEntry, RightReport, RightLink, RightLinks, Carries, RightMessage}
 use Rattle.network.proofs.Demand3.Outcomes.{RightOutcome, RightLent, same-right, written-right}
-use Rattle.network.proofs.Demand3.Seats.{fresh-right, down-right}
+use Rattle.network.proofs.Demand3.Seats.{down-right}
 use Rattle.network.proofs.Demand3.ReadBack.{source-back, count-back, time-back, tsp-back, report-back}
 use Rattle.network.proofs.Demand3.Sending.{link-from-1}
 
@@ -197,18 +197,6 @@ module _ (r : Room) (proper : Proper r) (b a : ℕ) (hb : b < r .seats) (ha : a 
         (λ t. table-right (good t))
 
 -- ---- steps 2 to 5, at link i of seat b, of a message that took `way` ms
-
-same-address : (x y : Address) → sameAddress x y ≡ true → x ≡ y
-same-address x y e =
-    let p = both (eqb (x .first) (y .first) && eqb (x .second) (y .second) && eqb (x .third) (y .third)) (eqb (x .fourth) (y .fourth)) e in
-    let q = both (eqb (x .first) (y .first) && eqb (x .second) (y .second)) (eqb (x .third) (y .third)) (p .0) in
-    let s = both (eqb (x .first) (y .first)) (eqb (x .second) (y .second)) (q .0) in
-    λ k. record {
-      first = eqb-true (x .first) (y .first) (s .0) k;
-      second = eqb-true (x .second) (y .second) (s .1) k;
-      third = eqb-true (x .third) (y .third) (q .1) k;
-      fourth = eqb-true (x .fourth) (y .fourth) (p .1) k;
-    }
 
 -- a report of a host that is down, which stands for what is not there
 abbrev noReport : Report

@@ -1,6 +1,6 @@
 -- The lines of an update, the ageing and the sweep over a table, over any predicate of good entries. Nothing here knows of offsets and clocks.
-use mathlib.Core.Path.{_≡_, refl, sym, ap, subst}
-use mathlib.Core.Bool.{Bool, true, false, not, cond, _&&_}
+use mathlib.Core.Path.{_≡_, refl, sym, subst}
+use mathlib.Core.Bool.{Bool, true, false, not, _&&_}
 use mathlib.Core.List.{List, [], _∷_}
 use Prim.Native.Nat.{ℕ, suc, _+_, _<_}
 use native.Mathlib.Omega.{arith}
@@ -19,7 +19,7 @@ use Rattle.table.specs.declared.Updated.{Updated}
 use Rattle.table.specs.Forms.{Stage, on, end, _then_}
 use Rattle.table.specs.Entry.{maxDelay, minDelay, holdDown, up, takenDown, withTtl, aged}
 use Rattle.table.specs.Update.{lineA, lineB, lineC, lines, settled, update, left, ownUpdate, selfReported}
-use Rattle.table.specs.Sweep.{Swept, sweep, only}
+use Rattle.table.specs.Sweep.{sweep, only}
 use Rattle.network.proofs.Demand3.Lists.{All}
 
 -- what is stored
@@ -69,7 +69,7 @@ aged-keeps P e stays down ttl =
     either P (eqb (e .ttl .0) 0) _ _ (λ t. stays)
     (λ t. either P (eqb (fallSeconds (e .ttl) .0) 0 && up e) _ _ (λ v. down) (λ v. ttl (fallSeconds (e .ttl))))
 
--- a sweep keeps what each update keeps, and the number of entries
+-- a sweep keeps what each update keeps
 pub sweep-keeps : (P : ℕ → Entry → Type 0) (n : ℕ) (f : ℕ → Clock → Entry → Updated) (c : Clock) (es : List Entry)
     → ((i : ℕ) (d : Clock) (e : Entry) → i < length es → P i e → P i (f (i + n) d e .entry))
     → All P es → All P (sweep n f c es .entries)
@@ -81,12 +81,6 @@ sweep-keeps P n f c (e ∷ es) h t =
       sweep-keeps (λ (i : ℕ). P (suc i)) (suc n) f (f n c e .clock) es
           (λ i d x l p. let next : suc i + n ≡ i + suc n = omega arith in rw next at (h (suc i) d x (omega arith) p)) (t .1),
     )
-
-pub sweep-length : (n : ℕ) (f : ℕ → Clock → Entry → Updated) (c : Clock) (es : List Entry)
-    → length (sweep n f c es .entries) ≡ length es
-unfolding sweep
-sweep-length n f c [] = refl
-sweep-length n f c (e ∷ es) = ap suc (sweep-length (suc n) f (f n c e .clock) es)
 
 -- the sweep of one id alone
 pub only-keeps : (P : ℕ → Entry → Type 0) (id : ℕ) (f : Clock → Entry → Updated) → ((c : Clock) (e : Entry) → P id e → P id (f c e .entry))

@@ -3,11 +3,11 @@ use mathlib.Core.Path.{_≡_, refl, sym, ap, subst, _∙_}
 use mathlib.Core.Bool.{Bool, true, false, cond, false≢true}
 use mathlib.Core.List.{List, [], _∷_, List·Memᴰ, List·Memᴰ·cases-cons, List·Memᴰ·not-nil}
 use mathlib.Core.Logic.{_⊎_, inl, inr}
-use Prim.Native.Nat.{ℕ, _<_, min}
+use Prim.Native.Nat.{ℕ, _<_}
 use native.Mathlib.Omega.{arith}
 use borrow.Author.Tests.{eqb-true}
 use lib.Dec.{T, eqb}
-use lib.IntN.{ℤ, pos, _+ℤ_}
+use lib.IntN.{ℤ, _+ℤ_}
 use lib.ListN.{getD, take}
 use lib.Seq.{getD-take, take-nil}
 use Rattle.quantity.proofs.Tests.{either}
@@ -25,17 +25,17 @@ use Rattle.host.proofs.Guarded.{passed-fresh}
 use Rattle.host.proofs.Guarded as guarded
 use Rattle.host.proofs.Sound.{Sound, sound}
 use Rattle.host.specs.Outcome.{Outcome}
-use Rattle.network.specs.Call.{Call, perform, messageOf}
-use Rattle.network.specs.History.{State, Left, leftBy, outcome, put, after}
+use Rattle.network.specs.Call.{perform}
+use Rattle.network.specs.History.{Left, leftBy, after}
 use Rattle.network.specs.Room.{Room, afresh, Proper}
-use Rattle.network.specs.Demand3.{RoomCall, ticks, seconds, reports, sends, arrives, callOf, Step, eventOf, Message, World, result, mailAfter, step, history, timed, Reads, Later, Delivered, Timely, Allowed, Allows, Starts, entryOf, Right, Claim, Demand3}
+use Rattle.network.specs.Demand3.{RoomCall, ticks, seconds, reports, sends, arrives, Step, Message, World, result, mailAfter, step, history, timed, Later, Allowed, Allows, Starts, Claim, Demand3}
 use Rattle.network.proofs.Demand3.Lists.{All, all-at}
 use Rattle.network.proofs.Demand3.Near.{near-close}
 use Rattle.network.proofs.Demand3.Invariant.{RightEntry, RightMessage, RightSeat, RightWorld}
 use Rattle.network.proofs.Demand3.Outcomes.{RightOutcome, RightLent, lent-right, left-right}
 use Rattle.network.proofs.Demand3.Seats.{fresh-right, afresh-right, tick-right, second-right, self-right}
-use Rattle.network.proofs.Demand3.Sending.{send-right, SendRight}
-use Rattle.network.proofs.Demand3.Arrival.{Came, arrival-right}
+use Rattle.network.proofs.Demand3.Sending.{send-right}
+use Rattle.network.proofs.Demand3.Arrival.{arrival-right}
 
 module _ (r : Room) (proper : Proper r) where
   -- ---- one call

@@ -1,14 +1,14 @@
 -- OFFSETs near the true difference, at 16 bits: of one exchange, and of a report that is passed on. DELAYs are whole numbers of milliseconds, integers.
-use mathlib.Core.Path.{_≡_, _∙_, ap}
-use Prim.Native.Nat.{ℕ, _+_, _*_, _≤_, _<_, max}
+use mathlib.Core.Path.{_≡_, ap}
+use Prim.Native.Nat.{ℕ, _+_, _*_, _≤_, _<_}
 use native.Mathlib.Omega.{arith}
 use lib.IntN.{ℤ, pos, _+ℤ_, _-ℤ_, _*ℤ_, natAbs}
 use lib.Signed.{shrZ, _≤ℤ_}
 use lib.Dec.{lit<}
 use Rattle.quantity.specs.Words.{wrap}
-use Rattle.quantity.proofs.Ints.{up, dn, sum, Sum, diff, times, floor, abs, one, to-≤ℤ}
+use Rattle.quantity.proofs.Ints.{up, dn, sum, diff, times, floor, abs, one, to-≤ℤ}
 use Rattle.quantity.proofs.Wrap.{wrap-fits}
-use Rattle.network.proofs.Exchange.{Error, offset-error}
+use Rattle.network.proofs.Exchange.{offset-error}
 
 -- a number that 16 bits hold, signed
 pub record Fits16 (z : ℤ) : Type 0 where

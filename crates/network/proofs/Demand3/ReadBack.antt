@@ -1,13 +1,13 @@
 -- What is read of a message is what was written.
 use mathlib.Core.Path.{_≡_, refl, sym, ap, ap₂, _∙_}
-use mathlib.Core.List.{List, [], _∷_, _++_}
+use mathlib.Core.List.{List, [], _∷_}
 use Prim.Native.Nat.{ℕ, zero, suc, _+_, _*_, _/_, _%_, _≤_, _<_}
 use native.Mathlib.Omega.{arith}
 use lib.IntN.{ℤ, pos, negsuc, natAbs}
 use lib.ListN.{length, getD, drop}
 use lib.Seq.{drop-nil, drop-drop, drop-cons, getD-drop}
 use Rattle.quantity.specs.Quantity.{millis}
-use Rattle.quantity.specs.Words.{word, bits16, signed16, wrap}
+use Rattle.quantity.specs.Words.{word, bits16, signed16}
 use Rattle.quantity.proofs.Ints.{up, dn}
 use Rattle.quantity.proofs.Wrap.{wrap-fits}
 use Rattle.wire.specs.declared.Address.{Address}

@@ -4,34 +4,32 @@ use mathlib.Core.Bool.{false≢true, true≢false}
 use mathlib.Core.List.{List, map}
 use Prim.Native.Nat.{ℕ, suc, _<_}
 use native.Mathlib.Omega.{arith}
-use lib.IntN.{pos}
-use lib.ListN.{length, length-map, length-replicate}
+use lib.ListN.{length-map, length-replicate}
 use Rattle.quantity.specs.declared.Millis.{Millis}
 use Rattle.quantity.specs.declared.Seconds.{Seconds}
 use Rattle.answer.specs.declared.Answer.the-variants.{Done}
 use Rattle.clock.specs.declared.Clock.{Clock}
-use Rattle.clock.specs.declared.Reading.{Reading}
 use Rattle.clock.specs.Clock.{reading}
 use Rattle.route.specs.declared.Found.{Found}
 use Rattle.route.specs.declared.Found.the-variants.{Host, Nothing}
 use Rattle.table.specs.declared.Entry.{Entry}
-use Rattle.table.specs.declared.Updated.{Updated}
 use Rattle.table.specs.Entry.{freshEntry, takenDown, withTtl, aged}
-use Rattle.table.specs.Update.{ownUpdate, selfReported}
-use Rattle.table.specs.Sweep.{sweep, only}
+use Rattle.table.specs.Update.{ownUpdate}
+use Rattle.table.specs.Sweep.{only}
 use Rattle.host.specs.declared.Links.{Links}
 use Rattle.host.specs.Settings.{ownId}
-use Rattle.host.specs.State.{freshLink, freshLinks, hostCount, entries, withEntries}
+use Rattle.host.specs.State.{freshLink, freshLinks, hostCount, entries}
 use Rattle.host.specs.Guard.{guard, guardFresh, done}
-use Rattle.host.specs.Outcome.{Outcome, leaves}
+use Rattle.host.specs.Outcome.{Outcome}
 use Rattle.host.specs.Calls.{initialize, tick, second, selfReport, reported}
 use Rattle.host.proofs.Places.{Holds, entries-length}
+use Rattle.host.proofs.Sweeps.{sweep-length}
 use Rattle.host.proofs.Guarded.{passed, passed-fresh, holds}
 use Rattle.host.proofs.Guarded as guarded
 use Rattle.network.specs.Room.{Room, afresh}
-use Rattle.network.proofs.Demand3.Lists.{All, all-replicate, all-map, all-made}
-use Rattle.network.proofs.Demand3.Entries.{stored, self-keeps, aged-keeps, only-keeps, sweep-length}
-use Rattle.network.proofs.Demand3.Invariant.{Known, RightEntry, RightLink, RightLinks}
+use Rattle.network.proofs.Demand3.Lists.{all-replicate, all-map, all-made}
+use Rattle.network.proofs.Demand3.Entries.{stored, self-keeps, aged-keeps, only-keeps}
+use Rattle.network.proofs.Demand3.Invariant.{RightEntry, RightLink}
 use Rattle.network.proofs.Demand3.Outcomes.{RightOutcome, RightLent, same-right, written-right}
 
 module _ (r : Room) (a : ℕ) where

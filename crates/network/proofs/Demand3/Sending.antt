@@ -1,34 +1,27 @@
 -- A send keeps a seat right, and what it writes is a right message: its time is our reading, its reports are the table's, and its TSP has the bits that the link's TSP and our reading make.
-use mathlib.Core.Path.{_≡_, refl, sym, ap, subst, _∙_}
-use mathlib.Core.Bool.{Bool, true, false, true≢false, false≢true, not, cond, _&&_, _||_}
-use mathlib.Core.List.{List, [], _∷_, map, _++_}
-use Prim.Native.Nat.{ℕ, zero, suc, _+_, _-_, _*_, _≤_, _<_}
+use mathlib.Core.Path.{_≡_, refl, sym, subst, _∙_}
+use mathlib.Core.Bool.{Bool, true, false, true≢false, false≢true, not, _&&_, _||_}
+use mathlib.Core.List.{List, [], _∷_}
+use Prim.Native.Nat.{ℕ, suc, _-_, _≤_, _<_}
 use native.Mathlib.Omega.{arith}
-use borrow.Author.Tests.{eqb-true, eqb-false, eq-eqb, ne-eqb}
+use borrow.Author.Tests.{eqb-false, ne-eqb}
 use lib.Dec.{ltb, leb, eqb, lit<}
 use lib.IntN.{ℤ, pos, _+ℤ_}
-use lib.ListN.{length, getD, take, drop, length-append}
-use lib.Seq.{take-at}
-use lib.Signed.{ltZ, shrZ, _<ℤ_}
-use Rattle.quantity.proofs.Tests.{either, both, is-not}
+use lib.ListN.{length, take}
+use lib.Signed.{ltZ, _<ℤ_}
+use Rattle.quantity.proofs.Tests.{either, both, is-not, each}
 use Rattle.quantity.specs.declared.Millis.{Millis}
 use Rattle.quantity.specs.declared.Word.{Word}
-use Rattle.quantity.specs.Quantity.{units, lessMillis, unitsPerMilli, toUnits}
-use Rattle.quantity.specs.Words.{word, toWord, ofWord, wrap, zeroWord}
+use Rattle.quantity.specs.Quantity.{units, unitsPerMilli, toUnits}
+use Rattle.quantity.specs.Words.{zeroWord}
 use Rattle.quantity.proofs.Ints.{up, dn, lt-no, floor, of-<ℤ}
 use Rattle.quantity.proofs.Wrap.{wrap-range}
-use Rattle.answer.specs.declared.Answer.the-variants.{Done, Buffer}
+use Rattle.answer.specs.declared.Answer.the-variants.{Done}
 use Rattle.clock.specs.declared.Clock.{Clock}
-use Rattle.clock.specs.declared.Reading.{Reading}
 use Rattle.calendar.specs.Date.{real}
 use Rattle.clock.specs.Midnight.{day, dayMillis}
 use Rattle.clock.specs.Clock.{reading, within, slewLeast, slewMost, clockInRange}
-use Rattle.wire.specs.declared.Address.{Address}
-use Rattle.wire.specs.declared.Packet.{Packet}
-use Rattle.wire.specs.declared.Report.{Report}
-use Rattle.wire.specs.Ip.{header}
-use Rattle.wire.specs.Hello.{reportsOctets, hello}
-use Rattle.wire.specs.Packet.{packetLength, message}
+use Rattle.wire.specs.Packet.{message}
 use Rattle.table.specs.declared.Entry.{Entry}
 use Rattle.table.specs.Forms.{every}
 use Rattle.table.specs.Entry.{maxDelay, holdDown, advertised, upTo, entryInRange}
@@ -37,28 +30,18 @@ use Rattle.host.specs.declared.Link.{Link}
 use Rattle.host.specs.declared.Links.{Links}
 use Rattle.host.specs.State.{unset, freshLink, linkOf, withLink, entries}
 use Rattle.host.specs.Guard.{linkInRange, linkCount, noLink, lentInRange, guardLink, done}
-use Rattle.host.specs.Outcome.{Outcome, unsent}
+use Rattle.host.specs.Outcome.{Outcome}
 use Rattle.host.specs.Send.{tableGoes, reports, sentTsp, linkSent, packetSent, sentMessage, sentLength, sentOutcome, send}
 use Rattle.host.proofs.Guarded.{passed-link, holds, Passed}
 use Rattle.host.proofs.Guarded as guarded
 use Rattle.network.specs.Call.{messageOf}
 use Rattle.network.specs.Room.{Room, at}
-use Rattle.network.specs.Demand3.{Message}
+use Rattle.network.proofs.Sends.{sent-message}
 use Rattle.network.proofs.Exchange.{word-same}
 use Rattle.network.proofs.Demand3.Lists.{All, all-at, all-map, all-set, every-all, all-both}
 use Rattle.network.proofs.Demand3.Near.{Fits16}
 use Rattle.network.proofs.Demand3.Invariant.{RightEntry, RightReport, RightLink, RightLinks, Carries, RightMessage}
 use Rattle.network.proofs.Demand3.Outcomes.{RightOutcome, RightLent, same-right}
-
--- ---- the length of a message
-
-reports-length : (rs : List Report) → length (reportsOctets rs) ≡ 4 * length rs
-reports-length [] = refl
-reports-length (r ∷ rs) = omega (arith, reports-length rs)
-
-message-length : (d : Address) (p : Packet) (rs : List Report) → length (message d p rs) ≡ packetLength (length rs)
-unfolding message header hello
-message-length d p rs = omega (arith, reports-length rs)
 
 -- ---- tests
 
@@ -75,10 +58,8 @@ link-from-1 s i e = go (eqb i 0) refl e
 clock-low : (c : Clock) → clockInRange c ≡ true → dn (c .clock .0) ≤ 0
 unfolding clockInRange
 clock-low c e =
-    let a = both (within (units (pos 0)) day (c .clock) && within (toUnits slewLeast) (toUnits slewMost) (c .delta) && leb (c .hold .0) 255) (real (c .date)) e .0 in
-    let b = both (within (units (pos 0)) day (c .clock) && within (toUnits slewLeast) (toUnits slewMost) (c .delta)) (leb (c .hold .0) 255) a .0 in
-    let d = both (within (units (pos 0)) day (c .clock)) (within (toUnits slewLeast) (toUnits slewMost) (c .delta)) b .0 in
-    let f = both (not (ltZ (c .clock .0) (pos 0))) (not (ltZ (day .0) (c .clock .0))) d .0 in
+    let t = each (within (units (pos 0)) day (c .clock)) (within (toUnits slewLeast) (toUnits slewMost) (c .delta) ∷ leb (c .hold .0) 255 ∷ real (c .date) ∷ []) e .0 in
+    let f = both (not (ltZ (c .clock .0) (pos 0))) (not (ltZ (day .0) (c .clock .0))) t .0 in
     omega (arith, lt-no (c .clock .0) (pos 0) (is-not (ltZ (c .clock .0) (pos 0)) f))
 
 pub reading-low : (s : Settings) (k : ℕ) (c : Clock) (l : Links) (run : List Entry) → lentInRange s k c l run ≡ true
@@ -98,9 +79,7 @@ entries-in-range s k c l run e =
 delay-range : (e : Entry) → entryInRange e ≡ true → (dn (e .delay .0) ≤ 0) × (up (e .delay .0) ≤ 30000)
 unfolding entryInRange
 delay-range e t =
-    let a = both (upTo maxDelay (e .delay) && leb (e .ttl .0) (holdDown .0) && leb (e .pid) 8) (upTo dayMillis (e .time)) t .0 in
-    let b = both (upTo maxDelay (e .delay) && leb (e .ttl .0) (holdDown .0)) (leb (e .pid) 8) a .0 in
-    let d = both (upTo maxDelay (e .delay)) (leb (e .ttl .0) (holdDown .0)) b .0 in
+    let d = each (upTo maxDelay (e .delay)) (leb (e .ttl .0) (holdDown .0) ∷ leb (e .pid) 8 ∷ upTo dayMillis (e .time) ∷ []) t .0 in
     let f = both (not (ltZ (e .delay .0) (pos 0))) (not (ltZ (pos 30000) (e .delay .0))) d in
     omega (arith, lt-no (e .delay .0) (pos 0) (is-not (ltZ (e .delay .0) (pos 0)) (f .0)), lt-no (pos 30000) (e .delay .0) (is-not (ltZ (pos 30000) (e .delay .0)) (f .1)))
 
@@ -162,12 +141,6 @@ module _ (r : Room) (a i : ℕ) (inside : a < r .seats) (c : Clock) (l : Links) 
           bits = word-same 16 (omega arith) (r .fixed b) (r .fixed a) t (x .tsp .0) (reading c .time .0) (tied .way) (tied .bits) clock;
         })
 
-    -- the octets that a send answers for
-    written : (buffer : List ℕ) → messageOf (sentOutcome (r .settings a) (r .number a) (reading c) l run i buffer)
-        ≡ sentMessage (r .settings a) i x (reading c .time) (reading c .clock .date) es
-    unfolding sentMessage
-    written buffer = take-at _ (drop (sentLength (r .settings a) i x es) buffer) (sentLength (r .settings a) i x es) (message-length (x .neighbor) _ (reports (r .settings a) i x es))
-
     message-right : (buffer : List ℕ) → RightMessage r record { seat = a; link = i; ms = t; octets = messageOf (sentOutcome (r .settings a) (r .number a) (reading c) l run i buffer) }
     unfolding sentMessage
     message-right buffer =
@@ -176,7 +149,7 @@ module _ (r : Room) (a i : ℕ) (inside : a < r .seats) (c : Clock) (l : Links) 
           destination = x .neighbor;
           packet = packetSent (r .settings a) x (reading c .time) (reading c .clock .date) (length (reports (r .settings a) i x es));
           reports = reports (r .settings a) i x es;
-          octets-are = written buffer;
+          octets-are = sent-message (r .settings a) (r .number a) (reading c) l run i buffer;
           source = refl;
           time = clock;
           time-low = reading-low (r .settings a) (r .number a) c l run (ok .lent-good);
