@@ -8,3 +8,4 @@ pub mod ReadBack
 pub mod Sending
 pub mod Arrival
 pub mod Histories
+pub mod Alive

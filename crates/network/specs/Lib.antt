@@ -10,3 +10,4 @@ pub mod Exchange
 pub mod Room
 pub mod Demand3
 pub mod SharedRun
+pub mod Example
