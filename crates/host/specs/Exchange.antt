@@ -1,4 +1,4 @@
--- The exchange of the blackboard, over the octets that send writes and arrival reads: A is host 0, at 192.0.2.1; B is host 1, at 192.0.2.2, 500 ms ahead.
+-- The exchange of the blackboard, over the octets that send writes and arrival reads: A has the id 0, at 192.0.2.1; B has the id 1, at 192.0.2.2, and is 500 ms ahead.
 use mathlib.Core.List.{List}
 use Prim.Native.Nat.{ℕ}
 use lib.IntN.{pos}

@@ -9,3 +9,4 @@ pub mod Sending
 pub mod Arrival
 pub mod Histories
 pub mod Alive
+pub mod Shared

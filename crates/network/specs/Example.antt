@@ -1,11 +1,11 @@
 -- Demand 3 is not empty: a history of two seats that meets every condition, and ends with an entry of DELAY 101 and an error of -51 ms, 10,200 against 10,201.
--- Seat 1 is 500 ms ahead. Its message is 0 ms under way to seat 1, the answer 101 ms to seat 0, where it arrives twice: the first time its neighbour is new.
+-- Seat 1 is 500 ms ahead. A message of seat 0 reaches it at once; the answer is 101 ms under way to seat 0, and arrives there twice: the first time its neighbour is new.
 use mathlib.Core.Path.{_≡_}
 use mathlib.Core.Bool.{cond}
 use mathlib.Core.List.{List, [], _∷_, _++_}
 use Prim.Native.Nat.{ℕ, _+_, _*_, _<_}
 use lib.Dec.{eqb}
-use lib.IntN.{pos, _-ℤ_, natAbs}
+use lib.IntN.{pos, negsuc, _-ℤ_}
 use lib.ListN.{replicate}
 use Rattle.quantity.specs.Quantity.{millis, seconds, toUnits}
 use Rattle.quantity.specs.Words.{word}
@@ -128,5 +128,5 @@ pub record Example : Type 0 where
   pub delay : learnt .delay ≡ millis (pos 101)
   pub offset : learnt .offset ≡ word (pos 449)
   -- the error is -51, more than half of the delay
-  pub error : natAbs (pos 449 -ℤ (pos 500 -ℤ pos 0)) ≡ 51
+  pub error : learnt .offset .0 -ℤ (pair .fixed 1 -ℤ pair .fixed 0) ≡ negsuc 50
   pub more-than-half : 100 * 101 < 200 * 51

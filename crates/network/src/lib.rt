@@ -6,6 +6,7 @@ ghost use Rattle.network.specs.Locality.{Locality};
 ghost use Rattle.network.specs.Isolation.{Isolation, IsolationFromAfresh, Alone};
 ghost use Rattle.network.specs.Exchange.{HalfDelay};
 ghost use Rattle.network.specs.Demand3.{Demand3};
+ghost use Rattle.network.specs.SharedRun.{SharedDemand3};
 ghost use Rattle.network.specs.Example.{Example};
 
 // Each call gives the first answer whose condition holds: 12, then upwards; and 0 where none does.
@@ -41,6 +42,8 @@ pub fn isolation_from_afresh()
 // In one run that all hosts share, deleting every other host's calls changes nothing at a number.
 pub fn alone()
     ensures { λ _. ⌜ Alone ⌝ }
+{}
+
 // The half-delay law: twice the error of an exchange's OFFSET is at most its DELAY plus one, whatever the width of the words.
 pub fn half_delay()
     ensures { λ _. ⌜ HalfDelay ⌝ }
@@ -49,6 +52,11 @@ pub fn half_delay()
 // Demand 3: after every list of calls in a room, every live entry is for a host of the room, and its OFFSET is right to within 101/200 of its DELAY.
 pub fn demand_3()
     ensures { λ _. ⌜ Demand3 ⌝ }
+{}
+
+// The same for one run that all seats share.
+pub fn shared_demand_3()
+    ensures { λ _. ⌜ SharedDemand3 ⌝ }
 {}
 
 // A history in which a table comes alive, with an OFFSET that is wrong by more than half of the DELAY.

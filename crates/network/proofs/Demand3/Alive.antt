@@ -127,6 +127,6 @@ alive =
       allowed = allowed;
       delay = ap millis (entry-is .0);
       offset = ap word (entry-is .1);
-      error = refl;
+      error = ap (λ (z : ℤ). z -ℤ (pair .fixed 1 -ℤ pair .fixed 0)) (entry-is .1);
       more-than-half = omega arith;
     }
