@@ -5,6 +5,8 @@ use Prim.Native.Nat.{ℕ, _+_, _*_, _-_, _/_, _%_}
 use lib.Dec.{ltb, leb, eqb}
 use lib.ListN.{getD}
 use Rattle.calendar.specs.declared.Date.{Date}
+use Rattle.calendar.specs.declared.MadeDate.{MadeDate}
+use Rattle.calendar.specs.declared.MadeDate.the-variants.{Made, NoDate}
 
 -- ---- the fields of the word
 
@@ -49,6 +51,20 @@ lastDay y m = cond (eqb m 2 && eqb (y % 4) 0) 29 (getD monthDays m 0)
 unfoldable pub real : Date → Bool
 real d =
     eqb (spare d) 0 && leb 1 (month d) && leb (month d) 12 && leb 1 (day d) && leb (day d) (lastDay (year d) (month d))
+
+-- the years of the word's two ends
+abbrev pub firstYear : ℕ
+firstYear = 1972
+
+abbrev pub lastYear : ℕ
+lastYear = 2003
+
+-- the date of a calendar year, month and day, with bit 15 zero, where there is one (the first four tests: each number fits its bits)
+unfoldable pub made : (year month day : ℕ) → MadeDate
+made y m d =
+    cond (leb firstYear y && leb y lastYear && leb m 12 && leb d 31 && real (dateOf 0 (y - firstYear) m d))
+    (Made (dateOf 0 (y - firstYear) m d))
+    NoDate
 
 -- ---- stepping: "The word has two ends, 1 January 1972 and 31 December 2003, and steps from either to the other." Bit 15 stays.
 

@@ -1,0 +1,1 @@
+// Laws that hold for all types. They stand in proofs/; there is no code.
