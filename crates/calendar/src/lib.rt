@@ -104,6 +104,14 @@ impl Date {
         self.0 / 32768 % 2
     }
 
+    // The same day with bit 15 as given.
+    fn flagged(self, flag: u16) -> Date
+        requires { ⌜ (flag ≤ 1) × (month self ≤ 12) ⌝ }
+        ensures { λ r. ⌜ r ≡ dateOf flag (year self) (month self) (day self) ⌝ }
+    {
+        Date::of(flag, self.year(), self.month(), self.day())
+    }
+
     // Whether this is a day of the calendar. Bit 15 is not looked at.
     pub fn is_real(self) -> bool
         ensures { λ r. ⌜ r ≡ real self ⌝ }
@@ -157,12 +165,7 @@ impl Date {
         if year < Date::LAST.year() {
             return Date::of(flag, year + 1, 1, 1);
         }
-        Date::of(
-            flag,
-            Date::FIRST.year(),
-            Date::FIRST.month(),
-            Date::FIRST.day(),
-        )
+        Date::FIRST.flagged(flag)
     }
 
     // The day before; before the first day of the word the last. Bit 15 stays.
@@ -183,12 +186,7 @@ impl Date {
         if Date::FIRST.year() < year {
             return Date::of(flag, year - 1, 12, last_day(year - 1, 12));
         }
-        Date::of(
-            flag,
-            Date::LAST.year(),
-            Date::LAST.month(),
-            Date::LAST.day(),
-        )
+        Date::LAST.flagged(flag)
     }
 }
 

@@ -37,7 +37,15 @@ returns : tie.Need-returns
 unfolding next
 returns c =
     let s = c .before .before in
-    rw (← s .before .before .before .before .flag .ensures, ← s .before .before .before .year .ensures, ← s .before .before .month .ensures, ← s .before .day .ensures, ← s .last-day .ensures, lt-ltb _ _ (c .before .if1 .taken)) (c .of .ensures)
+    rw (
+      ← s .before .before .before .before .flag .ensures,
+      ← s .before .before .before .year .ensures,
+      ← s .before .before .month .ensures,
+      ← s .before .day .ensures,
+      ← s .last-day .ensures,
+      lt-ltb _ _ (c .before .if1 .taken),
+    )
+    (c .of .ensures)
 
 add-of-2 : tie.Need-add-of-2
 add-of-2 c = search needs
@@ -49,7 +57,16 @@ returns-2 : tie.Need-returns-2
 unfolding next
 returns-2 c =
     let s = c .before .before .before in
-    rw (← s .before .before .before .before .flag .ensures, ← s .before .before .before .year .ensures, ← s .before .before .month .ensures, ← s .before .day .ensures, ← s .last-day .ensures, le-ltb _ _ (c .before .before .if1 .left), lt-ltb _ _ (c .before .if2 .taken)) (c .of2 .ensures)
+    rw (
+      ← s .before .before .before .before .flag .ensures,
+      ← s .before .before .before .year .ensures,
+      ← s .before .before .month .ensures,
+      ← s .before .day .ensures,
+      ← s .last-day .ensures,
+      le-ltb _ _ (c .before .before .if1 .left),
+      lt-ltb _ _ (c .before .if2 .taken),
+    )
+    (c .of2 .ensures)
 
 year-requires-2 : tie.Need-year-requires-2
 year-requires-2 c κs = search needs
@@ -65,27 +82,37 @@ unfolding next
 returns-3 c =
     let s = c .before .before .before .before .before in
     let y : s .before .before .before .year .result < 31 = omega arith in
-    rw (← s .before .before .before .before .flag .ensures, ← s .before .before .before .year .ensures, ← s .before .before .month .ensures, ← s .before .day .ensures, ← s .last-day .ensures, le-ltb _ _ (c .before .before .before .before .if1 .left), le-ltb _ _ (c .before .before .before .if2 .left), lt-ltb _ _ y) (c .of3 .ensures)
+    rw (
+      ← s .before .before .before .before .flag .ensures,
+      ← s .before .before .before .year .ensures,
+      ← s .before .before .month .ensures,
+      ← s .before .day .ensures,
+      ← s .last-day .ensures,
+      le-ltb _ _ (c .before .before .before .before .if1 .left),
+      le-ltb _ _ (c .before .before .before .if2 .left),
+      lt-ltb _ _ y,
+    )
+    (c .of3 .ensures)
 
-year-requires-3 : tie.Need-year-requires-3
-year-requires-3 c κs = search needs
-
-month-requires-2 : tie.Need-month-requires-2
-month-requires-2 c κs = search needs
-
-day-requires-2 : tie.Need-day-requires-2
-day-requires-2 c κs = search needs
-
-of-requires-4 : tie.Need-of-requires-4
-of-requires-4 c κs = search needs
+flagged-requires : tie.Need-flagged-requires
+flagged-requires c κs = search needs
 
 returns-4 : tie.Need-returns-4
 unfolding next
 returns-4 c =
-    let s = c .before .before .before .before .before .before .before .before in
+    let s = c .before .before .before .before .before in
     let y : 31 ≤ s .before .before .before .year .result = omega arith in
-    rw (← s .before .before .before .before .flag .ensures, ← s .before .before .before .year .ensures, ← s .before .before .month .ensures, ← s .before .day .ensures, ← s .last-day .ensures, le-ltb _ _ (c .before .before .before .before .before .before .before .if1 .left), le-ltb _ _ (c .before .before .before .before .before .before .if2 .left), le-ltb _ _ y)
-    (rw (c .before .before .before .year3 .ensures, c .before .before .month2 .ensures, c .before .day2 .ensures) at (c .of4 .ensures))
+    rw (
+      ← s .before .before .before .before .flag .ensures,
+      ← s .before .before .before .year .ensures,
+      ← s .before .before .month .ensures,
+      ← s .before .day .ensures,
+      ← s .last-day .ensures,
+      le-ltb _ _ (c .before .before .before .before .if1 .left),
+      le-ltb _ _ (c .before .before .before .if2 .left),
+      le-ltb _ _ y,
+    )
+    (c .flagged .ensures)
 
 pub next-spec : {M : Type 1} → statement M
 next-spec =
@@ -106,8 +133,5 @@ next-spec =
     add-of-3
     of-requires-3
     returns-3
-    year-requires-3
-    month-requires-2
-    day-requires-2
-    of-requires-4
+    flagged-requires
     returns-4)

@@ -25,14 +25,16 @@ sub-of c = search needs
 
 of-requires : tie.Need-of-requires
 of-requires c κs =
-    let r = real-says (c .before .before .before .before .before .args .self) (c .before .before .before .before .before .pre) .its in
+    let s = c .before .before .before .before .before in
+    let r = real-says (s .args .self) (s .pre) .its in
     omega (arith, day-fits r)
 
 returns : tie.Need-returns
 unfolding previous
 returns c =
     let s = c .before .before in
-    rw (← s .before .before .before .flag .ensures, ← s .before .before .year .ensures, ← s .before .month .ensures, ← s .day .ensures, lt-ltb _ _ (c .before .if1 .taken)) (c .of .ensures)
+    rw (← s .before .before .before .flag .ensures, ← s .before .before .year .ensures, ← s .before .month .ensures, ← s .day .ensures, lt-ltb _ _ (c .before .if1 .taken))
+    (c .of .ensures)
 
 sub-of-2 : tie.Need-sub-of-2
 sub-of-2 c = search needs
@@ -41,11 +43,12 @@ sub-last-day : tie.Need-sub-last-day
 sub-last-day c = search needs
 
 last-day-requires : tie.Need-last-day-requires
-last-day-requires c κs = omega (arith, real-says (c .before .before .before .before .before .before .args .self) (c .before .before .before .before .before .before .pre) .its)
+last-day-requires c κs = let s = c .before .before .before .before .before .before in omega (arith, real-says (s .args .self) (s .pre) .its)
 
 of-requires-2 : tie.Need-of-requires-2
 of-requires-2 c κs =
-    let r = real-says (c .before .before .before .before .before .before .before .args .self) (c .before .before .before .before .before .before .before .pre) .its in
+    let s = c .before .before .before .before .before .before .before in
+    let r = real-says (s .args .self) (s .pre) .its in
     let l = month-length (c .before .before .before .before .before .year .result) (c .before .before .before .before .month .result - 1) (omega arith) (omega arith) in
     omega arith
 
@@ -53,7 +56,16 @@ returns-2 : tie.Need-returns-2
 unfolding previous
 returns-2 c =
     let s = c .before .before .before .before in
-    rw (← s .before .before .before .flag .ensures, ← s .before .before .year .ensures, ← s .before .month .ensures, ← s .day .ensures, le-ltb _ _ (c .before .before .before .if1 .left), lt-ltb _ _ (c .before .before .if2 .taken), ← c .before .last-day .ensures) (c .of2 .ensures)
+    rw (
+      ← s .before .before .before .flag .ensures,
+      ← s .before .before .year .ensures,
+      ← s .before .month .ensures,
+      ← s .day .ensures,
+      le-ltb _ _ (c .before .before .before .if1 .left),
+      lt-ltb _ _ (c .before .before .if2 .taken),
+      ← c .before .last-day .ensures,
+    )
+    (c .of2 .ensures)
 
 year-requires-2 : tie.Need-year-requires-2
 year-requires-2 c κs = search needs
@@ -77,27 +89,36 @@ unfolding previous
 returns-3 c =
     let s = c .before .before .before .before .before .before in
     let y : 0 < s .before .before .year .result = omega arith in
-    rw (← s .before .before .before .flag .ensures, ← s .before .before .year .ensures, ← s .before .month .ensures, ← s .day .ensures, le-ltb _ _ (c .before .before .before .before .before .if1 .left), le-ltb _ _ (c .before .before .before .before .if2 .left), lt-ltb _ _ y, ← c .before .last-day2 .ensures) (c .of3 .ensures)
+    rw (
+      ← s .before .before .before .flag .ensures,
+      ← s .before .before .year .ensures,
+      ← s .before .month .ensures,
+      ← s .day .ensures,
+      le-ltb _ _ (c .before .before .before .before .before .if1 .left),
+      le-ltb _ _ (c .before .before .before .before .if2 .left),
+      lt-ltb _ _ y,
+      ← c .before .last-day2 .ensures,
+    )
+    (c .of3 .ensures)
 
-year-requires-3 : tie.Need-year-requires-3
-year-requires-3 c κs = search needs
-
-month-requires-2 : tie.Need-month-requires-2
-month-requires-2 c κs = search needs
-
-day-requires-2 : tie.Need-day-requires-2
-day-requires-2 c κs = search needs
-
-of-requires-4 : tie.Need-of-requires-4
-of-requires-4 c κs = search needs
+flagged-requires : tie.Need-flagged-requires
+flagged-requires c κs = search needs
 
 returns-4 : tie.Need-returns-4
 unfolding previous
 returns-4 c =
-    let s = c .before .before .before .before .before .before .before .before in
+    let s = c .before .before .before .before .before in
     let y : s .before .before .year .result ≤ 0 = omega arith in
-    rw (← s .before .before .before .flag .ensures, ← s .before .before .year .ensures, ← s .before .month .ensures, ← s .day .ensures, le-ltb _ _ (c .before .before .before .before .before .before .before .if1 .left), le-ltb _ _ (c .before .before .before .before .before .before .if2 .left), le-ltb _ _ y)
-    (rw (c .before .before .before .year3 .ensures, c .before .before .month2 .ensures, c .before .day2 .ensures) at (c .of4 .ensures))
+    rw (
+      ← s .before .before .before .flag .ensures,
+      ← s .before .before .year .ensures,
+      ← s .before .month .ensures,
+      ← s .day .ensures,
+      le-ltb _ _ (c .before .before .before .before .if1 .left),
+      le-ltb _ _ (c .before .before .before .if2 .left),
+      le-ltb _ _ y,
+    )
+    (c .flagged .ensures)
 
 pub previous-spec : {M : Type 1} → statement M
 previous-spec =
@@ -121,8 +142,5 @@ previous-spec =
     last-day-requires-2
     of-requires-3
     returns-3
-    year-requires-3
-    month-requires-2
-    day-requires-2
-    of-requires-4
+    flagged-requires
     returns-4)
