@@ -1,2 +1,5 @@
 pub mod While
 pub mod Midnight
+pub mod Ranges
+pub mod Turns
+pub mod Range

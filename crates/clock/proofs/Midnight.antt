@@ -31,7 +31,7 @@ down : (z : ℤ) → up (day .0) ≤ up z → natAbs (shrZ (z -ℤ day .0) (natA
 down (pos n) h = rw (le-ltb n 5662310400000 (omega arith)) (omega arith)
 down (negsuc n) h = absurd (omega arith)
 
-dayOn-nearer : (h : Seconds) (c : Clock) → exceedsDay c ≡ true → daysAway (dayOn h c) < daysAway c
+pub dayOn-nearer : (h : Seconds) (c : Clock) → exceedsDay c ≡ true → daysAway (dayOn h c) < daysAway c
 unfolding dayOn
 dayOn-nearer h c e = down (c .clock .0) (omega (arith, lt-yes (day .0) (c .clock .0) e))
 
@@ -43,7 +43,7 @@ rise (negsuc n) h = go (ltb 5662310400000 (suc n)) refl
     go true b = let h : 5662310400000 < suc n = ltb-true _ _ b in rw b (omega arith)
     go false b = let h : suc n ≤ 5662310400000 = ltb-false _ _ b in rw b (omega arith)
 
-dayBack-nearer : (h : Seconds) (c : Clock) → belowZero c ≡ true → daysAway (dayBack h c) < daysAway c
+pub dayBack-nearer : (h : Seconds) (c : Clock) → belowZero c ≡ true → daysAway (dayBack h c) < daysAway c
 unfolding dayBack
 dayBack-nearer h c e = rise (c .clock .0) (omega (arith, lt-yes (c .clock .0) (pos 0) e))
 

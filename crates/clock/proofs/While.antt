@@ -1,4 +1,5 @@
 -- A `while` whose size falls with each turn is one turn and then the same again: any count of turns that is not below the size gives the same.
+-- It ends where its test fails, and keeps what each turn keeps.
 use mathlib.Core.Path.{_≡_, refl, sym, _∙_}
 use mathlib.Core.Bool.{Bool, true, false, cond}
 use Prim.Native.Nat.{ℕ, zero, suc, _≤_, _<_}
@@ -15,6 +16,21 @@ stays test turn (suc n) a e = rw (e, turns)
 pub rests : {A : Type 0} (size : A → ℕ) (test : A → Bool) (turn : A → A) (a : A) → test a ≡ false → while size test turn a ≡ a
 unfolding while
 rests size test turn a e = stays test turn (size a) a e
+
+-- what each turn keeps, the while keeps
+module _ {A : Type 0} (P : A → Type 0) (size : A → ℕ) (test : A → Bool) (turn : A → A) (kept : (a : A) → test a ≡ true → P a → P (turn a)) where
+  kept-by : (n : ℕ) (a : A) → P a → P (turns n test turn a)
+  unfolding turns
+  kept-by zero a p = p
+  kept-by (suc n) a p = go (kept-by n (turn a)) (test a) refl
+    where
+      go : (P (turn a) → P (turns n test turn (turn a))) → (b : Bool) → test a ≡ b → P (turns (suc n) test turn a)
+      go again true e = rw (e, turns) (again (kept a e p))
+      go again false e = rw (e, turns) p
+
+  pub keeps : (a : A) → P a → P (while size test turn a)
+  unfolding while
+  keeps a p = kept-by (size a) a p
 
 module _ {A : Type 0} (size : A → ℕ) (test : A → Bool) (turn : A → A) (falls : (a : A) → test a ≡ true → size (turn a) < size a) where
   turned : (n : ℕ) (a : A) → test a ≡ true → turns (suc n) test turn a ≡ turns n test turn (turn a)
@@ -54,3 +70,21 @@ module _ {A : Type 0} (size : A → ℕ) (test : A → Bool) (turn : A → A) (f
       go : (b : Bool) → test a ≡ b → while size test turn a ≡ cond b (while size test turn (turn a)) a
       go true e = again a e
       go false e = rests size test turn a e
+
+  -- the test fails at the end
+  ends-by : (n : ℕ) (a : A) → size a ≤ n → test (turns n test turn a) ≡ false
+  unfolding turns
+  ends-by zero a h = go (test a) refl
+    where
+      go : (b : Bool) → test a ≡ b → test a ≡ false
+      go true e = absurd (omega (arith, falls a e))
+      go false e = e
+  ends-by (suc n) a h = go (ends-by n (turn a)) (test a) refl
+    where
+      go : (size (turn a) ≤ n → test (turns n test turn (turn a)) ≡ false) → (b : Bool) → test a ≡ b → test (turns (suc n) test turn a) ≡ false
+      go again true e = rw (e, turns) (again (omega (arith, falls a e)))
+      go again false e = rw (e, turns) e
+
+  pub ends : (a : A) → test (while size test turn a) ≡ false
+  unfolding while
+  ends a = ends-by (size a) a (le-refl _)

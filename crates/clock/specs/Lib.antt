@@ -1,3 +1,4 @@
 pub mod While
 pub mod Midnight
 pub mod Clock
+pub mod Near

@@ -1,5 +1,38 @@
 // A host's clock.
-ghost use Rattle.clock.specs.Midnight.{Whiles, Rests};
+ghost use mathlib.Core.Path.{_≡_};
+ghost use mathlib.Core.Bool.{true, false};
+ghost use lib.IntN.{pos};
+ghost use mir.Syntax.{w32};
+ghost use mir.Val.{SFits};
+ghost use Rattle.quantity.specs.Quantity.{units, millis, lessMillis, toUnits};
+ghost use Rattle.clock.specs.Midnight.{
+  dayMillis,
+  day,
+  exceedsDay,
+  dayOn,
+  belowZero,
+  dayBack,
+  daysOn,
+  daysBack,
+  midnight,
+  Whiles,
+  Rests,
+};
+ghost use Rattle.clock.specs.Clock.{
+  freshClock,
+  tick,
+  adjust,
+  slewLeast,
+  slewMost,
+  slews,
+  setBy,
+  reading,
+  holdSecond,
+  within,
+  tickInRange,
+  clockInRange,
+};
+ghost use Rattle.clock.specs.Near.{Near};
 
 // CLK.CLOCK and CLK.DELTA in units, HOLD in seconds, and DATE.
 #[repr(C)]
@@ -14,6 +47,252 @@ pub struct Clock {
 pub struct Reading {
     pub clock: Clock,
     pub time: quantity::Millis,
+}
+
+// The milliseconds of a day.
+pub const DAY: quantity::Millis = quantity::Millis(86_400_000);
+
+// A set by this much, from the least to the most, is a slew; any other is a step.
+const SLEW_LEAST: quantity::Millis = quantity::Millis(-512);
+
+const SLEW_MOST: quantity::Millis = quantity::Millis(511);
+
+// The units of a day.
+fn day() -> quantity::Units
+    ensures { λ r. ⌜ r ≡ day ⌝ }
+{
+    quantity::Units::of_millis(DAY)
+}
+
+// Whether u lies from the least to the most.
+fn within(least: quantity::Units, most: quantity::Units, u: quantity::Units) -> bool
+    ensures { λ r. ⌜ r ≡ within least most u ⌝ }
+{
+    if u.less(least) {
+        return false;
+    }
+    !most.less(u)
+}
+
+// Whether a CLOCK lies within its day.
+fn in_day(clock: quantity::Units) -> bool
+    ensures { λ r. ⌜ r ≡ within (units (pos 0)) day clock ⌝ }
+{
+    within(quantity::Units(0), day(), clock)
+}
+
+// Whether a DELTA lies within the limits of a slew.
+fn in_slew(delta: quantity::Units) -> bool
+    ensures { λ r. ⌜ r ≡ within (toUnits slewLeast) (toUnits slewMost) delta ⌝ }
+{
+    within(
+        quantity::Units::of_millis(SLEW_LEAST),
+        quantity::Units::of_millis(SLEW_MOST),
+        delta,
+    )
+}
+
+// Whether a CLOCK-TICK may be set.
+pub fn tick_in_range(clock_tick: quantity::Units) -> bool
+    ensures { λ r. ⌜ r ≡ tickInRange «clock_tick» ⌝ }
+{
+    within(
+        quantity::Units(1),
+        quantity::Units::of_millis(quantity::Millis(1000)),
+        clock_tick,
+    )
+}
+
+// Whether a set by this many milliseconds is a slew.
+fn slews(ms: quantity::Millis) -> bool
+    ensures { λ r. ⌜ r ≡ slews ms ⌝ }
+{
+    if ms.less(SLEW_LEAST) {
+        return false;
+    }
+    !SLEW_MOST.less(ms)
+}
+
+impl Clock {
+    // A clock at its starting time and date. A master's date is awaited.
+    pub fn fresh(time: quantity::Millis, date: calendar::Date) -> Clock
+        requires { ⌜ lessMillis time (millis (pos 0)) ≡ false ⌝ }
+        requires { ⌜ lessMillis time dayMillis ≡ true ⌝ }
+        ensures { λ r. ⌜ r ≡ freshClock time date ⌝ }
+    {
+        let clock = quantity::Units::of_millis(time);
+        let awaiting = date.awaiting();
+        Clock {
+            clock: clock,
+            delta: quantity::Units(0),
+            hold: quantity::Seconds(0),
+            date: awaiting,
+        }
+    }
+
+    // Whether CLOCK, DELTA, HOLD and DATE are in the ranges of what may be lent.
+    pub fn in_range(self) -> bool
+        ensures { λ r. ⌜ r ≡ clockInRange self ⌝ }
+    {
+        let clock = self.clock;
+        let delta = self.delta;
+        let hold = self.hold;
+        let date = self.date;
+        if !in_day(clock) {
+            return false;
+        }
+        if !in_slew(delta) {
+            return false;
+        }
+        if 255 < hold.0 {
+            return false;
+        }
+        date.is_real()
+    }
+
+    // The clock a tick later.
+    pub fn ticked(self, clock_tick: quantity::Units, hold_interval: quantity::Seconds) -> Clock
+        requires { ⌜ clockInRange self ≡ true ⌝ }
+        requires { ⌜ tickInRange «clock_tick» ≡ true ⌝ }
+        ensures { λ r. ⌜ r ≡ tick «clock_tick» «hold_interval» self ⌝ }
+    {
+        let clock = self.clock;
+        let mut c = self;
+        c.clock = clock.plus(clock_tick);
+        c.midnight(hold_interval)
+    }
+
+    // The clock with a share of DELTA moved into CLOCK.
+    pub fn adjusted(self, hold_interval: quantity::Seconds) -> Clock
+        requires { ⌜ clockInRange self ≡ true ⌝ }
+        ensures { λ r. ⌜ r ≡ adjust «hold_interval» self ⌝ }
+    {
+        let clock = self.clock;
+        let delta = self.delta;
+        let share = delta.share();
+        let mut c = self;
+        c.clock = clock.plus(share);
+        c.delta = delta.minus(share);
+        c.midnight(hold_interval)
+    }
+
+    // The clock set by a count of milliseconds, by a slew or by a step.
+    pub fn set_by(self, hold_interval: quantity::Seconds, ms: quantity::Millis) -> Clock
+        requires { ⌜ clockInRange self ≡ true ⌝ }
+        requires { ⌜ SFits w32 (ms .0) ⌝ }
+        ensures { λ r. ⌜ r ≡ setBy «hold_interval» ms self ⌝ }
+    {
+        let moved = quantity::Units::of_millis(ms);
+        let mut c = self;
+        if slews(ms) {
+            c.delta = moved;
+            return c.midnight(hold_interval);
+        }
+        let clock = self.clock;
+        let spent = quantity::Units(0);
+        c.clock = clock.plus(moved);
+        c.delta = spent;
+        c.hold = hold_interval;
+        c.midnight(hold_interval)
+    }
+
+    // The whole milliseconds of CLOCK, and the clock to carry on with.
+    pub fn reading(self) -> Reading
+        ensures { λ r. ⌜ r ≡ reading self ⌝ }
+    {
+        let time = quantity::Millis::whole(self.clock);
+        Reading {
+            clock: self,
+            time: time,
+        }
+    }
+
+    // The clock a second later: HOLD falls.
+    pub fn second(self) -> Clock
+        ensures { λ r. ⌜ r ≡ holdSecond self ⌝ }
+    {
+        let hold = self.hold;
+        let mut c = self;
+        c.hold = hold.fall();
+        c
+    }
+
+    fn exceeds_day(self) -> bool
+        ensures { λ r. ⌜ r ≡ exceedsDay self ⌝ }
+    {
+        day().less(self.clock)
+    }
+
+    fn below_zero(self) -> bool
+        ensures { λ r. ⌜ r ≡ belowZero self ⌝ }
+    {
+        let clock = self.clock;
+        clock.less(quantity::Units(0))
+    }
+
+    // A day off CLOCK, DATE on a day, HOLD loaded.
+    fn day_on(self, hold_interval: quantity::Seconds) -> Clock
+        requires { ⌜ Near self ⌝ }
+        ensures { λ r. ⌜ r ≡ dayOn «hold_interval» self ⌝ }
+    {
+        let clock = self.clock.minus(day());
+        let date = self.date.next();
+        let delta = self.delta;
+        let awaiting = date.awaiting();
+        Clock {
+            clock: clock,
+            delta: delta,
+            hold: hold_interval,
+            date: awaiting,
+        }
+    }
+
+    // A day added to CLOCK, DATE back a day, HOLD loaded.
+    fn day_back(self, hold_interval: quantity::Seconds) -> Clock
+        requires { ⌜ Near self ⌝ }
+        ensures { λ r. ⌜ r ≡ dayBack «hold_interval» self ⌝ }
+    {
+        let clock = self.clock.plus(day());
+        let date = self.date.previous();
+        let delta = self.delta;
+        let awaiting = date.awaiting();
+        Clock {
+            clock: clock,
+            delta: delta,
+            hold: hold_interval,
+            date: awaiting,
+        }
+    }
+
+    fn days_on(self, hold_interval: quantity::Seconds) -> Clock
+        requires { ⌜ Near self ⌝ }
+        ensures { λ r. ⌜ r ≡ daysOn «hold_interval» self ⌝ }
+    {
+        let mut c = self;
+        while c.exceeds_day() {
+            c = c.day_on(hold_interval);
+        }
+        c
+    }
+
+    fn days_back(self, hold_interval: quantity::Seconds) -> Clock
+        requires { ⌜ Near self ⌝ }
+        ensures { λ r. ⌜ r ≡ daysBack «hold_interval» self ⌝ }
+    {
+        let mut c = self;
+        while c.below_zero() {
+            c = c.day_back(hold_interval);
+        }
+        c
+    }
+
+    // The clock within its day: each midnight passed moves DATE and loads HOLD.
+    fn midnight(self, hold_interval: quantity::Seconds) -> Clock
+        requires { ⌜ Near self ⌝ }
+        ensures { λ r. ⌜ r ≡ midnight «hold_interval» self ⌝ }
+    {
+        self.days_on(hold_interval).days_back(hold_interval)
+    }
 }
 
 // The midnight rule is made of the paper's whiles, and leaves a CLOCK within its day alone.

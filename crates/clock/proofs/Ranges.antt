@@ -1,0 +1,91 @@
+-- What the range tests say, in the readings that omega takes, and back.
+use mathlib.Core.Path.{_≡_}
+use mathlib.Core.Bool.{true, not}
+use mathlib.Core.List.{[], _∷_}
+use Prim.Native.Nat.{_≤_, _^_}
+use native.Mathlib.Omega.{arith}
+use borrow.Author.Tests.{leb-true, le-leb}
+use lib.Dec.{leb}
+use lib.IntN.{pos, negℤ}
+use lib.Signed.{ltZ}
+use Rattle.quantity.specs.declared.Units.{Units}
+use Rattle.quantity.specs.Quantity.{units, millis, toUnits}
+use Rattle.quantity.proofs.Ints.{up, dn, Le, lt-no, not-lt, to-≤ℤ}
+use Rattle.quantity.proofs.Tests.{both, each, is-not}
+use Rattle.calendar.specs.Date.{real}
+use Rattle.clock.specs.declared.Clock.{Clock}
+use Rattle.clock.specs.Midnight.{day}
+use Rattle.clock.specs.Near.{Near}
+use Rattle.clock.specs.Clock.{within, slewLeast, slewMost, tickInRange, clockInRange}
+
+-- ---- between a least and a most
+
+record Between (least most u : Units) : Type 0 where
+  above : Le (least .0) (u .0)
+  below : Le (u .0) (most .0)
+
+between : (least most u : Units) → within least most u ≡ true → Between least most u
+between l m u e =
+    let b = both (not (ltZ (u .0) (l .0))) (not (ltZ (m .0) (u .0))) e in
+    record {
+      above = lt-no (u .0) (l .0) (is-not (ltZ (u .0) (l .0)) (b .0));
+      below = lt-no (m .0) (u .0) (is-not (ltZ (m .0) (u .0)) (b .1));
+    }
+
+-- ---- CLOCK-TICK
+
+pub record Tick (t : Units) : Type 0 where
+  pub tick-low : dn (t .0) ≤ 0
+  pub tick-high : up (t .0) ≤ 65536000
+
+pub tick-says : (t : Units) → tickInRange t ≡ true → Tick t
+unfolding tickInRange
+tick-says t e = let b = between (units (pos 1)) (toUnits (millis (pos 1000))) t e in omega arith
+
+-- ---- what is lent
+
+-- DELTA, HOLD and DATE
+pub record Rest (c : Clock) : Type 0 where
+  pub delta-low : dn (c .delta .0) ≤ 33554432
+  pub delta-high : up (c .delta .0) ≤ 33488896
+  pub hold-high : c .hold .0 ≤ 255
+  pub dated : real (c .date) ≡ true
+
+pub record Ranged (c : Clock) : Type 0 where
+  pub clock-low : dn (c .clock .0) ≤ 0
+  pub clock-high : up (c .clock .0) ≤ 5662310400000
+  pub rest : Rest c
+
+pub range-says : (c : Clock) → clockInRange c ≡ true → Ranged c
+unfolding clockInRange
+range-says c e =
+    let t = each (within (units (pos 0)) day (c .clock)) (within (toUnits slewLeast) (toUnits slewMost) (c .delta) ∷ leb (c .hold .0) 255 ∷ real (c .date) ∷ []) e in
+    let k = between (units (pos 0)) day (c .clock) (t .0) in
+    let d = between (toUnits slewLeast) (toUnits slewMost) (c .delta) (t .1 .0) in
+    record {
+      clock-low = omega arith;
+      clock-high = omega arith;
+      rest = record { delta-low = omega arith; delta-high = omega arith; hold-high = leb-true _ _ (t .1 .1 .0); dated = t .1 .1 .1 .0 };
+    }
+
+pub in-range : (c : Clock) → Ranged c → clockInRange c ≡ true
+unfolding clockInRange
+in-range c r =
+    rw (
+      not-lt (c .clock .0) (pos 0) (omega arith),
+      not-lt (day .0) (c .clock .0) (omega arith),
+      not-lt (c .delta .0) (toUnits slewLeast .0) (omega arith),
+      not-lt (toUnits slewMost .0) (c .delta .0) (omega arith),
+      le-leb _ _ (r .rest .hold-high),
+      r .rest .dated,
+    )
+
+-- ---- what the midnight rule asks
+
+pub nearby : (c : Clock) → dn (c .clock .0) ≤ 2 ^ 62 → up (c .clock .0) ≤ 2 ^ 62 → real (c .date) ≡ true → Near c
+nearby c l h d =
+    record {
+      low = to-≤ℤ (negℤ (pos (2 ^ 62))) (c .clock .0) (omega arith);
+      high = to-≤ℤ (c .clock .0) (pos (2 ^ 62)) (omega arith);
+      dated = d;
+    }

@@ -1,0 +1,15 @@
+use borrow.Author.Needs.{needs}
+use Rattle.clock.proofs.in_day.Statement.{statement}
+use Rattle.clock.proofs.in_day.Tie as tie
+
+day-requires : tie.Need-day-requires
+day-requires c κs = search needs
+
+within-requires : tie.Need-within-requires
+within-requires c κs = search needs
+
+returns : tie.Need-returns
+returns c = rw (c .before .day .ensures) at (c .within .ensures)
+
+pub in-day-spec : {M : Type 1} → statement M
+in-day-spec = tie.close (tie.spec day-requires within-requires returns)
