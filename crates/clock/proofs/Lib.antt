@@ -1,5 +1,5 @@
 pub mod While
 pub mod Midnight
-pub mod Ranges
+pub mod Bounds
 pub mod Turns
 pub mod Range

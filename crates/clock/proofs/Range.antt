@@ -19,7 +19,7 @@ use Rattle.clock.specs.declared.Clock.{Clock}
 use Rattle.clock.specs.Midnight.{dayMillis, day, daysAway, exceedsDay, dayOn, belowZero, dayBack, daysOn, daysBack, midnight}
 use Rattle.clock.specs.Clock.{freshClock, tick, adjust, share, slewLeast, slewMost, slews, setBy, holdSecond, clockInRange}
 use Rattle.clock.proofs.Midnight.{dayOn-nearer, dayBack-nearer}
-use Rattle.clock.proofs.Ranges.{Rest, Ranged, range-says, in-range}
+use Rattle.clock.proofs.Bounds.{Rest, Ranged, range-says, in-range}
 use Rattle.clock.proofs.Turns.{dated-on, dated-back}
 use Rattle.clock.proofs.While as while
 

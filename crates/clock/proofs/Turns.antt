@@ -12,7 +12,7 @@ use Rattle.calendar.proofs.Stepping.{real-next, real-previous}
 use Rattle.clock.specs.declared.Clock.{Clock}
 use Rattle.clock.specs.Midnight.{day, daysAway, exceedsDay, dayOn, belowZero, dayBack, daysOn}
 use Rattle.clock.specs.Near.{Near}
-use Rattle.clock.proofs.Ranges.{nearby}
+use Rattle.clock.proofs.Bounds.{nearby}
 use Rattle.clock.proofs.While as while
 
 pub dated-on : (d : Date) → real d ≡ true → real (await (next d)) ≡ true
@@ -27,7 +27,7 @@ near-on h c e n =
     let l = lt-yes (day .0) (c .clock .0) e in
     let s = diff (c .clock .0) (day .0) in
     let t = of-≤ℤ (n .high) in
-    nearby (dayOn h c) (omega arith) (omega arith) (dated-on (c .date) (n .dated))
+    nearby (dayOn h c) (omega arith) (dated-on (c .date) (n .dated))
 
 pub near-back : (h : Seconds) (c : Clock) → belowZero c ≡ true → Near c → Near (dayBack h c)
 unfolding dayBack
@@ -35,7 +35,7 @@ near-back h c e n =
     let l = lt-yes (c .clock .0) (pos 0) e in
     let s = sum (c .clock .0) (day .0) in
     let t = of-≤ℤ (n .low) in
-    nearby (dayBack h c) (omega arith) (omega arith) (dated-back (c .date) (n .dated))
+    nearby (dayBack h c) (omega arith) (dated-back (c .date) (n .dated))
 
 pub near-days-on : (h : Seconds) (c : Clock) → Near c → Near (daysOn h c)
 unfolding daysOn

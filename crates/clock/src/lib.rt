@@ -1,4 +1,8 @@
 // A host's clock.
+use calendar::Date;
+use quantity::Millis;
+use quantity::Seconds;
+use quantity::Units;
 ghost use mathlib.Core.Path.{_≡_};
 ghost use mathlib.Core.Bool.{true, false};
 ghost use lib.IntN.{pos};
@@ -37,35 +41,35 @@ ghost use Rattle.clock.specs.Near.{Near};
 // CLK.CLOCK and CLK.DELTA in units, HOLD in seconds, and DATE.
 #[repr(C)]
 pub struct Clock {
-    pub clock: quantity::Units,
-    pub delta: quantity::Units,
-    pub hold: quantity::Seconds,
-    pub date: calendar::Date,
+    pub clock: Units,
+    pub delta: Units,
+    pub hold: Seconds,
+    pub date: Date,
 }
 
 // What a reading yields: the clock to carry on with, and the time.
 pub struct Reading {
     pub clock: Clock,
-    pub time: quantity::Millis,
+    pub time: Millis,
 }
 
 // The milliseconds of a day.
-pub const DAY: quantity::Millis = quantity::Millis(86_400_000);
+pub const DAY: Millis = Millis(86_400_000);
 
 // A set by this much, from the least to the most, is a slew; any other is a step.
-const SLEW_LEAST: quantity::Millis = quantity::Millis(-512);
+const SLEW_LEAST: Millis = Millis(-512);
 
-const SLEW_MOST: quantity::Millis = quantity::Millis(511);
+const SLEW_MOST: Millis = Millis(511);
 
 // The units of a day.
-fn day() -> quantity::Units
+fn day() -> Units
     ensures { λ r. ⌜ r ≡ day ⌝ }
 {
-    quantity::Units::of_millis(DAY)
+    Units::of_millis(DAY)
 }
 
 // Whether u lies from the least to the most.
-fn within(least: quantity::Units, most: quantity::Units, u: quantity::Units) -> bool
+fn within(least: Units, most: Units, u: Units) -> bool
     ensures { λ r. ⌜ r ≡ within least most u ⌝ }
 {
     if u.less(least) {
@@ -75,36 +79,32 @@ fn within(least: quantity::Units, most: quantity::Units, u: quantity::Units) -> 
 }
 
 // Whether a CLOCK lies within its day.
-fn in_day(clock: quantity::Units) -> bool
+fn in_day(clock: Units) -> bool
     ensures { λ r. ⌜ r ≡ within (units (pos 0)) day clock ⌝ }
 {
-    within(quantity::Units(0), day(), clock)
+    within(Units(0), day(), clock)
 }
 
 // Whether a DELTA lies within the limits of a slew.
-fn in_slew(delta: quantity::Units) -> bool
+fn in_slew(delta: Units) -> bool
     ensures { λ r. ⌜ r ≡ within (toUnits slewLeast) (toUnits slewMost) delta ⌝ }
 {
     within(
-        quantity::Units::of_millis(SLEW_LEAST),
-        quantity::Units::of_millis(SLEW_MOST),
+        Units::of_millis(SLEW_LEAST),
+        Units::of_millis(SLEW_MOST),
         delta,
     )
 }
 
 // Whether a CLOCK-TICK may be set.
-pub fn tick_in_range(clock_tick: quantity::Units) -> bool
+pub fn tick_in_range(clock_tick: Units) -> bool
     ensures { λ r. ⌜ r ≡ tickInRange «clock_tick» ⌝ }
 {
-    within(
-        quantity::Units(1),
-        quantity::Units::of_millis(quantity::Millis(1000)),
-        clock_tick,
-    )
+    within(Units(1), Units::of_millis(Millis(1000)), clock_tick)
 }
 
 // Whether a set by this many milliseconds is a slew.
-fn slews(ms: quantity::Millis) -> bool
+fn slews(ms: Millis) -> bool
     ensures { λ r. ⌜ r ≡ slews ms ⌝ }
 {
     if ms.less(SLEW_LEAST) {
@@ -115,17 +115,17 @@ fn slews(ms: quantity::Millis) -> bool
 
 impl Clock {
     // A clock at its starting time and date. A master's date is awaited.
-    pub fn fresh(time: quantity::Millis, date: calendar::Date) -> Clock
+    pub fn fresh(time: Millis, date: Date) -> Clock
         requires { ⌜ lessMillis time (millis (pos 0)) ≡ false ⌝ }
         requires { ⌜ lessMillis time dayMillis ≡ true ⌝ }
         ensures { λ r. ⌜ r ≡ freshClock time date ⌝ }
     {
-        let clock = quantity::Units::of_millis(time);
+        let clock = Units::of_millis(time);
         let awaiting = date.awaiting();
         Clock {
             clock: clock,
-            delta: quantity::Units(0),
-            hold: quantity::Seconds(0),
+            delta: Units(0),
+            hold: Seconds(0),
             date: awaiting,
         }
     }
@@ -151,7 +151,7 @@ impl Clock {
     }
 
     // The clock a tick later.
-    pub fn ticked(self, clock_tick: quantity::Units, hold_interval: quantity::Seconds) -> Clock
+    pub fn ticked(self, clock_tick: Units, hold_interval: Seconds) -> Clock
         requires { ⌜ clockInRange self ≡ true ⌝ }
         requires { ⌜ tickInRange «clock_tick» ≡ true ⌝ }
         ensures { λ r. ⌜ r ≡ tick «clock_tick» «hold_interval» self ⌝ }
@@ -163,7 +163,7 @@ impl Clock {
     }
 
     // The clock with a share of DELTA moved into CLOCK.
-    pub fn adjusted(self, hold_interval: quantity::Seconds) -> Clock
+    pub fn adjusted(self, hold_interval: Seconds) -> Clock
         requires { ⌜ clockInRange self ≡ true ⌝ }
         ensures { λ r. ⌜ r ≡ adjust «hold_interval» self ⌝ }
     {
@@ -177,19 +177,19 @@ impl Clock {
     }
 
     // The clock set by a count of milliseconds, by a slew or by a step.
-    pub fn set_by(self, hold_interval: quantity::Seconds, ms: quantity::Millis) -> Clock
+    pub fn set_by(self, hold_interval: Seconds, ms: Millis) -> Clock
         requires { ⌜ clockInRange self ≡ true ⌝ }
         requires { ⌜ SFits w32 (ms .0) ⌝ }
         ensures { λ r. ⌜ r ≡ setBy «hold_interval» ms self ⌝ }
     {
-        let moved = quantity::Units::of_millis(ms);
+        let moved = Units::of_millis(ms);
         let mut c = self;
         if slews(ms) {
             c.delta = moved;
             return c.midnight(hold_interval);
         }
         let clock = self.clock;
-        let spent = quantity::Units(0);
+        let spent = Units(0);
         c.clock = clock.plus(moved);
         c.delta = spent;
         c.hold = hold_interval;
@@ -200,7 +200,7 @@ impl Clock {
     pub fn reading(self) -> Reading
         ensures { λ r. ⌜ r ≡ reading self ⌝ }
     {
-        let time = quantity::Millis::whole(self.clock);
+        let time = Millis::whole(self.clock);
         Reading {
             clock: self,
             time: time,
@@ -227,11 +227,11 @@ impl Clock {
         ensures { λ r. ⌜ r ≡ belowZero self ⌝ }
     {
         let clock = self.clock;
-        clock.less(quantity::Units(0))
+        clock.less(Units(0))
     }
 
     // A day off CLOCK, DATE on a day, HOLD loaded.
-    fn day_on(self, hold_interval: quantity::Seconds) -> Clock
+    fn day_on(self, hold_interval: Seconds) -> Clock
         requires { ⌜ Near self ⌝ }
         ensures { λ r. ⌜ r ≡ dayOn «hold_interval» self ⌝ }
     {
@@ -248,7 +248,7 @@ impl Clock {
     }
 
     // A day added to CLOCK, DATE back a day, HOLD loaded.
-    fn day_back(self, hold_interval: quantity::Seconds) -> Clock
+    fn day_back(self, hold_interval: Seconds) -> Clock
         requires { ⌜ Near self ⌝ }
         ensures { λ r. ⌜ r ≡ dayBack «hold_interval» self ⌝ }
     {
@@ -264,7 +264,7 @@ impl Clock {
         }
     }
 
-    fn days_on(self, hold_interval: quantity::Seconds) -> Clock
+    fn days_on(self, hold_interval: Seconds) -> Clock
         requires { ⌜ Near self ⌝ }
         ensures { λ r. ⌜ r ≡ daysOn «hold_interval» self ⌝ }
     {
@@ -275,7 +275,7 @@ impl Clock {
         c
     }
 
-    fn days_back(self, hold_interval: quantity::Seconds) -> Clock
+    fn days_back(self, hold_interval: Seconds) -> Clock
         requires { ⌜ Near self ⌝ }
         ensures { λ r. ⌜ r ≡ daysBack «hold_interval» self ⌝ }
     {
@@ -287,7 +287,7 @@ impl Clock {
     }
 
     // The clock within its day: each midnight passed moves DATE and loads HOLD.
-    fn midnight(self, hold_interval: quantity::Seconds) -> Clock
+    fn midnight(self, hold_interval: Seconds) -> Clock
         requires { ⌜ Near self ⌝ }
         ensures { λ r. ⌜ r ≡ midnight «hold_interval» self ⌝ }
     {

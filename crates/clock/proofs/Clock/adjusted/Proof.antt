@@ -1,12 +1,30 @@
 use borrow.Author.Needs.{needs}
 use native.Mathlib.Omega.{arith}
-use mir.Syntax.{w64}
 use lib.Dec.{lit<}
-use Rattle.quantity.proofs.Ints.{sum, diff, floor, fits}
-use Rattle.clock.specs.Clock.{adjust, share}
-use Rattle.clock.proofs.Ranges.{range-says, nearby}
+use mathlib.Core.Path.{_≡_}
+use mathlib.Core.Bool.{true}
+use lib.IntN.{_+ℤ_, _-ℤ_}
+use Rattle.quantity.proofs.Ints.{sum, diff, floor}
+use Rattle.clock.specs.Clock.{adjust, share, clockInRange}
+use Rattle.clock.proofs.Bounds.{range-says, nearby, Off, off-fits}
+use Rattle.clock.specs.declared.Clock.{Clock}
 use Rattle.clock.proofs.Clock.adjusted.Statement.{statement}
 use Rattle.clock.proofs.Clock.adjusted.Tie as tie
+
+module _ (c : Clock) (e : clockInRange c ≡ true) where
+  sum-off : Off (c .clock .0 +ℤ share c .0)
+  sum-off =
+      let r = range-says c e in
+      let f = floor (c .delta .0) 128 (lit< tt) in
+      let s = sum (c .clock .0) (share c .0) in
+      omega arith
+
+  left-off : Off (c .delta .0 -ℤ share c .0)
+  left-off =
+      let r = range-says c e in
+      let f = floor (c .delta .0) 128 (lit< tt) in
+      let s = diff (c .delta .0) (share c .0) in
+      omega arith
 
 share-requires : tie.Need-share-requires
 share-requires c κs = search needs
@@ -14,26 +32,18 @@ share-requires c κs = search needs
 plus-requires : tie.Need-plus-requires
 plus-requires c κs =
     let s = c .before .before .before in
-    let r = range-says (s .args .self) (s .pre) in
-    let f = floor (s .args .self .delta .0) 128 (lit< tt) in
-    let m = sum (s .args .self .clock .0) (share (s .args .self) .0) in
-    rw (c .share .ensures) (fits w64 _ (omega arith))
+    rw (c .share .ensures) (off-fits _ (sum-off (s .args .self) (s .pre)))
 
 minus-requires : tie.Need-minus-requires
 minus-requires c κs =
     let s = c .before .before .before .before in
-    let r = range-says (s .args .self) (s .pre) in
-    let f = floor (s .args .self .delta .0) 128 (lit< tt) in
-    let m = diff (s .args .self .delta .0) (share (s .args .self) .0) in
-    rw (c .before .share .ensures) (fits w64 _ (omega arith))
+    rw (c .before .share .ensures) (off-fits _ (left-off (s .args .self) (s .pre)))
 
 midnight-requires : tie.Need-midnight-requires
 midnight-requires c κs =
     let s = c .before .before .before .before .before in
-    let r = range-says (s .args .self) (s .pre) in
-    let f = floor (s .args .self .delta .0) 128 (lit< tt) in
-    let m = sum (s .args .self .clock .0) (share (s .args .self) .0) in
-    rw (c .before .plus .ensures, c .before .before .share .ensures) (nearby _ (omega arith) (omega arith) (r .rest .dated))
+    rw (c .before .plus .ensures, c .before .before .share .ensures)
+    (nearby _ (sum-off (s .args .self) (s .pre)) (range-says (s .args .self) (s .pre) .rest .dated))
 
 returns : tie.Need-returns
 unfolding adjust

@@ -1,21 +1,38 @@
 use borrow.Author.Needs.{needs}
 use native.Mathlib.Omega.{arith}
-use mir.Syntax.{w32, w64}
-use lib.IntN.{ℤ, pos, _*ℤ_}
-use Rattle.quantity.specs.Quantity.{unitsPerMilli}
-use Rattle.quantity.proofs.Ints.{times, sum, fits, fits-up, fits-dn}
-use Rattle.clock.specs.Clock.{setBy}
-use Rattle.clock.proofs.Ranges.{range-says, nearby}
+use mir.Syntax.{w32}
+use mathlib.Core.Path.{_≡_}
+use mathlib.Core.Bool.{true}
+use lib.IntN.{_+ℤ_}
+use mir.Val.{SFits}
+use Rattle.quantity.specs.Quantity.{unitsPerMilli, toUnits}
+use Rattle.quantity.proofs.Ints.{times, sum, fits-up, fits-dn}
+use Rattle.clock.specs.Clock.{setBy, clockInRange}
+use Rattle.clock.proofs.Bounds.{range-says, nearby, Off, off-fits}
+use Rattle.quantity.specs.declared.Millis.{Millis}
+use Rattle.clock.specs.declared.Clock.{Clock}
 use Rattle.clock.proofs.Clock.set_by.Statement.{statement}
 use Rattle.clock.proofs.Clock.set_by.Tie as tie
 
+module _ (c : Clock) (m : Millis) (e : clockInRange c ≡ true) (f : SFits w32 (m .0)) where
+  moved-off : Off (toUnits m .0)
+  moved-off =
+      let u = fits-up w32 (m .0) f in
+      let d = fits-dn w32 (m .0) f in
+      let t = times (m .0) unitsPerMilli in
+      omega arith
+
+  sum-off : Off (c .clock .0 +ℤ toUnits m .0)
+  sum-off =
+      let r = range-says c e in
+      let u = fits-up w32 (m .0) f in
+      let d = fits-dn w32 (m .0) f in
+      let t = times (m .0) unitsPerMilli in
+      let s = sum (c .clock .0) (toUnits m .0) in
+      omega arith
+
 of-millis-requires : tie.Need-of-millis-requires
-of-millis-requires c κs =
-    let z : ℤ = c .args .ms .0 in
-    let u = fits-up w32 z (c .pre .1) in
-    let d = fits-dn w32 z (c .pre .1) in
-    let t = times z unitsPerMilli in
-    fits w64 (z *ℤ pos unitsPerMilli) (omega arith)
+of-millis-requires c κs = off-fits _ (moved-off (c .args .self) (c .args .ms) (c .pre .0) (c .pre .1))
 
 slews-requires : tie.Need-slews-requires
 slews-requires c κs = search needs
@@ -24,7 +41,7 @@ midnight-requires : tie.Need-midnight-requires
 midnight-requires c κs =
     let s = c .before .before .before in
     let r = range-says (s .args .self) (s .pre .0) in
-    nearby _ (omega arith) (omega arith) (r .rest .dated)
+    nearby _ (omega arith) (r .rest .dated)
 
 returns : tie.Need-returns
 unfolding setBy
@@ -33,24 +50,14 @@ returns c = rw (← c .before .before .slews .ensures, c .before .if1 .taken, �
 plus-requires : tie.Need-plus-requires
 plus-requires c κs =
     let s = c .before .before .before .before in
-    let z : ℤ = s .args .ms .0 in
-    let r = range-says (s .args .self) (s .pre .0) in
-    let u = fits-up w32 z (s .pre .1) in
-    let d = fits-dn w32 z (s .pre .1) in
-    let t = times z unitsPerMilli in
-    let m = sum (s .args .self .clock .0) (z *ℤ pos unitsPerMilli) in
-    rw (c .before .before .before .of-millis .ensures) (fits w64 _ (omega arith))
+    rw (c .before .before .before .of-millis .ensures)
+    (off-fits _ (sum-off (s .args .self) (s .args .ms) (s .pre .0) (s .pre .1)))
 
 midnight-requires-2 : tie.Need-midnight-requires-2
 midnight-requires-2 c κs =
     let s = c .before .before .before .before .before in
-    let z : ℤ = s .args .ms .0 in
-    let r = range-says (s .args .self) (s .pre .0) in
-    let u = fits-up w32 z (s .pre .1) in
-    let d = fits-dn w32 z (s .pre .1) in
-    let t = times z unitsPerMilli in
-    let m = sum (s .args .self .clock .0) (z *ℤ pos unitsPerMilli) in
-    rw (c .plus .ensures, c .before .before .before .before .of-millis .ensures) (nearby _ (omega arith) (omega arith) (r .rest .dated))
+    rw (c .plus .ensures, c .before .before .before .before .of-millis .ensures)
+    (nearby _ (sum-off (s .args .self) (s .args .ms) (s .pre .0) (s .pre .1)) (range-says (s .args .self) (s .pre .0) .rest .dated))
 
 returns-2 : tie.Need-returns-2
 unfolding setBy

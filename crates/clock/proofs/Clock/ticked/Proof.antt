@@ -1,27 +1,32 @@
 use native.Mathlib.Omega.{arith}
-use mir.Syntax.{w64}
-use Rattle.quantity.proofs.Ints.{sum, fits}
-use Rattle.clock.specs.Clock.{tick}
-use Rattle.clock.proofs.Ranges.{range-says, tick-says, nearby}
+use mathlib.Core.Path.{_≡_}
+use mathlib.Core.Bool.{true}
+use lib.IntN.{_+ℤ_}
+use Rattle.quantity.proofs.Ints.{sum}
+use Rattle.clock.specs.Clock.{tick, tickInRange, clockInRange}
+use Rattle.clock.proofs.Bounds.{range-says, tick-says, nearby, Off, off-fits}
+use Rattle.quantity.specs.declared.Units.{Units}
+use Rattle.clock.specs.declared.Clock.{Clock}
 use Rattle.clock.proofs.Clock.ticked.Statement.{statement}
 use Rattle.clock.proofs.Clock.ticked.Tie as tie
 
+sum-off : (c : Clock) (t : Units) → clockInRange c ≡ true → tickInRange t ≡ true → Off (c .clock .0 +ℤ t .0)
+sum-off c t e f =
+    let r = range-says c e in
+    let k = tick-says t f in
+    let s = sum (c .clock .0) (t .0) in
+    omega arith
+
 plus-requires : tie.Need-plus-requires
 plus-requires c κs =
-    let a = c .before .args in
-    let r = range-says (a .self) (c .before .pre .0) in
-    let t = tick-says (a .clock-tick) (c .before .pre .1) in
-    let s = sum (a .self .clock .0) (a .clock-tick .0) in
-    fits w64 _ (omega arith)
+    let s = c .before in
+    off-fits _ (sum-off (s .args .self) (s .args .clock-tick) (s .pre .0) (s .pre .1))
 
 midnight-requires : tie.Need-midnight-requires
 midnight-requires c κs =
     let s = c .before .before in
-    let a = s .args in
-    let r = range-says (a .self) (s .pre .0) in
-    let t = tick-says (a .clock-tick) (s .pre .1) in
-    let m = sum (a .self .clock .0) (a .clock-tick .0) in
-    rw (c .plus .ensures) (nearby _ (omega arith) (omega arith) (r .rest .dated))
+    let o = sum-off (s .args .self) (s .args .clock-tick) (s .pre .0) (s .pre .1) in
+    rw (c .plus .ensures) (nearby _ o (range-says (s .args .self) (s .pre .0) .rest .dated))
 
 returns : tie.Need-returns
 unfolding tick

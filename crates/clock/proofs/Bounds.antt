@@ -6,11 +6,13 @@ use Prim.Native.Nat.{_≤_, _^_}
 use native.Mathlib.Omega.{arith}
 use borrow.Author.Tests.{leb-true, le-leb}
 use lib.Dec.{leb}
-use lib.IntN.{pos, negℤ}
+use lib.IntN.{ℤ, pos, negℤ}
 use lib.Signed.{ltZ}
+use mir.Syntax.{w64}
+use mir.Val.{SFits}
 use Rattle.quantity.specs.declared.Units.{Units}
 use Rattle.quantity.specs.Quantity.{units, millis, toUnits}
-use Rattle.quantity.proofs.Ints.{up, dn, Le, lt-no, not-lt, to-≤ℤ}
+use Rattle.quantity.proofs.Ints.{up, dn, Le, lt-no, not-lt, to-≤ℤ, Within, fits}
 use Rattle.quantity.proofs.Tests.{both, each, is-not}
 use Rattle.calendar.specs.Date.{real}
 use Rattle.clock.specs.declared.Clock.{Clock}
@@ -80,10 +82,16 @@ in-range c r =
       r .rest .dated,
     )
 
--- ---- what the midnight rule asks
+-- ---- what the midnight rule asks: a CLOCK that is far off may still be added to
 
-pub nearby : (c : Clock) → dn (c .clock .0) ≤ 2 ^ 62 → up (c .clock .0) ≤ 2 ^ 62 → real (c .date) ≡ true → Near c
-nearby c l h d =
+abbrev pub Off : ℤ → Type 0
+Off z = Within (2 ^ 62) (2 ^ 62) z
+
+pub off-fits : (z : ℤ) → Off z → SFits w64 z
+off-fits z o = fits w64 z (omega arith)
+
+pub nearby : (c : Clock) → Off (c .clock .0) → real (c .date) ≡ true → Near c
+nearby c o d =
     record {
       low = to-≤ℤ (negℤ (pos (2 ^ 62))) (c .clock .0) (omega arith);
       high = to-≤ℤ (c .clock .0) (pos (2 ^ 62)) (omega arith);
