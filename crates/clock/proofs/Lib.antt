@@ -3,3 +3,4 @@ pub mod Midnight
 pub mod Bounds
 pub mod Turns
 pub mod Range
+pub mod Types

@@ -295,6 +295,43 @@ impl Clock {
     }
 }
 
+// The same in place, of a clock that is lent.
+
+// The clock ticks.
+pub fn tick(c: &mut Clock, clock_tick: Units, hold_interval: Seconds)
+    requires { ⌜ clockInRange (now c) ≡ true ⌝ }
+    requires { ⌜ tickInRange «clock_tick» ≡ true ⌝ }
+    ensures { λ _. ⌜ now (c .exit) ≡ tick «clock_tick» «hold_interval» (now (c .entry)) ⌝ }
+{
+    *c = Clock::ticked(*c, clock_tick, hold_interval);
+}
+
+// A share of DELTA goes into CLOCK.
+pub fn adjust(c: &mut Clock, hold_interval: Seconds)
+    requires { ⌜ clockInRange (now c) ≡ true ⌝ }
+    ensures { λ _. ⌜ now (c .exit) ≡ adjust «hold_interval» (now (c .entry)) ⌝ }
+{
+    *c = Clock::adjusted(*c, hold_interval);
+}
+
+// The clock is set by a count of milliseconds.
+pub fn set(c: &mut Clock, hold_interval: Seconds, ms: Millis)
+    requires { ⌜ clockInRange (now c) ≡ true ⌝ }
+    requires { ⌜ SFits w32 (ms .0) ⌝ }
+    ensures { λ _. ⌜ now (c .exit) ≡ setBy «hold_interval» ms (now (c .entry)) ⌝ }
+{
+    *c = Clock::set_by(*c, hold_interval, ms);
+}
+
+// The whole milliseconds of CLOCK. A reading may move the clock.
+pub fn read(c: &mut Clock) -> Millis
+    ensures { λ r. ⌜ (now (c .exit) ≡ reading (now (c .entry)) .clock) × (r ≡ reading (now (c .entry)) .time) ⌝ }
+{
+    let r = Clock::reading(*c);
+    *c = r.clock;
+    r.time
+}
+
 // The midnight rule is made of the paper's whiles, and leaves a CLOCK within its day alone.
 pub fn whiles()
     ensures { λ _. ⌜ Whiles ⌝ }

@@ -1,0 +1,23 @@
+-- It does in place what `Clock::set_by` does by value.
+use mathlib.Core.Path.{_≡_}
+use mathlib.Core.Bool.{true}
+use mir.Syntax.{w32}
+use mir.Val.{SFits}
+use base.Logic.{sep}
+use contract.Monad.{fact}
+use Rattle.laws.proofs.Words.{by-value}
+use Rattle.laws.proofs.InPlace2.{proof}
+use Rattle.clock.specs.Clock.{setBy, clockInRange}
+use Rattle.clock.proofs.Types.{clock, millis, seconds}
+use Rattle.clock.proofs.Clock.set_by.Symbol as set-by
+use Rattle.clock.proofs.Clock.set_by.Met as known
+use Rattle.clock.proofs.set.Statement as stated
+use Rattle.clock.proofs.set.Code as code
+
+pub set-spec : {M : Type 1} → stated.statement M
+unfolding code.routine
+set-spec 𝓤 H 𝓜 𝓖 𝓡 =
+    proof (clock .S) (clock .L) (by-value seconds) (by-value millis) 𝓤 H 𝓜 𝓖 𝓡
+    (λ c h m. sep 𝓤 (fact 𝓤 (clockInRange c ≡ true)) (fact 𝓤 (SFits w32 (m .0))))
+    (λ c h m r. fact 𝓤 (r ≡ setBy h m c))
+    code.env #set set-by.name set-by.routine code.calls-clock·Clock·set-by (code.unfolded 𝓤 H 𝓜 𝓡) (known.met 𝓤 H 𝓜 𝓖 𝓡)
