@@ -8,6 +8,7 @@ use Rattle.clock.specs.Clock.{adjust, clockInRange}
 use Rattle.clock.proofs.Types.{clock, seconds}
 use Rattle.clock.proofs.Clock.adjusted.Symbol as adjusted
 use Rattle.clock.proofs.Clock.adjusted.Met as known
+use Rattle.clock.proofs.adjust.Key.{name as #adjust}
 use Rattle.clock.proofs.adjust.Statement as stated
 use Rattle.clock.proofs.adjust.Code as code
 

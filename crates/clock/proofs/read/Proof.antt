@@ -13,6 +13,7 @@ use Rattle.clock.proofs.Types.{clock, millis}
 use Rattle.clock.proofs.Reading as R
 use Rattle.clock.proofs.Clock.reading.Symbol as by-value
 use Rattle.clock.proofs.Clock.reading.Met as known
+use Rattle.clock.proofs.read.Key.{name as #read}
 use Rattle.clock.proofs.read.Statement as stated
 use Rattle.clock.proofs.read.Code as code
 

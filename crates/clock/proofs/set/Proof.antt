@@ -11,6 +11,7 @@ use Rattle.clock.specs.Clock.{setBy, clockInRange}
 use Rattle.clock.proofs.Types.{clock, millis, seconds}
 use Rattle.clock.proofs.Clock.set_by.Symbol as set-by
 use Rattle.clock.proofs.Clock.set_by.Met as known
+use Rattle.clock.proofs.set.Key.{name as #set}
 use Rattle.clock.proofs.set.Statement as stated
 use Rattle.clock.proofs.set.Code as code
 

@@ -9,6 +9,7 @@ use Rattle.clock.specs.Clock.{tick, tickInRange, clockInRange}
 use Rattle.clock.proofs.Types.{clock, units, seconds}
 use Rattle.clock.proofs.Clock.ticked.Symbol as ticked
 use Rattle.clock.proofs.Clock.ticked.Met as known
+use Rattle.clock.proofs.tick.Key.{name as #tick}
 use Rattle.clock.proofs.tick.Statement as stated
 use Rattle.clock.proofs.tick.Code as code
 
