@@ -1,5 +1,5 @@
 -- "Finding an id": the RFC's ROUTE procedure.
-use mathlib.Core.Bool.{Bool, cond, not, _&&_, _||_}
+use mathlib.Core.Bool.{Bool, true, false, cond, not, _&&_, _||_}
 use mathlib.Core.List.{List, [], _∷_}
 use Prim.Native.Nat.{ℕ, _-_}
 use lib.Dec.{ltb, leb, eqb}
@@ -11,6 +11,11 @@ use Rattle.route.specs.declared.Row.{Row}
 use Rattle.route.specs.declared.NetTable.{NetTable}
 use Rattle.route.specs.declared.Found.{Found}
 use Rattle.route.specs.declared.Found.the-variants.{Host, Nothing}
+
+-- was an id found?
+abbrev pub isHost : Found → Bool
+isHost (Host i) = true
+isHost Nothing = false
 
 -- ---- classes: first octets 0 to 127 are class A, 224 and more above C
 
@@ -69,3 +74,8 @@ rowsOf t = take (t .count) (t .rows)
 unfoldable pub find : (ours : Address) → Layout → NetTable → Address → Found
 find ours y t a =
     cond (aboveC a) Nothing (cond (sameNet ours a) (localId y a) (search (netOf a) (rowsOf t)))
+
+-- "Net-table ids must be below NHOSTS": the id of every row is below n.
+abbrev pub idsBelow : (n : ℕ) → List Row → Bool
+idsBelow n [] = true
+idsBelow n (r ∷ rows) = ltb (r .host) n && idsBelow n rows

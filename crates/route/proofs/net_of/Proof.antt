@@ -1,0 +1,16 @@
+use mathlib.Core.Path.{_∙_, sym}
+use borrow.Author.Needs.{needs}
+use Rattle.route.proofs.net_of.Statement.{statement}
+use Rattle.route.proofs.net_of.Tie as tie
+
+class-a-requires : tie.Need-class-a-requires
+class-a-requires c κs = search needs
+
+returns : tie.Need-returns
+returns c = rw (sym (c .before .class-a .ensures) ∙ c .if1 .taken)
+
+returns-2 : tie.Need-returns-2
+returns-2 c = rw (sym (c .before .class-a .ensures) ∙ c .if1 .left)
+
+pub net-of-spec : {M : Type 1} → statement M
+net-of-spec = tie.close (tie.spec class-a-requires returns returns-2)

@@ -1,0 +1,20 @@
+use mathlib.Core.Path.{_≡_}
+use native.Mathlib.Omega.{arith}
+use lib.ListN.{length, length-take}
+use borrow.Author.Needs.{needs}
+use Rattle.route.proofs.Rows.{mapped-long}
+use Rattle.route.proofs.row_count.Statement.{statement}
+use Rattle.route.proofs.row_count.Tie as tie
+
+returns : tie.Need-returns
+returns c =
+    let l : length (c .before .args .t .rows) ≡ 32 = search (needs, mapped-long) in
+    omega (arith, length-take (c .before .args .t .count) (c .before .args .t .rows))
+
+returns-2 : tie.Need-returns-2
+returns-2 c =
+    let l : length (c .before .args .t .rows) ≡ 32 = search (needs, mapped-long) in
+    omega (arith, length-take (c .before .args .t .count) (c .before .args .t .rows))
+
+pub row-count-spec : {M : Type 1} → statement M
+row-count-spec = tie.close (tie.spec returns returns-2)
