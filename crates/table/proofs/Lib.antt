@@ -1,1 +1,3 @@
-pub mod Lines
+pub mod LineA
+pub mod Stages
+pub mod Ranges

@@ -14,8 +14,23 @@ use Rattle.clock.specs.Clock.{setBy}
 use Rattle.table.specs.declared.Entry.{Entry}
 use Rattle.table.specs.declared.Update.{Update}
 use Rattle.table.specs.declared.Updated.{Updated}
+use Rattle.table.specs.declared.Line.{Line}
+use Rattle.table.specs.declared.Line.the-variants.{On, End}
 use Rattle.table.specs.Forms.{Stage, on, end, _then_}
-use Rattle.table.specs.Entry.{maxDelay, minDelay, holdDown, up, takenDown}
+use Rattle.table.specs.Entry.{maxDelay, minDelay, holdDown, up, takenDown, upTo}
+
+-- how a line came out, as the code has it
+abbrev pub lineOf : Stage Entry → Line
+lineOf (on e) = On e
+lineOf (end e) = End e
+
+-- The most that a DELAY comes to: our own, a signed 16-bit word, and a packet's, an unsigned one.
+abbrev pub mostDelay : Millis
+mostDelay = millis (pos 98302)
+
+-- what each update's DELAY keeps
+abbrev pub delayInRange : Update → Bool
+delayInRange u = upTo mostDelay (u .delay)
 
 -- "(a) other PID and DELAY + 100 over the entry's: nothing."
 unfoldable pub lineA : Update → Entry → Stage Entry

@@ -1,5 +1,23 @@
 // The host table.
+ghost use mathlib.Core.Path.{_≡_};
+ghost use mathlib.Core.Bool.{true};
+ghost use Rattle.table.specs.Entry.{freshEntry, up, withTtl, takenDown, aged, advertised, upTo, entryInRange};
+ghost use Rattle.table.specs.Update.{lineOf, delayInRange, lineA, lineB, lineC, lines, selfReported};
 ghost use Rattle.table.specs.Switching.{Switching};
+use quantity::Millis;
+use quantity::Seconds;
+use quantity::Word;
+use wire::Report;
+
+// MAXDELAY, MINDELAY and the time of hold-down.
+pub const MAX_DELAY: Millis = Millis(30000);
+
+pub const MIN_DELAY: Millis = Millis(100);
+
+pub const HOLD_DOWN: Seconds = Seconds(120);
+
+// The milliseconds of a day.
+pub const DAY: Millis = Millis(86400000);
 
 // An entry of the host table: DELAY, OFFSET, TTL, PID, and the time of its last update.
 #[repr(C)]
@@ -25,7 +43,204 @@ pub struct Updated {
     pub entry: Entry,
 }
 
+// How a line of an update comes out: on to the next line, or the end, with the entry as it is then.
+pub enum Line {
+    On(Entry),
+    End(Entry),
+}
+
 // A route moves to another link only where that is shorter by 100 ms or more.
 pub fn switching()
     ensures { λ _. ⌜ Switching ⌝ }
 {}
+
+// The entry of a host that nothing is known of.
+pub fn fresh() -> Entry
+    ensures { λ r. ⌜ r ≡ freshEntry ⌝ }
+{
+    Entry {
+        delay: MAX_DELAY,
+        offset: Word(0),
+        ttl: Seconds(0),
+        pid: 0,
+        time: Millis(0),
+    }
+}
+
+// Is the host up?
+pub fn up(e: Entry) -> bool
+    ensures { λ r. ⌜ r ≡ up e ⌝ }
+{
+    let delay = e.delay;
+    delay.less(MAX_DELAY)
+}
+
+// The entry with another TTL.
+fn with_ttl(e: Entry, ttl: Seconds) -> Entry
+    ensures { λ r. ⌜ r ≡ withTtl ttl e ⌝ }
+{
+    let mut x = e;
+    x.ttl = ttl;
+    x
+}
+
+// The entry with its host taken down.
+fn taken_down(e: Entry) -> Entry
+    ensures { λ r. ⌜ r ≡ takenDown e ⌝ }
+{
+    let mut x = with_ttl(e, HOLD_DOWN);
+    let delay = MAX_DELAY;
+    x.delay = delay;
+    x
+}
+
+// The entry a second later.
+pub fn aged(e: Entry) -> Entry
+    ensures { λ r. ⌜ r ≡ aged e ⌝ }
+{
+    let ttl = e.ttl;
+    if ttl.0 == 0 {
+        return e;
+    }
+    let left = ttl.fall();
+    if left.0 != 0 {
+        return with_ttl(e, left);
+    }
+    if up(e) {
+        return taken_down(e);
+    }
+    with_ttl(e, left)
+}
+
+// What a send on the link of that PID advertises for the entry.
+pub fn advertised(pid: u8, e: Entry) -> Report
+    ensures { λ r. ⌜ r ≡ advertised pid e ⌝ }
+{
+    let offset = e.offset;
+    if e.pid == pid {
+        return Report {
+            delay: MAX_DELAY,
+            offset: offset,
+        };
+    }
+    let delay = e.delay;
+    Report {
+        delay: delay,
+        offset: offset,
+    }
+}
+
+// Is m from 0 to the most?
+fn up_to(most: Millis, m: Millis) -> bool
+    ensures { λ r. ⌜ r ≡ upTo most m ⌝ }
+{
+    if m.less(Millis(0)) {
+        return false;
+    }
+    !most.less(m)
+}
+
+// Is the entry within its ranges?
+pub fn in_range(e: Entry) -> bool
+    ensures { λ r. ⌜ r ≡ entryInRange e ⌝ }
+{
+    let delay = e.delay;
+    if !up_to(MAX_DELAY, delay) {
+        return false;
+    }
+    let ttl = e.ttl;
+    if ttl.0 > HOLD_DOWN.0 {
+        return false;
+    }
+    if e.pid > 8 {
+        return false;
+    }
+    let time = e.time;
+    up_to(DAY, time)
+}
+
+// Line (a): a route by another link is taken only if it is shorter by MINDELAY.
+pub fn line_a(u: Update, e: Entry) -> Line
+    requires { ⌜ delayInRange u ≡ true ⌝ }
+    ensures { λ r. ⌜ r ≡ lineOf (lineA u e) ⌝ }
+{
+    if u.pid == e.pid {
+        return Line::On(e);
+    }
+    let known = e.delay;
+    let delay = u.delay;
+    if known.less(delay.plus(MIN_DELAY)) {
+        return Line::End(e);
+    }
+    Line::On(e)
+}
+
+// Line (b): a report of a host that is down, and a report of one that is held down.
+pub fn line_b(u: Update, e: Entry) -> Line
+    ensures { λ r. ⌜ r ≡ lineOf (lineB u e) ⌝ }
+{
+    let delay = u.delay;
+    let reached = delay.less(MAX_DELAY);
+    if up(e) {
+        if reached {
+            return Line::On(e);
+        }
+        return Line::End(taken_down(e));
+    }
+    if !reached {
+        return Line::End(e);
+    }
+    let ttl = e.ttl;
+    if ttl.0 == 0 {
+        return Line::On(e);
+    }
+    Line::End(e)
+}
+
+// Line (c): the update is stored.
+pub fn line_c(u: Update, e: Entry) -> Line
+    ensures { λ r. ⌜ r ≡ lineOf (lineC u e) ⌝ }
+{
+    let delay = u.delay;
+    let offset = u.offset;
+    let reading = u.reading;
+    Line::On(Entry {
+        delay: delay,
+        offset: offset,
+        ttl: HOLD_DOWN,
+        pid: u.pid,
+        time: reading,
+    })
+}
+
+// Lines (a) to (c).
+pub fn lines(u: Update, e: Entry) -> Line
+    requires { ⌜ delayInRange u ≡ true ⌝ }
+    ensures { λ r. ⌜ r ≡ lineOf (lines u e) ⌝ }
+{
+    let a = line_a(u, e);
+    let Line::On(x) = a else {
+        return a;
+    };
+    let b = line_b(u, x);
+    let Line::On(y) = b else {
+        return b;
+    };
+    line_c(u, y)
+}
+
+// Self-report: the entry of the host's own id, with our reading.
+pub fn self_reported(reading: Millis, e: Entry) -> Entry
+    ensures { λ r. ⌜ r ≡ selfReported reading e ⌝ }
+{
+    let u = Update {
+        pid: 0,
+        delay: Millis(0),
+        offset: Word(0),
+        reading: reading,
+    };
+    match lines(u, e) {
+        Line::On(x) => x,
+        Line::End(x) => x,
+    }
+}

@@ -55,8 +55,8 @@ loop-again c =
     let count = c .before .before .before .before .before .before .row-count .result in
     let l = c .before .before .before .before .loop in
     let v = l .inv in
-    let missed = sym (c .before .ends .ensures) ∙ c .if2 .left in
-    (omega arith, v .1, v .2, v .3 ∙ passed (t .rows) count (l .i) (omega arith) _ _ (omega arith) missed)
+    let goes-on = sym (c .before .ends .ensures) ∙ c .if2 .left in
+    (omega arith, v .1, v .2, v .3 ∙ passed (t .rows) count (l .i) (omega arith) _ _ (omega arith) goes-on)
 
 returns-2 : tie.Need-returns-2 Inv-loop μ-loop
 returns-2 c =

@@ -1,4 +1,4 @@
-use Rattle.table.proofs.Lines.{switching-holds}
+use Rattle.table.proofs.LineA.{switching-holds}
 use Rattle.table.proofs.switching.Statement.{statement}
 use Rattle.table.proofs.switching.Tie as tie
 
