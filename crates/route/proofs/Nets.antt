@@ -1,9 +1,10 @@
 -- Two addresses are on one net where three numbers of theirs are equal. So hosts on one net find the same id, whatever their net tables.
 use mathlib.Core.Path.{_≡_, refl, sym, _∙_}
-use mathlib.Core.Bool.{Bool, true, false, cond, and-eq-true-iff}
+use mathlib.Core.Bool.{Bool, true, false, cond, _&&_}
 use Prim.Native.Nat.{ℕ}
 use borrow.Author.Tests.{eqb-true, eq-eqb}
 use lib.Dec.{eqb}
+use Rattle.quantity.proofs.Tests.{both}
 use Rattle.wire.specs.declared.Address.{Address}
 use Rattle.route.specs.declared.Layout.{Layout}
 use Rattle.route.specs.declared.NetTable.{NetTable}
@@ -30,8 +31,8 @@ one-test b a e = rw e (go (classA a))
 one-net : (b a : Address) → sameNet b a ≡ true → OneNet b a
 unfolding sameNet
 one-net b a e =
-    let outer = and-eq-true-iff (_) (cond (classA a) (eqb (b .fourth) (a .fourth)) (eqb (b .third) (a .third))) .0 e in
-    let inner = and-eq-true-iff (eqb (b .first) (a .first)) (eqb (b .second) (a .second)) .0 (outer .0) in
+    let outer = both (eqb (b .first) (a .first) && eqb (b .second) (a .second)) (cond (classA a) (eqb (b .fourth) (a .fourth)) (eqb (b .third) (a .third))) e in
+    let inner = both (eqb (b .first) (a .first)) (eqb (b .second) (a .second)) (outer .0) in
     let f : b .first ≡ a .first = eqb-true _ _ (inner .0) in
     record { first = f; second = eqb-true _ _ (inner .1); third = eqb-true _ _ (sym (one-test b a f) ∙ outer .1) }
 

@@ -1,3 +1,5 @@
 pub mod LineA
 pub mod Stages
 pub mod Ranges
+pub mod Cases
+pub mod Kept

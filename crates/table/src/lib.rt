@@ -22,19 +22,19 @@ pub const DAY: Millis = Millis(86400000);
 // An entry of the host table: DELAY, OFFSET, TTL, PID, and the time of its last update.
 #[repr(C)]
 pub struct Entry {
-    pub delay: quantity::Millis,
-    pub offset: quantity::Word,
-    pub ttl: quantity::Seconds,
+    pub delay: Millis,
+    pub offset: Word,
+    pub ttl: Seconds,
     pub pid: u8,
-    pub time: quantity::Millis,
+    pub time: Millis,
 }
 
 // What an entry is updated with: PID, DELAY, OFFSET, and our reading.
 pub struct Update {
     pub pid: u8,
-    pub delay: quantity::Millis,
-    pub offset: quantity::Word,
-    pub reading: quantity::Millis,
+    pub delay: Millis,
+    pub offset: Word,
+    pub reading: Millis,
 }
 
 // What an update leaves: the clock, which line (d) may set, and the entry.
@@ -181,7 +181,8 @@ pub fn line_b(u: Update, e: Entry) -> Line
 {
     let delay = u.delay;
     let reached = delay.less(MAX_DELAY);
-    if up(e) {
+    let was_up = up(e);
+    if was_up {
         if reached {
             return Line::On(e);
         }
@@ -190,8 +191,8 @@ pub fn line_b(u: Update, e: Entry) -> Line
     if !reached {
         return Line::End(e);
     }
-    let ttl = e.ttl;
-    if ttl.0 == 0 {
+    let held = e.ttl;
+    if held.0 == 0 {
         return Line::On(e);
     }
     Line::End(e)

@@ -1,0 +1,57 @@
+-- Entries stay within their ranges: what is stored has a DELAY under 30,000, what is taken down has 30,000, and a TTL only falls or becomes 120.
+use mathlib.Core.Path.{_≡_, refl}
+use mathlib.Core.Bool.{Bool, true}
+use Prim.Native.Nat.{_≤_}
+use native.Mathlib.Omega.{arith}
+use lib.IntN.{pos}
+use Rattle.quantity.specs.declared.Millis.{Millis}
+use Rattle.quantity.specs.declared.Seconds.{Seconds}
+use Rattle.quantity.specs.Quantity.{lessMillis}
+use Rattle.quantity.proofs.Ints.{lt-yes}
+use Rattle.calendar.specs.declared.Date.{Date}
+use Rattle.clock.specs.declared.Clock.{Clock}
+use Rattle.clock.specs.Midnight.{dayMillis}
+use Rattle.table.specs.declared.Entry.{Entry}
+use Rattle.table.specs.declared.Update.{Update}
+use Rattle.table.specs.Entry.{maxDelay, freshEntry, takenDown, aged, upTo, entryInRange}
+use Rattle.table.specs.Update.{delayInRange, lines, update, left, ownUpdate, selfReported}
+use Rattle.table.proofs.Ranges.{Ranged, range-says, in-range, within}
+use Rattle.table.proofs.Cases.{stored, lines-keep, update-keeps, aged-keeps}
+
+pub fresh-in-range : entryInRange freshEntry ≡ true
+unfolding entryInRange freshEntry
+fresh-in-range = refl
+
+down-ranged : (e : Entry) → Ranged e → Ranged (takenDown e)
+down-ranged e r = record { delay = omega arith; ttl = omega arith; pid = r .pid; time = r .time }
+
+pub aged-in-range : (e : Entry) → entryInRange e ≡ true → entryInRange (aged e) ≡ true
+aged-in-range e h =
+    let r = range-says e h in
+    in-range (aged e)
+    (aged-keeps Ranged e r (down-ranged e r) record { delay = r .delay; ttl = omega arith; pid = r .pid; time = r .time })
+
+-- an update whose DELAY, PID and reading are in range
+module _ (u : Update) (delay : delayInRange u ≡ true) (pid : u .pid ≤ 8) (reading : upTo dayMillis (u .reading) ≡ true) where
+  stored-ranged : lessMillis (u .delay) maxDelay ≡ true → Ranged (stored u)
+  stored-ranged h =
+      let d = within 98302 (u .delay .0) delay in
+      let l = lt-yes (u .delay .0) (maxDelay .0) h in
+      record { delay = omega arith; ttl = omega arith; pid = pid; time = within 86400000 (u .reading .0) reading }
+
+  pub lines-in-range : (e : Entry) → entryInRange e ≡ true → entryInRange (left (lines u e)) ≡ true
+  lines-in-range e h =
+      let r = range-says e h in
+      in-range (left (lines u e)) (lines-keep Ranged u e r (down-ranged e r) stored-ranged)
+
+  pub update-in-range : (clockHost : Bool) (h : Seconds) (date : Date) (c : Clock) (e : Entry) → entryInRange e ≡ true
+      → entryInRange (update clockHost h date u c e .entry) ≡ true
+  update-in-range clockHost h date c e i =
+      let r = range-says e i in
+      in-range (update clockHost h date u c e .entry)
+      (update-keeps Ranged clockHost h date u c e r (down-ranged e r) stored-ranged)
+
+pub self-in-range : (reading : Millis) → upTo dayMillis reading ≡ true → (e : Entry) → entryInRange e ≡ true
+    → entryInRange (selfReported reading e) ≡ true
+unfolding selfReported
+self-in-range reading h e i = lines-in-range (ownUpdate reading) refl (omega arith) h e i
