@@ -1,22 +1,28 @@
 -- Entries stay within their ranges: what is stored has a DELAY under 30,000, what is taken down has 30,000, and a TTL only falls or becomes 120.
+-- The clock does too: a date that is taken is real, and a set keeps its ranges.
 use mathlib.Core.Path.{_≡_, refl}
-use mathlib.Core.Bool.{Bool, true}
+use mathlib.Core.Bool.{Bool, true, not, _&&_}
 use Prim.Native.Nat.{_≤_}
 use native.Mathlib.Omega.{arith}
-use lib.IntN.{pos}
 use Rattle.quantity.specs.declared.Millis.{Millis}
 use Rattle.quantity.specs.declared.Seconds.{Seconds}
 use Rattle.quantity.specs.Quantity.{lessMillis}
+use Rattle.quantity.specs.Words.{ofWord}
 use Rattle.quantity.proofs.Ints.{lt-yes}
+use Rattle.quantity.proofs.Tests.{either, both}
 use Rattle.calendar.specs.declared.Date.{Date}
+use Rattle.calendar.specs.Date.{real, awaited}
 use Rattle.clock.specs.declared.Clock.{Clock}
 use Rattle.clock.specs.Midnight.{dayMillis}
+use Rattle.clock.specs.Clock.{clockInRange}
+use Rattle.clock.proofs.Range.{set-in-range}
+use Rattle.clock.proofs.Bounds as clock
 use Rattle.table.specs.declared.Entry.{Entry}
 use Rattle.table.specs.declared.Update.{Update}
 use Rattle.table.specs.Entry.{maxDelay, freshEntry, takenDown, aged, upTo, entryInRange}
-use Rattle.table.specs.Update.{delayInRange, lines, update, left, ownUpdate, selfReported}
+use Rattle.table.specs.Update.{delayInRange, lines, dateTaken, lineD, update, left, ownUpdate, selfReported}
 use Rattle.table.proofs.Ranges.{Ranged, range-says, in-range, within}
-use Rattle.table.proofs.Cases.{stored, lines-keep, update-keeps, aged-keeps}
+use Rattle.table.proofs.Cases.{stored, lines-keep, update-keeps, aged-keeps, clock-keeps}
 
 pub fresh-in-range : entryInRange freshEntry ≡ true
 unfolding entryInRange freshEntry
@@ -55,3 +61,26 @@ pub self-in-range : (reading : Millis) → upTo dayMillis reading ≡ true → (
     → entryInRange (selfReported reading e) ≡ true
 unfolding selfReported
 self-in-range reading h e i = lines-in-range (ownUpdate reading) refl (omega arith) h e i
+
+-- ---- the clock
+
+pub date-in-range : (date : Date) (c : Clock) → clockInRange c ≡ true → clockInRange (dateTaken date c) ≡ true
+date-in-range date c i =
+    let k = clock.range-says c i in
+    let r = k .rest in
+    either (λ (x : Clock). clockInRange x ≡ true) (real date && not (awaited date)) _ _
+    (λ t.
+    clock.in-range _
+    record {
+      clock-low = k .clock-low;
+      clock-high = k .clock-high;
+      rest = record { delta-low = r .delta-low; delta-high = r .delta-high; hold-high = r .hold-high; dated = both (real date) (not (awaited date)) t .0 };
+    })
+    (λ t. i)
+
+pub clock-in-range : (clockHost : Bool) (h : Seconds) → h .0 ≤ 255 → (date : Date) (u : Update) (c : Clock) (e : Entry)
+    → clockInRange c ≡ true → clockInRange (update clockHost h date u c e .clock) ≡ true
+unfolding lineD
+clock-in-range clockHost h small date u c e i =
+    clock-keeps (λ (x : Clock). clockInRange x ≡ true) clockHost h date u c e i
+    (set-in-range h small (dateTaken date c) (date-in-range date c i) (ofWord (u .offset)))

@@ -1,11 +1,8 @@
 -- Line (a) goes by a test of PID and a test of DELAY; each order decides the second.
-use mathlib.Core.Path.{_≡_, refl}
 use native.Mathlib.Omega.{arith}
 use borrow.Author.Tests.{eq-eqb, ne-eqb}
 use lib.IntN.{_+ℤ_}
 use Rattle.quantity.proofs.Ints.{of-≤ℤ, of-<ℤ, not-lt, is-lt}
-use Rattle.table.specs.declared.Entry.{Entry}
-use Rattle.table.specs.declared.Update.{Update}
 use Rattle.table.specs.Entry.{minDelay}
 use Rattle.table.specs.Update.{lineA}
 use Rattle.table.specs.Switching.{Switching}

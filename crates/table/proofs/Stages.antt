@@ -1,12 +1,16 @@
 -- How the lines of an update come out one after the other: each outcome of the code says how the line came out in the definition.
-use mathlib.Core.Path.{_≡_, sym}
+use mathlib.Core.Path.{_≡_}
+use mathlib.Core.Bool.{Bool, true, false}
 use native.Mathlib.Omega.{arith}
 use Prim.Native.Nat.{ℕ}
+use Rattle.quantity.specs.declared.Seconds.{Seconds}
+use Rattle.calendar.specs.declared.Date.{Date}
+use Rattle.clock.specs.declared.Clock.{Clock}
 use Rattle.table.specs.declared.Entry.{Entry}
 use Rattle.table.specs.declared.Update.{Update}
 use Rattle.table.specs.declared.Line.the-variants.{On, End}
 use Rattle.table.specs.Forms.{Stage, on, end}
-use Rattle.table.specs.Update.{lineOf, lineA, lineB, lineC, lines, left}
+use Rattle.table.specs.Update.{lineOf, lineA, lineB, lineC, lines, lineD, update, left}
 
 goes-on : (s : Stage Entry) (x : Entry) → On x ≡ lineOf s → s ≡ on x
 goes-on (on e) x q = cc
@@ -35,3 +39,19 @@ left-on s x q = rw (goes-on s x q)
 
 pub left-end : (s : Stage Entry) (x : Entry) → End x ≡ lineOf s → x ≡ left s
 left-end s x q = rw (ends s x q)
+
+-- what an update leaves, by how its lines come out and whether the id is the clock host's
+module _ (h : Seconds) (date : Date) (u : Update) (c : Clock) (e x : Entry) where
+  pub ended : (clockHost : Bool) → End x ≡ lineOf (lines u e) → record { clock = c; entry = x } ≡ update clockHost h date u c e
+  unfolding update
+  ended clockHost q = rw (ends (lines u e) x q)
+
+  pub stored-unset : (clockHost : Bool) → clockHost ≡ false → On x ≡ lineOf (lines u e)
+      → record { clock = c; entry = x } ≡ update clockHost h date u c e
+  unfolding update
+  stored-unset clockHost off q = rw (goes-on (lines u e) x q, off)
+
+  pub stored-set : (clockHost : Bool) (d : Clock) → clockHost ≡ true → d ≡ lineD h date (u .offset) c → On x ≡ lineOf (lines u e)
+      → record { clock = d; entry = x } ≡ update clockHost h date u c e
+  unfolding update
+  stored-set clockHost d own set q = rw (goes-on (lines u e) x q, own, set)

@@ -1,9 +1,12 @@
 // The host table.
 ghost use mathlib.Core.Path.{_≡_};
 ghost use mathlib.Core.Bool.{true};
+ghost use Rattle.clock.specs.Clock.{clockInRange};
 ghost use Rattle.table.specs.Entry.{freshEntry, up, withTtl, takenDown, aged, advertised, upTo, entryInRange};
-ghost use Rattle.table.specs.Update.{lineOf, delayInRange, lineA, lineB, lineC, lines, selfReported};
+ghost use Rattle.table.specs.Update.{lineOf, delayInRange, lineA, lineB, lineC, lines, dateTaken, lineD, update, selfReported};
 ghost use Rattle.table.specs.Switching.{Switching};
+use calendar::Date;
+use clock::Clock;
 use quantity::Millis;
 use quantity::Seconds;
 use quantity::Word;
@@ -15,9 +18,6 @@ pub const MAX_DELAY: Millis = Millis(30000);
 pub const MIN_DELAY: Millis = Millis(100);
 
 pub const HOLD_DOWN: Seconds = Seconds(120);
-
-// The milliseconds of a day.
-pub const DAY: Millis = Millis(86400000);
 
 // An entry of the host table: DELAY, OFFSET, TTL, PID, and the time of its last update.
 #[repr(C)]
@@ -39,7 +39,7 @@ pub struct Update {
 
 // What an update leaves: the clock, which line (d) may set, and the entry.
 pub struct Updated {
-    pub clock: clock::Clock,
+    pub clock: Clock,
     pub entry: Entry,
 }
 
@@ -156,10 +156,10 @@ pub fn in_range(e: Entry) -> bool
         return false;
     }
     let time = e.time;
-    up_to(DAY, time)
+    up_to(clock::DAY, time)
 }
 
-// Line (a): a route by another link is taken only if it is shorter by MINDELAY.
+// Line (a): a route by another link ends here unless it is shorter by MINDELAY.
 pub fn line_a(u: Update, e: Entry) -> Line
     requires { ⌜ delayInRange u ≡ true ⌝ }
     ensures { λ r. ⌜ r ≡ lineOf (lineA u e) ⌝ }
@@ -175,7 +175,7 @@ pub fn line_a(u: Update, e: Entry) -> Line
     Line::On(e)
 }
 
-// Line (b): a report of a host that is down, and a report of one that is held down.
+// Line (b): a DELAY of 30,000 or more takes the host down; a host that is down comes up only with its TTL at 0.
 pub fn line_b(u: Update, e: Entry) -> Line
     ensures { λ r. ⌜ r ≡ lineOf (lineB u e) ⌝ }
 {
@@ -228,6 +228,57 @@ pub fn lines(u: Update, e: Entry) -> Line
         return b;
     };
     line_c(u, y)
+}
+
+// The clock with the packet's date, if that is real and its bit 15 is zero.
+fn date_taken(date: Date, c: Clock) -> Clock
+    ensures { λ r. ⌜ r ≡ dateTaken date c ⌝ }
+{
+    let real = date.is_real();
+    let awaited = date.awaited();
+    if !real {
+        return c;
+    }
+    if awaited {
+        return c;
+    }
+    let mut x = c;
+    x.date = date;
+    x
+}
+
+// Line (d), for the clock host: the packet's date is taken, and the clock is set by OFFSET.
+fn line_d(hold_interval: Seconds, date: Date, offset: Word, c: Clock) -> Clock
+    requires { ⌜ clockInRange c ≡ true ⌝ }
+    ensures { λ r. ⌜ r ≡ lineD «hold_interval» date offset c ⌝ }
+{
+    date_taken(date, c).set_by(hold_interval, Millis::of_word(offset))
+}
+
+// One entry updated by an arrival, and the clock. Only the entry of the clock host can set the clock.
+pub fn update_entry(
+    clock_host: bool,
+    hold_interval: Seconds,
+    date: Date,
+    u: Update,
+    c: Clock,
+    e: Entry,
+) -> Updated
+    requires { ⌜ delayInRange u ≡ true ⌝ }
+    requires { ⌜ clockInRange c ≡ true ⌝ }
+    ensures { λ r. ⌜ r ≡ update «clock_host» «hold_interval» date u c e ⌝ }
+{
+    match lines(u, e) {
+        Line::End(x) => Updated { clock: c, entry: x },
+        Line::On(x) => {
+            if clock_host {
+                let by = u.offset;
+                let d = line_d(hold_interval, date, by, c);
+                return Updated { clock: d, entry: x };
+            }
+            Updated { clock: c, entry: x }
+        }
+    }
 }
 
 // Self-report: the entry of the host's own id, with our reading.

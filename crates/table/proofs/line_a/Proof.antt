@@ -3,7 +3,6 @@ use native.Mathlib.Omega.{arith}
 use borrow.Author.Tests.{eq-eqb, ne-eqb}
 use lib.IntN.{pos, _+ℤ_}
 use mir.Syntax.{w64}
-use Rattle.quantity.specs.declared.Millis.{Millis}
 use Rattle.quantity.specs.Quantity.{lessMillis}
 use Rattle.quantity.proofs.Ints.{sum, fits}
 use Rattle.table.specs.Update.{lineA}
