@@ -1,5 +1,6 @@
 -- "Update: (a) .. (b) .. (c) .. (d) ..", the RFC's UPDATE procedure: each line by itself, and all in turn.
 use mathlib.Core.Bool.{Bool, cond, not, _&&_}
+use Prim.Native.Nat.{_+_}
 use lib.Dec.{eqb}
 use lib.IntN.{pos}
 use Rattle.quantity.specs.declared.Millis.{Millis}
@@ -26,7 +27,7 @@ lineOf (end e) = End e
 
 -- The most that a DELAY comes to: our own, a signed 16-bit word, and a packet's, an unsigned one.
 abbrev pub mostDelay : Millis
-mostDelay = millis (pos 98302)
+mostDelay = millis (pos (32767 + 65535))
 
 -- what each update's DELAY keeps
 abbrev pub delayInRange : Update → Bool

@@ -71,8 +71,8 @@ pub fn fresh() -> Entry
 pub fn up(e: Entry) -> bool
     ensures { λ r. ⌜ r ≡ up e ⌝ }
 {
-    let delay = e.delay;
-    delay.less(MAX_DELAY)
+    let known = e.delay;
+    known.less(MAX_DELAY)
 }
 
 // The entry with another TTL.
