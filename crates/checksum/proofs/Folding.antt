@@ -1,0 +1,131 @@
+-- The folded sum of octets is their words' whole sum with its carries added in, so it goes by the rules of sums.
+use mathlib.Core.Path.{_≡_, refl, sym, ap, ap₂, _∙_}
+use mathlib.Core.Bool.{Bool, true, false, cond}
+use mathlib.Core.List.{List, [], _∷_, _++_}
+use Prim.Native.Nat.{ℕ, zero, suc, _+_, _-_, _*_, _%_, _≤_, _<_}
+use native.Mathlib.Nat.{zero-add}
+use native.Mathlib.Omega.{arith}
+use borrow.Author.Tests.{ltb-true, ltb-false, eq-eqb}
+use lib.Dec.{ltb}
+use lib.ListN.{length}
+use Rattle.checksum.specs.Checksum.{allOnes, fold, folded, checksumGood, checksumOf}
+use Rattle.checksum.specs.EndAround.{endAround, wordSum}
+use Rattle.checksum.proofs.Octets.{Octets, joined}
+
+-- ---- carries added in on the way, and at the end
+
+-- what adding in a carry does, by its two cases
+data Folds (a b r : ℕ) : Type 0 where
+  no-carry : a + b ≤ allOnes → r ≡ a + b → Folds a b r
+  carry : allOnes < a + b → r ≡ a + b - allOnes → Folds a b r
+
+folds : (a b : ℕ) → Folds a b (fold a b)
+unfolding fold
+folds a b = go (ltb allOnes (a + b)) refl
+  where
+    go : (t : Bool) → ltb allOnes (a + b) ≡ t → Folds a b (cond t (a + b - allOnes) (a + b))
+    go true e = carry (ltb-true allOnes (a + b) e) refl
+    go false e = no-carry (ltb-false allOnes (a + b) e) refl
+
+pub fold-small : (a b : ℕ) → a + b ≤ allOnes → fold a b ≡ a + b
+fold-small a b h = go (folds a b)
+  where
+    go : {r : ℕ} → Folds a b r → r ≡ a + b
+    go (no-carry k e) = e
+    go (carry k e) = absurd (omega arith)
+
+pub end-small : (t : ℕ) → endAround t ≤ allOnes
+unfolding endAround
+end-small zero = omega arith
+end-small (suc n) = omega arith
+
+pub end-positive : (t : ℕ) → 0 < t → endAround t ≡ (t - 1) % allOnes + 1
+unfolding endAround
+end-positive zero h = absurd (omega arith)
+end-positive (suc n) h = omega arith
+
+pub end-word : (t : ℕ) → t ≤ allOnes → endAround t ≡ t
+unfolding endAround
+end-word zero h = refl
+end-word (suc n) h = omega arith
+
+-- carries may be added in at any time
+pub fold-ends : (a b : ℕ) → fold (endAround a) (endAround b) ≡ endAround (a + b)
+unfolding endAround
+fold-ends a b = go a b (folds (endAround a) (endAround b))
+  where
+    go : (a b : ℕ) {r : ℕ} → Folds (endAround a) (endAround b) r → r ≡ endAround (a + b)
+    go zero b (no-carry h e) = let z : 0 + b ≡ b = omega arith in rw z (omega arith)
+    go zero b (carry h e) = absurd (omega (arith, end-small b))
+    go (suc a) zero (no-carry h e) = let z : suc a + 0 ≡ suc a = omega arith in rw z (omega arith)
+    go (suc a) zero (carry h e) = absurd (omega arith)
+    go (suc a) (suc b) (no-carry h e) = let s : suc a + suc b ≡ suc (a + b + 1) = omega arith in rw s (omega arith)
+    go (suc a) (suc b) (carry h e) = let s : suc a + suc b ≡ suc (a + b + 1) = omega arith in rw s (omega arith)
+
+pub end-again : (t : ℕ) → endAround (endAround t) ≡ endAround t
+end-again t = end-word (endAround t) (end-small t)
+
+-- totals that stand for one sum do so with more added to them
+pub end-more : (a b t : ℕ) → endAround a ≡ endAround b → endAround (a + t) ≡ endAround (b + t)
+end-more a b t e = sym (fold-ends a t) ∙ ap (λ x. fold x (endAround t)) e ∙ fold-ends b t
+
+-- a word in the high half of a total counts as in the low one
+pub end-high : (a t : ℕ) → endAround (a * 256 * 256 + t) ≡ endAround (a + t)
+unfolding endAround
+end-high zero t = let z : 0 * 256 * 256 + t ≡ 0 + t = omega arith in rw z
+end-high (suc a) t =
+    let s : suc a * 256 * 256 + t ≡ suc (a * 256 * 256 + 0xffff + t) = omega arith in
+    let r : suc a + t ≡ suc (a + t) = omega arith in
+    rw (s, r) (omega arith)
+
+-- ---- the words of octets
+
+pub folded-sum : (xs : List ℕ) → Octets xs → folded xs ≡ endAround (wordSum xs)
+unfolding folded
+folded-sum [] o = sym (end-word 0 (omega arith))
+folded-sum (x ∷ []) o = sym (end-word (x * 256) (omega arith))
+folded-sum (x ∷ y ∷ rest) o =
+    ap₂ fold (sym (end-word (x * 256 + y) (omega arith))) (folded-sum rest (o .1 .1))
+    ∙ fold-ends (x * 256 + y) (wordSum rest)
+
+pub sum-append : (xs ys : List ℕ) → length xs % 2 ≡ 0 → wordSum (xs ++ ys) ≡ wordSum xs + wordSum ys
+sum-append [] ys e = omega arith
+sum-append (x ∷ []) ys e = absurd (omega arith)
+sum-append (x ∷ y ∷ rest) ys e = omega (arith, sum-append rest ys (omega arith))
+
+-- ---- the laws of the folded sum
+
+pub folded-small : (xs : List ℕ) → Octets xs → folded xs ≤ allOnes
+folded-small xs o = rw (folded-sum xs o) (end-small (wordSum xs))
+
+-- octets in front, of an even number
+pub folded-append : (xs ys : List ℕ) → length xs % 2 ≡ 0 → Octets xs → Octets ys → folded (xs ++ ys) ≡ fold (folded xs) (folded ys)
+folded-append xs ys e o p =
+    folded-sum (xs ++ ys) (joined xs ys o p) ∙ ap endAround (sum-append xs ys e) ∙ sym (fold-ends (wordSum xs) (wordSum ys))
+    ∙ ap₂ fold (sym (folded-sum xs o)) (sym (folded-sum ys p))
+
+-- a word at an even place counts as it would in front
+pub folded-word : (xs ys : List ℕ) (hi lo : ℕ) → length xs % 2 ≡ 0 → Octets xs → hi < 256 → lo < 256 → Octets ys
+    → folded (xs ++ hi ∷ lo ∷ ys) ≡ fold (hi * 256 + lo) (folded (xs ++ ys))
+folded-word xs ys hi lo e o h l p =
+    let w : wordSum (xs ++ hi ∷ lo ∷ ys) ≡ hi * 256 + lo + wordSum (xs ++ ys) =
+    omega (arith, sum-append xs (hi ∷ lo ∷ ys) e, sum-append xs ys e) in
+    folded-sum (xs ++ hi ∷ lo ∷ ys) (joined xs (hi ∷ lo ∷ ys) o (h, (l, p))) ∙ ap endAround w
+    ∙ sym (fold-ends (hi * 256 + lo) (wordSum (xs ++ ys)))
+    ∙ ap₂ fold (end-word (hi * 256 + lo) (omega arith)) (sym (folded-sum (xs ++ ys) (joined xs ys o p)))
+
+-- a zero word at an even place changes nothing
+pub zero-word : (xs ys : List ℕ) → length xs % 2 ≡ 0 → Octets xs → Octets ys → folded (xs ++ 0 ∷ 0 ∷ ys) ≡ folded (xs ++ ys)
+zero-word xs ys e o p =
+    folded-word xs ys 0 0 e o (omega arith) (omega arith) p
+    ∙ fold-small 0 (folded (xs ++ ys)) (omega (arith, folded-small (xs ++ ys) (joined xs ys o p)))
+    ∙ zero-add (folded (xs ++ ys))
+
+-- the checksum of the others at an even place makes all good
+pub checksum-good : (xs ys : List ℕ) (hi lo : ℕ) → length xs % 2 ≡ 0 → Octets xs → hi < 256 → lo < 256 → Octets ys
+    → hi * 256 + lo ≡ checksumOf (xs ++ ys) → checksumGood (xs ++ hi ∷ lo ∷ ys) ≡ true
+unfolding checksumGood checksumOf
+checksum-good xs ys hi lo e o h l p c =
+    let s = folded-small (xs ++ ys) (joined xs ys o p) in
+    eq-eqb (folded (xs ++ hi ∷ lo ∷ ys)) allOnes
+    (folded-word xs ys hi lo e o h l p ∙ fold-small (hi * 256 + lo) (folded (xs ++ ys)) (omega arith) ∙ omega arith)
