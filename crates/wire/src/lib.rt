@@ -1,4 +1,15 @@
 // Packets: the IP header and the HELLO behind it.
+ghost use mathlib.Core.Path.{_≡_};
+ghost use Prim.Native.Nat.{_+_, _≤_};
+ghost use lib.ListN.{length};
+ghost use Rattle.wire.specs.Octets.{zeroAddress, sameAddress};
+ghost use Rattle.wire.specs.Ip.{headerLength};
+ghost use Rattle.wire.specs.Hello.{reportLength, reportPlace, reportAt};
+ghost use Rattle.wire.specs.Packet.{packetLength, helloOf, fields, parse};
+
+mod hello;
+mod ip;
+mod octets;
 
 // An Internet address: its four octets, the highest first.
 #[repr(C)]
@@ -29,4 +40,82 @@ pub struct Report {
 pub enum Parsed {
     Good(Packet),
     Bad(answer::Answer),
+}
+
+impl Address {
+    pub fn same(self, other: Address) -> bool
+        ensures { λ r. ⌜ r ≡ sameAddress self other ⌝ }
+    {
+        if self.first != other.first {
+            return false;
+        }
+        if self.second != other.second {
+            return false;
+        }
+        if self.third != other.third {
+            return false;
+        }
+        self.fourth == other.fourth
+    }
+
+    pub fn is_zero(self) -> bool
+        ensures { λ r. ⌜ r ≡ sameAddress self zeroAddress ⌝ }
+    {
+        self.same(Address {
+            first: 0,
+            second: 0,
+            third: 0,
+            fourth: 0,
+        })
+    }
+}
+
+// The fields of a packet, but for the reports.
+fn fields(packet: &[u8]) -> Packet
+    requires { ⌜ packetLength 0 ≤ length (now packet) ⌝ }
+    ensures { λ r. ⌜ r ≡ fields (now (packet .entry)) ⌝ }
+{
+    let source = octets::address_at(packet, ip::SOURCE);
+    let part = &packet[ip::LENGTH..];
+    let date = octets::two_at(part, hello::DATE);
+    let time = octets::four_at(part, hello::TIME);
+    let tsp = octets::two_at(part, hello::TSP);
+    Packet {
+        source,
+        date: calendar::Date(date),
+        time: quantity::Millis::of_unsigned(time),
+        tsp: quantity::Word::of_bits(tsp),
+        address_offset: part[hello::ADDRESS_OFFSET],
+        nhosts: part[hello::NHOSTS],
+    }
+}
+
+// A packet read: the tests of answers 3 to 7 in their order, and the fields of one that passes.
+pub fn parse(packet: &[u8]) -> Parsed
+    ensures { λ r. ⌜ r ≡ parse (now (packet .entry)) ⌝ }
+{
+    if !ip::form(packet) {
+        return Parsed::Bad(answer::Answer::IpForm);
+    }
+    if !ip::checksum(packet) {
+        return Parsed::Bad(answer::Answer::IpChecksum);
+    }
+    if !ip::protocol(packet) {
+        return Parsed::Bad(answer::Answer::Protocol);
+    }
+    if !hello::form(&packet[ip::LENGTH..]) {
+        return Parsed::Bad(answer::Answer::HelloForm);
+    }
+    if !hello::checksum(&packet[ip::LENGTH..]) {
+        return Parsed::Bad(answer::Answer::HelloChecksum);
+    }
+    Parsed::Good(fields(packet))
+}
+
+// What a packet reports of host i.
+pub fn report_at(packet: &[u8], i: usize) -> Report
+    requires { ⌜ headerLength + reportPlace i + reportLength ≤ length (now packet) ⌝ }
+    ensures { λ r. ⌜ r ≡ reportAt (helloOf (now (packet .entry))) i ⌝ }
+{
+    hello::report(&packet[ip::LENGTH..], i)
 }

@@ -1,0 +1,59 @@
+use Rattle.wire.proofs.Parts.{from-on}
+use Rattle.wire.specs.Packet.{fields}
+use borrow.Author.Needs.{needs}
+use Rattle.wire.proofs.fields.Statement.{statement}
+use Rattle.wire.proofs.fields.Tie as tie
+
+address-at-requires : tie.Need-address-at-requires
+address-at-requires c κs = search needs
+
+sub-part : tie.Need-sub-part
+sub-part c = search needs
+
+part-part-start : tie.Need-part-part-start
+part-part-start c = search needs
+
+part-part-end : tie.Need-part-part-end
+part-part-end c = search needs
+
+two-at-requires : tie.Need-two-at-requires
+two-at-requires c κs = search needs
+
+four-at-requires : tie.Need-four-at-requires
+four-at-requires c κs = search needs
+
+two-at-requires-2 : tie.Need-two-at-requires-2
+two-at-requires-2 c κs = search needs
+
+of-unsigned-requires : tie.Need-of-unsigned-requires
+of-unsigned-requires c κs = search needs
+
+of-bits-requires : tie.Need-of-bits-requires
+of-bits-requires c κs = search needs
+
+shared-slice-read-t14 : tie.Need-shared-slice-read-t14
+shared-slice-read-t14 c = search needs
+
+shared-slice-read-t16 : tie.Need-shared-slice-read-t16
+shared-slice-read-t16 c = search needs
+
+returns : tie.Need-returns
+unfolding fields
+returns c = cc (from-on 20 (c .before .before .before .before .before .before .before .before .before .before .args .packet .now))
+
+pub fields-spec : {M : Type 1} → statement M
+fields-spec =
+    tie.close
+    (tie.spec
+    address-at-requires
+    sub-part
+    part-part-start
+    part-part-end
+    two-at-requires
+    four-at-requires
+    two-at-requires-2
+    of-unsigned-requires
+    of-bits-requires
+    shared-slice-read-t14
+    shared-slice-read-t16
+    returns)

@@ -1,0 +1,45 @@
+// Numbers and addresses in octets, the high octet first: read from a place, and written there.
+ghost use mathlib.Core.Path.{_≡_};
+ghost use Prim.Native.Nat.{_+_, _*_, _≤_};
+ghost use lib.ListN.{length};
+ghost use Rattle.wire.specs.Octets.{twoAt, fourAt, addressAt};
+use super::Address;
+
+// The number in two octets, and in four.
+fn two(a: u8, b: u8) -> u16
+    ensures { λ r. ⌜ r ≡ a * 256 + b ⌝ }
+{
+    a as u16 * 256 + b as u16
+}
+
+fn four(a: u8, b: u8, c: u8, d: u8) -> u32
+    ensures { λ r. ⌜ r ≡ ((a * 256 + b) * 256 + c) * 256 + d ⌝ }
+{
+    ((a as u32 * 256 + b as u32) * 256 + c as u32) * 256 + d as u32
+}
+
+pub fn two_at(s: &[u8], i: usize) -> u16
+    requires { ⌜ i + 2 ≤ length (now s) ⌝ }
+    ensures { λ r. ⌜ r ≡ twoAt (now (s .entry)) i ⌝ }
+{
+    two(s[i], s[i + 1])
+}
+
+pub fn four_at(s: &[u8], i: usize) -> u32
+    requires { ⌜ i + 4 ≤ length (now s) ⌝ }
+    ensures { λ r. ⌜ r ≡ fourAt (now (s .entry)) i ⌝ }
+{
+    four(s[i], s[i + 1], s[i + 2], s[i + 3])
+}
+
+pub fn address_at(s: &[u8], i: usize) -> Address
+    requires { ⌜ i + 4 ≤ length (now s) ⌝ }
+    ensures { λ r. ⌜ r ≡ addressAt (now (s .entry)) i ⌝ }
+{
+    Address {
+        first: s[i],
+        second: s[i + 1],
+        third: s[i + 2],
+        fourth: s[i + 3],
+    }
+}
