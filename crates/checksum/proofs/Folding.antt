@@ -121,6 +121,10 @@ zero-word xs ys e o p =
     ∙ fold-small 0 (folded (xs ++ ys)) (omega (arith, folded-small (xs ++ ys) (joined xs ys o p)))
     ∙ zero-add (folded (xs ++ ys))
 
+pub checksum-over-zero : (xs ys : List ℕ) → length xs % 2 ≡ 0 → Octets xs → Octets ys → checksumOf (xs ++ 0 ∷ 0 ∷ ys) ≡ checksumOf (xs ++ ys)
+unfolding checksumOf
+checksum-over-zero xs ys e o p = ap (λ n. allOnes - n) (zero-word xs ys e o p)
+
 -- the checksum of the others at an even place makes all good
 pub checksum-good : (xs ys : List ℕ) (hi lo : ℕ) → length xs % 2 ≡ 0 → Octets xs → hi < 256 → lo < 256 → Octets ys
     → hi * 256 + lo ≡ checksumOf (xs ++ ys) → checksumGood (xs ++ hi ∷ lo ∷ ys) ≡ true

@@ -1,7 +1,7 @@
 -- Lists of octets: each number is below 256.
-use Prim.Native.Nat.{ℕ, zero, suc, _<_}
+use Prim.Native.Nat.{ℕ, suc, _<_}
 use mathlib.Core.List.{List, [], _∷_, _++_}
-use lib.ListN.{getD, take, drop}
+use lib.ListN.{getD}
 
 abbrev pub Octets : List ℕ → Type 0
 Octets [] = Unit {0}
@@ -16,12 +16,10 @@ pub joined : (xs ys : List ℕ) → Octets xs → Octets ys → Octets (xs ++ ys
 joined [] ys o p = p
 joined (x ∷ xs) ys o p = (o .0, joined xs ys (o .1) p)
 
-pub taken : (n : ℕ) (xs : List ℕ) → Octets xs → Octets (take n xs)
-taken zero xs o = tt
-taken (suc n) [] o = tt
-taken (suc n) (x ∷ xs) o = (o .0, taken n xs (o .1))
+pub in-front : (xs ys : List ℕ) → Octets (xs ++ ys) → Octets xs
+in-front [] ys o = tt
+in-front (x ∷ xs) ys o = (o .0, in-front xs ys (o .1))
 
-pub dropped : (n : ℕ) (xs : List ℕ) → Octets xs → Octets (drop n xs)
-dropped zero xs o = o
-dropped (suc n) [] o = tt
-dropped (suc n) (x ∷ xs) o = dropped n xs (o .1)
+pub behind : (xs ys : List ℕ) → Octets (xs ++ ys) → Octets ys
+behind [] ys o = o
+behind (x ∷ xs) ys o = behind xs ys (o .1)

@@ -2,3 +2,4 @@ pub mod Octets
 pub mod Ip
 pub mod Hello
 pub mod Packet
+pub mod Sealing

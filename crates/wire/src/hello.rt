@@ -1,9 +1,17 @@
 // The HELLO behind the IP header.
 ghost use mathlib.Core.Path.{_≡_};
 ghost use Prim.Native.Nat.{_+_, _≤_};
+ghost use mathlib.Core.List.{[]};
 ghost use lib.ListN.{length};
-ghost use Rattle.wire.specs.Hello.{reportLength, reportPlace, helloLength, helloForm, helloChecksum, reportAt};
+ghost use lib.Seq.{sets};
+ghost use Rattle.wire.specs.Hello.{fixedLength, datePlace, reportLength, reportPlace, helloLength, helloForm, helloChecksum, reportAt, helloBehind};
+ghost use Rattle.wire.specs.Sealing.{helloWithReport, sealedHello, TimeFits};
+use super::Packet;
 use super::Report;
+use super::octets::put_checksum;
+use super::octets::put_four;
+use super::octets::put_octet;
+use super::octets::put_two;
 use super::octets::two_at;
 
 // The octets in front of the reports.
@@ -13,6 +21,8 @@ const FIXED: usize = 12;
 const REPORT: usize = 4;
 
 // The places of the fields.
+const CHECKSUM: usize = 0;
+
 pub const DATE: usize = 2;
 
 pub const TIME: usize = 4;
@@ -59,4 +69,43 @@ pub fn report(hello: &[u8], i: usize) -> Report
         delay: quantity::Millis::of_unsigned(delay as u32),
         offset: quantity::Word::of_bits(offset),
     }
+}
+
+// The report of host i put in its place.
+pub fn put_report(hello: &mut [u8], i: usize, r: Report)
+    requires { ⌜ reportPlace i + reportLength ≤ length (now hello) ⌝ }
+    ensures { λ _. ⌜ now (hello .exit) ≡ helloWithReport i r (now (hello .entry)) ⌝ }
+{
+    let place = FIXED + REPORT * i;
+    let delay = r.delay;
+    let offset = r.offset;
+    put_two(&mut *hello, place, delay.bits());
+    put_two(&mut *hello, place + 2, offset.bits());
+}
+
+// The fixed part behind the checksum.
+fn put_fixed(hello: &mut [u8], p: Packet)
+    requires { ⌜ fixedLength ≤ length (now hello) ⌝ }
+    requires { ⌜ TimeFits p ⌝ }
+    ensures { λ _. ⌜ now (hello .exit) ≡ sets (now (hello .entry)) datePlace (helloBehind p []) ⌝ }
+{
+    let date = p.date;
+    let time = p.time;
+    let tsp = p.tsp;
+    put_two(&mut *hello, DATE, date.0);
+    put_four(&mut *hello, TIME, time.unsigned());
+    put_two(&mut *hello, TSP, tsp.bits());
+    put_octet(&mut *hello, ADDRESS_OFFSET, p.address_offset);
+    put_octet(&mut *hello, NHOSTS, p.nhosts);
+}
+
+// The HELLO completed in front of its reports, which stand in their places.
+pub fn seal(hello: &mut [u8], p: Packet)
+    requires { ⌜ helloLength (p .nhosts) ≤ length (now hello) ⌝ }
+    requires { ⌜ TimeFits p ⌝ }
+    ensures { λ _. ⌜ now (hello .exit) ≡ sealedHello p (now (hello .entry)) ⌝ }
+{
+    put_two(&mut *hello, CHECKSUM, 0);
+    put_fixed(&mut *hello, p);
+    put_checksum(&mut *hello, length(p.nhosts), CHECKSUM);
 }

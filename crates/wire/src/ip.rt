@@ -1,8 +1,15 @@
 // The IPv4 header, octets 0 to 19 of a packet.
 ghost use mathlib.Core.Path.{_≡_};
 ghost use Prim.Native.Nat.{_≤_};
-ghost use lib.ListN.{length};
-ghost use Rattle.wire.specs.Ip.{headerLength, ipForm, ipChecksum, protocol};
+ghost use mathlib.Core.List.{_++_};
+ghost use lib.ListN.{length, drop};
+ghost use lib.Seq.{sets};
+ghost use Rattle.wire.specs.Ip.{headerLength, ipForm, ipChecksum, protocol, headerFront, headerBack, header};
+use super::Address;
+use super::octets::put_address;
+use super::octets::put_checksum;
+use super::octets::put_octet;
+use super::octets::put_two;
 use super::octets::two_at;
 
 pub const LENGTH: usize = 20;
@@ -15,13 +22,23 @@ const HELLO: u8 = 63;
 // The places of the fields.
 const VERSION: usize = 0;
 
+const SERVICE: usize = 1;
+
 const TOTAL: usize = 2;
+
+const IDENTIFICATION: usize = 4;
 
 const FRAGMENT: usize = 6;
 
+const TIME_TO_LIVE: usize = 8;
+
 const PROTOCOL: usize = 9;
 
+const CHECKSUM: usize = 10;
+
 pub const SOURCE: usize = 12;
+
+const DESTINATION: usize = 16;
 
 // Whether the header has the form of answer 3.
 pub fn form(packet: &[u8]) -> bool
@@ -53,4 +70,37 @@ pub fn protocol(packet: &[u8]) -> bool
     ensures { λ r. ⌜ r ≡ protocol (now (packet .entry)) ⌝ }
 {
     packet[PROTOCOL] == HELLO
+}
+
+// What stands in front of the checksum, and what behind it.
+fn put_front(packet: &mut [u8], total: u16)
+    requires { ⌜ headerLength ≤ length (now packet) ⌝ }
+    ensures { λ _. ⌜ now (packet .exit) ≡ sets (now (packet .entry)) 0 (headerFront total) ⌝ }
+{
+    put_octet(&mut *packet, VERSION, VERSION_AND_LENGTH);
+    put_octet(&mut *packet, SERVICE, 0);
+    put_two(&mut *packet, TOTAL, total);
+    put_two(&mut *packet, IDENTIFICATION, 0);
+    put_two(&mut *packet, FRAGMENT, 0);
+    put_octet(&mut *packet, TIME_TO_LIVE, 255);
+    put_octet(&mut *packet, PROTOCOL, HELLO);
+}
+
+fn put_back(packet: &mut [u8], source: Address, destination: Address)
+    requires { ⌜ headerLength ≤ length (now packet) ⌝ }
+    ensures { λ _. ⌜ now (packet .exit) ≡ sets (now (packet .entry)) 12 (headerBack source destination) ⌝ }
+{
+    put_address(&mut *packet, SOURCE, source);
+    put_address(&mut *packet, DESTINATION, destination);
+}
+
+// The header put in front of what stands behind it.
+pub fn seal(packet: &mut [u8], total: u16, source: Address, destination: Address)
+    requires { ⌜ headerLength ≤ length (now packet) ⌝ }
+    ensures { λ _. ⌜ now (packet .exit) ≡ header total source destination ++ drop headerLength (now (packet .entry)) ⌝ }
+{
+    put_front(&mut *packet, total);
+    put_two(&mut *packet, CHECKSUM, 0);
+    put_back(&mut *packet, source, destination);
+    put_checksum(&mut *packet, LENGTH, CHECKSUM);
 }

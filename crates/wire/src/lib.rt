@@ -6,6 +6,7 @@ ghost use Rattle.wire.specs.Octets.{zeroAddress, sameAddress};
 ghost use Rattle.wire.specs.Ip.{headerLength};
 ghost use Rattle.wire.specs.Hello.{reportLength, reportPlace, reportAt};
 ghost use Rattle.wire.specs.Packet.{packetLength, helloOf, fields, parse};
+ghost use Rattle.wire.specs.Sealing.{withReport, sealed, TimeFits};
 
 mod hello;
 mod ip;
@@ -118,4 +119,24 @@ pub fn report_at(packet: &[u8], i: usize) -> Report
     ensures { λ r. ⌜ r ≡ reportAt (helloOf (now (packet .entry))) i ⌝ }
 {
     hello::report(&packet[ip::LENGTH..], i)
+}
+
+// The report of host i put in its place in a packet.
+pub fn put_report(buffer: &mut [u8], i: usize, r: Report)
+    requires { ⌜ headerLength + reportPlace i + reportLength ≤ length (now buffer) ⌝ }
+    ensures { λ _. ⌜ now (buffer .exit) ≡ withReport i r (now (buffer .entry)) ⌝ }
+{
+    hello::put_report(&mut buffer[ip::LENGTH..], i, r);
+}
+
+// The packet completed around its reports, which stand in their places. Octets beyond the message stay.
+pub fn seal(buffer: &mut [u8], destination: Address, p: Packet)
+    requires { ⌜ packetLength (p .nhosts) ≤ length (now buffer) ⌝ }
+    requires { ⌜ TimeFits p ⌝ }
+    ensures { λ _. ⌜ now (buffer .exit) ≡ sealed destination p (now (buffer .entry)) ⌝ }
+{
+    let source = p.source;
+    let total = ip::LENGTH + hello::length(p.nhosts);
+    hello::seal(&mut buffer[ip::LENGTH..], p);
+    ip::seal(&mut *buffer, total as u16, source, destination);
 }

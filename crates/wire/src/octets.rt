@@ -1,8 +1,10 @@
 // Numbers and addresses in octets, the high octet first: read from a place, and written there.
 ghost use mathlib.Core.Path.{_≡_};
-ghost use Prim.Native.Nat.{_+_, _*_, _≤_};
-ghost use lib.ListN.{length};
-ghost use Rattle.wire.specs.Octets.{twoAt, fourAt, addressAt};
+ghost use Prim.Native.Nat.{_+_, _*_, _≤_, _<_};
+ghost use lib.ListN.{length, take, set};
+ghost use lib.Seq.{sets};
+ghost use Rattle.checksum.specs.Checksum.{checksumOf};
+ghost use Rattle.wire.specs.Octets.{two, four, addressOctets, twoAt, fourAt, addressAt};
 use super::Address;
 
 // The number in two octets, and in four.
@@ -42,4 +44,48 @@ pub fn address_at(s: &[u8], i: usize) -> Address
         third: s[i + 2],
         fourth: s[i + 3],
     }
+}
+
+pub fn put_octet(s: &mut [u8], i: usize, n: u8)
+    requires { ⌜ i < length (now s) ⌝ }
+    ensures { λ _. ⌜ now (s .exit) ≡ set (now (s .entry)) i n ⌝ }
+{
+    s[i] = n;
+}
+
+pub fn put_two(s: &mut [u8], i: usize, n: u16)
+    requires { ⌜ i + 2 ≤ length (now s) ⌝ }
+    ensures { λ _. ⌜ now (s .exit) ≡ sets (now (s .entry)) i (two n) ⌝ }
+{
+    s[i] = (n / 256 % 256) as u8;
+    s[i + 1] = (n % 256) as u8;
+}
+
+pub fn put_four(s: &mut [u8], i: usize, n: u32)
+    requires { ⌜ i + 4 ≤ length (now s) ⌝ }
+    ensures { λ _. ⌜ now (s .exit) ≡ sets (now (s .entry)) i (four n) ⌝ }
+{
+    s[i] = (n / 256 / 256 / 256 % 256) as u8;
+    s[i + 1] = (n / 256 / 256 % 256) as u8;
+    s[i + 2] = (n / 256 % 256) as u8;
+    s[i + 3] = (n % 256) as u8;
+}
+
+pub fn put_address(s: &mut [u8], i: usize, a: Address)
+    requires { ⌜ i + 4 ≤ length (now s) ⌝ }
+    ensures { λ _. ⌜ now (s .exit) ≡ sets (now (s .entry)) i (addressOctets a) ⌝ }
+{
+    s[i] = a.first;
+    s[i + 1] = a.second;
+    s[i + 2] = a.third;
+    s[i + 3] = a.fourth;
+}
+
+// The checksum of the first n octets, among which its own place counts as it stands, put in its place.
+pub fn put_checksum(s: &mut [u8], n: usize, i: usize)
+    requires { ⌜ (n ≤ length (now s)) × (i + 2 ≤ length (now s)) ⌝ }
+    ensures { λ _. ⌜ now (s .exit) ≡ sets (now (s .entry)) i (two (checksumOf (take n (now (s .entry))))) ⌝ }
+{
+    let sum = checksum::complement(&s[..n]);
+    put_two(&mut *s, i, sum);
 }

@@ -1,0 +1,50 @@
+use Rattle.quantity.specs.Words.{bits16}
+use native.Mathlib.Omega.{arith}
+use Prim.Native.Nat.{_+_, _*_}
+use Rattle.wire.proofs.Sealing.{two-words}
+use borrow.Author.Needs.{needs}
+use Rattle.wire.proofs.hello.put_report.Statement.{statement}
+use Rattle.wire.proofs.hello.put_report.Tie as tie
+
+mul-place : tie.Need-mul-place
+mul-place c = search needs
+
+add-place : tie.Need-add-place
+add-place c = search needs
+
+bits-requires : tie.Need-bits-requires
+bits-requires c κs = search needs
+
+put-two-requires : tie.Need-put-two-requires
+put-two-requires c κs = search needs
+
+add-put-two : tie.Need-add-put-two
+add-put-two c = search needs
+
+bits-requires-2 : tie.Need-bits-requires-2
+bits-requires-2 c κs = search needs
+
+put-two-requires-2 : tie.Need-put-two-requires-2
+put-two-requires-2 c κs = search needs
+
+same-length : tie.Need-same-length
+same-length c = search needs
+
+returns : tie.Need-returns
+returns c =
+    let a = c .before .before .before .before .before .before .before .before .before .before .before .before .before .args in
+    two-words (a .hello .now) (c .before .before .before .before .before .before .before .put-two .last .0) (c .before .before .put-two2 .last .0) (12 + 4 * a .i) (bits16 (a .r .delay .0)) (bits16 (a .r .offset .0)) (omega arith) (cc) (cc)
+
+pub put-report-spec : {M : Type 1} → statement M
+put-report-spec =
+    tie.close
+    (tie.spec
+    mul-place
+    add-place
+    bits-requires
+    put-two-requires
+    add-put-two
+    bits-requires-2
+    put-two-requires-2
+    same-length
+    returns)

@@ -1,0 +1,52 @@
+use native.Mathlib.Omega.{arith}
+use Rattle.wire.proofs.Sealing.{packet-sealed}
+use borrow.Author.Needs.{needs}
+use Rattle.wire.proofs.seal.Statement.{statement}
+use Rattle.wire.proofs.seal.Tie as tie
+
+length-requires : tie.Need-length-requires
+length-requires c κs = search needs
+
+add-total : tie.Need-add-total
+add-total c = search needs
+
+sub-seal : tie.Need-sub-seal
+sub-seal c = search needs
+
+part-seal-start : tie.Need-part-seal-start
+part-seal-start c = search needs
+
+part-seal-end : tie.Need-part-seal-end
+part-seal-end c = search needs
+
+seal-requires : tie.Need-seal-requires
+seal-requires c κs = search needs
+
+cast-seal : tie.Need-cast-seal
+cast-seal c = search needs
+
+seal-requires-2 : tie.Need-seal-requires-2
+seal-requires-2 c κs = search needs
+
+same-length : tie.Need-same-length
+same-length c = search needs
+
+returns : tie.Need-returns
+returns c =
+    let a = c .before .before .before .before .before .before .before .before .before .before .before .args in
+    packet-sealed (a .buffer .now) (c .before .before .before .before .before .before .seal .last .0) _ (a .destination) (a .p) (omega arith) (c .before .before .before .before .before .before .seal .ensures) (cc)
+
+pub seal-spec : {M : Type 1} → statement M
+seal-spec =
+    tie.close
+    (tie.spec
+    length-requires
+    add-total
+    sub-seal
+    part-seal-start
+    part-seal-end
+    seal-requires
+    cast-seal
+    seal-requires-2
+    same-length
+    returns)
