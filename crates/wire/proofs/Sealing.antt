@@ -1,7 +1,7 @@
 -- What stores leave in a buffer, in parts: stores one after the other are one run of stores, a part that was lent comes back in its place, and a checksum taken with zeros in its place is that of the others.
-use mathlib.Core.Path.{_≡_, refl, sym, ap, _∙_}
-use mathlib.Core.List.{List, [], _∷_, _++_, append-assoc, append-nil}
-use Prim.Native.Nat.{ℕ, _+_, _-_, _*_, _≤_, _<_}
+use mathlib.Core.Path.{_≡_, refl, ap, _∙_}
+use mathlib.Core.List.{List, [], _++_, append-assoc, append-nil}
+use Prim.Native.Nat.{ℕ, _+_, _-_, _*_, _≤_}
 use native.Mathlib.Numerals.{add-two}
 use native.Mathlib.Omega.{arith}
 use lib.ListN.{length, take, drop, length-drop, drop-of-length-le, take-append-drop}
@@ -13,9 +13,9 @@ use Rattle.wire.specs.declared.Address.{Address}
 use Rattle.wire.specs.declared.Packet.{Packet}
 use Rattle.wire.specs.declared.Report.{Report}
 use Rattle.wire.specs.Octets.{two}
-use Rattle.wire.specs.Ip.{headerLength, headerFront, headerBack, header}
-use Rattle.wire.specs.Hello.{fixedLength, reportLength, reportPlace, helloLength, reportOctets, helloBehind}
-use Rattle.wire.specs.Packet.{packetLength, helloOf}
+use Rattle.wire.specs.Ip.{headerLength, versionPlace, sourcePlace, headerFront, headerBack, header}
+use Rattle.wire.specs.Hello.{fixedLength, datePlace, reportLength, reportPlace, helloLength, reportOctets, helloBehind}
+use Rattle.wire.specs.Packet.{packetLength}
 use Rattle.wire.specs.Sealing.{over, sealedBehind, sealedHello, sealed, helloWithReport, withReport}
 use Rattle.wire.proofs.Parts.{from-on}
 
@@ -40,7 +40,7 @@ over-behind n k b r =
 -- ---- the header
 
 pub header-sealed : (b l₁ l₂ l₃ l₄ : List ℕ) (total : ℕ) (source destination : Address) → headerLength ≤ length b
-    → l₁ ≡ sets b 0 (headerFront total) → l₂ ≡ sets l₁ 10 (two 0) → l₃ ≡ sets l₂ 12 (headerBack source destination) → Octets l₃
+    → l₁ ≡ sets b versionPlace (headerFront total) → l₂ ≡ sets l₁ 10 (two 0) → l₃ ≡ sets l₂ sourcePlace (headerBack source destination) → Octets l₃
     → l₄ ≡ sets l₃ 10 (two (checksumOf (take headerLength l₃)))
     → l₄ ≡ header total source destination ++ drop headerLength b
 unfolding header
@@ -57,7 +57,7 @@ header-sealed b l₁ l₂ l₃ l₄ total source destination h e₁ e₂ e₃ o 
 -- ---- the HELLO
 
 pub hello-sealed : (b l₁ l₂ l₃ : List ℕ) (p : Packet) → helloLength (p .nhosts) ≤ length b
-    → l₁ ≡ sets b 0 (two 0) → l₂ ≡ sets l₁ 2 (helloBehind p []) → Octets l₂
+    → l₁ ≡ sets b 0 (two 0) → l₂ ≡ sets l₁ datePlace (helloBehind p []) → Octets l₂
     → l₃ ≡ sets l₂ 0 (two (checksumOf (take (helloLength (p .nhosts)) l₂)))
     → l₃ ≡ sealedHello p b
 unfolding sealedHello

@@ -4,7 +4,7 @@ ghost use Prim.Native.Nat.{_≤_};
 ghost use mathlib.Core.List.{_++_};
 ghost use lib.ListN.{length, drop};
 ghost use lib.Seq.{sets};
-ghost use Rattle.wire.specs.Ip.{headerLength, ipForm, ipChecksum, protocol, headerFront, headerBack, header};
+ghost use Rattle.wire.specs.Ip.{headerLength, versionPlace, sourcePlace, ipForm, ipChecksum, protocol, headerFront, headerBack, header};
 use super::Address;
 use super::octets::put_address;
 use super::octets::put_checksum;
@@ -75,7 +75,7 @@ pub fn protocol(packet: &[u8]) -> bool
 // What stands in front of the checksum, and what behind it.
 fn put_front(packet: &mut [u8], total: u16)
     requires { ⌜ headerLength ≤ length (now packet) ⌝ }
-    ensures { λ _. ⌜ now (packet .exit) ≡ sets (now (packet .entry)) 0 (headerFront total) ⌝ }
+    ensures { λ _. ⌜ now (packet .exit) ≡ sets (now (packet .entry)) versionPlace (headerFront total) ⌝ }
 {
     put_octet(&mut *packet, VERSION, VERSION_AND_LENGTH);
     put_octet(&mut *packet, SERVICE, 0);
@@ -88,7 +88,7 @@ fn put_front(packet: &mut [u8], total: u16)
 
 fn put_back(packet: &mut [u8], source: Address, destination: Address)
     requires { ⌜ headerLength ≤ length (now packet) ⌝ }
-    ensures { λ _. ⌜ now (packet .exit) ≡ sets (now (packet .entry)) 12 (headerBack source destination) ⌝ }
+    ensures { λ _. ⌜ now (packet .exit) ≡ sets (now (packet .entry)) sourcePlace (headerBack source destination) ⌝ }
 {
     put_address(&mut *packet, SOURCE, source);
     put_address(&mut *packet, DESTINATION, destination);
