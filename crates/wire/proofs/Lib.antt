@@ -1,3 +1,5 @@
 pub mod Parts
 pub mod Parsing
 pub mod Sealing
+pub mod Messages
+pub mod ReadBack

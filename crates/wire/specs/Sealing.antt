@@ -1,9 +1,7 @@
 -- How a message comes into a lent buffer: each host's report is put in its place, then the rest is filled in around the reports.
 use mathlib.Core.List.{List, [], _∷_, _++_}
-use Prim.Native.Nat.{ℕ, suc, _+_, _*_, _≤_, _^_}
-use lib.IntN.{pos}
+use Prim.Native.Nat.{ℕ, suc, _+_, _*_}
 use lib.ListN.{length, take, drop}
-use lib.Signed.{_≤ℤ_, _<ℤ_}
 use Rattle.checksum.specs.Checksum.{checksumOf}
 use Rattle.wire.specs.declared.Address.{Address}
 use Rattle.wire.specs.declared.Packet.{Packet}
@@ -44,8 +42,3 @@ sealedHello p b = two (checksumOf (sealedBehind p b)) ++ sealedBehind p b ++ dro
 unfoldable pub sealed : (destination : Address) → Packet → List ℕ → List ℕ
 sealed destination p b =
     header (packetLength (p .nhosts)) (p .source) destination ++ sealedHello p (helloOf b)
-
--- a time that four octets hold
-pub record TimeFits (p : Packet) : Type 0 where
-  pub not-negative : (pos 0) ≤ℤ (p .time .0)
-  pub four-octets : (p .time .0) <ℤ (pos (2 ^ 32))

@@ -5,7 +5,8 @@ ghost use mathlib.Core.List.{[]};
 ghost use lib.ListN.{length};
 ghost use lib.Seq.{sets};
 ghost use Rattle.wire.specs.Hello.{fixedLength, datePlace, reportLength, reportPlace, helloLength, helloForm, helloChecksum, reportAt, helloBehind};
-ghost use Rattle.wire.specs.Sealing.{helloWithReport, sealedHello, TimeFits};
+ghost use Rattle.wire.specs.Ranges.{Four};
+ghost use Rattle.wire.specs.Sealing.{helloWithReport, sealedHello};
 use super::Packet;
 use super::Report;
 use super::octets::put_checksum;
@@ -86,7 +87,7 @@ pub fn put_report(hello: &mut [u8], i: usize, r: Report)
 // The fixed part behind the checksum.
 fn put_fixed(hello: &mut [u8], p: Packet)
     requires { ⌜ fixedLength ≤ length (now hello) ⌝ }
-    requires { ⌜ TimeFits p ⌝ }
+    requires { ⌜ Four (p .time .0) ⌝ }
     ensures { λ _. ⌜ now (hello .exit) ≡ sets (now (hello .entry)) datePlace (helloBehind p []) ⌝ }
 {
     let date = p.date;
@@ -102,7 +103,7 @@ fn put_fixed(hello: &mut [u8], p: Packet)
 // The HELLO completed in front of its reports, which stand in their places.
 pub fn seal(hello: &mut [u8], p: Packet)
     requires { ⌜ helloLength (p .nhosts) ≤ length (now hello) ⌝ }
-    requires { ⌜ TimeFits p ⌝ }
+    requires { ⌜ Four (p .time .0) ⌝ }
     ensures { λ _. ⌜ now (hello .exit) ≡ sealedHello p (now (hello .entry)) ⌝ }
 {
     put_two(&mut *hello, CHECKSUM, 0);

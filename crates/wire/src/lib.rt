@@ -6,7 +6,9 @@ ghost use Rattle.wire.specs.Octets.{zeroAddress, sameAddress};
 ghost use Rattle.wire.specs.Ip.{headerLength};
 ghost use Rattle.wire.specs.Hello.{reportLength, reportPlace, reportAt};
 ghost use Rattle.wire.specs.Packet.{packetLength, helloOf, fields, parse};
-ghost use Rattle.wire.specs.Sealing.{withReport, sealed, TimeFits};
+ghost use Rattle.wire.specs.Ranges.{Four};
+ghost use Rattle.wire.specs.ReadBack.{ReadBack, ReportsBack};
+ghost use Rattle.wire.specs.Sealing.{withReport, sealed};
 
 mod hello;
 mod ip;
@@ -132,7 +134,7 @@ pub fn put_report(buffer: &mut [u8], i: usize, r: Report)
 // The packet completed around its reports, which stand in their places. Octets beyond the message stay.
 pub fn seal(buffer: &mut [u8], destination: Address, p: Packet)
     requires { ⌜ packetLength (p .nhosts) ≤ length (now buffer) ⌝ }
-    requires { ⌜ TimeFits p ⌝ }
+    requires { ⌜ Four (p .time .0) ⌝ }
     ensures { λ _. ⌜ now (buffer .exit) ≡ sealed destination p (now (buffer .entry)) ⌝ }
 {
     let source = p.source;
@@ -140,3 +142,12 @@ pub fn seal(buffer: &mut [u8], destination: Address, p: Packet)
     hello::seal(&mut buffer[ip::LENGTH..], p);
     ip::seal(&mut *buffer, total as u16, source, destination);
 }
+
+// What was written is read back: a message is never refused, and its fields and reports are those that were written.
+pub fn read_back()
+    ensures { λ _. ⌜ ReadBack ⌝ }
+{}
+
+pub fn reports_back()
+    ensures { λ _. ⌜ ReportsBack ⌝ }
+{}

@@ -11,7 +11,7 @@ use Rattle.wire.specs.Ip.{ipForm, ipChecksum, protocol}
 use Rattle.wire.specs.Hello.{helloForm, helloChecksum}
 use Rattle.wire.specs.Packet.{helloOf, parse}
 use Rattle.wire.proofs.Parts.{from-on}
-use Rattle.wire.proofs.Parsing.{ip-long, hello-long}
+use Rattle.wire.proofs.Parsing.{ip-long, hello-long, HeaderPasses, HelloPasses, passes}
 use Rattle.wire.proofs.parse.Statement.{statement}
 use Rattle.wire.proofs.parse.Tie as tie
 
@@ -23,12 +23,7 @@ form-good c = sym (c .before .form .ensures) ∙ not-false _ (c .if1 .left)
 checksum-good : (c : tie.Else2) → ipChecksum (c .before .before .before .before .before .args .packet .now) ≡ true
 checksum-good c = sym (c .before .checksum .ensures) ∙ not-false _ (c .if2 .left)
 
-record HeaderGood (s : List ℕ) : Type 0 where
-  form : ipForm s ≡ true
-  checksum : ipChecksum s ≡ true
-  kind : protocol s ≡ true
-
-header-good : (c : tie.Else3) → HeaderGood (c .before .before .before .before .before .before .before .args .packet .now)
+header-good : (c : tie.Else3) → HeaderPasses (c .before .before .before .before .before .before .before .args .packet .now)
 header-good c =
     record {
       form = form-good (c .before .before .before .before);
@@ -107,10 +102,10 @@ fields-requires c κs =
     omega (arith, hello-long _ (hello-form-good e), length-drop 20 (c .before .before .before .before .before .before .before .before .before .before .before .before .before .args .packet .now))
 
 returns-6 : tie.Need-returns-6
-unfolding parse
 returns-6 c =
-    let h = header-good (c .before .before .before .before .before .before .before) in
-    rw (h .form, h .checksum, h .kind, hello-form-good (c .before .before .before .before), hello-test helloChecksum _ (c .before .before .checksum2 .ensures) (not-false _ (c .before .if5 .left))) (ap Good (c .fields .ensures))
+    let s = c .before .before .before .before .before .before .before .before .before .before .before .before .before .before .args .packet .now in
+    let g : HelloPasses (helloOf s) = record { form = hello-form-good (c .before .before .before .before); checksum = hello-test helloChecksum s (c .before .before .checksum2 .ensures) (not-false _ (c .before .if5 .left)) } in
+    ap Good (c .fields .ensures) ∙ sym (passes s (header-good (c .before .before .before .before .before .before .before)) g)
 
 pub parse-spec : {M : Type 1} → statement M
 parse-spec =
