@@ -1,5 +1,6 @@
 pub mod Parts
 pub mod Parsing
-pub mod Sealing
 pub mod Messages
+pub mod Stores
+pub mod Sealing
 pub mod ReadBack

@@ -1,19 +1,18 @@
 -- A message as a list: how long it is, that it is made of octets, and where a report stands in it.
 use mathlib.Core.Path.{_≡_, refl, sym, ap, _∙_}
 use mathlib.Core.List.{List, [], _∷_, _++_}
-use Prim.Native.Nat.{ℕ, zero, suc, _+_, _*_, _%_, _<_}
+use Prim.Native.Nat.{ℕ, zero, suc, _+_, _*_, _<_}
 use native.Mathlib.Omega.{arith}
-use lib.IntN.{ℤ}
 use lib.ListN.{length, getD, drop}
 use lib.Seq.{drop-nil, drop-drop, drop-cons, getD-drop}
-use Rattle.checksum.proofs.Octets.{Octets, joined}
+use Rattle.checksum.proofs.Octets.{Octets}
 use Rattle.wire.specs.declared.Address.{Address}
 use Rattle.wire.specs.declared.Packet.{Packet}
 use Rattle.wire.specs.declared.Report.{Report}
 use Rattle.wire.specs.Octets.{two}
 use Rattle.wire.specs.Ip.{header}
 use Rattle.wire.specs.Hello.{reportLength, reportPlace, helloLength, reportOctets, reportsOctets, helloBehind, hello}
-use Rattle.wire.specs.Packet.{helloOf, packetLength, message}
+use Rattle.wire.specs.Packet.{packetLength, message}
 
 -- ---- lengths
 

@@ -1,4 +1,4 @@
-use Rattle.wire.proofs.Sealing.{report-put}
+use Rattle.wire.proofs.Stores.{report-put}
 use borrow.Author.Needs.{needs}
 use Rattle.wire.proofs.put_report.Statement.{statement}
 use Rattle.wire.proofs.put_report.Tie as tie

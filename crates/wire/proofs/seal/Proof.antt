@@ -1,5 +1,5 @@
 use native.Mathlib.Omega.{arith}
-use Rattle.wire.proofs.Sealing.{packet-sealed}
+use Rattle.wire.proofs.Stores.{packet-sealed}
 use borrow.Author.Needs.{needs}
 use Rattle.wire.proofs.seal.Statement.{statement}
 use Rattle.wire.proofs.seal.Tie as tie

@@ -1,7 +1,7 @@
 use Rattle.quantity.specs.Words.{bits16}
 use native.Mathlib.Omega.{arith}
 use Prim.Native.Nat.{_+_, _*_}
-use Rattle.wire.proofs.Sealing.{two-words}
+use Rattle.wire.proofs.Stores.{two-words}
 use borrow.Author.Needs.{needs}
 use Rattle.wire.proofs.hello.put_report.Statement.{statement}
 use Rattle.wire.proofs.hello.put_report.Tie as tie

@@ -1,6 +1,6 @@
 use Rattle.checksum.proofs.Octets.{of-places}
 use native.Mathlib.Omega.{arith}
-use Rattle.wire.proofs.Sealing.{hello-sealed}
+use Rattle.wire.proofs.Stores.{hello-sealed}
 use borrow.Author.Needs.{needs}
 use Rattle.wire.proofs.hello.seal.Statement.{statement}
 use Rattle.wire.proofs.hello.seal.Tie as tie

@@ -1,6 +1,6 @@
 use Rattle.checksum.proofs.Octets.{of-places}
 use native.Mathlib.Omega.{arith}
-use Rattle.wire.proofs.Sealing.{header-sealed}
+use Rattle.wire.proofs.Stores.{header-sealed}
 use borrow.Author.Needs.{needs}
 use Rattle.wire.proofs.ip.seal.Statement.{statement}
 use Rattle.wire.proofs.ip.seal.Tie as tie

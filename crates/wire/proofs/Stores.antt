@@ -1,0 +1,78 @@
+-- What the stores leave: stores one after the other are one run of stores, and a checksum taken with zeros in its place is that of the others.
+use mathlib.Core.Path.{_≡_, refl, ap, _∙_}
+use mathlib.Core.List.{List, [], _++_}
+use Prim.Native.Nat.{ℕ, _+_, _-_, _*_, _≤_}
+use native.Mathlib.Numerals.{add-two}
+use native.Mathlib.Omega.{arith}
+use lib.ListN.{length, take, drop, take-append-drop}
+use lib.Seq.{sets, sets-eq, drop-drop, drop-at, take-append-add, length-take-le}
+use Rattle.checksum.specs.Checksum.{checksumOf}
+use Rattle.checksum.proofs.Octets.{Octets, in-front, behind}
+use Rattle.checksum.proofs.Folding.{checksum-over-zero}
+use Rattle.wire.specs.declared.Address.{Address}
+use Rattle.wire.specs.declared.Packet.{Packet}
+use Rattle.wire.specs.declared.Report.{Report}
+use Rattle.wire.specs.Octets.{two}
+use Rattle.wire.specs.Ip.{headerLength, versionPlace, sourcePlace, headerFront, headerBack, header}
+use Rattle.wire.specs.Hello.{fixedLength, datePlace, reportLength, reportPlace, helloLength, reportOctets, helloBehind}
+use Rattle.wire.specs.Packet.{packetLength}
+use Rattle.wire.specs.Sealing.{over, sealedBehind, sealedHello, sealed, helloWithReport, withReport}
+use Rattle.wire.proofs.Parts.{from-on, comes-back, over-behind}
+
+-- ---- a report
+
+pub two-words : (b l₁ l₂ : List ℕ) (k d o : ℕ) → k + 4 ≤ length b → l₁ ≡ sets b k (two d) → l₂ ≡ sets l₁ (k + 2) (two o)
+    → l₂ ≡ over b k (two d ++ two o)
+two-words b l₁ l₂ k d o h e₁ e₂ = rw (e₂, e₁, add-two) (sets-eq (two d ++ two o) b k h)
+
+pub report-put : (b m : List ℕ) (i : ℕ) (r : Report)
+    → m ≡ helloWithReport i r (take (length b - headerLength) (drop headerLength b))
+    → take headerLength b ++ (m ++ drop (length b - headerLength) (drop headerLength b)) ≡ withReport i r b
+unfolding withReport
+report-put b m i r e =
+    comes-back headerLength b m ∙ rw (e, from-on headerLength b) (over-behind headerLength (reportPlace i) b (reportOctets r))
+
+-- ---- the header
+
+pub header-sealed : (b l₁ l₂ l₃ l₄ : List ℕ) (total : ℕ) (source destination : Address) → headerLength ≤ length b
+    → l₁ ≡ sets b versionPlace (headerFront total) → l₂ ≡ sets l₁ 10 (two 0) → l₃ ≡ sets l₂ sourcePlace (headerBack source destination) → Octets l₃
+    → l₄ ≡ sets l₃ 10 (two (checksumOf (take headerLength l₃)))
+    → l₄ ≡ header total source destination ++ drop headerLength b
+unfolding header
+header-sealed b l₁ l₂ l₃ l₄ total source destination h e₁ e₂ e₃ o e₄ =
+    let front = headerFront total in
+    let back = headerBack source destination in
+    let rest = drop headerLength b in
+    let e : l₃ ≡ front ++ two 0 ++ back ++ rest = e₃ ∙ rw (e₂, e₁) (sets-eq (front ++ two 0 ++ back) b 0 h) in
+    let p : Octets (front ++ two 0 ++ back ++ rest) = rw e at o in
+    let s : checksumOf (take headerLength l₃) ≡ checksumOf (front ++ back) =
+    rw e (checksum-over-zero front back refl (in-front front (two 0 ++ back ++ rest) p) (in-front back rest (behind (front ++ two 0) (back ++ rest) p))) in
+    e₄ ∙ rw (s, e)
+
+-- ---- the HELLO
+
+pub hello-sealed : (b l₁ l₂ l₃ : List ℕ) (p : Packet) → helloLength (p .nhosts) ≤ length b
+    → l₁ ≡ sets b 0 (two 0) → l₂ ≡ sets l₁ datePlace (helloBehind p []) → Octets l₂
+    → l₃ ≡ sets l₂ 0 (two (checksumOf (take (helloLength (p .nhosts)) l₂)))
+    → l₃ ≡ sealedHello p b
+unfolding sealedHello
+hello-sealed b l₁ l₂ l₃ p h e₁ e₂ o e₃ =
+    let n = reportLength * p .nhosts in
+    let fixed = helloBehind p [] in
+    let rest = drop fixedLength b in
+    let e : l₂ ≡ two 0 ++ fixed ++ rest = e₂ ∙ rw e₁ (sets-eq (two 0 ++ fixed) b 0 (omega arith)) in
+    let t : take (helloLength (p .nhosts)) l₂ ≡ two 0 ++ sealedBehind p b = rw e (take-append-add (two 0 ++ fixed) rest n) in
+    let q : Octets (two 0 ++ sealedBehind p b ++ drop n rest) = rw (take-append-drop n rest) (rw e at o) in
+    let s : checksumOf (take (helloLength (p .nhosts)) l₂) ≡ checksumOf (sealedBehind p b) =
+    ap checksumOf t ∙ checksum-over-zero [] (sealedBehind p b) refl tt (in-front (sealedBehind p b) (drop n rest) (behind (two 0) (sealedBehind p b ++ drop n rest) q)) in
+    e₃ ∙ rw (s, e, ← drop-drop n fixedLength b, take-append-drop n rest)
+
+-- ---- the packet
+
+pub packet-sealed : (b m l : List ℕ) (destination : Address) (p : Packet) → headerLength ≤ length b
+    → m ≡ sealedHello p (take (length b - headerLength) (drop headerLength b))
+    → l ≡ header (packetLength (p .nhosts)) (p .source) destination ++ drop headerLength (take headerLength b ++ (m ++ drop (length b - headerLength) (drop headerLength b)))
+    → l ≡ sealed destination p b
+unfolding sealed
+packet-sealed b m l destination p h e₁ e₂ =
+    e₂ ∙ rw (comes-back headerLength b m, drop-at (take headerLength b) m headerLength (length-take-le headerLength b h), e₁, from-on headerLength b)
