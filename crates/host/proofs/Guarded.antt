@@ -1,11 +1,13 @@
 -- A call is its guard and then its work: a refusal of the guard's, or work that has passed all of the guard's tests.
-use mathlib.Core.Path.{_≡_, refl, _∙_}
-use mathlib.Core.Bool.{Bool, true, false, true≢false, false≢true, cond, not, _||_}
+use mathlib.Core.Path.{_≡_, refl}
+use mathlib.Core.Bool.{Bool, true, false, false≢true, cond, not, _||_}
 use mathlib.Core.List.{List}
 use Prim.Native.Nat.{ℕ, _+_}
 use borrow.Author.Tests.{ltb-false}
 use lib.Dec.{ltb}
 use lib.ListN.{length}
+use Rattle.quantity.proofs.Tests.{neither, is-not, is-so}
+use Rattle.quantity.proofs.Tests as tests
 use Rattle.answer.specs.declared.Answer.{Answer}
 use Rattle.answer.specs.declared.Answer.the-variants.{Done, Setting, Lent}
 use Rattle.clock.specs.declared.Clock.{Clock}
@@ -20,11 +22,8 @@ use Rattle.host.proofs.Places.{Holds}
 -- what is so of the refusal and of the work is so of the call
 pub either : {O : Type 0} (P : O → Type 0) (a : Answer) {refusal work : O}
     → (done a ≡ false → P refusal) → (done a ≡ true → P work) → P (cond (not (done a)) refusal work)
-either P a {refusal} {work} refuses goes-on = go (done a) refl
-  where
-    go : (b : Bool) → done a ≡ b → P (cond (not b) refusal work)
-    go true e = goes-on e
-    go false e = refuses e
+either P a {refusal} {work} refuses goes-on =
+    tests.either P (not (done a)) refusal work (λ e. refuses (is-not (done a) e)) (λ e. goes-on (is-so (done a) e))
 
 -- ---- what a call that goes on has
 
@@ -39,18 +38,13 @@ past true b e = absurd (false≢true e)
 past false true e = (refl, refl)
 past false false e = absurd (false≢true e)
 
-neither : (a b : Bool) → a || not b ≡ false → (a ≡ false) × (b ≡ true)
-neither true b e = absurd (true≢false e)
-neither false true e = (refl, refl)
-neither false false e = absurd (true≢false e)
-
 pub passed : (s : Settings) (k : ℕ) (c : Clock) (l : Links) (run : List Entry) → done (guard s k c l run) ≡ true
     → Passed s k c l run
 unfolding guard
 passed s k c l run e =
     let p = past (noPlaces k run || not (lentInRange s k c l run)) (settingsGood s) e in
-    let q = neither (noPlaces k run) (lentInRange s k c l run) (p .0) in
-    record { places-there = q .0; lent-good = q .1; settings-good = p .1 }
+    let q = neither (noPlaces k run) (not (lentInRange s k c l run)) (p .0) in
+    record { places-there = q .0; lent-good = is-so _ (q .1); settings-good = p .1 }
 
 pub passed-link : (s : Settings) (k : ℕ) (c : Clock) (l : Links) (run : List Entry) (i : ℕ)
     → done (guardLink s k c l run i) ≡ true → (noLink s i ≡ false) × Passed s k c l run
@@ -70,8 +64,4 @@ passed-fresh s k run = past (noPlaces k run) (settingsGood s)
 
 pub holds : (k : ℕ) (run : List Entry) → noPlaces k run ≡ false → Holds k run
 unfolding noPlaces
-holds k run = go (ltb 15 k) (ltb (length run) (firstPlace k + placesPerHost)) refl
-  where
-    go : (a b : Bool) → ltb (length run) (firstPlace k + placesPerHost) ≡ b → a || b ≡ false → Holds k run
-    go true b t e = absurd (true≢false e)
-    go false b t e = ltb-false _ _ (t ∙ e)
+holds k run e = ltb-false _ _ (neither (ltb 15 k) (ltb (length run) (firstPlace k + placesPerHost)) e .1)

@@ -1,7 +1,7 @@
 -- The ways that an arrival can go: refused by the inspection; ended by step 4; or through step 4, by the table or without one.
 use mathlib.Core.Path.{_≡_, refl}
-use mathlib.Core.Bool.{Bool, true, false, and-eq-true-iff, cond, not, _||_}
-use mathlib.Core.List.{List}
+use mathlib.Core.Bool.{Bool, true, false, cond, not, _||_}
+use mathlib.Core.List.{List, [], _∷_}
 use Prim.Native.Nat.{ℕ}
 use borrow.Author.Tests.{eqb-true}
 use lib.Dec.{eqb}
@@ -10,6 +10,7 @@ use Rattle.quantity.specs.declared.Millis.{Millis}
 use Rattle.quantity.specs.declared.Seconds.{Seconds}
 use Rattle.quantity.specs.Quantity.{millis}
 use Rattle.quantity.specs.Words.{word, zeroWord}
+use Rattle.quantity.proofs.Tests.{each}
 use Rattle.answer.specs.declared.Answer.{Answer}
 use Rattle.answer.specs.declared.Answer.the-variants.{Delay, Unknown}
 use Rattle.clock.specs.declared.Clock.{Clock}
@@ -39,14 +40,13 @@ use Rattle.host.specs.Calls.{arrived}
 
 pub same-address : (a b : Address) → sameAddress a b ≡ true → a ≡ b
 same-address a b e =
-    let three = and-eq-true-iff _ (eqb (a .fourth) (b .fourth)) .0 e in
-    let two = and-eq-true-iff _ (eqb (a .third) (b .third)) .0 (three .0) in
-    let one = and-eq-true-iff _ (eqb (a .second) (b .second)) .0 (two .0) in
+    let t =
+    each (eqb (a .first) (b .first)) (eqb (a .second) (b .second) ∷ eqb (a .third) (b .third) ∷ eqb (a .fourth) (b .fourth) ∷ []) e in
     λ i. record {
-      first = eqb-true (a .first) (b .first) (one .0) i;
-      second = eqb-true (a .second) (b .second) (one .1) i;
-      third = eqb-true (a .third) (b .third) (two .1) i;
-      fourth = eqb-true (a .fourth) (b .fourth) (three .1) i;
+      first = eqb-true (a .first) (b .first) (t .0) i;
+      second = eqb-true (a .second) (b .second) (t .1 .0) i;
+      third = eqb-true (a .third) (b .third) (t .1 .1 .0) i;
+      fourth = eqb-true (a .fourth) (b .fourth) (t .1 .1 .1 .0) i;
     }
 
 -- ---- steps 2 to 4

@@ -4,25 +4,29 @@ use mathlib.Core.Bool.{Bool, true, false, cond, not}
 use mathlib.Core.List.{List, map}
 use Prim.Native.Nat.{ℕ}
 use lib.Dec.{ltb}
-use lib.ListN.{length, replicate}
+use lib.ListN.{length, getD, replicate}
+use Rattle.quantity.proofs.Tests.{either}
 use Rattle.answer.specs.declared.Answer.{Answer}
-use Rattle.answer.specs.declared.Answer.the-variants.{Done, Buffer, Lent}
+use Rattle.answer.specs.declared.Answer.the-variants.{Done, Buffer, Unknown, Lent, Down}
 use Rattle.clock.specs.declared.Clock.{Clock}
 use Rattle.clock.specs.Clock.{freshClock, reading, holdSecond}
 use Rattle.clock.specs.Clock as clock
+use Rattle.wire.specs.declared.Address.{Address}
+use Rattle.route.specs.declared.Found.{Found}
+use Rattle.route.specs.declared.Found.the-variants.{Host, Nothing}
 use Rattle.route.specs.Find.{find}
 use Rattle.table.specs.declared.Entry.{Entry}
-use Rattle.table.specs.Entry.{freshEntry, aged}
+use Rattle.table.specs.Entry.{freshEntry, up, aged}
 use Rattle.host.specs.declared.Settings.{Settings}
 use Rattle.host.specs.declared.Links.{Links}
 use Rattle.host.specs.Settings.{ownId}
 use Rattle.host.specs.State.{freshLinks, hostCount, linkOf, entries, withEntries}
 use Rattle.host.specs.Guard.{noPlaces, noLink, guard, guardLink, guardFresh, done}
-use Rattle.host.specs.Outcome.{Outcome, leaves, unsent, tells, timeValues}
+use Rattle.host.specs.Outcome.{Outcome, Values, leaves, unsent, tells, timeValues}
 use Rattle.host.specs.Send.{sentLength, sentOutcome, send}
 use Rattle.host.specs.Inspection.{inspect}
 use Rattle.host.specs.Calls.{initialize, tick, adjust, setBy, read, second, arrived, arrival, reported, selfReport, looked, lookup}
-use Rattle.host.proofs.Guarded.{either}
+use Rattle.host.proofs.Guarded as guarded
 use Rattle.network.specs.Call.{Call, initializes, ticks, adjusts, sets, reads, seconds, sends, arrives, reports, looksUp, perform, lentBuffer}
 
 module _ (s : Settings) (k : ℕ) (c : Clock) (l : Links) (run : List Entry) where
@@ -74,7 +78,31 @@ module _ (s : Settings) (k : ℕ) (c : Clock) (l : Links) (run : List Entry) whe
 
   pub performs : (P : Outcome → Type 0) (x : Call) → (done (guardOf x) ≡ false → P (refusal x))
       → (done (guardOf x) ≡ true → P (workOf x)) → P (perform s k c l run x)
-  performs P x refuses works = rw perform-is (either P (guardOf x) refuses works)
+  performs P x refuses works = rw perform-is (guarded.either P (guardOf x) refuses works)
+
+  -- ---- the ways that the work of a send, a self-report and a lookup can go
+
+  module _ (P : Outcome → Type 0) where
+    pub sent-ways : (i : ℕ) (buffer : List ℕ) → P (unsent Buffer c l run buffer) → P (sentOutcome s k (reading c) l run i buffer)
+        → P (workOf (sends i buffer))
+    sent-ways i buffer short sent =
+        either P (ltb (length buffer) (sentLength s i (linkOf l i) (entries s k run))) _ _ (λ _. short) (λ _. sent)
+
+    pub reported-ways : P (leaves Done (reading c .clock) l run)
+        → ((id : ℕ) → P (reported k (reading c) l run (entries s k run) (Host id))) → P (workOf reports)
+    reported-ways none one = go (ownId s)
+      where
+        go : (f : Found) → P (reported k (reading c) l run (entries s k run) f)
+        go Nothing = none
+        go (Host id) = one id
+
+    pub looked-ways : (a : Address) → ((x : Answer) → P (leaves x c l run)) → ((v : Values) → P (tells v c l run))
+        → P (workOf (looksUp a))
+    looked-ways a refused told = go (find (s .address) (s .layout) (s .net) a)
+      where
+        go : (f : Found) → P (looked c l run (entries s k run) f)
+        go Nothing = refused Unknown
+        go (Host id) = either P (not (up (getD (entries s k run) id freshEntry))) _ _ (λ _. refused Down) (λ _. told _)
 
   -- ---- a run that does not hold all of the host's places
 

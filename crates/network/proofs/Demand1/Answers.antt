@@ -8,7 +8,6 @@ use lib.ListN.{length, getD}
 use Rattle.answer.specs.declared.Answer.{Answer}
 use Rattle.answer.specs.declared.Answer.the-variants.{Done, Setting, Buffer, IpForm, IpChecksum, Protocol, HelloForm, HelloChecksum, Layout, Looped, Delay, Unknown, Lent, Down}
 use Rattle.clock.specs.declared.Clock.{Clock}
-use Rattle.clock.specs.declared.Reading.{Reading}
 use Rattle.clock.specs.Clock.{reading}
 use Rattle.wire.specs.declared.Packet.{Packet}
 use Rattle.wire.specs.declared.Parsed.the-variants.{Good, Bad}
@@ -22,7 +21,7 @@ use Rattle.table.specs.declared.Entry.{Entry}
 use Rattle.table.specs.Entry.{freshEntry, up}
 use Rattle.host.specs.declared.Settings.{Settings}
 use Rattle.host.specs.declared.Links.{Links}
-use Rattle.host.specs.Settings.{isHost, ownId}
+use Rattle.host.specs.Settings.{isHost}
 use Rattle.host.specs.State.{broadcast, linkOf, entries}
 use Rattle.host.specs.Guard.{noPlaces, noLink, guard, guardLink, guardFresh, done}
 use Rattle.host.specs.Outcome.{leaves, unsent, tells, routeValues}
@@ -31,10 +30,10 @@ use Rattle.host.specs.Inspection.{otherLayout, looped, inspected, inspect}
 use Rattle.host.specs.Steps.{step2, step3}
 use Rattle.host.specs.declared.Flight.{Flight}
 use Rattle.host.specs.Arrival.{noTable, withTable, step5, concluded, action}
-use Rattle.host.specs.Calls.{arrived, reported, looked}
+use Rattle.host.specs.Calls.{arrived, looked}
 use Rattle.network.specs.Call.{Call, initializes, ticks, adjusts, sets, reads, seconds, sends, arrives, reports, looksUp, perform}
 use Rattle.network.specs.Answers.{Answers, firstOf, badlyLent, badlySet, delayInvalid, neighborUnknown, hostDown, tests}
-use Rattle.network.proofs.Performs.{guardOf, workOf, performs}
+use Rattle.network.proofs.Performs.{guardOf, workOf, performs, reported-ways}
 use Rattle.network.proofs.Arrivals.{same-address, steps-cases}
 
 -- ---- the guards
@@ -63,12 +62,6 @@ looked-answer c l run es (Host id) = go (up (getD es id freshEntry))
     go : (b : Bool) → cond (not b) (leaves Down c l run) (tells (routeValues id (getD es id freshEntry .pid)) c l run) .answer ≡ cond (not b) Down Done
     go true = refl
     go false = refl
-
--- ---- self-report
-
-reported-answer : (k : ℕ) (r : Reading) (l : Links) (run es : List Entry) (f : Found) → reported k r l run es f .answer ≡ Done
-reported-answer k r l run es Nothing = refl
-reported-answer k r l run es (Host id) = refl
 
 -- ---- arrival
 
@@ -166,7 +159,7 @@ module _ (s : Settings) (k : ℕ) (c : Clock) (l : Links) (run : List Entry) whe
   first (arrives i octets) = guarded-link (noLink s i) (badlyLent s k c l run) (badlySet s)
       (arrived-answer i octets (fields octets) (not (ipForm octets)) (not (ipChecksum octets)) (not (protocol octets))
       (not (helloForm (helloOf octets))) (not (helloChecksum (helloOf octets))))
-  first reports = guarded (badlyLent s k c l run) (badlySet s) (reported-answer k (reading c) l run (entries s k run) (ownId s))
+  first reports = guarded (badlyLent s k c l run) (badlySet s) (reported-ways s k c l run (λ o. o .answer ≡ Done) refl (λ id. refl))
   first (looksUp a) =
       guarded (badlyLent s k c l run) (badlySet s) (looked-answer c l run (entries s k run) (find (s .address) (s .layout) (s .net) a))
 

@@ -1,40 +1,31 @@
 -- A call writes nothing into the run, or as many entries as it counts of its host, at the host's first place.
 use mathlib.Core.Path.{_≡_, refl, _∙_}
-use mathlib.Core.Bool.{Bool, true, false, cond, not}
+use mathlib.Core.Bool.{true}
 use mathlib.Core.List.{List, map}
 use Prim.Native.Nat.{ℕ}
 use native.Mathlib.Omega.{arith}
-use lib.Dec.{ltb}
-use lib.ListN.{length, getD, length-replicate, length-map}
-use Rattle.answer.specs.declared.Answer.the-variants.{Buffer, Down}
+use lib.ListN.{length, length-replicate, length-map}
 use Rattle.clock.specs.declared.Clock.{Clock}
 use Rattle.clock.specs.Clock.{reading}
 use Rattle.wire.specs.Hello.{reportAt}
 use Rattle.wire.specs.Packet.{helloOf}
-use Rattle.route.specs.declared.Found.{Found}
-use Rattle.route.specs.declared.Found.the-variants.{Host, Nothing}
-use Rattle.route.specs.Find.{find}
 use Rattle.table.specs.declared.Entry.{Entry}
 use Rattle.table.specs.declared.Updated.{Updated}
-use Rattle.table.specs.Entry.{freshEntry, up, aged}
+use Rattle.table.specs.Entry.{freshEntry, aged}
 use Rattle.table.specs.Update.{selfReported}
 use Rattle.table.specs.Sweep.{sweep, only}
 use Rattle.host.specs.declared.Settings.{Settings}
 use Rattle.host.specs.declared.Links.{Links}
-use Rattle.host.specs.Settings.{ownId}
-use Rattle.host.specs.State.{hostCount, linkOf, entries, withEntries}
+use Rattle.host.specs.State.{hostCount, entries, withEntries}
 use Rattle.host.specs.Guard.{guard, guardLink, done}
-use Rattle.host.specs.Outcome.{leaves, unsent, tells, routeValues}
-use Rattle.host.specs.Send.{sentLength, sentOutcome}
 use Rattle.host.specs.Inspection.{inspect}
 use Rattle.host.specs.Arrival.{neighborUpdate, reportUpdate, updateId}
-use Rattle.host.specs.Calls.{reported, looked}
 use Rattle.host.proofs.Places.{Holds, entries-length, withEntries-length, withEntries-front, withEntries-behind}
 use Rattle.host.proofs.Guarded.{passed, passed-link, passed-fresh, holds}
 use Rattle.host.proofs.Sweeps.{sweep-length}
 use Rattle.network.specs.Call.{Call, initializes, ticks, adjusts, sets, reads, seconds, sends, arrives, reports, looksUp}
 use Rattle.network.specs.Frame.{Kept, Frame}
-use Rattle.network.proofs.Performs.{guardOf, workOf, performs}
+use Rattle.network.proofs.Performs.{guardOf, workOf, performs, sent-ways, reported-ways, looked-ways}
 use Rattle.network.proofs.Arrivals.{arrived-ways}
 
 module _ (s : Settings) (k : ℕ) (c : Clock) (l : Links) (run : List Entry) where
@@ -61,13 +52,6 @@ module _ (s : Settings) (k : ℕ) (c : Clock) (l : Links) (run : List Entry) whe
       → Kept s k run (withEntries k (sweep 0 update d (entries s k run) .entries) run)
   swept h update d = written _ h (sweep-length 0 update d (entries s k run) ∙ entries-length s k run h)
 
-  sent : (i : ℕ) (buffer : List ℕ) → Kept s k run (workOf s k c l run (sends i buffer) .run)
-  sent i buffer = go (ltb (length buffer) (sentLength s i (linkOf l i) (entries s k run)))
-    where
-      go : (b : Bool) → Kept s k run (cond b (unsent Buffer c l run buffer) (sentOutcome s k (reading c) l run i buffer) .run)
-      go true = untouched
-      go false = untouched
-
   received : (i : ℕ) (octets : List ℕ) → Holds k run → Kept s k run (workOf s k c l run (arrives i octets) .run)
   received i octets h =
       arrived-ways s k c l run i octets (λ o. Kept s k run (o .run))
@@ -80,19 +64,10 @@ module _ (s : Settings) (k : ℕ) (c : Clock) (l : Links) (run : List Entry) whe
       }
       (inspect s i octets)
 
-  self-reported : (f : Found) → Holds k run → Kept s k run (reported k (reading c) l run (entries s k run) f .run)
-  self-reported Nothing h = untouched
-  self-reported (Host id) h =
-      swept h (only id (λ d e. record { clock = d; entry = selfReported (reading c .time) e })) (reading c .clock)
-
-  looked-up : (f : Found) → Kept s k run (looked c l run (entries s k run) f .run)
-  looked-up Nothing = untouched
-  looked-up (Host id) = go (up (getD (entries s k run) id freshEntry))
-    where
-      go : (b : Bool)
-          → Kept s k run (cond (not b) (leaves Down c l run) (tells (routeValues id (getD (entries s k run) id freshEntry .pid)) c l run) .run)
-      go true = untouched
-      go false = untouched
+  self-reported : Holds k run → Kept s k run (workOf s k c l run reports .run)
+  self-reported h =
+      reported-ways s k c l run (λ o. Kept s k run (o .run)) untouched
+      (λ id. swept h (only id (λ d e. record { clock = d; entry = selfReported (reading c .time) e })) (reading c .clock))
 
   works : (x : Call) → done (guardOf s k c l run x) ≡ true → Kept s k run (workOf s k c l run x .run)
   works initializes e = written _ (holds k run (passed-fresh s k run e .0)) (length-replicate (hostCount s) freshEntry)
@@ -102,10 +77,10 @@ module _ (s : Settings) (k : ℕ) (c : Clock) (l : Links) (run : List Entry) whe
   works reads e = untouched
   works seconds e =
       written (map aged (entries s k run)) (held e) (length-map (entries s k run) aged ∙ entries-length s k run (held e))
-  works (sends i buffer) e = sent i buffer
+  works (sends i buffer) e = sent-ways s k c l run (λ o. Kept s k run (o .run)) i buffer untouched untouched
   works (arrives i octets) e = received i octets (held-link i e)
-  works reports e = self-reported (ownId s) (held e)
-  works (looksUp a) e = looked-up (find (s .address) (s .layout) (s .net) a)
+  works reports e = self-reported (held e)
+  works (looksUp a) e = looked-ways s k c l run (λ o. Kept s k run (o .run)) a (λ x. untouched) (λ v. untouched)
 
 pub frame-holds : Frame
 unfolding Frame

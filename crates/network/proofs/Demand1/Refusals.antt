@@ -1,35 +1,24 @@
 -- A call that is refused leaves all as it was lent; an arrival that steps 2 to 5 refuse leaves all but its link.
 use mathlib.Core.Path.{_≡_, refl, sym, ap}
-use mathlib.Core.Bool.{Bool, true, false, cond, not}
 use mathlib.Core.List.{List, []}
 use Prim.Native.Nat.{ℕ, _-_}
 use native.Mathlib.Omega.{arith}
-use lib.Dec.{ltb}
-use lib.ListN.{length, getD}
 use lib.Seq.{set-getD}
 use Rattle.answer.specs.declared.Answer.{Answer}
-use Rattle.answer.specs.declared.Answer.the-variants.{Done, Buffer, Delay, Unknown, Down}
+use Rattle.answer.specs.declared.Answer.the-variants.{Done, Buffer, Delay, Unknown}
 use Rattle.answer.specs.Answer.{number}
 use Rattle.clock.specs.declared.Clock.{Clock}
 use Rattle.clock.specs.Clock.{reading}
-use Rattle.wire.specs.declared.Address.{Address}
-use Rattle.route.specs.declared.Found.{Found}
-use Rattle.route.specs.declared.Found.the-variants.{Host, Nothing}
-use Rattle.route.specs.Find.{find}
 use Rattle.table.specs.declared.Entry.{Entry}
-use Rattle.table.specs.Entry.{freshEntry, up}
 use Rattle.host.specs.declared.Settings.{Settings}
 use Rattle.host.specs.declared.Link.{Link}
 use Rattle.host.specs.declared.Links.{Links}
-use Rattle.host.specs.Settings.{ownId}
-use Rattle.host.specs.State.{unset, freshLink, linkOf, withLink, entries}
-use Rattle.host.specs.Outcome.{Outcome, Values, leaves, unsent, tells, routeValues}
-use Rattle.host.specs.Send.{sentLength, sentOutcome}
+use Rattle.host.specs.State.{unset, freshLink, linkOf, withLink}
+use Rattle.host.specs.Outcome.{Outcome, Values, leaves, unsent}
 use Rattle.host.specs.Inspection.{inspect}
-use Rattle.host.specs.Calls.{reported, looked}
 use Rattle.network.specs.Call.{Call, initializes, ticks, adjusts, sets, reads, seconds, sends, arrives, reports, looksUp, perform, lentBuffer}
 use Rattle.network.specs.Refusals.{Unchanged, LinkAlone, Whole, Refusals}
-use Rattle.network.proofs.Performs.{workOf, performs}
+use Rattle.network.proofs.Performs.{workOf, performs, sent-ways, reported-ways, looked-ways}
 use Rattle.network.proofs.Arrivals.{arrived-ways}
 
 module _ (s : Settings) (k : ℕ) (c : Clock) (l : Links) (run : List Entry) where
@@ -46,13 +35,6 @@ module _ (s : Settings) (k : ℕ) (c : Clock) (l : Links) (run : List Entry) whe
       → Refuses x record { answer = Done; values = v; clock = d; links = m; run = r; buffer = b }
   done x w = absurd (w .0 refl)
 
-  sent : (i : ℕ) (buffer : List ℕ) → Refuses (sends i buffer) (workOf s k c l run (sends i buffer))
-  sent i buffer = go (ltb (length buffer) (sentLength s i (linkOf l i) (entries s k run)))
-    where
-      go : (b : Bool) → Refuses (sends i buffer) (cond b (unsent Buffer c l run buffer) (sentOutcome s k (reading c) l run i buffer))
-      go true = λ w. same Buffer buffer
-      go false = done (sends i buffer)
-
   received : (i : ℕ) (octets : List ℕ) → Refuses (arrives i octets) (workOf s k c l run (arrives i octets))
   received i octets =
       arrived-ways s k c l run i octets (Refuses (arrives i octets))
@@ -65,18 +47,6 @@ module _ (s : Settings) (k : ℕ) (c : Clock) (l : Links) (run : List Entry) whe
       }
       (inspect s i octets)
 
-  reported-done : (f : Found) → Refuses reports (reported k (reading c) l run (entries s k run) f)
-  reported-done Nothing = done reports
-  reported-done (Host id) = done reports
-
-  looked-up : (a : Address) (f : Found) → Refuses (looksUp a) (looked c l run (entries s k run) f)
-  looked-up a Nothing = λ w. same Unknown []
-  looked-up a (Host id) = go (up (getD (entries s k run) id freshEntry))
-    where
-      go : (b : Bool) → Refuses (looksUp a) (cond (not b) (leaves Down c l run) (tells (routeValues id (getD (entries s k run) id freshEntry .pid)) c l run))
-      go true = done (looksUp a)
-      go false = λ w. same Down []
-
   works : (x : Call) → Refuses x (workOf s k c l run x)
   works initializes = done initializes
   works ticks = done ticks
@@ -84,10 +54,10 @@ module _ (s : Settings) (k : ℕ) (c : Clock) (l : Links) (run : List Entry) whe
   works (sets ms) = done (sets ms)
   works reads = done reads
   works seconds = done seconds
-  works (sends i buffer) = sent i buffer
+  works (sends i buffer) = sent-ways s k c l run (Refuses (sends i buffer)) i buffer (λ w. same Buffer buffer) (done (sends i buffer))
   works (arrives i octets) = received i octets
-  works reports = reported-done (ownId s)
-  works (looksUp a) = looked-up a (find (s .address) (s .layout) (s .net) a)
+  works reports = reported-ways s k c l run (Refuses reports) (done reports) (λ id. done reports)
+  works (looksUp a) = looked-ways s k c l run (Refuses (looksUp a)) a (λ x w. same x []) (λ v. done (looksUp a))
 
   refuses : (x : Call) → Refuses x (perform s k c l run x)
   refuses x = performs s k c l run (Refuses x) x (λ e w. same _ (lentBuffer x)) (λ e. works x)
