@@ -6,7 +6,7 @@ use native.Mathlib.Nat.{add-mul-div-left, add-mul-mod-self-left, mod-add-div, mu
 use native.Mathlib.Omega.{arith}
 use borrow.Author.Tests.{leb-true, eqb-true, le-leb, eq-eqb}
 use lib.Dec.{leb, eqb}
-use Rattle.laws.proofs.Bools.{both, parts}
+use Rattle.laws.proofs.Tests.{and-true, both}
 use Rattle.calendar.specs.declared.Date.{Date}
 use Rattle.calendar.specs.Date.{year, month, day, spare, flag, dateOf, lastDay, real, await}
 use Rattle.calendar.proofs.Months.{month-length}
@@ -56,28 +56,28 @@ pub real-says : (t : Date) → real t ≡ true → Real t
 unfolding real
 real-says t e =
     let last : Bool = leb (day t) (lastDay (year t) (month t)) in
-    let a = parts (eqb (spare t) 0 && leb 1 (month t) && leb (month t) 12 && leb 1 (day t)) last e in
-    let b = parts (eqb (spare t) 0 && leb 1 (month t) && leb (month t) 12) (leb 1 (day t)) (a .left) in
-    let c = parts (eqb (spare t) 0 && leb 1 (month t)) (leb (month t) 12) (b .left) in
-    let d = parts (eqb (spare t) 0) (leb 1 (month t)) (c .left) in
+    let a = both (eqb (spare t) 0 && leb 1 (month t) && leb (month t) 12 && leb 1 (day t)) last e in
+    let b = both (eqb (spare t) 0 && leb 1 (month t) && leb (month t) 12) (leb 1 (day t)) (a .0) in
+    let c = both (eqb (spare t) 0 && leb 1 (month t)) (leb (month t) 12) (b .0) in
+    let d = both (eqb (spare t) 0) (leb 1 (month t)) (c .0) in
     record {
-      spare-zero = eqb-true _ _ (d .left);
+      spare-zero = eqb-true _ _ (d .0);
       its = record {
         flagged = omega arith;
         in-word = omega arith;
-        from-january = leb-true _ _ (d .right);
-        to-december = leb-true _ _ (c .right);
-        from-first = leb-true _ _ (b .right);
-        to-last = leb-true _ _ (a .right);
+        from-january = leb-true _ _ (d .1);
+        to-december = leb-true _ _ (c .1);
+        from-first = leb-true _ _ (b .1);
+        to-last = leb-true _ _ (a .1);
       };
     }
 
 pub is-real : (t : Date) → Real t → real t ≡ true
 unfolding real
 is-real t r =
-    both
-    (both
-    (both (both (eq-eqb _ _ (r .spare-zero)) (le-leb _ _ (r .its .from-january))) (le-leb _ _ (r .its .to-december)))
+    and-true
+    (and-true
+    (and-true (and-true (eq-eqb _ _ (r .spare-zero)) (le-leb _ _ (r .its .from-january))) (le-leb _ _ (r .its .to-december)))
     (le-leb _ _ (r .its .from-first)))
     (le-leb _ _ (r .its .to-last))
 

@@ -7,7 +7,7 @@ use native.Mathlib.Omega.{arith}
 use borrow.Author.Tests.{leb-true}
 use lib.Dec.{leb, eqb}
 use lib.ListN.{getD, length}
-use Rattle.laws.proofs.Bools.{parts}
+use Rattle.laws.proofs.Tests.{both}
 use Rattle.calendar.specs.Date.{monthDays, lastDay}
 
 pub record Month (n : ℕ) : Type 0 where
@@ -22,10 +22,10 @@ at : (l : List ℕ) → all l ≡ true → (k : ℕ) → k < length l → Month 
 unfolding all
 at [] e k h = absurd (omega arith)
 at (n ∷ l) e zero h =
-    let p = parts (leb 1 n && leb n 31) (all l) e in
-    let q = parts (leb 1 n) (leb n 31) (p .left) in
-    record { some = leb-true 1 n (q .left); few = leb-true n 31 (q .right) }
-at (n ∷ l) e (suc k) h = at l (parts (leb 1 n && leb n 31) (all l) e .right) k (omega arith)
+    let p = both (leb 1 n && leb n 31) (all l) e in
+    let q = both (leb 1 n) (leb n 31) (p .0) in
+    record { some = leb-true 1 n (q .0); few = leb-true n 31 (q .1) }
+at (n ∷ l) e (suc k) h = at l (both (leb 1 n && leb n 31) (all l) e .1) k (omega arith)
 
 tabled : (m : ℕ) → 1 ≤ m → m ≤ 12 → Month (getD monthDays m 0)
 unfolding all

@@ -13,7 +13,7 @@ use mir.Val.{SFits}
 use Rattle.quantity.specs.declared.Units.{Units}
 use Rattle.quantity.specs.Quantity.{units, millis, toUnits}
 use Rattle.quantity.proofs.Ints.{up, dn, Le, lt-no, not-lt, to-≤ℤ, Within, fits}
-use Rattle.quantity.proofs.Tests.{both, each, is-not}
+use Rattle.laws.proofs.Tests.{both, each, is-not}
 use Rattle.calendar.specs.Date.{real}
 use Rattle.clock.specs.declared.Clock.{Clock}
 use Rattle.clock.specs.Midnight.{day}

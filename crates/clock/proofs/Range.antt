@@ -11,7 +11,7 @@ use Rattle.quantity.specs.declared.Millis.{Millis}
 use Rattle.quantity.specs.declared.Seconds.{Seconds}
 use Rattle.quantity.specs.Quantity.{millis, unitsPerMilli, lessMillis}
 use Rattle.quantity.proofs.Ints.{up, dn, one, sum, diff, times, floor, lt-yes, lt-no}
-use Rattle.quantity.proofs.Tests.{both, is-not, either}
+use Rattle.laws.proofs.Tests.{both, is-not, either}
 use Rattle.calendar.specs.declared.Date.{Date}
 use Rattle.calendar.specs.Date.{real}
 use Rattle.calendar.proofs.Days.{real-await}

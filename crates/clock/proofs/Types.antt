@@ -1,5 +1,7 @@
 -- The structs that a lent call passes, lends and answers, as the laws of crate `laws` take them.
-use Rattle.laws.proofs.Words.{Data}
+use mathlib.Core.List.{[], _∷_}
+use Rattle.laws.proofs.Words.{Data, struct-part}
+use Rattle.laws.proofs.Outcomes.{Outcome}
 use Rattle.quantity.proofs.Units as Units
 use Rattle.quantity.proofs.Units.Laws as Units′
 use Rattle.quantity.proofs.Millis as Millis
@@ -8,6 +10,8 @@ use Rattle.quantity.proofs.Seconds as Seconds
 use Rattle.quantity.proofs.Seconds.Laws as Seconds′
 use Rattle.clock.proofs.Clock as Clock
 use Rattle.clock.proofs.Clock.Laws as Clock′
+use Rattle.clock.proofs.Reading as Reading
+use Rattle.clock.proofs.Reading.Laws as Reading′
 
 abbrev pub units : Data
 units = record { S = Units.the-type; L = Units′.the-laws; P = Units′.the-plain; low = Units′.lowers; copies = Units′.the-copy }
@@ -20,3 +24,20 @@ seconds = record { S = Seconds.the-type; L = Seconds′.the-laws; P = Seconds′
 
 abbrev pub clock : Data
 clock = record { S = Clock.the-type; L = Clock′.the-laws; P = Clock′.the-plain; low = Clock′.lowers; copies = Clock′.the-copy }
+
+-- the clock and the time of a reading
+abbrev pub reading : Outcome (struct-part clock ∷ struct-part millis ∷ [])
+reading = record {
+  form = record {
+    name = Reading.the-type .name;
+    D = Reading.the-type .D;
+    read = λ r. (r .clock, (r .time, tt));
+    behind = [];
+    rest = λ r. tt;
+    one = Reading.the-type .to-one;
+  };
+  behind-laws = tt;
+  behind-plain = tt;
+  low = Reading′.lowers;
+  copies = Reading′.the-copy;
+}

@@ -303,7 +303,9 @@ pub fn tick(c: &mut Clock, clock_tick: Units, hold_interval: Seconds)
     requires { ⌜ tickInRange «clock_tick» ≡ true ⌝ }
     ensures { λ _. ⌜ now (c .exit) ≡ tick «clock_tick» «hold_interval» (now (c .entry)) ⌝ }
 {
-    *c = Clock::ticked(*c, clock_tick, hold_interval);
+    let before = *c;
+    let after = before.ticked(clock_tick, hold_interval);
+    *c = after;
 }
 
 // A share of DELTA goes into CLOCK.
@@ -311,7 +313,9 @@ pub fn adjust(c: &mut Clock, hold_interval: Seconds)
     requires { ⌜ clockInRange (now c) ≡ true ⌝ }
     ensures { λ _. ⌜ now (c .exit) ≡ adjust «hold_interval» (now (c .entry)) ⌝ }
 {
-    *c = Clock::adjusted(*c, hold_interval);
+    let before = *c;
+    let after = before.adjusted(hold_interval);
+    *c = after;
 }
 
 // The clock is set by a count of milliseconds.
@@ -320,14 +324,17 @@ pub fn set(c: &mut Clock, hold_interval: Seconds, ms: Millis)
     requires { ⌜ SFits w32 (ms .0) ⌝ }
     ensures { λ _. ⌜ now (c .exit) ≡ setBy «hold_interval» ms (now (c .entry)) ⌝ }
 {
-    *c = Clock::set_by(*c, hold_interval, ms);
+    let before = *c;
+    let after = before.set_by(hold_interval, ms);
+    *c = after;
 }
 
 // The whole milliseconds of CLOCK. A reading may move the clock.
 pub fn read(c: &mut Clock) -> Millis
     ensures { λ r. ⌜ (now (c .exit) ≡ reading (now (c .entry)) .clock) × (r ≡ reading (now (c .entry)) .time) ⌝ }
 {
-    let r = Clock::reading(*c);
+    let before = *c;
+    let r = before.reading();
     *c = r.clock;
     r.time
 }

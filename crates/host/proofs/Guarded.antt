@@ -6,8 +6,8 @@ use Prim.Native.Nat.{ℕ, _+_}
 use borrow.Author.Tests.{ltb-false}
 use lib.Dec.{ltb}
 use lib.ListN.{length}
-use Rattle.quantity.proofs.Tests.{neither, is-not, is-so}
-use Rattle.quantity.proofs.Tests as tests
+use Rattle.laws.proofs.Tests.{neither, is-not, is-so}
+use Rattle.laws.proofs.Tests as tests
 use Rattle.answer.specs.declared.Answer.{Answer}
 use Rattle.answer.specs.declared.Answer.the-variants.{Done, Setting, Lent}
 use Rattle.clock.specs.declared.Clock.{Clock}

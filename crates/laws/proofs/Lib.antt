@@ -1,5 +1,8 @@
-pub mod Bools
+pub mod Again
+pub mod Loop
+pub mod made
+pub mod Outcomes
+pub mod Shared
+pub mod Tests
+pub mod Walk
 pub mod Words
-pub mod InPlace1
-pub mod InPlace2
-pub mod Answers0

@@ -10,7 +10,7 @@ use Rattle.quantity.specs.declared.Millis.{Millis}
 use Rattle.quantity.specs.declared.Seconds.{Seconds}
 use Rattle.quantity.specs.Quantity.{millis}
 use Rattle.quantity.specs.Words.{word, zeroWord}
-use Rattle.quantity.proofs.Tests.{each}
+use Rattle.laws.proofs.Tests.{each}
 use Rattle.answer.specs.declared.Answer.{Answer}
 use Rattle.answer.specs.declared.Answer.the-variants.{Delay, Unknown}
 use Rattle.clock.specs.declared.Clock.{Clock}

@@ -5,7 +5,7 @@ use mathlib.Core.List.{List, map}
 use Prim.Native.Nat.{ℕ}
 use lib.Dec.{ltb}
 use lib.ListN.{length, getD, replicate}
-use Rattle.quantity.proofs.Tests.{either}
+use Rattle.laws.proofs.Tests.{either}
 use Rattle.answer.specs.declared.Answer.{Answer}
 use Rattle.answer.specs.declared.Answer.the-variants.{Done, Buffer, Unknown, Lent, Down}
 use Rattle.clock.specs.declared.Clock.{Clock}

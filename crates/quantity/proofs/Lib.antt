@@ -1,4 +1,3 @@
-pub mod Tests
 pub mod Ints
 pub mod Bits
 pub mod Wrap

@@ -4,7 +4,7 @@ use mathlib.Core.Bool.{Bool, true, false, cond, _&&_}
 use Prim.Native.Nat.{ℕ}
 use borrow.Author.Tests.{eqb-true, eq-eqb}
 use lib.Dec.{eqb}
-use Rattle.quantity.proofs.Tests.{both}
+use Rattle.laws.proofs.Tests.{both}
 use Rattle.wire.specs.declared.Address.{Address}
 use Rattle.route.specs.declared.Layout.{Layout}
 use Rattle.route.specs.declared.NetTable.{NetTable}

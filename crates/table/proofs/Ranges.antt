@@ -10,7 +10,7 @@ use lib.IntN.{ℤ, pos}
 use lib.Signed.{ltZ}
 use Rattle.quantity.specs.Quantity.{millis}
 use Rattle.quantity.proofs.Ints.{Within, lt-no, not-lt}
-use Rattle.quantity.proofs.Tests.{both, each}
+use Rattle.laws.proofs.Tests.{both, each}
 use Rattle.clock.specs.Midnight.{dayMillis}
 use Rattle.table.specs.declared.Entry.{Entry}
 use Rattle.table.specs.Entry.{maxDelay, holdDown, upTo, entryInRange}

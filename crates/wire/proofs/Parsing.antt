@@ -5,7 +5,7 @@ use mathlib.Core.List.{List}
 use Prim.Native.Nat.{ℕ, _%_, _≤_}
 use borrow.Author.Tests.{leb-true, le-leb, eq-eqb}
 use lib.ListN.{length}
-use Rattle.quantity.proofs.Tests.{both}
+use Rattle.laws.proofs.Tests.{both}
 use Rattle.wire.specs.declared.Parsed.the-variants.{Good}
 use Rattle.wire.specs.Octets.{octetAt, twoAt}
 use Rattle.wire.specs.Ip.{headerLength, versionAndLength, versionPlace, totalPlace, fragmentPlace, ipForm, ipChecksum, protocol}

@@ -1,9 +1,10 @@
 -- It does in place what `Clock::adjusted` does by value.
 use mathlib.Core.Path.{_≡_}
 use mathlib.Core.Bool.{true}
+use base.Logic.{id⊢}
 use contract.Monad.{fact}
 use Rattle.laws.proofs.Words.{by-value}
-use Rattle.laws.proofs.InPlace1.{proof}
+use Rattle.laws.proofs.made.Moves.{proof}
 use Rattle.clock.specs.Clock.{adjust, clockInRange}
 use Rattle.clock.proofs.Types.{clock, seconds}
 use Rattle.clock.proofs.Clock.adjusted.Symbol as adjusted
@@ -15,7 +16,8 @@ use Rattle.clock.proofs.adjust.Code as code
 pub adjust-spec : {M : Type 1} → stated.statement M
 unfolding code.routine
 adjust-spec 𝓤 H 𝓜 𝓖 𝓡 =
-    proof (clock .S) (clock .L) (by-value seconds) 𝓤 H 𝓜 𝓖 𝓡
-    (λ c h. fact 𝓤 (clockInRange c ≡ true))
-    (λ c h r. fact 𝓤 (r ≡ adjust h c))
+    proof (by-value seconds) clock 𝓤 H 𝓜 𝓖 𝓡
+    (λ c h. fact 𝓤 (clockInRange c ≡ true)) (λ c h r. r ≡ adjust h c)
+    (λ c h. fact 𝓤 (clockInRange c ≡ true)) (λ c h r. r ≡ adjust h c)
+    (λ c h. id⊢ 𝓤 _) (λ c h r e. e)
     code.env #adjust adjusted.name adjusted.routine code.calls-clock·Clock·adjusted (code.unfolded 𝓤 H 𝓜 𝓡) (known.met 𝓤 H 𝓜 𝓖 𝓡)

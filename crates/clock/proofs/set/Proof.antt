@@ -3,10 +3,10 @@ use mathlib.Core.Path.{_≡_}
 use mathlib.Core.Bool.{true}
 use mir.Syntax.{w32}
 use mir.Val.{SFits}
-use base.Logic.{sep}
+use base.Logic.{sep, id⊢}
 use contract.Monad.{fact}
 use Rattle.laws.proofs.Words.{by-value}
-use Rattle.laws.proofs.InPlace2.{proof}
+use Rattle.laws.proofs.made.Moves2.{proof}
 use Rattle.clock.specs.Clock.{setBy, clockInRange}
 use Rattle.clock.proofs.Types.{clock, millis, seconds}
 use Rattle.clock.proofs.Clock.set_by.Symbol as set-by
@@ -18,7 +18,8 @@ use Rattle.clock.proofs.set.Code as code
 pub set-spec : {M : Type 1} → stated.statement M
 unfolding code.routine
 set-spec 𝓤 H 𝓜 𝓖 𝓡 =
-    proof (clock .S) (clock .L) (by-value seconds) (by-value millis) 𝓤 H 𝓜 𝓖 𝓡
-    (λ c h m. sep 𝓤 (fact 𝓤 (clockInRange c ≡ true)) (fact 𝓤 (SFits w32 (m .0))))
-    (λ c h m r. fact 𝓤 (r ≡ setBy h m c))
+    proof (by-value seconds) (by-value millis) clock 𝓤 H 𝓜 𝓖 𝓡
+    (λ c h m. sep 𝓤 (fact 𝓤 (clockInRange c ≡ true)) (fact 𝓤 (SFits w32 (m .0)))) (λ c h m r. r ≡ setBy h m c)
+    (λ c h m. sep 𝓤 (fact 𝓤 (clockInRange c ≡ true)) (fact 𝓤 (SFits w32 (m .0)))) (λ c h m r. r ≡ setBy h m c)
+    (λ c h m. id⊢ 𝓤 _) (λ c h m r e. e)
     code.env #set set-by.name set-by.routine code.calls-clock·Clock·set-by (code.unfolded 𝓤 H 𝓜 𝓡) (known.met 𝓤 H 𝓜 𝓖 𝓡)

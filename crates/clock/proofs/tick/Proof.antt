@@ -1,10 +1,10 @@
 -- It does in place what `Clock::ticked` does by value.
 use mathlib.Core.Path.{_≡_}
 use mathlib.Core.Bool.{true}
-use base.Logic.{sep}
+use base.Logic.{sep, id⊢}
 use contract.Monad.{fact}
 use Rattle.laws.proofs.Words.{by-value}
-use Rattle.laws.proofs.InPlace2.{proof}
+use Rattle.laws.proofs.made.Moves2.{proof}
 use Rattle.clock.specs.Clock.{tick, tickInRange, clockInRange}
 use Rattle.clock.proofs.Types.{clock, units, seconds}
 use Rattle.clock.proofs.Clock.ticked.Symbol as ticked
@@ -16,7 +16,8 @@ use Rattle.clock.proofs.tick.Code as code
 pub tick-spec : {M : Type 1} → stated.statement M
 unfolding code.routine
 tick-spec 𝓤 H 𝓜 𝓖 𝓡 =
-    proof (clock .S) (clock .L) (by-value units) (by-value seconds) 𝓤 H 𝓜 𝓖 𝓡
-    (λ c t h. sep 𝓤 (fact 𝓤 (clockInRange c ≡ true)) (fact 𝓤 (tickInRange t ≡ true)))
-    (λ c t h r. fact 𝓤 (r ≡ tick t h c))
+    proof (by-value units) (by-value seconds) clock 𝓤 H 𝓜 𝓖 𝓡
+    (λ c t h. sep 𝓤 (fact 𝓤 (clockInRange c ≡ true)) (fact 𝓤 (tickInRange t ≡ true))) (λ c t h r. r ≡ tick t h c)
+    (λ c t h. sep 𝓤 (fact 𝓤 (clockInRange c ≡ true)) (fact 𝓤 (tickInRange t ≡ true))) (λ c t h r. r ≡ tick t h c)
+    (λ c t h. id⊢ 𝓤 _) (λ c t h r e. e)
     code.env #tick ticked.name ticked.routine code.calls-clock·Clock·ticked (code.unfolded 𝓤 H 𝓜 𝓡) (known.met 𝓤 H 𝓜 𝓖 𝓡)

@@ -4,7 +4,7 @@ use mathlib.Core.Bool.{Bool, true}
 use mathlib.Core.List.{List, [], _∷_, map}
 use Prim.Native.Nat.{ℕ, zero, suc}
 use lib.ListN.{getD, replicate, set}
-use Rattle.quantity.proofs.Tests.{both}
+use Rattle.laws.proofs.Tests.{both}
 use Rattle.table.specs.Forms.{every}
 
 -- P holds of each element and its place, from 0

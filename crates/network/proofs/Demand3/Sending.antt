@@ -9,7 +9,7 @@ use lib.Dec.{ltb, leb, eqb, lit<}
 use lib.IntN.{ℤ, pos, _+ℤ_}
 use lib.ListN.{length, take}
 use lib.Signed.{ltZ, _<ℤ_}
-use Rattle.quantity.proofs.Tests.{either, both, is-not, each}
+use Rattle.laws.proofs.Tests.{either, both, is-not, each}
 use Rattle.quantity.specs.declared.Millis.{Millis}
 use Rattle.quantity.specs.declared.Word.{Word}
 use Rattle.quantity.specs.Quantity.{units, unitsPerMilli, toUnits}

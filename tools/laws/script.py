@@ -1,0 +1,92 @@
+"""A proof script over a context whose entries have names, so that no place is counted by hand."""
+
+
+def digits(n):
+    return "".join("₀₁₂₃₄₅₆₇₈₉"[int(d)] for d in str(n))
+
+
+def items(xs):
+    return " ∷ ".join(list(xs) + ["[]"])
+
+
+def nest(xs):
+    r = "tt"
+    for x in reversed(list(xs)):
+        r = "(%s, %s)" % (x, r)
+    return r
+
+
+def product(ts):
+    ts = list(ts)
+    return "".join("%s × (" % t for t in ts[:-1]) + ts[-1] + " × Unit {0}" + ")" * (len(ts) - 1)
+
+
+def proj(base, i):
+    return base + " .1" * i + " .0"
+
+
+class Script:
+    def __init__(self, names):
+        self.ctx = list(names)
+        self.out = []
+        self.open = 0
+
+    def put(self, s):
+        self.out.append(s)
+
+    def note(self, s):
+        self.put("-- " + s)
+
+    def at(self, n):
+        return self.ctx.index(n)
+
+    def head(self, s, k, new):
+        """s takes the first k entries and leaves the new ones"""
+        self.put(s)
+        self.ctx = list(new) + self.ctx[k:]
+
+    def binder(self, s, k, new):
+        self.head(s, k, new)
+        self.open += 1
+
+    def move(self, *ns):
+        places = [self.at(n) for n in ns]
+        if places != list(range(len(ns))):
+            self.put("move ! (%s) $" % items(map(str, places)))
+            self.ctx = list(ns) + [c for c in self.ctx if c not in ns]
+
+    def keep(self, *ns):
+        self.put("keep ! (%s) $" % items(str(self.at(n)) for n in ns))
+        self.ctx = list(ns)
+
+    def drop(self, *ns):
+        for n in ns:
+            self.move(n)
+            self.head("drop ! $", 1, [])
+
+    def nothing(self, n):
+        self.head("nothing ! $", 0, [n])
+
+    def split(self, n, a, b, how="split"):
+        self.move(n)
+        self.head(how + " ! $", 1, [a, b])
+
+    def join(self, a, b, n, how="join"):
+        self.move(a, b)
+        self.head(how + " ! $", 2, [n])
+
+    def end(self, s):
+        self.put(s + ")" * self.open)
+
+    def lines(self, indent, width=200):
+        res, cur = [], ""
+        for s in self.out:
+            if s.startswith("-- ") or (cur and len(cur) + len(s) + 1 > width):
+                if cur:
+                    res.append(indent + cur)
+                cur = ""
+            if s.startswith("-- "):
+                res.append(indent + s)
+            else:
+                cur = (cur + " " + s) if cur else s
+        return "\n".join(res + [indent + cur])
