@@ -267,7 +267,7 @@ ends = [p for p in params if p != "w" and mutable[p]]
 says_types = [SEEN[p] for p in params] + [SEEN[p] for p in ends] + (["XB .row .Denot"] if folds else [])
 SEM = "%s (none : E .S .D) (asks : %s) (gives : %s) (Asks : %s) (Says : %s)" % (
     step_types,
-    " → ".join(turn_types + ["Type 0"]),
+    " → ".join(turn_types + ["SProp 𝓤"]),
     " → ".join(gives_types + ["Type 0"]),
     " → ".join([SEEN[p] for p in params] + ["Type 0"]),
     " → ".join(says_types + ["Type 0"]),
@@ -280,7 +280,7 @@ emit(
     """  -- what a turn asks and says, and what the loop asks and says
   module _ {M : Type 1} (𝓤 : URA M) (H : Heap 𝓤) (A : Atoms 𝓤) %s where
     abbrev clauses₁ : Clauses 𝓤 ended₁
-    clauses₁ = λ κs a. record { ghost = Unit {0}; requires = λ _. fact 𝓤 (asks %s); ensures = λ _ r e. fact 𝓤 (gives %s%s%s) }
+    clauses₁ = λ κs a. record { ghost = Unit {0}; requires = λ _. asks %s; ensures = λ _ r e. fact 𝓤 (gives %s%s%s) }
 
     abbrev clauses : Clauses 𝓤 ended
     clauses = λ κs a. record { ghost = Unit {0}; requires = λ _. fact 𝓤 (Asks %s); ensures = λ _ r e. fact 𝓤 (Says %s%s%s) }
@@ -303,7 +303,7 @@ says_end = " ".join("(%s)" % state_at(c, n_turns, sem_state) for c in (["run"] *
 OKS = [
     "(steps : %s %s)" % (turn_bind, steps),
     "(fits : %s → Asks %s → (first w ≤ end w) × (end w ≤ length run))" % (entry_bind, entry_args),
-    "(ok : %s → Asks %s → (n : ℕ) → first w + n < end w → %sasks %s)" % (entry_bind, entry_args, "length (%s) ≡ length buffer → " % state_at("buffer", "n", sem_state) if buffer else "", turn_args("n", sem_state)),
+    "(ok : %s → Asks %s → (n : ℕ) → first w + n < end w → %sent 𝓤 (emp 𝓤) (asks %s))" % (entry_bind, entry_args, "length (%s) ≡ length buffer → " % state_at("buffer", "n", sem_state) if buffer else "", turn_args("n", sem_state)),
     "(then : %s → Asks %s → Says %s %s)" % (entry_bind, entry_args, entry_args, says_end),
     "(small : T (ltb size (2 ^ 64)))",
 ]
@@ -575,8 +575,8 @@ for a in reversed(named):
 ar, av = nest(arg), nest(argvals)
 call = "((%s, %s, tt, %s, %s), tt)" % (lf, qf, ar, av)
 now_args = " ".join({"x": "(x-at k)", "run[i]": "e", "i": "(place-of k)", "w": "w", "packet": "packet", "buffer": "(buffer-at k)"}[a] for a in named)
-ask = "fact 𝓤 (asks %s)" % now_args
-s.head("use0 W (raw (%s)) (factI 𝓤 _ _ (may h)) $" % ask, 0, ["asks"])
+ask = "asks %s" % now_args
+s.head("use0 W (raw (%s)) (may h) $" % ask, 0, ["asks"])
 s.move("tokens", "owns", "asks")
 s.head("use3 W (raw (Turn .pre %s)) (passed 𝓤 H A signature₁ %s %s %s %s (%s)) $" % (call, lf, qf, ar, av, ask), 3, ["pre"])
 opds = "(no-more !)"
@@ -709,7 +709,7 @@ if buffer:
 emit("              inside : %s → place-of k < length run\n              inside h = omega (arith, %s, fits %s asked .1)\n" % (H, lt, entry_args))
 if lent:
     emit("              in-now : %s → place-of k < length (run-at k)\n              in-now h = subst (λ (m : ℕ). place-of k < m) (sym (%sk)) (inside h)\n" % (H, alen))
-emit("              may : %s → asks %s\n              may h = ok %s asked k (%s)%s\n" % (H, now_args, entry_args, lt, " (good .1)" if buffer else ""))
+emit("              may : %s → ent 𝓤 (emp 𝓤) (asks %s)\n              may h = ok %s asked k (%s)%s\n" % (H, now_args, entry_args, lt, " (good .1)" if buffer else ""))
 emit("              place-fits : %s → place-of k < 2 ^ 64\n              place-fits h = omega (arith, inside h, room-run .0)\n" % H)
 emit("              le-of : %s → place-of k ≤ length run\n              le-of h = omega (arith, inside h)\n" % H)
 emit("              byte-fits : %s → place-of k * size < 2 ^ 64\n              byte-fits h = omega (arith, lt-of-le-of-lt (mul-le-mul-right size (le-of h)) (room-run .1))\n" % H)

@@ -2,6 +2,7 @@ pub mod Again
 pub mod Loop
 pub mod made
 pub mod Outcomes
+pub mod Parts
 pub mod Shared
 pub mod Tests
 pub mod Walk

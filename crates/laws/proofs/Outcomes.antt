@@ -3,6 +3,7 @@
 --     struct, whole        the struct as a declared one, and all that a law cites of it
 -- Assumes nothing.
 use mathlib.Core.Path.{_≡_}
+use Prim.Native.Nat.{ℕ, zero, suc}
 use mathlib.Core.List.{List, [], _∷_}
 use mir.Syntax.{Sym}
 use denote.RattleType.{Denots}
@@ -66,3 +67,9 @@ whole {ps = ps} P = record {
   low = P .low;
   copies = P .copies;
 }
+
+-- the fields of a struct behind its first n
+abbrev pub behind : List Field → ℕ → List Field
+behind Fs zero = Fs
+behind [] (suc n) = []
+behind (F ∷ Fs) (suc n) = behind Fs n

@@ -163,6 +163,9 @@ to-≤ℤ (pos a) (negsuc b) h = absurd (omega arith)
 to-≤ℤ (negsuc a) (pos b) h = record { le = tt }
 to-≤ℤ (negsuc a) (negsuc b) h = record { le = t-of (le-leb b a (omega arith)) }
 
+pub to-<ℤ : (a b : ℤ) → up a + dn b < up b + dn a → a <ℤ b
+to-<ℤ a b h = record { lt = t-of (is-lt a b h) }
+
 -- ---- ranges: -l ≤ z ≤ h, with fields that omega reads by itself
 
 pub record Within (l h : ℕ) (z : ℤ) : Type 0 where

@@ -6,14 +6,21 @@ use Prim.Native.Nat.{ℕ, _≤_}
 use native.Mathlib.Omega.{arith}
 use borrow.Author.Tests.{not-true, leb-true, le-leb}
 use lib.Dec.{leb}
-use lib.IntN.{ℤ, pos}
+use lib.IntN.{ℤ, pos, _+ℤ_}
 use lib.Signed.{ltZ}
+use mir.Syntax.{w64}
+use mir.Val.{SFits}
 use Rattle.quantity.specs.Quantity.{millis}
-use Rattle.quantity.proofs.Ints.{Within, lt-no, not-lt}
+use Rattle.quantity.proofs.Ints.{Within, lt-no, not-lt, of-≤ℤ, of-<ℤ, sum, fits}
 use Rattle.laws.proofs.Tests.{both, each}
 use Rattle.clock.specs.Midnight.{dayMillis}
+use Rattle.wire.specs.declared.Report.{Report}
+use Rattle.wire.specs.Hello.{DelayFits}
 use Rattle.table.specs.declared.Entry.{Entry}
+use Rattle.table.specs.declared.Update.{Update}
 use Rattle.table.specs.Entry.{maxDelay, holdDown, upTo, entryInRange}
+use Rattle.table.specs.Update.{ownMost, delayInRange}
+use Rattle.table.specs.Runs.{plusReport}
 
 pub within : (n : ℕ) (z : ℤ) → upTo (millis (pos n)) (millis z) ≡ true → Within 0 n z
 within n z e =
@@ -45,3 +52,26 @@ pub in-range : (e : Entry) → Ranged e → entryInRange e ≡ true
 unfolding entryInRange
 in-range e r =
     rw (up-to 30000 (e .delay .0) (r .delay), le-leb _ _ (r .ttl), le-leb _ _ (r .pid), up-to 86400000 (e .time .0) (r .time))
+
+-- ---- an update's DELAY
+
+pub own-in-range : (u : Update) → upTo ownMost (u .delay) ≡ true → delayInRange u ≡ true
+own-in-range u h =
+    let w = within 32767 (u .delay .0) h in
+    up-to 98302 (u .delay .0) (omega arith)
+
+-- a DELAY of our own with a packet's added
+module _ (u : Update) (r : Report) (own : upTo ownMost (u .delay) ≡ true) (reported : DelayFits r) where
+  within-sum : Within 0 98302 (u .delay .0 +ℤ r .delay .0)
+  within-sum =
+      let w = within 32767 (u .delay .0) own in
+      let low = of-≤ℤ (reported .not-negative) in
+      let high = of-<ℤ (reported .two-octets) in
+      let s = sum (u .delay .0) (r .delay .0) in
+      omega arith
+
+  pub sum-fits : SFits w64 (u .delay .0 +ℤ r .delay .0)
+  sum-fits = let w = within-sum in fits w64 (u .delay .0 +ℤ r .delay .0) (omega arith)
+
+  pub sum-in-range : delayInRange (plusReport u r) ≡ true
+  sum-in-range = up-to 98302 (u .delay .0 +ℤ r .delay .0) within-sum

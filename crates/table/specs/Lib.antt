@@ -2,4 +2,5 @@ pub mod Forms
 pub mod Entry
 pub mod Update
 pub mod Sweep
+pub mod Runs
 pub mod Switching

@@ -25,7 +25,10 @@ abbrev pub lineOf : Stage Entry → Line
 lineOf (on e) = On e
 lineOf (end e) = End e
 
--- The most that a DELAY comes to: our own, a signed 16-bit word, and a packet's, an unsigned one.
+-- The most that a DELAY of our own comes to, a signed 16-bit word; and the most with a packet's added, an unsigned one.
+abbrev pub ownMost : Millis
+ownMost = millis (pos 32767)
+
 abbrev pub mostDelay : Millis
 mostDelay = millis (pos (32767 + 65535))
 

@@ -12,6 +12,8 @@ use quantity::Seconds;
 use quantity::Word;
 use wire::Report;
 
+pub mod run;
+
 // MAXDELAY, MINDELAY and the time of hold-down.
 pub const MAX_DELAY: Millis = Millis(30000);
 

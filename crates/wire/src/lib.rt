@@ -4,7 +4,7 @@ ghost use Prim.Native.Nat.{_+_, _≤_};
 ghost use lib.ListN.{length};
 ghost use Rattle.wire.specs.Octets.{zeroAddress, sameAddress};
 ghost use Rattle.wire.specs.Ip.{headerLength};
-ghost use Rattle.wire.specs.Hello.{reportLength, reportPlace, reportAt};
+ghost use Rattle.wire.specs.Hello.{reportLength, reportPlace, reportAt, DelayFits};
 ghost use Rattle.wire.specs.Packet.{packetLength, helloOf, fields, parse};
 ghost use Rattle.wire.specs.Ranges.{Four};
 ghost use Rattle.wire.specs.ReadBack.{ReadBack, ReportsBack};
@@ -118,7 +118,7 @@ pub fn parse(packet: &[u8]) -> Parsed
 // What a packet reports of host i.
 pub fn report_at(packet: &[u8], i: usize) -> Report
     requires { ⌜ headerLength + reportPlace i + reportLength ≤ length (now packet) ⌝ }
-    ensures { λ r. ⌜ r ≡ reportAt (helloOf (now (packet .entry))) i ⌝ }
+    ensures { λ r. ⌜ (r ≡ reportAt (helloOf (now (packet .entry))) i) × DelayFits r ⌝ }
 {
     hello::report(&packet[ip::LENGTH..], i)
 }

@@ -1,7 +1,7 @@
 -- The law of a loop over a run of entries: `fn f(run: &mut [E], w: J, packet: &[u8]) -> B { let end = w.end; let mut i = w.first; let mut x = w.start; while i < end { let t = turn(x, run[i], i, w, packet); run[i] = t.1; x = t.0; i = i + 1; } x }`.
 -- It is one walk of that MIR, for any types and any contract of the function that does a turn. J is a struct that begins with first, end and start. `After` is what there is after n turns. The author shows that the places lie in the run (`fits`), that each turn is asked for no more than what is known (`ok`), and that what there is after the last turn is what the loop says (`then`).
 -- Made by tools/laws/make. Assumes nothing.
-use Rattle.laws.proofs.Walk.{_≡_, refl, sym, ap, subst, _∙_, ℕ, zero, suc, _+_, _-_, _*_, _≤_, _<_, _^_, mul-le-mul-right, lt-of-le-of-lt, arith, not, List, [], _∷_, length, getD, set, length-set, T, ltb, ltb→lt, nltb→le, URA, fullShare, Name, Fn, Body, named, mut, imm, tyRef, tyInt, tyBool, tyPtr, w8, w64, local, valueLocal, place, deref, field, copy, int, rvOpd, op2, lt, mul, add, offset, no-sign, assign, call, seq, block, loop, cond, skip, exit, return, Val, vint, vptr, SProp, ent, id⊢, GName, Lft, Share, ftrue, fat, froom, fdies, flft, fobs, fauth, fbor, fobor, Model, Routine, Env, Heap, Out, afterSeq, afterBlock, Locals, Wp, atReturn, WpFn, Tables, Closed, Atoms, fact, factI, GhostRules, Running, givenOf, tables, afterTurn, Given, Item, ‵, raw, _⊛_, ⋆, some, later, anyQ, atRet, _$_, _∵_, !, qed, by, move, drop, use0, use1, use3, split, join, pick, rewrite, fsplit, fjoin, suffices, frame, await, done, look, look-raw, init, store, store-raw, forget, stop, hop, fld, from, load, lit, of-opd, bin, and-then, no-more, assigns, assigns-last, land, returns, enter, alloc1, alloc0, params1, pass1, pass0, free1, free0, exec, whole-part, sub, look-in, FmC, fmOf, WpFn-mono, RattleType, owns, Is, shows, pureI, mem, pointee, u8, SliceRefOf, SliceRefMutOf, RefT, sliceVal, sliceTy, slice-vals, MutSlice, ShrSlice, Room, heres, codedHoleys, at-slice, mut-slice-tells, shr-slice-tells, shr-slice-copy, Held, cells-of, place-is, elem-out, elem-put, opens-slice, closes-slice, Signature, plain, shrSliceOf, only, owned, peeks, heard, nothing, layout, row, shape, onEntry, Meets, tripleOf, Contract, Triple, calls-at, entered, cited, Ended, Clauses, Lasts, closing, ensured, lasts, Stays, stay-slice, stay-dropped, says, needs, walkOf, goes-slice, goes-dropped, ends-at, walked, walk-meets, yes}
+use Rattle.laws.proofs.Walk.{_≡_, refl, sym, ap, subst, _∙_, ℕ, zero, suc, _+_, _-_, _*_, _≤_, _<_, _^_, mul-le-mul-right, lt-of-le-of-lt, arith, not, List, [], _∷_, length, getD, set, length-set, T, ltb, ltb→lt, nltb→le, URA, fullShare, Name, Fn, Body, named, mut, imm, tyRef, tyInt, tyBool, tyPtr, w8, w64, local, valueLocal, place, deref, field, copy, int, rvOpd, op2, lt, mul, add, offset, no-sign, assign, call, seq, block, loop, cond, skip, exit, return, Val, vint, vptr, SProp, ent, emp, id⊢, GName, Lft, Share, ftrue, fat, froom, fdies, flft, fobs, fauth, fbor, fobor, Model, Routine, Env, Heap, Out, afterSeq, afterBlock, Locals, Wp, atReturn, WpFn, Tables, Closed, Atoms, fact, GhostRules, Running, givenOf, tables, afterTurn, Given, Item, ‵, raw, _⊛_, ⋆, some, later, anyQ, atRet, _$_, _∵_, !, qed, by, move, drop, use0, use1, use3, split, join, pick, rewrite, fsplit, fjoin, suffices, frame, await, done, look, look-raw, init, store, store-raw, forget, stop, hop, fld, from, load, lit, of-opd, bin, and-then, no-more, assigns, assigns-last, land, returns, enter, alloc1, alloc0, params1, pass1, pass0, free1, free0, exec, whole-part, sub, look-in, FmC, fmOf, WpFn-mono, RattleType, owns, Is, shows, pureI, mem, pointee, u8, SliceRefOf, SliceRefMutOf, RefT, sliceVal, sliceTy, slice-vals, MutSlice, ShrSlice, Room, heres, codedHoleys, at-slice, mut-slice-tells, shr-slice-tells, shr-slice-copy, Held, cells-of, place-is, elem-out, elem-put, opens-slice, closes-slice, Signature, plain, shrSliceOf, only, owned, peeks, heard, nothing, layout, row, shape, onEntry, Meets, tripleOf, Contract, Triple, calls-at, entered, cited, Ended, Clauses, Lasts, closing, ensured, lasts, Stays, stay-slice, stay-dropped, says, needs, walkOf, goes-slice, goes-dropped, ends-at, walked, walk-meets, yes}
 use Rattle.laws.proofs.Walk.{tablesOf}
 use denote.Struct.Laws as LL
 use Rattle.laws.proofs.Words.{Word, Data, Part, by-value, unsigned, struct-part, usize-part, passed}
@@ -87,9 +87,9 @@ module _ (E : Data) (B : Part) (J : Outcome (usize-part ∷ usize-part ∷ B ∷
     after-length (suc n) = length-set (After n .0) (first w + n) _ ∙ after-length n
 
   -- what a turn asks and says, and what the loop asks and says
-  module _ {M : Type 1} (𝓤 : URA M) (H : Heap 𝓤) (A : Atoms 𝓤) (stepE : XB .row .Denot → E .S .D → ℕ → J .form .D → List ℕ → E .S .D) (step : XB .row .Denot → E .S .D → ℕ → J .form .D → List ℕ → XB .row .Denot) (none : E .S .D) (asks : XB .row .Denot → E .S .D → ℕ → J .form .D → List ℕ → Type 0) (gives : XB .row .Denot → E .S .D → ℕ → J .form .D → List ℕ → O .form .D → Type 0) (Asks : List (E .S .D) → J .form .D → List ℕ → Type 0) (Says : List (E .S .D) → J .form .D → List ℕ → List (E .S .D) → XB .row .Denot → Type 0) where
+  module _ {M : Type 1} (𝓤 : URA M) (H : Heap 𝓤) (A : Atoms 𝓤) (stepE : XB .row .Denot → E .S .D → ℕ → J .form .D → List ℕ → E .S .D) (step : XB .row .Denot → E .S .D → ℕ → J .form .D → List ℕ → XB .row .Denot) (none : E .S .D) (asks : XB .row .Denot → E .S .D → ℕ → J .form .D → List ℕ → SProp 𝓤) (gives : XB .row .Denot → E .S .D → ℕ → J .form .D → List ℕ → O .form .D → Type 0) (Asks : List (E .S .D) → J .form .D → List ℕ → Type 0) (Says : List (E .S .D) → J .form .D → List ℕ → List (E .S .D) → XB .row .Denot → Type 0) where
     abbrev clauses₁ : Clauses 𝓤 ended₁
-    clauses₁ = λ κs a. record { ghost = Unit {0}; requires = λ _. fact 𝓤 (asks (a .0) (a .1 .0) (a .1 .1 .0) (a .1 .1 .1 .0) (a .1 .1 .1 .1 .0 .now)); ensures = λ _ r e. fact 𝓤 (gives (a .0) (a .1 .0) (a .1 .1 .0) (a .1 .1 .1 .0) (a .1 .1 .1 .1 .0 .now) r) }
+    clauses₁ = λ κs a. record { ghost = Unit {0}; requires = λ _. asks (a .0) (a .1 .0) (a .1 .1 .0) (a .1 .1 .1 .0) (a .1 .1 .1 .1 .0 .now); ensures = λ _ r e. fact 𝓤 (gives (a .0) (a .1 .0) (a .1 .1 .0) (a .1 .1 .1 .0) (a .1 .1 .1 .1 .0 .now) r) }
 
     abbrev clauses : Clauses 𝓤 ended
     clauses = λ κs a. record { ghost = Unit {0}; requires = λ _. fact 𝓤 (Asks (a .0 .now) (a .1 .0) (a .1 .1 .0 .now)); ensures = λ _ r e. fact 𝓤 (Says (a .0 .now) (a .1 .0) (a .1 .1 .0 .now) (e .0 .now) r) }
@@ -100,7 +100,7 @@ module _ (E : Data) (B : Part) (J : Outcome (usize-part ∷ usize-part ∷ B ∷
     module _ (W : Given 𝓤 H A)
         (steps : (x : XB .row .Denot) (e : E .S .D) (i : ℕ) (w : J .form .D) (packet : List ℕ) (r : O .form .D) → gives x e i w packet r → (O .form .read r .1 .0 ≡ stepE x e i w packet) × (B .res (O .form .read r .0) ≡ step x e i w packet))
         (fits : (run : List (E .S .D)) (w : J .form .D) (packet : List ℕ) → Asks run w packet → (first w ≤ end w) × (end w ≤ length run))
-        (ok : (run : List (E .S .D)) (w : J .form .D) (packet : List ℕ) → Asks run w packet → (n : ℕ) → first w + n < end w → asks (After stepE step none run w packet n .1) (getD (After stepE step none run w packet n .0) (first w + n) none) (first w + n) w packet)
+        (ok : (run : List (E .S .D)) (w : J .form .D) (packet : List ℕ) → Asks run w packet → (n : ℕ) → first w + n < end w → ent 𝓤 (emp 𝓤) (asks (After stepE step none run w packet n .1) (getD (After stepE step none run w packet n .0) (first w + n) none) (first w + n) w packet))
         (then : (run : List (E .S .D)) (w : J .form .D) (packet : List ℕ) → Asks run w packet → Says run w packet (After stepE step none run w packet (end w - first w) .0) (After stepE step none run w packet (end w - first w) .1))
         (small : T (ltb size (2 ^ 64)))
         (κ₀ κ₁ : Lft) (q₀ q₁ : Share) (b₀ o₀ b₁ o₁ : ℕ) (γ₀ γ₁ : GName) (run : List (E .S .D)) (w : J .form .D) (packet : List ℕ)
@@ -175,8 +175,8 @@ module _ (E : Data) (B : Part) (J : Outcome (usize-part ∷ usize-part ∷ B ∷
               split ! $ nothing ! $ move ! (8 ∷ 0 ∷ []) $ join ! $ nothing ! $ move ! (2 ∷ 0 ∷ []) $ fjoin ! $ owned ! (XJ .row) (Is (XJ .row)) (XJ .makes M 𝓤 H A W) w (XJ .val w ∷ []) w-is $ fjoin ! $
               owned ! ((unsigned w64) .row) (Is ((unsigned w64) .row)) ((unsigned w64) .makes M 𝓤 H A W) (place-of k) (vint w64 (place-of k) ∷ []) (refl, place-fits h) $ fjoin ! $
               owned ! (XE .row) (Is (XE .row)) (XE .makes M 𝓤 H A W) e (XE .val e ∷ []) e-is $ fjoin ! $ owned ! (XB .row) (Is (XB .row)) (XB .makes M 𝓤 H A W) (x-at k) (XB .val (x-at k) ∷ []) (good .1) $ fjoin ! $
-              use0 W (raw (fact 𝓤 (asks (x-at k) e (place-of k) w packet))) (factI 𝓤 _ _ (may h)) $ move ! (2 ∷ 1 ∷ 0 ∷ []) $
-              use3 W (raw (Turn .pre (((κ₁, tt), (q₁, tt), tt, (x-at k, (e, (place-of k, (w, (ref₁ γ₁ packet, tt))))), (XB .val (x-at k) ∷ [], (XE .val e ∷ [], (vint w64 (place-of k) ∷ [], (XJ .val w ∷ [], (slice-vals (ref₁ γ₁ packet), tt)))))), tt))) (passed 𝓤 H A signature₁ (κ₁, tt) (q₁, tt) (x-at k, (e, (place-of k, (w, (ref₁ γ₁ packet, tt))))) (XB .val (x-at k) ∷ [], (XE .val e ∷ [], (vint w64 (place-of k) ∷ [], (XJ .val w ∷ [], (slice-vals (ref₁ γ₁ packet), tt))))) (fact 𝓤 (asks (x-at k) e (place-of k) w packet))) $
+              use0 W (raw (asks (x-at k) e (place-of k) w packet)) (may h) $ move ! (2 ∷ 1 ∷ 0 ∷ []) $
+              use3 W (raw (Turn .pre (((κ₁, tt), (q₁, tt), tt, (x-at k, (e, (place-of k, (w, (ref₁ γ₁ packet, tt))))), (XB .val (x-at k) ∷ [], (XE .val e ∷ [], (vint w64 (place-of k) ∷ [], (XJ .val w ∷ [], (slice-vals (ref₁ γ₁ packet), tt)))))), tt))) (passed 𝓤 H A signature₁ (κ₁, tt) (q₁, tt) (x-at k, (e, (place-of k, (w, (ref₁ γ₁ packet, tt))))) (XB .val (x-at k) ∷ [], (XE .val e ∷ [], (vint w64 (place-of k) ∷ [], (XJ .val w ∷ [], (slice-vals (ref₁ γ₁ packet), tt))))) (asks (x-at k) e (place-of k) w packet)) $
               calls-at ! fm Turn known (((κ₁, tt), (q₁, tt), tt, (x-at k, (e, (place-of k, (w, (ref₁ γ₁ packet, tt))))), (XB .val (x-at k) ∷ [], (XE .val e ∷ [], (vint w64 (place-of k) ∷ [], (XJ .val w ∷ [], (slice-vals (ref₁ γ₁ packet), tt)))))), tt) (and-then ! (load ! (from ! (stop !)) (look ! 19 refl)) (and-then ! (load ! (from ! (stop !)) (look ! 9 refl)) (and-then ! (load ! (from ! (stop !)) (look ! 21 refl)) (and-then ! (load ! (from ! (stop !)) (look ! 27 refl)) (and-then ! (load ! (from ! (stop !)) (look ! 25 refl)) (no-more !)))))) (λ v.
               use1 W (later (some (λ (r : XO .row .Denot). ((‵ (flft κ₁ q₁) ⊛ ‵ ftrue) ⊛ ‵ (XO .row .own r (v ∷ []))) ⊛ raw (ensured 𝓤 H A ended₁ clauses₁ (κ₁, tt) (x-at k, (e, (place-of k, (w, (ref₁ γ₁ packet, tt))))) tt r)))) (id⊢ 𝓤 _) $ await ! tt $
               pick ! (λ r. split ! $ split ! $ split ! $ move ! (1 ∷ []) $ drop ! $ move ! (2 ∷ []) $
@@ -217,7 +217,7 @@ module _ (E : Data) (B : Part) (J : Outcome (usize-part ∷ usize-part ∷ B ∷
               in-now : T (ltb (place-of k) (end w)) → place-of k < length (run-at k)
               in-now h = subst (λ (m : ℕ). place-of k < m) (sym (after-length stepE step none run w packet k)) (inside h)
 
-              may : T (ltb (place-of k) (end w)) → asks (x-at k) e (place-of k) w packet
+              may : T (ltb (place-of k) (end w)) → ent 𝓤 (emp 𝓤) (asks (x-at k) e (place-of k) w packet)
               may h = ok run w packet asked k (ltb→lt (place-of k) (end w) h)
 
               place-fits : T (ltb (place-of k) (end w)) → place-of k < 2 ^ 64
@@ -263,10 +263,10 @@ module _ (E : Data) (B : Part) (J : Outcome (usize-part ∷ usize-part ∷ B ∷
             from-first : first w ≡ place-of 0
             from-first = omega arith
 
-  module _ {M : Type 1} (𝓤 : URA M) (H : Heap 𝓤) (𝓜 : Model 𝓤 H) (𝓖 : GhostRules 𝓤 H) (𝓡 : Running 𝓤 H 𝓜) (stepE : XB .row .Denot → E .S .D → ℕ → J .form .D → List ℕ → E .S .D) (step : XB .row .Denot → E .S .D → ℕ → J .form .D → List ℕ → XB .row .Denot) (none : E .S .D) (asks : XB .row .Denot → E .S .D → ℕ → J .form .D → List ℕ → Type 0) (gives : XB .row .Denot → E .S .D → ℕ → J .form .D → List ℕ → O .form .D → Type 0) (Asks : List (E .S .D) → J .form .D → List ℕ → Type 0) (Says : List (E .S .D) → J .form .D → List ℕ → List (E .S .D) → XB .row .Denot → Type 0)
+  module _ {M : Type 1} (𝓤 : URA M) (H : Heap 𝓤) (𝓜 : Model 𝓤 H) (𝓖 : GhostRules 𝓤 H) (𝓡 : Running 𝓤 H 𝓜) (stepE : XB .row .Denot → E .S .D → ℕ → J .form .D → List ℕ → E .S .D) (step : XB .row .Denot → E .S .D → ℕ → J .form .D → List ℕ → XB .row .Denot) (none : E .S .D) (asks : XB .row .Denot → E .S .D → ℕ → J .form .D → List ℕ → SProp 𝓤) (gives : XB .row .Denot → E .S .D → ℕ → J .form .D → List ℕ → O .form .D → Type 0) (Asks : List (E .S .D) → J .form .D → List ℕ → Type 0) (Says : List (E .S .D) → J .form .D → List ℕ → List (E .S .D) → XB .row .Denot → Type 0)
       (steps : (x : XB .row .Denot) (e : E .S .D) (i : ℕ) (w : J .form .D) (packet : List ℕ) (r : O .form .D) → gives x e i w packet r → (O .form .read r .1 .0 ≡ stepE x e i w packet) × (B .res (O .form .read r .0) ≡ step x e i w packet))
       (fits : (run : List (E .S .D)) (w : J .form .D) (packet : List ℕ) → Asks run w packet → (first w ≤ end w) × (end w ≤ length run))
-      (ok : (run : List (E .S .D)) (w : J .form .D) (packet : List ℕ) → Asks run w packet → (n : ℕ) → first w + n < end w → asks (After stepE step none run w packet n .1) (getD (After stepE step none run w packet n .0) (first w + n) none) (first w + n) w packet)
+      (ok : (run : List (E .S .D)) (w : J .form .D) (packet : List ℕ) → Asks run w packet → (n : ℕ) → first w + n < end w → ent 𝓤 (emp 𝓤) (asks (After stepE step none run w packet n .1) (getD (After stepE step none run w packet n .0) (first w + n) none) (first w + n) w packet))
       (then : (run : List (E .S .D)) (w : J .form .D) (packet : List ℕ) → Asks run w packet → Says run w packet (After stepE step none run w packet (end w - first w) .0) (After stepE step none run w packet (end w - first w) .1))
       (small : T (ltb size (2 ^ 64)))
       (γ : Env) (f g : Name) (r : Routine) where

@@ -1,7 +1,7 @@
 -- The law of a loop over a run of entries: `fn f(run: &[E], w: J) -> B { let end = w.end; let mut i = w.first; let mut x = w.start; while i < end { x = turn(x, run[i]); i = i + 1; } x }`.
 -- It is one walk of that MIR, for any types and any contract of the function that does a turn. J is a struct that begins with first, end and start. `After` is what there is after n turns. The author shows that the places lie in the run (`fits`), that each turn is asked for no more than what is known (`ok`), and that what there is after the last turn is what the loop says (`then`).
 -- Made by tools/laws/make. Assumes nothing.
-use Rattle.laws.proofs.Walk.{_≡_, refl, sym, ap, subst, ℕ, zero, suc, _+_, _-_, _*_, _≤_, _<_, _^_, mul-le-mul-right, lt-of-le-of-lt, arith, not, List, [], _∷_, length, getD, T, ltb, ltb→lt, nltb→le, URA, fullShare, Name, Fn, Body, named, imm, tyRef, tyInt, tyBool, tyPtr, w64, local, valueLocal, place, deref, field, copy, int, rvOpd, op2, lt, mul, add, offset, no-sign, assign, call, seq, block, loop, cond, skip, exit, return, Val, vint, vptr, SProp, ent, id⊢, GName, Lft, Share, ftrue, fat, froom, fdies, flft, fobor, Model, Routine, Env, Heap, Out, afterSeq, afterBlock, Locals, Wp, atReturn, WpFn, Tables, Closed, Atoms, fact, factI, GhostRules, Running, givenOf, tables, afterTurn, Given, Item, ‵, raw, _⊛_, ⋆, some, later, anyQ, atRet, _$_, _∵_, !, qed, by, move, drop, use0, use1, use3, split, join, pick, rewrite, fsplit, fjoin, suffices, frame, await, done, look, look-raw, init, store, forget, stop, hop, fld, from, load, lit, of-opd, bin, and-then, no-more, assigns, assigns-last, land, returns, enter, alloc1, alloc0, params1, pass1, pass0, free1, free0, exec, whole-part, sub, look-in, arr-parts, FmC, fmOf, WpFn-mono, RattleType, owns, Is, shows, mem, pointee, shares, SliceRefOf, RefT, sliceVal, sliceTy, slice-vals, ShrSlice, Room, shr-slice-tells, cells-of, place-is, elem-out, elem-back, looks-slice, shuts-slice, Signature, plain, shrSliceOf, only, owned, peeks, heard, nothing, layout, row, shape, onEntry, Meets, tripleOf, Contract, Triple, calls-at, entered, cited, Ended, Clauses, Lasts, closing, ensured, lasts, Stays, stay-dropped, says, needs, walkOf, goes-dropped, ends-at, walked, walk-meets, yes}
+use Rattle.laws.proofs.Walk.{_≡_, refl, sym, ap, subst, ℕ, zero, suc, _+_, _-_, _*_, _≤_, _<_, _^_, mul-le-mul-right, lt-of-le-of-lt, arith, not, List, [], _∷_, length, getD, T, ltb, ltb→lt, nltb→le, URA, fullShare, Name, Fn, Body, named, imm, tyRef, tyInt, tyBool, tyPtr, w64, local, valueLocal, place, deref, field, copy, int, rvOpd, op2, lt, mul, add, offset, no-sign, assign, call, seq, block, loop, cond, skip, exit, return, Val, vint, vptr, SProp, ent, emp, id⊢, GName, Lft, Share, ftrue, fat, froom, fdies, flft, fobor, Model, Routine, Env, Heap, Out, afterSeq, afterBlock, Locals, Wp, atReturn, WpFn, Tables, Closed, Atoms, fact, GhostRules, Running, givenOf, tables, afterTurn, Given, Item, ‵, raw, _⊛_, ⋆, some, later, anyQ, atRet, _$_, _∵_, !, qed, by, move, drop, use0, use1, use3, split, join, pick, rewrite, fsplit, fjoin, suffices, frame, await, done, look, look-raw, init, store, forget, stop, hop, fld, from, load, lit, of-opd, bin, and-then, no-more, assigns, assigns-last, land, returns, enter, alloc1, alloc0, params1, pass1, pass0, free1, free0, exec, whole-part, sub, look-in, arr-parts, FmC, fmOf, WpFn-mono, RattleType, owns, Is, shows, mem, pointee, shares, SliceRefOf, RefT, sliceVal, sliceTy, slice-vals, ShrSlice, Room, shr-slice-tells, cells-of, place-is, elem-out, elem-back, looks-slice, shuts-slice, Signature, plain, shrSliceOf, only, owned, peeks, heard, nothing, layout, row, shape, onEntry, Meets, tripleOf, Contract, Triple, calls-at, entered, cited, Ended, Clauses, Lasts, closing, ensured, lasts, Stays, stay-dropped, says, needs, walkOf, goes-dropped, ends-at, walked, walk-meets, yes}
 use Rattle.laws.proofs.Walk.{tablesOf}
 use denote.Struct.Laws as LL
 use Rattle.laws.proofs.Words.{Word, Data, Part, by-value, usize-part, settled, passed}
@@ -76,9 +76,9 @@ module _ (E : Data) (B : Part) (J : Outcome (usize-part ∷ usize-part ∷ B ∷
     After (suc n) = step (After n) (getD run (first w + n) none)
 
   -- what a turn asks and says, and what the loop asks and says
-  module _ {M : Type 1} (𝓤 : URA M) (H : Heap 𝓤) (A : Atoms 𝓤) (step : XB .row .Denot → E .S .D → XB .row .Denot) (none : E .S .D) (asks : XB .row .Denot → E .S .D → Type 0) (gives : XB .row .Denot → E .S .D → XB .row .Denot → Type 0) (Asks : List (E .S .D) → J .form .D → Type 0) (Says : List (E .S .D) → J .form .D → XB .row .Denot → Type 0) where
+  module _ {M : Type 1} (𝓤 : URA M) (H : Heap 𝓤) (A : Atoms 𝓤) (step : XB .row .Denot → E .S .D → XB .row .Denot) (none : E .S .D) (asks : XB .row .Denot → E .S .D → SProp 𝓤) (gives : XB .row .Denot → E .S .D → XB .row .Denot → Type 0) (Asks : List (E .S .D) → J .form .D → Type 0) (Says : List (E .S .D) → J .form .D → XB .row .Denot → Type 0) where
     abbrev clauses₁ : Clauses 𝓤 ended₁
-    clauses₁ = λ κs a. record { ghost = Unit {0}; requires = λ _. fact 𝓤 (asks (a .0) (a .1 .0)); ensures = λ _ r e. fact 𝓤 (gives (a .0) (a .1 .0) r) }
+    clauses₁ = λ κs a. record { ghost = Unit {0}; requires = λ _. asks (a .0) (a .1 .0); ensures = λ _ r e. fact 𝓤 (gives (a .0) (a .1 .0) r) }
 
     abbrev clauses : Clauses 𝓤 ended
     clauses = λ κs a. record { ghost = Unit {0}; requires = λ _. fact 𝓤 (Asks (a .0 .now) (a .1 .0)); ensures = λ _ r e. fact 𝓤 (Says (a .0 .now) (a .1 .0) r) }
@@ -89,7 +89,7 @@ module _ (E : Data) (B : Part) (J : Outcome (usize-part ∷ usize-part ∷ B ∷
     module _ (W : Given 𝓤 H A)
         (steps : (x : XB .row .Denot) (e : E .S .D) (r : XB .row .Denot) → gives x e r → r ≡ step x e)
         (fits : (run : List (E .S .D)) (w : J .form .D) → Asks run w → (first w ≤ end w) × (end w ≤ length run))
-        (ok : (run : List (E .S .D)) (w : J .form .D) → Asks run w → (n : ℕ) → first w + n < end w → asks (After step none run w n) (getD run (first w + n) none))
+        (ok : (run : List (E .S .D)) (w : J .form .D) → Asks run w → (n : ℕ) → first w + n < end w → ent 𝓤 (emp 𝓤) (asks (After step none run w n) (getD run (first w + n) none)))
         (then : (run : List (E .S .D)) (w : J .form .D) → Asks run w → Says run w (After step none run w (end w - first w)))
         (small : T (ltb size (2 ^ 64)))
         (κ₀ : Lft) (q₀ : Share) (b₀ o₀ : ℕ) (γ₀ : GName) (run : List (E .S .D)) (w : J .form .D)
@@ -153,8 +153,8 @@ module _ (E : Data) (B : Part) (J : Outcome (usize-part ∷ usize-part ∷ B ∷
               elem-back ! RE sh run (place-of k) none (XE .val e ∷ []) b₀ o₀ (inside h) $
               -- the turn
               nothing ! $ nothing ! $ owned ! (XE .row) (Is (XE .row)) (XE .makes M 𝓤 H A W) e (XE .val e ∷ []) e-is $ fjoin ! $
-              owned ! (XB .row) (Is (XB .row)) (XB .makes M 𝓤 H A W) (x-at k) (XB .val (x-at k) ∷ []) (good .1) $ fjoin ! $ use0 W (raw (fact 𝓤 (asks (x-at k) e))) (factI 𝓤 _ _ (may h)) $ move ! (2 ∷ 1 ∷ 0 ∷ []) $
-              use3 W (raw (Turn .pre ((tt, tt, tt, (x-at k, (e, tt)), (XB .val (x-at k) ∷ [], (XE .val e ∷ [], tt))), tt))) (passed 𝓤 H A signature₁ tt tt (x-at k, (e, tt)) (XB .val (x-at k) ∷ [], (XE .val e ∷ [], tt)) (fact 𝓤 (asks (x-at k) e))) $
+              owned ! (XB .row) (Is (XB .row)) (XB .makes M 𝓤 H A W) (x-at k) (XB .val (x-at k) ∷ []) (good .1) $ fjoin ! $ use0 W (raw (asks (x-at k) e)) (may h) $ move ! (2 ∷ 1 ∷ 0 ∷ []) $
+              use3 W (raw (Turn .pre ((tt, tt, tt, (x-at k, (e, tt)), (XB .val (x-at k) ∷ [], (XE .val e ∷ [], tt))), tt))) (passed 𝓤 H A signature₁ tt tt (x-at k, (e, tt)) (XB .val (x-at k) ∷ [], (XE .val e ∷ [], tt)) (asks (x-at k) e)) $
               calls-at ! fm Turn known ((tt, tt, tt, (x-at k, (e, tt)), (XB .val (x-at k) ∷ [], (XE .val e ∷ [], tt))), tt) (and-then ! (load ! (from ! (stop !)) (look ! 11 refl)) (and-then ! (load ! (from ! (stop !)) (look ! 3 refl)) (no-more !))) (λ v.
               use1 W (later (some (λ (r : XB .row .Denot). (‵ ftrue ⊛ ‵ (XB .row .own r (v ∷ []))) ⊛ raw (ensured 𝓤 H A ended₁ clauses₁ tt (x-at k, (e, tt)) tt r)))) (id⊢ 𝓤 _) $ await ! tt $ pick ! (λ r. split ! $
               split ! $ drop ! $ move ! (1 ∷ []) $ use1 W (some (λ (ends : Lasts ended₁ tt (x-at k, (e, tt))). ‵ (lasts ended₁ tt (x-at k, (e, tt)) ends) ⊛ raw (fact 𝓤 (gives (x-at k) e r)))) (id⊢ 𝓤 _) $
@@ -178,7 +178,7 @@ module _ (E : Data) (B : Part) (J : Outcome (usize-part ∷ usize-part ∷ B ∷
               inside : T (ltb (place-of k) (end w)) → place-of k < length run
               inside h = omega (arith, ltb→lt (place-of k) (end w) h, fits run w asked .1)
 
-              may : T (ltb (place-of k) (end w)) → asks (x-at k) e
+              may : T (ltb (place-of k) (end w)) → ent 𝓤 (emp 𝓤) (asks (x-at k) e)
               may h = ok run w asked k (ltb→lt (place-of k) (end w) h)
 
               place-fits : T (ltb (place-of k) (end w)) → place-of k < 2 ^ 64
@@ -222,10 +222,10 @@ module _ (E : Data) (B : Part) (J : Outcome (usize-part ∷ usize-part ∷ B ∷
             from-first : first w ≡ place-of 0
             from-first = omega arith
 
-  module _ {M : Type 1} (𝓤 : URA M) (H : Heap 𝓤) (𝓜 : Model 𝓤 H) (𝓖 : GhostRules 𝓤 H) (𝓡 : Running 𝓤 H 𝓜) (step : XB .row .Denot → E .S .D → XB .row .Denot) (none : E .S .D) (asks : XB .row .Denot → E .S .D → Type 0) (gives : XB .row .Denot → E .S .D → XB .row .Denot → Type 0) (Asks : List (E .S .D) → J .form .D → Type 0) (Says : List (E .S .D) → J .form .D → XB .row .Denot → Type 0)
+  module _ {M : Type 1} (𝓤 : URA M) (H : Heap 𝓤) (𝓜 : Model 𝓤 H) (𝓖 : GhostRules 𝓤 H) (𝓡 : Running 𝓤 H 𝓜) (step : XB .row .Denot → E .S .D → XB .row .Denot) (none : E .S .D) (asks : XB .row .Denot → E .S .D → SProp 𝓤) (gives : XB .row .Denot → E .S .D → XB .row .Denot → Type 0) (Asks : List (E .S .D) → J .form .D → Type 0) (Says : List (E .S .D) → J .form .D → XB .row .Denot → Type 0)
       (steps : (x : XB .row .Denot) (e : E .S .D) (r : XB .row .Denot) → gives x e r → r ≡ step x e)
       (fits : (run : List (E .S .D)) (w : J .form .D) → Asks run w → (first w ≤ end w) × (end w ≤ length run))
-      (ok : (run : List (E .S .D)) (w : J .form .D) → Asks run w → (n : ℕ) → first w + n < end w → asks (After step none run w n) (getD run (first w + n) none))
+      (ok : (run : List (E .S .D)) (w : J .form .D) → Asks run w → (n : ℕ) → first w + n < end w → ent 𝓤 (emp 𝓤) (asks (After step none run w n) (getD run (first w + n) none)))
       (then : (run : List (E .S .D)) (w : J .form .D) → Asks run w → Says run w (After step none run w (end w - first w)))
       (small : T (ltb size (2 ^ 64)))
       (γ : Env) (f g : Name) (r : Routine) where

@@ -1,7 +1,7 @@
 -- The law of a loop over a run of entries: `fn f(buffer: &mut [u8], run: &[E], w: J) { let end = w.end; let mut i = w.first; while i < end { turn(buffer, run[i], i, w); i = i + 1; } }`.
 -- It is one walk of that MIR, for any types and any contract of the function that does a turn. J is a struct that begins with first, end. `After` is what there is after n turns. The author shows that the places lie in the run (`fits`), that each turn is asked for no more than what is known (`ok`), and that what there is after the last turn is what the loop says (`then`).
 -- Made by tools/laws/make. Assumes nothing.
-use Rattle.laws.proofs.Walk.{_≡_, refl, sym, ap, subst, _∙_, ℕ, zero, suc, _+_, _-_, _*_, _≤_, _<_, _^_, mul-le-mul-right, lt-of-le-of-lt, arith, not, List, [], _∷_, length, getD, T, ltb, ltb→lt, nltb→le, URA, fullShare, Name, Fn, Body, named, erased, mut, imm, tyRef, tyInt, tyBool, tyPtr, tyUnit, w8, w64, local, valueLocal, place, deref, field, copy, int, opdUnit, rvOpd, op2, lt, mul, add, offset, no-sign, addrOf, aggregate, assign, call, seq, block, loop, cond, skip, exit, return, Val, vint, vptr, vunit, SProp, ent, id⊢, GName, Lft, Share, ftrue, fat, froom, fdies, flft, fobor, Model, Routine, Env, Heap, Out, afterSeq, afterBlock, Locals, Wp, atReturn, WpFn, Tables, Closed, Atoms, fact, factI, GhostRules, Running, givenOf, tables, afterTurn, Given, Item, ‵, raw, _⊛_, ⋆, some, later, anyQ, atRet, _$_, _∵_, !, qed, by, move, drop, use0, use1, use2, use3, split, join, pick, rewrite, fsplit, fjoin, feqL, suffices, frame, await, done, look, look-raw, init, store, forget, stop, hop, fld, from, load, lit, unit-lit, addr, of-opd, bin, and-then, no-more, assigns, assigns-last, land, returns, enter, alloc1, alloc0, params1, pass1, pass0, free1, free0, exec, agg, whole-part, sub, look-in, lft-new, lft-end, arr-parts, FmC, fmOf, WpFn-mono, RattleType, owns, Is, shows, mem, pointee, shares, u8, SliceRefOf, SliceRefMutOf, RefT, sliceVal, sliceTy, slice-vals, MutSlice, ShrSlice, Room, mut-slice-tells, shr-slice-tells, cells-of, place-is, elem-out, elem-back, looks-slice, shuts-slice, Signature, plain, shrSliceOf, owned, peeks, heard, nothing, layout, row, shape, onEntry, Meets, tripleOf, Contract, Triple, calls-at, entered, cited, Ended, Clauses, Lasts, closing, ensured, lasts, Stays, stay-slice, stay-dropped, says, needs, walkOf, goes-slice, goes-dropped, ends-at, walked, walk-meets, yes}
+use Rattle.laws.proofs.Walk.{_≡_, refl, sym, ap, subst, _∙_, ℕ, zero, suc, _+_, _-_, _*_, _≤_, _<_, _^_, mul-le-mul-right, lt-of-le-of-lt, arith, not, List, [], _∷_, length, getD, T, ltb, ltb→lt, nltb→le, URA, fullShare, Name, Fn, Body, named, erased, mut, imm, tyRef, tyInt, tyBool, tyPtr, tyUnit, w8, w64, local, valueLocal, place, deref, field, copy, int, opdUnit, rvOpd, op2, lt, mul, add, offset, no-sign, addrOf, aggregate, assign, call, seq, block, loop, cond, skip, exit, return, Val, vint, vptr, vunit, SProp, ent, emp, id⊢, GName, Lft, Share, ftrue, fat, froom, fdies, flft, fobor, Model, Routine, Env, Heap, Out, afterSeq, afterBlock, Locals, Wp, atReturn, WpFn, Tables, Closed, Atoms, fact, GhostRules, Running, givenOf, tables, afterTurn, Given, Item, ‵, raw, _⊛_, ⋆, some, later, anyQ, atRet, _$_, _∵_, !, qed, by, move, drop, use0, use1, use2, use3, split, join, pick, rewrite, fsplit, fjoin, feqL, suffices, frame, await, done, look, look-raw, init, store, forget, stop, hop, fld, from, load, lit, unit-lit, addr, of-opd, bin, and-then, no-more, assigns, assigns-last, land, returns, enter, alloc1, alloc0, params1, pass1, pass0, free1, free0, exec, agg, whole-part, sub, look-in, lft-new, lft-end, arr-parts, FmC, fmOf, WpFn-mono, RattleType, owns, Is, shows, mem, pointee, shares, u8, SliceRefOf, SliceRefMutOf, RefT, sliceVal, sliceTy, slice-vals, MutSlice, ShrSlice, Room, mut-slice-tells, shr-slice-tells, cells-of, place-is, elem-out, elem-back, looks-slice, shuts-slice, Signature, plain, shrSliceOf, owned, peeks, heard, nothing, layout, row, shape, onEntry, Meets, tripleOf, Contract, Triple, calls-at, entered, cited, Ended, Clauses, Lasts, closing, ensured, lasts, Stays, stay-slice, stay-dropped, says, needs, walkOf, goes-slice, goes-dropped, ends-at, walked, walk-meets, yes}
 use Rattle.laws.proofs.Walk.{tablesOf}
 use denote.Struct.Laws as LL
 use Rattle.laws.proofs.Words.{Word, Data, by-value, unsigned, void, usize-part, passed}
@@ -73,9 +73,9 @@ module _ (E : Data) (J : Outcome (usize-part ∷ usize-part ∷ [])) where
     After (suc n) = step (After n) (getD run (first w + n) none) (first w + n) w
 
   -- what a turn asks and says, and what the loop asks and says
-  module _ {M : Type 1} (𝓤 : URA M) (H : Heap 𝓤) (A : Atoms 𝓤) (step : List ℕ → E .S .D → ℕ → J .form .D → List ℕ) (none : E .S .D) (asks : List ℕ → E .S .D → ℕ → J .form .D → Type 0) (gives : List ℕ → E .S .D → ℕ → J .form .D → List ℕ → Type 0) (Asks : List ℕ → List (E .S .D) → J .form .D → Type 0) (Says : List ℕ → List (E .S .D) → J .form .D → List ℕ → Type 0) where
+  module _ {M : Type 1} (𝓤 : URA M) (H : Heap 𝓤) (A : Atoms 𝓤) (step : List ℕ → E .S .D → ℕ → J .form .D → List ℕ) (none : E .S .D) (asks : List ℕ → E .S .D → ℕ → J .form .D → SProp 𝓤) (gives : List ℕ → E .S .D → ℕ → J .form .D → List ℕ → Type 0) (Asks : List ℕ → List (E .S .D) → J .form .D → Type 0) (Says : List ℕ → List (E .S .D) → J .form .D → List ℕ → Type 0) where
     abbrev clauses₁ : Clauses 𝓤 ended₁
-    clauses₁ = λ κs a. record { ghost = Unit {0}; requires = λ _. fact 𝓤 (asks (a .0 .now) (a .1 .0) (a .1 .1 .0) (a .1 .1 .1 .0)); ensures = λ _ r e. fact 𝓤 (gives (a .0 .now) (a .1 .0) (a .1 .1 .0) (a .1 .1 .1 .0) (e .0 .now)) }
+    clauses₁ = λ κs a. record { ghost = Unit {0}; requires = λ _. asks (a .0 .now) (a .1 .0) (a .1 .1 .0) (a .1 .1 .1 .0); ensures = λ _ r e. fact 𝓤 (gives (a .0 .now) (a .1 .0) (a .1 .1 .0) (a .1 .1 .1 .0) (e .0 .now)) }
 
     abbrev clauses : Clauses 𝓤 ended
     clauses = λ κs a. record { ghost = Unit {0}; requires = λ _. fact 𝓤 (Asks (a .0 .now) (a .1 .0 .now) (a .1 .1 .0)); ensures = λ _ r e. fact 𝓤 (Says (a .0 .now) (a .1 .0 .now) (a .1 .1 .0) (e .0 .now)) }
@@ -86,7 +86,7 @@ module _ (E : Data) (J : Outcome (usize-part ∷ usize-part ∷ [])) where
     module _ (W : Given 𝓤 H A)
         (steps : (buffer : List ℕ) (e : E .S .D) (i : ℕ) (w : J .form .D) (r : List ℕ) → gives buffer e i w r → r ≡ step buffer e i w)
         (fits : (buffer : List ℕ) (run : List (E .S .D)) (w : J .form .D) → Asks buffer run w → (first w ≤ end w) × (end w ≤ length run))
-        (ok : (buffer : List ℕ) (run : List (E .S .D)) (w : J .form .D) → Asks buffer run w → (n : ℕ) → first w + n < end w → length (After step none buffer run w n) ≡ length buffer → asks (After step none buffer run w n) (getD run (first w + n) none) (first w + n) w)
+        (ok : (buffer : List ℕ) (run : List (E .S .D)) (w : J .form .D) → Asks buffer run w → (n : ℕ) → first w + n < end w → length (After step none buffer run w n) ≡ length buffer → ent 𝓤 (emp 𝓤) (asks (After step none buffer run w n) (getD run (first w + n) none) (first w + n) w))
         (then : (buffer : List ℕ) (run : List (E .S .D)) (w : J .form .D) → Asks buffer run w → Says buffer run w (After step none buffer run w (end w - first w)))
         (small : T (ltb size (2 ^ 64)))
         (κ₀ κ₁ : Lft) (q₀ q₁ : Share) (b₀ o₀ b₁ o₁ : ℕ) (γ₀ γ₁ : GName) (buffer : List ℕ) (run : List (E .S .D)) (w : J .form .D)
@@ -160,9 +160,9 @@ module _ (E : Data) (J : Outcome (usize-part ∷ usize-part ∷ [])) where
               use2 W (later (some (λ (δ : GName). ‵ (MutSlice (named 0) (α ∷ []) u8 .own (ref₀ δ (buffer-at k)) (slice-vals (ref₀ δ (buffer-at k)))) ⊛ ‵ (LentAgain u8 κ₀ (α ∷ []) q₀ γ₀ b₀ o₀ δ (buffer-at k))))) (lends-again u8 κ₀ (α ∷ []) q₀ γ₀ b₀ o₀ 𝓤 H A W (named 0) (named 0) (buffer-at k)) $ await ! tt $
               pick ! (λ δ. split ! $ nothing ! $ move ! (3 ∷ 0 ∷ []) $ join ! $ nothing ! $ owned ! (XJ .row) (Is (XJ .row)) (XJ .makes M 𝓤 H A W) w (XJ .val w ∷ []) w-is $ fjoin ! $
               owned ! ((unsigned w64) .row) (Is ((unsigned w64) .row)) ((unsigned w64) .makes M 𝓤 H A W) (place-of k) (vint w64 (place-of k) ∷ []) (refl, place-fits h) $ fjoin ! $
-              owned ! (XE .row) (Is (XE .row)) (XE .makes M 𝓤 H A W) e (XE .val e ∷ []) e-is $ fjoin ! $ move ! (2 ∷ 0 ∷ []) $ fjoin ! $
-              use0 W (raw (fact 𝓤 (asks (buffer-at k) e (place-of k) w))) (factI 𝓤 _ _ (may h)) $ move ! (2 ∷ 1 ∷ 0 ∷ []) $
-              use3 W (raw (Turn .pre ((((α ∷ []), tt), (fullShare, tt), tt, (ref₀ δ (buffer-at k), (e, (place-of k, (w, tt)))), (slice-vals (ref₀ δ (buffer-at k)), (XE .val e ∷ [], (vint w64 (place-of k) ∷ [], (XJ .val w ∷ [], tt))))), tt))) (passed 𝓤 H A signature₁ ((α ∷ []), tt) (fullShare, tt) (ref₀ δ (buffer-at k), (e, (place-of k, (w, tt)))) (slice-vals (ref₀ δ (buffer-at k)), (XE .val e ∷ [], (vint w64 (place-of k) ∷ [], (XJ .val w ∷ [], tt)))) (fact 𝓤 (asks (buffer-at k) e (place-of k) w))) $
+              owned ! (XE .row) (Is (XE .row)) (XE .makes M 𝓤 H A W) e (XE .val e ∷ []) e-is $ fjoin ! $ move ! (2 ∷ 0 ∷ []) $ fjoin ! $ use0 W (raw (asks (buffer-at k) e (place-of k) w)) (may h) $
+              move ! (2 ∷ 1 ∷ 0 ∷ []) $
+              use3 W (raw (Turn .pre ((((α ∷ []), tt), (fullShare, tt), tt, (ref₀ δ (buffer-at k), (e, (place-of k, (w, tt)))), (slice-vals (ref₀ δ (buffer-at k)), (XE .val e ∷ [], (vint w64 (place-of k) ∷ [], (XJ .val w ∷ [], tt))))), tt))) (passed 𝓤 H A signature₁ ((α ∷ []), tt) (fullShare, tt) (ref₀ δ (buffer-at k), (e, (place-of k, (w, tt)))) (slice-vals (ref₀ δ (buffer-at k)), (XE .val e ∷ [], (vint w64 (place-of k) ∷ [], (XJ .val w ∷ [], tt)))) (asks (buffer-at k) e (place-of k) w)) $
               calls-at ! fm Turn known ((((α ∷ []), tt), (fullShare, tt), tt, (ref₀ δ (buffer-at k), (e, (place-of k, (w, tt)))), (slice-vals (ref₀ δ (buffer-at k)), (XE .val e ∷ [], (vint w64 (place-of k) ∷ [], (XJ .val w ∷ [], tt))))), tt) (and-then ! (load ! (from ! (stop !)) (look ! 10 refl)) (and-then ! (load ! (from ! (stop !)) (look ! 4 refl)) (and-then ! (load ! (from ! (stop !)) (look ! 18 refl)) (and-then ! (load ! (from ! (stop !)) (look ! 22 refl)) (no-more !))))) (λ v.
               use1 W (later (some (λ (r : void .row .Denot). ((‵ (flft (α ∷ []) fullShare) ⊛ ‵ ftrue) ⊛ ‵ (void .row .own r (v ∷ []))) ⊛ raw (ensured 𝓤 H A ended₁ clauses₁ ((α ∷ []), tt) (ref₀ δ (buffer-at k), (e, (place-of k, (w, tt)))) tt r)))) (id⊢ 𝓤 _) $ await ! tt $
               pick ! (λ r. split ! $ split ! $ split ! $ move ! (1 ∷ []) $ drop ! $ move ! (2 ∷ []) $
@@ -196,7 +196,7 @@ module _ (E : Data) (J : Outcome (usize-part ∷ usize-part ∷ [])) where
               inside : T (ltb (place-of k) (end w)) → place-of k < length run
               inside h = omega (arith, ltb→lt (place-of k) (end w) h, fits buffer run w asked .1)
 
-              may : T (ltb (place-of k) (end w)) → asks (buffer-at k) e (place-of k) w
+              may : T (ltb (place-of k) (end w)) → ent 𝓤 (emp 𝓤) (asks (buffer-at k) e (place-of k) w)
               may h = ok buffer run w asked k (ltb→lt (place-of k) (end w) h) (good .1)
 
               place-fits : T (ltb (place-of k) (end w)) → place-of k < 2 ^ 64
@@ -241,10 +241,10 @@ module _ (E : Data) (J : Outcome (usize-part ∷ usize-part ∷ [])) where
             from-first : first w ≡ place-of 0
             from-first = omega arith
 
-  module _ {M : Type 1} (𝓤 : URA M) (H : Heap 𝓤) (𝓜 : Model 𝓤 H) (𝓖 : GhostRules 𝓤 H) (𝓡 : Running 𝓤 H 𝓜) (step : List ℕ → E .S .D → ℕ → J .form .D → List ℕ) (none : E .S .D) (asks : List ℕ → E .S .D → ℕ → J .form .D → Type 0) (gives : List ℕ → E .S .D → ℕ → J .form .D → List ℕ → Type 0) (Asks : List ℕ → List (E .S .D) → J .form .D → Type 0) (Says : List ℕ → List (E .S .D) → J .form .D → List ℕ → Type 0)
+  module _ {M : Type 1} (𝓤 : URA M) (H : Heap 𝓤) (𝓜 : Model 𝓤 H) (𝓖 : GhostRules 𝓤 H) (𝓡 : Running 𝓤 H 𝓜) (step : List ℕ → E .S .D → ℕ → J .form .D → List ℕ) (none : E .S .D) (asks : List ℕ → E .S .D → ℕ → J .form .D → SProp 𝓤) (gives : List ℕ → E .S .D → ℕ → J .form .D → List ℕ → Type 0) (Asks : List ℕ → List (E .S .D) → J .form .D → Type 0) (Says : List ℕ → List (E .S .D) → J .form .D → List ℕ → Type 0)
       (steps : (buffer : List ℕ) (e : E .S .D) (i : ℕ) (w : J .form .D) (r : List ℕ) → gives buffer e i w r → r ≡ step buffer e i w)
       (fits : (buffer : List ℕ) (run : List (E .S .D)) (w : J .form .D) → Asks buffer run w → (first w ≤ end w) × (end w ≤ length run))
-      (ok : (buffer : List ℕ) (run : List (E .S .D)) (w : J .form .D) → Asks buffer run w → (n : ℕ) → first w + n < end w → length (After step none buffer run w n) ≡ length buffer → asks (After step none buffer run w n) (getD run (first w + n) none) (first w + n) w)
+      (ok : (buffer : List ℕ) (run : List (E .S .D)) (w : J .form .D) → Asks buffer run w → (n : ℕ) → first w + n < end w → length (After step none buffer run w n) ≡ length buffer → ent 𝓤 (emp 𝓤) (asks (After step none buffer run w n) (getD run (first w + n) none) (first w + n) w))
       (then : (buffer : List ℕ) (run : List (E .S .D)) (w : J .form .D) → Asks buffer run w → Says buffer run w (After step none buffer run w (end w - first w)))
       (small : T (ltb size (2 ^ 64)))
       (γ : Env) (f g : Name) (r : Routine) where

@@ -16,7 +16,9 @@ report-requires : tie.Need-report-requires
 report-requires c κs = search needs
 
 returns : tie.Need-returns
-returns c = rw (from-on 20 (c .before .before .before .args .packet .now)) at (c .report .ensures)
+returns c =
+    let r = c .report .ensures in
+    (rw (from-on 20 (c .before .before .before .args .packet .now)) at (r .0), r .1)
 
 pub report-at-spec : {M : Type 1} → statement M
 report-at-spec =

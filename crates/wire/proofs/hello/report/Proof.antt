@@ -1,7 +1,20 @@
-use Rattle.wire.specs.Hello.{reportAt}
+use mathlib.Core.Path.{_≡_}
+use Prim.Native.Nat.{ℕ, _<_, _^_}
+use native.Mathlib.Omega.{arith}
+use lib.IntN.{pos}
+use Rattle.quantity.specs.Quantity.{millis}
+use Rattle.quantity.proofs.Ints.{to-≤ℤ, to-<ℤ}
+use Rattle.wire.specs.declared.Report.{Report}
+use Rattle.wire.specs.Hello.{reportAt, DelayFits}
 use borrow.Author.Needs.{needs}
 use Rattle.wire.proofs.hello.report.Statement.{statement}
 use Rattle.wire.proofs.hello.report.Tie as tie
+
+-- a number of 16 bits is a delay that two octets hold
+delay-fits : (n : ℕ) (r : Report) → r .delay ≡ millis (pos n) → n < 2 ^ 16 → DelayFits r
+delay-fits n r e small =
+    rw (e)
+    record { not-negative = to-≤ℤ (pos 0) (pos n) (omega arith); two-octets = to-<ℤ (pos n) (pos (2 ^ 16)) (omega (arith, small)) }
 
 mul-place : tie.Need-mul-place
 mul-place c = search needs
@@ -29,7 +42,10 @@ of-bits-requires c κs = search needs
 
 returns : tie.Need-returns
 unfolding reportAt
-returns c = cc
+returns c =
+    let n = c .before .before .before .two-at .result in
+    let small : n < 2 ^ 16 = search needs in
+    (cc, delay-fits n _ (c .before .of-unsigned .ensures) small)
 
 pub report-spec : {M : Type 1} → statement M
 report-spec =

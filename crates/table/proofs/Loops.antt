@@ -1,0 +1,115 @@
+-- What a loop over the run has made after n turns: what its definition makes of the first n places.
+use mathlib.Core.Path.{_≡_, refl, sym, ap, _∙_}
+use mathlib.Core.Bool.{Bool, _&&_, and-true, and-assoc}
+use mathlib.Core.List.{List, [], _∷_, _++_, map, map-append}
+use Prim.Native.Nat.{ℕ, suc, _+_, _-_, _<_}
+use native.Mathlib.Omega.{arith}
+use lib.ListN.{length, getD, set, length-map}
+use Rattle.laws.specs.Lists.{part, over}
+use Rattle.laws.proofs.Parts.{part-more, part-length, over-next, over-more}
+use Rattle.clock.specs.declared.Clock.{Clock}
+use Rattle.wire.specs.declared.Report.{Report}
+use Rattle.wire.specs.Sealing.{withReport, withReports}
+use Rattle.table.specs.declared.Entry.{Entry}
+use Rattle.table.specs.declared.Updated.{Updated}
+use Rattle.table.specs.Forms.{every}
+use Rattle.table.specs.Sweep.{Swept, sweep}
+use Rattle.table.specs.Runs.{latest}
+
+-- ---- one element more
+
+every-more : {A : Type 0} (test : A → Bool) (xs : List A) (a : A) → every test (xs ++ (a ∷ [])) ≡ (every test xs && test a)
+every-more test [] a = and-true (test a)
+every-more test (x ∷ xs) a = rw (every-more test xs a) (sym (and-assoc (test x) (every test xs) (test a)))
+
+latest-more : (known : Entry) (xs : List Entry) (e : Entry) → latest known (xs ++ (e ∷ [])) ≡ e
+latest-more known [] e = refl
+latest-more known (x ∷ xs) e = latest-more x xs e
+
+pub sweep-length : (i : ℕ) (update : ℕ → Clock → Entry → Updated) (c : Clock) (es : List Entry) → length (sweep i update c es .entries) ≡ length es
+unfolding sweep
+sweep-length i update c [] = refl
+sweep-length i update c (e ∷ es) = ap suc (sweep-length (suc i) update (update i c e .clock) es)
+
+-- a sweep over one entry more ends with the update of that entry
+sweep-more : (i : ℕ) (update : ℕ → Clock → Entry → Updated) (c : Clock) (es : List Entry) (e : Entry)
+    → sweep i update c (es ++ (e ∷ []))
+    ≡ record {
+      clock = update (i + length es) (sweep i update c es .clock) e .clock;
+      entries = sweep i update c es .entries ++ (update (i + length es) (sweep i update c es .clock) e .entry ∷ []);
+    }
+unfolding sweep
+sweep-more i update c [] e = let z : i + 0 ≡ i = omega arith in rw (z) refl
+sweep-more i update c (x ∷ es) e =
+    let s : i + suc (length es) ≡ suc i + length es = omega arith in
+    rw (s, sweep-more (suc i) update (update i c x .clock) es e) refl
+
+reports-more : (i : ℕ) (rs : List Report) (r : Report) (b : List ℕ) → withReports i (rs ++ (r ∷ [])) b ≡ withReport (i + length rs) r (withReports i rs b)
+unfolding withReports
+reports-more i [] r b = let z : i + 0 ≡ i = omega arith in rw (z) refl
+reports-more i (x ∷ rs) r b = let s : i + suc (length rs) ≡ suc i + length rs = omega arith in rw (s) (reports-more (suc i) rs r (withReport i x b))
+
+-- ---- one turn more, at the place first + n
+
+module _ (run : List Entry) (first n : ℕ) (none : Entry) (inside : first + n < length run) where
+  abbrev e : Entry
+  e = getD run (first + n) none
+
+  abbrev done : List Entry
+  done = part first n run
+
+  pub scan-turn : (test : Entry → Bool) (good : Bool) → (good && every test done && test e) ≡ (good && every test (part first (suc n) run))
+  scan-turn test good =
+      rw (part-more first n run none inside, every-more test done e) (and-assoc good (every test done) (test e))
+
+  pub seek-turn : (known : Entry) → e ≡ latest known (part first (suc n) run)
+  seek-turn known = rw (part-more first n run none inside) (sym (latest-more known done e))
+
+  done-length : length done ≡ n
+  done-length = part-length first n run (omega arith)
+
+  -- an entry put in its place behind those that were made
+  pub put-turn : (es : List Entry) → length es ≡ n → (f : Entry → Entry)
+      → set (over run first es) (first + n) (f (getD (over run first es) (first + n) none)) ≡ over run first (es ++ (f e ∷ []))
+  put-turn es l f = rw (over-next first n run es l inside none) (over-more first n run es l inside (f e))
+
+  pub map-turn : (f : Entry → Entry)
+      → set (over run first (map f done)) (first + n) (f (getD (over run first (map f done)) (first + n) none))
+      ≡ over run first (map f (part first (suc n) run))
+  map-turn f =
+      put-turn (map f done) (length-map done f ∙ done-length) f
+      ∙ ap (over run first) (sym (rw (part-more first n run none inside) (map-append f done (e ∷ []))))
+
+  pub report-turn : (f : Entry → Report) (b : List ℕ)
+      → withReport (first + n - first) (f e) (withReports 0 (map f done) b) ≡ withReports 0 (map f (part first (suc n) run)) b
+  report-turn f b =
+      let id : first + n - first ≡ n = omega arith in
+      let at : 0 + length (map f done) ≡ n = omega (arith, length-map done f, done-length) in
+      rw (part-more first n run none inside, map-append f done (e ∷ []), reports-more 0 (map f done) (f e) b, at, id) refl
+
+  module _ (update : ℕ → Clock → Entry → Updated) (c : Clock) where
+    abbrev swept : Swept
+    swept = sweep first update c done
+
+    pub sweep-turn : sweep first update c (part first (suc n) run)
+        ≡ record {
+          clock = update (first + n) (swept .clock) e .clock;
+          entries = swept .entries ++ (update (first + n) (swept .clock) e .entry ∷ []);
+        }
+    sweep-turn = rw (part-more first n run none inside, sweep-more first update c done e, done-length) refl
+
+    -- the run and the clock after one turn more
+    pub sweep-entries :
+        set (over run first (swept .entries)) (first + n)
+        (update (first + n) (swept .clock) (getD (over run first (swept .entries)) (first + n) none) .entry)
+        ≡ over run first (sweep first update c (part first (suc n) run) .entries)
+    sweep-entries =
+        put-turn (swept .entries) (sweep-length first update c done ∙ done-length) (λ (x : Entry). update (first + n) (swept .clock) x .entry)
+        ∙ ap (λ (s : Swept). over run first (s .entries)) (sym sweep-turn)
+
+    pub sweep-clock :
+        update (first + n) (swept .clock) (getD (over run first (swept .entries)) (first + n) none) .clock
+        ≡ sweep first update c (part first (suc n) run) .clock
+    sweep-clock =
+        rw (over-next first n run (swept .entries) (sweep-length first update c done ∙ done-length) inside none)
+        (ap (λ (s : Swept). s .clock) (sym sweep-turn))

@@ -1,0 +1,121 @@
+-- The structs that the loops over the run are lent, passed and hand back, as the laws of crate `laws` take them.
+use mathlib.Core.List.{[], _∷_}
+use Rattle.laws.proofs.Words.{Data, struct-part, usize-part, bool-part}
+use Rattle.laws.proofs.Outcomes.{Outcome, behind}
+use Rattle.clock.proofs.Types.{clock}
+use Rattle.table.proofs.Entry as Entry
+use Rattle.table.proofs.Entry.Laws as Entry′
+use Rattle.table.proofs.Updated as Updated
+use Rattle.table.proofs.Updated.Laws as Updated′
+use Rattle.table.proofs.run.Scan as Scan
+use Rattle.table.proofs.run.Scan.Laws as Scan′
+use Rattle.table.proofs.run.Seek as Seek
+use Rattle.table.proofs.run.Seek.Laws as Seek′
+use Rattle.table.proofs.run.Changes as Changes
+use Rattle.table.proofs.run.Changes.Laws as Changes′
+use Rattle.table.proofs.run.Updates as Updates
+use Rattle.table.proofs.run.Updates.Laws as Updates′
+use Rattle.table.proofs.run.Reports as Reports
+use Rattle.table.proofs.run.Reports.Laws as Reports′
+
+abbrev pub entry : Data
+entry = record { S = Entry.the-type; L = Entry′.the-laws; P = Entry′.the-plain; low = Entry′.lowers; copies = Entry′.the-copy }
+
+-- ---- what a loop is to do: each begins with first and end
+
+abbrev pub scan : Outcome (usize-part ∷ usize-part ∷ bool-part ∷ [])
+scan = record {
+  form = record {
+    name = Scan.the-type .name;
+    D = Scan.the-type .D;
+    read = λ w. (w .first, (w .end, (w .good, tt)));
+    behind = [];
+    rest = λ w. tt;
+    one = Scan.the-type .to-one;
+  };
+  behind-laws = tt;
+  behind-plain = tt;
+  low = Scan′.lowers;
+  copies = Scan′.the-copy;
+}
+
+abbrev pub seek : Outcome (usize-part ∷ usize-part ∷ struct-part entry ∷ [])
+seek = record {
+  form = record {
+    name = Seek.the-type .name;
+    D = Seek.the-type .D;
+    read = λ w. (w .first, (w .end, (w .entry, tt)));
+    behind = [];
+    rest = λ w. tt;
+    one = Seek.the-type .to-one;
+  };
+  behind-laws = tt;
+  behind-plain = tt;
+  low = Seek′.lowers;
+  copies = Seek′.the-copy;
+}
+
+abbrev pub changes : Outcome (usize-part ∷ usize-part ∷ [])
+changes = record {
+  form = record {
+    name = Changes.the-type .name;
+    D = Changes.the-type .D;
+    read = λ w. (w .first, (w .end, tt));
+    behind = behind (Changes.the-type .parts) 2;
+    rest = λ w. Changes.the-type .to w .1 .1;
+    one = Changes.the-type .to-one;
+  };
+  behind-laws = Changes′.the-laws .1 .1;
+  behind-plain = Changes′.the-plain .1 .1;
+  low = Changes′.lowers;
+  copies = Changes′.the-copy;
+}
+
+abbrev pub updates : Outcome (usize-part ∷ usize-part ∷ struct-part clock ∷ [])
+updates = record {
+  form = record {
+    name = Updates.the-type .name;
+    D = Updates.the-type .D;
+    read = λ w. (w .first, (w .end, (w .clock, tt)));
+    behind = behind (Updates.the-type .parts) 3;
+    rest = λ w. Updates.the-type .to w .1 .1 .1;
+    one = Updates.the-type .to-one;
+  };
+  behind-laws = Updates′.the-laws .1 .1 .1;
+  behind-plain = Updates′.the-plain .1 .1 .1;
+  low = Updates′.lowers;
+  copies = Updates′.the-copy;
+}
+
+abbrev pub reports : Outcome (usize-part ∷ usize-part ∷ [])
+reports = record {
+  form = record {
+    name = Reports.the-type .name;
+    D = Reports.the-type .D;
+    read = λ w. (w .first, (w .end, tt));
+    behind = behind (Reports.the-type .parts) 2;
+    rest = λ w. Reports.the-type .to w .1 .1;
+    one = Reports.the-type .to-one;
+  };
+  behind-laws = Reports′.the-laws .1 .1;
+  behind-plain = Reports′.the-plain .1 .1;
+  low = Reports′.lowers;
+  copies = Reports′.the-copy;
+}
+
+-- what a turn of the updates hands back
+abbrev pub updated : Outcome (struct-part clock ∷ struct-part entry ∷ [])
+updated = record {
+  form = record {
+    name = Updated.the-type .name;
+    D = Updated.the-type .D;
+    read = λ u. (u .clock, (u .entry, tt));
+    behind = [];
+    rest = λ u. tt;
+    one = Updated.the-type .to-one;
+  };
+  behind-laws = tt;
+  behind-plain = tt;
+  low = Updated′.lowers;
+  copies = Updated′.the-copy;
+}

@@ -1,0 +1,46 @@
+use borrow.Author.Needs.{needs}
+use Rattle.table.proofs.run.changed.Statement.{statement}
+use Rattle.table.proofs.run.changed.Tie as tie
+
+enum-told : tie.Need-enum-told
+enum-told c = search needs
+
+fresh-requires : tie.Need-fresh-requires
+fresh-requires c κs = search needs
+
+enum-told-2 : tie.Need-enum-told-2
+enum-told-2 c = search needs
+
+aged-requires : tie.Need-aged-requires
+aged-requires c κs = search needs
+
+enum-known-change : tie.Need-enum-known-change
+enum-known-change c = search needs
+
+self-reported-requires : tie.Need-self-reported-requires
+self-reported-requires c κs = search needs
+
+returns : tie.Need-returns
+returns c = search needs
+
+returns-2 : tie.Need-returns-2
+returns-2 c =
+    rw (c .before .enum-told2 .given .1) (c .aged .ensures)
+
+returns-3 : tie.Need-returns-3
+returns-3 c =
+    rw (c .before .before .change .given .1) (c .self-reported .ensures)
+
+pub changed-spec : {M : Type 1} → statement M
+changed-spec =
+    tie.close
+    (tie.spec
+    enum-told
+    fresh-requires
+    enum-told-2
+    aged-requires
+    enum-known-change
+    self-reported-requires
+    returns
+    returns-2
+    returns-3)
