@@ -1,12 +1,13 @@
 -- A real date is the word of its fields, and the word of a real day's fields is a real date.
 use mathlib.Core.Path.{_≡_, ap, sym, _∙_}
-use mathlib.Core.Bool.{Bool, true, _&&_}
+use mathlib.Core.Bool.{true}
+use mathlib.Core.List.{[], _∷_}
 use Prim.Native.Nat.{ℕ, _≤_, _<_, _+_, _*_, _/_, _%_, _^_}
 use native.Mathlib.Nat.{add-mul-div-left, add-mul-mod-self-left, mod-add-div, mul-assoc}
 use native.Mathlib.Omega.{arith}
 use borrow.Author.Tests.{leb-true, eqb-true, le-leb, eq-eqb}
 use lib.Dec.{leb, eqb}
-use Rattle.laws.proofs.Tests.{and-true, both}
+use Rattle.laws.proofs.Tests.{each}
 use Rattle.calendar.specs.declared.Date.{Date}
 use Rattle.calendar.specs.Date.{year, month, day, spare, flag, dateOf, lastDay, real, await}
 use Rattle.calendar.proofs.Months.{month-length}
@@ -55,31 +56,29 @@ pub record Real (t : Date) : Type 0 where
 pub real-says : (t : Date) → real t ≡ true → Real t
 unfolding real
 real-says t e =
-    let last : Bool = leb (day t) (lastDay (year t) (month t)) in
-    let a = both (eqb (spare t) 0 && leb 1 (month t) && leb (month t) 12 && leb 1 (day t)) last e in
-    let b = both (eqb (spare t) 0 && leb 1 (month t) && leb (month t) 12) (leb 1 (day t)) (a .0) in
-    let c = both (eqb (spare t) 0 && leb 1 (month t)) (leb (month t) 12) (b .0) in
-    let d = both (eqb (spare t) 0) (leb 1 (month t)) (c .0) in
+    let h = each (eqb (spare t) 0) (leb 1 (month t) ∷ leb (month t) 12 ∷ leb 1 (day t) ∷ leb (day t) (lastDay (year t) (month t)) ∷ []) e in
     record {
-      spare-zero = eqb-true _ _ (d .0);
+      spare-zero = eqb-true _ _ (h .0);
       its = record {
         flagged = omega arith;
         in-word = omega arith;
-        from-january = leb-true _ _ (d .1);
-        to-december = leb-true _ _ (c .1);
-        from-first = leb-true _ _ (b .1);
-        to-last = leb-true _ _ (a .1);
+        from-january = leb-true _ _ (h .1 .0);
+        to-december = leb-true _ _ (h .1 .1 .0);
+        from-first = leb-true _ _ (h .1 .1 .1 .0);
+        to-last = leb-true _ _ (h .1 .1 .1 .1 .0);
       };
     }
 
 pub is-real : (t : Date) → Real t → real t ≡ true
 unfolding real
 is-real t r =
-    and-true
-    (and-true
-    (and-true (and-true (eq-eqb _ _ (r .spare-zero)) (le-leb _ _ (r .its .from-january))) (le-leb _ _ (r .its .to-december)))
-    (le-leb _ _ (r .its .from-first)))
-    (le-leb _ _ (r .its .to-last))
+    rw (
+      eq-eqb _ _ (r .spare-zero),
+      le-leb _ _ (r .its .from-january),
+      le-leb _ _ (r .its .to-december),
+      le-leb _ _ (r .its .from-first),
+      le-leb _ _ (r .its .to-last),
+    )
 
 pub day-real : {f y m d : ℕ} → Day f y m d → real (dateOf f y m d) ≡ true
 day-real {f} {y} {m} {d} r =

@@ -7,7 +7,7 @@ use native.Mathlib.Omega.{arith}
 use borrow.Author.Tests.{leb-true}
 use lib.Dec.{leb, eqb}
 use lib.ListN.{getD, length}
-use Rattle.laws.proofs.Tests.{both}
+use Rattle.laws.proofs.Tests.{both, each}
 use Rattle.calendar.specs.Date.{monthDays, lastDay}
 
 pub record Month (n : ℕ) : Type 0 where
@@ -22,9 +22,7 @@ at : (l : List ℕ) → all l ≡ true → (k : ℕ) → k < length l → Month 
 unfolding all
 at [] e k h = absurd (omega arith)
 at (n ∷ l) e zero h =
-    let p = both (leb 1 n && leb n 31) (all l) e in
-    let q = both (leb 1 n) (leb n 31) (p .0) in
-    record { some = leb-true 1 n (q .0); few = leb-true n 31 (q .1) }
+    let t = each (leb 1 n) (leb n 31 ∷ all l ∷ []) e in record { some = leb-true 1 n (t .0); few = leb-true n 31 (t .1 .0) }
 at (n ∷ l) e (suc k) h = at l (both (leb 1 n && leb n 31) (all l) e .1) k (omega arith)
 
 tabled : (m : ℕ) → 1 ≤ m → m ≤ 12 → Month (getD monthDays m 0)

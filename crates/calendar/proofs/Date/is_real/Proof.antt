@@ -61,7 +61,16 @@ returns-5 c =
     let l : 1 ≤ month t = omega arith in
     let m : month t ≤ 12 = omega arith in
     let d : 1 ≤ day t = omega arith in
-    rw (eq-eqb _ _ s, le-leb _ _ l, le-leb _ _ m, le-leb _ _ d, c .before .before .before .before .before .before .before .day .ensures, c .last-day .ensures, c .before .year .ensures, c .before .before .before .before .before .before .before .before .month .ensures)
+    rw (
+      eq-eqb _ _ s,
+      le-leb _ _ l,
+      le-leb _ _ m,
+      le-leb _ _ d,
+      c .before .before .before .before .before .before .before .day .ensures,
+      c .last-day .ensures,
+      c .before .year .ensures,
+      c .before .before .before .before .before .before .before .before .month .ensures,
+    )
 
 pub is-real-spec : {M : Type 1} → statement M
 is-real-spec =

@@ -18,7 +18,13 @@ returns-3 c = rw (le-leb _ _ (c .before .before .if1 .left), le-leb _ _ (c .befo
 
 returns-4 : tie.Need-returns-4
 unfolding made
-returns-4 c = rw (le-leb _ _ (c .before .before .before .if1 .left), le-leb _ _ (c .before .before .if2 .left), le-leb _ _ (c .before .if3 .left), lt-leb _ _ (c .if4 .taken))
+returns-4 c =
+    rw (
+      le-leb _ _ (c .before .before .before .if1 .left),
+      le-leb _ _ (c .before .before .if2 .left),
+      le-leb _ _ (c .before .if3 .left),
+      lt-leb _ _ (c .if4 .taken),
+    )
 
 of-requires : tie.Need-of-requires
 of-requires c κs = search needs
@@ -28,11 +34,31 @@ is-real-requires c κs = search needs
 
 returns-5 : tie.Need-returns-5
 unfolding made
-returns-5 c = rw (le-leb _ _ (c .before .before .before .before .before .before .if1 .left), le-leb _ _ (c .before .before .before .before .before .if2 .left), le-leb _ _ (c .before .before .before .before .if3 .left), le-leb _ _ (c .before .before .before .if4 .left), ← c .before .before .of .ensures, ← c .before .is-real .ensures, c .if5 .taken)
+returns-5 c =
+    let s = c .before .before .before in
+    rw (
+      le-leb _ _ (s .before .before .before .if1 .left),
+      le-leb _ _ (s .before .before .if2 .left),
+      le-leb _ _ (s .before .if3 .left),
+      le-leb _ _ (s .if4 .left),
+      ← c .before .before .of .ensures,
+      ← c .before .is-real .ensures,
+      c .if5 .taken,
+    )
 
 returns-6 : tie.Need-returns-6
 unfolding made
-returns-6 c = rw (le-leb _ _ (c .before .before .before .before .before .before .if1 .left), le-leb _ _ (c .before .before .before .before .before .if2 .left), le-leb _ _ (c .before .before .before .before .if3 .left), le-leb _ _ (c .before .before .before .if4 .left), ← c .before .before .of .ensures, ← c .before .is-real .ensures, c .if5 .left)
+returns-6 c =
+    let s = c .before .before .before in
+    rw (
+      le-leb _ _ (s .before .before .before .if1 .left),
+      le-leb _ _ (s .before .before .if2 .left),
+      le-leb _ _ (s .before .if3 .left),
+      le-leb _ _ (s .if4 .left),
+      ← c .before .before .of .ensures,
+      ← c .before .is-real .ensures,
+      c .if5 .left,
+    )
 
 pub new-spec : {M : Type 1} → statement M
 new-spec =

@@ -33,7 +33,13 @@ returns : tie.Need-returns
 unfolding previous
 returns c =
     let s = c .before .before in
-    rw (← s .before .before .before .flag .ensures, ← s .before .before .year .ensures, ← s .before .month .ensures, ← s .day .ensures, lt-ltb _ _ (c .before .if1 .taken))
+    rw (
+      ← s .before .before .before .flag .ensures,
+      ← s .before .before .year .ensures,
+      ← s .before .month .ensures,
+      ← s .day .ensures,
+      lt-ltb _ _ (c .before .if1 .taken),
+    )
     (c .of .ensures)
 
 sub-of-2 : tie.Need-sub-of-2
