@@ -12,9 +12,6 @@ pub both : (x y : Bool) → (x && y) ≡ true → (x ≡ true) × (y ≡ true)
 both true y e = (refl, e)
 both false y e = absurd (false≢true e)
 
-pub and-true : {x y : Bool} → x ≡ true → y ≡ true → (x && y) ≡ true
-and-true e f = rw (e, f)
-
 pub neither : (x y : Bool) → (x || y) ≡ false → (x ≡ false) × (y ≡ false)
 neither true y e = absurd (true≢false e)
 neither false y e = (refl, e)
