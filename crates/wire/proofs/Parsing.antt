@@ -4,12 +4,18 @@ use mathlib.Core.Bool.{true}
 use mathlib.Core.List.{List}
 use Prim.Native.Nat.{ℕ, _%_, _≤_}
 use borrow.Author.Tests.{leb-true, le-leb, eq-eqb}
+use lib.IntN.{pos}
 use lib.ListN.{length}
+use Rattle.quantity.specs.declared.Millis.{Millis}
+use Rattle.quantity.specs.declared.Word.{Word}
+use Rattle.quantity.specs.Quantity.{millis}
+use Rattle.quantity.specs.Words.{word, signed16}
 use Rattle.laws.proofs.Tests.{both}
+use Rattle.wire.specs.declared.Address.{Address}
 use Rattle.wire.specs.declared.Parsed.the-variants.{Good}
-use Rattle.wire.specs.Octets.{octetAt, twoAt}
-use Rattle.wire.specs.Ip.{headerLength, versionAndLength, versionPlace, totalPlace, fragmentPlace, ipForm, ipChecksum, protocol}
-use Rattle.wire.specs.Hello.{fixedLength, nhostsPlace, helloLength, helloForm, helloChecksum}
+use Rattle.wire.specs.Octets.{octetAt, twoAt, fourAt, addressAt}
+use Rattle.wire.specs.Ip.{headerLength, versionAndLength, versionPlace, totalPlace, fragmentPlace, sourcePlace, ipForm, ipChecksum, protocol}
+use Rattle.wire.specs.Hello.{fixedLength, datePlace, timePlace, tspPlace, addressOffsetPlace, nhostsPlace, helloLength, helloForm, helloChecksum}
 use Rattle.wire.specs.Packet.{helloOf, fields, parse}
 
 pub ip-long : (s : List ℕ) → ipForm s ≡ true → headerLength ≤ length s
@@ -41,3 +47,11 @@ pub record HelloPasses (s : List ℕ) : Type 0 where
 pub passes : (s : List ℕ) → HeaderPasses s → HelloPasses (helloOf s) → parse s ≡ Good (fields s)
 unfolding parse
 passes s h g = rw (h .form, h .checksum, h .kind, g .form, g .checksum)
+
+-- the fields, read from the part behind the header
+pub fields-read : (s part : List ℕ) (source : Address) (date t w : ℕ) (time : Millis) (tsp : Word) → part ≡ helloOf s
+    → source ≡ addressAt s sourcePlace → date ≡ twoAt part datePlace → t ≡ fourAt part timePlace → w ≡ twoAt part tspPlace
+    → time ≡ millis (pos t) → tsp ≡ word (signed16 w)
+    → record { source = source; date = record { 0 = date }; time = time; tsp = tsp; «address_offset» = octetAt part addressOffsetPlace; nhosts = octetAt part nhostsPlace } ≡ fields s
+unfolding fields
+fields-read s part source date t w time tsp e e₁ e₂ e₃ e₄ e₅ e₆ = rw (e₅, e₆, e₁, e₂, e₃, e₄, e)

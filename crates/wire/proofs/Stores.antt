@@ -4,26 +4,28 @@ use mathlib.Core.List.{List, [], _++_}
 use Prim.Native.Nat.{ℕ, _+_, _-_, _*_, _≤_}
 use native.Mathlib.Numerals.{add-two}
 use native.Mathlib.Omega.{arith}
-use lib.ListN.{length, take, drop, take-append-drop}
+use lib.IntN.{natAbs}
+use lib.ListN.{length, take, drop, set, take-append-drop}
 use lib.Seq.{sets, sets-eq, drop-drop, drop-at, take-append-add, length-take-le}
+use Rattle.quantity.specs.Words.{bits16}
 use Rattle.checksum.specs.Checksum.{checksumOf}
 use Rattle.checksum.proofs.Octets.{Octets, in-front, behind}
 use Rattle.checksum.proofs.Folding.{checksum-over-zero}
 use Rattle.wire.specs.declared.Address.{Address}
 use Rattle.wire.specs.declared.Packet.{Packet}
 use Rattle.wire.specs.declared.Report.{Report}
-use Rattle.wire.specs.Octets.{two}
-use Rattle.wire.specs.Ip.{headerLength, versionPlace, sourcePlace, headerFront, headerBack, header}
-use Rattle.wire.specs.Hello.{fixedLength, datePlace, reportLength, reportPlace, helloLength, reportOctets, helloBehind}
-use Rattle.wire.specs.Packet.{packetLength}
-use Rattle.wire.specs.Sealing.{over, sealedBehind, sealedHello, sealed, helloWithReport, withReport}
+use Rattle.wire.specs.Octets.{two, four, addressOctets}
+use Rattle.wire.specs.Ip.{headerLength, versionAndLength, helloProtocol, versionPlace, totalPlace, fragmentPlace, protocolPlace, sourcePlace, headerFront, headerBack, header}
+use Rattle.wire.specs.Hello.{fixedLength, datePlace, timePlace, tspPlace, addressOffsetPlace, nhostsPlace, reportLength, reportPlace, helloLength, reportOctets, helloBehind}
+use Rattle.wire.specs.Sealing.{sealedBehind, sealedHello, sealed, helloWithReport, withReport}
 use Rattle.wire.proofs.Parts.{from-on, comes-back, over-behind}
 
 -- ---- a report
 
-pub two-words : (b l₁ l₂ : List ℕ) (k d o : ℕ) → k + 4 ≤ length b → l₁ ≡ sets b k (two d) → l₂ ≡ sets l₁ (k + 2) (two o)
-    → l₂ ≡ over b k (two d ++ two o)
-two-words b l₁ l₂ k d o h e₁ e₂ = rw (e₂, e₁, add-two) (sets-eq (two d ++ two o) b k h)
+pub hello-report-put : (b l₁ l₂ : List ℕ) (i d o : ℕ) (r : Report) → reportPlace i + reportLength ≤ length b
+    → d ≡ bits16 (r .delay .0) → l₁ ≡ sets b (reportPlace i) (two d) → o ≡ bits16 (r .offset .0) → l₂ ≡ sets l₁ (reportPlace i + 2) (two o)
+    → l₂ ≡ helloWithReport i r b
+hello-report-put b l₁ l₂ i d o r h e₁ e₂ e₃ e₄ = rw (e₄, e₃, e₂, e₁, add-two) (sets-eq (reportOctets r) b (reportPlace i) h)
 
 pub report-put : (b m : List ℕ) (i : ℕ) (r : Report)
     → m ≡ helloWithReport i r (take (length b - headerLength) (drop headerLength b))
@@ -33,6 +35,17 @@ report-put b m i r e =
     comes-back headerLength b m ∙ rw (e, from-on headerLength b) (over-behind headerLength (reportPlace i) b (reportOctets r))
 
 -- ---- the header
+
+pub front-put : (b l₁ l₂ l₃ l₄ l₅ l₆ l₇ : List ℕ) (total : ℕ)
+    → l₁ ≡ set b versionPlace versionAndLength → l₂ ≡ set l₁ 1 0 → l₃ ≡ sets l₂ totalPlace (two total) → l₄ ≡ sets l₃ 4 (two 0)
+    → l₅ ≡ sets l₄ fragmentPlace (two 0) → l₆ ≡ set l₅ 8 255 → l₇ ≡ set l₆ protocolPlace helloProtocol
+    → l₇ ≡ sets b versionPlace (headerFront total)
+front-put b l₁ l₂ l₃ l₄ l₅ l₆ l₇ total e₁ e₂ e₃ e₄ e₅ e₆ e₇ = rw (e₇, e₆, e₅, e₄, e₃, e₂, e₁)
+
+pub back-put : (b l₁ l₂ : List ℕ) (source destination : Address)
+    → l₁ ≡ sets b sourcePlace (addressOctets source) → l₂ ≡ sets l₁ 16 (addressOctets destination)
+    → l₂ ≡ sets b sourcePlace (headerBack source destination)
+back-put b l₁ l₂ source destination e₁ e₂ = rw (e₂, e₁)
 
 pub header-sealed : (b l₁ l₂ l₃ l₄ : List ℕ) (total : ℕ) (source destination : Address) → headerLength ≤ length b
     → l₁ ≡ sets b versionPlace (headerFront total) → l₂ ≡ sets l₁ 10 (two 0) → l₃ ≡ sets l₂ sourcePlace (headerBack source destination) → Octets l₃
@@ -51,12 +64,19 @@ header-sealed b l₁ l₂ l₃ l₄ total source destination h e₁ e₂ e₃ o 
 
 -- ---- the HELLO
 
-pub hello-sealed : (b l₁ l₂ l₃ : List ℕ) (p : Packet) → helloLength (p .nhosts) ≤ length b
+pub fixed-put : (b l₁ l₂ l₃ l₄ l₅ : List ℕ) (t w : ℕ) (p : Packet)
+    → l₁ ≡ sets b datePlace (two (p .date .0)) → t ≡ natAbs (p .time .0) → l₂ ≡ sets l₁ timePlace (four t)
+    → w ≡ bits16 (p .tsp .0) → l₃ ≡ sets l₂ tspPlace (two w)
+    → l₄ ≡ set l₃ addressOffsetPlace (p .«address_offset») → l₅ ≡ set l₄ nhostsPlace (p .nhosts)
+    → l₅ ≡ sets b datePlace (helloBehind p [])
+fixed-put b l₁ l₂ l₃ l₄ l₅ t w p e₁ e₂ e₃ e₄ e₅ e₆ e₇ = rw (e₇, e₆, e₅, e₄, e₃, e₂, e₁)
+
+pub hello-sealed : (b l₁ l₂ l₃ : List ℕ) (m : ℕ) (p : Packet) → helloLength (p .nhosts) ≤ length b
     → l₁ ≡ sets b 0 (two 0) → l₂ ≡ sets l₁ datePlace (helloBehind p []) → Octets l₂
-    → l₃ ≡ sets l₂ 0 (two (checksumOf (take (helloLength (p .nhosts)) l₂)))
+    → m ≡ helloLength (p .nhosts) → l₃ ≡ sets l₂ 0 (two (checksumOf (take m l₂)))
     → l₃ ≡ sealedHello p b
 unfolding sealedHello
-hello-sealed b l₁ l₂ l₃ p h e₁ e₂ o e₃ =
+hello-sealed b l₁ l₂ l₃ m p h e₁ e₂ o e₃ e₄ =
     let n = reportLength * p .nhosts in
     let fixed = helloBehind p [] in
     let rest = drop fixedLength b in
@@ -65,14 +85,14 @@ hello-sealed b l₁ l₂ l₃ p h e₁ e₂ o e₃ =
     let q : Octets (two 0 ++ sealedBehind p b ++ drop n rest) = rw (take-append-drop n rest) (rw e at o) in
     let s : checksumOf (take (helloLength (p .nhosts)) l₂) ≡ checksumOf (sealedBehind p b) =
     ap checksumOf t ∙ checksum-over-zero [] (sealedBehind p b) refl tt (in-front (sealedBehind p b) (drop n rest) (behind (two 0) (sealedBehind p b ++ drop n rest) q)) in
-    e₃ ∙ rw (s, e, ← drop-drop n fixedLength b, take-append-drop n rest)
+    e₄ ∙ rw (e₃, s, e, ← drop-drop n fixedLength b, take-append-drop n rest)
 
 -- ---- the packet
 
-pub packet-sealed : (b m l : List ℕ) (destination : Address) (p : Packet) → headerLength ≤ length b
+pub packet-sealed : (b m l : List ℕ) (n : ℕ) (destination : Address) (p : Packet) → headerLength ≤ length b → n ≡ helloLength (p .nhosts)
     → m ≡ sealedHello p (take (length b - headerLength) (drop headerLength b))
-    → l ≡ header (packetLength (p .nhosts)) (p .source) destination ++ drop headerLength (take headerLength b ++ (m ++ drop (length b - headerLength) (drop headerLength b)))
+    → l ≡ header (headerLength + n) (p .source) destination ++ drop headerLength (take headerLength b ++ (m ++ drop (length b - headerLength) (drop headerLength b)))
     → l ≡ sealed destination p b
 unfolding sealed
-packet-sealed b m l destination p h e₁ e₂ =
-    e₂ ∙ rw (comes-back headerLength b m, drop-at (take headerLength b) m headerLength (length-take-le headerLength b h), e₁, from-on headerLength b)
+packet-sealed b m l n destination p h e e₁ e₂ =
+    e₂ ∙ rw (e, comes-back headerLength b m, drop-at (take headerLength b) m headerLength (length-take-le headerLength b h), e₁, from-on headerLength b)

@@ -1,5 +1,7 @@
+use Rattle.wire.proofs.Parsing.{fields-read}
+use lib.ListN.{length, take, drop}
+use Prim.Native.Nat.{_-_}
 use Rattle.wire.proofs.Parts.{from-on}
-use Rattle.wire.specs.Packet.{fields}
 use borrow.Author.Needs.{needs}
 use Rattle.wire.proofs.fields.Statement.{statement}
 use Rattle.wire.proofs.fields.Tie as tie
@@ -38,8 +40,10 @@ shared-slice-read-t16 : tie.Need-shared-slice-read-t16
 shared-slice-read-t16 c = search needs
 
 returns : tie.Need-returns
-unfolding fields
-returns c = cc (from-on 20 (c .before .before .before .before .before .before .before .before .before .before .args .packet .now))
+returns c =
+    let s = c .before .before .before .before .before .before .before .before .before .before .args .packet .now in
+    fields-read s (take (length s - 20) (drop 20 s)) _ _ _ _ _ _ (from-on 20 s)
+    (c .before .before .before .before .before .before .before .before .address-at .ensures) (c .before .before .before .before .before .before .two-at .ensures) (c .before .before .before .before .before .four-at .ensures) (c .before .before .before .before .two-at2 .ensures) (c .before .before .before .of-unsigned .ensures) (c .before .before .of-bits .ensures)
 
 pub fields-spec : {M : Type 1} → statement M
 fields-spec =

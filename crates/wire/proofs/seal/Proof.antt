@@ -34,7 +34,7 @@ same-length c = search needs
 returns : tie.Need-returns
 returns c =
     let a = c .before .before .before .before .before .before .before .before .before .before .before .args in
-    packet-sealed (a .buffer .now) (c .before .before .before .before .before .before .seal .last .0) _ (a .destination) (a .p) (omega arith) (c .before .before .before .before .before .before .seal .ensures) (cc)
+    packet-sealed (a .buffer .now) _ _ _ (a .destination) (a .p) (omega arith) (c .before .before .before .before .before .before .before .before .length .ensures) (c .before .before .before .before .before .before .seal .ensures) (c .before .before .seal2 .ensures)
 
 pub seal-spec : {M : Type 1} → statement M
 seal-spec =

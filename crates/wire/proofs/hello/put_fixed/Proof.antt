@@ -1,3 +1,4 @@
+use Rattle.wire.proofs.Stores.{fixed-put}
 use borrow.Author.Needs.{needs}
 use Rattle.wire.proofs.hello.put_fixed.Statement.{statement}
 use Rattle.wire.proofs.hello.put_fixed.Tie as tie
@@ -27,7 +28,10 @@ same-length : tie.Need-same-length
 same-length c = search needs
 
 returns : tie.Need-returns
-returns c = cc
+returns c =
+    let a = c .before .before .before .before .before .before .before .before .before .before .before .before .before .before .before .before .before .before .before .before .before .before .before .before .before .before .args in
+    fixed-put (a .hello .now) _ _ _ _ _ _ _ (a .p)
+    (c .before .before .before .before .before .before .before .before .before .before .before .before .before .before .before .before .before .before .before .before .put-two .ensures) (c .before .before .before .before .before .before .before .before .before .before .before .before .before .before .before .before .unsigned .ensures) (c .before .before .before .before .before .before .before .before .before .before .before .before .before .before .before .put-four .ensures) (c .before .before .before .before .before .before .before .before .before .before .before .bits .ensures) (c .before .before .before .before .before .before .before .before .before .before .put-two2 .ensures) (c .before .before .before .before .before .before .put-octet .ensures) (c .before .before .put-octet2 .ensures)
 
 pub put-fixed-spec : {M : Type 1} → statement M
 put-fixed-spec =

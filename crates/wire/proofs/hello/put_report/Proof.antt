@@ -1,7 +1,4 @@
-use Rattle.quantity.specs.Words.{bits16}
-use native.Mathlib.Omega.{arith}
-use Prim.Native.Nat.{_+_, _*_}
-use Rattle.wire.proofs.Stores.{two-words}
+use Rattle.wire.proofs.Stores.{hello-report-put}
 use borrow.Author.Needs.{needs}
 use Rattle.wire.proofs.hello.put_report.Statement.{statement}
 use Rattle.wire.proofs.hello.put_report.Tie as tie
@@ -33,7 +30,7 @@ same-length c = search needs
 returns : tie.Need-returns
 returns c =
     let a = c .before .before .before .before .before .before .before .before .before .before .before .before .before .args in
-    two-words (a .hello .now) (c .before .before .before .before .before .before .before .put-two .last .0) (c .before .before .put-two2 .last .0) (12 + 4 * a .i) (bits16 (a .r .delay .0)) (bits16 (a .r .offset .0)) (omega arith) (cc) (cc)
+    hello-report-put (a .hello .now) _ _ (a .i) _ _ (a .r) (c .before .before .before .before .before .before .before .before .before .before .before .before .before .pre) (c .before .before .before .before .before .before .before .before .bits .ensures) (c .before .before .before .before .before .before .before .put-two .ensures) (c .before .before .before .bits2 .ensures) (c .before .before .put-two2 .ensures)
 
 pub put-report-spec : {M : Type 1} → statement M
 put-report-spec =

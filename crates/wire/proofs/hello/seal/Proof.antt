@@ -1,5 +1,4 @@
 use Rattle.checksum.proofs.Octets.{of-places}
-use native.Mathlib.Omega.{arith}
 use Rattle.wire.proofs.Stores.{hello-sealed}
 use borrow.Author.Needs.{needs}
 use Rattle.wire.proofs.hello.seal.Statement.{statement}
@@ -23,8 +22,9 @@ same-length c = search needs
 returns : tie.Need-returns
 returns c =
     let a = c .before .before .before .before .before .before .before .before .before .before .before .before .before .before .args in
-    hello-sealed (a .hello .now) (c .before .before .before .before .before .before .before .before .before .before .before .put-two .last .0) (c .before .before .before .before .before .before .before .put-fixed .last .0) _ (a .p) (omega arith)
-    (c .before .before .before .before .before .before .before .before .before .before .before .put-two .ensures) (c .before .before .before .before .before .before .before .put-fixed .ensures) (of-places (c .before .before .before .before .before .before .before .put-fixed .last .0) (λ i. c .before .before .before .before .before .slice-known3 .given i .fits)) (cc)
+    let fixed = c .before .before .before .before .before .before .before .put-fixed in
+    hello-sealed (a .hello .now) _ (fixed .last .0) _ _ (a .p) (c .before .before .before .before .before .before .before .before .before .before .before .before .before .before .pre .0) (c .before .before .before .before .before .before .before .before .before .before .before .put-two .ensures) (fixed .ensures)
+    (of-places (fixed .last .0) (λ i. c .before .before .before .before .before .slice-known3 .given i .fits)) (c .before .before .before .length .ensures) (c .before .before .put-checksum .ensures)
 
 pub seal-spec : {M : Type 1} → statement M
 seal-spec =

@@ -1,3 +1,4 @@
+use Rattle.wire.proofs.Stores.{front-put}
 use borrow.Author.Needs.{needs}
 use Rattle.wire.proofs.ip.put_front.Statement.{statement}
 use Rattle.wire.proofs.ip.put_front.Tie as tie
@@ -27,7 +28,10 @@ same-length : tie.Need-same-length
 same-length c = search needs
 
 returns : tie.Need-returns
-returns c = cc
+returns c =
+    let a = c .before .before .before .before .before .before .before .before .before .before .before .before .before .before .before .before .before .before .before .before .before .before .before .before .before .before .before .before .before .args in
+    front-put (a .packet .now) _ _ _ _ _ _ _ (a .total)
+    (c .before .before .before .before .before .before .before .before .before .before .before .before .before .before .before .before .before .before .before .before .before .before .before .before .before .before .put-octet .ensures) (c .before .before .before .before .before .before .before .before .before .before .before .before .before .before .before .before .before .before .before .before .before .before .put-octet2 .ensures) (c .before .before .before .before .before .before .before .before .before .before .before .before .before .before .before .before .before .before .put-two .ensures) (c .before .before .before .before .before .before .before .before .before .before .before .before .before .before .put-two2 .ensures) (c .before .before .before .before .before .before .before .before .before .before .put-two3 .ensures) (c .before .before .before .before .before .before .put-octet3 .ensures) (c .before .before .put-octet4 .ensures)
 
 pub put-front-spec : {M : Type 1} → statement M
 put-front-spec =

@@ -1,6 +1,8 @@
+use Rattle.wire.specs.Octets.{two}
+use lib.Seq.{sets}
+use mathlib.Core.Path.{sym, ap, _∙_}
 use lib.Seq.{length-take-le}
 use native.Mathlib.Omega.{arith}
-use mathlib.Core.Path.{sym}
 use borrow.Author.Needs.{needs}
 use Rattle.wire.proofs.octets.put_checksum.Statement.{statement}
 use Rattle.wire.proofs.octets.put_checksum.Tie as tie
@@ -21,7 +23,9 @@ same-length : tie.Need-same-length
 same-length c = search needs
 
 returns : tie.Need-returns
-returns c = cc
+returns c =
+    let a = c .before .before .before .before .before .before .before .args in
+    c .before .before .put-two .ensures ∙ ap (λ m. sets (a .s .now) (a .i) (two m)) (c .before .before .before .before .complement .ensures)
 
 pub put-checksum-spec : {M : Type 1} → statement M
 put-checksum-spec =
