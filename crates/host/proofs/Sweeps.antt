@@ -24,8 +24,8 @@ unfolding sweep
 sweep-clock Fine update keeps i c [] f = f
 sweep-clock Fine update keeps i c (e ∷ es) f = sweep-clock Fine update keeps (suc i) (update i c e .clock) es (keeps i c e f)
 
-pub only-clock : (Fine : Clock → Type 0) (id : ℕ) (update : Clock → Entry → Updated)
-    → ((c : Clock) (e : Entry) → Fine c → Fine (update c e .clock))
-    → (i : ℕ) (c : Clock) (e : Entry) → Fine c → Fine (only id update i c e .clock)
-only-clock Fine id update keeps i c e f =
-    either (λ u. Fine (u .clock)) (eqb i id) (update c e) record { clock = c; entry = e } (λ _. keeps c e f) (λ _. f)
+-- an update of one id alone updates an entry or leaves it
+pub only-either : (P : Updated → Type 0) (id : ℕ) (update : Clock → Entry → Updated) (i : ℕ) (c : Clock) (e : Entry)
+    → P (update c e) → P record { clock = c; entry = e } → P (only id update i c e)
+only-either P id update i c e here other =
+    either P (eqb i id) (update c e) record { clock = c; entry = e } (λ _. here) (λ _. other)

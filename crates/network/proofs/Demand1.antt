@@ -6,3 +6,4 @@ pub mod OwnCalls
 pub mod Isolation
 pub mod Afresh
 pub mod Alone
+pub mod Range

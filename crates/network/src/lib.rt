@@ -3,6 +3,7 @@ ghost use Rattle.network.specs.Answers.{Answers};
 ghost use Rattle.network.specs.Refusals.{Refusals};
 ghost use Rattle.network.specs.Frame.{Frame};
 ghost use Rattle.network.specs.Locality.{Locality};
+ghost use Rattle.network.specs.Range.{Range};
 ghost use Rattle.network.specs.Isolation.{Isolation, IsolationFromAfresh, Alone};
 ghost use Rattle.network.specs.Exchange.{HalfDelay};
 ghost use Rattle.network.specs.Demand3.{Demand3};
@@ -27,6 +28,11 @@ pub fn frame()
 // What a call answers and leaves depends only on its number, settings, clock, links and entries, its input, and the lengths of what it is lent.
 pub fn locality()
     ensures { λ _. ⌜ Locality ⌝ }
+{}
+
+// Setting afresh leaves a host that 12 does not refuse, and so does every call of such a host under the same settings.
+pub fn range()
+    ensures { λ _. ⌜ Range ⌝ }
 {}
 
 // Lists of calls that agree at a number tell and leave the same there, whatever is called at other numbers.

@@ -8,7 +8,7 @@ use Rattle.quantity.specs.declared.Millis.{Millis}
 use Rattle.quantity.specs.declared.Seconds.{Seconds}
 use Rattle.quantity.specs.Quantity.{lessMillis}
 use Rattle.quantity.specs.Words.{ofWord}
-use Rattle.quantity.proofs.Ints.{lt-yes}
+use Rattle.quantity.proofs.Ints.{dn, lt-yes}
 use Rattle.laws.proofs.Tests.{either, both}
 use Rattle.calendar.specs.declared.Date.{Date}
 use Rattle.calendar.specs.Date.{real, awaited}
@@ -20,7 +20,7 @@ use Rattle.clock.proofs.Bounds as clock
 use Rattle.table.specs.declared.Entry.{Entry}
 use Rattle.table.specs.declared.Update.{Update}
 use Rattle.table.specs.Entry.{maxDelay, freshEntry, takenDown, aged, upTo, entryInRange}
-use Rattle.table.specs.Update.{delayInRange, lines, dateTaken, lineD, update, left, ownUpdate, selfReported}
+use Rattle.table.specs.Update.{lines, dateTaken, lineD, update, left, ownUpdate, selfReported}
 use Rattle.table.proofs.Ranges.{Ranged, range-says, in-range, within}
 use Rattle.table.proofs.Cases.{stored, lines-keep, update-keeps, aged-keeps, clock-keeps}
 
@@ -37,11 +37,10 @@ aged-in-range e h =
     in-range (aged e)
     (aged-keeps Ranged e r (down-ranged e r) record { delay = r .delay; ttl = omega arith; pid = r .pid; time = r .time })
 
--- an update whose DELAY, PID and reading are in range
-module _ (u : Update) (delay : delayInRange u ≡ true) (pid : u .pid ≤ 8) (reading : upTo dayMillis (u .reading) ≡ true) where
+-- an update whose DELAY is not negative, and whose PID and reading are in range
+module _ (u : Update) (delay : dn (u .delay .0) ≤ 0) (pid : u .pid ≤ 8) (reading : upTo dayMillis (u .reading) ≡ true) where
   stored-ranged : lessMillis (u .delay) maxDelay ≡ true → Ranged (stored u)
   stored-ranged h =
-      let d = within 98302 (u .delay .0) delay in
       let l = lt-yes (u .delay .0) (maxDelay .0) h in
       record { delay = omega arith; ttl = omega arith; pid = pid; time = within 86400000 (u .reading .0) reading }
 
@@ -60,7 +59,7 @@ module _ (u : Update) (delay : delayInRange u ≡ true) (pid : u .pid ≤ 8) (re
 pub self-in-range : (reading : Millis) → upTo dayMillis reading ≡ true → (e : Entry) → entryInRange e ≡ true
     → entryInRange (selfReported reading e) ≡ true
 unfolding selfReported
-self-in-range reading h e i = lines-in-range (ownUpdate reading) refl (omega arith) h e i
+self-in-range reading h e i = lines-in-range (ownUpdate reading) (omega arith) (omega arith) h e i
 
 -- ---- the clock
 

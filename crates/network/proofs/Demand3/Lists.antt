@@ -1,9 +1,9 @@
 -- A predicate over the elements of a list, with their places. Nothing here knows of hosts.
-use mathlib.Core.Path.{_≡_}
+use mathlib.Core.Path.{_≡_, refl}
 use mathlib.Core.Bool.{Bool, true}
 use mathlib.Core.List.{List, [], _∷_, map}
 use Prim.Native.Nat.{ℕ, zero, suc}
-use lib.ListN.{getD, replicate, set}
+use lib.ListN.{getD, take, replicate, set}
 use Rattle.laws.proofs.Tests.{both}
 use Rattle.table.specs.Forms.{every}
 
@@ -32,14 +32,23 @@ all-set P i a p [] t = tt
 all-set P zero a p (b ∷ l) t = (p, t .1)
 all-set P (suc i) a p (b ∷ l) t = (t .0, all-set (λ j. P (suc j)) i a p l (t .1))
 
+pub all-take : {A : Type 0} (P : ℕ → A → Type 0) (n : ℕ) (l : List A) → All P l → All P (take n l)
+all-take P zero l t = tt
+all-take P (suc n) [] t = tt
+all-take P (suc n) (a ∷ l) t = (t .0, all-take (λ i. P (suc i)) n l (t .1))
+
 pub all-made : {A B : Type 0} (P : ℕ → B → Type 0) (f : A → B) → ((i : ℕ) (a : A) → P i (f a)) → (l : List A) → All P (map f l)
 all-made P f h [] = tt
 all-made P f h (a ∷ l) = (h 0 a, all-made (λ i. P (suc i)) f (λ i. h (suc i)) l)
 
--- a test of every element, as a predicate; two predicates at once
+-- a test of every element, as a predicate and back; two predicates at once
 pub every-all : {A : Type 0} (test : A → Bool) (l : List A) → every test l ≡ true → All (λ (i : ℕ) (a : A). test a ≡ true) l
 every-all test [] e = tt
 every-all test (a ∷ l) e = let b = both (test a) (every test l) e in (b .0, every-all test l (b .1))
+
+pub all-every : {A : Type 0} (test : A → Bool) (l : List A) → All (λ (i : ℕ) (a : A). test a ≡ true) l → every test l ≡ true
+all-every test [] t = refl
+all-every test (a ∷ l) t = rw (t .0, all-every test l (t .1))
 
 pub all-both : {A : Type 0} (P Q : ℕ → A → Type 0) (l : List A) → All P l → All Q l → All (λ (i : ℕ) (a : A). P i a × Q i a) l
 all-both P Q [] s t = tt
