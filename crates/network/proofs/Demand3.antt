@@ -1,7 +1,5 @@
-pub mod Lists
 pub mod Near
 pub mod Invariant
-pub mod Entries
 pub mod Outcomes
 pub mod Seats
 pub mod ReadBack

@@ -1,3 +1,5 @@
+pub mod Lists
+pub mod Swept
 pub mod Performs
 pub mod Arrivals
 pub mod Sends

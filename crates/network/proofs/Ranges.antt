@@ -10,7 +10,7 @@ use lib.ListN.{take, set}
 use lib.Seq.{getD-take, take-set-lt}
 use Rattle.quantity.specs.declared.Millis.{Millis}
 use Rattle.quantity.specs.Quantity.{lessMillis, unitsPerMilli, wholeMillis}
-use Rattle.quantity.proofs.Ints.{dn, sum, floor, lt-no}
+use Rattle.quantity.proofs.Ints.{up, dn, sum, floor, lt-no}
 use Rattle.laws.proofs.Tests.{either, neither}
 use Rattle.clock.specs.declared.Clock.{Clock}
 use Rattle.clock.specs.Midnight.{dayMillis}
@@ -33,7 +33,7 @@ use Rattle.host.specs.Guard.{linkCount, noLink, linkInRange}
 use Rattle.host.specs.Send.{linkSent}
 use Rattle.host.specs.Arrival.{atLeastMin, neighborUpdate, reportUpdate, updateId}
 use Rattle.network.proofs.Arrivals.{Flown}
-use Rattle.network.proofs.Demand3.Lists.{all-at, all-set, all-made, all-take, every-all, all-every}
+use Rattle.network.proofs.Lists.{all-at, all-set, all-made, all-take, every-all, all-every}
 
 -- ---- links
 
@@ -94,22 +94,22 @@ pub record Sane (u : Update) : Type 0 where
   pub pid-high : u .pid ≤ 8
   pub reading-in : upTo dayMillis (u .reading) ≡ true
 
--- DELAY as step 5 raises it is not negative
-raised : (d : Millis) → dn (atLeastMin d .0) ≤ 0
-raised d =
-    either (λ m. dn (m .0) ≤ 0) (lessMillis d minDelay) minDelay d (λ _. omega arith)
-    (λ e. omega (arith, lt-no (d .0) (minDelay .0) e))
+-- DELAY as step 5 raises it
+pub raised-low : (d : Millis) → (dn (atLeastMin d .0) ≤ 0) × (100 ≤ up (atLeastMin d .0))
+raised-low d =
+    either (λ (m : Millis). (dn (m .0) ≤ 0) × (100 ≤ up (m .0))) (lessMillis d minDelay) _ _ (λ _. (omega arith, omega arith))
+    (λ t. let l = lt-no (d .0) (minDelay .0) t in (omega arith, omega arith))
 
 module _ (s : Settings) (c : Clock) (i : ℕ) (f : Flight) (has : Counted s i) (clock : clockInRange c ≡ true) (flown : Flown c f) where
   pub neighbor-sane : Sane (neighborUpdate i f)
   neighbor-sane =
-      record { delay-low = raised (f .delay); pid-high = has .to-eight; reading-in = rw (flown .reading-is) (reading-in c clock) }
+      record { delay-low = raised-low (f .delay) .0; pid-high = has .to-eight; reading-in = rw (flown .reading-is) (reading-in c clock) }
 
   pub report-sane : (hello : List ℕ) (id : ℕ) → Sane (reportUpdate i f (reportAt hello id))
   unfolding reportAt
   report-sane hello id =
       record {
-        delay-low = omega (arith, raised (f .delay), sum (atLeastMin (f .delay) .0) (reportAt hello id .delay .0));
+        delay-low = omega (arith, raised-low (f .delay), sum (atLeastMin (f .delay) .0) (reportAt hello id .delay .0));
         pid-high = has .to-eight;
         reading-in = rw (flown .reading-is) (reading-in c clock);
       }

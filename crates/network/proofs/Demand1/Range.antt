@@ -43,8 +43,8 @@ use Rattle.network.specs.Call.{Call, initializes, ticks, adjusts, sets, 
 use Rattle.network.specs.Range.{Accepted, Range}
 use Rattle.network.proofs.Performs.{guardOf, workOf, performs, sent-ways, reported-ways, looked-ways}
 use Rattle.network.proofs.Arrivals.{Flown, arrived-ways}
-use Rattle.network.proofs.Demand3.Lists.{All, all-replicate, all-map, every-all, all-every}
-use Rattle.network.proofs.Demand3.Entries.{sweep-keeps}
+use Rattle.network.proofs.Lists.{All, all-replicate, all-map, every-all, all-every}
+use Rattle.network.proofs.Swept.{sweep-keeps}
 use Rattle.network.proofs.Ranges.{Counted, counted, withLink-in, sent-in, fresh-links-in, reading-in, neighbor-sane, report-sane, entry-in, clock-in}
 
 -- ---- what 12 tests, each by itself

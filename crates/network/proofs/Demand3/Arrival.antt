@@ -38,6 +38,7 @@ use Rattle.table.specs.declared.Update.{Update}
 use Rattle.table.specs.Forms.{Stage, on, end}
 use Rattle.table.specs.Entry.{maxDelay, minDelay}
 use Rattle.table.specs.Sweep.{only}
+use Rattle.table.proofs.Cases.{stored, update-keeps}
 use Rattle.host.specs.declared.Settings.{Settings}
 use Rattle.host.specs.declared.Link.{Link}
 use Rattle.host.specs.declared.Links.{Links}
@@ -57,9 +58,10 @@ use Rattle.network.specs.Room.{Room, at, HostAt, Proper}
 use Rattle.network.specs.Demand3.{Message, timed}
 use Rattle.network.proofs.Arrivals.{same-address}
 use Rattle.network.proofs.Exchange.{tsp-same, tsp-exact, delay-exact}
-use Rattle.network.proofs.Demand3.Lists.{all-at, all-set}
+use Rattle.network.proofs.Lists.{all-at, all-set}
+use Rattle.network.proofs.Ranges.{raised-low}
 use Rattle.network.proofs.Demand3.Near.{Fits16, Near, Apart, apart, offset-exact, offset-near, relay-near, relay-exact}
-use Rattle.network.proofs.Demand3.Entries.{stored, update-keeps, sweep-keeps, only-keeps}
+use Rattle.network.proofs.Swept.{sweep-keeps, only-keeps}
 use Rattle.network.proofs.Demand3.Invariant.{Known, RightEntry, RightReport, RightLink, RightLinks, Carries, RightMessage}
 use Rattle.network.proofs.Demand3.Outcomes.{RightOutcome, RightLent, same-right, written-right}
 use Rattle.network.proofs.Demand3.Seats.{down-right}
@@ -110,12 +112,6 @@ found-own ours a s id net e = go (aboveC a) (sameNet ours a) net e
     go false false t e = absurd (false≢true t)
 
 -- ---- step 5, at seat b, of a message of seat a, with a DELAY and an OFFSET that are right for a
-
--- DELAY as step 5 raises it
-raised-low : (d : Millis) → (dn (atLeastMin d .0) ≤ 0) × (100 ≤ up (atLeastMin d .0))
-raised-low d =
-    either (λ (m : Millis). (dn (m .0) ≤ 0) × (100 ≤ up (m .0))) (lessMillis d minDelay) _ _ (λ _. (omega arith, omega arith))
-    (λ t. let l = lt-no (d .0) (pos 100) t in (omega arith, omega arith))
 
 module _ (r : Room) (proper : Proper r) (b a : ℕ) (hb : b < r .seats) (ha : a < r .seats) where
   -- what is known of a flight: its OFFSET fits, and is near while DELAY is under 30,000

@@ -29,7 +29,7 @@ use Rattle.network.specs.Call.{perform}
 use Rattle.network.specs.History.{Left, leftBy, after}
 use Rattle.network.specs.Room.{Room, afresh, Proper}
 use Rattle.network.specs.Demand3.{RoomCall, ticks, seconds, reports, sends, arrives, Step, Message, World, result, mailAfter, step, history, timed, Later, Allowed, Allows, Starts, Claim, Demand3}
-use Rattle.network.proofs.Demand3.Lists.{All, all-at}
+use Rattle.network.proofs.Lists.{All, all-at}
 use Rattle.network.proofs.Demand3.Near.{near-close}
 use Rattle.network.proofs.Demand3.Invariant.{RightEntry, RightMessage, RightSeat, RightWorld}
 use Rattle.network.proofs.Demand3.Outcomes.{RightOutcome, RightLent, lent-right, left-right}

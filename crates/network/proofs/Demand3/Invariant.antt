@@ -22,7 +22,7 @@ use Rattle.host.specs.State.{hostCount}
 use Rattle.network.specs.History.{Left}
 use Rattle.network.specs.Room.{Room, at, HostAt}
 use Rattle.network.specs.Demand3.{Message, World}
-use Rattle.network.proofs.Demand3.Lists.{All}
+use Rattle.network.proofs.Lists.{All}
 use Rattle.network.proofs.Demand3.Near.{Fits16, Near}
 
 -- ---- tables

@@ -5,8 +5,7 @@ use Prim.Native.Nat.{ℕ, _+_, _≤_}
 use native.Mathlib.Omega.{arith}
 use borrow.Author.Tests.{ltb-false}
 use lib.Dec.{ltb}
-use lib.ListN.{length, take, drop}
-use lib.Seq.{take-take}
+use lib.ListN.{length, take}
 use Rattle.laws.proofs.Tests.{either}
 use Rattle.answer.specs.declared.Answer.{Answer}
 use Rattle.clock.specs.declared.Clock.{Clock}
@@ -17,7 +16,8 @@ use Rattle.host.specs.Outcome.{Outcome, leaves}
 use Rattle.host.proofs.Places.{Holds, withEntries-length, entries-withEntries}
 use Rattle.network.specs.History.{Left, leftBy, places}
 use Rattle.network.specs.Room.{Room}
-use Rattle.network.proofs.Demand3.Lists.{All}
+use Rattle.network.proofs.Lists.{All}
+use Rattle.network.proofs.HostPlaces.{entries-first}
 use Rattle.network.proofs.Demand3.Invariant.{RightEntry, RightLinks, RightSeat}
 
 pub record RightOutcome (r : Room) (a : ℕ) (run : List Entry) (o : Outcome) : Type 0 where
@@ -33,9 +33,7 @@ pub record RightLent (r : Room) (a : ℕ) (l : Links) (run : List Entry) : Type 
 module _ (r : Room) (a : ℕ) where
   -- the first NHOSTS places of a run are those of its 255
   first-places : (run : List Entry) → take (hostCount (r .settings a)) (places (r .number a) run) ≡ entries (r .settings a) (r .number a) run
-  unfolding entries
-  first-places run =
-      take-take (hostCount (r .settings a)) placesPerHost (drop (firstPlace (r .number a)) run) (omega arith)
+  first-places run = sym (entries-first (r .settings a) (r .number a) run)
 
   pub lent-right : (x : Left) (run : List Entry) → (Holds (r .number a) run → places (r .number a) run ≡ x .places)
       → RightSeat r a x → RightLent r a (x .links) run

@@ -7,6 +7,7 @@ use native.Mathlib.Omega.{arith}
 use lib.ListN.{length-map, length-replicate}
 use Rattle.quantity.specs.declared.Millis.{Millis}
 use Rattle.quantity.specs.declared.Seconds.{Seconds}
+use Rattle.quantity.specs.Quantity.{fallSeconds}
 use Rattle.answer.specs.declared.Answer.the-variants.{Done}
 use Rattle.clock.specs.declared.Clock.{Clock}
 use Rattle.clock.specs.Clock.{reading}
@@ -16,6 +17,7 @@ use Rattle.table.specs.declared.Entry.{Entry}
 use Rattle.table.specs.Entry.{freshEntry, takenDown, withTtl, aged}
 use Rattle.table.specs.Update.{ownUpdate}
 use Rattle.table.specs.Sweep.{only}
+use Rattle.table.proofs.Cases.{stored, self-keeps, aged-keeps}
 use Rattle.host.specs.declared.Links.{Links}
 use Rattle.host.specs.Settings.{ownId}
 use Rattle.host.specs.State.{freshLink, freshLinks, hostCount, entries}
@@ -27,8 +29,8 @@ use Rattle.host.proofs.Sweeps.{sweep-length}
 use Rattle.host.proofs.Guarded.{passed, passed-fresh, holds}
 use Rattle.host.proofs.Guarded as guarded
 use Rattle.network.specs.Room.{Room, afresh}
-use Rattle.network.proofs.Demand3.Lists.{all-replicate, all-map, all-made}
-use Rattle.network.proofs.Demand3.Entries.{stored, self-keeps, aged-keeps, only-keeps}
+use Rattle.network.proofs.Lists.{all-replicate, all-map, all-made}
+use Rattle.network.proofs.Swept.{only-keeps}
 use Rattle.network.proofs.Demand3.Invariant.{RightEntry, RightLink}
 use Rattle.network.proofs.Demand3.Outcomes.{RightOutcome, RightLent, same-right, written-right}
 
@@ -80,7 +82,7 @@ module _ (r : Room) (a : ℕ) where
         written-right r a Done _ l run (map aged (entries (r .settings a) (r .number a) run)) (lent .links) h
         (length-map (entries (r .settings a) (r .number a) run) aged ∙ entries-length (r .settings a) (r .number a) run h)
         (all-map (RightEntry r a) (RightEntry r a) aged
-        (λ i e right. aged-keeps (RightEntry r a i) e right (down-right i e right) (λ t. ttl-right i e t right))
+        (λ i e right. aged-keeps (RightEntry r a i) e right (down-right i e right) (ttl-right i e (fallSeconds (e .ttl)) right))
         (entries (r .settings a) (r .number a) run) (lent .table h)))
 
     pub self-right : a < r .seats → RightOutcome r a run (selfReport (r .settings a) (r .number a) c l run)
