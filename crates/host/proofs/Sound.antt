@@ -11,11 +11,9 @@ use Rattle.laws.proofs.Tests.{both, each}
 use Rattle.calendar.specs.Date.{real}
 use Rattle.clock.specs.Midnight.{dayMillis}
 use Rattle.clock.specs.Clock.{tickInRange}
-use Rattle.route.specs.declared.Row.{Row}
-use Rattle.route.specs.Find.{rowsOf}
-use Rattle.table.specs.Forms.{every}
+use Rattle.route.specs.Find.{isHost, rowsOf, idsBelow}
 use Rattle.host.specs.declared.Settings.{Settings}
-use Rattle.host.specs.Settings.{fromTo, clockSettingOff, ownId, isHost, settingsGood}
+use Rattle.host.specs.Settings.{fromTo, clockSettingOff, ownId, settingsGood}
 
 pub record Sound (s : Settings) : Type 0 where
   pub links-from : 1 ≤ s .«link_count»
@@ -31,7 +29,7 @@ pub record Sound (s : Settings) : Type 0 where
   pub tick : tickInRange (s .«clock_tick») ≡ true
   pub time : (not (lessMillis (s .time) (millis (pos 0))) && lessMillis (s .time) dayMillis) ≡ true
   pub date : real (s .date) ≡ true
-  pub row-ids : every (λ (r : Row). ltb (r .host) (s .layout .nhosts)) (rowsOf (s .net)) ≡ true
+  pub row-ids : idsBelow (s .layout .nhosts) (rowsOf (s .net)) ≡ true
   pub own-id : isHost (ownId s) ≡ true
 
 pub sound : (s : Settings) → settingsGood s ≡ true → Sound s
@@ -47,7 +45,7 @@ sound s e =
     ∷ tickInRange (s .«clock_tick»)
     ∷ (not (lessMillis (s .time) (millis (pos 0))) && lessMillis (s .time) dayMillis)
     ∷ real (s .date)
-    ∷ every (λ (r : Row). ltb (r .host) (s .layout .nhosts)) (rowsOf (s .net))
+    ∷ idsBelow (s .layout .nhosts) (rowsOf (s .net))
     ∷ isHost (ownId s)
     ∷ []) e in
     let links = both (leb 1 (s .«link_count»)) (leb (s .«link_count») 8) (t .0) in

@@ -1,5 +1,5 @@
 -- "Settings": the test of answer 1, "a setting outside the above".
-use mathlib.Core.Bool.{Bool, true, false, not, _&&_, _||_}
+use mathlib.Core.Bool.{Bool, not, _&&_, _||_}
 use Prim.Native.Nat.{ℕ}
 use lib.Dec.{ltb, leb, eqb}
 use lib.IntN.{pos}
@@ -8,10 +8,7 @@ use Rattle.calendar.specs.Date.{real}
 use Rattle.clock.specs.Midnight.{dayMillis}
 use Rattle.clock.specs.Clock.{tickInRange}
 use Rattle.route.specs.declared.Found.{Found}
-use Rattle.route.specs.declared.Found.the-variants.{Host, Nothing}
-use Rattle.route.specs.declared.Row.{Row}
-use Rattle.route.specs.Find.{localId, rowsOf}
-use Rattle.table.specs.Forms.{every}
+use Rattle.route.specs.Find.{isHost, localId, rowsOf, idsBelow}
 use Rattle.host.specs.declared.Settings.{Settings}
 
 abbrev pub fromTo : (least most n : ℕ) → Bool
@@ -25,10 +22,6 @@ clockSettingOff = 255
 abbrev pub ownId : Settings → Found
 ownId s = localId (s .layout) (s .address)
 
-abbrev pub isHost : Found → Bool
-isHost (Host i) = true
-isHost Nothing = false
-
 -- the rules of the settings, in the paper's order
 unfoldable pub settingsGood : Settings → Bool
 settingsGood s =
@@ -41,5 +34,5 @@ settingsGood s =
     && tickInRange (s .«clock_tick»)
     && (not (lessMillis (s .time) (millis (pos 0))) && lessMillis (s .time) dayMillis)
     && real (s .date)
-    && every (λ (r : Row). ltb (r .host) (s .layout .nhosts)) (rowsOf (s .net))
+    && idsBelow (s .layout .nhosts) (rowsOf (s .net))
     && isHost (ownId s)

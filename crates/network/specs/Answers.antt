@@ -19,13 +19,13 @@ use Rattle.wire.specs.Hello.{helloForm, helloChecksum}
 use Rattle.wire.specs.Packet.{helloOf, fields}
 use Rattle.route.specs.declared.Found.{Found}
 use Rattle.route.specs.declared.Found.the-variants.{Host, Nothing}
-use Rattle.route.specs.Find.{find}
+use Rattle.route.specs.Find.{isHost, find}
 use Rattle.table.specs.declared.Entry.{Entry}
 use Rattle.table.specs.Entry.{freshEntry, up}
 use Rattle.host.specs.declared.Settings.{Settings}
 use Rattle.host.specs.declared.Link.{Link}
 use Rattle.host.specs.declared.Links.{Links}
-use Rattle.host.specs.Settings.{settingsGood, isHost}
+use Rattle.host.specs.Settings.{settingsGood}
 use Rattle.host.specs.State.{broadcast, linkOf, entries}
 use Rattle.host.specs.Guard.{noPlaces, noLink, lentInRange}
 use Rattle.host.specs.Send.{sentLength}

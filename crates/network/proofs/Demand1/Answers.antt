@@ -16,12 +16,11 @@ use Rattle.wire.specs.Hello.{helloForm, helloChecksum}
 use Rattle.wire.specs.Packet.{helloOf, fields, parse}
 use Rattle.route.specs.declared.Found.{Found}
 use Rattle.route.specs.declared.Found.the-variants.{Host, Nothing}
-use Rattle.route.specs.Find.{find}
+use Rattle.route.specs.Find.{isHost, find}
 use Rattle.table.specs.declared.Entry.{Entry}
 use Rattle.table.specs.Entry.{freshEntry, up}
 use Rattle.host.specs.declared.Settings.{Settings}
 use Rattle.host.specs.declared.Links.{Links}
-use Rattle.host.specs.Settings.{isHost}
 use Rattle.host.specs.State.{broadcast, linkOf, entries}
 use Rattle.host.specs.Guard.{noPlaces, noLink, guard, guardLink, guardFresh, done}
 use Rattle.host.specs.Outcome.{leaves, unsent, tells, routeValues}
