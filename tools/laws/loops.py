@@ -26,10 +26,8 @@ usage: loops.py NAME > crates/laws/proofs/made/NAME.antt
                                                         }
 J is a struct that begins with first, end and, where there is an x, start.
 The checker checks what is written: nothing here is trusted."""
-import os
-import re
 import sys
-from script import Script, digits, items, nest, product, proj
+from script import LIB, Script, digits, items, nest, product, proj, uses
 
 name = sys.argv[1]
 lent = name in ("Maps", "Applies")  # the run is `&mut`, and a turn stores an entry
@@ -818,30 +816,13 @@ emit(
 )
 
 # ---- the names that the text uses
-text = "\n".join(out[uses_at:])
-have = set(re.findall(r"[^\s(){}\[\],;.]+", text))
-root = os.path.join(os.path.dirname(os.path.abspath(__file__)), "..", "..")
-cited = []
-for l in open(os.path.join(root, "crates/laws/proofs/Walk.antt")):
-    g = re.match(r"(?:unfoldable )?pub use .*\.\{(.*)\}", l)
-    if g:
-        for n in g.group(1).split(", "):
-            short = n.split(" as ")[-1]
-            if short.strip("_") in have or short in have or (short == "[]" and "[]" in text):
-                cited.append(short)
-LIB = "Rattle.laws.proofs"
-uses = ["use %s.Walk.{%s}" % (LIB, ", ".join(n for n in cited if n != "tablesOf")), "use %s.Walk.{tablesOf}" % LIB, "use denote.Struct.Laws as LL"]
-
-
-def used_of(module, names):
-    ns = [n for n in names if n.split(" as ")[-1] in have]
-    if ns:
-        uses.append("use %s.%s.{%s}" % (LIB, module, ", ".join(ns)))
-
-
-used_of("Words", ["Word", "Data", "Part", "by-value", "unsigned", "void", "struct-part", "usize-part", "settled", "passed"])
-used_of("Outcomes", ["Outcome", "whole"])
-used_of("Again", ["LentAgain", "lends-again", "comes-back"])
-used_of("Loop", ["tests", "repeats"])
-out[uses_at] = "\n".join(uses) + "\n"
+out[uses_at] = uses(
+    "\n".join(out[uses_at:]),
+    [
+        (LIB + ".Words", ["Word", "Data", "Part", "by-value", "unsigned", "void", "struct-part", "usize-part", "settled", "passed"]),
+        (LIB + ".Outcomes", ["Outcome", "whole"]),
+        (LIB + ".Again", ["LentAgain", "lends-again", "comes-back"]),
+        (LIB + ".Loop", ["tests", "repeats"]),
+    ],
+)
 print("\n".join(out))

@@ -1,4 +1,9 @@
-"""A proof script over a context whose entries have names, so that no place is counted by hand."""
+"""A proof script over a context whose entries have names, so that no place is counted by hand; and the names of crate `laws` that a text uses."""
+import os
+import re
+
+LIB = os.environ.get("LIB", "Rattle.laws.proofs")
+WALK = os.path.join(os.path.dirname(os.path.abspath(__file__)), "..", "..", "crates/laws/proofs/Walk.antt")
 
 
 def digits(n):
@@ -90,3 +95,22 @@ class Script:
             else:
                 cur = (cur + " " + s) if cur else s
         return "\n".join(res + [indent + cur])
+
+
+def uses(text, modules):
+    """the lines that bring in what the text uses of Walk.antt, and of the modules with the names given"""
+    have = set(re.findall(r"[^\s(){}\[\],;.]+", text))
+    cited = []
+    for l in open(WALK):
+        g = re.match(r"(?:unfoldable )?pub use .*\.\{(.*)\}", l)
+        if g:
+            for n in g.group(1).split(", "):
+                short = n.split(" as ")[-1]
+                if short.strip("_") in have or short in have or (short == "[]" and "[]" in text):
+                    cited.append(short)
+    lines = ["use %s.Walk.{%s}" % (LIB, ", ".join(n for n in cited if n != "tablesOf")), "use %s.Walk.{tablesOf}" % LIB, "use denote.Struct.Laws as LL"]
+    for module, names in modules:
+        ns = [n for n in names if n.split(" as ")[-1] in have]
+        if ns:
+            lines.append("use %s.{%s}" % (module, ", ".join(ns)))
+    return "\n".join(lines) + "\n"

@@ -17,10 +17,9 @@ A shape is the text of a function of straight statements, in which a type is a n
 
 P(A, C, J) is a struct whose first fields are of these types. Of a `&mut` slice that is passed, `&run` is lent as a `&` and comes back, `&mut run` is lent again and comes back, and `run` is given up for good.
 The checker checks what is written: nothing here is trusted."""
-import os
 import re
 import sys
-from script import Script, digits, items, nest, product, proj
+from script import LIB, Script, digits, items, nest, product, proj, uses
 
 # ---- reading a shape
 
@@ -1015,30 +1014,13 @@ emit(
 )
 
 # ---- the names that the text uses
-text = "\n".join(out[uses_at:])
-have = set(re.findall(r"[^\s(){}\[\],;.]+", text))
-root = os.path.join(os.path.dirname(os.path.abspath(__file__)), "..", "..")
-cited = []
-for l in open(os.path.join(root, "crates/laws/proofs/Walk.antt")):
-    g = re.match(r"(?:unfoldable )?pub use .*\.\{(.*)\}", l)
-    if g:
-        for n in g.group(1).split(", "):
-            short = n.split(" as ")[-1]
-            if short.strip("_") in have or short in have or (short == "[]" and "[]" in text):
-                cited.append(short)
-LIB = "Rattle.laws.proofs"
-uses = ["use %s.Walk.{%s}" % (LIB, ", ".join(n for n in cited if n != "tablesOf")), "use %s.Walk.{tablesOf}" % LIB, "use denote.Struct.Laws as LL"]
-
-
-def used_of(module, names):
-    ns = [n for n in names if n.split(" as ")[-1] in have]
-    if ns:
-        uses.append("use %s.%s.{%s}" % (LIB, module, ", ".join(ns)))
-
-
-used_of("Words", ["Word", "Data", "Part", "by-value", "unsigned", "void", "struct-part", "usize-part", "bool-part", "settled", "passed"])
-used_of("Outcomes", ["Outcome", "whole"])
-used_of("Shared", ["Kept", "lends-shared", "comes-back as shared-back"])
-used_of("Again", ["LentAgain", "lends-again", "comes-back as again-back"])
-out[uses_at] = "\n".join(uses) + "\n"
+out[uses_at] = uses(
+    "\n".join(out[uses_at:]),
+    [
+        (LIB + ".Words", ["Word", "Data", "Part", "by-value", "unsigned", "void", "struct-part", "usize-part", "bool-part", "settled", "passed"]),
+        (LIB + ".Outcomes", ["Outcome", "whole"]),
+        (LIB + ".Shared", ["Kept", "lends-shared", "comes-back as shared-back"]),
+        (LIB + ".Again", ["LentAgain", "lends-again", "comes-back as again-back"]),
+    ],
+)
 print("\n".join(out))

@@ -3,6 +3,7 @@ pub mod Loop
 pub mod made
 pub mod Outcomes
 pub mod Parts
+pub mod Rest
 pub mod Shared
 pub mod Tests
 pub mod Walk

@@ -1,11 +1,11 @@
--- Parts of lists: a part with one place more, what is put over a list and stands there alone, and one element more put behind it.
+-- Parts of lists: a part with one place more, what is put over a list and stands there alone, one element more put behind it, and what is put over a part.
 use mathlib.Core.Path.{_≡_, sym, ap, _∙_}
 use mathlib.Core.List.{List, [], _∷_, _++_, append-assoc, append-nil}
 use Prim.Native.Nat.{ℕ, suc, _+_, _≤_, _<_}
 use native.Mathlib.Nat.{add-zero}
 use native.Mathlib.Omega.{arith}
 use lib.ListN.{length, take, drop, getD, set, length-append, length-take, length-drop, take-append-drop}
-use lib.Seq.{take-suc, take-add, drop-cons, drop-drop, take-at, drop-at, getD-at, set-at, getD-drop, length-take-le}
+use lib.Seq.{take-suc, take-add, take-take, drop-cons, drop-drop, drop-append-le, take-at, drop-at, getD-at, set-at, getD-drop, length-take-le}
 use Rattle.laws.specs.Lists.{part, over}
 
 module _ {A : Type 0} where
@@ -69,3 +69,23 @@ module _ {A : Type 0} where
         ap (λ (l : List A). set l (k + n) a) (split a)
         ∙ set-at (take k b ++ xs) (getD b (k + n) a) (drop (suc (k + n)) b) a (k + n) front
         ∙ rw (length-append xs (a ∷ []), e, m) (simp append-assoc)
+
+  -- what is put over a part of a list is put over the list
+  module _ (l : List A) (first n i : ℕ) (xs : List A) (inside : i + length xs ≤ n) (there : first + n ≤ length l) where
+    abbrev d : List A
+    d = drop first l
+
+    long : length (take n d) ≡ n
+    long = part-length first n l there
+
+    put : over (take n d) i xs ++ drop n d ≡ over d i xs
+    put =
+        let t : take i (take n d) ≡ take i d = take-take i n d (omega arith) in
+        let r : drop (i + length xs) (take n d) ++ drop n d ≡ drop (i + length xs) d =
+        sym (drop-append-le (i + length xs) (take n d) (drop n d) (omega (arith, long))) ∙ ap (drop (i + length xs)) (take-append-drop n d) in
+        rw (t) (append-assoc (take i d ++ xs) (drop (i + length xs) (take n d)) (drop n d) ∙ ap (λ z. take i d ++ xs ++ z) r)
+
+    pub over-part : over l first (over (part first n l) i xs) ≡ over l (first + i) xs
+    over-part =
+        let m : length (over (take n d) i xs) ≡ n = over-length i (take n d) xs (omega (arith, long)) ∙ long in
+        rw (m, ← drop-drop n first l) (append-assoc (take first l) (over (take n d) i xs) (drop n d) ∙ ap (λ z. take first l ++ z) put ∙ over-behind first i l xs)

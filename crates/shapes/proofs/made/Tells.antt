@@ -1,11 +1,11 @@
--- The law of a thin function: `fn Tests(settings: S, number: N, clock: &mut C, links: &L, run: &[E]) -> K { let c = *clock; let l = *links; let g: G = guard(settings, number, c, l, run); let p: P(K, C) = plan(g, settings, c); *clock = p.1; p.0 }`.
+-- The law of a thin function: `fn Tells(settings: S, number: N, clock: &mut C, links: &L, run: &[E]) -> K { let c = *clock; let l = *links; let g: G = guard(settings, number, c, l, run); let p: P(K, C) = plan(g, c); *clock = p.1; p.0 }`.
 -- It is one walk of that MIR, for any types and any contracts of the functions that are called. The author shows that each of them is asked for no more than what is known (`ok`), and that what they say comes to what the function says (`then`).
 -- Made by tools/laws/make. Assumes nothing.
 use Rattle.laws.proofs.Walk.{_≡_, refl, ap, ℕ, List, [], _∷_, length, T, URA, fullShare, Name, Fn, named, mut, imm, tyRef, local, valueLocal, place, deref, field, copy, rvOpd, assign, call, seq, return, Val, vptr, SProp, ent, sep, emp, id⊢, GName, Lft, Share, ftrue, fat, flft, fobs, fbor, Model, Routine, Env, Heap, Calls, Loops, WpFn, Tables, Closed, Atoms, fact, GhostRules, Running, givenOf, tables, Given, ‵, raw, _⊛_, ⋆, some, later, _$_, _∵_, !, qed, by, move, keep, drop, use0, use1, use3, split, join, pick, rewrite, fsplit, fsplit3, fjoin, fjoin3, feqI, suffices, frame, await, done, look, look-raw, init, store-raw, forget, stop, hop, fld, from, load, of-opd, and-then, no-more, assigns, land, returns, enter, alloc1, alloc0, params1, pass1, pass0, free1, free0, whole-part, sub, look-in, Referent, FmC, fmOf, WpFn-mono, RattleType, owns, Is, shows, mem, pointee, RefOf, RefMutOf, SliceRefOf, RefT, MutRef, ShrRef, ptr-vals, mut-tells, shr-tells, sliceVal, sliceTy, slice-vals, ShrSlice, Room, shr-slice-tells, shr-slice-copy, Signature, plain, shrRefTo, shrSliceOf, only, opens, closes, looks, shuts, owned, peeks, heard, nothing, spelt, layout, row, shape, onEntry, Meets, tripleOf, Contract, Triple, calls-at, entered, cited, Ended, Clauses, Lasts, closing, ensured, lasts, Stays, stay-ref, stay-dropped, says, walkOf, goes-ref, goes-dropped, ends-at, walked, walk-meets, yes}
 use Rattle.laws.proofs.Walk.{tablesOf}
 use denote.Struct.Laws as LL
 use Rattle.laws.proofs.Words.{Word, Data, Part, by-value, struct-part, settled, passed}
 use Rattle.laws.proofs.Outcomes.{Outcome, whole}
 
 module _ (S N G : Word) (C L E : Data) (K : Part) (P : Outcome (K ∷ (struct-part C) ∷ [])) where
   abbrev RC : RattleType
@@ -39,10 +39,10 @@ module _ (S N G : Word) (C L E : Data) (K : Part) (P : Outcome (K ∷ (struct-pa
   ended₁ = record { signature = signature₁; kept = (yes, (yes, (yes, (yes, (yes, tt))))) }
 
   abbrev signature₂ : Signature
-  signature₂ = record { lifetimes = 0; outlives = []; params = plain (λ _. G .row) ∷ plain (λ _. S .row) ∷ plain (λ _. XC .row) ∷ []; result = plain (λ _. XP .row) }
+  signature₂ = record { lifetimes = 0; outlives = []; params = plain (λ _. G .row) ∷ plain (λ _. XC .row) ∷ []; result = plain (λ _. XP .row) }
 
   abbrev ended₂ : Ended
-  ended₂ = record { signature = signature₂; kept = (yes, (yes, (yes, tt))) }
+  ended₂ = record { signature = signature₂; kept = (yes, (yes, tt)) }
 
   abbrev signature : Signature
   signature = record { lifetimes = 3; outlives = []; params = plain (λ _. S .row) ∷ plain (λ _. N .row) ∷ RefMutOf (0 ∷ []) tt (plain (λ _. RC)) (λ _. tt) ∷ RefOf (1 ∷ []) tt (plain (λ _. RL)) (λ _. tt) ∷ SliceRefOf (2 ∷ []) tt (plain (λ _. RE)) (λ _. tt) ∷ []; result = plain (λ _. XK .row) }
@@ -59,7 +59,7 @@ module _ (S N G : Word) (C L E : Data) (K : Part) (P : Outcome (K ∷ (struct-pa
     body = seq (assign (place 6 []) (rvOpd (copy (place 3 (deref (layout (shape (C .S))) ∷ [])))))
         (seq (assign (place 7 []) (rvOpd (copy (place 4 (deref (layout (shape (L .S))) ∷ [])))))
         (seq (call g₁ (copy (place 1 []) ∷ copy (place 2 []) ∷ copy (place 6 []) ∷ copy (place 7 []) ∷ copy (place 5 []) ∷ []) (place 8 []))
-        (seq (call g₂ (copy (place 8 []) ∷ copy (place 1 []) ∷ copy (place 6 []) ∷ []) (place 9 []))
+        (seq (call g₂ (copy (place 8 []) ∷ copy (place 6 []) ∷ []) (place 9 []))
         (seq (assign (place 3 (deref (layout (shape (C .S))) ∷ [])) (rvOpd (copy (place 9 (field 1 ∷ [])))))
         (seq (assign (place 0 []) (rvOpd (copy (place 9 (field 0 ∷ []))))) return)))));
   }
@@ -68,7 +68,7 @@ module _ (S N G : Word) (C L E : Data) (K : Part) (P : Outcome (K ∷ (struct-pa
   stayed = (stay-dropped (plain (λ _. S .row)) yes, (stay-dropped (plain (λ _. N .row)) yes, (stay-ref (0 ∷ []) tt (plain (λ _. RC)), (stay-dropped (shrRefTo (1 ∷ []) tt (plain (λ _. RL))) yes, (stay-dropped (shrSliceOf (2 ∷ []) tt (plain (λ _. RE))) yes, tt)))))
 
   -- what each callee asks and says, and what the function says
-  module _ {M : Type 1} (𝓤 : URA M) (H : Heap 𝓤) (A : Atoms 𝓤) (asks₁ : S .row .Denot → N .row .Denot → XC .row .Denot → XL .row .Denot → List (E .S .D) → SProp 𝓤) (gives₁ : S .row .Denot → N .row .Denot → XC .row .Denot → XL .row .Denot → List (E .S .D) → G .row .Denot → Type 0) (asks₂ : G .row .Denot → S .row .Denot → XC .row .Denot → SProp 𝓤) (gives₂ : G .row .Denot → S .row .Denot → XC .row .Denot → XP .row .Denot → Type 0) (Says : S .row .Denot → N .row .Denot → C .S .D → L .S .D → List (E .S .D) → C .S .D → XK .row .Denot → Type 0) where
+  module _ {M : Type 1} (𝓤 : URA M) (H : Heap 𝓤) (A : Atoms 𝓤) (asks₁ : S .row .Denot → N .row .Denot → XC .row .Denot → XL .row .Denot → List (E .S .D) → SProp 𝓤) (gives₁ : S .row .Denot → N .row .Denot → XC .row .Denot → XL .row .Denot → List (E .S .D) → G .row .Denot → Type 0) (asks₂ : G .row .Denot → XC .row .Denot → SProp 𝓤) (gives₂ : G .row .Denot → XC .row .Denot → XP .row .Denot → Type 0) (Says : S .row .Denot → N .row .Denot → C .S .D → L .S .D → List (E .S .D) → C .S .D → XK .row .Denot → Type 0) where
     abbrev clauses₁ : Clauses 𝓤 ended₁
     clauses₁ = λ κs a. record { ghost = Unit {0}; requires = λ _. asks₁ (a .0) (a .1 .0) (a .1 .1 .0) (a .1 .1 .1 .0) (a .1 .1 .1 .1 .0 .now); ensures = λ _ r e. fact 𝓤 (gives₁ (a .0) (a .1 .0) (a .1 .1 .0) (a .1 .1 .1 .0) (a .1 .1 .1 .1 .0 .now) r) }
 
@@ -76,7 +76,7 @@ module _ (S N G : Word) (C L E : Data) (K : Part) (P : Outcome (K ∷ (struct-pa
     Contract₁ = tripleOf 𝓤 H A signature₁ (closing 𝓤 H A ended₁ clauses₁)
 
     abbrev clauses₂ : Clauses 𝓤 ended₂
-    clauses₂ = λ κs a. record { ghost = Unit {0}; requires = λ _. asks₂ (a .0) (a .1 .0) (a .1 .1 .0); ensures = λ _ r e. fact 𝓤 (gives₂ (a .0) (a .1 .0) (a .1 .1 .0) r) }
+    clauses₂ = λ κs a. record { ghost = Unit {0}; requires = λ _. asks₂ (a .0) (a .1 .0); ensures = λ _ r e. fact 𝓤 (gives₂ (a .0) (a .1 .0) r) }
 
     abbrev Contract₂ : Contract 𝓤
     Contract₂ = tripleOf 𝓤 H A signature₂ (closing 𝓤 H A ended₂ clauses₂)
@@ -86,8 +86,8 @@ module _ (S N G : Word) (C L E : Data) (K : Part) (P : Outcome (K ∷ (struct-pa
 
     module _ (W : Given 𝓤 H A)
         (ok₁ : (settings : S .row .Denot) (number : N .row .Denot) (clock : C .S .D) (links : L .S .D) (run : List (E .S .D)) → ent 𝓤 (emp 𝓤) (asks₁ settings number clock links run))
-        (ok₂ : (settings : S .row .Denot) (number : N .row .Denot) (clock : C .S .D) (links : L .S .D) (run : List (E .S .D)) (g : G .row .Denot) → gives₁ settings number clock links run g → ent 𝓤 (emp 𝓤) (asks₂ g settings clock))
-        (then : (settings : S .row .Denot) (number : N .row .Denot) (clock : C .S .D) (links : L .S .D) (run : List (E .S .D)) (g : G .row .Denot) (p : XP .row .Denot) → gives₁ settings number clock links run g → gives₂ g settings clock p → Says settings number clock links run ((struct-part C) .res (P .form .read p .1 .0)) (K .res (P .form .read p .0)))
+        (ok₂ : (settings : S .row .Denot) (number : N .row .Denot) (clock : C .S .D) (links : L .S .D) (run : List (E .S .D)) (g : G .row .Denot) → gives₁ settings number clock links run g → ent 𝓤 (emp 𝓤) (asks₂ g clock))
+        (then : (settings : S .row .Denot) (number : N .row .Denot) (clock : C .S .D) (links : L .S .D) (run : List (E .S .D)) (g : G .row .Denot) (p : XP .row .Denot) → gives₁ settings number clock links run g → gives₂ g clock p → Says settings number clock links run ((struct-part C) .res (P .form .read p .1 .0)) (K .res (P .form .read p .0)))
         (κ₀ κ₁ κ₂ : Lft) (q₀ q₁ q₂ : Share) (b₀ o₀ b₁ o₁ b₂ o₂ : ℕ) (γ₀ γ₁ γ₂ : GName) (settings : S .row .Denot) (number : N .row .Denot) (clock : C .S .D) (links : L .S .D) (run : List (E .S .D)) where
       abbrev ref₀ : GName → C .S .D → RefT (C .S .D)
       ref₀ γ x = record { ptr = (b₀, o₀); name = γ; now = x }
@@ -152,15 +152,13 @@ module _ (S N G : Word) (C L E : Data) (K : Part) (P : Outcome (K ∷ (struct-pa
             rewrite ! 9 (λ (u : Val). ‵ (fat fullShare (G .ty) z₈ 0 u)) (ap only (G .tells g (v₁ ∷ []) said-g)) refl $
             -- plan
             nothing ! $ nothing ! $ owned ! (XC .row) (Is (XC .row)) (XC .makes M 𝓤 H A W) clock (XC .val clock ∷ []) is-clock $ fjoin ! $
-            owned ! (S .row) (Is (S .row)) (S .makes M 𝓤 H A W) settings (S .val settings ∷ []) is-settings $ fjoin ! $
-            owned ! (G .row) (Is (G .row)) (G .makes M 𝓤 H A W) g (G .val g ∷ []) (settled G g v₁ said-g) $ fjoin ! $ use0 W (raw (asks₂ g settings clock)) (ok₂ settings number clock links run g φ₁) $
+            owned ! (G .row) (Is (G .row)) (G .makes M 𝓤 H A W) g (G .val g ∷ []) (settled G g v₁ said-g) $ fjoin ! $ use0 W (raw (asks₂ g clock)) (ok₂ settings number clock links run g φ₁) $
             move ! (2 ∷ 1 ∷ 0 ∷ []) $
-            use3 W (raw (Contract₂ .pre ((tt, tt, tt, (g, (settings, (clock, tt))), (G .val g ∷ [], (S .val settings ∷ [], (XC .val clock ∷ [], tt)))), tt))) (passed 𝓤 H A signature₂ tt tt (g, (settings, (clock, tt))) (G .val g ∷ [], (S .val settings ∷ [], (XC .val clock ∷ [], tt))) (asks₂ g settings clock)) $
-            calls-at ! fm Contract₂ known₂ ((tt, tt, tt, (g, (settings, (clock, tt))), (G .val g ∷ [], (S .val settings ∷ [], (XC .val clock ∷ [], tt)))), tt) (and-then ! (load ! (from ! (stop !)) (look ! 10 refl)) (and-then ! (load ! (from ! (stop !)) (look ! 24 refl)) (and-then ! (load ! (from ! (stop !)) (look ! 14 refl)) (no-more !)))) (λ v₂.
-            use1 W (later (some (λ (p : XP .row .Denot). (‵ ftrue ⊛ ‵ (XP .row .own p (v₂ ∷ []))) ⊛ raw (ensured 𝓤 H A ended₂ clauses₂ tt (g, (settings, (clock, tt))) tt p)))) (id⊢ 𝓤 _) $ await ! tt $
-            pick ! (λ p. split ! $ split ! $ drop ! $ move ! (1 ∷ []) $
-            use1 W (some (λ (ends₂ : Lasts ended₂ tt (g, (settings, (clock, tt)))). ‵ (lasts ended₂ tt (g, (settings, (clock, tt))) ends₂) ⊛ raw (fact 𝓤 (gives₂ g settings clock p)))) (id⊢ 𝓤 _) $ pick ! (λ ends₂.
-            split ! $ move ! (1 ∷ []) $ heard ! (gives₂ g settings clock p) (λ φ₂. drop ! $ peeks ! (XP .row) (Is (XP .row)) (shows 𝓤 H A (XP .row)) p (v₂ ∷ []) (λ said-p. drop ! $
+            use3 W (raw (Contract₂ .pre ((tt, tt, tt, (g, (clock, tt)), (G .val g ∷ [], (XC .val clock ∷ [], tt))), tt))) (passed 𝓤 H A signature₂ tt tt (g, (clock, tt)) (G .val g ∷ [], (XC .val clock ∷ [], tt)) (asks₂ g clock)) $
+            calls-at ! fm Contract₂ known₂ ((tt, tt, tt, (g, (clock, tt)), (G .val g ∷ [], (XC .val clock ∷ [], tt))), tt) (and-then ! (load ! (from ! (stop !)) (look ! 10 refl)) (and-then ! (load ! (from ! (stop !)) (look ! 14 refl)) (no-more !))) (λ v₂.
+            use1 W (later (some (λ (p : XP .row .Denot). (‵ ftrue ⊛ ‵ (XP .row .own p (v₂ ∷ []))) ⊛ raw (ensured 𝓤 H A ended₂ clauses₂ tt (g, (clock, tt)) tt p)))) (id⊢ 𝓤 _) $ await ! tt $ pick ! (λ p. split ! $
+            split ! $ drop ! $ move ! (1 ∷ []) $ use1 W (some (λ (ends₂ : Lasts ended₂ tt (g, (clock, tt))). ‵ (lasts ended₂ tt (g, (clock, tt)) ends₂) ⊛ raw (fact 𝓤 (gives₂ g clock p)))) (id⊢ 𝓤 _) $
+            pick ! (λ ends₂. split ! $ move ! (1 ∷ []) $ heard ! (gives₂ g clock p) (λ φ₂. drop ! $ peeks ! (XP .row) (Is (XP .row)) (shows 𝓤 H A (XP .row)) p (v₂ ∷ []) (λ said-p. drop ! $
             land ! (from ! (stop !)) (init ! 7 refl (XP .typed M 𝓤 H A W p _ said-p)) $ rewrite ! 7 (λ (u : Val). ‵ (fat fullShare (XP .ty) z₉ 0 u)) (ap only (XP .tells p (v₂ ∷ []) said-p)) refl $
             -- what is left is stored
             assigns ! (of-opd ! (load ! (from ! (fld ! refl (stop !))) (look-in ! 7 (sub ! 1 refl (whole-part !))))) (from ! (hop ! (look ! 19 refl) (stop !))) (store-raw ! 3 refl (((struct-part C) .word) .typed M 𝓤 H A W ((struct-part C) .res (P .form .read p .1 .0)) _ ((struct-part C) .is (P .form .read p .1 .0) (LL.owed (whole P .S) (whole P .L) p _ (settled XP p v₂ said-p) .1 .0)))) $
@@ -176,10 +174,10 @@ module _ (S N G : Word) (C L E : Data) (K : Part) (P : Outcome (K ∷ (struct-pa
             by ! (exits ((struct-part C) .res (P .form .read p .1 .0)) (K .res (P .form .read p .0)) (K .laws .val (K .K .into (P .form .read p .0))) (then settings number clock links run g p φ₁ φ₂))))))))))))))))))))))))))
 
   -- γ is the function's `code.env`, f and the others are the keys
-  module _ {M : Type 1} (𝓤 : URA M) (H : Heap 𝓤) (𝓜 : Model 𝓤 H) (𝓖 : GhostRules 𝓤 H) (𝓡 : Running 𝓤 H 𝓜) (asks₁ : S .row .Denot → N .row .Denot → XC .row .Denot → XL .row .Denot → List (E .S .D) → SProp 𝓤) (gives₁ : S .row .Denot → N .row .Denot → XC .row .Denot → XL .row .Denot → List (E .S .D) → G .row .Denot → Type 0) (asks₂ : G .row .Denot → S .row .Denot → XC .row .Denot → SProp 𝓤) (gives₂ : G .row .Denot → S .row .Denot → XC .row .Denot → XP .row .Denot → Type 0) (Says : S .row .Denot → N .row .Denot → C .S .D → L .S .D → List (E .S .D) → C .S .D → XK .row .Denot → Type 0)
+  module _ {M : Type 1} (𝓤 : URA M) (H : Heap 𝓤) (𝓜 : Model 𝓤 H) (𝓖 : GhostRules 𝓤 H) (𝓡 : Running 𝓤 H 𝓜) (asks₁ : S .row .Denot → N .row .Denot → XC .row .Denot → XL .row .Denot → List (E .S .D) → SProp 𝓤) (gives₁ : S .row .Denot → N .row .Denot → XC .row .Denot → XL .row .Denot → List (E .S .D) → G .row .Denot → Type 0) (asks₂ : G .row .Denot → XC .row .Denot → SProp 𝓤) (gives₂ : G .row .Denot → XC .row .Denot → XP .row .Denot → Type 0) (Says : S .row .Denot → N .row .Denot → C .S .D → L .S .D → List (E .S .D) → C .S .D → XK .row .Denot → Type 0)
       (ok₁ : (settings : S .row .Denot) (number : N .row .Denot) (clock : C .S .D) (links : L .S .D) (run : List (E .S .D)) → ent 𝓤 (emp 𝓤) (asks₁ settings number clock links run))
-      (ok₂ : (settings : S .row .Denot) (number : N .row .Denot) (clock : C .S .D) (links : L .S .D) (run : List (E .S .D)) (g : G .row .Denot) → gives₁ settings number clock links run g → ent 𝓤 (emp 𝓤) (asks₂ g settings clock))
-      (then : (settings : S .row .Denot) (number : N .row .Denot) (clock : C .S .D) (links : L .S .D) (run : List (E .S .D)) (g : G .row .Denot) (p : XP .row .Denot) → gives₁ settings number clock links run g → gives₂ g settings clock p → Says settings number clock links run ((struct-part C) .res (P .form .read p .1 .0)) (K .res (P .form .read p .0)))
+      (ok₂ : (settings : S .row .Denot) (number : N .row .Denot) (clock : C .S .D) (links : L .S .D) (run : List (E .S .D)) (g : G .row .Denot) → gives₁ settings number clock links run g → ent 𝓤 (emp 𝓤) (asks₂ g clock))
+      (then : (settings : S .row .Denot) (number : N .row .Denot) (clock : C .S .D) (links : L .S .D) (run : List (E .S .D)) (g : G .row .Denot) (p : XP .row .Denot) → gives₁ settings number clock links run g → gives₂ g clock p → Says settings number clock links run ((struct-part C) .res (P .form .read p .1 .0)) (K .res (P .form .read p .0)))
       (γ : Env) (f g₁ g₂ : Name) (r₁ r₂ : Routine) where
     abbrev Clauses′ : Clauses 𝓤 ended
     Clauses′ = clauses 𝓤 H (𝓖 .A) asks₁ gives₁ asks₂ gives₂ Says
