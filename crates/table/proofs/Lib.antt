@@ -4,4 +4,5 @@ pub mod Stages
 pub mod Ranges
 pub mod Cases
 pub mod Kept
+pub mod Sweeps
 pub mod Loops

@@ -15,6 +15,7 @@ use Rattle.table.specs.declared.Updated.{Updated}
 use Rattle.table.specs.Forms.{every}
 use Rattle.table.specs.Sweep.{Swept, sweep}
 use Rattle.table.specs.Runs.{latest}
+use Rattle.table.proofs.Sweeps.{sweep-length, sweep-more}
 
 -- ---- one element more
 
@@ -25,24 +26,6 @@ every-more test (x ∷ xs) a = rw (every-more test xs a) (sym (and-assoc (test x
 latest-more : (known : Entry) (xs : List Entry) (e : Entry) → latest known (xs ++ (e ∷ [])) ≡ e
 latest-more known [] e = refl
 latest-more known (x ∷ xs) e = latest-more x xs e
-
-pub sweep-length : (i : ℕ) (update : ℕ → Clock → Entry → Updated) (c : Clock) (es : List Entry) → length (sweep i update c es .entries) ≡ length es
-unfolding sweep
-sweep-length i update c [] = refl
-sweep-length i update c (e ∷ es) = ap suc (sweep-length (suc i) update (update i c e .clock) es)
-
--- a sweep over one entry more ends with the update of that entry
-sweep-more : (i : ℕ) (update : ℕ → Clock → Entry → Updated) (c : Clock) (es : List Entry) (e : Entry)
-    → sweep i update c (es ++ (e ∷ []))
-    ≡ record {
-      clock = update (i + length es) (sweep i update c es .clock) e .clock;
-      entries = sweep i update c es .entries ++ (update (i + length es) (sweep i update c es .clock) e .entry ∷ []);
-    }
-unfolding sweep
-sweep-more i update c [] e = let z : i + 0 ≡ i = omega arith in rw (z) refl
-sweep-more i update c (x ∷ es) e =
-    let s : i + suc (length es) ≡ suc i + length es = omega arith in
-    rw (s, sweep-more (suc i) update (update i c x .clock) es e) refl
 
 reports-more : (i : ℕ) (rs : List Report) (r : Report) (b : List ℕ) → withReports i (rs ++ (r ∷ [])) b ≡ withReport (i + length rs) r (withReports i rs b)
 unfolding withReports

@@ -10,17 +10,19 @@ use lib.IntN.{ℤ, pos, _+ℤ_}
 use lib.Signed.{ltZ}
 use mir.Syntax.{w64}
 use mir.Val.{SFits}
-use Rattle.quantity.specs.Quantity.{millis}
-use Rattle.quantity.proofs.Ints.{Within, lt-no, not-lt, of-≤ℤ, of-<ℤ, sum, fits}
+use Rattle.quantity.specs.Quantity.{unitsPerMilli, millis, wholeMillis}
+use Rattle.quantity.proofs.Ints.{Within, floor, lt-no, not-lt, of-≤ℤ, of-<ℤ, sum, fits}
 use Rattle.laws.proofs.Tests.{both, each}
+use Rattle.clock.specs.declared.Clock.{Clock}
 use Rattle.clock.specs.Midnight.{dayMillis}
+use Rattle.clock.specs.Clock.{reading, clockInRange}
+use Rattle.clock.proofs.Bounds as clock
 use Rattle.wire.specs.declared.Report.{Report}
-use Rattle.wire.specs.Hello.{DelayFits}
+use Rattle.wire.specs.Ranges.{Two}
 use Rattle.table.specs.declared.Entry.{Entry}
 use Rattle.table.specs.declared.Update.{Update}
 use Rattle.table.specs.Entry.{maxDelay, holdDown, upTo, entryInRange}
-use Rattle.table.specs.Update.{ownMost, delayInRange}
-use Rattle.table.specs.Runs.{plusReport}
+use Rattle.table.specs.Update.{ownMost, plusReport, delayInRange}
 
 pub within : (n : ℕ) (z : ℤ) → upTo (millis (pos n)) (millis z) ≡ true → Within 0 n z
 within n z e =
@@ -61,12 +63,12 @@ own-in-range u h =
     up-to 98302 (u .delay .0) (omega arith)
 
 -- a DELAY of our own with a packet's added
-module _ (u : Update) (r : Report) (own : upTo ownMost (u .delay) ≡ true) (reported : DelayFits r) where
+module _ (u : Update) (r : Report) (own : upTo ownMost (u .delay) ≡ true) (reported : Two (r .delay .0)) where
   within-sum : Within 0 98302 (u .delay .0 +ℤ r .delay .0)
   within-sum =
       let w = within 32767 (u .delay .0) own in
-      let low = of-≤ℤ (reported .not-negative) in
-      let high = of-<ℤ (reported .two-octets) in
+      let low = of-≤ℤ (reported .not-below) in
+      let high = of-<ℤ (reported .below) in
       let s = sum (u .delay .0) (r .delay .0) in
       omega arith
 
@@ -75,3 +77,11 @@ module _ (u : Update) (r : Report) (own : upTo ownMost (u .delay) ≡ true) (rep
 
   pub sum-in-range : delayInRange (plusReport u r) ≡ true
   sum-in-range = up-to 98302 (u .delay .0 +ℤ r .delay .0) within-sum
+
+-- our reading of a clock in range
+pub reading-in : (c : Clock) → clockInRange c ≡ true → upTo dayMillis (reading c .time) ≡ true
+unfolding reading
+reading-in c e =
+    let k = clock.range-says c e in
+    let whole = floor (c .clock .0) unitsPerMilli (omega arith) in
+    up-to 86400000 (wholeMillis (c .clock) .0) (omega arith)

@@ -4,15 +4,10 @@ use mathlib.Core.Bool.{Bool, true, cond, _&&_}
 use mathlib.Core.List.{List, [], _∷_, map}
 use Prim.Native.Nat.{ℕ, _+_, _-_, _≤_, _<_}
 use lib.Dec.{eqb}
-use lib.IntN.{pos}
 use lib.ListN.{length}
 use Rattle.laws.specs.Lists.{part, over}
-use Rattle.quantity.specs.declared.Millis.{Millis}
-use Rattle.quantity.specs.Quantity.{millis, addMillis}
-use Rattle.quantity.specs.Words.{toWord, ofWord}
 use Rattle.clock.specs.declared.Clock.{Clock}
 use Rattle.clock.specs.Clock.{clockInRange}
-use Rattle.wire.specs.declared.Report.{Report}
 use Rattle.wire.specs.Ip.{headerLength}
 use Rattle.wire.specs.Hello.{reportLength, reportPlace, reportAt}
 use Rattle.wire.specs.Packet.{helloOf, packetLength}
@@ -29,7 +24,7 @@ use Rattle.table.specs.declared.run.Updates.{Updates}
 use Rattle.table.specs.declared.run.Reports.{Reports}
 use Rattle.table.specs.Forms.{every}
 use Rattle.table.specs.Entry.{freshEntry, aged, advertised, upTo, entryInRange}
-use Rattle.table.specs.Update.{update, selfReported, ownMost}
+use Rattle.table.specs.Update.{plusReport, update, selfReported, ownMost}
 use Rattle.table.specs.Sweep.{Swept, sweep}
 
 -- ---- places
@@ -66,16 +61,6 @@ changes w run = over run (w .first) (map (changed (w .change)) (part (w .first) 
 
 -- ---- the updates of an arrival
 
--- ".. with DELAY plus the packet's delay (unsigned, a whole sum that never wraps) and OFFSET plus its offset (16 bits signed, wrapping)"
-abbrev pub plusReport : Update → Report → Update
-plusReport u r =
-    record {
-      pid = u .pid;
-      delay = addMillis (u .delay) (r .delay);
-      offset = toWord (addMillis (ofWord (u .offset)) (ofWord (r .offset)));
-      reading = u .reading;
-    }
-
 abbrev pub updateAt : Updates → (id : ℕ) → (packet : List ℕ) → Update
 updateAt w id packet = cond (w .table) (plusReport (w .update) (reportAt (helloOf packet) id)) (w .update)
 
@@ -93,13 +78,17 @@ pub record Updatable (w : Updates) (id : ℕ) (packet : List ℕ) : Type 0 where
   pub delay : upTo ownMost (w .update .delay) ≡ true
   pub report : w .table ≡ true → headerLength + reportPlace id + reportLength ≤ length packet
 
-pub record UpdatesFit (w : Updates) (run : List Entry) (packet : List ℕ) : Type 0 where
-  pub places : InRun (w .first) (w .end) run
+-- what each update asks, where there is one
+pub record Sound (w : Updates) (packet : List ℕ) : Type 0 where
   pub based : w .base ≤ w .first
   pub clock : clockInRange (w .clock) ≡ true
   pub hold : w .«hold_interval» .0 ≤ 255
   pub delay : upTo ownMost (w .update .delay) ≡ true
   pub reports : w .table ≡ true → packetLength (w .end - w .base) ≤ length packet
+
+pub record UpdatesFit (w : Updates) (run : List Entry) (packet : List ℕ) : Type 0 where
+  pub places : InRun (w .first) (w .end) run
+  pub sound : w .first < w .end → Sound w packet
 
 -- ---- reading out for a send
 

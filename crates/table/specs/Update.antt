@@ -7,11 +7,12 @@ use Rattle.quantity.specs.declared.Millis.{Millis}
 use Rattle.quantity.specs.declared.Seconds.{Seconds}
 use Rattle.quantity.specs.Quantity.{millis, addMillis, lessMillis}
 use Rattle.quantity.specs.declared.Word.{Word}
-use Rattle.quantity.specs.Words.{word, ofWord}
+use Rattle.quantity.specs.Words.{word, toWord, ofWord}
 use Rattle.calendar.specs.declared.Date.{Date}
 use Rattle.calendar.specs.Date.{real, awaited}
 use Rattle.clock.specs.declared.Clock.{Clock}
 use Rattle.clock.specs.Clock.{setBy}
+use Rattle.wire.specs.declared.Report.{Report}
 use Rattle.table.specs.declared.Entry.{Entry}
 use Rattle.table.specs.declared.Update.{Update}
 use Rattle.table.specs.declared.Updated.{Updated}
@@ -24,6 +25,16 @@ use Rattle.table.specs.Entry.{maxDelay, minDelay, holdDown, up, takenDow
 abbrev pub lineOf : Stage Entry → Line
 lineOf (on e) = On e
 lineOf (end e) = End e
+
+-- ".. with DELAY plus the packet's delay (unsigned, a whole sum that never wraps) and OFFSET plus its offset (16 bits signed, wrapping)"
+abbrev pub plusReport : Update → Report → Update
+plusReport u r =
+    record {
+      pid = u .pid;
+      delay = addMillis (u .delay) (r .delay);
+      offset = toWord (addMillis (ofWord (u .offset)) (ofWord (r .offset)));
+      reading = u .reading;
+    }
 
 -- The most that a DELAY of our own comes to, a signed 16-bit word; and the most with a packet's added, an unsigned one.
 abbrev pub ownMost : Millis

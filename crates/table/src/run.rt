@@ -3,9 +3,9 @@ ghost use mathlib.Core.Path.{_≡_};
 ghost use mathlib.Core.Bool.{true};
 ghost use Prim.Native.Nat.{_-_, _≤_};
 ghost use Rattle.clock.specs.Clock.{clockInRange};
-ghost use Rattle.wire.specs.Hello.{DelayFits};
+ghost use Rattle.wire.specs.Ranges.{Two};
 ghost use Rattle.table.specs.Entry.{upTo};
-ghost use Rattle.table.specs.Update.{ownMost, delayInRange};
+ghost use Rattle.table.specs.Update.{plusReport, ownMost, delayInRange};
 ghost use Rattle.table.specs.Runs.{
   InRun,
   stillGood,
@@ -13,7 +13,6 @@ ghost use Rattle.table.specs.Runs.{
   entryOf,
   changed,
   changes,
-  plusReport,
   updateAt,
   updatedAt,
   Updatable,
@@ -151,7 +150,7 @@ pub fn change_all(run: &mut [Entry], w: Changes)
 // An update with what a packet reports added.
 fn plus_report(u: Update, r: Report) -> Update
     requires { ⌜ upTo ownMost (u .delay) ≡ true ⌝ }
-    requires { ⌜ DelayFits r ⌝ }
+    requires { ⌜ Two (r .delay .0) ⌝ }
     ensures { λ x. ⌜ (x ≡ plusReport u r) × (delayInRange x ≡ true) ⌝ }
 {
     let delay = u.delay;

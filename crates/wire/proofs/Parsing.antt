@@ -2,7 +2,8 @@
 use mathlib.Core.Path.{_≡_}
 use mathlib.Core.Bool.{true}
 use mathlib.Core.List.{List}
-use Prim.Native.Nat.{ℕ, _%_, _≤_}
+use Prim.Native.Nat.{ℕ, _%_, _^_, _≤_, _<_}
+use native.Mathlib.Omega.{arith}
 use borrow.Author.Tests.{leb-true, le-leb, eq-eqb}
 use lib.IntN.{pos}
 use lib.ListN.{length}
@@ -10,6 +11,7 @@ use Rattle.quantity.specs.declared.Millis.{Millis}
 use Rattle.quantity.specs.declared.Word.{Word}
 use Rattle.quantity.specs.Quantity.{millis}
 use Rattle.quantity.specs.Words.{word, signed16}
+use Rattle.quantity.proofs.Ints.{to-≤ℤ, to-<ℤ}
 use Rattle.laws.proofs.Tests.{both}
 use Rattle.wire.specs.declared.Address.{Address}
 use Rattle.wire.specs.declared.Parsed.the-variants.{Good}
@@ -17,6 +19,7 @@ use Rattle.wire.specs.Octets.{octetAt, twoAt, fourAt, addressAt}
 use Rattle.wire.specs.Ip.{headerLength, versionAndLength, versionPlace, totalPlace, fragmentPlace, sourcePlace, ipForm, ipChecksum, protocol}
 use Rattle.wire.specs.Hello.{fixedLength, datePlace, timePlace, tspPlace, addressOffsetPlace, nhostsPlace, helloLength, helloForm, helloChecksum}
 use Rattle.wire.specs.Packet.{helloOf, fields, parse}
+use Rattle.wire.specs.Ranges.{Four}
 
 pub ip-long : (s : List ℕ) → ipForm s ≡ true → headerLength ≤ length s
 unfolding ipForm
@@ -55,3 +58,7 @@ pub fields-read : (s part : List ℕ) (source : Address) (date t w : ℕ) (time 
     → record { source = source; date = record { 0 = date }; time = time; tsp = tsp; «address_offset» = octetAt part addressOffsetPlace; nhosts = octetAt part nhostsPlace } ≡ fields s
 unfolding fields
 fields-read s part source date t w time tsp e e₁ e₂ e₃ e₄ e₅ e₆ = rw (e₅, e₆, e₁, e₂, e₃, e₄, e)
+
+pub four-octets : (time : Millis) (n : ℕ) → time ≡ millis (pos n) → n < 2 ^ 32 → Four (time .0)
+four-octets time n e small =
+    rw e (record { not-below = to-≤ℤ (pos 0) (pos n) (omega arith); below = to-<ℤ (pos n) (pos (2 ^ 32)) (omega (arith, small)) })

@@ -7,18 +7,20 @@ use native.Mathlib.Omega.{arith}
 use lib.IntN.{natAbs}
 use lib.ListN.{length, take, drop, set, take-append-drop}
 use lib.Seq.{sets, sets-eq, drop-drop, drop-at, take-append-add, length-take-le}
+use Rattle.laws.proofs.Parts.{over-behind}
 use Rattle.quantity.specs.Words.{bits16}
 use Rattle.checksum.specs.Checksum.{checksumOf}
 use Rattle.checksum.proofs.Octets.{Octets, in-front, behind}
 use Rattle.checksum.proofs.Folding.{checksum-over-zero}
 use Rattle.wire.specs.declared.Address.{Address}
 use Rattle.wire.specs.declared.Packet.{Packet}
+use Rattle.wire.specs.Packet.{packetLength}
 use Rattle.wire.specs.declared.Report.{Report}
 use Rattle.wire.specs.Octets.{two, four, addressOctets}
 use Rattle.wire.specs.Ip.{headerLength, versionAndLength, helloProtocol, versionPlace, totalPlace, fragmentPlace, protocolPlace, sourcePlace, headerFront, headerBack, header}
 use Rattle.wire.specs.Hello.{fixedLength, datePlace, timePlace, tspPlace, addressOffsetPlace, nhostsPlace, reportLength, reportPlace, helloLength, reportOctets, helloBehind}
 use Rattle.wire.specs.Sealing.{sealedBehind, sealedHello, sealed, helloWithReport, withReport}
-use Rattle.wire.proofs.Parts.{from-on, comes-back, over-behind}
+use Rattle.wire.proofs.Parts.{from-on, comes-back}
 
 -- ---- a report
 
@@ -89,9 +91,9 @@ hello-sealed b l₁ l₂ l₃ m p h e₁ e₂ o e₃ e₄ =
 
 -- ---- the packet
 
-pub packet-sealed : (b m l : List ℕ) (n : ℕ) (destination : Address) (p : Packet) → headerLength ≤ length b → n ≡ helloLength (p .nhosts)
+pub packet-sealed : (b m l : List ℕ) (n : ℕ) (destination : Address) (p : Packet) → headerLength ≤ length b → n ≡ packetLength (p .nhosts)
     → m ≡ sealedHello p (take (length b - headerLength) (drop headerLength b))
-    → l ≡ header (headerLength + n) (p .source) destination ++ drop headerLength (take headerLength b ++ (m ++ drop (length b - headerLength) (drop headerLength b)))
+    → l ≡ header n (p .source) destination ++ drop headerLength (take headerLength b ++ (m ++ drop (length b - headerLength) (drop headerLength b)))
     → l ≡ sealed destination p b
 unfolding sealed
 packet-sealed b m l n destination p h e e₁ e₂ =

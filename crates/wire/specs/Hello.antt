@@ -1,11 +1,10 @@
 -- The HELLO: "octets from its start: checksum 0-1, date word 2-3, time in ms 4-7, TSP 8-9, ADDRESS-OFFSET 10, NHOSTS 11, then per host DELAY and OFFSET, two octets each."
 use mathlib.Core.Bool.{Bool, _&&_}
 use mathlib.Core.List.{List, [], _∷_, _++_}
-use Prim.Native.Nat.{ℕ, _+_, _*_, _^_}
+use Prim.Native.Nat.{ℕ, _+_, _*_}
 use lib.Dec.{leb, eqb}
 use lib.IntN.{pos, natAbs}
 use lib.ListN.{length}
-use lib.Signed.{_≤ℤ_, _<ℤ_}
 use Rattle.quantity.specs.Quantity.{millis}
 use Rattle.quantity.specs.Words.{word, bits16, signed16}
 use Rattle.checksum.specs.Checksum.{checksumGood, checksumOf}
@@ -62,11 +61,6 @@ reportAt hello i =
       delay = millis (pos (twoAt hello (reportPlace i)));
       offset = word (signed16 (twoAt hello (reportPlace i + 2)));
     }
-
--- a delay that two octets hold
-pub record DelayFits (r : Report) : Type 0 where
-  pub not-negative : (pos 0) ≤ℤ (r .delay .0)
-  pub two-octets : (r .delay .0) <ℤ (pos (2 ^ 16))
 
 -- ---- written
 

@@ -1,7 +1,8 @@
 -- How a message comes into a lent buffer: each host's report is put in its place, then the rest is filled in around the reports.
 use mathlib.Core.List.{List, [], _∷_, _++_}
 use Prim.Native.Nat.{ℕ, suc, _+_, _*_}
-use lib.ListN.{length, take, drop}
+use lib.ListN.{take, drop}
+use Rattle.laws.specs.Lists.{over}
 use Rattle.checksum.specs.Checksum.{checksumOf}
 use Rattle.wire.specs.declared.Address.{Address}
 use Rattle.wire.specs.declared.Packet.{Packet}
@@ -10,10 +11,6 @@ use Rattle.wire.specs.Octets.{two}
 use Rattle.wire.specs.Ip.{headerLength, header}
 use Rattle.wire.specs.Hello.{fixedLength, reportLength, reportPlace, helloLength, reportOctets, helloBehind}
 use Rattle.wire.specs.Packet.{helloOf, packetLength}
-
--- a list with r over what stands from a place on
-abbrev pub over : List ℕ → (place : ℕ) → List ℕ → List ℕ
-over b k r = take k b ++ r ++ drop (k + length r) b
 
 -- ---- the reports
 

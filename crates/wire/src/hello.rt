@@ -4,8 +4,8 @@ ghost use Prim.Native.Nat.{_+_, _≤_};
 ghost use mathlib.Core.List.{[]};
 ghost use lib.ListN.{length};
 ghost use lib.Seq.{sets};
-ghost use Rattle.wire.specs.Hello.{fixedLength, datePlace, reportLength, reportPlace, helloLength, helloForm, helloChecksum, reportAt, DelayFits, helloBehind};
-ghost use Rattle.wire.specs.Ranges.{Four};
+ghost use Rattle.wire.specs.Hello.{fixedLength, datePlace, reportLength, reportPlace, helloLength, helloForm, helloChecksum, reportAt, helloBehind};
+ghost use Rattle.wire.specs.Ranges.{Two, Four};
 ghost use Rattle.wire.specs.Sealing.{helloWithReport, sealedHello};
 use super::Packet;
 use super::Report;
@@ -61,7 +61,7 @@ pub fn checksum(hello: &[u8]) -> bool
 // What is reported of host i.
 pub fn report(hello: &[u8], i: usize) -> Report
     requires { ⌜ reportPlace i + reportLength ≤ length (now hello) ⌝ }
-    ensures { λ r. ⌜ (r ≡ reportAt (now (hello .entry)) i) × DelayFits r ⌝ }
+    ensures { λ r. ⌜ (r ≡ reportAt (now (hello .entry)) i) × Two (r .delay .0) ⌝ }
 {
     let place = FIXED + REPORT * i;
     let delay = two_at(hello, place);

@@ -4,9 +4,9 @@ ghost use Prim.Native.Nat.{_+_, _≤_};
 ghost use lib.ListN.{length};
 ghost use Rattle.wire.specs.Octets.{zeroAddress, sameAddress};
 ghost use Rattle.wire.specs.Ip.{headerLength};
-ghost use Rattle.wire.specs.Hello.{reportLength, reportPlace, reportAt, DelayFits};
+ghost use Rattle.wire.specs.Hello.{reportLength, reportPlace, reportAt};
 ghost use Rattle.wire.specs.Packet.{packetLength, helloOf, fields, parse};
-ghost use Rattle.wire.specs.Ranges.{Four};
+ghost use Rattle.wire.specs.Ranges.{Two, Four, TimeFits};
 ghost use Rattle.wire.specs.ReadBack.{ReadBack, ReportsBack};
 ghost use Rattle.wire.specs.Sealing.{withReport, sealed};
 
@@ -46,6 +46,13 @@ pub enum Parsed {
 }
 
 impl Address {
+    pub const ZERO: Address = Address {
+        first: 0,
+        second: 0,
+        third: 0,
+        fourth: 0,
+    };
+
     pub fn same(self, other: Address) -> bool
         ensures { λ r. ⌜ r ≡ sameAddress self other ⌝ }
     {
@@ -64,19 +71,14 @@ impl Address {
     pub fn is_zero(self) -> bool
         ensures { λ r. ⌜ r ≡ sameAddress self zeroAddress ⌝ }
     {
-        self.same(Address {
-            first: 0,
-            second: 0,
-            third: 0,
-            fourth: 0,
-        })
+        self.same(Address::ZERO)
     }
 }
 
 // The fields of a packet, but for the reports.
 fn fields(packet: &[u8]) -> Packet
     requires { ⌜ packetLength 0 ≤ length (now packet) ⌝ }
-    ensures { λ r. ⌜ r ≡ fields (now (packet .entry)) ⌝ }
+    ensures { λ r. ⌜ (r ≡ fields (now (packet .entry))) × Four (r .time .0) ⌝ }
 {
     let source = octets::address_at(packet, ip::SOURCE);
     let part = &packet[ip::LENGTH..];
@@ -95,7 +97,7 @@ fn fields(packet: &[u8]) -> Packet
 
 // A packet read: the tests of answers 3 to 7 in their order, and the fields of one that passes.
 pub fn parse(packet: &[u8]) -> Parsed
-    ensures { λ r. ⌜ r ≡ parse (now (packet .entry)) ⌝ }
+    ensures { λ r. ⌜ (r ≡ parse (now (packet .entry))) × TimeFits r ⌝ }
 {
     if !ip::form(packet) {
         return Parsed::Bad(answer::Answer::IpForm);
@@ -118,9 +120,16 @@ pub fn parse(packet: &[u8]) -> Parsed
 // What a packet reports of host i.
 pub fn report_at(packet: &[u8], i: usize) -> Report
     requires { ⌜ headerLength + reportPlace i + reportLength ≤ length (now packet) ⌝ }
-    ensures { λ r. ⌜ (r ≡ reportAt (helloOf (now (packet .entry))) i) × DelayFits r ⌝ }
+    ensures { λ r. ⌜ (r ≡ reportAt (helloOf (now (packet .entry))) i) × Two (r .delay .0) ⌝ }
 {
     hello::report(&packet[ip::LENGTH..], i)
+}
+
+// The octets of a packet of so many hosts.
+pub fn length(nhosts: u8) -> usize
+    ensures { λ r. ⌜ r ≡ packetLength nhosts ⌝ }
+{
+    ip::LENGTH + hello::length(nhosts)
 }
 
 // The report of host i put in its place in a packet.
@@ -138,7 +147,7 @@ pub fn seal(buffer: &mut [u8], destination: Address, p: Packet)
     ensures { λ _. ⌜ now (buffer .exit) ≡ sealed destination p (now (buffer .entry)) ⌝ }
 {
     let source = p.source;
-    let total = ip::LENGTH + hello::length(p.nhosts);
+    let total = length(p.nhosts);
     hello::seal(&mut buffer[ip::LENGTH..], p);
     ip::seal(&mut *buffer, total as u16, source, destination);
 }

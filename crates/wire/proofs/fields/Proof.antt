@@ -1,6 +1,6 @@
-use Rattle.wire.proofs.Parsing.{fields-read}
+use Rattle.wire.proofs.Parsing.{fields-read, four-octets}
 use lib.ListN.{length, take, drop}
-use Prim.Native.Nat.{_-_}
+use Prim.Native.Nat.{_-_, _<_, _^_}
 use Rattle.wire.proofs.Parts.{from-on}
 use borrow.Author.Needs.{needs}
 use Rattle.wire.proofs.fields.Statement.{statement}
@@ -42,8 +42,13 @@ shared-slice-read-t16 c = search needs
 returns : tie.Need-returns
 returns c =
     let s = c .before .before .before .before .before .before .before .before .before .before .args .packet .now in
-    fields-read s (take (length s - 20) (drop 20 s)) _ _ _ _ _ _ (from-on 20 s)
-    (c .before .before .before .before .before .before .before .before .address-at .ensures) (c .before .before .before .before .before .before .two-at .ensures) (c .before .before .before .before .before .four-at .ensures) (c .before .before .before .before .two-at2 .ensures) (c .before .before .before .of-unsigned .ensures) (c .before .before .of-bits .ensures)
+    let time = c .before .before .before .of-unsigned .ensures in
+    let n = c .before .before .before .before .before .four-at .result in
+    let small : n < 2 ^ 32 = search needs in (
+      fields-read s (take (length s - 20) (drop 20 s)) _ _ _ _ _ _ (from-on 20 s)
+          (c .before .before .before .before .before .before .before .before .address-at .ensures) (c .before .before .before .before .before .before .two-at .ensures) (c .before .before .before .before .before .four-at .ensures) (c .before .before .before .before .two-at2 .ensures) time (c .before .before .of-bits .ensures),
+      four-octets _ n time small,
+    )
 
 pub fields-spec : {M : Type 1} → statement M
 fields-spec =

@@ -44,21 +44,21 @@ form-requires c κs = search needs
 
 returns : tie.Need-returns
 unfolding parse
-returns c = rw (sym (c .before .form .ensures) ∙ not-true _ (c .if1 .taken))
+returns c = (rw (sym (c .before .form .ensures) ∙ not-true _ (c .if1 .taken)), tt)
 
 checksum-requires : tie.Need-checksum-requires
 checksum-requires c κs = ip-long _ (form-good c)
 
 returns-2 : tie.Need-returns-2
 unfolding parse
-returns-2 c = rw (form-good (c .before .before), sym (c .before .checksum .ensures) ∙ not-true _ (c .if2 .taken))
+returns-2 c = (rw (form-good (c .before .before), sym (c .before .checksum .ensures) ∙ not-true _ (c .if2 .taken)), tt)
 
 protocol-requires : tie.Need-protocol-requires
 protocol-requires c κs = ip-long _ (form-good (c .before .before))
 
 returns-3 : tie.Need-returns-3
 unfolding parse
-returns-3 c = rw (form-good (c .before .before .before .before), checksum-good (c .before .before), sym (c .before .protocol .ensures) ∙ not-true _ (c .if3 .taken))
+returns-3 c = (rw (form-good (c .before .before .before .before), checksum-good (c .before .before), sym (c .before .protocol .ensures) ∙ not-true _ (c .if3 .taken)), tt)
 
 sub-form : tie.Need-sub-form
 sub-form c = ip-long _ (header-good c .form)
@@ -76,7 +76,7 @@ returns-4 : tie.Need-returns-4
 unfolding parse
 returns-4 c =
     let h = header-good (c .before .before .before) in
-    rw (h .form, h .checksum, h .kind, hello-test helloForm _ (c .before .form2 .ensures) (not-true _ (c .if4 .taken)))
+    (rw (h .form, h .checksum, h .kind, hello-test helloForm _ (c .before .form2 .ensures) (not-true _ (c .if4 .taken))), tt)
 
 sub-checksum : tie.Need-sub-checksum
 sub-checksum c = ip-long _ (header-good (c .before .before .before) .form)
@@ -94,7 +94,7 @@ returns-5 : tie.Need-returns-5
 unfolding parse
 returns-5 c =
     let h = header-good (c .before .before .before .before .before .before) in
-    rw (h .form, h .checksum, h .kind, hello-form-good (c .before .before .before), hello-test helloChecksum _ (c .before .checksum2 .ensures) (not-true _ (c .if5 .taken)))
+    (rw (h .form, h .checksum, h .kind, hello-form-good (c .before .before .before), hello-test helloChecksum _ (c .before .checksum2 .ensures) (not-true _ (c .if5 .taken))), tt)
 
 fields-requires : tie.Need-fields-requires
 fields-requires c κs =
@@ -105,7 +105,7 @@ returns-6 : tie.Need-returns-6
 returns-6 c =
     let s = c .before .before .before .before .before .before .before .before .before .before .before .before .before .before .args .packet .now in
     let g : HelloPasses (helloOf s) = record { form = hello-form-good (c .before .before .before .before); checksum = hello-test helloChecksum s (c .before .before .checksum2 .ensures) (not-false _ (c .before .if5 .left)) } in
-    ap Good (c .fields .ensures) ∙ sym (passes s (header-good (c .before .before .before .before .before .before .before)) g)
+    (ap Good (c .fields .ensures .0) ∙ sym (passes s (header-good (c .before .before .before .before .before .before .before)) g), c .fields .ensures .1)
 
 pub parse-spec : {M : Type 1} → statement M
 parse-spec =

@@ -7,9 +7,6 @@ use Rattle.wire.proofs.seal.Tie as tie
 length-requires : tie.Need-length-requires
 length-requires c κs = search needs
 
-add-total : tie.Need-add-total
-add-total c = search needs
-
 sub-seal : tie.Need-sub-seal
 sub-seal c = search needs
 
@@ -41,7 +38,6 @@ seal-spec =
     tie.close
     (tie.spec
     length-requires
-    add-total
     sub-seal
     part-seal-start
     part-seal-end

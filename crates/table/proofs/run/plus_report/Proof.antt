@@ -6,8 +6,7 @@ use Rattle.quantity.specs.Words.{toWord, ofWord}
 use Rattle.wire.specs.declared.Report.{Report}
 use Rattle.table.specs.declared.Update.{Update}
 use mathlib.Core.Bool.{true}
-use Rattle.table.specs.Update.{delayInRange}
-use Rattle.table.specs.Runs.{plusReport}
+use Rattle.table.specs.Update.{plusReport, delayInRange}
 use Rattle.table.proofs.Ranges.{sum-fits, sum-in-range}
 use native.Mathlib.Omega.{arith}
 use lib.IntN.{ℤ, _+ℤ_}

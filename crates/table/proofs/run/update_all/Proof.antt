@@ -18,7 +18,7 @@ use Rattle.table.specs.declared.Updated.{Updated}
 use Rattle.table.specs.declared.run.Updates.{Updates}
 use Rattle.table.specs.Entry.{freshEntry}
 use Rattle.table.specs.Sweep.{Swept, sweep}
-use Rattle.table.specs.Runs.{updatedAt, updates, Updatable, UpdatesFit}
+use Rattle.table.specs.Runs.{updatedAt, updates, Updatable, Sound, UpdatesFit}
 use Rattle.table.proofs.Kept.{clock-in-range}
 use Rattle.table.proofs.Loops.{sweep-entries, sweep-clock}
 use Rattle.table.proofs.Types.{entry, updated}
@@ -55,17 +55,18 @@ module _ (run : List Entry) (w : Updates) (packet : List ℕ) (h : UpdatesFit w 
         rw (a .0, a .1) (sweep-clock run (w .first) n freshEntry i (updatedAt w packet) (w .clock)),
       )
 
-  in-range : (n : ℕ) → clockInRange (made n .1) ≡ true
-  in-range zero = h .clock
-  in-range (suc n) = clock-in-range _ (w .«hold_interval») (h .hold) (w .date) _ (made n .1) _ (in-range n)
+  in-range : Sound w packet → (n : ℕ) → clockInRange (made n .1) ≡ true
+  in-range sound zero = sound .clock
+  in-range sound (suc n) = clock-in-range _ (w .«hold_interval») (sound .hold) (w .date) _ (made n .1) _ (in-range sound n)
 
   asked : (n : ℕ) → w .first + n < w .end
       → (w .base ≤ w .first + n) × (Updatable w (w .first + n - w .base) packet) × (clockInRange (made n .1) ≡ true)
-  asked n l = (
-    omega (arith, h .based),
-    record { delay = h .delay; report = λ t. omega (arith, l, h .based, h .reports t) },
-    in-range n,
-  )
+  asked n l =
+      let sound = h .sound (omega (arith, l)) in (
+        omega (arith, sound .based),
+        record { delay = sound .delay; report = λ t. omega (arith, l, sound .based, sound .reports t) },
+        in-range sound n,
+      )
 
 then : (run : List Entry) (w : Updates) (packet : List ℕ) (h : UpdatesFit w run packet)
     → (made run w packet h (w .end - w .first) .0 ≡ updates w packet run .entries) × (made run w packet h (w .end - w .first) .1 ≡ updates w packet run .clock)

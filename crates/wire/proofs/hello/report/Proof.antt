@@ -2,19 +2,20 @@ use mathlib.Core.Path.{_≡_}
 use Prim.Native.Nat.{ℕ, _<_, _^_}
 use native.Mathlib.Omega.{arith}
 use lib.IntN.{pos}
+use Rattle.quantity.specs.declared.Millis.{Millis}
 use Rattle.quantity.specs.Quantity.{millis}
 use Rattle.quantity.proofs.Ints.{to-≤ℤ, to-<ℤ}
-use Rattle.wire.specs.declared.Report.{Report}
-use Rattle.wire.specs.Hello.{reportAt, DelayFits}
+use Rattle.wire.specs.Hello.{reportAt}
+use Rattle.wire.specs.Ranges.{Two}
 use borrow.Author.Needs.{needs}
 use Rattle.wire.proofs.hello.report.Statement.{statement}
 use Rattle.wire.proofs.hello.report.Tie as tie
 
 -- a number of 16 bits is a delay that two octets hold
-delay-fits : (n : ℕ) (r : Report) → r .delay ≡ millis (pos n) → n < 2 ^ 16 → DelayFits r
-delay-fits n r e small =
+delay-fits : (n : ℕ) (delay : Millis) → delay ≡ millis (pos n) → n < 2 ^ 16 → Two (delay .0)
+delay-fits n delay e small =
     rw (e)
-    record { not-negative = to-≤ℤ (pos 0) (pos n) (omega arith); two-octets = to-<ℤ (pos n) (pos (2 ^ 16)) (omega (arith, small)) }
+    record { not-below = to-≤ℤ (pos 0) (pos n) (omega arith); below = to-<ℤ (pos n) (pos (2 ^ 16)) (omega (arith, small)) }
 
 mul-place : tie.Need-mul-place
 mul-place c = search needs
