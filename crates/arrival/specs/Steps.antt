@@ -1,0 +1,95 @@
+-- Steps 2 to 4 of section 3.3.3, on an arrival in flight, and what step 5 updates an id with.
+use mathlib.Core.Bool.{Bool, cond, not, _||_}
+use Prim.Native.Nat.{ℕ}
+use lib.Dec.{eqb}
+use lib.IntN.{pos}
+use Rattle.quantity.specs.declared.Millis.{Millis}
+use Rattle.quantity.specs.declared.Seconds.{Seconds}
+use Rattle.quantity.specs.declared.Word.{Word}
+use Rattle.quantity.specs.Quantity.{millis, addMillis, subMillis, halfMillis, lessMillis}
+use Rattle.quantity.specs.Words.{word, toWord, ofWord, zeroWord}
+use Rattle.clock.specs.declared.Clock.{Clock}
+use Rattle.wire.specs.declared.Packet.{Packet}
+use Rattle.wire.specs.declared.Report.{Report}
+use Rattle.wire.specs.Octets.{sameAddress}
+use Rattle.table.specs.declared.Entry.{Entry}
+use Rattle.table.specs.declared.Update.{Update}
+use Rattle.table.specs.declared.Updated.{Updated}
+use Rattle.table.specs.Forms.{Stage, on, end}
+use Rattle.table.specs.Entry.{maxDelay, minDelay}
+use Rattle.table.specs.Update.{plusReport, update}
+use Rattle.config.specs.declared.Link.{Link}
+use Rattle.arrival.specs.declared.Flight.{Flight}
+use Rattle.config.specs.declared.Settings.{Settings}
+use Rattle.config.specs.Guard.{keepAliveInterval}
+
+-- "2. KEEP-ALIVE becomes 4."
+unfoldable pub step2 : Flight → Flight
+step2 f =
+    record {
+      reading = f .reading;
+      link = record { neighbor = f .link .neighbor; «keep_alive» = keepAliveInterval; tsp = f .link .tsp };
+      delay = f .delay;
+      offset = f .offset;
+    }
+
+-- "3. TSP becomes the low 16 bits, signed, of packet time less our reading. DELAY is our reading less packet TSP, low 16 bits, signed; 0 on broadcast. OFFSET is TSP + DELAY/2 rounded down, kept to 16 bits signed."
+abbrev pub tspOf : (time reading : Millis) → Word
+tspOf t r = toWord (subMillis t r)
+
+abbrev pub delayOf : (reading : Millis) (packetTsp : Word) → Millis
+delayOf r v = ofWord (toWord (subMillis r (ofWord v)))
+
+abbrev pub offsetOf : (tsp : Word) (delay : Millis) → Word
+offsetOf v d = toWord (addMillis (ofWord v) (halfMillis d))
+
+unfoldable pub step3 : (broadcast : Bool) → Packet → Flight → Flight
+step3 b p f =
+    let v : Word = tspOf (p .time) (f .reading) in
+    let d : Millis = cond b (millis (pos 0)) (delayOf (f .reading) (p .tsp)) in
+    record {
+      reading = f .reading;
+      link = record { neighbor = f .link .neighbor; «keep_alive» = f .link .«keep_alive»; tsp = v };
+      delay = d;
+      offset = offsetOf v d;
+    }
+
+-- "4. Point-to-point only. A source other than NEIGHBOR-ADDRESS is stored there, with DELAY 30,000. Otherwise a packet TSP of 0, or HOLD not 0, gives 10."
+abbrev pub newNeighbor : Packet → Flight → Flight
+newNeighbor p f =
+    record {
+      reading = f .reading;
+      link = record { neighbor = p .source; «keep_alive» = f .link .«keep_alive»; tsp = f .link .tsp };
+      delay = maxDelay;
+      offset = f .offset;
+    }
+
+unfoldable pub step4 : (broadcast : Bool) (hold : Seconds) → Packet → Flight → Stage Flight
+step4 b h p f =
+    cond b (on f)
+    (cond (not (sameAddress (p .source) (f .link .neighbor))) (on (newNeighbor p f))
+    (cond (zeroWord (p .tsp) || not (eqb (h .0) 0)) (end f) (on f)))
+
+-- 2 and 3, from the link and our reading, and 2 to 4
+abbrev pub measured : (broadcast : Bool) → Packet → (reading : Millis) → Link → Flight
+measured b p r x = step3 b p (step2 record { reading = r; link = x; delay = millis (pos 0); offset = word (pos 0) })
+
+unfoldable pub steps2to4 : (broadcast : Bool) (hold : Seconds) → Packet → (reading : Millis) → Link → Stage Flight
+steps2to4 b h p r x = step4 b h p (measured b p r x)
+
+-- "5. DELAY under 100 becomes 100."
+abbrev pub atLeastMin : Millis → Millis
+atLeastMin d = cond (lessMillis d minDelay) minDelay d
+
+-- what an id is updated with where the packet has no table
+abbrev pub neighborUpdate : (link : ℕ) → Flight → Update
+neighborUpdate i f =
+    record { pid = i; delay = atLeastMin (f .delay); offset = f .offset; reading = f .reading }
+
+-- ".. with DELAY plus the packet's delay .. and OFFSET plus its offset"
+abbrev pub reportUpdate : (link : ℕ) → Flight → Report → Update
+reportUpdate i f r = plusReport (neighborUpdate i f) r
+
+-- the update of the entry of one id; line (d) is for the clock host
+abbrev pub updateId : Settings → Packet → Update → (id : ℕ) → Clock → Entry → Updated
+updateId s p u id c e = update (eqb id (s .«clock_host»)) (s .«hold_interval») (p .date) u c e

@@ -1,0 +1,29 @@
+-- An id that a host of good settings finds, or its own, has a place: it is below NHOSTS, and that is 255 at most.
+use mathlib.Core.Path.{_≡_, refl}
+use mathlib.Core.Bool.{true}
+use Prim.Native.Nat.{ℕ, _<_}
+use native.Mathlib.Omega.{arith}
+use borrow.Author.Tests.{lt-ltb}
+use Rattle.wire.specs.declared.Address.{Address}
+use Rattle.route.specs.declared.Found.{Found}
+use Rattle.route.specs.declared.Found.the-variants.{Host, Nothing}
+use Rattle.route.specs.Find.{find}
+use Rattle.route.proofs.Ids.{found-below, local-id-below}
+use Rattle.config.specs.declared.Settings.{Settings}
+use Rattle.config.specs.Settings.{ownId, settingsGood}
+use Rattle.config.specs.State.{placesPerHost, hasPlace}
+use Rattle.config.proofs.Sound.{sound}
+
+has-place : (f : Found) → ((i : ℕ) → f ≡ Host i → i < placesPerHost) → hasPlace f ≡ true
+has-place Nothing below = refl
+has-place (Host i) below = lt-ltb i placesPerHost (below i refl)
+
+pub find-has-place : (s : Settings) (a : Address) → settingsGood s ≡ true
+    → hasPlace (find (s .address) (s .layout) (s .net) a) ≡ true
+find-has-place s a good =
+    let g = sound s good in
+    has-place _ (λ i e. omega (arith, found-below (s .address) (s .layout) (s .net) a i (g .row-ids) e, g .hosts-to))
+
+pub own-has-place : (s : Settings) → settingsGood s ≡ true → hasPlace (ownId s) ≡ true
+own-has-place s good =
+    has-place _ (λ i e. omega (arith, local-id-below (s .layout) (s .address) i e, sound s good .hosts-to))

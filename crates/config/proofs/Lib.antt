@@ -1,0 +1,5 @@
+pub mod Places
+pub mod Guarded
+pub mod Sound
+pub mod Slots
+pub mod Found

@@ -1,0 +1,4 @@
+pub mod Settings
+pub mod State
+pub mod Guard
+pub mod Told

@@ -1,0 +1,159 @@
+// What a host is set with, its links and its places in the run; and the test of the settings, answer 1.
+ghost use mathlib.Core.Path.{_≡_};
+ghost use mathlib.Core.Bool.{not, _&&_, _||_};
+ghost use lib.Dec.{ltb, eqb};
+ghost use lib.IntN.{pos};
+ghost use Rattle.quantity.specs.Quantity.{millis, lessMillis};
+ghost use Rattle.clock.specs.Midnight.{dayMillis};
+ghost use Prim.Native.Nat.{_≤_};
+ghost use Rattle.config.specs.Settings.{fromTo, clockSettingOff, ownId, settingsGood};
+ghost use Rattle.config.specs.State.{firstPlace, hostCount};
+use link_state::MAX_LINKS;
+
+pub mod link_state;
+
+// A link as it is set: its switch, and for a broadcast link its NEIGHBOR-ADDRESS.
+#[repr(C)]
+pub struct LinkSetting {
+    pub broadcast: bool,
+    pub neighbor: wire::Address,
+}
+
+// The settings of a host, which document 01 calls a seat.
+#[repr(C)]
+pub struct Settings {
+    // LOCAL-ADDRESS
+    pub address: wire::Address,
+    // ADDRESS-OFFSET and NHOSTS
+    pub layout: route::Layout,
+    // the id of the clock host; 255: clock setting off
+    pub clock_host: u8,
+    // HOLD-INTERVAL
+    pub hold_interval: quantity::Seconds,
+    // CLOCK-TICK
+    pub clock_tick: quantity::Units,
+    // the starting time and date
+    pub time: quantity::Millis,
+    pub date: calendar::Date,
+    // the links: the first `link_count`, numbered from 1
+    pub link_count: usize,
+    pub links: [LinkSetting; 8],
+    pub net: route::NetTable,
+}
+
+// The state of a link: NEIGHBOR-ADDRESS, KEEP-ALIVE and TSP.
+#[repr(C)]
+pub struct Link {
+    pub neighbor: wire::Address,
+    pub keep_alive: u8,
+    pub tsp: quantity::Word,
+}
+
+// The links of a host; link 1 comes first.
+#[repr(C)]
+pub struct Links {
+    pub all: [Link; 8],
+}
+
+// The most hosts, and the most seconds of HOLD-INTERVAL.
+const MAX_HOSTS: usize = 255;
+
+const MAX_HOLD_INTERVAL: usize = 255;
+
+// The rows that a net table has places for.
+const MAX_ROWS: usize = 32;
+
+// The last first octet of class C.
+const LAST_OCTET: usize = 223;
+
+// The clock host id that turns clock setting off.
+const CLOCK_SETTING_OFF: u8 = 255;
+
+// Is n from the least to the most?
+fn from_to(least: usize, most: usize, n: usize) -> bool
+    ensures { λ r. ⌜ r ≡ fromTo least most n ⌝ }
+{
+    if n < least {
+        return false;
+    }
+    n <= most
+}
+
+// Is the clock host's id off, or that of a host?
+fn clock_host_good(clock_host: u8, nhosts: usize) -> bool
+    ensures { λ r. ⌜ r ≡ (eqb «clock_host» clockSettingOff || ltb «clock_host» nhosts) ⌝ }
+{
+    if clock_host == CLOCK_SETTING_OFF {
+        return true;
+    }
+    (clock_host as usize) < nhosts
+}
+
+// Is a starting time within its day?
+fn time_good(time: quantity::Millis) -> bool
+    ensures { λ r. ⌜ r ≡ (not (lessMillis time (millis (pos 0))) && lessMillis time dayMillis) ⌝ }
+{
+    if time.less(quantity::Millis(0)) {
+        return false;
+    }
+    time.less(clock::DAY)
+}
+
+// The id that LOCAL-ADDRESS gives, the host's own.
+pub fn own_id(s: Settings) -> route::Found
+    ensures { λ r. ⌜ r ≡ ownId s ⌝ }
+{
+    let layout = s.layout;
+    let address = s.address;
+    route::local_id(layout, address)
+}
+
+// Are all settings within their rules?
+pub fn good(s: Settings) -> bool
+    ensures { λ r. ⌜ r ≡ settingsGood s ⌝ }
+{
+    let address = s.address;
+    let layout = s.layout;
+    let hold_interval = s.hold_interval;
+    let clock_tick = s.clock_tick;
+    let time = s.time;
+    let date = s.date;
+    let net = s.net;
+    let nhosts = layout.nhosts;
+    from_to(1, MAX_LINKS, s.link_count)
+        & from_to(1, MAX_HOSTS, nhosts)
+        & (net.count <= MAX_ROWS)
+        & from_to(1, LAST_OCTET, address.first as usize)
+        & clock_host_good(s.clock_host, nhosts)
+        & from_to(1, MAX_HOLD_INTERVAL, hold_interval.0 as usize)
+        & clock::tick_in_range(clock_tick)
+        & time_good(time)
+        & date.is_real()
+        & route::ids_below(net, nhosts)
+        & route::is_host(own_id(s))
+}
+
+// The hosts in one room, and the places of each in the run.
+pub const HOSTS: usize = 16;
+
+pub const PLACES: usize = 255;
+
+// The place of a host's id 0.
+pub fn first_place(number: usize) -> usize
+    requires { ⌜ number ≤ 15 ⌝ }
+    ensures { λ r. ⌜ r ≡ firstPlace number ⌝ }
+{
+    PLACES * number
+}
+
+// How many entries a host has: no more than it has places.
+pub fn host_count(s: Settings) -> usize
+    ensures { λ r. ⌜ r ≡ hostCount s ⌝ }
+{
+    let layout = s.layout;
+    let n = layout.nhosts;
+    if n < PLACES {
+        return n;
+    }
+    PLACES
+}

@@ -1,0 +1,20 @@
+use mathlib.Core.Path.{_∙_, sym}
+use Rattle.laws.proofs.Tests.{is-not, is-so}
+use borrow.Author.Needs.{needs}
+use Rattle.plan.proofs.guard.rest_in_range.Statement.{statement}
+use Rattle.plan.proofs.guard.rest_in_range.Tie as tie
+
+in-range-requires : tie.Need-in-range-requires
+in-range-requires c κs = search needs
+
+returns : tie.Need-returns
+returns c = rw (sym (c .before .in-range .ensures) ∙ is-not _ (c .if1 .taken))
+
+in-range-requires-2 : tie.Need-in-range-requires-2
+in-range-requires-2 c κs = search needs
+
+returns-2 : tie.Need-returns-2
+returns-2 c = rw (sym (c .before .before .in-range .ensures) ∙ is-so _ (c .before .if1 .left)) (c .in-range2 .ensures)
+
+pub rest-in-range-spec : {M : Type 1} → statement M
+rest-in-range-spec = tie.close (tie.spec in-range-requires returns in-range-requires-2 returns-2)
