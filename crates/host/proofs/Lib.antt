@@ -1,5 +1,9 @@
-pub mod Places
-pub mod Guarded
-pub mod Sweeps
-pub mod Sound
 pub mod Opened
+pub mod Types
+pub mod Judged
+pub mod Clocked
+pub mod Changed
+pub mod Entered
+pub mod Looked
+pub mod Written
+pub mod Received

@@ -12,12 +12,12 @@ use Rattle.route.specs.Find.{sameNet, localId, search, find}
 use Rattle.table.specs.Entry.{freshEntry, advertised, entryInRange}
 use Rattle.table.specs.Update.{lineA, lineB, lineC, lines, lineD, update, selfReported}
 use Rattle.table.specs.Sweep.{sweep}
-use Rattle.host.specs.Settings.{settingsGood}
-use Rattle.host.specs.State.{freshLinks, entries, withEntries}
-use Rattle.host.specs.Guard.{noPlaces, noLink, lentInRange, guard, guardLink, guardFresh}
+use Rattle.config.specs.Settings.{settingsGood}
+use Rattle.config.specs.State.{freshLinks, entries, withEntries}
+use Rattle.config.specs.Guard.{noPlaces, noLink, lentInRange, guard, guardLink, guardFresh}
 use Rattle.host.specs.Send.{sentMessage, send}
-use Rattle.host.specs.Inspection.{otherLayout, looped, inspect}
-use Rattle.host.specs.Steps.{step2, step3, step4, steps2to4}
+use Rattle.arrival.specs.Inspection.{otherLayout, looped, inspect}
+use Rattle.arrival.specs.Steps.{step2, step3, step4, steps2to4}
 use Rattle.host.specs.Arrival.{step5, action}
 use Rattle.host.specs.Calls.{initialize, tick, arrival, selfReport}
 

@@ -3,56 +3,25 @@ use mathlib.Core.Bool.{cond}
 use mathlib.Core.List.{List}
 use Prim.Native.Nat.{ℕ}
 use lib.Dec.{eqb}
-use Rattle.quantity.specs.declared.Millis.{Millis}
-use Rattle.quantity.specs.Quantity.{addMillis, lessMillis}
-use Rattle.quantity.specs.Words.{toWord, ofWord}
 use Rattle.answer.specs.declared.Answer.the-variants.{Done, Delay, Unknown}
 use Rattle.clock.specs.declared.Clock.{Clock}
 use Rattle.clock.specs.declared.Reading.{Reading}
 use Rattle.clock.specs.Clock.{reading}
 use Rattle.wire.specs.declared.Packet.{Packet}
-use Rattle.wire.specs.declared.Report.{Report}
 use Rattle.wire.specs.Hello.{reportAt}
 use Rattle.wire.specs.Packet.{helloOf}
 use Rattle.route.specs.declared.Found.{Found}
 use Rattle.route.specs.declared.Found.the-variants.{Host, Nothing}
 use Rattle.route.specs.Find.{find}
 use Rattle.table.specs.declared.Entry.{Entry}
-use Rattle.table.specs.declared.Update.{Update}
-use Rattle.table.specs.declared.Updated.{Updated}
 use Rattle.table.specs.Forms.{Stage, on, end}
-use Rattle.table.specs.Entry.{minDelay}
-use Rattle.table.specs.Update.{update}
 use Rattle.table.specs.Sweep.{Swept, sweep, only}
-use Rattle.host.specs.declared.Settings.{Settings}
-use Rattle.host.specs.declared.Links.{Links}
-use Rattle.host.specs.declared.Flight.{Flight}
-use Rattle.host.specs.State.{broadcast, linkOf, withLink, entries, withEntries}
+use Rattle.config.specs.declared.Settings.{Settings}
+use Rattle.config.specs.declared.Links.{Links}
+use Rattle.arrival.specs.declared.Flight.{Flight}
+use Rattle.config.specs.State.{broadcast, linkOf, withLink, entries, withEntries}
 use Rattle.host.specs.Outcome.{Outcome, leaves}
-use Rattle.host.specs.Steps.{steps2to4}
-
--- "5. DELAY under 100 becomes 100."
-abbrev pub atLeastMin : Millis → Millis
-atLeastMin d = cond (lessMillis d minDelay) minDelay d
-
--- what an id is updated with where the packet has no table
-abbrev pub neighborUpdate : (link : ℕ) → Flight → Update
-neighborUpdate i f =
-    record { pid = i; delay = atLeastMin (f .delay); offset = f .offset; reading = f .reading }
-
--- ".. with DELAY plus the packet's delay (unsigned, a whole sum that never wraps) and OFFSET plus its offset (16 bits signed, wrapping)"
-abbrev pub reportUpdate : (link : ℕ) → Flight → Report → Update
-reportUpdate i f r =
-    record {
-      pid = i;
-      delay = addMillis (atLeastMin (f .delay)) (r .delay);
-      offset = toWord (addMillis (ofWord (f .offset)) (ofWord (r .offset)));
-      reading = f .reading;
-    }
-
--- the update of the entry of one id; line (d) is for the clock host
-abbrev pub updateId : Settings → Packet → Update → (id : ℕ) → Clock → Entry → Updated
-updateId s p u id c e = update (eqb id (s .«clock_host»)) (s .«hold_interval») (p .date) u c e
+use Rattle.arrival.specs.Steps.{steps2to4, neighborUpdate, reportUpdate, updateId}
 
 -- "NHOSTS 0: find the id of NEIGHBOR-ADDRESS, else 11; update it."
 abbrev pub noTable : Settings → (number : ℕ) → Clock → Links → List Entry → (link : ℕ) → Packet → Flight → Found → Outcome

@@ -19,13 +19,13 @@ use Rattle.table.specs.declared.Entry.{Entry}
 use Rattle.table.specs.Entry.{freshEntry, up, aged}
 use Rattle.table.specs.Update.{selfReported}
 use Rattle.table.specs.Sweep.{sweep, only}
-use Rattle.host.specs.declared.Settings.{Settings}
-use Rattle.host.specs.declared.Links.{Links}
-use Rattle.host.specs.Settings.{ownId}
-use Rattle.host.specs.State.{freshLinks, hostCount, entries, withEntries}
-use Rattle.host.specs.Guard.{guard, guardLink, guardFresh, done}
+use Rattle.config.specs.declared.Settings.{Settings}
+use Rattle.config.specs.declared.Links.{Links}
+use Rattle.config.specs.Settings.{ownId}
+use Rattle.config.specs.State.{freshLinks, hostCount, entries, withEntries}
+use Rattle.config.specs.Guard.{guard, guardLink, guardFresh, done}
 use Rattle.host.specs.Outcome.{Outcome, leaves, tells, routeValues, timeValues}
-use Rattle.host.specs.Inspection.{inspect}
+use Rattle.arrival.specs.Inspection.{inspect}
 use Rattle.host.specs.Arrival.{action}
 
 -- setting afresh

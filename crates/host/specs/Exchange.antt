@@ -11,10 +11,10 @@ use Rattle.wire.specs.declared.Address.{Address}
 use Rattle.route.specs.Find.{zeroNet}
 use Rattle.table.specs.declared.Entry.{Entry}
 use Rattle.table.specs.Entry.{freshEntry}
-use Rattle.host.specs.declared.Settings.{Settings}
-use Rattle.host.specs.declared.Links.{Links}
-use Rattle.host.specs.Settings.{clockSettingOff}
-use Rattle.host.specs.State.{unset, freshLinks, withLink, placesPerHost}
+use Rattle.config.specs.declared.Settings.{Settings}
+use Rattle.config.specs.declared.Links.{Links}
+use Rattle.config.specs.Settings.{clockSettingOff}
+use Rattle.config.specs.State.{unset, freshLinks, withLink, placesPerHost}
 use Rattle.host.specs.Outcome.{Outcome}
 use Rattle.host.specs.Send.{send}
 use Rattle.host.specs.Calls.{arrival, selfReport}

@@ -1,10 +1,5 @@
-pub mod Settings
-pub mod State
-pub mod Guard
 pub mod Outcome
 pub mod Send
-pub mod Inspection
-pub mod Steps
 pub mod Arrival
 pub mod Calls
 pub mod Exchange

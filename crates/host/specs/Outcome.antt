@@ -1,4 +1,5 @@
 -- What a call answers and leaves.
+use mathlib.Core.Path.{_≡_}
 use mathlib.Core.List.{List, []}
 use Prim.Native.Nat.{ℕ}
 use lib.IntN.{pos}
@@ -9,7 +10,10 @@ use Rattle.answer.specs.declared.Answer.{Answer}
 use Rattle.answer.specs.declared.Answer.the-variants.{Done}
 use Rattle.clock.specs.declared.Clock.{Clock}
 use Rattle.table.specs.declared.Entry.{Entry}
-use Rattle.host.specs.declared.Links.{Links}
+use Rattle.config.specs.declared.Links.{Links}
+use Rattle.plan.specs.declared.Sent.{Sent}
+use Rattle.plan.specs.declared.Route.{Route}
+use Rattle.plan.specs.declared.Time.{Time}
 
 -- "A send answers its length, a lookup its host id and PID, a read its time and DATE; every refusal answers zero for them."
 pub record Values : Type 0 where
@@ -51,3 +55,20 @@ unsent a c l run buffer = record { answer = a; values = noValues; clock = c; lin
 -- a call that changes nothing, and answers values
 abbrev pub tells : Values → Clock → Links → List Entry → Outcome
 tells v c l run = record { answer = Done; values = v; clock = c; links = l; run = run; buffer = [] }
+
+-- ---- an outcome as a caller sees it
+
+-- everything that was lent, as it is afterwards, but for a buffer
+pub record Leaves (o : Outcome) (c : Clock) (l : Links) (es : List Entry) : Type 0 where
+  pub clock : c ≡ o .clock
+  pub links : l ≡ o .links
+  pub run : es ≡ o .run
+
+abbrev pub timeOf : Outcome → Time
+timeOf o = record { answer = o .answer; time = o .values .time; date = o .values .date }
+
+abbrev pub sentOf : Outcome → Sent
+sentOf o = record { answer = o .answer; length = o .values .length }
+
+abbrev pub routeOf : Outcome → Route
+routeOf o = record { answer = o .answer; host = o .values .host; pid = o .values .pid }

@@ -18,7 +18,7 @@ use Rattle.table.specs.declared.Update.{Update}
 use Rattle.table.specs.Forms.{Stage, on, end}
 use Rattle.table.specs.Entry.{holdDown}
 use Rattle.table.specs.Update.{lines}
-use Rattle.host.specs.Steps.{delayOf}
+use Rattle.arrival.specs.Steps.{delayOf}
 use Rattle.host.specs.Exchange.{bAnswers, aGets, learnt}
 
 -- the checksum that a HELLO with no hosts is sent with

@@ -1,78 +1,256 @@
-// A HELLO host: its settings, its links, and its ten calls.
+// A HELLO host: its ten calls.
+ghost use mathlib.Core.Path.{_≡_};
+ghost use Rattle.quantity.specs.Quantity.{millis};
+ghost use Rattle.config.specs.Guard.{guard};
+ghost use Rattle.host.specs.Outcome.{Leaves, timeOf, sentOf, routeOf};
+ghost use Rattle.host.specs.Send.{send};
+ghost use Rattle.host.specs.Calls.{
+  initialize,
+  tick,
+  adjust,
+  setBy,
+  read,
+  second,
+  arrival,
+  selfReport,
+  lookup,
+};
 ghost use Rattle.host.specs.Sums.{Sums};
-
-// A link as it is set: its switch, and for a broadcast link its NEIGHBOR-ADDRESS.
-#[repr(C)]
-pub struct LinkSetting {
-    pub broadcast: bool,
-    pub neighbor: wire::Address,
-}
-
-// The settings of a host, which document 01 calls a seat.
-#[repr(C)]
-pub struct Settings {
-    // LOCAL-ADDRESS
-    pub address: wire::Address,
-    // ADDRESS-OFFSET and NHOSTS
-    pub layout: route::Layout,
-    // the id of the clock host; 255: clock setting off
-    pub clock_host: u8,
-    // HOLD-INTERVAL
-    pub hold_interval: quantity::Seconds,
-    // CLOCK-TICK
-    pub clock_tick: quantity::Units,
-    // the starting time and date
-    pub time: quantity::Millis,
-    pub date: calendar::Date,
-    // the links: the first `link_count`, numbered from 1
-    pub link_count: usize,
-    pub links: [LinkSetting; 8],
-    pub net: route::NetTable,
-}
-
-// The state of a link: NEIGHBOR-ADDRESS, KEEP-ALIVE and TSP.
-#[repr(C)]
-pub struct Link {
-    pub neighbor: wire::Address,
-    pub keep_alive: u8,
-    pub tsp: quantity::Word,
-}
-
-// The links of a host; link 1 comes first.
-#[repr(C)]
-pub struct Links {
-    pub all: [Link; 8],
-}
-
-// What a send answers: how it went, and the length of the message.
-pub struct Sent {
-    pub answer: answer::Answer,
-    pub length: usize,
-}
-
-// What a lookup answers: how it went, the host id and the PID of the route.
-pub struct Route {
-    pub answer: answer::Answer,
-    pub host: usize,
-    pub pid: u8,
-}
-
-// What a read answers: how it went, the time and DATE.
-pub struct Time {
-    pub answer: answer::Answer,
-    pub time: quantity::Millis,
-    pub date: calendar::Date,
-}
-
-// An arrival between its steps: our reading, the link as the steps leave it, DELAY and OFFSET.
-pub struct Flight {
-    pub reading: quantity::Millis,
-    pub link: Link,
-    pub delay: quantity::Millis,
-    pub offset: quantity::Word,
-}
+use answer::Answer;
+use clock::Clock;
+use config::Links;
+use config::Settings;
+use plan::Route;
+use plan::Sent;
+use plan::Time;
+use table::Entry;
+use table::run::all_in_range;
+use table::run::change_all;
+use table::run::entry_of;
+use table::run::read_out;
+use table::run::update_all;
+use wire::Address;
 
 // The sums of the blackboard.
 pub fn sums()
     ensures { λ _. ⌜ Sums ⌝ }
 {}
+
+// The guard: 12, then 1, before anything else in every call.
+fn guard(settings: Settings, number: usize, clock: Clock, links: Links, run: &[Entry]) -> Answer
+    ensures { λ r. ⌜ r ≡ guard settings number clock links (now (run .entry)) ⌝ }
+{
+    let n = run.len();
+    let w = plan::guard::held(settings, number, clock, links, n);
+    let good = all_in_range(run, w);
+    plan::guard::judged(settings, good)
+}
+
+// The calls. Each is lent all of a host: its clock, its links and its places in the run. Settings, number and what is lent are answered for first, with 12 or 1.
+
+// The host is set afresh. Numbers, places and settings are tested, and nothing else.
+pub fn initialize(
+    settings: Settings,
+    number: usize,
+    clock: &mut Clock,
+    links: &mut Links,
+    run: &mut [Entry],
+) -> Answer
+    ensures { λ r. ⌜ (r ≡ initialize settings number (now (clock .entry)) (now (links .entry)) (now (run .entry)) .answer)
+        × Leaves (initialize settings number (now (clock .entry)) (now (links .entry)) (now (run .entry))) (now (clock .exit)) (now (links .exit)) (now (run .exit)) ⌝ }
+{
+    let c = *clock;
+    let l = *links;
+    let n = run.len();
+    let p = plan::tables::initialize(settings, number, c, l, n);
+    change_all(run, p.work);
+    *clock = p.clock;
+    *links = p.links;
+    p.answer
+}
+
+// CLOCK-TICK is added to the clock.
+pub fn tick(
+    settings: Settings,
+    number: usize,
+    clock: &mut Clock,
+    links: &Links,
+    run: &[Entry],
+) -> Answer
+    ensures { λ r. ⌜ (r ≡ tick settings number (now (clock .entry)) (now (links .entry)) (now (run .entry)) .answer)
+        × Leaves (tick settings number (now (clock .entry)) (now (links .entry)) (now (run .entry))) (now (clock .exit)) (now (links .entry)) (now (run .entry)) ⌝ }
+{
+    let c = *clock;
+    let l = *links;
+    let g = guard(settings, number, c, l, run);
+    let p = plan::timing::tick(g, settings, c);
+    *clock = p.clock;
+    p.answer
+}
+
+// A share of DELTA goes into the clock.
+pub fn adjust(
+    settings: Settings,
+    number: usize,
+    clock: &mut Clock,
+    links: &Links,
+    run: &[Entry],
+) -> Answer
+    ensures { λ r. ⌜ (r ≡ adjust settings number (now (clock .entry)) (now (links .entry)) (now (run .entry)) .answer)
+        × Leaves (adjust settings number (now (clock .entry)) (now (links .entry)) (now (run .entry))) (now (clock .exit)) (now (links .entry)) (now (run .entry)) ⌝ }
+{
+    let c = *clock;
+    let l = *links;
+    let g = guard(settings, number, c, l, run);
+    let p = plan::timing::adjust(g, settings, c);
+    *clock = p.clock;
+    p.answer
+}
+
+// The clock is set by a signed count of milliseconds.
+pub fn set(
+    settings: Settings,
+    number: usize,
+    clock: &mut Clock,
+    links: &Links,
+    run: &[Entry],
+    ms: i32,
+) -> Answer
+    ensures { λ r. ⌜ (r ≡ setBy settings number (now (clock .entry)) (now (links .entry)) (now (run .entry)) (millis ms) .answer)
+        × Leaves (setBy settings number (now (clock .entry)) (now (links .entry)) (now (run .entry)) (millis ms)) (now (clock .exit)) (now (links .entry)) (now (run .entry)) ⌝ }
+{
+    let c = *clock;
+    let l = *links;
+    let g = guard(settings, number, c, l, run);
+    let p = plan::timing::set(g, settings, c, ms);
+    *clock = p.clock;
+    p.answer
+}
+
+// The time and DATE.
+pub fn read(
+    settings: Settings,
+    number: usize,
+    clock: &mut Clock,
+    links: &Links,
+    run: &[Entry],
+) -> Time
+    ensures { λ r. ⌜ (r ≡ timeOf (read settings number (now (clock .entry)) (now (links .entry)) (now (run .entry))))
+        × Leaves (read settings number (now (clock .entry)) (now (links .entry)) (now (run .entry))) (now (clock .exit)) (now (links .entry)) (now (run .entry)) ⌝ }
+{
+    let c = *clock;
+    let l = *links;
+    let g = guard(settings, number, c, l, run);
+    let p = plan::timing::read(g, c);
+    *clock = p.clock;
+    p.answer
+}
+
+// A second passes: HOLD falls, and entries age.
+pub fn second(
+    settings: Settings,
+    number: usize,
+    clock: &mut Clock,
+    links: &Links,
+    run: &mut [Entry],
+) -> Answer
+    ensures { λ r. ⌜ (r ≡ second settings number (now (clock .entry)) (now (links .entry)) (now (run .entry)) .answer)
+        × Leaves (second settings number (now (clock .entry)) (now (links .entry)) (now (run .entry))) (now (clock .exit)) (now (links .entry)) (now (run .exit)) ⌝ }
+{
+    let c = *clock;
+    let l = *links;
+    let g = guard(settings, number, c, l, run);
+    let p = plan::tables::second(g, settings, number, c);
+    change_all(run, p.work);
+    *clock = p.clock;
+    p.answer
+}
+
+// The host reports itself.
+pub fn self_report(
+    settings: Settings,
+    number: usize,
+    clock: &mut Clock,
+    links: &Links,
+    run: &mut [Entry],
+) -> Answer
+    ensures { λ r. ⌜ (r ≡ selfReport settings number (now (clock .entry)) (now (links .entry)) (now (run .entry)) .answer)
+        × Leaves (selfReport settings number (now (clock .entry)) (now (links .entry)) (now (run .entry))) (now (clock .exit)) (now (links .entry)) (now (run .exit)) ⌝ }
+{
+    let c = *clock;
+    let l = *links;
+    let g = guard(settings, number, c, l, run);
+    let p = plan::tables::self_report(g, settings, number, c);
+    change_all(run, p.work);
+    *clock = p.clock;
+    p.answer
+}
+
+// A message for the neighbor of a link, written to the front of the buffer.
+pub fn send(
+    settings: Settings,
+    number: usize,
+    clock: &mut Clock,
+    links: &mut Links,
+    run: &[Entry],
+    link: usize,
+    buffer: &mut [u8],
+) -> Sent
+    ensures { λ r. ⌜ (r ≡ sentOf (send settings number (now (clock .entry)) (now (links .entry)) (now (run .entry)) link (now (buffer .entry))))
+        × Leaves (send settings number (now (clock .entry)) (now (links .entry)) (now (run .entry)) link (now (buffer .entry))) (now (clock .exit)) (now (links .exit)) (now (run .entry))
+        × (now (buffer .exit) ≡ send settings number (now (clock .entry)) (now (links .entry)) (now (run .entry)) link (now (buffer .entry)) .buffer) ⌝ }
+{
+    let c = *clock;
+    let l = *links;
+    let n = buffer.len();
+    let g = guard(settings, number, c, l, run);
+    let p = plan::sending::plan(g, settings, number, c, l, link, n);
+    read_out(buffer, run, p.work);
+    plan::sending::finish(buffer, p);
+    *clock = p.clock;
+    *links = p.links;
+    p.answer
+}
+
+// A packet that arrives on a link: the inspection, then steps 2 to 5.
+pub fn receive(
+    settings: Settings,
+    number: usize,
+    clock: &mut Clock,
+    links: &mut Links,
+    run: &mut [Entry],
+    link: usize,
+    packet: &[u8],
+) -> Answer
+    ensures { λ r. ⌜ (r ≡ arrival settings number (now (clock .entry)) (now (links .entry)) (now (run .entry)) link (now (packet .entry)) .answer)
+        × Leaves (arrival settings number (now (clock .entry)) (now (links .entry)) (now (run .entry)) link (now (packet .entry))) (now (clock .exit)) (now (links .exit)) (now (run .exit)) ⌝ }
+{
+    let c = *clock;
+    let l = *links;
+    let g = guard(settings, number, c, l, run);
+    let p = arrival::plan(g, settings, number, c, l, link, packet);
+    let k = update_all(run, p.work, packet);
+    *clock = k;
+    *links = p.links;
+    p.answer
+}
+
+// The route to an address: the host id and the PID.
+pub fn lookup(
+    settings: Settings,
+    number: usize,
+    clock: &Clock,
+    links: &Links,
+    run: &[Entry],
+    address: Address,
+) -> Route
+    ensures { λ r. ⌜ (r ≡ routeOf (lookup settings number (now (clock .entry)) (now (links .entry)) (now (run .entry)) address))
+        × Leaves (lookup settings number (now (clock .entry)) (now (links .entry)) (now (run .entry)) address) (now (clock .entry)) (now (links .entry)) (now (run .entry)) ⌝ }
+{
+    let c = *clock;
+    let l = *links;
+    let g = guard(settings, number, c, l, run);
+    let p = plan::lookups::lookup(g, settings, number, address);
+    let e = entry_of(run, p.work);
+    plan::lookups::route_of(p, e)
+}

@@ -1,0 +1,43 @@
+-- A scan of the entries between what is tested before it and what is judged behind it.
+use mathlib.Core.Path.{_≡_, _∙_, ap, subst, sym}
+use mathlib.Core.Bool.{Bool}
+use lib.ListN.{length}
+use base.Logic.{emp, id⊢}
+use contract.Monad.{fact, factI}
+use Rattle.laws.proofs.Words.{by-value, chosen-by-value, boolean}
+use Rattle.laws.proofs.Outcomes.{whole}
+use Rattle.shapes.proofs.made.Guards.{proof}
+use Rattle.clock.proofs.Types.{clock}
+use Rattle.table.specs.declared.run.Scan.{Scan}
+use Rattle.table.specs.Runs.{InRun, allInRange}
+use Rattle.table.proofs.Types.{scan, entry}
+use Rattle.table.proofs.run.all_in_range.Symbol as scans
+use Rattle.table.proofs.run.all_in_range.Met as scans-known
+use Rattle.config.specs.Guard as definition
+use Rattle.plan.specs.Plans.{held, judged}
+use Rattle.plan.proofs.guard.held.Symbol as holds
+use Rattle.plan.proofs.guard.held.Met as holds-known
+use Rattle.plan.proofs.guard.judged.Symbol as judges
+use Rattle.plan.proofs.guard.judged.Met as judges-known
+use Rattle.host.proofs.Types.{number, settings, links, answer}
+use Rattle.host.proofs.Judged.{held-in, guarded}
+use Rattle.host.proofs.guard.Key.{name as #guard}
+use Rattle.host.proofs.guard.Statement as stated
+use Rattle.host.proofs.guard.Code as code
+
+pub guard-spec : {M : Type 1} → stated.statement M
+unfolding code.routine
+guard-spec 𝓤 H 𝓜 𝓖 𝓡 =
+    proof (by-value settings) number (by-value clock) (by-value links) (by-value (whole scan)) boolean (chosen-by-value answer) entry 𝓤 H 𝓜 𝓖 𝓡
+    (λ s k c l n. emp 𝓤) (λ s k c l n w. w ≡ held s k c l n)
+    (λ run w. fact 𝓤 (InRun (w .first) (w .end) run)) (λ run w good. good ≡ allInRange w run)
+    (λ s good. emp 𝓤) (λ s good r. r ≡ judged s good)
+    (λ s k c l run r. r ≡ definition.guard s k c l run)
+    (λ s k c l run. id⊢ 𝓤 _)
+    (λ s k c l run w w-is. factI 𝓤 _ _ (subst (λ (x : Scan). InRun (x .first) (x .end) run) (sym w-is) (held-in s k c l run)))
+    (λ s k c l run w good w-is good-is. id⊢ 𝓤 _)
+    (λ s k c l run w good r w-is good-is r-is.
+    r-is ∙ ap (judged s) (good-is ∙ ap (λ (x : Scan). allInRange x run) w-is) ∙ guarded s k c l run)
+    code.env #guard holds.name scans.name judges.name holds.routine scans.routine judges.routine
+    code.calls-plan·guard·held code.calls-table·run·all-in-range code.calls-plan·guard·judged (code.unfolded 𝓤 H 𝓜 𝓡)
+    (holds-known.met 𝓤 H 𝓜 𝓖 𝓡) (scans-known.met 𝓤 H 𝓜 𝓖 𝓡) (judges-known.met 𝓤 H 𝓜 𝓖 𝓡)
