@@ -1,0 +1,22 @@
+-- The packet program: "a program reads one packet .. and gives it to link 1 of a fresh host".
+use mathlib.Core.List.{List}
+use Prim.Native.Nat.{ℕ}
+use Rattle.answer.specs.Answer.{number}
+use Rattle.config.specs.declared.Settings.{Settings}
+use Rattle.config.specs.State.{freshLinks}
+use Rattle.host.specs.Outcome.{Outcome}
+use Rattle.host.specs.Exchange.{settingsOf, clockAt, freshRun}
+use Rattle.host.specs.Calls.{initialize, arrival}
+
+-- 192.0.2.1, with NHOSTS 4
+abbrev pub programSettings : Settings
+programSettings = settingsOf 1 4
+
+-- the host of number 0, set afresh
+unfoldable pub programHost : Outcome
+programHost = initialize programSettings 0 (clockAt 0) (freshLinks programSettings) freshRun
+
+-- the number of its answer to a packet on link 1
+unfoldable pub programAnswer : (packet : List ℕ) → ℕ
+programAnswer octets =
+    number (arrival programSettings 0 (programHost .clock) (programHost .links) (programHost .run) 1 octets .answer)
