@@ -1,0 +1,17 @@
+-- The structs that the exported calls answer, as the laws of crate `shapes` take them.
+use Rattle.laws.proofs.Words.{Data}
+use Rattle.hello.proofs.Sent as Sent
+use Rattle.hello.proofs.Sent.Laws as Sent′
+use Rattle.hello.proofs.Route as Route
+use Rattle.hello.proofs.Route.Laws as Route′
+use Rattle.hello.proofs.Time as Time
+use Rattle.hello.proofs.Time.Laws as Time′
+
+abbrev pub sent : Data
+sent = record { S = Sent.the-type; L = Sent′.the-laws; P = Sent′.the-plain; low = Sent′.lowers; copies = Sent′.the-copy }
+
+abbrev pub route : Data
+route = record { S = Route.the-type; L = Route′.the-laws; P = Route′.the-plain; low = Route′.lowers; copies = Route′.the-copy }
+
+abbrev pub time : Data
+time = record { S = Time.the-type; L = Time′.the-laws; P = Time′.the-plain; low = Time′.lowers; copies = Time′.the-copy }
