@@ -25,14 +25,15 @@ use Rattle.route.specs.declared.Found.the-variants.{Host, Nothing}
 use Rattle.route.specs.Find.{find}
 use Rattle.table.specs.declared.Entry.{Entry}
 use Rattle.table.specs.Forms.{Stage, on, end}
-use Rattle.host.specs.declared.Settings.{Settings}
-use Rattle.host.specs.declared.Link.{Link}
-use Rattle.host.specs.declared.Links.{Links}
-use Rattle.host.specs.declared.Flight.{Flight}
-use Rattle.host.specs.State.{broadcast, linkOf, withLink}
-use Rattle.host.specs.Guard.{keepAliveInterval}
+use Rattle.config.specs.declared.Settings.{Settings}
+use Rattle.config.specs.declared.Link.{Link}
+use Rattle.config.specs.declared.Links.{Links}
+use Rattle.arrival.specs.declared.Flight.{Flight}
+use Rattle.config.specs.State.{broadcast, linkOf, withLink}
+use Rattle.config.specs.Guard.{keepAliveInterval}
 use Rattle.host.specs.Outcome.{Outcome, leaves}
-use Rattle.host.specs.Steps.{step2, step3, newNeighbor, step4, steps2to4}
+use Rattle.arrival.specs.Steps.{step2, step3, measured, newNeighbor}
+use Rattle.arrival.proofs.Flights.{steps-cases}
 use Rattle.host.specs.Arrival.{noTable, withTable, step5, concluded, action}
 use Rattle.host.specs.Calls.{arrived}
 
@@ -49,30 +50,6 @@ same-address a b e =
       fourth = eqb-true (a .fourth) (b .fourth) (t .1 .1 .1 .0) i;
     }
 
--- ---- steps 2 to 4
-
--- the arrival in flight after steps 2 and 3
-abbrev pub inFlight : (broadcast : Bool) → Packet → (reading : Millis) → Link → Flight
-inFlight b p r x = step3 b p (step2 record { reading = r; link = x; delay = millis (pos 0); offset = word (pos 0) })
-
--- step 4: on broadcast it goes on; point-to-point a new neighbour is stored, and a known one is ended with 10 or goes on
-module _ (P : Stage Flight → Type 0) (b : Bool) (h : Seconds) (p : Packet) (r : Millis) (x : Link) where
-  pub steps-cases :
-      (b ≡ true → P (on (inFlight b p r x)))
-      → (b ≡ false → sameAddress (p .source) (x .neighbor) ≡ false → P (on (newNeighbor p (inFlight b p r x))))
-      → (b ≡ false → sameAddress (p .source) (x .neighbor) ≡ true → zeroWord (p .tsp) || not (eqb (h .0) 0) ≡ true → P (end (inFlight b p r x)))
-      → (b ≡ false → sameAddress (p .source) (x .neighbor) ≡ true → zeroWord (p .tsp) || not (eqb (h .0) 0) ≡ false → P (on (inFlight b p r x)))
-      → P (steps2to4 b h p r x)
-  unfolding steps2to4 step4 step3 step2
-  steps-cases wide new ended known = go b (sameAddress (p .source) (x .neighbor)) (zeroWord (p .tsp) || not (eqb (h .0) 0)) refl refl refl
-    where
-      go : (u v w : Bool) → b ≡ u → sameAddress (p .source) (x .neighbor) ≡ v → zeroWord (p .tsp) || not (eqb (h .0) 0) ≡ w
-          → P (cond u (on (inFlight b p r x)) (cond (not v) (on (newNeighbor p (inFlight b p r x))) (cond w (end (inFlight b p r x)) (on (inFlight b p r x)))))
-      go true v w e f g = wide e
-      go false false w e f g = new e f
-      go false true true e f g = ended e f g
-      go false true false e f g = known e f g
-
 -- ---- the whole arrival
 
 -- what steps 2 to 4 leave in any case
@@ -80,11 +57,11 @@ pub record Flown (c : Clock) (f : Flight) : Type 0 where
   pub reading-is : f .reading ≡ reading c .time
   pub keep-alive-is : f .link .«keep_alive» ≡ keepAliveInterval
 
-flown : (b : Bool) (p : Packet) (c : Clock) (x : Link) → Flown c (inFlight b p (reading c .time) x)
+flown : (b : Bool) (p : Packet) (c : Clock) (x : Link) → Flown c (measured b p (reading c .time) x)
 unfolding step3 step2
 flown b p c x = record { reading-is = refl; keep-alive-is = refl }
 
-flown-new : (b : Bool) (p : Packet) (c : Clock) (x : Link) → Flown c (newNeighbor p (inFlight b p (reading c .time) x))
+flown-new : (b : Bool) (p : Packet) (c : Clock) (x : Link) → Flown c (newNeighbor p (measured b p (reading c .time) x))
 unfolding step3 step2
 flown-new b p c x = record { reading-is = refl; keep-alive-is = refl }
 

@@ -2,7 +2,6 @@ pub mod Near
 pub mod Invariant
 pub mod Outcomes
 pub mod Seats
-pub mod ReadBack
 pub mod Sending
 pub mod Arrival
 pub mod Histories

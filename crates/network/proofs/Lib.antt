@@ -6,5 +6,6 @@ pub mod Sends
 pub mod HostPlaces
 pub mod Ranges
 pub mod Demand1
+pub mod Demand2
 pub mod Exchange
 pub mod Demand3

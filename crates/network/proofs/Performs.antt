@@ -17,16 +17,16 @@ use Rattle.route.specs.declared.Found.the-variants.{Host, Nothing}
 use Rattle.route.specs.Find.{find}
 use Rattle.table.specs.declared.Entry.{Entry}
 use Rattle.table.specs.Entry.{freshEntry, up, aged}
-use Rattle.host.specs.declared.Settings.{Settings}
-use Rattle.host.specs.declared.Links.{Links}
-use Rattle.host.specs.Settings.{ownId}
-use Rattle.host.specs.State.{freshLinks, hostCount, linkOf, entries, withEntries}
-use Rattle.host.specs.Guard.{noPlaces, noLink, guard, guardLink, guardFresh, done}
+use Rattle.config.specs.declared.Settings.{Settings}
+use Rattle.config.specs.declared.Links.{Links}
+use Rattle.config.specs.Settings.{ownId}
+use Rattle.config.specs.State.{freshLinks, hostCount, linkOf, entries, withEntries}
+use Rattle.config.specs.Guard.{noPlaces, noLink, guard, guardLink, guardFresh, done}
 use Rattle.host.specs.Outcome.{Outcome, Values, leaves, unsent, tells, timeValues}
 use Rattle.host.specs.Send.{sentLength, sentOutcome, send}
-use Rattle.host.specs.Inspection.{inspect}
+use Rattle.arrival.specs.Inspection.{inspect}
 use Rattle.host.specs.Calls.{initialize, tick, adjust, setBy, read, second, arrived, arrival, reported, selfReport, looked, lookup}
-use Rattle.host.proofs.Guarded as guarded
+use Rattle.config.proofs.Guarded as guarded
 use Rattle.network.specs.Call.{Call, initializes, ticks, adjusts, sets, reads, seconds, sends, arrives, reports, looksUp, perform, lentBuffer}
 
 module _ (s : Settings) (k : ℕ) (c : Clock) (l : Links) (run : List Entry) where

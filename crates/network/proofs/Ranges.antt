@@ -2,53 +2,40 @@
 use mathlib.Core.Path.{_≡_, refl, subst}
 use mathlib.Core.Bool.{true, false}
 use mathlib.Core.List.{List, map}
-use Prim.Native.Nat.{ℕ, _-_, _≤_, _<_}
+use Prim.Native.Nat.{ℕ, _-_, _≤_}
 use native.Mathlib.Omega.{arith}
-use borrow.Author.Tests.{leb-true, le-leb, ltb-false, eqb-false}
-use lib.Dec.{ltb, eqb}
+use borrow.Author.Tests.{leb-true, le-leb}
+use lib.Dec.{eqb}
 use lib.ListN.{take, set}
 use lib.Seq.{getD-take, take-set-lt}
 use Rattle.quantity.specs.declared.Millis.{Millis}
-use Rattle.quantity.specs.Quantity.{lessMillis, unitsPerMilli, wholeMillis}
-use Rattle.quantity.proofs.Ints.{up, dn, sum, floor, lt-no}
-use Rattle.laws.proofs.Tests.{either, neither}
+use Rattle.quantity.specs.Quantity.{lessMillis}
+use Rattle.quantity.proofs.Ints.{up, dn, sum, lt-no}
+use Rattle.laws.proofs.Tests.{either}
 use Rattle.clock.specs.declared.Clock.{Clock}
 use Rattle.clock.specs.Midnight.{dayMillis}
-use Rattle.clock.specs.Clock.{reading, clockInRange}
-use Rattle.clock.proofs.Bounds.{range-says}
+use Rattle.clock.specs.Clock.{clockInRange}
 use Rattle.wire.specs.declared.Packet.{Packet}
 use Rattle.wire.specs.Hello.{reportAt}
 use Rattle.table.specs.declared.Entry.{Entry}
 use Rattle.table.specs.declared.Update.{Update}
 use Rattle.table.specs.Forms.{every}
 use Rattle.table.specs.Entry.{minDelay, upTo, entryInRange}
-use Rattle.table.proofs.Ranges.{up-to}
+use Rattle.table.proofs.Ranges.{reading-in}
 use Rattle.table.proofs.Kept.{update-in-range, clock-in-range}
-use Rattle.host.specs.declared.Settings.{Settings}
-use Rattle.host.specs.declared.Link.{Link}
-use Rattle.host.specs.declared.Links.{Links}
-use Rattle.host.specs.declared.Flight.{Flight}
-use Rattle.host.specs.State.{unset, freshLink, freshLinks, linkOf, withLink}
-use Rattle.host.specs.Guard.{linkCount, noLink, linkInRange}
-use Rattle.host.specs.Send.{linkSent}
-use Rattle.host.specs.Arrival.{atLeastMin, neighborUpdate, reportUpdate, updateId}
+use Rattle.config.specs.declared.Settings.{Settings}
+use Rattle.config.specs.declared.Link.{Link}
+use Rattle.config.specs.declared.Links.{Links}
+use Rattle.arrival.specs.declared.Flight.{Flight}
+use Rattle.config.specs.State.{unset, freshLink, freshLinks, linkOf, withLink}
+use Rattle.config.specs.Guard.{linkCount, linkInRange}
+use Rattle.config.proofs.Guarded.{Counted}
+use Rattle.plan.specs.Message.{linkSent}
+use Rattle.arrival.specs.Steps.{atLeastMin, neighborUpdate, reportUpdate, updateId}
 use Rattle.network.proofs.Arrivals.{Flown}
 use Rattle.network.proofs.Lists.{all-at, all-set, all-made, all-take, every-all, all-every}
 
 -- ---- links
-
--- a link that the host has
-pub record Counted (s : Settings) (i : ℕ) : Type 0 where
-  pub at-place : i - 1 < linkCount s
-  pub to-eight : i ≤ 8
-
-pub counted : (s : Settings) (i : ℕ) → noLink s i ≡ false → Counted s i
-unfolding noLink
-counted s i e =
-    let n = neither (eqb i 0) (ltb (linkCount s) i) e in
-    let some = eqb-false i 0 (n .0) in
-    let most = ltb-false (linkCount s) i (n .1) in
-    omega arith
 
 module _ (s : Settings) (l : Links) (i : ℕ) (has : Counted s i) (links : every linkInRange (take (linkCount s) (l .all)) ≡ true) where
   link-in : linkInRange (linkOf l i) ≡ true
@@ -76,15 +63,6 @@ fresh-links-in s =
     all-every linkInRange (take (linkCount s) (map freshLink (s .links)))
     (all-take (λ _ x. linkInRange x ≡ true) (linkCount s) (map freshLink (s .links))
     (all-made (λ _ x. linkInRange x ≡ true) freshLink (λ _ x. refl) (s .links)))
-
--- ---- the reading
-
-pub reading-in : (c : Clock) → clockInRange c ≡ true → upTo dayMillis (reading c .time) ≡ true
-unfolding reading
-reading-in c e =
-    let k = range-says c e in
-    let whole = floor (c .clock .0) unitsPerMilli (omega arith) in
-    up-to 86400000 (wholeMillis (c .clock) .0) (omega arith)
 
 -- ---- updates
 

@@ -22,14 +22,14 @@ use Rattle.route.specs.declared.Found.the-variants.{Host, Nothing}
 use Rattle.route.specs.Find.{isHost, find}
 use Rattle.table.specs.declared.Entry.{Entry}
 use Rattle.table.specs.Entry.{freshEntry, up}
-use Rattle.host.specs.declared.Settings.{Settings}
-use Rattle.host.specs.declared.Link.{Link}
-use Rattle.host.specs.declared.Links.{Links}
-use Rattle.host.specs.Settings.{settingsGood}
-use Rattle.host.specs.State.{broadcast, linkOf, entries}
-use Rattle.host.specs.Guard.{noPlaces, noLink, lentInRange}
+use Rattle.config.specs.declared.Settings.{Settings}
+use Rattle.config.specs.declared.Link.{Link}
+use Rattle.config.specs.declared.Links.{Links}
+use Rattle.config.specs.Settings.{settingsGood}
+use Rattle.config.specs.State.{broadcast, linkOf, entries}
+use Rattle.config.specs.Guard.{noPlaces, noLink, lentInRange}
 use Rattle.host.specs.Send.{sentLength}
-use Rattle.host.specs.Inspection.{otherLayout, looped}
+use Rattle.arrival.specs.Inspection.{otherLayout, looped}
 use Rattle.network.specs.Call.{Call, initializes, ticks, adjusts, sets, reads, seconds, sends, arrives, reports, looksUp, perform}
 
 -- an answer and its condition

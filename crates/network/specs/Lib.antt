@@ -4,6 +4,7 @@ pub mod Refusals
 pub mod Frame
 pub mod Locality
 pub mod Range
+pub mod Heard
 pub mod History
 pub mod Isolation
 pub mod Exchange

@@ -1,4 +1,5 @@
 // Theorems about hosts and rooms of hosts.
+ghost use Rattle.network.specs.Heard.{Heard};
 ghost use Rattle.network.specs.Answers.{Answers};
 ghost use Rattle.network.specs.Refusals.{Refusals};
 ghost use Rattle.network.specs.Frame.{Frame};
@@ -33,6 +34,11 @@ pub fn locality()
 // Setting afresh leaves a host that 12 does not refuse, and so does every call of such a host under the same settings.
 pub fn range()
     ensures { λ _. ⌜ Range ⌝ }
+{}
+
+// What a send writes, an arrival at a host of the same layout never refuses with 3 to 8.
+pub fn heard()
+    ensures { λ _. ⌜ Heard ⌝ }
 {}
 
 // Lists of calls that agree at a number tell and leave the same there, whatever is called at other numbers.

@@ -25,27 +25,28 @@ use Rattle.table.specs.Update.{selfReported}
 use Rattle.table.proofs.Kept.{aged-in-range, self-in-range}
 use Rattle.table.proofs.Kept as kept
 use Rattle.table.specs.Sweep.{sweep, only}
-use Rattle.host.specs.declared.Settings.{Settings}
-use Rattle.host.specs.declared.Links.{Links}
-use Rattle.host.specs.declared.Flight.{Flight}
-use Rattle.host.specs.Settings.{settingsGood}
-use Rattle.host.specs.State.{freshLinks, hostCount, withLink, entries, withEntries}
-use Rattle.host.specs.Guard.{noPlaces, linkCount, linkInRange, lentInRange, guard, guardFresh, done}
+use Rattle.table.proofs.Ranges.{reading-in}
+use Rattle.config.specs.declared.Settings.{Settings}
+use Rattle.config.specs.declared.Links.{Links}
+use Rattle.arrival.specs.declared.Flight.{Flight}
+use Rattle.config.specs.Settings.{settingsGood}
+use Rattle.config.specs.State.{freshLinks, hostCount, withLink, entries, withEntries}
+use Rattle.config.specs.Guard.{noPlaces, linkCount, linkInRange, lentInRange, guard, guardFresh, done}
 use Rattle.host.specs.Outcome.{Outcome}
-use Rattle.host.specs.Inspection.{inspect}
-use Rattle.host.specs.Arrival.{neighborUpdate, reportUpdate, updateId}
+use Rattle.arrival.specs.Inspection.{inspect}
+use Rattle.arrival.specs.Steps.{neighborUpdate, reportUpdate, updateId}
 use Rattle.host.specs.Calls.{initialize, reported}
-use Rattle.host.proofs.Places.{Holds, entries-length, withEntries-length, entries-withEntries}
-use Rattle.host.proofs.Guarded.{passed, passed-link, passed-fresh, holds}
-use Rattle.host.proofs.Sweeps.{sweep-length, sweep-clock, only-either}
-use Rattle.host.proofs.Sound.{Sound, sound}
+use Rattle.config.proofs.Places.{Holds, entries-length, withEntries-length, entries-withEntries}
+use Rattle.config.proofs.Guarded.{Counted, counted, passed, passed-link, passed-fresh, holds}
+use Rattle.table.proofs.Sweeps.{sweep-length, sweep-clock, only-either}
+use Rattle.config.proofs.Sound.{Sound, sound}
 use Rattle.network.specs.Call.{Call, initializes, ticks, adjusts, sets, reads, seconds, sends, arrives, reports, looksUp, perform}
 use Rattle.network.specs.Range.{Accepted, Range}
 use Rattle.network.proofs.Performs.{guardOf, workOf, performs, sent-ways, reported-ways, looked-ways}
 use Rattle.network.proofs.Arrivals.{Flown, arrived-ways}
 use Rattle.network.proofs.Lists.{All, all-replicate, all-map, every-all, all-every}
 use Rattle.network.proofs.Swept.{sweep-keeps}
-use Rattle.network.proofs.Ranges.{Counted, counted, withLink-in, sent-in, fresh-links-in, reading-in, neighbor-sane, report-sane, entry-in, clock-in}
+use Rattle.network.proofs.Ranges.{withLink-in, sent-in, fresh-links-in, neighbor-sane, report-sane, entry-in, clock-in}
 
 -- ---- what 12 tests, each by itself
 

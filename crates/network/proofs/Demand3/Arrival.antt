@@ -29,6 +29,7 @@ use Rattle.wire.specs.Octets.{sameAddress}
 use Rattle.wire.specs.Ip.{ipForm, ipChecksum, protocol}
 use Rattle.wire.specs.Hello.{helloForm, helloChecksum, reportAt}
 use Rattle.wire.specs.Packet.{helloOf, fields, parse}
+use Rattle.wire.proofs.ReadBack.{source-back, nhosts-back, time-back, tsp-back, delay-back, offset-back}
 use Rattle.route.specs.declared.Layout.{Layout}
 use Rattle.route.specs.declared.Found.{Found}
 use Rattle.route.specs.declared.Found.the-variants.{Host, Nothing}
@@ -39,21 +40,21 @@ use Rattle.table.specs.Forms.{Stage, on, end}
 use Rattle.table.specs.Entry.{maxDelay, minDelay}
 use Rattle.table.specs.Sweep.{only}
 use Rattle.table.proofs.Cases.{stored, update-keeps}
-use Rattle.host.specs.declared.Settings.{Settings}
-use Rattle.host.specs.declared.Link.{Link}
-use Rattle.host.specs.declared.Links.{Links}
-use Rattle.host.specs.declared.Flight.{Flight}
-use Rattle.host.specs.State.{broadcast, linkOf, withLink, entries, hostCount}
-use Rattle.host.specs.Guard.{guardLink}
+use Rattle.config.specs.declared.Settings.{Settings}
+use Rattle.config.specs.declared.Link.{Link}
+use Rattle.config.specs.declared.Links.{Links}
+use Rattle.arrival.specs.declared.Flight.{Flight}
+use Rattle.config.specs.State.{broadcast, linkOf, withLink, entries, hostCount}
+use Rattle.config.specs.Guard.{guardLink}
 use Rattle.host.specs.Outcome.{Outcome}
-use Rattle.host.specs.Inspection.{otherLayout, looped, inspected, inspect}
-use Rattle.host.specs.Steps.{step2, step3, step4, steps2to4, tspOf, delayOf, offsetOf}
-use Rattle.host.specs.Arrival.{atLeastMin, neighborUpdate, reportUpdate, updateId, noTable, withTable, step5, concluded, action}
+use Rattle.arrival.specs.Inspection.{otherLayout, looped, inspected, inspect}
+use Rattle.arrival.specs.Steps.{step2, step3, step4, steps2to4, tspOf, delayOf, offsetOf, atLeastMin, neighborUpdate, reportUpdate, updateId}
+use Rattle.host.specs.Arrival.{noTable, withTable, step5, concluded, action}
 use Rattle.host.specs.Calls.{arrived, arrival}
-use Rattle.host.proofs.Places.{Holds, entries-length}
-use Rattle.host.proofs.Sweeps.{sweep-length}
-use Rattle.host.proofs.Guarded.{passed-link, holds}
-use Rattle.host.proofs.Guarded as guarded
+use Rattle.config.proofs.Places.{Holds, entries-length}
+use Rattle.table.proofs.Sweeps.{sweep-length}
+use Rattle.config.proofs.Guarded.{passed-link, holds}
+use Rattle.config.proofs.Guarded as guarded
 use Rattle.network.specs.Room.{Room, at, HostAt, Proper}
 use Rattle.network.specs.Demand3.{Message, timed}
 use Rattle.network.proofs.Arrivals.{same-address}
@@ -65,7 +66,6 @@ use Rattle.network.proofs.Swept.{sweep-keeps, only-keeps}
 use Rattle.network.proofs.Demand3.Invariant.{Known, RightEntry, RightReport, RightLink, RightLinks, Carries, RightMessage}
 use Rattle.network.proofs.Demand3.Outcomes.{RightOutcome, RightLent, same-right, written-right}
 use Rattle.network.proofs.Demand3.Seats.{down-right}
-use Rattle.network.proofs.Demand3.ReadBack.{source-back, count-back, time-back, tsp-back, report-back}
 use Rattle.network.proofs.Demand3.Sending.{link-from-1}
 
 -- ---- inspection: a refusal, or the fields of the octets in our layout
@@ -223,14 +223,14 @@ module _ (r : Room) (proper : Proper r) (b i : ℕ) (hb : b < r .seats) (m : Mes
   time-is : p .time .0 ≡ m .ms +ℤ r .fixed a
   time-is =
       ap (λ (o : List ℕ). fields o .time .0) (right .octets-are)
-      ∙ ap (λ (t : Millis). t .0) (time-back (right .destination) (right .packet) (right .reports) (right .time-low) (right .time-high))
+      ∙ ap (λ (t : Millis). t .0) (time-back (right .destination) (right .packet) (right .reports) (right .time-low) (omega (arith, right .time-high)))
       ∙ right .time
 
   tsp-read : p .tsp ≡ right .packet .tsp
-  tsp-read = ap (λ (o : List ℕ). fields o .tsp) (right .octets-are) ∙ tsp-back (right .destination) (right .packet) (right .reports) (right .tsp-fits)
+  tsp-read = ap (λ (o : List ℕ). fields o .tsp) (right .octets-are) ∙ tsp-back (right .destination) (right .packet) (right .reports) (right .tsp-fits .high) (right .tsp-fits .low)
 
   count-read : p .nhosts ≡ length (right .reports)
-  count-read = ap (λ (o : List ℕ). fields o .nhosts) (right .octets-are) ∙ count-back (right .destination) (right .packet) (right .reports) ∙ right .count
+  count-read = ap (λ (o : List ℕ). fields o .nhosts) (right .octets-are) ∙ nhosts-back (right .destination) (right .packet) (right .reports) ∙ right .count
 
   report-read : (id : ℕ) → id < length (right .reports) → RightReport r a id (reportAt (helloOf (m .octets)) id)
   report-read id inside =
@@ -239,7 +239,10 @@ module _ (r : Room) (proper : Proper r) (b i : ℕ) (hb : b < r .seats) (m : Mes
       (λ n. record { not-negative = omega arith; delay-fits = omega arith; fits = omega arith; known = λ low. absurd (false≢true low) })
       (right .reports) (right .right) id in
       rw (right .octets-are)
-      (rw (report-back (right .destination) (right .packet) (right .reports) id noReport inside (here .not-negative) (here .delay-fits) (here .fits)) here)
+      (rw (
+        delay-back (right .destination) (right .packet) (right .reports) id noReport inside (here .not-negative) (here .delay-fits),
+        offset-back (right .destination) (right .packet) (right .reports) id noReport inside (here .fits .high) (here .fits .low),
+      ) here)
 
   near-clocks : Apart (r .fixed a) (r .fixed b)
   near-clocks = apart (r .fixed a) (r .fixed b) (proper .fixed-near a b (right .seat-in) hb)

@@ -1,39 +1,39 @@
 -- A send keeps a seat right, and what it writes is a right message: its time is our reading, its reports are the table's, and its TSP has the bits that the link's TSP and our reading make.
 use mathlib.Core.Path.{_≡_, refl, sym, subst, _∙_}
-use mathlib.Core.Bool.{Bool, true, false, true≢false, false≢true, not, _&&_, _||_}
-use mathlib.Core.List.{List, [], _∷_}
+use mathlib.Core.Bool.{true, false, true≢false, false≢true}
+use mathlib.Core.List.{List}
 use Prim.Native.Nat.{ℕ, suc, _-_, _≤_, _<_}
 use native.Mathlib.Omega.{arith}
 use borrow.Author.Tests.{eqb-false, ne-eqb}
-use lib.Dec.{ltb, leb, eqb, lit<}
+use lib.Dec.{ltb, eqb}
 use lib.IntN.{ℤ, pos, _+ℤ_}
-use lib.ListN.{length, take}
-use lib.Signed.{ltZ, _<ℤ_}
-use Rattle.laws.proofs.Tests.{either, both, is-not, each}
+use lib.ListN.{length}
+use lib.Signed.{_<ℤ_}
+use Rattle.laws.proofs.Tests.{either}
 use Rattle.quantity.specs.declared.Millis.{Millis}
 use Rattle.quantity.specs.declared.Word.{Word}
-use Rattle.quantity.specs.Quantity.{units, unitsPerMilli, toUnits}
 use Rattle.quantity.specs.Words.{zeroWord}
-use Rattle.quantity.proofs.Ints.{up, dn, lt-no, floor, of-<ℤ}
+use Rattle.quantity.proofs.Ints.{up, dn, of-<ℤ}
 use Rattle.quantity.proofs.Wrap.{wrap-range}
 use Rattle.answer.specs.declared.Answer.the-variants.{Done}
 use Rattle.clock.specs.declared.Clock.{Clock}
-use Rattle.calendar.specs.Date.{real}
-use Rattle.clock.specs.Midnight.{day, dayMillis}
-use Rattle.clock.specs.Clock.{reading, within, slewLeast, slewMost, clockInRange}
+use Rattle.clock.specs.Midnight.{dayMillis}
+use Rattle.clock.specs.Clock.{reading}
 use Rattle.wire.specs.Packet.{message}
 use Rattle.table.specs.declared.Entry.{Entry}
-use Rattle.table.specs.Forms.{every}
-use Rattle.table.specs.Entry.{maxDelay, holdDown, advertised, upTo, entryInRange}
-use Rattle.host.specs.declared.Settings.{Settings}
-use Rattle.host.specs.declared.Link.{Link}
-use Rattle.host.specs.declared.Links.{Links}
-use Rattle.host.specs.State.{unset, freshLink, linkOf, withLink, entries}
-use Rattle.host.specs.Guard.{linkInRange, linkCount, noLink, lentInRange, guardLink, done}
+use Rattle.table.specs.Entry.{advertised, entryInRange}
+use Rattle.table.proofs.Ranges.{within, range-says, reading-in}
+use Rattle.config.specs.declared.Settings.{Settings}
+use Rattle.config.specs.declared.Link.{Link}
+use Rattle.config.specs.declared.Links.{Links}
+use Rattle.config.specs.State.{unset, freshLink, linkOf, withLink, entries}
+use Rattle.config.specs.Guard.{noLink, guardLink, done}
 use Rattle.host.specs.Outcome.{Outcome}
-use Rattle.host.specs.Send.{tableGoes, reports, sentTsp, linkSent, packetSent, sentMessage, sentLength, sentOutcome, send}
-use Rattle.host.proofs.Guarded.{passed-link, holds, Passed}
-use Rattle.host.proofs.Guarded as guarded
+use Rattle.plan.specs.Message.{tableGoes, sentTsp, linkSent, packetSent}
+use Rattle.host.specs.Send.{reports, sentMessage, sentLength, sentOutcome, send}
+use Rattle.config.proofs.Guarded.{Passed, passed-link, holds, counted}
+use Rattle.config.proofs.Guarded as guarded
+use Rattle.host.proofs.Judged.{clock-lent, entries-lent}
 use Rattle.network.specs.Call.{messageOf}
 use Rattle.network.specs.Room.{Room, at}
 use Rattle.network.proofs.Sends.{sent-message}
@@ -43,45 +43,9 @@ use Rattle.network.proofs.Demand3.Near.{Fits16}
 use Rattle.network.proofs.Demand3.Invariant.{RightEntry, RightReport, RightLink, RightLinks, Carries, RightMessage}
 use Rattle.network.proofs.Demand3.Outcomes.{RightOutcome, RightLent, same-right}
 
--- ---- tests
-
 -- a link that is there has a number from 1 on
 pub link-from-1 : (s : Settings) (i : ℕ) → noLink s i ≡ false → suc (i - 1) ≡ i
-unfolding noLink
-link-from-1 s i e = go (eqb i 0) refl e
-  where
-    go : (b : Bool) → eqb i 0 ≡ b → (b || ltb (linkCount s) i) ≡ false → suc (i - 1) ≡ i
-    go true t e = absurd (true≢false e)
-    go false t e = let n = eqb-false i 0 t in omega arith
-
--- what is lent in range: our reading is not negative, and each entry's DELAY fits a word
-clock-low : (c : Clock) → clockInRange c ≡ true → dn (c .clock .0) ≤ 0
-unfolding clockInRange
-clock-low c e =
-    let t = each (within (units (pos 0)) day (c .clock)) (within (toUnits slewLeast) (toUnits slewMost) (c .delta) ∷ leb (c .hold .0) 255 ∷ real (c .date) ∷ []) e .0 in
-    let f = both (not (ltZ (c .clock .0) (pos 0))) (not (ltZ (day .0) (c .clock .0))) t .0 in
-    omega (arith, lt-no (c .clock .0) (pos 0) (is-not (ltZ (c .clock .0) (pos 0)) f))
-
-pub reading-low : (s : Settings) (k : ℕ) (c : Clock) (l : Links) (run : List Entry) → lentInRange s k c l run ≡ true
-    → dn (reading c .time .0) ≤ 0
-unfolding lentInRange reading
-reading-low s k c l run e =
-    let a = both (clockInRange c && every linkInRange (take (linkCount s) (l .all))) (every entryInRange (entries s k run)) e .0 in
-    let b = both (clockInRange c) (every linkInRange (take (linkCount s) (l .all))) a .0 in
-    omega (arith, clock-low c b, floor (c .clock .0) unitsPerMilli (lit< tt))
-
-entries-in-range : (s : Settings) (k : ℕ) (c : Clock) (l : Links) (run : List Entry) → lentInRange s k c l run ≡ true
-    → every entryInRange (entries s k run) ≡ true
-unfolding lentInRange
-entries-in-range s k c l run e =
-    both (clockInRange c && every linkInRange (take (linkCount s) (l .all))) (every entryInRange (entries s k run)) e .1
-
-delay-range : (e : Entry) → entryInRange e ≡ true → (dn (e .delay .0) ≤ 0) × (up (e .delay .0) ≤ 30000)
-unfolding entryInRange
-delay-range e t =
-    let d = each (upTo maxDelay (e .delay)) (leb (e .ttl .0) (holdDown .0) ∷ leb (e .pid) 8 ∷ upTo dayMillis (e .time) ∷ []) t .0 in
-    let f = both (not (ltZ (e .delay .0) (pos 0))) (not (ltZ (pos 30000) (e .delay .0))) d in
-    omega (arith, lt-no (e .delay .0) (pos 0) (is-not (ltZ (e .delay .0) (pos 0)) (f .0)), lt-no (pos 30000) (e .delay .0) (is-not (ltZ (pos 30000) (e .delay .0)) (f .1)))
+link-from-1 s i e = omega (arith, counted s i e .from-one)
 
 -- ---- the message of a send at seat a on link i, at millisecond t
 
@@ -110,19 +74,23 @@ module _ (r : Room) (a i : ℕ) (inside : a < r .seats) (c : Clock) (l : Links) 
   advertised-right : (n : ℕ) (e : Entry) → RightEntry r a n e × (entryInRange e ≡ true) → RightReport r a n (advertised i e)
   unfolding advertised
   advertised-right n e h =
-      let d = delay-range e (h .1) in
+      let d = range-says e (h .1) .delay in
       either (λ (m : Millis). RightReport r a n record { delay = m; offset = e .offset }) (eqb (e .pid) i) _ _
       (λ t. record { not-negative = omega arith; delay-fits = omega arith; fits = h .0 .fits; known = λ low. absurd (false≢true low) })
-      (λ t. record { not-negative = d .0; delay-fits = omega arith; fits = h .0 .fits; known = h .0 .known })
+      (λ t. record { not-negative = omega arith; delay-fits = omega arith; fits = h .0 .fits; known = h .0 .known })
 
   module _ (ok : Passed (r .settings a) (r .number a) c l run) (t : ℤ) (clock : reading c .time .0 ≡ t +ℤ r .fixed a) (early : reading c .time .0 <ℤ dayMillis .0) where
+    reads-low : dn (reading c .time .0) ≤ 0
+    reads-low =
+        omega (arith, within 86400000 (reading c .time .0) (reading-in c (clock-lent (r .settings a) (r .number a) c l run ok)))
+
     reports-right : All (RightReport r a) (reports (r .settings a) i x es)
     reports-right =
         either (All (RightReport r a)) (tableGoes (r .settings a) x) _ _
         (λ _.
         all-map (λ (n : ℕ) (e : Entry). RightEntry r a n e × (entryInRange e ≡ true)) (RightReport r a) (advertised i) advertised-right es
         (all-both (RightEntry r a) (λ (n : ℕ) (e : Entry). entryInRange e ≡ true) es (lent .table (holds (r .number a) run (ok .places-there)))
-        (every-all entryInRange es (entries-in-range (r .settings a) (r .number a) c l run (ok .lent-good)))))
+        (every-all entryInRange es (entries-lent (r .settings a) (r .number a) c l run ok))))
         (λ _. tt)
 
     tsp-fits : Fits16 (sentTsp x (reading c .time) .0)
@@ -152,8 +120,8 @@ module _ (r : Room) (a i : ℕ) (inside : a < r .seats) (c : Clock) (l : Links) 
           octets-are = sent-message (r .settings a) (r .number a) (reading c) l run i buffer;
           source = refl;
           time = clock;
-          time-low = reading-low (r .settings a) (r .number a) c l run (ok .lent-good);
-          time-high = omega (arith, of-<ℤ early, reading-low (r .settings a) (r .number a) c l run (ok .lent-good));
+          time-low = reads-low;
+          time-high = omega (arith, of-<ℤ early, reads-low);
           count = refl;
           right = reports-right;
           tsp-fits = tsp-fits;
