@@ -1,0 +1,148 @@
+/*
+ * An exchange of two hosts: how A learns DELAY and OFFSET of B.
+ *
+ * B's clock is 500 ms ahead of A's. A sends at 40,000 by its clock; B gets it at 40,530 by its
+ * own, and answers at 45,530; A gets the answer at 45,081. So the way there and back took 81 ms,
+ * and A takes B to be 489 ms ahead.
+ */
+#undef NDEBUG
+#include <assert.h>
+#include <stdio.h>
+#include <string.h>
+
+#include "hello.h"
+
+enum {
+    MILLISECOND = 65536, /* in clock units */
+    LINK = 1,            /* both hosts have one link */
+    RUN = 2 * HELLO_PLACES,
+    MESSAGE = 64 /* octets, enough for two hosts' table */
+};
+
+/* A host: its settings, its number, and what it lends to each call beside the run. */
+typedef struct host {
+    hello_settings settings;
+    size_t number;
+    hello_clock clock;
+    hello_links links;
+} host;
+
+/* The run of both hosts' entries. */
+static hello_entry run[RUN];
+
+/* The address of host `number`: 192.0.2.1 and 192.0.2.2; the ids are 0 and 1. */
+static hello_address address_of(size_t number)
+{
+    hello_address address = {192, 0, 2, (uint8_t)(1 + number)};
+    return address;
+}
+
+/* Makes host `number` fresh, with its clock at `time` ms. */
+static void set_up(host *h, size_t number, int64_t time)
+{
+    memset(h, 0, sizeof *h);
+    h->number = number;
+    h->settings.address = address_of(number);
+    h->settings.layout.address_offset = 1;
+    h->settings.layout.nhosts = 2;
+    h->settings.clock_host = 255;
+    h->settings.hold_interval = 1;
+    h->settings.clock_tick = MILLISECOND;
+    h->settings.time = time;
+    h->settings.date = 1 << 10 | 1 << 5; /* 1 January 1972 */
+    h->settings.link_count = 1;
+    uint8_t answer = hello_initialize(&h->settings, number, &h->clock, &h->links, run, RUN);
+    assert(answer == HELLO_DONE);
+}
+
+/* The clock's whole milliseconds. */
+static int64_t reading(host *h)
+{
+    hello_time time = hello_read(&h->settings, h->number, &h->clock, &h->links, run, RUN);
+    assert(time.answer == HELLO_DONE);
+    return time.time;
+}
+
+/* Ticks until the clock reads `time` ms. */
+static void wait_until(host *h, int64_t time)
+{
+    while (reading(h) < time) {
+        uint8_t answer = hello_tick(&h->settings, h->number, &h->clock, &h->links, run, RUN);
+        assert(answer == HELLO_DONE);
+    }
+    assert(reading(h) == time);
+}
+
+/* Reports the host itself in its own table. */
+static void self_report(host *h)
+{
+    uint8_t answer = hello_self_report(&h->settings, h->number, &h->clock, &h->links, run, RUN);
+    assert(answer == HELLO_DONE);
+}
+
+/* Writes the message that the host sends now; answers its length. */
+static size_t send_now(host *h, uint8_t *message)
+{
+    hello_sent sent = hello_send(&h->settings, h->number, &h->clock, &h->links, run, RUN, LINK,
+                                 message, MESSAGE);
+    assert(sent.answer == HELLO_DONE);
+    return sent.length;
+}
+
+/* Gives the host a message that arrives now. */
+static void receive_now(host *h, const uint8_t *message, size_t length)
+{
+    uint8_t answer = hello_receive(&h->settings, h->number, &h->clock, &h->links, run, RUN, LINK,
+                                   message, length);
+    assert(answer == HELLO_DONE);
+}
+
+static int same_address(hello_address x, hello_address y)
+{
+    return x.first == y.first && x.second == y.second && x.third == y.third &&
+           x.fourth == y.fourth;
+}
+
+int main(void)
+{
+    host a, b;
+    uint8_t message[MESSAGE];
+    size_t length;
+
+    set_up(&a, 0, 39900);
+    set_up(&b, 1, 40400);
+
+    /* B introduces itself, so that A knows its neighbor. */
+    length = send_now(&b, message);
+    wait_until(&a, 39930);
+    receive_now(&a, message, length);
+    assert(same_address(a.links.all[0].neighbor, address_of(1)));
+
+    wait_until(&a, 40000);
+    length = send_now(&a, message);
+    wait_until(&b, 40530);
+    receive_now(&b, message, length);
+    assert(b.links.all[0].tsp == -530);
+
+    wait_until(&b, 45530);
+    self_report(&b);
+    length = send_now(&b, message);
+    assert(message[28] * 256 + message[29] == 45000); /* the TSP that B sends */
+    wait_until(&a, 45081);
+    receive_now(&a, message, length);
+
+    /* DELAY 81 counts as the least one, 100; OFFSET is 449 + 81 / 2. */
+    hello_entry b_at_a = run[1];
+    assert(b_at_a.delay == 100);
+    assert(b_at_a.offset == 489);
+    assert(b_at_a.ttl == 120);
+    assert(b_at_a.pid == LINK);
+    assert(b_at_a.time == 45081);
+
+    hello_route route = hello_lookup(&a.settings, a.number, &a.clock, &a.links, run, RUN,
+                                     address_of(1));
+    assert(route.answer == HELLO_DONE && route.host == 1 && route.pid == LINK);
+
+    printf("A has for B: DELAY %d ms, OFFSET %d ms.\n", (int)b_at_a.delay, (int)b_at_a.offset);
+    return 0;
+}

@@ -1,0 +1,269 @@
+/*
+ * A HELLO host of RFC 891: the calls of the proved library libhello.a.
+ *
+ * A host has settings, a clock, links and a host table. The caller keeps them and lends them to
+ * each call. All hosts of a class share one run of entries: host k, from 0 to 15, owns the 255
+ * places from 255 k, and only the first NHOSTS of them are ever changed. So a run holds host k
+ * when it is at least 255 k + 255 entries long. A longer run is fine.
+ *
+ * Every call ends with one of the fourteen numbers below. None asks that another call came first,
+ * that the settings are good or that a packet is well formed. A host is set afresh by
+ * hello_initialize; each later call is lent the clock, the links and the run as the host's last
+ * call left them.
+ *
+ *   no.  meaning                                        changes
+ *   0    done                                           what the call's rule says
+ *   1    a setting is outside its range                 nothing
+ *   2    send: the buffer is shorter than the message   nothing
+ *   3    arrival: IP form                               nothing
+ *   4    arrival: IP checksum                           nothing
+ *   5    arrival: the IP protocol is not 63             nothing
+ *   6    arrival: HELLO form                            nothing
+ *   7    arrival: HELLO checksum                        nothing
+ *   8    arrival: another layout of host ids            nothing
+ *   9    arrival: looped line (the source is the host   nothing
+ *        itself, on a point-to-point link)
+ *   10   arrival: delay not valid (the neighbor's TSP   the link's keep_alive and tsp
+ *        is 0, or HOLD is not 0)
+ *   11   no host or net for the address                 lookup: nothing; arrival: the link's
+ *                                                       keep_alive, tsp and neighbor
+ *   12   host number over 15, link not from 1 to the    nothing
+ *        host's count, the host's 255 places not all
+ *        in the run, or something lent out of range
+ *   13   lookup: the host is down (DELAY is 30,000)     nothing
+ *
+ * 12 is tested first in all calls, then upwards in number. hello_initialize tests, for 12, the
+ * host number and the length of the run only; every other call tests the ranges of all that it is
+ * lent: the clock, the host's links and the host's first NHOSTS entries.
+ *
+ * What a caller owes, and the library cannot test:
+ *   - each pointer is valid for its type, or for as many elements as the length beside it says,
+ *     and aligned;
+ *   - what one call is lent does not overlap, and no other thread uses it during the call;
+ *   - a length counts elements: entries of the run, octets of a buffer or packet;
+ *   - a pointer beside a length of 0 is not null either;
+ *   - a bool is 0 or 1.
+ *
+ * The library keeps nothing between calls, allocates nothing and does no input or output.
+ */
+#ifndef HELLO_H
+#define HELLO_H
+
+#include <stdbool.h>
+#include <stddef.h>
+#include <stdint.h>
+
+#ifdef __cplusplus
+extern "C" {
+#endif
+
+/* The places of the run that one host owns, and the hosts that one run can hold. */
+#define HELLO_PLACES 255
+#define HELLO_HOSTS 16
+
+/* The answers. */
+#define HELLO_DONE 0
+#define HELLO_SETTING 1
+#define HELLO_SHORT_BUFFER 2
+#define HELLO_IP_FORM 3
+#define HELLO_IP_CHECKSUM 4
+#define HELLO_PROTOCOL 5
+#define HELLO_HELLO_FORM 6
+#define HELLO_HELLO_CHECKSUM 7
+#define HELLO_OTHER_LAYOUT 8
+#define HELLO_LOOPED_LINE 9
+#define HELLO_DELAY_NOT_VALID 10
+#define HELLO_NO_HOST 11
+#define HELLO_OUT_OF_RANGE 12
+#define HELLO_HOST_DOWN 13
+
+/* An internet address, first octet first. */
+typedef struct hello_address {
+    uint8_t first;
+    uint8_t second;
+    uint8_t third;
+    uint8_t fourth;
+} hello_address;
+
+/* The setting of one link. */
+typedef struct hello_link_setting {
+    bool broadcast;         /* true: broadcast link; false: point-to-point link */
+    hello_address neighbor; /* NEIGHBOR-ADDRESS of a broadcast link; else not looked at */
+} hello_link_setting;
+
+/* The layout of host ids, the same at all hosts of a net. */
+typedef struct hello_layout {
+    uint8_t address_offset; /* ADDRESS-OFFSET: an id is the host octet less this number */
+    size_t nhosts;          /* NHOSTS, 1 to 255: ids are 0 to NHOSTS - 1 */
+} hello_layout;
+
+/* The number of a net; class A has two zeros behind its first octet. */
+typedef struct hello_net {
+    uint8_t first;
+    uint8_t second;
+    uint8_t third;
+} hello_net;
+
+/* A row of the net table: the host through which a net is reached. */
+typedef struct hello_row {
+    hello_net net; /* net zero matches every address and ends the search */
+    uint8_t host;  /* an id below NHOSTS */
+} hello_row;
+
+/* The net table: the first `count` rows. */
+typedef struct hello_net_table {
+    size_t count;       /* 0 to 32 */
+    hello_row rows[32]; /* searched from the first */
+} hello_net_table;
+
+/* The settings of a host. Outside these ranges every call on the host answers 1, unless 12. */
+typedef struct hello_settings {
+    hello_address address;       /* LOCAL-ADDRESS: first octet 1 to 223; gives an id below NHOSTS */
+    hello_layout layout;         /* ADDRESS-OFFSET and NHOSTS */
+    uint8_t clock_host;          /* id of the host that sets the clock, below NHOSTS; 255: none */
+    uint16_t hold_interval;      /* HOLD-INTERVAL, 1 to 255 s */
+    int64_t clock_tick;          /* CLOCK-TICK, 1 to 65,536,000 units of 1/65,536 ms */
+    int64_t time;                /* starting time, 0 to 86,399,999 ms */
+    uint16_t date;               /* starting date, a real one; bit 15 is not looked at */
+    size_t link_count;           /* 1 to 8 */
+    hello_link_setting links[8]; /* link 1 comes first */
+    hello_net_table net;         /* all ids below NHOSTS */
+} hello_settings;
+
+/*
+ * A host's clock. The DATE word: bits 0-4 year less 1972, 5-9 day, 10-13 month, 14 zero, 15 one
+ * while a master's date is awaited. Only real dates from 1 January 1972 to 31 December 2003.
+ */
+typedef struct hello_clock {
+    int64_t clock; /* CLOCK, 0 to 86,400,000 ms, in units of 1/65,536 ms */
+    int64_t delta; /* DELTA, -512 to +511 ms, in units of 1/65,536 ms */
+    uint16_t hold; /* HOLD, 0 to 255 s */
+    uint16_t date; /* DATE, a real date */
+} hello_clock;
+
+/* The state of a link. */
+typedef struct hello_link {
+    hello_address neighbor; /* NEIGHBOR-ADDRESS, any; zero until a neighbor is heard or set */
+    uint8_t keep_alive;     /* KEEP-ALIVE, 0 to 4 */
+    int16_t tsp;            /* TSP, any, ms */
+} hello_link;
+
+/* The states of a host's links. */
+typedef struct hello_links {
+    hello_link all[8]; /* link 1 comes first */
+} hello_links;
+
+/* An entry of a host table. */
+typedef struct hello_entry {
+    int64_t delay;  /* DELAY, 0 to 30,000 ms; 30,000 is down */
+    int16_t offset; /* OFFSET, any, ms: that host's clock less ours */
+    uint16_t ttl;   /* TTL, 0 to 120 s */
+    uint8_t pid;    /* PID, 0 to 8: the link of the route; 0: the host itself, or none */
+    int64_t time;   /* time of update, 0 to 86,400,000 ms */
+} hello_entry;
+
+/* What a send answers. */
+typedef struct hello_sent {
+    uint8_t answer;
+    size_t length; /* the message's octets; 0 when refused */
+} hello_sent;
+
+/* What a lookup answers. */
+typedef struct hello_route {
+    uint8_t answer;
+    size_t host; /* the host's id; 0 when refused */
+    uint8_t pid; /* PID, the link of the route; 0 when refused */
+} hello_route;
+
+/* What a reading answers. */
+typedef struct hello_time {
+    uint8_t answer;
+    int64_t time;  /* the whole milliseconds of CLOCK; 0 when refused */
+    uint16_t date; /* the DATE word; 0 when refused */
+} hello_time;
+
+/*
+ * Sets host `number` afresh by its settings: the clock, all eight links and the first NHOSTS
+ * entries. What stood there does not matter. Answers 0, 1, 12.
+ */
+uint8_t hello_initialize(const hello_settings *settings, size_t number, hello_clock *clock,
+                         hello_links *links, hello_entry *run, size_t run_length);
+
+/*
+ * Adds CLOCK-TICK to CLOCK. Past 86,400,000 ms the clock loses a day, DATE moves on, its bit 15 is
+ * set and HOLD becomes HOLD-INTERVAL; so also after adjust and set, and the other way below 0.
+ * Answers 0, 1, 12.
+ */
+uint8_t hello_tick(const hello_settings *settings, size_t number, hello_clock *clock,
+                   const hello_links *links, const hello_entry *run, size_t run_length);
+
+/* Moves CLOCK by DELTA / 128, rounded down, which DELTA loses. Answers 0, 1, 12. */
+uint8_t hello_adjust(const hello_settings *settings, size_t number, hello_clock *clock,
+                     const hello_links *links, const hello_entry *run, size_t run_length);
+
+/*
+ * Corrects the clock by `ms`. From -512 to +511 it becomes DELTA, which adjust spends. Otherwise
+ * it is added to CLOCK at once, DELTA becomes 0 and HOLD becomes HOLD-INTERVAL. Answers 0, 1, 12.
+ */
+uint8_t hello_set(const hello_settings *settings, size_t number, hello_clock *clock,
+                  const hello_links *links, const hello_entry *run, size_t run_length, int32_t ms);
+
+/* Reads the whole milliseconds of CLOCK, and DATE. Changes nothing. Answers 0, 1, 12. */
+hello_time hello_read(const hello_settings *settings, size_t number, hello_clock *clock,
+                      const hello_links *links, const hello_entry *run, size_t run_length);
+
+/*
+ * A second has passed: HOLD and each TTL fall by one unless zero. An entry that was up and whose
+ * TTL thereby ends goes down: DELAY 30,000, TTL 120. Answers 0, 1, 12.
+ */
+uint8_t hello_second(const hello_settings *settings, size_t number, hello_clock *clock,
+                     const hello_links *links, hello_entry *run, size_t run_length);
+
+/* Updates the host's own entry with PID 0, DELAY 0 and OFFSET 0. Answers 0, 1, 12. */
+uint8_t hello_self_report(const hello_settings *settings, size_t number, hello_clock *clock,
+                          const hello_links *links, hello_entry *run, size_t run_length);
+
+/*
+ * Writes the next message of link `link` (from 1) to the front of the buffer, IP header first, and
+ * answers its length: 32 octets, or 32 + 4 NHOSTS with the host table, which goes out once the
+ * neighbor is known and on the host's net. KEEP-ALIVE falls by one unless zero. Octets of the
+ * buffer behind the message stay. Answers 0, 1, 2, 12.
+ */
+hello_sent hello_send(const hello_settings *settings, size_t number, hello_clock *clock,
+                      hello_links *links, const hello_entry *run, size_t run_length, size_t link,
+                      uint8_t *buffer, size_t buffer_length);
+
+/*
+ * Takes in a packet, IP header first, that arrived on link `link` (from 1). On 0 the link's
+ * keep_alive, tsp and neighbor, the entries that the packet's report changes and, where the report
+ * of the clock host is taken, the clock are as RFC 891 says. Answers 0, 1, 3 to 12.
+ */
+uint8_t hello_receive(const hello_settings *settings, size_t number, hello_clock *clock,
+                      hello_links *links, hello_entry *run, size_t run_length, size_t link,
+                      const uint8_t *packet, size_t packet_length);
+
+/*
+ * Answers the host id and the link by which `address` is reached, by the host's own net or by the
+ * net table. Changes nothing. Answers 0, 1, 11, 12, 13.
+ */
+hello_route hello_lookup(const hello_settings *settings, size_t number, const hello_clock *clock,
+                         const hello_links *links, const hello_entry *run, size_t run_length,
+                         hello_address address);
+
+/*
+ * Gives a packet to the one point-to-point link of a fresh host (192.0.2.1, ADDRESS-OFFSET 1,
+ * NHOSTS 4, no net rows, no clock host, time 0, 1 January 1972) and answers the number.
+ */
+uint8_t hello_packet(const uint8_t *packet, size_t packet_length);
+
+/*
+ * The internet checksum (RFC 1071): the complement of the folded one's complement sum of all
+ * 16-bit words of the octets, high octet first. An odd last octet is the high octet of a word.
+ */
+uint16_t hello_checksum(const uint8_t *octets, size_t length);
+
+#ifdef __cplusplus
+}
+#endif
+
+#endif

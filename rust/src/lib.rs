@@ -1,0 +1,187 @@
+//! A HELLO host of RFC 891: safe calls of the proved library `libhello.a`.
+//!
+//! A host has settings, a clock, links and a host table. The caller keeps them and lends them to
+//! each call. All hosts of a class share one run of entries: host k, from 0 to 15, owns the 255
+//! places from 255 k, and only the first NHOSTS of them are ever changed. So a run holds host k
+//! when it is at least 255 k + 255 entries long.
+//!
+//! Every call ends with one of the numbers of [`answer`], whatever it is lent, and asks nothing
+//! beforehand. A refusal changes only what stands with its number.
+
+#![deny(missing_docs)]
+
+pub mod answer;
+mod layout;
+mod library;
+mod types;
+
+pub use types::*;
+
+/// Sets host `number` afresh: the clock, all links and the first NHOSTS entries, by the settings.
+pub fn initialize(
+    settings: &Settings,
+    number: usize,
+    clock: &mut Clock,
+    links: &mut Links,
+    run: &mut [Entry],
+) -> u8 {
+    // SAFETY: references and slices are valid, aligned and do not overlap; the same in each call below.
+    unsafe {
+        library::hello_initialize(settings, number, clock, links, run.as_mut_ptr(), run.len())
+    }
+}
+
+/// Adds CLOCK-TICK to the clock.
+pub fn tick(
+    settings: &Settings,
+    number: usize,
+    clock: &mut Clock,
+    links: &Links,
+    run: &[Entry],
+) -> u8 {
+    unsafe { library::hello_tick(settings, number, clock, links, run.as_ptr(), run.len()) }
+}
+
+/// Moves the clock by DELTA / 128, rounded down, which DELTA loses.
+pub fn adjust(
+    settings: &Settings,
+    number: usize,
+    clock: &mut Clock,
+    links: &Links,
+    run: &[Entry],
+) -> u8 {
+    unsafe { library::hello_adjust(settings, number, clock, links, run.as_ptr(), run.len()) }
+}
+
+/// Corrects the clock by `ms`: from -512 to +511 it becomes DELTA, which `adjust` spends;
+/// otherwise the clock is moved at once and HOLD is loaded.
+pub fn set(
+    settings: &Settings,
+    number: usize,
+    clock: &mut Clock,
+    links: &Links,
+    run: &[Entry],
+    ms: i32,
+) -> u8 {
+    unsafe { library::hello_set(settings, number, clock, links, run.as_ptr(), run.len(), ms) }
+}
+
+/// The clock's whole milliseconds and the DATE word. Nothing is changed.
+pub fn read(
+    settings: &Settings,
+    number: usize,
+    clock: &mut Clock,
+    links: &Links,
+    run: &[Entry],
+) -> Time {
+    unsafe { library::hello_read(settings, number, clock, links, run.as_ptr(), run.len()) }
+}
+
+/// A second has passed: HOLD and each TTL fall by one, and an entry whose TTL ends goes down.
+pub fn second(
+    settings: &Settings,
+    number: usize,
+    clock: &mut Clock,
+    links: &Links,
+    run: &mut [Entry],
+) -> u8 {
+    unsafe { library::hello_second(settings, number, clock, links, run.as_mut_ptr(), run.len()) }
+}
+
+/// Updates the host's own entry with PID 0, DELAY 0 and OFFSET 0.
+pub fn self_report(
+    settings: &Settings,
+    number: usize,
+    clock: &mut Clock,
+    links: &Links,
+    run: &mut [Entry],
+) -> u8 {
+    unsafe {
+        library::hello_self_report(settings, number, clock, links, run.as_mut_ptr(), run.len())
+    }
+}
+
+/// Writes the next message of link `link`, from 1, to the front of `buffer`; a message has 32
+/// octets, or with the host table 32 + 4 NHOSTS. Octets behind it stay.
+pub fn send(
+    settings: &Settings,
+    number: usize,
+    clock: &mut Clock,
+    links: &mut Links,
+    run: &[Entry],
+    link: usize,
+    buffer: &mut [u8],
+) -> Sent {
+    unsafe {
+        library::hello_send(
+            settings,
+            number,
+            clock,
+            links,
+            run.as_ptr(),
+            run.len(),
+            link,
+            buffer.as_mut_ptr(),
+            buffer.len(),
+        )
+    }
+}
+
+/// Takes in a packet, IP header first, that arrived on link `link`, from 1.
+pub fn receive(
+    settings: &Settings,
+    number: usize,
+    clock: &mut Clock,
+    links: &mut Links,
+    run: &mut [Entry],
+    link: usize,
+    packet: &[u8],
+) -> u8 {
+    unsafe {
+        library::hello_receive(
+            settings,
+            number,
+            clock,
+            links,
+            run.as_mut_ptr(),
+            run.len(),
+            link,
+            packet.as_ptr(),
+            packet.len(),
+        )
+    }
+}
+
+/// The host id and the link by which `address` is reached. Nothing is changed.
+pub fn lookup(
+    settings: &Settings,
+    number: usize,
+    clock: &Clock,
+    links: &Links,
+    run: &[Entry],
+    address: Address,
+) -> Route {
+    unsafe {
+        library::hello_lookup(
+            settings,
+            number,
+            clock,
+            links,
+            run.as_ptr(),
+            run.len(),
+            address,
+        )
+    }
+}
+
+/// The answer of a fresh host to `octets` on its one point-to-point link. The host is 192.0.2.1,
+/// ADDRESS-OFFSET 1, NHOSTS 4, time 0, 1 January 1972, without net rows or clock host.
+pub fn packet(octets: &[u8]) -> u8 {
+    unsafe { library::hello_packet(octets.as_ptr(), octets.len()) }
+}
+
+/// The internet checksum (RFC 1071): the complement of the folded one's complement sum of all
+/// words of `octets`, high octet first.
+pub fn checksum(octets: &[u8]) -> u16 {
+    unsafe { library::hello_checksum(octets.as_ptr(), octets.len()) }
+}

@@ -1,0 +1,107 @@
+//! The C interface of `libhello.a`. Nothing but the safe calls uses it.
+
+use crate::{Address, Clock, Entry, Links, Route, Sent, Settings, Time};
+
+extern "C" {
+    pub fn hello_initialize(
+        settings: *const Settings,
+        number: usize,
+        clock: *mut Clock,
+        links: *mut Links,
+        run: *mut Entry,
+        run_length: usize,
+    ) -> u8;
+
+    pub fn hello_tick(
+        settings: *const Settings,
+        number: usize,
+        clock: *mut Clock,
+        links: *const Links,
+        run: *const Entry,
+        run_length: usize,
+    ) -> u8;
+
+    pub fn hello_adjust(
+        settings: *const Settings,
+        number: usize,
+        clock: *mut Clock,
+        links: *const Links,
+        run: *const Entry,
+        run_length: usize,
+    ) -> u8;
+
+    pub fn hello_set(
+        settings: *const Settings,
+        number: usize,
+        clock: *mut Clock,
+        links: *const Links,
+        run: *const Entry,
+        run_length: usize,
+        ms: i32,
+    ) -> u8;
+
+    pub fn hello_read(
+        settings: *const Settings,
+        number: usize,
+        clock: *mut Clock,
+        links: *const Links,
+        run: *const Entry,
+        run_length: usize,
+    ) -> Time;
+
+    pub fn hello_second(
+        settings: *const Settings,
+        number: usize,
+        clock: *mut Clock,
+        links: *const Links,
+        run: *mut Entry,
+        run_length: usize,
+    ) -> u8;
+
+    pub fn hello_self_report(
+        settings: *const Settings,
+        number: usize,
+        clock: *mut Clock,
+        links: *const Links,
+        run: *mut Entry,
+        run_length: usize,
+    ) -> u8;
+
+    pub fn hello_send(
+        settings: *const Settings,
+        number: usize,
+        clock: *mut Clock,
+        links: *mut Links,
+        run: *const Entry,
+        run_length: usize,
+        link: usize,
+        buffer: *mut u8,
+        buffer_length: usize,
+    ) -> Sent;
+
+    pub fn hello_receive(
+        settings: *const Settings,
+        number: usize,
+        clock: *mut Clock,
+        links: *mut Links,
+        run: *mut Entry,
+        run_length: usize,
+        link: usize,
+        packet: *const u8,
+        packet_length: usize,
+    ) -> u8;
+
+    pub fn hello_lookup(
+        settings: *const Settings,
+        number: usize,
+        clock: *const Clock,
+        links: *const Links,
+        run: *const Entry,
+        run_length: usize,
+        address: Address,
+    ) -> Route;
+
+    pub fn hello_packet(packet: *const u8, packet_length: usize) -> u8;
+
+    pub fn hello_checksum(octets: *const u8, length: usize) -> u16;
+}
