@@ -1,0 +1,111 @@
+//! A call with all its arguments, and what comes of it.
+
+use std::fmt;
+
+/// Octets, shown in hex.
+#[derive(Clone, Default, PartialEq, Eq)]
+pub struct Octets(pub Vec<u8>);
+
+impl fmt::Debug for Octets {
+    fn fmt(&self, out: &mut fmt::Formatter) -> fmt::Result {
+        write!(out, "{} octets ", self.0.len())?;
+        self.0
+            .iter()
+            .try_for_each(|octet| write!(out, "{octet:02x}"))
+    }
+}
+
+/// Which call, and the arguments that are its own.
+#[derive(Debug)]
+pub enum Call {
+    Initialize,
+    Tick,
+    Adjust,
+    Set { ms: i32 },
+    Read,
+    Second,
+    SelfReport,
+    Send { link: usize, buffer: Octets },
+    Receive { link: usize, packet: Octets },
+    Lookup { address: hello::Address },
+    Packet { octets: Octets },
+    Checksum { octets: Octets },
+}
+
+/// The names of the calls, in the order of `Call::row`.
+pub const NAMES: [&str; 12] = [
+    "initialize",
+    "tick",
+    "adjust",
+    "set",
+    "read",
+    "second",
+    "self_report",
+    "send",
+    "receive",
+    "lookup",
+    "packet",
+    "checksum",
+];
+
+impl Call {
+    /// The row of the call in the table of counts.
+    pub fn row(&self) -> usize {
+        match self {
+            Call::Initialize => 0,
+            Call::Tick => 1,
+            Call::Adjust => 2,
+            Call::Set { .. } => 3,
+            Call::Read => 4,
+            Call::Second => 5,
+            Call::SelfReport => 6,
+            Call::Send { .. } => 7,
+            Call::Receive { .. } => 8,
+            Call::Lookup { .. } => 9,
+            Call::Packet { .. } => 10,
+            Call::Checksum { .. } => 11,
+        }
+    }
+}
+
+/// A call on a host: `host` tells whose clock and links are lent.
+#[derive(Debug)]
+pub struct Trial {
+    pub host: usize,
+    pub settings: hello::Settings,
+    pub number: usize,
+    pub run_length: usize,
+    pub call: Call,
+}
+
+/// What a call answers beside its number.
+#[derive(Debug, PartialEq, Eq)]
+pub enum Value {
+    Nothing,
+    Time { time: i64, date: u16 },
+    Length(usize),
+    Route { host: usize, pid: u8 },
+    Checksum(u16),
+}
+
+#[derive(Debug, PartialEq, Eq)]
+pub struct Outcome {
+    pub answer: u8,
+    pub value: Value,
+    /// The send buffer afterwards.
+    pub buffer: Octets,
+}
+
+impl Outcome {
+    pub fn new(answer: u8, value: Value) -> Outcome {
+        Outcome {
+            answer,
+            value,
+            buffer: Octets::default(),
+        }
+    }
+
+    pub fn of(answer: u8) -> Outcome {
+        Outcome::new(answer, Value::Nothing)
+    }
+}

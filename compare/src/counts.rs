@@ -1,0 +1,62 @@
+//! How often each call gave each answer, and which pairs can occur.
+
+use crate::call::NAMES;
+
+const ANSWERS: usize = 14;
+
+/// The answers that each call can give, in the order of `NAMES`.
+const CAN_OCCUR: [&[u8]; NAMES.len()] = [
+    &[0, 1, 12],
+    &[0, 1, 12],
+    &[0, 1, 12],
+    &[0, 1, 12],
+    &[0, 1, 12],
+    &[0, 1, 12],
+    &[0, 1, 12],
+    &[0, 1, 2, 12],
+    &[0, 1, 3, 4, 5, 6, 7, 8, 9, 10, 11, 12],
+    &[0, 1, 11, 12, 13],
+    &[0, 3, 4, 5, 6, 7, 8, 9, 10, 11],
+    &[0],
+];
+
+#[derive(Default)]
+pub struct Counts([[u64; ANSWERS]; NAMES.len()]);
+
+impl Counts {
+    pub fn add(&mut self, row: usize, answer: u8) {
+        self.0[row][usize::from(answer)] += 1;
+    }
+
+    pub fn print(&self) {
+        print!("{:<12}", "call");
+        (0..ANSWERS).for_each(|answer| print!("{answer:>8}"));
+        println!();
+        for (name, row) in NAMES.iter().zip(&self.0) {
+            print!("{name:<12}");
+            for count in row {
+                match count {
+                    0 => print!("{:>8}", "."),
+                    _ => print!("{count:>8}"),
+                }
+            }
+            println!();
+        }
+    }
+
+    /// Pairs that can occur and did not, or the other way round.
+    pub fn complaints(&self) -> Vec<String> {
+        let mut complaints = Vec::new();
+        for (row, name) in NAMES.iter().enumerate() {
+            for answer in 0..ANSWERS {
+                let can_occur = CAN_OCCUR[row].contains(&(answer as u8));
+                match (can_occur, self.0[row][answer]) {
+                    (true, 0) => complaints.push(format!("{name} never answered {answer}")),
+                    (false, 1..) => complaints.push(format!("{name} answered {answer}")),
+                    _ => {}
+                }
+            }
+        }
+        complaints
+    }
+}

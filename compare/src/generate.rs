@@ -1,0 +1,320 @@
+//! Random rooms, settings and lent values, in range and out of it.
+
+use crate::random::Random;
+use crate::room::Room;
+use hello::{Address, Clock, Entry, Layout, Link, LinkSetting, Links, Net, Row, Settings};
+use hello::{HOSTS, PLACES};
+
+pub const UNITS_PER_MS: i64 = 65_536;
+pub const DAY_MS: i64 = 86_400_000;
+pub const DAY_UNITS: i64 = DAY_MS * UNITS_PER_MS;
+const DELTA_LEAST: i64 = -512 * UNITS_PER_MS;
+const DELTA_MOST: i64 = 511 * UNITS_PER_MS;
+
+/// A room of a few hosts, now and then of sixteen, most of them on one net. The
+/// run ends with the last host's places or goes on a little, and all that is
+/// lent is still without rule.
+pub fn room(random: &mut Random) -> Room {
+    let hosts = match random.below(12) {
+        0 => HOSTS,
+        1 => 1 + random.below(HOSTS),
+        _ => 1 + random.below(3),
+    };
+    let past_the_end = random.pick(&[0, 0, 1, 20, PLACES]);
+    let (net, layout) = (any_net(random), layout(random));
+    let settings: Vec<Settings> = (0..hosts)
+        .map(|_| {
+            if random.one_in(6) {
+                let (other_net, other_layout) = (any_net(random), self::layout(random));
+                settings(random, other_net, other_layout)
+            } else {
+                settings(random, net, layout)
+            }
+        })
+        .collect();
+    let clocks = (0..hosts).map(|_| any_clock(random)).collect();
+    let links = settings.iter().map(|set| links(random, set)).collect();
+    let run = (0..hosts * PLACES + past_the_end)
+        .map(|_| any_entry(random))
+        .collect();
+    Room::new(settings, clocks, links, run)
+}
+
+/// An address of class A, B or C, whose host octet does not matter.
+fn any_net(random: &mut Random) -> Address {
+    let any_first = random.between(1, 223) as u8;
+    Address {
+        first: random.pick(&[1, 10, 127, 128, 172, 191, 192, 223, any_first]),
+        second: random.pick(&[0, 1, 16]),
+        third: random.pick(&[0, 2, 255]),
+        fourth: random.pick(&[0, 9, 255]),
+    }
+}
+
+fn layout(random: &mut Random) -> Layout {
+    let any = random.between(1, 255) as usize;
+    Layout {
+        address_offset: random.pick(&[0, 1, 1, 100, 240, 255]),
+        nhosts: random.pick(&[1, 2, 4, 4, 8, 16, 17, 255, any]),
+    }
+}
+
+/// Sound settings of a host on a net.
+fn settings(random: &mut Random, net: Address, layout: Layout) -> Settings {
+    let ids = layout.nhosts.min(256 - usize::from(layout.address_offset));
+    let id = random.below(ids) as u8;
+    let any_host = random.below(layout.nhosts) as u8;
+    let mut settings = Settings {
+        address: with_host_octet(net, layout.address_offset + id),
+        layout,
+        clock_host: random.pick(&[255, any_host]),
+        hold_interval: random.pick(&[1, 2, 7, 255]),
+        clock_tick: clock_tick(random),
+        time: random.pick(&[0, 1, 3_600_000, DAY_MS - 1]),
+        date: real_date(random),
+        link_count: 1 + random.below(8),
+        ..Settings::default()
+    };
+    settings.net.count = random.pick(&[0, 1, 2, 3, 5, 31, 32]);
+    for place in 0..settings.net.rows.len() {
+        settings.net.rows[place] = row(random, net, layout);
+    }
+    for place in 0..settings.links.len() {
+        settings.links[place] = LinkSetting {
+            broadcast: random.one_in(3),
+            neighbor: address(random, &settings),
+        };
+    }
+    settings
+}
+
+fn clock_tick(random: &mut Random) -> i64 {
+    let any = random.between(1, 65_536_000);
+    random.pick(&[1, 1_092_267, 65_536, 65_536_000, any])
+}
+
+/// A row, most often of a net that addresses of the room can be on.
+fn row(random: &mut Random, near: Address, layout: Layout) -> Row {
+    let (first, second, third) = match random.below(20) {
+        0 => (0, 0, 0),
+        1..=9 => (random.pick(&[10, 44, near.first]), 0, 0),
+        10..=15 => (near.first, near.second, near.third.wrapping_add(1)),
+        _ => (random.octet(), random.octet(), random.octet()),
+    };
+    Row {
+        net: Net {
+            first,
+            second,
+            third,
+        },
+        host: random.below(layout.nhosts) as u8,
+    }
+}
+
+fn with_host_octet(address: Address, octet: u8) -> Address {
+    if address.first < 128 {
+        Address {
+            third: octet,
+            ..address
+        }
+    } else {
+        Address {
+            fourth: octet,
+            ..address
+        }
+    }
+}
+
+/// An address that means something to a host, or any.
+pub fn address(random: &mut Random, settings: &Settings) -> Address {
+    let own = settings.address;
+    match random.below(12) {
+        0..=4 => {
+            let id = random.below(settings.layout.nhosts.clamp(1, 256)) as u8;
+            with_host_octet(own, settings.layout.address_offset.wrapping_add(id))
+        }
+        5 => with_host_octet(own, random.octet()),
+        6 => own,
+        7 | 8 => {
+            let net = settings.net.rows[random.below(4)].net;
+            Address {
+                first: net.first,
+                second: net.second,
+                third: net.third,
+                fourth: random.octet(),
+            }
+        }
+        9 => one_octet_away(random, own),
+        10 => Address::default(),
+        _ => Address {
+            first: random.pick(&[0, 10, 44, 127, 128, 191, 192, 223, 224, 240, 255]),
+            second: random.octet(),
+            third: random.octet(),
+            fourth: random.octet(),
+        },
+    }
+}
+
+fn one_octet_away(random: &mut Random, mut address: Address) -> Address {
+    match random.below(4) {
+        0 => address.first ^= 1,
+        1 => address.second ^= 1,
+        2 => address.third ^= 1,
+        _ => address.fourth ^= 1,
+    }
+    address
+}
+
+/// A real date, bit 15 set or not; often one at the end of a month or year.
+pub fn real_date(random: &mut Random) -> u16 {
+    loop {
+        let (any_year, any_month, any_day) = (random.below(32), random.below(16), random.below(32));
+        let year = random.pick(&[0, 1, 12, 28, 31, any_year]);
+        let month = random.pick(&[1, 2, 3, 12, any_month]);
+        let day = random.pick(&[1, 28, 29, 30, 31, any_day]);
+        let word = (year | day << 5 | month << 10) as u16;
+        if reference::Date(word).is_real() {
+            return word | random.pick(&[0, 0x8000]);
+        }
+    }
+}
+
+/// A word that need not be a date.
+pub fn any_date(random: &mut Random) -> u16 {
+    let real = real_date(random);
+    let month = 1 << (10 + random.below(5));
+    let day = 1 << (5 + random.below(5));
+    random.pick(&[real ^ month, real ^ day, real, 0, 0xFFFF])
+}
+
+/// CLOCK in range, often close to midnight.
+fn clock_units(random: &mut Random) -> i64 {
+    let two_seconds = random.between(0, 2_000 * UNITS_PER_MS);
+    let any = random.between(0, DAY_UNITS);
+    let from_edge = random.pick(&[0, 1, UNITS_PER_MS, two_seconds]);
+    random.pick(&[from_edge, DAY_UNITS - from_edge, any])
+}
+
+/// A clock in range.
+pub fn clock(random: &mut Random) -> Clock {
+    let any_delta = random.between(DELTA_LEAST, DELTA_MOST);
+    let small = random.between(-130, 130);
+    Clock {
+        clock: clock_units(random),
+        delta: random.pick(&[0, small, DELTA_LEAST, DELTA_MOST, any_delta]),
+        hold: random.pick(&[0, 0, 0, 1, 2, 255]),
+        date: real_date(random),
+    }
+}
+
+/// A clock in range or not.
+fn any_clock(random: &mut Random) -> Clock {
+    Clock {
+        clock: random.next() as i64,
+        delta: random.next() as i64,
+        hold: random.next() as u16,
+        date: random.next() as u16,
+    }
+}
+
+/// Links in range.
+pub fn links(random: &mut Random, settings: &Settings) -> Links {
+    let mut links = Links::default();
+    for (link, setting) in links.all.iter_mut().zip(&settings.links) {
+        let neighbor = if setting.broadcast {
+            setting.neighbor
+        } else {
+            address(random, settings)
+        };
+        *link = Link {
+            neighbor,
+            keep_alive: random.below(5) as u8,
+            tsp: random.next() as i16,
+        };
+    }
+    links
+}
+
+/// An entry in range, often close to a limit of the rules.
+pub fn entry(random: &mut Random) -> Entry {
+    let any = random.between(0, 30_000);
+    let near_down = random.between(29_890, 30_000);
+    Entry {
+        delay: random.pick(&[30_000, 30_000, 0, 100, 500, near_down, any]),
+        offset: random.next() as i16,
+        ttl: random.pick(&[0, 0, 1, 2, 60, 119, 120]),
+        pid: random.below(9) as u8,
+        time: random.pick(&[0, 1_000, DAY_MS]),
+    }
+}
+
+/// An entry in range or not.
+fn any_entry(random: &mut Random) -> Entry {
+    let mut entry = entry(random);
+    if random.one_in(4) {
+        spoil_entry(random, &mut entry);
+    }
+    entry
+}
+
+/// Breaks one rule of the settings, or goes to its very edge.
+pub fn spoil_settings(random: &mut Random, settings: &mut Settings) {
+    let nhosts = settings.layout.nhosts;
+    match random.below(14) {
+        0 => settings.address.first = random.pick(&[0, 224, 255]),
+        1 => settings.address = with_host_octet(settings.address, random.octet()),
+        2 => settings.layout.address_offset = random.octet(),
+        3 => settings.layout.nhosts = random.pick(&[0, 254, 255, 256, 300, usize::MAX]),
+        4 => settings.clock_host = random.pick(&[nhosts.min(254) as u8, 254, 255]),
+        5 => settings.hold_interval = random.pick(&[0, 255, 256, u16::MAX]),
+        6 => {
+            settings.clock_tick = random.pick(&[0, -1, 65_536_000, 65_536_001, i64::MIN, i64::MAX])
+        }
+        7 => settings.time = random.pick(&[-1, DAY_MS - 1, DAY_MS, i64::MIN, i64::MAX]),
+        8 => settings.date = any_date(random),
+        9 | 10 => settings.link_count = random.pick(&[0, 8, 9, 10, usize::MAX]),
+        11 => settings.net.count = random.pick(&[32, 33, 34, usize::MAX]),
+        12 => {
+            settings.net.rows[random.below(32)].host =
+                random.pick(&[nhosts.min(255) as u8, (nhosts - 1) as u8, 255]);
+        }
+        _ => {
+            let row = settings.net.count.clamp(1, 32) - 1;
+            settings.net.rows[row].host = nhosts.min(255) as u8;
+        }
+    }
+}
+
+/// Takes one field of a clock out of its range, or to its very edge.
+pub fn spoil_clock(random: &mut Random, clock: &mut Clock) {
+    match random.below(4) {
+        0 => clock.clock = random.pick(&[-1, DAY_UNITS, DAY_UNITS + 1, i64::MIN, i64::MAX]),
+        1 => {
+            clock.delta = random.pick(&[
+                DELTA_LEAST,
+                DELTA_LEAST - 1,
+                DELTA_MOST,
+                DELTA_MOST + 1,
+                i64::MIN,
+                i64::MAX,
+            ])
+        }
+        2 => clock.hold = random.pick(&[255, 256, u16::MAX]),
+        _ => clock.date = any_date(random),
+    }
+}
+
+/// Takes a KEEP-ALIVE out of its range, or to its very edge.
+pub fn spoil_links(random: &mut Random, links: &mut Links) {
+    links.all[random.below(8)].keep_alive = random.pick(&[4, 5, 6, 255]);
+}
+
+/// Takes one field of an entry out of its range, or to its very edge.
+pub fn spoil_entry(random: &mut Random, entry: &mut Entry) {
+    match random.below(4) {
+        0 => entry.delay = random.pick(&[-1, 30_000, 30_001, i64::MIN, i64::MAX]),
+        1 => entry.ttl = random.pick(&[120, 121, u16::MAX]),
+        2 => entry.pid = random.pick(&[8, 9, 255]),
+        _ => entry.time = random.pick(&[-1, DAY_MS, DAY_MS + 1, i64::MIN, i64::MAX]),
+    }
+}

@@ -1,0 +1,157 @@
+//! Gives the proved library and the reference the same random calls, and
+//! compares after each call the answer, the values, all clocks and links, the
+//! whole run and the whole buffer.
+//!
+//! `compare [--seed N] [--calls N]` makes at least N calls. It ends with 1 at
+//! the first difference, and with 2 where an answer that can occur was never
+//! given.
+
+mod call;
+mod convert;
+mod counts;
+mod generate;
+mod packets;
+mod random;
+mod room;
+mod sides;
+mod trials;
+mod vectors;
+
+use call::{Call, Trial, Value};
+use counts::Counts;
+use hello::{Clock, Entry, Links, PLACES};
+use random::Random;
+use room::{Difference, Room};
+use std::process::ExitCode;
+use trials::Messages;
+
+const DEFAULT_SEED: u64 = 891;
+const DEFAULT_CALLS: u64 = 1_000_000;
+
+struct Options {
+    seed: u64,
+    calls: u64,
+}
+
+fn options() -> Option<Options> {
+    let mut options = Options {
+        seed: DEFAULT_SEED,
+        calls: DEFAULT_CALLS,
+    };
+    let mut arguments = std::env::args().skip(1);
+    while let Some(name) = arguments.next() {
+        let number = arguments.next()?.parse().ok()?;
+        match name.as_str() {
+            "--seed" => options.seed = number,
+            "--calls" => options.calls = number,
+            _ => return None,
+        }
+    }
+    Some(options)
+}
+
+/// The calls made so far.
+struct Comparison {
+    random: Random,
+    messages: Messages,
+    counts: Counts,
+    calls: u64,
+    /// The host's entries before the call, for the report of a difference.
+    table: Vec<Entry>,
+}
+
+impl Comparison {
+    /// Makes calls on the hosts of one room.
+    fn visit(&mut self, room: &mut Room, most_calls: u64) -> Result<(), String> {
+        for host in 0..room.settings.len() {
+            let trial = trials::first(room, host);
+            self.perform(room, &trial)?;
+        }
+        let calls = (100 + self.random.below(400) as u64).min(most_calls);
+        for _ in 0..calls {
+            let trial = trials::next(&mut self.random, room, &self.messages);
+            let spoiled = trials::spoil_lent(&mut self.random, room, &trial);
+            let answer = self.perform(room, &trial)?;
+            if let (Some(before), 1 | 12) = (spoiled, answer) {
+                before.put_back(room);
+            }
+        }
+        Ok(())
+    }
+
+    fn perform(&mut self, room: &mut Room, trial: &Trial) -> Result<u8, String> {
+        self.calls += 1;
+        let lent = self.lent(room, trial);
+        let outcome = room
+            .perform(trial)
+            .map_err(|difference| self.report(trial, &lent, &difference))?;
+        self.counts.add(trial.call.row(), outcome.answer);
+        if let (Call::Send { .. }, Value::Length(length @ 1..)) = (&trial.call, &outcome.value) {
+            self.messages.keep(&outcome.buffer.0[..*length]);
+        }
+        Ok(outcome.answer)
+    }
+
+    /// The clock, links and used entries that a call is lent.
+    fn lent(&mut self, room: &Room, trial: &Trial) -> (Clock, Links) {
+        let start = PLACES * trial.host;
+        let nhosts = room.settings[trial.host].layout.nhosts;
+        self.table.clear();
+        self.table
+            .extend_from_slice(&room.library.run[start..start + nhosts]);
+        (
+            room.library.clocks[trial.host],
+            room.library.links[trial.host],
+        )
+    }
+
+    fn report(&self, trial: &Trial, lent: &(Clock, Links), difference: &Difference) -> String {
+        format!(
+            "{trial:?}\nlent: {lent:?}\nentries: {:?}\n\
+             difference at call {} in {}\n  library:   {}\n  reference: {}",
+            self.table, self.calls, difference.place, difference.library, difference.reference
+        )
+    }
+}
+
+fn compare(options: &Options) -> Result<Counts, String> {
+    let mut comparison = Comparison {
+        random: Random::new(options.seed),
+        messages: Messages::default(),
+        counts: Counts::default(),
+        calls: 0,
+        table: Vec::new(),
+    };
+    while comparison.calls < options.calls {
+        let mut room = generate::room(&mut comparison.random);
+        let left = options.calls - comparison.calls;
+        comparison.visit(&mut room, left)?;
+    }
+    println!("seed {}, {} calls", options.seed, comparison.calls);
+    vectors::run()?;
+    Ok(comparison.counts)
+}
+
+fn main() -> ExitCode {
+    let Some(options) = options() else {
+        eprintln!("usage: compare [--seed N] [--calls N]");
+        return ExitCode::from(2);
+    };
+    let counts = match compare(&options) {
+        Ok(counts) => counts,
+        Err(difference) => {
+            println!("seed {}\n{difference}", options.seed);
+            return ExitCode::from(1);
+        }
+    };
+    counts.print();
+    let complaints = counts.complaints();
+    complaints
+        .iter()
+        .for_each(|complaint| println!("{complaint}"));
+    if !complaints.is_empty() {
+        return ExitCode::from(2);
+    }
+    println!("no difference");
+    ExitCode::SUCCESS
+}

@@ -1,0 +1,110 @@
+//! A room of hosts that share one run, kept once for each program.
+
+use crate::call::{Outcome, Trial};
+use crate::convert;
+use crate::sides::{Library, Reference};
+
+pub struct Room {
+    /// The settings of each host.
+    pub settings: Vec<hello::Settings>,
+    pub library: Library,
+    reference: Reference,
+}
+
+/// Where the programs differ after a call, with what each left there.
+#[derive(Debug)]
+pub struct Difference {
+    pub place: String,
+    pub library: String,
+    pub reference: String,
+}
+
+impl Room {
+    /// A room in which both programs are lent the same.
+    pub fn new(
+        settings: Vec<hello::Settings>,
+        clocks: Vec<hello::Clock>,
+        links: Vec<hello::Links>,
+        run: Vec<hello::Entry>,
+    ) -> Room {
+        let reference = Reference {
+            clocks: clocks.iter().map(convert::clock).collect(),
+            links: links.iter().map(convert::links).collect(),
+            run: run.iter().map(convert::entry).collect(),
+        };
+        let library = Library { clocks, links, run };
+        Room {
+            settings,
+            library,
+            reference,
+        }
+    }
+
+    pub fn lend_clock(&mut self, host: usize, clock: hello::Clock) {
+        self.library.clocks[host] = clock;
+        self.reference.clocks[host] = convert::clock(&clock);
+    }
+
+    pub fn lend_links(&mut self, host: usize, links: hello::Links) {
+        self.library.links[host] = links;
+        self.reference.links[host] = convert::links(&links);
+    }
+
+    pub fn lend_entry(&mut self, place: usize, entry: hello::Entry) {
+        self.library.run[place] = entry;
+        self.reference.run[place] = convert::entry(&entry);
+    }
+
+    /// Gives both programs the same call, and compares all that they leave: the
+    /// answer, the values, the whole buffer, all clocks and links and the whole
+    /// run. What both agree on comes back.
+    pub fn perform(&mut self, trial: &Trial) -> Result<Outcome, Difference> {
+        let library = self.library.perform(trial);
+        let reference = self.reference.perform(trial);
+        if library != reference {
+            return Err(difference("the outcome".into(), &library, &reference));
+        }
+        self.compare_hosts()?;
+        self.compare_run()?;
+        Ok(library)
+    }
+
+    fn compare_hosts(&self) -> Result<(), Difference> {
+        for host in 0..self.settings.len() {
+            let clock = convert::clock(&self.library.clocks[host]);
+            if clock != self.reference.clocks[host] {
+                let place = format!("the clock of host {host}");
+                return Err(difference(place, &clock, &self.reference.clocks[host]));
+            }
+            let links = convert::links(&self.library.links[host]);
+            if links != self.reference.links[host] {
+                let place = format!("the links of host {host}");
+                return Err(difference(place, &links, &self.reference.links[host]));
+            }
+        }
+        Ok(())
+    }
+
+    fn compare_run(&self) -> Result<(), Difference> {
+        let both = self.library.run.iter().zip(&self.reference.run);
+        for (place, (entry, expected)) in both.enumerate() {
+            if convert::entry(entry) != *expected {
+                let place = format!("place {place} of the run");
+                return Err(difference(place, entry, expected));
+            }
+        }
+        Ok(())
+    }
+}
+
+fn difference(
+    place: String,
+    library: &impl std::fmt::Debug,
+    reference: &impl std::fmt::Debug,
+) -> Difference {
+    Difference {
+        place,
+        library: format!("{library:?}"),
+        reference: format!("{reference:?}"),
+    }
+}

@@ -1,0 +1,121 @@
+//! The two programs that are compared, each with all it is lent.
+
+use crate::call::{Call, Octets, Outcome, Trial, Value};
+use crate::convert;
+use reference::{answer, host, program, Refusal};
+
+/// What the library is lent: the clock and links of each host, and the run.
+pub struct Library {
+    pub clocks: Vec<hello::Clock>,
+    pub links: Vec<hello::Links>,
+    pub run: Vec<hello::Entry>,
+}
+
+impl Library {
+    pub fn perform(&mut self, trial: &Trial) -> Outcome {
+        let settings = &trial.settings;
+        let number = trial.number;
+        let clock = &mut self.clocks[trial.host];
+        let links = &mut self.links[trial.host];
+        let run = &mut self.run[..trial.run_length];
+        match &trial.call {
+            Call::Initialize => Outcome::of(hello::initialize(settings, number, clock, links, run)),
+            Call::Tick => Outcome::of(hello::tick(settings, number, clock, links, run)),
+            Call::Adjust => Outcome::of(hello::adjust(settings, number, clock, links, run)),
+            Call::Set { ms } => Outcome::of(hello::set(settings, number, clock, links, run, *ms)),
+            Call::Read => {
+                let read = hello::read(settings, number, clock, links, run);
+                let value = Value::Time {
+                    time: read.time,
+                    date: read.date,
+                };
+                Outcome::new(read.answer, value)
+            }
+            Call::Second => Outcome::of(hello::second(settings, number, clock, links, run)),
+            Call::SelfReport => {
+                Outcome::of(hello::self_report(settings, number, clock, links, run))
+            }
+            Call::Send { link, buffer } => {
+                let mut octets = buffer.0.clone();
+                let sent = hello::send(settings, number, clock, links, run, *link, &mut octets);
+                Outcome {
+                    answer: sent.answer,
+                    value: Value::Length(sent.length),
+                    buffer: Octets(octets),
+                }
+            }
+            Call::Receive { link, packet } => Outcome::of(hello::receive(
+                settings, number, clock, links, run, *link, &packet.0,
+            )),
+            Call::Lookup { address } => {
+                let route = hello::lookup(settings, number, clock, links, run, *address);
+                let value = Value::Route {
+                    host: route.host,
+                    pid: route.pid,
+                };
+                Outcome::new(route.answer, value)
+            }
+            Call::Packet { octets } => Outcome::of(hello::packet(&octets.0)),
+            Call::Checksum { octets } => {
+                Outcome::new(0, Value::Checksum(hello::checksum(&octets.0)))
+            }
+        }
+    }
+}
+
+/// What the reference is lent.
+pub struct Reference {
+    pub clocks: Vec<reference::Clock>,
+    pub links: Vec<reference::Links>,
+    pub run: Vec<reference::Entry>,
+}
+
+impl Reference {
+    pub fn perform(&mut self, trial: &Trial) -> Outcome {
+        let settings = &convert::settings(&trial.settings);
+        let number = trial.number;
+        let clock = &mut self.clocks[trial.host];
+        let links = &mut self.links[trial.host];
+        let run = &mut self.run[..trial.run_length];
+        match &trial.call {
+            Call::Initialize => done(host::set_afresh(settings, number, clock, links, run)),
+            Call::Tick => done(host::tick(settings, number, clock, links, run)),
+            Call::Adjust => done(host::adjust(settings, number, clock, links, run)),
+            Call::Set { ms } => done(host::set(settings, number, clock, links, run, *ms)),
+            Call::Read => {
+                let read = host::read(settings, number, clock, links, run);
+                let (time, date) = read.map_or((0, 0), |reading| (reading.time, reading.date.0));
+                Outcome::new(answer(&read), Value::Time { time, date })
+            }
+            Call::Second => done(host::second(settings, number, clock, links, run)),
+            Call::SelfReport => done(host::self_report(settings, number, clock, links, run)),
+            Call::Send { link, buffer } => {
+                let mut octets = buffer.0.clone();
+                let sent = host::send(settings, number, clock, links, run, *link, &mut octets);
+                Outcome {
+                    answer: answer(&sent),
+                    value: Value::Length(sent.unwrap_or(0)),
+                    buffer: Octets(octets),
+                }
+            }
+            Call::Receive { link, packet } => done(host::arrival(
+                settings, number, clock, links, run, *link, &packet.0,
+            )),
+            Call::Lookup { address } => {
+                let address = convert::address(*address);
+                let route = host::lookup(settings, number, clock, links, run, address);
+                let (host, pid) = route.map_or((0, 0), |route| (route.host, route.pid));
+                Outcome::new(answer(&route), Value::Route { host, pid })
+            }
+            Call::Packet { octets } => Outcome::of(program::packet(&octets.0)),
+            Call::Checksum { octets } => {
+                let sum = reference::checksum::checksum(&octets.0);
+                Outcome::new(0, Value::Checksum(sum))
+            }
+        }
+    }
+}
+
+fn done(outcome: Result<(), Refusal>) -> Outcome {
+    Outcome::of(answer(&outcome))
+}

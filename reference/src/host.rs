@@ -1,0 +1,324 @@
+//! The ten calls of a host.
+//!
+//! Each is lent the host's settings, clock and links and the run of entries
+//! that all hosts share. Answer 12 is tested first, then 1, then the others.
+
+use std::ops::Range;
+
+use crate::address::Address;
+use crate::clock::Clock;
+use crate::date::Date;
+use crate::link::{Link, LinkKind, Links, KEEP_ALIVE_INTERVAL};
+use crate::packet::{self, Heading, Message};
+use crate::route;
+use crate::settings::Settings;
+use crate::table::{Entry, Report, MAX_DELAY, MIN_DELAY};
+use crate::{Refusal, HOSTS, PLACES};
+
+/// What a read answers.
+#[derive(Clone, Copy, Debug, PartialEq, Eq)]
+pub struct Reading {
+    /// In milliseconds.
+    pub time: i64,
+    pub date: Date,
+}
+
+/// What a lookup answers.
+#[derive(Clone, Copy, Debug, PartialEq, Eq)]
+pub struct Route {
+    pub host: usize,
+    pub pid: u8,
+}
+
+pub fn set_afresh(
+    settings: &Settings,
+    number: usize,
+    clock: &mut Clock,
+    links: &mut Links,
+    run: &mut [Entry],
+) -> Result<(), Refusal> {
+    let start = first_place(number, run.len())?;
+    if !settings.are_sound() {
+        return Err(Refusal::Settings);
+    }
+    *clock = Clock::fresh(settings.time, settings.date);
+    *links = settings.links.map(Link::fresh);
+    run[start..start + settings.nhosts].fill(Entry::FRESH);
+    Ok(())
+}
+
+pub fn tick(
+    settings: &Settings,
+    number: usize,
+    clock: &mut Clock,
+    links: &Links,
+    run: &[Entry],
+) -> Result<(), Refusal> {
+    admit(settings, number, clock, links, run)?;
+    clock.tick(settings.clock_tick, settings.hold_interval);
+    Ok(())
+}
+
+pub fn adjust(
+    settings: &Settings,
+    number: usize,
+    clock: &mut Clock,
+    links: &Links,
+    run: &[Entry],
+) -> Result<(), Refusal> {
+    admit(settings, number, clock, links, run)?;
+    clock.adjust(settings.hold_interval);
+    Ok(())
+}
+
+pub fn set(
+    settings: &Settings,
+    number: usize,
+    clock: &mut Clock,
+    links: &Links,
+    run: &[Entry],
+    ms: i32,
+) -> Result<(), Refusal> {
+    admit(settings, number, clock, links, run)?;
+    clock.set(ms, settings.hold_interval);
+    Ok(())
+}
+
+pub fn read(
+    settings: &Settings,
+    number: usize,
+    clock: &Clock,
+    links: &Links,
+    run: &[Entry],
+) -> Result<Reading, Refusal> {
+    admit(settings, number, clock, links, run)?;
+    Ok(Reading {
+        time: clock.reading(),
+        date: clock.date,
+    })
+}
+
+pub fn second(
+    settings: &Settings,
+    number: usize,
+    clock: &mut Clock,
+    links: &Links,
+    run: &mut [Entry],
+) -> Result<(), Refusal> {
+    let places = admit(settings, number, clock, links, run)?;
+    clock.second();
+    run[places].iter_mut().for_each(Entry::second);
+    Ok(())
+}
+
+pub fn self_report(
+    settings: &Settings,
+    number: usize,
+    clock: &Clock,
+    links: &Links,
+    run: &mut [Entry],
+) -> Result<(), Refusal> {
+    let places = admit(settings, number, clock, links, run)?;
+    let own_id = route::own_id(settings).ok_or(Refusal::Settings)?;
+    run[places][own_id].update(&Report {
+        delay: 0,
+        offset: 0,
+        pid: 0,
+        reading: clock.reading(),
+    });
+    Ok(())
+}
+
+/// Writes a message for the neighbour on a link into the buffer; its length.
+pub fn send(
+    settings: &Settings,
+    number: usize,
+    clock: &Clock,
+    links: &mut Links,
+    run: &[Entry],
+    link: usize,
+    buffer: &mut [u8],
+) -> Result<usize, Refusal> {
+    admit_link(settings, link)?;
+    let places = admit(settings, number, clock, links, run)?;
+    let sender = &mut links[link - 1];
+    let neighbor = sender.neighbor;
+    let table = if neighbor != Address::ZERO && neighbor.same_net(settings.address) {
+        &run[places]
+    } else {
+        &[]
+    };
+    let length = packet::HEADER + packet::hello_length(table.len());
+    let message = buffer.get_mut(..length).ok_or(Refusal::ShortBuffer)?;
+    let reading = clock.reading();
+    let heading = Heading {
+        date: clock.date,
+        time: reading as u32,
+        tsp: sender.take_tsp(reading),
+        address_offset: settings.address_offset,
+    };
+    let hosts = table
+        .iter()
+        .map(|entry| (entry.advertised_delay(link), entry.offset));
+    packet::write_hello(&mut message[packet::HEADER..], &heading, hosts);
+    packet::write_header(message, settings.address, neighbor);
+    Ok(length)
+}
+
+/// Takes a packet that arrived on a link.
+pub fn arrival(
+    settings: &Settings,
+    number: usize,
+    clock: &mut Clock,
+    links: &mut Links,
+    run: &mut [Entry],
+    link: usize,
+    packet: &[u8],
+) -> Result<(), Refusal> {
+    admit_link(settings, link)?;
+    let places = admit(settings, number, clock, links, run)?;
+    let message = Message::parse(packet, settings)?;
+    let kind = settings.links[link - 1];
+    let receiver = &mut links[link - 1];
+    let path = measure(settings, clock, kind, receiver, &message)?;
+    let report = Report {
+        delay: path.delay,
+        offset: path.offset,
+        pid: link as u8,
+        reading: clock.reading(),
+    };
+    let table = &mut run[places];
+    let date = message.date();
+    if !message.has_table() {
+        let id = route::find(settings, receiver.neighbor).ok_or(Refusal::NoHost)?;
+        learn(settings, clock, id, &mut table[id], &report, date);
+        return Ok(());
+    }
+    for (id, (entry, (delay, offset))) in table.iter_mut().zip(message.hosts()).enumerate() {
+        let through = Report {
+            delay: report.delay + i64::from(delay),
+            offset: report.offset.wrapping_add(offset),
+            ..report
+        };
+        learn(settings, clock, id, entry, &through, date);
+    }
+    Ok(())
+}
+
+pub fn lookup(
+    settings: &Settings,
+    number: usize,
+    clock: &Clock,
+    links: &Links,
+    run: &[Entry],
+    address: Address,
+) -> Result<Route, Refusal> {
+    let places = admit(settings, number, clock, links, run)?;
+    let host = route::find(settings, address).ok_or(Refusal::NoHost)?;
+    let entry = &run[places][host];
+    if !entry.is_up() {
+        return Err(Refusal::HostDown);
+    }
+    Ok(Route {
+        host,
+        pid: entry.pid,
+    })
+}
+
+/// The first of the host's places, if the run holds all of them.
+fn first_place(number: usize, run_length: usize) -> Result<usize, Refusal> {
+    if number < HOSTS && run_length >= PLACES * (number + 1) {
+        Ok(PLACES * number)
+    } else {
+        Err(Refusal::Lent)
+    }
+}
+
+/// The places of the host's entries, if all that is lent is in range and the
+/// settings are sound.
+fn admit(
+    settings: &Settings,
+    number: usize,
+    clock: &Clock,
+    links: &Links,
+    run: &[Entry],
+) -> Result<Range<usize>, Refusal> {
+    let start = first_place(number, run.len())?;
+    let places = start..start + settings.usable_hosts();
+    let in_range = clock.in_range()
+        && links[..settings.usable_links()].iter().all(Link::in_range)
+        && run[places.clone()].iter().all(Entry::in_range);
+    if !in_range {
+        Err(Refusal::Lent)
+    } else if !settings.are_sound() {
+        Err(Refusal::Settings)
+    } else {
+        Ok(places)
+    }
+}
+
+fn admit_link(settings: &Settings, link: usize) -> Result<(), Refusal> {
+    if (1..=settings.usable_links()).contains(&link) {
+        Ok(())
+    } else {
+        Err(Refusal::Lent)
+    }
+}
+
+/// The measured DELAY and OFFSET to the neighbour.
+struct Path {
+    delay: i64,
+    offset: i16,
+}
+
+/// Steps 1 to 4 of an arrival, and the least DELAY of step 5.
+fn measure(
+    settings: &Settings,
+    clock: &Clock,
+    kind: LinkKind,
+    link: &mut Link,
+    message: &Message,
+) -> Result<Path, Refusal> {
+    let point_to_point = kind == LinkKind::PointToPoint;
+    if point_to_point && message.source == settings.address {
+        return Err(Refusal::LoopedLine);
+    }
+    let reading = clock.reading();
+    link.keep_alive = KEEP_ALIVE_INTERVAL;
+    link.tsp = (message.time() - reading) as i16;
+    let round_trip = if point_to_point {
+        (reading - i64::from(message.tsp())) as i16
+    } else {
+        0
+    };
+    // A shift rounds the half down.
+    let offset = link.tsp.wrapping_add(round_trip >> 1);
+    let mut delay = i64::from(round_trip);
+    if point_to_point {
+        if message.source != link.neighbor {
+            link.neighbor = message.source;
+            delay = MAX_DELAY;
+        } else if message.tsp() == 0 || clock.hold != 0 {
+            return Err(Refusal::DelayNotValid);
+        }
+    }
+    Ok(Path {
+        delay: delay.max(MIN_DELAY),
+        offset,
+    })
+}
+
+/// Updates an entry; a stored report of the clock host also sets the clock.
+fn learn(
+    settings: &Settings,
+    clock: &mut Clock,
+    id: usize,
+    entry: &mut Entry,
+    report: &Report,
+    date: Date,
+) {
+    if entry.update(report) && id == usize::from(settings.clock_host) {
+        clock.take_date(date);
+        clock.set(report.offset.into(), settings.hold_interval);
+    }
+}

@@ -1,0 +1,40 @@
+//! The program that gives one packet to a fresh host.
+
+use crate::address::Address;
+use crate::answer;
+use crate::clock::{Clock, Units};
+use crate::date::Date;
+use crate::host;
+use crate::link::{Link, LinkKind, LINKS};
+use crate::settings::{NetRow, Settings, CLOCK_SETTING_OFF, NET_ROWS};
+use crate::table::Entry;
+use crate::PLACES;
+
+/// The settings of the program's host, 192.0.2.1.
+pub const SETTINGS: Settings = Settings {
+    address: Address([192, 0, 2, 1]),
+    address_offset: 1,
+    nhosts: 4,
+    clock_host: CLOCK_SETTING_OFF,
+    hold_interval: 1,
+    clock_tick: Units(1),
+    time: 0,
+    date: Date::FIRST,
+    link_count: 1,
+    links: [LinkKind::PointToPoint; LINKS],
+    net_count: 0,
+    net_rows: [NetRow {
+        net: [0; 3],
+        host: 0,
+    }; NET_ROWS],
+};
+
+/// The answer number to a packet on the one link of a fresh host.
+pub fn packet(octets: &[u8]) -> u8 {
+    let mut clock = Clock::default();
+    let mut links = [Link::default(); LINKS];
+    let mut run = [Entry::FRESH; PLACES];
+    let outcome = host::set_afresh(&SETTINGS, 0, &mut clock, &mut links, &mut run)
+        .and_then(|()| host::arrival(&SETTINGS, 0, &mut clock, &mut links, &mut run, 1, octets));
+    answer(&outcome)
+}

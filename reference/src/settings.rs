@@ -1,0 +1,70 @@
+//! The settings of a host and their test.
+
+use crate::address::Address;
+use crate::clock::{Units, DAY_MS};
+use crate::date::Date;
+use crate::link::{LinkKind, LINKS};
+use crate::route;
+use crate::PLACES;
+
+/// The rows a net table can have.
+pub const NET_ROWS: usize = 32;
+/// The clock host id that switches clock setting off.
+pub const CLOCK_SETTING_OFF: u8 = 255;
+
+#[derive(Clone, Copy, Debug, PartialEq, Eq)]
+pub struct NetRow {
+    pub net: [u8; 3],
+    pub host: u8,
+}
+
+#[derive(Clone, Copy, Debug, PartialEq, Eq)]
+pub struct Settings {
+    pub address: Address,
+    pub address_offset: u8,
+    pub nhosts: usize,
+    pub clock_host: u8,
+    /// In seconds.
+    pub hold_interval: u16,
+    pub clock_tick: Units,
+    /// The starting time in milliseconds.
+    pub time: i64,
+    /// The starting date.
+    pub date: Date,
+    pub link_count: usize,
+    pub links: [LinkKind; LINKS],
+    pub net_count: usize,
+    pub net_rows: [NetRow; NET_ROWS],
+}
+
+impl Settings {
+    /// The links there are, also where too many are set.
+    pub fn usable_links(&self) -> usize {
+        self.link_count.min(LINKS)
+    }
+
+    /// The entries there are, also where too many are set.
+    pub fn usable_hosts(&self) -> usize {
+        self.nhosts.min(PLACES)
+    }
+
+    /// The rows there are, also where too many are set.
+    pub fn net_table(&self) -> &[NetRow] {
+        &self.net_rows[..self.net_count.min(NET_ROWS)]
+    }
+
+    pub fn are_sound(&self) -> bool {
+        let id_is_sound = |id: u8| usize::from(id) < self.nhosts;
+        (1..=223).contains(&self.address.0[0])
+            && (1..=PLACES).contains(&self.nhosts)
+            && (self.clock_host == CLOCK_SETTING_OFF || id_is_sound(self.clock_host))
+            && (1..=255).contains(&self.hold_interval)
+            && (Units(1)..=Units(65_536_000)).contains(&self.clock_tick)
+            && (0..DAY_MS).contains(&self.time)
+            && self.date.is_real()
+            && (1..=LINKS).contains(&self.link_count)
+            && self.net_count <= NET_ROWS
+            && self.net_table().iter().all(|row| id_is_sound(row.host))
+            && route::own_id(self).is_some()
+    }
+}
