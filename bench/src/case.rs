@@ -1,0 +1,151 @@
+//! What is timed: the same call by both programs, on the same inputs.
+
+use crate::convert;
+use crate::host::{both, message, Ours, Theirs, LINK, NEIGHBOR};
+use hello::answer::DONE;
+use reference::host;
+use std::hint::black_box;
+
+/// Makes a call so many times.
+pub type Batch = Box<dyn FnMut(u32)>;
+
+/// A call of both programs.
+pub struct Case {
+    pub library: Batch,
+    pub reference: Batch,
+}
+
+/// A batch of calls, each of which must answer 0, the answer of a call that is done.
+fn batch(mut call: impl FnMut() -> u8 + 'static) -> Batch {
+    Box::new(move |count| {
+        for _ in 0..count {
+            assert_eq!(call(), DONE);
+        }
+    })
+}
+
+/// An arrival of the neighbor's message with the table; every entry is updated.
+pub fn arrival(nhosts: usize) -> Case {
+    let (mut ours, mut theirs) = both(nhosts);
+    let packet = message(nhosts);
+    let same_packet = packet.clone();
+    Case {
+        library: batch(move || {
+            let Ours {
+                settings,
+                clock,
+                links,
+                run,
+            } = black_box(&mut ours);
+            hello::receive(settings, 0, clock, links, run, LINK, black_box(&packet))
+        }),
+        reference: batch(move || {
+            let Theirs {
+                settings,
+                clock,
+                links,
+                run,
+            } = black_box(&mut theirs);
+            let packet = black_box(&same_packet);
+            reference::answer(&host::arrival(settings, 0, clock, links, run, LINK, packet))
+        }),
+    }
+}
+
+/// A message with the table, into a buffer that is just long enough and not cleared.
+pub fn send(nhosts: usize) -> Case {
+    let (mut ours, mut theirs) = both(nhosts);
+    let mut buffer = vec![0; 32 + 4 * nhosts];
+    let mut same_buffer = buffer.clone();
+    Case {
+        library: batch(move || {
+            let Ours {
+                settings,
+                clock,
+                links,
+                run,
+            } = black_box(&mut ours);
+            hello::send(settings, 0, clock, links, run, LINK, black_box(&mut buffer)).answer
+        }),
+        reference: batch(move || {
+            let Theirs {
+                settings,
+                clock,
+                links,
+                run,
+            } = black_box(&mut theirs);
+            let buffer = black_box(&mut same_buffer);
+            reference::answer(&host::send(settings, 0, clock, links, run, LINK, buffer))
+        }),
+    }
+}
+
+/// A tick of one clock unit.
+pub fn tick(nhosts: usize) -> Case {
+    let (mut ours, mut theirs) = both(nhosts);
+    Case {
+        library: batch(move || {
+            let Ours {
+                settings,
+                clock,
+                links,
+                run,
+            } = black_box(&mut ours);
+            hello::tick(settings, 0, clock, links, run)
+        }),
+        reference: batch(move || {
+            let Theirs {
+                settings,
+                clock,
+                links,
+                run,
+            } = black_box(&mut theirs);
+            reference::answer(&host::tick(settings, 0, clock, links, run))
+        }),
+    }
+}
+
+/// A lookup of the neighbor's address.
+pub fn lookup(nhosts: usize) -> Case {
+    let (ours, theirs) = both(nhosts);
+    let address = convert::address(NEIGHBOR);
+    Case {
+        library: batch(move || {
+            let Ours {
+                settings,
+                clock,
+                links,
+                run,
+            } = black_box(&ours);
+            hello::lookup(settings, 0, clock, links, run, black_box(NEIGHBOR)).answer
+        }),
+        reference: batch(move || {
+            let Theirs {
+                settings,
+                clock,
+                links,
+                run,
+            } = black_box(&theirs);
+            reference::answer(&host::lookup(
+                settings,
+                0,
+                clock,
+                links,
+                run,
+                black_box(address),
+            ))
+        }),
+    }
+}
+
+/// The checksum of so many octets.
+pub fn checksum(length: usize) -> Case {
+    let octets: Vec<u8> = (0..length).map(|i| (i * 7 + 1) as u8).collect();
+    let same_octets = octets.clone();
+    let sum = reference::checksum::checksum(&octets);
+    let expected = move |got: u16| u8::from(got != sum);
+    Case {
+        library: batch(move || expected(hello::checksum(black_box(&octets)))),
+        reference: batch(move || expected(reference::checksum::checksum(black_box(&same_octets)))),
+    }
+}

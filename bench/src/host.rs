@@ -1,0 +1,120 @@
+//! A host that has heard its neighbor, for either program.
+
+use crate::convert;
+use hello::{Address, Clock, Entry, Layout, Links, Settings, PLACES};
+
+/// The host's one link.
+pub const LINK: usize = 1;
+
+/// The reading of both hosts, in ms.
+const READING: i64 = 40_000;
+
+/// The host that is timed, and its neighbor.
+pub const HOST: Address = Address {
+    first: 192,
+    second: 0,
+    third: 2,
+    fourth: 1,
+};
+pub const NEIGHBOR: Address = Address {
+    first: 192,
+    second: 0,
+    third: 2,
+    fourth: 2,
+};
+
+/// What the library is lent.
+pub struct Ours {
+    pub settings: Settings,
+    pub clock: Clock,
+    pub links: Links,
+    pub run: Vec<Entry>,
+}
+
+/// What the reference program is lent.
+pub struct Theirs {
+    pub settings: reference::Settings,
+    pub clock: reference::Clock,
+    pub links: reference::Links,
+    pub run: Vec<reference::Entry>,
+}
+
+impl Ours {
+    /// A host whose entries are all live, by the link `pid`, and who knows its neighbor.
+    pub fn live(nhosts: usize, address: Address, neighbor: Address, pid: u8) -> Ours {
+        let settings = Settings {
+            address,
+            layout: Layout {
+                address_offset: 1,
+                nhosts,
+            },
+            clock_host: 255,
+            hold_interval: 1,
+            clock_tick: 1,
+            time: READING,
+            date: 1 << 10 | 1 << 5, // 1 January 1972
+            link_count: 1,
+            ..Settings::default()
+        };
+        let mut clock = Clock::default();
+        let mut links = Links::default();
+        let entry = Entry {
+            delay: 100,
+            offset: 0,
+            ttl: 120,
+            pid,
+            time: READING,
+        };
+        let mut run = vec![entry; PLACES];
+        let answer = hello::initialize(&settings, 0, &mut clock, &mut links, &mut run);
+        assert_eq!(answer, hello::answer::DONE);
+        run.fill(entry);
+        let link = &mut links.all[LINK - 1];
+        link.neighbor = neighbor;
+        link.keep_alive = 4;
+        link.tsp = -10;
+        Ours {
+            settings,
+            clock,
+            links,
+            run,
+        }
+    }
+
+    /// The same host for the reference program.
+    pub fn theirs(&self) -> Theirs {
+        Theirs {
+            settings: convert::settings(&self.settings),
+            clock: convert::clock(&self.clock),
+            links: convert::links(&self.links),
+            run: self.run.iter().map(convert::entry).collect(),
+        }
+    }
+}
+
+/// The host that is timed, for both programs.
+pub fn both(nhosts: usize) -> (Ours, Theirs) {
+    let ours = Ours::live(nhosts, HOST, NEIGHBOR, LINK as u8);
+    let theirs = ours.theirs();
+    (ours, theirs)
+}
+
+/// A message of the neighbor with a table of `nhosts` hosts.
+pub fn message(nhosts: usize) -> Vec<u8> {
+    let mut neighbor = Ours::live(nhosts, NEIGHBOR, HOST, 0);
+    let mut buffer = vec![0; 32 + 4 * nhosts];
+    let sent = hello::send(
+        &neighbor.settings,
+        0,
+        &mut neighbor.clock,
+        &mut neighbor.links,
+        &neighbor.run,
+        LINK,
+        &mut buffer,
+    );
+    assert_eq!(
+        (sent.answer, sent.length),
+        (hello::answer::DONE, buffer.len())
+    );
+    buffer
+}

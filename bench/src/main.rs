@@ -1,0 +1,65 @@
+//! Times the proved library's calls beside the reference program's, on the same inputs.
+
+mod case;
+#[path = "../../compare/src/convert.rs"]
+mod convert;
+mod host;
+mod timing;
+
+use timing::{measure, Medians};
+
+/// The sizes of host table whose growth is shown.
+const SIZES: [usize; 4] = [4, 16, 64, 255];
+
+/// The lengths of octets whose checksum is taken: a HELLO without hosts, one of 255 hosts, and
+/// more than any packet has.
+const LENGTHS: [usize; 3] = [12, 1_032, 65_536];
+
+/// A call on a host: its name, and its case with so many hosts in the table.
+type Call = (&'static str, fn(usize) -> case::Case);
+
+const CALLS: [Call; 4] = [
+    ("arrival", case::arrival),
+    ("send", case::send),
+    ("tick", case::tick),
+    ("lookup", case::lookup),
+];
+
+fn main() {
+    let calls = CALLS.iter().flat_map(|(name, case)| {
+        SIZES.map(|nhosts| (format!("{name}, NHOSTS {nhosts}"), case(nhosts)))
+    });
+    let checksums =
+        LENGTHS.map(|length| (format!("checksum, {length} octets"), case::checksum(length)));
+    let (names, mut cases): (Vec<_>, Vec<_>) = calls.chain(checksums).unzip();
+    let medians = measure(&mut cases);
+
+    println!(
+        "Medians of {} rounds, nanoseconds for one call.\n",
+        timing::ROUNDS
+    );
+    println!(
+        "{:<24} {:>10} {:>10} {:>7}",
+        "call", "library", "reference", "ratio"
+    );
+    for (name, Medians { library, reference }) in names.iter().zip(&medians) {
+        let ratio = library / reference;
+        println!("{name:<24} {library:>10.1} {reference:>10.1} {ratio:>7.2}");
+    }
+    println!("\nGrowth: nanoseconds for each host more, from NHOSTS 4 to 255.\n");
+    println!("{:<24} {:>10} {:>10}", "call", "library", "reference");
+    for ((name, _), sizes) in CALLS.iter().zip(medians.chunks(SIZES.len())) {
+        let [library, reference] = growth(sizes);
+        println!("{name:<24} {library:>10.2} {reference:>10.2}");
+    }
+}
+
+/// The mean growth for one host more, from the least size to the greatest.
+fn growth(sizes: &[Medians]) -> [f64; 2] {
+    let more = (SIZES[SIZES.len() - 1] - SIZES[0]) as f64;
+    let (least, greatest) = (&sizes[0], &sizes[sizes.len() - 1]);
+    [
+        (greatest.library - least.library) / more,
+        (greatest.reference - least.reference) / more,
+    ]
+}

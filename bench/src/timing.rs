@@ -1,0 +1,62 @@
+//! Times two programs in turns, so that what slows the machine slows both.
+
+use crate::case::{Batch, Case};
+use std::time::{Duration, Instant};
+
+/// How often each case is timed; the median is taken.
+pub const ROUNDS: usize = 41;
+
+/// How long one batch of calls takes at least.
+const BATCH: Duration = Duration::from_millis(2);
+
+/// The median nanoseconds for one call.
+pub struct Medians {
+    pub library: f64,
+    pub reference: f64,
+}
+
+/// The medians of each case.
+pub fn measure(cases: &mut [Case]) -> Vec<Medians> {
+    let counts: Vec<u32> = cases.iter_mut().map(batch_size).collect();
+    let mut library = vec![Vec::new(); cases.len()];
+    let mut reference = library.clone();
+    for _ in 0..ROUNDS {
+        for (i, case) in cases.iter_mut().enumerate() {
+            library[i].push(nanoseconds(&mut case.library, counts[i]));
+            reference[i].push(nanoseconds(&mut case.reference, counts[i]));
+        }
+    }
+    library
+        .into_iter()
+        .zip(reference)
+        .map(|(library, reference)| Medians {
+            library: median(library),
+            reference: median(reference),
+        })
+        .collect()
+}
+
+/// How many calls make a batch: enough for the faster program to take long enough.
+fn batch_size(case: &mut Case) -> u32 {
+    let mut count = 1;
+    while time(&mut case.library, count).min(time(&mut case.reference, count)) < BATCH {
+        count *= 2;
+    }
+    count
+}
+
+fn time(batch: &mut Batch, count: u32) -> Duration {
+    let start = Instant::now();
+    batch(count);
+    start.elapsed()
+}
+
+/// The nanoseconds for one call of a batch.
+fn nanoseconds(batch: &mut Batch, count: u32) -> f64 {
+    time(batch, count).as_nanos() as f64 / f64::from(count)
+}
+
+fn median(mut times: Vec<f64>) -> f64 {
+    times.sort_by(f64::total_cmp);
+    times[times.len() / 2]
+}

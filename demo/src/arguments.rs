@@ -1,0 +1,206 @@
+//! The words of the command line, and the plan of a room that they ask for.
+
+use crate::room::{Cable, End, DAY, START};
+use std::fmt::Display;
+use std::ops::RangeInclusive;
+use std::str::FromStr;
+
+pub const HELP: &str = "\
+Runs a room of HELLO hosts (RFC 891) on cables, and shows what each host has learned.
+
+  ./run [--hosts N] [--shape line|ring] [--delay LIST] [--clocks LIST]
+        [--minutes N] [--loss PERCENT] [--seed N] [--help]
+
+Without arguments: four hosts in a line, ten minutes, no losses.
+
+  --hosts N        how many hosts, 2 to 16 (default 4). Their addresses are 192.0.2.1 and on
+  --shape line     a cable from each host to the next (default)
+  --shape ring     the same, and a cable from the last host to the first
+  --delay LIST     how long a message takes on a cable, 0 to 60000 ms: one number for all cables,
+                   or one for each, as 40,120,30. There/back differ in 40,120/60,30
+  --clocks LIST    what each host's clock is ahead of the room's, in ms, one number for each host,
+                   as 0,500,-1250,7000. The room starts at 08:00, and so each is from -28800000
+                   to 57599999
+  --minutes N      how long the room runs, 1 to 1440 (default 10)
+  --loss PERCENT   how many of a hundred messages the cables lose, 0 to 100 (default 0)
+  --seed N         which messages they lose: another number, another choice (default 1)
+  --help           this text
+
+Every cable joins a point-to-point link of one host to one of another host. Each host sends on each
+of its links every 5 s and reports itself in its own table every 10 s.
+
+An OFFSET is promised to be off the true difference of two clocks by at most 101/200 of the DELAY
+beside it, if clocks differ by at most 16384 ms, each message takes 0 to 16383 ms and no clock
+reaches midnight. Where the arguments break a condition, the program says so, and runs.
+";
+
+/// What the command line asks for.
+pub enum Request {
+    Help,
+    Run(Plan),
+}
+
+/// A room to run.
+pub struct Plan {
+    /// What each host's clock is ahead of the room's millisecond, in ms.
+    pub clocks: Vec<i64>,
+    pub shape: Shape,
+    pub cables: Vec<Cable>,
+    pub minutes: i64,
+    /// Messages lost of a hundred.
+    pub loss: u64,
+    pub seed: u64,
+}
+
+#[derive(Clone, Copy)]
+pub enum Shape {
+    Line,
+    Ring,
+}
+
+/// How long a message takes on a cable, either way.
+type Delay = [i64; 2];
+
+/// The clocks and cables of the built-in example; a larger room goes on with the later ones.
+const CLOCKS: [i64; 16] = [
+    0, 500, -1250, 7000, -7900, 3210, -45, 1984, 8000, -6001, 77, -320, 5555, -2718, 3141, -8100,
+];
+const DELAYS: [Delay; 16] = [
+    [40, 40],
+    [120, 60],
+    [30, 30],
+    [250, 250],
+    [10, 90],
+    [70, 70],
+    [500, 300],
+    [20, 20],
+    [150, 160],
+    [60, 60],
+    [1000, 1000],
+    [80, 40],
+    [30, 30],
+    [200, 210],
+    [50, 50],
+    [90, 100],
+];
+
+/// The request of the words, or what is wrong with them.
+pub fn parse(mut words: impl Iterator<Item = String>) -> Result<Request, String> {
+    let mut hosts = 4;
+    let mut shape = Shape::Line;
+    let mut delays = None;
+    let mut clocks = None;
+    let mut minutes = 10;
+    let mut loss = 0;
+    let mut seed = 1;
+    while let Some(option) = words.next() {
+        if option == "--help" {
+            return Ok(Request::Help);
+        }
+        let mut value = || words.next().ok_or(format!("{option} lacks its value"));
+        match option.as_str() {
+            "--hosts" => hosts = number(&option, &value()?, 2..=16)?,
+            "--shape" => shape = shape_named(&value()?)?,
+            "--delay" => delays = Some(list(&value()?, delay)?),
+            "--clocks" => clocks = Some(list(&value()?, clock)?),
+            "--minutes" => minutes = number(&option, &value()?, 1..=1440)?,
+            "--loss" => loss = number(&option, &value()?, 0..=100)?,
+            "--seed" => seed = number(&option, &value()?, 0..=u64::MAX)?,
+            _ => return Err(format!("there is no option {option}")),
+        }
+    }
+    Ok(Request::Run(Plan {
+        clocks: clocks_of(hosts, clocks)?,
+        shape,
+        cables: cables_of(hosts, shape, delays)?,
+        minutes,
+        loss,
+        seed,
+    }))
+}
+
+/// The whole number that a word says, if it is in the range.
+fn number<N>(what: &str, word: &str, range: RangeInclusive<N>) -> Result<N, String>
+where
+    N: FromStr + PartialOrd + Display,
+{
+    match word.parse() {
+        Ok(n) if range.contains(&n) => Ok(n),
+        _ => Err(format!(
+            "{what} must be a whole number from {} to {}, and '{word}' is not",
+            range.start(),
+            range.end()
+        )),
+    }
+}
+
+fn shape_named(word: &str) -> Result<Shape, String> {
+    match word {
+        "line" => Ok(Shape::Line),
+        "ring" => Ok(Shape::Ring),
+        _ => Err(format!("--shape must be line or ring, and '{word}' is not")),
+    }
+}
+
+/// The members of a list with commas.
+fn list<T>(word: &str, member: impl Fn(&str) -> Result<T, String>) -> Result<Vec<T>, String> {
+    word.split(',').map(member).collect()
+}
+
+fn clock(word: &str) -> Result<i64, String> {
+    number("a clock of --clocks", word, -START..=DAY - 1 - START)
+}
+
+/// A cable's delay: one number, or two with a slash.
+fn delay(word: &str) -> Result<Delay, String> {
+    let one_way = |word| number("a delay of --delay", word, 0..=60_000);
+    match word.split_once('/') {
+        Some((there, back)) => Ok([one_way(there)?, one_way(back)?]),
+        None => one_way(word).map(|both| [both, both]),
+    }
+}
+
+fn clocks_of(hosts: usize, given: Option<Vec<i64>>) -> Result<Vec<i64>, String> {
+    let clocks = given.unwrap_or_else(|| CLOCKS[..hosts].to_vec());
+    if clocks.len() == hosts {
+        Ok(clocks)
+    } else {
+        Err(format!(
+            "--clocks has {} numbers, and there are {hosts} hosts",
+            clocks.len()
+        ))
+    }
+}
+
+/// The cables of the shape: each joins a host to the next.
+fn cables_of(hosts: usize, shape: Shape, given: Option<Vec<Delay>>) -> Result<Vec<Cable>, String> {
+    let count = match shape {
+        Shape::Line => hosts - 1,
+        Shape::Ring => hosts,
+    };
+    let delays = match given.as_deref() {
+        None => DELAYS[..count].to_vec(),
+        Some([all]) => vec![*all; count],
+        Some(each) if each.len() == count => each.to_vec(),
+        Some(each) => {
+            return Err(format!(
+                "--delay has {} members, and there are {count} cables",
+                each.len()
+            ))
+        }
+    };
+    let mut links = vec![0; hosts];
+    let mut next_link = |host: usize| {
+        links[host] += 1;
+        End {
+            host,
+            link: links[host],
+        }
+    };
+    Ok((0..count)
+        .map(|k| Cable {
+            ends: [next_link(k), next_link((k + 1) % hosts)],
+            delay: delays[k],
+        })
+        .collect())
+}

@@ -1,0 +1,269 @@
+//! What the program prints.
+
+use crate::arguments::{Plan, Shape};
+use crate::conditions;
+use crate::host::{address, Host};
+use crate::room::{Room, MINUTE, SECOND};
+use hello::{Address, Entry, Time};
+use std::io::{Result, Write};
+
+/// A DELAY of so many ms is down.
+const DOWN: i64 = 30_000;
+
+const LEGEND: &str = "\
+How to read the tables:
+  KEEP-ALIVE  falls with each message sent on the link; 4 again with each one that arrives
+  TSP         the neighbor's time in its last message, less this host's time at its arrival
+  DELAY       how long a message takes there and back, as this host has learned it
+  OFFSET      what the other host's clock is ahead of this host's, as this host has learned it
+  true        what it is ahead in truth
+  error       OFFSET less true
+  bound       101/200 of DELAY: the most that the error may be, either way
+  link        the link by which the other host is reached; 0 for this host itself
+";
+
+/// The room that is going to run, and whether the bound is promised in it.
+pub fn plan(out: &mut impl Write, plan: &Plan) -> Result<()> {
+    let shape = match plan.shape {
+        Shape::Line => "a line",
+        Shape::Ring => "a ring",
+    };
+    writeln!(
+        out,
+        "A room of {} hosts in {shape}, {}, losing {} of 100 messages (seed {}).\n",
+        plan.clocks.len(),
+        minutes(plan.minutes),
+        plan.loss,
+        plan.seed
+    )?;
+    writeln!(out, "Clocks, ahead of the room's:")?;
+    for (number, clock) in plan.clocks.iter().enumerate() {
+        writeln!(out, "  {:<12} {clock:>+10} ms", dotted(address(number)))?;
+    }
+    writeln!(out, "Cables, with the time a message takes there and back:")?;
+    for cable in &plan.cables {
+        let [from, to] = cable.ends;
+        let [there, back] = cable.delay;
+        writeln!(
+            out,
+            "  {:<12} link {}  -  {:<12} link {}  {there:>6} and {back:>6} ms",
+            dotted(address(from.host)),
+            from.link,
+            dotted(address(to.host)),
+            to.link,
+        )?;
+    }
+    writeln!(out)?;
+    promise(out, &conditions::broken(plan))
+}
+
+/// Whether the bound is promised, or which conditions are not met.
+fn promise(out: &mut impl Write, broken: &[String]) -> Result<()> {
+    if broken.is_empty() {
+        return writeln!(out, "All conditions of the bound (demand 3) are met: every error is promised to be within it.\n");
+    }
+    writeln!(
+        out,
+        "The bound is NOT promised in this room. Conditions of demand 3 that are not met:"
+    )?;
+    for condition in broken {
+        writeln!(out, "  - {condition}")?;
+    }
+    writeln!(out)
+}
+
+/// What the hosts have learned, and whether all errors are within the bound.
+pub fn result(out: &mut impl Write, plan: &Plan, room: &mut Room) -> Result<()> {
+    writeln!(out, "{LEGEND}")?;
+    let Room { hosts, run, .. } = room;
+    let mut live = 0;
+    let mut beyond = 0;
+    for (number, host) in hosts.iter_mut().enumerate() {
+        let rows = live_rows(&plan.clocks, number, host.table(run));
+        live += rows.len();
+        beyond += rows.iter().filter(|row| !row.within_bound()).count();
+        print_host(out, number, host, run, &rows)?;
+    }
+    print_tally(out, room)?;
+    match beyond {
+        0 => writeln!(out, "{live} live entries: all errors are within the bound."),
+        _ => writeln!(
+            out,
+            "{live} live entries: {beyond} of the errors are beyond the bound."
+        ),
+    }
+}
+
+/// A live entry of a host table, beside the truth.
+struct Row {
+    id: usize,
+    entry: Entry,
+    truth: i64,
+}
+
+impl Row {
+    fn error(&self) -> i64 {
+        i64::from(self.entry.offset) - self.truth
+    }
+
+    /// Whether the error is at most 101/200 of DELAY.
+    fn within_bound(&self) -> bool {
+        200 * self.error().abs() <= 101 * self.entry.delay
+    }
+
+    fn bound(&self) -> f64 {
+        101.0 * self.entry.delay as f64 / 200.0
+    }
+}
+
+/// The live entries of a host's table.
+fn live_rows(clocks: &[i64], number: usize, table: &[Entry]) -> Vec<Row> {
+    table
+        .iter()
+        .enumerate()
+        .filter(|(_, entry)| entry.delay < DOWN)
+        .map(|(id, entry)| Row {
+            id,
+            entry: *entry,
+            truth: clocks[id] - clocks[number],
+        })
+        .collect()
+}
+
+fn print_host(
+    out: &mut impl Write,
+    number: usize,
+    host: &mut Host,
+    run: &[Entry],
+    rows: &[Row],
+) -> Result<()> {
+    writeln!(out, "Host {} (id {number})", dotted(address(number)))?;
+    writeln!(out, "  Clock: {}", date_and_time(host.reading(run)))?;
+    writeln!(out, "  Links")?;
+    writeln!(out, "    link  neighbor      KEEP-ALIVE  TSP (ms)")?;
+    for (index, link) in host.links().iter().enumerate() {
+        writeln!(
+            out,
+            "    {:>4}  {:<12}  {:>10}  {:>+8}",
+            index + 1,
+            dotted(link.neighbor),
+            link.keep_alive,
+            link.tsp
+        )?;
+    }
+    writeln!(out, "  Host table, live entries")?;
+    writeln!(
+        out,
+        "    id  address       link  DELAY (ms)  OFFSET (ms)  true (ms)  error (ms)  bound (ms)"
+    )?;
+    for row in rows {
+        print_row(out, row)?;
+    }
+    let down = host.table(run).len() - rows.len();
+    if down > 0 {
+        writeln!(out, "    ({down} more: down, DELAY {DOWN})")?;
+    }
+    writeln!(out)
+}
+
+fn print_row(out: &mut impl Write, row: &Row) -> Result<()> {
+    writeln!(
+        out,
+        "    {:>2}  {:<12}  {:>4}  {:>10}  {:>+11}  {:>+9}  {:>+10}  {:>10.3}{}",
+        row.id,
+        dotted(address(row.id)),
+        row.entry.pid,
+        row.entry.delay,
+        row.entry.offset,
+        row.truth,
+        row.error(),
+        row.bound(),
+        if row.within_bound() {
+            ""
+        } else {
+            "  beyond the bound"
+        }
+    )
+}
+
+fn print_tally(out: &mut impl Write, room: &Room) -> Result<()> {
+    writeln!(
+        out,
+        "Messages: {} sent, {} lost, {} still on their way. Arrivals by answer:",
+        room.tally.sent,
+        room.tally.lost,
+        room.on_the_way()
+    )?;
+    if room.tally.answers.is_empty() {
+        writeln!(out, "      none")?;
+    }
+    for (answer, count) in &room.tally.answers {
+        writeln!(
+            out,
+            "  {count:>8}  answered {answer} ({})",
+            meaning(*answer)
+        )?;
+    }
+    writeln!(out)
+}
+
+/// What an answer to an arrival means.
+fn meaning(answer: u8) -> &'static str {
+    match answer {
+        hello::answer::DONE => "done",
+        hello::answer::DELAY_NOT_VALID => {
+            "delay not valid: no message of ours reached the neighbor lately, or HOLD runs"
+        }
+        hello::answer::NO_HOST => "no host for the neighbor's address",
+        _ => "refused",
+    }
+}
+
+fn dotted(address: Address) -> String {
+    let Address {
+        first,
+        second,
+        third,
+        fourth,
+    } = address;
+    format!("{first}.{second}.{third}.{fourth}")
+}
+
+fn minutes(count: i64) -> String {
+    match count {
+        1 => "1 minute".to_string(),
+        _ => format!("{count} minutes"),
+    }
+}
+
+/// A reading as a date and a time of day.
+fn date_and_time(reading: Time) -> String {
+    const MONTHS: [&str; 12] = [
+        "January",
+        "February",
+        "March",
+        "April",
+        "May",
+        "June",
+        "July",
+        "August",
+        "September",
+        "October",
+        "November",
+        "December",
+    ];
+    let (year, day, month) = (
+        1972 + (reading.date & 31),
+        reading.date >> 5 & 31,
+        reading.date >> 10 & 15,
+    );
+    let (ms, minutes) = (reading.time % MINUTE, reading.time / MINUTE);
+    format!(
+        "{:02}:{:02}:{:02}.{:03}, {day} {} {year}",
+        minutes / 60,
+        minutes % 60,
+        ms / SECOND,
+        ms % SECOND,
+        MONTHS[usize::from(month) - 1]
+    )
+}

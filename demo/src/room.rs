@@ -1,0 +1,169 @@
+//! The room: hosts, cables, and the messages on their way.
+
+use crate::arguments::Plan;
+use crate::host::{Host, Place};
+use crate::random::Random;
+use hello::{Entry, PLACES};
+use std::collections::BTreeMap;
+
+/// Milliseconds.
+pub const SECOND: i64 = 1000;
+pub const MINUTE: i64 = 60 * SECOND;
+pub const DAY: i64 = 24 * 60 * MINUTE;
+
+/// The room's millisecond at the start: 08:00.
+pub const START: i64 = 8 * 60 * MINUTE;
+
+/// A host sends on each link, and reports itself, every so many seconds.
+const SEND_INTERVAL: i64 = 5;
+const SELF_REPORT_INTERVAL: i64 = 10;
+
+/// A host's link, numbered from 1.
+#[derive(Clone, Copy)]
+pub struct End {
+    pub host: usize,
+    pub link: usize,
+}
+
+/// A cable, and how long a message takes from its first end to the second, and back.
+#[derive(Clone, Copy)]
+pub struct Cable {
+    pub ends: [End; 2],
+    pub delay: [i64; 2],
+}
+
+/// A message on its way to a link.
+struct Message {
+    to: End,
+    octets: Vec<u8>,
+}
+
+/// What became of the messages.
+#[derive(Default)]
+pub struct Tally {
+    pub sent: u64,
+    pub lost: u64,
+    /// Arrivals, by the number they were answered with.
+    pub answers: BTreeMap<u8, u64>,
+}
+
+pub struct Room {
+    pub hosts: Vec<Host>,
+    pub run: Vec<Entry>,
+    pub tally: Tally,
+    cables: Vec<Cable>,
+    loss: u64,
+    random: Random,
+    /// Milliseconds since the start.
+    now: i64,
+    /// The ms of one tick. Every send and arrival is at a multiple of it, so that each host's clock
+    /// then reads the room's millisecond plus the host's own fixed number.
+    step: i64,
+    /// By the ms of arrival, then by order of sending.
+    on_the_way: BTreeMap<(i64, u64), Message>,
+}
+
+impl Room {
+    /// The room with all hosts freshly set.
+    pub fn fresh(plan: &Plan) -> Room {
+        let delays = plan.cables.iter().flat_map(|cable| cable.delay);
+        let step = delays.fold(SECOND, greatest_common_divisor);
+        let hosts = plan.clocks.len();
+        let mut run = vec![Entry::default(); hosts * PLACES];
+        let place = |number| Place {
+            number,
+            hosts,
+            link_count: links_of(&plan.cables, number),
+            step,
+            time: START + plan.clocks[number],
+        };
+        Room {
+            hosts: (0..hosts)
+                .map(|number| Host::fresh(place(number), &mut run))
+                .collect(),
+            run,
+            tally: Tally::default(),
+            cables: plan.cables.clone(),
+            loss: plan.loss,
+            random: Random::seeded(plan.seed),
+            now: 0,
+            step,
+            on_the_way: BTreeMap::new(),
+        }
+    }
+
+    /// Runs the room until so many ms after the start.
+    pub fn run_until(&mut self, end: i64) {
+        while self.now < end {
+            if self.now % SECOND == 0 {
+                self.each_second(self.now / SECOND);
+            }
+            self.arrivals();
+            self.now += self.step;
+            for host in &mut self.hosts {
+                host.tick(&self.run);
+            }
+        }
+    }
+
+    /// What the hosts do once a second.
+    fn each_second(&mut self, second: i64) {
+        for host in &mut self.hosts {
+            host.second(&mut self.run);
+            if second % SELF_REPORT_INTERVAL == 0 {
+                host.self_report(&mut self.run);
+            }
+        }
+        for cable in self.cables.clone() {
+            let [first, last] = cable.ends;
+            self.send_in_turn(second, first, last, cable.delay[0]);
+            self.send_in_turn(second, last, first, cable.delay[1]);
+        }
+    }
+
+    /// Sends from one end of a cable to the other if it is the host's second to send.
+    fn send_in_turn(&mut self, second: i64, from: End, to: End, delay: i64) {
+        if (second + from.host as i64) % SEND_INTERVAL != 0 {
+            return;
+        }
+        let octets = self.hosts[from.host].send(&self.run, from.link);
+        self.tally.sent += 1;
+        if self.random.happens(self.loss) {
+            self.tally.lost += 1;
+        } else {
+            let arrival = (self.now + delay, self.tally.sent);
+            self.on_the_way.insert(arrival, Message { to, octets });
+        }
+    }
+
+    /// Gives the hosts all messages that arrive now.
+    fn arrivals(&mut self) {
+        while let Some(first) = self.on_the_way.first_entry() {
+            if first.key().0 > self.now {
+                return;
+            }
+            let Message { to, octets } = first.remove();
+            let answer = self.hosts[to.host].receive(&mut self.run, to.link, &octets);
+            *self.tally.answers.entry(answer).or_default() += 1;
+        }
+    }
+
+    /// How many messages are on their way.
+    pub fn on_the_way(&self) -> usize {
+        self.on_the_way.len()
+    }
+}
+
+/// How many cable ends are at the host.
+fn links_of(cables: &[Cable], host: usize) -> usize {
+    let ends = cables.iter().flat_map(|cable| cable.ends);
+    ends.filter(|end| end.host == host).count()
+}
+
+fn greatest_common_divisor(a: i64, b: i64) -> i64 {
+    if b == 0 {
+        a
+    } else {
+        greatest_common_divisor(b, a % b)
+    }
+}
