@@ -4,6 +4,7 @@
 usage: packets.py FOLDER     write each packet to FOLDER/NAME, and print its name and number
        packets.py source     print the source of the program packet_runs
        packets.py stdout     print what that program writes
+       packets.py vectors    print the packets of the program vectors, as its source has them
 """
 import os
 import sys
@@ -26,9 +27,9 @@ def checksum(octets):
     return total ^ 0xFFFF
 
 
-def hello(table=(), nhosts=None, offset=1, tsp=0, wrong=0):
+def hello(table=(), nhosts=None, offset=1, time=40000, tsp=0, wrong=0):
     count = len(table) if nhosts is None else nhosts
-    rest = word(1056) + word(40000, 4) + word(tsp) + bytes([offset, count])
+    rest = word(1056) + word(time, 4) + word(tsp) + bytes([offset, count])
     rest += b"".join(word(delay) + word(clock_offset) for delay, clock_offset in table)
     return word(checksum(rest) ^ wrong) + rest
 
@@ -75,6 +76,27 @@ LONG = [
     ("far_too_long", "200,000 octets, the first 65,535 of them the longest IP packet", 3, ip(bytes(65515)) + bytes(134465)),
 ]
 
+FAR = [(30000, 0), (30000, 0), (65400, 0), (30000, 0)]
+
+# the packets of the program vectors
+VECTORS = [
+    ("A_SENDS", "A, 192.0.2.1, sends at 40,000.", ip(hello(time=40000), source=US)),
+    ("B_ANSWERS", "B, 192.0.2.2, answers at 45,530 with TSP 45,000.", ip(hello(time=45530, tsp=45000))),
+    ("AHEAD", "From 192.0.2.2 at 1,000 with TSP 1,003.", ip(hello(time=1000, tsp=1003))),
+    ("AT_ONCE", "From 192.0.2.2 at 1,000 with TSP 1,000.", ip(hello(time=1000, tsp=1000))),
+    ("FAR", "From 192.0.2.2 at 1,000 with TSP 800: host 2 is reported at 65,400.", ip(hello(FAR, time=1000, tsp=800))),
+    ("NOBODY_NO_TSP", "From 0.0.0.0, with TSP 0 and no table.", ip(hello(), source=NOBODY)),
+    ("NOBODY_NO_TABLE", "From 0.0.0.0, with a TSP and no table.", ip(hello(tsp=1), source=NOBODY)),
+    ("NOBODY_TABLE", "From 0.0.0.0, with a TSP and a table.", ip(hello(TABLE, tsp=1), source=NOBODY)),
+]
+
+
+def vectors():
+    print("// Packets that are run. Made by tests/packets.py.")
+    for name, what, octets in VECTORS:
+        print("\n// %s" % what)
+        print('pub const %s: [u8; %d] =\n    *b"%s";' % (name, len(octets), "".join("\\x%02x" % o for o in octets)))
+
 
 def source():
     print("""// The answers of the packet program's host to a packet of each sort, one number to a line. Made by tests/packets.py.
@@ -105,6 +127,8 @@ def write(folder):
 
 if sys.argv[1] == "source":
     source()
+elif sys.argv[1] == "vectors":
+    vectors()
 elif sys.argv[1] == "stdout":
     for _, _, number, _ in PACKETS:
         print(number)

@@ -1,7 +1,7 @@
 -- The ways that steps 2 to 4 can go, and the DELAY that step 5 is left with.
 use mathlib.Core.Path.{_≡_, refl}
 use mathlib.Core.Bool.{Bool, true, false, cond, not, _||_}
-use Prim.Native.Nat.{ℕ, _≤_}
+use Prim.Native.Nat.{_≤_}
 use native.Mathlib.Omega.{arith}
 use lib.Dec.{eqb}
 use lib.IntN.{pos}
@@ -15,7 +15,7 @@ use Rattle.laws.proofs.Tests.{either}
 use Rattle.wire.specs.declared.Packet.{Packet}
 use Rattle.wire.specs.Octets.{sameAddress}
 use Rattle.table.specs.Forms.{Stage, on, end}
-use Rattle.table.specs.Entry.{minDelay, maxDelay, upTo}
+use Rattle.table.specs.Entry.{minDelay, upTo}
 use Rattle.table.specs.Update.{ownMost}
 use Rattle.table.proofs.Ranges.{up-to}
 use Rattle.config.specs.declared.Link.{Link}

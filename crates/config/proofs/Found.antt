@@ -22,8 +22,9 @@ pub find-has-place : (s : Settings) (a : Address) → settingsGood s ≡ true
     → hasPlace (find (s .address) (s .layout) (s .net) a) ≡ true
 find-has-place s a good =
     let g = sound s good in
-    has-place _ (λ i e. omega (arith, found-below (s .address) (s .layout) (s .net) a i (g .row-ids) e, g .hosts-to))
+    has-place (find (s .address) (s .layout) (s .net) a)
+    (λ (i : ℕ) (e : find (s .address) (s .layout) (s .net) a ≡ Host i). omega (arith, found-below (s .address) (s .layout) (s .net) a i (g .row-ids) e, g .hosts-to))
 
 pub own-has-place : (s : Settings) → settingsGood s ≡ true → hasPlace (ownId s) ≡ true
 own-has-place s good =
-    has-place _ (λ i e. omega (arith, local-id-below (s .layout) (s .address) i e, sound s good .hosts-to))
+    has-place (ownId s) (λ (i : ℕ) (e : ownId s ≡ Host i). omega (arith, local-id-below (s .layout) (s .address) i e, sound s good .hosts-to))

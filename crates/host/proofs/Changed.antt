@@ -1,8 +1,7 @@
 -- The calls that change entries: what the loop leaves of the run is what the call's definition leaves.
-use mathlib.Core.Path.{_≡_, refl, sym, ap, _∙_}
-use mathlib.Core.Bool.{Bool, true, false}
+use mathlib.Core.Path.{_≡_, refl, ap, _∙_}
 use mathlib.Core.List.{List, [], _∷_, map}
-use Prim.Native.Nat.{ℕ, suc, _+_, _-_, _≤_, _<_}
+use Prim.Native.Nat.{ℕ, _+_, _-_, _<_}
 use native.Mathlib.Omega.{arith}
 use lib.ListN.{length, getD, drop, replicate}
 use lib.Seq.{getD-take, getD-drop}
@@ -13,14 +12,14 @@ use Rattle.clock.specs.declared.Clock.{Clock}
 use Rattle.table.specs.declared.Entry.{Entry}
 use Rattle.table.specs.declared.Updated.{Updated}
 use Rattle.table.specs.declared.run.Change.{Change}
-use Rattle.table.specs.declared.run.Change.the-variants.{Fresh, Aged, Reported}
-use Rattle.table.specs.Entry.{freshEntry, aged}
+use Rattle.table.specs.declared.run.Change.the-variants.{Fresh, Reported}
+use Rattle.table.specs.Entry.{freshEntry}
 use Rattle.table.specs.Update.{selfReported}
 use Rattle.table.specs.Sweep.{sweep, only}
 use Rattle.table.specs.Runs.{changed, changes}
 use Rattle.table.proofs.Sweeps.{sweep-only}
 use Rattle.config.specs.declared.Settings.{Settings}
-use Rattle.config.specs.State.{placesPerHost, firstPlace, hostCount, entries, withEntries}
+use Rattle.config.specs.State.{firstPlace, hostCount, entries, withEntries}
 use Rattle.config.proofs.Places.{Holds, entries-length}
 use Rattle.plan.specs.Plans.{idle, allPlaces, onePlace}
 

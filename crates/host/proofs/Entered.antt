@@ -1,5 +1,5 @@
 -- Setting afresh, a second and a self-report: the places that the loop goes over are there, and what is planned, stored and changed is what the call's definition leaves.
-use mathlib.Core.Path.{_≡_, refl, sym}
+use mathlib.Core.Path.{_≡_, refl}
 use mathlib.Core.Bool.{Bool, true, false, cond, not}
 use mathlib.Core.List.{List, map}
 use Prim.Native.Nat.{ℕ, _+_, _<_}
@@ -16,20 +16,20 @@ use Rattle.route.specs.declared.Found.the-variants.{Host, Nothing}
 use Rattle.route.proofs.Ids.{local-id-below}
 use Rattle.table.specs.declared.Entry.{Entry}
 use Rattle.table.specs.declared.run.Changes.{Changes}
-use Rattle.table.specs.declared.run.Change.the-variants.{Fresh, Aged, Reported}
+use Rattle.table.specs.declared.run.Change.the-variants.{Fresh, Aged}
 use Rattle.table.specs.Entry.{freshEntry, aged}
 use Rattle.table.specs.Runs.{InRun, changes}
 use Rattle.config.specs.declared.Settings.{Settings}
 use Rattle.config.specs.declared.Links.{Links}
-use Rattle.config.specs.Settings.{settingsGood, ownId}
+use Rattle.config.specs.Settings.{ownId}
 use Rattle.config.specs.State.{firstPlace, hostCount, freshLinks, entries, withEntries}
 use Rattle.config.specs.Guard.{noPlaces, guard, guardFresh, done}
 use Rattle.config.proofs.Places.{Holds}
 use Rattle.config.proofs.Sound.{sound}
-use Rattle.config.proofs.Guarded.{Passed, passed, passed-fresh, holds}
+use Rattle.config.proofs.Guarded.{passed, passed-fresh, holds}
 use Rattle.plan.specs.declared.tables.FreshPlan.{FreshPlan}
 use Rattle.plan.specs.declared.tables.TablePlan.{TablePlan}
-use Rattle.plan.specs.Plans.{idle, allPlaces, onePlace, freshPlan, secondPlan, ownWork, selfPlan}
+use Rattle.plan.specs.Plans.{idle, allPlaces, freshPlan, secondPlan, ownWork, selfPlan}
 use Rattle.host.specs.Outcome.{Outcome, Leaves, leaves}
 use Rattle.host.specs.Calls.{initialize, second, reported, selfReport}
 use Rattle.host.proofs.Changed.{nothing-changed, all-changed, all-fresh, one-changed}

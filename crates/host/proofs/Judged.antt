@@ -1,13 +1,12 @@
 -- The guard as the code has it, by value before and behind a scan of the entries, is the guard of the definitions; and what its answer tells the work behind it.
-use mathlib.Core.Path.{_≡_, refl, ap, _∙_}
-use mathlib.Core.Bool.{Bool, true, false, false≢true, cond, not, _&&_, _||_}
+use mathlib.Core.Path.{_≡_, refl, ap}
+use mathlib.Core.Bool.{Bool, true, false, cond, not, _&&_, _||_}
 use mathlib.Core.List.{List}
 use Prim.Native.Nat.{ℕ, _+_, _-_, _≤_}
 use native.Mathlib.Omega.{arith}
 use borrow.Author.Tests.{ltb-false}
 use lib.Dec.{ltb}
-use lib.ListN.{length, take}
-use Rattle.laws.specs.Lists.{part}
+use lib.ListN.{length}
 use Rattle.laws.proofs.Tests.{either, both, neither}
 use Rattle.answer.specs.declared.Answer.{Answer}
 use Rattle.answer.specs.declared.Answer.the-variants.{Done, Setting, Lent}
@@ -22,7 +21,7 @@ use Rattle.config.specs.declared.Settings.{Settings}
 use Rattle.config.specs.declared.Links.{Links}
 use Rattle.config.specs.Settings.{settingsGood}
 use Rattle.config.specs.State.{placesPerHost, firstPlace, hostCount, entries}
-use Rattle.config.specs.Guard.{linkCount, linkInRange, noPlaces, lentInRange, guard, done}
+use Rattle.config.specs.Guard.{noPlaces, lentInRange, guard}
 use Rattle.config.specs.Told.{ClockTold, NumberTold}
 use Rattle.config.proofs.Guarded.{Passed, passed}
 use Rattle.plan.specs.Plans.{placesMissing, restInRange, held, judged}

@@ -1,11 +1,10 @@
 -- A lookup: the entry that is looked at, and what is made of it, is what the call's definition answers.
-use mathlib.Core.Path.{_≡_, refl, sym, ap}
+use mathlib.Core.Path.{_≡_, refl}
 use mathlib.Core.Bool.{Bool, true, false, cond, not}
-use mathlib.Core.List.{List, _∷_, []}
+use mathlib.Core.List.{List}
 use Prim.Native.Nat.{ℕ, _+_, _-_, _<_}
 use native.Mathlib.Omega.{arith}
 use lib.ListN.{getD}
-use Rattle.laws.proofs.Tests.{is-so}
 use Rattle.answer.specs.declared.Answer.{Answer}
 use Rattle.answer.specs.declared.Answer.the-variants.{Done, Down, Unknown}
 use Rattle.clock.specs.declared.Clock.{Clock}
@@ -16,7 +15,7 @@ use Rattle.route.specs.Find.{find}
 use Rattle.route.proofs.Ids.{found-below}
 use Rattle.table.specs.declared.Entry.{Entry}
 use Rattle.table.specs.Entry.{freshEntry, up}
-use Rattle.table.specs.Runs.{InRun, latest, entryOf}
+use Rattle.table.specs.Runs.{InRun, entryOf}
 use Rattle.config.specs.declared.Settings.{Settings}
 use Rattle.config.specs.declared.Links.{Links}
 use Rattle.config.specs.State.{firstPlace, hostCount, entries}
@@ -24,7 +23,6 @@ use Rattle.config.specs.Guard.{guard, done}
 use Rattle.config.proofs.Places.{Holds}
 use Rattle.config.proofs.Sound.{sound}
 use Rattle.config.proofs.Guarded.{passed, holds}
-use Rattle.plan.specs.declared.Route.{Route}
 use Rattle.plan.specs.declared.lookups.LookPlan.{LookPlan}
 use Rattle.plan.specs.Plans.{noEntry, lookAt, lookPlan, noRoute, lookedUp}
 use Rattle.host.specs.Outcome.{Outcome, Leaves, leaves, tells, routeValues, routeOf}

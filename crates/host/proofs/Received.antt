@@ -1,17 +1,16 @@
 -- An arrival: what each update asks is there, and what is planned, stored and updated is what the call's definition leaves.
-use mathlib.Core.Path.{_≡_, refl, sym, ap, subst}
+use mathlib.Core.Path.{_≡_, refl, sym}
 use mathlib.Core.Bool.{Bool, true, false, false≢true, cond, not}
 use mathlib.Core.List.{List, [], _∷_}
 use Prim.Native.Nat.{ℕ, _+_, _-_, _≤_, _<_}
 use native.Mathlib.Omega.{arith}
-use borrow.Author.Tests.{eqb-true}
 use lib.Dec.{eqb}
 use lib.ListN.{length, getD}
 use Rattle.laws.specs.Lists.{part, over}
 use Rattle.laws.proofs.Parts.{over-nothing}
 use Rattle.laws.proofs.Tests.{is-so}
 use Rattle.answer.specs.declared.Answer.{Answer}
-use Rattle.answer.specs.declared.Answer.the-variants.{Done, Delay, Unknown}
+use Rattle.answer.specs.declared.Answer.the-variants.{Delay, Unknown}
 use Rattle.clock.specs.declared.Clock.{Clock}
 use Rattle.clock.specs.Clock.{reading, clockInRange}
 use Rattle.wire.specs.declared.Packet.{Packet}
@@ -26,16 +25,13 @@ use Rattle.route.proofs.Ids.{found-below}
 use Rattle.table.specs.declared.Entry.{Entry}
 use Rattle.table.specs.declared.Update.{Update}
 use Rattle.table.specs.declared.Updated.{Updated}
-use Rattle.table.specs.declared.run.Updates.{Updates}
-use Rattle.table.specs.Forms.{Stage, on, end}
-use Rattle.table.specs.Entry.{freshEntry, upTo}
-use Rattle.table.specs.Update.{plusReport, ownMost}
-use Rattle.table.specs.Sweep.{Swept, sweep}
+use Rattle.table.specs.Entry.{freshEntry}
+use Rattle.table.specs.Sweep.{sweep}
 use Rattle.table.specs.Runs.{updatedAt, updates, UpdatesFit}
 use Rattle.table.proofs.Sweeps.{sweep-from}
 use Rattle.config.specs.declared.Settings.{Settings}
 use Rattle.config.specs.declared.Links.{Links}
-use Rattle.config.specs.State.{firstPlace, hostCount, broadcast, linkOf, withLink, entries, withEntries}
+use Rattle.config.specs.State.{firstPlace, hostCount, broadcast, linkOf, entries, withEntries}
 use Rattle.config.specs.Guard.{guard, guardLink, done}
 use Rattle.config.proofs.Places.{Holds}
 use Rattle.config.proofs.Sound.{Sound, sound}
@@ -44,7 +40,7 @@ use Rattle.arrival.specs.declared.Flight.{Flight}
 use Rattle.arrival.specs.declared.ArrivalPlan.{ArrivalPlan}
 use Rattle.arrival.specs.Inspection.{inspect}
 use Rattle.arrival.specs.Steps.{measured, neighborUpdate, reportUpdate, updateId}
-use Rattle.arrival.specs.Plan.{noUpdates, ended, updatesOf, noTablePlan, withTablePlan, step5Plan, concludedPlan, inspectedPlan, arrivalPlan}
+use Rattle.arrival.specs.Plan.{ended, updatesOf, noTablePlan, withTablePlan, step5Plan, concludedPlan, inspectedPlan, arrivalPlan}
 use Rattle.arrival.proofs.Flights.{Short, steps-cases, measured-short, new-short}
 use Rattle.arrival.proofs.Inspected.{Fits, inspected-fits}
 use Rattle.host.specs.Outcome.{Outcome, Leaves, leaves}

@@ -1,10 +1,10 @@
 -- The structs that the calls pass, lend and answer, as the laws of crates `laws` and `shapes` take them.
 use mathlib.Core.List.{[], _∷_}
 use mir.Syntax.{w64}
-use Rattle.laws.proofs.Words.{Word, Data, Choice, Part, by-value, chosen-by-value, unsigned, struct-part, enum-part}
+use Rattle.laws.proofs.Words.{Word, Data, Choice, unsigned, struct-part, enum-part}
 use Rattle.laws.proofs.Outcomes.{Outcome, behind, whole}
 use Rattle.clock.proofs.Types.{clock}
-use Rattle.table.proofs.Types.{scan, seek, changes, updates, reports}
+use Rattle.table.proofs.Types.{seek, changes, updates, reports}
 use Rattle.wire.proofs.Address as Address
 use Rattle.wire.proofs.Address.Laws as Address′
 use Rattle.config.proofs.Settings as Settings

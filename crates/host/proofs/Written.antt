@@ -1,7 +1,7 @@
 -- A send: the reports fit the buffer, the message can be completed around them, and what is written and stored is what the call's definition leaves.
-use mathlib.Core.Path.{_≡_, refl, sym, ap, subst, _∙_}
+use mathlib.Core.Path.{_≡_, refl, sym, subst, _∙_}
 use mathlib.Core.Bool.{Bool, true, false, false≢true, cond, not}
-use mathlib.Core.List.{List, [], _∷_, _++_, map}
+use mathlib.Core.List.{List, [], _++_, map}
 use Prim.Native.Nat.{ℕ, _+_, _-_, _≤_, _<_}
 use native.Mathlib.Omega.{arith}
 use borrow.Author.Tests.{ltb-false}
@@ -13,9 +13,8 @@ use Rattle.laws.specs.Lists.{part}
 use Rattle.laws.proofs.Parts.{over-length}
 use Rattle.laws.proofs.Tests.{is-so}
 use Rattle.answer.specs.declared.Answer.{Answer}
-use Rattle.answer.specs.declared.Answer.the-variants.{Done, Buffer}
+use Rattle.answer.specs.declared.Answer.the-variants.{Buffer}
 use Rattle.clock.specs.declared.Clock.{Clock}
-use Rattle.clock.specs.declared.Reading.{Reading}
 use Rattle.clock.specs.Midnight.{dayMillis}
 use Rattle.clock.specs.Clock.{reading, clockInRange}
 use Rattle.wire.specs.declared.Packet.{Packet}
@@ -27,7 +26,6 @@ use Rattle.wire.specs.Sealing.{withReports, sealed}
 use Rattle.wire.proofs.Messages.{reports-length}
 use Rattle.wire.proofs.Sealing.{all-put, put-and-sealed}
 use Rattle.table.specs.declared.Entry.{Entry}
-use Rattle.table.specs.declared.run.Reports.{Reports}
 use Rattle.table.specs.Entry.{upTo, advertised}
 use Rattle.table.specs.Runs.{readOut, ReportsFit}
 use Rattle.table.proofs.Ranges.{within, reading-in}

@@ -9,7 +9,7 @@ use mir.Syntax.{Sym}
 use denote.RattleType.{Denots}
 use denote.Struct.Struct.{Plains}
 use denote.Struct.Field.{Field, rows}
-use denote.Struct.Declared.{Declared, fields}
+use denote.Struct.Declared.{Declared}
 use denote.Struct.Laws as LL
 use Rattle.laws.proofs.Words.{Part, Data, at-type}
 

@@ -32,7 +32,7 @@ use denote.Enum.Laws as EL
 use denote.RattleType.{RattleType, owns}
 use denote.Signature.{Signature, typesAt}
 use denote.Triple.Entry.{Args, Vals, alive, onEntry}
-use denote.Exit.{Exit, yes, Last, left, unchanged}
+use denote.Exit.{Exit, yes, Last, left}
 
 -- ---- by value
 

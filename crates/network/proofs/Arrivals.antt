@@ -1,15 +1,10 @@
 -- The ways that an arrival can go: refused by the inspection; ended by step 4; or through step 4, by the table or without one.
 use mathlib.Core.Path.{_≡_, refl}
-use mathlib.Core.Bool.{Bool, true, false, cond, not, _||_}
+use mathlib.Core.Bool.{Bool, true, false, cond}
 use mathlib.Core.List.{List, [], _∷_}
 use Prim.Native.Nat.{ℕ}
 use borrow.Author.Tests.{eqb-true}
 use lib.Dec.{eqb}
-use lib.IntN.{pos}
-use Rattle.quantity.specs.declared.Millis.{Millis}
-use Rattle.quantity.specs.declared.Seconds.{Seconds}
-use Rattle.quantity.specs.Quantity.{millis}
-use Rattle.quantity.specs.Words.{word, zeroWord}
 use Rattle.laws.proofs.Tests.{each}
 use Rattle.answer.specs.declared.Answer.{Answer}
 use Rattle.answer.specs.declared.Answer.the-variants.{Delay, Unknown}
@@ -24,7 +19,6 @@ use Rattle.route.specs.declared.Found.{Found}
 use Rattle.route.specs.declared.Found.the-variants.{Host, Nothing}
 use Rattle.route.specs.Find.{find}
 use Rattle.table.specs.declared.Entry.{Entry}
-use Rattle.table.specs.Forms.{Stage, on, end}
 use Rattle.config.specs.declared.Settings.{Settings}
 use Rattle.config.specs.declared.Link.{Link}
 use Rattle.config.specs.declared.Links.{Links}

@@ -1,46 +1,46 @@
 -- What a send writes is read back, and has the layout of its writer.
-use mathlib.Core.Path.{_≡_, refl, sym, ap, subst, _∙_}
+use mathlib.Core.Path.{_≡_, refl, sym, ap, _∙_}
 use mathlib.Core.Bool.{Bool, true, false, true≢false, false≢true, cond, not, _&&_, _||_}
 use mathlib.Core.List.{List, [], _∷_, map}
-use Prim.Native.Nat.{ℕ, zero, suc, _≤_, _<_, _^_}
+use Prim.Native.Nat.{ℕ, suc, _≤_, _<_}
 use native.Mathlib.Omega.{arith}
 use borrow.Author.Tests.{eq-eqb}
-use lib.Dec.{ltb, eqb}
-use lib.IntN.{ℤ, pos, _+ℤ_}
+use lib.Dec.{eqb}
+use lib.IntN.{ℤ, _+ℤ_}
 use lib.ListN.{length, getD, length-map}
 use Rattle.quantity.specs.declared.Millis.{Millis}
 use Rattle.quantity.specs.declared.Word.{Word}
 use Rattle.quantity.proofs.Ints.{to-≤ℤ, to-<ℤ}
 use Rattle.quantity.proofs.Wrap.{wrap-range}
-use Rattle.laws.proofs.Tests.{either, both, is-so}
+use Rattle.laws.proofs.Tests.{either, both}
 use Rattle.answer.specs.declared.Answer.{Answer}
 use Rattle.answer.specs.declared.Answer.the-variants.{Done, Layout, Looped}
 use Rattle.clock.specs.declared.Clock.{Clock}
-use Rattle.clock.specs.Clock.{reading, clockInRange}
+use Rattle.clock.specs.Clock.{reading}
 use Rattle.wire.specs.declared.Packet.{Packet}
 use Rattle.wire.specs.declared.Report.{Report}
 use Rattle.wire.specs.declared.Parsed.{Parsed}
 use Rattle.wire.specs.declared.Parsed.the-variants.{Good, Bad}
 use Rattle.wire.specs.Packet.{parse}
-use Rattle.wire.specs.Ranges.{Two, SignedTwo, Four, ReportFits, ReportsFit}
+use Rattle.wire.specs.Ranges.{SignedTwo, ReportFits, ReportsFit}
 use Rattle.wire.specs.ReadBack.{MessageFits, ReadBack}
 use Rattle.wire.proofs.ReadBack.{message-is-back}
 use Rattle.table.specs.declared.Entry.{Entry}
 use Rattle.table.specs.Forms.{every}
 use Rattle.table.specs.Entry.{freshEntry, advertised, entryInRange}
-use Rattle.table.proofs.Ranges.{range-says, reading-in, within}
+use Rattle.table.proofs.Ranges.{range-says, reading-in}
 use Rattle.config.specs.declared.Settings.{Settings}
 use Rattle.config.specs.declared.Link.{Link}
 use Rattle.config.specs.declared.Links.{Links}
-use Rattle.config.specs.State.{hostCount, linkOf, entries}
-use Rattle.config.specs.Guard.{guardLink, lentInRange, done}
+use Rattle.config.specs.State.{linkOf, entries}
+use Rattle.config.specs.Guard.{done}
 use Rattle.config.proofs.Places.{entries-length}
 use Rattle.config.proofs.Sound.{sound}
-use Rattle.config.proofs.Guarded.{Passed, passed-link, holds, either as go-on}
+use Rattle.config.proofs.Guarded.{Passed, passed-link, holds}
 use Rattle.plan.specs.Message.{tableGoes, sentTsp, packetSent}
 use Rattle.arrival.specs.Inspection.{otherLayout, looped, inspected, inspect}
-use Rattle.host.specs.Outcome.{Outcome, unsent}
-use Rattle.host.specs.Send.{reports, sentMessage, sentLength, sentOutcome, send}
+use Rattle.host.specs.Outcome.{Outcome}
+use Rattle.host.specs.Send.{reports, sentMessage, sentOutcome}
 use Rattle.host.proofs.Judged.{clock-lent, entries-lent}
 use Rattle.host.proofs.Written.{four}
 use Rattle.network.specs.Call.{Call, perform, messageOf}

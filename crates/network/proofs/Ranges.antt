@@ -1,6 +1,6 @@
 -- What keeps a host's links, its clock and its entries in range: a link that is set or sent on, our reading, and the updates that an arrival makes.
 use mathlib.Core.Path.{_≡_, refl, subst}
-use mathlib.Core.Bool.{true, false}
+use mathlib.Core.Bool.{true}
 use mathlib.Core.List.{List, map}
 use Prim.Native.Nat.{ℕ, _-_, _≤_}
 use native.Mathlib.Omega.{arith}

@@ -17,7 +17,7 @@ use Rattle.table.specs.Entry.{freshEntry, up}
 use Rattle.config.specs.Guard.{done}
 use Rattle.host.specs.Outcome.{Outcome}
 use Rattle.network.specs.Call.{Call, messageOf}
-use Rattle.network.specs.History.{Event, State, leftBy, places, Lends, outcome, after}
+use Rattle.network.specs.History.{Event, State, leftBy, Lends, outcome, after}
 use Rattle.network.specs.Room.{Room, at, afresh, HostAt, Proper}
 
 -- ---- the calls of the list

@@ -1,7 +1,5 @@
 -- A scan of the entries between what is tested before it and what is judged behind it.
 use mathlib.Core.Path.{_≡_, _∙_, ap, subst, sym}
-use mathlib.Core.Bool.{Bool}
-use lib.ListN.{length}
 use base.Logic.{emp, id⊢}
 use contract.Monad.{fact, factI}
 use Rattle.laws.proofs.Words.{by-value, chosen-by-value, boolean}

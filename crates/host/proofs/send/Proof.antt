@@ -2,7 +2,6 @@
 use mathlib.Core.Path.{_≡_, _∙_, ap}
 use mathlib.Core.List.{List}
 use Prim.Native.Nat.{ℕ}
-use lib.ListN.{length}
 use base.Logic.{emp, id⊢}
 use contract.Monad.{fact, factI}
 use Rattle.laws.proofs.Words.{by-value, chosen-by-value, struct-part}

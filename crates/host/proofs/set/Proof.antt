@@ -1,7 +1,7 @@
 -- The guard, then the plan by value, whose clock is stored.
 use mathlib.Core.Path.{_≡_}
 use mir.Syntax.{w32}
-use base.Logic.{sep, emp, id⊢}
+use base.Logic.{emp, id⊢}
 use contract.Monad.{fact, factI}
 use Rattle.quantity.specs.Quantity.{millis}
 use Rattle.laws.proofs.Words.{by-value, chosen-by-value, signed, enum-part}

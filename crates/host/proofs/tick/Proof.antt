@@ -1,6 +1,6 @@
 -- The guard, then the plan by value, whose clock is stored.
 use mathlib.Core.Path.{_≡_}
-use base.Logic.{sep, emp, id⊢}
+use base.Logic.{emp, id⊢}
 use contract.Monad.{fact, factI}
 use Rattle.laws.proofs.Words.{by-value, chosen-by-value, enum-part}
 use Rattle.shapes.proofs.made.Tests.{proof}

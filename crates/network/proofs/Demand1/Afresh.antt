@@ -18,7 +18,7 @@ use Rattle.config.proofs.Places.{entries-withEntries}
 use Rattle.config.proofs.Guarded.{passed-fresh, holds}
 use Rattle.network.specs.Call.{Call, initializes, perform}
 use Rattle.network.specs.Locality.{SameInput, same, same-send, told}
-use Rattle.network.specs.History.{Event, Left, places, Holds}
+use Rattle.network.specs.History.{Event, Left, Holds}
 use Rattle.network.specs.Isolation.{own, Agree, Pairwise, SetsAfresh, Steady, stays, goes-on, begins-anew, FromAfresh, begins, LeftAlike, IsolationFromAfresh}
 use Rattle.network.proofs.Performs.{workOf, perform-is}
 use Rattle.network.proofs.HostPlaces.{entries-first}

@@ -6,14 +6,14 @@ use Prim.Native.Nat.{ℕ, suc, _-_, _≤_, _<_}
 use native.Mathlib.Omega.{arith}
 use borrow.Author.Tests.{eqb-false, ne-eqb}
 use lib.Dec.{ltb, eqb}
-use lib.IntN.{ℤ, pos, _+ℤ_}
+use lib.IntN.{ℤ, _+ℤ_}
 use lib.ListN.{length}
 use lib.Signed.{_<ℤ_}
 use Rattle.laws.proofs.Tests.{either}
 use Rattle.quantity.specs.declared.Millis.{Millis}
 use Rattle.quantity.specs.declared.Word.{Word}
 use Rattle.quantity.specs.Words.{zeroWord}
-use Rattle.quantity.proofs.Ints.{up, dn, of-<ℤ}
+use Rattle.quantity.proofs.Ints.{dn, of-<ℤ}
 use Rattle.quantity.proofs.Wrap.{wrap-range}
 use Rattle.answer.specs.declared.Answer.the-variants.{Done}
 use Rattle.clock.specs.declared.Clock.{Clock}

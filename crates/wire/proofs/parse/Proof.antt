@@ -7,7 +7,7 @@ use Prim.Native.Nat.{ℕ, _-_}
 use native.Mathlib.Omega.{arith}
 use lib.ListN.{length, take, drop, length-drop}
 use Rattle.wire.specs.declared.Parsed.the-variants.{Good}
-use Rattle.wire.specs.Ip.{ipForm, ipChecksum, protocol}
+use Rattle.wire.specs.Ip.{ipForm, ipChecksum}
 use Rattle.wire.specs.Hello.{helloForm, helloChecksum}
 use Rattle.wire.specs.Packet.{helloOf, parse}
 use Rattle.wire.proofs.Parts.{from-on}

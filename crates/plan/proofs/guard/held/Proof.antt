@@ -1,11 +1,7 @@
-use lib.Dec.{ltb}
-use Prim.Native.Nat.{_≤_}
 use Rattle.plan.proofs.Numbers.{number-in}
 use mathlib.Core.Path.{_∙_, sym}
 use Rattle.laws.proofs.Tests.{is-not, is-so}
 use native.Mathlib.Omega.{arith}
-use borrow.Author.Tests.{ltb-false}
-use Rattle.laws.proofs.Tests.{neither}
 use borrow.Author.Needs.{needs}
 use Rattle.plan.proofs.guard.held.Statement.{statement}
 use Rattle.plan.proofs.guard.held.Tie as tie

@@ -1,5 +1,4 @@
 use Rattle.config.specs.Guard.{noLink}
-use native.Mathlib.Omega.{arith}
 use borrow.Author.Tests.{lt-ltb, le-ltb}
 use mathlib.Core.Path.{_∙_, sym}
 use Rattle.laws.proofs.Tests.{is-not, is-so}

@@ -1,4 +1,3 @@
-use lib.IntN.{ℤ}
 use mir.ValLaws.{toZ-ofZ}
 use mir.Syntax.{w32}
 use mir.Val.{SFits}
