@@ -5,13 +5,13 @@ use Prim.Native.Nat.{_≤_}
 use native.Mathlib.Omega.{arith}
 use lib.Dec.{eqb}
 use lib.IntN.{pos}
+use Rattle.laws.proofs.Tests.{either}
 use Rattle.quantity.specs.declared.Millis.{Millis}
 use Rattle.quantity.specs.declared.Seconds.{Seconds}
 use Rattle.quantity.specs.Quantity.{millis, lessMillis, subMillis}
 use Rattle.quantity.specs.Words.{ofWord, zeroWord}
 use Rattle.quantity.proofs.Ints.{up, lt-no}
 use Rattle.quantity.proofs.Wrap.{wrap-range}
-use Rattle.laws.proofs.Tests.{either}
 use Rattle.wire.specs.declared.Packet.{Packet}
 use Rattle.wire.specs.Octets.{sameAddress}
 use Rattle.table.specs.Forms.{Stage, on, end}

@@ -15,9 +15,9 @@ use Rattle.table.specs.Sweep.{sweep}
 use Rattle.config.specs.Settings.{settingsGood}
 use Rattle.config.specs.State.{freshLinks, entries, withEntries}
 use Rattle.config.specs.Guard.{noPlaces, noLink, lentInRange, guard, guardLink, guardFresh}
-use Rattle.host.specs.Send.{sentMessage, send}
 use Rattle.arrival.specs.Inspection.{otherLayout, looped, inspect}
 use Rattle.arrival.specs.Steps.{step2, step3, step4, steps2to4}
+use Rattle.host.specs.Send.{sentMessage, send}
 use Rattle.host.specs.Arrival.{step5, action}
 use Rattle.host.specs.Calls.{initialize, tick, arrival, selfReport}
 

@@ -3,10 +3,12 @@ use mathlib.Core.List.{[], _∷_}
 use mir.Syntax.{w64}
 use Rattle.laws.proofs.Words.{Word, Data, Choice, unsigned, struct-part, enum-part}
 use Rattle.laws.proofs.Outcomes.{Outcome, behind, whole}
+use Rattle.answer.proofs.Answer as Answer
+use Rattle.answer.proofs.Answer.Laws as Answer′
 use Rattle.clock.proofs.Types.{clock}
-use Rattle.table.proofs.Types.{seek, changes, updates, reports}
 use Rattle.wire.proofs.Address as Address
 use Rattle.wire.proofs.Address.Laws as Address′
+use Rattle.table.proofs.Types.{seek, changes, updates, reports}
 use Rattle.config.proofs.Settings as Settings
 use Rattle.config.proofs.Settings.Laws as Settings′
 use Rattle.config.proofs.Links as Links
@@ -17,8 +19,6 @@ use Rattle.plan.proofs.Route as Route
 use Rattle.plan.proofs.Route.Laws as Route′
 use Rattle.plan.proofs.Time as Time
 use Rattle.plan.proofs.Time.Laws as Time′
-use Rattle.answer.proofs.Answer as Answer
-use Rattle.answer.proofs.Answer.Laws as Answer′
 use Rattle.plan.proofs.timing.ClockPlan as ClockPlan
 use Rattle.plan.proofs.timing.ClockPlan.Laws as ClockPlan′
 use Rattle.plan.proofs.timing.ReadPlan as ReadPlan

@@ -7,11 +7,11 @@ use native.Mathlib.Omega.{arith}
 use borrow.Author.Tests.{ltb-false}
 use lib.Dec.{ltb}
 use lib.ListN.{length, drop, length-map}
-use Rattle.quantity.specs.declared.Millis.{Millis}
-use Rattle.quantity.proofs.Ints.{to-≤ℤ, to-<ℤ}
 use Rattle.laws.specs.Lists.{part}
 use Rattle.laws.proofs.Parts.{over-length}
 use Rattle.laws.proofs.Tests.{is-so}
+use Rattle.quantity.specs.declared.Millis.{Millis}
+use Rattle.quantity.proofs.Ints.{to-≤ℤ, to-<ℤ}
 use Rattle.answer.specs.declared.Answer.{Answer}
 use Rattle.answer.specs.declared.Answer.the-variants.{Buffer}
 use Rattle.clock.specs.declared.Clock.{Clock}

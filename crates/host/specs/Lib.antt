@@ -3,4 +3,3 @@ pub mod Send
 pub mod Arrival
 pub mod Calls
 pub mod Exchange
-pub mod Sums

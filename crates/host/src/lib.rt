@@ -15,7 +15,6 @@ ghost use Rattle.host.specs.Calls.{
   selfReport,
   lookup,
 };
-ghost use Rattle.host.specs.Sums.{Sums};
 use answer::Answer;
 use clock::Clock;
 use config::Links;
@@ -30,11 +29,6 @@ use table::run::entry_of;
 use table::run::read_out;
 use table::run::update_all;
 use wire::Address;
-
-// The sums of the blackboard.
-pub fn sums()
-    ensures { λ _. ⌜ Sums ⌝ }
-{}
 
 // The guard: 12, then 1, before anything else in every call.
 fn guard(settings: Settings, number: usize, clock: Clock, links: Links, run: &[Entry]) -> Answer

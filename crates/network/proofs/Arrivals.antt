@@ -22,12 +22,12 @@ use Rattle.table.specs.declared.Entry.{Entry}
 use Rattle.config.specs.declared.Settings.{Settings}
 use Rattle.config.specs.declared.Link.{Link}
 use Rattle.config.specs.declared.Links.{Links}
-use Rattle.arrival.specs.declared.Flight.{Flight}
 use Rattle.config.specs.State.{broadcast, linkOf, withLink}
 use Rattle.config.specs.Guard.{keepAliveInterval}
-use Rattle.host.specs.Outcome.{Outcome, leaves}
+use Rattle.arrival.specs.declared.Flight.{Flight}
 use Rattle.arrival.specs.Steps.{step2, step3, measured, newNeighbor}
 use Rattle.arrival.proofs.Flights.{steps-cases}
+use Rattle.host.specs.Outcome.{Outcome, leaves}
 use Rattle.host.specs.Arrival.{noTable, withTable, step5, concluded, action}
 use Rattle.host.specs.Calls.{arrived}
 

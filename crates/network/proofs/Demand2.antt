@@ -8,11 +8,11 @@ use borrow.Author.Tests.{eq-eqb}
 use lib.Dec.{eqb}
 use lib.IntN.{ℤ, _+ℤ_}
 use lib.ListN.{length, getD, length-map}
+use Rattle.laws.proofs.Tests.{either, both}
 use Rattle.quantity.specs.declared.Millis.{Millis}
 use Rattle.quantity.specs.declared.Word.{Word}
 use Rattle.quantity.proofs.Ints.{to-≤ℤ, to-<ℤ}
 use Rattle.quantity.proofs.Wrap.{wrap-range}
-use Rattle.laws.proofs.Tests.{either, both}
 use Rattle.answer.specs.declared.Answer.{Answer}
 use Rattle.answer.specs.declared.Answer.the-variants.{Done, Layout, Looped}
 use Rattle.clock.specs.declared.Clock.{Clock}

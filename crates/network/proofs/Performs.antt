@@ -22,11 +22,11 @@ use Rattle.config.specs.declared.Links.{Links}
 use Rattle.config.specs.Settings.{ownId}
 use Rattle.config.specs.State.{freshLinks, hostCount, linkOf, entries, withEntries}
 use Rattle.config.specs.Guard.{noPlaces, noLink, guard, guardLink, guardFresh, done}
+use Rattle.config.proofs.Guarded as guarded
+use Rattle.arrival.specs.Inspection.{inspect}
 use Rattle.host.specs.Outcome.{Outcome, Values, leaves, unsent, tells, timeValues}
 use Rattle.host.specs.Send.{sentLength, sentOutcome, send}
-use Rattle.arrival.specs.Inspection.{inspect}
 use Rattle.host.specs.Calls.{initialize, tick, adjust, setBy, read, second, arrived, arrival, reported, selfReport, looked, lookup}
-use Rattle.config.proofs.Guarded as guarded
 use Rattle.network.specs.Call.{Call, initializes, ticks, adjusts, sets, reads, seconds, sends, arrives, reports, looksUp, perform, lentBuffer}
 
 module _ (s : Settings) (k : ℕ) (c : Clock) (l : Links) (run : List Entry) where

@@ -8,10 +8,10 @@ use borrow.Author.Tests.{leb-true, le-leb}
 use lib.Dec.{eqb}
 use lib.ListN.{take, set}
 use lib.Seq.{getD-take, take-set-lt}
+use Rattle.laws.proofs.Tests.{either}
 use Rattle.quantity.specs.declared.Millis.{Millis}
 use Rattle.quantity.specs.Quantity.{lessMillis}
 use Rattle.quantity.proofs.Ints.{up, dn, sum, lt-no}
-use Rattle.laws.proofs.Tests.{either}
 use Rattle.clock.specs.declared.Clock.{Clock}
 use Rattle.clock.specs.Midnight.{dayMillis}
 use Rattle.clock.specs.Clock.{clockInRange}
@@ -26,11 +26,11 @@ use Rattle.table.proofs.Kept.{update-in-range, clock-in-range}
 use Rattle.config.specs.declared.Settings.{Settings}
 use Rattle.config.specs.declared.Link.{Link}
 use Rattle.config.specs.declared.Links.{Links}
-use Rattle.arrival.specs.declared.Flight.{Flight}
 use Rattle.config.specs.State.{unset, freshLink, freshLinks, linkOf, withLink}
 use Rattle.config.specs.Guard.{linkCount, linkInRange}
 use Rattle.config.proofs.Guarded.{Counted}
 use Rattle.plan.specs.Message.{linkSent}
+use Rattle.arrival.specs.declared.Flight.{Flight}
 use Rattle.arrival.specs.Steps.{atLeastMin, neighborUpdate, reportUpdate, updateId}
 use Rattle.network.proofs.Arrivals.{Flown}
 use Rattle.network.proofs.Lists.{all-at, all-set, all-made, all-take, every-all, all-every}

@@ -1,12 +1,12 @@
-use Rattle.arrival.specs.Steps.{steps2to4}
 use mathlib.Core.Path.{_≡_, _∙_, sym}
 use Prim.Native.Nat.{ℕ}
 use native.Mathlib.Omega.{arith}
+use borrow.Author.Needs.{needs}
 use Rattle.table.specs.Forms.{Stage, on, end}
+use Rattle.arrival.specs.Steps.{steps2to4}
 use Rattle.arrival.specs.declared.Flight.{Flight}
 use Rattle.arrival.specs.declared.Step.the-variants.{On, End}
 use Rattle.arrival.specs.Plan.{stepOf}
-use borrow.Author.Needs.{needs}
 use Rattle.arrival.proofs.action.Statement.{statement}
 use Rattle.arrival.proofs.action.Tie as tie
 

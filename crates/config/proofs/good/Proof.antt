@@ -1,5 +1,5 @@
-use Rattle.config.specs.Settings.{settingsGood}
 use borrow.Author.Needs.{needs}
+use Rattle.config.specs.Settings.{settingsGood}
 use Rattle.config.proofs.good.Statement.{statement}
 use Rattle.config.proofs.good.Tie as tie
 

@@ -2,9 +2,9 @@
 use mathlib.Core.Path.{_≡_, _∙_, ap}
 use mir.Syntax.{w8, w32}
 use base.Logic.{emp, id⊢}
-use Rattle.quantity.specs.Quantity.{millis}
 use Rattle.laws.proofs.Words.{chosen-by-value, unsigned, signed}
 use Rattle.shapes.proofs.made.ExportSets.{proof}
+use Rattle.quantity.specs.Quantity.{millis}
 use Rattle.answer.specs.Answer.{number as numbered}
 use Rattle.answer.proofs.number.Symbol as numbers
 use Rattle.answer.proofs.number.Met as numbers-known

@@ -3,9 +3,9 @@ use mathlib.Core.Path.{_≡_}
 use mir.Syntax.{w32}
 use base.Logic.{emp, id⊢}
 use contract.Monad.{fact, factI}
-use Rattle.quantity.specs.Quantity.{millis}
 use Rattle.laws.proofs.Words.{by-value, chosen-by-value, signed, enum-part}
 use Rattle.shapes.proofs.made.Sets.{proof}
+use Rattle.quantity.specs.Quantity.{millis}
 use Rattle.clock.proofs.Types.{clock}
 use Rattle.table.proofs.Types.{entry}
 use Rattle.config.specs.Guard.{guard}

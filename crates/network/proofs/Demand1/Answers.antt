@@ -23,17 +23,17 @@ use Rattle.config.specs.declared.Settings.{Settings}
 use Rattle.config.specs.declared.Links.{Links}
 use Rattle.config.specs.State.{broadcast, linkOf, entries}
 use Rattle.config.specs.Guard.{noPlaces, noLink, guard, guardLink, guardFresh, done}
-use Rattle.host.specs.Outcome.{leaves, unsent, tells, routeValues}
-use Rattle.host.specs.Send.{sentLength, sentOutcome}
 use Rattle.arrival.specs.Inspection.{otherLayout, looped, inspected, inspect}
 use Rattle.arrival.specs.Steps.{step2, step3}
 use Rattle.arrival.specs.declared.Flight.{Flight}
+use Rattle.arrival.proofs.Flights.{steps-cases}
+use Rattle.host.specs.Outcome.{leaves, unsent, tells, routeValues}
+use Rattle.host.specs.Send.{sentLength, sentOutcome}
 use Rattle.host.specs.Arrival.{noTable, withTable, step5, concluded, action}
 use Rattle.host.specs.Calls.{arrived, looked}
 use Rattle.network.specs.Call.{Call, initializes, ticks, adjusts, sets, reads, seconds, sends, arrives, reports, looksUp, perform}
 use Rattle.network.specs.Answers.{Answers, firstOf, badlyLent, badlySet, delayInvalid, neighborUnknown, hostDown, tests}
 use Rattle.network.proofs.Performs.{guardOf, workOf, performs, reported-ways}
-use Rattle.arrival.proofs.Flights.{steps-cases}
 use Rattle.network.proofs.Arrivals.{same-address}
 
 -- ---- the guards

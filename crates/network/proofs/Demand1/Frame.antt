@@ -14,15 +14,15 @@ use Rattle.table.specs.declared.Updated.{Updated}
 use Rattle.table.specs.Entry.{freshEntry, aged}
 use Rattle.table.specs.Update.{selfReported}
 use Rattle.table.specs.Sweep.{sweep, only}
+use Rattle.table.proofs.Sweeps.{sweep-length}
 use Rattle.config.specs.declared.Settings.{Settings}
 use Rattle.config.specs.declared.Links.{Links}
 use Rattle.config.specs.State.{hostCount, entries, withEntries}
 use Rattle.config.specs.Guard.{guard, guardLink, done}
-use Rattle.arrival.specs.Inspection.{inspect}
-use Rattle.arrival.specs.Steps.{neighborUpdate, reportUpdate, updateId}
 use Rattle.config.proofs.Places.{Holds, entries-length, withEntries-length, withEntries-front, withEntries-behind}
 use Rattle.config.proofs.Guarded.{passed, passed-link, passed-fresh, holds}
-use Rattle.table.proofs.Sweeps.{sweep-length}
+use Rattle.arrival.specs.Inspection.{inspect}
+use Rattle.arrival.specs.Steps.{neighborUpdate, reportUpdate, updateId}
 use Rattle.network.specs.Call.{Call, initializes, ticks, adjusts, sets, reads, seconds, sends, arrives, reports, looksUp}
 use Rattle.network.specs.Frame.{Kept, Frame}
 use Rattle.network.proofs.Performs.{guardOf, workOf, performs, sent-ways, reported-ways, looked-ways}

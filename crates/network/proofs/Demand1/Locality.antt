@@ -25,21 +25,21 @@ use Rattle.table.specs.Forms.{Stage, on, end}
 use Rattle.table.specs.Entry.{freshEntry, up, aged}
 use Rattle.table.specs.Update.{selfReported}
 use Rattle.table.specs.Sweep.{sweep, only}
+use Rattle.table.proofs.Sweeps.{sweep-length}
 use Rattle.config.specs.declared.Settings.{Settings}
 use Rattle.config.specs.declared.Links.{Links}
-use Rattle.arrival.specs.declared.Flight.{Flight}
 use Rattle.config.specs.Settings.{ownId}
 use Rattle.config.specs.State.{broadcast, hostCount, linkOf, withLink, entries, withEntries}
 use Rattle.config.specs.Guard.{noPlaces, lentInRange, guard, guardLink, guardFresh, done}
-use Rattle.host.specs.Outcome.{Outcome, Values, leaves, lengthValue}
-use Rattle.host.specs.Send.{sentLength, sentMessage, sentOutcome}
-use Rattle.arrival.specs.Inspection.{inspect}
-use Rattle.arrival.specs.Steps.{steps2to4, neighborUpdate, reportUpdate, updateId}
-use Rattle.host.specs.Arrival.{noTable, withTable, step5, concluded, action}
-use Rattle.host.specs.Calls.{arrived, reported, looked}
 use Rattle.config.proofs.Places.{Holds, entries-length, entries-withEntries}
 use Rattle.config.proofs.Guarded.{passed, passed-link, passed-fresh, holds}
-use Rattle.table.proofs.Sweeps.{sweep-length}
+use Rattle.arrival.specs.declared.Flight.{Flight}
+use Rattle.arrival.specs.Inspection.{inspect}
+use Rattle.arrival.specs.Steps.{steps2to4, neighborUpdate, reportUpdate, updateId}
+use Rattle.host.specs.Outcome.{Outcome, Values, leaves, lengthValue}
+use Rattle.host.specs.Send.{sentLength, sentMessage, sentOutcome}
+use Rattle.host.specs.Arrival.{noTable, withTable, step5, concluded, action}
+use Rattle.host.specs.Calls.{arrived, reported, looked}
 use Rattle.network.specs.Call.{Call, initializes, ticks, adjusts, sets, reads, seconds, sends, arrives, reports, looksUp, perform, messageOf}
 use Rattle.network.specs.Locality.{SameInput, same, same-send, told, Alike, Locality}
 use Rattle.network.proofs.Performs.{guardOf, workOf, perform-is}

@@ -6,8 +6,8 @@ use Prim.Native.Nat.{ℕ, _+_}
 use native.Mathlib.Omega.{arith}
 use lib.IntN.{pos}
 use lib.ListN.{length, take, replicate, length-replicate, length-map}
-use Rattle.quantity.specs.Quantity.{millis, lessMillis}
 use Rattle.laws.proofs.Tests.{both, neither, is-not, is-so}
+use Rattle.quantity.specs.Quantity.{millis, lessMillis}
 use Rattle.answer.specs.declared.Answer.the-variants.{Done, Setting, Lent}
 use Rattle.answer.specs.Answer.{number}
 use Rattle.clock.specs.declared.Clock.{Clock}
@@ -22,24 +22,24 @@ use Rattle.table.specs.declared.Updated.{Updated}
 use Rattle.table.specs.Forms.{every}
 use Rattle.table.specs.Entry.{freshEntry, aged, entryInRange}
 use Rattle.table.specs.Update.{selfReported}
+use Rattle.table.specs.Sweep.{sweep, only}
 use Rattle.table.proofs.Kept.{aged-in-range, self-in-range}
 use Rattle.table.proofs.Kept as kept
-use Rattle.table.specs.Sweep.{sweep, only}
 use Rattle.table.proofs.Ranges.{reading-in}
+use Rattle.table.proofs.Sweeps.{sweep-length, sweep-clock, only-either}
 use Rattle.config.specs.declared.Settings.{Settings}
 use Rattle.config.specs.declared.Links.{Links}
-use Rattle.arrival.specs.declared.Flight.{Flight}
 use Rattle.config.specs.Settings.{settingsGood}
 use Rattle.config.specs.State.{freshLinks, hostCount, withLink, entries, withEntries}
 use Rattle.config.specs.Guard.{noPlaces, linkCount, linkInRange, lentInRange, guard, guardFresh, done}
-use Rattle.host.specs.Outcome.{Outcome}
-use Rattle.arrival.specs.Inspection.{inspect}
-use Rattle.arrival.specs.Steps.{neighborUpdate, reportUpdate, updateId}
-use Rattle.host.specs.Calls.{initialize, reported}
 use Rattle.config.proofs.Places.{Holds, entries-length, withEntries-length, entries-withEntries}
 use Rattle.config.proofs.Guarded.{Counted, counted, passed, passed-link, passed-fresh, holds}
-use Rattle.table.proofs.Sweeps.{sweep-length, sweep-clock, only-either}
 use Rattle.config.proofs.Sound.{Sound, sound}
+use Rattle.arrival.specs.declared.Flight.{Flight}
+use Rattle.arrival.specs.Inspection.{inspect}
+use Rattle.arrival.specs.Steps.{neighborUpdate, reportUpdate, updateId}
+use Rattle.host.specs.Outcome.{Outcome}
+use Rattle.host.specs.Calls.{initialize, reported}
 use Rattle.network.specs.Call.{Call, initializes, ticks, adjusts, sets, reads, seconds, sends, arrives, reports, looksUp, perform}
 use Rattle.network.specs.Range.{Accepted, Range}
 use Rattle.network.proofs.Performs.{guardOf, workOf, performs, sent-ways, reported-ways, looked-ways}

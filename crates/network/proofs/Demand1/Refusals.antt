@@ -14,8 +14,8 @@ use Rattle.config.specs.declared.Settings.{Settings}
 use Rattle.config.specs.declared.Link.{Link}
 use Rattle.config.specs.declared.Links.{Links}
 use Rattle.config.specs.State.{unset, freshLink, linkOf, withLink}
-use Rattle.host.specs.Outcome.{Outcome, Values, leaves, unsent}
 use Rattle.arrival.specs.Inspection.{inspect}
+use Rattle.host.specs.Outcome.{Outcome, Values, leaves, unsent}
 use Rattle.network.specs.Call.{Call, initializes, ticks, adjusts, sets, reads, seconds, sends, arrives, reports, looksUp, perform, lentBuffer}
 use Rattle.network.specs.Refusals.{Unchanged, LinkAlone, Whole, Refusals}
 use Rattle.network.proofs.Performs.{workOf, performs, sent-ways, reported-ways, looked-ways}

@@ -40,21 +40,21 @@ use Rattle.table.specs.Forms.{Stage, on, end}
 use Rattle.table.specs.Entry.{maxDelay, minDelay}
 use Rattle.table.specs.Sweep.{only}
 use Rattle.table.proofs.Cases.{stored, update-keeps}
+use Rattle.table.proofs.Sweeps.{sweep-length}
 use Rattle.config.specs.declared.Settings.{Settings}
 use Rattle.config.specs.declared.Link.{Link}
 use Rattle.config.specs.declared.Links.{Links}
-use Rattle.arrival.specs.declared.Flight.{Flight}
 use Rattle.config.specs.State.{broadcast, linkOf, withLink, entries, hostCount}
 use Rattle.config.specs.Guard.{guardLink}
-use Rattle.host.specs.Outcome.{Outcome}
-use Rattle.arrival.specs.Inspection.{otherLayout, looped, inspected, inspect}
-use Rattle.arrival.specs.Steps.{step2, step3, step4, steps2to4, tspOf, delayOf, offsetOf, atLeastMin, neighborUpdate, reportUpdate, updateId}
-use Rattle.host.specs.Arrival.{noTable, withTable, step5, concluded, action}
-use Rattle.host.specs.Calls.{arrived, arrival}
 use Rattle.config.proofs.Places.{Holds, entries-length}
-use Rattle.table.proofs.Sweeps.{sweep-length}
 use Rattle.config.proofs.Guarded.{passed-link, holds}
 use Rattle.config.proofs.Guarded as guarded
+use Rattle.arrival.specs.declared.Flight.{Flight}
+use Rattle.arrival.specs.Inspection.{otherLayout, looped, inspected, inspect}
+use Rattle.arrival.specs.Steps.{step2, step3, step4, steps2to4, tspOf, delayOf, offsetOf, atLeastMin, neighborUpdate, reportUpdate, updateId}
+use Rattle.host.specs.Outcome.{Outcome}
+use Rattle.host.specs.Arrival.{noTable, withTable, step5, concluded, action}
+use Rattle.host.specs.Calls.{arrived, arrival}
 use Rattle.network.specs.Room.{Room, at, HostAt, Proper}
 use Rattle.network.specs.Demand3.{Message, timed}
 use Rattle.network.proofs.Arrivals.{same-address}

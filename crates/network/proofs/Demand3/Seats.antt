@@ -18,16 +18,16 @@ use Rattle.table.specs.Entry.{freshEntry, takenDown, withTtl, aged}
 use Rattle.table.specs.Update.{ownUpdate}
 use Rattle.table.specs.Sweep.{only}
 use Rattle.table.proofs.Cases.{stored, self-keeps, aged-keeps}
+use Rattle.table.proofs.Sweeps.{sweep-length}
 use Rattle.config.specs.declared.Links.{Links}
 use Rattle.config.specs.Settings.{ownId}
 use Rattle.config.specs.State.{freshLink, freshLinks, hostCount, entries}
 use Rattle.config.specs.Guard.{guard, guardFresh, done}
-use Rattle.host.specs.Outcome.{Outcome}
-use Rattle.host.specs.Calls.{initialize, tick, second, selfReport, reported}
 use Rattle.config.proofs.Places.{Holds, entries-length}
-use Rattle.table.proofs.Sweeps.{sweep-length}
 use Rattle.config.proofs.Guarded.{passed, passed-fresh, holds}
 use Rattle.config.proofs.Guarded as guarded
+use Rattle.host.specs.Outcome.{Outcome}
+use Rattle.host.specs.Calls.{initialize, tick, second, selfReport, reported}
 use Rattle.network.specs.Room.{Room, afresh}
 use Rattle.network.proofs.Lists.{all-replicate, all-map, all-made}
 use Rattle.network.proofs.Swept.{only-keeps}

@@ -28,11 +28,11 @@ use Rattle.config.specs.declared.Link.{Link}
 use Rattle.config.specs.declared.Links.{Links}
 use Rattle.config.specs.State.{unset, freshLink, linkOf, withLink, entries}
 use Rattle.config.specs.Guard.{noLink, guardLink, done}
-use Rattle.host.specs.Outcome.{Outcome}
-use Rattle.plan.specs.Message.{tableGoes, sentTsp, linkSent, packetSent}
-use Rattle.host.specs.Send.{reports, sentMessage, sentLength, sentOutcome, send}
 use Rattle.config.proofs.Guarded.{Passed, passed-link, holds, counted}
 use Rattle.config.proofs.Guarded as guarded
+use Rattle.plan.specs.Message.{tableGoes, sentTsp, linkSent, packetSent}
+use Rattle.host.specs.Outcome.{Outcome}
+use Rattle.host.specs.Send.{reports, sentMessage, sentLength, sentOutcome, send}
 use Rattle.host.proofs.Judged.{clock-lent, entries-lent}
 use Rattle.network.specs.Call.{messageOf}
 use Rattle.network.specs.Room.{Room, at}

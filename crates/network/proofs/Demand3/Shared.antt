@@ -9,18 +9,18 @@ use lib.Dec.{ltb, eqb}
 use lib.ListN.{length, getD}
 use Rattle.laws.proofs.Tests.{either}
 use Rattle.answer.specs.declared.Answer.the-variants.{Done}
+use Rattle.clock.specs.declared.Clock.{Clock}
 use Rattle.table.specs.declared.Entry.{Entry}
 use Rattle.table.specs.Entry.{freshEntry}
 use Rattle.table.specs.Entry as entry
 use Rattle.config.specs.State.{placesPerHost, firstPlace}
-use Rattle.host.specs.Outcome.{Outcome}
 use Rattle.config.specs.Guard.{guardFresh, done}
-use Rattle.host.specs.Calls.{initialize}
 use Rattle.config.specs.declared.Settings.{Settings}
 use Rattle.config.specs.declared.Links.{Links}
-use Rattle.clock.specs.declared.Clock.{Clock}
 use Rattle.config.proofs.Guarded.{passed-fresh, holds}
 use Rattle.config.proofs.Guarded as guarded
+use Rattle.host.specs.Outcome.{Outcome}
+use Rattle.host.specs.Calls.{initialize}
 use Rattle.network.specs.Call.{initializes, perform}
 use Rattle.network.specs.Frame.{Kept, Frame}
 use Rattle.network.specs.History.{Left, places, Holds, leftBy, after}

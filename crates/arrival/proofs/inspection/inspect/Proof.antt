@@ -1,6 +1,6 @@
 use mathlib.Core.Path.{_∙_, sym}
-use Rattle.arrival.specs.Inspection.{inspect}
 use borrow.Author.Needs.{needs}
+use Rattle.arrival.specs.Inspection.{inspect}
 use Rattle.arrival.proofs.inspection.inspect.Statement.{statement}
 use Rattle.arrival.proofs.inspection.inspect.Tie as tie
 

@@ -1,6 +1,6 @@
 use mathlib.Core.Path.{_∙_, sym}
-use Rattle.arrival.specs.Inspection.{looped}
 use borrow.Author.Needs.{needs}
+use Rattle.arrival.specs.Inspection.{looped}
 use Rattle.arrival.proofs.inspection.looped.Statement.{statement}
 use Rattle.arrival.proofs.inspection.looped.Tie as tie
 

@@ -1,6 +1,6 @@
 use borrow.Author.Tests.{eq-eqb, ne-eqb}
-use Rattle.arrival.specs.Inspection.{otherLayout}
 use borrow.Author.Needs.{needs}
+use Rattle.arrival.specs.Inspection.{otherLayout}
 use Rattle.arrival.proofs.inspection.other_layout.Statement.{statement}
 use Rattle.arrival.proofs.inspection.other_layout.Tie as tie
 

@@ -1,5 +1,6 @@
 use mathlib.Core.Path.{_≡_, _∙_, sym, ap, subst}
 use native.Mathlib.Omega.{arith}
+use borrow.Author.Needs.{needs}
 use lib.IntN.{ℤ, _-ℤ_}
 use mir.Syntax.{w16, w64}
 use mir.Val.{SFits}
@@ -11,7 +12,6 @@ use Rattle.quantity.proofs.Wrap.{wrap-range}
 use Rattle.wire.specs.Ranges.{SignedTwo}
 use Rattle.table.proofs.Ranges.{within}
 use Rattle.arrival.specs.Steps.{delayOf}
-use borrow.Author.Needs.{needs}
 use Rattle.arrival.proofs.steps.delay_of.Statement.{statement}
 use Rattle.arrival.proofs.steps.delay_of.Tie as tie
 

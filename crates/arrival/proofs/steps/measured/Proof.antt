@@ -1,5 +1,5 @@
-use Rattle.arrival.specs.Steps.{step2, step3}
 use borrow.Author.Needs.{needs}
+use Rattle.arrival.specs.Steps.{step2, step3}
 use Rattle.arrival.proofs.steps.measured.Statement.{statement}
 use Rattle.arrival.proofs.steps.measured.Tie as tie
 

@@ -1,12 +1,12 @@
 use mathlib.Core.Path.{_∙_, ap}
 use native.Mathlib.Omega.{arith}
+use borrow.Author.Needs.{needs}
 use lib.IntN.{ℤ, _+ℤ_}
 use lib.Signed.{shrZ}
 use mir.Syntax.{w16, w64}
 use mir.Val.{SFits}
 use Rattle.quantity.specs.Words.{toWord}
 use Rattle.quantity.proofs.Ints.{sum, floor, fits, fits-up, fits-dn, of-≤ℤ, of-<ℤ}
-use borrow.Author.Needs.{needs}
 use Rattle.arrival.proofs.steps.offset_of.Statement.{statement}
 use Rattle.arrival.proofs.steps.offset_of.Tie as tie
 

@@ -1,9 +1,9 @@
 use mathlib.Core.Path.{_∙_, sym, ap}
 use borrow.Author.Tests.{eq-eqb, ne-eqb}
+use borrow.Author.Needs.{needs}
 use Rattle.laws.proofs.Tests.{is-not, is-so}
 use Rattle.arrival.specs.declared.Step.the-variants.{On}
 use Rattle.arrival.specs.Steps.{step4}
-use borrow.Author.Needs.{needs}
 use Rattle.arrival.proofs.steps.step4.Statement.{statement}
 use Rattle.arrival.proofs.steps.step4.Tie as tie
 

@@ -1,11 +1,11 @@
 use mathlib.Core.Path.{_∙_, ap}
 use native.Mathlib.Omega.{arith}
+use borrow.Author.Needs.{needs}
 use lib.IntN.{ℤ, _-ℤ_}
 use mir.Syntax.{w64}
 use Rattle.quantity.specs.Words.{toWord}
 use Rattle.quantity.proofs.Ints.{diff, fits, of-≤ℤ, of-<ℤ}
 use Rattle.table.proofs.Ranges.{within}
-use borrow.Author.Needs.{needs}
 use Rattle.arrival.proofs.steps.tsp_of.Statement.{statement}
 use Rattle.arrival.proofs.steps.tsp_of.Tie as tie
 

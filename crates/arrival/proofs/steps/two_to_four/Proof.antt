@@ -1,5 +1,5 @@
-use Rattle.arrival.specs.Steps.{steps2to4}
 use borrow.Author.Needs.{needs}
+use Rattle.arrival.specs.Steps.{steps2to4}
 use Rattle.arrival.proofs.steps.two_to_four.Statement.{statement}
 use Rattle.arrival.proofs.steps.two_to_four.Tie as tie
 

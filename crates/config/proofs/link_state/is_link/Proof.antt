@@ -2,9 +2,9 @@ use mathlib.Core.Path.{_≡_, refl}
 use mathlib.Core.Bool.{Bool, true, false, not}
 use Prim.Native.Nat.{ℕ, _≤_, _<_}
 use borrow.Author.Tests.{eq-eqb, ne-eqb, leb-true, leb-false, le-ltb, lt-ltb}
+use borrow.Author.Needs.{needs}
 use lib.Dec.{ltb, leb}
 use Rattle.config.specs.Guard.{linkCount, noLink}
-use borrow.Author.Needs.{needs}
 use Rattle.config.proofs.link_state.is_link.Statement.{statement}
 use Rattle.config.proofs.link_state.is_link.Tie as tie
 

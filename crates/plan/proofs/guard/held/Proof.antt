@@ -1,8 +1,8 @@
-use Rattle.plan.proofs.Numbers.{number-in}
 use mathlib.Core.Path.{_∙_, sym}
-use Rattle.laws.proofs.Tests.{is-not, is-so}
 use native.Mathlib.Omega.{arith}
 use borrow.Author.Needs.{needs}
+use Rattle.laws.proofs.Tests.{is-not, is-so}
+use Rattle.plan.proofs.Numbers.{number-in}
 use Rattle.plan.proofs.guard.held.Statement.{statement}
 use Rattle.plan.proofs.guard.held.Tie as tie
 

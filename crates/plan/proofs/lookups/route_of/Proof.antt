@@ -1,6 +1,6 @@
 use mathlib.Core.Path.{_∙_, sym}
-use Rattle.laws.proofs.Tests.{is-not, is-so}
 use borrow.Author.Needs.{needs}
+use Rattle.laws.proofs.Tests.{is-not, is-so}
 use Rattle.plan.proofs.lookups.route_of.Statement.{statement}
 use Rattle.plan.proofs.lookups.route_of.Tie as tie
 

@@ -1,5 +1,5 @@
-use Rattle.laws.proofs.Tests.{is-not, is-so}
 use borrow.Author.Needs.{needs}
+use Rattle.laws.proofs.Tests.{is-not, is-so}
 use Rattle.plan.proofs.sending.finish.Statement.{statement}
 use Rattle.plan.proofs.sending.finish.Tie as tie
 

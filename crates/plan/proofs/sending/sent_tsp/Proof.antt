@@ -1,11 +1,11 @@
-use borrow.Author.Tests.{eq-eqb, ne-eqb}
 use native.Mathlib.Omega.{arith}
+use borrow.Author.Tests.{eq-eqb, ne-eqb}
+use borrow.Author.Needs.{needs}
 use lib.IntN.{ℤ, _+ℤ_}
 use mir.Syntax.{w16, w64}
 use mir.Val.{SFits}
 use Rattle.quantity.proofs.Ints.{sum, fits, fits-up, fits-dn}
 use Rattle.table.proofs.Ranges.{within}
-use borrow.Author.Needs.{needs}
 use Rattle.plan.proofs.sending.sent_tsp.Statement.{statement}
 use Rattle.plan.proofs.sending.sent_tsp.Tie as tie
 

@@ -1,14 +1,14 @@
+use mathlib.Core.Path.{_∙_, sym, ap}
+use borrow.Author.Needs.{needs}
 use mir.ValLaws.{toZ-ofZ}
 use mir.Syntax.{w32}
 use mir.Val.{SFits}
+use Rattle.laws.proofs.Tests.{is-not, is-so}
 use Rattle.quantity.specs.Quantity.{millis}
-use Rattle.answer.specs.declared.Answer.the-variants.{Done}
 use Rattle.quantity.specs.declared.Millis.{Millis}
+use Rattle.answer.specs.declared.Answer.the-variants.{Done}
 use Rattle.clock.specs.declared.Clock.{Clock}
 use Rattle.clock.specs.Clock.{setBy}
-use mathlib.Core.Path.{_∙_, sym, ap}
-use Rattle.laws.proofs.Tests.{is-not, is-so}
-use borrow.Author.Needs.{needs}
 use Rattle.plan.proofs.timing.set.Statement.{statement}
 use Rattle.plan.proofs.timing.set.Tie as tie
 

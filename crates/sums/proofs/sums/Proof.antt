@@ -1,10 +1,10 @@
 -- The sums of the blackboard hold, by computing.
 use mathlib.Core.Path.{refl}
 use Rattle.host.specs.Exchange.{aSends, bGets, bAnswers, aGets, learnt}
-use Rattle.host.specs.Sums.{Sums}
+use Rattle.sums.specs.Sums.{Sums}
 use Rattle.host.proofs.Opened.{opened}
-use Rattle.host.proofs.sums.Statement.{statement}
-use Rattle.host.proofs.sums.Tie as tie
+use Rattle.sums.proofs.sums.Statement.{statement}
+use Rattle.sums.proofs.sums.Tie as tie
 
 sums-hold : Sums
 unfolding opened aSends bGets bAnswers aGets learnt
