@@ -1,4 +1,4 @@
--- What the exported calls answer: "A definition sets out this paper's number and values for each of its cases."
+-- What the exported calls answer: ".. a definition sets out this paper's number and values for each of its cases."
 use Prim.Native.Nat.{ℕ}
 use Rattle.answer.specs.Answer.{number}
 use Rattle.plan.specs.declared.Sent.{Sent as PlanSent}

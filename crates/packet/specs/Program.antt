@@ -1,4 +1,4 @@
--- The packet program: "a program reads one packet .. and gives it to link 1 of a fresh host".
+-- "A program reads one packet from standard input, gives it to the one point-to-point link of a fresh seat .. and prints the number": its host, and the number.
 use mathlib.Core.List.{List}
 use Prim.Native.Nat.{ℕ}
 use Rattle.answer.specs.Answer.{number}
