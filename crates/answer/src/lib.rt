@@ -6,18 +6,18 @@ ghost use Rattle.answer.specs.Answer.{number};
 pub enum Answer {
     Done,
     Setting,
-    Buffer,
+    ShortBuffer,
     IpForm,
     IpChecksum,
     Protocol,
     HelloForm,
     HelloChecksum,
-    Layout,
-    Looped,
-    Delay,
-    Unknown,
-    Lent,
-    Down,
+    OtherLayout,
+    LoopedLine,
+    DelayNotValid,
+    NoHost,
+    OutOfRange,
+    HostDown,
 }
 
 // The number of an answer in the table.
@@ -27,18 +27,18 @@ pub fn number(a: Answer) -> u8
     match a {
         Answer::Done => 0,
         Answer::Setting => 1,
-        Answer::Buffer => 2,
+        Answer::ShortBuffer => 2,
         Answer::IpForm => 3,
         Answer::IpChecksum => 4,
         Answer::Protocol => 5,
         Answer::HelloForm => 6,
         Answer::HelloChecksum => 7,
-        Answer::Layout => 8,
-        Answer::Looped => 9,
-        Answer::Delay => 10,
-        Answer::Unknown => 11,
-        Answer::Lent => 12,
-        Answer::Down => 13,
+        Answer::OtherLayout => 8,
+        Answer::LoopedLine => 9,
+        Answer::DelayNotValid => 10,
+        Answer::NoHost => 11,
+        Answer::OutOfRange => 12,
+        Answer::HostDown => 13,
     }
 }
 

@@ -3,7 +3,7 @@ use mathlib.Core.Bool.{Bool, cond, not, _&&_, _||_}
 use mathlib.Core.List.{List}
 use Prim.Native.Nat.{ℕ}
 use lib.Dec.{eqb}
-use Rattle.answer.specs.declared.Answer.the-variants.{Layout, Looped}
+use Rattle.answer.specs.declared.Answer.the-variants.{OtherLayout, LoopedLine}
 use Rattle.wire.specs.declared.Packet.{Packet}
 use Rattle.wire.specs.declared.Parsed.{Parsed}
 use Rattle.wire.specs.declared.Parsed.the-variants.{Good, Bad}
@@ -24,7 +24,7 @@ looped s i p = not (broadcast s i) && sameAddress (p .source) (s .address)
 
 abbrev pub inspected : Settings → (link : ℕ) → Parsed → Parsed
 inspected s i (Bad a) = Bad a
-inspected s i (Good p) = cond (otherLayout s p) (Bad Layout) (cond (looped s i p) (Bad Looped) (Good p))
+inspected s i (Good p) = cond (otherLayout s p) (Bad OtherLayout) (cond (looped s i p) (Bad LoopedLine) (Good p))
 
 unfoldable pub inspect : Settings → (link : ℕ) → (packet : List ℕ) → Parsed
 inspect s i octets = inspected s i (parse octets)

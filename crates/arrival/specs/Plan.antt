@@ -7,7 +7,7 @@ use lib.IntN.{pos}
 use Rattle.quantity.specs.Quantity.{millis, seconds}
 use Rattle.quantity.specs.Words.{word}
 use Rattle.answer.specs.declared.Answer.{Answer}
-use Rattle.answer.specs.declared.Answer.the-variants.{Done, Delay, Unknown}
+use Rattle.answer.specs.declared.Answer.the-variants.{Done, DelayNotValid, NoHost}
 use Rattle.clock.specs.declared.Clock.{Clock}
 use Rattle.clock.specs.declared.Reading.{Reading}
 use Rattle.clock.specs.Clock.{reading}
@@ -71,7 +71,7 @@ updatesOf s k c p u id n table =
     }
 
 abbrev pub noTablePlan : Settings → (number : ℕ) → Clock → Links → (link : ℕ) → Packet → Flight → Found → ArrivalPlan
-noTablePlan s k c l i p f Nothing = ended Unknown c l
+noTablePlan s k c l i p f Nothing = ended NoHost c l
 noTablePlan s k c l i p f (Host id) =
     record { answer = Done; links = l; work = updatesOf s k c p (neighborUpdate i f) id 1 false }
 
@@ -86,7 +86,7 @@ step5Plan s k c l i p f =
     (withTablePlan s k c l i p f)
 
 abbrev pub concludedPlan : Settings → (number : ℕ) → Clock → Links → (link : ℕ) → Packet → Stage Flight → ArrivalPlan
-concludedPlan s k c l i p (end f) = ended Delay c (withLink i (f .link) l)
+concludedPlan s k c l i p (end f) = ended DelayNotValid c (withLink i (f .link) l)
 concludedPlan s k c l i p (on f) = step5Plan s k c (withLink i (f .link) l) i p f
 
 abbrev pub actionPlan : Settings → (number : ℕ) → Reading → Links → (link : ℕ) → Packet → ArrivalPlan

@@ -43,10 +43,10 @@ fn compared(s: Settings, link: usize, p: Packet) -> Parsed
     ensures { λ r. ⌜ (r ≡ inspected s link (Good p)) × TimeFits r ⌝ }
 {
     if other_layout(s, p) {
-        return Parsed::Bad(Answer::Layout);
+        return Parsed::Bad(Answer::OtherLayout);
     }
     if looped(s, link, p) {
-        return Parsed::Bad(Answer::Looped);
+        return Parsed::Bad(Answer::LoopedLine);
     }
     Parsed::Good(p)
 }

@@ -166,7 +166,7 @@ fn no_table(
     ensures { λ r. ⌜ r ≡ noTablePlan s number c l link p f found ⌝ }
 {
     match found {
-        Found::Nothing => ended(Answer::Unknown, c, l),
+        Found::Nothing => ended(Answer::NoHost, c, l),
         Found::Host(id) => {
             let work = updates_of(s, number, c, p, neighbor_update(link, f), id, 1, false);
             ArrivalPlan {
@@ -232,7 +232,7 @@ fn action(s: Settings, number: usize, r: Reading, l: Links, link: usize, p: Pack
 {
     let clock = r.clock;
     match steps::two_to_four(broadcast(s, link), clock.hold, p, r.time, link_of(l, link)) {
-        Step::End(f) => ended(Answer::Delay, clock, with_link(l, link, f.link)),
+        Step::End(f) => ended(Answer::DelayNotValid, clock, with_link(l, link, f.link)),
         Step::On(f) => step5(s, number, clock, with_link(l, link, f.link), link, p, f),
     }
 }
@@ -250,7 +250,7 @@ pub fn plan(
     ensures { λ p. ⌜ p ≡ arrivalPlan g s number c l link (now (packet .entry)) ⌝ }
 {
     if !is_link(s, link) {
-        return ended(Answer::Lent, c, l);
+        return ended(Answer::OutOfRange, c, l);
     }
     if !answer::is_done(g) {
         return ended(g, c, l);

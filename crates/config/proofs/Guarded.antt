@@ -10,7 +10,7 @@ use lib.ListN.{length}
 use Rattle.laws.proofs.Tests.{neither, is-not, is-so}
 use Rattle.laws.proofs.Tests as tests
 use Rattle.answer.specs.declared.Answer.{Answer}
-use Rattle.answer.specs.declared.Answer.the-variants.{Done, Setting, Lent}
+use Rattle.answer.specs.declared.Answer.the-variants.{Done, Setting, OutOfRange}
 use Rattle.clock.specs.declared.Clock.{Clock}
 use Rattle.table.specs.declared.Entry.{Entry}
 use Rattle.config.specs.declared.Settings.{Settings}
@@ -34,7 +34,7 @@ pub record Passed (s : Settings) (k : ℕ) (c : Clock) (l : Links) (run : List E
   pub settings-good : settingsGood s ≡ true
 
 -- the tests as they stand in the guards
-past : (a b : Bool) → done (cond a Lent (cond (not b) Setting Done)) ≡ true → (a ≡ false) × (b ≡ true)
+past : (a b : Bool) → done (cond a OutOfRange (cond (not b) Setting Done)) ≡ true → (a ≡ false) × (b ≡ true)
 past true b e = absurd (false≢true e)
 past false true e = (refl, refl)
 past false false e = absurd (false≢true e)
@@ -52,7 +52,7 @@ pub passed-link : (s : Settings) (k : ℕ) (c : Clock) (l : Links) (run : List E
 unfolding guardLink
 passed-link s k c l run i = go (noLink s i)
   where
-    go : (b : Bool) → done (cond b Lent (guard s k c l run)) ≡ true → (b ≡ false) × Passed s k c l run
+    go : (b : Bool) → done (cond b OutOfRange (guard s k c l run)) ≡ true → (b ≡ false) × Passed s k c l run
     go true e = absurd (false≢true e)
     go false e = (refl, passed s k c l run e)
 

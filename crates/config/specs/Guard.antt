@@ -5,7 +5,7 @@ use Prim.Native.Nat.{ℕ, _+_, min}
 use lib.Dec.{ltb, leb, eqb}
 use lib.ListN.{length, take}
 use Rattle.answer.specs.declared.Answer.{Answer}
-use Rattle.answer.specs.declared.Answer.the-variants.{Done, Setting, Lent}
+use Rattle.answer.specs.declared.Answer.the-variants.{Done, Setting, OutOfRange}
 use Rattle.answer.specs.Answer.{number}
 use Rattle.clock.specs.declared.Clock.{Clock}
 use Rattle.clock.specs.Clock.{clockInRange}
@@ -45,15 +45,15 @@ lentInRange s k c l run =
 
 unfoldable pub guard : Settings → (number : ℕ) → Clock → Links → List Entry → Answer
 guard s k c l run =
-    cond (noPlaces k run || not (lentInRange s k c l run)) Lent (cond (not (settingsGood s)) Setting Done)
+    cond (noPlaces k run || not (lentInRange s k c l run)) OutOfRange (cond (not (settingsGood s)) Setting Done)
 
 -- for a call that names a link
 unfoldable pub guardLink : Settings → (number : ℕ) → Clock → Links → List Entry → (link : ℕ) → Answer
-guardLink s k c l run i = cond (noLink s i) Lent (guard s k c l run)
+guardLink s k c l run i = cond (noLink s i) OutOfRange (guard s k c l run)
 
 -- for setting afresh, which "tests numbers and places only"
 unfoldable pub guardFresh : Settings → (number : ℕ) → List Entry → Answer
-guardFresh s k run = cond (noPlaces k run) Lent (cond (not (settingsGood s)) Setting Done)
+guardFresh s k run = cond (noPlaces k run) OutOfRange (cond (not (settingsGood s)) Setting Done)
 
 abbrev pub done : Answer → Bool
 done a = eqb (number a) 0

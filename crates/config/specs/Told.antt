@@ -3,7 +3,7 @@ use mathlib.Core.Path.{_≡_}
 use mathlib.Core.Bool.{true, cond}
 use Prim.Native.Nat.{ℕ, _≤_}
 use Rattle.answer.specs.declared.Answer.{Answer}
-use Rattle.answer.specs.declared.Answer.the-variants.{Lent}
+use Rattle.answer.specs.declared.Answer.the-variants.{OutOfRange}
 use Rattle.clock.specs.declared.Clock.{Clock}
 use Rattle.clock.specs.Clock.{clockInRange}
 use Rattle.config.specs.declared.Settings.{Settings}
@@ -21,4 +21,4 @@ pub record NumberTold (g : Answer) (s : Settings) (k : ℕ) : Type 0 where
 
 -- a call that names a link: 12 where there is none
 abbrev pub linkAnswer : Answer → Settings → (link : ℕ) → Answer
-linkAnswer g s i = cond (noLink s i) Lent g
+linkAnswer g s i = cond (noLink s i) OutOfRange g

@@ -9,7 +9,7 @@ use lib.Dec.{ltb}
 use lib.ListN.{length}
 use Rattle.laws.proofs.Tests.{either, both, neither}
 use Rattle.answer.specs.declared.Answer.{Answer}
-use Rattle.answer.specs.declared.Answer.the-variants.{Done, Setting, Lent}
+use Rattle.answer.specs.declared.Answer.the-variants.{Done, Setting, OutOfRange}
 use Rattle.clock.specs.declared.Clock.{Clock}
 use Rattle.clock.specs.Clock.{clockInRange}
 use Rattle.table.specs.declared.Entry.{Entry}
@@ -61,7 +61,7 @@ module _ (s : Settings) (k : ℕ) (c : Clock) (l : Links) (run : List Entry) whe
   pub guarded : judged s (allInRange (held s k c l (length run)) run) ≡ guard s k c l run
   unfolding guard noPlaces lentInRange
   guarded =
-      ap (λ (b : Bool). cond b Lent (cond (not (settingsGood s)) Setting Done))
+      ap (λ (b : Bool). cond b OutOfRange (cond (not (settingsGood s)) Setting Done))
       (tested (placesMissing k (length run)) (restInRange s c l))
 
   pub clock-lent : Passed s k c l run → clockInRange c ≡ true

@@ -6,7 +6,7 @@ use Prim.Native.Nat.{ℕ, _+_, _-_, _<_}
 use native.Mathlib.Omega.{arith}
 use lib.ListN.{getD}
 use Rattle.answer.specs.declared.Answer.{Answer}
-use Rattle.answer.specs.declared.Answer.the-variants.{Done, Down, Unknown}
+use Rattle.answer.specs.declared.Answer.the-variants.{Done, HostDown, NoHost}
 use Rattle.clock.specs.declared.Clock.{Clock}
 use Rattle.wire.specs.declared.Address.{Address}
 use Rattle.route.specs.declared.Found.{Found}
@@ -35,7 +35,7 @@ pub record Looked (p : LookPlan) (c : Clock) (l : Links) (run : List Entry) (o :
   pub left : Leaves o c l run
 
 module _ (s : Settings) (k : ℕ) (c : Clock) (l : Links) (run : List Entry) (a : Address) where
-  untouched : Leaves (leaves Unknown c l run) c l run
+  untouched : Leaves (leaves NoHost c l run) c l run
   untouched = record { clock = refl; links = refl; run = refl }
 
   -- the entry of an id that was found
@@ -53,9 +53,9 @@ module _ (s : Settings) (k : ℕ) (c : Clock) (l : Links) (run : List Entry) (a 
       here = getD (entries s k run) id freshEntry
 
       outcome : Bool → Outcome
-      outcome b = cond b (leaves Down c l run) (tells (routeValues id (here .pid)) c l run)
+      outcome b = cond b (leaves HostDown c l run) (tells (routeValues id (here .pid)) c l run)
 
-      told : (b : Bool) → cond b (noRoute Down) record { answer = Done; host = id; pid = here .pid } ≡ routeOf (outcome b)
+      told : (b : Bool) → cond b (noRoute HostDown) record { answer = Done; host = id; pid = here .pid } ≡ routeOf (outcome b)
       told true = refl
       told false = refl
 

@@ -10,7 +10,7 @@ use Rattle.laws.specs.Lists.{part, over}
 use Rattle.laws.proofs.Parts.{over-nothing}
 use Rattle.laws.proofs.Tests.{is-so}
 use Rattle.answer.specs.declared.Answer.{Answer}
-use Rattle.answer.specs.declared.Answer.the-variants.{Delay, Unknown}
+use Rattle.answer.specs.declared.Answer.the-variants.{DelayNotValid, NoHost}
 use Rattle.clock.specs.declared.Clock.{Clock}
 use Rattle.clock.specs.Clock.{reading, clockInRange}
 use Rattle.wire.specs.declared.Packet.{Packet}
@@ -136,7 +136,7 @@ module _ (s : Settings) (k : ℕ) (run : List Entry) (i : ℕ) (packet : List �
 
         neighbor : (x : Found) → ((id : ℕ) → x ≡ Host id → id < hostCount s)
             → Received (noTablePlan s k c l i p f x) run packet (noTable s k c l run i p f x)
-        neighbor Nothing below = no-update Unknown c l
+        neighbor Nothing below = no-update NoHost c l
         neighbor (Host id) below = one id (below id refl)
 
         go : (b : Bool) → eqb (p .nhosts) 0 ≡ b
@@ -155,7 +155,7 @@ module _ (s : Settings) (k : ℕ) (run : List Entry) (i : ℕ) (packet : List �
         (broadcast s i) (reading c .clock .hold) p (reading c .time) (linkOf l i)
         (λ b. fifth good h (reading c .clock) ok _ p _ (measured-short _ p _ _) long ours)
         (λ b n. fifth good h (reading c .clock) ok _ p _ (new-short p (measured (broadcast s i) p (reading c .time) (linkOf l i))) long ours)
-        (λ b n z. no-update Delay (reading c .clock) _)
+        (λ b n z. no-update DelayNotValid (reading c .clock) _)
         (λ b n z. fifth good h (reading c .clock) ok _ p _ (measured-short _ p _ _) long ours)
 
     taken : (q : Parsed) → Fits s packet q → Received (inspectedPlan s k c l i q) run packet (arrived s k c l run i packet q)

@@ -13,7 +13,7 @@ use Rattle.laws.proofs.Tests.{is-so}
 use Rattle.quantity.specs.declared.Millis.{Millis}
 use Rattle.quantity.proofs.Ints.{to-≤ℤ, to-<ℤ}
 use Rattle.answer.specs.declared.Answer.{Answer}
-use Rattle.answer.specs.declared.Answer.the-variants.{Buffer}
+use Rattle.answer.specs.declared.Answer.the-variants.{ShortBuffer}
 use Rattle.clock.specs.declared.Clock.{Clock}
 use Rattle.clock.specs.Midnight.{dayMillis}
 use Rattle.clock.specs.Clock.{reading, clockInRange}
@@ -147,18 +147,18 @@ module _ (s : Settings) (k : ℕ) (c : Clock) (l : Links) (run : List Entry) (i 
 
       plan : Bool → ℕ → SendPlan
       plan b n =
-          cond b (unsentPlan answer c l) (cond (ltb (length buffer) (packetLength n)) (unsentPlan Buffer c l) (sentPlan s k (reading c) l i))
+          cond b (unsentPlan answer c l) (cond (ltb (length buffer) (packetLength n)) (unsentPlan ShortBuffer c l) (sentPlan s k (reading c) l i))
 
       outcome : Bool → Outcome
       outcome b =
           cond b (unsent answer c l run buffer)
-          (cond (ltb (length buffer) (sentLength s i x es)) (unsent Buffer c l run buffer) (sentOutcome s k (reading c) l run i buffer))
+          (cond (ltb (length buffer) (sentLength s i x es)) (unsent ShortBuffer c l run buffer) (sentOutcome s k (reading c) l run i buffer))
 
       -- whether the buffer is too short
       goes : Holds k run → clockInRange c ≡ true → (short : Bool) → ltb (length buffer) (packetLength (length rs)) ≡ short
-          → Written (cond short (unsentPlan Buffer c l) (sentPlan s k (reading c) l i)) run buffer
-          (cond short (unsent Buffer c l run buffer) (sentOutcome s k (reading c) l run i buffer))
-      goes h ok true e = refused Buffer
+          → Written (cond short (unsentPlan ShortBuffer c l) (sentPlan s k (reading c) l i)) run buffer
+          (cond short (unsent ShortBuffer c l run buffer) (sentOutcome s k (reading c) l run i buffer))
+      goes h ok true e = refused ShortBuffer
       goes h ok false e = went h (ltb-false _ _ e) ok
 
       go : (b : Bool) → not (done answer) ≡ b → Written (plan b (reportCount s x)) run buffer (outcome b)

@@ -3,7 +3,7 @@ use mathlib.Core.Bool.{cond}
 use mathlib.Core.List.{List}
 use Prim.Native.Nat.{ℕ}
 use lib.Dec.{eqb}
-use Rattle.answer.specs.declared.Answer.the-variants.{Done, Delay, Unknown}
+use Rattle.answer.specs.declared.Answer.the-variants.{Done, DelayNotValid, NoHost}
 use Rattle.clock.specs.declared.Clock.{Clock}
 use Rattle.clock.specs.declared.Reading.{Reading}
 use Rattle.clock.specs.Clock.{reading}
@@ -25,7 +25,7 @@ use Rattle.arrival.specs.Steps.{steps2to4, neighborUpdate, reportUpdate, update
 
 -- "NHOSTS 0: find the id of NEIGHBOR-ADDRESS, else 11; update it."
 abbrev pub noTable : Settings → (number : ℕ) → Clock → Links → List Entry → (link : ℕ) → Packet → Flight → Found → Outcome
-noTable s k c l run i p f Nothing = leaves Unknown c l run
+noTable s k c l run i p f Nothing = leaves NoHost c l run
 noTable s k c l run i p f (Host id) =
     let w : Swept = sweep 0 (only id (updateId s p (neighborUpdate i f) id)) c (entries s k run) in
     leaves Done (w .clock) l (withEntries k (w .entries) run)
@@ -44,7 +44,7 @@ step5 s k c l run i octets p f =
 
 -- the link is stored as steps 2 to 4 leave it, whether they end with 10 or go on to step 5
 abbrev pub concluded : Settings → (number : ℕ) → Clock → Links → List Entry → (link : ℕ) → (packet : List ℕ) → Packet → Stage Flight → Outcome
-concluded s k c l run i octets p (end f) = leaves Delay c (withLink i (f .link) l) run
+concluded s k c l run i octets p (end f) = leaves DelayNotValid c (withLink i (f .link) l) run
 concluded s k c l run i octets p (on f) = step5 s k c (withLink i (f .link) l) run i octets p f
 
 -- one reading, before HOLD is looked at; its clock is carried on

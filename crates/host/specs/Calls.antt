@@ -4,7 +4,7 @@ use mathlib.Core.List.{List, map}
 use Prim.Native.Nat.{ℕ}
 use lib.ListN.{getD, replicate}
 use Rattle.quantity.specs.declared.Millis.{Millis}
-use Rattle.answer.specs.declared.Answer.the-variants.{Done, Unknown, Down}
+use Rattle.answer.specs.declared.Answer.the-variants.{Done, NoHost, HostDown}
 use Rattle.clock.specs.declared.Clock.{Clock}
 use Rattle.clock.specs.declared.Reading.{Reading}
 use Rattle.clock.specs.Clock.{freshClock, reading, holdSecond}
@@ -87,10 +87,10 @@ selfReport s k c l run =
 
 -- 11 where no id is found, 13 where the host is down
 abbrev pub looked : Clock → Links → List Entry → List Entry → Found → Outcome
-looked c l run es Nothing = leaves Unknown c l run
+looked c l run es Nothing = leaves NoHost c l run
 looked c l run es (Host id) =
     let e : Entry = getD es id freshEntry in
-    cond (not (up e)) (leaves Down c l run) (tells (routeValues id (e .pid)) c l run)
+    cond (not (up e)) (leaves HostDown c l run) (tells (routeValues id (e .pid)) c l run)
 
 unfoldable pub lookup : Settings → (number : ℕ) → Clock → Links → List Entry → Address → Outcome
 lookup s k c l run a =

@@ -6,7 +6,7 @@ use lib.Dec.{ltb}
 use lib.ListN.{length, drop}
 use Rattle.quantity.specs.declared.Millis.{Millis}
 use Rattle.calendar.specs.declared.Date.{Date}
-use Rattle.answer.specs.declared.Answer.the-variants.{Done, Buffer}
+use Rattle.answer.specs.declared.Answer.the-variants.{Done, ShortBuffer}
 use Rattle.clock.specs.declared.Clock.{Clock}
 use Rattle.clock.specs.declared.Reading.{Reading}
 use Rattle.clock.specs.Clock.{reading}
@@ -51,5 +51,5 @@ sentOutcome s k r l run i buffer =
 unfoldable pub send : Settings → (number : ℕ) → Clock → Links → List Entry → (link : ℕ) → (buffer : List ℕ) → Outcome
 send s k c l run i buffer =
     cond (not (done (guardLink s k c l run i))) (unsent (guardLink s k c l run i) c l run buffer)
-    (cond (ltb (length buffer) (sentLength s i (linkOf l i) (entries s k run))) (unsent Buffer c l run buffer)
+    (cond (ltb (length buffer) (sentLength s i (linkOf l i) (entries s k run))) (unsent ShortBuffer c l run buffer)
     (sentOutcome s k (reading c) l run i buffer))

@@ -7,7 +7,7 @@ use borrow.Author.Tests.{eqb-true}
 use lib.Dec.{eqb}
 use Rattle.laws.proofs.Tests.{each}
 use Rattle.answer.specs.declared.Answer.{Answer}
-use Rattle.answer.specs.declared.Answer.the-variants.{Delay, Unknown}
+use Rattle.answer.specs.declared.Answer.the-variants.{DelayNotValid, NoHost}
 use Rattle.clock.specs.declared.Clock.{Clock}
 use Rattle.clock.specs.Clock.{reading}
 use Rattle.wire.specs.declared.Address.{Address}
@@ -64,8 +64,8 @@ module _ (s : Settings) (k : ℕ) (c : Clock) (l : Links) (run : List Entry) (i 
   pub record Ways : Type 0 where
     pub refused : (a : Answer) → P (leaves a c l run)
     pub ended : (f : Flight) → Flown c f → f .link .neighbor ≡ linkOf l i .neighbor
-        → P (leaves Delay (reading c .clock) (withLink i (f .link) l) run)
-    pub unknown : (f : Flight) → Flown c f → P (leaves Unknown (reading c .clock) (withLink i (f .link) l) run)
+        → P (leaves DelayNotValid (reading c .clock) (withLink i (f .link) l) run)
+    pub unknown : (f : Flight) → Flown c f → P (leaves NoHost (reading c .clock) (withLink i (f .link) l) run)
     pub one : (p : Packet) (f : Flight) (id : ℕ) → Flown c f
         → P (noTable s k (reading c .clock) (withLink i (f .link) l) run i p f (Host id))
     pub all : (p : Packet) (f : Flight) → Flown c f

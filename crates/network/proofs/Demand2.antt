@@ -14,7 +14,7 @@ use Rattle.quantity.specs.declared.Word.{Word}
 use Rattle.quantity.proofs.Ints.{to-≤ℤ, to-<ℤ}
 use Rattle.quantity.proofs.Wrap.{wrap-range}
 use Rattle.answer.specs.declared.Answer.{Answer}
-use Rattle.answer.specs.declared.Answer.the-variants.{Done, Layout, Looped}
+use Rattle.answer.specs.declared.Answer.the-variants.{Done, OtherLayout, LoopedLine}
 use Rattle.clock.specs.declared.Clock.{Clock}
 use Rattle.clock.specs.Clock.{reading}
 use Rattle.wire.specs.declared.Packet.{Packet}
@@ -130,28 +130,28 @@ module _ (s : Settings) (k : ℕ) (c : Clock) (l : Links) (run : List Entry) (i 
 
   -- what is left to refuse it
   left : (t : Settings) → t .layout ≡ s .layout → (j : ℕ) (a : Answer)
-      → inspect t j (messageOf (sentOutcome s k (reading c) l run i buffer)) ≡ Bad a → a ≡ Looped
+      → inspect t j (messageOf (sentOutcome s k (reading c) l run i buffer)) ≡ Bad a → a ≡ LoopedLine
   unfolding inspect sentMessage ReadBack
   left t same j a e = go (looped t j p) (sym read ∙ e)
     where
-      read : inspect t j (messageOf (sentOutcome s k (reading c) l run i buffer)) ≡ cond (looped t j p) (Bad Looped) (Good p)
+      read : inspect t j (messageOf (sentOutcome s k (reading c) l run i buffer)) ≡ cond (looped t j p) (Bad LoopedLine) (Good p)
       read =
           ap (λ (o : List ℕ). inspected t j (parse o)) (sent-message s k (reading c) l run i buffer)
           ∙ ap (inspected t j) (message-is-back (x .neighbor) p rs fits)
-          ∙ ap (λ (b : Bool). cond b (Bad Layout) (cond (looped t j p) (Bad Looped) (Good p))) (ours t same)
+          ∙ ap (λ (b : Bool). cond b (Bad OtherLayout) (cond (looped t j p) (Bad LoopedLine) (Good p))) (ours t same)
 
       answer : Parsed → Answer
       answer (Bad b) = b
-      answer (Good q) = Looped
+      answer (Good q) = LoopedLine
 
-      go : (b : Bool) → cond b (Bad Looped) (Good p) ≡ Bad a → a ≡ Looped
+      go : (b : Bool) → cond b (Bad LoopedLine) (Good p) ≡ Bad a → a ≡ LoopedLine
       go true d = ap answer (sym d)
       go false d = ap answer (sym d)
 
 -- what is claimed of a send that leaves this
 abbrev Claim : Settings → Outcome → Type 0
 Claim s o =
-    o .answer ≡ Done → (t : Settings) → t .layout ≡ s .layout → (j : ℕ) (a : Answer) → inspect t j (messageOf o) ≡ Bad a → a ≡ Looped
+    o .answer ≡ Done → (t : Settings) → t .layout ≡ s .layout → (j : ℕ) (a : Answer) → inspect t j (messageOf o) ≡ Bad a → a ≡ LoopedLine
 
 pub heard-holds : Heard
 unfolding Heard perform

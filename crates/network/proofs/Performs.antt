@@ -7,7 +7,7 @@ use lib.Dec.{ltb}
 use lib.ListN.{length, getD, replicate}
 use Rattle.laws.proofs.Tests.{either}
 use Rattle.answer.specs.declared.Answer.{Answer}
-use Rattle.answer.specs.declared.Answer.the-variants.{Done, Buffer, Unknown, Lent, Down}
+use Rattle.answer.specs.declared.Answer.the-variants.{Done, ShortBuffer, NoHost, OutOfRange, HostDown}
 use Rattle.clock.specs.declared.Clock.{Clock}
 use Rattle.clock.specs.Clock.{freshClock, reading, holdSecond}
 use Rattle.clock.specs.Clock as clock
@@ -53,7 +53,7 @@ module _ (s : Settings) (k : ℕ) (c : Clock) (l : Links) (run : List Entry) whe
   workOf reads = tells (timeValues (reading c .time) (reading c .clock .date)) (reading c .clock) l run
   workOf seconds = leaves Done (holdSecond c) l (withEntries k (map aged (entries s k run)) run)
   workOf (sends i buffer) =
-      cond (ltb (length buffer) (sentLength s i (linkOf l i) (entries s k run))) (unsent Buffer c l run buffer)
+      cond (ltb (length buffer) (sentLength s i (linkOf l i) (entries s k run))) (unsent ShortBuffer c l run buffer)
       (sentOutcome s k (reading c) l run i buffer)
   workOf (arrives i packet) = arrived s k c l run i packet (inspect s i packet)
   workOf reports = reported k (reading c) l run (entries s k run) (ownId s)
@@ -83,7 +83,7 @@ module _ (s : Settings) (k : ℕ) (c : Clock) (l : Links) (run : List Entry) whe
   -- ---- the ways that the work of a send, a self-report and a lookup can go
 
   module _ (P : Outcome → Type 0) where
-    pub sent-ways : (i : ℕ) (buffer : List ℕ) → P (unsent Buffer c l run buffer) → P (sentOutcome s k (reading c) l run i buffer)
+    pub sent-ways : (i : ℕ) (buffer : List ℕ) → P (unsent ShortBuffer c l run buffer) → P (sentOutcome s k (reading c) l run i buffer)
         → P (workOf (sends i buffer))
     sent-ways i buffer short sent =
         either P (ltb (length buffer) (sentLength s i (linkOf l i) (entries s k run))) _ _ (λ _. short) (λ _. sent)
@@ -101,24 +101,24 @@ module _ (s : Settings) (k : ℕ) (c : Clock) (l : Links) (run : List Entry) whe
     looked-ways a refused told = go (find (s .address) (s .layout) (s .net) a)
       where
         go : (f : Found) → P (looked c l run (entries s k run) f)
-        go Nothing = refused Unknown
-        go (Host id) = either P (not (up (getD (entries s k run) id freshEntry))) _ _ (λ _. refused Down) (λ _. told _)
+        go Nothing = refused NoHost
+        go (Host id) = either P (not (up (getD (entries s k run) id freshEntry))) _ _ (λ _. refused HostDown) (λ _. told _)
 
   -- ---- a run that does not hold all of the host's places
 
-  guard-lent : noPlaces k run ≡ true → guard s k c l run ≡ Lent
+  guard-lent : noPlaces k run ≡ true → guard s k c l run ≡ OutOfRange
   unfolding guard
   guard-lent e = rw e
 
-  guardLink-lent : (i : ℕ) → noPlaces k run ≡ true → guardLink s k c l run i ≡ Lent
+  guardLink-lent : (i : ℕ) → noPlaces k run ≡ true → guardLink s k c l run i ≡ OutOfRange
   unfolding guardLink
   guardLink-lent i e = go (noLink s i)
     where
-      go : (b : Bool) → cond b Lent (guard s k c l run) ≡ Lent
+      go : (b : Bool) → cond b OutOfRange (guard s k c l run) ≡ OutOfRange
       go true = refl
       go false = guard-lent e
 
-  guards-lent : (x : Call) → noPlaces k run ≡ true → guardOf x ≡ Lent
+  guards-lent : (x : Call) → noPlaces k run ≡ true → guardOf x ≡ OutOfRange
   unfolding guardFresh
   guards-lent initializes e = rw e
   guards-lent ticks e = guard-lent e
@@ -131,5 +131,5 @@ module _ (s : Settings) (k : ℕ) (c : Clock) (l : Links) (run : List Entry) whe
   guards-lent reports e = guard-lent e
   guards-lent (looksUp a) e = guard-lent e
 
-  pub perform-lent : (x : Call) → noPlaces k run ≡ true → perform s k c l run x ≡ unsent Lent c l run (lentBuffer x)
+  pub perform-lent : (x : Call) → noPlaces k run ≡ true → perform s k c l run x ≡ unsent OutOfRange c l run (lentBuffer x)
   perform-lent x e = perform-is x ∙ rw guards-lent

@@ -8,7 +8,7 @@ use lib.Dec.{ltb, eqb}
 use lib.ListN.{length, getD}
 use Rattle.quantity.specs.Words.{zeroWord}
 use Rattle.answer.specs.declared.Answer.{Answer}
-use Rattle.answer.specs.declared.Answer.the-variants.{Done, Setting, Buffer, IpForm, IpChecksum, Protocol, HelloForm, HelloChecksum, Layout, Looped, Delay, Unknown, Lent, Down}
+use Rattle.answer.specs.declared.Answer.the-variants.{Done, Setting, ShortBuffer, IpForm, IpChecksum, Protocol, HelloForm, HelloChecksum, OtherLayout, LoopedLine, DelayNotValid, NoHost, OutOfRange, HostDown}
 use Rattle.clock.specs.declared.Clock.{Clock}
 use Rattle.clock.specs.Clock.{reading}
 use Rattle.wire.specs.declared.Address.{Address}
@@ -56,10 +56,10 @@ badlySet s = not (settingsGood s)
 
 -- 12 and 1, of a call that names no link, and of one that does
 abbrev pub guardTests : Settings → (number : ℕ) → Clock → Links → List Entry → List Test
-guardTests s k c l run = on Lent (badlyLent s k c l run) ∷ on Setting (badlySet s) ∷ []
+guardTests s k c l run = on OutOfRange (badlyLent s k c l run) ∷ on Setting (badlySet s) ∷ []
 
 abbrev pub linkTests : Settings → (number : ℕ) → Clock → Links → List Entry → (link : ℕ) → List Test
-linkTests s k c l run i = on Lent (noLink s i || badlyLent s k c l run) ∷ on Setting (badlySet s) ∷ []
+linkTests s k c l run i = on OutOfRange (noLink s i || badlyLent s k c l run) ∷ on Setting (badlySet s) ∷ []
 
 -- 10: on a point-to-point link, a known neighbour, and a packet TSP of 0 or HOLD not 0
 abbrev pub delayInvalid : Settings → Clock → Link → (link : ℕ) → Packet → Bool
@@ -84,14 +84,14 @@ hostDown es (Host id) = not (up (getD es id freshEntry))
 -- ---- the tests of each call
 
 unfoldable pub tests : Settings → (number : ℕ) → Clock → Links → List Entry → Call → List Test
-tests s k c l run initializes = on Lent (noPlaces k run) ∷ on Setting (badlySet s) ∷ []
+tests s k c l run initializes = on OutOfRange (noPlaces k run) ∷ on Setting (badlySet s) ∷ []
 tests s k c l run ticks = guardTests s k c l run
 tests s k c l run adjusts = guardTests s k c l run
 tests s k c l run (sets ms) = guardTests s k c l run
 tests s k c l run reads = guardTests s k c l run
 tests s k c l run seconds = guardTests s k c l run
 tests s k c l run (sends i buffer) =
-    linkTests s k c l run i ++ on Buffer (ltb (length buffer) (sentLength s i (linkOf l i) (entries s k run))) ∷ []
+    linkTests s k c l run i ++ on ShortBuffer (ltb (length buffer) (sentLength s i (linkOf l i) (entries s k run))) ∷ []
 tests s k c l run (arrives i octets) =
     linkTests s k c l run i
     ++ on IpForm (not (ipForm octets))
@@ -99,16 +99,16 @@ tests s k c l run (arrives i octets) =
     ∷ on Protocol (not (protocol octets))
     ∷ on HelloForm (not (helloForm (helloOf octets)))
     ∷ on HelloChecksum (not (helloChecksum (helloOf octets)))
-    ∷ on Layout (otherLayout s (fields octets))
-    ∷ on Looped (looped s i (fields octets))
-    ∷ on Delay (delayInvalid s c (linkOf l i) i (fields octets))
-    ∷ on Unknown (neighborUnknown s (linkOf l i) i (fields octets))
+    ∷ on OtherLayout (otherLayout s (fields octets))
+    ∷ on LoopedLine (looped s i (fields octets))
+    ∷ on DelayNotValid (delayInvalid s c (linkOf l i) i (fields octets))
+    ∷ on NoHost (neighborUnknown s (linkOf l i) i (fields octets))
     ∷ []
 tests s k c l run reports = guardTests s k c l run
 tests s k c l run (looksUp a) =
     guardTests s k c l run
-    ++ on Unknown (not (isHost (find (s .address) (s .layout) (s .net) a)))
-    ∷ on Down (hostDown (entries s k run) (find (s .address) (s .layout) (s .net) a))
+    ++ on NoHost (not (isHost (find (s .address) (s .layout) (s .net) a)))
+    ∷ on HostDown (hostDown (entries s k run) (find (s .address) (s .layout) (s .net) a))
     ∷ []
 
 unfoldable pub Answers : Type 0

@@ -4,7 +4,7 @@ use mathlib.Core.List.{List}
 use Prim.Native.Nat.{ℕ, _<_, _^_}
 use lib.ListN.{getD}
 use Rattle.answer.specs.declared.Answer.{Answer}
-use Rattle.answer.specs.declared.Answer.the-variants.{Done, Looped}
+use Rattle.answer.specs.declared.Answer.the-variants.{Done, LoopedLine}
 use Rattle.clock.specs.declared.Clock.{Clock}
 use Rattle.clock.specs.Clock.{reading}
 use Rattle.wire.specs.declared.Parsed.the-variants.{Bad}
@@ -31,4 +31,4 @@ Heard =
     (s : Settings) (k : ℕ) (c : Clock) (l : Links) (run : List Entry) (i : ℕ) (buffer : List ℕ) → Typed s k c l run i
     → send s k c l run i buffer .answer ≡ Done
     → (t : Settings) → t .layout ≡ s .layout → (j : ℕ) (a : Answer)
-    → inspect t j (messageOf (send s k c l run i buffer)) ≡ Bad a → a ≡ Looped
+    → inspect t j (messageOf (send s k c l run i buffer)) ≡ Bad a → a ≡ LoopedLine

@@ -2,7 +2,7 @@
 use mathlib.Core.Path.{_≡_}
 use mathlib.Core.List.{List}
 use Prim.Native.Nat.{ℕ}
-use Rattle.answer.specs.declared.Answer.the-variants.{Done, Lent}
+use Rattle.answer.specs.declared.Answer.the-variants.{Done, OutOfRange}
 use Rattle.clock.specs.declared.Clock.{Clock}
 use Rattle.table.specs.declared.Entry.{Entry}
 use Rattle.config.specs.declared.Settings.{Settings}
@@ -14,7 +14,7 @@ use Rattle.network.specs.Call.{Call, perform}
 
 -- 12 does not refuse the host
 abbrev pub Accepted : Settings → (number : ℕ) → Clock → Links → List Entry → Type 0
-Accepted s k c l run = guard s k c l run ≡ Lent → ⊥
+Accepted s k c l run = guard s k c l run ≡ OutOfRange → ⊥
 
 abbrev pub LeavesAccepted : Settings → (number : ℕ) → Outcome → Type 0
 LeavesAccepted s k o = Accepted s k (o .clock) (o .links) (o .run)

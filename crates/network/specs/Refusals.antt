@@ -3,7 +3,7 @@ use mathlib.Core.Path.{_≡_}
 use mathlib.Core.List.{List}
 use Prim.Native.Nat.{ℕ}
 use Rattle.answer.specs.declared.Answer.{Answer}
-use Rattle.answer.specs.declared.Answer.the-variants.{Done, Delay, Unknown}
+use Rattle.answer.specs.declared.Answer.the-variants.{Done, DelayNotValid, NoHost}
 use Rattle.clock.specs.declared.Clock.{Clock}
 use Rattle.table.specs.declared.Entry.{Entry}
 use Rattle.config.specs.declared.Settings.{Settings}
@@ -31,7 +31,7 @@ pub record LinkAlone (c : Clock) (l : Links) (run : List Entry) (i : ℕ) (o : O
 
 -- an answer that refuses with no change: any but 0, and at an arrival 10 and 11
 abbrev pub Whole : Call → Answer → Type 0
-Whole x a = (a ≡ Done → ⊥) × ((i : ℕ) (octets : List ℕ) → x ≡ arrives i octets → (a ≡ Delay → ⊥) × (a ≡ Unknown → ⊥))
+Whole x a = (a ≡ Done → ⊥) × ((i : ℕ) (octets : List ℕ) → x ≡ arrives i octets → (a ≡ DelayNotValid → ⊥) × (a ≡ NoHost → ⊥))
 
 pub record Refusals : Type 0 where
   pub refused :
@@ -40,10 +40,10 @@ pub record Refusals : Type 0 where
   -- 10: "KEEP-ALIVE and TSP only"
   pub delay :
       (s : Settings) (k : ℕ) (c : Clock) (l : Links) (run : List Entry) (i : ℕ) (octets : List ℕ)
-      → perform s k c l run (arrives i octets) .answer ≡ Delay
+      → perform s k c l run (arrives i octets) .answer ≡ DelayNotValid
       → (o : LinkAlone c l run i (perform s k c l run (arrives i octets))) × (o .link .neighbor ≡ linkOf l i .neighbor)
   -- 11 at an arrival: "steps 2 to 4 only", which change the link
   pub unknown :
       (s : Settings) (k : ℕ) (c : Clock) (l : Links) (run : List Entry) (i : ℕ) (octets : List ℕ)
-      → perform s k c l run (arrives i octets) .answer ≡ Unknown
+      → perform s k c l run (arrives i octets) .answer ≡ NoHost
       → LinkAlone c l run i (perform s k c l run (arrives i octets))

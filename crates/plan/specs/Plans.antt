@@ -7,7 +7,7 @@ use lib.ListN.{take}
 use Rattle.quantity.specs.declared.Millis.{Millis}
 use Rattle.quantity.specs.Quantity.{millis}
 use Rattle.answer.specs.declared.Answer.{Answer}
-use Rattle.answer.specs.declared.Answer.the-variants.{Done, Setting, Unknown, Lent, Down}
+use Rattle.answer.specs.declared.Answer.the-variants.{Done, Setting, NoHost, OutOfRange, HostDown}
 use Rattle.clock.specs.declared.Clock.{Clock}
 use Rattle.clock.specs.declared.Reading.{Reading}
 use Rattle.clock.specs.Clock.{freshClock, clockInRange, reading, holdSecond}
@@ -54,7 +54,7 @@ held s k c l n =
     record { first = firstPlace k; end = firstPlace k + hostCount s; good = true })
 
 abbrev pub judged : Settings → (good : Bool) → Answer
-judged s good = cond (not good) Lent (cond (not (settingsGood s)) Setting Done)
+judged s good = cond (not good) OutOfRange (cond (not (settingsGood s)) Setting Done)
 
 -- ---- calls that touch the clock alone
 
@@ -93,7 +93,7 @@ abbrev pub onePlace : (number id : ℕ) → Change → Changes
 onePlace k id change = record { first = firstPlace k + id; end = firstPlace k + id + 1; change = change }
 
 abbrev pub freshGuard : Settings → (number n : ℕ) → Answer
-freshGuard s k n = cond (placesMissing k n) Lent (cond (not (settingsGood s)) Setting Done)
+freshGuard s k n = cond (placesMissing k n) OutOfRange (cond (not (settingsGood s)) Setting Done)
 
 abbrev pub freshPlan : Settings → (number : ℕ) → Clock → Links → (n : ℕ) → FreshPlan
 freshPlan s k c l n =
@@ -122,7 +122,7 @@ abbrev pub noEntry : Seek
 noEntry = record { first = 0; end = 0; entry = freshEntry }
 
 abbrev pub lookAt : (number : ℕ) → Found → LookPlan
-lookAt k Nothing = record { work = noEntry; answer = Unknown; host = 0 }
+lookAt k Nothing = record { work = noEntry; answer = NoHost; host = 0 }
 lookAt k (Host id) =
     record {
       work = record { first = firstPlace k + id; end = firstPlace k + id + 1; entry = freshEntry };
@@ -141,4 +141,4 @@ noRoute a = record { answer = a; host = 0; pid = 0 }
 abbrev pub lookedUp : LookPlan → Entry → Route
 lookedUp p e =
     cond (not (done (p .answer))) (noRoute (p .answer))
-    (cond (not (up e)) (noRoute Down) record { answer = Done; host = p .host; pid = e .pid })
+    (cond (not (up e)) (noRoute HostDown) record { answer = Done; host = p .host; pid = e .pid })

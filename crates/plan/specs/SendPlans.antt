@@ -9,7 +9,7 @@ use lib.ListN.{length}
 use Rattle.quantity.specs.Quantity.{millis}
 use Rattle.quantity.specs.Words.{word}
 use Rattle.answer.specs.declared.Answer.{Answer}
-use Rattle.answer.specs.declared.Answer.the-variants.{Done, Buffer}
+use Rattle.answer.specs.declared.Answer.the-variants.{Done, ShortBuffer}
 use Rattle.clock.specs.declared.Clock.{Clock}
 use Rattle.clock.specs.declared.Reading.{Reading}
 use Rattle.clock.specs.Clock.{reading}
@@ -70,7 +70,7 @@ sentPlan s k r l i =
 abbrev pub sendPlan : Answer → Settings → (number : ℕ) → Clock → Links → (link room : ℕ) → SendPlan
 sendPlan g s k c l i room =
     cond (not (done (linkAnswer g s i))) (unsentPlan (linkAnswer g s i) c l)
-    (cond (ltb room (packetLength (reportCount s (linkOf l i)))) (unsentPlan Buffer c l)
+    (cond (ltb room (packetLength (reportCount s (linkOf l i)))) (unsentPlan ShortBuffer c l)
     (sentPlan s k (reading c) l i))
 
 -- what completing a message asks: its room, and a time that four octets hold

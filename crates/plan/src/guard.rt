@@ -64,7 +64,7 @@ pub fn judged(s: Settings, good: bool) -> Answer
     ensures { λ r. ⌜ r ≡ judged s good ⌝ }
 {
     if !good {
-        return Answer::Lent;
+        return Answer::OutOfRange;
     }
     if !config::good(s) {
         return Answer::Setting;

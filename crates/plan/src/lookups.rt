@@ -37,7 +37,7 @@ fn look_at(number: usize, found: Found) -> LookPlan
     match found {
         Found::Nothing => LookPlan {
             work: no_entry(),
-            answer: Answer::Unknown,
+            answer: Answer::NoHost,
             host: 0,
         },
         Found::Host(id) => {
@@ -89,7 +89,7 @@ pub fn route_of(p: LookPlan, e: Entry) -> Route
         return no_route(a);
     }
     if !table::up(e) {
-        return no_route(Answer::Down);
+        return no_route(Answer::HostDown);
     }
     Route {
         answer: Answer::Done,

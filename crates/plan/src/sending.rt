@@ -177,14 +177,14 @@ pub fn plan(
     ensures { λ p. ⌜ p ≡ sendPlan g s number c l link room ⌝ }
 {
     if !is_link(s, link) {
-        return unsent(Answer::Lent, c, l);
+        return unsent(Answer::OutOfRange, c, l);
     }
     if !answer::is_done(g) {
         return unsent(g, c, l);
     }
     let x = link_of(l, link);
     if room < wire::length(report_count(s, x)) {
-        return unsent(Answer::Buffer, c, l);
+        return unsent(Answer::ShortBuffer, c, l);
     }
     sent(s, number, c.reading(), l, link)
 }

@@ -58,7 +58,7 @@ pub fn initialize(s: Settings, number: usize, c: Clock, l: Links, n: usize) -> F
 {
     if places_missing(number, n) {
         return FreshPlan {
-            answer: Answer::Lent,
+            answer: Answer::OutOfRange,
             clock: c,
             links: l,
             work: idle(),

@@ -6,7 +6,7 @@ use Prim.Native.Nat.{ℕ}
 use lib.Dec.{ltb, eqb}
 use lib.ListN.{length, getD}
 use Rattle.answer.specs.declared.Answer.{Answer}
-use Rattle.answer.specs.declared.Answer.the-variants.{Done, Setting, Buffer, IpForm, IpChecksum, Protocol, HelloForm, HelloChecksum, Layout, Looped, Delay, Unknown, Lent, Down}
+use Rattle.answer.specs.declared.Answer.the-variants.{Done, Setting, ShortBuffer, IpForm, IpChecksum, Protocol, HelloForm, HelloChecksum, OtherLayout, LoopedLine, DelayNotValid, NoHost, OutOfRange, HostDown}
 use Rattle.clock.specs.declared.Clock.{Clock}
 use Rattle.clock.specs.Clock.{reading}
 use Rattle.wire.specs.declared.Packet.{Packet}
@@ -40,26 +40,26 @@ use Rattle.network.proofs.Arrivals.{same-address}
 
 -- 12 and 1, and then what the work answers
 guarded : (a b : Bool) {w r : Answer} → w ≡ r
-    → cond (not (done (cond a Lent (cond b Setting Done)))) (cond a Lent (cond b Setting Done)) w ≡ cond a Lent (cond b Setting r)
+    → cond (not (done (cond a OutOfRange (cond b Setting Done)))) (cond a OutOfRange (cond b Setting Done)) w ≡ cond a OutOfRange (cond b Setting r)
 guarded true b e = refl
 guarded false true e = refl
 guarded false false e = e
 
 -- the same with a link
 guarded-link : (n a b : Bool) {w r : Answer} → w ≡ r
-    → cond (not (done (cond n Lent (cond a Lent (cond b Setting Done))))) (cond n Lent (cond a Lent (cond b Setting Done))) w
-    ≡ cond (n || a) Lent (cond b Setting r)
+    → cond (not (done (cond n OutOfRange (cond a OutOfRange (cond b Setting Done))))) (cond n OutOfRange (cond a OutOfRange (cond b Setting Done))) w
+    ≡ cond (n || a) OutOfRange (cond b Setting r)
 guarded-link true a b e = refl
 guarded-link false a b e = guarded a b e
 
 -- ---- lookup
 
 looked-answer : (c : Clock) (l : Links) (run es : List Entry) (f : Found)
-    → looked c l run es f .answer ≡ cond (not (isHost f)) Unknown (cond (hostDown es f) Down Done)
+    → looked c l run es f .answer ≡ cond (not (isHost f)) NoHost (cond (hostDown es f) HostDown Done)
 looked-answer c l run es Nothing = refl
 looked-answer c l run es (Host id) = go (up (getD es id freshEntry))
   where
-    go : (b : Bool) → cond (not b) (leaves Down c l run) (tells (routeValues id (getD es id freshEntry .pid)) c l run) .answer ≡ cond (not b) Down Done
+    go : (b : Bool) → cond (not b) (leaves HostDown c l run) (tells (routeValues id (getD es id freshEntry .pid)) c l run) .answer ≡ cond (not b) HostDown Done
     go true = refl
     go false = refl
 
@@ -68,12 +68,12 @@ looked-answer c l run es (Host id) = go (up (getD es id freshEntry))
 -- step 5 gives 11 where the packet has no table and its neighbour has no id
 step5-answer : (s : Settings) (k : ℕ) (c : Clock) (l : Links) (run : List Entry) (i : ℕ) (octets : List ℕ) (p : Packet) (f : Flight)
     → step5 s k c l run i octets p f .answer
-    ≡ cond (eqb (p .nhosts) 0 && not (isHost (find (s .address) (s .layout) (s .net) (f .link .neighbor)))) Unknown Done
+    ≡ cond (eqb (p .nhosts) 0 && not (isHost (find (s .address) (s .layout) (s .net) (f .link .neighbor)))) NoHost Done
 unfolding step5
 step5-answer s k c l run i octets p f = go (eqb (p .nhosts) 0) (find (s .address) (s .layout) (s .net) (f .link .neighbor))
   where
     go : (b : Bool) (h : Found)
-        → cond b (noTable s k c l run i p f h) (withTable s k c l run i octets p f) .answer ≡ cond (b && not (isHost h)) Unknown Done
+        → cond b (noTable s k c l run i p f h) (withTable s k c l run i octets p f) .answer ≡ cond (b && not (isHost h)) NoHost Done
     go true Nothing = refl
     go true (Host id) = refl
     go false h = refl
@@ -82,10 +82,10 @@ module _ (s : Settings) (k : ℕ) (c : Clock) (l : Links) (run : List Entry) whe
   -- ---- send
 
   sent-answer : (i : ℕ) (buffer : List ℕ)
-      → workOf s k c l run (sends i buffer) .answer ≡ cond (ltb (length buffer) (sentLength s i (linkOf l i) (entries s k run))) Buffer Done
+      → workOf s k c l run (sends i buffer) .answer ≡ cond (ltb (length buffer) (sentLength s i (linkOf l i) (entries s k run))) ShortBuffer Done
   sent-answer i buffer = go (ltb (length buffer) (sentLength s i (linkOf l i) (entries s k run)))
     where
-      go : (b : Bool) → cond b (unsent Buffer c l run buffer) (sentOutcome s k (reading c) l run i buffer) .answer ≡ cond b Buffer Done
+      go : (b : Bool) → cond b (unsent ShortBuffer c l run buffer) (sentOutcome s k (reading c) l run i buffer) .answer ≡ cond b ShortBuffer Done
       go true = refl
       go false = refl
 
@@ -93,7 +93,7 @@ module _ (s : Settings) (k : ℕ) (c : Clock) (l : Links) (run : List Entry) whe
 
   -- the answer of steps 2 to 5
   abbrev acted : (link : ℕ) → Packet → Answer
-  acted i p = cond (delayInvalid s c (linkOf l i) i p) Delay (cond (neighborUnknown s (linkOf l i) i p) Unknown Done)
+  acted i p = cond (delayInvalid s c (linkOf l i) i p) DelayNotValid (cond (neighborUnknown s (linkOf l i) i p) NoHost Done)
 
   action-answer : (i : ℕ) (octets : List ℕ) (p : Packet) → action s k c l run i octets p .answer ≡ acted i p
   unfolding action step3 step2
@@ -108,8 +108,8 @@ module _ (s : Settings) (k : ℕ) (c : Clock) (l : Links) (run : List Entry) whe
   module _ (i : ℕ) (octets : List ℕ) (p : Packet) where
     -- 8 and 9, and then steps 2 to 5
     ours-answer : (y z : Bool)
-        → arrived s k c l run i octets (cond y (Bad Layout) (cond z (Bad Looped) (Good p))) .answer
-        ≡ cond y Layout (cond z Looped (acted i p))
+        → arrived s k c l run i octets (cond y (Bad OtherLayout) (cond z (Bad LoopedLine) (Good p))) .answer
+        ≡ cond y OtherLayout (cond z LoopedLine (acted i p))
     ours-answer true z = refl
     ours-answer false true = refl
     ours-answer false false = action-answer i octets p
@@ -125,7 +125,7 @@ module _ (s : Settings) (k : ℕ) (c : Clock) (l : Links) (run : List Entry) whe
         (cond u IpChecksum
         (cond v Protocol
         (cond w HelloForm
-        (cond x HelloChecksum (cond (otherLayout s p) Layout (cond (looped s i p) Looped (acted i p)))))))
+        (cond x HelloChecksum (cond (otherLayout s p) OtherLayout (cond (looped s i p) LoopedLine (acted i p)))))))
     arrived-answer true u v w x = refl
     arrived-answer false true v w x = refl
     arrived-answer false false true w x = refl

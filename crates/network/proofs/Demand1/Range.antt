@@ -8,7 +8,7 @@ use lib.IntN.{pos}
 use lib.ListN.{length, take, replicate, length-replicate, length-map}
 use Rattle.laws.proofs.Tests.{both, neither, is-not, is-so}
 use Rattle.quantity.specs.Quantity.{millis, lessMillis}
-use Rattle.answer.specs.declared.Answer.the-variants.{Done, Setting, Lent}
+use Rattle.answer.specs.declared.Answer.the-variants.{Done, Setting, OutOfRange}
 use Rattle.answer.specs.Answer.{number}
 use Rattle.clock.specs.declared.Clock.{Clock}
 use Rattle.clock.specs.Midnight.{dayMillis}
@@ -68,7 +68,7 @@ module _ (s : Settings) (k : ℕ) (c : Clock) (l : Links) (run : List Entry) whe
   unfolding guard
   accepted a = go (noPlaces k run || not (lentInRange s k c l run)) refl a
     where
-      go : (b : Bool) → noPlaces k run || not (lentInRange s k c l run) ≡ b → (cond b Lent (cond (not (settingsGood s)) Setting Done) ≡ Lent → ⊥)
+      go : (b : Bool) → noPlaces k run || not (lentInRange s k c l run) ≡ b → (cond b OutOfRange (cond (not (settingsGood s)) Setting Done) ≡ OutOfRange → ⊥)
           → InRange s k c l run
       go true e h = absurd (h refl)
       go false e h = let n = neither (noPlaces k run) (not (lentInRange s k c l run)) e in parts (n .0) (is-so _ (n .1))
@@ -77,7 +77,7 @@ module _ (s : Settings) (k : ℕ) (c : Clock) (l : Links) (run : List Entry) whe
   unfolding guard lentInRange
   accepts r e = other (settingsGood s) (rw (r .places-there, r .clock-in, r .links-in, r .entries-in) at e)
     where
-      other : (b : Bool) → cond (not b) Setting Done ≡ Lent → ⊥
+      other : (b : Bool) → cond (not b) Setting Done ≡ OutOfRange → ⊥
       other true h = omega (arith, ap number h)
       other false h = omega (arith, ap number h)
 

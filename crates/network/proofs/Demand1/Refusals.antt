@@ -5,7 +5,7 @@ use Prim.Native.Nat.{ℕ, _-_}
 use native.Mathlib.Omega.{arith}
 use lib.Seq.{set-getD}
 use Rattle.answer.specs.declared.Answer.{Answer}
-use Rattle.answer.specs.declared.Answer.the-variants.{Done, Buffer, Delay, Unknown}
+use Rattle.answer.specs.declared.Answer.the-variants.{Done, ShortBuffer, DelayNotValid, NoHost}
 use Rattle.answer.specs.Answer.{number}
 use Rattle.clock.specs.declared.Clock.{Clock}
 use Rattle.clock.specs.Clock.{reading}
@@ -54,7 +54,7 @@ module _ (s : Settings) (k : ℕ) (c : Clock) (l : Links) (run : List Entry) whe
   works (sets ms) = done (sets ms)
   works reads = done reads
   works seconds = done seconds
-  works (sends i buffer) = sent-ways s k c l run (Refuses (sends i buffer)) i buffer (λ w. same Buffer buffer) (done (sends i buffer))
+  works (sends i buffer) = sent-ways s k c l run (Refuses (sends i buffer)) i buffer (λ w. same ShortBuffer buffer) (done (sends i buffer))
   works (arrives i octets) = received i octets
   works reports = reported-ways s k c l run (Refuses reports) (done reports) (λ id. done reports)
   works (looksUp a) = looked-ways s k c l run (Refuses (looksUp a)) a (λ x w. same x []) (λ v. done (looksUp a))
@@ -82,7 +82,7 @@ module _ (s : Settings) (k : ℕ) (c : Clock) (l : Links) (run : List Entry) whe
   module _ (i : ℕ) (octets : List ℕ) where
     -- 10 leaves the link's neighbour too
     Delayed : Outcome → Type 0
-    Delayed o = o .answer ≡ Delay → (u : LinkAlone c l run i o) × (u .link .neighbor ≡ linkOf l i .neighbor)
+    Delayed o = o .answer ≡ DelayNotValid → (u : LinkAlone c l run i o) × (u .link .neighbor ≡ linkOf l i .neighbor)
 
     delayed : Delayed (perform s k c l run (arrives i octets))
     unfolding Delayed alone changed
@@ -92,7 +92,7 @@ module _ (s : Settings) (k : ℕ) (c : Clock) (l : Links) (run : List Entry) whe
         arrived-ways s k c l run i octets Delayed
         record {
           refused = λ a d. (alone i a, refl);
-          ended = λ f g n d. (changed i Delay (f .link), n);
+          ended = λ f g n d. (changed i DelayNotValid (f .link), n);
           unknown = λ f g d. absurd (omega (arith, ap number d));
           one = λ p f id g d. absurd (omega (arith, ap number d));
           all = λ p f g d. absurd (omega (arith, ap number d));
@@ -100,7 +100,7 @@ module _ (s : Settings) (k : ℕ) (c : Clock) (l : Links) (run : List Entry) whe
         (inspect s i octets))
 
     Unfound : Outcome → Type 0
-    Unfound o = o .answer ≡ Unknown → LinkAlone c l run i o
+    Unfound o = o .answer ≡ NoHost → LinkAlone c l run i o
 
     unfound : Unfound (perform s k c l run (arrives i octets))
     unfolding Unfound
@@ -110,8 +110,8 @@ module _ (s : Settings) (k : ℕ) (c : Clock) (l : Links) (run : List Entry) whe
         arrived-ways s k c l run i octets Unfound
         record {
           refused = λ a d. alone i a;
-          ended = λ f g n d. changed i Delay (f .link);
-          unknown = λ f g d. changed i Unknown (f .link);
+          ended = λ f g n d. changed i DelayNotValid (f .link);
+          unknown = λ f g d. changed i NoHost (f .link);
           one = λ p f id g d. absurd (omega (arith, ap number d));
           all = λ p f g d. absurd (omega (arith, ap number d));
         }
