@@ -15,16 +15,16 @@ use Rattle.wire.specs.declared.Packet.{Packet}
 use Rattle.wire.specs.declared.Parsed.{Parsed}
 use Rattle.wire.specs.declared.Parsed.the-variants.{Good, Bad}
 use Rattle.route.specs.declared.Found.{Found}
-use Rattle.route.specs.declared.Found.the-variants.{Host, Nothing}
+use Rattle.route.specs.declared.Found.the-variants.{Id, Nothing}
 use Rattle.route.specs.Find.{find}
 use Rattle.table.specs.declared.Update.{Update}
 use Rattle.table.specs.declared.run.Updates.{Updates}
 use Rattle.table.specs.Forms.{Stage, on, end}
-use Rattle.config.specs.declared.Settings.{Settings}
-use Rattle.config.specs.declared.Links.{Links}
-use Rattle.config.specs.State.{firstPlace, hostCount, broadcast, linkOf, withLink}
-use Rattle.config.specs.Guard.{done}
-use Rattle.config.specs.Told.{linkAnswer}
+use Rattle.host.specs.declared.Settings.{Settings}
+use Rattle.host.specs.declared.Links.{Links}
+use Rattle.host.specs.State.{firstPlace, hostCount, broadcast, linkOf, withLink}
+use Rattle.host.specs.Guard.{done}
+use Rattle.host.specs.Told.{linkAnswer}
 use Rattle.arrival.specs.declared.Flight.{Flight}
 use Rattle.arrival.specs.declared.Step.{Step}
 use Rattle.arrival.specs.declared.Step.the-variants.{On, End}
@@ -72,7 +72,7 @@ updatesOf s k c p u id n table =
 
 abbrev pub noTablePlan : Settings → (number : ℕ) → Clock → Links → (link : ℕ) → Packet → Flight → Found → ArrivalPlan
 noTablePlan s k c l i p f Nothing = ended NoHost c l
-noTablePlan s k c l i p f (Host id) =
+noTablePlan s k c l i p f (Id id) =
     record { answer = Done; links = l; work = updatesOf s k c p (neighborUpdate i f) id 1 false }
 
 abbrev pub withTablePlan : Settings → (number : ℕ) → Clock → Links → (link : ℕ) → Packet → Flight → ArrivalPlan

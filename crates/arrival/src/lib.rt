@@ -5,9 +5,9 @@ ghost use Prim.Native.Nat.{_≤_};
 ghost use Rattle.clock.specs.Midnight.{dayMillis};
 ghost use Rattle.wire.specs.Ranges.{Four};
 ghost use Rattle.table.specs.Entry.{upTo};
-ghost use Rattle.config.specs.Settings.{settingsGood};
-ghost use Rattle.config.specs.State.{hasPlace};
-ghost use Rattle.config.specs.Told.{ClockTold, NumberTold};
+ghost use Rattle.host.specs.Settings.{settingsGood};
+ghost use Rattle.host.specs.State.{hasPlace};
+ghost use Rattle.host.specs.Told.{ClockTold, NumberTold};
 ghost use Rattle.arrival.specs.Steps.{atLeastMin, neighborUpdate};
 ghost use Rattle.arrival.specs.Plan.{
   noUpdates,
@@ -22,14 +22,14 @@ use answer::Answer;
 use calendar::Date;
 use clock::Clock;
 use clock::Reading;
-use config::Links;
-use config::Settings;
-use config::first_place;
-use config::host_count;
-use config::link_state::broadcast;
-use config::link_state::is_link;
-use config::link_state::link_of;
-use config::link_state::with_link;
+use host::Links;
+use host::Settings;
+use host::first_place;
+use host::host_count;
+use host::link_state::broadcast;
+use host::link_state::is_link;
+use host::link_state::link_of;
+use host::link_state::with_link;
 use quantity::Millis;
 use quantity::Seconds;
 use quantity::Word;
@@ -45,7 +45,7 @@ mod steps;
 // An arrival between its steps: our reading, the link as the steps leave it, DELAY and OFFSET.
 pub struct Flight {
     pub reading: quantity::Millis,
-    pub link: config::Link,
+    pub link: host::Link,
     pub delay: quantity::Millis,
     pub offset: quantity::Word,
 }
@@ -167,7 +167,7 @@ fn no_table(
 {
     match found {
         Found::Nothing => ended(Answer::NoHost, c, l),
-        Found::Host(id) => {
+        Found::Id(id) => {
             let work = updates_of(s, number, c, p, neighbor_update(link, f), id, 1, false);
             ArrivalPlan {
                 answer: Answer::Done,

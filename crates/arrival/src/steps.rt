@@ -10,8 +10,8 @@ ghost use Rattle.arrival.specs.Steps.{tspOf, delayOf, offsetOf, newNeigh
 ghost use Rattle.arrival.specs.Plan.{stepOf};
 use super::Flight;
 use super::Step;
-use config::Link;
-use config::link_state::KEEP_ALIVE_INTERVAL;
+use host::Link;
+use host::link_state::KEEP_ALIVE_INTERVAL;
 use quantity::Millis;
 use quantity::Seconds;
 use quantity::Word;

@@ -29,14 +29,14 @@ use Rattle.table.specs.declared.Entry.{Entry}
 use Rattle.table.specs.Forms.{every}
 use Rattle.table.specs.Entry.{freshEntry, advertised, entryInRange}
 use Rattle.table.proofs.Ranges.{range-says, reading-in}
-use Rattle.config.specs.declared.Settings.{Settings}
-use Rattle.config.specs.declared.Link.{Link}
-use Rattle.config.specs.declared.Links.{Links}
-use Rattle.config.specs.State.{linkOf, entries}
-use Rattle.config.specs.Guard.{done}
-use Rattle.config.proofs.Places.{entries-length}
-use Rattle.config.proofs.Sound.{sound}
-use Rattle.config.proofs.Guarded.{Passed, passed-link, holds}
+use Rattle.host.specs.declared.Settings.{Settings}
+use Rattle.host.specs.declared.Link.{Link}
+use Rattle.host.specs.declared.Links.{Links}
+use Rattle.host.specs.State.{linkOf, entries}
+use Rattle.host.specs.Guard.{done}
+use Rattle.host.proofs.Places.{entries-length}
+use Rattle.host.proofs.Sound.{sound}
+use Rattle.host.proofs.Guarded.{Passed, passed-link, holds}
 use Rattle.plan.specs.Message.{tableGoes, sentTsp, packetSent}
 use Rattle.arrival.specs.Inspection.{otherLayout, looped, inspected, inspect}
 use Rattle.host.specs.Outcome.{Outcome}

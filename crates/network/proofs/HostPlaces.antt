@@ -11,9 +11,9 @@ use lib.Seq.{take-take, ext-getD, getD-take, getD-drop}
 use Rattle.clock.specs.declared.Clock.{Clock}
 use Rattle.table.specs.declared.Entry.{Entry}
 use Rattle.table.specs.Entry.{freshEntry}
-use Rattle.config.specs.declared.Settings.{Settings}
-use Rattle.config.specs.declared.Links.{Links}
-use Rattle.config.specs.State.{placesPerHost, firstPlace, hostCount, entries}
+use Rattle.host.specs.declared.Settings.{Settings}
+use Rattle.host.specs.declared.Links.{Links}
+use Rattle.host.specs.State.{placesPerHost, firstPlace, hostCount, entries}
 use Rattle.network.specs.Call.{Call, perform}
 use Rattle.network.specs.Frame.{Kept, Frame}
 use Rattle.network.specs.Locality.{SameInput, Alike, Locality}

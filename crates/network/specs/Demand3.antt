@@ -14,7 +14,7 @@ use Rattle.clock.specs.Midnight.{dayMillis}
 use Rattle.clock.specs.Clock.{reading}
 use Rattle.table.specs.declared.Entry.{Entry}
 use Rattle.table.specs.Entry.{freshEntry, up}
-use Rattle.config.specs.Guard.{done}
+use Rattle.host.specs.Guard.{done}
 use Rattle.host.specs.Outcome.{Outcome}
 use Rattle.network.specs.Call.{Call, messageOf}
 use Rattle.network.specs.History.{Event, State, leftBy, Lends, outcome, after}

@@ -14,9 +14,9 @@ use Rattle.clock.specs.Clock.{freshClock}
 use Rattle.route.specs.Find.{zeroNet}
 use Rattle.table.specs.declared.Entry.{Entry}
 use Rattle.table.specs.Entry.{freshEntry}
-use Rattle.config.specs.declared.Settings.{Settings}
-use Rattle.config.specs.Settings.{clockSettingOff}
-use Rattle.config.specs.State.{unset, freshLinks, placesPerHost}
+use Rattle.host.specs.declared.Settings.{Settings}
+use Rattle.host.specs.Settings.{clockSettingOff}
+use Rattle.host.specs.State.{unset, freshLinks, placesPerHost}
 use Rattle.host.specs.Exchange.{hostAt}
 use Rattle.network.specs.Call.{messageOf}
 use Rattle.network.specs.History.{leftBy}

@@ -7,9 +7,9 @@ use lib.Dec.{ltb, eqb}
 use lib.ListN.{length, take, drop}
 use Rattle.clock.specs.declared.Clock.{Clock}
 use Rattle.table.specs.declared.Entry.{Entry}
-use Rattle.config.specs.declared.Settings.{Settings}
-use Rattle.config.specs.declared.Links.{Links}
-use Rattle.config.specs.State.{placesPerHost, firstPlace}
+use Rattle.host.specs.declared.Settings.{Settings}
+use Rattle.host.specs.declared.Links.{Links}
+use Rattle.host.specs.State.{placesPerHost, firstPlace}
 use Rattle.host.specs.Outcome.{Outcome}
 use Rattle.network.specs.Call.{Call, perform}
 

@@ -8,10 +8,10 @@ use lib.ListN.{length, take}
 use Rattle.answer.specs.declared.Answer.the-variants.{Done}
 use Rattle.clock.specs.declared.Clock.{Clock}
 use Rattle.table.specs.declared.Entry.{Entry}
-use Rattle.config.specs.declared.Settings.{Settings}
-use Rattle.config.specs.declared.Links.{Links}
-use Rattle.config.specs.State.{hostCount}
-use Rattle.config.specs.Guard.{guardFresh}
+use Rattle.host.specs.declared.Settings.{Settings}
+use Rattle.host.specs.declared.Links.{Links}
+use Rattle.host.specs.State.{hostCount}
+use Rattle.host.specs.Guard.{guardFresh}
 use Rattle.host.specs.Outcome.{Outcome}
 use Rattle.network.specs.Call.{Call, initializes, perform}
 use Rattle.network.specs.Locality.{SameInput, Told, told}

@@ -6,9 +6,9 @@ use lib.ListN.{length}
 use Rattle.answer.specs.declared.Answer.{Answer}
 use Rattle.clock.specs.declared.Clock.{Clock}
 use Rattle.table.specs.declared.Entry.{Entry}
-use Rattle.config.specs.declared.Settings.{Settings}
-use Rattle.config.specs.declared.Links.{Links}
-use Rattle.config.specs.State.{entries}
+use Rattle.host.specs.declared.Settings.{Settings}
+use Rattle.host.specs.declared.Links.{Links}
+use Rattle.host.specs.State.{entries}
 use Rattle.host.specs.Outcome.{Outcome, Values}
 use Rattle.network.specs.Call.{Call, sends, perform, messageOf}
 

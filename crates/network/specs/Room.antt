@@ -6,14 +6,14 @@ use Prim.Native.Nat.{ℕ, _≤_, _<_}
 use lib.IntN.{ℤ, _-ℤ_, natAbs}
 use Rattle.answer.specs.declared.Answer.the-variants.{Done}
 use Rattle.clock.specs.declared.Clock.{Clock}
-use Rattle.route.specs.declared.Found.the-variants.{Host}
+use Rattle.route.specs.declared.Found.the-variants.{Id}
 use Rattle.route.specs.Find.{sameNet}
 use Rattle.table.specs.declared.Entry.{Entry}
-use Rattle.config.specs.declared.Settings.{Settings}
-use Rattle.config.specs.declared.Links.{Links}
-use Rattle.config.specs.Settings.{clockSettingOff, ownId}
-use Rattle.config.specs.State.{broadcast}
-use Rattle.config.specs.Guard.{noLink}
+use Rattle.host.specs.declared.Settings.{Settings}
+use Rattle.host.specs.declared.Links.{Links}
+use Rattle.host.specs.Settings.{clockSettingOff, ownId}
+use Rattle.host.specs.State.{broadcast}
+use Rattle.host.specs.Guard.{noLink}
 use Rattle.host.specs.Outcome.{Outcome}
 use Rattle.host.specs.Calls.{initialize}
 

@@ -11,8 +11,8 @@ use Rattle.calendar.specs.declared.Date.{Date}
 use Rattle.wire.specs.declared.Packet.{Packet}
 use Rattle.wire.specs.Octets.{zeroAddress, sameAddress}
 use Rattle.route.specs.Find.{sameNet}
-use Rattle.config.specs.declared.Settings.{Settings}
-use Rattle.config.specs.declared.Link.{Link}
+use Rattle.host.specs.declared.Settings.{Settings}
+use Rattle.host.specs.declared.Link.{Link}
 
 -- "The table goes out when NEIGHBOR-ADDRESS is nonzero and on our net; otherwise NHOSTS is 0."
 abbrev pub tableGoes : Settings → Link → Bool

@@ -3,8 +3,8 @@ use mathlib.Core.Bool.{true, false}
 use borrow.Author.Needs.{needs}
 use Rattle.laws.proofs.Tests.{is-not, is-so}
 use Rattle.table.proofs.Ranges.{reading-in}
-use Rattle.config.specs.Guard.{noLink, done}
-use Rattle.config.proofs.Guarded.{counted}
+use Rattle.host.specs.Guard.{noLink, done}
+use Rattle.host.proofs.Guarded.{counted}
 use Rattle.arrival.proofs.plan.Statement.{statement}
 use Rattle.arrival.proofs.plan.Tie as tie
 

@@ -1,6 +1,6 @@
 use borrow.Author.Tests.{eq-eqb, ne-eqb}
 use borrow.Author.Needs.{needs}
-use Rattle.config.proofs.Found.{find-has-place}
+use Rattle.host.proofs.Found.{find-has-place}
 use Rattle.arrival.proofs.step5.Statement.{statement}
 use Rattle.arrival.proofs.step5.Tie as tie
 

@@ -11,11 +11,11 @@ use Rattle.answer.specs.declared.Answer.the-variants.{Done}
 use Rattle.clock.specs.Clock.{freshClock}
 use Rattle.table.specs.declared.Entry.{Entry}
 use Rattle.table.specs.Entry.{freshEntry}
-use Rattle.config.specs.declared.Settings.{Settings}
-use Rattle.config.specs.State.{hostCount, freshLinks, entries, withEntries}
-use Rattle.config.specs.Guard.{noPlaces, guardFresh}
-use Rattle.config.proofs.Places.{entries-withEntries}
-use Rattle.config.proofs.Guarded.{passed-fresh, holds}
+use Rattle.host.specs.declared.Settings.{Settings}
+use Rattle.host.specs.State.{hostCount, freshLinks, entries, withEntries}
+use Rattle.host.specs.Guard.{noPlaces, guardFresh}
+use Rattle.host.proofs.Places.{entries-withEntries}
+use Rattle.host.proofs.Guarded.{passed-fresh, holds}
 use Rattle.network.specs.Call.{Call, initializes, perform}
 use Rattle.network.specs.Locality.{SameInput, same, same-send, told}
 use Rattle.network.specs.History.{Event, Left, Holds}

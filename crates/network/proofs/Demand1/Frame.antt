@@ -15,12 +15,12 @@ use Rattle.table.specs.Entry.{freshEntry, aged}
 use Rattle.table.specs.Update.{selfReported}
 use Rattle.table.specs.Sweep.{sweep, only}
 use Rattle.table.proofs.Sweeps.{sweep-length}
-use Rattle.config.specs.declared.Settings.{Settings}
-use Rattle.config.specs.declared.Links.{Links}
-use Rattle.config.specs.State.{hostCount, entries, withEntries}
-use Rattle.config.specs.Guard.{guard, guardLink, done}
-use Rattle.config.proofs.Places.{Holds, entries-length, withEntries-length, withEntries-front, withEntries-behind}
-use Rattle.config.proofs.Guarded.{passed, passed-link, passed-fresh, holds}
+use Rattle.host.specs.declared.Settings.{Settings}
+use Rattle.host.specs.declared.Links.{Links}
+use Rattle.host.specs.State.{hostCount, entries, withEntries}
+use Rattle.host.specs.Guard.{guard, guardLink, done}
+use Rattle.host.proofs.Places.{Holds, entries-length, withEntries-length, withEntries-front, withEntries-behind}
+use Rattle.host.proofs.Guarded.{passed, passed-link, passed-fresh, holds}
 use Rattle.arrival.specs.Inspection.{inspect}
 use Rattle.arrival.specs.Steps.{neighborUpdate, reportUpdate, updateId}
 use Rattle.network.specs.Call.{Call, initializes, ticks, adjusts, sets, reads, seconds, sends, arrives, reports, looksUp}

@@ -6,8 +6,8 @@ use Prim.Native.Nat.{ℕ, _+_}
 use borrow.Author.Tests.{ltb-false}
 use lib.Dec.{ltb}
 use lib.ListN.{length, take}
-use Rattle.config.specs.State.{placesPerHost, firstPlace, hostCount, entries}
-use Rattle.config.specs.Guard.{noPlaces}
+use Rattle.host.specs.State.{placesPerHost, firstPlace, hostCount, entries}
+use Rattle.host.specs.Guard.{noPlaces}
 use Rattle.network.specs.Call.{perform}
 use Rattle.network.specs.Frame.{Frame}
 use Rattle.network.specs.Locality.{told, Alike, Locality}

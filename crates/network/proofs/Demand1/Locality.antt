@@ -17,7 +17,7 @@ use Rattle.wire.specs.declared.Parsed.the-variants.{Good, Bad}
 use Rattle.wire.specs.Hello.{reportAt}
 use Rattle.wire.specs.Packet.{helloOf}
 use Rattle.route.specs.declared.Found.{Found}
-use Rattle.route.specs.declared.Found.the-variants.{Host, Nothing}
+use Rattle.route.specs.declared.Found.the-variants.{Id, Nothing}
 use Rattle.route.specs.Find.{find}
 use Rattle.table.specs.declared.Entry.{Entry}
 use Rattle.table.specs.declared.Updated.{Updated}
@@ -26,13 +26,13 @@ use Rattle.table.specs.Entry.{freshEntry, up, aged}
 use Rattle.table.specs.Update.{selfReported}
 use Rattle.table.specs.Sweep.{sweep, only}
 use Rattle.table.proofs.Sweeps.{sweep-length}
-use Rattle.config.specs.declared.Settings.{Settings}
-use Rattle.config.specs.declared.Links.{Links}
-use Rattle.config.specs.Settings.{ownId}
-use Rattle.config.specs.State.{broadcast, hostCount, linkOf, withLink, entries, withEntries}
-use Rattle.config.specs.Guard.{noPlaces, lentInRange, guard, guardLink, guardFresh, done}
-use Rattle.config.proofs.Places.{Holds, entries-length, entries-withEntries}
-use Rattle.config.proofs.Guarded.{passed, passed-link, passed-fresh, holds}
+use Rattle.host.specs.declared.Settings.{Settings}
+use Rattle.host.specs.declared.Links.{Links}
+use Rattle.host.specs.Settings.{ownId}
+use Rattle.host.specs.State.{broadcast, hostCount, linkOf, withLink, entries, withEntries}
+use Rattle.host.specs.Guard.{noPlaces, lentInRange, guard, guardLink, guardFresh, done}
+use Rattle.host.proofs.Places.{Holds, entries-length, entries-withEntries}
+use Rattle.host.proofs.Guarded.{passed, passed-link, passed-fresh, holds}
 use Rattle.arrival.specs.declared.Flight.{Flight}
 use Rattle.arrival.specs.Inspection.{inspect}
 use Rattle.arrival.specs.Steps.{steps2to4, neighborUpdate, reportUpdate, updateId}
@@ -106,7 +106,7 @@ module _ (s : Settings) (k : ℕ) (run run′ : List Entry) (lengths : length ru
       where
         go : (h : Found) → Alike s k (noTable s k c l run i p f h) (noTable s k c l run′ i p f h)
         go Nothing = kept
-        go (Host id) = swept (only id (updateId s p (neighborUpdate i f) id)) c l
+        go (Id id) = swept (only id (updateId s p (neighborUpdate i f) id)) c l
 
         all : Alike s k (withTable s k c l run i octets p f) (withTable s k c l run′ i octets p f)
         all = swept (λ id. updateId s p (reportUpdate i f (reportAt (helloOf octets) id)) id) c l
@@ -126,7 +126,7 @@ module _ (s : Settings) (k : ℕ) (run run′ : List Entry) (lengths : length ru
     self-reported : (c : Clock) (l : Links) (f : Found)
         → Alike s k (reported k (reading c) l run (entries s k run) f) (reported k (reading c) l run′ (entries s k run′) f)
     self-reported c l Nothing = kept
-    self-reported c l (Host id) =
+    self-reported c l (Id id) =
         rw (← same-entries)
         (written _
         (sweep-length 0 (only id (λ d e. record { clock = d; entry = selfReported (reading c .time) e })) (reading c .clock) (entries s k run)
@@ -141,7 +141,7 @@ module _ (s : Settings) (k : ℕ) (run run′ : List Entry) (lengths : length ru
 
     looked-up : (f : Found) → Alike s k (looked c l run (entries s k run) f) (looked c l run′ (entries s k run′) f)
     looked-up Nothing = kept
-    looked-up (Host id) = rw (← same-entries) (chosen (not (up (getD (entries s k run) id freshEntry))) (λ _. kept) (λ _. kept))
+    looked-up (Id id) = rw (← same-entries) (chosen (not (up (getD (entries s k run) id freshEntry))) (λ _. kept) (λ _. kept))
 
     -- a send into buffers of one length
     sent : (i : ℕ) (b d : List ℕ) → length b ≡ length d → Alike s k (workOf s k c l run (sends i b)) (workOf s k c l run′ (sends i d))

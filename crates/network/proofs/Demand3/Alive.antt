@@ -14,7 +14,7 @@ use Rattle.answer.specs.declared.Answer.{Answer}
 use Rattle.clock.specs.Midnight.{dayMillis}
 use Rattle.clock.specs.Clock.{reading}
 use Rattle.route.specs.Find.{sameNet}
-use Rattle.config.specs.Settings.{ownId}
+use Rattle.host.specs.Settings.{ownId}
 use Rattle.host.proofs.Opened.{opened}
 use Rattle.network.specs.Call.{perform, messageOf}
 use Rattle.network.specs.History.{after}

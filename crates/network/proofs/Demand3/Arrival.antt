@@ -32,7 +32,7 @@ use Rattle.wire.specs.Packet.{helloOf, fields, parse}
 use Rattle.wire.proofs.ReadBack.{source-back, nhosts-back, time-back, tsp-back, delay-back, offset-back}
 use Rattle.route.specs.declared.Layout.{Layout}
 use Rattle.route.specs.declared.Found.{Found}
-use Rattle.route.specs.declared.Found.the-variants.{Host, Nothing}
+use Rattle.route.specs.declared.Found.the-variants.{Id, Nothing}
 use Rattle.route.specs.Find.{aboveC, sameNet, localId, find, netOf, search, rowsOf}
 use Rattle.table.specs.declared.Entry.{Entry}
 use Rattle.table.specs.declared.Update.{Update}
@@ -41,14 +41,14 @@ use Rattle.table.specs.Entry.{maxDelay, minDelay}
 use Rattle.table.specs.Sweep.{only}
 use Rattle.table.proofs.Cases.{stored, update-keeps}
 use Rattle.table.proofs.Sweeps.{sweep-length}
-use Rattle.config.specs.declared.Settings.{Settings}
-use Rattle.config.specs.declared.Link.{Link}
-use Rattle.config.specs.declared.Links.{Links}
-use Rattle.config.specs.State.{broadcast, linkOf, withLink, entries, hostCount}
-use Rattle.config.specs.Guard.{guardLink}
-use Rattle.config.proofs.Places.{Holds, entries-length}
-use Rattle.config.proofs.Guarded.{passed-link, holds}
-use Rattle.config.proofs.Guarded as guarded
+use Rattle.host.specs.declared.Settings.{Settings}
+use Rattle.host.specs.declared.Link.{Link}
+use Rattle.host.specs.declared.Links.{Links}
+use Rattle.host.specs.State.{broadcast, linkOf, withLink, entries, hostCount}
+use Rattle.host.specs.Guard.{guardLink}
+use Rattle.host.proofs.Places.{Holds, entries-length}
+use Rattle.host.proofs.Guarded.{passed-link, holds}
+use Rattle.host.proofs.Guarded as guarded
 use Rattle.arrival.specs.declared.Flight.{Flight}
 use Rattle.arrival.specs.Inspection.{otherLayout, looped, inspected, inspect}
 use Rattle.arrival.specs.Steps.{step2, step3, step4, steps2to4, tspOf, delayOf, offsetOf, atLeastMin, neighborUpdate, reportUpdate, updateId}
@@ -102,11 +102,11 @@ same-count s p n e =
     go false false c n t e = absurd (true≢false e)
 
 -- an id that is found for an address of our net is the one that the address gives
-found-own : (ours a : Address) (s : Settings) (id : ℕ) → sameNet ours a ≡ true → find ours (s .layout) (s .net) a ≡ Host id → localId (s .layout) a ≡ Host id
+found-own : (ours a : Address) (s : Settings) (id : ℕ) → sameNet ours a ≡ true → find ours (s .layout) (s .net) a ≡ Id id → localId (s .layout) a ≡ Id id
 unfolding find
 found-own ours a s id net e = go (aboveC a) (sameNet ours a) net e
   where
-    go : (x n : Bool) → n ≡ true → cond x Nothing (cond n (localId (s .layout) a) (search (netOf a) (rowsOf (s .net)))) ≡ Host id → localId (s .layout) a ≡ Host id
+    go : (x n : Bool) → n ≡ true → cond x Nothing (cond n (localId (s .layout) a) (search (netOf a) (rowsOf (s .net)))) ≡ Id id → localId (s .layout) a ≡ Id id
     go true n t e = cc
     go false true t e = e
     go false false t e = absurd (false≢true t)
@@ -161,7 +161,7 @@ module _ (r : Room) (proper : Proper r) (b a : ℕ) (hb : b < r .seats) (ha : a 
     no-table-right : (x : Found) → find (r .settings b .address) (r .settings b .layout) (r .settings b .net) (r .settings a .address) ≡ x
         → RightOutcome r b run (noTable (r .settings b) (r .number b) c l run i p f x)
     no-table-right Nothing e = same-right r b l run _ lent refl refl
-    no-table-right (Host id) e =
+    no-table-right (Id id) e =
         let host : HostAt r id a = ap (λ (y : Layout). localId y (r .settings a .address)) (proper .one-layout a b ha hb) ∙ found-own (r .settings b .address) (r .settings a .address) (r .settings b) id (proper .one-net b a hb ha) e in
         written-right r b Done _ l run _ links there
         (sweep-length 0 (only id _) c (entries (r .settings b) (r .number b) run) ∙ entries-length (r .settings b) (r .number b) run there)
@@ -354,7 +354,7 @@ step5-timed s k c l run i octets p f =
   where
     found : (x : Found) → T (timed (noTable s k c l run i p f x .answer))
     found Nothing = tt
-    found (Host id) = tt
+    found (Id id) = tt
 
 action-timed : (s : Settings) (k : ℕ) (c : Clock) (l : Links) (run : List Entry) (i : ℕ) (octets : List ℕ) (p : Packet)
     → T (timed (action s k c l run i octets p .answer))

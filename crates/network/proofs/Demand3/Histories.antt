@@ -15,14 +15,14 @@ use Rattle.answer.specs.declared.Answer.the-variants.{Done}
 use Rattle.clock.specs.declared.Clock.{Clock}
 use Rattle.table.specs.declared.Entry.{Entry}
 use Rattle.table.specs.Entry.{freshEntry}
-use Rattle.config.specs.State.{hostCount}
-use Rattle.config.specs.Guard.{guardFresh, done}
-use Rattle.config.specs.Settings.{settingsGood}
-use Rattle.config.specs.declared.Settings.{Settings}
-use Rattle.config.specs.declared.Links.{Links}
-use Rattle.config.proofs.Guarded.{passed-fresh}
-use Rattle.config.proofs.Guarded as guarded
-use Rattle.config.proofs.Sound.{Sound, sound}
+use Rattle.host.specs.State.{hostCount}
+use Rattle.host.specs.Guard.{guardFresh, done}
+use Rattle.host.specs.Settings.{settingsGood}
+use Rattle.host.specs.declared.Settings.{Settings}
+use Rattle.host.specs.declared.Links.{Links}
+use Rattle.host.proofs.Guarded.{passed-fresh}
+use Rattle.host.proofs.Guarded as guarded
+use Rattle.host.proofs.Sound.{Sound, sound}
 use Rattle.host.specs.Calls.{initialize}
 use Rattle.host.specs.Outcome.{Outcome}
 use Rattle.network.specs.Call.{perform}

@@ -10,9 +10,9 @@ use Rattle.laws.proofs.Tests.{either}
 use Rattle.answer.specs.declared.Answer.{Answer}
 use Rattle.clock.specs.declared.Clock.{Clock}
 use Rattle.table.specs.declared.Entry.{Entry}
-use Rattle.config.specs.declared.Links.{Links}
-use Rattle.config.specs.State.{placesPerHost, firstPlace, hostCount, entries, withEntries}
-use Rattle.config.proofs.Places.{Holds, withEntries-length, entries-withEntries}
+use Rattle.host.specs.declared.Links.{Links}
+use Rattle.host.specs.State.{placesPerHost, firstPlace, hostCount, entries, withEntries}
+use Rattle.host.proofs.Places.{Holds, withEntries-length, entries-withEntries}
 use Rattle.host.specs.Outcome.{Outcome, leaves}
 use Rattle.network.specs.History.{Left, leftBy, places}
 use Rattle.network.specs.Room.{Room}

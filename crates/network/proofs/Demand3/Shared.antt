@@ -13,12 +13,12 @@ use Rattle.clock.specs.declared.Clock.{Clock}
 use Rattle.table.specs.declared.Entry.{Entry}
 use Rattle.table.specs.Entry.{freshEntry}
 use Rattle.table.specs.Entry as entry
-use Rattle.config.specs.State.{placesPerHost, firstPlace}
-use Rattle.config.specs.Guard.{guardFresh, done}
-use Rattle.config.specs.declared.Settings.{Settings}
-use Rattle.config.specs.declared.Links.{Links}
-use Rattle.config.proofs.Guarded.{passed-fresh, holds}
-use Rattle.config.proofs.Guarded as guarded
+use Rattle.host.specs.State.{placesPerHost, firstPlace}
+use Rattle.host.specs.Guard.{guardFresh, done}
+use Rattle.host.specs.declared.Settings.{Settings}
+use Rattle.host.specs.declared.Links.{Links}
+use Rattle.host.proofs.Guarded.{passed-fresh, holds}
+use Rattle.host.proofs.Guarded as guarded
 use Rattle.host.specs.Outcome.{Outcome}
 use Rattle.host.specs.Calls.{initialize}
 use Rattle.network.specs.Call.{initializes, perform}

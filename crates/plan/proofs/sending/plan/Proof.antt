@@ -3,8 +3,8 @@ use borrow.Author.Tests.{lt-ltb, le-ltb}
 use borrow.Author.Needs.{needs}
 use Rattle.laws.proofs.Tests.{is-not, is-so}
 use Rattle.table.proofs.Ranges.{reading-in}
-use Rattle.config.specs.Guard.{noLink}
-use Rattle.config.proofs.Guarded.{counted}
+use Rattle.host.specs.Guard.{noLink}
+use Rattle.host.proofs.Guarded.{counted}
 use Rattle.plan.proofs.sending.plan.Statement.{statement}
 use Rattle.plan.proofs.sending.plan.Tie as tie
 

@@ -1,0 +1,181 @@
+-- The law of a thin function: `fn Asks(settings: S, number: N, clock: &mut C, links: &mut L, run: &mut [E]) -> K { let q: I = request(); perform(settings, number, clock, links, run, q) }`.
+-- It is one walk of that MIR, for any types and any contracts of the functions that are called. The author shows that each of them is asked for no more than what is known (`ok`), and that what they say comes to what the function says (`then`).
+-- Made by tools/laws/make. Assumes nothing.
+use Rattle.laws.proofs.Walk.{_≡_, refl, ap, ℕ, List, [], _∷_, length, T, URA, fullShare, Name, Fn, named, erased, mut, tyRef, local, valueLocal, place, deref, field, copy, addrOf, aggregate, assign, call, seq, return, Val, vptr, SProp, ent, sep, emp, id⊢, GName, Lft, Share, ftrue, fat, flft, fres, Model, Routine, Env, Heap, Calls, Loops, WpFn, Tables, Closed, Atoms, fact, GhostRules, Running, givenOf, tables, Given, ‵, raw, _⊛_, ⋆, some, later, _$_, _∵_, !, qed, by, move, keep, drop, use0, use1, use3, split, join, pick, rewrite, fsplit, fjoin, feqL, suffices, frame, await, done, look, init, forget, stop, hop, fld, from, load, addr, and-then, no-more, assigns, land, returns, enter, alloc1, alloc0, params1, pass1, pass0, free1, free0, agg, whole-part, sub, look-in, FmC, fmOf, WpFn-mono, RattleType, owns, Is, shows, pointee, RefMutOf, SliceRefMutOf, RefT, MutRef, ptr-vals, mut-tells, sliceVal, sliceTy, slice-vals, MutSlice, Room, finally, mut-slice-tells, Signature, plain, only, owned, peeks, heard, nothing, layout, row, shape, onEntry, Meets, tripleOf, Contract, Triple, calls-at, entered, cited, Ended, Clauses, Lasts, closing, ensured, lasts, Stays, stay-dropped, gave-ref, gave-slice, says, walkOf, goes-dropped, goes-gave-ref, goes-gave-slice, ends-at, walked, walk-meets, yes}
+use Rattle.laws.proofs.Walk.{tablesOf}
+use denote.Struct.Laws as LL
+use Rattle.laws.proofs.Words.{Word, Data, by-value, settled, passed}
+
+module _ (S N I K : Word) (C L E : Data) where
+  abbrev RC : RattleType
+  RC = row (C .S)
+
+  abbrev RL : RattleType
+  RL = row (L .S)
+
+  abbrev RE : RattleType
+  RE = row (E .S)
+
+  abbrev XC : Word
+  XC = by-value C
+
+  abbrev XL : Word
+  XL = by-value L
+
+  abbrev XE : Word
+  XE = by-value E
+
+  abbrev signature₁ : Signature
+  signature₁ = record { lifetimes = 0; outlives = []; params = []; result = plain (λ _. I .row) }
+
+  abbrev ended₁ : Ended
+  ended₁ = record { signature = signature₁; kept = tt }
+
+  abbrev signature₂ : Signature
+  signature₂ = record { lifetimes = 3; outlives = []; params = plain (λ _. S .row) ∷ plain (λ _. N .row) ∷ RefMutOf (0 ∷ []) tt (plain (λ _. RC)) (λ _. tt) ∷ RefMutOf (1 ∷ []) tt (plain (λ _. RL)) (λ _. tt) ∷ SliceRefMutOf (2 ∷ []) tt (plain (λ _. RE)) (λ _. tt) ∷ plain (λ _. I .row) ∷ []; result = plain (λ _. K .row) }
+
+  abbrev ended₂ : Ended
+  ended₂ = record { signature = signature₂; kept = (yes, (yes, (yes, (yes, (yes, (yes, tt)))))) }
+
+  abbrev signature : Signature
+  signature = record { lifetimes = 3; outlives = []; params = plain (λ _. S .row) ∷ plain (λ _. N .row) ∷ RefMutOf (0 ∷ []) tt (plain (λ _. RC)) (λ _. tt) ∷ RefMutOf (1 ∷ []) tt (plain (λ _. RL)) (λ _. tt) ∷ SliceRefMutOf (2 ∷ []) tt (plain (λ _. RE)) (λ _. tt) ∷ []; result = plain (λ _. K .row) }
+
+  abbrev ended : Ended
+  ended = record { signature = signature; kept = (yes, (yes, (yes, (yes, (yes, tt))))) }
+
+  abbrev function : Name → Name → Fn
+  function g₁ g₂ = record {
+    lifetimes = 3;
+    outlives = [];
+    params = 5;
+    locals = local (K .ty) valueLocal ∷ local (S .ty) valueLocal ∷ local (N .ty) valueLocal ∷ local (tyRef (named 0) mut (pointee (RC .written))) valueLocal ∷ local (tyRef (named 1) mut (pointee (RL .written))) valueLocal ∷ local (sliceTy (tyRef (named 2) mut (pointee (RE .written)))) valueLocal ∷ local (I .ty) valueLocal ∷ local (tyRef erased mut (pointee (RC .written))) valueLocal ∷ local (tyRef erased mut (pointee (RL .written))) valueLocal ∷ local (tyRef erased mut (pointee (RE .written))) valueLocal ∷ local (sliceTy (tyRef erased mut (pointee (RE .written)))) valueLocal ∷ [];
+    body = seq (call g₁ ([]) (place 6 []))
+        (seq (assign (place 7 []) (addrOf (place 3 (deref (layout (shape (C .S))) ∷ []))))
+        (seq (assign (place 8 []) (addrOf (place 4 (deref (layout (shape (L .S))) ∷ []))))
+        (seq (assign (place 9 []) (addrOf (place 5 (field 0 ∷ deref (layout (shape (E .S))) ∷ []))))
+        (seq (assign (place 10 []) (aggregate (copy (place 9 []) ∷ copy (place 5 (field 1 ∷ [])) ∷ [])))
+        (seq (call g₂ (copy (place 1 []) ∷ copy (place 2 []) ∷ copy (place 7 []) ∷ copy (place 8 []) ∷ copy (place 10 []) ∷ copy (place 6 []) ∷ []) (place 0 [])) return)))));
+  }
+
+  abbrev stayed : Stays (ended .signature .params) (ended .kept)
+  stayed = (stay-dropped (plain (λ _. S .row)) yes, (stay-dropped (plain (λ _. N .row)) yes, (gave-ref (0 ∷ []) tt (plain (λ _. RC)), (gave-ref (1 ∷ []) tt (plain (λ _. RL)), (gave-slice (2 ∷ []) tt (plain (λ _. RE)), tt)))))
+
+  -- what each callee asks and says, and what the function says
+  module _ {M : Type 1} (𝓤 : URA M) (H : Heap 𝓤) (A : Atoms 𝓤) (asks₁ : SProp 𝓤) (gives₁ : I .row .Denot → Type 0) (asks₂ : S .row .Denot → N .row .Denot → C .S .D → L .S .D → List (E .S .D) → I .row .Denot → SProp 𝓤) (gives₂ : S .row .Denot → N .row .Denot → C .S .D → L .S .D → List (E .S .D) → I .row .Denot → K .row .Denot → C .S .D → L .S .D → List (E .S .D) → Type 0) (Says : S .row .Denot → N .row .Denot → C .S .D → L .S .D → List (E .S .D) → C .S .D → L .S .D → List (E .S .D) → K .row .Denot → Type 0) where
+    abbrev clauses₁ : Clauses 𝓤 ended₁
+    clauses₁ = λ κs a. record { ghost = Unit {0}; requires = λ _. asks₁; ensures = λ _ r e. fact 𝓤 (gives₁ r) }
+
+    abbrev Contract₁ : Contract 𝓤
+    Contract₁ = tripleOf 𝓤 H A signature₁ (closing 𝓤 H A ended₁ clauses₁)
+
+    abbrev clauses₂ : Clauses 𝓤 ended₂
+    clauses₂ = λ κs a. record { ghost = Unit {0}; requires = λ _. asks₂ (a .0) (a .1 .0) (a .1 .1 .0 .now) (a .1 .1 .1 .0 .now) (a .1 .1 .1 .1 .0 .now) (a .1 .1 .1 .1 .1 .0); ensures = λ _ r e. fact 𝓤 (gives₂ (a .0) (a .1 .0) (a .1 .1 .0 .now) (a .1 .1 .1 .0 .now) (a .1 .1 .1 .1 .0 .now) (a .1 .1 .1 .1 .1 .0) r (e .1 .1 .0 .now) (e .1 .1 .1 .0 .now) (e .1 .1 .1 .1 .0 .now)) }
+
+    abbrev Contract₂ : Contract 𝓤
+    Contract₂ = tripleOf 𝓤 H A signature₂ (closing 𝓤 H A ended₂ clauses₂)
+
+    abbrev clauses : Clauses 𝓤 ended
+    clauses = λ κs a. record { ghost = Unit {0}; requires = λ _. emp 𝓤; ensures = λ _ r e. fact 𝓤 (Says (a .0) (a .1 .0) (a .1 .1 .0 .now) (a .1 .1 .1 .0 .now) (a .1 .1 .1 .1 .0 .now) (e .1 .1 .0 .now) (e .1 .1 .1 .0 .now) (e .1 .1 .1 .1 .0 .now) r) }
+
+    module _ (W : Given 𝓤 H A)
+        (ok₁ : (settings : S .row .Denot) (number : N .row .Denot) (clock : C .S .D) (links : L .S .D) (run : List (E .S .D)) → ent 𝓤 (emp 𝓤) (asks₁))
+        (ok₂ : (settings : S .row .Denot) (number : N .row .Denot) (clock : C .S .D) (links : L .S .D) (run : List (E .S .D)) (q : I .row .Denot) → gives₁ q → ent 𝓤 (emp 𝓤) (asks₂ settings number clock links run q))
+        (then : (settings : S .row .Denot) (number : N .row .Denot) (clock : C .S .D) (links : L .S .D) (run : List (E .S .D)) (q : I .row .Denot) (result : K .row .Denot) (clock′ : C .S .D) (links′ : L .S .D) (run′ : List (E .S .D)) → gives₁ q → gives₂ settings number clock links run q result clock′ links′ run′ → Says settings number clock links run clock′ links′ run′ result)
+        (κ₀ κ₁ κ₂ : Lft) (q₀ q₁ q₂ : Share) (b₀ o₀ b₁ o₁ b₂ o₂ : ℕ) (γ₀ γ₁ γ₂ : GName) (settings : S .row .Denot) (number : N .row .Denot) (clock : C .S .D) (links : L .S .D) (run : List (E .S .D)) where
+      abbrev ref₀ : GName → C .S .D → RefT (C .S .D)
+      ref₀ γ x = record { ptr = (b₀, o₀); name = γ; now = x }
+
+      abbrev ref₁ : GName → L .S .D → RefT (L .S .D)
+      ref₁ γ x = record { ptr = (b₁, o₁); name = γ; now = x }
+
+      abbrev ref₂ : GName → List (E .S .D) → RefT (List (E .S .D))
+      ref₂ γ x = record { ptr = (b₂, o₂); name = γ; now = x }
+
+      abbrev x : S .row .Denot × (N .row .Denot × (RefT (C .S .D) × (RefT (L .S .D) × (RefT (List (E .S .D)) × Unit {0}))))
+      x = (settings, (number, (ref₀ γ₀ clock, (ref₁ γ₁ links, (ref₂ γ₂ run, tt)))))
+
+      abbrev at : List Val × (List Val × (List Val × (List Val × (List Val × Unit {0}))))
+      at = (S .val settings ∷ [], (N .val number ∷ [], (vptr b₀ o₀ ∷ [], (vptr b₁ o₁ ∷ [], (slice-vals (ref₂ γ₂ run), tt)))))
+
+      abbrev Post : Val → SProp 𝓤
+      Post = walkOf 𝓤 H A ended stayed clauses .post (((κ₀, (κ₁, (κ₂, tt))), (q₀, (q₁, (q₂, tt))), tt, x, at), tt)
+
+      exits : (clock′ : C .S .D) (links′ : L .S .D) (run′ : List (E .S .D)) (r : K .row .Denot) (v : Val) → length run′ ≡ length run → Says settings number clock links run clock′ links′ run′ r → ent 𝓤 (⋆ 𝓤 H A (‵ (fres γ₀ (RC .coded .code clock′)) ∷ ‵ (fres γ₁ (RL .coded .code links′)) ∷ ‵ (finally RE γ₂ run′) ∷ ‵ (flft κ₀ q₀) ∷ ‵ (flft κ₁ q₁) ∷ ‵ (flft κ₂ q₂) ∷ ‵ (K .row .own r (v ∷ [])) ∷ [])) (Post v)
+      exits clock′ links′ run′ r v len-run φ =
+          qed W (‵ (fres γ₀ (RC .coded .code clock′)) ∷ ‵ (fres γ₁ (RL .coded .code links′)) ∷ ‵ (finally RE γ₂ run′) ∷ ‵ (flft κ₀ q₀) ∷ ‵ (flft κ₁ q₁) ∷ ‵ (flft κ₂ q₂) ∷ ‵ (K .row .own r (v ∷ [])) ∷ []) ∵
+          suffices ! _ (ends-at 𝓤 H A ended stayed clauses W (((κ₀, (κ₁, (κ₂, tt))), (q₀, (q₁, (q₂, tt))), tt, x, at), tt) v r (S .last settings, (N .last number, (clock′, (links′, (run′, tt))))) (tt, (tt, (tt, (tt, (len-run, tt)))))) $ says ! φ $
+          nothing ! $ move ! (6 ∷ 0 ∷ []) $ join ! $ move ! (5 ∷ 0 ∷ []) $ join ! $ move ! (4 ∷ 0 ∷ []) $ join ! $ frame ! $ nothing ! $ move ! (3 ∷ 0 ∷ []) $ fjoin ! $ move ! (2 ∷ 0 ∷ []) $ fjoin ! $
+          move ! (1 ∷ 0 ∷ []) $ fjoin ! $ nothing ! $ fjoin ! $ nothing ! $ fjoin ! $ frame ! $ done !
+
+      module _ (is-settings : Is (S .row) settings (S .val settings ∷ [])) (is-number : Is (N .row) number (N .val number ∷ [])) (room-run : Room RE (length run))
+          (T : Calls 𝓤 H) (Λ : Loops 𝓤 H) (g₁ g₂ : Name) (fm : FmC 𝓤 H (W .laws) T) (known₁ : Triple 𝓤 (T g₁) Contract₁) (known₂ : Triple 𝓤 (T g₂) Contract₂) where
+        walk : ent 𝓤 (sep 𝓤 (onEntry 𝓤 H A signature (κ₀, (κ₁, (κ₂, tt))) (q₀, (q₁, (q₂, tt))) x at) (emp 𝓤)) (WpFn 𝓤 H T Λ (function g₁ g₂) (S .val settings ∷ N .val number ∷ vptr b₀ o₀ ∷ vptr b₁ o₁ ∷ sliceVal (b₂, o₂) (length run) ∷ []) Post)
+        walk =
+            qed W (((‵ (flft κ₀ q₀) ⊛ ‵ (flft κ₁ q₁) ⊛ ‵ (flft κ₂ q₂) ⊛ ‵ ftrue) ⊛ ‵ (owns (S .row ∷ N .row ∷ MutRef (named 0) κ₀ RC ∷ MutRef (named 1) κ₁ RL ∷ MutSlice (named 2) κ₂ RE ∷ []) x at)) ∷ raw (emp 𝓤) ∷ []) ∵
+            split ! $ move ! (2 ∷ []) $ drop ! $ split ! $ move ! (1 ∷ []) $ split ! $ move ! (1 ∷ []) $ split ! $ move ! (1 ∷ []) $ drop ! $ move ! (3 ∷ []) $ fsplit ! $ drop ! $ fsplit ! $ drop ! $ fsplit ! $
+            move ! (1 ∷ []) $ fsplit ! $ move ! (1 ∷ []) $ fsplit ! $ move ! (1 ∷ []) $ drop ! $
+            enter ! T Λ (function g₁ g₂) (S .val settings ∷ N .val number ∷ vptr b₀ o₀ ∷ vptr b₁ o₁ ∷ sliceVal (b₂, o₂) (length run) ∷ []) _ $ alloc1 ! (λ z₀. alloc1 ! (λ z₁. alloc1 ! (λ z₂. alloc1 ! (λ z₃.
+            alloc1 ! (λ z₄. alloc1 ! (λ z₅. alloc1 ! (λ z₆. alloc1 ! (λ z₇. alloc1 ! (λ z₈. alloc1 ! (λ z₉. alloc1 ! (λ z₁₀. alloc0 ! $ params1 ! $
+            pass1 ! (init ! 18 refl (S .typed M 𝓤 H A W settings _ is-settings)) $ pass1 ! (init ! 16 refl (N .typed M 𝓤 H A W number _ is-number)) $ pass1 ! (init ! 14 refl (tt, tt)) $
+            pass1 ! (init ! 12 refl (tt, tt)) $ pass1 ! (init ! 10 refl (tt, (tt, (record { fits = room-run .0 }, tt)))) $ pass0 ! $
+            -- request
+            nothing ! $ nothing ! $ use0 W (raw (asks₁)) (ok₁ settings number clock links run) $ move ! (2 ∷ 1 ∷ 0 ∷ []) $
+            use3 W (raw (Contract₁ .pre ((tt, tt, tt, tt, tt), tt))) (passed 𝓤 H A signature₁ tt tt tt tt (asks₁)) $ calls-at ! fm Contract₁ known₁ ((tt, tt, tt, tt, tt), tt) (no-more !) (λ v₁.
+            use1 W (later (some (λ (q : I .row .Denot). (‵ ftrue ⊛ ‵ (I .row .own q (v₁ ∷ []))) ⊛ raw (ensured 𝓤 H A ended₁ clauses₁ tt tt tt q)))) (id⊢ 𝓤 _) $ await ! tt $ pick ! (λ q. split ! $ split ! $
+            drop ! $ move ! (1 ∷ []) $ use1 W (some (λ (ends₁ : Lasts ended₁ tt tt). ‵ (lasts ended₁ tt tt ends₁) ⊛ raw (fact 𝓤 (gives₁ q)))) (id⊢ 𝓤 _) $ pick ! (λ ends₁. split ! $ move ! (1 ∷ []) $
+            heard ! (gives₁ q) (λ φ₁. drop ! $ peeks ! (I .row) (Is (I .row)) (shows 𝓤 H A (I .row)) q (v₁ ∷ []) (λ said-q. drop ! $ land ! (from ! (stop !)) (init ! 8 refl (I .typed M 𝓤 H A W q _ said-q)) $
+            rewrite ! 8 (λ (u : Val). ‵ (fat fullShare (I .ty) z₆ 0 u)) (ap only (I .tells q (v₁ ∷ []) said-q)) refl $
+            -- perform
+            assigns ! (addr ! (from ! (hop ! (look ! 14 refl) (stop !)))) (from ! (stop !)) (init ! 6 refl (tt, tt)) $
+            assigns ! (addr ! (from ! (hop ! (look ! 12 refl) (stop !)))) (from ! (stop !)) (init ! 4 refl (tt, tt)) $
+            assigns ! (addr ! (from ! (fld ! refl (hop ! (look-in ! 10 (sub ! 0 refl (whole-part !))) (stop !))))) (from ! (stop !)) (init ! 2 refl (tt, tt)) $
+            assigns ! (agg ! (and-then ! (load ! (from ! (stop !)) (look ! 2 refl)) (and-then ! (load ! (from ! (fld ! refl (stop !))) (look-in ! 10 (sub ! 1 refl (whole-part !)))) (no-more !)))) (from ! (stop !)) (init ! 0 refl (tt, (tt, (record { fits = room-run .0 }, tt)))) $
+            nothing ! $ move ! (26 ∷ 0 ∷ []) $ join ! $ move ! (26 ∷ 0 ∷ []) $ join ! $ move ! (26 ∷ 0 ∷ []) $ join ! $ nothing ! $
+            owned ! (I .row) (Is (I .row)) (I .makes M 𝓤 H A W) q (I .val q ∷ []) (settled I q v₁ said-q) $ fjoin ! $ move ! (24 ∷ 0 ∷ []) $ fjoin ! $ move ! (24 ∷ 0 ∷ []) $ fjoin ! $ move ! (24 ∷ 0 ∷ []) $
+            fjoin ! $ owned ! (N .row) (Is (N .row)) (N .makes M 𝓤 H A W) number (N .val number ∷ []) is-number $ fjoin ! $
+            owned ! (S .row) (Is (S .row)) (S .makes M 𝓤 H A W) settings (S .val settings ∷ []) is-settings $ fjoin ! $
+            use0 W (raw (asks₂ settings number clock links run q)) (ok₂ settings number clock links run q φ₁) $ move ! (2 ∷ 1 ∷ 0 ∷ []) $
+            use3 W (raw (Contract₂ .pre (((κ₀, (κ₁, (κ₂, tt))), (q₀, (q₁, (q₂, tt))), tt, (settings, (number, (ref₀ γ₀ clock, (ref₁ γ₁ links, (ref₂ γ₂ run, (q, tt)))))), (S .val settings ∷ [], (N .val number ∷ [], (vptr b₀ o₀ ∷ [], (vptr b₁ o₁ ∷ [], (slice-vals (ref₂ γ₂ run), (I .val q ∷ [], tt))))))), tt))) (passed 𝓤 H A signature₂ (κ₀, (κ₁, (κ₂, tt))) (q₀, (q₁, (q₂, tt))) (settings, (number, (ref₀ γ₀ clock, (ref₁ γ₁ links, (ref₂ γ₂ run, (q, tt)))))) (S .val settings ∷ [], (N .val number ∷ [], (vptr b₀ o₀ ∷ [], (vptr b₁ o₁ ∷ [], (slice-vals (ref₂ γ₂ run), (I .val q ∷ [], tt)))))) (asks₂ settings number clock links run q)) $
+            calls-at ! fm Contract₂ known₂ (((κ₀, (κ₁, (κ₂, tt))), (q₀, (q₁, (q₂, tt))), tt, (settings, (number, (ref₀ γ₀ clock, (ref₁ γ₁ links, (ref₂ γ₂ run, (q, tt)))))), (S .val settings ∷ [], (N .val number ∷ [], (vptr b₀ o₀ ∷ [], (vptr b₁ o₁ ∷ [], (slice-vals (ref₂ γ₂ run), (I .val q ∷ [], tt))))))), tt) (and-then ! (load ! (from ! (stop !)) (look ! 19 refl)) (and-then ! (load ! (from ! (stop !)) (look ! 17 refl)) (and-then ! (load ! (from ! (stop !)) (look ! 7 refl)) (and-then ! (load ! (from ! (stop !)) (look ! 5 refl)) (and-then ! (load ! (from ! (stop !)) (look ! 1 refl)) (and-then ! (load ! (from ! (stop !)) (look ! 9 refl)) (no-more !))))))) (λ v₂.
+            use1 W (later (some (λ (result : K .row .Denot). ((‵ (flft κ₀ q₀) ⊛ ‵ (flft κ₁ q₁) ⊛ ‵ (flft κ₂ q₂) ⊛ ‵ ftrue) ⊛ ‵ (K .row .own result (v₂ ∷ []))) ⊛ raw (ensured 𝓤 H A ended₂ clauses₂ (κ₀, (κ₁, (κ₂, tt))) (settings, (number, (ref₀ γ₀ clock, (ref₁ γ₁ links, (ref₂ γ₂ run, (q, tt)))))) tt result)))) (id⊢ 𝓤 _) $ await ! tt $
+            pick ! (λ result. split ! $ split ! $ split ! $ move ! (1 ∷ []) $ split ! $ move ! (1 ∷ []) $ split ! $ move ! (1 ∷ []) $ drop ! $ move ! (4 ∷ []) $
+            use1 W (some (λ (ends₂ : Lasts ended₂ (κ₀, (κ₁, (κ₂, tt))) (settings, (number, (ref₀ γ₀ clock, (ref₁ γ₁ links, (ref₂ γ₂ run, (q, tt))))))). ‵ (lasts ended₂ (κ₀, (κ₁, (κ₂, tt))) (settings, (number, (ref₀ γ₀ clock, (ref₁ γ₁ links, (ref₂ γ₂ run, (q, tt)))))) ends₂) ⊛ raw (fact 𝓤 (gives₂ settings number clock links run q result (ends₂ .1 .1 .0) (ends₂ .1 .1 .1 .0) (ends₂ .1 .1 .1 .1 .0))))) (id⊢ 𝓤 _) $
+            pick ! (λ ends₂. split ! $ move ! (1 ∷ []) $ heard ! (gives₂ settings number clock links run q result (ends₂ .1 .1 .0) (ends₂ .1 .1 .1 .0) (ends₂ .1 .1 .1 .1 .0)) (λ φ₂. fsplit ! $ drop ! $ fsplit ! $
+            drop ! $ fsplit ! $ move ! (1 ∷ []) $ fsplit ! $ move ! (1 ∷ []) $ fsplit ! $ fsplit ! $ move ! (1 ∷ []) $ feqL ! (λ len₂. move ! (1 ∷ []) $ fsplit ! $ drop ! $ drop ! $ move ! (6 ∷ []) $
+            peeks ! (K .row) (Is (K .row)) (shows 𝓤 H A (K .row)) result (v₂ ∷ []) (λ said-result. drop ! $ land ! (from ! (stop !)) (init ! 26 refl (K .typed M 𝓤 H A W result _ said-result)) $
+            rewrite ! 26 (λ (u : Val). ‵ (fat fullShare (K .ty) z₀ 0 u)) (ap only (K .tells result (v₂ ∷ []) said-result)) refl $
+            -- the locals are freed
+            returns ! (look ! 26 refl) $ forget ! 6 refl $ forget ! 8 refl $ forget ! 10 refl $ forget ! 12 refl $ forget ! 14 refl $ forget ! 16 refl $ forget ! 18 refl $ forget ! 20 refl $ forget ! 22 refl $
+            forget ! 24 refl $ forget ! 26 refl $ move ! (26 ∷ 27 ∷ []) $ free1 ! $ move ! (24 ∷ 25 ∷ []) $ free1 ! $ move ! (22 ∷ 23 ∷ []) $ free1 ! $ move ! (20 ∷ 21 ∷ []) $ free1 ! $ move ! (18 ∷ 19 ∷ []) $
+            free1 ! $ move ! (16 ∷ 17 ∷ []) $ free1 ! $ move ! (14 ∷ 15 ∷ []) $ free1 ! $ move ! (12 ∷ 13 ∷ []) $ free1 ! $ move ! (10 ∷ 11 ∷ []) $ free1 ! $ move ! (8 ∷ 9 ∷ []) $ free1 ! $ move ! (6 ∷ 7 ∷ []) $
+            free1 ! $ free0 ! $ owned ! (K .row) (Is (K .row)) (K .makes M 𝓤 H A W) result (K .val result ∷ []) (settled K result v₂ said-result) $ keep ! (3 ∷ 2 ∷ 1 ∷ 6 ∷ 5 ∷ 4 ∷ 0 ∷ []) $
+            by ! (exits (ends₂ .1 .1 .0) (ends₂ .1 .1 .1 .0) (ends₂ .1 .1 .1 .1 .0) result (K .val result) len₂ (then settings number clock links run q result (ends₂ .1 .1 .0) (ends₂ .1 .1 .1 .0) (ends₂ .1 .1 .1 .1 .0) φ₁ φ₂))))))))))))))))))))))))
+
+  -- γ is the function's `code.env`, f and the others are the keys
+  module _ {M : Type 1} (𝓤 : URA M) (H : Heap 𝓤) (𝓜 : Model 𝓤 H) (𝓖 : GhostRules 𝓤 H) (𝓡 : Running 𝓤 H 𝓜) (asks₁ : SProp 𝓤) (gives₁ : I .row .Denot → Type 0) (asks₂ : S .row .Denot → N .row .Denot → C .S .D → L .S .D → List (E .S .D) → I .row .Denot → SProp 𝓤) (gives₂ : S .row .Denot → N .row .Denot → C .S .D → L .S .D → List (E .S .D) → I .row .Denot → K .row .Denot → C .S .D → L .S .D → List (E .S .D) → Type 0) (Says : S .row .Denot → N .row .Denot → C .S .D → L .S .D → List (E .S .D) → C .S .D → L .S .D → List (E .S .D) → K .row .Denot → Type 0)
+      (ok₁ : (settings : S .row .Denot) (number : N .row .Denot) (clock : C .S .D) (links : L .S .D) (run : List (E .S .D)) → ent 𝓤 (emp 𝓤) (asks₁))
+      (ok₂ : (settings : S .row .Denot) (number : N .row .Denot) (clock : C .S .D) (links : L .S .D) (run : List (E .S .D)) (q : I .row .Denot) → gives₁ q → ent 𝓤 (emp 𝓤) (asks₂ settings number clock links run q))
+      (then : (settings : S .row .Denot) (number : N .row .Denot) (clock : C .S .D) (links : L .S .D) (run : List (E .S .D)) (q : I .row .Denot) (result : K .row .Denot) (clock′ : C .S .D) (links′ : L .S .D) (run′ : List (E .S .D)) → gives₁ q → gives₂ settings number clock links run q result clock′ links′ run′ → Says settings number clock links run clock′ links′ run′ result)
+      (γ : Env) (f g₁ g₂ : Name) (r₁ r₂ : Routine) where
+    abbrev Clauses′ : Clauses 𝓤 ended
+    Clauses′ = clauses 𝓤 H (𝓖 .A) asks₁ gives₁ asks₂ gives₂ Says
+
+    meets : (W : Given 𝓤 H (𝓖 .A)) (𝓣 : Tables 𝓤 H) → Triple 𝓤 (𝓣 .C g₁) (Contract₁ 𝓤 H (𝓖 .A) asks₁ gives₁ asks₂ gives₂ Says) → Triple 𝓤 (𝓣 .C g₂) (Contract₂ 𝓤 H (𝓖 .A) asks₁ gives₁ asks₂ gives₂ Says) → Meets 𝓤 H (𝓖 .A) signature (WpFn 𝓤 H (𝓣 .C) (𝓣 .Λ) (function g₁ g₂)) (closing 𝓤 H (𝓖 .A) ended Clauses′)
+    meets W 𝓣 known₁ known₂ =
+        walk-meets 𝓤 H (𝓖 .A) ended stayed W
+        (goes-dropped 𝓤 H (𝓖 .A) W 3 (plain (λ _. S .row)) yes (λ κs. S .silent), (goes-dropped 𝓤 H (𝓖 .A) W 3 (plain (λ _. N .row)) yes (λ κs. N .silent), (goes-gave-ref 𝓤 H (𝓖 .A) W 3 0 tt (plain (λ _. RC)), (goes-gave-ref 𝓤 H (𝓖 .A) W 3 1 tt (plain (λ _. RL)), (goes-gave-slice 𝓤 H (𝓖 .A) W 3 2 tt (plain (λ _. RE)), tt)))))
+        Clauses′ (WpFn 𝓤 H (𝓣 .C) (𝓣 .Λ) (function g₁ g₂)) (WpFn-mono 𝓤 H (W .laws) 𝓣 (function g₁ g₂))
+        (walked 𝓤 H (𝓖 .A) ended stayed Clauses′ (WpFn 𝓤 H (𝓣 .C) (𝓣 .Λ) (function g₁ g₂)) (λ κs. ((λ m. S .val m ∷ []), ((λ m. N .val m ∷ []), (ptr-vals, (ptr-vals, (slice-vals, tt))))))
+        (λ κs. (S .tells, (N .tells, (mut-tells (named 0) (κs .0) RC, (mut-tells (named 1) (κs .1 .0) RL, (mut-slice-tells (named 2) (κs .1 .1 .0) RE, tt))))))
+        (λ κs qs bounds a _ are. walk 𝓤 H (𝓖 .A) asks₁ gives₁ asks₂ gives₂ Says W ok₁ ok₂ then
+        (κs .0) (κs .1 .0) (κs .1 .1 .0) (qs .0) (qs .1 .0) (qs .1 .1 .0) (a .1 .1 .0 .ptr .0) (a .1 .1 .0 .ptr .1) (a .1 .1 .1 .0 .ptr .0) (a .1 .1 .1 .0 .ptr .1) (a .1 .1 .1 .1 .0 .ptr .0) (a .1 .1 .1 .1 .0 .ptr .1) (a .1 .1 .0 .name) (a .1 .1 .1 .0 .name) (a .1 .1 .1 .1 .0 .name) (a .0) (a .1 .0) (a .1 .1 .0 .now) (a .1 .1 .1 .0 .now) (a .1 .1 .1 .1 .0 .now) (are .0) (are .1 .0) (are .1 .1 .1 .1 .0 .0 .1)
+        (𝓣 .C) (𝓣 .Λ) g₁ g₂ (fmOf 𝓤 H (W .laws) 𝓣) known₁ known₂))
+
+    pub proof : γ g₁ ≡ r₁ → γ g₂ ≡ r₂ → Closed 𝓤 H (tables 𝓤 H 𝓜 𝓡 γ .C) (tables 𝓤 H 𝓜 𝓡 γ .Λ) f (function g₁ g₂) → Triple 𝓤 (𝓡 .run r₁) (Contract₁ 𝓤 H (𝓖 .A) asks₁ gives₁ asks₂ gives₂ Says) → Triple 𝓤 (𝓡 .run r₂) (Contract₂ 𝓤 H (𝓖 .A) asks₁ gives₁ asks₂ gives₂ Says)
+        → Meets 𝓤 H (𝓖 .A) signature (𝓡 .run (γ f)) (closing 𝓤 H (𝓖 .A) ended Clauses′)
+    unfolding tablesOf
+    proof calls₁ calls₂ closed known₁ known₂ =
+        entered 𝓤 H (tripleOf 𝓤 H (𝓖 .A) signature (closing 𝓤 H (𝓖 .A) ended Clauses′)) (tables 𝓤 H 𝓜 𝓡 γ .C) (tables 𝓤 H 𝓜 𝓡 γ .Λ) f (function g₁ g₂) closed
+        (meets (givenOf 𝓤 H 𝓜 𝓖) (tablesOf 𝓤 H 𝓜 (tables 𝓤 H 𝓜 𝓡 γ))
+        (cited 𝓤 H (Contract₁ 𝓤 H (𝓖 .A) asks₁ gives₁ asks₂ gives₂ Says) 𝓜 𝓡 γ g₁ r₁ calls₁ known₁)
+        (cited 𝓤 H (Contract₂ 𝓤 H (𝓖 .A) asks₁ gives₁ asks₂ gives₂ Says) 𝓜 𝓡 γ g₂ r₂ calls₂ known₂))
