@@ -21,7 +21,7 @@ use Rattle.table.specs.Update.{plusReport, update}
 use Rattle.host.specs.declared.Link.{Link}
 use Rattle.arrival.specs.declared.Flight.{Flight}
 use Rattle.host.specs.declared.Settings.{Settings}
-use Rattle.host.specs.Guard.{keepAliveInterval}
+use Rattle.host.specs.State.{keepAliveInterval}
 
 -- "2. KEEP-ALIVE becomes 4."
 unfoldable pub step2 : Flight → Flight

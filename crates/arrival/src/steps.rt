@@ -7,7 +7,7 @@ ghost use Rattle.clock.specs.Midnight.{dayMillis};
 ghost use Rattle.wire.specs.Ranges.{SignedTwo, Four};
 ghost use Rattle.table.specs.Entry.{upTo};
 ghost use Rattle.arrival.specs.Steps.{tspOf, delayOf, offsetOf, newNeighbor, step4, measured, steps2to4};
-ghost use Rattle.arrival.specs.Plan.{stepOf};
+ghost use Rattle.arrival.specs.code.Plan.{stepOf};
 use super::Flight;
 use super::Step;
 use host::Link;

@@ -17,7 +17,7 @@ use Rattle.table.specs.Forms.{every}
 use Rattle.table.specs.Entry.{entryInRange}
 use Rattle.host.specs.declared.Settings.{Settings}
 use Rattle.host.specs.declared.guard.Scope.{Scope}
-use Rattle.host.specs.declared.guard.Scope.the-variants.{Places, All, Link}
+use Rattle.host.specs.declared.guard.Scope.the-variants.{Places, All, OnLink}
 use Rattle.host.specs.Settings.{linkCount, settingsGood}
 use Rattle.host.specs.State.{placesPerHost, firstPlace}
 use Rattle.host.specs.Lent.{Lent, entriesOf, hostInRange, lentInRange}
@@ -37,7 +37,7 @@ pub record Passed (a : Scope) (x : Lent) : Type 0 where
   pub places : noPlaces (x .host .number) (x .run) ≡ false
   pub settings : settingsGood (x .host .settings) ≡ true
   pub lent : afresh a ≡ false → lentInRange x ≡ true
-  pub link : (i : ℕ) → a ≡ Link i → noLink (x .host .settings) i ≡ false
+  pub link : (i : ℕ) → a ≡ OnLink i → noLink (x .host .settings) i ≡ false
 
 -- the tests as they stand in the guard
 past : (a b : Bool) → done (cond a OutOfRange (cond (not b) Setting Done)) ≡ true → (a ≡ false) × (b ≡ true)
@@ -55,7 +55,7 @@ module _ (x : Lent) where
   within All e good =
       let n = neither missing (not (lentInRange x)) e in
       record { places = n .0; settings = good; lent = λ _. is-so _ (n .1); link = λ i f. (let z : _≡_ {A = ℕ} 0 1 = cc in absurd (omega arith)) }
-  within (Link i) e good =
+  within (OnLink i) e good =
       let o = neither (noLink (x .host .settings) i) (missing || not (lentInRange x)) e in
       let n = neither missing (not (lentInRange x)) (o .1) in
       record { places = n .0; settings = good; lent = λ _. is-so _ (n .1); link = λ j f. (let same : i ≡ j = cc in rw (sym same) (o .0)) }

@@ -17,7 +17,7 @@ use Rattle.table.specs.Runs.{InRun, allInRange}
 use Rattle.host.specs.declared.Settings.{Settings}
 use Rattle.host.specs.declared.Host.{Host}
 use Rattle.host.specs.declared.guard.Scope.{Scope}
-use Rattle.host.specs.declared.guard.Scope.the-variants.{Places, All, Link}
+use Rattle.host.specs.declared.guard.Scope.the-variants.{Places, All, OnLink}
 use Rattle.host.specs.Settings.{settingsGood}
 use Rattle.host.specs.State.{placesPerHost, firstPlace, hostCount, entries}
 use Rattle.host.specs.Lent.{Lent, entriesOf, hostInRange, lentInRange}
@@ -56,7 +56,7 @@ module _ (x : Lent) where
   for-in : (a : Scope) → placesMissing k (length run) ≡ false → There (scanFor a h)
   for-in Places there = nowhere
   for-in All there = whole-in there
-  for-in (Link i) there = either There (noLink s i) (settled false) (wholeScan h) (λ _. nowhere) (λ _. whole-in there)
+  for-in (OnLink i) there = either There (noLink s i) (settled false) (wholeScan h) (λ _. nowhere) (λ _. whole-in there)
 
   pub held-in : (a : Scope) → There (held a h (length run))
   held-in a = either There (placesMissing k (length run)) (settled false) (scanFor a h) (λ _. nowhere) (for-in a)
@@ -84,12 +84,12 @@ module _ (x : Lent) where
   tested Places false e = rw (known true, e)
   tested All true e = rw (known false, e)
   tested All false e = rw (whole-scanned, e)
-  tested (Link i) true e = rw (known false, e) (go (noLink s i))
+  tested (OnLink i) true e = rw (known false, e) (go (noLink s i))
     where
       go : (b : Bool) → true ≡ (b || true)
       go true = refl
       go false = refl
-  tested (Link i) false e = rw e (go (noLink s i))
+  tested (OnLink i) false e = rw e (go (noLink s i))
     where
       go : (b : Bool) → not (allInRange (cond b (settled false) (wholeScan h)) run) ≡ (b || (false || not (lentInRange x)))
       go true = rw (known false)

@@ -10,7 +10,7 @@ use Rattle.answer.specs.Answer.{number}
 use Rattle.table.specs.declared.Entry.{Entry}
 use Rattle.host.specs.declared.Settings.{Settings}
 use Rattle.host.specs.declared.guard.Scope.{Scope}
-use Rattle.host.specs.declared.guard.Scope.the-variants.{Places, All, Link}
+use Rattle.host.specs.declared.guard.Scope.the-variants.{Places, All, OnLink}
 use Rattle.host.specs.Settings.{linkCount, settingsGood}
 use Rattle.host.specs.State.{placesPerHost, firstPlace}
 use Rattle.host.specs.Lent.{Lent, lentInRange}
@@ -27,7 +27,7 @@ noLink s i = eqb i 0 || ltb (linkCount s) i
 abbrev pub outOfRange : Scope → Lent → Bool
 outOfRange Places x = noPlaces (x .host .number) (x .run)
 outOfRange All x = noPlaces (x .host .number) (x .run) || not (lentInRange x)
-outOfRange (Link i) x = noLink (x .host .settings) i || (noPlaces (x .host .number) (x .run) || not (lentInRange x))
+outOfRange (OnLink i) x = noLink (x .host .settings) i || (noPlaces (x .host .number) (x .run) || not (lentInRange x))
 
 -- 12, then 1, and Done where the call may go on
 unfoldable pub guard : Scope → Lent → Answer

@@ -2,10 +2,12 @@
 use mathlib.Core.Bool.{Bool, _&&_}
 use mathlib.Core.List.{List}
 use lib.ListN.{take}
+use Rattle.clock.specs.declared.Clock.{Clock}
 use Rattle.clock.specs.Clock.{clockInRange}
 use Rattle.table.specs.declared.Entry.{Entry}
 use Rattle.table.specs.Forms.{every}
 use Rattle.table.specs.Entry.{entryInRange}
+use Rattle.host.specs.declared.Links.{Links}
 use Rattle.host.specs.declared.Host.{Host}
 use Rattle.host.specs.Settings.{linkCount}
 use Rattle.host.specs.State.{linkInRange, entries}
@@ -13,6 +15,10 @@ use Rattle.host.specs.State.{linkInRange, entries}
 pub record Lent : Type 0 where
   pub host : Host
   pub run : List Entry
+
+-- a host with this clock and these links
+abbrev pub having : Clock → Links → Host → Host
+having c l h = record { settings = h .settings; number = h .number; clock = c; links = l }
 
 -- the host's own entries
 abbrev pub entriesOf : Lent → List Entry

@@ -9,8 +9,9 @@ use Rattle.calendar.specs.Date.{real}
 use Rattle.clock.specs.Midnight.{dayMillis}
 use Rattle.clock.specs.Clock.{tickInRange}
 use Rattle.table.specs.Forms.{every}
+use Rattle.wire.specs.declared.Address.{Address}
 use Rattle.route.specs.declared.Found.{Found}
-use Rattle.route.specs.Find.{isFound, localId, rowsOf, idsBelow}
+use Rattle.route.specs.Find.{isFound, localId, find, rowsOf, idsBelow}
 use Rattle.host.specs.declared.LinkSetting.{LinkSetting}
 use Rattle.host.specs.declared.Settings.{Settings}
 
@@ -24,6 +25,10 @@ clockSettingOff = 255
 -- the id that LOCAL-ADDRESS gives, the host's own
 abbrev pub ownId : Settings → Found
 ownId s = localId (s .layout) (s .address)
+
+-- the id of an address, by the host's own net or its net table
+abbrev pub foundFor : Settings → Address → Found
+foundFor s a = find (s .address) (s .layout) (s .net) a
 
 -- the links of the host: its first count, 8 at most
 abbrev pub linkCount : Settings → ℕ

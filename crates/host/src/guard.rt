@@ -21,7 +21,7 @@ pub enum Scope {
     Places,
     All,
     // all, and that this is a link of the host
-    Link(usize),
+    OnLink(usize),
 }
 
 // Are the host's places not all in a run of n entries?
@@ -91,7 +91,7 @@ fn scan_for(h: Host, scope: Scope) -> Scan
     match scope {
         Scope::Places => settled(true),
         Scope::All => whole_scan(h),
-        Scope::Link(i) => link_scan(h, i),
+        Scope::OnLink(i) => link_scan(h, i),
     }
 }
 

@@ -8,7 +8,7 @@ use Rattle.table.specs.declared.run.Scan.{Scan}
 use Rattle.host.specs.declared.Settings.{Settings}
 use Rattle.host.specs.declared.Host.{Host}
 use Rattle.host.specs.declared.guard.Scope.{Scope}
-use Rattle.host.specs.declared.guard.Scope.the-variants.{Places, All, Link}
+use Rattle.host.specs.declared.guard.Scope.the-variants.{Places, All, OnLink}
 use Rattle.host.specs.Settings.{settingsGood}
 use Rattle.host.specs.State.{placesPerHost, firstPlace, hostCount}
 use Rattle.host.specs.Lent.{hostInRange}
@@ -33,7 +33,7 @@ linkScan i h = cond (noLink (h .settings) i) (settled false) (wholeScan h)
 abbrev pub scanFor : Scope → Host → Scan
 scanFor Places h = settled true
 scanFor All h = wholeScan h
-scanFor (Link i) h = linkScan i h
+scanFor (OnLink i) h = linkScan i h
 
 abbrev pub held : Scope → Host → (n : ℕ) → Scan
 held a h n = cond (placesMissing (h .number) n) (settled false) (scanFor a h)

@@ -6,8 +6,8 @@ use mir.Syntax.{w16, w64}
 use mir.Val.{SFits}
 use Rattle.quantity.proofs.Ints.{sum, fits, fits-up, fits-dn}
 use Rattle.table.proofs.Ranges.{within}
-use Rattle.plan.proofs.sending.sent_tsp.Statement.{statement}
-use Rattle.plan.proofs.sending.sent_tsp.Tie as tie
+use Rattle.sending.proofs.sent_tsp.Statement.{statement}
+use Rattle.sending.proofs.sent_tsp.Tie as tie
 
 returns : tie.Need-returns
 returns c = rw (eq-eqb _ _ (c .if1 .taken))

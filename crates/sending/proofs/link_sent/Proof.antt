@@ -2,8 +2,8 @@ use mathlib.Core.Path.{_≡_, ap}
 use Prim.Native.Nat.{ℕ, _-_}
 use native.Mathlib.Omega.{arith}
 use borrow.Author.Needs.{needs}
-use Rattle.plan.proofs.sending.link_sent.Statement.{statement}
-use Rattle.plan.proofs.sending.link_sent.Tie as tie
+use Rattle.sending.proofs.link_sent.Statement.{statement}
+use Rattle.sending.proofs.link_sent.Tie as tie
 
 returns : tie.Need-returns
 returns c =

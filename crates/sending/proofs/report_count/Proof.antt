@@ -1,7 +1,7 @@
 use mathlib.Core.Path.{_∙_, sym}
 use borrow.Author.Needs.{needs}
-use Rattle.plan.proofs.sending.report_count.Statement.{statement}
-use Rattle.plan.proofs.sending.report_count.Tie as tie
+use Rattle.sending.proofs.report_count.Statement.{statement}
+use Rattle.sending.proofs.report_count.Tie as tie
 
 table-goes-requires : tie.Need-table-goes-requires
 table-goes-requires c κs = search needs

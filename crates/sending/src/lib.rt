@@ -1,33 +1,37 @@
-// A send: what it plans by value, and how the message is completed.
+// A send by value: what it comes to, and how the message is completed.
 ghost use mathlib.Core.Path.{_≡_};
 ghost use mathlib.Core.Bool.{true};
 ghost use Prim.Native.Nat.{_≤_};
 ghost use Rattle.clock.specs.Midnight.{dayMillis};
 ghost use Rattle.table.specs.Entry.{upTo};
-ghost use Rattle.plan.specs.Message.{tableGoes, sentTsp, linkSent, packetSent};
-ghost use Rattle.host.specs.Told.{ClockTold, NumberTold};
-ghost use Rattle.plan.specs.SendPlans.{noPacket, unsentPlan, reportCount, sentPlan, sendPlan, Finishable, finished};
-use super::Sent;
+ghost use Rattle.clock.specs.Clock.{clockInRange};
+ghost use Rattle.host.specs.declared.guard.Scope.the-variants.{OnLink};
+ghost use Rattle.host.specs.code.Told.{Told};
+ghost use Rattle.sending.specs.Message.{tableGoes, sentTsp, linkSent, packetSent};
+ghost use Rattle.sending.specs.Send.{noPacket, unsent, reportCount, sends, sendIn};
+ghost use Rattle.sending.specs.code.Finish.{planned, Finishable, finished};
 use answer::Answer;
 use calendar::Date;
 use clock::Clock;
-use clock::Reading;
+use host::Host;
 use host::Link;
 use host::Links;
+use host::Reply;
 use host::Settings;
-use host::first_place;
 use host::host_count;
-use host::link_state::is_link;
 use host::link_state::link_of;
 use host::link_state::with_link;
+use host::replies::plainly;
+use host::replies::tells_length;
 use quantity::Millis;
 use quantity::Word;
 use table::run::Reports;
 use wire::Address;
 use wire::Packet;
 
-pub struct SendPlan {
-    pub answer: Sent,
+// What a send comes to: the reply, the clock and the links afterwards, of which ids a report goes out; and, if one goes, where the message goes and what it says.
+pub struct Sending {
+    pub reply: Reply,
     pub clock: Clock,
     pub links: Links,
     pub work: Reports,
@@ -49,22 +53,21 @@ fn no_packet() -> Packet
     }
 }
 
-fn unsent(a: Answer, c: Clock, l: Links) -> SendPlan
-    ensures { λ p. ⌜ p ≡ unsentPlan a c l ⌝ }
+// No message: nothing changes.
+fn unsent(a: Answer, h: Host) -> Sending
+    ensures { λ p. ⌜ p ≡ unsent a h ⌝ }
 {
-    let sent = Sent {
-        answer: a,
-        length: 0,
-    };
     let work = Reports {
         first: 0,
         end: 0,
         pid: 0,
     };
-    SendPlan {
-        answer: sent,
-        clock: c,
-        links: l,
+    let clock = h.clock;
+    let links = h.links;
+    Sending {
+        reply: plainly(a),
+        clock: clock,
+        links: links,
         work: work,
         goes: false,
         destination: Address::ZERO,
@@ -132,65 +135,62 @@ fn packet_sent(s: Settings, x: Link, time: Millis, date: Date, count: u8) -> Pac
     }
 }
 
-fn sent(s: Settings, number: usize, r: Reading, l: Links, link: usize) -> SendPlan
-    requires { ⌜ number ≤ 15 ⌝ }
+fn sends(h: Host, link: usize) -> Sending
     requires { ⌜ (1 ≤ link) × (link ≤ 8) ⌝ }
-    requires { ⌜ upTo dayMillis (r .time) ≡ true ⌝ }
-    ensures { λ p. ⌜ p ≡ sentPlan s number r l link ⌝ }
+    requires { ⌜ clockInRange (h .clock) ≡ true ⌝ }
+    ensures { λ p. ⌜ p ≡ sends link h ⌝ }
 {
-    let x = link_of(l, link);
-    let count = report_count(s, x);
-    let first = first_place(number);
-    let told = Sent {
-        answer: Answer::Done,
-        length: wire::length(count),
-    };
+    let r = h.clock.reading();
+    let settings = h.settings;
+    let links = h.links;
+    let x = link_of(links, link);
+    let count = report_count(settings, x);
     let work = Reports {
-        first: first,
-        end: first + count as usize,
+        first: 0,
+        end: count as usize,
         pid: link as u8,
     };
     let clock = r.clock;
     let date = clock.date;
     let neighbor = x.neighbor;
-    SendPlan {
-        answer: told,
+    Sending {
+        reply: tells_length(wire::length(count)),
         clock: clock,
-        links: with_link(l, link, link_sent(x)),
+        links: with_link(links, link, link_sent(x)),
         work: work,
         goes: true,
         destination: neighbor,
-        packet: packet_sent(s, x, r.time, date, count),
+        packet: packet_sent(settings, x, r.time, date, count),
     }
 }
 
-pub fn plan(
-    g: Answer,
-    s: Settings,
-    number: usize,
-    c: Clock,
-    l: Links,
-    link: usize,
-    room: usize,
-) -> SendPlan
-    requires { ⌜ ClockTold g s c × NumberTold g s number ⌝ }
-    ensures { λ p. ⌜ p ≡ sendPlan g s number c l link room ⌝ }
+// A send into a buffer of so many octets.
+fn send_in(h: Host, link: usize, room: usize) -> Sending
+    requires { ⌜ (1 ≤ link) × (link ≤ 8) ⌝ }
+    requires { ⌜ clockInRange (h .clock) ≡ true ⌝ }
+    ensures { λ p. ⌜ p ≡ sendIn link room h ⌝ }
 {
-    if !is_link(s, link) {
-        return unsent(Answer::OutOfRange, c, l);
+    let settings = h.settings;
+    let links = h.links;
+    if room < wire::length(report_count(settings, link_of(links, link))) {
+        return unsent(Answer::ShortBuffer, h);
     }
+    sends(h, link)
+}
+
+// A refusal of the guard's, or the send.
+pub fn plan(g: Answer, h: Host, link: usize, room: usize) -> Sending
+    requires { ⌜ Told g (OnLink link) h ⌝ }
+    ensures { λ p. ⌜ p ≡ planned g link room h ⌝ }
+{
     if !answer::is_done(g) {
-        return unsent(g, c, l);
+        return unsent(g, h);
     }
-    let x = link_of(l, link);
-    if room < wire::length(report_count(s, x)) {
-        return unsent(Answer::ShortBuffer, c, l);
-    }
-    sent(s, number, c.reading(), l, link)
+    send_in(h, link, room)
 }
 
 // The message completed around its reports, if one is sent.
-pub fn finish(buffer: &mut [u8], p: SendPlan)
+pub fn finish(buffer: &mut [u8], p: Sending)
     requires { ⌜ Finishable p (now buffer) ⌝ }
     ensures { λ _. ⌜ now (buffer .exit) ≡ finished p (now (buffer .entry)) ⌝ }
 {

@@ -1,7 +1,7 @@
 use borrow.Author.Needs.{needs}
 use Rattle.laws.proofs.Tests.{is-not, is-so}
-use Rattle.plan.proofs.sending.finish.Statement.{statement}
-use Rattle.plan.proofs.sending.finish.Tie as tie
+use Rattle.sending.proofs.finish.Statement.{statement}
+use Rattle.sending.proofs.finish.Tie as tie
 
 returns : tie.Need-returns
 returns c = rw (is-not (c .before .before .before .args .p .goes) (c .if1 .taken))

@@ -1,6 +1,6 @@
 use borrow.Author.Needs.{needs}
-use Rattle.plan.proofs.sending.packet_sent.Statement.{statement}
-use Rattle.plan.proofs.sending.packet_sent.Tie as tie
+use Rattle.sending.proofs.packet_sent.Statement.{statement}
+use Rattle.sending.proofs.packet_sent.Tie as tie
 
 sent-tsp-requires : tie.Need-sent-tsp-requires
 sent-tsp-requires c κs = search needs

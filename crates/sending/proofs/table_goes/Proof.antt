@@ -1,7 +1,7 @@
 use mathlib.Core.Path.{_∙_, sym}
 use borrow.Author.Needs.{needs}
-use Rattle.plan.proofs.sending.table_goes.Statement.{statement}
-use Rattle.plan.proofs.sending.table_goes.Tie as tie
+use Rattle.sending.proofs.table_goes.Statement.{statement}
+use Rattle.sending.proofs.table_goes.Tie as tie
 
 is-zero-requires : tie.Need-is-zero-requires
 is-zero-requires c κs = search needs
