@@ -1,11 +1,8 @@
 -- What each call comes to: the reply, the clock and the links afterwards, and what becomes of the entries of which ids.
-use mathlib.Core.Bool.{Bool, true, false, cond, not}
+use mathlib.Core.Bool.{cond, not}
 use Prim.Native.Nat.{ℕ, _+_}
-use lib.IntN.{pos}
 use Rattle.quantity.specs.declared.Millis.{Millis}
 use Rattle.quantity.specs.Quantity.{millis}
-use Rattle.calendar.specs.declared.Date.{Date}
-use Rattle.answer.specs.declared.Answer.{Answer}
 use Rattle.answer.specs.declared.Answer.the-variants.{Done, NoHost, HostDown}
 use Rattle.clock.specs.declared.Clock.{Clock}
 use Rattle.clock.specs.declared.Reading.{Reading}
@@ -14,7 +11,6 @@ use Rattle.clock.specs.Clock as clock
 use Rattle.wire.specs.declared.Address.{Address}
 use Rattle.route.specs.declared.Found.{Found}
 use Rattle.route.specs.declared.Found.the-variants.{Id, Nothing}
-use Rattle.route.specs.Find.{find}
 use Rattle.table.specs.declared.Entry.{Entry}
 use Rattle.table.specs.declared.run.Change.{Change}
 use Rattle.table.specs.declared.run.Change.the-variants.{Fresh, Aged, Reported}
@@ -22,32 +18,16 @@ use Rattle.table.specs.declared.run.Changes.{Changes}
 use Rattle.table.specs.Entry.{up}
 use Rattle.host.specs.declared.Settings.{Settings}
 use Rattle.host.specs.declared.Links.{Links}
-use Rattle.host.specs.Settings.{ownId}
+use Rattle.host.specs.declared.Host.{Host}
+use Rattle.host.specs.declared.Reply.{Reply}
+use Rattle.host.specs.declared.guard.Scope.{Scope}
+use Rattle.host.specs.declared.guard.Scope.the-variants.{Places, All}
+use Rattle.host.specs.Settings.{ownId, foundFor}
 use Rattle.host.specs.State.{freshLinks, hostCount}
-use Rattle.calls.specs.declared.Reply.{Reply}
+use Rattle.host.specs.Reply.{plainly, tellsRoute, tellsTime}
 use Rattle.calls.specs.declared.Effect.{Effect}
 use Rattle.calls.specs.declared.Request.{Request}
 use Rattle.calls.specs.declared.Request.the-variants.{Initialize, Tick, Adjust, Set, Read, Second, SelfReport, Lookup}
-
--- a host by itself, without its entries
-pub record Own : Type 0 where
-  pub settings : Settings
-  pub clock : Clock
-  pub links : Links
-
-abbrev pub host : Settings → Clock → Links → Own
-host s c l = record { settings = s; clock = c; links = l }
-
--- ---- replies: "A send answers its length, a lookup its host id and PID, a read its time and DATE; every refusal answers zero for them."
-
-abbrev pub plainly : Answer → Reply
-plainly a = record { answer = a; length = 0; host = 0; pid = 0; time = millis (pos 0); date = record { 0 = 0 } }
-
-abbrev pub tellsTime : Millis → Date → Reply
-tellsTime t d = record { answer = Done; length = 0; host = 0; pid = 0; time = t; date = d }
-
-abbrev pub tellsRoute : (host pid : ℕ) → Reply
-tellsRoute h p = record { answer = Done; length = 0; host = h; pid = p; time = millis (pos 0); date = record { 0 = 0 } }
 
 -- ---- what becomes of the entries: nothing, or a change to each id or to one
 
@@ -71,22 +51,22 @@ unfoldable pub initialize : Settings → Effect
 initialize s =
     record { reply = plainly Done; clock = freshClock (s .time) (s .date); links = freshLinks s; work = each s Fresh }
 
-unfoldable pub tick : Own → Effect
+unfoldable pub tick : Host → Effect
 tick h = answers (plainly Done) (clock.tick (h .settings .«clock_tick») (h .settings .«hold_interval») (h .clock)) (h .links)
 
-unfoldable pub adjust : Own → Effect
+unfoldable pub adjust : Host → Effect
 adjust h = answers (plainly Done) (clock.adjust (h .settings .«hold_interval») (h .clock)) (h .links)
 
 -- by a signed count of ms
-unfoldable pub setBy : Millis → Own → Effect
+unfoldable pub setBy : Millis → Host → Effect
 setBy ms h = answers (plainly Done) (clock.setBy (h .settings .«hold_interval») ms (h .clock)) (h .links)
 
-unfoldable pub read : Own → Effect
+unfoldable pub read : Host → Effect
 read h =
     let r : Reading = reading (h .clock) in
     answers (tellsTime (r .time) (r .clock .date)) (r .clock) (h .links)
 
-unfoldable pub second : Own → Effect
+unfoldable pub second : Host → Effect
 second h = record { reply = plainly Done; clock = holdSecond (h .clock); links = h .links; work = each (h .settings) Aged }
 
 -- "Self-report: update of the seat's own id with PID 0, DELAY 0, OFFSET 0, without (d)."
@@ -94,7 +74,7 @@ abbrev pub ownWork : Millis → Found → Changes
 ownWork time Nothing = nothing
 ownWork time (Id id) = one id (Reported time)
 
-unfoldable pub selfReport : Own → Effect
+unfoldable pub selfReport : Host → Effect
 selfReport h =
     let r : Reading = reading (h .clock) in
     record { reply = plainly Done; clock = r .clock; links = h .links; work = ownWork (r .time) (ownId (h .settings)) }
@@ -104,14 +84,11 @@ abbrev pub looked : Found → Entry → Reply
 looked Nothing e = plainly NoHost
 looked (Id id) e = cond (not (up e)) (plainly HostDown) (tellsRoute id (e .pid))
 
-abbrev pub foundFor : Settings → Address → Found
-foundFor s a = find (s .address) (s .layout) (s .net) a
-
-unfoldable pub lookup : Address → Own → Entry → Effect
+unfoldable pub lookup : Address → Host → Entry → Effect
 lookup a h e = answers (looked (foundFor (h .settings) a) e) (h .clock) (h .links)
 
 -- by what is asked; a lookup has the entry of the id that it finds
-abbrev pub effect : Request → Own → Entry → Effect
+abbrev pub effect : Request → Host → Entry → Effect
 effect Initialize h e = initialize (h .settings)
 effect Tick h e = tick h
 effect Adjust h e = adjust h
@@ -123,16 +100,16 @@ effect (Lookup a) h e = lookup a h e
 
 -- ---- what a call asks for beside
 
--- setting afresh "tests numbers and places only"
-abbrev pub afresh : Request → Bool
-afresh Initialize = true
-afresh Tick = false
-afresh Adjust = false
-afresh (Set ms) = false
-afresh Read = false
-afresh Second = false
-afresh SelfReport = false
-afresh (Lookup a) = false
+-- how much of what is lent is tested
+abbrev pub scopeOf : Request → Scope
+scopeOf Initialize = Places
+scopeOf Tick = All
+scopeOf Adjust = All
+scopeOf (Set ms) = All
+scopeOf Read = All
+scopeOf Second = All
+scopeOf SelfReport = All
+scopeOf (Lookup a) = All
 
 -- the id whose entry is looked at
 abbrev pub wanted : Request → Settings → Found
