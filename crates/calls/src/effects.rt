@@ -1,12 +1,12 @@
-// What each call comes to, by value.
+// What each request comes to, by value.
 ghost use mathlib.Core.Path.{_≡_};
-ghost use mathlib.Core.Bool.{true, false};
+ghost use mathlib.Core.Bool.{true};
 ghost use Rattle.quantity.specs.Quantity.{millis};
 ghost use Rattle.clock.specs.Clock.{clockInRange};
 ghost use Rattle.host.specs.Settings.{settingsGood};
 ghost use Rattle.host.specs.State.{hasPlace};
+ghost use Rattle.host.specs.code.Told.{Ready, Told};
 ghost use Rattle.calls.specs.Effects.{
-  plainly,
   nothing,
   each,
   answers,
@@ -19,37 +19,42 @@ ghost use Rattle.calls.specs.Effects.{
   read,
   second,
   selfReport,
-  lookup,
+  scopeOf,
   effect,
-  host,
 };
-ghost use Rattle.calls.specs.Planned.{Told, Ready, planned};
+ghost use Rattle.calls.specs.code.Planned.{planned};
 use super::Effect;
-use super::Reply;
 use super::Request;
 use answer::Answer;
-use calendar::Date;
 use clock::Clock;
+use host::Host;
 use host::Links;
+use host::Reply;
 use host::Settings;
+use host::guard::Scope;
 use host::host_count;
+use host::replies::plainly;
+use host::replies::tells_route;
+use host::replies::tells_time;
 use quantity::Millis;
 use route::Found;
 use table::Entry;
 use table::run::Change;
 use table::run::Changes;
 
-// An answer without values.
-fn plainly(a: Answer) -> Reply
-    ensures { λ r. ⌜ r ≡ plainly a ⌝ }
+// How much of what is lent is tested.
+pub fn scope_of(q: Request) -> Scope
+    ensures { λ r. ⌜ r ≡ scopeOf q ⌝ }
 {
-    Reply {
-        answer: a,
-        length: 0,
-        host: 0,
-        pid: 0,
-        time: Millis(0),
-        date: Date(0),
+    match q {
+        Request::Initialize => Scope::Places,
+        Request::Tick => Scope::All,
+        Request::Adjust => Scope::All,
+        Request::Set(_) => Scope::All,
+        Request::Read => Scope::All,
+        Request::Second => Scope::All,
+        Request::SelfReport => Scope::All,
+        Request::Lookup(_) => Scope::All,
     }
 }
 
@@ -73,14 +78,14 @@ fn each(s: Settings, change: Change) -> Changes
     }
 }
 
-// Nothing changes.
-fn answers(c: Clock, l: Links, r: Reply) -> Effect
-    ensures { λ p. ⌜ p ≡ answers r c l ⌝ }
+// The entries stay.
+fn answers(r: Reply, clock: Clock, links: Links) -> Effect
+    ensures { λ p. ⌜ p ≡ answers r clock links ⌝ }
 {
     Effect {
         reply: r,
-        clock: c,
-        links: l,
+        clock: clock,
+        links: links,
         work: nothing(),
     }
 }
@@ -97,61 +102,60 @@ fn initialize(s: Settings) -> Effect
     }
 }
 
-fn tick(s: Settings, c: Clock, l: Links) -> Effect
-    requires { ⌜ (settingsGood s ≡ true) × (clockInRange c ≡ true) ⌝ }
-    ensures { λ p. ⌜ p ≡ tick (host s c l) ⌝ }
+fn tick(h: Host) -> Effect
+    requires { ⌜ (settingsGood (h .settings) ≡ true) × (clockInRange (h .clock) ≡ true) ⌝ }
+    ensures { λ p. ⌜ p ≡ tick h ⌝ }
 {
+    let s = h.settings;
     answers(
-        c.ticked(s.clock_tick, s.hold_interval),
-        l,
         plainly(Answer::Done),
+        h.clock.ticked(s.clock_tick, s.hold_interval),
+        h.links,
     )
 }
 
-fn adjust(s: Settings, c: Clock, l: Links) -> Effect
-    requires { ⌜ (settingsGood s ≡ true) × (clockInRange c ≡ true) ⌝ }
-    ensures { λ p. ⌜ p ≡ adjust (host s c l) ⌝ }
+fn adjust(h: Host) -> Effect
+    requires { ⌜ (settingsGood (h .settings) ≡ true) × (clockInRange (h .clock) ≡ true) ⌝ }
+    ensures { λ p. ⌜ p ≡ adjust h ⌝ }
 {
-    answers(c.adjusted(s.hold_interval), l, plainly(Answer::Done))
-}
-
-fn set(s: Settings, c: Clock, l: Links, ms: i32) -> Effect
-    requires { ⌜ (settingsGood s ≡ true) × (clockInRange c ≡ true) ⌝ }
-    ensures { λ p. ⌜ p ≡ setBy (millis ms) (host s c l) ⌝ }
-{
+    let s = h.settings;
     answers(
-        c.set_by(s.hold_interval, Millis::of_count(ms)),
-        l,
         plainly(Answer::Done),
+        h.clock.adjusted(s.hold_interval),
+        h.links,
     )
 }
 
-fn read(s: Settings, c: Clock, l: Links) -> Effect
-    ensures { λ p. ⌜ p ≡ read (host s c l) ⌝ }
+fn set(h: Host, ms: i32) -> Effect
+    requires { ⌜ (settingsGood (h .settings) ≡ true) × (clockInRange (h .clock) ≡ true) ⌝ }
+    ensures { λ p. ⌜ p ≡ setBy (millis ms) h ⌝ }
 {
-    let r = c.reading();
+    let s = h.settings;
+    answers(
+        plainly(Answer::Done),
+        h.clock.set_by(s.hold_interval, Millis::of_count(ms)),
+        h.links,
+    )
+}
+
+fn read(h: Host) -> Effect
+    ensures { λ p. ⌜ p ≡ read h ⌝ }
+{
+    let r = h.clock.reading();
     let clock = r.clock;
-    let time = r.time;
     let date = clock.date;
-    let reply = Reply {
-        answer: Answer::Done,
-        length: 0,
-        host: 0,
-        pid: 0,
-        time: time,
-        date: date,
-    };
-    answers(clock, l, reply)
+    answers(tells_time(r.time, date), clock, h.links)
 }
 
-fn second(s: Settings, c: Clock, l: Links) -> Effect
-    ensures { λ p. ⌜ p ≡ second (host s c l) ⌝ }
+fn second(h: Host) -> Effect
+    ensures { λ p. ⌜ p ≡ second h ⌝ }
 {
+    let links = h.links;
     Effect {
         reply: plainly(Answer::Done),
-        clock: c.second(),
-        links: l,
-        work: each(s, Change::Aged),
+        clock: h.clock.second(),
+        links: links,
+        work: each(h.settings, Change::Aged),
     }
 }
 
@@ -169,17 +173,18 @@ fn own_work(time: Millis, own: Found) -> Changes
     }
 }
 
-fn self_report(s: Settings, c: Clock, l: Links) -> Effect
-    requires { ⌜ settingsGood s ≡ true ⌝ }
-    ensures { λ p. ⌜ p ≡ selfReport (host s c l) ⌝ }
+fn self_report(h: Host) -> Effect
+    requires { ⌜ settingsGood (h .settings) ≡ true ⌝ }
+    ensures { λ p. ⌜ p ≡ selfReport h ⌝ }
 {
-    let r = c.reading();
+    let r = h.clock.reading();
     let clock = r.clock;
+    let links = h.links;
     Effect {
         reply: plainly(Answer::Done),
         clock: clock,
-        links: l,
-        work: own_work(r.time, host::own_id(s)),
+        links: links,
+        work: own_work(r.time, host::own_id(h.settings)),
     }
 }
 
@@ -192,41 +197,41 @@ fn looked(found: Found, e: Entry) -> Reply
             if !table::up(e) {
                 return plainly(Answer::HostDown);
             }
-            Reply {
-                answer: Answer::Done,
-                length: 0,
-                host: id,
-                pid: e.pid,
-                time: Millis(0),
-                date: Date(0),
-            }
+            tells_route(id, e.pid)
         }
     }
 }
 
-fn effect(s: Settings, c: Clock, l: Links, e: Entry, q: Request) -> Effect
-    requires { ⌜ Ready s c q ⌝ }
-    ensures { λ p. ⌜ p ≡ effect q (host s c l) e ⌝ }
+fn effect(h: Host, e: Entry, q: Request) -> Effect
+    requires { ⌜ Ready (scopeOf q) h ⌝ }
+    ensures { λ p. ⌜ p ≡ effect q h e ⌝ }
 {
     match q {
-        Request::Initialize => initialize(s),
-        Request::Tick => tick(s, c, l),
-        Request::Adjust => adjust(s, c, l),
-        Request::Set(ms) => set(s, c, l, ms),
-        Request::Read => read(s, c, l),
-        Request::Second => second(s, c, l),
-        Request::SelfReport => self_report(s, c, l),
-        Request::Lookup(a) => answers(c, l, looked(route::find(s.address, s.layout, s.net, a), e)),
+        Request::Initialize => initialize(h.settings),
+        Request::Tick => tick(h),
+        Request::Adjust => adjust(h),
+        Request::Set(ms) => set(h, ms),
+        Request::Read => read(h),
+        Request::Second => second(h),
+        Request::SelfReport => self_report(h),
+        Request::Lookup(a) => {
+            let s = h.settings;
+            answers(
+                looked(route::find(s.address, s.layout, s.net, a), e),
+                h.clock,
+                h.links,
+            )
+        }
     }
 }
 
-// A refusal, or the effect.
-pub fn plan(g: Answer, s: Settings, c: Clock, l: Links, e: Entry, q: Request) -> Effect
-    requires { ⌜ Told g s c q ⌝ }
-    ensures { λ p. ⌜ p ≡ planned g q (host s c l) e ⌝ }
+// A refusal of the guard's, or the effect.
+pub fn plan(g: Answer, h: Host, e: Entry, q: Request) -> Effect
+    requires { ⌜ Told g (scopeOf q) h ⌝ }
+    ensures { λ p. ⌜ p ≡ planned g q h e ⌝ }
 {
     if !answer::is_done(g) {
-        return answers(c, l, plainly(g));
+        return answers(plainly(g), h.clock, h.links);
     }
-    effect(s, c, l, e, q)
+    effect(h, e, q)
 }
