@@ -5,6 +5,7 @@ ghost use Rattle.quantity.specs.Quantity.{millis};
 ghost use Rattle.clock.specs.Clock.{clockInRange};
 ghost use Rattle.host.specs.Settings.{settingsGood};
 ghost use Rattle.host.specs.State.{hasPlace};
+ghost use Rattle.host.specs.Lent.{host};
 ghost use Rattle.host.specs.code.Told.{Ready, Told};
 ghost use Rattle.calls.specs.Effects.{
   nothing,
@@ -27,7 +28,6 @@ use super::Effect;
 use super::Request;
 use answer::Answer;
 use clock::Clock;
-use host::Host;
 use host::Links;
 use host::Reply;
 use host::Settings;
@@ -79,13 +79,13 @@ fn each(s: Settings, change: Change) -> Changes
 }
 
 // The entries stay.
-fn answers(r: Reply, clock: Clock, links: Links) -> Effect
-    ensures { λ p. ⌜ p ≡ answers r clock links ⌝ }
+fn answers(c: Clock, l: Links, r: Reply) -> Effect
+    ensures { λ p. ⌜ p ≡ answers r c l ⌝ }
 {
     Effect {
         reply: r,
-        clock: clock,
-        links: links,
+        clock: c,
+        links: l,
         work: nothing(),
     }
 }
@@ -102,60 +102,52 @@ fn initialize(s: Settings) -> Effect
     }
 }
 
-fn tick(h: Host) -> Effect
-    requires { ⌜ (settingsGood (h .settings) ≡ true) × (clockInRange (h .clock) ≡ true) ⌝ }
-    ensures { λ p. ⌜ p ≡ tick h ⌝ }
+fn tick(s: Settings, c: Clock, l: Links) -> Effect
+    requires { ⌜ (settingsGood s ≡ true) × (clockInRange c ≡ true) ⌝ }
+    ensures { λ p. ⌜ p ≡ tick (host s c l) ⌝ }
 {
-    let s = h.settings;
     answers(
+        c.ticked(s.clock_tick, s.hold_interval),
+        l,
         plainly(Answer::Done),
-        h.clock.ticked(s.clock_tick, s.hold_interval),
-        h.links,
     )
 }
 
-fn adjust(h: Host) -> Effect
-    requires { ⌜ (settingsGood (h .settings) ≡ true) × (clockInRange (h .clock) ≡ true) ⌝ }
-    ensures { λ p. ⌜ p ≡ adjust h ⌝ }
+fn adjust(s: Settings, c: Clock, l: Links) -> Effect
+    requires { ⌜ (settingsGood s ≡ true) × (clockInRange c ≡ true) ⌝ }
+    ensures { λ p. ⌜ p ≡ adjust (host s c l) ⌝ }
 {
-    let s = h.settings;
+    answers(c.adjusted(s.hold_interval), l, plainly(Answer::Done))
+}
+
+fn set(s: Settings, c: Clock, l: Links, ms: i32) -> Effect
+    requires { ⌜ (settingsGood s ≡ true) × (clockInRange c ≡ true) ⌝ }
+    ensures { λ p. ⌜ p ≡ setBy (millis ms) (host s c l) ⌝ }
+{
     answers(
+        c.set_by(s.hold_interval, Millis::of_count(ms)),
+        l,
         plainly(Answer::Done),
-        h.clock.adjusted(s.hold_interval),
-        h.links,
     )
 }
 
-fn set(h: Host, ms: i32) -> Effect
-    requires { ⌜ (settingsGood (h .settings) ≡ true) × (clockInRange (h .clock) ≡ true) ⌝ }
-    ensures { λ p. ⌜ p ≡ setBy (millis ms) h ⌝ }
+fn read(s: Settings, c: Clock, l: Links) -> Effect
+    ensures { λ p. ⌜ p ≡ read (host s c l) ⌝ }
 {
-    let s = h.settings;
-    answers(
-        plainly(Answer::Done),
-        h.clock.set_by(s.hold_interval, Millis::of_count(ms)),
-        h.links,
-    )
-}
-
-fn read(h: Host) -> Effect
-    ensures { λ p. ⌜ p ≡ read h ⌝ }
-{
-    let r = h.clock.reading();
+    let r = c.reading();
     let clock = r.clock;
     let date = clock.date;
-    answers(tells_time(r.time, date), clock, h.links)
+    answers(clock, l, tells_time(r.time, date))
 }
 
-fn second(h: Host) -> Effect
-    ensures { λ p. ⌜ p ≡ second h ⌝ }
+fn second(s: Settings, c: Clock, l: Links) -> Effect
+    ensures { λ p. ⌜ p ≡ second (host s c l) ⌝ }
 {
-    let links = h.links;
     Effect {
         reply: plainly(Answer::Done),
-        clock: h.clock.second(),
-        links: links,
-        work: each(h.settings, Change::Aged),
+        clock: c.second(),
+        links: l,
+        work: each(s, Change::Aged),
     }
 }
 
@@ -173,18 +165,17 @@ fn own_work(time: Millis, own: Found) -> Changes
     }
 }
 
-fn self_report(h: Host) -> Effect
-    requires { ⌜ settingsGood (h .settings) ≡ true ⌝ }
-    ensures { λ p. ⌜ p ≡ selfReport h ⌝ }
+fn self_report(s: Settings, c: Clock, l: Links) -> Effect
+    requires { ⌜ settingsGood s ≡ true ⌝ }
+    ensures { λ p. ⌜ p ≡ selfReport (host s c l) ⌝ }
 {
-    let r = h.clock.reading();
+    let r = c.reading();
     let clock = r.clock;
-    let links = h.links;
     Effect {
         reply: plainly(Answer::Done),
         clock: clock,
-        links: links,
-        work: own_work(r.time, host::own_id(h.settings)),
+        links: l,
+        work: own_work(r.time, host::own_id(s)),
     }
 }
 
@@ -202,36 +193,29 @@ fn looked(found: Found, e: Entry) -> Reply
     }
 }
 
-fn effect(h: Host, e: Entry, q: Request) -> Effect
-    requires { ⌜ Ready (scopeOf q) h ⌝ }
-    ensures { λ p. ⌜ p ≡ effect q h e ⌝ }
+fn effect(s: Settings, c: Clock, l: Links, e: Entry, q: Request) -> Effect
+    requires { ⌜ Ready (scopeOf q) s c ⌝ }
+    ensures { λ p. ⌜ p ≡ effect q (host s c l) e ⌝ }
 {
     match q {
-        Request::Initialize => initialize(h.settings),
-        Request::Tick => tick(h),
-        Request::Adjust => adjust(h),
-        Request::Set(ms) => set(h, ms),
-        Request::Read => read(h),
-        Request::Second => second(h),
-        Request::SelfReport => self_report(h),
-        Request::Lookup(a) => {
-            let s = h.settings;
-            answers(
-                looked(route::find(s.address, s.layout, s.net, a), e),
-                h.clock,
-                h.links,
-            )
-        }
+        Request::Initialize => initialize(s),
+        Request::Tick => tick(s, c, l),
+        Request::Adjust => adjust(s, c, l),
+        Request::Set(ms) => set(s, c, l, ms),
+        Request::Read => read(s, c, l),
+        Request::Second => second(s, c, l),
+        Request::SelfReport => self_report(s, c, l),
+        Request::Lookup(a) => answers(c, l, looked(route::find(s.address, s.layout, s.net, a), e)),
     }
 }
 
 // A refusal of the guard's, or the effect.
-pub fn plan(g: Answer, h: Host, e: Entry, q: Request) -> Effect
-    requires { ⌜ Told g (scopeOf q) h ⌝ }
-    ensures { λ p. ⌜ p ≡ planned g q h e ⌝ }
+pub fn plan(g: Answer, s: Settings, c: Clock, l: Links, e: Entry, q: Request) -> Effect
+    requires { ⌜ Told g (scopeOf q) s c ⌝ }
+    ensures { λ p. ⌜ p ≡ planned g q (host s c l) e ⌝ }
 {
     if !answer::is_done(g) {
-        return answers(plainly(g), h.clock, h.links);
+        return answers(c, l, plainly(g));
     }
-    effect(h, e, q)
+    effect(s, c, l, e, q)
 }

@@ -9,7 +9,6 @@ use host::Reply;
 use host::Settings;
 use host::guard::Scope;
 use host::guard::guard;
-use host::host_of;
 use table::Entry;
 use table::run::Changes;
 use table::run::change_all;
@@ -55,12 +54,11 @@ pub fn call(
 {
     let c = *clock;
     let l = *links;
-    let h = host_of(settings, number, c, l);
     let a = effects::scope_of(request);
-    let g = guard(h, a, run);
-    let z = places::sought(g, h, request);
+    let g = guard(settings, number, c, l, a, run);
+    let z = places::sought(g, settings, number, request);
     let e = entry_of(run, z);
-    let p = effects::plan(g, h, e, request);
+    let p = effects::plan(g, settings, c, l, e, request);
     let w = places::placed(number, p.work);
     change_all(run, w);
     *clock = p.clock;
@@ -90,10 +88,9 @@ pub fn send(
     let c = *clock;
     let l = *links;
     let n = buffer.len();
-    let h = host_of(settings, number, c, l);
     let a = on_link(link);
-    let g = guard(h, a, run);
-    let p = sending::plan(g, h, link, n);
+    let g = guard(settings, number, c, l, a, run);
+    let p = sending::plan(g, settings, c, l, link, n);
     let w = places::reports_at(number, p.work);
     read_out(buffer, run, w);
     sending::finish(buffer, p);
@@ -116,10 +113,9 @@ pub fn receive(
 {
     let c = *clock;
     let l = *links;
-    let h = host_of(settings, number, c, l);
     let a = on_link(link);
-    let g = guard(h, a, run);
-    let p = arrival::plan(g, h, link, packet);
+    let g = guard(settings, number, c, l, a, run);
+    let p = arrival::plan(g, settings, c, l, link, packet);
     let w = places::updates_at(number, p.work);
     let k = update_all(run, w, packet);
     *clock = k;

@@ -3,8 +3,8 @@ ghost use mathlib.Core.Path.{_≡_};
 ghost use mathlib.Core.Bool.{true};
 ghost use Prim.Native.Nat.{_≤_, _<_};
 ghost use Rattle.host.specs.State.{hasPlace};
-ghost use Rattle.host.specs.code.Told.{Told};
-ghost use Rattle.calls.specs.Effects.{scopeOf, wanted};
+ghost use Rattle.host.specs.code.Told.{NumberTold};
+ghost use Rattle.calls.specs.Effects.{wanted};
 ghost use Rattle.calls.specs.code.Places.{
   Placeable,
   noEntry,
@@ -17,7 +17,6 @@ ghost use Rattle.calls.specs.code.Places.{
 };
 use super::Request;
 use answer::Answer;
-use host::Host;
 use host::Settings;
 use host::first_place;
 use route::Found;
@@ -71,14 +70,14 @@ fn seek_at(number: usize, found: Found) -> Seek
 }
 
 // The entry that is looked at.
-pub fn sought(g: Answer, h: Host, q: Request) -> Seek
-    requires { ⌜ Told g (scopeOf q) h ⌝ }
-    ensures { λ w. ⌜ w ≡ soughtAt g q h ⌝ }
+pub fn sought(g: Answer, s: Settings, number: usize, q: Request) -> Seek
+    requires { ⌜ NumberTold g s number ⌝ }
+    ensures { λ w. ⌜ w ≡ soughtAt g q s number ⌝ }
 {
     if !answer::is_done(g) {
         return no_entry();
     }
-    seek_at(h.number, wanted(h.settings, q))
+    seek_at(number, wanted(s, q))
 }
 
 // The places of ids that are changed.
@@ -89,9 +88,11 @@ pub fn placed(number: usize, w: Changes) -> Changes
     let change = w.change;
     if w.first < w.end {
         let base = first_place(number);
+        let first = base + w.first;
+        let end = base + w.end;
         return Changes {
-            first: base + w.first,
-            end: base + w.end,
+            first: first,
+            end: end,
             change: change,
         };
     }
@@ -126,9 +127,11 @@ pub fn reports_at(number: usize, w: Reports) -> Reports
 {
     if w.first < w.end {
         let base = first_place(number);
+        let first = base + w.first;
+        let end = base + w.end;
         return Reports {
-            first: base + w.first,
-            end: base + w.end,
+            first: first,
+            end: end,
             pid: w.pid,
         };
     }
