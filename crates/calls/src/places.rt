@@ -105,8 +105,7 @@ pub fn placed(number: usize, w: Changes) -> Changes
 
 // The places of ids that are updated.
 pub fn updates_at(number: usize, w: Updates) -> Updates
-    requires { ⌜ Placeable number (w .first) (w .end) ⌝ }
-    requires { ⌜ w .base ≤ w .first ⌝ }
+    requires { ⌜ Placeable number (w .first) (w .end) × (w .base ≤ w .first) ⌝ }
     ensures { λ r. ⌜ r ≡ updatesAt number w ⌝ }
 {
     if w.first < w.end {

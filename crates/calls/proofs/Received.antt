@@ -1,0 +1,196 @@
+-- An arrival as the code goes: what each update asks is there, and what is planned, placed and updated is what the call leaves.
+use mathlib.Core.Path.{_≡_, refl, sym, ap, _∙_}
+use mathlib.Core.Bool.{Bool, true, false, false≢true, cond, not}
+use mathlib.Core.List.{List, []}
+use Prim.Native.Nat.{ℕ, _+_, _-_, _≤_, _<_}
+use native.Mathlib.Omega.{arith}
+use borrow.Author.Tests.{ltb-true, ltb-false}
+use lib.Dec.{ltb, eqb}
+use lib.ListN.{length}
+use Rattle.laws.proofs.Parts.{over-nothing}
+use Rattle.laws.proofs.Tests.{is-so}
+use Rattle.answer.specs.declared.Answer.{Answer}
+use Rattle.answer.specs.declared.Answer.the-variants.{DelayNotValid, NoHost}
+use Rattle.clock.specs.declared.Clock.{Clock}
+use Rattle.clock.specs.Clock.{reading, clockInRange}
+use Rattle.wire.specs.declared.Packet.{Packet}
+use Rattle.wire.specs.declared.Parsed.{Parsed}
+use Rattle.wire.specs.declared.Parsed.the-variants.{Good, Bad}
+use Rattle.wire.specs.Packet.{packetLength}
+use Rattle.route.specs.declared.Found.{Found}
+use Rattle.route.specs.declared.Found.the-variants.{Id, Nothing}
+use Rattle.route.proofs.Ids.{found-below}
+use Rattle.table.specs.declared.Entry.{Entry}
+use Rattle.table.specs.declared.run.Updates.{Updates}
+use Rattle.table.specs.Entry.{upTo}
+use Rattle.table.specs.Update.{ownMost}
+use Rattle.table.specs.Sweep.{Swept, sweep}
+use Rattle.table.specs.Runs.{updates, UpdatesFit}
+use Rattle.host.specs.declared.Settings.{Settings}
+use Rattle.host.specs.declared.Links.{Links}
+use Rattle.host.specs.State.{firstPlace, hostCount, broadcast, linkOf, entries, withEntries}
+use Rattle.host.specs.declared.guard.Scope.the-variants.{OnLink}
+use Rattle.host.specs.Settings.{foundFor}
+use Rattle.host.specs.Lent.{Host, host, Lent}
+use Rattle.host.specs.Guard.{guard, done}
+use Rattle.host.proofs.Places.{Holds}
+use Rattle.host.proofs.Sound.{Sound, sound}
+use Rattle.host.proofs.Guarded.{passed, holds, number-lent, clock-lent}
+use Rattle.arrival.specs.declared.Flight.{Flight}
+use Rattle.arrival.specs.declared.Arrived.{Arrived}
+use Rattle.arrival.specs.Inspection.{inspect}
+use Rattle.arrival.specs.Steps.{measured}
+use Rattle.arrival.specs.Arrival.{noUpdates, ends, noTable, withTable, step5, concluded, inspected}
+use Rattle.arrival.specs.Arrival as definition
+use Rattle.arrival.specs.code.Plan.{planned}
+use Rattle.arrival.proofs.Flights.{Short, steps-cases, measured-short, new-short}
+use Rattle.arrival.proofs.Inspected.{Fits, inspected-fits}
+use Rattle.calls.specs.Perform.{Outcome, Leaves, receive, refused, updatedBy, perform}
+use Rattle.calls.specs.code.Places.{Placeable, placedUpdates, updatesAt}
+use Rattle.calls.proofs.Carried.{entries-put}
+use Rattle.calls.proofs.CarriedUpdates as by-places
+
+-- what updates of ids ask
+pub record Asked (s : Settings) (octets : List ℕ) (w : Updates) : Type 0 where
+  pub rising : w .first ≤ w .end
+  pub below : w .end ≤ hostCount s
+  pub base : w .base ≡ 0
+  pub clock : w .first < w .end → clockInRange (w .clock) ≡ true
+  pub hold : w .first < w .end → w .«hold_interval» .0 ≤ 255
+  pub delay : w .first < w .end → upTo ownMost (w .update .delay) ≡ true
+  pub reports : w .first < w .end → w .table ≡ true → packetLength (w .end) ≤ length octets
+
+-- ---- ids and places
+
+module _ (s : Settings) (k : ℕ) (run : List Entry) (h : Holds k run) (octets : List ℕ) (w : Updates) (a : Asked s octets w) where
+  abbrev spot : Bool → Updates
+  spot b = cond b (placedUpdates k w) (noUpdates (w .clock))
+
+  fits : UpdatesFit (updatesAt k w) run octets
+  fits = go (ltb (w .first) (w .end)) refl
+    where
+      go : (b : Bool) → ltb (w .first) (w .end) ≡ b → UpdatesFit (spot b) run octets
+      go true e =
+          let some = ltb-true (w .first) (w .end) e in
+          let r = a .rising in
+          let t = a .below in
+          let z = a .base in
+          let n : firstPlace k + w .end - (firstPlace k + w .base) ≡ w .end = omega arith in
+          record {
+            places = record { rising = omega arith; inside = omega arith };
+            sound = λ _. record { based = omega arith; clock = a .clock some; hold = a .hold some; delay = a .delay some; reports = λ t. rw n (a .reports some t) };
+          }
+      go false e = record { places = record { rising = omega arith; inside = omega arith }; sound = λ l. absurd (omega (arith, l)) }
+
+  abbrev left : Swept
+  left =
+      record {
+        clock = updates w octets (entries s k run) .clock;
+        entries = withEntries k (updates w octets (entries s k run) .entries) run;
+      }
+
+  none : w .end ≤ w .first → updates (noUpdates (w .clock)) octets run ≡ left
+  unfolding updates sweep
+  none e =
+      let n : w .end - w .first ≡ 0 = omega arith in
+      rw (n, over-nothing 0 run, over-nothing (w .first) (entries s k run), entries-put s k run h) refl
+
+  carried : updates (updatesAt k w) octets run ≡ left
+  carried = go (ltb (w .first) (w .end)) refl
+    where
+      go : (b : Bool) → ltb (w .first) (w .end) ≡ b → updates (spot b) octets run ≡ left
+      go true e = by-places.carried s k run h w (a .rising) (a .below) octets
+      go false e = none (ltb-false (w .first) (w .end) e)
+
+-- ---- what an arrival's updates have
+
+module _ (s : Settings) (good : Sound s) (i : ℕ) (octets : List ℕ) where
+  abbrev Fine : Arrived → Type 0
+  Fine p = Asked s octets (p .work)
+
+  ended : (a : Answer) (h : Host) → Fine (ends a h)
+  ended a h =
+      record {
+        rising = omega arith;
+        below = omega arith;
+        base = refl;
+        clock = λ l. absurd (omega (arith, l));
+        hold = λ l. absurd (omega (arith, l));
+        delay = λ l. absurd (omega (arith, l));
+        reports = λ l. absurd (omega (arith, l));
+      }
+
+  fifth : (c : Clock) (l : Links) → clockInRange c ≡ true → (p : Packet) (f : Flight) → Short f → packetLength (p .nhosts) ≤ length octets
+      → (eqb (p .nhosts) 0 ≡ false → p .nhosts ≡ s .layout .nhosts) → Fine (step5 (host s c l) i p f)
+  fifth c l ok p f short long ours = go (eqb (p .nhosts) 0) refl
+    where
+      neighbor : (x : Found) → ((id : ℕ) → x ≡ Id id → id < hostCount s) → Fine (noTable (host s c l) i p f x)
+      neighbor Nothing below = ended NoHost (host s c l)
+      neighbor (Id id) below =
+          let b = below id refl in
+          record { rising = omega arith; below = omega arith; base = refl; clock = λ _. ok; hold = λ _. good .hold-to; delay = λ _. short; reports = λ _ e. absurd (false≢true e) }
+
+      go : (b : Bool) → eqb (p .nhosts) 0 ≡ b → Fine (cond b (noTable (host s c l) i p f (foundFor s (f .link .neighbor))) (withTable (host s c l) i p f))
+      go true e =
+          neighbor (foundFor s (f .link .neighbor)) (λ id q. omega (arith, found-below (s .address) (s .layout) (s .net) (f .link .neighbor) id (good .row-ids) q, good .hosts-to))
+      go false e =
+          let o = ours e in
+          let t = good .hosts-to in
+          record { rising = omega arith; below = omega arith; base = refl; clock = λ _. ok; hold = λ _. good .hold-to; delay = λ _. short; reports = λ _ _. omega arith }
+
+  fine : (c : Clock) (l : Links) → clockInRange (reading c .clock) ≡ true → (q : Parsed) → Fits s octets q → Fine (inspected (host s c l) i q)
+  fine c l ok (Bad a) fits = ended a (host s c l)
+  fine c l ok (Good p) fits =
+      steps-cases (λ g. Fine (concluded (host s (reading c .clock) l) i p g))
+      (broadcast s i) (reading c .clock .hold) p (reading c .time) (linkOf l i)
+      (λ b. fifth (reading c .clock) _ ok p _ (measured-short _ p _ _) (fits .0) (fits .1))
+      (λ b n. fifth (reading c .clock) _ ok p _ (new-short p (measured (broadcast s i) p (reading c .time) (linkOf l i))) (fits .0) (fits .1))
+      (λ b n z. ended DelayNotValid (host s (reading c .clock) l))
+      (λ b n z. fifth (reading c .clock) _ ok p _ (measured-short _ p _ _) (fits .0) (fits .1))
+
+-- ---- the call
+
+pub record Received (x : Lent) (octets : List ℕ) (p : Arrived) (o : Outcome) : Type 0 where
+  pub ids : Placeable (x .number) (p .work .first) (p .work .end) × (p .work .base ≤ p .work .first)
+  pub there : UpdatesFit (updatesAt (x .number) (p .work)) (x .run) octets
+  pub left :
+      Leaves o (p .reply) (updates (updatesAt (x .number) (p .work)) octets (x .run) .clock) (p .links)
+      (updates (updatesAt (x .number) (p .work)) octets (x .run) .entries)
+
+module _ (x : Lent) (i : ℕ) (octets : List ℕ) where
+  abbrev g : Answer
+  g = guard (OnLink i) x
+
+  refuses : Received x octets (ends g (x .host)) (refused g (receive i octets) x)
+  unfolding updates sweep
+  refuses =
+      record {
+        ids = (record { number = λ h. absurd (omega (arith, h)); ids = λ h. absurd (omega (arith, h)) }, omega arith);
+        there = record { places = record { rising = omega arith; inside = omega arith }; sound = λ h. absurd (omega (arith, h)) };
+        left = record { reply = refl; clock = refl; links = refl; run = over-nothing 0 (x .run) };
+      }
+
+  goes-on : done g ≡ true → Received x octets (definition.arrival i octets (x .host)) (updatedBy (definition.arrival i octets (x .host)) octets x)
+  unfolding reading
+  goes-on e =
+      let s = x .host .settings in
+      let q = passed (OnLink i) x e in
+      let h = holds (x .number) (x .run) (q .places) in
+      let k-in = number-lent (x .number) (x .run) (q .places) in
+      let p = definition.arrival i octets (x .host) in
+      let a = fine s (sound s (q .settings)) i octets (x .host .clock) (x .host .links) (clock-lent x (q .lent refl)) (inspect s i octets) (inspected-fits s i octets) in
+      record {
+        ids = (record { number = λ _. k-in; ids = λ _. omega (arith, a .below) }, omega (arith, a .base));
+        there = fits s (x .number) (x .run) h octets (p .work) a;
+        left = rw (carried s (x .number) (x .run) h octets (p .work) a) record { reply = refl; clock = refl; links = refl; run = refl };
+      }
+
+  pub received : Received x octets (planned g i octets (x .host)) (perform (receive i octets) x)
+  unfolding perform
+  received = go (not (done g)) refl
+    where
+      go : (b : Bool) → not (done g) ≡ b
+          → Received x octets (cond b (ends g (x .host)) (definition.arrival i octets (x .host)))
+          (cond b (refused g (receive i octets) x) (updatedBy (definition.arrival i octets (x .host)) octets x))
+      go true e = refuses
+      go false e = goes-on (is-so _ e)
