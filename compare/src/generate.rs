@@ -217,11 +217,11 @@ fn any_clock(random: &mut Random) -> Clock {
     }
 }
 
-/// Links in range.
+/// Links in range. What is lent for a broadcast link need not be the address that was set.
 pub fn links(random: &mut Random, settings: &Settings) -> Links {
     let mut links = Links::default();
     for (link, setting) in links.all.iter_mut().zip(&settings.links) {
-        let neighbor = if setting.broadcast {
+        let neighbor = if setting.broadcast && random.one_in(2) {
             setting.neighbor
         } else {
             address(random, settings)
