@@ -23,7 +23,7 @@ pub struct Receiver<'a> {
 pub fn message(random: &mut Random, receiver: &Receiver) -> Vec<u8> {
     let source = source(random, receiver);
     let round_trip = round_trip(random);
-    let path = if receiver.link.broadcast {
+    let path = if receiver.link.broadcast == 1 {
         100
     } else if source == receiver.neighbor {
         i64::from(round_trip).max(100)
