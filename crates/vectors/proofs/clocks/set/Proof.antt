@@ -1,11 +1,12 @@
+-- The test tells that the clock is in range, and a signed 32-bit count always is.
 use mir.ValLaws.{toZ-ofZ}
 use mathlib.Core.Path.{_∙_, sym}
 use lib.IntN.{ℤ}
 use mir.Syntax.{w32}
 use mir.Val.{SFits}
 use borrow.Author.Needs.{needs}
-use Rattle.vectors.proofs.trials.set.Statement.{statement}
-use Rattle.vectors.proofs.trials.set.Tie as tie
+use Rattle.vectors.proofs.clocks.set.Statement.{statement}
+use Rattle.vectors.proofs.clocks.set.Tie as tie
 
 in-range-requires : tie.Need-in-range-requires
 in-range-requires c κs = search needs

@@ -1,19 +1,20 @@
+-- The count rises to its end.
 use Prim.Native.Nat.{_≤_, _-_}
 use borrow.Author.Needs.{needs}
-use Rattle.vectors.proofs.trials.adjusts.Statement.{statement}
-use Rattle.vectors.proofs.trials.adjusts.Tie as tie
+use Rattle.vectors.proofs.all_records.Statement.{statement}
+use Rattle.vectors.proofs.all_records.Tie as tie
 
 abbrev Inv-loop : tie.InvT-loop
-Inv-loop times x₀ i₀ x i = i ≤ times
+Inv-loop i₀ i = i ≤ 100
 
 abbrev μ-loop : tie.MeasureT-loop
-μ-loop times x₀ i₀ x i = times - i
+μ-loop i₀ i = 100 - i
 
 loop-holds : tie.Need-loop-holds Inv-loop μ-loop
 loop-holds c = search needs
 
-adjusted-requires : tie.Need-adjusted-requires Inv-loop μ-loop
-adjusted-requires c κs = search needs
+next-requires : tie.Need-next-requires Inv-loop μ-loop
+next-requires c κs = search needs
 
 add-i : tie.Need-add-i Inv-loop μ-loop
 add-i c = search needs
@@ -27,7 +28,7 @@ loop-again c = search needs
 returns : tie.Need-returns Inv-loop μ-loop
 returns c = search needs
 
-pub adjusts-spec : {M : Type 1} → statement M
-adjusts-spec =
+pub all-records-spec : {M : Type 1} → statement M
+all-records-spec =
     tie.close
-    (tie.spec Inv-loop μ-loop loop-holds adjusted-requires add-i loop-less loop-again returns)
+    (tie.spec Inv-loop μ-loop loop-holds next-requires add-i loop-less loop-again returns)
