@@ -12,7 +12,7 @@
 
 #![deny(missing_docs)]
 
-mod answer;
+pub mod answer;
 mod host;
 mod layout;
 mod library;
