@@ -1,6 +1,7 @@
 // Arrivals on link 1 of a host of 192.0.2, one to a record of standard input. tests/packets.py has the table of them, and makes the records.
 ghost use mathlib.Core.Path.{_≡_};
 use super::show;
+use answer::Answer;
 use calendar::Date;
 use clock::Clock;
 use config::Link;
@@ -65,17 +66,32 @@ fn arrival(host: Address, neighbor: Address, c: Clock, e: Entry, octets: &[u8]) 
     packet::receive(s, 0, c, links, [e; 255], 1, octets)
 }
 
-// What the arrival leaves: the answer, link 1, and the entry of an id.
-fn left(w: Whole, id: u8) {
-    let a = w.answer;
-    show::answer(a);
-    show::link(config::link_state::link_of(w.links, 1));
+// The entry of an id.
+fn entry_of(run: [Entry; 255], id: u8) -> Entry {
     if id < 255 {
-        let run = w.run;
-        show::number(b"; id ", id as i64);
-        show::entry(run[id as usize]);
+        return run[id as usize];
     }
+    table::fresh()
+}
+
+// A line's end: the answer, link 1, and the entry of an id.
+fn left(a: Answer, x: Link, id: u8, e: Entry) {
+    show::answer(a);
+    show::link(x);
+    show::number(b"; id ", id as i64);
+    show::entry(e);
     show::end();
+}
+
+fn told(w: Whole, id: u8) {
+    let a = w.answer;
+    let run = w.run;
+    left(
+        a,
+        config::link_state::link_of(w.links, 1),
+        id,
+        entry_of(run, id),
+    );
 }
 
 // The name of a record.
@@ -107,6 +123,6 @@ pub fn run(r: [u8; 128]) {
     name(r);
     if length <= 48 {
         let w = arrival(address(r[64]), address(r[65]), c, e, &r[80..80 + length]);
-        left(w, r[74]);
+        told(w, r[74]);
     }
 }

@@ -4,6 +4,7 @@ use answer::Answer;
 use calendar::Date;
 use clock::Clock;
 use config::Link;
+use plan::Route;
 use quantity::Millis;
 use quantity::Seconds;
 use quantity::Word;
@@ -22,7 +23,7 @@ fn route_by(pid: u8, delay: Millis, ttl: Seconds) -> Entry {
 }
 
 // A line of what a send on link 1 advertises for an entry.
-fn sent(name: &[u8], e: Entry) {
+fn advertised(name: &[u8], e: Entry) {
     show::text(name);
     show::report(table::advertised(1, e));
     show::end();
@@ -30,15 +31,15 @@ fn sent(name: &[u8], e: Entry) {
 
 // The neighbor is not told of the routes that go by itself (split horizon).
 pub fn split_horizon() {
-    sent(
+    advertised(
         b"sent on link 1, of a route by link 1",
         route_by(1, Millis(500), Seconds(60)),
     );
-    sent(
+    advertised(
         b"sent on link 1, of a route by link 2",
         route_by(2, Millis(500), Seconds(60)),
     );
-    sent(
+    advertised(
         b"sent on link 1, of the host itself",
         route_by(0, Millis(0), Seconds(60)),
     );
@@ -71,8 +72,8 @@ pub fn ageing() {
     );
 }
 
-// A line of a lookup of 192.0.2.3, whose id is 2, where that id's entry is so.
-fn looked_up(name: &[u8], e: Entry) {
+// A lookup of 192.0.2.3, whose id is 2, where that id's entry is so.
+fn looked_up(e: Entry) -> Route {
     let s = packet::settings();
     let address = Address {
         first: 192,
@@ -82,34 +83,49 @@ fn looked_up(name: &[u8], e: Entry) {
     };
     if config::good(s) {
         let p = plan::lookups::lookup(Answer::Done, s, 0, address);
-        let r = plan::lookups::route_of(p, e);
-        let a = r.answer;
-        show::text(name);
-        show::answer(a);
-        show::count(b": id ", r.host);
-        show::number(b" PID ", r.pid as i64);
-        show::end();
+        return plan::lookups::route_of(p, e);
     }
+    Route {
+        answer: Answer::Setting,
+        host: 0,
+        pid: 0,
+    }
+}
+
+// A line of it.
+fn lookup(name: &[u8], e: Entry) {
+    let r = looked_up(e);
+    let a = r.answer;
+    show::text(name);
+    show::answer(a);
+    show::count(b": id ", r.host);
+    show::number(b" PID ", r.pid as i64);
+    show::end();
 }
 
 // "a lookup its host id and PID", "lookup: host is down (DELAY 30,000)"
 pub fn lookups() {
-    looked_up(
+    lookup(
         b"lookup, route by link 1:",
         route_by(1, Millis(500), Seconds(60)),
     );
-    looked_up(
+    lookup(
         b"lookup, route by link 8:",
         route_by(8, Millis(29_999), Seconds(60)),
     );
-    looked_up(
+    lookup(
         b"lookup, the host is down:",
         route_by(1, table::MAX_DELAY, Seconds(60)),
     );
 }
 
-// A line of the TSP of a message that goes out on link 1.
-fn sent_tsp(name: &[u8], x: Link, c: Clock) {
+// What a message on link 1 carries as TSP, and KEEP-ALIVE behind it.
+struct Sent {
+    tsp: Word,
+    keep_alive: u8,
+}
+
+fn sent_at(x: Link, c: Clock) -> Sent {
     let s = packet::settings();
     let links = config::link_state::with_link(config::link_state::fresh(s), 1, x);
     if config::good(s) {
@@ -118,12 +134,26 @@ fn sent_tsp(name: &[u8], x: Link, c: Clock) {
             let m = p.packet;
             let tsp = m.tsp;
             let link = config::link_state::link_of(p.links, 1);
-            show::text(name);
-            show::number(b": TSP ", tsp.bits() as i64);
-            show::number(b", KEEP-ALIVE ", link.keep_alive as i64);
-            show::end();
+            return Sent {
+                tsp: tsp,
+                keep_alive: link.keep_alive,
+            };
         }
     }
+    Sent {
+        tsp: Word(0),
+        keep_alive: 0,
+    }
+}
+
+// A line of it.
+fn message(name: &[u8], x: Link, c: Clock) {
+    let m = sent_at(x, c);
+    let tsp = m.tsp;
+    show::text(name);
+    show::number(b": TSP ", tsp.bits() as i64);
+    show::number(b", KEEP-ALIVE ", m.keep_alive as i64);
+    show::end();
 }
 
 // "B, 500 ahead, gets it at 40,530 and answers at 45,530 with TSP 45,000"; "if KEEP-ALIVE isn't zero, which then falls by one; else 0"
@@ -134,11 +164,11 @@ pub fn tsp() {
         keep_alive: 4,
         tsp: Word(-530),
     };
-    sent_tsp(b"B answers at 45,530 where its TSP is -530", heard, c);
+    message(b"B answers at 45,530 where its TSP is -530", heard, c);
     let silent = Link {
         neighbor: Address::ZERO,
         keep_alive: 0,
         tsp: Word(-530),
     };
-    sent_tsp(b"the same where KEEP-ALIVE is 0", silent, c);
+    message(b"the same where KEEP-ALIVE is 0", silent, c);
 }

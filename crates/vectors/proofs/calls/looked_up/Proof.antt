@@ -18,30 +18,6 @@ lookup-requires c κs =
 route-of-requires : tie.Need-route-of-requires
 route-of-requires c κs = search needs
 
-text-requires : tie.Need-text-requires
-text-requires c κs = search needs
-
-answer-requires : tie.Need-answer-requires
-answer-requires c κs = search needs
-
-slice-aggregate-count : tie.Need-slice-aggregate-count
-slice-aggregate-count c = search needs
-
-count-requires : tie.Need-count-requires
-count-requires c κs = search needs
-
-slice-aggregate-number : tie.Need-slice-aggregate-number
-slice-aggregate-number c = search needs
-
-cast-number : tie.Need-cast-number
-cast-number c = search needs
-
-number-requires : tie.Need-number-requires
-number-requires c κs = search needs
-
-end-requires : tie.Need-end-requires
-end-requires c κs = search needs
-
 returns : tie.Need-returns
 returns c = search needs
 
@@ -51,18 +27,4 @@ returns-2 c = search needs
 pub looked-up-spec : {M : Type 1} → statement M
 looked-up-spec =
     tie.close
-    (tie.spec
-    settings-requires
-    good-requires
-    lookup-requires
-    route-of-requires
-    text-requires
-    answer-requires
-    slice-aggregate-count
-    count-requires
-    slice-aggregate-number
-    cast-number
-    number-requires
-    end-requires
-    returns
-    returns-2)
+    (tie.spec settings-requires good-requires lookup-requires route-of-requires returns returns-2)
