@@ -84,7 +84,8 @@ fn left(a: Answer, x: Link, id: u8, e: Entry) {
 }
 
 fn told(w: Whole, id: u8) {
-    let a = w.answer;
+    let r = w.reply;
+    let a = r.answer;
     let run = w.run;
     left(
         a,

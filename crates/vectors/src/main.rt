@@ -3,7 +3,7 @@ ghost use mathlib.Core.Path.{_≡_};
 ghost use lib.ListN.{length};
 
 mod arrivals;
-mod calls;
+mod requests;
 mod clocks;
 mod rfc1071;
 mod show;
@@ -37,10 +37,10 @@ fn all_records() {
 
 fn main() {
     all_records();
-    calls::tsp();
-    calls::split_horizon();
-    calls::ageing();
-    calls::lookups();
+    requests::tsp();
+    requests::split_horizon();
+    requests::ageing();
+    requests::lookups();
     clocks::midnight();
     clocks::deltas();
     clocks::below_zero();

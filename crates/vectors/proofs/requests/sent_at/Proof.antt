@@ -1,9 +1,19 @@
 -- The tests tell that settings and clock are good, which is all that the plan asks.
 use native.Mathlib.Omega.{arith}
-use mathlib.Core.Path.{_∙_, sym}
+use mathlib.Core.Path.{_≡_, _∙_, sym}
+use mathlib.Core.Bool.{true, false}
+use borrow.Author.Tests.{le-ltb}
+use Rattle.host.specs.declared.Settings.{Settings}
+use Rattle.host.specs.Settings.{linkCount, settingsGood}
+use Rattle.host.specs.Guard.{noLink}
+use Rattle.host.proofs.Sound.{sound}
 use borrow.Author.Needs.{needs}
-use Rattle.vectors.proofs.calls.sent_at.Statement.{statement}
-use Rattle.vectors.proofs.calls.sent_at.Tie as tie
+use Rattle.vectors.proofs.requests.sent_at.Statement.{statement}
+use Rattle.vectors.proofs.requests.sent_at.Tie as tie
+
+first-link : (s : Settings) → settingsGood s ≡ true → noLink s 1 ≡ false
+unfolding noLink
+first-link s good = le-ltb (linkCount s) 1 (omega (arith, sound s good .links-from))
 
 settings-requires : tie.Need-settings-requires
 settings-requires c κs = search needs
@@ -24,7 +34,7 @@ plan-requires : tie.Need-plan-requires
 plan-requires c κs =
     let good = sym (c .before .before .before .good2 .ensures) ∙ c .before .before .if1 .taken in
     let ready = sym (c .before .in-range .ensures) ∙ c .if2 .taken in
-    (record { settings = λ is-done. good; clock = λ is-done. ready }, record { settings = λ is-done. good; number = λ is-done. omega arith })
+    record { ready = λ _. record { settings = good; clock = λ _. ready; link = λ j f. (let same : 1 ≡ j = cc in rw (sym same) (first-link _ good)) } }
 
 link-of-requires : tie.Need-link-of-requires
 link-of-requires c κs = search needs

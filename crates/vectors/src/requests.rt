@@ -2,9 +2,10 @@
 use super::show;
 use answer::Answer;
 use calendar::Date;
+use calls::Request;
 use clock::Clock;
 use host::Link;
-use plan::Route;
+use program::Whole;
 use quantity::Millis;
 use quantity::Seconds;
 use quantity::Word;
@@ -45,10 +46,19 @@ pub fn split_horizon() {
     );
 }
 
+// The host of the packet program, all whose entries are the same, as a request leaves it.
+fn asked(e: Entry, q: Request) -> Whole {
+    let s = program::settings();
+    let c = Clock::fresh(Millis(0), Date::FIRST);
+    program::call(s, 0, c, host::link_state::fresh(s), [e; 255], q)
+}
+
 // A line of an entry a second later.
 fn second(name: &[u8], e: Entry) {
+    let w = asked(e, Request::Second);
+    let run = w.run;
     show::text(name);
-    show::entry(table::aged(e));
+    show::entry(run[0]);
     show::end();
 }
 
@@ -72,33 +82,20 @@ pub fn ageing() {
     );
 }
 
-// A lookup of 192.0.2.3, whose id is 2, where that id's entry is so.
-fn looked_up(e: Entry) -> Route {
-    let s = program::settings();
+// A line of a lookup of 192.0.2.3, whose id is 2, where that id's entry is so.
+fn lookup(name: &[u8], e: Entry) {
     let address = Address {
         first: 192,
         second: 0,
         third: 2,
         fourth: 3,
     };
-    if host::good(s) {
-        let p = plan::lookups::lookup(Answer::Done, s, 0, address);
-        return plan::lookups::route_of(p, e);
-    }
-    Route {
-        answer: Answer::Setting,
-        host: 0,
-        pid: 0,
-    }
-}
-
-// A line of it.
-fn lookup(name: &[u8], e: Entry) {
-    let r = looked_up(e);
+    let w = asked(e, Request::Lookup(address));
+    let r = w.reply;
     let a = r.answer;
     show::text(name);
     show::answer(a);
-    show::count(b": id ", r.host);
+    show::count(b": id ", r.id);
     show::number(b" PID ", r.pid as i64);
     show::end();
 }
@@ -130,7 +127,7 @@ fn sent_at(x: Link, c: Clock) -> Sent {
     let links = host::link_state::with_link(host::link_state::fresh(s), 1, x);
     if host::good(s) {
         if c.in_range() {
-            let p = plan::sending::plan(Answer::Done, s, 0, c, links, 1, 32);
+            let p = sending::plan(Answer::Done, s, c, links, 1, 32);
             let m = p.packet;
             let tsp = m.tsp;
             let link = host::link_state::link_of(p.links, 1);
