@@ -5,5 +5,6 @@ pub mod Seats
 pub mod Sending
 pub mod Arrival
 pub mod Histories
+pub mod TwoSeats
 pub mod Alive
 pub mod Shared
