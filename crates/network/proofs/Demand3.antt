@@ -7,4 +7,5 @@ pub mod Arrival
 pub mod Histories
 pub mod TwoSeats
 pub mod Alive
+pub mod Sharp
 pub mod Shared

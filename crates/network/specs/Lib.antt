@@ -13,3 +13,4 @@ pub mod Demand3
 pub mod SharedRun
 pub mod TwoSeats
 pub mod Example
+pub mod Sharp

@@ -41,7 +41,7 @@ use Rattle.host.specs.Send.{sentLength, sentMessage, sentOutcome}
 use Rattle.host.specs.Arrival.{noTable, withTable, step5, concluded, action}
 use Rattle.host.specs.Calls.{arrived, reported, looked}
 use Rattle.network.specs.Call.{Call, initializes, ticks, adjusts, sets, reads, seconds, sends, arrives, reports, looksUp, perform, messageOf}
-use Rattle.network.specs.Locality.{SameInput, same, same-send, told, ownLinks, Alike, Locality}
+use Rattle.network.specs.Locality.{SameInput, same, same-send, told, ownLinks, Locality}
 use Rattle.network.proofs.Performs.{guardOf, workOf, perform-is}
 use Rattle.network.proofs.Sends.{sent-message}
 use Rattle.network.proofs.Demand1.SpareLinks.{relinked}
