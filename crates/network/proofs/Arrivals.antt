@@ -16,14 +16,14 @@ use Rattle.wire.specs.declared.Parsed.{Parsed}
 use Rattle.wire.specs.declared.Parsed.the-variants.{Good, Bad}
 use Rattle.wire.specs.Octets.{sameAddress}
 use Rattle.route.specs.declared.Found.{Found}
-use Rattle.route.specs.declared.Found.the-variants.{Id, Nothing}
+use Rattle.route.specs.declared.Found.the-variants.{Host, Nothing}
 use Rattle.route.specs.Find.{find}
 use Rattle.table.specs.declared.Entry.{Entry}
-use Rattle.host.specs.declared.Settings.{Settings}
-use Rattle.host.specs.declared.Link.{Link}
-use Rattle.host.specs.declared.Links.{Links}
-use Rattle.host.specs.State.{broadcast, linkOf, withLink}
-use Rattle.host.specs.Guard.{keepAliveInterval}
+use Rattle.config.specs.declared.Settings.{Settings}
+use Rattle.config.specs.declared.Link.{Link}
+use Rattle.config.specs.declared.Links.{Links}
+use Rattle.config.specs.State.{broadcast, linkOf, withLink}
+use Rattle.config.specs.Guard.{keepAliveInterval}
 use Rattle.arrival.specs.declared.Flight.{Flight}
 use Rattle.arrival.specs.Steps.{step2, step3, measured, newNeighbor}
 use Rattle.arrival.proofs.Flights.{steps-cases}
@@ -67,7 +67,7 @@ module _ (s : Settings) (k : ℕ) (c : Clock) (l : Links) (run : List Entry) (i 
         → P (leaves DelayNotValid (reading c .clock) (withLink i (f .link) l) run)
     pub unknown : (f : Flight) → Flown c f → P (leaves NoHost (reading c .clock) (withLink i (f .link) l) run)
     pub one : (p : Packet) (f : Flight) (id : ℕ) → Flown c f
-        → P (noTable s k (reading c .clock) (withLink i (f .link) l) run i p f (Id id))
+        → P (noTable s k (reading c .clock) (withLink i (f .link) l) run i p f (Host id))
     pub all : (p : Packet) (f : Flight) → Flown c f
         → P (withTable s k (reading c .clock) (withLink i (f .link) l) run i octets p f)
 
@@ -79,7 +79,7 @@ module _ (s : Settings) (k : ℕ) (c : Clock) (l : Links) (run : List Entry) (i 
         go : (b : Bool) (h : Found)
             → P (cond b (noTable s k (reading c .clock) (withLink i (f .link) l) run i p f h) (withTable s k (reading c .clock) (withLink i (f .link) l) run i octets p f))
         go true Nothing = ways .unknown f g
-        go true (Id id) = ways .one p f id g
+        go true (Host id) = ways .one p f id g
         go false h = ways .all p f g
 
     acted : (p : Packet) → P (action s k c l run i octets p)

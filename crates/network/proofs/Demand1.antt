@@ -1,6 +1,7 @@
 pub mod Answers
 pub mod Refusals
 pub mod Frame
+pub mod SpareLinks
 pub mod Locality
 pub mod OwnCalls
 pub mod Isolation

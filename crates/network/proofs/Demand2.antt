@@ -2,11 +2,11 @@
 use mathlib.Core.Path.{_≡_, refl, sym, ap, _∙_}
 use mathlib.Core.Bool.{Bool, true, false, true≢false, false≢true, cond, not, _&&_, _||_}
 use mathlib.Core.List.{List, [], _∷_, map}
-use Prim.Native.Nat.{ℕ, suc, _≤_, _<_}
+use Prim.Native.Nat.{ℕ, suc, _<_}
 use native.Mathlib.Omega.{arith}
 use borrow.Author.Tests.{eq-eqb}
 use lib.Dec.{eqb}
-use lib.IntN.{ℤ, _+ℤ_}
+use lib.IntN.{_+ℤ_}
 use lib.ListN.{length, getD, length-map}
 use Rattle.laws.proofs.Tests.{either, both}
 use Rattle.quantity.specs.declared.Millis.{Millis}
@@ -29,14 +29,14 @@ use Rattle.table.specs.declared.Entry.{Entry}
 use Rattle.table.specs.Forms.{every}
 use Rattle.table.specs.Entry.{freshEntry, advertised, entryInRange}
 use Rattle.table.proofs.Ranges.{range-says, reading-in}
-use Rattle.host.specs.declared.Settings.{Settings}
-use Rattle.host.specs.declared.Link.{Link}
-use Rattle.host.specs.declared.Links.{Links}
-use Rattle.host.specs.State.{linkOf, entries}
-use Rattle.host.specs.Guard.{done}
-use Rattle.host.proofs.Places.{entries-length}
-use Rattle.host.proofs.Sound.{sound}
-use Rattle.host.proofs.Guarded.{Passed, passed-link, holds}
+use Rattle.config.specs.declared.Settings.{Settings}
+use Rattle.config.specs.declared.Link.{Link}
+use Rattle.config.specs.declared.Links.{Links}
+use Rattle.config.specs.State.{linkOf, entries}
+use Rattle.config.specs.Guard.{done}
+use Rattle.config.proofs.Places.{entries-length}
+use Rattle.config.proofs.Sound.{sound}
+use Rattle.config.proofs.Guarded.{Passed, passed-link, holds}
 use Rattle.plan.specs.Message.{tableGoes, sentTsp, packetSent}
 use Rattle.arrival.specs.Inspection.{otherLayout, looped, inspected, inspect}
 use Rattle.host.specs.Outcome.{Outcome}

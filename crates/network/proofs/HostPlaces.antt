@@ -11,15 +11,15 @@ use lib.Seq.{take-take, ext-getD, getD-take, getD-drop}
 use Rattle.clock.specs.declared.Clock.{Clock}
 use Rattle.table.specs.declared.Entry.{Entry}
 use Rattle.table.specs.Entry.{freshEntry}
-use Rattle.host.specs.declared.Settings.{Settings}
-use Rattle.host.specs.declared.Links.{Links}
-use Rattle.host.specs.State.{placesPerHost, firstPlace, hostCount, entries}
+use Rattle.config.specs.declared.Settings.{Settings}
+use Rattle.config.specs.declared.Links.{Links}
+use Rattle.config.specs.State.{placesPerHost, firstPlace, hostCount, entries}
 use Rattle.network.specs.Call.{Call, perform}
-use Rattle.network.specs.Frame.{Kept, Frame}
-use Rattle.network.specs.Locality.{SameInput, Alike, Locality}
+use Rattle.network.specs.Frame.{Kept}
+use Rattle.network.specs.Locality.{SameInput}
 use Rattle.network.specs.History.{places}
-use Rattle.network.proofs.Demand1.Frame.{frame-holds}
-use Rattle.network.proofs.Demand1.Locality.{locality-holds}
+use Rattle.network.proofs.Demand1.Frame.{kept-places}
+use Rattle.network.proofs.Demand1.Locality.{Twins, twins}
 
 -- the entries are the first of the places
 pub entries-first : (s : Settings) (k : ℕ) (run : List Entry) → entries s k run ≡ take (hostCount s) (places k run)
@@ -69,16 +69,13 @@ module _ (s : Settings) (k : ℕ) (c : Clock) (l : Links) (run run′ : List Ent
   entries-same = entries-first s k run ∙ ap (take (hostCount s)) same ∙ sym (entries-first s k run′)
 
   kept : Kept s k run left
-  unfolding Frame
-  kept = frame-holds s k c l run x
+  kept = kept-places s k c l run x
 
   kept′ : Kept s k run′ left′
-  unfolding Frame
-  kept′ = frame-holds s k c l run′ x′
+  kept′ = kept-places s k c l run′ x′
 
-  pub alike : Alike s k (perform s k c l run x) (perform s k c l run′ x′)
-  unfolding Locality
-  alike = locality-holds s k c l run run′ x x′ lengths entries-same inputs
+  pub alike : Twins s k (perform s k c l run x) (perform s k c l run′ x′)
+  alike = twins s k c l run run′ lengths entries-same inputs
 
   entry-at : (i : ℕ) (r : List Entry) → i < hostCount s → getD (entries s k r) i freshEntry ≡ getD r (firstPlace k + i) freshEntry
   unfolding entries

@@ -1,8 +1,9 @@
 -- A predicate over the elements of a list, with their places. Nothing here knows of hosts.
-use mathlib.Core.Path.{_≡_, refl}
+use mathlib.Core.Path.{_≡_, refl, subst}
 use mathlib.Core.Bool.{Bool, true}
 use mathlib.Core.List.{List, [], _∷_, map}
-use Prim.Native.Nat.{ℕ, zero, suc}
+use Prim.Native.Nat.{ℕ, zero, suc, _≤_}
+use native.Mathlib.Omega.{arith}
 use lib.ListN.{getD, take, replicate, set}
 use Rattle.laws.proofs.Tests.{both}
 use Rattle.table.specs.Forms.{every}
@@ -36,6 +37,17 @@ pub all-take : {A : Type 0} (P : ℕ → A → Type 0) (n : ℕ) (l : List A) �
 all-take P zero l t = tt
 all-take P (suc n) [] t = tt
 all-take P (suc n) (a ∷ l) t = (t .0, all-take (λ i. P (suc i)) n l (t .1))
+
+-- of a list that begins like another, where P holds of all elements from place n on
+pub all-first : {A : Type 0} (P : ℕ → A → Type 0) (n : ℕ) → ((i : ℕ) (a : A) → n ≤ i → P i a) → (l m : List A)
+    → take n l ≡ take n m → All P l → All P m
+all-first P n h l [] e t = tt
+all-first P zero h l (b ∷ m) e t = (h 0 b (omega arith), all-first (λ i. P (suc i)) zero (λ i a g. h (suc i) a (omega arith)) [] m refl tt)
+all-first P (suc n) h [] (b ∷ m) e t = absurd (let z : _≡_ {A = ℕ} 0 1 = cc in omega arith)
+all-first P (suc n) h (a ∷ l) (b ∷ m) e t =
+    let same : a ≡ b = cc in
+    let rest : take n l ≡ take n m = cc in
+    (subst (P 0) same (t .0), all-first (λ i. P (suc i)) n (λ i c g. h (suc i) c (omega arith)) l m rest (t .1))
 
 pub all-made : {A B : Type 0} (P : ℕ → B → Type 0) (f : A → B) → ((i : ℕ) (a : A) → P i (f a)) → (l : List A) → All P (map f l)
 all-made P f h [] = tt

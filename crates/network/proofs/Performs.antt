@@ -13,16 +13,16 @@ use Rattle.clock.specs.Clock.{freshClock, reading, holdSecond}
 use Rattle.clock.specs.Clock as clock
 use Rattle.wire.specs.declared.Address.{Address}
 use Rattle.route.specs.declared.Found.{Found}
-use Rattle.route.specs.declared.Found.the-variants.{Id, Nothing}
+use Rattle.route.specs.declared.Found.the-variants.{Host, Nothing}
 use Rattle.route.specs.Find.{find}
 use Rattle.table.specs.declared.Entry.{Entry}
 use Rattle.table.specs.Entry.{freshEntry, up, aged}
-use Rattle.host.specs.declared.Settings.{Settings}
-use Rattle.host.specs.declared.Links.{Links}
-use Rattle.host.specs.Settings.{ownId}
-use Rattle.host.specs.State.{freshLinks, hostCount, linkOf, entries, withEntries}
-use Rattle.host.specs.Guard.{noPlaces, noLink, guard, guardLink, guardFresh, done}
-use Rattle.host.proofs.Guarded as guarded
+use Rattle.config.specs.declared.Settings.{Settings}
+use Rattle.config.specs.declared.Links.{Links}
+use Rattle.config.specs.Settings.{ownId}
+use Rattle.config.specs.State.{freshLinks, hostCount, linkOf, entries, withEntries}
+use Rattle.config.specs.Guard.{noPlaces, noLink, guard, guardLink, guardFresh, done}
+use Rattle.config.proofs.Guarded as guarded
 use Rattle.arrival.specs.Inspection.{inspect}
 use Rattle.host.specs.Outcome.{Outcome, Values, leaves, unsent, tells, timeValues}
 use Rattle.host.specs.Send.{sentLength, sentOutcome, send}
@@ -89,12 +89,12 @@ module _ (s : Settings) (k : ℕ) (c : Clock) (l : Links) (run : List Entry) whe
         either P (ltb (length buffer) (sentLength s i (linkOf l i) (entries s k run))) _ _ (λ _. short) (λ _. sent)
 
     pub reported-ways : P (leaves Done (reading c .clock) l run)
-        → ((id : ℕ) → P (reported k (reading c) l run (entries s k run) (Id id))) → P (workOf reports)
+        → ((id : ℕ) → P (reported k (reading c) l run (entries s k run) (Host id))) → P (workOf reports)
     reported-ways none one = go (ownId s)
       where
         go : (f : Found) → P (reported k (reading c) l run (entries s k run) f)
         go Nothing = none
-        go (Id id) = one id
+        go (Host id) = one id
 
     pub looked-ways : (a : Address) → ((x : Answer) → P (leaves x c l run)) → ((v : Values) → P (tells v c l run))
         → P (workOf (looksUp a))
@@ -102,7 +102,7 @@ module _ (s : Settings) (k : ℕ) (c : Clock) (l : Links) (run : List Entry) whe
       where
         go : (f : Found) → P (looked c l run (entries s k run) f)
         go Nothing = refused NoHost
-        go (Id id) = either P (not (up (getD (entries s k run) id freshEntry))) _ _ (λ _. refused HostDown) (λ _. told _)
+        go (Host id) = either P (not (up (getD (entries s k run) id freshEntry))) _ _ (λ _. refused HostDown) (λ _. told _)
 
   -- ---- a run that does not hold all of the host's places
 

@@ -23,12 +23,12 @@ use Rattle.table.specs.Forms.{every}
 use Rattle.table.specs.Entry.{minDelay, upTo, entryInRange}
 use Rattle.table.proofs.Ranges.{reading-in}
 use Rattle.table.proofs.Kept.{update-in-range, clock-in-range}
-use Rattle.host.specs.declared.Settings.{Settings}
-use Rattle.host.specs.declared.Link.{Link}
-use Rattle.host.specs.declared.Links.{Links}
-use Rattle.host.specs.State.{unset, freshLink, freshLinks, linkOf, withLink}
-use Rattle.host.specs.Guard.{linkCount, linkInRange}
-use Rattle.host.proofs.Guarded.{Counted}
+use Rattle.config.specs.declared.Settings.{Settings}
+use Rattle.config.specs.declared.Link.{Link}
+use Rattle.config.specs.declared.Links.{Links}
+use Rattle.config.specs.State.{unset, freshLink, freshLinks, linkOf, withLink}
+use Rattle.config.specs.Guard.{linkCount, linkInRange}
+use Rattle.config.proofs.Guarded.{Counted}
 use Rattle.plan.specs.Message.{linkSent}
 use Rattle.arrival.specs.declared.Flight.{Flight}
 use Rattle.arrival.specs.Steps.{atLeastMin, neighborUpdate, reportUpdate, updateId}

@@ -7,9 +7,9 @@ use lib.Seq.{take-at}
 use Rattle.clock.specs.declared.Reading.{Reading}
 use Rattle.wire.proofs.Messages.{message-length}
 use Rattle.table.specs.declared.Entry.{Entry}
-use Rattle.host.specs.declared.Settings.{Settings}
-use Rattle.host.specs.declared.Links.{Links}
-use Rattle.host.specs.State.{linkOf, entries}
+use Rattle.config.specs.declared.Settings.{Settings}
+use Rattle.config.specs.declared.Links.{Links}
+use Rattle.config.specs.State.{linkOf, entries}
 use Rattle.host.specs.Send.{sentMessage, sentLength, sentOutcome}
 use Rattle.network.specs.Call.{messageOf}
 

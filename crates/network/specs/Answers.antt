@@ -18,16 +18,16 @@ use Rattle.wire.specs.Ip.{ipForm, ipChecksum, protocol}
 use Rattle.wire.specs.Hello.{helloForm, helloChecksum}
 use Rattle.wire.specs.Packet.{helloOf, fields}
 use Rattle.route.specs.declared.Found.{Found}
-use Rattle.route.specs.declared.Found.the-variants.{Id, Nothing}
-use Rattle.route.specs.Find.{isFound, find}
+use Rattle.route.specs.declared.Found.the-variants.{Host, Nothing}
+use Rattle.route.specs.Find.{isHost, find}
 use Rattle.table.specs.declared.Entry.{Entry}
 use Rattle.table.specs.Entry.{freshEntry, up}
-use Rattle.host.specs.declared.Settings.{Settings}
-use Rattle.host.specs.declared.Link.{Link}
-use Rattle.host.specs.declared.Links.{Links}
-use Rattle.host.specs.Settings.{settingsGood}
-use Rattle.host.specs.State.{broadcast, linkOf, entries}
-use Rattle.host.specs.Guard.{noPlaces, noLink, lentInRange}
+use Rattle.config.specs.declared.Settings.{Settings}
+use Rattle.config.specs.declared.Link.{Link}
+use Rattle.config.specs.declared.Links.{Links}
+use Rattle.config.specs.Settings.{settingsGood}
+use Rattle.config.specs.State.{broadcast, linkOf, entries}
+use Rattle.config.specs.Guard.{noPlaces, noLink, lentInRange}
 use Rattle.host.specs.Send.{sentLength}
 use Rattle.arrival.specs.Inspection.{otherLayout, looped}
 use Rattle.network.specs.Call.{Call, initializes, ticks, adjusts, sets, reads, seconds, sends, arrives, reports, looksUp, perform}
@@ -74,12 +74,12 @@ neighborNow s x i p = cond (broadcast s i) (x .neighbor) (p .source)
 -- 11 at an arrival: no table, and no id for the neighbour
 abbrev pub neighborUnknown : Settings → Link → (link : ℕ) → Packet → Bool
 neighborUnknown s x i p =
-    eqb (p .nhosts) 0 && not (isFound (find (s .address) (s .layout) (s .net) (neighborNow s x i p)))
+    eqb (p .nhosts) 0 && not (isHost (find (s .address) (s .layout) (s .net) (neighborNow s x i p)))
 
 -- 13: an id is found, and its entry is down
 abbrev pub hostDown : List Entry → Found → Bool
 hostDown es Nothing = false
-hostDown es (Id id) = not (up (getD es id freshEntry))
+hostDown es (Host id) = not (up (getD es id freshEntry))
 
 -- ---- the tests of each call
 
@@ -107,7 +107,7 @@ tests s k c l run (arrives i octets) =
 tests s k c l run reports = guardTests s k c l run
 tests s k c l run (looksUp a) =
     guardTests s k c l run
-    ++ on NoHost (not (isFound (find (s .address) (s .layout) (s .net) a)))
+    ++ on NoHost (not (isHost (find (s .address) (s .layout) (s .net) a)))
     ∷ on HostDown (hostDown (entries s k run) (find (s .address) (s .layout) (s .net) a))
     ∷ []
 

@@ -6,8 +6,8 @@ use Rattle.quantity.specs.declared.Millis.{Millis}
 use Rattle.clock.specs.declared.Clock.{Clock}
 use Rattle.wire.specs.declared.Address.{Address}
 use Rattle.table.specs.declared.Entry.{Entry}
-use Rattle.host.specs.declared.Settings.{Settings}
-use Rattle.host.specs.declared.Links.{Links}
+use Rattle.config.specs.declared.Settings.{Settings}
+use Rattle.config.specs.declared.Links.{Links}
 use Rattle.host.specs.Outcome.{Outcome}
 use Rattle.host.specs.Send.{send}
 use Rattle.host.specs.Calls.{initialize, tick, adjust, setBy, read, second, arrival, selfReport, lookup}

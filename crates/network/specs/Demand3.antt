@@ -14,11 +14,12 @@ use Rattle.clock.specs.Midnight.{dayMillis}
 use Rattle.clock.specs.Clock.{reading}
 use Rattle.table.specs.declared.Entry.{Entry}
 use Rattle.table.specs.Entry.{freshEntry, up}
-use Rattle.host.specs.Guard.{done}
+use Rattle.config.specs.declared.Links.{Links}
+use Rattle.config.specs.Guard.{done}
 use Rattle.host.specs.Outcome.{Outcome}
 use Rattle.network.specs.Call.{Call, messageOf}
 use Rattle.network.specs.History.{Event, State, leftBy, Lends, outcome, after}
-use Rattle.network.specs.Room.{Room, at, afresh, HostAt, Proper}
+use Rattle.network.specs.Room.{longestWay, errorParts, delayParts, Room, at, afresh, HostAt, Proper}
 
 -- ---- the calls of the list
 
@@ -37,16 +38,23 @@ callOf reports = Call.reports
 callOf (sends i buffer t) = Call.sends i buffer
 callOf (arrives i packet t) = Call.arrives i packet
 
--- a call at a seat, with the run that it is lent
+-- a call at a seat, with the links and the run that it is lent
 pub record Step : Type 0 where
   pub seat : ℕ
+  pub links : Links
   pub run : List Entry
   pub call : RoomCall
 
 -- "Each call gets its seat's settings"
 abbrev pub eventOf : Room → Step → Event
 eventOf r x =
-    record { number = r .number (x .seat); settings = r .settings (x .seat); run = x .run; call = callOf (x .call) }
+    record {
+      number = r .number (x .seat);
+      settings = r .settings (x .seat);
+      links = x .links;
+      run = x .run;
+      call = callOf (x .call);
+    }
 
 -- ---- the room after a list of calls
 
@@ -93,11 +101,11 @@ pub record Reads (r : Room) (w : World) (a : ℕ) (t : ℤ) : Type 0 where
 abbrev pub timed : Answer → Bool
 timed a = eqb (number a) 0 || eqb (number a) 10 || eqb (number a) 11
 
--- ".. where the arrival has a millisecond, that is 0 to 16,383 above the send's"
+-- ".. where the arrival has a millisecond, that is 0 to 16,383 above the send's": up to the room's longest way
 pub record Later (r : Room) (w : World) (a : ℕ) (t : ℤ) (m : Message) : Type 0 where
   pub reads : Reads r w a t
   pub way : ℕ
-  pub short : way ≤ 16383
+  pub short : way ≤ r .longest
   pub later : t ≡ m .ms +ℤ pos way
 
 -- "Each arrival is given a copy of the message that one earlier send of the list, answered 0, wrote at the cable's other end"
@@ -118,8 +126,8 @@ Timely r w a o (arrives i packet t) = Delivered r w a i packet t (o .answer)
 
 pub record Allowed (r : Room) (w : World) (x : Step) : Type 0 where
   pub seat-in : x .seat < r .seats
-  -- "Each call gets .. the clock, links and entries as that seat's last call left them"
-  pub lends : Lends (w .state) (eventOf r x)
+  -- "Each call gets .. the clock, links and entries as that seat's last call left them": "An entry here is one of a seat's first NHOSTS."
+  pub lends : Lends (r .number (x .seat)) (w .state (r .number (x .seat))) (eventOf r x)
   pub timely : Timely r w (x .seat) (result r w x) (x .call)
 
 -- each call of a list is allowed in the world that those before it made
@@ -143,7 +151,7 @@ pub record Right (r : Room) (b i : ℕ) (e : Entry) : Type 0 where
   pub seat : ℕ
   pub seat-in : seat < r .seats
   pub host-there : HostAt r i seat
-  pub close : pos (200 * natAbs (e .offset .0 -ℤ (r .fixed seat -ℤ r .fixed b))) ≤ℤ (e .delay .0 *ℤ pos 101)
+  pub close : pos (delayParts * natAbs (e .offset .0 -ℤ (r .fixed seat -ℤ r .fixed b))) ≤ℤ (e .delay .0 *ℤ pos errorParts)
 
 -- "An entry with a delay under 30,000, in any seat's table": "An entry here is one of a seat's first NHOSTS."
 unfoldable pub Claim : Room → World → Type 0
@@ -151,6 +159,11 @@ Claim r w =
     (b i : ℕ) → b < r .seats → i < r .settings b .layout .nhosts → up (entryOf r w b i) ≡ true
     → Right r b i (entryOf r w b i)
 
-unfoldable pub Demand3 : Type 0
-Demand3 =
-    (r : Room) → Proper r → (w : World) → Starts r w → (xs : List Step) → Allows r w xs → Claim r (history r w xs)
+-- where no message is under way for longer than so many ms
+unfoldable pub Demand3Within : (longest : ℕ) → Type 0
+Demand3Within n =
+    (r : Room) → Proper r → r .longest ≤ n → (w : World) → Starts r w → (xs : List Step) → Allows r w xs
+    → Claim r (history r w xs)
+
+abbrev pub Demand3 : Type 0
+Demand3 = Demand3Within longestWay

@@ -11,9 +11,9 @@ use Rattle.wire.specs.declared.Parsed.the-variants.{Bad}
 use Rattle.wire.specs.Ranges.{SignedTwo, AddressFits}
 use Rattle.table.specs.declared.Entry.{Entry}
 use Rattle.table.specs.Entry.{freshEntry}
-use Rattle.host.specs.declared.Settings.{Settings}
-use Rattle.host.specs.declared.Links.{Links}
-use Rattle.host.specs.State.{linkOf, entries}
+use Rattle.config.specs.declared.Settings.{Settings}
+use Rattle.config.specs.declared.Links.{Links}
+use Rattle.config.specs.State.{linkOf, entries}
 use Rattle.arrival.specs.Inspection.{inspect}
 use Rattle.host.specs.Send.{send}
 use Rattle.network.specs.Call.{messageOf}

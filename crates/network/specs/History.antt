@@ -7,20 +7,22 @@ use lib.Dec.{ltb, eqb}
 use lib.ListN.{length, take, drop}
 use Rattle.clock.specs.declared.Clock.{Clock}
 use Rattle.table.specs.declared.Entry.{Entry}
-use Rattle.host.specs.declared.Settings.{Settings}
-use Rattle.host.specs.declared.Links.{Links}
-use Rattle.host.specs.State.{placesPerHost, firstPlace}
+use Rattle.config.specs.declared.Settings.{Settings}
+use Rattle.config.specs.declared.Links.{Links}
+use Rattle.config.specs.State.{placesPerHost, firstPlace, hostCount, entries}
 use Rattle.host.specs.Outcome.{Outcome}
 use Rattle.network.specs.Call.{Call, perform}
+use Rattle.network.specs.Locality.{ownLinks}
 
--- a call at a number, with the settings and the run that it is lent
+-- a call at a number, with the settings, the links and the run that it is lent
 pub record Event : Type 0 where
   pub number : ℕ
   pub settings : Settings
+  pub links : Links
   pub run : List Entry
   pub call : Call
 
--- what a host's last call left: its clock, its links and its 255 places
+-- what a host's last call left: its clock, the eight slots of its links and its 255 places
 pub record Left : Type 0 where
   pub clock : Clock
   pub links : Links
@@ -37,13 +39,18 @@ places k run = take placesPerHost (drop (firstPlace k) run)
 abbrev pub Holds : (number : ℕ) → List Entry → Type 0
 Holds k run = firstPlace k + placesPerHost ≤ length run
 
--- An event is lent its host's clock and links as they were left, and a run in which the host's places are as they were left, if it holds them all; what else the run holds is free.
-abbrev pub Lends : State → Event → Type 0
-Lends w e = Holds (e .number) (e .run) → places (e .number) (e .run) ≡ w (e .number) .places
+-- An event at number k is lent the clock that was left there; the links up to the count as they were left; and a run in which the host's first NHOSTS places are as they were left, if it holds all 255. The slots past the count, the places past NHOSTS and what else the run holds are free.
+pub record Lends (k : ℕ) (x : Left) (e : Event) : Type 0 where
+  pub own-links : ownLinks (e .settings) (e .links) ≡ ownLinks (e .settings) (x .links)
+  pub own-entries : Holds k (e .run) → entries (e .settings) k (e .run) ≡ take (hostCount (e .settings)) (x .places)
+
+-- the same of all eight slots and all 255 places
+pub record LendsWhole (k : ℕ) (x : Left) (e : Event) : Type 0 where
+  pub all-links : e .links ≡ x .links
+  pub all-places : Holds k (e .run) → places k (e .run) ≡ x .places
 
 abbrev pub outcome : State → Event → Outcome
-outcome w e =
-    perform (e .settings) (e .number) (w (e .number) .clock) (w (e .number) .links) (e .run) (e .call)
+outcome w e = perform (e .settings) (e .number) (w (e .number) .clock) (e .links) (e .run) (e .call)
 
 -- what an outcome leaves; a run without all the places leaves them as they were
 abbrev pub leftBy : (number : ℕ) → List Entry → Outcome → Left
@@ -66,6 +73,6 @@ afterAll w [] = w
 afterAll w (e ∷ es) = afterAll (after w e) es
 
 -- each event of a list is lent what those before it left
-unfoldable pub LendsAll : State → List Event → Type 0
-LendsAll w [] = Unit {0}
-LendsAll w (e ∷ es) = Lends w e × LendsAll (after w e) es
+unfoldable pub LendsAll : (ℕ → Left → Event → Type 0) → State → List Event → Type 0
+LendsAll L w [] = Unit {0}
+LendsAll L w (e ∷ es) = L (e .number) (w (e .number)) e × LendsAll L (after w e) es

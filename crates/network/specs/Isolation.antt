@@ -8,14 +8,14 @@ use lib.ListN.{length, take}
 use Rattle.answer.specs.declared.Answer.the-variants.{Done}
 use Rattle.clock.specs.declared.Clock.{Clock}
 use Rattle.table.specs.declared.Entry.{Entry}
-use Rattle.host.specs.declared.Settings.{Settings}
-use Rattle.host.specs.declared.Links.{Links}
-use Rattle.host.specs.State.{hostCount}
-use Rattle.host.specs.Guard.{guardFresh}
+use Rattle.config.specs.declared.Settings.{Settings}
+use Rattle.config.specs.declared.Links.{Links}
+use Rattle.config.specs.State.{hostCount}
+use Rattle.config.specs.Guard.{guardFresh}
 use Rattle.host.specs.Outcome.{Outcome}
 use Rattle.network.specs.Call.{Call, initializes, perform}
-use Rattle.network.specs.Locality.{SameInput, Told, told}
-use Rattle.network.specs.History.{Event, State, Left, outcome, places, put, after, afterAll, LendsAll}
+use Rattle.network.specs.Locality.{SameInput, Told, told, ownLinks}
+use Rattle.network.specs.History.{Event, State, Left, Lends, LendsWhole, outcome, places, put, after, afterAll, LendsAll}
 
 -- ---- a host's own calls
 
@@ -44,9 +44,10 @@ Pairwise (e ∷ es) (f ∷ fs) = Agree e f × Pairwise es fs
 
 -- ---- isolation
 
+-- The settings may differ from call to call. What one call does not count a later one may, so each is lent all that was left.
 unfoldable pub Isolation : Type 0
 Isolation =
-    (k : ℕ) (w v : State) (es fs : List Event) → LendsAll w es → LendsAll v fs → Pairwise (own k es) (own k fs)
+    (k : ℕ) (w v : State) (es fs : List Event) → LendsAll LendsWhole w es → LendsAll LendsWhole v fs → Pairwise (own k es) (own k fs)
     → w k ≡ v k → (toldAt k w es ≡ toldAt k v fs) × (afterAll w es k ≡ afterAll v fs k)
 
 -- ---- isolation from a setting afresh on
@@ -66,15 +67,15 @@ pub data Steady : Settings → List Event → Settings → Type 0 where
 pub data FromAfresh : List Event → Settings → Type 0 where
   begins : {t : Settings} {e : Event} {es : List Event} → SetsAfresh e → Steady (e .settings) es t → FromAfresh (e ∷ es) t
 
--- what is left agrees, in the places that the settings count
+-- what is left agrees, in the links and the places that the settings count
 pub record LeftAlike (s : Settings) (x y : Left) : Type 0 where
   pub clock-same : x .clock ≡ y .clock
-  pub links-same : x .links ≡ y .links
+  pub links-same : ownLinks s (x .links) ≡ ownLinks s (y .links)
   pub entries-same : take (hostCount s) (x .places) ≡ take (hostCount s) (y .places)
 
 unfoldable pub IsolationFromAfresh : Type 0
 IsolationFromAfresh =
-    (k : ℕ) (w v : State) (es fs : List Event) (t : Settings) → LendsAll w es → LendsAll v fs
+    (k : ℕ) (w v : State) (es fs : List Event) (t : Settings) → LendsAll Lends w es → LendsAll Lends v fs
     → Pairwise (own k es) (own k fs) → FromAfresh (own k es) t
     → (toldAt k w es ≡ toldAt k v fs) × LeftAlike t (afterAll w es k) (afterAll v fs k)
 

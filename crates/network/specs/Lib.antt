@@ -11,4 +11,6 @@ pub mod Exchange
 pub mod Room
 pub mod Demand3
 pub mod SharedRun
+pub mod TwoSeats
 pub mod Example
+pub mod Sharp

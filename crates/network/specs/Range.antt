@@ -5,9 +5,9 @@ use Prim.Native.Nat.{ℕ}
 use Rattle.answer.specs.declared.Answer.the-variants.{Done, OutOfRange}
 use Rattle.clock.specs.declared.Clock.{Clock}
 use Rattle.table.specs.declared.Entry.{Entry}
-use Rattle.host.specs.declared.Settings.{Settings}
-use Rattle.host.specs.declared.Links.{Links}
-use Rattle.host.specs.Guard.{guard}
+use Rattle.config.specs.declared.Settings.{Settings}
+use Rattle.config.specs.declared.Links.{Links}
+use Rattle.config.specs.Guard.{guard}
 use Rattle.host.specs.Outcome.{Outcome}
 use Rattle.host.specs.Calls.{initialize}
 use Rattle.network.specs.Call.{Call, perform}

@@ -6,10 +6,10 @@ use Rattle.answer.specs.declared.Answer.{Answer}
 use Rattle.answer.specs.declared.Answer.the-variants.{Done, DelayNotValid, NoHost}
 use Rattle.clock.specs.declared.Clock.{Clock}
 use Rattle.table.specs.declared.Entry.{Entry}
-use Rattle.host.specs.declared.Settings.{Settings}
-use Rattle.host.specs.declared.Link.{Link}
-use Rattle.host.specs.declared.Links.{Links}
-use Rattle.host.specs.State.{linkOf, withLink}
+use Rattle.config.specs.declared.Settings.{Settings}
+use Rattle.config.specs.declared.Link.{Link}
+use Rattle.config.specs.declared.Links.{Links}
+use Rattle.config.specs.State.{linkOf, withLink}
 use Rattle.host.specs.Outcome.{Outcome, noValues}
 use Rattle.network.specs.Call.{Call, arrives, perform, lentBuffer}
 

@@ -6,14 +6,14 @@ use Prim.Native.Nat.{ℕ, _≤_, _<_}
 use lib.IntN.{ℤ, _-ℤ_, natAbs}
 use Rattle.answer.specs.declared.Answer.the-variants.{Done}
 use Rattle.clock.specs.declared.Clock.{Clock}
-use Rattle.route.specs.declared.Found.the-variants.{Id}
+use Rattle.route.specs.declared.Found.the-variants.{Host}
 use Rattle.route.specs.Find.{sameNet}
 use Rattle.table.specs.declared.Entry.{Entry}
-use Rattle.host.specs.declared.Settings.{Settings}
-use Rattle.host.specs.declared.Links.{Links}
-use Rattle.host.specs.Settings.{clockSettingOff, ownId}
-use Rattle.host.specs.State.{broadcast}
-use Rattle.host.specs.Guard.{noLink}
+use Rattle.config.specs.declared.Settings.{Settings}
+use Rattle.config.specs.declared.Links.{Links}
+use Rattle.config.specs.Settings.{clockSettingOff, ownId}
+use Rattle.config.specs.State.{broadcast}
+use Rattle.config.specs.Guard.{noLink}
 use Rattle.host.specs.Outcome.{Outcome}
 use Rattle.host.specs.Calls.{initialize}
 
@@ -22,14 +22,34 @@ pub data End : Type 0 where
   loose : End
   at : (seat link : ℕ) → End
 
+-- ---- the demand's numbers
+
+-- "any two of these numbers differ by at most 16,384"
+abbrev pub clockSpread : ℕ
+clockSpread = 16384
+
+-- "0 to 16,383 ms later"
+abbrev pub longestWay : ℕ
+longestWay = 16383
+
+-- "by at most 101/200 of the delay"
+abbrev pub errorParts : ℕ
+errorParts = 101
+
+abbrev pub delayParts : ℕ
+delayParts = 200
+
+-- ---- the room
+
 -- The seats are counted from 0; `number` is a seat's number k. A seat's clock reads the room's millisecond plus its fixed number.
--- `cable a i` is the other end of the cable of link i of seat a: so no link has more than one.
+-- `cable a i` is the other end of the cable of link i of seat a: so no link has more than one. `longest` is how long a message may be under way.
 pub record Room : Type 0 where
   pub seats : ℕ
   pub number : ℕ → ℕ
   pub settings : ℕ → Settings
   pub fixed : ℕ → ℤ
   pub cable : (seat link : ℕ) → End
+  pub longest : ℕ
   -- what was lent to the setting afresh of each seat
   pub clock : ℕ → Clock
   pub links : ℕ → Links
@@ -63,6 +83,5 @@ pub record Proper (r : Room) : Type 0 where
   pub one-layout : (a b : ℕ) → a < r .seats → b < r .seats → r .settings a .layout ≡ r .settings b .layout
   -- "clock setting off"
   pub setting-off : (a : ℕ) → a < r .seats → r .settings a .«clock_host» ≡ clockSettingOff
-  -- "any two of these numbers differ by at most 16,384"
-  pub fixed-near : (a b : ℕ) → a < r .seats → b < r .seats → natAbs (r .fixed a -ℤ r .fixed b) ≤ 16384
+  pub fixed-near : (a b : ℕ) → a < r .seats → b < r .seats → natAbs (r .fixed a -ℤ r .fixed b) ≤ clockSpread
   pub cables : (a i b j : ℕ) → r .cable a i ≡ at b j → Cabled r a i b j

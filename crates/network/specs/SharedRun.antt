@@ -2,17 +2,20 @@
 use mathlib.Core.Path.{_≡_}
 use mathlib.Core.Bool.{true}
 use mathlib.Core.List.{List, [], _∷_}
-use Prim.Native.Nat.{ℕ, suc, _<_}
+use Prim.Native.Nat.{ℕ, suc, _≤_, _<_}
 use lib.ListN.{getD}
 use Rattle.table.specs.declared.Entry.{Entry}
 use Rattle.table.specs.Entry.{freshEntry, up}
+use Rattle.config.specs.declared.Links.{Links}
+use Rattle.network.specs.Locality.{ownLinks}
 use Rattle.network.specs.History.{places}
-use Rattle.network.specs.Room.{Room, afresh, Proper}
+use Rattle.network.specs.Room.{longestWay, Room, afresh, Proper}
 use Rattle.network.specs.Demand3.{RoomCall, Step, World, result, step, Timely, Starts, Right}
 
--- a call at a seat; the run is the shared one
+-- a call at a seat, with the links that it is lent; the run is the shared one
 pub record SharedStep : Type 0 where
   pub seat : ℕ
+  pub links : Links
   pub call : RoomCall
 
 -- the world, and the one run
@@ -22,7 +25,7 @@ pub record SharedWorld : Type 0 where
 
 -- the call, lent the shared run
 abbrev pub lent : SharedWorld → SharedStep → Step
-lent w x = record { seat = x .seat; run = w .run; call = x .call }
+lent w x = record { seat = x .seat; links = x .links; run = w .run; call = x .call }
 
 unfoldable pub sharedStep : Room → SharedWorld → SharedStep → SharedWorld
 sharedStep r w x = record { world = step r (w .world) (lent w x); run = result r (w .world) (lent w x) .run }
@@ -31,9 +34,10 @@ unfoldable pub sharedHistory : Room → SharedWorld → List SharedStep → Shar
 sharedHistory r w [] = w
 sharedHistory r w (x ∷ xs) = sharedHistory r (sharedStep r w x) xs
 
--- what is asked of each call is as before; that it is lent what its seat's last call left is now a fact, and not asked
+-- what is asked of each call is as before; that its entries are what its seat's last call left is now a fact, and not asked
 pub record SharedAllowed (r : Room) (w : SharedWorld) (x : SharedStep) : Type 0 where
   pub seat-in : x .seat < r .seats
+  pub own-links : ownLinks (r .settings (x .seat)) (x .links) ≡ ownLinks (r .settings (x .seat)) (w .world .state (r .number (x .seat)) .links)
   pub timely : Timely r (w .world) (x .seat) (result r (w .world) (lent w x)) (x .call)
 
 unfoldable pub SharedAllows : Room → SharedWorld → List SharedStep → Type 0
@@ -52,6 +56,6 @@ sharedEntry r w b i = getD (places (r .number b) (w .run)) i freshEntry
 
 unfoldable pub SharedDemand3 : Type 0
 SharedDemand3 =
-    (r : Room) → Proper r → (w : SharedWorld) → OneRun r w → (xs : List SharedStep) → SharedAllows r w xs
+    (r : Room) → Proper r → r .longest ≤ longestWay → (w : SharedWorld) → OneRun r w → (xs : List SharedStep) → SharedAllows r w xs
     → (b i : ℕ) → b < r .seats → i < r .settings b .layout .nhosts → up (sharedEntry r (sharedHistory r w xs) b i) ≡ true
     → Right r b i (sharedEntry r (sharedHistory r w xs) b i)

@@ -10,6 +10,7 @@ ghost use Rattle.network.specs.Exchange.{HalfDelay};
 ghost use Rattle.network.specs.Demand3.{Demand3};
 ghost use Rattle.network.specs.SharedRun.{SharedDemand3};
 ghost use Rattle.network.specs.Example.{Example};
+ghost use Rattle.network.specs.Sharp.{Sharp};
 
 // Each call gives the first answer whose condition holds: 12, then upwards; and 0 where none does.
 pub fn answers()
@@ -74,4 +75,9 @@ pub fn shared_demand_3()
 // A history in which a table comes alive, with an OFFSET that is wrong by more than half of the DELAY.
 pub fn example()
     ensures { λ _. ⌜ Example ⌝ }
+{}
+
+// A history that breaks the claim where a message may be under way for 16,384 ms: so 16,383 is sharp.
+pub fn sharp()
+    ensures { λ _. ⌜ Sharp ⌝ }
 {}

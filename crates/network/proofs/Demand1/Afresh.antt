@@ -11,14 +11,14 @@ use Rattle.answer.specs.declared.Answer.the-variants.{Done}
 use Rattle.clock.specs.Clock.{freshClock}
 use Rattle.table.specs.declared.Entry.{Entry}
 use Rattle.table.specs.Entry.{freshEntry}
-use Rattle.host.specs.declared.Settings.{Settings}
-use Rattle.host.specs.State.{hostCount, freshLinks, entries, withEntries}
-use Rattle.host.specs.Guard.{noPlaces, guardFresh}
-use Rattle.host.proofs.Places.{entries-withEntries}
-use Rattle.host.proofs.Guarded.{passed-fresh, holds}
+use Rattle.config.specs.declared.Settings.{Settings}
+use Rattle.config.specs.State.{hostCount, freshLinks, entries, withEntries}
+use Rattle.config.specs.Guard.{noPlaces, guardFresh}
+use Rattle.config.proofs.Places.{entries-withEntries}
+use Rattle.config.proofs.Guarded.{passed-fresh, holds}
 use Rattle.network.specs.Call.{Call, initializes, perform}
-use Rattle.network.specs.Locality.{SameInput, same, same-send, told}
-use Rattle.network.specs.History.{Event, Left, Holds}
+use Rattle.network.specs.Locality.{SameInput, same, same-send, told, ownLinks}
+use Rattle.network.specs.History.{Event, Left, Holds, Lends}
 use Rattle.network.specs.Isolation.{own, Agree, Pairwise, SetsAfresh, Steady, stays, goes-on, begins-anew, FromAfresh, begins, LeftAlike, IsolationFromAfresh}
 use Rattle.network.proofs.Performs.{workOf, perform-is}
 use Rattle.network.proofs.HostPlaces.{entries-first}
@@ -43,10 +43,10 @@ module _ (k : ℕ) where
     pub entries-is : take (hostCount s) (x .places) ≡ replicate (hostCount s) freshEntry
 
   module _ (x : Left) (e : Event) (b : Begins e) where
-    outcome-is : outcomeFrom k x e ≡ workOf (e .settings) k (x .clock) (x .links) (e .run) initializes
+    outcome-is : outcomeFrom k x e ≡ workOf (e .settings) k (x .clock) (e .links) (e .run) initializes
     outcome-is =
-        ap (perform (e .settings) k (x .clock) (x .links) (e .run)) (b .call-is)
-        ∙ perform-is (e .settings) k (x .clock) (x .links) (e .run) initializes
+        ap (perform (e .settings) k (x .clock) (e .links) (e .run)) (b .call-is)
+        ∙ perform-is (e .settings) k (x .clock) (e .links) (e .run) initializes
         ∙ rw (b .answered)
 
     held : Holds k (e .run)
@@ -92,7 +92,7 @@ module _ (k : ℕ) where
         subst (λ s. Begun s (leftFrom k y f)) (sym (agree .settings-same)) (begun y f (begins-too e f agree b)) in
         record {
           clock-same = p .clock-is ∙ sym (q .clock-is);
-          links-same = p .links-is ∙ sym (q .links-is);
+          links-same = ap (ownLinks (e .settings)) (p .links-is ∙ sym (q .links-is));
           entries-same = p .entries-is ∙ sym (q .entries-is);
         }
 
@@ -118,7 +118,7 @@ module _ (k : ℕ) where
   abbrev Same : Settings → (x y : Left) (es fs : List Event) → Type 0
   Same t x y es fs = (toldFrom k x es ≡ toldFrom k y fs) × LeftAlike t (lastFrom k x es) (lastFrom k y fs)
 
-  steady : {s t : Settings} {es : List Event} → Steady s es t → (x y : Left) (fs : List Event) → AllLend k x es → AllLend k y fs
+  steady : {s t : Settings} {es : List Event} → Steady s es t → (x y : Left) (fs : List Event) → AllLend k Lends x es → AllLend k Lends y fs
       → Pairwise es fs → AllAt es → LeftAlike s x y → Same t x y es fs
   unfolding Pairwise
   steady stays x y [] lends lends′ pairs here alike = (refl, alike)
@@ -137,8 +137,8 @@ module _ (k : ℕ) where
       let more = steady rest (leftFrom k x e) (leftFrom k y f) fs (lends .1) (lends′ .1) (pairs .1) (here .1) after in
       (λ j. told-begun x y e f (pairs .0) b j ∷ more .0 j, more .1)
 
-  from-afresh : {t : Settings} {es : List Event} → FromAfresh es t → (x y : Left) (fs : List Event) → AllLend k x es
-      → AllLend k y fs → Pairwise es fs → AllAt es → Same t x y es fs
+  from-afresh : {t : Settings} {es : List Event} → FromAfresh es t → (x y : Left) (fs : List Event) → AllLend k Lends x es
+      → AllLend k Lends y fs → Pairwise es fs → AllAt es → Same t x y es fs
   unfolding Pairwise
   from-afresh (begins a rest) x y [] lends lends′ pairs here = absurd pairs
   from-afresh (begins {e = e} a rest) x y (f ∷ fs) lends lends′ pairs here =
@@ -150,7 +150,7 @@ module _ (k : ℕ) where
 pub isolation-from-afresh-holds : IsolationFromAfresh
 unfolding IsolationFromAfresh
 isolation-from-afresh-holds k w v es fs t lends lends′ pairs afresh =
-    let here = follows k w es in
-    let there = follows k v fs in
+    let here = follows k Lends w es in
+    let there = follows k Lends v fs in
     let both = from-afresh k afresh (w k) (v k) (own k fs) (here .all-lend lends) (there .all-lend lends′) pairs (own-at k es) in
     (here .told-is ∙ both .0 ∙ sym (there .told-is), rw (here .last-is, there .last-is) (both .1))

@@ -8,12 +8,13 @@ use lib.Dec.{eqb}
 use lib.ListN.{length}
 use Rattle.host.specs.Outcome.{Outcome}
 use Rattle.network.specs.Call.{perform}
-use Rattle.network.specs.Frame.{Kept, Frame}
-use Rattle.network.specs.Locality.{same, told, Alike}
+use Rattle.network.specs.Frame.{Kept}
+use Rattle.network.specs.Locality.{same, told}
 use Rattle.network.specs.History.{places, put}
 use Rattle.network.specs.Isolation.{SharedEvent, Shared, sharedOutcome, sharedAfter, sharedAfterAll, sharedTold, alone, SharedAlike, Alone}
 use Rattle.network.proofs.HostPlaces.{elsewhere, alike, places-kept-same}
-use Rattle.network.proofs.Demand1.Frame.{frame-holds}
+use Rattle.network.proofs.Demand1.Frame.{kept-places}
+use Rattle.network.proofs.Demand1.Locality.{Twins}
 
 -- the same at number k, in runs of one length
 record Twin (k : ℕ) (w v : Shared) : Type 0 where
@@ -21,8 +22,7 @@ record Twin (k : ℕ) (w v : Shared) : Type 0 where
   lengths : length (w .run) ≡ length (v .run)
 
 kept : (w : Shared) (e : SharedEvent) → Kept (e .settings) (e .number) (w .run) (sharedOutcome w e .run)
-unfolding Frame
-kept w e = frame-holds (e .settings) (e .number) (w .clock (e .number)) (w .links (e .number)) (w .run) (e .call)
+kept w e = kept-places (e .settings) (e .number) (w .clock (e .number)) (w .links (e .number)) (w .run) (e .call)
 
 -- ---- a call elsewhere
 
@@ -57,7 +57,7 @@ module _ (w v : Shared) (e : SharedEvent) (t : Twin (e .number) w v) where
   second-is =
       λ i. perform (e .settings) (e .number) (t .alike .clock-same i) (t .alike .links-same i) (v .run) (e .call)
 
-  outcomes : Alike (e .settings) (e .number) (sharedOutcome w e) second
+  outcomes : Twins (e .settings) (e .number) (sharedOutcome w e) second
   unfolding second
   outcomes =
       alike (e .settings) (e .number) (w .clock (e .number)) (w .links (e .number)) (w .run) (v .run) (e .call) (e .call)

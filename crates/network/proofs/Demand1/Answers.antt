@@ -15,14 +15,14 @@ use Rattle.wire.specs.Ip.{ipForm, ipChecksum, protocol}
 use Rattle.wire.specs.Hello.{helloForm, helloChecksum}
 use Rattle.wire.specs.Packet.{helloOf, fields, parse}
 use Rattle.route.specs.declared.Found.{Found}
-use Rattle.route.specs.declared.Found.the-variants.{Id, Nothing}
-use Rattle.route.specs.Find.{isFound, find}
+use Rattle.route.specs.declared.Found.the-variants.{Host, Nothing}
+use Rattle.route.specs.Find.{isHost, find}
 use Rattle.table.specs.declared.Entry.{Entry}
 use Rattle.table.specs.Entry.{freshEntry, up}
-use Rattle.host.specs.declared.Settings.{Settings}
-use Rattle.host.specs.declared.Links.{Links}
-use Rattle.host.specs.State.{broadcast, linkOf, entries}
-use Rattle.host.specs.Guard.{noPlaces, noLink, guard, guardLink, guardFresh, done}
+use Rattle.config.specs.declared.Settings.{Settings}
+use Rattle.config.specs.declared.Links.{Links}
+use Rattle.config.specs.State.{broadcast, linkOf, entries}
+use Rattle.config.specs.Guard.{noPlaces, noLink, guard, guardLink, guardFresh, done}
 use Rattle.arrival.specs.Inspection.{otherLayout, looped, inspected, inspect}
 use Rattle.arrival.specs.Steps.{step2, step3}
 use Rattle.arrival.specs.declared.Flight.{Flight}
@@ -55,9 +55,9 @@ guarded-link false a b e = guarded a b e
 -- ---- lookup
 
 looked-answer : (c : Clock) (l : Links) (run es : List Entry) (f : Found)
-    → looked c l run es f .answer ≡ cond (not (isFound f)) NoHost (cond (hostDown es f) HostDown Done)
+    → looked c l run es f .answer ≡ cond (not (isHost f)) NoHost (cond (hostDown es f) HostDown Done)
 looked-answer c l run es Nothing = refl
-looked-answer c l run es (Id id) = go (up (getD es id freshEntry))
+looked-answer c l run es (Host id) = go (up (getD es id freshEntry))
   where
     go : (b : Bool) → cond (not b) (leaves HostDown c l run) (tells (routeValues id (getD es id freshEntry .pid)) c l run) .answer ≡ cond (not b) HostDown Done
     go true = refl
@@ -68,14 +68,14 @@ looked-answer c l run es (Id id) = go (up (getD es id freshEntry))
 -- step 5 gives 11 where the packet has no table and its neighbour has no id
 step5-answer : (s : Settings) (k : ℕ) (c : Clock) (l : Links) (run : List Entry) (i : ℕ) (octets : List ℕ) (p : Packet) (f : Flight)
     → step5 s k c l run i octets p f .answer
-    ≡ cond (eqb (p .nhosts) 0 && not (isFound (find (s .address) (s .layout) (s .net) (f .link .neighbor)))) NoHost Done
+    ≡ cond (eqb (p .nhosts) 0 && not (isHost (find (s .address) (s .layout) (s .net) (f .link .neighbor)))) NoHost Done
 unfolding step5
 step5-answer s k c l run i octets p f = go (eqb (p .nhosts) 0) (find (s .address) (s .layout) (s .net) (f .link .neighbor))
   where
     go : (b : Bool) (h : Found)
-        → cond b (noTable s k c l run i p f h) (withTable s k c l run i octets p f) .answer ≡ cond (b && not (isFound h)) NoHost Done
+        → cond b (noTable s k c l run i p f h) (withTable s k c l run i octets p f) .answer ≡ cond (b && not (isHost h)) NoHost Done
     go true Nothing = refl
-    go true (Id id) = refl
+    go true (Host id) = refl
     go false h = refl
 
 module _ (s : Settings) (k : ℕ) (c : Clock) (l : Links) (run : List Entry) where

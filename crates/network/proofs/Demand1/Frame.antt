@@ -1,10 +1,11 @@
--- A call writes nothing into the run, or as many entries as it counts of its host, at the host's first place.
+-- A call writes nothing into the run, or as many entries as it counts of its host, at the host's first place; and it stores no link but one that it names, up to the count.
 use mathlib.Core.Path.{_≡_, refl, _∙_}
-use mathlib.Core.Bool.{true}
+use mathlib.Core.Bool.{true, false}
 use mathlib.Core.List.{List, map}
-use Prim.Native.Nat.{ℕ}
+use Prim.Native.Nat.{ℕ, _-_}
 use native.Mathlib.Omega.{arith}
 use lib.ListN.{length, length-replicate, length-map}
+use lib.Seq.{drop-set-lt}
 use Rattle.clock.specs.declared.Clock.{Clock}
 use Rattle.clock.specs.Clock.{reading}
 use Rattle.wire.specs.Hello.{reportAt}
@@ -15,16 +16,18 @@ use Rattle.table.specs.Entry.{freshEntry, aged}
 use Rattle.table.specs.Update.{selfReported}
 use Rattle.table.specs.Sweep.{sweep, only}
 use Rattle.table.proofs.Sweeps.{sweep-length}
-use Rattle.host.specs.declared.Settings.{Settings}
-use Rattle.host.specs.declared.Links.{Links}
-use Rattle.host.specs.State.{hostCount, entries, withEntries}
-use Rattle.host.specs.Guard.{guard, guardLink, done}
-use Rattle.host.proofs.Places.{Holds, entries-length, withEntries-length, withEntries-front, withEntries-behind}
-use Rattle.host.proofs.Guarded.{passed, passed-link, passed-fresh, holds}
+use Rattle.config.specs.declared.Settings.{Settings}
+use Rattle.config.specs.declared.Link.{Link}
+use Rattle.config.specs.declared.Links.{Links}
+use Rattle.config.specs.State.{hostCount, withLink, entries, withEntries}
+use Rattle.config.specs.Guard.{linkCount, noLink, guard, guardLink, done}
+use Rattle.config.proofs.Places.{Holds, entries-length, withEntries-length, withEntries-front, withEntries-behind}
+use Rattle.config.proofs.Guarded.{passed, passed-link, passed-fresh, holds, counted}
 use Rattle.arrival.specs.Inspection.{inspect}
 use Rattle.arrival.specs.Steps.{neighborUpdate, reportUpdate, updateId}
-use Rattle.network.specs.Call.{Call, initializes, ticks, adjusts, sets, reads, seconds, sends, arrives, reports, looksUp}
-use Rattle.network.specs.Frame.{Kept, Frame}
+use Rattle.network.specs.Call.{Call, initializes, ticks, adjusts, sets, reads, seconds, sends, arrives, reports, looksUp, perform}
+use Rattle.host.specs.Outcome.{Outcome}
+use Rattle.network.specs.Frame.{Kept, spareLinks, Frame}
 use Rattle.network.proofs.Performs.{guardOf, workOf, performs, sent-ways, reported-ways, looked-ways}
 use Rattle.network.proofs.Arrivals.{arrived-ways}
 
@@ -82,7 +85,45 @@ module _ (s : Settings) (k : ℕ) (c : Clock) (l : Links) (run : List Entry) whe
   works reports e = self-reported (held e)
   works (looksUp a) e = looked-ways s k c l run (λ o. Kept s k run (o .run)) a (λ x. untouched) (λ v. untouched)
 
+  -- ---- the links
+
+  abbrev Spared : Outcome → Type 0
+  Spared o = spareLinks s (o .links) ≡ spareLinks s l
+
+  stored : (i : ℕ) → noLink s i ≡ false → (x : Link) → spareLinks s (withLink i x l) ≡ spareLinks s l
+  stored i there x = drop-set-lt (linkCount s) (l .all) (i - 1) x (counted s i there .at-place)
+
+  spared : (x : Call) → (x ≡ initializes → ⊥) → done (guardOf s k c l run x) ≡ true → Spared (workOf s k c l run x)
+  spared initializes not e = absurd (not refl)
+  spared ticks not e = refl
+  spared adjusts not e = refl
+  spared (sets ms) not e = refl
+  spared reads not e = refl
+  spared seconds not e = refl
+  spared (sends i buffer) not e =
+      sent-ways s k c l run Spared i buffer refl (stored i (passed-link s k c l run i e .0) _)
+  spared (arrives i octets) not e =
+      let there = passed-link s k c l run i e .0 in
+      arrived-ways s k c l run i octets Spared
+      record {
+        refused = λ a. refl;
+        ended = λ f g n. stored i there (f .link);
+        unknown = λ f g. stored i there (f .link);
+        one = λ p f id g. stored i there (f .link);
+        all = λ p f g. stored i there (f .link);
+      }
+      (inspect s i octets)
+  spared reports not e = reported-ways s k c l run Spared refl (λ id. refl)
+  spared (looksUp a) not e = looked-ways s k c l run Spared a (λ x. refl) (λ v. refl)
+
+pub kept-places : (s : Settings) (k : ℕ) (c : Clock) (l : Links) (run : List Entry) (x : Call) → Kept s k run (perform s k c l run x .run)
+kept-places s k c l run x =
+    performs s k c l run (λ o. Kept s k run (o .run)) x (λ e. untouched s k c l run) (works s k c l run x)
+
 pub frame-holds : Frame
 unfolding Frame
 frame-holds s k c l run x =
-    performs s k c l run (λ o. Kept s k run (o .run)) x (λ e. untouched s k c l run) (works s k c l run x)
+    record {
+      places = kept-places s k c l run x;
+      spare = λ not. performs s k c l run (Spared s k c l run) x (λ e. refl) (spared s k c l run x not);
+    }

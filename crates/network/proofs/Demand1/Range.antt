@@ -16,7 +16,7 @@ use Rattle.clock.specs.Clock.{freshClock, reading, holdSecond, clockInRange}
 use Rattle.clock.proofs.Range.{tick-in-range, adjust-in-range, set-in-range, second-in-range, fresh-in-range}
 use Rattle.wire.specs.Hello.{reportAt}
 use Rattle.wire.specs.Packet.{helloOf}
-use Rattle.route.specs.declared.Found.the-variants.{Id}
+use Rattle.route.specs.declared.Found.the-variants.{Host}
 use Rattle.table.specs.declared.Entry.{Entry}
 use Rattle.table.specs.declared.Updated.{Updated}
 use Rattle.table.specs.Forms.{every}
@@ -27,14 +27,14 @@ use Rattle.table.proofs.Kept.{aged-in-range, self-in-range}
 use Rattle.table.proofs.Kept as kept
 use Rattle.table.proofs.Ranges.{reading-in}
 use Rattle.table.proofs.Sweeps.{sweep-length, sweep-clock, only-either}
-use Rattle.host.specs.declared.Settings.{Settings}
-use Rattle.host.specs.declared.Links.{Links}
-use Rattle.host.specs.Settings.{settingsGood}
-use Rattle.host.specs.State.{freshLinks, hostCount, withLink, entries, withEntries}
-use Rattle.host.specs.Guard.{noPlaces, linkCount, linkInRange, lentInRange, guard, guardFresh, done}
-use Rattle.host.proofs.Places.{Holds, entries-length, withEntries-length, entries-withEntries}
-use Rattle.host.proofs.Guarded.{Counted, counted, passed, passed-link, passed-fresh, holds}
-use Rattle.host.proofs.Sound.{Sound, sound}
+use Rattle.config.specs.declared.Settings.{Settings}
+use Rattle.config.specs.declared.Links.{Links}
+use Rattle.config.specs.Settings.{settingsGood}
+use Rattle.config.specs.State.{freshLinks, hostCount, withLink, entries, withEntries}
+use Rattle.config.specs.Guard.{noPlaces, linkCount, linkInRange, lentInRange, guard, guardFresh, done}
+use Rattle.config.proofs.Places.{Holds, entries-length, withEntries-length, entries-withEntries}
+use Rattle.config.proofs.Guarded.{Counted, counted, passed, passed-link, passed-fresh, holds}
+use Rattle.config.proofs.Sound.{Sound, sound}
 use Rattle.arrival.specs.declared.Flight.{Flight}
 use Rattle.arrival.specs.Inspection.{inspect}
 use Rattle.arrival.specs.Steps.{neighborUpdate, reportUpdate, updateId}
@@ -197,7 +197,7 @@ module _ (s : Settings) (k : ℕ) (c : Clock) (l : Links) (run : List Entry) whe
           }
           (inspect s i octets)
 
-    self-reported : (id : ℕ) → Leaves (reported k (reading c) l run (entries s k run) (Id id))
+    self-reported : (id : ℕ) → Leaves (reported k (reading c) l run (entries s k run) (Host id))
     unfolding reading
     self-reported id =
         written c l (sweep 0 own c (entries s k run) .entries) (r .places-there) (r .clock-in) (r .links-in) (swept-count own ranges) (swept-in own ranges)

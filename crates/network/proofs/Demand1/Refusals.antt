@@ -10,10 +10,10 @@ use Rattle.answer.specs.Answer.{number}
 use Rattle.clock.specs.declared.Clock.{Clock}
 use Rattle.clock.specs.Clock.{reading}
 use Rattle.table.specs.declared.Entry.{Entry}
-use Rattle.host.specs.declared.Settings.{Settings}
-use Rattle.host.specs.declared.Link.{Link}
-use Rattle.host.specs.declared.Links.{Links}
-use Rattle.host.specs.State.{unset, freshLink, linkOf, withLink}
+use Rattle.config.specs.declared.Settings.{Settings}
+use Rattle.config.specs.declared.Link.{Link}
+use Rattle.config.specs.declared.Links.{Links}
+use Rattle.config.specs.State.{unset, freshLink, linkOf, withLink}
 use Rattle.arrival.specs.Inspection.{inspect}
 use Rattle.host.specs.Outcome.{Outcome, Values, leaves, unsent}
 use Rattle.network.specs.Call.{Call, initializes, ticks, adjusts, sets, reads, seconds, sends, arrives, reports, looksUp, perform, lentBuffer}

@@ -32,7 +32,7 @@ use Rattle.wire.specs.Packet.{helloOf, fields, parse}
 use Rattle.wire.proofs.ReadBack.{source-back, nhosts-back, time-back, tsp-back, delay-back, offset-back}
 use Rattle.route.specs.declared.Layout.{Layout}
 use Rattle.route.specs.declared.Found.{Found}
-use Rattle.route.specs.declared.Found.the-variants.{Id, Nothing}
+use Rattle.route.specs.declared.Found.the-variants.{Host, Nothing}
 use Rattle.route.specs.Find.{aboveC, sameNet, localId, find, netOf, search, rowsOf}
 use Rattle.table.specs.declared.Entry.{Entry}
 use Rattle.table.specs.declared.Update.{Update}
@@ -41,21 +41,21 @@ use Rattle.table.specs.Entry.{maxDelay, minDelay}
 use Rattle.table.specs.Sweep.{only}
 use Rattle.table.proofs.Cases.{stored, update-keeps}
 use Rattle.table.proofs.Sweeps.{sweep-length}
-use Rattle.host.specs.declared.Settings.{Settings}
-use Rattle.host.specs.declared.Link.{Link}
-use Rattle.host.specs.declared.Links.{Links}
-use Rattle.host.specs.State.{broadcast, linkOf, withLink, entries, hostCount}
-use Rattle.host.specs.Guard.{guardLink}
-use Rattle.host.proofs.Places.{Holds, entries-length}
-use Rattle.host.proofs.Guarded.{passed-link, holds}
-use Rattle.host.proofs.Guarded as guarded
+use Rattle.config.specs.declared.Settings.{Settings}
+use Rattle.config.specs.declared.Link.{Link}
+use Rattle.config.specs.declared.Links.{Links}
+use Rattle.config.specs.State.{broadcast, linkOf, withLink, entries, hostCount}
+use Rattle.config.specs.Guard.{guardLink}
+use Rattle.config.proofs.Places.{Holds, entries-length}
+use Rattle.config.proofs.Guarded.{passed-link, holds}
+use Rattle.config.proofs.Guarded as guarded
 use Rattle.arrival.specs.declared.Flight.{Flight}
 use Rattle.arrival.specs.Inspection.{otherLayout, looped, inspected, inspect}
 use Rattle.arrival.specs.Steps.{step2, step3, step4, steps2to4, tspOf, delayOf, offsetOf, atLeastMin, neighborUpdate, reportUpdate, updateId}
 use Rattle.host.specs.Outcome.{Outcome}
 use Rattle.host.specs.Arrival.{noTable, withTable, step5, concluded, action}
 use Rattle.host.specs.Calls.{arrived, arrival}
-use Rattle.network.specs.Room.{Room, at, HostAt, Proper}
+use Rattle.network.specs.Room.{longestWay, Room, at, HostAt, Proper}
 use Rattle.network.specs.Demand3.{Message, timed}
 use Rattle.network.proofs.Arrivals.{same-address}
 use Rattle.network.proofs.Exchange.{tsp-same, tsp-exact, delay-exact}
@@ -102,11 +102,11 @@ same-count s p n e =
     go false false c n t e = absurd (true≢false e)
 
 -- an id that is found for an address of our net is the one that the address gives
-found-own : (ours a : Address) (s : Settings) (id : ℕ) → sameNet ours a ≡ true → find ours (s .layout) (s .net) a ≡ Id id → localId (s .layout) a ≡ Id id
+found-own : (ours a : Address) (s : Settings) (id : ℕ) → sameNet ours a ≡ true → find ours (s .layout) (s .net) a ≡ Host id → localId (s .layout) a ≡ Host id
 unfolding find
 found-own ours a s id net e = go (aboveC a) (sameNet ours a) net e
   where
-    go : (x n : Bool) → n ≡ true → cond x Nothing (cond n (localId (s .layout) a) (search (netOf a) (rowsOf (s .net)))) ≡ Id id → localId (s .layout) a ≡ Id id
+    go : (x n : Bool) → n ≡ true → cond x Nothing (cond n (localId (s .layout) a) (search (netOf a) (rowsOf (s .net)))) ≡ Host id → localId (s .layout) a ≡ Host id
     go true n t e = cc
     go false true t e = e
     go false false t e = absurd (false≢true t)
@@ -161,7 +161,7 @@ module _ (r : Room) (proper : Proper r) (b a : ℕ) (hb : b < r .seats) (ha : a 
     no-table-right : (x : Found) → find (r .settings b .address) (r .settings b .layout) (r .settings b .net) (r .settings a .address) ≡ x
         → RightOutcome r b run (noTable (r .settings b) (r .number b) c l run i p f x)
     no-table-right Nothing e = same-right r b l run _ lent refl refl
-    no-table-right (Id id) e =
+    no-table-right (Host id) e =
         let host : HostAt r id a = ap (λ (y : Layout). localId y (r .settings a .address)) (proper .one-layout a b ha hb) ∙ found-own (r .settings b .address) (r .settings a .address) (r .settings b) id (proper .one-net b a hb ha) e in
         written-right r b Done _ l run _ links there
         (sweep-length 0 (only id _) c (entries (r .settings b) (r .number b) run) ∙ entries-length (r .settings b) (r .number b) run there)
@@ -204,9 +204,9 @@ raised n =
     (λ t. let l = lt-yes (pos n) (pos 100) t in (omega arith, omega arith))
     (λ t. let l = lt-no (pos n) (pos 100) t in (omega arith, omega arith))
 
-module _ (r : Room) (proper : Proper r) (b i : ℕ) (hb : b < r .seats) (m : Message) (cable : r .cable b i ≡ at (m .seat) (m .link)) (right : RightMessage r m)
+module _ (r : Room) (proper : Proper r) (ways : r .longest ≤ longestWay) (b i : ℕ) (hb : b < r .seats) (m : Message) (cable : r .cable b i ≡ at (m .seat) (m .link)) (right : RightMessage r m)
     (c : Clock) (l : Links) (run : List Entry) (lent : RightLent r b l run) (there : Holds (r .number b) run) (numbered : suc (i - 1) ≡ i)
-    (way : ℕ) (short : way ≤ 16383) (clock : reading c .time .0 ≡ (m .ms +ℤ pos way) +ℤ r .fixed b) where
+    (way : ℕ) (short : way ≤ r .longest) (clock : reading c .time .0 ≡ (m .ms +ℤ pos way) +ℤ r .fixed b) where
   abbrev a : ℕ
   a = m .seat
 
@@ -295,8 +295,8 @@ module _ (r : Room) (proper : Proper r) (b i : ℕ) (hb : b < r .seats) (m : Mes
       near : Near (wrap 16 (tspOf (p .time) now .0 +ℤ shrZ (delayOf now (p .tsp) .0) 2)) (r .fixed a) (r .fixed b) (atLeastMin (delayOf now (p .tsp)) .0)
       near =
           subst₂ (λ (v : Word) (d : Millis). Near (wrap 16 (v .0 +ℤ shrZ (d .0) 2)) (r .fixed a) (r .fixed b) (atLeastMin d .0)) (sym tsp-is) (sym delay-is)
-          (rw (offset-exact (r .fixed a) (r .fixed b) (carried .way) way near-clocks (carried .short) short)
-          (offset-near (r .fixed a) (r .fixed b) (carried .way) way near-clocks (carried .short) short (atLeastMin (millis (pos (carried .way + way))) .0)
+          (rw (offset-exact (r .fixed a) (r .fixed b) (carried .way) way near-clocks (omega (arith, carried .short)) (omega arith))
+          (offset-near (r .fixed a) (r .fixed b) (carried .way) way near-clocks (omega (arith, carried .short)) (omega arith) (atLeastMin (millis (pos (carried .way + way))) .0)
           (raised (carried .way + way) .0) (raised (carried .way + way) .1)))
 
   -- 4, a new neighbour: DELAY is 30,000, and nothing is stored
@@ -354,7 +354,7 @@ step5-timed s k c l run i octets p f =
   where
     found : (x : Found) → T (timed (noTable s k c l run i p f x .answer))
     found Nothing = tt
-    found (Id id) = tt
+    found (Host id) = tt
 
 action-timed : (s : Settings) (k : ℕ) (c : Clock) (l : Links) (run : List Entry) (i : ℕ) (octets : List ℕ) (p : Packet)
     → T (timed (action s k c l run i octets p .answer))
@@ -368,15 +368,15 @@ action-timed s k c l run i octets p = go (steps2to4 (broadcast s i) (reading c .
 -- when a message came to seat b: so long after it was sent
 pub record Came (r : Room) (b : ℕ) (c : Clock) (m : Message) : Type 0 where
   pub way : ℕ
-  pub short : way ≤ 16383
+  pub short : way ≤ r .longest
   pub clock : reading c .time .0 ≡ (m .ms +ℤ pos way) +ℤ r .fixed b
 
-pub arrival-right : (r : Room) → Proper r → (b i : ℕ) → b < r .seats → (m : Message) → r .cable b i ≡ at (m .seat) (m .link) → RightMessage r m
+pub arrival-right : (r : Room) → Proper r → r .longest ≤ longestWay → (b i : ℕ) → b < r .seats → (m : Message) → r .cable b i ≡ at (m .seat) (m .link) → RightMessage r m
     → (c : Clock) (l : Links) (run : List Entry) → RightLent r b l run
     → (T (timed (arrival (r .settings b) (r .number b) c l run i (m .octets) .answer)) → Came r b c m)
     → RightOutcome r b run (arrival (r .settings b) (r .number b) c l run i (m .octets))
 unfolding arrival
-arrival-right r proper b i hb m cable right c l run lent =
+arrival-right r proper ways b i hb m cable right c l run lent =
     guarded.either Kept (guardLink (r .settings b) (r .number b) c l run i) (λ _ _. same-right r b l run _ lent refl refl)
     (λ d.
     let ok = passed-link (r .settings b) (r .number b) c l run i d in
@@ -384,7 +384,7 @@ arrival-right r proper b i hb m cable right c l run lent =
     (λ x _. same-right r b l run _ lent refl refl)
     (λ ours time.
     let came = time (action-timed (r .settings b) (r .number b) c l run i (m .octets) (fields (m .octets))) in
-    action-right r proper b i hb m cable right c l run lent (holds (r .number b) run (ok .1 .places-there)) (link-from-1 (r .settings b) i (ok .0))
+    action-right r proper ways b i hb m cable right c l run lent (holds (r .number b) run (ok .1 .places-there)) (link-from-1 (r .settings b) i (ok .0))
     (came .way) (came .short) (came .clock) (proper .cables b i (m .seat) (m .link) cable .point-to-point) ours))
   where
     Kept : Outcome → Type 0

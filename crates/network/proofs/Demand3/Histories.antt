@@ -3,7 +3,7 @@ use mathlib.Core.Path.{_≡_, refl, sym, ap, subst, _∙_}
 use mathlib.Core.Bool.{Bool, true, false, cond, false≢true}
 use mathlib.Core.List.{List, [], _∷_, List·Memᴰ, List·Memᴰ·cases-cons, List·Memᴰ·not-nil}
 use mathlib.Core.Logic.{_⊎_, inl, inr}
-use Prim.Native.Nat.{ℕ, _<_}
+use Prim.Native.Nat.{ℕ, _≤_, _<_}
 use native.Mathlib.Omega.{arith}
 use borrow.Author.Tests.{eqb-true}
 use lib.Dec.{T, eqb}
@@ -15,20 +15,20 @@ use Rattle.answer.specs.declared.Answer.the-variants.{Done}
 use Rattle.clock.specs.declared.Clock.{Clock}
 use Rattle.table.specs.declared.Entry.{Entry}
 use Rattle.table.specs.Entry.{freshEntry}
-use Rattle.host.specs.State.{hostCount}
-use Rattle.host.specs.Guard.{guardFresh, done}
-use Rattle.host.specs.Settings.{settingsGood}
-use Rattle.host.specs.declared.Settings.{Settings}
-use Rattle.host.specs.declared.Links.{Links}
-use Rattle.host.proofs.Guarded.{passed-fresh}
-use Rattle.host.proofs.Guarded as guarded
-use Rattle.host.proofs.Sound.{Sound, sound}
+use Rattle.config.specs.State.{hostCount}
+use Rattle.config.specs.Guard.{guardFresh, done}
+use Rattle.config.specs.Settings.{settingsGood}
+use Rattle.config.specs.declared.Settings.{Settings}
+use Rattle.config.specs.declared.Links.{Links}
+use Rattle.config.proofs.Guarded.{passed-fresh}
+use Rattle.config.proofs.Guarded as guarded
+use Rattle.config.proofs.Sound.{Sound, sound}
 use Rattle.host.specs.Calls.{initialize}
 use Rattle.host.specs.Outcome.{Outcome}
 use Rattle.network.specs.Call.{perform}
 use Rattle.network.specs.History.{Left, leftBy, after}
-use Rattle.network.specs.Room.{Room, afresh, Proper}
-use Rattle.network.specs.Demand3.{RoomCall, ticks, seconds, reports, sends, arrives, Step, Message, World, result, mailAfter, step, history, timed, Later, Allowed, Allows, Starts, Claim, Demand3}
+use Rattle.network.specs.Room.{longestWay, Room, afresh, Proper}
+use Rattle.network.specs.Demand3.{RoomCall, ticks, seconds, reports, sends, arrives, Step, eventOf, Message, World, result, mailAfter, step, history, timed, Later, Allowed, Allows, Starts, Claim, Demand3Within, Demand3}
 use Rattle.network.proofs.Lists.{All, all-at}
 use Rattle.network.proofs.Demand3.Near.{near-close}
 use Rattle.network.proofs.Demand3.Invariant.{RightEntry, RightMessage, RightSeat, RightWorld}
@@ -37,7 +37,7 @@ use Rattle.network.proofs.Demand3.Seats.{fresh-right, afresh-right, tic
 use Rattle.network.proofs.Demand3.Sending.{send-right}
 use Rattle.network.proofs.Demand3.Arrival.{arrival-right}
 
-module _ (r : Room) (proper : Proper r) where
+module _ (r : Room) (proper : Proper r) (ways : r .longest ≤ longestWay) where
   -- ---- one call
 
   -- what it leaves: the seat right, and the mail
@@ -55,22 +55,22 @@ module _ (r : Room) (proper : Proper r) where
       go (inl e) = subst (RightMessage r) (sym e) (here refl)
       go (inr y) = old m y
 
-  module _ (w : World) (right : RightWorld r w) (a : ℕ) (inside : a < r .seats) (run : List Entry) where
+  module _ (w : World) (right : RightWorld r w) (a : ℕ) (inside : a < r .seats) (links : Links) (run : List Entry) where
     abbrev now : Left
     now = w .state (r .number a)
 
     abbrev at-seat : RoomCall → Step
-    at-seat call = record { seat = a; run = run; call = call }
+    at-seat call = record { seat = a; links = links; run = run; call = call }
 
-    lent : (call : RoomCall) → Allowed r w (at-seat call) → RightLent r a (now .links) run
-    lent call ok = lent-right r a now run (ok .lends) (right .seats a inside)
+    lent : (call : RoomCall) → Allowed r w (at-seat call) → RightLent r a links run
+    lent call ok = lent-right r a proper now (eventOf r (at-seat call)) refl (ok .lends) (right .seats a inside)
 
     arrives-right : (i : ℕ) (packet : List ℕ) (t : ℤ) → Allowed r w (at-seat (arrives i packet t)) → RightOutcome r a run (result r w (at-seat (arrives i packet t)))
     unfolding perform
     arrives-right i packet t ok =
         let d = ok .timely in
         subst (λ (o : List ℕ). RightOutcome r a run (result r w (at-seat (arrives i o t)))) (sym (d .a-copy))
-        (arrival-right r proper a i inside (d .message) (d .other-end) (right .mail (d .message) (d .earlier)) (now .clock) (now .links) run
+        (arrival-right r proper ways a i inside (d .message) (d .other-end) (right .mail (d .message) (d .earlier)) (now .clock) links run
         (lent (arrives i packet t) ok)
         (λ e.
         let later = subst (λ (o : List ℕ). T (timed (result r w (at-seat (arrives i o t)) .answer)) → Later r w a t (d .message)) (d .a-copy) (d .in-time) e in
@@ -78,18 +78,18 @@ module _ (r : Room) (proper : Proper r) where
 
     call-right : (call : RoomCall) → Allowed r w (at-seat call) → StepRight w (at-seat call)
     unfolding perform
-    call-right ticks ok = record { seat = tick-right r a (now .clock) (now .links) run (lent ticks ok); mail = right .mail }
-    call-right seconds ok = record { seat = second-right r a (now .clock) (now .links) run (lent seconds ok); mail = right .mail }
-    call-right reports ok = record { seat = self-right r a (now .clock) (now .links) run (lent reports ok) inside; mail = right .mail }
+    call-right ticks ok = record { seat = tick-right r a (now .clock) links run (lent ticks ok); mail = right .mail }
+    call-right seconds ok = record { seat = second-right r a (now .clock) links run (lent seconds ok); mail = right .mail }
+    call-right reports ok = record { seat = self-right r a (now .clock) links run (lent reports ok) inside; mail = right .mail }
     call-right (sends i buffer t) ok =
-        let s = send-right r a i inside (now .clock) (now .links) run (lent (sends i buffer t) ok) buffer t (λ e. let q = ok .timely e in (q .clock, q .no-midnight)) in
+        let s = send-right r a i inside (now .clock) links run (lent (sends i buffer t) ok) buffer t (λ e. let q = ok .timely e in (q .clock, q .no-midnight)) in
         record { seat = s .seat; mail = post _ (w .mail) _ (s .message) (right .mail) }
     call-right (arrives i packet t) ok = record { seat = arrives-right i packet t ok; mail = right .mail }
 
   step-right : (w : World) (x : Step) → Allowed r w x → RightWorld r w → RightWorld r (step r w x)
   unfolding step after
   step-right w x ok right =
-      let s = call-right w right (x .seat) (ok .seat-in) (x .run) (x .call) ok in
+      let s = call-right w right (x .seat) (ok .seat-in) (x .links) (x .run) (x .call) ok in
       record {
         seats =
             λ b hb.
@@ -146,5 +146,6 @@ module _ (r : Room) (proper : Proper r) where
       good a inside = sound (r .settings a) (set-good (r .settings a) (r .number a) (r .clock a) (r .links a) (r .run a) (proper .set-afresh a inside))
 
 pub demand-3 : Demand3
-unfolding Demand3
-demand-3 r proper w start xs ok = right-claim r proper (history r w xs) (history-right r proper w xs ok (starts-right r proper w start))
+unfolding Demand3Within
+demand-3 r proper ways w start xs ok =
+    right-claim r proper ways (history r w xs) (history-right r proper ways w xs ok (starts-right r proper ways w start))

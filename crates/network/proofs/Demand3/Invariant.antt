@@ -17,8 +17,8 @@ use Rattle.wire.specs.Packet.{message}
 use Rattle.table.specs.declared.Entry.{Entry}
 use Rattle.table.specs.Entry.{maxDelay}
 use Rattle.table.specs.Entry as entry
-use Rattle.host.specs.declared.Link.{Link}
-use Rattle.host.specs.State.{hostCount}
+use Rattle.config.specs.declared.Link.{Link}
+use Rattle.config.specs.State.{hostCount}
 use Rattle.network.specs.History.{Left}
 use Rattle.network.specs.Room.{Room, at, HostAt}
 use Rattle.network.specs.Demand3.{Message, World}
@@ -49,7 +49,7 @@ pub record RightReport (r : Room) (a i : ℕ) (p : Report) : Type 0 where
 -- The TSP of a packet that was sent at millisecond t, for seat b at the cable's other end: the bits of b's clock then, less a way.
 pub record Carries (r : Room) (b : ℕ) (t tsp : ℤ) : Type 0 where
   pub way : ℕ
-  pub short : way ≤ 16383
+  pub short : way ≤ r .longest
   pub bits : Same 16 tsp ((t +ℤ r .fixed b) -ℤ pos way)
 
 pub record RightMessage (r : Room) (m : Message) : Type 0 where
@@ -72,7 +72,7 @@ pub record RightMessage (r : Room) (m : Message) : Type 0 where
 -- The TSP of a link of seat a, cabled to seat b, has the bits of the true difference less a way.
 pub record Tied (r : Room) (a b : ℕ) (tsp : ℤ) : Type 0 where
   pub way : ℕ
-  pub short : way ≤ 16383
+  pub short : way ≤ r .longest
   pub bits : Same 16 tsp ((r .fixed b -ℤ r .fixed a) -ℤ pos way)
 
 -- where KEEP-ALIVE is not 0

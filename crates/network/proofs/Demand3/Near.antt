@@ -8,6 +8,7 @@ use lib.Dec.{lit<}
 use Rattle.quantity.specs.Words.{wrap}
 use Rattle.quantity.proofs.Ints.{up, dn, sum, diff, times, floor, abs, one, to-≤ℤ}
 use Rattle.quantity.proofs.Wrap.{wrap-fits}
+use Rattle.network.specs.Room.{clockSpread, longestWay, errorParts, delayParts}
 use Rattle.network.proofs.Exchange.{offset-error}
 
 -- a number that 16 bits hold, signed
@@ -17,25 +18,25 @@ pub record Fits16 (z : ℤ) : Type 0 where
 
 -- o is at most 101/200 of the delay D away from f - g
 pub record Near (o f g D : ℤ) : Type 0 where
-  pub above : 200 * (up o + up g + dn f) + 101 * dn D ≤ 101 * up D + 200 * (dn o + dn g + up f)
-  pub below : 200 * (dn o + dn g + up f) + 101 * dn D ≤ 101 * up D + 200 * (up o + up g + dn f)
+  pub above : delayParts * (up o + up g + dn f) + errorParts * dn D ≤ errorParts * up D + delayParts * (dn o + dn g + up f)
+  pub below : delayParts * (dn o + dn g + up f) + errorParts * dn D ≤ errorParts * up D + delayParts * (up o + up g + dn f)
 
 -- as the claim says it
-pub near-close : (o f g D : ℤ) → Near o f g D → pos (200 * natAbs (o -ℤ (f -ℤ g))) ≤ℤ (D *ℤ pos 101)
+pub near-close : (o f g D : ℤ) → Near o f g D → pos (delayParts * natAbs (o -ℤ (f -ℤ g))) ≤ℤ (D *ℤ pos errorParts)
 near-close o f g D n =
-    to-≤ℤ (pos (200 * natAbs (o -ℤ (f -ℤ g)))) (D *ℤ pos 101)
-    (omega (arith, n, abs (o -ℤ (f -ℤ g)), one (o -ℤ (f -ℤ g)), diff o (f -ℤ g), diff f g, times D 101))
+    to-≤ℤ (pos (delayParts * natAbs (o -ℤ (f -ℤ g)))) (D *ℤ pos errorParts)
+    (omega (arith, n, abs (o -ℤ (f -ℤ g)), one (o -ℤ (f -ℤ g)), diff o (f -ℤ g), diff f g, times D errorParts))
 
--- the clocks of two seats are at most 16,384 apart
+-- the clocks of two seats are near
 pub record Apart (f g : ℤ) : Type 0 where
-  pub above : up (f -ℤ g) ≤ 16384
-  pub below : dn (f -ℤ g) ≤ 16384
+  pub above : up (f -ℤ g) ≤ clockSpread
+  pub below : dn (f -ℤ g) ≤ clockSpread
 
-pub apart : (f g : ℤ) → natAbs (f -ℤ g) ≤ 16384 → Apart f g
+pub apart : (f g : ℤ) → natAbs (f -ℤ g) ≤ clockSpread → Apart f g
 apart f g h = omega (arith, abs (f -ℤ g))
 
 -- one exchange, with the ways d and e: a DELAY that is 100 at least
-module _ (f g : ℤ) (d e : ℕ) (a : Apart f g) (hd : d ≤ 16383) (he : e ≤ 16383) where
+module _ (f g : ℤ) (d e : ℕ) (a : Apart f g) (hd : d ≤ longestWay) (he : e ≤ longestWay) where
   abbrev z : ℤ
   z = ((f -ℤ g) -ℤ pos e) +ℤ shrZ (pos (d + e)) 2
 

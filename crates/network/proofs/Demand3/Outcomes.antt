@@ -1,24 +1,28 @@
 -- What a call of seat a has to show of its outcome, so that the seat is right afterwards.
 use mathlib.Core.Path.{_≡_, _∙_, sym, ap, subst}
+use mathlib.Core.Bool.{true≢false}
 use mathlib.Core.List.{List}
-use Prim.Native.Nat.{ℕ, _+_, _≤_}
+use Prim.Native.Nat.{ℕ, suc, _+_, _≤_}
 use native.Mathlib.Omega.{arith}
-use borrow.Author.Tests.{ltb-false}
-use lib.Dec.{ltb}
+use borrow.Author.Tests.{ltb-false, lt-ltb}
+use lib.Dec.{ltb, eqb}
 use lib.ListN.{length, take}
-use Rattle.laws.proofs.Tests.{either}
+use Rattle.laws.proofs.Tests.{either, neither}
 use Rattle.answer.specs.declared.Answer.{Answer}
 use Rattle.clock.specs.declared.Clock.{Clock}
 use Rattle.table.specs.declared.Entry.{Entry}
-use Rattle.host.specs.declared.Links.{Links}
-use Rattle.host.specs.State.{placesPerHost, firstPlace, hostCount, entries, withEntries}
-use Rattle.host.proofs.Places.{Holds, withEntries-length, entries-withEntries}
+use Rattle.config.specs.declared.Link.{Link}
+use Rattle.config.specs.declared.Links.{Links}
+use Rattle.config.specs.State.{placesPerHost, firstPlace, hostCount, entries, withEntries}
+use Rattle.config.specs.Guard.{linkCount, noLink}
+use Rattle.config.proofs.Places.{Holds, withEntries-length, entries-withEntries}
 use Rattle.host.specs.Outcome.{Outcome, leaves}
-use Rattle.network.specs.History.{Left, leftBy, places}
-use Rattle.network.specs.Room.{Room}
-use Rattle.network.proofs.Lists.{All}
+use Rattle.network.specs.Locality.{ownLinks}
+use Rattle.network.specs.History.{Event, Left, Lends, leftBy, places}
+use Rattle.network.specs.Room.{Room, Proper}
+use Rattle.network.proofs.Lists.{All, all-first}
 use Rattle.network.proofs.HostPlaces.{entries-first}
-use Rattle.network.proofs.Demand3.Invariant.{RightEntry, RightLinks, RightSeat}
+use Rattle.network.proofs.Demand3.Invariant.{RightEntry, RightLink, RightLinks, RightSeat}
 
 pub record RightOutcome (r : Room) (a : ℕ) (run : List Entry) (o : Outcome) : Type 0 where
   pub links : RightLinks r a (o .links .all)
@@ -35,12 +39,25 @@ module _ (r : Room) (a : ℕ) where
   first-places : (run : List Entry) → take (hostCount (r .settings a)) (places (r .number a) run) ≡ entries (r .settings a) (r .number a) run
   first-places run = sym (entries-first (r .settings a) (r .number a) run)
 
-  pub lent-right : (x : Left) (run : List Entry) → (Holds (r .number a) run → places (r .number a) run ≡ x .places)
-      → RightSeat r a x → RightLent r a (x .links) run
-  lent-right x run lends right =
+  -- a slot past the count has no cable
+  spare-right : Proper r → (j : ℕ) (x : Link) → linkCount (r .settings a) ≤ j → RightLink r a (suc j) x
+  unfolding noLink
+  spare-right proper j x past b i cable alive =
+      let there = neither (eqb (suc j) 0) (ltb (linkCount (r .settings a)) (suc j)) (proper .cables a (suc j) b i cable .link-in) .1 in
+      absurd (true≢false (sym (lt-ltb (linkCount (r .settings a)) (suc j) (omega arith)) ∙ there))
+
+  pub lent-right : Proper r → (x : Left) (e : Event) → e .settings ≡ r .settings a → Lends (r .number a) x e → RightSeat r a x
+      → RightLent r a (e .links) (e .run)
+  lent-right proper x e same lends right =
       record {
-        links = right .links;
-        table = λ holds. subst (All (RightEntry r a)) (sym (ap (take (hostCount (r .settings a))) (lends holds)) ∙ first-places run) (right .table);
+        links =
+            all-first (λ (j : ℕ). RightLink r a (suc j)) (linkCount (r .settings a)) (spare-right proper) (x .links .all) (e .links .all)
+            (sym (subst (λ s. ownLinks s (e .links) ≡ ownLinks s (x .links)) same (lends .own-links))) (right .links);
+        table =
+            λ holds.
+            subst (All (RightEntry r a))
+            (sym (subst (λ s. entries s (r .number a) (e .run) ≡ take (hostCount s) (x .places)) same (lends .own-entries holds)))
+            (right .table);
       }
 
   pub left-right : (x : Left) (run : List Entry) (o : Outcome) → RightSeat r a x → RightOutcome r a run o

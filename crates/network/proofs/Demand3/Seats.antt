@@ -12,20 +12,20 @@ use Rattle.answer.specs.declared.Answer.the-variants.{Done}
 use Rattle.clock.specs.declared.Clock.{Clock}
 use Rattle.clock.specs.Clock.{reading}
 use Rattle.route.specs.declared.Found.{Found}
-use Rattle.route.specs.declared.Found.the-variants.{Id, Nothing}
+use Rattle.route.specs.declared.Found.the-variants.{Host, Nothing}
 use Rattle.table.specs.declared.Entry.{Entry}
 use Rattle.table.specs.Entry.{freshEntry, takenDown, withTtl, aged}
 use Rattle.table.specs.Update.{ownUpdate}
 use Rattle.table.specs.Sweep.{only}
 use Rattle.table.proofs.Cases.{stored, self-keeps, aged-keeps}
 use Rattle.table.proofs.Sweeps.{sweep-length}
-use Rattle.host.specs.declared.Links.{Links}
-use Rattle.host.specs.Settings.{ownId}
-use Rattle.host.specs.State.{freshLink, freshLinks, hostCount, entries}
-use Rattle.host.specs.Guard.{guard, guardFresh, done}
-use Rattle.host.proofs.Places.{Holds, entries-length}
-use Rattle.host.proofs.Guarded.{passed, passed-fresh, holds}
-use Rattle.host.proofs.Guarded as guarded
+use Rattle.config.specs.declared.Links.{Links}
+use Rattle.config.specs.Settings.{ownId}
+use Rattle.config.specs.State.{freshLink, freshLinks, hostCount, entries}
+use Rattle.config.specs.Guard.{guard, guardFresh, done}
+use Rattle.config.proofs.Places.{Holds, entries-length}
+use Rattle.config.proofs.Guarded.{passed, passed-fresh, holds}
+use Rattle.config.proofs.Guarded as guarded
 use Rattle.host.specs.Outcome.{Outcome}
 use Rattle.host.specs.Calls.{initialize, tick, second, selfReport, reported}
 use Rattle.network.specs.Room.{Room, afresh}
@@ -97,7 +97,7 @@ module _ (r : Room) (a : ℕ) where
         go : Holds (r .number a) run → (x : Found) → ownId (r .settings a) ≡ x
             → RightOutcome r a run (reported (r .number a) (reading c) l run (entries (r .settings a) (r .number a) run) x)
         go h Nothing e = same-right r a l run _ lent refl refl
-        go h (Id id) e =
+        go h (Host id) e =
             written-right r a Done _ l run _ (lent .links) h
             (sweep-length 0 (only id _) (reading c .clock) (entries (r .settings a) (r .number a) run) ∙ entries-length (r .settings a) (r .number a) run h)
             (only-keeps (RightEntry r a) id _

@@ -23,13 +23,13 @@ use Rattle.wire.specs.Packet.{message}
 use Rattle.table.specs.declared.Entry.{Entry}
 use Rattle.table.specs.Entry.{advertised, entryInRange}
 use Rattle.table.proofs.Ranges.{within, range-says, reading-in}
-use Rattle.host.specs.declared.Settings.{Settings}
-use Rattle.host.specs.declared.Link.{Link}
-use Rattle.host.specs.declared.Links.{Links}
-use Rattle.host.specs.State.{unset, freshLink, linkOf, withLink, entries}
-use Rattle.host.specs.Guard.{noLink, guardLink, done}
-use Rattle.host.proofs.Guarded.{Passed, passed-link, holds, counted}
-use Rattle.host.proofs.Guarded as guarded
+use Rattle.config.specs.declared.Settings.{Settings}
+use Rattle.config.specs.declared.Link.{Link}
+use Rattle.config.specs.declared.Links.{Links}
+use Rattle.config.specs.State.{unset, freshLink, linkOf, withLink, entries}
+use Rattle.config.specs.Guard.{noLink, guardLink, done}
+use Rattle.config.proofs.Guarded.{Passed, passed-link, holds, counted}
+use Rattle.config.proofs.Guarded as guarded
 use Rattle.plan.specs.Message.{tableGoes, sentTsp, linkSent, packetSent}
 use Rattle.host.specs.Outcome.{Outcome}
 use Rattle.host.specs.Send.{reports, sentMessage, sentLength, sentOutcome, send}

@@ -6,29 +6,29 @@ use Prim.Native.Nat.{ℕ, zero, suc, _+_, _≤_, _<_}
 use native.Mathlib.Omega.{arith}
 use borrow.Author.Tests.{le-ltb, ltb-true, ltb-false, eqb-true, eqb-false}
 use lib.Dec.{ltb, eqb}
-use lib.ListN.{length, getD}
+use lib.ListN.{length, getD, take}
 use Rattle.laws.proofs.Tests.{either}
 use Rattle.answer.specs.declared.Answer.the-variants.{Done}
 use Rattle.clock.specs.declared.Clock.{Clock}
 use Rattle.table.specs.declared.Entry.{Entry}
 use Rattle.table.specs.Entry.{freshEntry}
 use Rattle.table.specs.Entry as entry
-use Rattle.host.specs.State.{placesPerHost, firstPlace}
-use Rattle.host.specs.Guard.{guardFresh, done}
-use Rattle.host.specs.declared.Settings.{Settings}
-use Rattle.host.specs.declared.Links.{Links}
-use Rattle.host.proofs.Guarded.{passed-fresh, holds}
-use Rattle.host.proofs.Guarded as guarded
+use Rattle.config.specs.State.{placesPerHost, firstPlace, hostCount}
+use Rattle.config.specs.Guard.{guardFresh, done}
+use Rattle.config.specs.declared.Settings.{Settings}
+use Rattle.config.specs.declared.Links.{Links}
+use Rattle.config.proofs.Guarded.{passed-fresh, holds}
+use Rattle.config.proofs.Guarded as guarded
 use Rattle.host.specs.Outcome.{Outcome}
 use Rattle.host.specs.Calls.{initialize}
 use Rattle.network.specs.Call.{initializes, perform}
-use Rattle.network.specs.Frame.{Kept, Frame}
+use Rattle.network.specs.Frame.{Kept}
 use Rattle.network.specs.History.{Left, places, Holds, leftBy, after}
 use Rattle.network.specs.Room.{Room, afresh, Proper}
-use Rattle.network.specs.Demand3.{Step, World, result, step, history, Allows, entryOf, Right, Claim, Demand3}
+use Rattle.network.specs.Demand3.{Step, World, result, step, history, Allows, entryOf, Right, Claim, Demand3Within}
 use Rattle.network.specs.SharedRun.{SharedStep, SharedWorld, lent, sharedStep, sharedHistory, SharedAllows, OneRun, sharedEntry, SharedDemand3}
-use Rattle.network.proofs.HostPlaces.{elsewhere}
-use Rattle.network.proofs.Demand1.Frame.{frame-holds}
+use Rattle.network.proofs.HostPlaces.{entries-first, elsewhere}
+use Rattle.network.proofs.Demand1.Frame.{kept-places}
 use Rattle.network.proofs.Demand3.Histories.{demand-3}
 
 -- a setting afresh that is answered 0 was lent all the places
@@ -49,8 +49,7 @@ module _ (r : Room) (proper : Proper r) where
 
   -- what a call keeps of the run
   kept : (w : SharedWorld) (x : SharedStep) → Kept (r .settings (x .seat)) (r .number (x .seat)) (w .run) (result r (w .world) (lent w x) .run)
-  unfolding Frame
-  kept w x = frame-holds (r .settings (x .seat)) (r .number (x .seat)) _ _ (w .run) _
+  kept w x = kept-places (r .settings (x .seat)) (r .number (x .seat)) _ _ (w .run) _
 
   step-tracks : (w : SharedWorld) (x : SharedStep) → x .seat < r .seats → Tracks w → Tracks (sharedStep r w x)
   unfolding sharedStep step after
@@ -90,7 +89,21 @@ module _ (r : Room) (proper : Proper r) where
   unfolding SharedAllows Allows lents sharedStep
   allowed w [] t ok = tt
   allowed w (x ∷ xs) t ok =
-      (record { seat-in = ok .0 .seat-in; lends = λ _. t (x .seat) (ok .0 .seat-in) .1; timely = ok .0 .timely }, allowed (sharedStep r w x) xs (step-tracks w x (ok .0 .seat-in) t) (ok .1))
+      let now = ok .0 in (
+        record {
+          seat-in = now .seat-in;
+          lends =
+              record {
+                own-links = now .own-links;
+                own-entries =
+                    λ _.
+                    entries-first (r .settings (x .seat)) (r .number (x .seat)) (w .run)
+                    ∙ ap (take (hostCount (r .settings (x .seat)))) (t (x .seat) (now .seat-in) .1);
+              };
+          timely = now .timely;
+        },
+        allowed (sharedStep r w x) xs (step-tracks w x (now .seat-in) t) (ok .1),
+      )
 
   all-tracks : (w : SharedWorld) (xs : List SharedStep) → Tracks w → SharedAllows r w xs → Tracks (sharedHistory r w xs)
   unfolding sharedHistory SharedAllows
@@ -100,8 +113,8 @@ module _ (r : Room) (proper : Proper r) where
   -- ---- the beginning
 
   afresh-kept : (c : ℕ) → Kept (r .settings c) (r .number c) (r .run c) (afresh r c .run)
-  unfolding Frame perform
-  afresh-kept c = frame-holds (r .settings c) (r .number c) (r .clock c) (r .links c) (r .run c) initializes
+  unfolding perform
+  afresh-kept c = kept-places (r .settings c) (r .number c) (r .clock c) (r .links c) (r .run c) initializes
 
   -- a seat's places, as its setting afresh left them, stay through the settings afresh of later seats
   pub record Stays (a : ℕ) (run : List Entry) : Type 0 where
@@ -147,11 +160,11 @@ module _ (r : Room) (proper : Proper r) where
           )
 
 pub shared-demand-3 : SharedDemand3
-unfolding SharedDemand3 Demand3 Claim
-shared-demand-3 r proper w one xs ok b i hb hi up =
+unfolding SharedDemand3 Demand3Within Claim
+shared-demand-3 r proper ways w one xs ok b i hb hi up =
     let t = start-tracks r proper w one in
     let e : sharedEntry r (sharedHistory r w xs) b i ≡ entryOf r (history r (w .world) (lents r proper w xs)) b i =
     ap (λ (l : List Entry). getD l i freshEntry) (all-tracks r proper w xs t ok b hb .1 ∙ ap (λ (v : World). v .state (r .number b) .places) (same-world r proper w xs)) in
     subst (Right r b i) (sym e)
-    (demand-3 r proper (w .world) (one .starts) (lents r proper w xs) (allowed r proper w xs t ok) b i hb hi
+    (demand-3 r proper ways (w .world) (one .starts) (lents r proper w xs) (allowed r proper w xs t ok) b i hb hi
     (ap entry.up (sym e) ∙ up))

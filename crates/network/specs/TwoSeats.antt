@@ -1,0 +1,70 @@
+-- Two seats with one cable between them, for histories that are computed. Seat a is 192.0.2.(a + 1), with one link; seat 1 is 500 ms ahead.
+use mathlib.Core.Bool.{cond}
+use mathlib.Core.List.{List, [], _++_}
+use Prim.Native.Nat.{ℕ, _+_, _*_}
+use lib.Dec.{eqb}
+use lib.IntN.{pos}
+use lib.ListN.{replicate}
+use Rattle.quantity.specs.declared.Units.{Units}
+use Rattle.quantity.specs.Quantity.{millis, seconds}
+use Rattle.calendar.specs.Date.{firstDate}
+use Rattle.clock.specs.Clock.{freshClock}
+use Rattle.route.specs.Find.{zeroNet}
+use Rattle.table.specs.declared.Entry.{Entry}
+use Rattle.table.specs.Entry.{freshEntry}
+use Rattle.config.specs.declared.Settings.{Settings}
+use Rattle.config.specs.Settings.{clockSettingOff}
+use Rattle.config.specs.State.{unset, freshLinks, placesPerHost}
+use Rattle.host.specs.Exchange.{hostAt}
+use Rattle.network.specs.History.{leftBy}
+use Rattle.network.specs.Room.{Room, End, loose, at, afresh}
+use Rattle.network.specs.Demand3.{RoomCall, Step, World}
+
+-- what the two rooms differ in: how much a tick adds, at which millisecond of the room each seat starts, and how long a message may be under way
+pub record Pair : Type 0 where
+  pub tick : Units
+  pub start : ℕ → ℕ
+  pub longest : ℕ
+
+abbrev pub settingsFor : Pair → (seat : ℕ) → Settings
+settingsFor p a =
+    record {
+      address = hostAt (a + 1);
+      layout = record { «address_offset» = 1; nhosts = 2 };
+      «clock_host» = clockSettingOff;
+      «hold_interval» = seconds 1;
+      «clock_tick» = p .tick;
+      time = millis (pos (p .start a + 500 * a));
+      date = firstDate;
+      «link_count» = 1;
+      links = replicate 8 unset;
+      net = record { count = 0; rows = replicate 32 record { net = zeroNet; host = 0 } };
+    }
+
+abbrev pub wire : (seat link : ℕ) → End
+wire a i = cond (eqb i 1) (cond (eqb a 0) (at 1 1) (cond (eqb a 1) (at 0 1) loose)) loose
+
+abbrev pub pair : Pair → Room
+pair p =
+    record {
+      seats = 2;
+      number = λ a. a;
+      settings = settingsFor p;
+      fixed = λ a. pos (500 * a);
+      cable = wire;
+      longest = p .longest;
+      clock = λ a. freshClock (millis (pos 0)) firstDate;
+      links = λ a. freshLinks (settingsFor p a);
+      run = λ a. replicate (2 * placesPerHost) freshEntry;
+    }
+
+-- set afresh, and nothing sent
+abbrev pub begun : Room → World
+begun r = record { state = λ n. leftBy n [] (afresh r n); mail = [] }
+
+-- a run with the places of seat a as they were left
+abbrev pub runFor : World → ℕ → List Entry
+runFor w a = replicate (placesPerHost * a) freshEntry ++ w .state a .places
+
+abbrev pub call : World → ℕ → RoomCall → Step
+call w a x = record { seat = a; links = w .state a .links; run = runFor w a; call = x }
