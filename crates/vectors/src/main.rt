@@ -3,8 +3,8 @@ ghost use mathlib.Core.Path.{_≡_};
 ghost use lib.ListN.{length};
 
 mod arrivals;
-mod requests;
 mod clocks;
+mod requests;
 mod rfc1071;
 mod show;
 mod sums;
