@@ -65,9 +65,9 @@ fold-ends a b = go a b (folds (endAround a) (endAround b))
 pub end-again : (t : ℕ) → endAround (endAround t) ≡ endAround t
 end-again t = end-word (endAround t) (end-small t)
 
--- totals that stand for one sum do so with more added to them
-pub end-more : (a b t : ℕ) → endAround a ≡ endAround b → endAround (a + t) ≡ endAround (b + t)
-end-more a b t e = sym (fold-ends a t) ∙ ap (λ x. fold x (endAround t)) e ∙ fold-ends b t
+-- totals that stand for the same sums do so added together
+pub end-plus : (a b c d : ℕ) → endAround a ≡ endAround b → endAround c ≡ endAround d → endAround (a + c) ≡ endAround (b + d)
+end-plus a b c d e f = sym (fold-ends a c) ∙ ap₂ fold e f ∙ fold-ends b d
 
 -- a word in the high half of a total counts as in the low one
 pub end-high : (a t : ℕ) → endAround (a * 256 * 256 + t) ≡ endAround (a + t)
@@ -97,12 +97,6 @@ sum-append (x ∷ y ∷ rest) ys e = omega (arith, sum-append rest ys (omega ari
 
 pub folded-small : (xs : List ℕ) → Octets xs → folded xs ≤ allOnes
 folded-small xs o = rw (folded-sum xs o) (end-small (wordSum xs))
-
--- octets in front, of an even number
-pub folded-append : (xs ys : List ℕ) → length xs % 2 ≡ 0 → Octets xs → Octets ys → folded (xs ++ ys) ≡ fold (folded xs) (folded ys)
-folded-append xs ys e o p =
-    folded-sum (xs ++ ys) (joined xs ys o p) ∙ ap endAround (sum-append xs ys e) ∙ sym (fold-ends (wordSum xs) (wordSum ys))
-    ∙ ap₂ fold (sym (folded-sum xs o)) (sym (folded-sum ys p))
 
 -- a word at an even place counts as it would in front
 pub folded-word : (xs ys : List ℕ) (hi lo : ℕ) → length xs % 2 ≡ 0 → Octets xs → hi < 256 → lo < 256 → Octets ys
