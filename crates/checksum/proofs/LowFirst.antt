@@ -2,20 +2,20 @@
 use mathlib.Core.Path.{_≡_, refl, sym, ap, _∙_}
 use mathlib.Core.List.{List, [], _∷_, _++_}
 use Prim.Native.Nat.{ℕ, zero, suc, _+_, _-_, _*_, _/_, _%_, _≤_, _<_, _^_}
-use native.Mathlib.Nat.{zero-add, mul-zero, mul-suc}
+use native.Mathlib.Nat.{zero-add, add-zero, mul-zero, mul-suc}
 use native.Mathlib.Numerals.{add-one, add-two, add-three}
 use native.Mathlib.Omega.{arith}
 use lib.ListN.{length, getD, take, drop, length-drop, take-append-drop}
 use lib.Seq.{drop-cons, take-all, length-take-le}
 use Rattle.checksum.specs.Checksum.{allOnes}
 use Rattle.checksum.specs.EndAround.{endAround, wordSum, lowSum, lowFour}
-use Rattle.checksum.proofs.Folding.{end-word, end-high, end-again, end-plus}
+use Rattle.checksum.proofs.Folding.{end-word, end-high, end-again, end-plus, sum-append, one-more}
 
 -- ---- the octets change places
 
 pub low-times : (s : List ℕ) → endAround (lowSum s * 256) ≡ endAround (wordSum s)
 low-times [] = refl
-low-times (x ∷ []) = refl
+low-times (x ∷ []) = simp add-zero
 low-times (x ∷ y ∷ rest) =
     let e₁ : (x + y * 256 + lowSum rest) * 256 ≡ y * 256 * 256 + (lowSum rest * 256 + x * 256) = omega arith in
     let e₂ : y + (lowSum rest * 256 + x * 256) ≡ lowSum rest * 256 + (x * 256 + y) = omega arith in
@@ -34,15 +34,13 @@ swapped-word w h =
 
 -- ---- four octets at a time
 
-pub four-more : (s : List ℕ) (i : ℕ) → i + 3 < length s
+four-more : (s : List ℕ) (i : ℕ) → i + 3 < length s
     → lowSum (drop i s) ≡ getD s i 0 + getD s (i + 1) 0 * 256 + (getD s (i + 2) 0 + getD s (i + 3) 0 * 256 + lowSum (drop (i + 4) s))
 four-more s i h =
-    let h₀ : i < length s = omega arith in
-    let h₁ : suc i < length s = omega arith in
-    let h₂ : suc (suc i) < length s = omega arith in
-    let h₃ : suc (suc (suc i)) < length s = omega arith in
-    let e : i + 4 ≡ suc (suc (suc (suc i))) = omega arith in
-    rw (e, add-one, add-two, add-three, drop-cons s i 0, drop-cons s (suc i) 0, drop-cons s (suc (suc i)) 0, drop-cons s (suc (suc (suc i))) 0)
+    let f : ℕ → ℕ → ℕ = λ x y. x + y * 256 in
+    let e₁ : i + 2 + 1 ≡ i + 3 = omega arith in
+    let e₂ : i + 2 + 2 ≡ i + 4 = omega arith in
+    one-more f s i (omega arith) ∙ ap (λ n. f (getD s i 0) (getD s (i + 1) 0) + n) (rw (e₁, e₂) at (one-more f s (i + 2) (omega arith)))
 
 -- ---- numbers that stand for the words
 
@@ -103,7 +101,7 @@ none (x ∷ s) l = absurd (omega arith)
 
 pub one : (s : List ℕ) → length s ≡ 1 → getD s 0 0 ≡ lowSum s
 one [] l = absurd (omega arith)
-one (x ∷ []) l = refl
+one (x ∷ []) l = omega arith
 one (x ∷ y ∷ s) l = absurd (omega arith)
 
 pub two : (s : List ℕ) → length s ≡ 2 → getD s 0 0 + getD s 1 0 * 256 ≡ lowSum s
@@ -116,21 +114,16 @@ pub three : (s : List ℕ) → length s ≡ 3 → getD s 0 0 + getD s 1 0 * 256 
 three [] l = absurd (omega arith)
 three (x ∷ []) l = absurd (omega arith)
 three (x ∷ y ∷ []) l = absurd (omega arith)
-three (x ∷ y ∷ z ∷ []) l = refl
+three (x ∷ y ∷ z ∷ []) l = omega arith
 three (x ∷ y ∷ z ∷ u ∷ s) l = absurd (omega arith)
 
 -- ---- two halves of the octets, the first an even number of them
-
-low-append : (xs ys : List ℕ) → length xs % 2 ≡ 0 → lowSum (xs ++ ys) ≡ lowSum xs + lowSum ys
-low-append [] ys e = omega arith
-low-append (x ∷ []) ys e = absurd (omega arith)
-low-append (x ∷ y ∷ rest) ys e = omega (arith, low-append rest ys (omega arith))
 
 pub halved : (s : List ℕ) (h a b : ℕ) → h ≤ length s → h % 2 ≡ 0
     → a ≡ endAround (lowSum (take h s)) → b ≡ endAround (lowSum (take (length s - h) (drop h s)))
     → endAround (a + b) ≡ endAround (lowSum s)
 halved s h a b l e p q =
     let m : lowSum s ≡ lowSum (take h s) + lowSum (drop h s) =
-    ap lowSum (sym (take-append-drop h s)) ∙ low-append (take h s) (drop h s) (rw (length-take-le h s l) e) in
+    ap lowSum (sym (take-append-drop h s)) ∙ sum-append (λ x y. x + y * 256) (take h s) (drop h s) (rw (length-take-le h s l) e) in
     rw (p, q, rest-sum s h, m)
     (end-plus (endAround (lowSum (take h s))) (lowSum (take h s)) (endAround (lowSum (drop h s))) (lowSum (drop h s)) (end-again (lowSum (take h s))) (end-again (lowSum (drop h s))))

@@ -10,7 +10,7 @@ use lib.Seq.{drop-cons, drop-length}
 use Rattle.checksum.specs.Checksum.{allOnes, fold, folded}
 use Rattle.checksum.specs.EndAround.{endAround, wordSum}
 use Rattle.checksum.proofs.Octets.{Octets}
-use Rattle.checksum.proofs.Folding.{fold-ends, end-word, end-again, end-plus, folded-sum}
+use Rattle.checksum.proofs.Folding.{fold-ends, end-word, end-again, end-plus, one-more}
 
 -- the sum so far stands for the words in front of place i
 abbrev pub Added : List ℕ → (i sum : ℕ) → Type 0
@@ -25,18 +25,12 @@ with-word a b t h k =
     let e : a + b + t ≡ a + (b + t) = omega arith in
     end-plus (fold a b) (a + b) t t (rw (fold-words a b h k) (end-again (a + b))) refl ∙ rw e
 
-two-more : (s : List ℕ) (i : ℕ) → i + 1 < length s → wordSum (drop i s) ≡ getD s i 0 * 256 + getD s (i + 1) 0 + wordSum (drop (i + 2) s)
-two-more s i h =
-    let h₀ : i < length s = omega arith in
-    let h₁ : suc i < length s = omega arith in
-    rw (add-one, add-two, drop-cons s i 0, drop-cons s (suc i) 0)
-
 -- a turn
 pub turned : (s : List ℕ) (i sum w : ℕ) → i + 1 < length s → sum ≤ allOnes → w ≤ allOnes → w ≡ getD s i 0 * 256 + getD s (i + 1) 0
     → Added s i sum
     → Added s (i + 2) (fold sum w)
 turned s i sum w h k l e inv =
-    let m : w + wordSum (drop (i + 2) s) ≡ wordSum (drop i s) = omega (arith, two-more s i h) in
+    let m : w + wordSum (drop (i + 2) s) ≡ wordSum (drop i s) = omega (arith, one-more (λ x y. x * 256 + y) s i h) in
     with-word sum w (wordSum (drop (i + 2) s)) k l ∙ rw m inv
 
 -- the end: all words are in the sum, or an odd last octet is left
@@ -49,8 +43,7 @@ pub odd-end : (s : List ℕ) (i sum w : ℕ) → suc i ≡ length s → sum ≤ 
 odd-end s i sum w l h k e inv =
     let b : i < length s = omega arith in
     let d : drop i s ≡ getD s i 0 ∷ [] = drop-cons s i 0 b ∙ rw (l, drop-length) in
-    let v : w ≡ getD s i 0 * 256 = omega arith in
-    fold-words sum w h k ∙ rw v (rw d at inv)
+    fold-words sum w h k ∙ rw e (rw d at inv)
 
 -- a carry out of 16 bits, added in at their low end
 pub carried : (t : ℕ) → t ≤ allOnes + allOnes → t / 0x10000 + t % 0x10000 ≡ endAround t

@@ -9,17 +9,19 @@ unfoldable pub endAround : ℕ → ℕ
 endAround zero = 0
 endAround (suc n) = n % allOnes + 1
 
--- the whole sum of the words
-abbrev pub wordSum : List ℕ → ℕ
-wordSum [] = 0
-wordSum (x ∷ []) = x * 256
-wordSum (x ∷ y ∷ rest) = x * 256 + y + wordSum rest
+-- the whole sum of words, each of which f makes of two octets; behind an odd last octet stands a zero
+abbrev pub summed : (ℕ → ℕ → ℕ) → List ℕ → ℕ
+summed f [] = 0
+summed f (x ∷ []) = f x 0
+summed f (x ∷ y ∷ rest) = f x y + summed f rest
 
--- the same with the low octet first in each word
+-- the sum of the words, high octet first
+abbrev pub wordSum : List ℕ → ℕ
+wordSum = summed (λ x y. x * 256 + y)
+
+-- the sum of the words, low octet first
 abbrev pub lowSum : List ℕ → ℕ
-lowSum [] = 0
-lowSum (x ∷ []) = x
-lowSum (x ∷ y ∷ rest) = x + y * 256 + lowSum rest
+lowSum = summed (λ x y. x + y * 256)
 
 -- the number in four octets from place i on, the low one first
 abbrev pub lowFour : List ℕ → ℕ → ℕ
