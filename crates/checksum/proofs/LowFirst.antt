@@ -1,12 +1,11 @@
 -- A sum of words with the low octet first is 256 times less, and 256 times a word is the word with its octets changed over, because a word in the high half of a total counts as in the low one.
 use mathlib.Core.Path.{_≡_, refl, sym, ap, _∙_}
-use mathlib.Core.List.{List, [], _∷_, _++_}
+use mathlib.Core.List.{List, [], _∷_}
 use Prim.Native.Nat.{ℕ, zero, suc, _+_, _-_, _*_, _/_, _%_, _≤_, _<_, _^_}
 use native.Mathlib.Nat.{zero-add, add-zero, mul-zero, mul-suc}
-use native.Mathlib.Numerals.{add-one, add-two, add-three}
 use native.Mathlib.Omega.{arith}
 use lib.ListN.{length, getD, take, drop, length-drop, take-append-drop}
-use lib.Seq.{drop-cons, take-all, length-take-le}
+use lib.Seq.{take-all, length-take-le}
 use Rattle.checksum.specs.Checksum.{allOnes}
 use Rattle.checksum.specs.EndAround.{endAround, wordSum, lowSum, lowFour}
 use Rattle.checksum.proofs.Folding.{end-word, end-high, end-again, end-plus, sum-append, one-more}

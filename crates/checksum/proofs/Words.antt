@@ -1,15 +1,13 @@
 -- Words that are added one after the other, each with its carry, give the folded sum, because carries may be added in at any time.
-use mathlib.Core.Path.{_≡_, refl, sym, ap, ap₂, _∙_}
+use mathlib.Core.Path.{_≡_, refl, sym, ap₂, _∙_}
 use mathlib.Core.List.{List, [], _∷_}
 use Prim.Native.Nat.{ℕ, zero, suc, _+_, _*_, _/_, _%_, _≤_, _<_}
 use native.Mathlib.Nat.{add-zero}
-use native.Mathlib.Numerals.{add-one, add-two}
 use native.Mathlib.Omega.{arith}
 use lib.ListN.{length, getD, drop}
 use lib.Seq.{drop-cons, drop-length}
-use Rattle.checksum.specs.Checksum.{allOnes, fold, folded}
+use Rattle.checksum.specs.Checksum.{allOnes, fold}
 use Rattle.checksum.specs.EndAround.{endAround, wordSum}
-use Rattle.checksum.proofs.Octets.{Octets}
 use Rattle.checksum.proofs.Folding.{fold-ends, end-word, end-again, end-plus, one-more}
 
 -- the sum so far stands for the words in front of place i

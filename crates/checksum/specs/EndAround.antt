@@ -28,7 +28,7 @@ abbrev pub lowFour : List ℕ → ℕ → ℕ
 lowFour octets i =
     getD octets i 0 + getD octets (i + 1) 0 * 0x100 + getD octets (i + 2) 0 * 0x10000 + getD octets (i + 3) 0 * 0x1000000
 
--- fewer octets than so many are added up without the loop that is for many
+-- fewer octets than so many are added up by a loop that is quick to set out
 abbrev pub shortLength : ℕ
 shortLength = 64
 

@@ -1,11 +1,11 @@
 // The second way: four octets at a time, two words with the low octet first; the octets of the sum change places at the end.
 ghost use mathlib.Core.Path.{_≡_};
 ghost use Prim.Native.Nat.{ℕ, _+_, _*_, _%_, _≤_, _<_, _^_};
-ghost use lib.ListN.{length, getD};
+ghost use lib.ListN.{length};
 ghost use Rattle.checksum.specs.EndAround.{endAround, lowSum, lowFour, shortLength, blockLength};
 use crate::ALL_ONES;
 
-// Fewer octets than so many are added up without the loop that is for many.
+// Fewer octets than so many are added up by a loop that is quick to set out.
 const SHORT: usize = 64;
 
 // So many octets are added up within 32 bits.
@@ -26,6 +26,14 @@ fn four(s: &[u8], i: usize) -> u32
     wide(s[i]) + wide(s[i + 1]) * 0x100 + wide(s[i + 2]) * 0x10000 + wide(s[i + 3]) * 0x1000000
 }
 
+// A word of which the low octet comes first.
+fn word(low: u8, high: u8) -> u64
+    ensures { λ r. ⌜ r ≡ low + high * 256 ⌝ }
+    ensures { λ r. ⌜ r < 0x10000 ⌝ }
+{
+    low as u64 + high as u64 * 0x100
+}
+
 // The sum of the words of less than four octets.
 fn last(s: &[u8]) -> u64
     requires { ⌜ length (now s) < 4 ⌝ }
@@ -36,13 +44,13 @@ fn last(s: &[u8]) -> u64
         return 0;
     }
     if s.len() == 1 {
-        return wide(s[0]) as u64;
+        return word(s[0], 0);
     }
-    let first = wide(s[0]) + wide(s[1]) * 0x100;
+    let first = word(s[0], s[1]);
     if s.len() == 2 {
-        return first as u64;
+        return first;
     }
-    first as u64 + wide(s[2]) as u64
+    first + word(s[2], 0)
 }
 
 // A number that stands for the sum of few octets' words: eight octets at a time, then four, then the last ones.
@@ -63,7 +71,7 @@ fn short(s: &[u8]) -> u64
     sum + last(&s[i..])
 }
 
-// The sum of the low and of the high halves, where there are the high halves' and all numbers', that one cut to 32 bits.
+// The sum of numbers' high and low halves, from the sum of the high ones and that of the numbers, cut to 32 bits.
 fn halves(high: u32, sum: u32) -> u64
     ensures { λ r. ⌜ ((low : ℕ) → low < 2 ^ 32 → sum ≡ (high * 0x10000 + low) % 2 ^ 32 → r ≡ high + low) ⌝ }
     ensures { λ r. ⌜ r < 2 ^ 33 ⌝ }
@@ -108,7 +116,8 @@ fn long(s: &[u8]) -> u16
         return end_around(total(s));
     }
     let half = s.len() / 4 * 2;
-    end_around(long(&s[..half]) as u64 + long(&s[half..]) as u64)
+    let end = s.len();
+    end_around(long(&s[..half]) as u64 + long(&s[half..end]) as u64)
 }
 
 // The folded sum of the words, the low octet first.

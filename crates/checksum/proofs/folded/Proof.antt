@@ -1,3 +1,4 @@
+-- The sum with the low octet first is 256 times less, and changing the octets over is 256 times as much.
 use borrow.Author.Needs.{needs}
 use mathlib.Core.Path.{sym, ap, _∙_}
 use Prim.Native.Nat.{_*_}

@@ -1,3 +1,4 @@
+-- The definition, by its two cases.
 use mathlib.Core.Path.{sym, ap}
 use native.Mathlib.Omega.{arith}
 use borrow.Author.Needs.{needs}

@@ -1,3 +1,4 @@
+-- The invariant: the sum so far stands for the words in front. Each four octets are two words in one number, the second in its high half, where it counts as in the low one.
 use borrow.Author.Needs.{needs}
 use mathlib.Core.Logic.{⊎-elim}
 use mathlib.Core.Path.{_≡_, ap}

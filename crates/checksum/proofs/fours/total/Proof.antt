@@ -1,9 +1,9 @@
+-- The invariant: the high halves' sum is whole, and with the low halves' sum it gives the sum of all numbers, cut to 32 bits. A block is short enough that the low halves' sum fits 32 bits, so that it is found again.
 use borrow.Author.Needs.{needs}
 use mathlib.Core.Path.{_≡_}
 use Prim.Native.Nat.{_+_, _-_, _*_, _/_, _≤_}
 use native.Mathlib.Omega.{arith}
-use lib.ListN.{length, drop}
-use Rattle.checksum.specs.EndAround.{lowSum}
+use lib.ListN.{length}
 use Rattle.checksum.proofs.LowFirst.{Halves, no-halves, two-halves, rest-sum}
 use Rattle.checksum.proofs.fours.total.Statement.{statement}
 use Rattle.checksum.proofs.fours.total.Tie as tie

@@ -1,3 +1,4 @@
+-- A sum of two words has a carry of one at most.
 use borrow.Author.Needs.{needs}
 use mathlib.Core.Path.{sym, _∙_}
 use Prim.Native.Nat.{_+_}

@@ -1,3 +1,4 @@
+-- The invariant: the sum so far stands for the words in front.
 use borrow.Author.Needs.{needs}
 use mathlib.Core.Path.{_≡_, ap, sym, _∙_}
 use Prim.Native.Nat.{_-_, _≤_}
