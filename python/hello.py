@@ -459,6 +459,7 @@ _RECEIVE = _call("hello_receive", c_uint8, *_HOST, c_size_t, c_char_p, c_size_t)
 _LOOKUP = _call("hello_lookup", _Route, *_HOST, _Address)
 _PACKET = _call("hello_packet", c_uint8, c_char_p, c_size_t)
 _CHECKSUM = _call("hello_checksum", c_uint16, c_char_p, c_size_t)
+_CHECKSUM_PLAIN = _call("hello_checksum_plain", c_uint16, c_char_p, c_size_t)
 
 
 def _lent(settings, number, clock, links, run):
@@ -566,3 +567,8 @@ def packet(octets):
 def checksum(octets):
     """The internet checksum (RFC 1071) of a bytes-like object."""
     return _CHECKSUM(*_octets(octets))
+
+
+def checksum_plain(octets):
+    """The same, worked out two octets at a time: the plain way, which takes longer."""
+    return _CHECKSUM_PLAIN(*_octets(octets))

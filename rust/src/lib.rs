@@ -13,8 +13,10 @@
 pub mod answer;
 mod layout;
 mod library;
+mod sums;
 mod types;
 
+pub use sums::checksum_plain;
 pub use types::*;
 
 /// Sets host `number` afresh: the clock, all links and the first NHOSTS entries, by the settings.
