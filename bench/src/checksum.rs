@@ -1,7 +1,7 @@
 //! Times the two ways of the checksum beside optimised Rust programs, all on the same octets.
 
 use crate::case::Batch;
-use crate::timing::in_turns;
+use crate::timing::{in_turns, TURNS};
 use std::hint::black_box;
 
 /// A HELLO without hosts, one of 255 hosts, and more than any packet has.
@@ -18,7 +18,7 @@ const NAMES: [&str; 5] = [
 
 /// Prints the times, and the second way's beside the quickest Rust program's.
 pub fn run() {
-    println!("\nChecksum: medians, nanoseconds.\n");
+    println!("\nChecksum: medians of {TURNS} turns, nanoseconds.\n");
     print!("{:>8}", "octets");
     NAMES.iter().for_each(|name| print!(" {name:>17}"));
     println!(" {:>7}", "ratio");

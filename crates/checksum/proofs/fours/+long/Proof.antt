@@ -26,158 +26,57 @@ long-at t = and 1 long-kinds.ps (is 1 long-kinds.ps μ-long t) long.Pre
 abbrev long-below : ℕ → In 1 long-kinds.ps
 long-below t = and 1 long-kinds.ps (falls 1 long-kinds.ps _<_ μ-long t) long.Pre
 
-long-total-requires : (t : ℕ) → long-lts.Need-total-requires (
-  total-reads.Asked,
-  total-reads.Learnt,
-  end-around-reads.Asked,
-  end-around-reads.Learnt,
-  long-below t,
-  long.Post,
-) (long-at t) long.Post
+-- what the functions that it calls ask and promise
+abbrev claims : ℕ → long-lts.Claims
+claims t = (total-reads.Asked, total-reads.Learnt, end-around-reads.Asked, end-around-reads.Learnt, long-below t, long.Post)
+
+long-total-requires : (t : ℕ) → long-lts.Need-total-requires (claims t) (long-at t) long.Post
 long-total-requires t c κs = search needs
 
-long-end-around-requires : (t : ℕ) → long-lts.Need-end-around-requires (
-  total-reads.Asked,
-  total-reads.Learnt,
-  end-around-reads.Asked,
-  end-around-reads.Learnt,
-  long-below t,
-  long.Post,
-) (long-at t) long.Post
+long-end-around-requires : (t : ℕ) → long-lts.Need-end-around-requires (claims t) (long-at t) long.Post
 long-end-around-requires t c κs = search needs
 
-long-returns : (t : ℕ) → long-lts.Need-returns (
-  total-reads.Asked,
-  total-reads.Learnt,
-  end-around-reads.Asked,
-  end-around-reads.Learnt,
-  long-below t,
-  long.Post,
-) (long-at t) long.Post
+long-returns : (t : ℕ) → long-lts.Need-returns (claims t) (long-at t) long.Post
 long-returns t c = c .end-around .ensures ∙ ap endAround (c .before .total .ensures)
 
-long-mul-half : (t : ℕ) → long-lts.Need-mul-half (
-  total-reads.Asked,
-  total-reads.Learnt,
-  end-around-reads.Asked,
-  end-around-reads.Learnt,
-  long-below t,
-  long.Post,
-) (long-at t) long.Post
+long-mul-half : (t : ℕ) → long-lts.Need-mul-half (claims t) (long-at t) long.Post
 long-mul-half t c = omega arith
 
-long-slice-aggregate-long : (t : ℕ) → long-lts.Need-slice-aggregate-long (
-  total-reads.Asked,
-  total-reads.Learnt,
-  end-around-reads.Asked,
-  end-around-reads.Learnt,
-  long-below t,
-  long.Post,
-) (long-at t) long.Post
+long-slice-aggregate-long : (t : ℕ) → long-lts.Need-slice-aggregate-long (claims t) (long-at t) long.Post
 long-slice-aggregate-long t c =
     let s = c .before .before .before .args .s .now in
     sym (length-take-le (length s / 4 * 2) s (omega arith))
 
-long-long-requires : (t : ℕ) → long-lts.Need-long-requires (
-  total-reads.Asked,
-  total-reads.Learnt,
-  end-around-reads.Asked,
-  end-around-reads.Learnt,
-  long-below t,
-  long.Post,
-) (long-at t) long.Post
+long-long-requires : (t : ℕ) → long-lts.Need-long-requires (claims t) (long-at t) long.Post
 long-long-requires t c κs =
     let s = c .before .before .before .args .s .now in
     (rw (length-take-le (length s / 4 * 2) s (omega arith)) (omega arith), tt)
 
-long-cast-end-around : (t : ℕ) → long-lts.Need-cast-end-around (
-  total-reads.Asked,
-  total-reads.Learnt,
-  end-around-reads.Asked,
-  end-around-reads.Learnt,
-  long-below t,
-  long.Post,
-) (long-at t) long.Post
+long-cast-end-around : (t : ℕ) → long-lts.Need-cast-end-around (claims t) (long-at t) long.Post
 long-cast-end-around t c = omega arith
 
-long-sub-long : (t : ℕ) → long-lts.Need-sub-long (
-  total-reads.Asked,
-  total-reads.Learnt,
-  end-around-reads.Asked,
-  end-around-reads.Learnt,
-  long-below t,
-  long.Post,
-) (long-at t) long.Post
+long-sub-long : (t : ℕ) → long-lts.Need-sub-long (claims t) (long-at t) long.Post
 long-sub-long t c = omega arith
 
-long-part-long-start : (t : ℕ) → long-lts.Need-part-long-start (
-  total-reads.Asked,
-  total-reads.Learnt,
-  end-around-reads.Asked,
-  end-around-reads.Learnt,
-  long-below t,
-  long.Post,
-) (long-at t) long.Post
+long-part-long-start : (t : ℕ) → long-lts.Need-part-long-start (claims t) (long-at t) long.Post
 long-part-long-start t c = omega arith
 
-long-part-long-end : (t : ℕ) → long-lts.Need-part-long-end (
-  total-reads.Asked,
-  total-reads.Learnt,
-  end-around-reads.Asked,
-  end-around-reads.Learnt,
-  long-below t,
-  long.Post,
-) (long-at t) long.Post
+long-part-long-end : (t : ℕ) → long-lts.Need-part-long-end (claims t) (long-at t) long.Post
 long-part-long-end t c = omega arith
 
-long-long-requires-2 : (t : ℕ) → long-lts.Need-long-requires-2 (
-  total-reads.Asked,
-  total-reads.Learnt,
-  end-around-reads.Asked,
-  end-around-reads.Learnt,
-  long-below t,
-  long.Post,
-) (long-at t) long.Post
+long-long-requires-2 : (t : ℕ) → long-lts.Need-long-requires-2 (claims t) (long-at t) long.Post
 long-long-requires-2 t c κs = (simp (length-take, length-drop) (omega arith), tt)
 
-long-cast-end-around-2 : (t : ℕ) → long-lts.Need-cast-end-around-2 (
-  total-reads.Asked,
-  total-reads.Learnt,
-  end-around-reads.Asked,
-  end-around-reads.Learnt,
-  long-below t,
-  long.Post,
-) (long-at t) long.Post
+long-cast-end-around-2 : (t : ℕ) → long-lts.Need-cast-end-around-2 (claims t) (long-at t) long.Post
 long-cast-end-around-2 t c = omega arith
 
-long-add-end-around : (t : ℕ) → long-lts.Need-add-end-around (
-  total-reads.Asked,
-  total-reads.Learnt,
-  end-around-reads.Asked,
-  end-around-reads.Learnt,
-  long-below t,
-  long.Post,
-) (long-at t) long.Post
+long-add-end-around : (t : ℕ) → long-lts.Need-add-end-around (claims t) (long-at t) long.Post
 long-add-end-around t c = omega arith
 
-long-end-around-requires-2 : (t : ℕ) → long-lts.Need-end-around-requires-2 (
-  total-reads.Asked,
-  total-reads.Learnt,
-  end-around-reads.Asked,
-  end-around-reads.Learnt,
-  long-below t,
-  long.Post,
-) (long-at t) long.Post
+long-end-around-requires-2 : (t : ℕ) → long-lts.Need-end-around-requires-2 (claims t) (long-at t) long.Post
 long-end-around-requires-2 t c κs = search needs
 
-long-returns-2 : (t : ℕ) → long-lts.Need-returns-2 (
-  total-reads.Asked,
-  total-reads.Learnt,
-  end-around-reads.Asked,
-  end-around-reads.Learnt,
-  long-below t,
-  long.Post,
-) (long-at t) long.Post
+long-returns-2 : (t : ℕ) → long-lts.Need-returns-2 (claims t) (long-at t) long.Post
 long-returns-2 t c =
     let s = c .before .before .before .before .before .before .before .args .s .now in
     let a = c .before .before .before .long in
@@ -185,14 +84,7 @@ long-returns-2 t c =
     c .end-around2 .ensures ∙ halved s (length s / 4 * 2) (a .result) (b .result) (omega arith) (omega arith) (a .ensures) (b .ensures)
 
 pub +long-spec : {M : Type 1} → statement M
-+long-spec = close μ-long λ t. long-lts.spec (
-  total-reads.Asked,
-  total-reads.Learnt,
-  end-around-reads.Asked,
-  end-around-reads.Learnt,
-  long-below t,
-  long.Post,
-)
++long-spec = close μ-long λ t. long-lts.spec (claims t)
     (long-at t)
     long.Post
     (long-total-requires t)

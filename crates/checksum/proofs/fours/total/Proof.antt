@@ -71,7 +71,7 @@ returns c =
     let s = c .before .before .before .before .before .before .args .s .now in
     let h = l .inv .2 in
     let k : l .k ≡ length s / 4 = omega arith in
-    let both = c .before .before .halves .ensures .0 (h .low) (omega (arith, h .small)) (h .cut) in
+    let both = c .before .before .halves .ensures .0 (h .low) (omega (arith, h .small)) (omega (arith, h .cut)) in
     let all = rw k at (h .all) in
     omega (arith, both, all, c .last .ensures .0, rest-sum s (4 * (length s / 4)))
 
