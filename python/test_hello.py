@@ -132,6 +132,7 @@ class Answers(unittest.TestCase):
         lent = fresh()
         self.assertEqual(hello.packet(b""), hello.IP_FORM)
         self.assertEqual(hello.checksum(b""), 0xFFFF)
+        self.assertEqual(hello.checksum_plain(b""), 0xFFFF)
         self.assertEqual(hello.tick(*lent[:4], hello.Run(0)), hello.OUT_OF_RANGE)
         self.assertEqual(hello.send(*lent, 1, bytearray()), hello.Sent(hello.SHORT_BUFFER, 0))
         self.assertEqual(hello.receive(*lent, 1, b""), hello.IP_FORM)

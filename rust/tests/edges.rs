@@ -36,6 +36,7 @@ fn fresh(number: usize, run: &mut [Entry]) -> (Clock, Links) {
 fn empty_slices_are_answered() {
     assert_eq!(hello::packet(&[]), answer::IP_FORM);
     assert_eq!(hello::checksum(&[]), 0xFFFF);
+    assert_eq!(hello::checksum_plain(&[]), 0xFFFF);
 
     let mut run = [Entry::default(); PLACES];
     let (mut clock, mut links) = fresh(0, &mut run);
