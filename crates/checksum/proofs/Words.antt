@@ -1,14 +1,14 @@
 -- Words that are added one after the other, each with its carry, give the folded sum, because carries may be added in at any time.
 use mathlib.Core.Path.{_≡_, refl, sym, ap₂, _∙_}
 use mathlib.Core.List.{List, [], _∷_}
-use Prim.Native.Nat.{ℕ, zero, suc, _+_, _*_, _/_, _%_, _≤_, _<_}
+use Prim.Native.Nat.{ℕ, suc, _+_, _*_, _%_, _≤_, _<_, _^_}
 use native.Mathlib.Nat.{add-zero}
 use native.Mathlib.Omega.{arith}
 use lib.ListN.{length, getD, drop}
 use lib.Seq.{drop-cons, drop-length}
 use Rattle.checksum.specs.Checksum.{allOnes, fold}
 use Rattle.checksum.specs.EndAround.{endAround, wordSum}
-use Rattle.checksum.proofs.Folding.{fold-ends, end-word, end-again, end-plus, one-more}
+use Rattle.checksum.proofs.Folding.{fold-ends, end-word, end-positive, end-again, end-plus, one-more}
 
 -- the sum so far stands for the words in front of place i
 abbrev pub Added : List ℕ → (i sum : ℕ) → Type 0
@@ -16,6 +16,15 @@ Added s i sum = endAround (sum + wordSum (drop i s)) ≡ endAround (wordSum s)
 
 pub fold-words : (a b : ℕ) → a ≤ allOnes → b ≤ allOnes → fold a b ≡ endAround (a + b)
 fold-words a b h k = ap₂ fold (sym (end-word a h)) (sym (end-word b k)) ∙ fold-ends a b
+
+-- a sum cut to 16 bits, with a carry and without
+pub with-carry : (a b r : ℕ) → a ≤ allOnes → b ≤ allOnes → r ≡ (a + b) % 2 ^ 16 → r < b → r + 1 ≡ fold a b
+with-carry a b r h k e l =
+    let w : r + 0x10000 ≡ a + b = omega arith in
+    omega (arith, end-positive (a + b) (omega arith), fold-words a b h k)
+
+pub no-carry : (a b r : ℕ) → a ≤ allOnes → b ≤ allOnes → r ≡ (a + b) % 2 ^ 16 → b ≤ r → r ≡ fold a b
+no-carry a b r h k e l = omega (arith, end-word (a + b) (omega arith), fold-words a b h k)
 
 -- a word is added
 with-word : (a b t : ℕ) → a ≤ allOnes → b ≤ allOnes → endAround (fold a b + t) ≡ endAround (a + (b + t))
@@ -42,9 +51,3 @@ odd-end s i sum w l h k e inv =
     let b : i < length s = omega arith in
     let d : drop i s ≡ getD s i 0 ∷ [] = drop-cons s i 0 b ∙ rw (l, drop-length) in
     fold-words sum w h k ∙ rw e (rw d at inv)
-
--- a carry out of 16 bits, added in at their low end
-pub carried : (t : ℕ) → t ≤ allOnes + allOnes → t / 0x10000 + t % 0x10000 ≡ endAround t
-unfolding endAround
-carried zero h = refl
-carried (suc n) h = omega arith

@@ -11,12 +11,15 @@ fn word(high: u8, low: u8) -> u16
     high as u16 * 256 + low as u16
 }
 
-// Two words added in one's complement.
+// Two words added in one's complement: a sum that is less than a word of it has lost its carry, which is added in.
 fn added(a: u16, b: u16) -> u16
     ensures { λ r. ⌜ r ≡ fold a b ⌝ }
 {
-    let sum = a as u32 + b as u32;
-    (sum / 0x10000 + sum % 0x10000) as u16
+    let sum = std::num::wrapping_add_u16(a, b);
+    if sum < b {
+        return sum + 1;
+    }
+    sum
 }
 
 // The folded one's complement sum of all words.

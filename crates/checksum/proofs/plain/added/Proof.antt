@@ -1,26 +1,27 @@
--- A sum of two words has a carry of one at most.
+-- A sum that is cut to 16 bits is less than its second word exactly where there was a carry, and a carry is one at most.
 use borrow.Author.Needs.{needs}
-use mathlib.Core.Path.{sym, _∙_}
-use Prim.Native.Nat.{_+_}
 use native.Mathlib.Omega.{arith}
-use Rattle.checksum.proofs.Words.{carried, fold-words}
+use Rattle.checksum.proofs.Words.{with-carry, no-carry}
 use Rattle.checksum.proofs.plain.added.Statement.{statement}
 use Rattle.checksum.proofs.plain.added.Tie as tie
 
-add-sum : tie.Need-add-sum
-add-sum c = search needs
+wrapping-add-u16-requires : tie.Need-wrapping-add-u16-requires
+wrapping-add-u16-requires c κs = search needs
 
 add-result : tie.Need-add-result
 add-result c = search needs
 
-cast-result : tie.Need-cast-result
-cast-result c = search needs
-
 returns : tie.Need-returns
 returns c =
-    let a = c .args .a in
-    let b = c .args .b in
-    carried (a + b) (omega arith) ∙ sym (fold-words a b (omega arith) (omega arith))
+    let r = c .before .wrapping-add-u16 in
+    let w = c .before .before .args in
+    with-carry (w .a) (w .b) (r .result) (omega arith) (omega arith) (r .ensures) (c .if1 .taken)
+
+returns-2 : tie.Need-returns-2
+returns-2 c =
+    let r = c .before .wrapping-add-u16 in
+    let w = c .before .before .args in
+    no-carry (w .a) (w .b) (r .result) (omega arith) (omega arith) (r .ensures) (c .if1 .left)
 
 pub added-spec : {M : Type 1} → statement M
-added-spec = tie.close (tie.spec add-sum add-result cast-result returns)
+added-spec = tie.close (tie.spec wrapping-add-u16-requires add-result returns returns-2)
