@@ -282,6 +282,9 @@ uint8_t hello_packet(const uint8_t *packet, size_t packet_length);
  */
 uint16_t hello_checksum(const uint8_t *octets, size_t length);
 
+/* The same, worked out two octets at a time: the plain way, which takes longer. */
+uint16_t hello_checksum_plain(const uint8_t *octets, size_t length);
+
 #ifdef __cplusplus
 }
 #endif

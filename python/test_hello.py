@@ -142,6 +142,7 @@ class Answers(unittest.TestCase):
         host = fresh()
         self.assertIs(hello.packet(b""), Answer.IP_FORM)
         self.assertEqual(hello.checksum(b""), 0xFFFF)
+        self.assertEqual(hello.checksum_plain(b""), 0xFFFF)
         self.assertEqual(host.send_into(1, bytearray()), (Answer.SHORT_BUFFER, 0))
         self.assertIs(host.receive(1, b""), Answer.IP_FORM)
         self.assertIs(hello.Room(0).host(0, settings()).initialize(), Answer.OUT_OF_RANGE)

@@ -137,15 +137,3 @@ pub fn lookup(nhosts: usize) -> Case {
         }),
     }
 }
-
-/// The checksum of so many octets.
-pub fn checksum(length: usize) -> Case {
-    let octets: Vec<u8> = (0..length).map(|i| (i * 7 + 1) as u8).collect();
-    let same_octets = octets.clone();
-    let sum = reference::checksum::checksum(&octets);
-    let expected = move |got: u16| u8::from(got != sum);
-    Case {
-        library: batch(move || expected(hello::checksum(black_box(&octets)))),
-        reference: batch(move || expected(reference::checksum::checksum(black_box(&same_octets)))),
-    }
-}

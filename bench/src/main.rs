@@ -1,6 +1,7 @@
 //! Times the proved library's calls beside the reference program's, on the same inputs.
 
 mod case;
+mod checksum;
 #[path = "../../compare/src/convert.rs"]
 mod convert;
 mod host;
@@ -10,10 +11,6 @@ use timing::{measure, Medians};
 
 /// The sizes of host table whose growth is shown.
 const SIZES: [usize; 4] = [4, 16, 64, 255];
-
-/// The lengths of octets whose checksum is taken: a HELLO without hosts, one of 255 hosts, and
-/// more than any packet has.
-const LENGTHS: [usize; 3] = [12, 1_032, 65_536];
 
 /// A call on a host: its name, and its case with so many hosts in the table.
 type Call = (&'static str, fn(usize) -> case::Case);
@@ -26,12 +23,18 @@ const CALLS: [Call; 4] = [
 ];
 
 fn main() {
+    if std::env::args().nth(1).as_deref() != Some("checksum") {
+        calls();
+    }
+    checksum::run();
+}
+
+/// The calls on a host.
+fn calls() {
     let calls = CALLS.iter().flat_map(|(name, case)| {
         SIZES.map(|nhosts| (format!("{name}, NHOSTS {nhosts}"), case(nhosts)))
     });
-    let checksums =
-        LENGTHS.map(|length| (format!("checksum, {length} octets"), case::checksum(length)));
-    let (names, mut cases): (Vec<_>, Vec<_>) = calls.chain(checksums).unzip();
+    let (names, mut cases): (Vec<_>, Vec<_>) = calls.unzip();
     let medians = measure(&mut cases);
 
     println!(

@@ -36,6 +36,32 @@ pub fn measure(cases: &mut [Case]) -> Vec<Medians> {
         .collect()
 }
 
+/// How often each of several programs is timed in turns, and how long one turn takes at least: many
+/// short turns, most of which no other work of the machine cuts in on.
+pub const TURNS: usize = 401;
+const TURN: Duration = Duration::from_micros(200);
+
+/// The median nanoseconds for one call of each of several programs that do the same.
+pub fn in_turns(programs: &mut [Batch]) -> Vec<f64> {
+    let counts: Vec<u32> = programs.iter_mut().map(enough).collect();
+    let mut times = vec![Vec::new(); programs.len()];
+    for _ in 0..TURNS {
+        for (i, program) in programs.iter_mut().enumerate() {
+            times[i].push(nanoseconds(program, counts[i]));
+        }
+    }
+    times.into_iter().map(median).collect()
+}
+
+/// How many calls of a program take a turn.
+fn enough(program: &mut Batch) -> u32 {
+    let mut count = 1;
+    while time(program, count) < TURN {
+        count *= 2;
+    }
+    count
+}
+
 /// How many calls make a batch: enough for the faster program to take long enough.
 fn batch_size(case: &mut Case) -> u32 {
     let mut count = 1;

@@ -47,6 +47,7 @@ _RECEIVE = function("hello_receive", c_uint8, *_HOST, c_size_t, c_char_p, c_size
 _LOOKUP = function("hello_lookup", CRoute, *_HOST, CAddress)
 _PACKET = function("hello_packet", c_uint8, c_char_p, c_size_t)
 _CHECKSUM = function("hello_checksum", c_uint16, c_char_p, c_size_t)
+_CHECKSUM_PLAIN = function("hello_checksum_plain", c_uint16, c_char_p, c_size_t)
 
 
 def _lent(settings, number, clock, links, run):
@@ -151,3 +152,8 @@ def packet(octets):
 def checksum(octets):
     """The internet checksum (RFC 1071) of a bytes-like object."""
     return _CHECKSUM(*octets_of(octets))
+
+
+def checksum_plain(octets):
+    """The same, worked out two octets at a time: the plain way, which takes longer."""
+    return _CHECKSUM_PLAIN(*octets_of(octets))

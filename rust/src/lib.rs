@@ -17,11 +17,13 @@ mod host;
 mod layout;
 mod library;
 mod room;
+mod sums;
 mod types;
 
 pub use answer::Answer;
 pub use host::{Found, Host, Reading};
 pub use room::Room;
+pub use sums::checksum_plain;
 pub use types::*;
 
 /// Sets host `number` afresh: the clock, all links and the first NHOSTS entries, by the settings.

@@ -24,6 +24,7 @@ fn room(hosts: usize) -> Room {
 fn empty_slices_are_answered() {
     assert_eq!(hello::packet(&[]), Answer::IpForm.number());
     assert_eq!(hello::checksum(&[]), 0xFFFF);
+    assert_eq!(hello::checksum_plain(&[]), 0xFFFF);
 
     let mut room = room(1);
     let mut host = room.host(0);

@@ -3,13 +3,15 @@ use mathlib.Core.Path.{_≡_, refl, sym, ap, ap₂, _∙_}
 use mathlib.Core.Bool.{Bool, true, false, cond}
 use mathlib.Core.List.{List, [], _∷_, _++_}
 use Prim.Native.Nat.{ℕ, zero, suc, _+_, _-_, _*_, _%_, _≤_, _<_}
-use native.Mathlib.Nat.{zero-add}
+use native.Mathlib.Nat.{zero-add, add-zero}
+use native.Mathlib.Numerals.{add-one, add-two}
 use native.Mathlib.Omega.{arith}
 use borrow.Author.Tests.{ltb-true, ltb-false, eq-eqb}
 use lib.Dec.{ltb}
-use lib.ListN.{length}
+use lib.ListN.{length, getD, drop}
+use lib.Seq.{drop-cons}
 use Rattle.checksum.specs.Checksum.{allOnes, fold, folded, checksumGood, checksumOf}
-use Rattle.checksum.specs.EndAround.{endAround, wordSum}
+use Rattle.checksum.specs.EndAround.{endAround, summed, wordSum}
 use Rattle.checksum.proofs.Octets.{Octets, joined}
 
 -- ---- carries added in on the way, and at the end
@@ -65,9 +67,9 @@ fold-ends a b = go a b (folds (endAround a) (endAround b))
 pub end-again : (t : ℕ) → endAround (endAround t) ≡ endAround t
 end-again t = end-word (endAround t) (end-small t)
 
--- totals that stand for one sum do so with more added to them
-pub end-more : (a b t : ℕ) → endAround a ≡ endAround b → endAround (a + t) ≡ endAround (b + t)
-end-more a b t e = sym (fold-ends a t) ∙ ap (λ x. fold x (endAround t)) e ∙ fold-ends b t
+-- totals that stand for the same sums do so added together
+pub end-plus : (a b c d : ℕ) → endAround a ≡ endAround b → endAround c ≡ endAround d → endAround (a + c) ≡ endAround (b + d)
+end-plus a b c d e f = sym (fold-ends a c) ∙ ap₂ fold e f ∙ fold-ends b d
 
 -- a word in the high half of a total counts as in the low one
 pub end-high : (a t : ℕ) → endAround (a * 256 * 256 + t) ≡ endAround (a + t)
@@ -83,33 +85,35 @@ end-high (suc a) t =
 pub folded-sum : (xs : List ℕ) → Octets xs → folded xs ≡ endAround (wordSum xs)
 unfolding folded
 folded-sum [] o = sym (end-word 0 (omega arith))
-folded-sum (x ∷ []) o = sym (end-word (x * 256) (omega arith))
+folded-sum (x ∷ []) o = rw add-zero (sym (end-word (x * 256) (omega arith)))
 folded-sum (x ∷ y ∷ rest) o =
     ap₂ fold (sym (end-word (x * 256 + y) (omega arith))) (folded-sum rest (o .1 .1))
     ∙ fold-ends (x * 256 + y) (wordSum rest)
 
-pub sum-append : (xs ys : List ℕ) → length xs % 2 ≡ 0 → wordSum (xs ++ ys) ≡ wordSum xs + wordSum ys
-sum-append [] ys e = omega arith
-sum-append (x ∷ []) ys e = absurd (omega arith)
-sum-append (x ∷ y ∷ rest) ys e = omega (arith, sum-append rest ys (omega arith))
+-- an even number of octets in front
+pub sum-append : (f : ℕ → ℕ → ℕ) (xs ys : List ℕ) → length xs % 2 ≡ 0 → summed f (xs ++ ys) ≡ summed f xs + summed f ys
+sum-append f [] ys e = sym (zero-add (summed f ys))
+sum-append f (x ∷ []) ys e = absurd (omega arith)
+sum-append f (x ∷ y ∷ rest) ys e = omega (arith, sum-append f rest ys (omega arith))
+
+-- the word at place i
+pub one-more : (f : ℕ → ℕ → ℕ) (s : List ℕ) (i : ℕ) → i + 1 < length s → summed f (drop i s) ≡ f (getD s i 0) (getD s (i + 1) 0) + summed f (drop (i + 2) s)
+one-more f s i h =
+    let h₀ : i < length s = omega arith in
+    let h₁ : suc i < length s = omega arith in
+    rw (add-one, add-two, drop-cons s i 0, drop-cons s (suc i) 0)
 
 -- ---- the laws of the folded sum
 
 pub folded-small : (xs : List ℕ) → Octets xs → folded xs ≤ allOnes
 folded-small xs o = rw (folded-sum xs o) (end-small (wordSum xs))
 
--- octets in front, of an even number
-pub folded-append : (xs ys : List ℕ) → length xs % 2 ≡ 0 → Octets xs → Octets ys → folded (xs ++ ys) ≡ fold (folded xs) (folded ys)
-folded-append xs ys e o p =
-    folded-sum (xs ++ ys) (joined xs ys o p) ∙ ap endAround (sum-append xs ys e) ∙ sym (fold-ends (wordSum xs) (wordSum ys))
-    ∙ ap₂ fold (sym (folded-sum xs o)) (sym (folded-sum ys p))
-
 -- a word at an even place counts as it would in front
 pub folded-word : (xs ys : List ℕ) (hi lo : ℕ) → length xs % 2 ≡ 0 → Octets xs → hi < 256 → lo < 256 → Octets ys
     → folded (xs ++ hi ∷ lo ∷ ys) ≡ fold (hi * 256 + lo) (folded (xs ++ ys))
 folded-word xs ys hi lo e o h l p =
     let w : wordSum (xs ++ hi ∷ lo ∷ ys) ≡ hi * 256 + lo + wordSum (xs ++ ys) =
-    omega (arith, sum-append xs (hi ∷ lo ∷ ys) e, sum-append xs ys e) in
+    omega (arith, sum-append (λ x y. x * 256 + y) xs (hi ∷ lo ∷ ys) e, sum-append (λ x y. x * 256 + y) xs ys e) in
     folded-sum (xs ++ hi ∷ lo ∷ ys) (joined xs (hi ∷ lo ∷ ys) o (h, (l, p))) ∙ ap endAround w
     ∙ sym (fold-ends (hi * 256 + lo) (wordSum (xs ++ ys)))
     ∙ ap₂ fold (end-word (hi * 256 + lo) (omega arith)) (sym (folded-sum (xs ++ ys) (joined xs ys o p)))

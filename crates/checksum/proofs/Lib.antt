@@ -1,3 +1,4 @@
 pub mod Octets
 pub mod Folding
-pub mod Totals
+pub mod Words
+pub mod LowFirst

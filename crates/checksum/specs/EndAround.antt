@@ -1,8 +1,7 @@
--- How the folded sum is worked out: numbers are added up whole, and the carries are added in once, at the end.
-use mathlib.Core.Path.{_≡_}
+-- How the second way works the folded sum out: words are added up whole, with the low octet first, and the carries are added in at the end.
 use mathlib.Core.List.{List, [], _∷_}
-use Prim.Native.Nat.{ℕ, zero, suc, _+_, _*_, _%_, _<_, _^_}
-use lib.ListN.{length}
+use Prim.Native.Nat.{ℕ, zero, suc, _+_, _*_, _%_}
+use lib.ListN.{getD}
 use Rattle.checksum.specs.Checksum.{allOnes}
 
 -- a total with its carries added in
@@ -10,17 +9,29 @@ unfoldable pub endAround : ℕ → ℕ
 endAround zero = 0
 endAround (suc n) = n % allOnes + 1
 
--- the whole sum of the words
+-- the whole sum of words, each of which f makes of two octets; behind an odd last octet stands a zero
+abbrev pub summed : (ℕ → ℕ → ℕ) → List ℕ → ℕ
+summed f [] = 0
+summed f (x ∷ []) = f x 0
+summed f (x ∷ y ∷ rest) = f x y + summed f rest
+
+-- the sum of the words, high octet first
 abbrev pub wordSum : List ℕ → ℕ
-wordSum [] = 0
-wordSum (x ∷ []) = x * 256
-wordSum (x ∷ y ∷ rest) = x * 256 + y + wordSum rest
+wordSum = summed (λ x y. x * 256 + y)
 
--- a long list is added up in blocks of so many octets, whose totals fit
+-- the sum of the words, low octet first
+abbrev pub lowSum : List ℕ → ℕ
+lowSum = summed (λ x y. x + y * 256)
+
+-- the number in four octets from place i on, the low one first
+abbrev pub lowFour : List ℕ → ℕ → ℕ
+lowFour octets i =
+    getD octets i 0 + getD octets (i + 1) 0 * 0x100 + getD octets (i + 2) 0 * 0x10000 + getD octets (i + 3) 0 * 0x1000000
+
+-- fewer octets than so many are added up by a loop that is quick to set out
+abbrev pub shortLength : ℕ
+shortLength = 64
+
+-- so many octets are added up within 32 bits
 abbrev pub blockLength : ℕ
-blockLength = 0x8000
-
--- a total that stands for the sum of the words, and how large it can be
-pub record Total (octets : List ℕ) (t : ℕ) : Type 0 where
-  pub stands : endAround t ≡ endAround (wordSum octets)
-  pub small : t < 2 ^ 32 * (length octets + 1)
+blockLength = 0x40000

@@ -1,4 +1,6 @@
 // The library for programs in C, Rust and Python: the ten calls, with the answer as its number.
+mod sums;
+
 ghost use mathlib.Core.Path.{_≡_};
 ghost use Rattle.quantity.specs.Quantity.{millis};
 ghost use Rattle.checksum.specs.Checksum.{checksumOf};

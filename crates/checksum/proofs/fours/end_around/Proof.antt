@@ -1,10 +1,11 @@
+-- The definition, by its two cases.
 use mathlib.Core.Path.{sym, ap}
 use native.Mathlib.Omega.{arith}
 use borrow.Author.Needs.{needs}
 use Rattle.checksum.specs.EndAround.{endAround}
 use Rattle.checksum.proofs.Folding.{end-positive}
-use Rattle.checksum.proofs.end_around.Statement.{statement}
-use Rattle.checksum.proofs.end_around.Tie as tie
+use Rattle.checksum.proofs.fours.end_around.Statement.{statement}
+use Rattle.checksum.proofs.fours.end_around.Tie as tie
 
 returns : tie.Need-returns
 unfolding endAround

@@ -1,0 +1,11 @@
+//! The checksum in the plain way.
+
+extern "C" {
+    fn hello_checksum_plain(octets: *const u8, length: usize) -> u16;
+}
+
+/// The same as [`checksum`](crate::checksum), worked out two octets at a time: the plain way,
+/// which takes longer.
+pub fn checksum_plain(octets: &[u8]) -> u16 {
+    unsafe { hello_checksum_plain(octets.as_ptr(), octets.len()) }
+}
