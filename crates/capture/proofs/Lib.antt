@@ -1,2 +1,3 @@
 pub mod Hits
 pub mod Steps
+pub mod Left

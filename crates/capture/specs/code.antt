@@ -1,2 +1,3 @@
 -- What only the code needs.
 pub mod Next
+pub mod Survey

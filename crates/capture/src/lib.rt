@@ -2,8 +2,12 @@
 ghost use mathlib.Core.Path.{_≡_};
 ghost use Rattle.capture.specs.Answer.{number};
 
+mod counting;
 mod octets;
 mod search;
+
+// The octets of a number.
+const NUMBER: usize = 4;
 
 pub enum Answer {
     Done,
@@ -23,6 +27,14 @@ pub struct Mended {
 pub struct Next {
     pub at: usize,
     pub size: usize,
+}
+
+// What the first pass finds: the hits, the octets of their packets, the stretches, and whether the places of the input are those of the hits.
+pub struct Survey {
+    pub hits: usize,
+    pub octets: usize,
+    pub stretches: usize,
+    pub placed: bool,
 }
 
 // The number of an answer in the published table.
