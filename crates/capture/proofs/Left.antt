@@ -5,7 +5,6 @@ use mathlib.Core.List.{List, [], _∷_, _++_, append-nil}
 use Prim.Native.Nat.{ℕ, zero, suc, _+_, _*_, _≤_, _<_}
 use native.Mathlib.Nat.{zero-add}
 use native.Mathlib.Omega.{arith}
-use borrow.Author.Tests.{ne-eqb}
 use lib.Dec.{ltb}
 use lib.ListN.{length, length-append}
 use Rattle.capture.specs.declared.Next.{Next}
@@ -14,13 +13,13 @@ use Rattle.capture.specs.Search.{Span, span, hitsFrom, hits, gap, gaps, 
 use Rattle.capture.specs.Capture.{numberLength, headingLength, placesAre}
 use Rattle.capture.specs.code.Next.{hitsAt, IsNext}
 use Rattle.capture.specs.code.Survey.{totalSize, surveyOf, counted}
-use Rattle.capture.proofs.Steps.{end-none}
+use Rattle.capture.proofs.Steps.{found-some, end-none}
 
 -- ---- the hits from a place on, by the next of them
 
 module _ (s : List ℕ) (from : ℕ) (n : Next) (is : IsNext s from n) where
   pub next-more : 0 < n .size → hitsAt from s ≡ span (n .at) (n .size) ∷ hitsAt (n .at + n .size) s
-  next-more h = is .first ∙ rw (ne-eqb (n .size) 0 (λ q. absurd (omega arith)))
+  next-more h = is .first ∙ rw (found-some (n .at) (n .size) h)
 
   pub next-last : n .size ≡ 0 → hitsAt from s ≡ []
   next-last e =

@@ -13,6 +13,9 @@ use Rattle.capture.specs.Search.{Span, span, hit, found, hitsFrom}
 use Rattle.capture.specs.code.Next.{hitsAt, IsNext}
 use Rattle.capture.proofs.Hits.{hit-none, hit-size, hit-shows}
 
+pub found-some : (at n : ℕ) → 0 < n → found at n ≡ span at n ∷ []
+found-some at n h = rw (ne-eqb n 0 (λ q. absurd (omega arith)))
+
 -- behind so many octets of a hit
 pub behind : (at n : ℕ) (s : List ℕ) → hitsFrom at n s ≡ hitsFrom (at + n) 0 (drop n s)
 unfolding hitsFrom
@@ -32,7 +35,7 @@ unfolding hitsFrom
 step-hit at o rest n e =
     let m : suc at + n ≡ at + suc n = omega arith in
     let z : suc n - 1 ≡ n = omega arith in
-    rw (e, ne-eqb (suc n) 0 (λ q. absurd (omega arith)), z) (ap (λ hs. span at (suc n) ∷ hs) (behind (suc at) n rest ∙ rw m))
+    rw (e, found-some at (suc n) (omega arith), z) (ap (λ hs. span at (suc n) ∷ hs) (behind (suc at) n rest ∙ rw m))
 
 module _ (s : List ℕ) (at : ℕ) where
   pub end-none : length s ≤ at → hitsAt at s ≡ []
@@ -77,5 +80,5 @@ module _ (s : List ℕ) (from at : ℕ) (forward : from ≤ at) (left : hitsAt f
         forward = forward;
         inside = omega (arith, w .fits, e ∙ hit-size (drop at s) (rw e at p));
         last = λ q. absurd (omega arith);
-        first = left ∙ at-hit s at h n (sym e) ∙ rw (ne-eqb (suc n) 0 (λ q. absurd (omega arith)));
+        first = left ∙ at-hit s at h n (sym e) ∙ rw (found-some at (suc n) p);
       }

@@ -5,6 +5,7 @@ ghost use Rattle.capture.specs.Answer.{number};
 mod counting;
 mod octets;
 mod search;
+mod writing;
 
 // The octets of a number.
 const NUMBER: usize = 4;
