@@ -1,11 +1,10 @@
 -- The first pass: what was counted so far and what is left to count make up the whole, because each turn takes one hit off.
 use mathlib.Core.Path.{_≡_, refl, sym, ap, _∙_}
-use mathlib.Core.Bool.{Bool, true, false, cond, _&&_}
+use mathlib.Core.Bool.{Bool, true, false, _&&_}
 use mathlib.Core.List.{List, [], _∷_, _++_, append-nil}
 use Prim.Native.Nat.{ℕ, zero, suc, _+_, _*_, _≤_, _<_}
 use native.Mathlib.Nat.{zero-add}
 use native.Mathlib.Omega.{arith}
-use lib.Dec.{ltb}
 use lib.ListN.{length, length-append}
 use Rattle.capture.specs.declared.Next.{Next}
 use Rattle.capture.specs.declared.Survey.{Survey}
@@ -13,7 +12,7 @@ use Rattle.capture.specs.Search.{Span, span, hitsFrom, hits, gap, gaps, 
 use Rattle.capture.specs.Capture.{numberLength, headingLength, placesAre}
 use Rattle.capture.specs.code.Next.{hitsAt, IsNext}
 use Rattle.capture.specs.code.Survey.{totalSize, surveyOf, counted}
-use Rattle.capture.proofs.Steps.{found-some, end-none}
+use Rattle.capture.proofs.Steps.{found-some, gap-one, end-none}
 
 -- ---- the hits from a place on, by the next of them
 
@@ -27,13 +26,6 @@ module _ (s : List ℕ) (from : ℕ) (n : Next) (is : IsNext s from n) where
       is .first ∙ rw (e) (rw (e) at (end-none s (n .at + n .size) m))
 
 -- ---- what is left
-
-at-most-one : (b : Bool) (h : Span) → length (cond b (h ∷ []) []) ≤ 1
-at-most-one true h = omega arith
-at-most-one false h = omega arith
-
-gap-one : (from to : ℕ) → length (gap from to) ≤ 1
-gap-one from to = at-most-one (ltb from to) _
 
 pub record Left (input : List ℕ) (at : ℕ) (s : Survey) : Type 0 where
   pub hits-left : s .hits + length (hitsAt at input) ≡ length (hits input)

@@ -4,3 +4,4 @@ pub mod Left
 pub mod Order
 pub mod Over
 pub mod Outputs
+pub mod Mending

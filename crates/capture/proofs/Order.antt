@@ -1,17 +1,19 @@
--- The hits stand one behind the other within the input, because the search goes on behind each.
+-- The hits stand one behind the other within the input, each as long as the shortest packet, because the search goes on behind each.
 use mathlib.Core.Path.{_≡_, refl, sym, ap, _∙_}
 use mathlib.Core.List.{List, [], _∷_, _++_}
-use Prim.Native.Nat.{ℕ, zero, suc, _+_, _-_, _≤_, _<_}
+use Prim.Native.Nat.{ℕ, zero, suc, _+_, _-_, _*_, _≤_, _<_}
 use native.Mathlib.Nat.{add-zero, zero-add}
 use native.Mathlib.Omega.{arith}
-use lib.ListN.{length}
-use Rattle.capture.specs.Search.{Span, span, hit, found, hitsFrom, hits}
-use Rattle.capture.proofs.Steps.{found-some}
+use lib.ListN.{length, length-append}
+use Rattle.wire.specs.Packet.{packetLength}
+use Rattle.capture.specs.Search.{Span, span, hit, found, hitsFrom, hits, gap, gaps, stretches}
+use Rattle.capture.specs.code.Survey.{totalSize}
+use Rattle.capture.proofs.Steps.{found-some, gap-one}
 use Rattle.capture.proofs.Hits.{hit-size, hit-shows}
 
 abbrev pub Order : (from end : ℕ) → List Span → Type 0
 Order from end [] = from ≤ end
-Order from end (h ∷ hs) = (from ≤ h .start) × (0 < h .size) × Order (h .start + h .size) end hs
+Order from end (h ∷ hs) = (from ≤ h .start) × (packetLength 0 ≤ h .size) × Order (h .start + h .size) end hs
 
 pub order-le : (from end : ℕ) (hs : List Span) → Order from end hs → from ≤ end
 order-le from end [] o = o
@@ -21,10 +23,11 @@ sooner : (earlier from end : ℕ) (hs : List Span) → earlier ≤ from → Orde
 sooner earlier from end [] h o = omega (arith, o)
 sooner earlier from end (x ∷ hs) h o = (omega (arith, o .0), o .1, o .2)
 
-hit-inside : (s : List ℕ) (n : ℕ) → hit s ≡ suc n → suc n ≤ length s
+hit-inside : (s : List ℕ) (n : ℕ) → hit s ≡ suc n → (packetLength 0 ≤ suc n) × (suc n ≤ length s)
 hit-inside s n e =
     let p : 0 < hit s = omega arith in
-    omega (arith, hit-size s p, hit-shows s p .fits)
+    let w = hit-shows s p in
+    (omega (arith, hit-size s p, w .long), omega (arith, hit-size s p, w .fits))
 
 -- by what is found at the first octet
 module _ (at o : ℕ) (rest : List ℕ) (end : ℕ) (later : (n : ℕ) → n ≤ length rest → Order (suc at + n) end (hitsFrom (suc at) n rest)) where
@@ -35,7 +38,8 @@ module _ (at o : ℕ) (rest : List ℕ) (end : ℕ) (later : (n : ℕ) → n ≤
   step (suc n) e =
       let m : suc n - 1 ≡ n = omega arith in
       let q : suc at + n ≡ at + suc n = omega arith in
-      rw (found-some at (suc n) (omega arith), m) (omega arith, omega arith, rw q at (later n (omega (arith, hit-inside (o ∷ rest) n e))))
+      let i = hit-inside (o ∷ rest) n e in
+      rw (found-some at (suc n) (omega arith), m) (omega arith, i .0, rw q at (later n (omega (arith, i .1))))
 
 pub order-from : (at n : ℕ) (s : List ℕ) → n ≤ length s → Order (at + n) (at + length s) (hitsFrom at n s)
 unfolding hitsFrom
@@ -51,3 +55,24 @@ order-from at zero (o ∷ rest) h =
 pub hits-order : (s : List ℕ) → Order 0 (length s) (hits s)
 unfolding hits
 hits-order s = rw (zero-add (length s)) at (order-from 0 0 s (omega arith))
+
+-- ---- how many they are
+
+pub order-total : (from end : ℕ) (hs : List Span) → Order from end hs → (from + totalSize hs ≤ end) × (packetLength 0 * length hs ≤ totalSize hs)
+order-total from end [] o = (omega (arith, o), omega arith)
+order-total from end (h ∷ hs) o =
+    let t = order-total (h .start + h .size) end hs (o .2) in
+    (omega (arith, t .0, o .0), omega (arith, t .1, o .1))
+
+gaps-few : (from end : ℕ) (hs : List Span) → length (gaps from end hs) ≤ length hs + 1
+gaps-few from end [] = gap-one from end
+gaps-few from end (h ∷ hs) =
+    let g = gaps (h .start + h .size) end hs in
+    omega (arith, length-append (gap from (h .start)) g, gap-one from (h .start), gaps-few (h .start + h .size) end hs)
+
+-- the hits of an input, their octets, and the stretches
+pub hits-few : (s : List ℕ) → (packetLength 0 * length (hits s) ≤ totalSize (hits s)) × (totalSize (hits s) ≤ length s) × (length (stretches s) ≤ length (hits s) + 1)
+unfolding stretches
+hits-few s =
+    let t = order-total 0 (length s) (hits s) (hits-order s) in
+    (t .1, omega (arith, t .0), gaps-few 0 (length s) (hits s))

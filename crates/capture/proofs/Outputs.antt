@@ -195,11 +195,11 @@ module _ (input c₀ c : List ℕ) (at place to : ℕ) (left : CaptureLeft input
             behind-heading = omega (arith, left .behind-heading);
             fits = omega (arith, left .fits, ap totalSize more);
             left =
-              ap (λ z. over z (to + n .size) (flatten later)) placed
-              ∙ ap (λ k. over (over x to packet) (to + k) (flatten later)) (sym packet-long)
-              ∙ over-twice to x packet (omega (arith, long, capture-fits .1)) (flatten later)
-              ∙ sym joined
-              ∙ left .left;
+                ap (λ z. over z (to + n .size) (flatten later)) placed
+                ∙ ap (λ k. over (over x to packet) (to + k) (flatten later)) (sym packet-long)
+                ∙ over-twice to x packet (omega (arith, long, capture-fits .1)) (flatten later)
+                ∙ sym joined
+                ∙ left .left;
           }
 
 -- ---- the whole of it

@@ -1,20 +1,29 @@
 -- The search, a step at a time: behind a hit, or one octet further.
 use mathlib.Core.Path.{_≡_, refl, sym, ap, _∙_}
+use mathlib.Core.Bool.{Bool, true, false, cond}
 use mathlib.Core.List.{List, [], _∷_, _++_}
 use Prim.Native.Nat.{ℕ, zero, suc, _+_, _-_, _≤_, _<_}
 use native.Mathlib.Omega.{arith}
 use native.Mathlib.Numerals.{add-one}
 use native.Mathlib.Nat.{add-zero}
 use borrow.Author.Tests.{ne-eqb}
+use lib.Dec.{ltb}
 use lib.ListN.{length, getD, drop, drop-of-length-le, length-drop}
 use lib.Seq.{drop-cons, drop-drop, getD-drop}
 use Rattle.wire.specs.Ip.{versionAndLength}
-use Rattle.capture.specs.Search.{Span, span, hit, found, hitsFrom}
+use Rattle.capture.specs.Search.{Span, span, hit, found, hitsFrom, gap}
 use Rattle.capture.specs.code.Next.{hitsAt, IsNext}
 use Rattle.capture.proofs.Hits.{hit-none, hit-size, hit-shows}
 
 pub found-some : (at n : ℕ) → 0 < n → found at n ≡ span at n ∷ []
 found-some at n h = rw (ne-eqb n 0 (λ q. absurd (omega arith)))
+
+at-most-one : (b : Bool) (h : Span) → length (cond b (h ∷ []) []) ≤ 1
+at-most-one true h = omega arith
+at-most-one false h = omega arith
+
+pub gap-one : (from to : ℕ) → length (gap from to) ≤ 1
+gap-one from to = at-most-one (ltb from to) _
 
 -- behind so many octets of a hit
 pub behind : (at n : ℕ) (s : List ℕ) → hitsFrom at n s ≡ hitsFrom (at + n) 0 (drop n s)

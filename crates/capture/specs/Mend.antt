@@ -21,14 +21,14 @@ pub record Outcome : Type 0 where
   pub capture : List ℕ
   pub stretches : List ℕ
 
--- refused: zeros, "both untouched"
+-- a refusal answers zeros
+abbrev pub refusal : Answer → Mended
+refusal a = record { answer = a; «capture_length» = 0; «stretches_length» = 0; «places_true» = false }
+
+-- "both untouched"
 abbrev pub refused : Answer → (capture stretches : List ℕ) → Outcome
 refused a capture stretches =
-    record {
-      mended = record { answer = a; «capture_length» = 0; «stretches_length» = 0; «places_true» = false };
-      capture = capture;
-      stretches = stretches;
-    }
+    record { mended = refusal a; capture = capture; stretches = stretches }
 
 -- both outputs written; octets beyond them stay
 abbrev pub written : (input capture stretches : List ℕ) → Outcome

@@ -4,7 +4,7 @@ ghost use Prim.Native.Nat.{_+_, _*_, _≤_};
 ghost use lib.ListN.{length};
 ghost use Rattle.capture.specs.Search.{gap};
 ghost use Rattle.capture.specs.Mend.{longestInput};
-ghost use Rattle.capture.specs.code.Survey.{surveyOf, standsAt, counted};
+ghost use Rattle.capture.specs.code.Survey.{surveyOf, standsAt, counted, marked};
 use super::NUMBER;
 use super::Next;
 use super::Survey;
@@ -69,4 +69,17 @@ pub fn survey(input: &[u8]) -> Survey
         s = counted(input, s, at, n);
         at = n.at + n.size;
     }
+}
+
+// Whether the input's own number and places are those of its hits.
+pub fn marked(input: &[u8], s: Survey) -> bool
+    ensures { λ r. ⌜ r ≡ marked (now (input .entry)) s ⌝ }
+{
+    if input.len() < NUMBER {
+        return false;
+    }
+    if four_at(input, 0) != s.hits {
+        return false;
+    }
+    s.placed
 }

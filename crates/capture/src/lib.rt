@@ -1,11 +1,15 @@
 // The mender of damaged captures: it finds the packets of an input again, and writes a capture of them.
 ghost use mathlib.Core.Path.{_≡_};
 ghost use Rattle.capture.specs.Answer.{number};
+ghost use Rattle.capture.specs.Mend.{refusal, mend, Leaves};
 
 mod counting;
 mod octets;
 mod search;
 mod writing;
+
+// No longer input is taken.
+const LONGEST: usize = 65536;
 
 // The octets of a number.
 const NUMBER: usize = 4;
@@ -46,5 +50,43 @@ pub fn number(a: Answer) -> u8
         Answer::Done => 0,
         Answer::ShortBuffer => 2,
         Answer::CaptureLength => 27,
+    }
+}
+
+// A refusal: zeros.
+fn refused(a: Answer) -> Mended
+    ensures { λ r. ⌜ r ≡ refusal a ⌝ }
+{
+    Mended {
+        answer: a,
+        capture_length: 0,
+        stretches_length: 0,
+        places_true: false,
+    }
+}
+
+// The mender: writes a capture of the packets that it finds in the input, and a list of the stretches that it passed over.
+// Octets beyond what is written stay; where it refuses, both outputs stay as they are.
+pub fn mend(input: &[u8], capture: &mut [u8], stretches: &mut [u8]) -> Mended
+    ensures { λ r. ⌜ Leaves (mend (now (input .entry)) (now (capture .entry)) (now (stretches .entry))) r (now (capture .exit)) (now (stretches .exit)) ⌝ }
+{
+    if LONGEST < input.len() {
+        return refused(Answer::CaptureLength);
+    }
+    let s = counting::survey(input);
+    let capture_length = NUMBER + NUMBER * s.hits + s.octets;
+    if capture.len() < capture_length {
+        return refused(Answer::ShortBuffer);
+    }
+    let stretches_length = 2 * NUMBER * s.stretches;
+    if stretches.len() < stretches_length {
+        return refused(Answer::ShortBuffer);
+    }
+    writing::write(input, &mut *capture, &mut *stretches, s.hits);
+    Mended {
+        answer: Answer::Done,
+        capture_length,
+        stretches_length,
+        places_true: counting::marked(input, s),
     }
 }

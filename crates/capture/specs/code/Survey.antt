@@ -43,3 +43,7 @@ captureLength s = headingLength (s .hits) + s .octets
 
 abbrev pub stretchesLength : Survey → ℕ
 stretchesLength s = 2 * numberLength * s .stretches
+
+-- whether the number and the places are those of the hits
+abbrev pub marked : List ℕ → Survey → Bool
+marked input s = leb numberLength (length input) && eqb (fourAt input 0) (s .hits) && s .placed

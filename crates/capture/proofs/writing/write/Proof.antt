@@ -61,7 +61,7 @@ returns c =
     let n = c .before .before .before .before .before .next in
     let put : c .before .before .before .before .before .before .before .before .before .put-four .last .0 ≡ over (a .capture .now) 0 (four (length (hits (a .input .now)))) = c .before .before .before .before .before .before .before .before .before .put-four .ensures ∙ ap (λ k. over (a .capture .now) 0 (four k)) (c .before .before .before .before .before .before .before .before .before .before .before .before .before .before .pre .count) in (
       capture-last (a .input .now) _ (l .capture) (l .at) (l .place) (l .to) (l .inv .1) (n .result) (n .ensures) (c .if1 .taken)
-      ∙ capture-whole (a .input .now) (a .capture .now) _ (c .before .before .before .before .before .before .before .before .before .before .before .before .before .before .pre .capture-fits) put,
+          ∙ capture-whole (a .input .now) (a .capture .now) _ (c .before .before .before .before .before .before .before .before .before .before .before .before .before .before .pre .capture-fits) put,
       stretches-last (a .input .now) _ (l .stretches) (l .at) (l .end) (l .inv .2) (c .before .before .before .before .before .before .before .before .before .before .before .before .before .before .pre .stretches-fit) (n .result) (n .ensures) _ (c .before .before .before .put-stretch .ensures .1) (c .if1 .taken),
     )
 

@@ -1,0 +1,73 @@
+-- The mender: the first pass tells the lengths of the outputs and the mark, so its tests are those of the definition.
+use mathlib.Core.Path.{_≡_, refl, sym, ap, _∙_}
+use mathlib.Core.Bool.{Bool, true, false, cond, _||_}
+use mathlib.Core.List.{List, [], _∷_, _++_}
+use Prim.Native.Nat.{ℕ, _+_, _*_, _≤_, _<_}
+use native.Mathlib.Omega.{arith}
+use borrow.Author.Tests.{lt-ltb, le-ltb}
+use lib.Dec.{ltb}
+use lib.ListN.{length, length-append}
+use Rattle.wire.specs.Octets.{four}
+use Rattle.capture.specs.declared.Answer.{Answer}
+use Rattle.capture.specs.declared.Answer.the-variants.{ShortBuffer, CaptureLength}
+use Rattle.capture.specs.declared.Mended.{Mended}
+use Rattle.capture.specs.declared.Survey.{Survey}
+use Rattle.capture.specs.Search.{Span, hits, stretches}
+use Rattle.capture.specs.Capture.{headingLength, mendedCapture, spanOctets, stretchList, placesTrue}
+use Rattle.capture.specs.Mend.{longestInput, Outcome, refused, written, mend, Leaves}
+use Rattle.capture.specs.code.Survey.{totalSize, surveyOf, captureLength, stretchesLength, marked}
+use Rattle.capture.proofs.Order.{hits-few}
+use Rattle.capture.proofs.Outputs.{capture-long}
+
+spans-long : (hs : List Span) → length (spanOctets hs) ≡ 8 * length hs
+spans-long [] = refl
+spans-long (h ∷ hs) = omega (arith, length-append (four (h .start) ++ four (h .size)) (spanOctets hs), spans-long hs)
+
+-- ---- what the first pass told
+
+module _ (input : List ℕ) (s : Survey) (e : s ≡ surveyOf input) where
+  pub hits-told : s .hits ≡ length (hits input)
+  unfolding surveyOf
+  hits-told = ap (λ (x : Survey). x .hits) e
+
+  pub capture-told : captureLength s ≡ length (mendedCapture input)
+  unfolding surveyOf
+  capture-told = rw e (sym (capture-long input))
+
+  pub stretches-told : stretchesLength s ≡ length (stretchList input)
+  unfolding surveyOf stretchList
+  stretches-told = rw e (sym (spans-long (stretches input)))
+
+  pub mark-told : marked input s ≡ placesTrue input
+  unfolding surveyOf placesTrue
+  mark-told = rw e
+
+  pub told-small : length input ≤ longestInput → (s .hits ≤ longestInput) × (s .octets ≤ longestInput) × (s .stretches ≤ longestInput + 1)
+  unfolding surveyOf
+  told-small h =
+      let f = hits-few input in
+      rw e (omega (arith, f .0, f .1), omega (arith, f .1), omega (arith, f .0, f .1, f .2))
+
+-- ---- the tests
+
+module _ (input c s : List ℕ) where
+  pub mend-long : longestInput < length input → mend input c s ≡ refused CaptureLength c s
+  unfolding mend
+  mend-long h = rw (lt-ltb longestInput (length input) h)
+
+  module _ (short : length input ≤ longestInput) where
+    pub mend-capture : length c < length (mendedCapture input) → mend input c s ≡ refused ShortBuffer c s
+    unfolding mend
+    mend-capture h = rw (le-ltb longestInput (length input) short, lt-ltb (length c) (length (mendedCapture input)) h)
+
+    pub mend-stretches : length (mendedCapture input) ≤ length c → length s < length (stretchList input) → mend input c s ≡ refused ShortBuffer c s
+    unfolding mend
+    mend-stretches h k = rw (le-ltb longestInput (length input) short, le-ltb (length c) (length (mendedCapture input)) h, lt-ltb (length s) (length (stretchList input)) k)
+
+    pub mend-written : length (mendedCapture input) ≤ length c → length (stretchList input) ≤ length s → mend input c s ≡ written input c s
+    unfolding mend
+    mend-written h k = rw (le-ltb longestInput (length input) short, le-ltb (length c) (length (mendedCapture input)) h, le-ltb (length s) (length (stretchList input)) k)
+
+-- an outcome as a caller sees it
+pub leaves : (o p : Outcome) (m : Mended) (c s : List ℕ) → o ≡ p → m ≡ p .mended → c ≡ p .capture → s ≡ p .stretches → Leaves o m c s
+leaves o p m c s e e₁ e₂ e₃ = rw e (record { mended = e₁; capture = e₂; stretches = e₃ })
