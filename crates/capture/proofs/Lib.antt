@@ -5,3 +5,5 @@ pub mod Order
 pub mod Over
 pub mod Outputs
 pub mod Mending
+pub mod Covering
+pub mod Damaged

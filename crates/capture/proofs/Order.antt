@@ -19,11 +19,11 @@ pub order-le : (from end : ℕ) (hs : List Span) → Order from end hs → from 
 order-le from end [] o = o
 order-le from end (h ∷ hs) o = omega (arith, o .0, order-le _ end hs (o .2))
 
-sooner : (earlier from end : ℕ) (hs : List Span) → earlier ≤ from → Order from end hs → Order earlier end hs
+pub sooner : (earlier from end : ℕ) (hs : List Span) → earlier ≤ from → Order from end hs → Order earlier end hs
 sooner earlier from end [] h o = omega (arith, o)
 sooner earlier from end (x ∷ hs) h o = (omega (arith, o .0), o .1, o .2)
 
-hit-inside : (s : List ℕ) (n : ℕ) → hit s ≡ suc n → (packetLength 0 ≤ suc n) × (suc n ≤ length s)
+pub hit-inside : (s : List ℕ) (n : ℕ) → hit s ≡ suc n → (packetLength 0 ≤ suc n) × (suc n ≤ length s)
 hit-inside s n e =
     let p : 0 < hit s = omega arith in
     let w = hit-shows s p in

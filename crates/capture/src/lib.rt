@@ -1,6 +1,8 @@
 // The mender of damaged captures: it finds the packets of an input again, and writes a capture of them.
 ghost use mathlib.Core.Path.{_≡_};
 ghost use Rattle.capture.specs.Answer.{number};
+ghost use Rattle.capture.specs.Cover.{Covers};
+ghost use Rattle.capture.specs.Damage.{Damage};
 ghost use Rattle.capture.specs.Mend.{refusal, mend, Leaves};
 
 mod counting;
@@ -90,3 +92,13 @@ pub fn mend(input: &[u8], capture: &mut [u8], stretches: &mut [u8]) -> Mended
         places_true: counting::marked(input, s),
     }
 }
+
+// Kept and skipped stretches cover the input exactly once; none is empty, and no two stretches touch.
+pub fn covers()
+    ensures { λ _. ⌜ Covers ⌝ }
+{}
+
+// Damage before a place that no hit straddles, at which a good packet starts, does not reach beyond it.
+pub fn damage()
+    ensures { λ _. ⌜ Damage ⌝ }
+{}
