@@ -7,3 +7,4 @@ pub mod Outputs
 pub mod Mending
 pub mod Covering
 pub mod Damaged
+pub mod Straddling

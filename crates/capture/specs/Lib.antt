@@ -4,4 +4,5 @@ pub mod Answer
 pub mod Mend
 pub mod Cover
 pub mod Damage
+pub mod Straddle
 pub mod code

@@ -3,6 +3,7 @@ ghost use mathlib.Core.Path.{_≡_};
 ghost use Rattle.capture.specs.Answer.{number};
 ghost use Rattle.capture.specs.Cover.{Covers};
 ghost use Rattle.capture.specs.Damage.{Damage};
+ghost use Rattle.capture.specs.Straddle.{StraddledUndamaged, StraddledDamaged};
 ghost use Rattle.capture.specs.Mend.{refusal, mend, Leaves};
 
 mod counting;
@@ -101,4 +102,13 @@ pub fn covers()
 // Damage before a place that no hit straddles, at which a good packet starts, does not reach beyond it.
 pub fn damage()
     ensures { λ _. ⌜ Damage ⌝ }
+{}
+
+// Both hypotheses of that law are needed: a packet that holds a good one, and a chain of packets each ending inside the next.
+pub fn straddled_undamaged()
+    ensures { λ _. ⌜ StraddledUndamaged ⌝ }
+{}
+
+pub fn straddled_damaged()
+    ensures { λ _. ⌜ StraddledDamaged ⌝ }
 {}
