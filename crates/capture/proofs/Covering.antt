@@ -1,5 +1,5 @@
 -- Hits and the gaps between them cover the input once, because each gap ends where the next hit starts and each starts where the last hit ended.
-use mathlib.Core.Path.{_≡_, refl, sym, ap, _∙_}
+use mathlib.Core.Path.{_≡_, refl, ap}
 use mathlib.Core.Bool.{Bool, true, false, cond, _&&_}
 use mathlib.Core.List.{List, [], _∷_, _++_}
 use Prim.Native.Nat.{ℕ, _+_, _-_, _≤_, _<_}
@@ -8,7 +8,7 @@ use borrow.Author.Tests.{ltb-true, ltb-false, lt-ltb, le-ltb, le-leb, lt-leb}
 use lib.Dec.{leb, ltb}
 use lib.ListN.{length}
 use Rattle.capture.specs.Search.{Span, span, hits, gap, gaps, stretches}
-use Rattle.capture.specs.Cover.{times, NoneEmpty, ApartFrom, NoneTouching, Covered, Covers}
+use Rattle.capture.specs.Cover.{times, NoneEmpty, ApartFrom, NoneTouching, Covers}
 use Rattle.capture.proofs.Order.{Order, hits-order}
 use Rattle.capture.proofs.Outputs.{gap-some, gap-none}
 

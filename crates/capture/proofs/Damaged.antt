@@ -1,20 +1,19 @@
 -- A hit at an octet looks only at octets from there on. So a search that comes to a place goes on from there as if the input began there; and where no hit straddles the place, it comes to it.
 use mathlib.Core.Path.{_≡_, refl, sym, ap, _∙_}
-use mathlib.Core.Bool.{Bool, true, false, cond}
+use mathlib.Core.Bool.{cond}
 use mathlib.Core.List.{List, [], _∷_, _++_, map, map-append, append-assoc}
 use Prim.Native.Nat.{ℕ, zero, suc, _+_, _-_, _≤_, _<_}
 use native.Mathlib.Nat.{add-zero, zero-add}
 use native.Mathlib.Omega.{arith}
-use borrow.Author.Tests.{ltb-true, ltb-false, lt-ltb, le-ltb, le-leb, lt-leb}
-use lib.Dec.{leb, ltb}
-use lib.ListN.{length, drop, length-append}
-use Rattle.wire.specs.Packet.{packetLength}
+use borrow.Author.Tests.{le-leb, lt-leb}
+use lib.Dec.{leb}
+use lib.ListN.{length, length-append}
 use Rattle.capture.specs.Search.{Span, span, hit, found, hitsFrom, hits, gap, gaps, stretches}
-use Rattle.capture.specs.Damage.{Unstraddled, onward, Reading, readFrom, KeptAt, Damage}
+use Rattle.capture.specs.Damage.{Unstraddled, onward, readFrom, Damage}
 use Rattle.capture.specs.code.Next.{hitsAt}
 use Rattle.capture.proofs.Hits.{hit-shows}
 use Rattle.capture.proofs.Steps.{found-some, at-hit}
-use Rattle.capture.proofs.Order.{Order, order-le, order-from, hit-inside, sooner}
+use Rattle.capture.proofs.Order.{Order, order-le, hit-inside, sooner}
 use Rattle.capture.proofs.Outputs.{gap-some, gap-none}
 use Rattle.capture.proofs.Covering.{by-gap}
 

@@ -1,12 +1,12 @@
 -- What a hit shows in its first octets, because a packet that passes answers 3 to 7 passes each of their tests.
-use mathlib.Core.Path.{_≡_, refl, sym, ap, _∙_}
-use mathlib.Core.Bool.{Bool, true, false, cond, not, _&&_, true≢false, false≢true}
+use mathlib.Core.Path.{_≡_, refl, sym, _∙_}
+use mathlib.Core.Bool.{Bool, true, false, cond, not, _&&_, false≢true}
 use mathlib.Core.List.{List}
 use Prim.Native.Nat.{ℕ, zero, suc, _+_, _%_, _≤_, _<_}
 use native.Mathlib.Omega.{arith}
 use lib.Dec.{leb}
 use borrow.Author.Tests.{leb-true, le-leb, eqb-true}
-use lib.ListN.{length, getD, take, drop, length-drop}
+use lib.ListN.{length, take, length-drop}
 use lib.Seq.{getD-take, getD-drop, length-take-le}
 use Rattle.answer.specs.declared.Answer.{Answer}
 use Rattle.answer.specs.declared.Answer.the-variants.{IpForm, IpChecksum, Protocol, HelloForm, HelloChecksum}
@@ -14,7 +14,7 @@ use Rattle.laws.proofs.Tests.{both}
 use Rattle.wire.specs.declared.Packet.{Packet}
 use Rattle.wire.specs.declared.Parsed.the-variants.{Good, Bad}
 use Rattle.wire.specs.Octets.{octetAt, twoAt}
-use Rattle.wire.specs.Ip.{headerLength, versionAndLength, versionPlace, totalPlace, fragmentPlace, protocolPlace, helloProtocol, ipForm, ipChecksum, protocol}
+use Rattle.wire.specs.Ip.{headerLength, versionAndLength, versionPlace, fragmentPlace, protocolPlace, helloProtocol, ipForm, ipChecksum, protocol}
 use Rattle.wire.specs.Hello.{fixedLength, nhostsPlace, helloLength, helloForm, helloChecksum}
 use Rattle.wire.specs.Packet.{helloOf, fields, parse, packetLength}
 use Rattle.capture.specs.Search.{isGood, passes, totalLength, hit}
@@ -76,6 +76,9 @@ module _ (p : List ℕ) (e : passes p ≡ true) where
         kind = kind-shows;
         hosts = omega arith;
       }
+
+  pub packet-total : totalLength p ≡ length p
+  packet-total = ip-shows .2
 
 -- the same of the octets that begin with it
 begins : (s : List ℕ) (n : ℕ) → n ≤ length s → Shows (take n s) → Shows s

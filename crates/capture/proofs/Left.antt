@@ -1,14 +1,14 @@
 -- The first pass: what was counted so far and what is left to count make up the whole, because each turn takes one hit off.
-use mathlib.Core.Path.{_≡_, refl, sym, ap, _∙_}
+use mathlib.Core.Path.{_≡_, refl, sym, _∙_}
 use mathlib.Core.Bool.{Bool, true, false, _&&_}
-use mathlib.Core.List.{List, [], _∷_, _++_, append-nil}
-use Prim.Native.Nat.{ℕ, zero, suc, _+_, _*_, _≤_, _<_}
+use mathlib.Core.List.{List, [], _∷_}
+use Prim.Native.Nat.{ℕ, _+_, _≤_, _<_}
 use native.Mathlib.Nat.{zero-add}
 use native.Mathlib.Omega.{arith}
 use lib.ListN.{length, length-append}
 use Rattle.capture.specs.declared.Next.{Next}
 use Rattle.capture.specs.declared.Survey.{Survey}
-use Rattle.capture.specs.Search.{Span, span, hitsFrom, hits, gap, gaps, stretches}
+use Rattle.capture.specs.Search.{span, hits, gap, gaps, stretches}
 use Rattle.capture.specs.Capture.{numberLength, headingLength, placesAre}
 use Rattle.capture.specs.code.Next.{hitsAt, IsNext}
 use Rattle.capture.specs.code.Survey.{totalSize, surveyOf, counted}

@@ -8,3 +8,5 @@ pub mod Mending
 pub mod Covering
 pub mod Damaged
 pub mod Straddling
+pub mod Kept
+pub mod Remended

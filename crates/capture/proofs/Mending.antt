@@ -1,21 +1,18 @@
 -- The mender: the first pass tells the lengths of the outputs and the mark, so its tests are those of the definition.
-use mathlib.Core.Path.{_≡_, refl, sym, ap, _∙_}
-use mathlib.Core.Bool.{Bool, true, false, cond, _||_}
+use mathlib.Core.Path.{_≡_, refl, sym, ap}
 use mathlib.Core.List.{List, [], _∷_, _++_}
 use Prim.Native.Nat.{ℕ, _+_, _*_, _≤_, _<_}
 use native.Mathlib.Omega.{arith}
 use borrow.Author.Tests.{lt-ltb, le-ltb}
-use lib.Dec.{ltb}
 use lib.ListN.{length, length-append}
 use Rattle.wire.specs.Octets.{four}
-use Rattle.capture.specs.declared.Answer.{Answer}
 use Rattle.capture.specs.declared.Answer.the-variants.{ShortBuffer, CaptureLength}
 use Rattle.capture.specs.declared.Mended.{Mended}
 use Rattle.capture.specs.declared.Survey.{Survey}
 use Rattle.capture.specs.Search.{Span, hits, stretches}
-use Rattle.capture.specs.Capture.{headingLength, mendedCapture, spanOctets, stretchList, placesTrue}
+use Rattle.capture.specs.Capture.{mendedCapture, spanOctets, stretchList, placesTrue}
 use Rattle.capture.specs.Mend.{longestInput, Outcome, refused, written, mend, Leaves}
-use Rattle.capture.specs.code.Survey.{totalSize, surveyOf, captureLength, stretchesLength, marked}
+use Rattle.capture.specs.code.Survey.{surveyOf, captureLength, stretchesLength, marked}
 use Rattle.capture.proofs.Order.{hits-few}
 use Rattle.capture.proofs.Outputs.{capture-long}
 

@@ -1,12 +1,12 @@
 -- The hits stand one behind the other within the input, each as long as the shortest packet, because the search goes on behind each.
-use mathlib.Core.Path.{_≡_, refl, sym, ap, _∙_}
+use mathlib.Core.Path.{_≡_, refl}
 use mathlib.Core.List.{List, [], _∷_, _++_}
 use Prim.Native.Nat.{ℕ, zero, suc, _+_, _-_, _*_, _≤_, _<_}
 use native.Mathlib.Nat.{add-zero, zero-add}
 use native.Mathlib.Omega.{arith}
 use lib.ListN.{length, length-append}
 use Rattle.wire.specs.Packet.{packetLength}
-use Rattle.capture.specs.Search.{Span, span, hit, found, hitsFrom, hits, gap, gaps, stretches}
+use Rattle.capture.specs.Search.{Span, hit, found, hitsFrom, hits, gap, gaps, stretches}
 use Rattle.capture.specs.code.Survey.{totalSize}
 use Rattle.capture.proofs.Steps.{found-some, gap-one}
 use Rattle.capture.proofs.Hits.{hit-size, hit-shows}

@@ -1,7 +1,7 @@
 -- The search, a step at a time: behind a hit, or one octet further.
 use mathlib.Core.Path.{_≡_, refl, sym, ap, _∙_}
 use mathlib.Core.Bool.{Bool, true, false, cond}
-use mathlib.Core.List.{List, [], _∷_, _++_}
+use mathlib.Core.List.{List, [], _∷_}
 use Prim.Native.Nat.{ℕ, zero, suc, _+_, _-_, _≤_, _<_}
 use native.Mathlib.Omega.{arith}
 use native.Mathlib.Numerals.{add-one}
@@ -46,6 +46,13 @@ step-hit at o rest n e =
     let z : suc n - 1 ≡ n = omega arith in
     rw (e, found-some at (suc n) (omega arith), z) (ap (λ hs. span at (suc n) ∷ hs) (behind (suc at) n rest ∙ rw m))
 
+pub from-hit : (at : ℕ) (s : List ℕ) (n : ℕ) → hit s ≡ suc n → hitsFrom at 0 s ≡ span at (suc n) ∷ hitsFrom (at + suc n) 0 (drop (suc n) s)
+from-hit at [] n e =
+    let p : 0 < hit [] = omega arith in
+    let w = hit-shows [] p in
+    absurd (omega (arith, w .fits, w .long))
+from-hit at (o ∷ rest) n e = step-hit at o rest n e
+
 module _ (s : List ℕ) (at : ℕ) where
   pub end-none : length s ≤ at → hitsAt at s ≡ []
   unfolding hitsFrom
@@ -59,9 +66,7 @@ module _ (s : List ℕ) (at : ℕ) where
     at-miss e = rw (add-one, cons) (step-miss at _ _ (ap hit (sym cons) ∙ e))
 
     pub at-hit : (n : ℕ) → hit (drop at s) ≡ suc n → hitsAt at s ≡ span at (suc n) ∷ hitsAt (at + suc n) s
-    at-hit n e =
-        ap (hitsFrom at 0) cons ∙ step-hit at _ _ n (ap hit (sym cons) ∙ e)
-        ∙ ap (λ l. span at (suc n) ∷ hitsFrom (at + suc n) 0 l) (ap (drop (suc n)) (sym cons) ∙ drop-drop (suc n) at s)
+    at-hit n e = from-hit at (drop at s) n e ∙ ap (λ l. span at (suc n) ∷ hitsFrom (at + suc n) 0 l) (drop-drop (suc n) at s)
 
     pub at-other : (getD s at 0 ≡ versionAndLength → ⊥) → hitsAt at s ≡ hitsAt (at + 1) s
     at-other other =

@@ -1,16 +1,15 @@
 -- The examples, computed.
 use mathlib.Core.Path.{_≡_, sym, ap}
-use mathlib.Core.List.{List, [], _∷_, _++_}
 use Prim.Native.Nat.{ℕ, suc}
 use native.Mathlib.Omega.{arith}
 use lib.ListN.{length}
 use Rattle.checksum.specs.Checksum.{fold, folded, checksumGood}
 use Rattle.wire.specs.Ip.{ipForm, ipChecksum, protocol}
 use Rattle.wire.specs.Hello.{helloForm, helloChecksum}
-use Rattle.wire.specs.Packet.{fields, parse}
-use Rattle.capture.specs.Search.{Span, span, passes, hit, hitsFrom, hits}
+use Rattle.wire.specs.Packet.{parse}
+use Rattle.capture.specs.Search.{passes, hit, hitsFrom, hits}
 use Rattle.capture.specs.Damage.{Reading, readFrom}
-use Rattle.capture.specs.Straddle.{inner, outerFront, StraddledUndamaged, first, second, third, firstDamaged, StraddledDamaged}
+use Rattle.capture.specs.Straddle.{StraddledUndamaged, StraddledDamaged}
 
 -- how many hits there are from the place on
 abbrev count : Reading → ℕ

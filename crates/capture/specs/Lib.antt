@@ -5,4 +5,5 @@ pub mod Mend
 pub mod Cover
 pub mod Damage
 pub mod Straddle
+pub mod Again
 pub mod code

@@ -4,6 +4,7 @@ ghost use Rattle.capture.specs.Answer.{number};
 ghost use Rattle.capture.specs.Cover.{Covers};
 ghost use Rattle.capture.specs.Damage.{Damage};
 ghost use Rattle.capture.specs.Straddle.{StraddledUndamaged, StraddledDamaged};
+ghost use Rattle.capture.specs.Again.{Again};
 ghost use Rattle.capture.specs.Mend.{refusal, mend, Leaves};
 
 mod counting;
@@ -111,4 +112,9 @@ pub fn straddled_undamaged()
 
 pub fn straddled_damaged()
     ensures { λ _. ⌜ StraddledDamaged ⌝ }
+{}
+
+// Mending what the mender wrote, where it is not over 65,536 octets, gives the same capture, with the mark.
+pub fn again()
+    ensures { λ _. ⌜ Again ⌝ }
 {}

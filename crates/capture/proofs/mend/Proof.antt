@@ -1,15 +1,10 @@
+-- The tests are those of the definition, by what the first pass told.
 use mathlib.Core.Path.{refl, _∙_}
 use native.Mathlib.Omega.{arith}
 use Rattle.capture.proofs.Mending.{hits-told, capture-told, stretches-told, mark-told, told-small, mend-long, mend-capture, mend-stretches, mend-written, leaves}
 use borrow.Author.Needs.{needs}
 use Rattle.capture.proofs.mend.Statement.{statement}
 use Rattle.capture.proofs.mend.Tie as tie
-use Rattle.capture.proofs.mend.Reads as reads
-use Rattle.capture.proofs.mend.Lts as lts
-use Rattle.capture.proofs.counting.marked.Reads as marked-reads
-use Rattle.capture.proofs.counting.survey.Reads as survey-reads
-use Rattle.capture.proofs.refused.Reads as refused-reads
-use Rattle.capture.proofs.writing.write.Reads as write-reads
 
 refused-requires : tie.Need-refused-requires
 refused-requires c κs = search needs

@@ -2,40 +2,28 @@ use native.Mathlib.Omega.{arith}
 use borrow.Author.Needs.{needs}
 use Rattle.capture.proofs.counting.counted.Statement.{statement}
 use Rattle.capture.proofs.counting.counted.Tie as tie
-use Rattle.capture.proofs.counting.counted.Reads as reads
-use Rattle.capture.proofs.counting.counted.Lts as lts
-use Rattle.capture.proofs.counting.stands.Reads as stands-reads
-use Rattle.capture.proofs.counting.stretch_count.Reads as stretch-count-reads
 
--- src/counting.rt:44:15
 add-t5 : tie.Need-add-t5
 add-t5 c = search needs
 
--- src/counting.rt:45:17
 add-t6 : tie.Need-add-t6
 add-t6 c = search needs
 
--- src/counting.rt:46:34
 stretch-count-requires : tie.Need-stretch-count-requires
 stretch-count-requires c κs = search needs
 
--- src/counting.rt:46:20
 add-t8 : tie.Need-add-t8
 add-t8 c = omega (arith, c .before .stretch-count .ensures .1)
 
--- src/counting.rt:47:50
 mul-stands : tie.Need-mul-stands
 mul-stands c = search needs
 
--- src/counting.rt:47:41
 add-stands : tie.Need-add-stands
 add-stands c = search needs
 
--- src/counting.rt:47:17
 stands-requires : tie.Need-stands-requires
 stands-requires c κs = search needs
 
--- src/counting.rt:39:1
 returns : tie.Need-returns
 returns c = rw (c .before .before .before .stretch-count .ensures .0, c .stands .ensures)
 

@@ -1,16 +1,11 @@
+-- What was counted and what is left to count make up the whole.
 use borrow.Author.Needs.{needs}
-use mathlib.Core.Path.{_≡_, refl, sym, ap, _∙_}
 use Prim.Native.Nat.{_-_, _≤_, _<_}
 use native.Mathlib.Omega.{arith}
 use lib.ListN.{length}
 use Rattle.capture.proofs.Left.{Left, all-left, left-more, left-last, counts-more}
 use Rattle.capture.proofs.counting.survey.Statement.{statement}
 use Rattle.capture.proofs.counting.survey.Tie as tie
-use Rattle.capture.proofs.counting.survey.Reads as reads
-use Rattle.capture.proofs.counting.survey.Lts as lts
-use Rattle.capture.proofs.counting.counted.Reads as counted-reads
-use Rattle.capture.proofs.counting.stretch_count.Reads as stretch-count-reads
-use Rattle.capture.proofs.search.next.Reads as next-reads
 
 abbrev Inv-loop : tie.InvT-loop
 Inv-loop input s₀ at₀ s at =

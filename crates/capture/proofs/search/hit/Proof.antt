@@ -1,3 +1,4 @@
+-- Each test that is made first is one that a packet which passes passes too; the last one asks the definition itself.
 use mathlib.Core.Path.{sym, ap, _∙_}
 use lib.Seq.{length-take-le}
 use native.Mathlib.Omega.{arith}
@@ -6,61 +7,44 @@ use Rattle.capture.proofs.Hits.{hit-none, hit-is, hit-not}
 use borrow.Author.Needs.{needs}
 use Rattle.capture.proofs.search.hit.Statement.{statement}
 use Rattle.capture.proofs.search.hit.Tie as tie
-use Rattle.capture.proofs.search.hit.Reads as reads
-use Rattle.capture.proofs.search.hit.Lts as lts
-use Rattle.capture.proofs.octets.two_at.Reads as two-at-reads
-use Rattle.wire.proofs.length.Reads as length-reads
-use Rattle.wire.proofs.parse.Reads as parse-reads
 
--- src/search.rt:30:9
 returns : tie.Need-returns
 returns c =
     sym (hit-none (c .before .before .args .octets .now) (λ w. absurd (omega (arith, w .fits, w .long))))
 
--- src/search.rt:32:9
 two-at-requires : tie.Need-two-at-requires
 two-at-requires c κs = search needs
 
--- src/search.rt:34:9
 returns-2 : tie.Need-returns-2
 returns-2 c =
     sym (hit-none (c .before .before .before .before .args .octets .now) (λ w. absurd (omega (arith, w .fits))))
 
--- src/search.rt:36:8
 shared-slice-read-if3 : tie.Need-shared-slice-read-if3
 shared-slice-read-if3 c = search needs
 
--- src/search.rt:37:9
 returns-3 : tie.Need-returns-3
 returns-3 c =
     sym (hit-none (c .before .before .before .before .before .before .args .octets .now) (λ w. c .if3 .taken (w .kind)))
 
--- src/search.rt:39:30
 shared-slice-read-length : tie.Need-shared-slice-read-length
 shared-slice-read-length c = search needs
 
--- src/search.rt:39:17
 length-requires : tie.Need-length-requires
 length-requires c κs = search needs
 
--- src/search.rt:40:9
 returns-4 : tie.Need-returns-4
 returns-4 c =
     sym (hit-none (c .before .before .before .before .before .before .before .before .before .args .octets .now) (λ w. absurd (omega (arith, w .hosts))))
 
--- src/search.rt:42:23
 slice-aggregate-parse : tie.Need-slice-aggregate-parse
 slice-aggregate-parse c = sym (length-take-le _ (c .before .before .before .before .before .before .before .before .before .before .args .octets .now) (omega arith))
 
--- src/search.rt:42:11
 parse-requires : tie.Need-parse-requires
 parse-requires c κs = search needs
 
--- src/search.rt:43:34
 enum-told : tie.Need-enum-told
 enum-told c = search needs
 
--- src/search.rt:44:33
 enum-told-2 : tie.Need-enum-told-2
 enum-told-2 c = search needs
 

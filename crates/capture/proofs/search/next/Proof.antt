@@ -1,3 +1,4 @@
+-- The hits from the start on are those from `at` on, because every octet passed was no hit.
 use borrow.Author.Needs.{needs}
 use mathlib.Core.Path.{_≡_, refl, sym, ap, _∙_}
 use Prim.Native.Nat.{_-_, _≤_}
@@ -9,9 +10,6 @@ use Rattle.capture.specs.code.Next.{hitsAt}
 use Rattle.capture.proofs.Steps.{at-other, at-miss, next-none, next-found}
 use Rattle.capture.proofs.search.next.Statement.{statement}
 use Rattle.capture.proofs.search.next.Tie as tie
-use Rattle.capture.proofs.search.next.Reads as reads
-use Rattle.capture.proofs.search.next.Lts as lts
-use Rattle.capture.proofs.search.hit.Reads as hit-reads
 
 abbrev Inv-loop : tie.InvT-loop
 Inv-loop input from at₀ size at = (at₀ ≤ at) × (at ≤ length input) × (from ≤ at) × (hitsAt from input ≡ hitsAt at input)

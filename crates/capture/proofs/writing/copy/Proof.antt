@@ -1,14 +1,12 @@
-use borrow.Author.Needs.{needs}
-use mathlib.Core.Path.{_≡_, refl, sym, ap, _∙_}
-use Prim.Native.Nat.{_-_, _≤_, _+_}
+-- The first i octets are in their places.
+use mathlib.Core.Path.{_≡_, refl, _∙_}
+use Prim.Native.Nat.{_-_, _≤_}
 use native.Mathlib.Omega.{arith}
 use native.Mathlib.Numerals.{add-one}
 use lib.ListN.{length, length-set}
 use lib.Seq.{paste, paste-zero, paste-suc, take-length}
 use Rattle.capture.proofs.writing.copy.Statement.{statement}
 use Rattle.capture.proofs.writing.copy.Tie as tie
-use Rattle.capture.proofs.writing.copy.Reads as reads
-use Rattle.capture.proofs.writing.copy.Lts as lts
 
 abbrev Inv-loop : tie.InvT-loop
 Inv-loop to₀ place from i₀ to i = (i ≤ length from) × (length to ≡ length to₀) × (to ≡ paste to₀ place from i)

@@ -1,11 +1,9 @@
+-- A stretch is two numbers, one behind the other.
 use native.Mathlib.Omega.{arith}
 use Rattle.capture.proofs.Outputs.{stretch-long, stretch-put, stretch-none}
 use borrow.Author.Needs.{needs}
 use Rattle.capture.proofs.writing.put_stretch.Statement.{statement}
 use Rattle.capture.proofs.writing.put_stretch.Tie as tie
-use Rattle.capture.proofs.writing.put_stretch.Reads as reads
-use Rattle.capture.proofs.writing.put_stretch.Lts as lts
-use Rattle.capture.proofs.octets.put_four.Reads as put-four-reads
 
 put-four-requires : tie.Need-put-four-requires
 put-four-requires c κs = omega (arith, stretch-long _ _ (c .before .if1 .taken))

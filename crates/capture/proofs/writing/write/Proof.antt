@@ -1,5 +1,5 @@
-use borrow.Author.Needs.{needs}
-use mathlib.Core.Path.{_≡_, refl, sym, ap, _∙_}
+-- What was put and what is left to put make up both outputs.
+use mathlib.Core.Path.{_≡_, ap, _∙_}
 use Prim.Native.Nat.{_+_, _-_, _≤_, _<_}
 use native.Mathlib.Omega.{arith}
 use Rattle.laws.specs.Lists.{over}
@@ -11,12 +11,6 @@ use lib.ListN.{length}
 use Rattle.capture.proofs.Outputs.{CaptureLeft, StretchesLeft, capture-long, capture-all, capture-fits, capture-more, capture-last, capture-whole, stretches-all, stretch-fits, stretches-more, stretches-last}
 use Rattle.capture.proofs.writing.write.Statement.{statement}
 use Rattle.capture.proofs.writing.write.Tie as tie
-use Rattle.capture.proofs.writing.write.Reads as reads
-use Rattle.capture.proofs.writing.write.Lts as lts
-use Rattle.capture.proofs.octets.put_four.Reads as put-four-reads
-use Rattle.capture.proofs.search.next.Reads as next-reads
-use Rattle.capture.proofs.writing.copy.Reads as copy-reads
-use Rattle.capture.proofs.writing.put_stretch.Reads as put-stretch-reads
 
 abbrev Inv-loop : tie.InvT-loop
 Inv-loop input capture₀ stretches₀ hits at₀ place₀ to₀ end₀ capture stretches at place to end =
