@@ -5,6 +5,7 @@
 //! lends to each call together with the host's own settings, clock and links.
 
 pub mod address;
+pub mod capture;
 pub mod checksum;
 pub mod clock;
 pub mod date;
@@ -51,6 +52,7 @@ pub enum Refusal {
     HostDown = 13,
     TextForm = 14,
     TextNumber = 15,
+    LongInput = 27,
 }
 
 impl From<Refusal> for u8 {

@@ -7,6 +7,7 @@ use crate::program;
 use crate::table::{Report, HOLD_DOWN, MAX_DELAY};
 use crate::*;
 
+mod capture;
 mod text;
 
 const ROUTER: Address = Address([192, 0, 2, 2]);
