@@ -7,6 +7,7 @@
 //! given.
 
 mod call;
+mod capture;
 mod convert;
 mod counts;
 mod generate;
@@ -129,6 +130,7 @@ fn compare(options: &Options) -> Result<Counts, String> {
     }
     println!("seed {}, {} calls", options.seed, comparison.calls);
     vectors::run()?;
+    capture::run(options.seed)?;
     Ok(comparison.counts)
 }
 

@@ -11,6 +11,7 @@
 #![deny(missing_docs)]
 
 pub mod answer;
+pub mod capture;
 mod layout;
 mod library;
 mod types;

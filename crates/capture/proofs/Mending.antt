@@ -1,10 +1,13 @@
 -- The mender: the first pass tells the lengths of the outputs and the mark, so its tests are those of the definition.
 use mathlib.Core.Path.{_≡_, refl, sym, ap}
+use mathlib.Core.Bool.{_||_}
 use mathlib.Core.List.{List, [], _∷_, _++_}
 use Prim.Native.Nat.{ℕ, _+_, _*_, _≤_, _<_}
 use native.Mathlib.Omega.{arith}
-use borrow.Author.Tests.{lt-ltb, le-ltb}
+use borrow.Author.Tests.{lt-ltb, le-ltb, ltb-false}
+use lib.Dec.{ltb}
 use lib.ListN.{length, length-append}
+use Rattle.laws.proofs.Tests.{either, neither}
 use Rattle.wire.specs.Octets.{four}
 use Rattle.capture.specs.declared.Answer.the-variants.{ShortBuffer, CaptureLength}
 use Rattle.capture.specs.declared.Mended.{Mended}
@@ -68,3 +71,17 @@ module _ (input c s : List ℕ) where
 -- an outcome as a caller sees it
 pub leaves : (o p : Outcome) (m : Mended) (c s : List ℕ) → o ≡ p → m ≡ p .mended → c ≡ p .capture → s ≡ p .stretches → Leaves o m c s
 leaves o p m c s e e₁ e₂ e₃ = rw e (record { mended = e₁; capture = e₂; stretches = e₃ })
+
+-- the lengths answered are those of octets that the outputs have
+abbrev Fits : (c s : List ℕ) → Outcome → Type 0
+Fits c s o = (o .mended .«capture_length» ≤ length c) × (o .mended .«stretches_length» ≤ length s)
+
+pub told-fits : (input c s c₁ s₁ : List ℕ) (m : Mended) → Leaves (mend input c s) m c₁ s₁ → (m .«capture_length» ≤ length c) × (m .«stretches_length» ≤ length s)
+unfolding mend
+told-fits input c s c₁ s₁ m l =
+    rw (l .mended)
+    (either (Fits c s) (ltb longestInput (length input)) (refused CaptureLength c s) _ (λ e. (omega arith, omega arith))
+    (λ e. either (Fits c s) (ltb (length c) (length (mendedCapture input)) || ltb (length s) (length (stretchList input))) (refused ShortBuffer c s) (written input c s) (λ f. (omega arith, omega arith))
+    (λ f.
+    let n = neither _ _ f in
+    (ltb-false _ _ (n .0), ltb-false _ _ (n .1)))))
