@@ -14,7 +14,7 @@ use Rattle.capture.specs.declared.Mended.{Mended}
 use Rattle.capture.specs.declared.Survey.{Survey}
 use Rattle.capture.specs.Search.{Span, hits, stretches}
 use Rattle.capture.specs.Capture.{mendedCapture, spanOctets, stretchList, placesTrue}
-use Rattle.capture.specs.Mend.{longestInput, Outcome, refused, written, mend, Leaves}
+use Rattle.capture.specs.Mend.{longestInput, Outcome, refused, written, mend, Leaves, Bounded}
 use Rattle.capture.specs.code.Survey.{surveyOf, captureLength, stretchesLength, marked}
 use Rattle.capture.proofs.Order.{hits-few}
 use Rattle.capture.proofs.Outputs.{capture-long}
@@ -85,3 +85,10 @@ told-fits input c s c₁ s₁ m l =
     (λ f.
     let n = neither _ _ f in
     (ltb-false _ _ (n .0), ltb-false _ _ (n .1)))))
+
+-- no packet has fewer than 32 octets, so there are 2,048 hits at most
+pub bounded : Bounded
+unfolding Bounded stretchList
+bounded input h =
+    let f = hits-few input in
+    (omega (arith, f .0, f .1, capture-long input), omega (arith, f .0, f .1, f .2, spans-long (stretches input)))

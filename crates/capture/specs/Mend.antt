@@ -2,7 +2,7 @@
 use mathlib.Core.Path.{_≡_}
 use mathlib.Core.Bool.{cond, false, _||_}
 use mathlib.Core.List.{List}
-use Prim.Native.Nat.{ℕ}
+use Prim.Native.Nat.{ℕ, _≤_}
 use lib.Dec.{ltb}
 use lib.ListN.{length}
 use Rattle.laws.specs.Lists.{over}
@@ -14,6 +14,13 @@ use Rattle.capture.specs.Capture.{mendedCapture, stretchList, placesTrue
 -- "27 an input over 65,536 octets"
 abbrev pub longestInput : ℕ
 longestInput = 65536
+
+-- the most octets that the outputs of an input can have
+abbrev pub longestCapture : ℕ
+longestCapture = 73732
+
+abbrev pub longestStretches : ℕ
+longestStretches = 16392
 
 -- what is answered, and what the two buffers hold afterwards
 pub record Outcome : Type 0 where
@@ -56,3 +63,9 @@ pub record Leaves (o : Outcome) (m : Mended) (c s : List ℕ) : Type 0 where
   pub mended : m ≡ o .mended
   pub capture : c ≡ o .capture
   pub stretches : s ≡ o .stretches
+
+-- an input that is not refused with 27 is never refused with 2 where the outputs have that room
+unfoldable pub Bounded : Type 0
+Bounded =
+    (input : List ℕ) → length input ≤ longestInput
+    → (length (mendedCapture input) ≤ longestCapture) × (length (stretchList input) ≤ longestStretches)

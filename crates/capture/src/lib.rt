@@ -5,7 +5,7 @@ ghost use Rattle.capture.specs.Cover.{Covers};
 ghost use Rattle.capture.specs.Damage.{Damage};
 ghost use Rattle.capture.specs.Straddle.{StraddledUndamaged, StraddledDamaged};
 ghost use Rattle.capture.specs.Again.{Again};
-ghost use Rattle.capture.specs.Mend.{refusal, mend, Leaves};
+ghost use Rattle.capture.specs.Mend.{refusal, mend, Leaves, Bounded};
 
 mod counting;
 mod octets;
@@ -94,6 +94,11 @@ pub fn mend(input: &[u8], capture: &mut [u8], stretches: &mut [u8]) -> Mended
         places_true: counting::marked(input, s),
     }
 }
+
+// How long the outputs can be.
+pub fn bounded()
+    ensures { λ _. ⌜ Bounded ⌝ }
+{}
 
 // Kept and skipped stretches cover the input exactly once; none is empty, and no two stretches touch.
 pub fn covers()

@@ -18,6 +18,8 @@ const HELLO: u8 = 63;
 // The places of the fields that tell most packets from other octets at little cost.
 const TOTAL: usize = 2;
 
+const FRAGMENT: usize = 6;
+
 const PROTOCOL: usize = 9;
 
 const NHOSTS: usize = 31;
@@ -29,14 +31,17 @@ fn hit(octets: &[u8]) -> usize
     if octets.len() < SHORTEST {
         return 0;
     }
+    if octets[PROTOCOL] != HELLO {
+        return 0;
+    }
     let total = two_at(octets, TOTAL);
     if octets.len() < total {
         return 0;
     }
-    if octets[PROTOCOL] != HELLO {
+    if total != wire::length(octets[NHOSTS]) {
         return 0;
     }
-    if total != wire::length(octets[NHOSTS]) {
+    if two_at(octets, FRAGMENT) % 0x4000 != 0 {
         return 0;
     }
     match wire::parse(&octets[..total]) {
