@@ -155,7 +155,10 @@ fn compare(octets: &[u8], rooms: [usize; 2]) -> Result<u8, String> {
     let told = mend(octets, &mut capture, &mut stretches);
     let [mut right_capture, mut right_stretches] = rooms.map(|room| vec![FILL; room]);
     let right = match expected(octets, rooms[0], rooms[1]) {
-        Err(answer) => Mended { answer, ..Mended::default() },
+        Err(answer) => Mended {
+            answer,
+            ..Mended::default()
+        },
         Ok(found) => {
             right_capture[..found.capture.len()].copy_from_slice(&found.capture);
             right_stretches[..found.stretches.len()].copy_from_slice(&found.stretches);
@@ -186,7 +189,10 @@ pub fn run(seed: u64) -> Result<(), String> {
             Ok(found) => (found.capture, found.stretches.len(), found.places_true),
             Err(_) => Default::default(),
         };
-        let rooms = [room(&mut random, capture.len()), room(&mut random, stretches)];
+        let rooms = [
+            room(&mut random, capture.len()),
+            room(&mut random, stretches),
+        ];
         match compare(&octets, rooms)? {
             DONE => done += 1,
             SHORT_BUFFER => short += 1,
@@ -198,7 +204,9 @@ pub fn run(seed: u64) -> Result<(), String> {
             again(&capture)?;
         }
     }
-    println!("mend: {INPUTS} inputs; answer 0 {done}, 2 {short}, 27 {long}; with true places {right}");
+    println!(
+        "mend: {INPUTS} inputs; answer 0 {done}, 2 {short}, 27 {long}; with true places {right}"
+    );
     if done == 0 || short == 0 || long == 0 || right == 0 {
         return Err("mend: an answer that can occur was never given".into());
     }

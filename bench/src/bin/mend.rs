@@ -4,13 +4,16 @@ use hello::capture::{mend, DONE, LONGEST, LONGEST_CAPTURE, LONGEST_STRETCHES};
 use std::hint::black_box;
 use std::time::{Duration, Instant};
 
-const ROUNDS: usize = 41;
+const ROUNDS: usize = 101;
 
 /// The folded sum, two octets at a time.
 fn folded(octets: &[u8]) -> u32 {
     let words = octets.chunks_exact(2);
     let odd = words.remainder().first().map_or(0, |&o| u32::from(o) << 8);
-    let mut sum = odd + words.map(|w| u32::from(u16::from_be_bytes([w[0], w[1]]))).sum::<u32>();
+    let mut sum = odd
+        + words
+            .map(|w| u32::from(u16::from_be_bytes([w[0], w[1]])))
+            .sum::<u32>();
     while sum > 0xFFFF {
         sum = (sum & 0xFFFF) + (sum >> 16);
     }
@@ -26,12 +29,14 @@ fn hit(octets: &[u8]) -> usize {
         return 0;
     }
     let total = two(octets, 2);
-    if octets.len() < total || octets[9] != 63 || total != 32 + 4 * usize::from(octets[31]) {
+    if octets[9] != 63 || octets.len() < total || total != 32 + 4 * usize::from(octets[31]) {
+        return 0;
+    }
+    if two(octets, 6) % 0x4000 != 0 {
         return 0;
     }
     let packet = &octets[..total];
-    let good = two(packet, 6) % 0x4000 == 0 && folded(&packet[..20]) == 0xFFFF && folded(&packet[20..]) == 0xFFFF;
-    if good {
+    if folded(&packet[..20]) == 0xFFFF && folded(&packet[20..]) == 0xFFFF {
         total
     } else {
         0
@@ -110,7 +115,18 @@ fn seal(packet: &mut [u8]) {
 fn captured(nhosts: usize) -> Vec<u8> {
     let length = 32 + 4 * nhosts;
     let mut packet = vec![1; length];
-    packet[..10].copy_from_slice(&[0x45, 0, (length / 256) as u8, length as u8, 0, 0, 0, 0, 255, 63]);
+    packet[..10].copy_from_slice(&[
+        0x45,
+        0,
+        (length / 256) as u8,
+        length as u8,
+        0,
+        0,
+        0,
+        0,
+        255,
+        63,
+    ]);
     packet[31] = nhosts as u8;
     seal(&mut packet);
     let count = (LONGEST - 4) / (length + 4);
@@ -136,17 +152,22 @@ fn dearest() -> Vec<u8> {
 fn noise() -> Vec<u8> {
     let mut state = 891u64;
     let mut octet = || {
-        state = state.wrapping_mul(6_364_136_223_846_793_005).wrapping_add(1);
+        state = state
+            .wrapping_mul(6_364_136_223_846_793_005)
+            .wrapping_add(1);
         (state >> 56) as u8
     };
     (0..LONGEST).map(|_| octet()).collect()
 }
 
-/// The median time of one run, in microseconds, of each of two, in turns.
+/// The least time of one run, in microseconds, of each of two, in turns.
 fn measure(mut first: impl FnMut(), mut second: impl FnMut()) -> [f64; 2] {
     let mut times = [Vec::new(), Vec::new()];
     for _ in 0..ROUNDS {
-        for (run, times) in [&mut first as &mut dyn FnMut(), &mut second].into_iter().zip(&mut times) {
+        for (run, times) in [&mut first as &mut dyn FnMut(), &mut second]
+            .into_iter()
+            .zip(&mut times)
+        {
             let (start, mut runs) = (Instant::now(), 0);
             while start.elapsed() < Duration::from_millis(2) {
                 run();
@@ -155,10 +176,7 @@ fn measure(mut first: impl FnMut(), mut second: impl FnMut()) -> [f64; 2] {
             times.push(start.elapsed().as_secs_f64() * 1e6 / f64::from(runs));
         }
     }
-    times.map(|mut times| {
-        times.sort_by(f64::total_cmp);
-        times[ROUNDS / 2]
-    })
+    times.map(|times| times.into_iter().fold(f64::MAX, f64::min))
 }
 
 fn main() {
@@ -166,25 +184,41 @@ fn main() {
         ("noise", noise()),
         ("zeros", vec![0; LONGEST]),
         ("a header's first octet everywhere", vec![0x45; LONGEST]),
-        ("a candidate at every fourth octet", repeated(&[0x45, 63, 0x02, 0xA0])),
+        (
+            "a candidate at every fourth octet",
+            repeated(&[0x45, 63, 0x02, 0xA0]),
+        ),
         ("the dearest: every tenth octet", dearest()),
         ("a whole capture, NHOSTS 0", captured(0)),
         ("a whole capture, NHOSTS 4", captured(4)),
         ("a whole capture, NHOSTS 255", captured(255)),
     ];
-    println!("Medians of {ROUNDS} rounds, microseconds for one call on 65,536 octets.\n");
-    println!("{:<36} {:>9} {:>9} {:>6}", "input", "library", "plain", "ratio");
+    println!("The quickest of {ROUNDS} rounds, microseconds for one call on 65,536 octets.\n");
+    println!(
+        "{:<36} {:>9} {:>9} {:>6}",
+        "input", "library", "plain", "ratio"
+    );
     for (name, input) in &inputs {
         let [mut capture, mut other] = [(); 2].map(|()| vec![0; LONGEST_CAPTURE]);
         let [mut list, mut other_list] = [(); 2].map(|()| vec![0; LONGEST_STRETCHES]);
         let told = mend(input, &mut capture, &mut list);
         let right = plain(input, &mut other, &mut other_list);
-        assert!(told.answer == DONE && (told.capture_length, told.stretches_length, told.places_true) == right);
+        assert!(
+            told.answer == DONE
+                && (told.capture_length, told.stretches_length, told.places_true) == right
+        );
         assert!(capture == other && list == other_list);
         let [library, plain] = measure(
-            || drop(black_box(mend(black_box(input), &mut capture, &mut list))),
-            || drop(black_box(plain(black_box(input), &mut other, &mut other_list))),
+            || {
+                black_box(mend(black_box(input), &mut capture, &mut list));
+            },
+            || {
+                black_box(plain(black_box(input), &mut other, &mut other_list));
+            },
         );
-        println!("{name:<36} {library:>9.1} {plain:>9.1} {:>6.2}", library / plain);
+        println!(
+            "{name:<36} {library:>9.1} {plain:>9.1} {:>6.2}",
+            library / plain
+        );
     }
 }
