@@ -8,6 +8,7 @@ use native.Mathlib.Omega.{arith}
 use borrow.Author.Tests.{le-leb, lt-leb}
 use lib.Dec.{leb}
 use lib.ListN.{length, length-append}
+use Rattle.wire.specs.Packet.{packetLength}
 use Rattle.capture.specs.Search.{Span, span, hit, found, hitsFrom, hits, gap, gaps, stretches}
 use Rattle.capture.specs.Damage.{Unstraddled, onward, readFrom, Damage}
 use Rattle.capture.specs.code.Next.{hitsAt}
@@ -95,6 +96,11 @@ record Splits (from p : ℕ) (hs later : List Span) : Type 0 where
   order : Order from p before
   split : hs ≡ before ++ later
 
+-- a hit in front of them
+one-more : (at n p : ℕ) (hs later : List Span) → packetLength 0 ≤ n → Splits (at + n) p hs later → Splits at p (span at n ∷ hs) later
+one-more at n p hs later long c =
+    record { before = span at n ∷ c .before; order = (omega arith, long, c .order); split = ap (λ (l : List Span). span at n ∷ l) (c .split) }
+
 module _ (alike : List ℕ) where
   abbrev Comes : (at kept : ℕ) → List ℕ → Type 0
   Comes at kept front = Splits (at + kept) (at + length front) (hitsFrom at kept (front ++ alike)) (hitsFrom (at + length front) 0 alike)
@@ -118,13 +124,8 @@ module _ (alike : List ℕ) where
         let z : suc n - 1 ≡ n = omega arith in
         let q : suc at + n ≡ at + suc n = omega arith in
         let w = rw (found-some at (suc n) (omega arith), z) at u in
-        let c = rw (there, q) at (later n (omega (arith, w .0 (omega arith))) (rw there (w .1))) in
         rw (found-some at (suc n) (omega arith), z)
-        (record {
-          before = span at (suc n) ∷ c .before;
-          order = (omega arith, hit-inside (o ∷ (front ++ alike)) n e .0, c .order);
-          split = ap (λ hs. span at (suc n) ∷ hs) (c .split);
-        })
+        (one-more at (suc n) _ _ _ (hit-inside (o ∷ (front ++ alike)) n e .0) (rw (there, q) at (later n (omega (arith, w .0 (omega arith))) (rw there (w .1)))))
 
   comes : (at kept : ℕ) (front : List ℕ) → kept ≤ length front → Unstraddled (at + length front) (hitsFrom at kept (front ++ alike)) → Comes at kept front
   unfolding hitsFrom

@@ -1,8 +1,9 @@
 // The first pass: what there is to write, and whether the input's places are those of its hits.
 ghost use mathlib.Core.Path.{_≡_};
-ghost use Prim.Native.Nat.{_+_, _*_, _≤_};
+ghost use Prim.Native.Nat.{_≤_};
 ghost use lib.ListN.{length};
 ghost use Rattle.capture.specs.Search.{gap};
+ghost use Rattle.capture.specs.Capture.{headingLength};
 ghost use Rattle.capture.specs.Mend.{longestInput};
 ghost use Rattle.capture.specs.code.Survey.{surveyOf, standsAt, counted, marked};
 use super::NUMBER;
@@ -23,7 +24,7 @@ fn stretch_count(from: usize, to: usize) -> usize
 
 // Whether a number stands at a place of the input, where so far all stood.
 fn stands(input: &[u8], so_far: bool, place: usize, number: usize) -> bool
-    requires { ⌜ place ≤ 5 * longestInput ⌝ }
+    requires { ⌜ place ≤ headingLength longestInput ⌝ }
     ensures { λ r. ⌜ r ≡ standsAt (now (input .entry)) «so_far» place number ⌝ }
 {
     if !so_far {

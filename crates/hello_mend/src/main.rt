@@ -13,17 +13,15 @@ const STDOUT: i32 = 1;
 
 const STDERR: i32 = 2;
 
-fn wide(x: u8) -> u64 {
-    x as u64
+fn four(a: u8, b: u8, c: u8, d: u8) -> u64 {
+    ((a as u64 * 256 + b as u64) * 256 + c as u64) * 256 + d as u64
 }
 
 // The number at a place, high octet first.
 fn number(list: &[u8], i: usize) -> u64
     requires { ⌜ i + 4 ≤ length (now list) ⌝ }
 {
-    let high = wide(list[i]) % 256 * 256 + wide(list[i + 1]) % 256;
-    let low = wide(list[i + 2]) % 256 * 256 + wide(list[i + 3]) % 256;
-    high * 65536 + low
+    four(list[i], list[i + 1], list[i + 2], list[i + 3])
 }
 
 // A line for each stretch of the list.
