@@ -141,7 +141,7 @@ fn repeated(pattern: &[u8]) -> Vec<u8> {
 }
 
 /// Every tenth octet starts a header whose checksum is good, of the longest HELLO, whose checksum is not.
-fn dearest() -> Vec<u8> {
+fn headers() -> Vec<u8> {
     let mut pattern = [0x45, 255, 0x04, 0x1C, 0, 0, 0, 0, 1, 63];
     let sum = 0xFFFF - folded(&pattern) as u16;
     pattern[4..6].copy_from_slice(&sum.to_be_bytes());
@@ -188,7 +188,7 @@ fn main() {
             "a candidate at every fourth octet",
             repeated(&[0x45, 63, 0x02, 0xA0]),
         ),
-        ("the dearest: every tenth octet", dearest()),
+        ("a whole header at every tenth octet", headers()),
         ("a whole capture, NHOSTS 0", captured(0)),
         ("a whole capture, NHOSTS 4", captured(4)),
         ("a whole capture, NHOSTS 255", captured(255)),
