@@ -150,7 +150,7 @@ fn room(random: &mut Random, length: usize) -> usize {
 }
 
 /// Compares the two on an input; the answer.
-fn compare(octets: &[u8], rooms: [usize; 2]) -> Result<u8, String> {
+fn compare(number: usize, octets: &[u8], rooms: [usize; 2]) -> Result<u8, String> {
     let [mut capture, mut stretches] = rooms.map(|room| vec![FILL; room]);
     let told = mend(octets, &mut capture, &mut stretches);
     let [mut right_capture, mut right_stretches] = rooms.map(|room| vec![FILL; room]);
@@ -174,7 +174,8 @@ fn compare(octets: &[u8], rooms: [usize; 2]) -> Result<u8, String> {
         return Ok(told.answer);
     }
     Err(format!(
-        "mend of {octets:02x?}\nrooms {rooms:?}\n  library:   {told:?} {capture:02x?} {stretches:02x?}\n  \
+        "mend of {octets:02x?}\nrooms: {rooms:?}\ndifference at call {number} in mend\n  \
+         library:   {told:?} {capture:02x?} {stretches:02x?}\n  \
          reference: {right:?} {right_capture:02x?} {right_stretches:02x?}"
     ))
 }
@@ -193,7 +194,7 @@ pub fn run(seed: u64) -> Result<(), String> {
             room(&mut random, capture.len()),
             room(&mut random, stretches),
         ];
-        match compare(&octets, rooms)? {
+        match compare(number, &octets, rooms)? {
             DONE => done += 1,
             SHORT_BUFFER => short += 1,
             CAPTURE_LENGTH => long += 1,
