@@ -9,10 +9,8 @@ use borrow.Author.Tests.{le-leb, lt-leb}
 use lib.Dec.{leb}
 use lib.ListN.{length, length-append}
 use Rattle.wire.specs.Packet.{packetLength}
-use Rattle.capture.specs.Search.{Span, span, hit, found, hitsFrom, hits, gap, gaps, stretches}
+use Rattle.capture.specs.Search.{Span, span, hit, found, hitsFrom, hits, gap, gaps, stretches, hitsAt}
 use Rattle.capture.specs.Damage.{Unstraddled, onward, readFrom, Damage}
-use Rattle.capture.specs.code.Next.{hitsAt}
-use Rattle.capture.proofs.Hits.{hit-shows}
 use Rattle.capture.proofs.Steps.{found-some, at-hit}
 use Rattle.capture.proofs.Order.{Order, order-le, hit-inside, sooner}
 use Rattle.capture.proofs.Outputs.{gap-some, gap-none}
@@ -143,10 +141,7 @@ module _ (alike : List ℕ) where
 first-kept : (s : List ℕ) (n : ℕ) → hit s ≡ n → 0 < n → (later : List Span) × (hits s ≡ span 0 n ∷ later)
 unfolding hits
 first-kept s zero e h = absurd (omega arith)
-first-kept s (suc n) e h =
-    let p : 0 < hit s = omega arith in
-    let w = hit-shows s p in
-    (hitsAt (0 + suc n) s, at-hit s 0 (omega (arith, w .fits, w .long)) n e)
+first-kept s (suc n) e h = (hitsAt (0 + suc n) s, at-hit s 0 n e)
 
 -- the gaps up to a hit, and those from it on
 gaps-append : (from end : ℕ) (a : List Span) (h : Span) (b : List Span) → gaps from end (a ++ h ∷ b) ≡ gaps from (h .start) a ++ gaps (h .start) end (h ∷ b)

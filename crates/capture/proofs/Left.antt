@@ -8,9 +8,9 @@ use native.Mathlib.Omega.{arith}
 use lib.ListN.{length, length-append}
 use Rattle.capture.specs.declared.Next.{Next}
 use Rattle.capture.specs.declared.Survey.{Survey}
-use Rattle.capture.specs.Search.{span, hits, gap, gaps, stretches}
+use Rattle.capture.specs.Search.{span, hits, gap, gaps, stretches, hitsAt}
 use Rattle.capture.specs.Capture.{numberLength, headingLength, placesAre}
-use Rattle.capture.specs.code.Next.{hitsAt, IsNext}
+use Rattle.capture.specs.code.Next.{IsNext}
 use Rattle.capture.specs.code.Survey.{totalSize, surveyOf, counted}
 use Rattle.capture.proofs.Steps.{found-some, gap-one, end-none}
 

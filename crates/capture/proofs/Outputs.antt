@@ -10,9 +10,9 @@ use Rattle.laws.specs.Lists.{part, over}
 use Rattle.laws.proofs.Parts.{part-length, over-twice, over-nothing, over-length}
 use Rattle.wire.specs.Octets.{four}
 use Rattle.capture.specs.declared.Next.{Next}
-use Rattle.capture.specs.Search.{Span, span, hits, gap, gaps, stretches}
+use Rattle.capture.specs.Search.{Span, span, hits, gap, gaps, stretches, hitsAt}
 use Rattle.capture.specs.Capture.{numberLength, headingLength, places, captureOf, octetsOf, packetsOf, mendedCapture, spanOctets, stretchList}
-use Rattle.capture.specs.code.Next.{hitsAt, IsNext}
+use Rattle.capture.specs.code.Next.{IsNext}
 use Rattle.capture.specs.code.Survey.{totalSize}
 use Rattle.capture.proofs.Left.{next-more, next-last}
 use Rattle.capture.proofs.Order.{Order, order-le, hits-order}

@@ -11,8 +11,8 @@ use lib.Dec.{ltb}
 use lib.ListN.{length, getD, drop, drop-of-length-le, length-drop}
 use lib.Seq.{drop-cons, drop-drop, getD-drop}
 use Rattle.wire.specs.Ip.{versionAndLength}
-use Rattle.capture.specs.Search.{Span, span, hit, found, hitsFrom, gap}
-use Rattle.capture.specs.code.Next.{hitsAt, IsNext}
+use Rattle.capture.specs.Search.{Span, span, hit, found, hitsFrom, hits, hitsAt, Searches, gap}
+use Rattle.capture.specs.code.Next.{IsNext}
 use Rattle.capture.proofs.Hits.{hit-none, hit-size, hit-shows}
 
 pub found-some : (at n : ℕ) → 0 < n → found at n ≡ span at n ∷ []
@@ -58,6 +58,9 @@ module _ (s : List ℕ) (at : ℕ) where
   unfolding hitsFrom
   end-none h = rw (drop-of-length-le s h)
 
+  pub at-hit : (n : ℕ) → hit (drop at s) ≡ suc n → hitsAt at s ≡ span at (suc n) ∷ hitsAt (at + suc n) s
+  at-hit n e = from-hit at (drop at s) n e ∙ ap (λ l. span at (suc n) ∷ hitsFrom (at + suc n) 0 l) (drop-drop (suc n) at s)
+
   module _ (h : at < length s) where
     cons : drop at s ≡ getD s at 0 ∷ drop (suc at) s
     cons = drop-cons s at 0 h
@@ -65,13 +68,23 @@ module _ (s : List ℕ) (at : ℕ) where
     pub at-miss : hit (drop at s) ≡ 0 → hitsAt at s ≡ hitsAt (at + 1) s
     at-miss e = rw (add-one, cons) (step-miss at _ _ (ap hit (sym cons) ∙ e))
 
-    pub at-hit : (n : ℕ) → hit (drop at s) ≡ suc n → hitsAt at s ≡ span at (suc n) ∷ hitsAt (at + suc n) s
-    at-hit n e = from-hit at (drop at s) n e ∙ ap (λ l. span at (suc n) ∷ hitsFrom (at + suc n) 0 l) (drop-drop (suc n) at s)
-
     pub at-other : (getD s at 0 ≡ versionAndLength → ⊥) → hitsAt at s ≡ hitsAt (at + 1) s
     at-other other =
         let z : at + 0 ≡ at = add-zero at in
         at-miss (hit-none (drop at s) (λ w. other (rw z at (sym (getD-drop at s 0 0) ∙ w .version))))
+
+-- ---- the search as the sentence has it
+
+kept-at : (s : List ℕ) (at n : ℕ) → hit (drop at s) ≡ n → 0 < n → hitsAt at s ≡ span at n ∷ hitsAt (at + n) s
+kept-at s at zero e p = absurd (omega arith)
+kept-at s at (suc n) e p = at-hit s at n e
+
+pub searches : Searches
+unfolding Searches hits
+searches input = (
+  refl,
+  λ at. record { kept = kept-at input at (hit (drop at input)) refl; passed = at-miss input at; ended = end-none input at },
+)
 
 -- ---- the next hit, from what was found out at a place
 
@@ -94,5 +107,5 @@ module _ (s : List ℕ) (from at : ℕ) (forward : from ≤ at) (left : hitsAt f
         forward = forward;
         inside = omega (arith, w .fits, e ∙ hit-size (drop at s) (rw e at p));
         last = λ q. absurd (omega arith);
-        first = left ∙ at-hit s at h n (sym e) ∙ rw (found-some at (suc n) p);
+        first = left ∙ at-hit s at n (sym e) ∙ rw (found-some at (suc n) p);
       }

@@ -1,9 +1,10 @@
 -- The search for packets: "looks from octet 0 for a packet that passes answers 3 to 7 with the length of its own IP header; a hit is kept and the search goes on behind it, otherwise one octet further."
+use mathlib.Core.Path.{_≡_}
 use mathlib.Core.Bool.{Bool, true, false, cond, _&&_}
 use mathlib.Core.List.{List, [], _∷_, _++_}
-use Prim.Native.Nat.{ℕ, zero, suc, _+_, _-_}
+use Prim.Native.Nat.{ℕ, zero, suc, _+_, _-_, _≤_, _<_}
 use lib.Dec.{leb, ltb, eqb}
-use lib.ListN.{length, take}
+use lib.ListN.{length, take, drop}
 use Rattle.wire.specs.declared.Parsed.{Parsed}
 use Rattle.wire.specs.declared.Parsed.the-variants.{Good, Bad}
 use Rattle.wire.specs.Octets.{twoAt}
@@ -52,6 +53,19 @@ hitsFrom at zero (o ∷ rest) = found at (hit (o ∷ rest)) ++ hitsFrom (suc at)
 -- "from octet 0"
 unfoldable pub hits : List ℕ → List Span
 hits input = hitsFrom 0 0 input
+
+-- the hits from a place on
+abbrev pub hitsAt : (place : ℕ) → List ℕ → List Span
+hitsAt at input = hitsFrom at 0 (drop at input)
+
+-- step by step, as the sentence has it
+pub record SearchedAt (input : List ℕ) (at : ℕ) : Type 0 where
+  pub kept : 0 < hit (drop at input) → hitsAt at input ≡ span at (hit (drop at input)) ∷ hitsAt (at + hit (drop at input)) input
+  pub passed : at < length input → hit (drop at input) ≡ 0 → hitsAt at input ≡ hitsAt (at + 1) input
+  pub ended : length input ≤ at → hitsAt at input ≡ []
+
+unfoldable pub Searches : Type 0
+Searches = (input : List ℕ) → (hits input ≡ hitsAt 0 input) × ((at : ℕ) → SearchedAt input at)
 
 -- ---- "the stretches passed over": what lies between the hits, before the first and behind the last
 

@@ -1,6 +1,7 @@
 // The mender of damaged captures: it finds the packets of an input again, and writes a capture of them.
 ghost use mathlib.Core.Path.{_≡_};
 ghost use Rattle.capture.specs.Answer.{number};
+ghost use Rattle.capture.specs.Search.{Searches};
 ghost use Rattle.capture.specs.Cover.{Covers};
 ghost use Rattle.capture.specs.Damage.{Damage};
 ghost use Rattle.capture.specs.Straddle.{StraddledUndamaged, StraddledDamaged};
@@ -94,6 +95,11 @@ pub fn mend(input: &[u8], capture: &mut [u8], stretches: &mut [u8]) -> Mended
         places_true: counting::marked(input, s),
     }
 }
+
+// The search goes step by step as the paper has it.
+pub fn searches()
+    ensures { λ _. ⌜ Searches ⌝ }
+{}
 
 // How long the outputs can be.
 pub fn bounded()

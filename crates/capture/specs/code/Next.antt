@@ -2,13 +2,9 @@
 use mathlib.Core.Path.{_≡_}
 use mathlib.Core.List.{List, _++_}
 use Prim.Native.Nat.{ℕ, _+_, _≤_}
-use lib.ListN.{length, drop}
+use lib.ListN.{length}
 use Rattle.capture.specs.declared.Next.{Next}
-use Rattle.capture.specs.Search.{Span, found, hitsFrom}
-
--- the hits from a place on
-abbrev pub hitsAt : (place : ℕ) → List ℕ → List Span
-hitsAt at input = hitsFrom at 0 (drop at input)
+use Rattle.capture.specs.Search.{found, hitsAt}
 
 -- the first hit from a place on; where there is none, no octets at the end of the input
 pub record IsNext (input : List ℕ) (from : ℕ) (n : Next) : Type 0 where

@@ -5,8 +5,7 @@ use Prim.Native.Nat.{_-_, _≤_}
 use native.Mathlib.Omega.{arith}
 use lib.ListN.{length}
 use Rattle.wire.proofs.Parts.{from-on}
-use Rattle.capture.specs.Search.{hit}
-use Rattle.capture.specs.code.Next.{hitsAt}
+use Rattle.capture.specs.Search.{hit, hitsAt}
 use Rattle.capture.proofs.Steps.{at-other, at-miss, next-none, next-found}
 use Rattle.capture.proofs.search.next.Statement.{statement}
 use Rattle.capture.proofs.search.next.Tie as tie
