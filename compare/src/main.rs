@@ -7,6 +7,7 @@
 //! given.
 
 mod call;
+mod capture;
 mod checksum;
 mod convert;
 mod counts;
@@ -131,6 +132,7 @@ fn compare(options: &Options) -> Result<Counts, String> {
     println!("seed {}, {} calls", options.seed, comparison.calls);
     vectors::run()?;
     checksum::run()?;
+    capture::run(options.seed)?;
     Ok(comparison.counts)
 }
 

@@ -5,6 +5,7 @@
 //! lends to each call together with the host's own settings, clock and links.
 
 pub mod address;
+pub mod capture;
 pub mod checksum;
 pub mod clock;
 pub mod date;
@@ -15,6 +16,7 @@ pub mod program;
 pub mod route;
 pub mod settings;
 pub mod table;
+pub mod text;
 
 #[cfg(test)]
 mod tests;
@@ -48,6 +50,15 @@ pub enum Refusal {
     NoHost = 11,
     Lent = 12,
     HostDown = 13,
+    TextForm = 14,
+    TextNumber = 15,
+    LongInput = 27,
+}
+
+impl From<Refusal> for u8 {
+    fn from(refusal: Refusal) -> u8 {
+        refusal as u8
+    }
 }
 
 /// The published answer number of an outcome: 0 where the call was done.

@@ -27,19 +27,7 @@ pub struct Message<'a> {
 impl<'a> Message<'a> {
     /// Tests a packet, the refusals in rising order.
     pub fn parse(packet: &'a [u8], settings: &Settings) -> Result<Message<'a>, Refusal> {
-        let (header, hello) = split_ip(packet).ok_or(Refusal::IpForm)?;
-        if !is_good(header) {
-            return Err(Refusal::IpChecksum);
-        }
-        if header[9] != PROTOCOL {
-            return Err(Refusal::Protocol);
-        }
-        if hello.len() < HELLO || hello.len() != hello_length(hello[11].into()) {
-            return Err(Refusal::HelloForm);
-        }
-        if !is_good(hello) {
-            return Err(Refusal::HelloChecksum);
-        }
+        let (header, hello) = hello_of(packet)?;
         let layout = (hello[10], usize::from(hello[11]));
         if layout.1 != 0 && layout != (settings.address_offset, settings.nhosts) {
             return Err(Refusal::Layout);
@@ -70,6 +58,25 @@ impl<'a> Message<'a> {
             .chunks_exact(HOST)
             .map(|host| (word(host, 0), word(host, 2) as i16))
     }
+}
+
+/// The header and the HELLO of a packet that passes answers 3 to 7, which ask
+/// for no settings.
+pub fn hello_of(packet: &[u8]) -> Result<(&[u8], &[u8]), Refusal> {
+    let (header, hello) = split_ip(packet).ok_or(Refusal::IpForm)?;
+    if !is_good(header) {
+        return Err(Refusal::IpChecksum);
+    }
+    if header[9] != PROTOCOL {
+        return Err(Refusal::Protocol);
+    }
+    if hello.len() < HELLO || hello.len() != hello_length(hello[11].into()) {
+        return Err(Refusal::HelloForm);
+    }
+    if !is_good(hello) {
+        return Err(Refusal::HelloChecksum);
+    }
+    Ok((header, hello))
 }
 
 /// The header and the rest of a packet whose IP form is right.

@@ -13,6 +13,7 @@
 #![deny(missing_docs)]
 
 pub mod answer;
+pub mod capture;
 mod host;
 mod layout;
 mod library;

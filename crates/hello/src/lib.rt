@@ -19,6 +19,9 @@ ghost use Rattle.host.specs.Calls.{
 };
 ghost use Rattle.program.specs.Program.{programAnswer};
 ghost use Rattle.hello.specs.Told.{answered, numberedTime, numberedSent, numberedRoute, timeTold, sentTold, routeTold};
+
+mod captures;
+
 use clock::Clock;
 use host::Links;
 use host::Settings;

@@ -1,0 +1,12 @@
+pub mod Hits
+pub mod Steps
+pub mod Left
+pub mod Order
+pub mod Over
+pub mod Outputs
+pub mod Mending
+pub mod Covering
+pub mod Damaged
+pub mod Straddling
+pub mod Kept
+pub mod Remended

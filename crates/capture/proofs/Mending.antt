@@ -1,0 +1,94 @@
+-- The mender: the first pass tells the lengths of the outputs and the mark, so its tests are those of the definition.
+use mathlib.Core.Path.{_≡_, refl, sym, ap}
+use mathlib.Core.Bool.{_||_}
+use mathlib.Core.List.{List, [], _∷_, _++_}
+use Prim.Native.Nat.{ℕ, _+_, _*_, _≤_, _<_}
+use native.Mathlib.Omega.{arith}
+use borrow.Author.Tests.{lt-ltb, le-ltb, ltb-false}
+use lib.Dec.{ltb}
+use lib.ListN.{length, length-append}
+use Rattle.laws.proofs.Tests.{either, neither}
+use Rattle.wire.specs.Octets.{four}
+use Rattle.capture.specs.declared.Answer.the-variants.{ShortBuffer, CaptureLength}
+use Rattle.capture.specs.declared.Mended.{Mended}
+use Rattle.capture.specs.declared.Survey.{Survey}
+use Rattle.capture.specs.Search.{Span, hits, stretches}
+use Rattle.capture.specs.Capture.{mendedCapture, spanOctets, stretchList, placesTrue}
+use Rattle.capture.specs.Mend.{longestInput, Outcome, refused, written, mend, Leaves, Bounded}
+use Rattle.capture.specs.code.Survey.{surveyOf, captureLength, stretchesLength, marked}
+use Rattle.capture.proofs.Order.{hits-few}
+use Rattle.capture.proofs.Outputs.{capture-long}
+
+spans-long : (hs : List Span) → length (spanOctets hs) ≡ 8 * length hs
+spans-long [] = refl
+spans-long (h ∷ hs) = omega (arith, length-append (four (h .start) ++ four (h .size)) (spanOctets hs), spans-long hs)
+
+-- ---- what the first pass told
+
+module _ (input : List ℕ) (s : Survey) (e : s ≡ surveyOf input) where
+  pub hits-told : s .hits ≡ length (hits input)
+  unfolding surveyOf
+  hits-told = ap (λ (x : Survey). x .hits) e
+
+  pub capture-told : captureLength s ≡ length (mendedCapture input)
+  unfolding surveyOf
+  capture-told = rw e (sym (capture-long input))
+
+  pub stretches-told : stretchesLength s ≡ length (stretchList input)
+  unfolding surveyOf stretchList
+  stretches-told = rw e (sym (spans-long (stretches input)))
+
+  pub mark-told : marked input s ≡ placesTrue input
+  unfolding surveyOf placesTrue
+  mark-told = rw e
+
+  pub told-small : length input ≤ longestInput → (s .hits ≤ longestInput) × (s .octets ≤ longestInput) × (s .stretches ≤ longestInput + 1)
+  unfolding surveyOf
+  told-small h =
+      let f = hits-few input in
+      rw e (omega (arith, f .0, f .1), omega (arith, f .1), omega (arith, f .0, f .1, f .2))
+
+-- ---- the tests
+
+module _ (input c s : List ℕ) where
+  pub mend-long : longestInput < length input → mend input c s ≡ refused CaptureLength c s
+  unfolding mend
+  mend-long h = rw (lt-ltb longestInput (length input) h)
+
+  module _ (short : length input ≤ longestInput) where
+    pub mend-capture : length c < length (mendedCapture input) → mend input c s ≡ refused ShortBuffer c s
+    unfolding mend
+    mend-capture h = rw (le-ltb longestInput (length input) short, lt-ltb (length c) (length (mendedCapture input)) h)
+
+    pub mend-stretches : length (mendedCapture input) ≤ length c → length s < length (stretchList input) → mend input c s ≡ refused ShortBuffer c s
+    unfolding mend
+    mend-stretches h k = rw (le-ltb longestInput (length input) short, le-ltb (length c) (length (mendedCapture input)) h, lt-ltb (length s) (length (stretchList input)) k)
+
+    pub mend-written : length (mendedCapture input) ≤ length c → length (stretchList input) ≤ length s → mend input c s ≡ written input c s
+    unfolding mend
+    mend-written h k = rw (le-ltb longestInput (length input) short, le-ltb (length c) (length (mendedCapture input)) h, le-ltb (length s) (length (stretchList input)) k)
+
+-- an outcome as a caller sees it
+pub leaves : (o p : Outcome) (m : Mended) (c s : List ℕ) → o ≡ p → m ≡ p .mended → c ≡ p .capture → s ≡ p .stretches → Leaves o m c s
+leaves o p m c s e e₁ e₂ e₃ = rw e (record { mended = e₁; capture = e₂; stretches = e₃ })
+
+-- the lengths answered are those of octets that the outputs have
+abbrev Fits : (c s : List ℕ) → Outcome → Type 0
+Fits c s o = (o .mended .«capture_length» ≤ length c) × (o .mended .«stretches_length» ≤ length s)
+
+pub told-fits : (input c s c₁ s₁ : List ℕ) (m : Mended) → Leaves (mend input c s) m c₁ s₁ → (m .«capture_length» ≤ length c) × (m .«stretches_length» ≤ length s)
+unfolding mend
+told-fits input c s c₁ s₁ m l =
+    rw (l .mended)
+    (either (Fits c s) (ltb longestInput (length input)) (refused CaptureLength c s) _ (λ e. (omega arith, omega arith))
+    (λ e. either (Fits c s) (ltb (length c) (length (mendedCapture input)) || ltb (length s) (length (stretchList input))) (refused ShortBuffer c s) (written input c s) (λ f. (omega arith, omega arith))
+    (λ f.
+    let n = neither _ _ f in
+    (ltb-false _ _ (n .0), ltb-false _ _ (n .1)))))
+
+-- no packet has fewer than 32 octets, so there are 2,048 hits at most
+pub bounded : Bounded
+unfolding Bounded stretchList
+bounded input h =
+    let f = hits-few input in
+    (omega (arith, f .0, f .1, capture-long input), omega (arith, f .0, f .1, f .2, spans-long (stretches input)))

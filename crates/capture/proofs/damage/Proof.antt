@@ -1,0 +1,9 @@
+use Rattle.capture.proofs.Damaged.{damage}
+use Rattle.capture.proofs.damage.Statement.{statement}
+use Rattle.capture.proofs.damage.Tie as tie
+
+returns : tie.Need-returns
+returns c = damage
+
+pub damage-spec : {M : Type 1} → statement M
+damage-spec = tie.close (tie.spec returns)

@@ -1,0 +1,4 @@
+-- What only the code needs.
+pub mod Next
+pub mod Survey
+pub mod Writing

@@ -1,0 +1,14 @@
+-- What the search for the next hit tells: the hits from a place on are this one, and those behind it.
+use mathlib.Core.Path.{_≡_}
+use mathlib.Core.List.{List, _++_}
+use Prim.Native.Nat.{ℕ, _+_, _≤_}
+use lib.ListN.{length}
+use Rattle.capture.specs.declared.Next.{Next}
+use Rattle.capture.specs.Search.{found, hitsAt}
+
+-- the first hit from a place on; where there is none, no octets at the end of the input
+pub record IsNext (input : List ℕ) (from : ℕ) (n : Next) : Type 0 where
+  pub forward : from ≤ n .at
+  pub inside : n .at + n .size ≤ length input
+  pub last : n .size ≡ 0 → n .at ≡ length input
+  pub first : hitsAt from input ≡ found (n .at) (n .size) ++ hitsAt (n .at + n .size) input

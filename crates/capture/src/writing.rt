@@ -1,0 +1,64 @@
+// The second pass: the capture of the hits, and the list of stretches.
+ghost use mathlib.Core.Path.{_≡_};
+ghost use Prim.Native.Nat.{_+_, _≤_};
+ghost use lib.ListN.{length};
+ghost use Rattle.laws.specs.Lists.{over};
+ghost use Rattle.capture.specs.Search.{gap, hits};
+ghost use Rattle.capture.specs.Capture.{spanOctets, mendedCapture, stretchList};
+ghost use Rattle.capture.specs.Mend.{longestInput};
+ghost use Rattle.capture.specs.code.Writing.{Room};
+use super::NUMBER;
+use super::octets::put_four;
+use super::search::next;
+
+// Octets copied to a place.
+fn copy(to: &mut [u8], place: usize, from: &[u8])
+    requires { ⌜ place + length (now from) ≤ length (now to) ⌝ }
+    ensures { λ _. ⌜ now (to .exit) ≡ over (now (to .entry)) place (now (from .entry)) ⌝ }
+{
+    let mut i: usize = 0;
+    while i < from.len() {
+        to[place + i] = from[i];
+        i += 1;
+    }
+}
+
+// The stretch from one octet to another put at a place of the list, where it has octets; the place behind it.
+fn put_stretch(list: &mut [u8], place: usize, from: usize, to: usize) -> usize
+    requires { ⌜ place + length (spanOctets (gap from to)) ≤ length (now list) ⌝ }
+    ensures { λ r. ⌜ (r ≡ place + length (spanOctets (gap from to))) × (now (list .exit) ≡ over (now (list .entry)) place (spanOctets (gap from to))) ⌝ }
+{
+    if from < to {
+        put_four(&mut *list, place, from);
+        put_four(&mut *list, place + NUMBER, to - from);
+        return place + 2 * NUMBER;
+    }
+    place
+}
+
+// Both outputs, of an input with so many hits.
+pub fn write(input: &[u8], capture: &mut [u8], stretches: &mut [u8], hits: usize)
+    requires { ⌜ Room (now input) (now capture) (now stretches) hits ⌝ }
+    ensures { λ _. ⌜ (now (capture .exit) ≡ over (now (capture .entry)) 0 (mendedCapture (now (input .entry))))
+        × (now (stretches .exit) ≡ over (now (stretches .entry)) 0 (stretchList (now (input .entry)))) ⌝ }
+{
+    put_four(&mut *capture, 0, hits);
+    let mut at: usize = 0;
+    let mut place = NUMBER;
+    let mut to = NUMBER + NUMBER * hits;
+    let mut end: usize = 0;
+    loop {
+        let n = next(input, at);
+        let start = n.at;
+        let size = n.size;
+        end = put_stretch(&mut *stretches, end, at, start);
+        if size == 0 {
+            return;
+        }
+        at = start + size;
+        put_four(&mut *capture, place, to);
+        copy(&mut *capture, to, &input[start..at]);
+        place += NUMBER;
+        to += size;
+    }
+}
