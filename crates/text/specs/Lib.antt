@@ -1,0 +1,6 @@
+pub mod Numerals
+pub mod Words
+pub mod Numbers
+pub mod Text
+pub mod Answers
+pub mod Back
