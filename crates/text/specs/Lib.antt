@@ -4,3 +4,4 @@ pub mod Numbers
 pub mod Text
 pub mod Answers
 pub mod Back
+pub mod Code

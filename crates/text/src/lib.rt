@@ -2,6 +2,9 @@
 ghost use mathlib.Core.Path.{_≡_};
 ghost use Rattle.text.specs.Answers.{number};
 
+mod octets;
+mod write;
+
 // The answers of the writer and the reader.
 pub enum Answer {
     Done,

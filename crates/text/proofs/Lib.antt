@@ -1,0 +1,4 @@
+pub mod Puts
+pub mod Widths
+pub mod Rows
+pub mod Lines
