@@ -1,6 +1,8 @@
 // Messages on paper: a HELLO as text, and back.
 ghost use mathlib.Core.Path.{_≡_};
-ghost use Rattle.text.specs.Answers.{number};
+ghost use lib.ListN.{length};
+ghost use Rattle.wire.specs.Hello.{helloForm};
+ghost use Rattle.text.specs.Answers.{number, into, toText, Leaves};
 
 mod octets;
 mod write;
@@ -31,4 +33,47 @@ pub fn number(a: Answer) -> u8
         Answer::TextForm => 14,
         Answer::FieldRange => 15,
     }
+}
+
+// The octets put at the start of the buffer, if there is room: the last step of both.
+fn deliver(out: &mut [u8], octets: &[u8]) -> Written
+    ensures { λ r. ⌜ Leaves (into (length (now (out .entry))) (now (octets .entry))) r (now (out .entry)) (now (out .exit)) ⌝ }
+{
+    let length = octets.len();
+    if out.len() < length {
+        return Written {
+            answer: Answer::ShortBuffer,
+            length: 0,
+        };
+    }
+    octets::copy(&mut *out, octets);
+    Written {
+        answer: Answer::Done,
+        length,
+    }
+}
+
+// Whether a message is as long as its NHOSTS says.
+fn is_message(message: &[u8]) -> bool
+    ensures { λ r. ⌜ r ≡ helloForm (now (message .entry)) ⌝ }
+{
+    if message.len() < 12 {
+        return false;
+    }
+    message.len() == 12 + 4 * message[11] as usize
+}
+
+// A message written as text.
+pub fn to_text(message: &[u8], out: &mut [u8]) -> Written
+    ensures { λ r. ⌜ Leaves (toText (now (message .entry)) (length (now (out .entry)))) r (now (out .entry)) (now (out .exit)) ⌝ }
+{
+    if !is_message(message) {
+        return Written {
+            answer: Answer::HelloForm,
+            length: 0,
+        };
+    }
+    let mut text = [0u8; 6144];
+    let n = write::put_text(&mut text, message);
+    deliver(out, &text[..n])
 }
