@@ -3,3 +3,6 @@ pub mod Widths
 pub mod Rows
 pub mod Lines
 pub mod Delivered
+pub mod Cuts
+pub mod Values
+pub mod Readings

@@ -5,3 +5,4 @@ pub mod Text
 pub mod Answers
 pub mod Back
 pub mod Code
+pub mod Scan

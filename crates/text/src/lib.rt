@@ -5,6 +5,7 @@ ghost use Rattle.wire.specs.Hello.{helloForm};
 ghost use Rattle.text.specs.Answers.{number, into, toText, Leaves};
 
 mod octets;
+mod scan;
 mod write;
 
 // The answers of the writer and the reader.
