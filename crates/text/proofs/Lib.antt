@@ -6,3 +6,5 @@ pub mod Delivered
 pub mod Cuts
 pub mod Values
 pub mod Readings
+pub mod Frees
+pub mod LineWords

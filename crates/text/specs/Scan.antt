@@ -48,12 +48,12 @@ pub record OffsetRead (s : List ℕ) (r : Offset) : Type 0 where
 -- the first word, with another behind it
 pub record FieldGood (s : List ℕ) (r : Field) : Type 0 where
   pub word : List ℕ
-  pub inside : r .next ≤ length s
   pub split : words s ≡ word ∷ words (drop (r .next) s)
   pub numeral : isNumeral word ≡ true
   pub number : Stands (r .value) (value word)
 
 pub record FieldRead (s : List ℕ) (r : Field) : Type 0 where
+  pub inside : r .next ≤ length s
   pub good : r .form ≡ true → FieldGood s r
   pub bad : r .form ≡ false → (t : Test) (ts : List Test) → pass (isNumeral ∷ t ∷ ts) (words s) ≡ false
 
@@ -61,7 +61,6 @@ pub record TimesGood (s : List ℕ) (r : Times) : Type 0 where
   pub date : List ℕ
   pub time : List ℕ
   pub tsp : List ℕ
-  pub inside : r .next ≤ length s
   pub split : words s ≡ date ∷ time ∷ tsp ∷ words (drop (r .next) s)
   pub date-numeral : isNumeral date ≡ true
   pub time-numeral : isNumeral time ≡ true
@@ -71,6 +70,7 @@ pub record TimesGood (s : List ℕ) (r : Times) : Type 0 where
   pub tsp-number : Stands (r .tsp) (value tsp)
 
 pub record TimesRead (s : List ℕ) (r : Times) : Type 0 where
+  pub inside : r .next ≤ length s
   pub good : r .form ≡ true → TimesGood s r
   pub bad : r .form ≡ false → (t : Test) (ts : List Test) → pass (isNumeral ∷ isNumeral ∷ isNumeral ∷ t ∷ ts) (words s) ≡ false
 
