@@ -8,3 +8,4 @@ pub mod Values
 pub mod Readings
 pub mod Frees
 pub mod LineWords
+pub mod Ranges

@@ -6,3 +6,4 @@ pub mod Answers
 pub mod Back
 pub mod Code
 pub mod Scan
+pub mod Reading

@@ -2,9 +2,10 @@
 ghost use mathlib.Core.Path.{_≡_};
 ghost use lib.ListN.{length};
 ghost use Rattle.wire.specs.Hello.{helloForm};
-ghost use Rattle.text.specs.Answers.{number, into, toText, Leaves};
+ghost use Rattle.text.specs.Answers.{number, into, toText, fromText, Leaves};
 
 mod octets;
+mod read;
 mod scan;
 mod write;
 
@@ -77,4 +78,18 @@ pub fn to_text(message: &[u8], out: &mut [u8]) -> Written
     let mut text = [0u8; 6144];
     let n = write::put_text(&mut text, message);
     deliver(out, &text[..n])
+}
+
+// A text read as a message, with the checksum that a sender computes.
+pub fn from_text(text: &[u8], out: &mut [u8]) -> Written
+    ensures { λ r. ⌜ Leaves (fromText (now (text .entry)) (length (now (out .entry)))) r (now (out .entry)) (now (out .exit)) ⌝ }
+{
+    let mut message = [0u8; 1032];
+    match read::read_text(text, &mut message) {
+        read::Read::Good(n) => deliver(out, &message[..n]),
+        read::Read::Bad(answer) => Written {
+            answer,
+            length: 0,
+        },
+    }
 }

@@ -1,0 +1,64 @@
+-- The fields are put one behind the other.
+use native.Mathlib.Omega.{arith}
+use Rattle.text.proofs.Ranges.{first-fits, fixed-put}
+use borrow.Author.Needs.{needs}
+use Rattle.text.proofs.read.put_fixed.Statement.{statement}
+use Rattle.text.proofs.read.put_fixed.Tie as tie
+use Rattle.text.proofs.read.put_fixed.Reads as reads
+use Rattle.text.proofs.read.put_fixed.Lts as lts
+use Rattle.text.proofs.octets.put_four.Reads as put-four-reads
+use Rattle.text.proofs.octets.put_octet.Reads as put-octet-reads
+use Rattle.text.proofs.octets.put_two.Reads as put-two-reads
+
+cast-put-two : tie.Need-cast-put-two
+cast-put-two c = ?
+
+put-two-requires : tie.Need-put-two-requires
+put-two-requires c κs = search needs
+
+cast-put-four : tie.Need-cast-put-four
+cast-put-four c = ?
+
+put-four-requires : tie.Need-put-four-requires
+put-four-requires c κs = search needs
+
+cast-put-two-2 : tie.Need-cast-put-two-2
+cast-put-two-2 c = ?
+
+put-two-requires-2 : tie.Need-put-two-requires-2
+put-two-requires-2 c κs = search needs
+
+cast-put-octet : tie.Need-cast-put-octet
+cast-put-octet c = ?
+
+put-octet-requires : tie.Need-put-octet-requires
+put-octet-requires c κs = search needs
+
+cast-put-octet-2 : tie.Need-cast-put-octet-2
+cast-put-octet-2 c = ?
+
+put-octet-requires-2 : tie.Need-put-octet-requires-2
+put-octet-requires-2 c κs = search needs
+
+same-length : tie.Need-same-length
+same-length c = search needs
+
+returns : tie.Need-returns
+returns c = ?
+
+pub put-fixed-spec : {M : Type 1} → statement M
+put-fixed-spec =
+    tie.close
+    (tie.spec
+    cast-put-two
+    put-two-requires
+    cast-put-four
+    put-four-requires
+    cast-put-two-2
+    put-two-requires-2
+    cast-put-octet
+    put-octet-requires
+    cast-put-octet-2
+    put-octet-requires-2
+    same-length
+    returns)
