@@ -9,3 +9,5 @@ pub mod Readings
 pub mod Frees
 pub mod LineWords
 pub mod Ranges
+pub mod Standing
+pub mod RowsLoop

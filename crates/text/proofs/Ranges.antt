@@ -37,10 +37,10 @@ bits-negative (suc m) h = omega arith
 pub row-not-put : (b : List ℕ) (fit : Bool) (i : ℕ) (row : Row) → (fit && (ltb i mostHosts && rowFits row)) ≡ false → RowPut b b fit i row false
 row-not-put b fit i row e = record { fits = sym e; same = refl; put = λ t. absurd (false≢true t) }
 
-pub row-put : (b m a : List ℕ) (i d o : ℕ) (row : Row) → mostLength ≤ length b → i < mostHosts → rowFits row ≡ true
+pub row-put : (b m a : List ℕ) (i o : ℕ) (row : Row) → mostLength ≤ length b → i < mostHosts → rowFits row ≡ true
     → m ≡ over b (reportPlace i) (two (row .delay)) → o ≡ bits16 (row .offset) → a ≡ over m (reportPlace i + 2) (two o)
     → RowPut b a true i row true
-row-put b m a i d o row h k e e₁ e₂ e₃ =
+row-put b m a i o row h k e e₁ e₂ e₃ =
     let q : a ≡ over b (reportPlace i) (rowOctets row) = e₃ ∙ rw (e₂, e₁) (over-twice (reportPlace i) b (two (row .delay)) (omega arith) (two (bits16 (row .offset)))) in
     record {
       fits = rw (lt-ltb i mostHosts k, e);

@@ -1,5 +1,7 @@
 -- The sum is taken of what stands behind the checksum.
 use mathlib.Core.Path.{ap, _∙_}
+use Rattle.laws.specs.Lists.{over}
+use Rattle.wire.specs.Octets.{two}
 use borrow.Author.Needs.{needs}
 use Rattle.text.proofs.read.put_checksum.Statement.{statement}
 use Rattle.text.proofs.read.put_checksum.Tie as tie
@@ -27,7 +29,7 @@ same-length : tie.Need-same-length
 same-length c = search needs
 
 returns : tie.Need-returns
-returns c = ?
+returns c = c .before .before .put-two .ensures ∙ ap (λ n. over (c .before .before .before .before .before .before .before .before .args .message .now) 0 (two n)) (c .before .before .before .before .complement .ensures)
 
 pub put-checksum-spec : {M : Type 1} → statement M
 put-checksum-spec =

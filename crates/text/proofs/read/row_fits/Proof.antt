@@ -11,7 +11,7 @@ returns : tie.Need-returns
 returns c = rw (lt-leb _ _ (c .if1 .taken))
 
 returns-2 : tie.Need-returns-2
-returns-2 c = rw (le-leb _ _ (c .before .before .if1 .left), c .before .if2 .taken) (sym (fits-negative _))
+returns-2 c = rw (le-leb _ _ (c .before .before .if1 .left), c .before .if2 .taken) (sym (fits-negative (c .before .before .before .before .args .r .size)))
 
 returns-3 : tie.Need-returns-3
 returns-3 c = rw (le-leb _ _ (c .before .before .if1 .left), c .before .if2 .left)
