@@ -11,3 +11,4 @@ pub mod LineWords
 pub mod Ranges
 pub mod Standing
 pub mod RowsLoop
+pub mod Verdict

@@ -73,7 +73,7 @@ returns-2 c =
     let e = c .before .before .before .before .before .find in
     let h = found-inside t (l .i) (e .result) (e .ensures) in
     let s = line-found t (l .i) (e .result) (e .ensures) (omega arith) in
-    rows-refused t _ _ _ (l .inv .2) refl (form-other t _ (l .i) _ (c .before .before .read-row .result) (l .inv .3 .form) s (c .before .before .read-row .ensures) (not-true _ (c .if2 .taken)))
+    rows-refused t _ _ _ (l .inv .2) refl (form-other t (take (l .i + e .result - l .i) (drop (l .i) t)) (l .i) (l .i + e .result + 1) (c .before .before .read-row .result) (l .inv .3 .form) s (c .before .before .read-row .ensures) (not-true _ (c .if2 .taken)))
 
 put-row-requires : tie.Need-put-row-requires Inv-loop μ-loop
 put-row-requires c κs = omega arith

@@ -1,0 +1,52 @@
+use borrow.Author.Needs.{needs}
+use Rattle.text.proofs.from_text.Statement.{statement}
+use Rattle.text.proofs.from_text.Tie as tie
+use Rattle.text.proofs.from_text.Reads as reads
+use Rattle.text.proofs.from_text.Lts as lts
+use Rattle.text.proofs.deliver.Reads as deliver-reads
+use Rattle.text.proofs.read.read_text.Reads as read-text-reads
+
+slice-aggregate-read-text : tie.Need-slice-aggregate-read-text
+slice-aggregate-read-text c = search needs
+
+read-text-requires : tie.Need-read-text-requires
+read-text-requires c κs = search needs
+
+enum-known-n : tie.Need-enum-known-n
+enum-known-n c = search needs
+
+array-share-prefix-message : tie.Need-array-share-prefix-message
+array-share-prefix-message c = ?
+
+slice-aggregate-deliver : tie.Need-slice-aggregate-deliver
+slice-aggregate-deliver c = ?
+
+deliver-requires : tie.Need-deliver-requires
+deliver-requires c κs = search needs
+
+enum-known-answer : tie.Need-enum-known-answer
+enum-known-answer c = search needs
+
+same-length : tie.Need-same-length
+same-length c = search needs
+
+returns : tie.Need-returns
+returns c = ?
+
+returns-2 : tie.Need-returns-2
+returns-2 c = ?
+
+pub from-text-spec : {M : Type 1} → statement M
+from-text-spec =
+    tie.close
+    (tie.spec
+    slice-aggregate-read-text
+    read-text-requires
+    enum-known-n
+    array-share-prefix-message
+    slice-aggregate-deliver
+    deliver-requires
+    enum-known-answer
+    same-length
+    returns
+    returns-2)
