@@ -1,18 +1,22 @@
 -- What the writer and the reader deliver is what their definitions say: by the tests, in their order.
-use mathlib.Core.Path.{_≡_, refl, _∙_, ap}
+use mathlib.Core.Path.{_≡_, refl, ap, subst, _∙_}
 use mathlib.Core.Bool.{Bool, true, false}
 use mathlib.Core.List.{List}
-use Prim.Native.Nat.{ℕ, _+_}
+use Prim.Native.Nat.{ℕ, _≤_}
 use native.Mathlib.Omega.{arith}
-use lib.ListN.{length, take}
+use lib.ListN.{length, take, length-take}
 use lib.Seq.{take-at}
 use Rattle.wire.specs.Hello.{helloForm}
 use Rattle.text.specs.declared.Answer.the-variants.{HelloForm}
+use Rattle.text.specs.declared.Answer.{Answer}
 use Rattle.text.specs.declared.Written.{Written}
+use Rattle.text.specs.declared.read.Read.{Read}
+use Rattle.text.specs.declared.read.Read.the-variants.{Good, Bad}
 use Rattle.text.specs.Numbers.{numbersOf}
 use Rattle.text.specs.Text.{textOf}
-use Rattle.text.specs.Answers.{into, toText, Leaves}
+use Rattle.text.specs.Answers.{into, toText, fromText, Leaves}
 use Rattle.text.specs.Code.{Put}
+use Rattle.text.specs.Reading.{ReadSays}
 
 -- what was put at the start
 pub put-taken : {b a xs : List ℕ} {n : ℕ} → Put b a 0 n xs → take n a ≡ xs
@@ -32,3 +36,18 @@ pub good-message : (m b a xs : List ℕ) (told : Written) → helloForm m ≡ tr
     → Leaves (toText m (length b)) told b a
 unfolding toText
 good-message m b a xs told e q l = rw (e, ← q) l
+
+-- ---- what was read
+
+pub read-is : (text after : List ℕ) {r s : Read} → r ≡ s → ReadSays text after r → ReadSays text after s
+read-is text after e says = subst (ReadSays text after) e says
+
+pub read-inside : (text after : List ℕ) (n : ℕ) → ReadSays text after (Good n) → n ≤ length after
+read-inside text after n s = omega (arith, s .0, length-take n after)
+
+pub good-text : (text after b a : List ℕ) (n : ℕ) (told : Written) → ReadSays text after (Good n) → Leaves (into (length b) (take n after)) told b a
+    → Leaves (fromText text (length b)) told b a
+good-text text after b a n told s l = rw (s .1 (length b)) l
+
+pub bad-text : (text after b : List ℕ) (x : Answer) → ReadSays text after (Bad x) → Leaves (fromText text (length b)) (record { answer = x; length = 0 }) b b
+bad-text text after b x s = rw (s (length b)) (record { answer = refl; length = refl; buffer = refl })
