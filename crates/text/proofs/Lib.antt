@@ -12,3 +12,4 @@ pub mod Ranges
 pub mod Standing
 pub mod RowsLoop
 pub mod Verdict
+pub mod NumeralBack
