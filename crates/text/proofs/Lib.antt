@@ -13,3 +13,4 @@ pub mod Standing
 pub mod RowsLoop
 pub mod Verdict
 pub mod NumeralBack
+pub mod TextBack

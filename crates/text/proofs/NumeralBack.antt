@@ -3,7 +3,7 @@ use mathlib.Core.Path.{_≡_, refl, sym, ap, _∙_}
 use mathlib.Core.Bool.{Bool, true, false, cond, not, _&&_, true≢false, false≢true}
 use mathlib.Core.List.{List, [], _∷_, _++_}
 use Prim.Native.Nat.{ℕ, zero, suc, _+_, _-_, _*_, _/_, _%_, _^_, _≤_, _<_}
-use native.Mathlib.Nat.{pow-suc, mul-le-mul-right}
+use native.Mathlib.Nat.{pow-suc, pow-le-pow-right, mul-le-mul-right}
 use native.Mathlib.Omega.{arith}
 use borrow.Author.Tests.{leb-true, ltb-true, ltb-false, eqb-true, eqb-false, eq-eqb, ne-eqb, not-true}
 use lib.Dec.{leb, ltb, eqb}
@@ -120,17 +120,9 @@ unfolding isNumeral
 some-signs [] e = absurd (false≢true e)
 some-signs (c ∷ s) e = omega arith
 
-pow-up : (j k : ℕ) → j ≤ k → 10 ^ j ≤ 10 ^ k
-pow-up j k h = go j k h
-  where
-    go : (j k : ℕ) → j ≤ k → 10 ^ j ≤ 10 ^ k
-    go j zero h = let e : j ≡ 0 = omega arith in rw e (omega arith)
-    go zero (suc k) h = omega (arith, go zero k (omega arith), pow-suc 10 k)
-    go (suc j) (suc k) h = omega (arith, go j k (omega arith), pow-suc 10 k, pow-suc 10 j)
-
 not-longer : (xs ys : List ℕ) → isNumeral xs ≡ true → isNumeral ys ≡ true → value xs ≡ value ys → length xs < length ys → ⊥
 not-longer xs ys a b e h =
-    omega (arith, value-below xs (numeral-digits xs a), value-above ys b (omega (arith, some-signs xs a)), pow-up (length xs) (length ys - 1) (omega arith))
+    omega (arith, value-below xs (numeral-digits xs a), value-above ys b (omega (arith, some-signs xs a)), pow-le-pow-right {n = 10} (omega arith) {i = length xs} {j = length ys - 1} (omega arith))
 
 same-numeral : (xs ys : List ℕ) → isNumeral xs ≡ true → isNumeral ys ≡ true → value xs ≡ value ys → xs ≡ ys
 same-numeral xs ys a b e = go (ltb (length xs) (length ys)) refl (ltb (length ys) (length xs)) refl

@@ -120,7 +120,7 @@ module _ (ws : List (List ℕ)) (f : First) (g : FirstGood (drop 1 ws) f) (rows 
       rw (stands-is (f .date) (value (wordAt ws 1)) 65535 (omega arith) date-stands (h .date), stands-is (f .time) (value (wordAt ws 2)) 4294967295 (omega arith) time-stands (h .time), stands-is (f .tsp) (value (wordAt ws 3)) 65535 (omega arith) tsp-stands (h .tsp), stands-is (f .base) (value (wordAt ws 4)) 255 (omega arith) base-stands (h .base), stands-is (f .count) (value (wordAt ws 5)) 255 (omega arith) count-stands (h .count))
 
 -- there are as many rows as lines, but for the last piece
-rows-counted : (ls : List (List ℕ)) (n : ℕ) → n + 1 ≡ length ls → length (rowsIn ls) ≡ n
+pub rows-counted : (ls : List (List ℕ)) (n : ℕ) → n + 1 ≡ length ls → length (rowsIn ls) ≡ n
 unfolding rowsIn
 rows-counted [] n e = absurd (omega arith)
 rows-counted (l ∷ []) n e = omega arith
