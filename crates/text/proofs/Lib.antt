@@ -14,3 +14,5 @@ pub mod RowsLoop
 pub mod Verdict
 pub mod NumeralBack
 pub mod TextBack
+pub mod MessageBack
+pub mod Back

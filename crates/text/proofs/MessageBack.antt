@@ -111,7 +111,10 @@ rows-octets (suc k) (a ∷ b ∷ c ∷ d ∷ l) e o =
     let m : a * 256 + b ≤ 65535 = omega (arith, o .0, o .1 .0) in
     let p = bits-signed (c * 256 + d) n in
     record {
-      same = rw (p .0, h .same) (rw (two-back a b (o .0) (o .1 .0), two-back c d (o .1 .1 .0) (o .1 .1 .1 .0)));
+      same = ap (λ (x : ℕ). two (a * 256 + b) ++ two x ++ rowsOctets (rowsOf l)) (p .0)
+      ∙ ap (λ (x : List ℕ). x ++ two (c * 256 + d) ++ rowsOctets (rowsOf l)) (two-back a b (o .0) (o .1 .0))
+      ∙ ap (λ (x : List ℕ). a ∷ b ∷ [] ++ x ++ rowsOctets (rowsOf l)) (two-back c d (o .1 .1 .0) (o .1 .1 .1 .0))
+      ∙ ap (λ (x : List ℕ). a ∷ b ∷ c ∷ d ∷ x) (h .same);
       fit = rw (le-leb (a * 256 + b) 65535 m, p .1, h .fit);
       number = ap suc (h .number);
     }
@@ -122,10 +125,10 @@ pub record MessageThere (m : List ℕ) : Type 0 where
   pub counts : numbersOf m .count ≡ length (numbersOf m .rows)
 
 pub message-there : (m : List ℕ) → Octets m → helloForm m ≡ true → MessageThere m
+unfolding messageOf numbersOf numbersFit
 message-there m o e = go m o (good-length m e)
   where
     go : (m : List ℕ) → Octets m → (fixedLength ≤ length m) × (length m ≡ helloLength (octetAt m nhostsPlace)) → MessageThere m
-    unfolding messageOf numbersOf numbersFit
     go [] o g = absurd (omega arith)
     go (a ∷ []) o g = absurd (omega arith)
     go (a ∷ b ∷ []) o g = absurd (omega arith)
@@ -149,7 +152,10 @@ message-there m o e = go m o (good-length m e)
         let base : p ≤ 255 = omega (arith, o₄ .1 .1 .1 .1 .1 .1 .0) in
         let count : q ≤ 255 = omega (arith, o₄ .1 .1 .1 .1 .1 .1 .1 .0) in
         let behind : octetsBehind (numbersOf (a ∷ b ∷ c ∷ d ∷ f ∷ h ∷ i ∷ j ∷ k ∷ n ∷ p ∷ q ∷ l)) ≡ c ∷ d ∷ f ∷ h ∷ i ∷ j ∷ k ∷ n ∷ p ∷ q ∷ l =
-        rw (r .same) (rw (two-back c d oc od, four-back f h i j (o₄ .0) (o₄ .1 .0) (o₄ .1 .1 .0) (o₄ .1 .1 .1 .0), two-back k n (o₄ .1 .1 .1 .1 .0) (o₄ .1 .1 .1 .1 .1 .0))) in
+        ap (λ x. x ++ four (((f * 256 + h) * 256 + i) * 256 + j) ++ two (k * 256 + n) ++ p ∷ q ∷ [] ++ rowsOctets (rowsOf l)) (two-back c d oc od)
+        ∙ ap (λ x. c ∷ d ∷ [] ++ x ++ two (k * 256 + n) ++ p ∷ q ∷ [] ++ rowsOctets (rowsOf l)) (four-back f h i j (o₄ .0) (o₄ .1 .0) (o₄ .1 .1 .0) (o₄ .1 .1 .1 .0))
+        ∙ ap (λ x. c ∷ d ∷ f ∷ h ∷ i ∷ j ∷ [] ++ x ++ p ∷ q ∷ [] ++ rowsOctets (rowsOf l)) (two-back k n (o₄ .1 .1 .1 .1 .0) (o₄ .1 .1 .1 .1 .1 .0))
+        ∙ ap (λ x. c ∷ d ∷ f ∷ h ∷ i ∷ j ∷ k ∷ n ∷ p ∷ q ∷ x) (r .same) in
         record {
           same = λ s. ap (λ z. two (checksumOf z) ++ z) behind ∙ ap (λ z. z ++ c ∷ d ∷ f ∷ h ∷ i ∷ j ∷ k ∷ n ∷ p ∷ q ∷ l) (sym s);
           fit = rw (le-leb (c * 256 + d) 65535 date, le-leb (((f * 256 + h) * 256 + i) * 256 + j) 4294967295 time, le-leb (k * 256 + n) 65535 tsp, le-leb p 255 base, le-leb q 255 count, r .fit);

@@ -308,6 +308,24 @@ first-words-are ws e =
       c-good = n₅ .passes;
     }
 
+-- the first line of five words
+abbrev lineOf : (d t p b c : List ℕ) → List ℕ
+lineOf d t p b c = hello ++ space ∷ d ++ space ∷ t ++ space ∷ p ++ space ∷ b ++ space ∷ c ++ newline ∷ []
+
+line-of : (d t p b c : List ℕ) → lineOf d t p b c ≡ (hello ++ space ∷ (d ++ space ∷ (t ++ space ∷ (p ++ space ∷ (b ++ space ∷ c))))) ++ newline ∷ []
+line-of d t p b c = simp append-assoc
+
+abbrev numbersAt : List (List ℕ) → List Row → Numbers
+numbersAt ws rows =
+    record {
+      date = value (wordAt ws 1);
+      time = value (wordAt ws 2);
+      tsp = value (wordAt ws 3);
+      base = value (wordAt ws 4);
+      count = value (wordAt ws 5);
+      rows = rows;
+    }
+
 module _ {ws : List (List ℕ)} (w : FirstWords ws) (rows : List Row) where
   abbrev written : Numbers
   written =
@@ -320,10 +338,23 @@ module _ {ws : List (List ℕ)} (w : FirstWords ws) (rows : List Row) where
         rows = rows;
       }
 
+  numbers-written : _≡_ {A = Numbers} (numbersAt ws rows) written
+  numbers-written = ap (λ (z : List (List ℕ)). numbersAt z rows) (w .are)
+
   first-back : AllFit written
       → firstLine written ≡ (hello ++ space ∷ (w .d ++ space ∷ (w .t ++ space ∷ (w .p ++ space ∷ (w .b ++ space ∷ w .c))))) ++ newline ∷ []
   first-back a =
-      rw (numeral-back (w .d) (w .d-good) (omega (arith, a .date)), numeral-back (w .t) (w .t-good) (omega (arith, a .time)), numeral-back (w .p) (w .p-good) (omega (arith, a .tsp)), numeral-back (w .b) (w .b-good) (omega (arith, a .base)), numeral-back (w .c) (w .c-good) (omega (arith, a .count))) (simp append-assoc)
+      let d = numeral-back (w .d) (w .d-good) (omega (arith, a .date)) in
+      let t = numeral-back (w .t) (w .t-good) (omega (arith, a .time)) in
+      let p = numeral-back (w .p) (w .p-good) (omega (arith, a .tsp)) in
+      let b = numeral-back (w .b) (w .b-good) (omega (arith, a .base)) in
+      let c = numeral-back (w .c) (w .c-good) (omega (arith, a .count)) in
+      ap (λ x. lineOf x (numeral (value (w .t))) (numeral (value (w .p))) (numeral (value (w .b))) (numeral (value (w .c)))) d
+      ∙ ap (λ x. lineOf (w .d) x (numeral (value (w .p))) (numeral (value (w .b))) (numeral (value (w .c)))) t
+      ∙ ap (λ x. lineOf (w .d) (w .t) x (numeral (value (w .b))) (numeral (value (w .c)))) p
+      ∙ ap (λ x. lineOf (w .d) (w .t) (w .p) x (numeral (value (w .c)))) b
+      ∙ ap (λ x. lineOf (w .d) (w .t) (w .p) (w .b) x) c
+      ∙ line-of (w .d) (w .t) (w .p) (w .b) (w .c)
 
 -- rows are never without a last piece
 joins-more : (line : List ℕ) (ls : List (List ℕ)) → rowsForm ls ≡ true → line ++ newline ∷ [] ++ joins newline ls ≡ joins newline (line ∷ ls)
@@ -361,7 +392,7 @@ text-back text e f =
     let line = g .line in
     let ls = g .ls in
     let w = first-words-are (words line) (g .first) in
-    let n : numbersIn text ≡ written w (rowsIn ls) = numbers-are text line ls (g .split) ∙ rw (w .are) in
+    let n : numbersIn text ≡ written w (rowsIn ls) = numbers-are text line ls (g .split) ∙ numbers-written w (rowsIn ls) in
     let a : AllFit (written w (rowsIn ls)) = all-fit (written w (rowsIn ls)) (ap numbersFit (sym n) ∙ f) in
     let j : hello ++ space ∷ (w .d ++ space ∷ (w .t ++ space ∷ (w .p ++ space ∷ (w .b ++ space ∷ w .c)))) ≡ line = ap (joins space) (sym (w .are)) ∙ joins-cut space line in
     let k : joins newline (line ∷ ls) ≡ text = ap (joins newline) (sym (g .split)) ∙ joins-cut newline text in

@@ -3,6 +3,7 @@ ghost use mathlib.Core.Path.{_≡_};
 ghost use lib.ListN.{length};
 ghost use Rattle.wire.specs.Hello.{helloForm};
 ghost use Rattle.text.specs.Answers.{number, into, toText, fromText, Leaves};
+ghost use Rattle.text.specs.Back.{MessageBack, TextBack, NeverRefused};
 
 mod octets;
 mod read;
@@ -93,3 +94,18 @@ pub fn from_text(text: &[u8], out: &mut [u8]) -> Written
         },
     }
 }
+
+// A message whose checksum is the sender's comes back from its text.
+pub fn message_back()
+    ensures { λ _. ⌜ MessageBack ⌝ }
+{}
+
+// A text that is read comes back from its message.
+pub fn text_back()
+    ensures { λ _. ⌜ TextBack ⌝ }
+{}
+
+// A text that was written is never refused for its form or its numbers.
+pub fn never_refused()
+    ensures { λ _. ⌜ NeverRefused ⌝ }
+{}
