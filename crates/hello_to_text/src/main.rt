@@ -6,7 +6,8 @@ fn main() {
     let n = io::read_full(0, &mut octets);
     let mut text = io::buffer();
     let written = text::to_text(&octets[..n], &mut text);
-    let number = text::number(written.answer);
+    let answer = written.answer;
+    let number = text::number(answer);
     if number != 0 {
         io::print_decimal(2, number as u64);
         io::write_all(2, b"\n");

@@ -1,7 +1,7 @@
 -- The three theorems, from what holds of texts and of messages.
-use mathlib.Core.Path.{_≡_, refl, sym, ap, subst, _∙_}
+use mathlib.Core.Path.{_≡_, refl, sym, ap, _∙_}
 use mathlib.Core.Bool.{Bool, true, false, cond, not}
-use mathlib.Core.List.{List, []}
+use mathlib.Core.List.{List}
 use Prim.Native.Nat.{ℕ, _≤_}
 use native.Mathlib.Omega.{arith}
 use borrow.Author.Tests.{le-ltb}
@@ -12,7 +12,7 @@ use Rattle.text.specs.declared.Answer.the-variants.{Done, ShortBuffer, H
 use Rattle.text.specs.Numbers.{Numbers, numbersOf, messageOf, numbersFit}
 use Rattle.text.specs.Text.{textOf, form, numbersIn}
 use Rattle.text.specs.Answers.{number, Made, refused, made, into, toText, fromText}
-use Rattle.text.specs.Back.{Octets, SendersChecksum, MessageBack, TextBack, NeverRefused}
+use Rattle.text.specs.Back.{Octets, MessageBack, TextBack, NeverRefused}
 use Rattle.text.proofs.TextBack.{all-fit, text-formed, text-numbers, text-counts, text-back}
 use Rattle.text.proofs.MessageBack.{numbers-there, message-formed, message-there}
 

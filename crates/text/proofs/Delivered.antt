@@ -1,10 +1,10 @@
 -- What the writer and the reader deliver is what their definitions say: by the tests, in their order.
-use mathlib.Core.Path.{_≡_, refl, ap, subst, _∙_}
-use mathlib.Core.Bool.{Bool, true, false}
-use mathlib.Core.List.{List}
-use Prim.Native.Nat.{ℕ, _≤_}
+use mathlib.Core.Path.{_≡_, refl, sym, ap, subst, _∙_}
+use mathlib.Core.Bool.{true, false}
+use mathlib.Core.List.{List, _++_}
+use Prim.Native.Nat.{ℕ, _+_, _≤_}
 use native.Mathlib.Omega.{arith}
-use lib.ListN.{length, take, length-take}
+use lib.ListN.{length, take, drop, length-append, length-take}
 use lib.Seq.{take-at}
 use Rattle.wire.specs.Hello.{helloForm}
 use Rattle.text.specs.declared.Answer.the-variants.{HelloForm}
@@ -14,7 +14,7 @@ use Rattle.text.specs.declared.read.Read.{Read}
 use Rattle.text.specs.declared.read.Read.the-variants.{Good, Bad}
 use Rattle.text.specs.Numbers.{numbersOf}
 use Rattle.text.specs.Text.{textOf}
-use Rattle.text.specs.Answers.{into, toText, fromText, Leaves}
+use Rattle.text.specs.Answers.{Made, into, toText, fromText, Leaves}
 use Rattle.text.specs.Code.{Put}
 use Rattle.text.specs.Reading.{ReadSays}
 
@@ -51,3 +51,13 @@ good-text text after b a n told s l = rw (s .1 (length b)) l
 
 pub bad-text : (text after b : List ℕ) (x : Answer) → ReadSays text after (Bad x) → Leaves (fromText text (length b)) (record { answer = x; length = 0 }) b b
 bad-text text after b x s = rw (s (length b)) (record { answer = refl; length = refl; buffer = refl })
+
+-- ---- what a caller has of it
+
+-- what was written stands at the buffer's start, and lies within it
+pub told-counts : (m : Made) (told : Written) (b a : List ℕ) → Leaves m told b a → (told .length ≤ length a) × (told .length ≡ length (take (told .length) a))
+told-counts m told b a l =
+    let xs = m .octets in
+    let q : a ≡ xs ++ drop (0 + length xs) b = l .buffer in
+    let t : take (told .length) a ≡ xs = rw q (take-at xs (drop (0 + length xs) b) (told .length) (sym (l .length))) in
+    (omega (arith, ap length q, length-append xs (drop (0 + length xs) b), l .length), l .length ∙ ap length (sym t))

@@ -1,17 +1,15 @@
 -- Words without a mark in them are one piece: digits, numerals and signed numerals hold no space and no newline.
-use mathlib.Core.Path.{_≡_, refl, sym, ap, _∙_}
-use mathlib.Core.Bool.{Bool, true, false, cond, not, _&&_, true≢false, false≢true}
-use mathlib.Core.List.{List, [], _∷_, _++_, append-nil}
-use mathlib.Core.Logic.{⊎-elim}
-use Prim.Native.Nat.{ℕ, _+_, _≤_, _<_}
+use mathlib.Core.Path.{_≡_, refl, _∙_}
+use mathlib.Core.Bool.{Bool, true, false, cond, not, _&&_, false≢true}
+use mathlib.Core.List.{List, [], _∷_, _++_}
+use Prim.Native.Nat.{ℕ, _+_, _<_}
 use native.Mathlib.Omega.{arith}
 use borrow.Author.Tests.{leb-true, eqb-true, eq-eqb, ne-eqb}
 use lib.Dec.{eqb, leb}
-use lib.ListN.{length, getD, take, drop}
 use Rattle.laws.proofs.Tests.{both}
-use Rattle.text.specs.Numerals.{zeroSign, nineSign, minusSign, isDigit, allDigits, isNumeral, isNegative, isSigned, value}
-use Rattle.text.specs.Words.{space, ahead, cut, words, Test, pass}
-use Rattle.text.proofs.Cuts.{cut-some, cut-here, cut-past}
+use Rattle.text.specs.Numerals.{zeroSign, nineSign, minusSign, isDigit, allDigits, isNumeral, isSigned, value}
+use Rattle.text.specs.Words.{space, cut, words, Test, pass}
+use Rattle.text.proofs.Cuts.{cut-some}
 use Rattle.text.proofs.Readings.{and-true, and-false}
 
 abbrev pub Free : (mark : ℕ) → List ℕ → Type 0

@@ -1,8 +1,8 @@
 -- The words of a line in turn: each field takes a test and a word off, and the last word is all that is left.
-use mathlib.Core.Path.{_≡_, refl, sym, ap, _∙_}
-use mathlib.Core.Bool.{Bool, true, false, true≢false, false≢true}
+use mathlib.Core.Path.{_≡_, sym, ap, _∙_}
+use mathlib.Core.Bool.{true, false, false≢true}
 use mathlib.Core.List.{List, [], _∷_}
-use Prim.Native.Nat.{ℕ, _+_, _-_, _≤_, _<_}
+use Prim.Native.Nat.{ℕ, _+_, _-_}
 use native.Mathlib.Omega.{arith}
 use lib.ListN.{length, take, drop, length-drop}
 use lib.Seq.{drop-drop}
@@ -14,10 +14,10 @@ use Rattle.text.specs.declared.scan.Row.{Row}
 use Rattle.text.specs.declared.scan.First.{First}
 use Rattle.text.specs.Numerals.{isNumeral, isSigned}
 use Rattle.text.specs.Words.{space, words, Test, pass, same}
-use Rattle.text.specs.Text.{hello, firstTests, rowTests}
-use Rattle.text.specs.Scan.{NumberRead, OffsetRead, FieldGood, FieldRead, TimesGood, TimesRead, RowRead, FirstGood, FirstRead, LineRead}
+use Rattle.text.specs.Text.{hello}
+use Rattle.text.specs.Scan.{NumberRead, OffsetRead, FieldRead, TimesGood, TimesRead, RowRead, FirstRead, LineRead}
 use Rattle.text.proofs.Readings.{from-on, field-passes, and-false}
-use Rattle.text.proofs.Frees.{Free, cut-free, numeral-free, signed-free, last-word}
+use Rattle.text.proofs.Frees.{cut-free, numeral-free, signed-free, last-word}
 
 -- what is told of a part of a line, from a place on
 pub part-read : (P : List ℕ → Type 0) (s : List ℕ) (k : ℕ) → P (take (length s - k) (drop k s)) → P (drop k s)
@@ -43,8 +43,8 @@ row-there s d o f e q =
     record {
       form = q .form ∙ sym (signed-last rest) ∙ sym (field-passes s d (isSigned ∷ []) g);
       good = λ t. let u : isSigned rest ≡ true = sym (q .form) ∙ t in
-      let w : words rest ≡ rest ∷ [] = cut-free space rest (signed-free space rest (omega arith) u) in
-      rw (g .split, w) (record { delay = g .number; sign = q .sign u; number = q .number u });
+          let w : words rest ≡ rest ∷ [] = cut-free space rest (signed-free space rest (omega arith) u) in
+          rw (g .split, w) (record { delay = g .number; sign = q .sign u; number = q .number u });
     }
 
 -- ---- the three times
@@ -77,22 +77,22 @@ times-there s d t p f e g h k =
     record {
       inside = omega (arith, f .inside, g .inside, k .inside, length-drop (d .next) s, length-drop (d .next + t .next) s);
       good = λ q. let pf = k .good q in
-      record {
-        date = df .word;
-        time = tf .word;
-        tsp = pf .word;
-        split = df .split ∙ ap (λ ws. df .word ∷ ws) (tf .split ∙ ap (λ ws. tf .word ∷ ws) (ap words dd ∙ pf .split ∙ ap (λ (z : List ℕ). pf .word ∷ words z) pd));
-        date-numeral = df .numeral;
-        time-numeral = tf .numeral;
-        tsp-numeral = pf .numeral;
-        date-number = df .number;
-        time-number = tf .number;
-        tsp-number = pf .number;
-      };
+          record {
+            date = df .word;
+            time = tf .word;
+            tsp = pf .word;
+            split = df .split ∙ ap (λ ws. df .word ∷ ws) (tf .split ∙ ap (λ ws. tf .word ∷ ws) (ap words dd ∙ pf .split ∙ ap (λ (z : List ℕ). pf .word ∷ words z) pd));
+            date-numeral = df .numeral;
+            time-numeral = tf .numeral;
+            tsp-numeral = pf .numeral;
+            date-number = df .number;
+            time-number = tf .number;
+            tsp-number = pf .number;
+          };
       bad = λ q u us. field-passes s d (isNumeral ∷ isNumeral ∷ u ∷ us) df
-      ∙ field-passes (drop (d .next) s) t (isNumeral ∷ u ∷ us) tf
-      ∙ ap (λ (z : List ℕ). pass (isNumeral ∷ u ∷ us) (words z)) dd
-      ∙ k .bad q u us;
+          ∙ field-passes (drop (d .next) s) t (isNumeral ∷ u ∷ us) tf
+          ∙ ap (λ (z : List ℕ). pass (isNumeral ∷ u ∷ us) (words z)) dd
+          ∙ k .bad q u us;
     }
 
 times-pass : (s : List ℕ) (t : Times) (ts : List Test) → TimesGood s t
@@ -124,11 +124,11 @@ numbers-there s t b n f e g h k =
     let dd : drop (b .next) (drop (t .next) s) ≡ rest = drop-drop (b .next) (t .next) s in
     record {
       form = k .form ∙ sym (numeral-last rest) ∙ ap (λ (z : List ℕ). pass (isNumeral ∷ []) (words z)) (sym dd)
-      ∙ sym (field-passes (drop (t .next) s) b (isNumeral ∷ []) bf)
-      ∙ sym (times-pass s t (isNumeral ∷ isNumeral ∷ []) tf);
+          ∙ sym (field-passes (drop (t .next) s) b (isNumeral ∷ []) bf)
+          ∙ sym (times-pass s t (isNumeral ∷ isNumeral ∷ []) tf);
       good = λ q. let u : isNumeral rest ≡ true = sym (k .form) ∙ q in
-      let w : words rest ≡ rest ∷ [] = cut-free space rest (numeral-free space rest (omega arith) u) in
-      rw (tf .split, bf .split, dd, w) (record { date = tf .date-number; time = tf .time-number; tsp = tf .tsp-number; base = bf .number; count = k .number u });
+          let w : words rest ≡ rest ∷ [] = cut-free space rest (numeral-free space rest (omega arith) u) in
+          rw (tf .split, bf .split, dd, w) (record { date = tf .date-number; time = tf .time-number; tsp = tf .tsp-number; base = bf .number; count = k .number u });
     }
 
 -- ---- the first line

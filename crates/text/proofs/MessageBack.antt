@@ -1,21 +1,20 @@
 -- A message there and back: its octets hold its numbers and its numbers its octets; and what the theorems say of the two together.
 use mathlib.Core.Path.{_≡_, refl, sym, ap, _∙_}
-use mathlib.Core.Bool.{Bool, true, false, cond, not, _&&_, true≢false, false≢true}
+use mathlib.Core.Bool.{Bool, true, false, cond}
 use mathlib.Core.List.{List, [], _∷_, _++_}
-use Prim.Native.Nat.{ℕ, zero, suc, _+_, _-_, _*_, _/_, _%_, _^_, _≤_, _<_}
+use Prim.Native.Nat.{ℕ, zero, suc, _+_, _-_, _*_, _/_, _%_, _≤_, _<_}
 use native.Mathlib.Omega.{arith}
-use borrow.Author.Tests.{leb-true, le-leb, lt-leb, lt-ltb, le-ltb, ltb-true, ltb-false, eq-eqb}
-use lib.Dec.{leb, ltb, eqb}
+use borrow.Author.Tests.{leb-true, le-leb, lt-ltb, le-ltb, ltb-true, ltb-false, eq-eqb}
+use lib.Dec.{leb, ltb}
 use lib.IntN.{ℤ, pos, negsuc}
-use lib.ListN.{length, drop, take, length-append}
+use lib.ListN.{length}
 use Rattle.laws.proofs.Tests.{both}
 use Rattle.quantity.specs.Words.{bits16, signed16}
 use Rattle.checksum.specs.Checksum.{checksumOf}
 use Rattle.wire.specs.Octets.{two, four, octetAt}
 use Rattle.wire.specs.Hello.{fixedLength, nhostsPlace, helloLength, helloForm}
-use Rattle.text.specs.Numbers.{Row, Numbers, fitsOctet, fitsTwo, fitsFour, fitsSigned, rowFits, rowsFit, firstFits, numbersFit, rowsOf, numbersOf, rowsOctets, fixedOctets, octetsBehind, messageOf}
+use Rattle.text.specs.Numbers.{Row, Numbers, fitsTwo, fitsSigned, rowFits, rowsFit, numbersFit, rowsOf, numbersOf, rowsOctets, octetsBehind, messageOf}
 use Rattle.text.specs.Back.{Octets, SendersChecksum}
-use Rattle.text.proofs.Readings.{and-true}
 use Rattle.text.proofs.Rows.{good-length}
 use Rattle.text.proofs.RowsLoop.{octets-length}
 use Rattle.text.proofs.TextBack.{AllFit}
@@ -112,9 +111,9 @@ rows-octets (suc k) (a ∷ b ∷ c ∷ d ∷ l) e o =
     let p = bits-signed (c * 256 + d) n in
     record {
       same = ap (λ (x : ℕ). two (a * 256 + b) ++ two x ++ rowsOctets (rowsOf l)) (p .0)
-      ∙ ap (λ (x : List ℕ). x ++ two (c * 256 + d) ++ rowsOctets (rowsOf l)) (two-back a b (o .0) (o .1 .0))
-      ∙ ap (λ (x : List ℕ). a ∷ b ∷ [] ++ x ++ rowsOctets (rowsOf l)) (two-back c d (o .1 .1 .0) (o .1 .1 .1 .0))
-      ∙ ap (λ (x : List ℕ). a ∷ b ∷ c ∷ d ∷ x) (h .same);
+          ∙ ap (λ (x : List ℕ). x ++ two (c * 256 + d) ++ rowsOctets (rowsOf l)) (two-back a b (o .0) (o .1 .0))
+          ∙ ap (λ (x : List ℕ). a ∷ b ∷ [] ++ x ++ rowsOctets (rowsOf l)) (two-back c d (o .1 .1 .0) (o .1 .1 .1 .0))
+          ∙ ap (λ (x : List ℕ). a ∷ b ∷ c ∷ d ∷ x) (h .same);
       fit = rw (le-leb (a * 256 + b) 65535 m, p .1, h .fit);
       number = ap suc (h .number);
     }

@@ -1,21 +1,21 @@
 -- Numerals there and back: digits hold their number, and no two numerals have one value, since the longer has the larger.
 use mathlib.Core.Path.{_≡_, refl, sym, ap, _∙_}
-use mathlib.Core.Bool.{Bool, true, false, cond, not, _&&_, true≢false, false≢true}
+use mathlib.Core.Bool.{Bool, true, false, cond, not, _&&_, false≢true}
 use mathlib.Core.List.{List, [], _∷_, _++_}
 use Prim.Native.Nat.{ℕ, zero, suc, _+_, _-_, _*_, _/_, _%_, _^_, _≤_, _<_}
 use native.Mathlib.Nat.{pow-suc, pow-le-pow-right, mul-le-mul-right}
 use native.Mathlib.Omega.{arith}
-use borrow.Author.Tests.{leb-true, ltb-true, ltb-false, eqb-true, eqb-false, eq-eqb, ne-eqb, not-true}
+use borrow.Author.Tests.{leb-true, ltb-true, ltb-false, eqb-true, eqb-false, ne-eqb, not-true}
 use lib.Dec.{leb, ltb, eqb}
 use lib.IntN.{ℤ, pos, negsuc, negℤ}
-use lib.ListN.{length, getD, drop, List·getD-append}
+use lib.ListN.{length, getD, List·getD-append}
 use Rattle.laws.proofs.Tests.{both}
 use Rattle.text.specs.Numerals.{zeroSign, nineSign, minusSign, digits, width, numeral, signedNumeral, isDigit, allDigits, isNumeral, value, isNegative, isSigned, signedValue}
 use Rattle.text.specs.Numbers.{fitsSigned}
 use Rattle.text.proofs.Puts.{digits-length}
 use Rattle.text.proofs.Widths.{Held, width-held}
 use Rattle.text.proofs.Values.{value-snoc, digit-good}
-use Rattle.text.proofs.Readings.{and-true, one-digit, many-digits}
+use Rattle.text.proofs.Readings.{one-digit, many-digits}
 use Rattle.text.proofs.Frees.{numeral-digits}
 use Rattle.text.proofs.Ranges.{size-fits}
 

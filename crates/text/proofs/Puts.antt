@@ -6,7 +6,7 @@ use native.Mathlib.Numerals.{add-one}
 use native.Mathlib.Nat.{lt-suc-self}
 use native.Mathlib.Omega.{arith}
 use lib.ListN.{length, take, drop, getD, set, length-append, length-set, drop-of-length-le}
-use lib.Seq.{set-split, take-set-le, drop-set-lt, drop-cons, getD-set-same, length-take-le}
+use lib.Seq.{set-split, take-set-le, drop-set-lt, drop-cons, getD-set-same}
 use Rattle.laws.specs.Lists.{over}
 use Rattle.laws.proofs.Parts.{over-twice, over-nothing, over-length}
 use Rattle.text.specs.Numerals.{zeroSign, digits}

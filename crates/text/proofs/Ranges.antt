@@ -1,12 +1,12 @@
 -- Which numbers fit, by the tests of the code; the bits of an OFFSET that fits; and the fields put one behind the other.
 use mathlib.Core.Path.{_≡_, refl, sym, ap, _∙_}
-use mathlib.Core.Bool.{Bool, true, false, cond, _&&_, false≢true}
+use mathlib.Core.Bool.{Bool, true, false, _&&_, false≢true}
 use mathlib.Core.List.{List, [], _∷_, _++_}
-use Prim.Native.Nat.{ℕ, zero, suc, _+_, _-_, _*_, _%_, _≤_, _<_}
+use Prim.Native.Nat.{ℕ, zero, suc, _+_, _-_, _%_, _≤_, _<_}
 use native.Mathlib.Omega.{arith}
-use borrow.Author.Tests.{leb-true, lt-leb, le-leb, ltb-true, lt-ltb, le-ltb}
+use borrow.Author.Tests.{leb-true, lt-ltb}
 use lib.Dec.{leb, ltb, leb·suc-suc}
-use lib.IntN.{ℤ, pos, negsuc, negℤ}
+use lib.IntN.{pos, negℤ}
 use lib.ListN.{length}
 use Rattle.laws.specs.Lists.{over}
 use Rattle.laws.proofs.Parts.{over-twice, over-length}
@@ -17,7 +17,7 @@ use Rattle.wire.specs.Hello.{reportPlace}
 use Rattle.text.specs.declared.scan.First.{First}
 use Rattle.text.specs.Numbers.{Row, fitsOctet, fitsTwo, fitsFour, fitsSigned, rowFits, firstFits, fixedOctets}
 use Rattle.text.specs.Reading.{mostHosts, mostLength, signedOf, rowOctets, firstTold, RowPut}
-use Rattle.text.proofs.Readings.{and-true, and-false}
+use Rattle.text.proofs.Readings.{and-true}
 
 pub fits-negative : (n : ℕ) → fitsSigned (negℤ (pos n)) ≡ leb n 32768
 fits-negative zero = refl

@@ -1,21 +1,18 @@
 -- What is told of words: of one that is no number, of a number behind a sign, of a field with more behind it, and of the words of a line in turn.
-use mathlib.Core.Path.{_≡_, refl, sym, ap, _∙_}
-use mathlib.Core.Bool.{Bool, true, false, cond, not, _&&_, true≢false, false≢true}
-use mathlib.Core.List.{List, [], _∷_, _++_}
-use mathlib.Core.Logic.{⊎-elim}
-use Prim.Native.Nat.{ℕ, suc, _+_, _-_, _*_, _^_, _≤_, _<_, min}
-use native.Mathlib.Nat.{add-zero}
+use mathlib.Core.Path.{_≡_, refl, sym, _∙_}
+use mathlib.Core.Bool.{Bool, true, false, not, _&&_, false≢true}
+use mathlib.Core.List.{List, [], _∷_}
+use Prim.Native.Nat.{ℕ, _+_, _-_, _<_}
 use native.Mathlib.Omega.{arith}
-use borrow.Author.Tests.{lt-leb, le-leb, eqb-true, eq-eqb, ne-eqb}
-use lib.Dec.{eqb, leb}
+use borrow.Author.Tests.{eq-eqb, ne-eqb}
+use lib.Dec.{eqb}
 use lib.ListN.{length, getD, take, drop, length-drop}
 use lib.Seq.{take-all}
-use Rattle.laws.proofs.Tests.{both}
 use Rattle.text.specs.declared.scan.Number.{Number}
 use Rattle.text.specs.declared.scan.Offset.{Offset}
 use Rattle.text.specs.declared.scan.Field.{Field}
-use Rattle.text.specs.Numerals.{zeroSign, minusSign, isDigit, allDigits, isNumeral, isNegative, isSigned, value}
-use Rattle.text.specs.Words.{space, ahead, cut, words, Test, pass}
+use Rattle.text.specs.Numerals.{zeroSign, minusSign, isDigit, allDigits, isNumeral, isSigned, value}
+use Rattle.text.specs.Words.{words, Test, pass}
 use Rattle.text.specs.Scan.{Stands, NumberRead, OffsetRead, FieldGood, FieldRead}
 
 -- ---- a word that is no number, and one of which only the test is another

@@ -1,19 +1,17 @@
 -- The lines behind the first, in turn: those read are rows, counted, and put in their places while all fit.
 use mathlib.Core.Path.{_≡_, refl, sym, ap, _∙_}
-use mathlib.Core.Bool.{Bool, true, false, cond, _&&_, false≢true}
-use mathlib.Core.List.{List, [], _∷_, _++_, append-assoc, append-nil}
-use Prim.Native.Nat.{ℕ, suc, _+_, _-_, _*_, _≤_, _<_}
-use native.Mathlib.Nat.{zero-add}
+use mathlib.Core.Bool.{Bool, true, false, _&&_, false≢true}
+use mathlib.Core.List.{List, [], _∷_, _++_, append-nil}
+use Prim.Native.Nat.{ℕ, _+_, _-_, _*_, _≤_, _<_}
 use native.Mathlib.Numerals.{add-one}
 use native.Mathlib.Omega.{arith}
-use borrow.Author.Tests.{leb-true, le-leb, ltb-true}
+use borrow.Author.Tests.{le-leb, ltb-true}
 use lib.Dec.{leb, ltb}
 use lib.ListN.{length, take, drop, length-append, length-drop, drop-of-length-le}
 use lib.Seq.{append-snoc, drop-drop}
 use Rattle.laws.specs.Lists.{over}
 use Rattle.laws.proofs.Parts.{over-twice, over-nothing}
 use Rattle.laws.proofs.Tests.{both}
-use Rattle.wire.specs.Octets.{two}
 use Rattle.wire.specs.Hello.{fixedLength, reportPlace}
 use Rattle.text.specs.declared.scan.Row as Scanned
 use Rattle.text.specs.declared.read.Rows.{Rows}
@@ -21,7 +19,7 @@ use Rattle.text.specs.Words.{newline, cut, words, lines, pass}
 use Rattle.text.specs.Numbers.{Row, rowFits, rowsFit, rowsOctets}
 use Rattle.text.specs.Text.{rowTests, rowsForm, rowIn, rowsIn}
 use Rattle.text.specs.Scan.{Found, RowRead}
-use Rattle.text.specs.Reading.{mostHosts, mostLength, rowTold, rowOctets, RowPut, RowsGood, RowsRead}
+use Rattle.text.specs.Reading.{mostHosts, mostLength, rowTold, rowOctets, RowPut, RowsRead}
 use Rattle.text.proofs.Cuts.{cut-some}
 use Rattle.text.proofs.Readings.{and-true, and-false}
 use Rattle.text.proofs.LineWords.{part-read}

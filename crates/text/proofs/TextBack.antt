@@ -1,12 +1,12 @@
 -- A text there and back: cut at its marks it falls into the words that were written, and joined again they are the text.
 use mathlib.Core.Path.{_≡_, refl, sym, ap, _∙_}
-use mathlib.Core.Bool.{Bool, true, false, cond, _&&_, true≢false, false≢true}
+use mathlib.Core.Bool.{Bool, true, false, cond, _&&_, false≢true}
 use mathlib.Core.List.{List, [], _∷_, _++_, append-assoc}
-use Prim.Native.Nat.{ℕ, suc, _+_, _*_, _^_, _≤_, _<_}
+use Prim.Native.Nat.{ℕ, _+_, _^_, _≤_, _<_}
 use native.Mathlib.Omega.{arith}
-use borrow.Author.Tests.{leb-true, eqb-true, eq-eqb, ne-eqb}
-use lib.Dec.{leb, eqb}
-use lib.ListN.{length, getD, drop}
+use borrow.Author.Tests.{leb-true, eqb-true}
+use lib.Dec.{eqb}
+use lib.ListN.{length}
 use Rattle.laws.proofs.Tests.{both}
 use Rattle.text.specs.Numerals.{numeral, signedNumeral, isNumeral, isSigned, value, signedValue}
 use Rattle.text.specs.Words.{space, newline, ahead, cut, words, lines, Test, pass, same}
@@ -294,13 +294,13 @@ first-words-are ws e =
       b = n₄ .word;
       c = n₅ .word;
       are = n₀ .are
-      ∙ ap (λ ws. n₀ .word ∷ ws) (n₁ .are
-      ∙ ap (λ ws. n₁ .word ∷ ws) (n₂ .are
-      ∙ ap (λ ws. n₂ .word ∷ ws) (n₃ .are
-      ∙ ap (λ ws. n₃ .word ∷ ws) (n₄ .are
-      ∙ ap (λ ws. n₄ .word ∷ ws) (n₅ .are
-      ∙ ap (λ ws. n₅ .word ∷ ws) (none (n₅ .rest) (n₅ .others)))))))
-      ∙ ap (λ w. w ∷ n₁ .word ∷ n₂ .word ∷ n₃ .word ∷ n₄ .word ∷ n₅ .word ∷ []) (sym (same-is hello (n₀ .word) (n₀ .passes)));
+          ∙ ap (λ ws. n₀ .word ∷ ws) (n₁ .are
+          ∙ ap (λ ws. n₁ .word ∷ ws) (n₂ .are
+          ∙ ap (λ ws. n₂ .word ∷ ws) (n₃ .are
+          ∙ ap (λ ws. n₃ .word ∷ ws) (n₄ .are
+          ∙ ap (λ ws. n₄ .word ∷ ws) (n₅ .are
+          ∙ ap (λ ws. n₅ .word ∷ ws) (none (n₅ .rest) (n₅ .others)))))))
+          ∙ ap (λ w. w ∷ n₁ .word ∷ n₂ .word ∷ n₃ .word ∷ n₄ .word ∷ n₅ .word ∷ []) (sym (same-is hello (n₀ .word) (n₀ .passes)));
       d-good = n₁ .passes;
       t-good = n₂ .passes;
       p-good = n₃ .passes;

@@ -7,9 +7,9 @@ use native.Mathlib.Nat.{pow-suc}
 use native.Mathlib.Numerals.{add-one}
 use native.Mathlib.Omega.{arith}
 use borrow.Author.Tests.{lt-leb, le-leb, eqb-true}
-use lib.Dec.{eqb, leb}
+use lib.Dec.{eqb}
 use lib.ListN.{length, getD, take, drop, length-append, drop-of-length-le}
-use lib.Seq.{drop-cons, take-suc, take-all}
+use lib.Seq.{drop-cons, take-suc}
 use Rattle.laws.proofs.Tests.{both}
 use Rattle.text.specs.Numerals.{zeroSign, nineSign, isDigit, allDigits, value}
 use Rattle.text.specs.Words.{same}

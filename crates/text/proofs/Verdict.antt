@@ -1,14 +1,13 @@
 -- The verdict on a text: by its first line and the lines behind it, the tests come in the definition's order; and the message of one that passes.
 use mathlib.Core.Path.{_≡_, refl, sym, ap, _∙_}
-use mathlib.Core.Bool.{Bool, true, false, cond, not, _&&_, false≢true}
-use mathlib.Core.List.{List, [], _∷_, _++_, append-assoc}
+use mathlib.Core.Bool.{true, false, _&&_}
+use mathlib.Core.List.{List, [], _∷_, _++_}
 use Prim.Native.Nat.{ℕ, zero, suc, _+_, _-_, _*_, _≤_, _<_}
-use native.Mathlib.Numerals.{add-one}
 use native.Mathlib.Omega.{arith}
 use borrow.Author.Tests.{eq-eqb, ne-eqb, le-leb}
-use lib.Dec.{eqb, leb}
-use lib.ListN.{length, getD, take, drop, length-append, length-drop}
-use lib.Seq.{getD-drop, take-at, drop-at, drop-append-add, take-append-add, length-take-le}
+use lib.Dec.{eqb}
+use lib.ListN.{length, take, drop, length-drop}
+use lib.Seq.{getD-drop, take-append-add, length-take-le}
 use Rattle.laws.specs.Lists.{over}
 use Rattle.laws.proofs.Parts.{over-there, over-length}
 use Rattle.checksum.specs.Checksum.{checksumOf}
@@ -20,14 +19,14 @@ use Rattle.text.specs.declared.read.Rows.{Rows}
 use Rattle.text.specs.declared.read.Read.the-variants.{Good}
 use Rattle.text.specs.Numerals.{value}
 use Rattle.text.specs.Words.{newline, words, lines, pass}
-use Rattle.text.specs.Numbers.{Row, Numbers, fitsOctet, fitsTwo, fitsFour, firstFits, rowsFit, numbersFit, rowsOctets, fixedOctets, octetsBehind, messageOf}
-use Rattle.text.specs.Text.{wordAt, firstTests, rowsForm, rowsIn, form, countIn, numbersIn}
+use Rattle.text.specs.Numbers.{Row, Numbers, firstFits, rowsFit, numbersFit, rowsOctets, fixedOctets, octetsBehind, messageOf}
+use Rattle.text.specs.Text.{wordAt, firstTests, rowsForm, rowsIn, form, numbersIn}
 use Rattle.text.specs.Answers.{refused, into, fromText}
 use Rattle.text.specs.Scan.{large, Stands, Found, FirstGood, LineRead}
 use Rattle.text.specs.Reading.{mostHosts, mostLength, firstTold, RowsGood, RowsRead, ReadSays}
 use Rattle.text.proofs.Readings.{and-false}
 use Rattle.text.proofs.LineWords.{part-read}
-use Rattle.text.proofs.Ranges.{FirstFits, first-fits}
+use Rattle.text.proofs.Ranges.{first-fits}
 use Rattle.text.proofs.Standing.{stands-le, stands-is, stands-other}
 use Rattle.text.proofs.RowsLoop.{octets-length}
 
@@ -70,13 +69,13 @@ module _ (text line : List ℕ) (ls : List (List ℕ)) (split : lines text ≡ l
 
   pub numbers-are : numbersIn text
       ≡ record {
-          date = value (wordAt (words line) 1);
-          time = value (wordAt (words line) 2);
-          tsp = value (wordAt (words line) 3);
-          base = value (wordAt (words line) 4);
-          count = value (wordAt (words line) 5);
-          rows = rowsIn ls;
-        }
+        date = value (wordAt (words line) 1);
+        time = value (wordAt (words line) 2);
+        tsp = value (wordAt (words line) 3);
+        base = value (wordAt (words line) 4);
+        count = value (wordAt (words line) 5);
+        rows = rowsIn ls;
+      }
   unfolding numbersIn
   numbers-are = rw split
 

@@ -1,8 +1,8 @@
 -- What the reader's code needs: the numbers as the code holds them, and what it tells of the lines behind the first and of the whole text. No rule stands here.
 use mathlib.Core.Path.{_≡_}
 use mathlib.Core.Bool.{Bool, true, cond, _&&_}
-use mathlib.Core.List.{List, [], _++_}
-use Prim.Native.Nat.{ℕ, _+_, _*_, _≤_}
+use mathlib.Core.List.{List, _++_}
+use Prim.Native.Nat.{ℕ, _+_, _≤_}
 use lib.Dec.{ltb, leb}
 use lib.IntN.{ℤ, pos, negℤ}
 use lib.ListN.{length, take}

@@ -1,6 +1,6 @@
 -- What the reader's code needs: large numbers that stand for larger ones, and what it tells of the words of a line. No rule stands here.
 use mathlib.Core.Path.{_≡_}
-use mathlib.Core.Bool.{Bool, true, false, cond}
+use mathlib.Core.Bool.{true, false, cond}
 use mathlib.Core.List.{List, [], _∷_}
 use Prim.Native.Nat.{ℕ, _+_, _*_, _^_, _≤_, _<_, min}
 use lib.ListN.{length, take, drop}

@@ -88,10 +88,7 @@ pub fn from_text(text: &[u8], out: &mut [u8]) -> Written
     let mut message = [0u8; 1032];
     match read::read_text(text, &mut message) {
         read::Read::Good(n) => deliver(out, &message[..n]),
-        read::Read::Bad(answer) => Written {
-            answer,
-            length: 0,
-        },
+        read::Read::Bad(answer) => Written { answer, length: 0 },
     }
 }
 

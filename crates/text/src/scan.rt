@@ -120,10 +120,7 @@ fn digits(s: &[u8]) -> Number
         value = more(value, c - b'0');
         i += 1;
     }
-    Number {
-        form: true,
-        value,
-    }
+    Number { form: true, value }
 }
 
 // A word read as a number.

@@ -4,9 +4,6 @@ use mathlib.Core.Path.{refl}
 use borrow.Author.Needs.{needs}
 use Rattle.text.proofs.deliver.Statement.{statement}
 use Rattle.text.proofs.deliver.Tie as tie
-use Rattle.text.proofs.deliver.Reads as reads
-use Rattle.text.proofs.deliver.Lts as lts
-use Rattle.text.proofs.octets.copy.Reads as copy-reads
 
 returns : tie.Need-returns
 returns c = rw (lt-ltb _ _ (c .if1 .taken)) (record { answer = refl; length = refl; buffer = refl })

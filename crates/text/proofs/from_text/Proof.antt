@@ -3,10 +3,6 @@ use Rattle.text.proofs.Delivered.{read-is, read-inside, good-text, bad-
 use borrow.Author.Needs.{needs}
 use Rattle.text.proofs.from_text.Statement.{statement}
 use Rattle.text.proofs.from_text.Tie as tie
-use Rattle.text.proofs.from_text.Reads as reads
-use Rattle.text.proofs.from_text.Lts as lts
-use Rattle.text.proofs.deliver.Reads as deliver-reads
-use Rattle.text.proofs.read.read_text.Reads as read-text-reads
 
 slice-aggregate-read-text : tie.Need-slice-aggregate-read-text
 slice-aggregate-read-text c = search needs

@@ -5,8 +5,6 @@ use Rattle.wire.specs.Hello.{helloForm}
 use borrow.Author.Needs.{needs}
 use Rattle.text.proofs.is_message.Statement.{statement}
 use Rattle.text.proofs.is_message.Tie as tie
-use Rattle.text.proofs.is_message.Reads as reads
-use Rattle.text.proofs.is_message.Lts as lts
 
 returns : tie.Need-returns
 unfolding helloForm

@@ -6,11 +6,6 @@ use Rattle.text.proofs.Delivered.{put-taken, put-long, bad-message, goo
 use borrow.Author.Needs.{needs}
 use Rattle.text.proofs.to_text.Statement.{statement}
 use Rattle.text.proofs.to_text.Tie as tie
-use Rattle.text.proofs.to_text.Reads as reads
-use Rattle.text.proofs.to_text.Lts as lts
-use Rattle.text.proofs.deliver.Reads as deliver-reads
-use Rattle.text.proofs.is_message.Reads as is-message-reads
-use Rattle.text.proofs.write.put_text.Reads as put-text-reads
 
 is-message-requires : tie.Need-is-message-requires
 is-message-requires c κs = search needs

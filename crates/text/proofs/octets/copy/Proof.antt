@@ -2,14 +2,11 @@
 use mathlib.Core.Path.{_≡_, refl, sym, _∙_}
 use Prim.Native.Nat.{_≤_, _-_}
 use native.Mathlib.Omega.{arith}
-use lib.ListN.{length, drop}
+use lib.ListN.{length, drop, length-set}
 use Rattle.laws.specs.Lists.{over}
-use lib.ListN.{length-set}
 use Rattle.text.proofs.Puts.{copied-more, copied-all}
 use Rattle.text.proofs.octets.copy.Statement.{statement}
 use Rattle.text.proofs.octets.copy.Tie as tie
-use Rattle.text.proofs.octets.copy.Reads as reads
-use Rattle.text.proofs.octets.copy.Lts as lts
 
 abbrev Inv-loop : tie.InvT-loop
 Inv-loop out₀ octets i₀ out i = (i ≤ length octets) × (length out ≡ length out₀) × (over out i (drop i octets) ≡ over out₀ 0 octets)

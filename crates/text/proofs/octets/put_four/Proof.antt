@@ -7,8 +7,6 @@ use Rattle.wire.specs.Octets.{four}
 use borrow.Author.Needs.{needs}
 use Rattle.text.proofs.octets.put_four.Statement.{statement}
 use Rattle.text.proofs.octets.put_four.Tie as tie
-use Rattle.text.proofs.octets.put_four.Reads as reads
-use Rattle.text.proofs.octets.put_four.Lts as lts
 
 cast-s : tie.Need-cast-s
 cast-s c = search needs

@@ -6,8 +6,6 @@ use Prim.Native.Nat.{_+_}
 use borrow.Author.Needs.{needs}
 use Rattle.text.proofs.octets.put_octet.Statement.{statement}
 use Rattle.text.proofs.octets.put_octet.Tie as tie
-use Rattle.text.proofs.octets.put_octet.Reads as reads
-use Rattle.text.proofs.octets.put_octet.Lts as lts
 
 slice-write-s : tie.Need-slice-write-s
 slice-write-s c = search needs

@@ -7,8 +7,6 @@ use Rattle.wire.specs.Octets.{two}
 use borrow.Author.Needs.{needs}
 use Rattle.text.proofs.octets.put_two.Statement.{statement}
 use Rattle.text.proofs.octets.put_two.Tie as tie
-use Rattle.text.proofs.octets.put_two.Reads as reads
-use Rattle.text.proofs.octets.put_two.Lts as lts
 
 cast-s : tie.Need-cast-s
 cast-s c = search needs

@@ -2,8 +2,6 @@
 use borrow.Author.Tests.{lt-leb, le-leb}
 use Rattle.text.proofs.read.first_fits.Statement.{statement}
 use Rattle.text.proofs.read.first_fits.Tie as tie
-use Rattle.text.proofs.read.first_fits.Reads as reads
-use Rattle.text.proofs.read.first_fits.Lts as lts
 
 returns : tie.Need-returns
 returns c = rw (lt-leb _ _ (c .if1 .taken))

@@ -7,8 +7,6 @@ use Rattle.text.proofs.Ranges.{size-fits, bits-negative}
 use borrow.Author.Needs.{needs}
 use Rattle.text.proofs.read.offset_bits.Statement.{statement}
 use Rattle.text.proofs.read.offset_bits.Tie as tie
-use Rattle.text.proofs.read.offset_bits.Reads as reads
-use Rattle.text.proofs.read.offset_bits.Lts as lts
 
 sub-result : tie.Need-sub-result
 sub-result c = omega (arith, size-fits (c .before .before .args .r .negative) (c .before .before .args .r .size) (both (fitsTwo (c .before .before .args .r .delay)) (fitsSigned (signedOf (c .before .before .args .r .negative) (c .before .before .args .r .size))) (c .before .before .pre) .1))

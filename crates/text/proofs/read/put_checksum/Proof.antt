@@ -5,10 +5,6 @@ use Rattle.wire.specs.Octets.{two}
 use borrow.Author.Needs.{needs}
 use Rattle.text.proofs.read.put_checksum.Statement.{statement}
 use Rattle.text.proofs.read.put_checksum.Tie as tie
-use Rattle.text.proofs.read.put_checksum.Reads as reads
-use Rattle.text.proofs.read.put_checksum.Lts as lts
-use Rattle.checksum.proofs.complement.Reads as complement-reads
-use Rattle.text.proofs.octets.put_two.Reads as put-two-reads
 
 sub-complement : tie.Need-sub-complement
 sub-complement c = search needs

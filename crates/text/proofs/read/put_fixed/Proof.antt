@@ -5,11 +5,6 @@ use mathlib.Core.List.{[]}
 use borrow.Author.Needs.{needs}
 use Rattle.text.proofs.read.put_fixed.Statement.{statement}
 use Rattle.text.proofs.read.put_fixed.Tie as tie
-use Rattle.text.proofs.read.put_fixed.Reads as reads
-use Rattle.text.proofs.read.put_fixed.Lts as lts
-use Rattle.text.proofs.octets.put_four.Reads as put-four-reads
-use Rattle.text.proofs.octets.put_octet.Reads as put-octet-reads
-use Rattle.text.proofs.octets.put_two.Reads as put-two-reads
 
 cast-put-two : tie.Need-cast-put-two
 cast-put-two c = omega (arith, first-fits (c .before .before .before .args .f) [] (c .before .before .before .pre .1))

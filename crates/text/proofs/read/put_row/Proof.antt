@@ -1,8 +1,7 @@
 -- A row that fits is put, one that does not is not.
 use mathlib.Core.Path.{sym, _∙_}
 use native.Mathlib.Omega.{arith}
-use borrow.Author.Tests.{not-true, not-false}
-use borrow.Author.Tests.{leb-true, lt-ltb, le-ltb}
+use borrow.Author.Tests.{not-true, not-false, leb-true, lt-ltb, le-ltb}
 use Rattle.laws.proofs.Tests.{both}
 use Rattle.text.specs.Numbers.{fitsTwo, fitsSigned}
 use Rattle.text.specs.Reading.{rowTold}
@@ -10,11 +9,6 @@ use Rattle.text.proofs.Ranges.{row-not-put, row-put}
 use borrow.Author.Needs.{needs}
 use Rattle.text.proofs.read.put_row.Statement.{statement}
 use Rattle.text.proofs.read.put_row.Tie as tie
-use Rattle.text.proofs.read.put_row.Reads as reads
-use Rattle.text.proofs.read.put_row.Lts as lts
-use Rattle.text.proofs.octets.put_two.Reads as put-two-reads
-use Rattle.text.proofs.read.offset_bits.Reads as offset-bits-reads
-use Rattle.text.proofs.read.row_fits.Reads as row-fits-reads
 
 returns : tie.Need-returns
 returns c = let a = c .before .before .args in row-not-put (a .message .now) (a .fit) (a .i) (rowTold (a .r)) (rw (not-true (a .fit) (c .if1 .taken)))

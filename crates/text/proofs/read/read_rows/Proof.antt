@@ -3,16 +3,11 @@ use borrow.Author.Needs.{needs}
 use mathlib.Core.Path.{_≡_, refl}
 use native.Mathlib.Omega.{arith}
 use borrow.Author.Tests.{not-true, not-false}
-use Prim.Native.Nat.{_+_, _-_, _≤_, _<_}
+use Prim.Native.Nat.{_+_, _-_, _≤_}
 use lib.ListN.{length, take, drop}
 use Rattle.text.proofs.RowsLoop.{found-inside, line-found, line-open, Reading, reading-none, reading-more, rows-refused, form-open, form-other, rows-read}
 use Rattle.text.proofs.read.read_rows.Statement.{statement}
 use Rattle.text.proofs.read.read_rows.Tie as tie
-use Rattle.text.proofs.read.read_rows.Reads as reads
-use Rattle.text.proofs.read.read_rows.Lts as lts
-use Rattle.text.proofs.read.put_row.Reads as put-row-reads
-use Rattle.text.proofs.scan.find.Reads as find-reads
-use Rattle.text.proofs.scan.read_row.Reads as read-row-reads
 
 abbrev Inv-loop : tie.InvT-loop
 Inv-loop text message₀ i₀ count₀ fit₀ message i count fit = (i ≤ length text) × (count ≤ i) × (length message ≡ length message₀) × Reading text message₀ message i count fit

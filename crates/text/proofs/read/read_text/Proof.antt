@@ -4,8 +4,8 @@ use native.Mathlib.Omega.{arith}
 use borrow.Author.Tests.{not-true, not-false}
 use mathlib.Core.Bool.{true}
 use mathlib.Core.List.{[]}
-use Prim.Native.Nat.{_+_, _<_, _≤_}
-use lib.ListN.{length, take}
+use Prim.Native.Nat.{_+_, _<_}
+use lib.ListN.{length}
 use lib.Seq.{length-take-le}
 use Rattle.text.specs.Numbers.{firstFits}
 use Rattle.text.specs.Scan.{large}
@@ -14,14 +14,6 @@ use Rattle.text.proofs.Verdict.{first-refused, rows-form-refused, count
 use borrow.Author.Needs.{needs}
 use Rattle.text.proofs.read.read_text.Statement.{statement}
 use Rattle.text.proofs.read.read_text.Tie as tie
-use Rattle.text.proofs.read.read_text.Reads as reads
-use Rattle.text.proofs.read.read_text.Lts as lts
-use Rattle.text.proofs.read.first_fits.Reads as first-fits-reads
-use Rattle.text.proofs.read.put_checksum.Reads as put-checksum-reads
-use Rattle.text.proofs.read.put_fixed.Reads as put-fixed-reads
-use Rattle.text.proofs.read.read_rows.Reads as read-rows-reads
-use Rattle.text.proofs.scan.find.Reads as find-reads
-use Rattle.text.proofs.scan.read_first.Reads as read-first-reads
 
 find-requires : tie.Need-find-requires
 find-requires c κs = search needs

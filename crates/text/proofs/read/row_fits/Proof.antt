@@ -4,8 +4,6 @@ use borrow.Author.Tests.{lt-leb, le-leb}
 use Rattle.text.proofs.Ranges.{fits-negative}
 use Rattle.text.proofs.read.row_fits.Statement.{statement}
 use Rattle.text.proofs.read.row_fits.Tie as tie
-use Rattle.text.proofs.read.row_fits.Reads as reads
-use Rattle.text.proofs.read.row_fits.Lts as lts
 
 returns : tie.Need-returns
 returns c = rw (lt-leb _ _ (c .if1 .taken))

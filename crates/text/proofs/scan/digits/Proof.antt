@@ -1,7 +1,7 @@
 -- The digits passed are digits, and the number so far is theirs.
 use native.Mathlib.Omega.{arith}
 use Rattle.text.proofs.Values.{digit-good, digit-low, digit-high, digits-more, digits-stop, digits-end, value-more}
-use mathlib.Core.Path.{_≡_, refl, sym, ap, _∙_}
+use mathlib.Core.Path.{_≡_, refl, sym, _∙_}
 use Prim.Native.Nat.{_≤_, _-_}
 use lib.ListN.{length, take, drop}
 use Rattle.text.specs.Numerals.{allDigits, value}
@@ -10,9 +10,6 @@ use lib.Seq.{take-all}
 use Rattle.text.proofs.Readings.{no-number}
 use Rattle.text.proofs.scan.digits.Statement.{statement}
 use Rattle.text.proofs.scan.digits.Tie as tie
-use Rattle.text.proofs.scan.digits.Reads as reads
-use Rattle.text.proofs.scan.digits.Lts as lts
-use Rattle.text.proofs.scan.more.Reads as more-reads
 
 abbrev Inv-loop : tie.InvT-loop
 Inv-loop s value₀ i₀ value i = (i ≤ length s) × (allDigits s ≡ allDigits (drop i s)) × Stands value (Rattle.text.specs.Numerals.value (take i s))

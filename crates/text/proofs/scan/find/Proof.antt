@@ -5,8 +5,6 @@ use Prim.Native.Nat.{_≤_, _-_}
 use lib.ListN.{length}
 use Rattle.text.proofs.scan.find.Statement.{statement}
 use Rattle.text.proofs.scan.find.Tie as tie
-use Rattle.text.proofs.scan.find.Reads as reads
-use Rattle.text.proofs.scan.find.Lts as lts
 
 abbrev Inv-loop : tie.InvT-loop
 Inv-loop s mark i₀ i = (i ≤ length s) × Passed mark s i

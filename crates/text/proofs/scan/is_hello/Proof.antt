@@ -7,8 +7,6 @@ use Rattle.text.proofs.Readings.{and-true}
 use borrow.Author.Needs.{needs}
 use Rattle.text.proofs.scan.is_hello.Statement.{statement}
 use Rattle.text.proofs.scan.is_hello.Tie as tie
-use Rattle.text.proofs.scan.is_hello.Reads as reads
-use Rattle.text.proofs.scan.is_hello.Lts as lts
 
 returns : tie.Need-returns
 returns c = sym (other-length (c .before .args .s .now) (c .if1 .taken))

@@ -8,10 +8,6 @@ use lib.ListN.{length}
 use borrow.Author.Needs.{needs}
 use Rattle.text.proofs.scan.read_field.Statement.{statement}
 use Rattle.text.proofs.scan.read_field.Tie as tie
-use Rattle.text.proofs.scan.read_field.Reads as reads
-use Rattle.text.proofs.scan.read_field.Lts as lts
-use Rattle.text.proofs.scan.find.Reads as find-reads
-use Rattle.text.proofs.scan.read_number.Reads as read-number-reads
 
 find-requires : tie.Need-find-requires
 find-requires c κs = search needs

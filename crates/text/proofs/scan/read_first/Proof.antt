@@ -11,11 +11,6 @@ use Rattle.text.proofs.LineWords.{part-read, line-alone, line-other, li
 use borrow.Author.Needs.{needs}
 use Rattle.text.proofs.scan.read_first.Statement.{statement}
 use Rattle.text.proofs.scan.read_first.Tie as tie
-use Rattle.text.proofs.scan.read_first.Reads as reads
-use Rattle.text.proofs.scan.read_first.Lts as lts
-use Rattle.text.proofs.scan.find.Reads as find-reads
-use Rattle.text.proofs.scan.is_hello.Reads as is-hello-reads
-use Rattle.text.proofs.scan.read_numbers.Reads as read-numbers-reads
 
 find-requires : tie.Need-find-requires
 find-requires c κs = search needs

@@ -5,9 +5,6 @@ use Rattle.text.specs.Numerals.{allDigits, isNumeral}
 use borrow.Author.Needs.{needs}
 use Rattle.text.proofs.scan.read_number.Statement.{statement}
 use Rattle.text.proofs.scan.read_number.Tie as tie
-use Rattle.text.proofs.scan.read_number.Reads as reads
-use Rattle.text.proofs.scan.read_number.Lts as lts
-use Rattle.text.proofs.scan.digits.Reads as digits-reads
 
 returns : tie.Need-returns
 returns c = no-number isNumeral (c .before .before .args .s .now) (nothing (c .before .before .args .s .now) (c .if1 .taken))

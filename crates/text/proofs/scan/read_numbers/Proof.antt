@@ -8,11 +8,6 @@ use Rattle.text.proofs.LineWords.{part-read, numbers-first, numbers-sec
 use borrow.Author.Needs.{needs}
 use Rattle.text.proofs.scan.read_numbers.Statement.{statement}
 use Rattle.text.proofs.scan.read_numbers.Tie as tie
-use Rattle.text.proofs.scan.read_numbers.Reads as reads
-use Rattle.text.proofs.scan.read_numbers.Lts as lts
-use Rattle.text.proofs.scan.read_field.Reads as read-field-reads
-use Rattle.text.proofs.scan.read_number.Reads as read-number-reads
-use Rattle.text.proofs.scan.read_times.Reads as read-times-reads
 
 read-times-requires : tie.Need-read-times-requires
 read-times-requires c κs = search needs

@@ -1,13 +1,9 @@
 -- A sign and a number that is not zero, or a number.
 use mathlib.Core.Path.{refl}
-use native.Mathlib.Omega.{arith}
 use Rattle.text.proofs.Readings.{from-on, no-offset, empty-offset, minus-zero, minus-offset, plain-offset}
 use borrow.Author.Needs.{needs}
 use Rattle.text.proofs.scan.read_offset.Statement.{statement}
 use Rattle.text.proofs.scan.read_offset.Tie as tie
-use Rattle.text.proofs.scan.read_offset.Reads as reads
-use Rattle.text.proofs.scan.read_offset.Lts as lts
-use Rattle.text.proofs.scan.read_number.Reads as read-number-reads
 
 returns : tie.Need-returns
 returns c = no-offset (c .before .before .args .s .now) _ refl (empty-offset (c .before .before .args .s .now) (c .if1 .taken))

@@ -6,10 +6,6 @@ use Rattle.text.proofs.LineWords.{part-read, row-none, row-there}
 use borrow.Author.Needs.{needs}
 use Rattle.text.proofs.scan.read_row.Statement.{statement}
 use Rattle.text.proofs.scan.read_row.Tie as tie
-use Rattle.text.proofs.scan.read_row.Reads as reads
-use Rattle.text.proofs.scan.read_row.Lts as lts
-use Rattle.text.proofs.scan.read_field.Reads as read-field-reads
-use Rattle.text.proofs.scan.read_offset.Reads as read-offset-reads
 
 read-field-requires : tie.Need-read-field-requires
 read-field-requires c κs = search needs

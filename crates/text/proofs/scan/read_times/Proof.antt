@@ -7,9 +7,6 @@ use Rattle.text.proofs.LineWords.{part-read, times-first, times-second,
 use borrow.Author.Needs.{needs}
 use Rattle.text.proofs.scan.read_times.Statement.{statement}
 use Rattle.text.proofs.scan.read_times.Tie as tie
-use Rattle.text.proofs.scan.read_times.Reads as reads
-use Rattle.text.proofs.scan.read_times.Lts as lts
-use Rattle.text.proofs.scan.read_field.Reads as read-field-reads
 
 read-field-requires : tie.Need-read-field-requires
 read-field-requires c κs = search needs

@@ -8,8 +8,6 @@ use Rattle.text.specs.Numerals.{digits}
 use Rattle.text.proofs.Puts.{digits-turn, digits-none}
 use Rattle.text.proofs.write.put_digits.Statement.{statement}
 use Rattle.text.proofs.write.put_digits.Tie as tie
-use Rattle.text.proofs.write.put_digits.Reads as reads
-use Rattle.text.proofs.write.put_digits.Lts as lts
 
 abbrev Inv-loop : tie.InvT-loop
 Inv-loop text₀ at k n left₀ rest₀ text left rest = (left ≤ k) × (length text ≡ length text₀) × (over text at (digits left rest) ≡ over text₀ at (digits k n))

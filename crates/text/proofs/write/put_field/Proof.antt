@@ -4,10 +4,6 @@ use Rattle.text.proofs.Puts.{put-then}
 use borrow.Author.Needs.{needs}
 use Rattle.text.proofs.write.put_field.Statement.{statement}
 use Rattle.text.proofs.write.put_field.Tie as tie
-use Rattle.text.proofs.write.put_field.Reads as reads
-use Rattle.text.proofs.write.put_field.Lts as lts
-use Rattle.text.proofs.octets.put_octet.Reads as put-octet-reads
-use Rattle.text.proofs.write.put_number.Reads as put-number-reads
 
 put-octet-requires : tie.Need-put-octet-requires
 put-octet-requires c κs = search needs

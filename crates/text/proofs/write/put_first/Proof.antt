@@ -5,11 +5,6 @@ use Rattle.text.specs.Numbers.{numbersOf}
 use borrow.Author.Needs.{needs}
 use Rattle.text.proofs.write.put_first.Statement.{statement}
 use Rattle.text.proofs.write.put_first.Tie as tie
-use Rattle.text.proofs.write.put_first.Reads as reads
-use Rattle.text.proofs.write.put_first.Lts as lts
-use Rattle.text.proofs.octets.put_octet.Reads as put-octet-reads
-use Rattle.text.proofs.write.put_field.Reads as put-field-reads
-use Rattle.text.proofs.write.put_times.Reads as put-times-reads
 
 put-times-requires : tie.Need-put-times-requires
 put-times-requires c κs = search needs

@@ -8,8 +8,6 @@ use Rattle.text.proofs.Puts.{put}
 use borrow.Author.Needs.{needs}
 use Rattle.text.proofs.write.put_hello.Statement.{statement}
 use Rattle.text.proofs.write.put_hello.Tie as tie
-use Rattle.text.proofs.write.put_hello.Reads as reads
-use Rattle.text.proofs.write.put_hello.Lts as lts
 
 slice-write-text : tie.Need-slice-write-text
 slice-write-text c = search needs

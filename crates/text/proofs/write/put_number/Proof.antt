@@ -9,10 +9,6 @@ use Rattle.text.proofs.Puts.{put}
 use borrow.Author.Needs.{needs}
 use Rattle.text.proofs.write.put_number.Statement.{statement}
 use Rattle.text.proofs.write.put_number.Tie as tie
-use Rattle.text.proofs.write.put_number.Reads as reads
-use Rattle.text.proofs.write.put_number.Lts as lts
-use Rattle.text.proofs.write.put_digits.Reads as put-digits-reads
-use Rattle.text.proofs.write.width.Reads as width-reads
 
 width-requires : tie.Need-width-requires
 width-requires c κs = search needs

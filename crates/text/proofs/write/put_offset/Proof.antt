@@ -5,10 +5,6 @@ use Rattle.text.proofs.Lines.{not-negative, negative}
 use borrow.Author.Needs.{needs}
 use Rattle.text.proofs.write.put_offset.Statement.{statement}
 use Rattle.text.proofs.write.put_offset.Tie as tie
-use Rattle.text.proofs.write.put_offset.Reads as reads
-use Rattle.text.proofs.write.put_offset.Lts as lts
-use Rattle.text.proofs.octets.put_octet.Reads as put-octet-reads
-use Rattle.text.proofs.write.put_number.Reads as put-number-reads
 
 put-number-requires : tie.Need-put-number-requires
 put-number-requires c κs = search needs

@@ -4,11 +4,6 @@ use Rattle.text.proofs.Puts.{put-then}
 use borrow.Author.Needs.{needs}
 use Rattle.text.proofs.write.put_row.Statement.{statement}
 use Rattle.text.proofs.write.put_row.Tie as tie
-use Rattle.text.proofs.write.put_row.Reads as reads
-use Rattle.text.proofs.write.put_row.Lts as lts
-use Rattle.text.proofs.octets.put_octet.Reads as put-octet-reads
-use Rattle.text.proofs.write.put_number.Reads as put-number-reads
-use Rattle.text.proofs.write.put_offset.Reads as put-offset-reads
 
 put-number-requires : tie.Need-put-number-requires
 put-number-requires c κs = search needs

@@ -7,10 +7,6 @@ use lib.ListN.{length}
 use Rattle.text.specs.Code.{rowRoom}
 use Rattle.text.proofs.write.put_rows.Statement.{statement}
 use Rattle.text.proofs.write.put_rows.Tie as tie
-use Rattle.text.proofs.write.put_rows.Reads as reads
-use Rattle.text.proofs.write.put_rows.Lts as lts
-use Rattle.text.proofs.octets.two_at.Reads as two-at-reads
-use Rattle.text.proofs.write.put_row.Reads as put-row-reads
 
 abbrev Inv-loop : tie.InvT-loop
 Inv-loop text₀ at message end₀ i₀ text end i = (i ≤ length message) × (end * 4 + rowRoom * (length message - i) ≤ length text₀ * 4) × (length text ≡ length text₀) × Left message text₀ text at end i

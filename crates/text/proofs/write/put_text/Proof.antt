@@ -7,10 +7,6 @@ use Rattle.text.specs.Text.{textOf}
 use borrow.Author.Needs.{needs}
 use Rattle.text.proofs.write.put_text.Statement.{statement}
 use Rattle.text.proofs.write.put_text.Tie as tie
-use Rattle.text.proofs.write.put_text.Reads as reads
-use Rattle.text.proofs.write.put_text.Lts as lts
-use Rattle.text.proofs.write.put_first.Reads as put-first-reads
-use Rattle.text.proofs.write.put_rows.Reads as put-rows-reads
 
 put-first-requires : tie.Need-put-first-requires
 put-first-requires c κs = let g = good-length (c .before .before .before .args .message .now) (c .before .before .before .pre .1) in omega arith

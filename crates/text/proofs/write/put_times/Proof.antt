@@ -4,12 +4,6 @@ use Rattle.text.proofs.Lines.{times-put}
 use borrow.Author.Needs.{needs}
 use Rattle.text.proofs.write.put_times.Statement.{statement}
 use Rattle.text.proofs.write.put_times.Tie as tie
-use Rattle.text.proofs.write.put_times.Reads as reads
-use Rattle.text.proofs.write.put_times.Lts as lts
-use Rattle.text.proofs.octets.four_at.Reads as four-at-reads
-use Rattle.text.proofs.octets.two_at.Reads as two-at-reads
-use Rattle.text.proofs.write.put_field.Reads as put-field-reads
-use Rattle.text.proofs.write.put_hello.Reads as put-hello-reads
 
 put-hello-requires : tie.Need-put-hello-requires
 put-hello-requires c κs = search needs

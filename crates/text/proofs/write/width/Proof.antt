@@ -3,8 +3,6 @@ use borrow.Author.Tests.{lt-ltb, le-ltb}
 use Rattle.text.specs.Numerals.{width}
 use Rattle.text.proofs.write.width.Statement.{statement}
 use Rattle.text.proofs.write.width.Tie as tie
-use Rattle.text.proofs.write.width.Reads as reads
-use Rattle.text.proofs.write.width.Lts as lts
 
 returns : tie.Need-returns
 unfolding width
