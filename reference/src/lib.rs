@@ -15,6 +15,7 @@ pub mod program;
 pub mod route;
 pub mod settings;
 pub mod table;
+pub mod text;
 
 #[cfg(test)]
 mod tests;
@@ -48,6 +49,14 @@ pub enum Refusal {
     NoHost = 11,
     Lent = 12,
     HostDown = 13,
+    TextForm = 14,
+    TextNumber = 15,
+}
+
+impl From<Refusal> for u8 {
+    fn from(refusal: Refusal) -> u8 {
+        refusal as u8
+    }
 }
 
 /// The published answer number of an outcome: 0 where the call was done.
