@@ -14,6 +14,7 @@ mod packets;
 mod random;
 mod room;
 mod sides;
+mod text;
 mod trials;
 mod vectors;
 
@@ -129,6 +130,7 @@ fn compare(options: &Options) -> Result<Counts, String> {
     }
     println!("seed {}, {} calls", options.seed, comparison.calls);
     vectors::run()?;
+    text::run(options.seed, options.calls.min(20_000))?;
     Ok(comparison.counts)
 }
 
