@@ -16,6 +16,7 @@ mod packets;
 mod random;
 mod room;
 mod sides;
+mod text;
 mod trials;
 mod vectors;
 
@@ -133,6 +134,7 @@ fn compare(options: &Options) -> Result<Counts, String> {
     vectors::run()?;
     checksum::run()?;
     capture::run(options.seed)?;
+    text::run(options.seed, options.calls.min(20_000))?;
     Ok(comparison.counts)
 }
 

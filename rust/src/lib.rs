@@ -19,6 +19,7 @@ mod layout;
 mod library;
 mod room;
 mod sums;
+pub mod text;
 mod types;
 
 pub use answer::Answer;

@@ -21,6 +21,7 @@ ghost use Rattle.program.specs.Program.{programAnswer};
 ghost use Rattle.hello.specs.Told.{answered, numberedTime, numberedSent, numberedRoute, timeTold, sentTold, routeTold};
 
 mod captures;
+mod paper;
 
 use clock::Clock;
 use host::Links;

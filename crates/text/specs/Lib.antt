@@ -1,0 +1,9 @@
+pub mod Numerals
+pub mod Words
+pub mod Numbers
+pub mod Text
+pub mod Answers
+pub mod Back
+pub mod Code
+pub mod Scan
+pub mod Reading
