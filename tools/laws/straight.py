@@ -55,7 +55,7 @@ class Arg:
 class Call:
     def __init__(self, let, type_, name, args, params):
         self.let, self.type, self.name = let, type_, name
-        self.args = [Arg(a, params) for a in args.split(",")]
+        self.args = [Arg(a, params) for a in args.split(",") if a.strip()]
 
 
 def read(text, name):

@@ -18,7 +18,7 @@ use Rattle.table.specs.Forms.{Stage, on, end}
 use Rattle.table.specs.Entry.{minDelay, upTo}
 use Rattle.table.specs.Update.{ownMost}
 use Rattle.table.proofs.Ranges.{up-to}
-use Rattle.config.specs.declared.Link.{Link}
+use Rattle.host.specs.declared.Link.{Link}
 use Rattle.arrival.specs.declared.Flight.{Flight}
 use Rattle.arrival.specs.Steps.{delayOf, step2, step3, measured, newNeighbor, step4, steps2to4, atLeastMin}
 

@@ -16,7 +16,7 @@ use Rattle.wire.specs.Ip.{headerLength, ipForm, ipChecksum, protocol}
 use Rattle.wire.specs.Hello.{fixedLength, helloLength, nhostsPlace, helloForm, helloChecksum}
 use Rattle.wire.specs.Packet.{helloOf, fields, parse, packetLength}
 use Rattle.wire.proofs.Parsing.{ip-long}
-use Rattle.config.specs.declared.Settings.{Settings}
+use Rattle.host.specs.declared.Settings.{Settings}
 use Rattle.arrival.specs.Inspection.{otherLayout, looped, inspected, inspect}
 
 abbrev Long : List ℕ → Parsed → Type 0

@@ -9,8 +9,8 @@ use Rattle.wire.specs.declared.Parsed.{Parsed}
 use Rattle.wire.specs.declared.Parsed.the-variants.{Good, Bad}
 use Rattle.wire.specs.Octets.{sameAddress}
 use Rattle.wire.specs.Packet.{parse}
-use Rattle.config.specs.declared.Settings.{Settings}
-use Rattle.config.specs.State.{broadcast}
+use Rattle.host.specs.declared.Settings.{Settings}
+use Rattle.host.specs.State.{broadcast}
 
 -- "If NHOSTS isn't 0, it and ADDRESS-OFFSET must equal ours, else 8."
 unfoldable pub otherLayout : Settings → Packet → Bool

@@ -1,3 +1,4 @@
 pub mod Inspection
 pub mod Steps
-pub mod Plan
+pub mod Arrival
+pub mod code

@@ -18,10 +18,10 @@ use Rattle.table.specs.declared.Updated.{Updated}
 use Rattle.table.specs.Forms.{Stage, on, end}
 use Rattle.table.specs.Entry.{maxDelay, minDelay}
 use Rattle.table.specs.Update.{plusReport, update}
-use Rattle.config.specs.declared.Link.{Link}
+use Rattle.host.specs.declared.Link.{Link}
 use Rattle.arrival.specs.declared.Flight.{Flight}
-use Rattle.config.specs.declared.Settings.{Settings}
-use Rattle.config.specs.Guard.{keepAliveInterval}
+use Rattle.host.specs.declared.Settings.{Settings}
+use Rattle.host.specs.State.{keepAliveInterval}
 
 -- "2. KEEP-ALIVE becomes 4."
 unfoldable pub step2 : Flight → Flight

@@ -5,8 +5,8 @@ ghost use Rattle.wire.specs.declared.Parsed.the-variants.{Good};
 ghost use Rattle.wire.specs.Ranges.{Four, TimeFits};
 ghost use Rattle.arrival.specs.Inspection.{otherLayout, looped, inspected, inspect};
 use answer::Answer;
-use config::Settings;
-use config::link_state::broadcast;
+use host::Settings;
+use host::link_state::broadcast;
 use wire::Packet;
 use wire::Parsed;
 

@@ -1,35 +1,39 @@
-// An arrival by value: the inspection, steps 2 to 4, and what step 5 plans for the entries.
+// An arrival by value: the inspection, steps 2 to 4, and what step 5 does to the entries.
 ghost use mathlib.Core.Path.{_≡_};
 ghost use mathlib.Core.Bool.{true};
 ghost use Prim.Native.Nat.{_≤_};
 ghost use Rattle.clock.specs.Midnight.{dayMillis};
 ghost use Rattle.wire.specs.Ranges.{Four};
 ghost use Rattle.table.specs.Entry.{upTo};
-ghost use Rattle.config.specs.Settings.{settingsGood};
-ghost use Rattle.config.specs.State.{hasPlace};
-ghost use Rattle.config.specs.Told.{ClockTold, NumberTold};
+ghost use Rattle.host.specs.Settings.{settingsGood};
+ghost use Rattle.host.specs.State.{hasPlace};
+ghost use Rattle.host.specs.declared.guard.Scope.the-variants.{OnLink};
+ghost use Rattle.host.specs.Lent.{having};
+ghost use Rattle.host.specs.code.Told.{Told};
+ghost use Rattle.clock.specs.Clock.{clockInRange};
 ghost use Rattle.arrival.specs.Steps.{atLeastMin, neighborUpdate};
-ghost use Rattle.arrival.specs.Plan.{
+ghost use Rattle.arrival.specs.Arrival.{
   noUpdates,
-  ended,
-  updatesOf,
-  noTablePlan,
-  step5Plan,
-  actionPlan,
-  arrivalPlan,
+  ends,
+  updated,
+  noTable,
+  step5,
+  action,
+  arrival,
 };
+ghost use Rattle.arrival.specs.code.Plan.{planned};
 use answer::Answer;
 use calendar::Date;
 use clock::Clock;
-use clock::Reading;
-use config::Links;
-use config::Settings;
-use config::first_place;
-use config::host_count;
-use config::link_state::broadcast;
-use config::link_state::is_link;
-use config::link_state::link_of;
-use config::link_state::with_link;
+use host::Host;
+use host::Links;
+use host::Reply;
+use host::Settings;
+use host::host_count;
+use host::link_state::broadcast;
+use host::link_state::link_of;
+use host::link_state::with_link;
+use host::replies::plainly;
 use quantity::Millis;
 use quantity::Seconds;
 use quantity::Word;
@@ -45,7 +49,7 @@ mod steps;
 // An arrival between its steps: our reading, the link as the steps leave it, DELAY and OFFSET.
 pub struct Flight {
     pub reading: quantity::Millis,
-    pub link: config::Link,
+    pub link: host::Link,
     pub delay: quantity::Millis,
     pub offset: quantity::Word,
 }
@@ -56,8 +60,9 @@ pub enum Step {
     End(Flight),
 }
 
-pub struct ArrivalPlan {
-    pub answer: Answer,
+// What an arrival comes to: the reply, the links afterwards, and the updates of which ids, with the clock that they start from.
+pub struct Arrived {
+    pub reply: Reply,
     pub links: Links,
     pub work: Updates,
 }
@@ -85,13 +90,14 @@ fn no_updates(c: Clock) -> Updates
     }
 }
 
-fn ended(a: Answer, c: Clock, l: Links) -> ArrivalPlan
-    ensures { λ p. ⌜ p ≡ ended a c l ⌝ }
+// An answer; the entries stay.
+fn ends(a: Answer, h: Host, clock: Clock, links: Links) -> Arrived
+    ensures { λ p. ⌜ p ≡ ends a (having clock links h) ⌝ }
 {
-    ArrivalPlan {
-        answer: a,
-        links: l,
-        work: no_updates(c),
+    Arrived {
+        reply: plainly(a),
+        links: links,
+        work: no_updates(clock),
     }
 }
 
@@ -121,142 +127,121 @@ fn neighbor_update(link: usize, f: Flight) -> Update
 }
 
 // So many ids from one on are updated.
-fn updates_of(
-    s: Settings,
-    number: usize,
-    c: Clock,
+fn updated(
+    h: Host,
+    clock: Clock,
+    links: Links,
     p: Packet,
     u: Update,
     id: usize,
     count: usize,
     table: bool,
-) -> Updates
-    requires { ⌜ (number ≤ 15) × (id ≤ 255) × (count ≤ 255) ⌝ }
-    ensures { λ w. ⌜ w ≡ updatesOf s number c p u id count table ⌝ }
+) -> Arrived
+    requires { ⌜ (id ≤ 255) × (count ≤ 255) ⌝ }
+    ensures { λ r. ⌜ r ≡ updated (having clock links h) p u id count table ⌝ }
 {
-    let base = first_place(number);
-    let hold_interval = s.hold_interval;
+    let settings = h.settings;
+    let hold_interval = settings.hold_interval;
     let date = p.date;
-    Updates {
-        first: base + id,
-        end: base + id + count,
-        clock: c,
-        base: base,
-        clock_host: s.clock_host,
+    let work = Updates {
+        first: id,
+        end: id + count,
+        clock: clock,
+        base: 0,
+        clock_host: settings.clock_host,
         hold_interval: hold_interval,
         date: date,
         update: u,
         table: table,
+    };
+    Arrived {
+        reply: plainly(Answer::Done),
+        links: links,
+        work: work,
     }
 }
 
 // Step 5 where the packet has no table: the id that was found for NEIGHBOR-ADDRESS.
 fn no_table(
-    s: Settings,
-    number: usize,
-    c: Clock,
-    l: Links,
+    h: Host,
+    clock: Clock,
+    links: Links,
     link: usize,
     p: Packet,
     f: Flight,
     found: Found,
-) -> ArrivalPlan
-    requires { ⌜ (number ≤ 15) × (1 ≤ link) × (link ≤ 8) ⌝ }
+) -> Arrived
+    requires { ⌜ (1 ≤ link) × (link ≤ 8) ⌝ }
     requires { ⌜ hasPlace found ≡ true ⌝ }
-    ensures { λ r. ⌜ r ≡ noTablePlan s number c l link p f found ⌝ }
+    ensures { λ r. ⌜ r ≡ noTable (having clock links h) link p f found ⌝ }
 {
     match found {
-        Found::Nothing => ended(Answer::NoHost, c, l),
-        Found::Host(id) => {
-            let work = updates_of(s, number, c, p, neighbor_update(link, f), id, 1, false);
-            ArrivalPlan {
-                answer: Answer::Done,
-                links: l,
-                work: work,
-            }
-        }
+        Found::Nothing => ends(Answer::NoHost, h, clock, links),
+        Found::Id(id) => updated(h, clock, links, p, neighbor_update(link, f), id, 1, false),
     }
 }
 
-fn step5(
-    s: Settings,
-    number: usize,
-    c: Clock,
-    l: Links,
-    link: usize,
-    p: Packet,
-    f: Flight,
-) -> ArrivalPlan
-    requires { ⌜ (number ≤ 15) × (1 ≤ link) × (link ≤ 8) ⌝ }
-    requires { ⌜ settingsGood s ≡ true ⌝ }
-    ensures { λ r. ⌜ r ≡ step5Plan s number c l link p f ⌝ }
+fn step5(h: Host, clock: Clock, links: Links, link: usize, p: Packet, f: Flight) -> Arrived
+    requires { ⌜ (1 ≤ link) × (link ≤ 8) ⌝ }
+    requires { ⌜ settingsGood (h .settings) ≡ true ⌝ }
+    ensures { λ r. ⌜ r ≡ step5 (having clock links h) link p f ⌝ }
 {
-    let x = f.link;
-    let neighbor = x.neighbor;
+    let s = h.settings;
     if p.nhosts == 0 {
-        return no_table(
-            s,
-            number,
-            c,
-            l,
-            link,
-            p,
-            f,
-            route::find(s.address, s.layout, s.net, neighbor),
-        );
+        let x = f.link;
+        let neighbor = x.neighbor;
+        let found = route::find(s.address, s.layout, s.net, neighbor);
+        return no_table(h, clock, links, link, p, f, found);
     }
-    let work = updates_of(
-        s,
-        number,
-        c,
+    updated(
+        h,
+        clock,
+        links,
         p,
         neighbor_update(link, f),
         0,
         host_count(s),
         true,
-    );
-    ArrivalPlan {
-        answer: Answer::Done,
-        links: l,
-        work: work,
-    }
+    )
 }
 
-// Steps 2 to 5, from the reading on.
-fn action(s: Settings, number: usize, r: Reading, l: Links, link: usize, p: Packet) -> ArrivalPlan
-    requires { ⌜ (number ≤ 15) × (1 ≤ link) × (link ≤ 8) ⌝ }
-    requires { ⌜ settingsGood s ≡ true ⌝ }
-    requires { ⌜ upTo dayMillis (r .time) ≡ true ⌝ }
+// Steps 2 to 5, with one reading.
+fn action(h: Host, link: usize, p: Packet) -> Arrived
+    requires { ⌜ (1 ≤ link) × (link ≤ 8) ⌝ }
+    requires { ⌜ (settingsGood (h .settings) ≡ true) × (clockInRange (h .clock) ≡ true) ⌝ }
     requires { ⌜ Four (p .time .0) ⌝ }
-    ensures { λ a. ⌜ a ≡ actionPlan s number r l link p ⌝ }
+    ensures { λ a. ⌜ a ≡ action h link p ⌝ }
 {
+    let r = h.clock.reading();
     let clock = r.clock;
-    match steps::two_to_four(broadcast(s, link), clock.hold, p, r.time, link_of(l, link)) {
-        Step::End(f) => ended(Answer::DelayNotValid, clock, with_link(l, link, f.link)),
-        Step::On(f) => step5(s, number, clock, with_link(l, link, f.link), link, p, f),
+    let settings = h.settings;
+    let links = h.links;
+    match steps::two_to_four(broadcast(settings, link), clock.hold, p, r.time, link_of(links, link)) {
+        Step::End(f) => ends(Answer::DelayNotValid, h, clock, with_link(links, link, f.link)),
+        Step::On(f) => step5(h, clock, with_link(links, link, f.link), link, p, f),
     }
 }
 
-pub fn plan(
-    g: Answer,
-    s: Settings,
-    number: usize,
-    c: Clock,
-    l: Links,
-    link: usize,
-    packet: &[u8],
-) -> ArrivalPlan
-    requires { ⌜ ClockTold g s c × NumberTold g s number ⌝ }
-    ensures { λ p. ⌜ p ≡ arrivalPlan g s number c l link (now (packet .entry)) ⌝ }
+// Answers 3 to 9 by the inspection, then the action.
+fn arrival(h: Host, link: usize, packet: &[u8]) -> Arrived
+    requires { ⌜ (1 ≤ link) × (link ≤ 8) ⌝ }
+    requires { ⌜ (settingsGood (h .settings) ≡ true) × (clockInRange (h .clock) ≡ true) ⌝ }
+    ensures { λ a. ⌜ a ≡ arrival link (now (packet .entry)) h ⌝ }
 {
-    if !is_link(s, link) {
-        return ended(Answer::OutOfRange, c, l);
+    let settings = h.settings;
+    match inspection::inspect(settings, link, packet) {
+        Parsed::Bad(a) => ends(a, h, h.clock, h.links),
+        Parsed::Good(p) => action(h, link, p),
     }
+}
+
+// A refusal of the guard's, or the arrival.
+pub fn plan(g: Answer, h: Host, link: usize, packet: &[u8]) -> Arrived
+    requires { ⌜ Told g (OnLink link) h ⌝ }
+    ensures { λ p. ⌜ p ≡ planned g link (now (packet .entry)) h ⌝ }
+{
     if !answer::is_done(g) {
-        return ended(g, c, l);
+        return ends(g, h, h.clock, h.links);
     }
-    match inspection::inspect(s, link, packet) {
-        Parsed::Bad(a) => ended(a, c, l),
-        Parsed::Good(p) => action(s, number, c.reading(), l, link, p),
-    }
+    arrival(h, link, packet)
 }

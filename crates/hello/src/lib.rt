@@ -18,8 +18,8 @@ ghost use Rattle.host.specs.Calls.{
 ghost use Rattle.packet.specs.Program.{programAnswer};
 ghost use Rattle.hello.specs.Told.{answered, numberedTime, numberedSent, numberedRoute, timeTold, sentTold, routeTold};
 use clock::Clock;
-use config::Links;
-use config::Settings;
+use host::Links;
+use host::Settings;
 use table::Entry;
 use wire::Address;
 

@@ -1,9 +1,8 @@
-pub mod Opened
+pub mod Numbers
+pub mod Places
+pub mod Guarded
+pub mod Sound
+pub mod Slots
+pub mod Found
 pub mod Types
 pub mod Judged
-pub mod Clocked
-pub mod Changed
-pub mod Entered
-pub mod Looked
-pub mod Written
-pub mod Received

@@ -1,5 +1,6 @@
-pub mod Outcome
-pub mod Send
-pub mod Arrival
-pub mod Calls
-pub mod Exchange
+pub mod Settings
+pub mod State
+pub mod Lent
+pub mod Guard
+pub mod Reply
+pub mod code

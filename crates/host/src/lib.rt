@@ -1,250 +1,192 @@
-// A HELLO host: its ten calls.
+// A host: its settings and their test, answer 1, its links, and its places in the run.
 ghost use mathlib.Core.Path.{_≡_};
-ghost use Rattle.quantity.specs.Quantity.{millis};
-ghost use Rattle.config.specs.Guard.{guard};
-ghost use Rattle.host.specs.Outcome.{Leaves, timeOf, sentOf, routeOf};
-ghost use Rattle.host.specs.Send.{send};
-ghost use Rattle.host.specs.Calls.{
-  initialize,
-  tick,
-  adjust,
-  setBy,
-  read,
-  second,
-  arrival,
-  selfReport,
-  lookup,
-};
-use answer::Answer;
-use clock::Clock;
-use config::Links;
-use config::Settings;
-use plan::Route;
-use plan::Sent;
-use plan::Time;
-use table::Entry;
-use table::run::all_in_range;
-use table::run::change_all;
-use table::run::entry_of;
-use table::run::read_out;
-use table::run::update_all;
-use wire::Address;
+ghost use mathlib.Core.Bool.{not, _&&_, _||_};
+ghost use lib.Dec.{ltb, eqb};
+ghost use lib.IntN.{pos};
+ghost use Rattle.quantity.specs.Quantity.{millis, lessMillis};
+ghost use Rattle.clock.specs.Midnight.{dayMillis};
+ghost use Prim.Native.Nat.{_≤_};
+ghost use Rattle.host.specs.Settings.{fromTo, clockSettingOff, ownId, switchesGood, settingsGood};
+ghost use Rattle.host.specs.State.{firstPlace, hostCount};
+use link_state::MAX_LINKS;
 
-// The guard: 12, then 1, before anything else in every call.
-fn guard(settings: Settings, number: usize, clock: Clock, links: Links, run: &[Entry]) -> Answer
-    ensures { λ r. ⌜ r ≡ guard settings number clock links (now (run .entry)) ⌝ }
-{
-    let n = run.len();
-    let w = plan::guard::held(settings, number, clock, links, n);
-    let good = all_in_range(run, w);
-    plan::guard::judged(settings, good)
+pub mod guard;
+pub mod link_state;
+pub mod replies;
+
+// A link as it is set: its switch (0 point-to-point, 1 broadcast), and for a broadcast link its NEIGHBOR-ADDRESS.
+#[repr(C)]
+pub struct LinkSetting {
+    pub broadcast: u8,
+    pub neighbor: wire::Address,
 }
 
-// The calls. Each is lent all of a host: its clock, its links and its places in the run. Settings, number and what is lent are answered for first, with 12 or 1.
-
-// The host is set afresh. Numbers, places and settings are tested, and nothing else.
-pub fn initialize(
-    settings: Settings,
-    number: usize,
-    clock: &mut Clock,
-    links: &mut Links,
-    run: &mut [Entry],
-) -> Answer
-    ensures { λ r. ⌜ (r ≡ initialize settings number (now (clock .entry)) (now (links .entry)) (now (run .entry)) .answer)
-        × Leaves (initialize settings number (now (clock .entry)) (now (links .entry)) (now (run .entry))) (now (clock .exit)) (now (links .exit)) (now (run .exit)) ⌝ }
-{
-    let c = *clock;
-    let l = *links;
-    let n = run.len();
-    let p = plan::tables::initialize(settings, number, c, l, n);
-    change_all(run, p.work);
-    *clock = p.clock;
-    *links = p.links;
-    p.answer
+// The settings of a host.
+#[repr(C)]
+pub struct Settings {
+    // LOCAL-ADDRESS
+    pub address: wire::Address,
+    // ADDRESS-OFFSET and NHOSTS
+    pub layout: route::Layout,
+    // the id of the clock host; 255: clock setting off
+    pub clock_host: u8,
+    // HOLD-INTERVAL
+    pub hold_interval: quantity::Seconds,
+    // CLOCK-TICK
+    pub clock_tick: quantity::Units,
+    // the starting time and date
+    pub time: quantity::Millis,
+    pub date: calendar::Date,
+    // the links: the first `link_count`, numbered from 1
+    pub link_count: usize,
+    pub links: [LinkSetting; 8],
+    pub net: route::NetTable,
 }
 
-// CLOCK-TICK is added to the clock.
-pub fn tick(
-    settings: Settings,
-    number: usize,
-    clock: &mut Clock,
-    links: &Links,
-    run: &[Entry],
-) -> Answer
-    ensures { λ r. ⌜ (r ≡ tick settings number (now (clock .entry)) (now (links .entry)) (now (run .entry)) .answer)
-        × Leaves (tick settings number (now (clock .entry)) (now (links .entry)) (now (run .entry))) (now (clock .exit)) (now (links .entry)) (now (run .entry)) ⌝ }
-{
-    let c = *clock;
-    let l = *links;
-    let g = guard(settings, number, c, l, run);
-    let p = plan::timing::tick(g, settings, c);
-    *clock = p.clock;
-    p.answer
+// The state of a link: NEIGHBOR-ADDRESS, KEEP-ALIVE and TSP.
+#[repr(C)]
+pub struct Link {
+    pub neighbor: wire::Address,
+    pub keep_alive: u8,
+    pub tsp: quantity::Word,
 }
 
-// A share of DELTA goes into the clock.
-pub fn adjust(
-    settings: Settings,
-    number: usize,
-    clock: &mut Clock,
-    links: &Links,
-    run: &[Entry],
-) -> Answer
-    ensures { λ r. ⌜ (r ≡ adjust settings number (now (clock .entry)) (now (links .entry)) (now (run .entry)) .answer)
-        × Leaves (adjust settings number (now (clock .entry)) (now (links .entry)) (now (run .entry))) (now (clock .exit)) (now (links .entry)) (now (run .entry)) ⌝ }
-{
-    let c = *clock;
-    let l = *links;
-    let g = guard(settings, number, c, l, run);
-    let p = plan::timing::adjust(g, settings, c);
-    *clock = p.clock;
-    p.answer
+// The links of a host; link 1 comes first.
+#[repr(C)]
+pub struct Links {
+    pub all: [Link; 8],
 }
 
-// The clock is set by a signed count of milliseconds.
-pub fn set(
-    settings: Settings,
-    number: usize,
-    clock: &mut Clock,
-    links: &Links,
-    run: &[Entry],
-    ms: i32,
-) -> Answer
-    ensures { λ r. ⌜ (r ≡ setBy settings number (now (clock .entry)) (now (links .entry)) (now (run .entry)) (millis ms) .answer)
-        × Leaves (setBy settings number (now (clock .entry)) (now (links .entry)) (now (run .entry)) (millis ms)) (now (clock .exit)) (now (links .entry)) (now (run .entry)) ⌝ }
-{
-    let c = *clock;
-    let l = *links;
-    let g = guard(settings, number, c, l, run);
-    let p = plan::timing::set(g, settings, c, ms);
-    *clock = p.clock;
-    p.answer
+// A host by itself, without its entries: what document 01 calls a seat. Its number says which places of the run are its own.
+pub struct Host {
+    pub settings: Settings,
+    pub number: usize,
+    pub clock: clock::Clock,
+    pub links: Links,
 }
 
-// The time and DATE.
-pub fn read(
-    settings: Settings,
-    number: usize,
-    clock: &mut Clock,
-    links: &Links,
-    run: &[Entry],
-) -> Time
-    ensures { λ r. ⌜ (r ≡ timeOf (read settings number (now (clock .entry)) (now (links .entry)) (now (run .entry))))
-        × Leaves (read settings number (now (clock .entry)) (now (links .entry)) (now (run .entry))) (now (clock .exit)) (now (links .entry)) (now (run .entry)) ⌝ }
-{
-    let c = *clock;
-    let l = *links;
-    let g = guard(settings, number, c, l, run);
-    let p = plan::timing::read(g, c);
-    *clock = p.clock;
-    p.answer
+// The answer of a call and its values: a send tells the length of its message, a lookup the host id and PID of the route, a read the time and DATE.
+pub struct Reply {
+    pub answer: answer::Answer,
+    pub length: usize,
+    pub id: usize,
+    pub pid: u8,
+    pub time: quantity::Millis,
+    pub date: calendar::Date,
 }
 
-// A second passes: HOLD falls, and entries age.
-pub fn second(
-    settings: Settings,
-    number: usize,
-    clock: &mut Clock,
-    links: &Links,
-    run: &mut [Entry],
-) -> Answer
-    ensures { λ r. ⌜ (r ≡ second settings number (now (clock .entry)) (now (links .entry)) (now (run .entry)) .answer)
-        × Leaves (second settings number (now (clock .entry)) (now (links .entry)) (now (run .entry))) (now (clock .exit)) (now (links .entry)) (now (run .exit)) ⌝ }
+// The most hosts, and the most seconds of HOLD-INTERVAL.
+const MAX_HOSTS: usize = 255;
+
+const MAX_HOLD_INTERVAL: usize = 255;
+
+// The rows that a net table has places for.
+const MAX_ROWS: usize = 32;
+
+// The last first octet of class C.
+const LAST_OCTET: usize = 223;
+
+// The clock host id that turns clock setting off.
+const CLOCK_SETTING_OFF: u8 = 255;
+
+// Is n from the least to the most?
+fn from_to(least: usize, most: usize, n: usize) -> bool
+    ensures { λ r. ⌜ r ≡ fromTo least most n ⌝ }
 {
-    let c = *clock;
-    let l = *links;
-    let g = guard(settings, number, c, l, run);
-    let p = plan::tables::second(g, settings, number, c);
-    change_all(run, p.work);
-    *clock = p.clock;
-    p.answer
+    if n < least {
+        return false;
+    }
+    n <= most
 }
 
-// The host reports itself.
-pub fn self_report(
-    settings: Settings,
-    number: usize,
-    clock: &mut Clock,
-    links: &Links,
-    run: &mut [Entry],
-) -> Answer
-    ensures { λ r. ⌜ (r ≡ selfReport settings number (now (clock .entry)) (now (links .entry)) (now (run .entry)) .answer)
-        × Leaves (selfReport settings number (now (clock .entry)) (now (links .entry)) (now (run .entry))) (now (clock .exit)) (now (links .entry)) (now (run .exit)) ⌝ }
+// Is the clock host's id off, or that of a host?
+fn clock_host_good(clock_host: u8, nhosts: usize) -> bool
+    ensures { λ r. ⌜ r ≡ (eqb «clock_host» clockSettingOff || ltb «clock_host» nhosts) ⌝ }
 {
-    let c = *clock;
-    let l = *links;
-    let g = guard(settings, number, c, l, run);
-    let p = plan::tables::self_report(g, settings, number, c);
-    change_all(run, p.work);
-    *clock = p.clock;
-    p.answer
+    if clock_host == CLOCK_SETTING_OFF {
+        return true;
+    }
+    (clock_host as usize) < nhosts
 }
 
-// A message for the neighbor of a link, written to the front of the buffer.
-pub fn send(
-    settings: Settings,
-    number: usize,
-    clock: &mut Clock,
-    links: &mut Links,
-    run: &[Entry],
-    link: usize,
-    buffer: &mut [u8],
-) -> Sent
-    ensures { λ r. ⌜ (r ≡ sentOf (send settings number (now (clock .entry)) (now (links .entry)) (now (run .entry)) link (now (buffer .entry))))
-        × Leaves (send settings number (now (clock .entry)) (now (links .entry)) (now (run .entry)) link (now (buffer .entry))) (now (clock .exit)) (now (links .exit)) (now (run .entry))
-        × (now (buffer .exit) ≡ send settings number (now (clock .entry)) (now (links .entry)) (now (run .entry)) link (now (buffer .entry)) .buffer) ⌝ }
+// Is a starting time within its day?
+fn time_good(time: quantity::Millis) -> bool
+    ensures { λ r. ⌜ r ≡ (not (lessMillis time (millis (pos 0))) && lessMillis time dayMillis) ⌝ }
 {
-    let c = *clock;
-    let l = *links;
-    let n = buffer.len();
-    let g = guard(settings, number, c, l, run);
-    let p = plan::sending::plan(g, settings, number, c, l, link, n);
-    read_out(buffer, run, p.work);
-    plan::sending::finish(buffer, p);
-    *clock = p.clock;
-    *links = p.links;
-    p.answer
+    if time.less(quantity::Millis(0)) {
+        return false;
+    }
+    time.less(clock::DAY)
 }
 
-// A packet that arrives on a link: the inspection, then steps 2 to 5.
-pub fn receive(
-    settings: Settings,
-    number: usize,
-    clock: &mut Clock,
-    links: &mut Links,
-    run: &mut [Entry],
-    link: usize,
-    packet: &[u8],
-) -> Answer
-    ensures { λ r. ⌜ (r ≡ arrival settings number (now (clock .entry)) (now (links .entry)) (now (run .entry)) link (now (packet .entry)) .answer)
-        × Leaves (arrival settings number (now (clock .entry)) (now (links .entry)) (now (run .entry)) link (now (packet .entry))) (now (clock .exit)) (now (links .exit)) (now (run .exit)) ⌝ }
+// The id that LOCAL-ADDRESS gives, the host's own.
+pub fn own_id(s: Settings) -> route::Found
+    ensures { λ r. ⌜ r ≡ ownId s ⌝ }
 {
-    let c = *clock;
-    let l = *links;
-    let g = guard(settings, number, c, l, run);
-    let p = arrival::plan(g, settings, number, c, l, link, packet);
-    let k = update_all(run, p.work, packet);
-    *clock = k;
-    *links = p.links;
-    p.answer
+    let layout = s.layout;
+    let address = s.address;
+    route::local_id(layout, address)
 }
 
-// The route to an address: the host id and the PID.
-pub fn lookup(
-    settings: Settings,
-    number: usize,
-    clock: &Clock,
-    links: &Links,
-    run: &[Entry],
-    address: Address,
-) -> Route
-    ensures { λ r. ⌜ (r ≡ routeOf (lookup settings number (now (clock .entry)) (now (links .entry)) (now (run .entry)) address))
-        × Leaves (lookup settings number (now (clock .entry)) (now (links .entry)) (now (run .entry)) address) (now (clock .entry)) (now (links .entry)) (now (run .entry)) ⌝ }
+// Are all settings within their rules?
+pub fn good(s: Settings) -> bool
+    ensures { λ r. ⌜ r ≡ settingsGood s ⌝ }
 {
-    let c = *clock;
-    let l = *links;
-    let g = guard(settings, number, c, l, run);
-    let p = plan::lookups::lookup(g, settings, number, address);
-    let e = entry_of(run, p.work);
-    plan::lookups::route_of(p, e)
+    let address = s.address;
+    let layout = s.layout;
+    let hold_interval = s.hold_interval;
+    let clock_tick = s.clock_tick;
+    let time = s.time;
+    let date = s.date;
+    let net = s.net;
+    let nhosts = layout.nhosts;
+    from_to(1, MAX_LINKS, s.link_count)
+        & link_state::switches_good(s)
+        & from_to(1, MAX_HOSTS, nhosts)
+        & (net.count <= MAX_ROWS)
+        & from_to(1, LAST_OCTET, address.first as usize)
+        & clock_host_good(s.clock_host, nhosts)
+        & from_to(1, MAX_HOLD_INTERVAL, hold_interval.0 as usize)
+        & clock::tick_in_range(clock_tick)
+        & time_good(time)
+        & date.is_real()
+        & route::ids_below(net, nhosts)
+        & route::is_found(own_id(s))
+}
+
+// The hosts of one net, and the places of each in the run.
+pub const HOSTS: usize = 16;
+
+pub const PLACES: usize = 255;
+
+// The place of a host's id 0.
+pub fn first_place(number: usize) -> usize
+    requires { ⌜ number ≤ 15 ⌝ }
+    ensures { λ r. ⌜ r ≡ firstPlace number ⌝ }
+{
+    PLACES * number
+}
+
+// How many entries a host has: no more than it has places.
+pub fn host_count(s: Settings) -> usize
+    ensures { λ r. ⌜ r ≡ hostCount s ⌝ }
+{
+    let layout = s.layout;
+    let n = layout.nhosts;
+    if n < PLACES {
+        return n;
+    }
+    PLACES
+}
+
+// A host of what a call is lent.
+pub fn host_of(settings: Settings, number: usize, clock: clock::Clock, links: Links) -> Host
+    ensures { λ r. ⌜ r ≡ record { settings = settings; number = number; clock = clock; links = links } ⌝ }
+{
+    Host {
+        settings: settings,
+        number: number,
+        clock: clock,
+        links: links,
+    }
 }

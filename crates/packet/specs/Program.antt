@@ -2,8 +2,8 @@
 use mathlib.Core.List.{List}
 use Prim.Native.Nat.{ℕ}
 use Rattle.answer.specs.Answer.{number}
-use Rattle.config.specs.declared.Settings.{Settings}
-use Rattle.config.specs.State.{freshLinks}
+use Rattle.host.specs.declared.Settings.{Settings}
+use Rattle.host.specs.State.{freshLinks}
 use Rattle.host.specs.Outcome.{Outcome}
 use Rattle.host.specs.Exchange.{settingsOf, clockAt, freshRun}
 use Rattle.host.specs.Calls.{initialize, arrival}

@@ -5,8 +5,8 @@ ghost use Rattle.packet.specs.Held.{wholeOf};
 ghost use Rattle.packet.specs.Program.{programSettings, programAnswer};
 use calendar::Date;
 use clock::Clock;
-use config::LinkSetting;
-use config::Links;
+use host::LinkSetting;
+use host::Links;
 use quantity::Millis;
 use quantity::Seconds;
 use quantity::Units;
@@ -27,7 +27,7 @@ pub struct Whole {
 
 // The host is set afresh.
 pub fn initialize(
-    settings: config::Settings,
+    settings: host::Settings,
     number: usize,
     clock: Clock,
     links: Links,
@@ -49,7 +49,7 @@ pub fn initialize(
 
 // A packet arrives on a link.
 pub fn receive(
-    settings: config::Settings,
+    settings: host::Settings,
     number: usize,
     clock: Clock,
     links: Links,
@@ -72,7 +72,7 @@ pub fn receive(
 }
 
 // The settings of the packet program's host.
-pub fn settings() -> config::Settings
+pub fn settings() -> host::Settings
     ensures { λ r. ⌜ r ≡ programSettings ⌝ }
 {
     let unset = LinkSetting {
@@ -94,7 +94,7 @@ pub fn settings() -> config::Settings
     };
     let links = [unset; 8];
     let rows = [no_row; 32];
-    config::Settings {
+    host::Settings {
         address: Address {
             first: 192,
             second: 0,
@@ -127,7 +127,7 @@ pub fn answer(packet: &[u8]) -> u8
     let time = s.time;
     let date = s.date;
     let c = Clock::fresh(time, date);
-    let l = config::link_state::fresh(s);
+    let l = host::link_state::fresh(s);
     let e = table::fresh();
     let run = [e; 255];
     let afresh = initialize(s, 0, c, l, run);

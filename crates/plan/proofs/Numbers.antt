@@ -5,7 +5,7 @@ use Prim.Native.Nat.{ℕ, _+_, _≤_}
 use borrow.Author.Tests.{ltb-false}
 use lib.Dec.{ltb}
 use Rattle.laws.proofs.Tests.{neither}
-use Rattle.config.specs.State.{placesPerHost, firstPlace}
+use Rattle.host.specs.State.{placesPerHost, firstPlace}
 use Rattle.plan.specs.Plans.{placesMissing}
 
 pub number-in : (k n : ℕ) → placesMissing k n ≡ false → k ≤ 15

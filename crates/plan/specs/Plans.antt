@@ -14,7 +14,7 @@ use Rattle.clock.specs.Clock.{freshClock, clockInRange, reading, holdSecond}
 use Rattle.clock.specs.Clock as clock
 use Rattle.wire.specs.declared.Address.{Address}
 use Rattle.route.specs.declared.Found.{Found}
-use Rattle.route.specs.declared.Found.the-variants.{Host, Nothing}
+use Rattle.route.specs.declared.Found.the-variants.{Id, Nothing}
 use Rattle.route.specs.Find.{find}
 use Rattle.table.specs.declared.Entry.{Entry}
 use Rattle.table.specs.declared.run.Scan.{Scan}
@@ -24,8 +24,8 @@ use Rattle.table.specs.declared.run.Change.the-variants.{Fresh, Aged, Reported}
 use Rattle.table.specs.declared.run.Changes.{Changes}
 use Rattle.table.specs.Forms.{every}
 use Rattle.table.specs.Entry.{freshEntry, up}
-use Rattle.config.specs.declared.Settings.{Settings}
-use Rattle.config.specs.declared.Links.{Links}
+use Rattle.host.specs.declared.Settings.{Settings}
+use Rattle.host.specs.declared.Links.{Links}
 use Rattle.plan.specs.declared.Route.{Route}
 use Rattle.plan.specs.declared.Time.{Time}
 use Rattle.plan.specs.declared.timing.ClockPlan.{ClockPlan}
@@ -33,9 +33,9 @@ use Rattle.plan.specs.declared.timing.ReadPlan.{ReadPlan}
 use Rattle.plan.specs.declared.tables.FreshPlan.{FreshPlan}
 use Rattle.plan.specs.declared.tables.TablePlan.{TablePlan}
 use Rattle.plan.specs.declared.lookups.LookPlan.{LookPlan}
-use Rattle.config.specs.Settings.{settingsGood, ownId}
-use Rattle.config.specs.State.{placesPerHost, firstPlace, hostCount, freshLinks}
-use Rattle.config.specs.Guard.{linkCount, linkInRange, done}
+use Rattle.host.specs.Settings.{settingsGood, ownId}
+use Rattle.host.specs.State.{placesPerHost, firstPlace, hostCount, freshLinks}
+use Rattle.host.specs.Guard.{linkCount, linkInRange, done}
 
 -- ---- the guard
 
@@ -108,7 +108,7 @@ secondPlan g s k c =
 
 abbrev pub ownWork : (number : ℕ) → Millis → Found → Changes
 ownWork k time Nothing = idle
-ownWork k time (Host id) = onePlace k id (Reported time)
+ownWork k time (Id id) = onePlace k id (Reported time)
 
 abbrev pub selfPlan : Answer → Settings → (number : ℕ) → Clock → TablePlan
 selfPlan g s k c =
@@ -123,7 +123,7 @@ noEntry = record { first = 0; end = 0; entry = freshEntry }
 
 abbrev pub lookAt : (number : ℕ) → Found → LookPlan
 lookAt k Nothing = record { work = noEntry; answer = NoHost; host = 0 }
-lookAt k (Host id) =
+lookAt k (Id id) =
     record {
       work = record { first = firstPlace k + id; end = firstPlace k + id + 1; entry = freshEntry };
       answer = Done;

@@ -18,13 +18,13 @@ use Rattle.wire.specs.Octets.{zeroAddress}
 use Rattle.wire.specs.Packet.{packetLength}
 use Rattle.wire.specs.Ranges.{Four}
 use Rattle.wire.specs.Sealing.{sealed}
-use Rattle.config.specs.declared.Settings.{Settings}
-use Rattle.config.specs.declared.Link.{Link}
-use Rattle.config.specs.declared.Links.{Links}
+use Rattle.host.specs.declared.Settings.{Settings}
+use Rattle.host.specs.declared.Link.{Link}
+use Rattle.host.specs.declared.Links.{Links}
 use Rattle.plan.specs.declared.sending.SendPlan.{SendPlan}
-use Rattle.config.specs.State.{firstPlace, hostCount, linkOf, withLink}
-use Rattle.config.specs.Guard.{done}
-use Rattle.config.specs.Told.{linkAnswer}
+use Rattle.host.specs.State.{firstPlace, hostCount, linkOf, withLink}
+use Rattle.host.specs.Guard.{done}
+use Rattle.host.specs.Told.{linkAnswer}
 use Rattle.plan.specs.Message.{tableGoes, linkSent, packetSent}
 
 abbrev pub noPacket : Packet

@@ -1,16 +1,16 @@
 // The guard: answers 12 and 1, before anything else in every call.
 ghost use mathlib.Core.Path.{_≡_};
 ghost use Prim.Native.Nat.{_≤_};
-ghost use Rattle.config.specs.State.{firstPlace, hostCount};
+ghost use Rattle.host.specs.State.{firstPlace, hostCount};
 ghost use Rattle.plan.specs.Plans.{placesMissing, restInRange, held, judged};
 use answer::Answer;
 use clock::Clock;
-use config::HOSTS;
-use config::Links;
-use config::PLACES;
-use config::Settings;
-use config::first_place;
-use config::host_count;
+use host::HOSTS;
+use host::Links;
+use host::PLACES;
+use host::Settings;
+use host::first_place;
+use host::host_count;
 use table::run::Scan;
 
 // Are the host's places not all in a run of n entries?
@@ -30,7 +30,7 @@ fn rest_in_range(s: Settings, c: Clock, l: Links) -> bool
     if !c.in_range() {
         return false;
     }
-    config::link_state::in_range(s, l)
+    host::link_state::in_range(s, l)
 }
 
 // What is known before the entries are looked at, and which of them to look at.
@@ -66,7 +66,7 @@ pub fn judged(s: Settings, good: bool) -> Answer
     if !good {
         return Answer::OutOfRange;
     }
-    if !config::good(s) {
+    if !host::good(s) {
         return Answer::Setting;
     }
     Answer::Done

@@ -2,13 +2,13 @@
 ghost use mathlib.Core.Path.{_≡_};
 ghost use mathlib.Core.Bool.{true};
 ghost use Prim.Native.Nat.{_≤_};
-ghost use Rattle.config.specs.State.{hasPlace};
-ghost use Rattle.config.specs.Told.{NumberTold};
+ghost use Rattle.host.specs.State.{hasPlace};
+ghost use Rattle.host.specs.Told.{NumberTold};
 ghost use Rattle.plan.specs.Plans.{noEntry, lookAt, lookPlan, noRoute, lookedUp};
 use super::Route;
 use answer::Answer;
-use config::Settings;
-use config::first_place;
+use host::Settings;
+use host::first_place;
 use route::Found;
 use table::Entry;
 use table::run::Seek;
@@ -40,7 +40,7 @@ fn look_at(number: usize, found: Found) -> LookPlan
             answer: Answer::NoHost,
             host: 0,
         },
-        Found::Host(id) => {
+        Found::Id(id) => {
             let first = first_place(number) + id;
             let w = Seek {
                 first: first,

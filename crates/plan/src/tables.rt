@@ -2,16 +2,16 @@
 ghost use mathlib.Core.Path.{_≡_};
 ghost use mathlib.Core.Bool.{true};
 ghost use Prim.Native.Nat.{_≤_};
-ghost use Rattle.config.specs.State.{hasPlace};
-ghost use Rattle.config.specs.Told.{NumberTold};
+ghost use Rattle.host.specs.State.{hasPlace};
+ghost use Rattle.host.specs.Told.{NumberTold};
 ghost use Rattle.plan.specs.Plans.{idle, allPlaces, freshPlan, secondPlan, ownWork, selfPlan};
 use super::guard::places_missing;
 use answer::Answer;
 use clock::Clock;
-use config::Links;
-use config::Settings;
-use config::first_place;
-use config::host_count;
+use host::Links;
+use host::Settings;
+use host::first_place;
+use host::host_count;
 use quantity::Millis;
 use route::Found;
 use table::run::Change;
@@ -64,7 +64,7 @@ pub fn initialize(s: Settings, number: usize, c: Clock, l: Links, n: usize) -> F
             work: idle(),
         };
     }
-    if !config::good(s) {
+    if !host::good(s) {
         return FreshPlan {
             answer: Answer::Setting,
             clock: c,
@@ -75,7 +75,7 @@ pub fn initialize(s: Settings, number: usize, c: Clock, l: Links, n: usize) -> F
     FreshPlan {
         answer: Answer::Done,
         clock: Clock::fresh(s.time, s.date),
-        links: config::link_state::fresh(s),
+        links: host::link_state::fresh(s),
         work: all_places(s, number, Change::Fresh),
     }
 }
@@ -105,7 +105,7 @@ fn own_work(number: usize, time: Millis, own: Found) -> Changes
 {
     match own {
         Found::Nothing => idle(),
-        Found::Host(id) => {
+        Found::Id(id) => {
             let first = first_place(number) + id;
             Changes {
                 first: first,
@@ -129,7 +129,7 @@ pub fn self_report(g: Answer, s: Settings, number: usize, c: Clock) -> TablePlan
     }
     let r = c.reading();
     let clock = r.clock;
-    let work = own_work(number, r.time, config::own_id(s));
+    let work = own_work(number, r.time, host::own_id(s));
     TablePlan {
         answer: Answer::Done,
         clock: clock,

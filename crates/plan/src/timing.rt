@@ -1,13 +1,13 @@
 // What the calls plan that touch the clock alone, from the guard's answer on.
 ghost use mathlib.Core.Path.{_≡_};
 ghost use Rattle.quantity.specs.Quantity.{millis};
-ghost use Rattle.config.specs.Told.{ClockTold};
+ghost use Rattle.host.specs.Told.{ClockTold};
 ghost use Rattle.plan.specs.Plans.{tickPlan, adjustPlan, setPlan, readPlan};
 use super::Time;
 use answer::Answer;
 use calendar::Date;
 use clock::Clock;
-use config::Settings;
+use host::Settings;
 use quantity::Millis;
 
 pub struct ClockPlan {

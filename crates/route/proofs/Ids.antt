@@ -12,12 +12,12 @@ use Rattle.route.specs.declared.Net.{Net}
 use Rattle.route.specs.declared.Row.{Row}
 use Rattle.route.specs.declared.NetTable.{NetTable}
 use Rattle.route.specs.declared.Found.{Found}
-use Rattle.route.specs.declared.Found.the-variants.{Host, Nothing}
+use Rattle.route.specs.declared.Found.the-variants.{Id, Nothing}
 use Rattle.route.specs.Find.{aboveC, sameNet, hostOctet, localId, netOf, ends, search, rowsOf, find, idsBelow}
 
 -- none is found, or an id below n
 abbrev Below : ℕ → Found → Type 0
-Below n (Host i) = i < n
+Below n (Id i) = i < n
 Below n Nothing = Unit {0}
 
 local-below : (y : Layout) (a : Address) → Below (y .nhosts) (localId y a)
@@ -25,7 +25,7 @@ unfolding localId
 local-below y a =
     let id : ℕ = hostOctet a - y .«address_offset» in
     let above : Bool = leb (y .«address_offset») (hostOctet a) in
-    either (Below (y .nhosts)) (above && ltb id (y .nhosts)) (Host id) Nothing
+    either (Below (y .nhosts)) (above && ltb id (y .nhosts)) (Id id) Nothing
     (λ e. ltb-true id (y .nhosts) (both above (ltb id (y .nhosts)) e .1)) (λ e. tt)
 
 search-below : (n : ℕ) (net : Net) (rows : List Row) → idsBelow n rows ≡ true → Below n (search net rows)
@@ -33,7 +33,7 @@ unfolding search
 search-below n net [] e = tt
 search-below n net (r ∷ rows) e =
     let ids = both (ltb (r .host) n) (idsBelow n rows) e in
-    either (Below n) (ends net r) (Host (r .host)) (search net rows) (λ t. ltb-true _ _ (ids .0))
+    either (Below n) (ends net r) (Id (r .host)) (search net rows) (λ t. ltb-true _ _ (ids .0))
     (λ t. search-below n net rows (ids .1))
 
 find-below : (ours : Address) (y : Layout) (t : NetTable) (a : Address) → idsBelow (y .nhosts) (rowsOf t) ≡ true
@@ -46,9 +46,9 @@ find-below ours y t a e =
     either (Below (y .nhosts)) (sameNet ours a) (localId y a) other (λ k. local-below y a)
     (λ k. search-below (y .nhosts) (netOf a) (rowsOf t) e))
 
-pub local-id-below : (y : Layout) (a : Address) (i : ℕ) → localId y a ≡ Host i → i < y .nhosts
+pub local-id-below : (y : Layout) (a : Address) (i : ℕ) → localId y a ≡ Id i → i < y .nhosts
 local-id-below y a i f = rw f at (local-below y a)
 
 pub found-below : (ours : Address) (y : Layout) (t : NetTable) (a : Address) (i : ℕ) → idsBelow (y .nhosts) (rowsOf t) ≡ true
-    → find ours y t a ≡ Host i → i < y .nhosts
+    → find ours y t a ≡ Id i → i < y .nhosts
 found-below ours y t a i e f = rw f at (find-below ours y t a e)

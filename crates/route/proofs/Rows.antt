@@ -8,7 +8,7 @@ use lib.ListN.{length, getD, take, drop}
 use Rattle.laws.proofs.Rest.{rest-cons, rest-none}
 use Rattle.route.specs.declared.Net.{Net}
 use Rattle.route.specs.declared.Row.{Row}
-use Rattle.route.specs.declared.Found.the-variants.{Host, Nothing}
+use Rattle.route.specs.declared.Found.the-variants.{Id, Nothing}
 use Rattle.route.specs.Find.{ends, search, idsBelow}
 
 module _ (l : List Row) (n i : ℕ) (inside : n ≤ length l) where
@@ -18,7 +18,7 @@ module _ (l : List Row) (n i : ℕ) (inside : n ≤ length l) where
   unfolding search
   passed net d h e = rw (rest-cons l n i inside d h, e)
 
-  pub ended : (net : Net) (d : Row) → i < n → ends net (getD l i d) ≡ true → search net (drop i (take n l)) ≡ Host (getD l i d .host)
+  pub ended : (net : Net) (d : Row) → i < n → ends net (getD l i d) ≡ true → search net (drop i (take n l)) ≡ Id (getD l i d .host)
   unfolding search
   ended net d h e = rw (rest-cons l n i inside d h, e)
 

@@ -10,12 +10,12 @@ use Rattle.route.specs.declared.Net.{Net}
 use Rattle.route.specs.declared.Row.{Row}
 use Rattle.route.specs.declared.NetTable.{NetTable}
 use Rattle.route.specs.declared.Found.{Found}
-use Rattle.route.specs.declared.Found.the-variants.{Host, Nothing}
+use Rattle.route.specs.declared.Found.the-variants.{Id, Nothing}
 
 -- was an id found?
-abbrev pub isHost : Found → Bool
-isHost (Host i) = true
-isHost Nothing = false
+abbrev pub isFound : Found → Bool
+isFound (Id i) = true
+isFound Nothing = false
 
 -- ---- classes: first octets 0 to 127 are class A, 224 and more above C
 
@@ -41,7 +41,7 @@ hostOctet a = cond (classA a) (a .third) (a .fourth)
 unfoldable pub localId : Layout → Address → Found
 localId y a =
     cond (leb (y .«address_offset») (hostOctet a) && ltb (hostOctet a - y .«address_offset») (y .nhosts))
-    (Host (hostOctet a - y .«address_offset»)) Nothing
+    (Id (hostOctet a - y .«address_offset»)) Nothing
 
 -- ---- other nets
 
@@ -64,7 +64,7 @@ ends n r = sameOctets (r .net) n || sameOctets (r .net) zeroNet
 -- "The search ends at the first row that matches ..; none: 11."
 unfoldable pub search : Net → List Row → Found
 search n [] = Nothing
-search n (r ∷ rows) = cond (ends n r) (Host (r .host)) (search n rows)
+search n (r ∷ rows) = cond (ends n r) (Id (r .host)) (search n rows)
 
 abbrev pub rowsOf : NetTable → List Row
 rowsOf t = take (t .count) (t .rows)

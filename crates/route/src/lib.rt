@@ -13,7 +13,7 @@ ghost use Rattle.route.specs.Find.{
   search,
   rowsOf,
   find,
-  isHost,
+  isFound,
   idsBelow,
 };
 use wire::Address;
@@ -49,16 +49,16 @@ pub struct NetTable {
 
 // The id that is found, or none.
 pub enum Found {
-    Host(usize),
+    Id(usize),
     Nothing,
 }
 
 // Was an id found?
-pub fn is_host(f: Found) -> bool
-    ensures { λ r. ⌜ r ≡ isHost f ⌝ }
+pub fn is_found(f: Found) -> bool
+    ensures { λ r. ⌜ r ≡ isFound f ⌝ }
 {
     match f {
-        Found::Host(_) => true,
+        Found::Id(_) => true,
         Found::Nothing => false,
     }
 }
@@ -114,7 +114,7 @@ pub fn local_id(layout: Layout, a: Address) -> Found
     }
     let id = (octet - offset) as usize;
     if id < layout.nhosts {
-        return Found::Host(id);
+        return Found::Id(id);
     }
     Found::Nothing
 }
@@ -204,7 +204,7 @@ fn search(t: NetTable, n: Net) -> Found
         }
         i += 1;
     };
-    Found::Host(id)
+    Found::Id(id)
 }
 
 // The host id of an address, as a host of the address ours finds it.

@@ -80,11 +80,11 @@ pub fn halves() {
 // "A sends at 40,000; B, 500 ahead, gets it at 40,530 and answers at 45,530 with TSP 45,000"
 pub fn b_gets() {
     let s = trials::settings_at(2);
-    let links = config::link_state::fresh(s);
+    let links = host::link_state::fresh(s);
     let run = [table::fresh(); 255];
     let c = Clock::fresh(Millis(40530), Date::FIRST);
     let arrived = packet::receive(s, 0, c, links, run, 1, &packets::A_SENDS);
-    let link = config::link_state::link_of(arrived.links, 1);
+    let link = host::link_state::link_of(arrived.links, 1);
     let tsp = link.tsp;
     let answered = sent(tsp, 45530);
     show::word(b"B gets A's message: TSP", tsp);

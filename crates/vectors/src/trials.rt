@@ -1,7 +1,7 @@
 // What the runs have in common: clocks, entries and arrivals.
 use clock::Clock;
-use config::Link;
-use config::Settings;
+use host::Link;
+use host::Settings;
 use packet::Whole;
 use quantity::Millis;
 use quantity::Seconds;
@@ -103,6 +103,6 @@ pub fn arrival(c: Clock, e: Entry, octets: &[u8]) -> Whole {
         keep_alive: 0,
         tsp: Word(0),
     };
-    let links = config::link_state::with_link(config::link_state::fresh(s), 1, link);
+    let links = host::link_state::with_link(host::link_state::fresh(s), 1, link);
     packet::receive(s, 0, c, links, [e; 255], 1, octets)
 }

@@ -1,12 +1,14 @@
+-- By how steps 2 to 4 come out.
 use mathlib.Core.Path.{_≡_, _∙_, sym}
 use Prim.Native.Nat.{ℕ}
 use native.Mathlib.Omega.{arith}
-use borrow.Author.Needs.{needs}
 use Rattle.table.specs.Forms.{Stage, on, end}
-use Rattle.arrival.specs.Steps.{steps2to4}
+use Rattle.table.proofs.Ranges.{reading-in}
 use Rattle.arrival.specs.declared.Flight.{Flight}
 use Rattle.arrival.specs.declared.Step.the-variants.{On, End}
-use Rattle.arrival.specs.Plan.{stepOf}
+use Rattle.arrival.specs.Steps.{steps2to4}
+use Rattle.arrival.specs.code.Plan.{stepOf}
+use borrow.Author.Needs.{needs}
 use Rattle.arrival.proofs.action.Statement.{statement}
 use Rattle.arrival.proofs.action.Tie as tie
 
@@ -19,6 +21,9 @@ ends : (s : Stage Flight) (f : Flight) → End f ≡ stepOf s → s ≡ end f
 ends (on g) f e = let z : _≡_ {A = ℕ} 0 1 = cc in absurd (omega arith)
 ends (end g) f e = cc
 
+reading-requires : tie.Need-reading-requires
+reading-requires c κs = search needs
+
 broadcast-requires : tie.Need-broadcast-requires
 broadcast-requires c κs = search needs
 
@@ -26,7 +31,7 @@ link-of-requires : tie.Need-link-of-requires
 link-of-requires c κs = search needs
 
 two-to-four-requires : tie.Need-two-to-four-requires
-two-to-four-requires c κs = search needs
+two-to-four-requires c κs = let start = c .before .before .before .before .before .before in (start .pre .1 .1, rw (c .before .before .before .before .before .reading .ensures) (reading-in (start .args .h .clock) (start .pre .1 .0 .1)))
 
 enum-known-f : tie.Need-enum-known-f
 enum-known-f c = search needs
@@ -34,8 +39,8 @@ enum-known-f c = search needs
 with-link-requires : tie.Need-with-link-requires
 with-link-requires c κs = search needs
 
-ended-requires : tie.Need-ended-requires
-ended-requires c κs = search needs
+ends-requires : tie.Need-ends-requires
+ends-requires c κs = search needs
 
 enum-known-f-2 : tie.Need-enum-known-f-2
 enum-known-f-2 c = search needs
@@ -44,32 +49,35 @@ with-link-requires-2 : tie.Need-with-link-requires-2
 with-link-requires-2 c κs = search needs
 
 step5-requires : tie.Need-step5-requires
-step5-requires c κs = search needs
+step5-requires c κs = let start = c .before .before .before .before .before .before .before .before .before .before .before in (start .pre .0, start .pre .1 .0 .0)
 
 returns : tie.Need-returns
 returns c =
-    let a = c .before .before .before .before .before .before .before .before .before .args in
-    let s = steps2to4 (c .before .before .before .before .before .before .before .broadcast .result) (a .r .clock .hold) (a .p) (a .r .time) (c .before .before .before .before .before .before .link-of .result) in
-    rw (← c .before .before .before .before .before .before .before .broadcast .ensures, ← c .before .before .before .before .before .before .link-of .ensures, ends s (c .before .before .before .f .given .0 .0) (sym (c .before .before .before .f .given .1) ∙ c .before .before .before .before .before .two-to-four .ensures), ← c .before .with-link .ensures)
-    (c .ended .ensures)
+    let a = c .before .before .before .before .before .before .before .before .before .before .before .before .args in
+    let r = c .before .before .before .before .before .before .before .before .before .before .before .reading in
+    let s = steps2to4 (c .before .before .before .before .before .before .before .broadcast .result) (r .result .clock .hold) (a .p) (r .result .time) (c .before .before .before .before .before .before .link-of .result) in
+    rw (← r .ensures, ← c .before .before .before .before .before .before .before .broadcast .ensures, ← c .before .before .before .before .before .before .link-of .ensures, ends s (c .before .before .before .f .given .0 .0) (sym (c .before .before .before .f .given .1) ∙ c .before .before .before .before .before .two-to-four .ensures), ← c .before .with-link .ensures)
+    (c .ends .ensures)
 
 returns-2 : tie.Need-returns-2
 returns-2 c =
-    let a = c .before .before .before .before .before .before .before .before .before .args in
-    let s = steps2to4 (c .before .before .before .before .before .before .before .broadcast .result) (a .r .clock .hold) (a .p) (a .r .time) (c .before .before .before .before .before .before .link-of .result) in
-    rw (← c .before .before .before .before .before .before .before .broadcast .ensures, ← c .before .before .before .before .before .before .link-of .ensures, goes-on s (c .before .before .before .f2 .given .0 .0) (sym (c .before .before .before .f2 .given .1) ∙ c .before .before .before .before .before .two-to-four .ensures), ← c .before .with-link2 .ensures)
+    let a = c .before .before .before .before .before .before .before .before .before .before .before .before .args in
+    let r = c .before .before .before .before .before .before .before .before .before .before .before .reading in
+    let s = steps2to4 (c .before .before .before .before .before .before .before .broadcast .result) (r .result .clock .hold) (a .p) (r .result .time) (c .before .before .before .before .before .before .link-of .result) in
+    rw (← r .ensures, ← c .before .before .before .before .before .before .before .broadcast .ensures, ← c .before .before .before .before .before .before .link-of .ensures, goes-on s (c .before .before .before .f2 .given .0 .0) (sym (c .before .before .before .f2 .given .1) ∙ c .before .before .before .before .before .two-to-four .ensures), ← c .before .with-link2 .ensures)
     (c .step5 .ensures)
 
 pub action-spec : {M : Type 1} → statement M
 action-spec =
     tie.close
     (tie.spec
+    reading-requires
     broadcast-requires
     link-of-requires
     two-to-four-requires
     enum-known-f
     with-link-requires
-    ended-requires
+    ends-requires
     enum-known-f-2
     with-link-requires-2
     step5-requires

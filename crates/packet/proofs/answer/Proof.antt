@@ -11,9 +11,9 @@ use Rattle.clock.specs.Midnight.{dayMillis}
 use Rattle.clock.specs.Clock.{freshClock}
 use Rattle.table.specs.declared.Entry.{Entry}
 use Rattle.table.specs.Entry.{freshEntry}
-use Rattle.config.specs.declared.Settings.{Settings}
-use Rattle.config.specs.declared.Links.{Links}
-use Rattle.config.specs.State.{freshLinks}
+use Rattle.host.specs.declared.Settings.{Settings}
+use Rattle.host.specs.declared.Links.{Links}
+use Rattle.host.specs.State.{freshLinks}
 use Rattle.host.specs.Calls.{initialize, arrival}
 use Rattle.packet.specs.declared.Whole.{Whole}
 use Rattle.packet.specs.Held.{wholeOf}

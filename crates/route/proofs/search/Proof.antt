@@ -3,7 +3,7 @@ use mathlib.Core.Path.{_≡_, _∙_, sym, ap, refl}
 use Prim.Native.Nat.{_≤_, _-_}
 use native.Mathlib.Omega.{arith}
 use lib.ListN.{length, take, drop, length-take}
-use Rattle.route.specs.declared.Found.the-variants.{Host}
+use Rattle.route.specs.declared.Found.the-variants.{Id}
 use Rattle.route.specs.Find.{search as searched}
 use Rattle.laws.proofs.Rest.{mapped-long, counted}
 use Rattle.route.proofs.Rows.{passed, ended, missed}
@@ -66,7 +66,7 @@ returns-2 c =
     let l = c .before .before .before .before .before .loop in
     let same = counted (t .rows) (t .count) _ (count .ensures) in
     let hit = sym (c .before .before .ends .ensures) ∙ c .before .if2 .taken in
-    ap Host (c .id-of .ensures)
+    ap Id (c .id-of .ensures)
     ∙ sym (ap (searched _) (sym same) ∙ l .inv .3 ∙ ended (t .rows) (count .result) (l .i) (omega arith) _ _ (omega arith) hit)
 
 pub search-spec : {M : Type 1} → statement M

@@ -1,7 +1,7 @@
 use mathlib.Core.Path.{_∙_, sym}
 use borrow.Author.Needs.{needs}
 use Rattle.laws.proofs.Tests.{is-not, is-so}
-use Rattle.config.proofs.Found.{find-has-place}
+use Rattle.host.proofs.Found.{find-has-place}
 use Rattle.plan.proofs.lookups.lookup.Statement.{statement}
 use Rattle.plan.proofs.lookups.lookup.Tie as tie
 

@@ -1,7 +1,7 @@
 use mathlib.Core.Path.{_∙_, sym}
 use borrow.Author.Needs.{needs}
 use Rattle.laws.proofs.Tests.{is-not, is-so, both}
-use Rattle.config.proofs.Sound.{sound}
+use Rattle.host.proofs.Sound.{sound}
 use Rattle.plan.proofs.Numbers.{number-in}
 use Rattle.plan.proofs.tables.initialize.Statement.{statement}
 use Rattle.plan.proofs.tables.initialize.Tie as tie

@@ -1,6 +1,6 @@
 use native.Mathlib.Omega.{arith}
 use borrow.Author.Needs.{needs}
-use Rattle.config.proofs.Places.{placed}
+use Rattle.host.proofs.Places.{placed}
 use Rattle.plan.proofs.tables.own_work.Statement.{statement}
 use Rattle.plan.proofs.tables.own_work.Tie as tie
 

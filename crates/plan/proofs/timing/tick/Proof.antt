@@ -1,7 +1,7 @@
 use mathlib.Core.Path.{_∙_, sym}
 use borrow.Author.Needs.{needs}
 use Rattle.laws.proofs.Tests.{is-not, is-so}
-use Rattle.config.proofs.Sound.{sound}
+use Rattle.host.proofs.Sound.{sound}
 use Rattle.plan.proofs.timing.tick.Statement.{statement}
 use Rattle.plan.proofs.timing.tick.Tie as tie
 

@@ -1,0 +1,100 @@
+-- What an arrival comes to: the inspection, answers 3 to 9, and the action, steps 2 to 5 of section 3.3.3: the reply, the links afterwards, and the updates of which ids, with the clock that they start from.
+use mathlib.Core.Bool.{Bool, true, false, cond}
+use mathlib.Core.List.{List}
+use Prim.Native.Nat.{ℕ, _+_}
+use lib.Dec.{eqb}
+use lib.IntN.{pos}
+use Rattle.quantity.specs.Quantity.{millis, seconds}
+use Rattle.quantity.specs.Words.{word}
+use Rattle.answer.specs.declared.Answer.{Answer}
+use Rattle.answer.specs.declared.Answer.the-variants.{Done, DelayNotValid, NoHost}
+use Rattle.clock.specs.declared.Clock.{Clock}
+use Rattle.clock.specs.declared.Reading.{Reading}
+use Rattle.clock.specs.Clock.{reading}
+use Rattle.wire.specs.declared.Packet.{Packet}
+use Rattle.wire.specs.declared.Parsed.{Parsed}
+use Rattle.wire.specs.declared.Parsed.the-variants.{Good, Bad}
+use Rattle.route.specs.declared.Found.{Found}
+use Rattle.route.specs.declared.Found.the-variants.{Id, Nothing}
+use Rattle.table.specs.declared.Update.{Update}
+use Rattle.table.specs.declared.run.Updates.{Updates}
+use Rattle.table.specs.Forms.{Stage, on, end}
+use Rattle.host.specs.declared.Host.{Host}
+use Rattle.host.specs.Settings.{foundFor}
+use Rattle.host.specs.State.{hostCount, broadcast, linkOf, withLink}
+use Rattle.host.specs.Lent.{having}
+use Rattle.host.specs.Reply.{plainly}
+use Rattle.arrival.specs.declared.Flight.{Flight}
+use Rattle.arrival.specs.declared.Arrived.{Arrived}
+use Rattle.arrival.specs.Inspection.{inspect}
+use Rattle.arrival.specs.Steps.{steps2to4, neighborUpdate}
+
+-- no updates: the clock stays
+abbrev pub noUpdates : Clock → Updates
+noUpdates c =
+    record {
+      first = 0;
+      end = 0;
+      clock = c;
+      base = 0;
+      «clock_host» = 0;
+      «hold_interval» = seconds 0;
+      date = record { 0 = 0 };
+      update = record { pid = 0; delay = millis (pos 0); offset = word (pos 0); reading = millis (pos 0) };
+      table = false;
+    }
+
+-- an answer; the entries stay
+abbrev pub ends : Answer → Host → Arrived
+ends a h = record { reply = plainly a; links = h .links; work = noUpdates (h .clock) }
+
+-- so many ids from one on are updated, each with its report added where the packet has a table
+abbrev pub updated : Host → Packet → Update → (id count : ℕ) → (table : Bool) → Arrived
+updated h p u id n table =
+    record {
+      reply = plainly Done;
+      links = h .links;
+      work = record {
+        first = id;
+        end = id + n;
+        clock = h .clock;
+        base = 0;
+        «clock_host» = h .settings .«clock_host»;
+        «hold_interval» = h .settings .«hold_interval»;
+        date = p .date;
+        update = u;
+        table = table;
+      };
+    }
+
+-- "NHOSTS 0: find the id of NEIGHBOR-ADDRESS, else 11; update it."
+abbrev pub noTable : Host → (link : ℕ) → Packet → Flight → Found → Arrived
+noTable h i p f Nothing = ends NoHost h
+noTable h i p f (Id id) = updated h p (neighborUpdate i f) id 1 false
+
+-- "Otherwise update each id in rising order"
+abbrev pub withTable : Host → (link : ℕ) → Packet → Flight → Arrived
+withTable h i p f = updated h p (neighborUpdate i f) 0 (hostCount (h .settings)) true
+
+abbrev pub step5 : Host → (link : ℕ) → Packet → Flight → Arrived
+step5 h i p f = cond (eqb (p .nhosts) 0) (noTable h i p f (foundFor (h .settings) (f .link .neighbor))) (withTable h i p f)
+
+-- the link is stored as steps 2 to 4 leave it, whether they end with 10 or go on to step 5
+abbrev pub concluded : Host → (link : ℕ) → Packet → Stage Flight → Arrived
+concluded h i p (end f) = ends DelayNotValid (having (h .clock) (withLink i (f .link) (h .links)) h)
+concluded h i p (on f) = step5 (having (h .clock) (withLink i (f .link) (h .links)) h) i p f
+
+-- one reading, before HOLD is looked at; its clock is carried on
+abbrev pub action : Host → (link : ℕ) → Packet → Arrived
+action h i p =
+    let r : Reading = reading (h .clock) in
+    concluded (having (r .clock) (h .links) h) i p
+    (steps2to4 (broadcast (h .settings) i) (r .clock .hold) p (r .time) (linkOf (h .links) i))
+
+-- answers 3 to 9 by the inspection, 10, 11 and 0 by the action
+abbrev pub inspected : Host → (link : ℕ) → Parsed → Arrived
+inspected h i (Bad a) = ends a h
+inspected h i (Good p) = action h i p
+
+abbrev pub arrival : (link : ℕ) (packet : List ℕ) → Host → Arrived
+arrival i octets h = inspected h i (inspect (h .settings) i octets)

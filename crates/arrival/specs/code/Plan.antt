@@ -1,0 +1,20 @@
+-- How the code has an arrival: the outcome of a step as an enum, and a refusal of the guard's or the arrival.
+use mathlib.Core.Bool.{cond, not}
+use mathlib.Core.List.{List}
+use Prim.Native.Nat.{ℕ}
+use Rattle.answer.specs.declared.Answer.{Answer}
+use Rattle.table.specs.Forms.{Stage, on, end}
+use Rattle.host.specs.declared.Host.{Host}
+use Rattle.host.specs.Guard.{done}
+use Rattle.arrival.specs.declared.Flight.{Flight}
+use Rattle.arrival.specs.declared.Step.{Step}
+use Rattle.arrival.specs.declared.Step.the-variants.{On, End}
+use Rattle.arrival.specs.declared.Arrived.{Arrived}
+use Rattle.arrival.specs.Arrival.{ends, arrival}
+
+abbrev pub stepOf : Stage Flight → Step
+stepOf (on f) = On f
+stepOf (end f) = End f
+
+abbrev pub planned : Answer → (link : ℕ) (packet : List ℕ) → Host → Arrived
+planned g i octets h = cond (not (done g)) (ends g h) (arrival i octets h)

@@ -1,0 +1,101 @@
+-- The calls: each is its guard, then its work on what is lent. Everything afterwards, refusals included.
+use mathlib.Core.Path.{_≡_}
+use mathlib.Core.Bool.{cond, not}
+use mathlib.Core.List.{List, []}
+use Prim.Native.Nat.{ℕ}
+use lib.ListN.{length, getD}
+use Rattle.answer.specs.declared.Answer.{Answer}
+use Rattle.clock.specs.declared.Clock.{Clock}
+use Rattle.route.specs.declared.Found.{Found}
+use Rattle.route.specs.declared.Found.the-variants.{Id, Nothing}
+use Rattle.table.specs.declared.Entry.{Entry}
+use Rattle.table.specs.Entry.{freshEntry}
+use Rattle.table.specs.Sweep.{Swept}
+use Rattle.table.specs.Runs.{changes, updates}
+use Rattle.host.specs.declared.Links.{Links}
+use Rattle.host.specs.declared.Reply.{Reply}
+use Rattle.host.specs.declared.guard.Scope.{Scope}
+use Rattle.host.specs.declared.guard.Scope.the-variants.{OnLink}
+use Rattle.host.specs.State.{withEntries}
+use Rattle.host.specs.Lent.{Lent, entriesOf}
+use Rattle.host.specs.Guard.{guard, done}
+use Rattle.host.specs.Reply.{plainly}
+use Rattle.sending.specs.declared.Sending.{Sending}
+use Rattle.sending.specs.Send.{sendIn, written}
+use Rattle.arrival.specs.declared.Arrived.{Arrived}
+use Rattle.arrival.specs.Arrival.{arrival}
+use Rattle.calls.specs.declared.Effect.{Effect}
+use Rattle.calls.specs.declared.Request.{Request}
+use Rattle.calls.specs.Effects.{scopeOf, wanted, effect}
+
+-- a call with its input: a request, a send on a link into a buffer, a packet that arrives on a link
+pub data Call : Type 0 where
+  ask : Request → Call
+  send : (link : ℕ) (buffer : List ℕ) → Call
+  receive : (link : ℕ) (packet : List ℕ) → Call
+
+-- the reply, and everything that was lent, as it is afterwards; a call that is lent no buffer leaves none
+pub record Outcome : Type 0 where
+  pub reply : Reply
+  pub clock : Clock
+  pub links : Links
+  pub run : List Entry
+  pub buffer : List ℕ
+
+-- ---- the guard
+
+abbrev pub scopeOfCall : Call → Scope
+scopeOfCall (ask q) = scopeOf q
+scopeOfCall (send i buffer) = OnLink i
+scopeOfCall (receive i packet) = OnLink i
+
+abbrev pub bufferOf : Call → List ℕ
+bufferOf (ask q) = []
+bufferOf (send i buffer) = buffer
+bufferOf (receive i packet) = []
+
+-- a refusal changes nothing
+abbrev pub refused : Answer → Call → Lent → Outcome
+refused a call x =
+    record { reply = plainly a; clock = x .host .clock; links = x .host .links; run = x .run; buffer = bufferOf call }
+
+-- ---- the work
+
+-- the entry of an id that was found
+abbrev pub entryAt : Found → Lent → Entry
+entryAt Nothing x = freshEntry
+entryAt (Id id) x = getD (entriesOf x) id freshEntry
+
+-- the changes that an effect makes to the host's entries
+abbrev pub carriedOut : Effect → Lent → Outcome
+carriedOut e x =
+    record { reply = e .reply; clock = e .clock; links = e .links; run = withEntries (x .host .number) (changes (e .work) (entriesOf x)) (x .run); buffer = [] }
+
+-- the message, written to the front of the buffer
+abbrev pub sentBy : Sending → (buffer : List ℕ) → Lent → Outcome
+sentBy p buffer x =
+    record { reply = p .reply; clock = p .clock; links = p .links; run = x .run; buffer = written p (entriesOf x) buffer }
+
+-- the updates in rising order, the clock handed from one to the next
+abbrev pub updatedBy : Arrived → (packet : List ℕ) → Lent → Outcome
+updatedBy e octets x =
+    let w : Swept = updates (e .work) octets (entriesOf x) in
+    record { reply = e .reply; clock = w .clock; links = e .links; run = withEntries (x .host .number) (w .entries) (x .run); buffer = [] }
+
+abbrev pub work : Call → Lent → Outcome
+work (ask q) x = carriedOut (effect q (x .host) (entryAt (wanted q (x .host .settings)) x)) x
+work (send i buffer) x = sentBy (sendIn i (length buffer) (x .host)) buffer x
+work (receive i packet) x = updatedBy (arrival i packet (x .host)) packet x
+
+-- ---- the call
+
+unfoldable pub perform : Call → Lent → Outcome
+perform call x =
+    cond (not (done (guard (scopeOfCall call) x))) (refused (guard (scopeOfCall call) x) call x) (work call x)
+
+-- an outcome as a caller sees it, but for a buffer
+pub record Leaves (o : Outcome) (r : Reply) (c : Clock) (l : Links) (es : List Entry) : Type 0 where
+  pub reply : r ≡ o .reply
+  pub clock : c ≡ o .clock
+  pub links : l ≡ o .links
+  pub run : es ≡ o .run

@@ -1,0 +1,66 @@
+-- Where the ids of a host stand in the run. Where there is no id, there is no place: a refused call may have any number.
+use Prim.Native.Nat.{ℕ, _+_, _≤_, _<_}
+use mathlib.Core.Bool.{cond, not}
+use lib.Dec.{ltb}
+use Rattle.answer.specs.declared.Answer.{Answer}
+use Rattle.route.specs.declared.Found.{Found}
+use Rattle.route.specs.declared.Found.the-variants.{Id, Nothing}
+use Rattle.table.specs.declared.run.Seek.{Seek}
+use Rattle.table.specs.declared.run.Changes.{Changes}
+use Rattle.table.specs.declared.run.Updates.{Updates}
+use Rattle.table.specs.declared.run.Reports.{Reports}
+use Rattle.table.specs.Entry.{freshEntry}
+use Rattle.host.specs.declared.Host.{Host}
+use Rattle.host.specs.State.{firstPlace}
+use Rattle.host.specs.Guard.{done}
+use Rattle.arrival.specs.Arrival.{noUpdates}
+use Rattle.calls.specs.declared.Request.{Request}
+use Rattle.calls.specs.Effects.{nothing, wanted}
+
+-- ids up to 255 of a number up to 15
+pub record Placeable (k first end : ℕ) : Type 0 where
+  pub number : first < end → k ≤ 15
+  pub ids : first < end → end ≤ 255
+
+-- ---- the entry that is looked at
+
+abbrev pub noEntry : Seek
+noEntry = record { first = 0; end = 0; entry = freshEntry }
+
+abbrev pub seekAt : (number : ℕ) → Found → Seek
+seekAt k Nothing = noEntry
+seekAt k (Id id) = record { first = firstPlace k + id; end = firstPlace k + id + 1; entry = freshEntry }
+
+abbrev pub soughtAt : Answer → Request → Host → Seek
+soughtAt g q h = cond (not (done g)) noEntry (seekAt (h .number) (wanted q (h .settings)))
+
+-- ---- the entries that are changed, updated, or reported
+
+abbrev pub placed : (number : ℕ) → Changes → Changes
+placed k w =
+    cond (ltb (w .first) (w .end))
+    record { first = firstPlace k + w .first; end = firstPlace k + w .end; change = w .change } nothing
+
+abbrev pub placedUpdates : (number : ℕ) → Updates → Updates
+placedUpdates k w =
+    record {
+      first = firstPlace k + w .first;
+      end = firstPlace k + w .end;
+      clock = w .clock;
+      base = firstPlace k + w .base;
+      «clock_host» = w .«clock_host»;
+      «hold_interval» = w .«hold_interval»;
+      date = w .date;
+      update = w .update;
+      table = w .table;
+    }
+
+abbrev pub updatesAt : (number : ℕ) → Updates → Updates
+updatesAt k w = cond (ltb (w .first) (w .end)) (placedUpdates k w) (noUpdates (w .clock))
+
+abbrev pub noReports : Reports
+noReports = record { first = 0; end = 0; pid = 0 }
+
+abbrev pub reportsAt : (number : ℕ) → Reports → Reports
+reportsAt k w =
+    cond (ltb (w .first) (w .end)) record { first = firstPlace k + w .first; end = firstPlace k + w .end; pid = w .pid } noReports

@@ -1,0 +1,232 @@
+// What each call comes to, by value.
+ghost use mathlib.Core.Path.{_≡_};
+ghost use mathlib.Core.Bool.{true, false};
+ghost use Rattle.quantity.specs.Quantity.{millis};
+ghost use Rattle.clock.specs.Clock.{clockInRange};
+ghost use Rattle.host.specs.Settings.{settingsGood};
+ghost use Rattle.host.specs.State.{hasPlace};
+ghost use Rattle.calls.specs.Effects.{
+  plainly,
+  nothing,
+  each,
+  answers,
+  ownWork,
+  looked,
+  initialize,
+  tick,
+  adjust,
+  setBy,
+  read,
+  second,
+  selfReport,
+  lookup,
+  effect,
+  host,
+};
+ghost use Rattle.calls.specs.Planned.{Told, Ready, planned};
+use super::Effect;
+use super::Reply;
+use super::Request;
+use answer::Answer;
+use calendar::Date;
+use clock::Clock;
+use host::Links;
+use host::Settings;
+use host::host_count;
+use quantity::Millis;
+use route::Found;
+use table::Entry;
+use table::run::Change;
+use table::run::Changes;
+
+// An answer without values.
+fn plainly(a: Answer) -> Reply
+    ensures { λ r. ⌜ r ≡ plainly a ⌝ }
+{
+    Reply {
+        answer: a,
+        length: 0,
+        host: 0,
+        pid: 0,
+        time: Millis(0),
+        date: Date(0),
+    }
+}
+
+fn nothing() -> Changes
+    ensures { λ w. ⌜ w ≡ nothing ⌝ }
+{
+    Changes {
+        first: 0,
+        end: 0,
+        change: Change::Fresh,
+    }
+}
+
+fn each(s: Settings, change: Change) -> Changes
+    ensures { λ w. ⌜ w ≡ each s change ⌝ }
+{
+    Changes {
+        first: 0,
+        end: host_count(s),
+        change: change,
+    }
+}
+
+// Nothing changes.
+fn answers(c: Clock, l: Links, r: Reply) -> Effect
+    ensures { λ p. ⌜ p ≡ answers r c l ⌝ }
+{
+    Effect {
+        reply: r,
+        clock: c,
+        links: l,
+        work: nothing(),
+    }
+}
+
+fn initialize(s: Settings) -> Effect
+    requires { ⌜ settingsGood s ≡ true ⌝ }
+    ensures { λ p. ⌜ p ≡ initialize s ⌝ }
+{
+    Effect {
+        reply: plainly(Answer::Done),
+        clock: Clock::fresh(s.time, s.date),
+        links: host::link_state::fresh(s),
+        work: each(s, Change::Fresh),
+    }
+}
+
+fn tick(s: Settings, c: Clock, l: Links) -> Effect
+    requires { ⌜ (settingsGood s ≡ true) × (clockInRange c ≡ true) ⌝ }
+    ensures { λ p. ⌜ p ≡ tick (host s c l) ⌝ }
+{
+    answers(
+        c.ticked(s.clock_tick, s.hold_interval),
+        l,
+        plainly(Answer::Done),
+    )
+}
+
+fn adjust(s: Settings, c: Clock, l: Links) -> Effect
+    requires { ⌜ (settingsGood s ≡ true) × (clockInRange c ≡ true) ⌝ }
+    ensures { λ p. ⌜ p ≡ adjust (host s c l) ⌝ }
+{
+    answers(c.adjusted(s.hold_interval), l, plainly(Answer::Done))
+}
+
+fn set(s: Settings, c: Clock, l: Links, ms: i32) -> Effect
+    requires { ⌜ (settingsGood s ≡ true) × (clockInRange c ≡ true) ⌝ }
+    ensures { λ p. ⌜ p ≡ setBy (millis ms) (host s c l) ⌝ }
+{
+    answers(
+        c.set_by(s.hold_interval, Millis::of_count(ms)),
+        l,
+        plainly(Answer::Done),
+    )
+}
+
+fn read(s: Settings, c: Clock, l: Links) -> Effect
+    ensures { λ p. ⌜ p ≡ read (host s c l) ⌝ }
+{
+    let r = c.reading();
+    let clock = r.clock;
+    let time = r.time;
+    let date = clock.date;
+    let reply = Reply {
+        answer: Answer::Done,
+        length: 0,
+        host: 0,
+        pid: 0,
+        time: time,
+        date: date,
+    };
+    answers(clock, l, reply)
+}
+
+fn second(s: Settings, c: Clock, l: Links) -> Effect
+    ensures { λ p. ⌜ p ≡ second (host s c l) ⌝ }
+{
+    Effect {
+        reply: plainly(Answer::Done),
+        clock: c.second(),
+        links: l,
+        work: each(s, Change::Aged),
+    }
+}
+
+fn own_work(time: Millis, own: Found) -> Changes
+    requires { ⌜ hasPlace own ≡ true ⌝ }
+    ensures { λ w. ⌜ w ≡ ownWork time own ⌝ }
+{
+    match own {
+        Found::Nothing => nothing(),
+        Found::Id(id) => Changes {
+            first: id,
+            end: id + 1,
+            change: Change::Reported(time),
+        },
+    }
+}
+
+fn self_report(s: Settings, c: Clock, l: Links) -> Effect
+    requires { ⌜ settingsGood s ≡ true ⌝ }
+    ensures { λ p. ⌜ p ≡ selfReport (host s c l) ⌝ }
+{
+    let r = c.reading();
+    let clock = r.clock;
+    Effect {
+        reply: plainly(Answer::Done),
+        clock: clock,
+        links: l,
+        work: own_work(r.time, host::own_id(s)),
+    }
+}
+
+fn looked(found: Found, e: Entry) -> Reply
+    ensures { λ r. ⌜ r ≡ looked found e ⌝ }
+{
+    match found {
+        Found::Nothing => plainly(Answer::NoHost),
+        Found::Id(id) => {
+            if !table::up(e) {
+                return plainly(Answer::HostDown);
+            }
+            Reply {
+                answer: Answer::Done,
+                length: 0,
+                host: id,
+                pid: e.pid,
+                time: Millis(0),
+                date: Date(0),
+            }
+        }
+    }
+}
+
+fn effect(s: Settings, c: Clock, l: Links, e: Entry, q: Request) -> Effect
+    requires { ⌜ Ready s c q ⌝ }
+    ensures { λ p. ⌜ p ≡ effect q (host s c l) e ⌝ }
+{
+    match q {
+        Request::Initialize => initialize(s),
+        Request::Tick => tick(s, c, l),
+        Request::Adjust => adjust(s, c, l),
+        Request::Set(ms) => set(s, c, l, ms),
+        Request::Read => read(s, c, l),
+        Request::Second => second(s, c, l),
+        Request::SelfReport => self_report(s, c, l),
+        Request::Lookup(a) => answers(c, l, looked(route::find(s.address, s.layout, s.net, a), e)),
+    }
+}
+
+// A refusal, or the effect.
+pub fn plan(g: Answer, s: Settings, c: Clock, l: Links, e: Entry, q: Request) -> Effect
+    requires { ⌜ Told g s c q ⌝ }
+    ensures { λ p. ⌜ p ≡ planned g q (host s c l) e ⌝ }
+{
+    if !answer::is_done(g) {
+        return answers(c, l, plainly(g));
+    }
+    effect(s, c, l, e, q)
+}

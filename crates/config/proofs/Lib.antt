@@ -1,5 +1,0 @@
-pub mod Places
-pub mod Guarded
-pub mod Sound
-pub mod Slots
-pub mod Found

@@ -1,4 +1,0 @@
-pub mod Settings
-pub mod State
-pub mod Guard
-pub mod Told

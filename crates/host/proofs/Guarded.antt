@@ -1,0 +1,108 @@
+-- A call is its guard and then its work: a refusal of the guard's, or work that has passed all of the guard's tests.
+use mathlib.Core.Path.{_≡_, refl, ap, sym, _∙_}
+use mathlib.Core.Bool.{Bool, true, false, false≢true, cond, not, _&&_, _||_}
+use mathlib.Core.List.{List}
+use Prim.Native.Nat.{ℕ, _+_, _-_, _≤_, _<_}
+use native.Mathlib.Omega.{arith}
+use borrow.Author.Tests.{ltb-false, eqb-false}
+use lib.Dec.{ltb, eqb}
+use lib.ListN.{length}
+use Rattle.laws.proofs.Tests.{both, neither, is-not, is-so}
+use Rattle.laws.proofs.Tests as tests
+use Rattle.answer.specs.declared.Answer.{Answer}
+use Rattle.answer.specs.declared.Answer.the-variants.{Done, Setting, OutOfRange}
+use Rattle.clock.specs.Clock.{clockInRange}
+use Rattle.table.specs.declared.Entry.{Entry}
+use Rattle.table.specs.Forms.{every}
+use Rattle.table.specs.Entry.{entryInRange}
+use Rattle.host.specs.declared.Settings.{Settings}
+use Rattle.host.specs.declared.guard.Scope.{Scope}
+use Rattle.host.specs.declared.guard.Scope.the-variants.{Places, All, OnLink}
+use Rattle.host.specs.Settings.{linkCount, settingsGood}
+use Rattle.host.specs.State.{placesPerHost, firstPlace}
+use Rattle.host.specs.Lent.{Lent, entriesOf, hostInRange, lentInRange}
+use Rattle.host.specs.Guard.{noPlaces, noLink, outOfRange, guard, done}
+use Rattle.host.specs.code.Told.{afresh, Ready, Told}
+use Rattle.host.proofs.Places.{Holds}
+
+-- what is so of the refusal and of the work is so of the call
+pub either : {O : Type 0} (P : O → Type 0) (a : Answer) {refusal work : O}
+    → (done a ≡ false → P refusal) → (done a ≡ true → P work) → P (cond (not (done a)) refusal work)
+either P a {refusal} {work} refuses goes-on =
+    tests.either P (not (done a)) refusal work (λ e. refuses (is-not (done a) e)) (λ e. goes-on (is-so (done a) e))
+
+-- ---- what a call that goes on has
+
+pub record Passed (a : Scope) (x : Lent) : Type 0 where
+  pub places : noPlaces (x .host .number) (x .run) ≡ false
+  pub settings : settingsGood (x .host .settings) ≡ true
+  pub lent : afresh a ≡ false → lentInRange x ≡ true
+  pub link : (i : ℕ) → a ≡ OnLink i → noLink (x .host .settings) i ≡ false
+
+-- the tests as they stand in the guard
+past : (a b : Bool) → done (cond a OutOfRange (cond (not b) Setting Done)) ≡ true → (a ≡ false) × (b ≡ true)
+past true b e = absurd (false≢true e)
+past false true e = (refl, refl)
+past false false e = absurd (false≢true e)
+
+module _ (x : Lent) where
+  abbrev missing : Bool
+  missing = noPlaces (x .host .number) (x .run)
+
+  within : (a : Scope) → outOfRange a x ≡ false → settingsGood (x .host .settings) ≡ true → Passed a x
+  within Places e good =
+      record { places = e; settings = good; lent = λ f. absurd (false≢true (sym f)); link = λ i f. (let z : _≡_ {A = ℕ} 0 1 = cc in absurd (omega arith)) }
+  within All e good =
+      let n = neither missing (not (lentInRange x)) e in
+      record { places = n .0; settings = good; lent = λ _. is-so _ (n .1); link = λ i f. (let z : _≡_ {A = ℕ} 0 1 = cc in absurd (omega arith)) }
+  within (OnLink i) e good =
+      let o = neither (noLink (x .host .settings) i) (missing || not (lentInRange x)) e in
+      let n = neither missing (not (lentInRange x)) (o .1) in
+      record { places = n .0; settings = good; lent = λ _. is-so _ (n .1); link = λ j f. (let same : i ≡ j = cc in rw (sym same) (o .0)) }
+
+pub passed : (a : Scope) (x : Lent) → done (guard a x) ≡ true → Passed a x
+unfolding guard
+passed a x e =
+    let p = past (outOfRange a x) (settingsGood (x .host .settings)) e in
+    within x a (p .0) (p .1)
+
+-- ---- what the tests say in numbers
+
+pub holds : (k : ℕ) (run : List Entry) → noPlaces k run ≡ false → Holds k run
+unfolding noPlaces
+holds k run e = ltb-false _ _ (neither (ltb 15 k) (ltb (length run) (firstPlace k + placesPerHost)) e .1)
+
+pub number-lent : (k : ℕ) (run : List Entry) → noPlaces k run ≡ false → k ≤ 15
+unfolding noPlaces
+number-lent k run e = ltb-false 15 k (neither (ltb 15 k) _ e .0)
+
+-- a link that the host has
+pub record Counted (s : Settings) (i : ℕ) : Type 0 where
+  pub from-one : 1 ≤ i
+  pub at-place : i - 1 < linkCount s
+  pub to-eight : i ≤ 8
+
+pub counted : (s : Settings) (i : ℕ) → noLink s i ≡ false → Counted s i
+unfolding noLink
+counted s i e =
+    let n = neither (eqb i 0) (ltb (linkCount s) i) e in
+    let some = eqb-false i 0 (n .0) in
+    let most = ltb-false (linkCount s) i (n .1) in
+    omega arith
+
+module _ (x : Lent) (in-range : lentInRange x ≡ true) where
+  pub clock-lent : clockInRange (x .host .clock) ≡ true
+  unfolding lentInRange
+  clock-lent = both (clockInRange (x .host .clock)) _ (both (hostInRange (x .host)) _ in-range .0) .0
+
+  pub entries-lent : every entryInRange (entriesOf x) ≡ true
+  unfolding lentInRange
+  entries-lent = both (hostInRange (x .host)) _ in-range .1
+
+-- what its answer tells the work behind it
+pub told : (a : Scope) (x : Lent) → Told (guard a x) a (x .host)
+told a x = record {
+  ready = λ d.
+      (let p = passed a x d in
+      record { settings = p .settings; number = number-lent (x .host .number) (x .run) (p .places); clock = λ f. clock-lent x (p .lent f); link = p .link });
+}

@@ -1,0 +1,21 @@
+-- 12 by the test before, 1 by the settings.
+use mathlib.Core.Path.{_∙_, sym}
+use borrow.Author.Needs.{needs}
+use Rattle.laws.proofs.Tests.{is-not, is-so}
+use Rattle.host.proofs.guard.judged.Statement.{statement}
+use Rattle.host.proofs.guard.judged.Tie as tie
+
+returns : tie.Need-returns
+returns c = search needs
+
+good-requires : tie.Need-good-requires
+good-requires c κs = search needs
+
+returns-2 : tie.Need-returns-2
+returns-2 c = rw (is-so (c .before .before .before .before .args .good) (c .before .before .before .if1 .left), sym (c .before .good2 .ensures) ∙ is-not _ (c .if2 .taken))
+
+returns-3 : tie.Need-returns-3
+returns-3 c = rw (is-so (c .before .before .before .before .args .good) (c .before .before .before .if1 .left), sym (c .before .good2 .ensures) ∙ is-so _ (c .if2 .left))
+
+pub judged-spec : {M : Type 1} → statement M
+judged-spec = tie.close (tie.spec returns good-requires returns-2 returns-3)

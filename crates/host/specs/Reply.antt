@@ -1,0 +1,21 @@
+-- What a call answers: "A send answers its length, a lookup its host id and PID, a read its time and DATE; every refusal answers zero for them."
+use Prim.Native.Nat.{ℕ}
+use lib.IntN.{pos}
+use Rattle.quantity.specs.declared.Millis.{Millis}
+use Rattle.quantity.specs.Quantity.{millis}
+use Rattle.calendar.specs.declared.Date.{Date}
+use Rattle.answer.specs.declared.Answer.{Answer}
+use Rattle.answer.specs.declared.Answer.the-variants.{Done}
+use Rattle.host.specs.declared.Reply.{Reply}
+
+abbrev pub plainly : Answer → Reply
+plainly a = record { answer = a; length = 0; id = 0; pid = 0; time = millis (pos 0); date = record { 0 = 0 } }
+
+abbrev pub tellsLength : ℕ → Reply
+tellsLength n = record { answer = Done; length = n; id = 0; pid = 0; time = millis (pos 0); date = record { 0 = 0 } }
+
+abbrev pub tellsRoute : (id pid : ℕ) → Reply
+tellsRoute i p = record { answer = Done; length = 0; id = i; pid = p; time = millis (pos 0); date = record { 0 = 0 } }
+
+abbrev pub tellsTime : Millis → Date → Reply
+tellsTime t d = record { answer = Done; length = 0; id = 0; pid = 0; time = t; date = d }

@@ -1,0 +1,58 @@
+-- "Settings": the test of answer 1, "a setting outside the above".
+use mathlib.Core.Bool.{Bool, not, _&&_, _||_}
+use Prim.Native.Nat.{ℕ, min}
+use lib.Dec.{ltb, leb, eqb}
+use lib.IntN.{pos}
+use lib.ListN.{take}
+use Rattle.quantity.specs.Quantity.{millis, lessMillis}
+use Rattle.calendar.specs.Date.{real}
+use Rattle.clock.specs.Midnight.{dayMillis}
+use Rattle.clock.specs.Clock.{tickInRange}
+use Rattle.table.specs.Forms.{every}
+use Rattle.wire.specs.declared.Address.{Address}
+use Rattle.route.specs.declared.Found.{Found}
+use Rattle.route.specs.Find.{isFound, localId, find, rowsOf, idsBelow}
+use Rattle.host.specs.declared.LinkSetting.{LinkSetting}
+use Rattle.host.specs.declared.Settings.{Settings}
+
+abbrev pub fromTo : (least most n : ℕ) → Bool
+fromTo least most n = leb least n && leb n most
+
+-- 255: clock setting off
+abbrev pub clockSettingOff : ℕ
+clockSettingOff = 255
+
+-- the id that LOCAL-ADDRESS gives, the host's own
+abbrev pub ownId : Settings → Found
+ownId s = localId (s .layout) (s .address)
+
+-- the id of an address, by the host's own net or its net table
+abbrev pub foundFor : Settings → Address → Found
+foundFor s a = find (s .address) (s .layout) (s .net) a
+
+-- the links of the host: its first count, 8 at most
+abbrev pub linkCount : Settings → ℕ
+linkCount s = min (s .«link_count») 8
+
+-- a link's switch: 0 is point-to-point, 1 broadcast
+abbrev pub switchGood : LinkSetting → Bool
+switchGood x = leb (x .broadcast) 1
+
+abbrev pub switchesGood : Settings → Bool
+switchesGood s = every switchGood (take (linkCount s) (s .links))
+
+-- the rules of the settings, in the paper's order
+unfoldable pub settingsGood : Settings → Bool
+settingsGood s =
+    fromTo 1 8 (s .«link_count»)
+    && switchesGood s
+    && fromTo 1 255 (s .layout .nhosts)
+    && leb (s .net .count) 32
+    && fromTo 1 223 (s .address .first)
+    && (eqb (s .«clock_host») clockSettingOff || ltb (s .«clock_host») (s .layout .nhosts))
+    && fromTo 1 255 (s .«hold_interval» .0)
+    && tickInRange (s .«clock_tick»)
+    && (not (lessMillis (s .time) (millis (pos 0))) && lessMillis (s .time) dayMillis)
+    && real (s .date)
+    && idsBelow (s .layout .nhosts) (rowsOf (s .net))
+    && isFound (ownId s)

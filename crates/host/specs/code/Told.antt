@@ -1,0 +1,27 @@
+-- What the guard's answer tells the work behind it.
+use mathlib.Core.Path.{_≡_}
+use mathlib.Core.Bool.{Bool, true, false}
+use Prim.Native.Nat.{ℕ, _≤_}
+use Rattle.answer.specs.declared.Answer.{Answer}
+use Rattle.clock.specs.Clock.{clockInRange}
+use Rattle.host.specs.declared.Host.{Host}
+use Rattle.host.specs.declared.guard.Scope.{Scope}
+use Rattle.host.specs.declared.guard.Scope.the-variants.{Places, All, OnLink}
+use Rattle.host.specs.Settings.{settingsGood}
+use Rattle.host.specs.Guard.{noLink, done}
+
+-- whether a call tests no more than numbers and places
+abbrev pub afresh : Scope → Bool
+afresh Places = true
+afresh All = false
+afresh (OnLink i) = false
+
+-- a host that a call may work on
+pub record Ready (a : Scope) (h : Host) : Type 0 where
+  pub settings : settingsGood (h .settings) ≡ true
+  pub number : h .number ≤ 15
+  pub clock : afresh a ≡ false → clockInRange (h .clock) ≡ true
+  pub link : (i : ℕ) → a ≡ OnLink i → noLink (h .settings) i ≡ false
+
+pub record Told (g : Answer) (a : Scope) (h : Host) : Type 0 where
+  pub ready : done g ≡ true → Ready a h

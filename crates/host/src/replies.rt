@@ -1,0 +1,63 @@
+// The replies of calls.
+ghost use mathlib.Core.Path.{_≡_};
+ghost use Rattle.host.specs.Reply.{plainly, tellsLength, tellsRoute, tellsTime};
+use super::Reply;
+use answer::Answer;
+use calendar::Date;
+use quantity::Millis;
+
+// An answer without values.
+pub fn plainly(a: Answer) -> Reply
+    ensures { λ r. ⌜ r ≡ plainly a ⌝ }
+{
+    Reply {
+        answer: a,
+        length: 0,
+        id: 0,
+        pid: 0,
+        time: Millis(0),
+        date: Date(0),
+    }
+}
+
+// The length of a message.
+pub fn tells_length(n: usize) -> Reply
+    ensures { λ r. ⌜ r ≡ tellsLength n ⌝ }
+{
+    Reply {
+        answer: Answer::Done,
+        length: n,
+        id: 0,
+        pid: 0,
+        time: Millis(0),
+        date: Date(0),
+    }
+}
+
+// A route: a host id and the link to it.
+pub fn tells_route(id: usize, pid: u8) -> Reply
+    ensures { λ r. ⌜ r ≡ tellsRoute id pid ⌝ }
+{
+    Reply {
+        answer: Answer::Done,
+        length: 0,
+        id: id,
+        pid: pid,
+        time: Millis(0),
+        date: Date(0),
+    }
+}
+
+// The time and DATE.
+pub fn tells_time(time: Millis, date: Date) -> Reply
+    ensures { λ r. ⌜ r ≡ tellsTime time date ⌝ }
+{
+    Reply {
+        answer: Answer::Done,
+        length: 0,
+        id: 0,
+        pid: 0,
+        time: time,
+        date: date,
+    }
+}

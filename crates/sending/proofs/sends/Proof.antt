@@ -1,0 +1,67 @@
+-- Each part by its function; our reading is a time of the day, since the clock is in range.
+use mathlib.Core.Path.{_∙_, sym}
+use borrow.Author.Needs.{needs}
+use Rattle.table.proofs.Ranges.{reading-in}
+use Rattle.sending.proofs.sends.Statement.{statement}
+use Rattle.sending.proofs.sends.Tie as tie
+
+reading-requires : tie.Need-reading-requires
+reading-requires c κs = search needs
+
+link-of-requires : tie.Need-link-of-requires
+link-of-requires c κs = search needs
+
+report-count-requires : tie.Need-report-count-requires
+report-count-requires c κs = search needs
+
+cast-tells-length : tie.Need-cast-tells-length
+cast-tells-length c = search needs
+
+cast-t13 : tie.Need-cast-t13
+cast-t13 c = search needs
+
+length-requires : tie.Need-length-requires
+length-requires c κs = search needs
+
+tells-length-requires : tie.Need-tells-length-requires
+tells-length-requires c κs = search needs
+
+link-sent-requires : tie.Need-link-sent-requires
+link-sent-requires c κs = search needs
+
+with-link-requires : tie.Need-with-link-requires
+with-link-requires c κs = search needs
+
+packet-sent-requires : tie.Need-packet-sent-requires
+packet-sent-requires c κs =
+    let start = c .before .before .before .before .before .before .before .before .before .before .before .before in
+    rw (c .before .before .before .before .before .before .before .before .before .before .before .reading .ensures) (reading-in (start .args .h .clock) (start .pre .1))
+
+returns : tie.Need-returns
+returns c =
+    rw (
+      ← c .before .before .before .before .before .before .before .before .before .before .before .before .reading .ensures,
+      ← c .before .before .before .before .before .before .before .before .before .link-of .ensures,
+      ← c .before .before .before .before .before .before .before .before .report-count .ensures,
+      ← c .before .before .before .before .length .ensures,
+      ← c .before .before .before .tells-length .ensures,
+      ← c .before .before .link-sent .ensures,
+      ← c .before .with-link .ensures,
+      ← c .packet-sent .ensures,
+    )
+
+pub sends-spec : {M : Type 1} → statement M
+sends-spec =
+    tie.close
+    (tie.spec
+    reading-requires
+    link-of-requires
+    report-count-requires
+    cast-tells-length
+    cast-t13
+    length-requires
+    tells-length-requires
+    link-sent-requires
+    with-link-requires
+    packet-sent-requires
+    returns)

@@ -1,0 +1,83 @@
+-- What a send comes to: the reply, the clock and the links afterwards, and the message, with a report of which ids.
+use mathlib.Core.Bool.{true, false, cond}
+use mathlib.Core.List.{List, map, _++_}
+use Prim.Native.Nat.{ℕ, _-_}
+use lib.Dec.{ltb}
+use lib.IntN.{pos}
+use lib.ListN.{drop}
+use Rattle.laws.specs.Lists.{part}
+use Rattle.quantity.specs.Quantity.{millis}
+use Rattle.quantity.specs.Words.{word}
+use Rattle.answer.specs.declared.Answer.{Answer}
+use Rattle.answer.specs.declared.Answer.the-variants.{ShortBuffer}
+use Rattle.clock.specs.declared.Reading.{Reading}
+use Rattle.clock.specs.Clock.{reading}
+use Rattle.wire.specs.declared.Packet.{Packet}
+use Rattle.wire.specs.Octets.{zeroAddress}
+use Rattle.wire.specs.Packet.{packetLength, message}
+use Rattle.table.specs.declared.Entry.{Entry}
+use Rattle.table.specs.Entry.{advertised}
+use Rattle.host.specs.declared.Settings.{Settings}
+use Rattle.host.specs.declared.Link.{Link}
+use Rattle.host.specs.declared.Host.{Host}
+use Rattle.host.specs.State.{hostCount, linkOf, withLink}
+use Rattle.host.specs.Reply.{plainly, tellsLength}
+use Rattle.sending.specs.declared.Sending.{Sending}
+use Rattle.sending.specs.Message.{tableGoes, linkSent, packetSent}
+
+-- how many reports go out
+abbrev pub reportCount : Settings → Link → ℕ
+reportCount s x = cond (tableGoes s x) (hostCount s) 0
+
+abbrev pub noPacket : Packet
+noPacket =
+    record {
+      source = zeroAddress;
+      date = record { 0 = 0 };
+      time = millis (pos 0);
+      tsp = word (pos 0);
+      «address_offset» = 0;
+      nhosts = 0;
+    }
+
+-- no message: nothing changes
+abbrev pub unsent : Answer → Host → Sending
+unsent a h =
+    record {
+      reply = plainly a;
+      clock = h .clock;
+      links = h .links;
+      work = record { first = 0; end = 0; pid = 0 };
+      goes = false;
+      destination = zeroAddress;
+      packet = noPacket;
+    }
+
+-- "destination NEIGHBOR-ADDRESS"; a report of each id goes out, or of none
+abbrev pub sends : (link : ℕ) → Host → Sending
+sends i h =
+    let r : Reading = reading (h .clock) in
+    let x : Link = linkOf (h .links) i in
+    let n : ℕ = reportCount (h .settings) x in
+    record {
+      reply = tellsLength (packetLength n);
+      clock = r .clock;
+      links = withLink i (linkSent x) (h .links);
+      work = record { first = 0; end = n; pid = i };
+      goes = true;
+      destination = x .neighbor;
+      packet = packetSent (h .settings) x (r .time) (r .clock .date) n;
+    }
+
+-- 2, "send buffer shorter than the message"
+abbrev pub sendIn : (link room : ℕ) → Host → Sending
+sendIn i room h =
+    cond (ltb room (packetLength (reportCount (h .settings) (linkOf (h .links) i)))) (unsent ShortBuffer h) (sends i h)
+
+-- the message in front; "octets beyond the message stay"
+abbrev pub written : Sending → List Entry → (buffer : List ℕ) → List ℕ
+written p es buffer =
+    cond (p .goes)
+    (message (p .destination) (p .packet) (map (advertised (p .work .pid)) (part (p .work .first) (p .work .end - p .work .first) es))
+    ++ drop (p .reply .length) buffer)
+    buffer

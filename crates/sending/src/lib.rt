@@ -1,0 +1,203 @@
+// A send by value: what it comes to, and how the message is completed.
+ghost use mathlib.Core.Path.{_≡_};
+ghost use mathlib.Core.Bool.{true};
+ghost use Prim.Native.Nat.{_≤_};
+ghost use Rattle.clock.specs.Midnight.{dayMillis};
+ghost use Rattle.table.specs.Entry.{upTo};
+ghost use Rattle.clock.specs.Clock.{clockInRange};
+ghost use Rattle.host.specs.declared.guard.Scope.the-variants.{OnLink};
+ghost use Rattle.host.specs.code.Told.{Told};
+ghost use Rattle.sending.specs.Message.{tableGoes, sentTsp, linkSent, packetSent};
+ghost use Rattle.sending.specs.Send.{noPacket, unsent, reportCount, sends, sendIn};
+ghost use Rattle.sending.specs.code.Finish.{planned, Finishable, finished};
+use answer::Answer;
+use calendar::Date;
+use clock::Clock;
+use host::Host;
+use host::Link;
+use host::Links;
+use host::Reply;
+use host::Settings;
+use host::host_count;
+use host::link_state::link_of;
+use host::link_state::with_link;
+use host::replies::plainly;
+use host::replies::tells_length;
+use quantity::Millis;
+use quantity::Word;
+use table::run::Reports;
+use wire::Address;
+use wire::Packet;
+
+// What a send comes to: the reply, the clock and the links afterwards, of which ids a report goes out; and, if one goes, where the message goes and what it says.
+pub struct Sending {
+    pub reply: Reply,
+    pub clock: Clock,
+    pub links: Links,
+    pub work: Reports,
+    pub goes: bool,
+    pub destination: Address,
+    pub packet: Packet,
+}
+
+fn no_packet() -> Packet
+    ensures { λ p. ⌜ p ≡ noPacket ⌝ }
+{
+    Packet {
+        source: Address::ZERO,
+        date: Date(0),
+        time: Millis(0),
+        tsp: Word(0),
+        address_offset: 0,
+        nhosts: 0,
+    }
+}
+
+// No message: nothing changes.
+fn unsent(a: Answer, h: Host) -> Sending
+    ensures { λ p. ⌜ p ≡ unsent a h ⌝ }
+{
+    let work = Reports {
+        first: 0,
+        end: 0,
+        pid: 0,
+    };
+    let clock = h.clock;
+    let links = h.links;
+    Sending {
+        reply: plainly(a),
+        clock: clock,
+        links: links,
+        work: work,
+        goes: false,
+        destination: Address::ZERO,
+        packet: no_packet(),
+    }
+}
+
+// Does the table go out on the link?
+fn table_goes(s: Settings, x: Link) -> bool
+    ensures { λ r. ⌜ r ≡ tableGoes s x ⌝ }
+{
+    let neighbor = x.neighbor;
+    if neighbor.is_zero() {
+        return false;
+    }
+    route::same_net(s.address, neighbor)
+}
+
+// How many reports go out on the link.
+fn report_count(s: Settings, x: Link) -> u8
+    ensures { λ r. ⌜ r ≡ reportCount s x ⌝ }
+{
+    if table_goes(s, x) {
+        return host_count(s) as u8;
+    }
+    0
+}
+
+// The TSP that is sent at a time.
+fn sent_tsp(x: Link, time: Millis) -> Word
+    requires { ⌜ upTo dayMillis time ≡ true ⌝ }
+    ensures { λ r. ⌜ r ≡ sentTsp x time ⌝ }
+{
+    if x.keep_alive == 0 {
+        return Word(0);
+    }
+    Word::of_millis(Millis::of_word(x.tsp).plus(time))
+}
+
+// The link once a message is sent on it.
+fn link_sent(x: Link) -> Link
+    ensures { λ r. ⌜ r ≡ linkSent x ⌝ }
+{
+    let mut y = x;
+    if x.keep_alive == 0 {
+        return y;
+    }
+    y.keep_alive = x.keep_alive - 1;
+    y
+}
+
+fn packet_sent(s: Settings, x: Link, time: Millis, date: Date, count: u8) -> Packet
+    requires { ⌜ upTo dayMillis time ≡ true ⌝ }
+    ensures { λ p. ⌜ p ≡ packetSent s x time date count ⌝ }
+{
+    let layout = s.layout;
+    let source = s.address;
+    Packet {
+        source: source,
+        date: date,
+        time: time,
+        tsp: sent_tsp(x, time),
+        address_offset: layout.address_offset,
+        nhosts: count,
+    }
+}
+
+fn sends(h: Host, link: usize) -> Sending
+    requires { ⌜ (1 ≤ link) × (link ≤ 8) ⌝ }
+    requires { ⌜ clockInRange (h .clock) ≡ true ⌝ }
+    ensures { λ p. ⌜ p ≡ sends link h ⌝ }
+{
+    let r = h.clock.reading();
+    let settings = h.settings;
+    let links = h.links;
+    let x = link_of(links, link);
+    let count = report_count(settings, x);
+    let work = Reports {
+        first: 0,
+        end: count as usize,
+        pid: link as u8,
+    };
+    let clock = r.clock;
+    let date = clock.date;
+    let neighbor = x.neighbor;
+    Sending {
+        reply: tells_length(wire::length(count)),
+        clock: clock,
+        links: with_link(links, link, link_sent(x)),
+        work: work,
+        goes: true,
+        destination: neighbor,
+        packet: packet_sent(settings, x, r.time, date, count),
+    }
+}
+
+// A send into a buffer of so many octets.
+fn send_in(h: Host, link: usize, room: usize) -> Sending
+    requires { ⌜ (1 ≤ link) × (link ≤ 8) ⌝ }
+    requires { ⌜ clockInRange (h .clock) ≡ true ⌝ }
+    ensures { λ p. ⌜ p ≡ sendIn link room h ⌝ }
+{
+    let settings = h.settings;
+    let links = h.links;
+    if room < wire::length(report_count(settings, link_of(links, link))) {
+        return unsent(Answer::ShortBuffer, h);
+    }
+    sends(h, link)
+}
+
+// A refusal of the guard's, or the send.
+pub fn plan(g: Answer, h: Host, link: usize, room: usize) -> Sending
+    requires { ⌜ Told g (OnLink link) h ⌝ }
+    ensures { λ p. ⌜ p ≡ planned g link room h ⌝ }
+{
+    if !answer::is_done(g) {
+        return unsent(g, h);
+    }
+    send_in(h, link, room)
+}
+
+// The message completed around its reports, if one is sent.
+pub fn finish(buffer: &mut [u8], p: Sending)
+    requires { ⌜ Finishable p (now buffer) ⌝ }
+    ensures { λ _. ⌜ now (buffer .exit) ≡ finished p (now (buffer .entry)) ⌝ }
+{
+    if !p.goes {
+        return;
+    }
+    let destination = p.destination;
+    let packet = p.packet;
+    wire::seal(buffer, destination, packet);
+}
