@@ -2,10 +2,6 @@ pub mod Lists
 pub mod Swept
 pub mod Performs
 pub mod Arrivals
-pub mod Sends
-pub mod HostPlaces
-pub mod Ranges
+pub mod Written
 pub mod Demand1
-pub mod Demand2
 pub mod Exchange
-pub mod Demand3
