@@ -4,5 +4,7 @@ pub mod Performs
 pub mod Arrivals
 pub mod Written
 pub mod Sends
+pub mod Ranges
 pub mod Demand1
+pub mod Demand2
 pub mod Exchange

@@ -1,13 +1,15 @@
 -- What a call makes of the host's entries: as many as there were, each kept as it was or changed by its rule; so it keeps what each rule keeps.
 use mathlib.Core.Path.{_≡_, ap, _∙_}
-use mathlib.Core.List.{List, [], _∷_}
+use mathlib.Core.List.{List, [], _∷_, _++_, map, append-nil}
 use Prim.Native.Nat.{ℕ, suc, _+_, _-_, _≤_, _<_, min}
 use native.Mathlib.Omega.{arith}
-use lib.ListN.{length, drop, length-map, length-take, length-drop}
+use lib.ListN.{length, take, drop, length-map, length-take, length-drop, drop-of-length-le}
+use lib.Seq.{take-all}
 use Rattle.laws.specs.Lists.{part}
 use Rattle.clock.specs.declared.Clock.{Clock}
 use Rattle.table.specs.declared.Entry.{Entry}
 use Rattle.table.specs.declared.Updated.{Updated}
+use Rattle.table.specs.declared.run.Change.{Change}
 use Rattle.table.specs.declared.run.Changes.{Changes}
 use Rattle.table.specs.declared.run.Updates.{Updates}
 use Rattle.table.specs.Entry.{freshEntry}
@@ -49,6 +51,17 @@ module _ (w : Changes) (es : List Entry) where
       (all-map (λ i. P (i + w .first)) (λ i. P (i + w .first)) (changed (w .change)) touched
       (λ i e g p. h (i + w .first) e (omega arith) (omega (arith, part-short (w .first) (w .end - w .first) es)) p)
       (all-part P freshEntry (w .first) (w .end - w .first) es t))
+
+-- a change of every entry
+pub changes-each : (n : ℕ) (change : Change) (es : List Entry) → length es ≤ n
+    → changes record { first = 0; end = n; change = change } es ≡ map (changed change) es
+unfolding changes
+changes-each n change es h =
+    let all : take (n - 0) es ≡ es = take-all (n - 0) es (omega arith) in
+    let past : length es ≤ 0 + length (map (changed change) es) = omega (arith, length-map es (changed change)) in
+    ap (λ l. map (changed change) l ++ drop (0 + length (map (changed change) l)) es) all
+    ∙ ap (λ l. map (changed change) es ++ l) (drop-of-length-le es past)
+    ∙ append-nil (map (changed change) es)
 
 module _ (w : Updates) (packet : List ℕ) (es : List Entry) where
   abbrev updated : List Entry

@@ -1,0 +1,236 @@
+-- Each call leaves a clock, links and entries in range: fresh ones are, and each rule keeps them so.
+use mathlib.Core.Path.{_≡_, refl, sym, ap, _∙_}
+use mathlib.Core.Bool.{Bool, true, false, false≢true, cond, not, _&&_, _||_}
+use mathlib.Core.List.{List, map}
+use Prim.Native.Nat.{ℕ, _+_, _-_, _≤_, _<_}
+use native.Mathlib.Omega.{arith}
+use lib.Dec.{ltb}
+use lib.IntN.{pos}
+use lib.ListN.{length, take, length-map}
+use Rattle.laws.proofs.Tests.{either, both, neither, is-not, is-so}
+use Rattle.quantity.specs.Quantity.{millis, lessMillis}
+use Rattle.answer.specs.declared.Answer.the-variants.{Done, Setting, DelayNotValid, NoHost, OutOfRange}
+use Rattle.answer.specs.Answer.{number}
+use Rattle.clock.specs.declared.Clock.{Clock}
+use Rattle.clock.specs.Midnight.{dayMillis}
+use Rattle.clock.specs.Clock.{reading, clockInRange}
+use Rattle.clock.proofs.Range.{tick-in-range, adjust-in-range, set-in-range, second-in-range, fresh-in-range}
+use Rattle.wire.specs.Packet.{helloOf, packetLength}
+use Rattle.route.specs.declared.Found.{Found}
+use Rattle.route.specs.declared.Found.the-variants.{Id, Nothing}
+use Rattle.table.specs.declared.Entry.{Entry}
+use Rattle.table.specs.declared.run.Change.{Change}
+use Rattle.table.specs.declared.run.Change.the-variants.{Fresh, Aged, Reported}
+use Rattle.table.specs.declared.run.Changes.{Changes}
+use Rattle.table.specs.Forms.{every}
+use Rattle.table.specs.Entry.{entryInRange}
+use Rattle.table.specs.Runs.{changed, changes, updatedAt, updates}
+use Rattle.table.proofs.Kept.{aged-in-range, self-in-range}
+use Rattle.table.proofs.Kept as kept
+use Rattle.table.proofs.Ranges.{reading-in}
+use Rattle.host.specs.declared.Links.{Links}
+use Rattle.host.specs.declared.guard.Scope.the-variants.{Places}
+use Rattle.host.specs.Settings.{linkCount, settingsGood, ownId}
+use Rattle.host.specs.State.{hostCount, freshLinks, linkOf, withLink, linkInRange, withEntries}
+use Rattle.host.specs.Lent.{Lent, having, entriesOf, lentInRange, hostInRange}
+use Rattle.host.specs.Guard.{noPlaces, guard, done}
+use Rattle.host.proofs.Places.{Holds, entries-length}
+use Rattle.host.proofs.Guarded.{Counted, counted, passed, holds}
+use Rattle.host.proofs.Sound.{Sound, sound}
+use Rattle.sending.specs.declared.Sending.{Sending}
+use Rattle.sending.specs.Send.{reportCount}
+use Rattle.arrival.specs.declared.Flight.{Flight}
+use Rattle.arrival.specs.declared.Arrived.{Arrived}
+use Rattle.arrival.specs.Steps.{neighborUpdate}
+use Rattle.arrival.specs.Arrival.{ends, updated}
+use Rattle.calls.specs.declared.Effect.{Effect}
+use Rattle.calls.specs.declared.Request.{Request}
+use Rattle.calls.specs.declared.Request.the-variants.{Initialize, Tick, Adjust, Set, Read, Second, SelfReport, Lookup}
+use Rattle.calls.specs.Effects.{initialize, tick, adjust, setBy, read, second, selfReport, lookup, ownWork, wanted, effect}
+use Rattle.calls.specs.Perform.{Call, ask, send, receive, Outcome, scopeOfCall, entryAt, carriedOut, sentBy, updatedBy, work, perform}
+use Rattle.network.specs.Left.{left}
+use Rattle.network.specs.Range.{Accepted, Range}
+use Rattle.network.proofs.Performs.{guardOf, performs, there}
+use Rattle.network.proofs.Arrivals.{Flown, storing, arrival-ways}
+use Rattle.network.proofs.Lists.{all-made, every-all, all-every}
+use Rattle.network.proofs.Lists as lists
+use Rattle.network.proofs.Swept.{changes-length, changes-keep, changes-each, updates-length, updates-keep, updates-clock}
+use Rattle.network.proofs.Ranges.{withLink-in, sent-in, fresh-links-in, neighbor-sane, report-sane, entry-in, clock-in}
+use Rattle.network.proofs.Written.{written-kept, written-back}
+
+-- ---- what 12 tests, each by itself
+
+pub record InRange (x : Lent) : Type 0 where
+  pub places-there : noPlaces (x .host .number) (x .run) ≡ false
+  pub clock-in : clockInRange (x .host .clock) ≡ true
+  pub links-in : every linkInRange (take (linkCount (x .host .settings)) (x .host .links .all)) ≡ true
+  pub entries-in : every entryInRange (entriesOf x) ≡ true
+
+module _ (x : Lent) where
+  parts : noPlaces (x .host .number) (x .run) ≡ false → lentInRange x ≡ true → InRange x
+  unfolding lentInRange
+  parts p e =
+      let two = both (hostInRange (x .host)) (every entryInRange (entriesOf x)) e in
+      let one = both (clockInRange (x .host .clock)) _ (two .0) in
+      record { places-there = p; clock-in = one .0; links-in = one .1; entries-in = two .1 }
+
+  accepted : Accepted x → InRange x
+  unfolding guard
+  accepted a = go (noPlaces (x .host .number) (x .run) || not (lentInRange x)) refl a
+    where
+      go : (b : Bool) → noPlaces (x .host .number) (x .run) || not (lentInRange x) ≡ b
+          → (cond b OutOfRange (cond (not (settingsGood (x .host .settings))) Setting Done) ≡ OutOfRange → ⊥) → InRange x
+      go true e h = absurd (h refl)
+      go false e h = let n = neither (noPlaces (x .host .number) (x .run)) (not (lentInRange x)) e in parts (n .0) (is-so _ (n .1))
+
+  accepts : InRange x → Accepted x
+  unfolding guard lentInRange
+  accepts r e = other (settingsGood (x .host .settings)) (rw (r .places-there, r .clock-in, r .links-in, r .entries-in) at e)
+    where
+      other : (b : Bool) → cond (not b) Setting Done ≡ OutOfRange → ⊥
+      other true h = omega (arith, ap number h)
+      other false h = omega (arith, ap number h)
+
+-- ---- the calls
+
+-- what each change asks to keep an entry in range
+abbrev Keeps : Changes → Type 0
+Keeps w = (id : ℕ) (e : Entry) → w .first ≤ id → id < w .end → entryInRange e ≡ true → entryInRange (changed (w .change) e) ≡ true
+
+module _ (x : Lent) where
+  abbrev linksIn : Links → Type 0
+  linksIn l = every linkInRange (take (linkCount (x .host .settings)) (l .all)) ≡ true
+
+  -- entries that are in range, written to the host's first places
+  written : (c : Clock) (l : Links) (es : List Entry) → noPlaces (x .host .number) (x .run) ≡ false → clockInRange c ≡ true → linksIn l
+      → length es ≡ length (entriesOf x) → every entryInRange es ≡ true
+      → InRange record { host = having c l (x .host); run = withEntries (x .host .number) es (x .run) }
+  unfolding noPlaces
+  written c l es p clock links n range =
+      let h = holds (x .host .number) (x .run) p in
+      record {
+        places-there = rw (written-kept x es h n .same-length) p;
+        clock-in = clock;
+        links-in = links;
+        entries-in = rw (written-back x es h n) range;
+      }
+
+  -- setting afresh
+  begun : done (guard Places x) ≡ true → InRange (left x (work (ask Initialize) x))
+  unfolding initialize
+  begun e =
+      let p = passed Places x e in
+      let good = sound (x .host .settings) (p .settings) in
+      let h = holds (x .host .number) (x .run) (p .places) in
+      let time = both (not (lessMillis (x .host .settings .time) (millis (pos 0)))) (lessMillis (x .host .settings .time) dayMillis) (good .time) in
+      written _ (freshLinks (x .host .settings)) _ (p .places)
+      (fresh-in-range (x .host .settings .time) (x .host .settings .date) (is-not _ (time .0)) (time .1) (good .date)) (fresh-links-in (x .host .settings))
+      (changes-length record { first = 0; end = hostCount (x .host .settings); change = Fresh } (entriesOf x))
+      (rw (changes-each (hostCount (x .host .settings)) Fresh (entriesOf x) (omega (arith, entries-length (x .host .settings) (x .host .number) (x .run) h)))
+      (all-every entryInRange (map (changed Fresh) (entriesOf x)) (all-made (λ _ e. entryInRange e ≡ true) (changed Fresh) (λ _ _. kept.fresh-in-range) (entriesOf x))))
+
+  module _ (r : InRange x) where
+    all-in : lists.All (λ _ e. entryInRange e ≡ true) (entriesOf x)
+    all-in = every-all entryInRange (entriesOf x) (r .entries-in)
+
+    -- ---- requests
+
+    carried : (e : Effect) → clockInRange (e .clock) ≡ true → linksIn (e .links) → Keeps (e .work) → InRange (left x (carriedOut e x))
+    carried e clock links keeps =
+        written (e .clock) (e .links) (changes (e .work) (entriesOf x)) (r .places-there) clock links (changes-length (e .work) (entriesOf x))
+        (all-every entryInRange (changes (e .work) (entriesOf x)) (changes-keep (e .work) (entriesOf x) (λ _ e. entryInRange e ≡ true) keeps all-in))
+
+    -- the entries stay
+    none : Keeps record { first = 0; end = 0; change = Fresh }
+    none id e low high h = absurd (omega arith)
+
+    own : (f : Found) → Keeps (ownWork (reading (x .host .clock) .time) f)
+    own Nothing = none
+    own (Id i) = λ id e low high h. self-in-range (reading (x .host .clock) .time) (reading-in (x .host .clock) (r .clock-in)) e h
+
+    abbrev does : Request → Effect
+    does q = effect q (x .host) (entryAt (wanted q (x .host .settings)) x)
+
+    asked : (q : Request) → Sound (x .host .settings) → done (guardOf (ask q) x) ≡ true → InRange (left x (work (ask q) x))
+    unfolding tick adjust setBy read second selfReport lookup reading
+    asked Initialize good e = begun e
+    asked Tick good e =
+        carried (does Tick) (tick-in-range (x .host .settings .«hold_interval») (good .hold-to) (x .host .clock) (r .clock-in) (x .host .settings .«clock_tick»)) (r .links-in) none
+    asked Adjust good e = carried (does Adjust) (adjust-in-range (x .host .settings .«hold_interval») (good .hold-to) (x .host .clock) (r .clock-in)) (r .links-in) none
+    asked (Set ms) good e =
+        carried (does (Set ms)) (set-in-range (x .host .settings .«hold_interval») (good .hold-to) (x .host .clock) (r .clock-in) (millis ms)) (r .links-in) none
+    asked Read good e = carried (does Read) (r .clock-in) (r .links-in) none
+    asked Second good e = carried (does Second) (second-in-range (x .host .clock) (r .clock-in)) (r .links-in) (λ id e low high h. aged-in-range e h)
+    asked SelfReport good e = carried (does SelfReport) (r .clock-in) (r .links-in) (own (ownId (x .host .settings)))
+    asked (Lookup a) good e = carried (does (Lookup a)) (r .clock-in) (r .links-in) none
+
+    -- ---- a send
+
+    sent : (i : ℕ) (buffer : List ℕ) → Counted (x .host .settings) i → InRange (left x (work (send i buffer) x))
+    unfolding reading
+    sent i buffer has =
+        either (λ (p : Sending). InRange (left x (sentBy p buffer x)))
+        (ltb (length buffer) (packetLength (reportCount (x .host .settings) (linkOf (x .host .links) i)))) _ _ (λ _. r)
+        (λ _.
+        record {
+          places-there = r .places-there;
+          clock-in = r .clock-in;
+          links-in = sent-in (x .host .settings) (x .host .links) i has (r .links-in);
+          entries-in = r .entries-in;
+        })
+
+    -- ---- an arrival
+
+    module _ (octets : List ℕ) where
+      swept : (a : Arrived) → clockInRange (a .work .clock) ≡ true → linksIn (a .links) → a .work .«hold_interval» .0 ≤ 255
+          → ((id : ℕ) (c : Clock) (e : Entry) → a .work .first ≤ id → id < a .work .end → entryInRange e ≡ true
+          → entryInRange (updatedAt (a .work) octets id c e .entry) ≡ true)
+          → InRange (left x (updatedBy a octets x))
+      swept a clock links hold ranges =
+          written _ (a .links) _ (r .places-there)
+          (updates-clock (a .work) octets (entriesOf x) (λ c. clockInRange c ≡ true) (λ id c e h. clock-in (a .work) octets id c e hold h) clock)
+          links (updates-length (a .work) octets (entriesOf x))
+          (all-every entryInRange (updates (a .work) octets (entriesOf x) .entries)
+          (updates-keep (a .work) octets (entriesOf x) (λ _ e. entryInRange e ≡ true) (λ id c e low high _ h. ranges id c e low high h) all-in))
+
+      module _ (i : ℕ) (has : Counted (x .host .settings) i) (good : Sound (x .host .settings)) where
+        touched : (f : Flight) → Flown (x .host .clock) f → linksIn (withLink i (f .link) (x .host .links))
+        touched f g = withLink-in (x .host .settings) (x .host .links) i has (r .links-in) (f .link) (rw (g .keep-alive-is))
+
+        received : InRange (left x (work (receive i octets) x))
+        unfolding reading
+        received =
+            arrival-ways i (x .host) (λ a. InRange (left x (updatedBy a octets x)))
+            record {
+              refuses = λ a. swept (ends a (x .host)) (r .clock-in) (r .links-in) (omega arith) (λ id c e low high h. absurd (omega arith));
+              ended = λ f g n. swept (ends DelayNotValid (storing i (x .host) f)) (r .clock-in) (touched f g) (omega arith) (λ id c e low high h. absurd (omega arith));
+              unknown = λ f g. swept (ends NoHost (storing i (x .host) f)) (r .clock-in) (touched f g) (omega arith) (λ id c e low high h. absurd (omega arith));
+              one = λ p f id g.
+                  let a = updated (storing i (x .host) f) p (neighborUpdate i f) id 1 false in
+                  swept a (r .clock-in) (touched f g) (good .hold-to)
+                  (λ j c e low high h. entry-in (a .work) octets j c e (neighbor-sane (x .host .settings) (x .host .clock) i f has (r .clock-in) g) h);
+              all = λ p f g.
+                  let a = updated (storing i (x .host) f) p (neighborUpdate i f) 0 (hostCount (x .host .settings)) true in
+                  swept a (r .clock-in) (touched f g) (good .hold-to)
+                  (λ j c e low high h.
+                  entry-in (a .work) octets j c e (report-sane (x .host .settings) (x .host .clock) i f has (r .clock-in) g (helloOf octets) (j - 0)) h);
+            }
+            octets
+
+    works : (c : Call) → done (guardOf c x) ≡ true → InRange (left x (work c x))
+    works (ask q) e = asked q (sound (x .host .settings) (passed (scopeOfCall (ask q)) x e .settings)) e
+    works (send i buffer) e = sent i buffer (counted (x .host .settings) i (passed (scopeOfCall (send i buffer)) x e .link i refl))
+    works (receive i octets) e =
+        let p = passed (scopeOfCall (receive i octets)) x e in
+        received octets i (counted (x .host .settings) i (p .link i refl)) (sound (x .host .settings) (p .settings))
+
+  afresh : perform (ask Initialize) x .reply .answer ≡ Done → InRange (left x (perform (ask Initialize) x))
+  afresh =
+      performs (ask Initialize) x (λ o. o .reply .answer ≡ Done → InRange (left x o))
+      (λ e a. absurd (false≢true (sym e ∙ ap (λ y. done y) a))) (λ e _. begun e)
+
+  stay : InRange x → (c : Call) → InRange (left x (perform c x))
+  stay r c = performs c x (λ o. InRange (left x o)) (λ _. r) (works r c)
+
+pub range-holds : Range
+range-holds = record { fresh = λ x e. accepts _ (afresh x e); stays = λ c x a. accepts _ (stay x (accepted x a) c) }
