@@ -5,6 +5,7 @@ pub mod Arrivals
 pub mod Written
 pub mod Sends
 pub mod Ranges
+pub mod HostPlaces
 pub mod Demand1
 pub mod Demand2
 pub mod Exchange
