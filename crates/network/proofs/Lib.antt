@@ -9,3 +9,4 @@ pub mod HostPlaces
 pub mod Demand1
 pub mod Demand2
 pub mod Exchange
+pub mod Demand3

@@ -1,0 +1,172 @@
+-- A send keeps a seat right, and what it writes is a right message: its time is our reading, its reports are the table's, and its TSP has the bits that the link's TSP and our reading make.
+use mathlib.Core.Path.{_≡_, refl, sym, subst, _∙_}
+use mathlib.Core.Bool.{true, false, true≢false, false≢true}
+use mathlib.Core.List.{List}
+use Prim.Native.Nat.{ℕ, suc, _-_, _≤_, _<_}
+use native.Mathlib.Omega.{arith}
+use borrow.Author.Tests.{eqb-false, ne-eqb}
+use lib.Dec.{ltb, eqb}
+use lib.IntN.{ℤ, _+ℤ_}
+use lib.ListN.{length}
+use lib.Signed.{_<ℤ_}
+use Rattle.laws.proofs.Tests.{either}
+use Rattle.quantity.specs.declared.Millis.{Millis}
+use Rattle.quantity.specs.declared.Word.{Word}
+use Rattle.quantity.specs.Words.{zeroWord}
+use Rattle.quantity.proofs.Ints.{dn, of-<ℤ}
+use Rattle.quantity.proofs.Wrap.{wrap-range}
+use Rattle.answer.specs.declared.Answer.the-variants.{Done}
+use Rattle.clock.specs.declared.Clock.{Clock}
+use Rattle.clock.specs.Midnight.{dayMillis}
+use Rattle.clock.specs.Clock.{reading}
+use Rattle.wire.specs.Packet.{packetLength}
+use Rattle.table.specs.declared.Entry.{Entry}
+use Rattle.table.specs.Entry.{advertised, entryInRange}
+use Rattle.table.proofs.Ranges.{within, range-says, reading-in}
+use Rattle.host.specs.declared.Settings.{Settings}
+use Rattle.host.specs.declared.Link.{Link}
+use Rattle.host.specs.declared.Links.{Links}
+use Rattle.host.specs.declared.guard.Scope.the-variants.{OnLink}
+use Rattle.host.specs.State.{unset, freshLink, linkOf, withLink}
+use Rattle.host.specs.Lent.{Lent, entriesOf}
+use Rattle.host.specs.Guard.{noLink, done}
+use Rattle.host.proofs.Places.{Holds}
+use Rattle.host.proofs.Guarded.{Passed, passed, holds, counted, clock-lent, entries-lent}
+use Rattle.sending.specs.declared.Sending.{Sending}
+use Rattle.sending.specs.Message.{tableGoes, sentTsp, linkSent, packetSent}
+use Rattle.sending.specs.Send.{reportCount, sends}
+use Rattle.calls.specs.Perform.{Call, Outcome, sentBy, perform}
+use Rattle.network.specs.Left.{messageOf}
+use Rattle.network.specs.Room.{Room, at, lentAt}
+use Rattle.network.proofs.Performs.{performs}
+use Rattle.network.proofs.Sends.{reports, reports-count, sent-message}
+use Rattle.network.proofs.Exchange.{word-same}
+use Rattle.network.proofs.Lists.{All, all-at, all-map, all-set, every-all, all-both}
+use Rattle.network.proofs.Demand3.Near.{Fits16}
+use Rattle.network.proofs.Demand3.Invariant.{RightEntry, RightReport, RightLink, RightLinks, Carries, RightMessage}
+use Rattle.network.proofs.Demand3.Outcomes.{RightOutcome, RightLent, same-right}
+
+-- a link that is there has a number from 1 on
+pub link-from-1 : (s : Settings) (i : ℕ) → noLink s i ≡ false → suc (i - 1) ≡ i
+link-from-1 s i e = omega (arith, counted s i e .from-one)
+
+-- ---- the message of a send at seat a on link i, at millisecond t
+
+module _ (r : Room) (a i : ℕ) (inside : a < r .seats) (c : Clock) (l : Links) (run : List Entry) (lent : RightLent r a l run) (there : noLink (r .settings a) i ≡ false) where
+  abbrev x : Link
+  x = linkOf l i
+
+  abbrev whole : Lent
+  whole = lentAt r a c l run
+
+  -- the link as it stands
+  link-right : RightLink r a i x
+  link-right =
+      subst (λ (n : ℕ). RightLink r a n x) (link-from-1 (r .settings a) i there)
+      (all-at (λ (j : ℕ). RightLink r a (suc j)) (freshLink unset) (λ j b n cable alive. absurd (true≢false alive)) (l .all) (lent .links) (i - 1))
+
+  -- KEEP-ALIVE falls, and TSP stays
+  sent-links : RightLinks r a (withLink i (linkSent x) l .all)
+  sent-links =
+      all-set (λ (j : ℕ). RightLink r a (suc j)) (i - 1) (linkSent x)
+      (subst (λ (n : ℕ). RightLink r a n (linkSent x)) (sym (link-from-1 (r .settings a) i there))
+      (λ b j cable alive. link-right b j cable (ne-eqb (x .«keep_alive») 0 (λ z. eqb-false (x .«keep_alive» - 1) 0 alive (omega arith)))))
+      (l .all) (lent .links)
+
+  -- what is advertised for an entry
+  advertised-right : (n : ℕ) (e : Entry) → RightEntry r a n e × (entryInRange e ≡ true) → RightReport r a n (advertised i e)
+  unfolding advertised
+  advertised-right n e h =
+      let d = range-says e (h .1) .delay in
+      either (λ (m : Millis). RightReport r a n record { delay = m; offset = e .offset }) (eqb (e .pid) i) _ _
+      (λ t. record { not-negative = omega arith; delay-fits = omega arith; fits = h .0 .fits; known = λ low. absurd (false≢true low) })
+      (λ t. record { not-negative = omega arith; delay-fits = omega arith; fits = h .0 .fits; known = h .0 .known })
+
+  module _ (ok : Passed (OnLink i) whole) (t : ℤ) (clock : reading c .time .0 ≡ t +ℤ r .fixed a) (early : reading c .time .0 <ℤ dayMillis .0) where
+    held : Holds (r .number a) run
+    held = holds (r .number a) run (ok .places)
+
+    reads-low : dn (reading c .time .0) ≤ 0
+    reads-low = omega (arith, within 86400000 (reading c .time .0) (reading-in c (clock-lent whole (ok .lent refl))))
+
+    reports-right : All (RightReport r a) (reports whole held i)
+    reports-right =
+        either (All (RightReport r a)) (tableGoes (r .settings a) x) _ _
+        (λ _.
+        all-map (λ (n : ℕ) (e : Entry). RightEntry r a n e × (entryInRange e ≡ true)) (RightReport r a) (advertised i) (entriesOf whole)
+        (λ n e _. advertised-right n e)
+        (all-both (RightEntry r a) (λ (n : ℕ) (e : Entry). entryInRange e ≡ true) (entriesOf whole) (lent .table held)
+        (every-all entryInRange (entriesOf whole) (entries-lent whole (ok .lent refl)))))
+        (λ _. tt)
+
+    tsp-fits : Fits16 (sentTsp x (reading c .time) .0)
+    tsp-fits =
+        either (λ (v : Word). Fits16 (v .0)) (eqb (x .«keep_alive») 0) _ _ (λ _. omega arith)
+        (λ _. let w = wrap-range 16 (omega arith) (x .tsp .0 +ℤ reading c .time .0) in record { high = w .0; low = w .1 })
+
+    tsp-right : (b j : ℕ) → r .cable a i ≡ at b j → zeroWord (sentTsp x (reading c .time)) ≡ false → Carries r b t (sentTsp x (reading c .time) .0)
+    tsp-right b j cable =
+        either (λ (v : Word). zeroWord v ≡ false → Carries r b t (v .0)) (eqb (x .«keep_alive») 0) _ _ (λ _ z. absurd (true≢false z))
+        (λ alive z.
+        let tied = link-right b j cable alive in
+        record {
+          way = tied .way;
+          short = tied .short;
+          bits = word-same 16 (omega arith) (r .fixed b) (r .fixed a) t (x .tsp .0) (reading c .time .0) (tied .way) (tied .bits) clock;
+        })
+
+    message-right : (buffer : List ℕ) → RightMessage r record { seat = a; link = i; ms = t; octets = messageOf (sentBy (sends i (whole .host)) buffer whole) }
+    message-right buffer =
+        record {
+          seat-in = inside;
+          destination = x .neighbor;
+          packet = packetSent (r .settings a) x (reading c .time) (reading c .clock .date) (reportCount (r .settings a) x);
+          reports = reports whole held i;
+          octets-are = sent-message whole held i buffer;
+          source = refl;
+          time = clock;
+          time-low = reads-low;
+          time-high = omega (arith, of-<ℤ early, reads-low);
+          count = sym (reports-count whole held i);
+          right = reports-right;
+          tsp-fits = tsp-fits;
+          tsp = tsp-right;
+        }
+
+-- ---- the whole call
+
+-- the room's time of a call of seat a
+abbrev pub Clocked : (r : Room) (a : ℕ) (c : Clock) (t : ℤ) → Type 0
+Clocked r a c t = (reading c .time .0 ≡ t +ℤ r .fixed a) × (reading c .time .0 <ℤ dayMillis .0)
+
+pub record SendRight (r : Room) (a i : ℕ) (run : List Entry) (t : ℤ) (o : Outcome) : Type 0 where
+  pub seat : RightOutcome r a run o
+  pub message : done (o .reply .answer) ≡ true → RightMessage r record { seat = a; link = i; ms = t; octets = messageOf o }
+
+pub send-right : (r : Room) (a i : ℕ) → a < r .seats → (c : Clock) (l : Links) (run : List Entry) → RightLent r a l run → (buffer : List ℕ) (t : ℤ)
+    → (perform (Call.send i buffer) (lentAt r a c l run) .reply .answer ≡ Done → Clocked r a c t)
+    → SendRight r a i run t (perform (Call.send i buffer) (lentAt r a c l run))
+send-right r a i inside c l run lent buffer t =
+    performs (Call.send i buffer) x Kept
+    (λ d _. record { seat = same-right r a l run lent; message = λ e. absurd (false≢true (sym d ∙ e)) })
+    (λ d.
+    let p = passed (OnLink i) x d in
+    either (λ (s : Sending). Kept (sentBy s buffer x)) (ltb (length buffer) (packetLength (reportCount (r .settings a) (linkOf l i)))) _ _
+    (λ _ _. record { seat = same-right r a l run lent; message = λ e. absurd (false≢true e) })
+    (λ _ time.
+    let now = time refl in
+    record {
+      seat =
+          record {
+            links = sent-links r a i inside c l run lent (p .link i refl);
+            table = lent .table;
+            same-length = refl;
+          };
+      message = λ _. message-right r a i inside c l run lent (p .link i refl) p t (now .0) (now .1) buffer;
+    }))
+  where
+    x : Lent
+    x = lentAt r a c l run
+
+    Kept : Outcome → Type 0
+    Kept o = (o .reply .answer ≡ Done → Clocked r a c t) → SendRight r a i run t o
