@@ -4,3 +4,8 @@ pub mod Outcomes
 pub mod Seats
 pub mod Sending
 pub mod Arrival
+pub mod Histories
+pub mod Shared
+pub mod TwoSeats
+pub mod Alive
+pub mod Sharp

@@ -1,1 +1,83 @@
 // Theorems about hosts and rooms of hosts.
+ghost use Rattle.network.specs.Heard.{Heard};
+ghost use Rattle.network.specs.Answers.{Answers};
+ghost use Rattle.network.specs.Refusals.{Refusals};
+ghost use Rattle.network.specs.Frame.{Frame};
+ghost use Rattle.network.specs.Locality.{Locality};
+ghost use Rattle.network.specs.Range.{Range};
+ghost use Rattle.network.specs.Isolation.{Isolation, IsolationFromAfresh, Alone};
+ghost use Rattle.network.specs.Exchange.{HalfDelay};
+ghost use Rattle.network.specs.Demand3.{Demand3};
+ghost use Rattle.network.specs.SharedRun.{SharedDemand3};
+ghost use Rattle.network.specs.Example.{Example};
+ghost use Rattle.network.specs.Sharp.{Sharp};
+
+// Each call gives the first answer whose condition holds: 12, then upwards; and 0 where none does.
+pub fn answers()
+    ensures { λ _. ⌜ Answers ⌝ }
+{}
+
+// A refusal changes nothing, but for 10 and 11 at an arrival, which change its link alone.
+pub fn refusals()
+    ensures { λ _. ⌜ Refusals ⌝ }
+{}
+
+// A call keeps the run's length and every place in it but its host's first NHOSTS.
+pub fn frame()
+    ensures { λ _. ⌜ Frame ⌝ }
+{}
+
+// What a call answers and leaves depends only on its number, settings, clock, links and entries, its input, and the lengths of what it is lent.
+pub fn locality()
+    ensures { λ _. ⌜ Locality ⌝ }
+{}
+
+// Setting afresh leaves a host that 12 does not refuse, and so does every call of such a host under the same settings.
+pub fn range()
+    ensures { λ _. ⌜ Range ⌝ }
+{}
+
+// What a send writes, an arrival at a host of the same layout never refuses with 3 to 8.
+pub fn heard()
+    ensures { λ _. ⌜ Heard ⌝ }
+{}
+
+// Lists of calls that agree at a number tell and leave the same there, whatever is called at other numbers.
+pub fn isolation()
+    ensures { λ _. ⌜ Isolation ⌝ }
+{}
+
+// From a setting afresh on, whatever was there before it.
+pub fn isolation_from_afresh()
+    ensures { λ _. ⌜ IsolationFromAfresh ⌝ }
+{}
+
+// In one run that all hosts share, deleting every other host's calls changes nothing at a number.
+pub fn alone()
+    ensures { λ _. ⌜ Alone ⌝ }
+{}
+
+// The half-delay law: twice the error of an exchange's OFFSET is at most its DELAY plus one, whatever the width of the words.
+pub fn half_delay()
+    ensures { λ _. ⌜ HalfDelay ⌝ }
+{}
+
+// Demand 3: after every list of calls in a room, every live entry is for a host of the room, and its OFFSET is right to within 101/200 of its DELAY.
+pub fn demand_3()
+    ensures { λ _. ⌜ Demand3 ⌝ }
+{}
+
+// The same for one run that all seats share.
+pub fn shared_demand_3()
+    ensures { λ _. ⌜ SharedDemand3 ⌝ }
+{}
+
+// A history in which a table comes alive, with an OFFSET that is wrong by more than half of the DELAY.
+pub fn example()
+    ensures { λ _. ⌜ Example ⌝ }
+{}
+
+// A history that breaks the claim where a message may be under way for 16,384 ms: so 16,383 is sharp.
+pub fn sharp()
+    ensures { λ _. ⌜ Sharp ⌝ }
+{}

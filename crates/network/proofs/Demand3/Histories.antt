@@ -1,0 +1,148 @@
+-- Every call keeps the world right, so every list does, and the claim is a part of that.
+use mathlib.Core.Path.{_≡_, refl, sym, ap, subst, _∙_}
+use mathlib.Core.Bool.{Bool, true, false, cond, false≢true}
+use mathlib.Core.List.{List, [], _∷_, List·Memᴰ, List·Memᴰ·cases-cons, List·Memᴰ·not-nil}
+use mathlib.Core.Logic.{_⊎_, inl, inr}
+use Prim.Native.Nat.{ℕ, _≤_, _<_}
+use native.Mathlib.Omega.{arith}
+use borrow.Author.Tests.{eqb-true}
+use lib.Dec.{T, eqb}
+use lib.IntN.{ℤ, _+ℤ_}
+use lib.ListN.{getD, take}
+use lib.Seq.{getD-take, take-nil}
+use Rattle.laws.proofs.Tests.{either}
+use Rattle.answer.specs.declared.Answer.the-variants.{Done}
+use Rattle.table.specs.declared.Entry.{Entry}
+use Rattle.table.specs.Entry.{freshEntry}
+use Rattle.host.specs.declared.Links.{Links}
+use Rattle.host.specs.declared.guard.Scope.the-variants.{Places}
+use Rattle.host.specs.Settings.{settingsGood}
+use Rattle.host.specs.State.{hostCount}
+use Rattle.host.specs.Lent.{Lent}
+use Rattle.host.specs.Guard.{done}
+use Rattle.host.proofs.Guarded.{passed}
+use Rattle.host.proofs.Sound.{Sound, sound}
+use Rattle.calls.specs.declared.Request.the-variants.{Initialize}
+use Rattle.calls.specs.Perform.{ask, Outcome, perform}
+use Rattle.network.specs.History.{Left, leftBy, after}
+use Rattle.network.specs.Room.{longestWay, Room, lentAt, afresh, Proper}
+use Rattle.network.proofs.Performs.{performs}
+use Rattle.network.specs.Demand3.{RoomCall, ticks, seconds, reports, sends, arrives, Step, Message, World, result, mailAfter, step, history, timed, Later, Allowed, Allows, Starts, Claim, Demand3Within, Demand3}
+use Rattle.network.proofs.Lists.{All, all-at}
+use Rattle.network.proofs.Demand3.Near.{near-close}
+use Rattle.network.proofs.Demand3.Invariant.{RightEntry, RightMessage, RightSeat, RightWorld}
+use Rattle.network.proofs.Demand3.Outcomes.{RightOutcome, RightLent, lent-right, left-right}
+use Rattle.network.proofs.Demand3.Seats.{fresh-right, afresh-right, tick-right, second-right, self-right}
+use Rattle.network.proofs.Demand3.Sending.{send-right}
+use Rattle.network.proofs.Demand3.Arrival.{arrival-right}
+
+module _ (r : Room) (proper : Proper r) (ways : r .longest ≤ longestWay) where
+  -- ---- one call
+
+  -- what it leaves: the seat right, and the mail
+  pub record StepRight (w : World) (x : Step) : Type 0 where
+    pub seat : RightOutcome r (x .seat) (x .run) (result r w x)
+    pub mail : (m : Message) → List·Memᴰ m (mailAfter (x .seat) (result r w x) (x .call) (w .mail)) → RightMessage r m
+
+  -- the mail with one message more, if it was sent
+  post : (new : Message) (mail : List Message) (sent : Bool) → (sent ≡ true → RightMessage r new) → ((m : Message) → List·Memᴰ m mail → RightMessage r m)
+      → (m : Message) → List·Memᴰ m (cond sent (new ∷ mail) mail) → RightMessage r m
+  post new mail false here old m x = old m x
+  post new mail true here old m x = go (List·Memᴰ·cases-cons x)
+    where
+      go : (m ≡ new) ⊎ List·Memᴰ m mail → RightMessage r m
+      go (inl e) = subst (RightMessage r) (sym e) (here refl)
+      go (inr y) = old m y
+
+  module _ (w : World) (right : RightWorld r w) (a : ℕ) (inside : a < r .seats) (links : Links) (run : List Entry) where
+    abbrev now : Left
+    now = w .state (r .number a)
+
+    abbrev at-seat : RoomCall → Step
+    at-seat call = record { seat = a; links = links; run = run; call = call }
+
+    lent : (call : RoomCall) → Allowed r w (at-seat call) → RightLent r a links run
+    lent call ok = lent-right r a proper now (now .clock) links run (ok .lends) (right .seats a inside)
+
+    arrives-right : (i : ℕ) (packet : List ℕ) (t : ℤ) → Allowed r w (at-seat (arrives i packet t)) → RightOutcome r a run (result r w (at-seat (arrives i packet t)))
+    arrives-right i packet t ok =
+        let d = ok .timely in
+        subst (λ (o : List ℕ). RightOutcome r a run (result r w (at-seat (arrives i o t)))) (sym (d .a-copy))
+        (arrival-right r proper ways a i inside (d .message) (d .other-end) (right .mail (d .message) (d .earlier)) (now .clock) links run
+        (lent (arrives i packet t) ok)
+        (λ e.
+        let later = subst (λ (o : List ℕ). T (timed (result r w (at-seat (arrives i o t)) .reply .answer)) → Later r w a t (d .message)) (d .a-copy) (d .in-time) e in
+        record { way = later .way; short = later .short; clock = later .reads .clock ∙ ap (λ (z : ℤ). z +ℤ r .fixed a) (later .later) }))
+
+    call-right : (call : RoomCall) → Allowed r w (at-seat call) → StepRight w (at-seat call)
+    call-right ticks ok = record { seat = tick-right r a (now .clock) links run (lent ticks ok); mail = right .mail }
+    call-right seconds ok = record { seat = second-right r a (now .clock) links run (lent seconds ok); mail = right .mail }
+    call-right reports ok = record { seat = self-right r a (now .clock) links run (lent reports ok) inside; mail = right .mail }
+    call-right (sends i buffer t) ok =
+        let s = send-right r a i inside (now .clock) links run (lent (sends i buffer t) ok) buffer t (λ e. let q = ok .timely e in (q .clock, q .no-midnight)) in
+        record { seat = s .seat; mail = post _ (w .mail) _ (s .message) (right .mail) }
+    call-right (arrives i packet t) ok = record { seat = arrives-right i packet t ok; mail = right .mail }
+
+  step-right : (w : World) (x : Step) → Allowed r w x → RightWorld r w → RightWorld r (step r w x)
+  unfolding step after
+  step-right w x ok right =
+      let s = call-right w right (x .seat) (ok .seat-in) (x .links) (x .run) (x .call) ok in
+      record {
+        seats =
+            λ b hb.
+            either (RightSeat r b) (eqb (r .number b) (r .number (x .seat))) _ _
+            (λ e.
+            let same : x .seat ≡ b = proper .numbers-differ (x .seat) b (ok .seat-in) hb (sym (eqb-true (r .number b) (r .number (x .seat)) e)) in
+            subst (λ (c : ℕ). RightSeat r c (leftBy (r .number (x .seat)) (w .state (r .number (x .seat)) .places) (result r w x))) same
+            (left-right r (x .seat) (w .state (r .number (x .seat))) (x .run) (result r w x) (right .seats (x .seat) (ok .seat-in)) (s .seat)))
+            (λ e. right .seats b hb);
+        mail = s .mail;
+      }
+
+  -- ---- the whole list
+
+  history-right : (w : World) (xs : List Step) → Allows r w xs → RightWorld r w → RightWorld r (history r w xs)
+  unfolding Allows history
+  history-right w [] ok right = right
+  history-right w (x ∷ xs) ok right = history-right (step r w x) xs (ok .1) (step-right w x (ok .0) right)
+
+  -- the beginning
+  starts-right : (w : World) → Starts r w → RightWorld r w
+  starts-right w start =
+      record {
+        seats = λ a inside. subst (RightSeat r a) (sym (start .set-afresh a inside)) (afresh-seat a (proper .set-afresh a inside));
+        mail = λ m x. absurd (List·Memᴰ·not-nil (subst (List·Memᴰ m) (start .no-mail) x));
+      }
+    where
+      afresh-seat : (a : ℕ) → afresh r a .reply .answer ≡ Done → RightSeat r a (leftBy (r .number a) [] (afresh r a))
+      afresh-seat a done =
+          let o = afresh-right r a done in
+          left-right r a record { clock = afresh r a .clock; links = afresh r a .links; places = [] } (r .run a) (afresh r a)
+          record { links = o .links; table = subst (All (RightEntry r a)) (sym (take-nil (hostCount (r .settings a)))) tt } o
+
+  -- ---- the claim
+
+  set-good : (x : Lent) → perform (ask Initialize) x .reply .answer ≡ Done → settingsGood (x .host .settings) ≡ true
+  set-good x =
+      performs (ask Initialize) x (λ (o : Outcome). o .reply .answer ≡ Done → settingsGood (x .host .settings) ≡ true)
+      (λ d e. absurd (false≢true (sym d ∙ ap done e))) (λ d _. passed Places x d .settings)
+
+  right-claim : (w : World) → RightWorld r w → Claim r w
+  unfolding Claim
+  right-claim w right b i hb hi up =
+      let few : i < hostCount (r .settings b) = omega (arith, good b hb .hosts-to) in
+      let same : getD (take (hostCount (r .settings b)) (places b)) i freshEntry ≡ getD (places b) i freshEntry = getD-take (hostCount (r .settings b)) (places b) i freshEntry few in
+      let e : RightEntry r b i (getD (places b) i freshEntry) = rw same at (all-at (RightEntry r b) freshEntry (fresh-right r b) (take (hostCount (r .settings b)) (places b)) (right .seats b hb .table) i) in
+      let k = e .known up in
+      record { seat = k .seat; seat-in = k .seat-in; host-there = k .host-there; close = near-close _ (r .fixed (k .seat)) (r .fixed b) _ (k .near) }
+    where
+      places : ℕ → List Entry
+      places a = w .state (r .number a) .places
+
+      good : (a : ℕ) → a < r .seats → Sound (r .settings a)
+      good a inside = sound (r .settings a) (set-good (lentAt r a (r .clock a) (r .links a) (r .run a)) (proper .set-afresh a inside))
+
+pub demand-3 : Demand3
+unfolding Demand3Within
+demand-3 r proper ways w start xs ok =
+    right-claim r proper ways (history r w xs) (history-right r proper ways w xs ok (starts-right r proper ways w start))

@@ -1,0 +1,95 @@
+-- The room of two seats is proper, by cases; and its calls are lent what was left.
+use mathlib.Core.Path.{_≡_, refl, ap}
+use mathlib.Core.Bool.{Bool, true, false, cond}
+use mathlib.Core.List.{List·Memᴰ}
+use Prim.Native.Nat.{ℕ, zero, suc, _*_, _≤_, _<_}
+use native.Mathlib.Omega.{arith}
+use borrow.Author.Tests.{eqb-true}
+use lib.Dec.{eqb}
+use lib.IntN.{ℤ, pos, _+ℤ_, _-ℤ_, natAbs}
+use lib.ListN.{take, replicate, length-replicate}
+use lib.Seq.{drop-at}
+use lib.Signed.{_<ℤ_}
+use Rattle.answer.specs.declared.Answer.{Answer}
+use Rattle.clock.specs.Midnight.{dayMillis}
+use Rattle.clock.specs.Clock.{reading}
+use Rattle.route.specs.Find.{sameNet}
+use Rattle.table.specs.Entry.{freshEntry}
+use Rattle.host.specs.Settings.{ownId}
+use Rattle.host.specs.State.{placesPerHost, firstPlace, hostCount, entries}
+use Rattle.network.specs.History.{Lends}
+use Rattle.network.specs.Room.{clockSpread, loose, at, afresh, Cabled, Proper}
+use Rattle.network.specs.Demand3.{RoomCall, Message, World, eventOf, Reads, Delivered, Starts}
+use Rattle.network.proofs.Opened.{opened}
+use Rattle.network.specs.TwoSeats.{Pair, settingsFor, wire, pair, begun, call}
+
+-- two seats, case by case
+pub below-2 : (P : ℕ → Type 0) → P 0 → P 1 → (a : ℕ) → a < 2 → P a
+below-2 P x y zero l = x
+below-2 P x y (suc zero) l = y
+below-2 P x y (suc (suc a)) l = absurd (omega arith)
+
+pairs : (P : ℕ → ℕ → Type 0) → P 0 0 → P 0 1 → P 1 0 → P 1 1 → (a b : ℕ) → a < 2 → b < 2 → P a b
+pairs P p q s t a b l m = below-2 (λ (x : ℕ). P x b) (below-2 (P 0) p q b m) (below-2 (P 1) s t b m) a l
+
+module _ (p : Pair) where
+  -- the one cable, from both ends
+  from-0 : Cabled (pair p) 0 1 1 1
+  unfolding opened
+  from-0 = record { seat-in = omega arith; link-in = refl; point-to-point = refl; two-seats = λ e. omega arith; other-end = refl }
+
+  from-1 : Cabled (pair p) 1 1 0 1
+  unfolding opened
+  from-1 = record { seat-in = omega arith; link-in = refl; point-to-point = refl; two-seats = λ e. omega arith; other-end = refl }
+
+  wires : (a i b j : ℕ) → wire a i ≡ at b j → Cabled (pair p) a i b j
+  wires a i b j = go (eqb i 1) (eqb a 0) (eqb a 1) refl refl refl
+    where
+      go : (t u v : Bool) → eqb i 1 ≡ t → eqb a 0 ≡ u → eqb a 1 ≡ v → cond t (cond u (at 1 1) (cond v (at 0 1) loose)) loose ≡ at b j → Cabled (pair p) a i b j
+      go true true v t u w e =
+          let eb : b ≡ 1 = cc in let ej : j ≡ 1 = cc in rw (eqb-true i 1 t, eqb-true a 0 u, eb, ej) from-0
+      go true false true t u w e =
+          let eb : b ≡ 0 = cc in let ej : j ≡ 1 = cc in rw (eqb-true i 1 t, eqb-true a 1 w, eb, ej) from-1
+      go true false false t u w e = absurd (let z : _≡_ {A = ℕ} 0 1 = cc in omega arith)
+      go false u v t x w e = absurd (let z : _≡_ {A = ℕ} 0 1 = cc in omega arith)
+
+  pub pair-proper : ((a : ℕ) → a < 2 → afresh (pair p) a .reply .answer ≡ Answer.Done) → Proper (pair p)
+  unfolding opened
+  pair-proper fresh =
+      record {
+        sixteen = omega arith;
+        numbers-differ = λ a b l m e. e;
+        set-afresh = fresh;
+        one-net = pairs (λ (a b : ℕ). sameNet (settingsFor p a .address) (settingsFor p b .address) ≡ true) refl refl refl refl;
+        ids-differ = pairs (λ (a b : ℕ). ownId (settingsFor p a) ≡ ownId (settingsFor p b) → a ≡ b) (λ e. refl) (λ e. cc) (λ e. cc) (λ e. refl);
+        one-layout = λ a b l m. refl;
+        setting-off = λ a l. refl;
+        fixed-near = pairs (λ (a b : ℕ). natAbs (pos (500 * a) -ℤ pos (500 * b)) ≤ clockSpread) (omega arith) (omega arith) (omega arith) (omega arith);
+        cables = wires;
+      }
+
+  pub starts : Starts (pair p) (begun (pair p))
+  starts = record { set-afresh = λ a l. refl; no-mail = refl }
+
+  -- a call with the links as they were left and the places as they were left
+  pub as-left : (w : World) (a : ℕ) (x : RoomCall) → Lends (w .state a) (eventOf (pair p) w (call w a x) .lent)
+  unfolding entries
+  as-left w a x =
+      record {
+        own-clock = refl;
+        own-links = refl;
+        own-entries =
+            λ _.
+            ap (take (hostCount (settingsFor p a)))
+            (drop-at (replicate (placesPerHost * a) freshEntry) (w .state a .places) (firstPlace a) (length-replicate (placesPerHost * a) freshEntry));
+      }
+
+  pub reads : (w : World) (a : ℕ) (t : ℤ) → reading (w .state a .clock) .time .0 ≡ t +ℤ pos (500 * a) → reading (w .state a .clock) .time .0 <ℤ dayMillis .0
+      → Reads (pair p) w a t
+  reads w a t e l = record { clock = e; no-midnight = l }
+
+  -- an arrival of a message that was sent
+  pub delivered : (w : World) (a : ℕ) (t : ℤ) (answer : Answer) (m : Message) (way : ℕ) → List·Memᴰ m (w .mail) → wire a 1 ≡ at (m .seat) (m .link)
+      → Reads (pair p) w a t → way ≤ p .longest → t ≡ m .ms +ℤ pos way → Delivered (pair p) w a 1 (m .octets) t answer
+  delivered w a t answer m way x c r h e =
+      record { message = m; earlier = x; a-copy = refl; other-end = c; in-time = λ _. record { reads = r; way = way; short = h; later = e } }

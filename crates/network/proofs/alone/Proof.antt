@@ -1,0 +1,9 @@
+use Rattle.network.proofs.Demand1.Alone.{alone-holds}
+use Rattle.network.proofs.alone.Statement.{statement}
+use Rattle.network.proofs.alone.Tie as tie
+
+returns : tie.Need-returns
+returns c = alone-holds
+
+pub alone-spec : {M : Type 1} → statement M
+alone-spec = tie.close (tie.spec returns)

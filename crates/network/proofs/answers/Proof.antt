@@ -1,0 +1,9 @@
+use Rattle.network.proofs.Demand1.Answers.{answers-hold}
+use Rattle.network.proofs.answers.Statement.{statement}
+use Rattle.network.proofs.answers.Tie as tie
+
+returns : tie.Need-returns
+returns c = answers-hold
+
+pub answers-spec : {M : Type 1} → statement M
+answers-spec = tie.close (tie.spec returns)

@@ -1,0 +1,9 @@
+use Rattle.network.proofs.Demand3.Alive.{alive}
+use Rattle.network.proofs.example.Statement.{statement}
+use Rattle.network.proofs.example.Tie as tie
+
+returns : tie.Need-returns
+returns c = alive
+
+pub example-spec : {M : Type 1} → statement M
+example-spec = tie.close (tie.spec returns)

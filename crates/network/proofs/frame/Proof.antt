@@ -1,0 +1,9 @@
+use Rattle.network.proofs.Demand1.Frame.{frame-holds}
+use Rattle.network.proofs.frame.Statement.{statement}
+use Rattle.network.proofs.frame.Tie as tie
+
+returns : tie.Need-returns
+returns c = frame-holds
+
+pub frame-spec : {M : Type 1} → statement M
+frame-spec = tie.close (tie.spec returns)

@@ -1,0 +1,9 @@
+use Rattle.network.proofs.Demand2.{heard-holds}
+use Rattle.network.proofs.heard.Statement.{statement}
+use Rattle.network.proofs.heard.Tie as tie
+
+returns : tie.Need-returns
+returns c = heard-holds
+
+pub heard-spec : {M : Type 1} → statement M
+heard-spec = tie.close (tie.spec returns)

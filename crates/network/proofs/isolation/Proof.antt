@@ -1,0 +1,9 @@
+use Rattle.network.proofs.Demand1.Isolation.{isolation-holds}
+use Rattle.network.proofs.isolation.Statement.{statement}
+use Rattle.network.proofs.isolation.Tie as tie
+
+returns : tie.Need-returns
+returns c = isolation-holds
+
+pub isolation-spec : {M : Type 1} → statement M
+isolation-spec = tie.close (tie.spec returns)

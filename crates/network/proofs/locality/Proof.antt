@@ -1,0 +1,9 @@
+use Rattle.network.proofs.Demand1.Locality.{locality-holds}
+use Rattle.network.proofs.locality.Statement.{statement}
+use Rattle.network.proofs.locality.Tie as tie
+
+returns : tie.Need-returns
+returns c = locality-holds
+
+pub locality-spec : {M : Type 1} → statement M
+locality-spec = tie.close (tie.spec returns)

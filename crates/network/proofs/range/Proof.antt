@@ -1,0 +1,9 @@
+use Rattle.network.proofs.Demand1.Range.{range-holds}
+use Rattle.network.proofs.range.Statement.{statement}
+use Rattle.network.proofs.range.Tie as tie
+
+returns : tie.Need-returns
+returns c = range-holds
+
+pub range-spec : {M : Type 1} → statement M
+range-spec = tie.close (tie.spec returns)

@@ -1,0 +1,9 @@
+use Rattle.network.proofs.Demand3.Shared.{shared-demand-3}
+use Rattle.network.proofs.shared_demand_3.Statement.{statement}
+use Rattle.network.proofs.shared_demand_3.Tie as tie
+
+returns : tie.Need-returns
+returns c = shared-demand-3
+
+pub shared-demand-3-spec : {M : Type 1} → statement M
+shared-demand-3-spec = tie.close (tie.spec returns)

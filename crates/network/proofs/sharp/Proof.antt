@@ -1,0 +1,9 @@
+use Rattle.network.proofs.Demand3.Sharp.{sharp}
+use Rattle.network.proofs.sharp.Statement.{statement}
+use Rattle.network.proofs.sharp.Tie as tie
+
+returns : tie.Need-returns
+returns c = sharp
+
+pub sharp-spec : {M : Type 1} → statement M
+sharp-spec = tie.close (tie.spec returns)
