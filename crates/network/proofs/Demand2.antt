@@ -7,7 +7,7 @@ use native.Mathlib.Omega.{arith}
 use borrow.Author.Tests.{eq-eqb}
 use lib.Dec.{ltb, eqb}
 use lib.IntN.{_+ℤ_}
-use lib.ListN.{length, getD, length-map}
+use lib.ListN.{length, getD}
 use Rattle.laws.proofs.Tests.{either, both}
 use Rattle.quantity.specs.declared.Millis.{Millis}
 use Rattle.quantity.specs.declared.Word.{Word}
@@ -15,7 +15,6 @@ use Rattle.quantity.proofs.Ints.{to-≤ℤ, to-<ℤ}
 use Rattle.quantity.proofs.Wrap.{wrap-range}
 use Rattle.answer.specs.declared.Answer.{Answer}
 use Rattle.answer.specs.declared.Answer.the-variants.{Done, OtherLayout, LoopedLine}
-use Rattle.clock.specs.declared.Clock.{Clock}
 use Rattle.clock.specs.Midnight.{dayMillis}
 use Rattle.clock.specs.Clock.{reading}
 use Rattle.wire.specs.declared.Packet.{Packet}
@@ -43,11 +42,11 @@ use Rattle.sending.specs.declared.Sending.{Sending}
 use Rattle.sending.specs.Message.{tableGoes, sentTsp, packetSent}
 use Rattle.sending.specs.Send.{reportCount, sends}
 use Rattle.arrival.specs.Inspection.{otherLayout, looped, inspected, inspect}
-use Rattle.calls.specs.Perform.{Call, Outcome, sentBy, perform}
+use Rattle.calls.specs.Perform.{Call, Outcome, sentBy}
 use Rattle.network.specs.Left.{messageOf}
 use Rattle.network.specs.Heard.{Typed, Heard}
 use Rattle.network.proofs.Performs.{performs}
-use Rattle.network.proofs.Sends.{reports, reports-count, sentMessage, sent-message}
+use Rattle.network.proofs.Sends.{reports, reports-count, sent-message}
 
 -- ---- the fields fit their octets
 

@@ -16,7 +16,7 @@ use Rattle.host.specs.State.{placesPerHost, firstPlace, hostCount, entries}
 use Rattle.host.specs.Lent.{Lent}
 use Rattle.calls.specs.Perform.{Call, perform}
 use Rattle.network.specs.Frame.{Kept}
-use Rattle.network.specs.Locality.{SameInput, Alike, Local, Locality}
+use Rattle.network.specs.Locality.{SameInput, Alike, Locality}
 use Rattle.network.specs.History.{places}
 use Rattle.network.proofs.Demand1.Frame.{kept-places}
 use Rattle.network.proofs.Demand1.Locality.{locality-holds}

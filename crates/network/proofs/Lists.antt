@@ -6,7 +6,7 @@ use Prim.Native.Nat.{ℕ, zero, suc, _+_, _-_, _≤_, _<_, min}
 use native.Mathlib.Omega.{arith}
 use borrow.Author.Tests.{ltb-true, ltb-false}
 use lib.Dec.{ltb}
-use lib.ListN.{length, getD, take, drop, replicate, set, length-append, length-take, length-drop, List·getD-append}
+use lib.ListN.{length, getD, take, drop, set, length-append, length-take, length-drop, List·getD-append}
 use lib.Seq.{getD-take, getD-drop, getD-append-add}
 use Rattle.laws.specs.Lists.{part, over}
 use Rattle.laws.proofs.Tests.{both}
@@ -22,10 +22,6 @@ pub all-at : {A : Type 0} (P : ℕ → A → Type 0) (d : A) → ((i : ℕ) → 
 all-at P d h [] t i = h i
 all-at P d h (a ∷ l) t zero = t .0
 all-at P d h (a ∷ l) t (suc i) = all-at (λ j. P (suc j)) d (λ j. h (suc j)) l (t .1) i
-
-pub all-replicate : {A : Type 0} (P : ℕ → A → Type 0) (a : A) → ((i : ℕ) → P i a) → (n : ℕ) → All P (replicate n a)
-all-replicate P a h zero = tt
-all-replicate P a h (suc n) = (h 0, all-replicate (λ i. P (suc i)) a (λ i. h (suc i)) n)
 
 pub all-map : {A B : Type 0} (P : ℕ → A → Type 0) (Q : ℕ → B → Type 0) (f : A → B) (l : List A)
     → ((i : ℕ) (a : A) → i < length l → P i a → Q i (f a)) → All P l → All Q (map f l)

@@ -1,5 +1,5 @@
 -- Every call is its guard and then its work: what is so of a refusal by the guard and of the work is so of the call.
-use mathlib.Core.Path.{_≡_, refl, _∙_}
+use mathlib.Core.Path.{_≡_}
 use mathlib.Core.Bool.{true, false, or-true}
 use Rattle.answer.specs.declared.Answer.{Answer}
 use Rattle.answer.specs.declared.Answer.the-variants.{OutOfRange}

@@ -2,24 +2,22 @@
 use mathlib.Core.Path.{_≡_, refl, ap, _∙_}
 use mathlib.Core.Bool.{Bool, true, false, cond}
 use mathlib.Core.List.{List, [], map}
-use Prim.Native.Nat.{ℕ, _-_, _≤_}
+use Prim.Native.Nat.{ℕ, _-_}
 use native.Mathlib.Omega.{arith}
 use lib.ListN.{length, drop, length-map}
 use lib.Seq.{take-at, take-all}
 use Rattle.laws.specs.Lists.{part}
-use Rattle.laws.proofs.Tests.{either}
 use Rattle.clock.specs.Clock.{reading}
 use Rattle.wire.specs.declared.Report.{Report}
 use Rattle.wire.specs.Packet.{packetLength, message}
 use Rattle.wire.proofs.Messages.{message-length}
-use Rattle.table.specs.declared.Entry.{Entry}
 use Rattle.table.specs.Entry.{advertised}
 use Rattle.host.specs.declared.Link.{Link}
 use Rattle.host.specs.State.{hostCount, linkOf}
 use Rattle.host.specs.Lent.{Lent, entriesOf}
 use Rattle.host.proofs.Places.{Holds, entries-length}
 use Rattle.sending.specs.Message.{tableGoes, packetSent}
-use Rattle.sending.specs.Send.{reportCount, sends, written}
+use Rattle.sending.specs.Send.{reportCount, sends}
 use Rattle.calls.specs.Perform.{sentBy}
 use Rattle.network.specs.Left.{messageOf}
 

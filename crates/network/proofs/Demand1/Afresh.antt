@@ -15,17 +15,17 @@ use Rattle.table.specs.Runs.{changed}
 use Rattle.host.specs.declared.Settings.{Settings}
 use Rattle.host.specs.declared.guard.Scope.the-variants.{Places}
 use Rattle.host.specs.State.{hostCount, freshLinks, entries}
-use Rattle.host.specs.Lent.{Lent, entriesOf}
+use Rattle.host.specs.Lent.{entriesOf}
 use Rattle.host.specs.Guard.{noPlaces, guard, done}
 use Rattle.host.proofs.Places.{entries-length}
 use Rattle.calls.specs.declared.Request.the-variants.{Initialize}
 use Rattle.calls.specs.Effects.{initialize}
-use Rattle.calls.specs.Perform.{Call, ask, Outcome, work, perform}
+use Rattle.calls.specs.Perform.{Call, ask, work, perform}
 use Rattle.network.specs.Left.{told}
 use Rattle.network.specs.Locality.{SameInput, same, same-send, ownLinks}
 use Rattle.network.specs.History.{Event, Left, Holds, Lends, numberOf, outcome}
 use Rattle.network.specs.Isolation.{own, settingsOf, Agree, Pairwise, SetsAfresh, Steady, stays, goes-on, begins-anew, FromAfresh, begins, LeftAlike, IsolationFromAfresh}
-use Rattle.network.proofs.Performs.{guardOf, performs, there}
+use Rattle.network.proofs.Performs.{performs, there}
 use Rattle.network.proofs.Swept.{changes-length, changes-each}
 use Rattle.network.proofs.Written.{written-back}
 use Rattle.network.proofs.Demand1.OwnCalls.{leftFrom, lastFrom, AllLend, AllAt, own-at, follows}

@@ -8,9 +8,8 @@ use lib.Dec.{eqb}
 use lib.ListN.{length, take}
 use Rattle.host.specs.State.{hostCount}
 use Rattle.network.specs.Frame.{Kept}
-use Rattle.network.specs.Left.{told}
 use Rattle.network.specs.Locality.{same, ownLinks, Alike, Local, Locality}
-use Rattle.network.specs.History.{places, put}
+use Rattle.network.specs.History.{put}
 use Rattle.network.specs.Isolation.{SharedEvent, Shared, sharedLent, sharedOutcome, sharedAfter, sharedAfterAll, sharedTold, alone, SharedAlike, Alone}
 use Rattle.network.proofs.HostPlaces.{entries-first, elsewhere, places-kept-same}
 use Rattle.network.proofs.Demand1.Frame.{kept-places}

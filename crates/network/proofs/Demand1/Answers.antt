@@ -1,7 +1,6 @@
 -- The tests of each call stand in its definition in their order: those of the guard, and then those of its work.
 use mathlib.Core.Path.{_≡_, refl, _∙_}
-use mathlib.Core.Bool.{Bool, true, false, cond, not, _&&_, _||_}
-use mathlib.Core.List.{List}
+use mathlib.Core.Bool.{Bool, true, false, cond, not, _&&_}
 use Prim.Native.Nat.{ℕ}
 use lib.Dec.{ltb, eqb}
 use lib.ListN.{length}
@@ -34,7 +33,7 @@ use Rattle.calls.specs.declared.Request.{Request}
 use Rattle.calls.specs.declared.Request.the-variants.{Initialize, Tick, Adjust, Set, Read, Second, SelfReport, Lookup}
 use Rattle.calls.specs.Effects.{initialize, tick, adjust, setBy, read, second, selfReport, lookup, looked}
 use Rattle.calls.specs.Perform.{Call, ask, send, receive, scopeOfCall, entryAt, work, perform}
-use Rattle.network.specs.Answers.{Answers, firstOf, delayInvalid, neighborUnknown, hostDown, ownTests, tests}
+use Rattle.network.specs.Answers.{Answers, firstOf, delayInvalid, neighborUnknown, hostDown, ownTests}
 use Rattle.network.proofs.Performs.{guardOf, performs}
 use Rattle.network.proofs.Arrivals.{same-address}
 

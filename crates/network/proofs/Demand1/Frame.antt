@@ -1,7 +1,6 @@
 -- A call writes nothing into the run, or as many entries as it counts of its host, at the host's first place; and it stores no link but one that it names, up to the count.
 use mathlib.Core.Path.{_≡_, refl}
 use mathlib.Core.Bool.{true, false}
-use mathlib.Core.List.{List}
 use Prim.Native.Nat.{ℕ, _-_}
 use lib.Dec.{ltb}
 use lib.ListN.{length}
@@ -18,13 +17,13 @@ use Rattle.host.specs.Guard.{noLink, done}
 use Rattle.host.proofs.Places.{Holds}
 use Rattle.host.proofs.Guarded.{passed, counted}
 use Rattle.sending.specs.declared.Sending.{Sending}
-use Rattle.sending.specs.Send.{reportCount, sendIn}
+use Rattle.sending.specs.Send.{reportCount}
 use Rattle.arrival.specs.declared.Arrived.{Arrived}
 use Rattle.arrival.specs.Arrival.{arrival}
 use Rattle.calls.specs.declared.Request.{Request}
 use Rattle.calls.specs.declared.Request.the-variants.{Initialize, Tick, Adjust, Set, Read, Second, SelfReport, Lookup}
 use Rattle.calls.specs.Effects.{tick, adjust, setBy, read, second, selfReport, lookup, wanted, effect}
-use Rattle.calls.specs.Perform.{Call, ask, send, receive, Outcome, scopeOfCall, entryAt, work, perform}
+use Rattle.calls.specs.Perform.{Call, ask, send, receive, scopeOfCall, entryAt, work, perform}
 use Rattle.network.specs.Frame.{Kept, spareLinks, Frame}
 use Rattle.network.proofs.Performs.{guardOf, performs, there}
 use Rattle.network.proofs.Arrivals.{arrival-ways}

@@ -17,8 +17,6 @@ use Rattle.wire.specs.Packet.{packetLength, message}
 use Rattle.route.specs.declared.Found.{Found}
 use Rattle.route.specs.declared.Found.the-variants.{Id, Nothing}
 use Rattle.table.specs.declared.Entry.{Entry}
-use Rattle.table.specs.declared.run.Changes.{Changes}
-use Rattle.table.specs.declared.run.Updates.{Updates}
 use Rattle.table.specs.Forms.{Stage, on, end}
 use Rattle.table.specs.Entry.{advertised}
 use Rattle.table.specs.Sweep.{Swept}
@@ -35,7 +33,7 @@ use Rattle.host.specs.State.{unset, freshLink, broadcast, linkOf, withLink, ent
 use Rattle.host.specs.Lent.{Lent, having, entriesOf, lentInRange}
 use Rattle.host.specs.Guard.{noPlaces, noLink, guard, done}
 use Rattle.host.proofs.Places.{Holds}
-use Rattle.host.proofs.Guarded.{passed, counted, holds}
+use Rattle.host.proofs.Guarded.{passed, counted}
 use Rattle.host.specs.Reply.{tellsLength}
 use Rattle.sending.specs.Message.{tableGoes, linkSent, packetSent}
 use Rattle.sending.specs.Send.{reportCount, unsent, sends}
@@ -43,14 +41,14 @@ use Rattle.arrival.specs.declared.Flight.{Flight}
 use Rattle.arrival.specs.declared.Arrived.{Arrived}
 use Rattle.arrival.specs.Inspection.{inspect}
 use Rattle.arrival.specs.Steps.{steps2to4}
-use Rattle.arrival.specs.Arrival.{noTable, withTable, step5, concluded, inspected, arrival}
+use Rattle.arrival.specs.Arrival.{noTable, withTable, concluded, inspected, arrival}
 use Rattle.calls.specs.declared.Effect.{Effect}
 use Rattle.calls.specs.declared.Request.{Request}
 use Rattle.calls.specs.declared.Request.the-variants.{Initialize, Tick, Adjust, Set, Read, Second, SelfReport, Lookup}
 use Rattle.calls.specs.Effects.{initialize, tick, adjust, setBy, read, second, selfReport, lookup, wanted, effect}
 use Rattle.calls.specs.Perform.{Call, ask, send, receive, Outcome, scopeOfCall, refused, entryAt, carriedOut, sentBy, work, perform}
-use Rattle.network.specs.Left.{left, told}
-use Rattle.network.specs.Locality.{SameInput, same, same-send, ownLinks, Alike, Local, Locality}
+use Rattle.network.specs.Left.{told}
+use Rattle.network.specs.Locality.{SameInput, same, same-send, ownLinks, Local, Locality}
 use Rattle.network.proofs.Performs.{guardOf, there}
 use Rattle.network.proofs.Sends.{sentMessage, sent-message}
 use Rattle.network.proofs.Swept.{changes-length, updates-length}

@@ -1,12 +1,12 @@
 -- Each call leaves a clock, links and entries in range: fresh ones are, and each rule keeps them so.
 use mathlib.Core.Path.{_≡_, refl, sym, ap, _∙_}
-use mathlib.Core.Bool.{Bool, true, false, false≢true, cond, not, _&&_, _||_}
+use mathlib.Core.Bool.{Bool, true, false, false≢true, cond, not, _||_}
 use mathlib.Core.List.{List, map}
-use Prim.Native.Nat.{ℕ, _+_, _-_, _≤_, _<_}
+use Prim.Native.Nat.{ℕ, _-_, _≤_, _<_}
 use native.Mathlib.Omega.{arith}
 use lib.Dec.{ltb}
 use lib.IntN.{pos}
-use lib.ListN.{length, take, length-map}
+use lib.ListN.{length, take}
 use Rattle.laws.proofs.Tests.{either, both, neither, is-not, is-so}
 use Rattle.quantity.specs.Quantity.{millis, lessMillis}
 use Rattle.answer.specs.declared.Answer.the-variants.{Done, Setting, DelayNotValid, NoHost, OutOfRange}
@@ -19,8 +19,7 @@ use Rattle.wire.specs.Packet.{helloOf, packetLength}
 use Rattle.route.specs.declared.Found.{Found}
 use Rattle.route.specs.declared.Found.the-variants.{Id, Nothing}
 use Rattle.table.specs.declared.Entry.{Entry}
-use Rattle.table.specs.declared.run.Change.{Change}
-use Rattle.table.specs.declared.run.Change.the-variants.{Fresh, Aged, Reported}
+use Rattle.table.specs.declared.run.Change.the-variants.{Fresh}
 use Rattle.table.specs.declared.run.Changes.{Changes}
 use Rattle.table.specs.Forms.{every}
 use Rattle.table.specs.Entry.{entryInRange}
@@ -34,7 +33,7 @@ use Rattle.host.specs.Settings.{linkCount, settingsGood, ownId}
 use Rattle.host.specs.State.{hostCount, freshLinks, linkOf, withLink, linkInRange, withEntries}
 use Rattle.host.specs.Lent.{Lent, having, entriesOf, lentInRange, hostInRange}
 use Rattle.host.specs.Guard.{noPlaces, guard, done}
-use Rattle.host.proofs.Places.{Holds, entries-length}
+use Rattle.host.proofs.Places.{entries-length}
 use Rattle.host.proofs.Guarded.{Counted, counted, passed, holds}
 use Rattle.host.proofs.Sound.{Sound, sound}
 use Rattle.sending.specs.declared.Sending.{Sending}
@@ -47,10 +46,10 @@ use Rattle.calls.specs.declared.Effect.{Effect}
 use Rattle.calls.specs.declared.Request.{Request}
 use Rattle.calls.specs.declared.Request.the-variants.{Initialize, Tick, Adjust, Set, Read, Second, SelfReport, Lookup}
 use Rattle.calls.specs.Effects.{initialize, tick, adjust, setBy, read, second, selfReport, lookup, ownWork, wanted, effect}
-use Rattle.calls.specs.Perform.{Call, ask, send, receive, Outcome, scopeOfCall, entryAt, carriedOut, sentBy, updatedBy, work, perform}
+use Rattle.calls.specs.Perform.{Call, ask, send, receive, scopeOfCall, entryAt, carriedOut, sentBy, updatedBy, work, perform}
 use Rattle.network.specs.Left.{left}
 use Rattle.network.specs.Range.{Accepted, Range}
-use Rattle.network.proofs.Performs.{guardOf, performs, there}
+use Rattle.network.proofs.Performs.{guardOf, performs}
 use Rattle.network.proofs.Arrivals.{Flown, storing, arrival-ways}
 use Rattle.network.proofs.Lists.{all-made, every-all, all-every}
 use Rattle.network.proofs.Lists as lists

@@ -1,6 +1,6 @@
 -- Who refuses changes nothing: the guard, a lookup, a send into too short a buffer, the inspection of a packet. Steps 2 to 4 of an arrival change its link alone.
 use mathlib.Core.Path.{_≡_, refl, sym, ap, _∙_}
-use mathlib.Core.Bool.{true, not}
+use mathlib.Core.Bool.{not}
 use mathlib.Core.List.{List}
 use Prim.Native.Nat.{ℕ, _-_}
 use native.Mathlib.Omega.{arith}
@@ -9,7 +9,7 @@ use lib.ListN.{length}
 use lib.Seq.{set-getD}
 use Rattle.laws.proofs.Tests.{either}
 use Rattle.answer.specs.declared.Answer.{Answer}
-use Rattle.answer.specs.declared.Answer.the-variants.{Done, DelayNotValid, NoHost, HostDown}
+use Rattle.answer.specs.declared.Answer.the-variants.{DelayNotValid, NoHost, HostDown}
 use Rattle.answer.specs.Answer.{number}
 use Rattle.clock.specs.Clock.{reading}
 use Rattle.wire.specs.declared.Address.{Address}
@@ -23,7 +23,6 @@ use Rattle.host.specs.declared.Reply.{Reply}
 use Rattle.host.specs.Settings.{foundFor}
 use Rattle.host.specs.State.{unset, freshLink, linkOf}
 use Rattle.host.specs.Lent.{Lent}
-use Rattle.host.specs.Guard.{done}
 use Rattle.host.specs.Reply.{plainly}
 use Rattle.host.proofs.Places.{Holds}
 use Rattle.sending.specs.declared.Sending.{Sending}

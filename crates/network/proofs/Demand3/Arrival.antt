@@ -47,7 +47,7 @@ use Rattle.host.specs.declared.Host.{Host}
 use Rattle.host.specs.declared.guard.Scope.the-variants.{OnLink}
 use Rattle.host.specs.Settings.{foundFor}
 use Rattle.host.specs.State.{broadcast, linkOf, withLink, hostCount}
-use Rattle.host.specs.Lent.{Lent, having, entriesOf}
+use Rattle.host.specs.Lent.{Lent, having}
 use Rattle.host.proofs.Places.{Holds, entries-length}
 use Rattle.host.proofs.Guarded.{passed, holds}
 use Rattle.arrival.specs.declared.Flight.{Flight}

@@ -1,5 +1,5 @@
 -- What a call of seat a has to show of its outcome, so that the seat is right afterwards.
-use mathlib.Core.Path.{_≡_, refl, _∙_, sym, ap, subst}
+use mathlib.Core.Path.{_≡_, refl, _∙_, sym, subst}
 use mathlib.Core.Bool.{true≢false}
 use mathlib.Core.List.{List}
 use Prim.Native.Nat.{ℕ, suc, _+_, _≤_, _<_}
@@ -21,7 +21,6 @@ use Rattle.host.proofs.Places.{Holds}
 use Rattle.arrival.specs.declared.Arrived.{Arrived}
 use Rattle.calls.specs.declared.Effect.{Effect}
 use Rattle.calls.specs.Perform.{Outcome, carriedOut, updatedBy}
-use Rattle.network.specs.Locality.{ownLinks}
 use Rattle.network.specs.History.{Left, Lends, leftBy, places}
 use Rattle.network.specs.Room.{Room, lentAt, Proper}
 use Rattle.network.proofs.Lists.{All, all-first}

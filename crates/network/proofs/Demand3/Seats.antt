@@ -19,13 +19,11 @@ use Rattle.table.specs.Update.{ownUpdate}
 use Rattle.table.specs.Runs.{changed}
 use Rattle.table.proofs.Cases.{stored, self-keeps, aged-keeps}
 use Rattle.host.specs.declared.Links.{Links}
-use Rattle.host.specs.declared.Host.{Host}
 use Rattle.host.specs.Settings.{ownId}
 use Rattle.host.specs.State.{freshLink, freshLinks, hostCount}
 use Rattle.host.specs.Lent.{Lent, entriesOf}
 use Rattle.host.specs.Guard.{done}
 use Rattle.host.proofs.Places.{entries-length}
-use Rattle.calls.specs.declared.Effect.{Effect}
 use Rattle.calls.specs.declared.Request.the-variants.{Initialize, Tick, Second, SelfReport}
 use Rattle.calls.specs.Effects.{initialize, tick, second, selfReport, ownWork}
 use Rattle.calls.specs.Perform.{ask, Outcome, perform}

@@ -20,7 +20,7 @@ use Rattle.calls.specs.Perform.{ask, Outcome, perform}
 use Rattle.network.specs.Frame.{Kept}
 use Rattle.network.specs.History.{Left, places, Holds, leftBy, after}
 use Rattle.network.specs.Room.{Room, lentAt, afresh, Proper}
-use Rattle.network.specs.Demand3.{Step, World, leftAt, eventOf, result, step, history, Allows, entryOf, Right, Claim, Demand3Within}
+use Rattle.network.specs.Demand3.{Step, World, eventOf, result, step, history, Allows, entryOf, Right, Claim, Demand3Within}
 use Rattle.network.specs.SharedRun.{SharedStep, SharedWorld, lent, sharedStep, sharedHistory, SharedAllows, OneRun, sharedEntry, SharedDemand3}
 use Rattle.network.proofs.Performs.{performs, there}
 use Rattle.network.proofs.HostPlaces.{entries-first, elsewhere}
