@@ -13,8 +13,7 @@
 #include "hello.h"
 
 enum {
-    MILLISECOND = 65536, /* in clock units */
-    LINK = 1,            /* both hosts have one link */
+    LINK = 1, /* both hosts have one link */
     RUN = 2 * HELLO_PLACES,
     MESSAGE = 64 /* octets, enough for two hosts' table */
 };
@@ -45,9 +44,9 @@ static void set_up(host *h, size_t number, int64_t time)
     h->settings.address = address_of(number);
     h->settings.layout.address_offset = 1;
     h->settings.layout.nhosts = 2;
-    h->settings.clock_host = 255;
+    h->settings.clock_host = HELLO_NO_CLOCK_HOST;
     h->settings.hold_interval = 1;
-    h->settings.clock_tick = MILLISECOND;
+    h->settings.clock_tick = HELLO_UNITS_PER_MS;
     h->settings.time = time;
     h->settings.date = 1 << 10 | 1 << 5; /* 1 January 1972 */
     h->settings.link_count = 1;
@@ -141,7 +140,7 @@ int main(void)
 
     hello_route route = hello_lookup(&a.settings, a.number, &a.clock, &a.links, run, RUN,
                                      address_of(1));
-    assert(route.answer == HELLO_DONE && route.host == 1 && route.pid == LINK);
+    assert(route.answer == HELLO_DONE && route.id == 1 && route.pid == LINK);
 
     printf("A has for B: DELAY %d ms, OFFSET %d ms.\n", (int)b_at_a.delay, (int)b_at_a.offset);
     return 0;

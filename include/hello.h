@@ -1,55 +1,68 @@
 /*
- * A HELLO host of RFC 891: the calls of the proved library libhello.a.
+ * A HELLO host of RFC 891: the calls of the proved library libhello.a, for x86-64 Linux alone.
  *
- * A host has settings, a clock, links and a host table. The caller keeps them and lends them to
- * each call. All hosts of a class share one run of entries: host k, from 0 to 15, owns the 255
- * places from 255 k, and only the first NHOSTS of them are ever changed. So a run holds host k
- * when it is at least 255 k + 255 entries long. A longer run is fine.
+ * A host here is one that a call is made on: it has settings, a clock, links and a host table. The
+ * caller keeps them and lends them to each call. What its table and its packets speak of are other
+ * hosts, each named by an id.
  *
- * Every call ends with one of the fourteen numbers below. None asks that another call came first,
- * that the settings are good or that a packet is well formed. A host is set afresh by
- * hello_initialize; each later call is lent the clock, the links and the run as the host's last
- * call left them.
+ * All hosts of a class share one run of entries: host k, from 0 to 15, owns the 255 places from
+ * 255 k, and only the first NHOSTS of them, one for each id, are ever changed. So a run holds host
+ * k when it is at least 255 k + 255 entries long. A longer run is fine.
+ *
+ * Every call ends with one of the numbers below. None asks that another call came first, that the
+ * settings are good or that a packet is well formed. A host is set afresh by hello_initialize; each
+ * later call is lent the clock, the links and the run as the host's last call left them.
  *
  *   no.  meaning                                        changes
- *   0    done                                           what the call's rule says
- *   1    a setting is outside its range                 nothing
- *   2    send: the buffer is shorter than the message   nothing
- *   3    arrival: IP form                               nothing
- *   4    arrival: IP checksum                           nothing
- *   5    arrival: the IP protocol is not 63             nothing
- *   6    arrival: HELLO form                            nothing
- *   7    arrival: HELLO checksum                        nothing
- *   8    arrival: another layout of host ids            nothing
- *   9    arrival: looped line (the source is the host   nothing
- *        itself, on a point-to-point link)
- *   10   arrival: delay not valid (the neighbor's TSP   the link's keep_alive and tsp
- *        is 0, or HOLD is not 0)
- *   11   no host or net for the address                 lookup: nothing; arrival: the link's
- *                                                       keep_alive, tsp and neighbor
- *   12   host number over 15, link not from 1 to the    nothing
- *        host's count, the host's 255 places not all
- *        in the run, or something lent out of range
- *   13   lookup: the host is down (DELAY is 30,000)     nothing
+ *   0    done                                           as the call's rule says
+ *   1    a setting is out of its range                  nothing
+ *   2    the buffer is shorter than the message         nothing
+ *   3    the IP header is not in form                   nothing
+ *   4    the IP checksum is not good                    nothing
+ *   5    the IP protocol is not 63                      nothing
+ *   6    the HELLO is not in form                       nothing
+ *   7    the HELLO checksum is not good                 nothing
+ *   8    the packet has a table, and its NHOSTS or      nothing
+ *        ADDRESS-OFFSET is not ours
+ *   9    the source is our own LOCAL-ADDRESS, on a      nothing
+ *        point-to-point link
+ *   10   the delay is not valid: from the neighbor on   that link's KEEP-ALIVE and TSP
+ *        a point-to-point link, the packet's TSP is 0
+ *        or HOLD is not 0
+ *   11   the address has no id                          receive: that link's KEEP-ALIVE, TSP and
+ *                                                       NEIGHBOR-ADDRESS; lookup: nothing
+ *   12   the host's number is over 15; the link is not  nothing
+ *        from 1 to the host's count (8 at most); the
+ *        host's 255 places are not all in the run; or
+ *        something lent is out of range
+ *   13   the host looked up is down: its DELAY is       nothing
+ *        30,000
  *
  * 12 is tested first in all calls, then upwards in number. hello_initialize tests, for 12, the
- * host number and the length of the run only; every other call tests the ranges of all that it is
- * lent: the clock, the host's links and the host's first NHOSTS entries.
+ * host's number and the length of the run only; every other call tests the ranges of all that it
+ * is lent: the clock, the host's links, which are the first link_count (8 at most), and the host's
+ * first NHOSTS entries (255 at most).
  *
  * What a caller owes, and the library cannot test:
  *   - each pointer is valid for its type, or for as many elements as the length beside it says,
  *     and aligned;
+ *   - clock, links and run are writable, also where a call changes nothing in them: it may store
+ *     what stood there;
+ *   - all that is lent has been written before, whatever it holds: hello_initialize too loads the
+ *     clock, the links and the entries that it then overwrites;
  *   - what one call is lent does not overlap, and no other thread uses it during the call;
  *   - a length counts elements: entries of the run, octets of a buffer or packet;
- *   - a pointer beside a length of 0 is not null either;
- *   - a bool is 0 or 1.
+ *   - a pointer beside a length of 0 is not null either.
+ * No value of a member is undefined: one out of its range is answered with 1 or 12.
+ *
+ * A call need not keep the padding between members, so structs are not to be compared or hashed
+ * octet by octet.
  *
  * The library keeps nothing between calls, allocates nothing and does no input or output.
  */
 #ifndef HELLO_H
 #define HELLO_H
 
-#include <stdbool.h>
 #include <stddef.h>
 #include <stdint.h>
 
@@ -57,9 +70,13 @@
 extern "C" {
 #endif
 
-/* The places of the run that one host owns, and the hosts that one run can hold. */
-#define HELLO_PLACES 255
-#define HELLO_HOSTS 16
+#define HELLO_PLACES 255           /* places of the run that one host owns */
+#define HELLO_HOSTS 16             /* hosts that one run can hold */
+#define HELLO_LINKS 8              /* links that a host can have */
+#define HELLO_ROWS 32              /* rows that a net table can have */
+#define HELLO_NO_CLOCK_HOST 255    /* clock_host where clock setting is off */
+#define HELLO_UNITS_PER_MS 65536   /* clock units to a millisecond */
+#define HELLO_LONGEST_MESSAGE 1052 /* octets of a message with the table of 255 hosts */
 
 /* The answers. */
 #define HELLO_DONE 0
@@ -87,7 +104,8 @@ typedef struct hello_address {
 
 /* The setting of one link. */
 typedef struct hello_link_setting {
-    bool broadcast;         /* true: broadcast link; false: point-to-point link */
+    uint8_t broadcast;      /* 0 point-to-point, 1 broadcast; anything else is a setting outside
+                               its range */
     hello_address neighbor; /* NEIGHBOR-ADDRESS of a broadcast link; else not looked at */
 } hello_link_setting;
 
@@ -104,30 +122,31 @@ typedef struct hello_net {
     uint8_t third;
 } hello_net;
 
-/* A row of the net table: the host through which a net is reached. */
+/* A row of the net table: the id of the host through which a net is reached. */
 typedef struct hello_row {
     hello_net net; /* net zero matches every address and ends the search */
-    uint8_t host;  /* an id below NHOSTS */
+    uint8_t id;    /* below NHOSTS */
 } hello_row;
 
 /* The net table: the first `count` rows. */
 typedef struct hello_net_table {
-    size_t count;       /* 0 to 32 */
-    hello_row rows[32]; /* searched from the first */
+    size_t count;               /* 0 to 32 */
+    hello_row rows[HELLO_ROWS]; /* searched from the first; those behind the count not looked at */
 } hello_net_table;
 
 /* The settings of a host. Outside these ranges every call on the host answers 1, unless 12. */
 typedef struct hello_settings {
-    hello_address address;       /* LOCAL-ADDRESS: first octet 1 to 223; gives an id below NHOSTS */
-    hello_layout layout;         /* ADDRESS-OFFSET and NHOSTS */
-    uint8_t clock_host;          /* id of the host that sets the clock, below NHOSTS; 255: none */
-    uint16_t hold_interval;      /* HOLD-INTERVAL, 1 to 255 s */
-    int64_t clock_tick;          /* CLOCK-TICK, 1 to 65,536,000 units of 1/65,536 ms */
-    int64_t time;                /* starting time, 0 to 86,399,999 ms */
-    uint16_t date;               /* starting date, a real one; bit 15 is not looked at */
-    size_t link_count;           /* 1 to 8 */
-    hello_link_setting links[8]; /* link 1 comes first */
-    hello_net_table net;         /* all ids below NHOSTS */
+    hello_address address;  /* LOCAL-ADDRESS: first octet 1 to 223; gives an id below NHOSTS */
+    hello_layout layout;    /* ADDRESS-OFFSET and NHOSTS */
+    uint8_t clock_host;     /* id of the host that sets the clock, below NHOSTS; 255: clock setting
+                               is off */
+    uint16_t hold_interval; /* HOLD-INTERVAL, 1 to 255 s */
+    int64_t clock_tick;     /* CLOCK-TICK, 1 to 65,536,000 units of 1/65,536 ms */
+    int64_t time;           /* starting time, 0 to 86,399,999 ms */
+    uint16_t date;          /* starting date, a real one with bit 14 zero; bit 15 not looked at */
+    size_t link_count;      /* 1 to 8: the host's links are the first link_count */
+    hello_link_setting links[HELLO_LINKS]; /* link 1 comes first */
+    hello_net_table net;                   /* all ids below NHOSTS */
 } hello_settings;
 
 /*
@@ -150,7 +169,7 @@ typedef struct hello_link {
 
 /* The states of a host's links. */
 typedef struct hello_links {
-    hello_link all[8]; /* link 1 comes first */
+    hello_link all[HELLO_LINKS]; /* link 1 comes first */
 } hello_links;
 
 /* An entry of a host table. */
@@ -171,8 +190,8 @@ typedef struct hello_sent {
 /* What a lookup answers. */
 typedef struct hello_route {
     uint8_t answer;
-    size_t host; /* the host's id; 0 when refused */
-    uint8_t pid; /* PID, the link of the route; 0 when refused */
+    size_t id;   /* the id that the address has; 0 when refused */
+    uint8_t pid; /* PID, the link of the route; 0 for the host itself, or when refused */
 } hello_route;
 
 /* What a reading answers. */
@@ -183,8 +202,9 @@ typedef struct hello_time {
 } hello_time;
 
 /*
- * Sets host `number` afresh by its settings: the clock, all eight links and the first NHOSTS
- * entries. What stood there does not matter. Answers 0, 1, 12.
+ * Sets host `number` afresh by its settings: the clock, all eight links, each by its own of the
+ * eight link settings, and the first NHOSTS entries. What stood there does not matter, but
+ * something must. Answers 0, 1, 12.
  */
 uint8_t hello_initialize(const hello_settings *settings, size_t number, hello_clock *clock,
                          hello_links *links, hello_entry *run, size_t run_length);
@@ -195,42 +215,42 @@ uint8_t hello_initialize(const hello_settings *settings, size_t number, hello_cl
  * Answers 0, 1, 12.
  */
 uint8_t hello_tick(const hello_settings *settings, size_t number, hello_clock *clock,
-                   const hello_links *links, const hello_entry *run, size_t run_length);
+                   hello_links *links, hello_entry *run, size_t run_length);
 
 /* Moves CLOCK by DELTA / 128, rounded down, which DELTA loses. Answers 0, 1, 12. */
 uint8_t hello_adjust(const hello_settings *settings, size_t number, hello_clock *clock,
-                     const hello_links *links, const hello_entry *run, size_t run_length);
+                     hello_links *links, hello_entry *run, size_t run_length);
 
 /*
  * Corrects the clock by `ms`. From -512 to +511 it becomes DELTA, which adjust spends. Otherwise
  * it is added to CLOCK at once, DELTA becomes 0 and HOLD becomes HOLD-INTERVAL. Answers 0, 1, 12.
  */
 uint8_t hello_set(const hello_settings *settings, size_t number, hello_clock *clock,
-                  const hello_links *links, const hello_entry *run, size_t run_length, int32_t ms);
+                  hello_links *links, hello_entry *run, size_t run_length, int32_t ms);
 
 /* Reads the whole milliseconds of CLOCK, and DATE. Changes nothing. Answers 0, 1, 12. */
 hello_time hello_read(const hello_settings *settings, size_t number, hello_clock *clock,
-                      const hello_links *links, const hello_entry *run, size_t run_length);
+                      hello_links *links, hello_entry *run, size_t run_length);
 
 /*
  * A second has passed: HOLD and each TTL fall by one unless zero. An entry that was up and whose
  * TTL thereby ends goes down: DELAY 30,000, TTL 120. Answers 0, 1, 12.
  */
 uint8_t hello_second(const hello_settings *settings, size_t number, hello_clock *clock,
-                     const hello_links *links, hello_entry *run, size_t run_length);
+                     hello_links *links, hello_entry *run, size_t run_length);
 
 /* Updates the host's own entry with PID 0, DELAY 0 and OFFSET 0. Answers 0, 1, 12. */
 uint8_t hello_self_report(const hello_settings *settings, size_t number, hello_clock *clock,
-                          const hello_links *links, hello_entry *run, size_t run_length);
+                          hello_links *links, hello_entry *run, size_t run_length);
 
 /*
  * Writes the next message of link `link` (from 1) to the front of the buffer, IP header first, and
- * answers its length: 32 octets, or 32 + 4 NHOSTS with the host table, which goes out once the
- * neighbor is known and on the host's net. KEEP-ALIVE falls by one unless zero. Octets of the
- * buffer behind the message stay. Answers 0, 1, 2, 12.
+ * answers its length: 32 octets, or 32 + 4 NHOSTS (1,052 at most) with the host table, which goes
+ * out once the neighbor is known and on the host's net. KEEP-ALIVE falls by one unless zero.
+ * Octets of the buffer behind the message stay. Answers 0, 1, 2, 12.
  */
 hello_sent hello_send(const hello_settings *settings, size_t number, hello_clock *clock,
-                      hello_links *links, const hello_entry *run, size_t run_length, size_t link,
+                      hello_links *links, hello_entry *run, size_t run_length, size_t link,
                       uint8_t *buffer, size_t buffer_length);
 
 /*
@@ -243,16 +263,16 @@ uint8_t hello_receive(const hello_settings *settings, size_t number, hello_clock
                       const uint8_t *packet, size_t packet_length);
 
 /*
- * Answers the host id and the link by which `address` is reached, by the host's own net or by the
- * net table. Changes nothing. Answers 0, 1, 11, 12, 13.
+ * Answers the id of `address`, by the host's own net or by the net table, and the link by which it
+ * is reached. Changes nothing. Answers 0, 1, 11, 12, 13.
  */
-hello_route hello_lookup(const hello_settings *settings, size_t number, const hello_clock *clock,
-                         const hello_links *links, const hello_entry *run, size_t run_length,
+hello_route hello_lookup(const hello_settings *settings, size_t number, hello_clock *clock,
+                         hello_links *links, hello_entry *run, size_t run_length,
                          hello_address address);
 
 /*
  * Gives a packet to the one point-to-point link of a fresh host (192.0.2.1, ADDRESS-OFFSET 1,
- * NHOSTS 4, no net rows, no clock host, time 0, 1 January 1972) and answers the number.
+ * NHOSTS 4, no net rows, clock setting off, time 0, 1 January 1972) and answers the number.
  */
 uint8_t hello_packet(const uint8_t *packet, size_t packet_length);
 

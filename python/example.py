@@ -8,10 +8,9 @@ Run python/make_library once, then python3 python/example.py.
 """
 
 import hello
+from hello import Answer
 
-MILLISECOND = 65_536  # in clock units
 LINK = 1  # both hosts have one link
-RUN = hello.Run(2 * hello.PLACES)  # both hosts' entries
 
 
 def expect(got, wanted):
@@ -25,75 +24,58 @@ def address(number):
     return hello.Address(192, 0, 2, 1 + number)
 
 
-class Host:
-    """A host, fresh, with its clock at `time` ms."""
+def fresh(room, number, time):
+    """Host `number`, set afresh, with its clock at `time` ms."""
+    host = room.host(number, hello.Settings(address(number), address_offset=1, nhosts=2, time=time))
+    expect(host.initialize(), Answer.DONE)
+    return host
 
-    def __init__(self, number, time):
-        settings = hello.Settings(
-            address(number), address_offset=1, nhosts=2, clock_tick=MILLISECOND, time=time
-        )
-        self.links = hello.Links()
-        self.lent = (settings, number, hello.Clock(), self.links, RUN)
-        expect(hello.initialize(*self.lent), hello.DONE)
 
-    def wait_until(self, time):
-        """Ticks until the clock reads `time` ms."""
-        while self.reading() < time:
-            expect(hello.tick(*self.lent), hello.DONE)
-        expect(self.reading(), time)
+def wait_until(host, time):
+    """Ticks until the host's clock reads `time` ms."""
+    while host.read().time < time:
+        expect(host.tick(), Answer.DONE)
+    expect(host.read().time, time)
 
-    def reading(self):
-        """The clock's whole milliseconds."""
-        time = hello.read(*self.lent)
-        expect(time.answer, hello.DONE)
-        return time.time
 
-    def self_report(self):
-        """Reports the host itself in its own table."""
-        expect(hello.self_report(*self.lent), hello.DONE)
-
-    def send(self):
-        """The message that the host sends now."""
-        buffer = bytearray(64)
-        sent = hello.send(*self.lent, LINK, buffer)
-        expect(sent.answer, hello.DONE)
-        return buffer[: sent.length]
-
-    def receive(self, message):
-        """Gives the host a message that arrives now."""
-        expect(hello.receive(*self.lent, LINK, message), hello.DONE)
+def send(host):
+    """The message that the host sends now."""
+    sent = host.send(LINK)
+    expect(sent.answer, Answer.DONE)
+    return sent.message
 
 
 def main():
-    a = Host(0, 39_900)
-    b = Host(1, 40_400)
+    room = hello.Room(hosts=2)
+    a = fresh(room, 0, 39_900)
+    b = fresh(room, 1, 40_400)
 
     # B introduces itself, so that A knows its neighbor.
-    introduction = b.send()
-    a.wait_until(39_930)
-    a.receive(introduction)
+    introduction = send(b)
+    wait_until(a, 39_930)
+    expect(a.receive(LINK, introduction), Answer.DONE)
     expect(a.links[0].neighbor, address(1))
 
-    a.wait_until(40_000)
-    question = a.send()
-    b.wait_until(40_530)
-    b.receive(question)
+    wait_until(a, 40_000)
+    question = send(a)
+    wait_until(b, 40_530)
+    expect(b.receive(LINK, question), Answer.DONE)
     expect(b.links[0].tsp, -530)
 
-    b.wait_until(45_530)
-    b.self_report()
-    reply = b.send()
+    wait_until(b, 45_530)
+    expect(b.self_report(), Answer.DONE)
+    reply = send(b)
     packet_tsp = int.from_bytes(reply[28:30], "big")
     expect(packet_tsp, 45_000)
-    a.wait_until(45_081)
-    a.receive(reply)
+    wait_until(a, 45_081)
+    expect(a.receive(LINK, reply), Answer.DONE)
 
     # DELAY 81 counts as the least one, 100; OFFSET is 449 + 81 / 2.
-    b_at_a = RUN[1]
-    expect(b_at_a, hello.Entry(delay=100, offset=489, ttl=120, pid=LINK, time=45_081))
-    expect(hello.lookup(*a.lent, address(1)), hello.Route(hello.DONE, host=1, pid=LINK))
+    learned = a.table[1]
+    expect(learned, hello.Entry(delay=100, offset=489, ttl=120, pid=LINK, time=45_081))
+    expect(a.lookup(address(1)), hello.Route(Answer.DONE, id=1, pid=LINK))
 
-    print(f"A has for B: DELAY {b_at_a.delay} ms, OFFSET {b_at_a.offset} ms.")
+    print(f"A has for B: DELAY {learned.delay} ms, OFFSET {learned.offset} ms.")
 
 
 main()

@@ -1,8 +1,9 @@
-"""Tests of the module's own checks: nothing is cut off, nothing unfit is lent."""
+"""Tests of the package's own checks: nothing is cut off, nothing unfit is lent."""
 
 import unittest
 
 import hello
+from hello import Answer, library
 
 
 def settings(**changes):
@@ -10,12 +11,12 @@ def settings(**changes):
     return hello.Settings(**{"address": (192, 0, 2, 1), "address_offset": 1, "nhosts": 4, **changes})
 
 
-def fresh():
-    """What the host lends, freshly set as host 0."""
-    lent = (settings(), 0, hello.Clock(), hello.Links(), hello.Run(hello.PLACES))
-    if hello.initialize(*lent) != hello.DONE:
+def fresh(**changes):
+    """A host of a room of its own, freshly set."""
+    host = hello.Room(1).host(0, settings(**changes))
+    if host.initialize() != Answer.DONE:
         raise AssertionError("a fresh host was refused")
-    return lent
+    return host
 
 
 class Fields(unittest.TestCase):
@@ -42,6 +43,9 @@ class Fields(unittest.TestCase):
             for value in (-1, 1 << 64):
                 with self.assertRaises(OverflowError, msg=field):
                     setattr(settings(), field, value)
+        for hosts in (-1, 17):
+            with self.assertRaises(OverflowError):
+                hello.Room(hosts)
 
     def test_parts(self):
         with self.assertRaises(OverflowError):
@@ -86,15 +90,16 @@ class Fields(unittest.TestCase):
             hello.Links()[8]
 
     def test_arguments(self):
-        lent = fresh()
+        host = fresh()
         with self.assertRaises(OverflowError):
-            hello.tick(lent[0], -1, *lent[2:])
+            host.set(1 << 31)
         with self.assertRaises(OverflowError):
-            hello.set(*lent, 1 << 31)
+            host.send(1 << 64)
         with self.assertRaises(OverflowError):
-            hello.send(*lent, 1 << 64, bytearray(32))
+            host.lookup((1, 2, 3, 256))
+        host.number = -1
         with self.assertRaises(OverflowError):
-            hello.lookup(*lent, (1, 2, 3, 256))
+            host.tick()
 
 
 class Types(unittest.TestCase):
@@ -104,64 +109,85 @@ class Types(unittest.TestCase):
         for value in (1.0, "1", None):
             with self.assertRaises(TypeError):
                 settings(nhosts=value)
-        with self.assertRaises(TypeError):
-            settings(links=[(1, (0, 0, 0, 0))])
+        for value in (1, 2, None):
+            with self.assertRaises(TypeError):
+                settings(links=[(value, (0, 0, 0, 0))])
 
     def test_lent(self):
-        lent = fresh()
-        for place in (0, 2, 3, 4):
-            for value in (None, lent[0] if place else lent[2]):
-                wrong = lent[:place] + (value,) + lent[place + 1 :]
-                with self.assertRaises(TypeError):
-                    hello.tick(*wrong)
+        for place in ("settings", "clock", "links"):
+            for value in (None, hello.Run(1)):
+                host = fresh()
+                setattr(host, place, value)
+                with self.assertRaises(TypeError, msg=place):
+                    host.tick()
+        host = fresh()
+        host.room.run = host.clock
+        with self.assertRaises(TypeError):
+            host.tick()
 
     def test_octets(self):
-        lent = fresh()
+        host = fresh()
         for buffer in (bytes(64), 64, None, "buffer", memoryview(bytearray(128))[::2]):
             with self.assertRaises(TypeError):
-                hello.send(*lent, 1, buffer)
+                host.send_into(1, buffer)
         for packet in ("packet", 20, None, [1, 2]):
             with self.assertRaises(TypeError):
-                hello.receive(*lent, 1, packet)
+                host.receive(1, packet)
 
 
 class Answers(unittest.TestCase):
     """What fits its field is the library's to judge."""
 
     def test_empty(self):
-        lent = fresh()
-        self.assertEqual(hello.packet(b""), hello.IP_FORM)
+        host = fresh()
+        self.assertIs(hello.packet(b""), Answer.IP_FORM)
         self.assertEqual(hello.checksum(b""), 0xFFFF)
-        self.assertEqual(hello.tick(*lent[:4], hello.Run(0)), hello.OUT_OF_RANGE)
-        self.assertEqual(hello.send(*lent, 1, bytearray()), hello.Sent(hello.SHORT_BUFFER, 0))
-        self.assertEqual(hello.receive(*lent, 1, b""), hello.IP_FORM)
+        self.assertEqual(host.send_into(1, bytearray()), (Answer.SHORT_BUFFER, 0))
+        self.assertIs(host.receive(1, b""), Answer.IP_FORM)
+        self.assertIs(hello.Room(0).host(0, settings()).initialize(), Answer.OUT_OF_RANGE)
 
     def test_out_of_range(self):
-        lent = fresh()
-        self.assertEqual(hello.tick(settings(nhosts=300), *lent[1:]), hello.SETTING)
-        self.assertEqual(hello.tick(lent[0], 16, *lent[2:]), hello.OUT_OF_RANGE)
-        lent[4][0] = hello.Entry(delay=-1)
-        self.assertEqual(hello.tick(*lent), hello.OUT_OF_RANGE)
+        host = fresh()
+        host.settings.nhosts = 300
+        self.assertIs(host.tick(), Answer.SETTING)
+        host = fresh()
+        host.number = 16
+        self.assertIs(host.tick(), Answer.OUT_OF_RANGE)
+        host = fresh()
+        host.room.run[0] = hello.Entry(delay=-1)
+        self.assertIs(host.tick(), Answer.OUT_OF_RANGE)
+        self.assertEqual(host.read(), hello.Time(Answer.OUT_OF_RANGE, 0, 0))
+        self.assertEqual(host.send(1), hello.Sent(Answer.OUT_OF_RANGE, b""))
 
     def test_values_are_kept(self):
         rows = [hello.Row(hello.Net(10, 0, 0), 3), hello.Row()]
         links = [hello.LinkSetting(True, hello.Address(192, 0, 2, 2))]
-        kept = settings(net=rows, links=links, time=1234)
+        host = fresh(net=rows, links=links, time=1234)
+        kept = host.settings
         self.assertEqual(kept.address, hello.Address(192, 0, 2, 1))
         self.assertEqual((kept.net[:2], kept.net_count), (tuple(rows), 2))
         self.assertEqual((kept.links[:1], kept.link_count), (tuple(links), 1))
-        clock, states, run = hello.Clock(), hello.Links(), hello.Run(hello.PLACES)
-        self.assertEqual(hello.initialize(kept, 0, clock, states, run), hello.DONE)
-        self.assertEqual(clock.clock, 1234 * 65_536)
-        self.assertEqual(states[0], hello.Link(hello.Address(192, 0, 2, 2)))
-        self.assertEqual(run[3], hello.Entry(delay=30_000))
-        self.assertEqual(run[4], hello.Entry())
+        self.assertEqual(host.clock.clock, 1234 * hello.UNITS_PER_MS)
+        self.assertEqual(host.links[0], hello.Link(hello.Address(192, 0, 2, 2)))
+        self.assertEqual(host.table, 4 * [hello.Entry(delay=30_000)])
+        self.assertEqual(host.room.run[4], hello.Entry())
 
     def test_octets_behind_a_message_stay(self):
-        lent = fresh()
+        host = fresh()
         buffer = bytearray(40 * b"\xaa")
-        self.assertEqual(hello.send(*lent, 1, buffer), hello.Sent(hello.DONE, 32))
+        self.assertEqual(host.send_into(1, buffer), (Answer.DONE, 32))
         self.assertEqual(buffer[32:], 8 * b"\xaa")
+
+    def test_longest_message(self):
+        host = fresh(nhosts=255, links=[hello.LinkSetting(True, hello.Address(192, 0, 2, 2))])
+        self.assertEqual(len(host.send(1).message), 1052)
+
+    def test_plain_calls(self):
+        host = fresh()
+        lent = (host.settings, 0, host.clock, host.links, host.room.run)
+        self.assertEqual(library.tick(*lent), 0)
+        self.assertEqual(library.read(*lent), (0, 1, host.clock.date))
+        self.assertEqual(library.tick(*lent[:4], hello.Run(0)), 12)
 
 
 if __name__ == "__main__":

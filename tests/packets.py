@@ -1,16 +1,15 @@
 #!/usr/bin/env python3
-"""Packets for the host of the packet program, with the number of the answer to each. Checksums are computed here, and nothing of the library is used.
+"""Packets and what a host makes of them: the table of the arrivals that the program vectors runs. Checksums are computed here, and nothing of the library is used.
 
-usage: packets.py FOLDER     write each packet to FOLDER/NAME, and print its name and number
-       packets.py source     print the source of the program packet_runs
-       packets.py stdout     print what that program writes
-       packets.py vectors    print the packets of the program vectors, as its source has them
+usage: packets.py FOLDER     write the packets for the packet program to FOLDER/NAME, and print the name and number of each
+       packets.py stdin      print the arrivals as vectors reads them: crates/vectors/stdin
+       packets.py stdout     print what it writes of them: the lines in front of crates/vectors/stdout
 """
 import os
 import sys
+from typing import NamedTuple
 
 HELLO = 63
-WIDTH = 100  # of a line of source
 MORE_FRAGMENTS = 0x2000
 US, NEIGHBOR, STRANGER, NOBODY = bytes([192, 0, 2, 1]), bytes([192, 0, 2, 2]), bytes([10, 0, 0, 1]), bytes(4)
 
@@ -41,96 +40,146 @@ def ip(data, source=NEIGHBOR, version=4, words=5, length=None, fragment=0, proto
     return front + word(checksum(front + ends) ^ wrong) + ends + data
 
 
+class Entry(NamedTuple):
+    delay: int
+    ttl: int
+    pid: int
+    offset: int = 0
+
+
+class Link(NamedTuple):
+    keep_alive: int
+    tsp: int
+    neighbor: bytes
+
+
+class Arrival(NamedTuple):
+    """A packet that arrives on link 1 of a host of 192.0.2, NHOSTS 4, and what is expected of it. What is not said is as at a fresh host, and stays."""
+
+    name: str
+    packet: bytes
+    answer: int
+    link: Link = None  # afterwards
+    entry: Entry = None  # that of the id afterwards
+    host: int = 1  # the octets of the host's and the neighbor's addresses; no neighbor: 0.0.0.0
+    neighbor: int = 0
+    reading: int = 0
+    hold: int = 0
+    before: Entry = Entry(30000, 0, 0)  # all entries
+    id: int = 1
+
+
+def by_host(text, answer, packet, **more):
+    """An arrival at a host that knows its neighbor, at 1,000 ms."""
+    return Arrival(text, packet, answer, Link(4, 0, NEIGHBOR), neighbor=2, reading=1000, **more)
+
+
+def reported(text, delay, before, after=None):
+    """Link 1 reports host 2 at a DELAY, of which 100 are the way to the neighbor."""
+    table = [(30000, 0), (30000, 0), (delay - 100, 0), (30000, 0)]
+    packet = ip(hello(table, time=1000, tsp=1000))
+    return by_host(text, 0, packet, before=before, entry=after, id=2)
+
+
+def measured(tsp, offset):
+    """Reading 1,000 less TSP is DELAY, half of it OFFSET: the packet's time is 1,000 too."""
+    text = "reading 1,000, TSP %s: DELAY %d and its half" % (format(tsp, ","), 1000 - tsp)
+    return by_host(text, 0, ip(hello(time=1000, tsp=tsp)), entry=Entry(100, 120, 1, offset))
+
+
 TABLE = [(30000, 0), (0, 0), (250, 489), (30000, 0)]
+HEARD = Link(4, -25536, NEIGHBOR)  # from a time of 40,000 at a reading of 0
 
-# name, what it is, the number of the answer, the octets
+# a packet of each sort, for the packet program's host
 PACKETS = [
-    ("neighbor", "a new neighbor, no table", 0, ip(hello())),
-    ("table", "a table of our layout", 0, ip(hello(TABLE))),
-    ("offset_unread", "another ADDRESS-OFFSET, but no table", 0, ip(hello(offset=9))),
-    ("header_cut", "19 octets", 3, ip(hello())[:19]),
-    ("version_6", "version 6", 3, ip(hello(), version=6)),
-    ("options", "header length 6", 3, ip(word(0, 4) + hello(), words=6)),
-    ("total_length", "a total length of one octet more", 3, ip(hello(), length=33)),
-    ("more_fragments", "the more-fragments bit", 3, ip(hello(), fragment=MORE_FRAGMENTS)),
-    ("last_fragment", "fragment offset 1", 3, ip(hello(), fragment=1)),
-    ("ip_checksum", "a wrong IP checksum", 4, ip(hello(), wrong=1)),
-    ("udp", "protocol 17", 5, ip(hello(), protocol=17)),
-    ("hello_cut", "a HELLO of 11 octets", 6, ip(hello()[:11])),
-    ("table_cut", "NHOSTS 4, and three hosts", 6, ip(hello(TABLE[:3], nhosts=4))),
-    ("hello_checksum", "a wrong HELLO checksum", 7, ip(hello(wrong=1))),
-    ("three_hosts", "a table of NHOSTS 3", 8, ip(hello(TABLE[:3]))),
-    ("other_offset", "a table of ADDRESS-OFFSET 2", 8, ip(hello(TABLE, offset=2))),
-    ("looped", "our own address as source", 9, ip(hello(), source=US)),
-    ("no_tsp", "the NEIGHBOR-ADDRESS of a fresh link, 0.0.0.0, as source, with TSP 0", 10, ip(hello(TABLE), source=NOBODY)),
-    ("stranger", "a new neighbor whose address has no id, no table", 11, ip(hello(), source=STRANGER)),
-    ("nobody", "0.0.0.0 as source, with a TSP, no table", 11, ip(hello(tsp=1), source=NOBODY)),
+    Arrival("a new neighbor, no table", ip(hello()), 0, HEARD),
+    Arrival("a table of our layout", ip(hello(TABLE)), 0, HEARD),
+    Arrival("another ADDRESS-OFFSET, but no table", ip(hello(offset=9)), 0, HEARD),
+    Arrival("19 octets", ip(hello())[:19], 3),
+    Arrival("version 6", ip(hello(), version=6), 3),
+    Arrival("header length 6", ip(word(0, 4) + hello(), words=6), 3),
+    Arrival("a total length of one octet more", ip(hello(), length=33), 3),
+    Arrival("the more-fragments bit", ip(hello(), fragment=MORE_FRAGMENTS), 3),
+    Arrival("fragment offset 1", ip(hello(), fragment=1), 3),
+    Arrival("a wrong IP checksum", ip(hello(), wrong=1), 4),
+    Arrival("protocol 17", ip(hello(), protocol=17), 5),
+    Arrival("a HELLO of 11 octets", ip(hello()[:11]), 6),
+    Arrival("NHOSTS 4, and three hosts", ip(hello(TABLE[:3], nhosts=4)), 6),
+    Arrival("a wrong HELLO checksum", ip(hello(wrong=1)), 7),
+    Arrival("a table of NHOSTS 3", ip(hello(TABLE[:3])), 8),
+    Arrival("a table of ADDRESS-OFFSET 2", ip(hello(TABLE, offset=2)), 8),
+    Arrival("our own address as source", ip(hello(), source=US), 9),
+    # A source of 0.0.0.0 equals the NEIGHBOR-ADDRESS of a fresh link, so it is no new neighbor.
+    Arrival("from 0.0.0.0, TSP 0", ip(hello(TABLE), source=NOBODY), 10, Link(4, -25536, NOBODY)),
+    Arrival("from 0.0.0.0, a TSP, no table", ip(hello(tsp=1), source=NOBODY), 11, Link(4, -25536, NOBODY)),
+    Arrival("from 0.0.0.0, a TSP, a table", ip(hello(TABLE, tsp=1), source=NOBODY), 0, Link(4, -25536, NOBODY), Entry(350, 120, 1, -25048), id=2),
+    Arrival("a new neighbor whose address has no id, no table", ip(hello(), source=STRANGER), 11, Link(4, -25536, STRANGER)),
 ]
 
-# too long for a source
+# too long for the table
 LONG = [
-    ("empty", "no octets", 3, b""),
-    ("long_2000", "2,000 octets of a good IP packet", 6, ip(bytes(1980))),
-    ("longest", "the longest IP packet", 6, ip(bytes(65515))),
-    ("too_long", "65,536 octets, which no total length can say", 3, ip(bytes(65516), length=0)),
-    ("far_too_long", "200,000 octets, the first 65,535 of them the longest IP packet", 3, ip(bytes(65515)) + bytes(134465)),
+    ("empty", 3, b""),
+    ("long_2000", 6, ip(bytes(1980))),
+    ("longest", 6, ip(bytes(65515))),
+    ("too_long", 3, ip(bytes(65516), length=0)),
+    ("far_too_long", 3, ip(bytes(65515)) + bytes(134465)),
 ]
 
-FAR = [(30000, 0), (30000, 0), (65400, 0), (30000, 0)]
+FAR = ip(hello([(30000, 0), (30000, 0), (65400, 0), (30000, 0)], time=1000, tsp=800))
+LIVE, BY_2 = Entry(500, 60, 1), Entry(500, 60, 2)
+DOWN, DOWN_BY_2, HELD = Entry(30000, 0, 1), Entry(30000, 0, 2), Entry(30000, 77, 1)
 
-# the packets of the program vectors
-VECTORS = [
-    ("A_SENDS", "A, 192.0.2.1, sends at 40,000.", ip(hello(time=40000), source=US)),
-    ("B_ANSWERS", "B, 192.0.2.2, answers at 45,530 with TSP 45,000.", ip(hello(time=45530, tsp=45000))),
-    ("AHEAD", "From 192.0.2.2 at 1,000 with TSP 1,003.", ip(hello(time=1000, tsp=1003))),
-    ("AT_ONCE", "From 192.0.2.2 at 1,000 with TSP 1,000.", ip(hello(time=1000, tsp=1000))),
-    ("FAR", "From 192.0.2.2 at 1,000 with TSP 800: host 2 is reported at 65,400.", ip(hello(FAR, time=1000, tsp=800))),
-    ("NOBODY_NO_TSP", "From 0.0.0.0, with TSP 0 and no table.", ip(hello(), source=NOBODY)),
-    ("NOBODY_NO_TABLE", "From 0.0.0.0, with a TSP and no table.", ip(hello(tsp=1), source=NOBODY)),
-    ("NOBODY_TABLE", "From 0.0.0.0, with a TSP and a table.", ip(hello(TABLE, tsp=1), source=NOBODY)),
+# "Sums on the blackboard", "Slips the red pen has met", and what may surprise
+SUMS = [
+    reported("route via 2 at 500, link 1 reports 400", 400, BY_2, Entry(400, 120, 1)),
+    reported("route via 2 at 500, link 1 reports 401", 401, BY_2),
+    reported("down entry, other PID, report 29,900", 29900, DOWN_BY_2, Entry(29900, 120, 1)),
+    reported("down entry, other PID, report 29,901", 29901, DOWN_BY_2),
+    reported("down entry, own PID, report 29,999", 29999, DOWN, Entry(29999, 120, 1)),
+    reported("down entry, own PID, report 30,000", 30000, DOWN),
+    reported("fresh entry, report 29,900", 29900, Entry(30000, 0, 0), Entry(29900, 120, 1)),
+    reported("fresh entry, report 29,901", 29901, Entry(30000, 0, 0)),
+    reported("live entry, own PID, report 30,000", 30000, LIVE, Entry(30000, 120, 1)),
+    reported("host already down, report 30,000", 30000, HELD),
+    reported("host already down, report 100", 100, HELD),
+    by_host("dead route, 200 plus 65,400", 0, FAR, id=2),
+    by_host("live route, 200 plus 65,400", 0, FAR, before=LIVE, entry=Entry(30000, 120, 1), id=2),
+    measured(1000, 0),
+    measured(1002, -1),
+    measured(1003, -2),
+    measured(1004, -2),
+    measured(1005, -3),
+    by_host("HOLD 1: the delay is not valid", 10, ip(hello(time=1000, tsp=1000)), hold=1),
+    Arrival("B, 500 ahead, gets at 40,530 what A sent at 40,000", ip(hello(time=40000), source=US), 0, Link(4, -530, US), host=2, reading=40530),
+    Arrival("A gets B's answer, TSP 45,000, at 45,081: DELAY 81, then 100", ip(hello(time=45530, tsp=45000)), 0, Link(4, 449, NEIGHBOR), Entry(100, 120, 1, 489), neighbor=2, reading=45081),
+    Arrival("the same with TSP 44,900: DELAY 181", ip(hello(time=45530, tsp=44900)), 0, Link(4, 449, NEIGHBOR), Entry(181, 120, 1, 539), neighbor=2, reading=45081),
 ]
 
 
-def vectors():
-    print("// Packets that are run. Made by tests/packets.py.")
-    for name, what, octets in VECTORS:
-        print("\n// %s" % what)
-        print('pub const %s: [u8; %d] =\n    *b"%s";' % (name, len(octets), "".join("\\x%02x" % o for o in octets)))
+def record(a):
+    """128 octets: the name (64), the host's state (16), the packet (48)."""
+    state = bytes([a.host, a.neighbor]) + word(a.reading, 3) + bytes([a.hold]) + word(a.before.delay) + bytes([a.before.ttl, a.before.pid, a.id, len(a.packet)])
+    return a.name.encode().ljust(64) + state.ljust(16, b"\0") + a.packet.ljust(48, b"\0")
 
 
-def source():
-    print("""// The answers of the packet program's host to a packet of each sort, one number to a line. Made by tests/packets.py.
-// The host can give 0 and 3 to 11. 1 and 12 are ruled out by its settings and by what it lends; 2 is for a send alone, and 13 for a lookup.
-
-// The number of the answer, and a newline.
-fn run(packet: &[u8]) {
-    let number = packet::answer(packet);
-    io::print_decimal(1, number as u64);
-    io::write_all(1, b"\\n");
-}
-
-fn main() {""")
-    for _, what, number, octets in PACKETS:
-        print("    // %d: %s" % (number, what))
-        text = 'b"%s"' % "".join("\\x%02x" % o for o in octets)
-        short = "    run(%s);" % text
-        print(short if len(short) <= WIDTH else "    run(\n        %s,\n    );" % text)
-    print("}")
+def line(a):
+    before = Link(0, 0, bytes([192, 0, 2, a.neighbor]) if a.neighbor else NOBODY)
+    link, e = a.link or before, a.entry or a.before
+    neighbor = ".".join(map(str, link.neighbor))
+    return f"{a.name:64} answer {a.answer}: KEEP-ALIVE {link.keep_alive} TSP {link.tsp} neighbor {neighbor}; id {a.id}: DELAY {e.delay} OFFSET {e.offset} TTL {e.ttl} PID {e.pid}"
 
 
 def write(folder):
-    for name, _, number, octets in PACKETS + LONG:
+    packets = [(a.name.replace(" ", "_"), a.answer, a.packet) for a in PACKETS]
+    for name, number, octets in packets + LONG:
         with open(os.path.join(folder, name), "wb") as f:
             f.write(octets)
         print(name, number)
 
 
-if sys.argv[1] == "source":
-    source()
-elif sys.argv[1] == "vectors":
-    vectors()
+if sys.argv[1] == "stdin":
+    sys.stdout.buffer.write(b"".join(map(record, PACKETS + SUMS)))
 elif sys.argv[1] == "stdout":
-    for _, _, number, _ in PACKETS:
-        print(number)
+    print("\n".join(map(line, PACKETS + SUMS)))
 else:
     write(sys.argv[1])

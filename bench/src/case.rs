@@ -2,7 +2,7 @@
 
 use crate::convert;
 use crate::host::{both, message, Ours, Theirs, LINK, NEIGHBOR};
-use hello::answer::DONE;
+use hello::Answer;
 use reference::host;
 use std::hint::black_box;
 
@@ -19,7 +19,7 @@ pub struct Case {
 fn batch(mut call: impl FnMut() -> u8 + 'static) -> Batch {
     Box::new(move |count| {
         for _ in 0..count {
-            assert_eq!(call(), DONE);
+            assert_eq!(call(), Answer::Done.number());
         }
     })
 }
@@ -107,7 +107,7 @@ pub fn tick(nhosts: usize) -> Case {
 
 /// A lookup of the neighbor's address.
 pub fn lookup(nhosts: usize) -> Case {
-    let (ours, theirs) = both(nhosts);
+    let (mut ours, theirs) = both(nhosts);
     let address = convert::address(NEIGHBOR);
     Case {
         library: batch(move || {
@@ -116,7 +116,7 @@ pub fn lookup(nhosts: usize) -> Case {
                 clock,
                 links,
                 run,
-            } = black_box(&ours);
+            } = black_box(&mut ours);
             hello::lookup(settings, 0, clock, links, run, black_box(NEIGHBOR)).answer
         }),
         reference: batch(move || {

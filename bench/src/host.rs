@@ -1,7 +1,7 @@
 //! A host that has heard its neighbor, for either program.
 
 use crate::convert;
-use hello::{Address, Clock, Entry, Layout, Links, Settings, PLACES};
+use hello::{Address, Answer, Clock, Entry, Layout, Links, Settings, PLACES};
 
 /// The host's one link.
 pub const LINK: usize = 1;
@@ -10,18 +10,8 @@ pub const LINK: usize = 1;
 const READING: i64 = 40_000;
 
 /// The host that is timed, and its neighbor.
-pub const HOST: Address = Address {
-    first: 192,
-    second: 0,
-    third: 2,
-    fourth: 1,
-};
-pub const NEIGHBOR: Address = Address {
-    first: 192,
-    second: 0,
-    third: 2,
-    fourth: 2,
-};
+pub const HOST: Address = Address::new(192, 0, 2, 1);
+pub const NEIGHBOR: Address = Address::new(192, 0, 2, 2);
 
 /// What the library is lent.
 pub struct Ours {
@@ -42,19 +32,14 @@ pub struct Theirs {
 impl Ours {
     /// A host whose entries are all live, by the link `pid`, and who knows its neighbor.
     pub fn live(nhosts: usize, address: Address, neighbor: Address, pid: u8) -> Ours {
+        let layout = Layout {
+            address_offset: 1,
+            nhosts,
+        };
         let settings = Settings {
-            address,
-            layout: Layout {
-                address_offset: 1,
-                nhosts,
-            },
-            clock_host: 255,
-            hold_interval: 1,
             clock_tick: 1,
             time: READING,
-            date: 1 << 10 | 1 << 5, // 1 January 1972
-            link_count: 1,
-            ..Settings::default()
+            ..Settings::new(address, layout)
         };
         let mut clock = Clock::default();
         let mut links = Links::default();
@@ -67,7 +52,7 @@ impl Ours {
         };
         let mut run = vec![entry; PLACES];
         let answer = hello::initialize(&settings, 0, &mut clock, &mut links, &mut run);
-        assert_eq!(answer, hello::answer::DONE);
+        assert_eq!(answer, Answer::Done.number());
         run.fill(entry);
         let link = &mut links.all[LINK - 1];
         link.neighbor = neighbor;
@@ -108,13 +93,13 @@ pub fn message(nhosts: usize) -> Vec<u8> {
         0,
         &mut neighbor.clock,
         &mut neighbor.links,
-        &neighbor.run,
+        &mut neighbor.run,
         LINK,
         &mut buffer,
     );
     assert_eq!(
         (sent.answer, sent.length),
-        (hello::answer::DONE, buffer.len())
+        (Answer::Done.number(), buffer.len())
     );
     buffer
 }

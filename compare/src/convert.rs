@@ -22,17 +22,16 @@ pub fn settings(from: &hello::Settings) -> reference::Settings {
 }
 
 fn link_kind(from: hello::LinkSetting) -> reference::LinkKind {
-    if from.broadcast {
-        reference::LinkKind::Broadcast(address(from.neighbor))
-    } else {
-        reference::LinkKind::PointToPoint
+    match from.broadcast {
+        0 => reference::LinkKind::PointToPoint,
+        _ => reference::LinkKind::Broadcast(address(from.neighbor)),
     }
 }
 
 fn net_row(from: hello::Row) -> reference::NetRow {
     reference::NetRow {
         net: [from.net.first, from.net.second, from.net.third],
-        host: from.host,
+        host: from.id,
     }
 }
 

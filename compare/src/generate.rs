@@ -3,9 +3,8 @@
 use crate::random::Random;
 use crate::room::Room;
 use hello::{Address, Clock, Entry, Layout, Link, LinkSetting, Links, Net, Row, Settings};
-use hello::{HOSTS, PLACES};
+use hello::{HOSTS, PLACES, UNITS_PER_MS};
 
-pub const UNITS_PER_MS: i64 = 65_536;
 pub const DAY_MS: i64 = 86_400_000;
 pub const DAY_UNITS: i64 = DAY_MS * UNITS_PER_MS;
 const DELTA_LEAST: i64 = -512 * UNITS_PER_MS;
@@ -81,7 +80,7 @@ fn settings(random: &mut Random, net: Address, layout: Layout) -> Settings {
     }
     for place in 0..settings.links.len() {
         settings.links[place] = LinkSetting {
-            broadcast: random.one_in(3),
+            broadcast: u8::from(random.one_in(3)),
             neighbor: address(random, &settings),
         };
     }
@@ -107,7 +106,7 @@ fn row(random: &mut Random, near: Address, layout: Layout) -> Row {
             second,
             third,
         },
-        host: random.below(layout.nhosts) as u8,
+        id: random.below(layout.nhosts) as u8,
     }
 }
 
@@ -217,11 +216,11 @@ fn any_clock(random: &mut Random) -> Clock {
     }
 }
 
-/// Links in range.
+/// Links in range. What is lent for a broadcast link need not be the address that was set.
 pub fn links(random: &mut Random, settings: &Settings) -> Links {
     let mut links = Links::default();
     for (link, setting) in links.all.iter_mut().zip(&settings.links) {
-        let neighbor = if setting.broadcast {
+        let neighbor = if setting.broadcast == 1 && random.one_in(2) {
             setting.neighbor
         } else {
             address(random, settings)
@@ -275,12 +274,12 @@ pub fn spoil_settings(random: &mut Random, settings: &mut Settings) {
         9 | 10 => settings.link_count = random.pick(&[0, 8, 9, 10, usize::MAX]),
         11 => settings.net.count = random.pick(&[32, 33, 34, usize::MAX]),
         12 => {
-            settings.net.rows[random.below(32)].host =
+            settings.net.rows[random.below(32)].id =
                 random.pick(&[nhosts.min(255) as u8, (nhosts - 1) as u8, 255]);
         }
         _ => {
             let row = settings.net.count.clamp(1, 32) - 1;
-            settings.net.rows[row].host = nhosts.min(255) as u8;
+            settings.net.rows[row].id = nhosts.min(255) as u8;
         }
     }
 }

@@ -23,7 +23,7 @@ pub struct Receiver<'a> {
 pub fn message(random: &mut Random, receiver: &Receiver) -> Vec<u8> {
     let source = source(random, receiver);
     let round_trip = round_trip(random);
-    let path = if receiver.link.broadcast {
+    let path = if receiver.link.broadcast == 1 {
         100
     } else if source == receiver.neighbor {
         i64::from(round_trip).max(100)
@@ -161,16 +161,23 @@ pub fn damage(random: &mut Random, packet: &mut Vec<u8>) {
         18 => {
             absorb_checksum(packet, 10, 4, random.pick(&[0, 0xFFFF]));
         }
-        _ => {
-            if random.one_in(40) {
-                packet.resize(65_536 + random.below(40), 0);
-                put_length(packet);
-                seal_header(packet);
-            } else {
-                packet.clear();
-            }
-        }
+        _ => match random.below(8) {
+            0 => lengthen(random, packet),
+            _ => packet.clear(),
+        },
     }
+}
+
+/// Lengthens a packet beyond every HELLO, at times beyond every IP packet.
+fn lengthen(random: &mut Random, packet: &mut Vec<u8>) {
+    let any = 1_053 + random.below(64_483);
+    let over = 65_536 + random.below(40);
+    packet.resize(
+        random.pick(&[1_053, 1_061, 2_001, 65_001, 65_535, any, over]),
+        0,
+    );
+    put_length(packet);
+    seal_header(packet);
 }
 
 fn change_octet(random: &mut Random, packet: &mut [u8]) {

@@ -50,7 +50,7 @@ impl Library {
             Call::Lookup { address } => {
                 let route = hello::lookup(settings, number, clock, links, run, *address);
                 let value = Value::Route {
-                    host: route.host,
+                    host: route.id,
                     pid: route.pid,
                 };
                 Outcome::new(route.answer, value)

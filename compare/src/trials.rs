@@ -1,11 +1,11 @@
 //! Random calls on the hosts of a room.
 
 use crate::call::{Call, Octets, Trial};
-use crate::generate::{self, UNITS_PER_MS};
+use crate::generate;
 use crate::packets::{self, Receiver};
 use crate::random::Random;
 use crate::room::Room;
-use hello::{Address, Clock, Entry, Layout, Links, Settings, HOSTS, PLACES};
+use hello::{Address, Clock, Entry, Layout, Links, Settings, HOSTS, PLACES, UNITS_PER_MS};
 
 /// The messages that were sent last; they arrive at other hosts.
 #[derive(Default)]
@@ -209,12 +209,7 @@ fn packet(random: &mut Random, receiver: &Receiver, messages: &Messages) -> Octe
 /// A packet for the program that gives one packet to a fresh host.
 fn for_program(random: &mut Random, messages: &Messages) -> Octets {
     let settings = Settings {
-        address: Address {
-            first: 192,
-            second: 0,
-            third: 2,
-            fourth: 1,
-        },
+        address: Address::new(192, 0, 2, 1),
         layout: Layout {
             address_offset: 1,
             nhosts: 4,

@@ -1,9 +1,9 @@
 //! The rules' own sums and the examples of RFC 1071, run on both programs.
 
 use crate::call::{Call, Octets, Outcome, Trial, Value};
-use crate::generate::{DAY_UNITS, UNITS_PER_MS};
+use crate::generate::DAY_UNITS;
 use crate::room::Room;
-use hello::{Address, Clock, Entry, Layout, Links, Settings, PLACES};
+use hello::{Address, Clock, Entry, Layout, Links, Settings, PLACES, UNITS_PER_MS};
 use std::fmt::Debug;
 
 const DOWN: Entry = Entry {
@@ -104,12 +104,7 @@ impl Pair {
 }
 
 fn address(octet: u8) -> Address {
-    Address {
-        first: 192,
-        second: 0,
-        third: 2,
-        fourth: octet,
-    }
+    Address::new(192, 0, 2, octet)
 }
 
 fn settings(octet: u8) -> Settings {

@@ -1,6 +1,6 @@
 //! The words of the command line, and the plan of a room that they ask for.
 
-use crate::room::{Cable, End, DAY, START};
+use crate::plan::{Cable, End, Plan, Shape, DAY, START};
 use std::fmt::Display;
 use std::ops::RangeInclusive;
 use std::str::FromStr;
@@ -38,24 +38,6 @@ reaches midnight. Where the arguments break a condition, the program says so, an
 pub enum Request {
     Help,
     Run(Plan),
-}
-
-/// A room to run.
-pub struct Plan {
-    /// What each host's clock is ahead of the room's millisecond, in ms.
-    pub clocks: Vec<i64>,
-    pub shape: Shape,
-    pub cables: Vec<Cable>,
-    pub minutes: i64,
-    /// Messages lost of a hundred.
-    pub loss: u64,
-    pub seed: u64,
-}
-
-#[derive(Clone, Copy)]
-pub enum Shape {
-    Line,
-    Ring,
 }
 
 /// How long a message takes on a cable, either way.

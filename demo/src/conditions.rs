@@ -1,7 +1,6 @@
 //! The conditions under which the bound of the errors is promised (demand 3).
 
-use crate::arguments::Plan;
-use crate::room::{DAY, MINUTE, START};
+use demo::plan::{Plan, DAY, MINUTE, START};
 
 /// The most that two clocks may differ, and that a message may take.
 const DIFFERENCE: i64 = 16_384;

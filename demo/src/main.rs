@@ -1,6 +1,5 @@
 //! A room of HELLO hosts on cables: runs it for some minutes and shows what each host has learned.
 
-mod arguments;
 mod conditions;
 mod host;
 mod progress;
@@ -8,9 +7,10 @@ mod random;
 mod report;
 mod room;
 
-use arguments::{Plan, Request};
+use demo::arguments::{self, Request};
+use demo::plan::{Plan, MINUTE};
 use progress::Progress;
-use room::{Room, MINUTE};
+use room::Room;
 use std::env;
 use std::io::{self, ErrorKind, Write};
 use std::process::ExitCode;

@@ -1,10 +1,10 @@
 //! What the program prints.
 
-use crate::arguments::{Plan, Shape};
 use crate::conditions;
-use crate::host::{address, Host};
-use crate::room::{Room, MINUTE, SECOND};
-use hello::{Address, Entry, Time};
+use crate::host::address;
+use crate::room::{Room, WELL_LENT};
+use demo::plan::{Plan, Shape, MINUTE, SECOND};
+use hello::{Answer, Entry, Host, Reading};
 use std::io::{Result, Write};
 
 /// A DELAY of so many ms is down.
@@ -38,7 +38,7 @@ pub fn plan(out: &mut impl Write, plan: &Plan) -> Result<()> {
     )?;
     writeln!(out, "Clocks, ahead of the room's:")?;
     for (number, clock) in plan.clocks.iter().enumerate() {
-        writeln!(out, "  {:<12} {clock:>+10} ms", dotted(address(number)))?;
+        writeln!(out, "  {:<12} {clock:>+10} ms", address(number))?;
     }
     writeln!(out, "Cables, with the time a message takes there and back:")?;
     for cable in &plan.cables {
@@ -47,9 +47,9 @@ pub fn plan(out: &mut impl Write, plan: &Plan) -> Result<()> {
         writeln!(
             out,
             "  {:<12} link {}  -  {:<12} link {}  {there:>6} and {back:>6} ms",
-            dotted(address(from.host)),
+            address(from.host),
             from.link,
-            dotted(address(to.host)),
+            address(to.host),
             to.link,
         )?;
     }
@@ -75,14 +75,14 @@ fn promise(out: &mut impl Write, broken: &[String]) -> Result<()> {
 /// What the hosts have learned, and whether all errors are within the bound.
 pub fn result(out: &mut impl Write, plan: &Plan, room: &mut Room) -> Result<()> {
     writeln!(out, "{LEGEND}")?;
-    let Room { hosts, run, .. } = room;
     let mut live = 0;
     let mut beyond = 0;
-    for (number, host) in hosts.iter_mut().enumerate() {
-        let rows = live_rows(&plan.clocks, number, host.table(run));
+    for number in 0..room.hosts.count() {
+        let host = room.hosts.host(number);
+        let rows = live_rows(&plan.clocks, &host);
         live += rows.len();
         beyond += rows.iter().filter(|row| !row.within_bound()).count();
-        print_host(out, number, host, run, &rows)?;
+        print_host(out, host, &rows)?;
     }
     print_tally(out, room)?;
     match beyond {
@@ -117,36 +117,33 @@ impl Row {
 }
 
 /// The live entries of a host's table.
-fn live_rows(clocks: &[i64], number: usize, table: &[Entry]) -> Vec<Row> {
-    table
+fn live_rows(clocks: &[i64], host: &Host) -> Vec<Row> {
+    host.table()
         .iter()
         .enumerate()
         .filter(|(_, entry)| entry.delay < DOWN)
         .map(|(id, entry)| Row {
             id,
             entry: *entry,
-            truth: clocks[id] - clocks[number],
+            truth: clocks[id] - clocks[host.number()],
         })
         .collect()
 }
 
-fn print_host(
-    out: &mut impl Write,
-    number: usize,
-    host: &mut Host,
-    run: &[Entry],
-    rows: &[Row],
-) -> Result<()> {
-    writeln!(out, "Host {} (id {number})", dotted(address(number)))?;
-    writeln!(out, "  Clock: {}", date_and_time(host.reading(run)))?;
+fn print_host(out: &mut impl Write, mut host: Host, rows: &[Row]) -> Result<()> {
+    let number = host.number();
+    let reading = host.read().expect(WELL_LENT);
+    writeln!(out, "Host {} (id {number})", address(number))?;
+    writeln!(out, "  Clock: {}", date_and_time(reading))?;
     writeln!(out, "  Links")?;
     writeln!(out, "    link  neighbor      KEEP-ALIVE  TSP (ms)")?;
-    for (index, link) in host.links().iter().enumerate() {
+    let links = &host.links.all[..host.settings.link_count];
+    for (index, link) in links.iter().enumerate() {
         writeln!(
             out,
             "    {:>4}  {:<12}  {:>10}  {:>+8}",
             index + 1,
-            dotted(link.neighbor),
+            link.neighbor,
             link.keep_alive,
             link.tsp
         )?;
@@ -159,7 +156,7 @@ fn print_host(
     for row in rows {
         print_row(out, row)?;
     }
-    let down = host.table(run).len() - rows.len();
+    let down = host.table().len() - rows.len();
     if down > 0 {
         writeln!(out, "    ({down} more: down, DELAY {DOWN})")?;
     }
@@ -171,7 +168,7 @@ fn print_row(out: &mut impl Write, row: &Row) -> Result<()> {
         out,
         "    {:>2}  {:<12}  {:>4}  {:>10}  {:>+11}  {:>+9}  {:>+10}  {:>10.3}{}",
         row.id,
-        dotted(address(row.id)),
+        address(row.id),
         row.entry.pid,
         row.entry.delay,
         row.entry.offset,
@@ -200,7 +197,8 @@ fn print_tally(out: &mut impl Write, room: &Room) -> Result<()> {
     for (answer, count) in &room.tally.answers {
         writeln!(
             out,
-            "  {count:>8}  answered {answer} ({})",
+            "  {count:>8}  answered {} ({})",
+            answer.number(),
             meaning(*answer)
         )?;
     }
@@ -208,25 +206,15 @@ fn print_tally(out: &mut impl Write, room: &Room) -> Result<()> {
 }
 
 /// What an answer to an arrival means.
-fn meaning(answer: u8) -> &'static str {
+fn meaning(answer: Answer) -> &'static str {
     match answer {
-        hello::answer::DONE => "done",
-        hello::answer::DELAY_NOT_VALID => {
+        Answer::Done => "done",
+        Answer::DelayNotValid => {
             "delay not valid: no message of ours reached the neighbor lately, or HOLD runs"
         }
-        hello::answer::NO_HOST => "no host for the neighbor's address",
+        Answer::NoHost => "no host for the neighbor's address",
         _ => "refused",
     }
-}
-
-fn dotted(address: Address) -> String {
-    let Address {
-        first,
-        second,
-        third,
-        fourth,
-    } = address;
-    format!("{first}.{second}.{third}.{fourth}")
 }
 
 fn minutes(count: i64) -> String {
@@ -237,7 +225,7 @@ fn minutes(count: i64) -> String {
 }
 
 /// A reading as a date and a time of day.
-fn date_and_time(reading: Time) -> String {
+fn date_and_time(reading: Reading) -> String {
     const MONTHS: [&str; 12] = [
         "January",
         "February",

@@ -1,36 +1,14 @@
 //! The room: hosts, cables, and the messages on their way.
 
-use crate::arguments::Plan;
-use crate::host::{Host, Place};
+use crate::host::{settings, Place};
 use crate::random::Random;
-use hello::{Entry, PLACES};
+use demo::plan::{Cable, End, Plan, SECOND, START};
+use hello::Answer;
 use std::collections::BTreeMap;
-
-/// Milliseconds.
-pub const SECOND: i64 = 1000;
-pub const MINUTE: i64 = 60 * SECOND;
-pub const DAY: i64 = 24 * 60 * MINUTE;
-
-/// The room's millisecond at the start: 08:00.
-pub const START: i64 = 8 * 60 * MINUTE;
 
 /// A host sends on each link, and reports itself, every so many seconds.
 const SEND_INTERVAL: i64 = 5;
 const SELF_REPORT_INTERVAL: i64 = 10;
-
-/// A host's link, numbered from 1.
-#[derive(Clone, Copy)]
-pub struct End {
-    pub host: usize,
-    pub link: usize,
-}
-
-/// A cable, and how long a message takes from its first end to the second, and back.
-#[derive(Clone, Copy)]
-pub struct Cable {
-    pub ends: [End; 2],
-    pub delay: [i64; 2],
-}
 
 /// A message on its way to a link.
 struct Message {
@@ -43,13 +21,12 @@ struct Message {
 pub struct Tally {
     pub sent: u64,
     pub lost: u64,
-    /// Arrivals, by the number they were answered with.
-    pub answers: BTreeMap<u8, u64>,
+    /// Arrivals, by their answers.
+    pub answers: BTreeMap<Answer, u64>,
 }
 
 pub struct Room {
-    pub hosts: Vec<Host>,
-    pub run: Vec<Entry>,
+    pub hosts: hello::Room,
     pub tally: Tally,
     cables: Vec<Cable>,
     loss: u64,
@@ -68,20 +45,19 @@ impl Room {
     pub fn fresh(plan: &Plan) -> Room {
         let delays = plan.cables.iter().flat_map(|cable| cable.delay);
         let step = delays.fold(SECOND, greatest_common_divisor);
-        let hosts = plan.clocks.len();
-        let mut run = vec![Entry::default(); hosts * PLACES];
-        let place = |number| Place {
-            number,
-            hosts,
-            link_count: links_of(&plan.cables, number),
-            step,
-            time: START + plan.clocks[number],
-        };
+        let mut hosts = hello::Room::new(plan.clocks.len());
+        for (number, clock) in plan.clocks.iter().enumerate() {
+            let settings = settings(Place {
+                number,
+                hosts: hosts.count(),
+                link_count: links_of(&plan.cables, number),
+                step,
+                time: START + clock,
+            });
+            done(hosts.host(number).initialize(settings));
+        }
         Room {
-            hosts: (0..hosts)
-                .map(|number| Host::fresh(place(number), &mut run))
-                .collect(),
-            run,
+            hosts,
             tally: Tally::default(),
             cables: plan.cables.clone(),
             loss: plan.loss,
@@ -100,18 +76,19 @@ impl Room {
             }
             self.arrivals();
             self.now += self.step;
-            for host in &mut self.hosts {
-                host.tick(&self.run);
+            for number in 0..self.hosts.count() {
+                done(self.hosts.host(number).tick());
             }
         }
     }
 
     /// What the hosts do once a second.
     fn each_second(&mut self, second: i64) {
-        for host in &mut self.hosts {
-            host.second(&mut self.run);
+        for number in 0..self.hosts.count() {
+            let mut host = self.hosts.host(number);
+            done(host.second());
             if second % SELF_REPORT_INTERVAL == 0 {
-                host.self_report(&mut self.run);
+                done(host.self_report());
             }
         }
         for cable in self.cables.clone() {
@@ -126,7 +103,8 @@ impl Room {
         if (second + from.host as i64) % SEND_INTERVAL != 0 {
             return;
         }
-        let octets = self.hosts[from.host].send(&self.run, from.link);
+        let octets = self.hosts.host(from.host).send(from.link);
+        let octets = octets.expect(WELL_LENT);
         self.tally.sent += 1;
         if self.random.happens(self.loss) {
             self.tally.lost += 1;
@@ -143,7 +121,7 @@ impl Room {
                 return;
             }
             let Message { to, octets } = first.remove();
-            let answer = self.hosts[to.host].receive(&mut self.run, to.link, &octets);
+            let answer = self.hosts.host(to.host).receive(to.link, &octets);
             *self.tally.answers.entry(answer).or_default() += 1;
         }
     }
@@ -152,6 +130,13 @@ impl Room {
     pub fn on_the_way(&self) -> usize {
         self.on_the_way.len()
     }
+}
+
+/// Such calls are done.
+pub const WELL_LENT: &str = "the settings are good, and the room keeps what the last call left";
+
+fn done(answer: Answer) {
+    answer.ok().expect(WELL_LENT);
 }
 
 /// How many cable ends are at the host.

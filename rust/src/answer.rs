@@ -1,34 +1,96 @@
-//! The fourteen answers of the calls.
-//!
-//! Every call tests 12 first, then upwards in number. What an answer changes stands with it.
+//! The answers of the calls. `docs/answers.txt` is their list.
 
-/// Done: the call changed what its rule says.
-pub const DONE: u8 = 0;
-/// A setting is outside its range. Nothing is changed.
-pub const SETTING: u8 = 1;
-/// The send buffer is shorter than the message. Nothing is changed.
-pub const SHORT_BUFFER: u8 = 2;
-/// The packet is not of the IP form. Nothing is changed.
-pub const IP_FORM: u8 = 3;
-/// The IP checksum is bad. Nothing is changed.
-pub const IP_CHECKSUM: u8 = 4;
-/// The IP protocol is not 63. Nothing is changed.
-pub const PROTOCOL: u8 = 5;
-/// The packet is not of the HELLO form. Nothing is changed.
-pub const HELLO_FORM: u8 = 6;
-/// The HELLO checksum is bad. Nothing is changed.
-pub const HELLO_CHECKSUM: u8 = 7;
-/// The packet's layout of host ids is another one. Nothing is changed.
-pub const OTHER_LAYOUT: u8 = 8;
-/// The host's own packet came back on a point-to-point link. Nothing is changed.
-pub const LOOPED_LINE: u8 = 9;
-/// The delay is not valid. The link's KEEP-ALIVE and TSP are changed, nothing else.
-pub const DELAY_NOT_VALID: u8 = 10;
-/// There is no host or net for the address. A lookup changes nothing; an arrival changes the
-/// link's KEEP-ALIVE, TSP and NEIGHBOR-ADDRESS, nothing else.
-pub const NO_HOST: u8 = 11;
-/// The host number is over 15, the link is not one of the host's, the host's places are not all
-/// in the run, or something lent is out of range. Nothing is changed.
-pub const OUT_OF_RANGE: u8 = 12;
-/// A lookup's host is down: its DELAY is 30,000. Nothing is changed.
-pub const HOST_DOWN: u8 = 13;
+use std::error::Error;
+use std::fmt;
+
+/// What a call answers. Every call tests [`Answer::OutOfRange`] first, then upwards in number.
+/// What a refusal changes stands with it; where nothing stands, nothing is changed.
+#[must_use]
+#[repr(u8)]
+#[derive(Clone, Copy, Debug, PartialEq, Eq, PartialOrd, Ord, Hash)]
+pub enum Answer {
+    /// The call changed what its rule says.
+    Done = 0,
+    /// A setting is out of its range.
+    Setting = 1,
+    /// The send's buffer is shorter than the message.
+    ShortBuffer = 2,
+    /// The IP header is not in form.
+    IpForm = 3,
+    /// The IP checksum is not good.
+    IpChecksum = 4,
+    /// The IP protocol is not 63.
+    Protocol = 5,
+    /// The HELLO is not in form.
+    HelloForm = 6,
+    /// The HELLO checksum is not good.
+    HelloChecksum = 7,
+    /// The packet has a table, and its NHOSTS or ADDRESS-OFFSET is not ours.
+    OtherLayout = 8,
+    /// The source is our own LOCAL-ADDRESS, on a point-to-point link.
+    LoopedLine = 9,
+    /// The delay is not valid: the packet's TSP is 0, or HOLD is not. The link's KEEP-ALIVE and
+    /// TSP are changed.
+    DelayNotValid = 10,
+    /// The address has no id. A lookup changes nothing; an arrival changes the link's KEEP-ALIVE,
+    /// TSP and NEIGHBOR-ADDRESS.
+    NoHost = 11,
+    /// The host's number is over 15; the link is not from 1 to the host's count (8 at most); the
+    /// host's 255 places are not all in the run; or something lent is out of range.
+    OutOfRange = 12,
+    /// The host looked up is down: its DELAY is 30,000.
+    HostDown = 13,
+}
+
+impl Answer {
+    /// All answers, rising in number.
+    pub const ALL: [Answer; 14] = [
+        Answer::Done,
+        Answer::Setting,
+        Answer::ShortBuffer,
+        Answer::IpForm,
+        Answer::IpChecksum,
+        Answer::Protocol,
+        Answer::HelloForm,
+        Answer::HelloChecksum,
+        Answer::OtherLayout,
+        Answer::LoopedLine,
+        Answer::DelayNotValid,
+        Answer::NoHost,
+        Answer::OutOfRange,
+        Answer::HostDown,
+    ];
+
+    /// The answer of that number.
+    pub fn of(number: u8) -> Option<Answer> {
+        Answer::ALL
+            .into_iter()
+            .find(|answer| answer.number() == number)
+    }
+
+    /// The published number.
+    pub const fn number(self) -> u8 {
+        self as u8
+    }
+
+    /// Whether the call was done.
+    pub fn is_done(self) -> bool {
+        self == Answer::Done
+    }
+
+    /// The same as a result, for `?`: a refusal is the error.
+    pub fn ok(self) -> Result<(), Answer> {
+        match self {
+            Answer::Done => Ok(()),
+            refusal => Err(refusal),
+        }
+    }
+}
+
+impl fmt::Display for Answer {
+    fn fmt(&self, out: &mut fmt::Formatter) -> fmt::Result {
+        write!(out, "answer {} ({self:?})", self.number())
+    }
+}
+
+impl Error for Answer {}

@@ -6,7 +6,6 @@ use std::mem::{align_of, offset_of, size_of};
 
 const _: () = {
     assert!(size_of::<usize>() == 8);
-    assert!(size_of::<bool>() == 1);
 
     assert!(size_of::<Address>() == 4 && align_of::<Address>() == 1);
     assert!(offset_of!(Address, first) == 0);
@@ -29,7 +28,7 @@ const _: () = {
 
     assert!(size_of::<Row>() == 4 && align_of::<Row>() == 1);
     assert!(offset_of!(Row, net) == 0);
-    assert!(offset_of!(Row, host) == 3);
+    assert!(offset_of!(Row, id) == 3);
 
     assert!(size_of::<NetTable>() == 136 && align_of::<NetTable>() == 8);
     assert!(offset_of!(NetTable, count) == 0);
@@ -74,7 +73,7 @@ const _: () = {
 
     assert!(size_of::<Route>() == 24 && align_of::<Route>() == 8);
     assert!(offset_of!(Route, answer) == 0);
-    assert!(offset_of!(Route, host) == 8);
+    assert!(offset_of!(Route, id) == 8);
     assert!(offset_of!(Route, pid) == 16);
 
     assert!(size_of::<Time>() == 24 && align_of::<Time>() == 8);

@@ -1,20 +1,27 @@
 //! A HELLO host of RFC 891: safe calls of the proved library `libhello.a`.
 //!
-//! A host has settings, a clock, links and a host table. The caller keeps them and lends them to
-//! each call. All hosts of a class share one run of entries: host k, from 0 to 15, owns the 255
-//! places from 255 k, and only the first NHOSTS of them are ever changed. So a run holds host k
-//! when it is at least 255 k + 255 entries long.
+//! A [`Room`] keeps up to sixteen hosts and the run of entries in which all have their host tables.
+//! A [`Host`] of it has settings, a clock and links, and the calls as methods. Every call ends
+//! with an [`Answer`], whatever the host holds, and asks nothing beforehand.
 //!
-//! Every call ends with one of the numbers of [`answer`], whatever it is lent, and asks nothing
-//! beforehand. A refusal changes only what stands with its number.
+//! The plain functions of this page are the calls below the methods, for whoever keeps settings,
+//! clocks, links and entries in another way. The caller lends them to each call. Host k, from 0 to
+//! 15, owns the 255 places of the run from 255 k, and only the first NHOSTS of them are ever
+//! changed; so a run holds host k when it is at least 255 k + 255 entries long. They answer the
+//! number of an [`Answer`].
 
 #![deny(missing_docs)]
 
 pub mod answer;
+mod host;
 mod layout;
 mod library;
+mod room;
 mod types;
 
+pub use answer::Answer;
+pub use host::{Found, Host, Reading};
+pub use room::Room;
 pub use types::*;
 
 /// Sets host `number` afresh: the clock, all links and the first NHOSTS entries, by the settings.
@@ -36,10 +43,10 @@ pub fn tick(
     settings: &Settings,
     number: usize,
     clock: &mut Clock,
-    links: &Links,
-    run: &[Entry],
+    links: &mut Links,
+    run: &mut [Entry],
 ) -> u8 {
-    unsafe { library::hello_tick(settings, number, clock, links, run.as_ptr(), run.len()) }
+    unsafe { library::hello_tick(settings, number, clock, links, run.as_mut_ptr(), run.len()) }
 }
 
 /// Moves the clock by DELTA / 128, rounded down, which DELTA loses.
@@ -47,10 +54,10 @@ pub fn adjust(
     settings: &Settings,
     number: usize,
     clock: &mut Clock,
-    links: &Links,
-    run: &[Entry],
+    links: &mut Links,
+    run: &mut [Entry],
 ) -> u8 {
-    unsafe { library::hello_adjust(settings, number, clock, links, run.as_ptr(), run.len()) }
+    unsafe { library::hello_adjust(settings, number, clock, links, run.as_mut_ptr(), run.len()) }
 }
 
 /// Corrects the clock by `ms`: from -512 to +511 it becomes DELTA, which `adjust` spends;
@@ -59,11 +66,21 @@ pub fn set(
     settings: &Settings,
     number: usize,
     clock: &mut Clock,
-    links: &Links,
-    run: &[Entry],
+    links: &mut Links,
+    run: &mut [Entry],
     ms: i32,
 ) -> u8 {
-    unsafe { library::hello_set(settings, number, clock, links, run.as_ptr(), run.len(), ms) }
+    unsafe {
+        library::hello_set(
+            settings,
+            number,
+            clock,
+            links,
+            run.as_mut_ptr(),
+            run.len(),
+            ms,
+        )
+    }
 }
 
 /// The clock's whole milliseconds and the DATE word. Nothing is changed.
@@ -71,10 +88,10 @@ pub fn read(
     settings: &Settings,
     number: usize,
     clock: &mut Clock,
-    links: &Links,
-    run: &[Entry],
+    links: &mut Links,
+    run: &mut [Entry],
 ) -> Time {
-    unsafe { library::hello_read(settings, number, clock, links, run.as_ptr(), run.len()) }
+    unsafe { library::hello_read(settings, number, clock, links, run.as_mut_ptr(), run.len()) }
 }
 
 /// A second has passed: HOLD and each TTL fall by one, and an entry whose TTL ends goes down.
@@ -82,7 +99,7 @@ pub fn second(
     settings: &Settings,
     number: usize,
     clock: &mut Clock,
-    links: &Links,
+    links: &mut Links,
     run: &mut [Entry],
 ) -> u8 {
     unsafe { library::hello_second(settings, number, clock, links, run.as_mut_ptr(), run.len()) }
@@ -93,7 +110,7 @@ pub fn self_report(
     settings: &Settings,
     number: usize,
     clock: &mut Clock,
-    links: &Links,
+    links: &mut Links,
     run: &mut [Entry],
 ) -> u8 {
     unsafe {
@@ -108,7 +125,7 @@ pub fn send(
     number: usize,
     clock: &mut Clock,
     links: &mut Links,
-    run: &[Entry],
+    run: &mut [Entry],
     link: usize,
     buffer: &mut [u8],
 ) -> Sent {
@@ -118,7 +135,7 @@ pub fn send(
             number,
             clock,
             links,
-            run.as_ptr(),
+            run.as_mut_ptr(),
             run.len(),
             link,
             buffer.as_mut_ptr(),
@@ -156,9 +173,9 @@ pub fn receive(
 pub fn lookup(
     settings: &Settings,
     number: usize,
-    clock: &Clock,
-    links: &Links,
-    run: &[Entry],
+    clock: &mut Clock,
+    links: &mut Links,
+    run: &mut [Entry],
     address: Address,
 ) -> Route {
     unsafe {
@@ -167,7 +184,7 @@ pub fn lookup(
             number,
             clock,
             links,
-            run.as_ptr(),
+            run.as_mut_ptr(),
             run.len(),
             address,
         )

@@ -1,4 +1,4 @@
-//! The C interface of `libhello.a`. Nothing but the safe calls uses it.
+//! The C interface of `libhello.a`. Nothing but the plain calls uses it.
 
 use crate::{Address, Clock, Entry, Links, Route, Sent, Settings, Time};
 
@@ -16,8 +16,8 @@ extern "C" {
         settings: *const Settings,
         number: usize,
         clock: *mut Clock,
-        links: *const Links,
-        run: *const Entry,
+        links: *mut Links,
+        run: *mut Entry,
         run_length: usize,
     ) -> u8;
 
@@ -25,8 +25,8 @@ extern "C" {
         settings: *const Settings,
         number: usize,
         clock: *mut Clock,
-        links: *const Links,
-        run: *const Entry,
+        links: *mut Links,
+        run: *mut Entry,
         run_length: usize,
     ) -> u8;
 
@@ -34,8 +34,8 @@ extern "C" {
         settings: *const Settings,
         number: usize,
         clock: *mut Clock,
-        links: *const Links,
-        run: *const Entry,
+        links: *mut Links,
+        run: *mut Entry,
         run_length: usize,
         ms: i32,
     ) -> u8;
@@ -44,8 +44,8 @@ extern "C" {
         settings: *const Settings,
         number: usize,
         clock: *mut Clock,
-        links: *const Links,
-        run: *const Entry,
+        links: *mut Links,
+        run: *mut Entry,
         run_length: usize,
     ) -> Time;
 
@@ -53,7 +53,7 @@ extern "C" {
         settings: *const Settings,
         number: usize,
         clock: *mut Clock,
-        links: *const Links,
+        links: *mut Links,
         run: *mut Entry,
         run_length: usize,
     ) -> u8;
@@ -62,7 +62,7 @@ extern "C" {
         settings: *const Settings,
         number: usize,
         clock: *mut Clock,
-        links: *const Links,
+        links: *mut Links,
         run: *mut Entry,
         run_length: usize,
     ) -> u8;
@@ -72,7 +72,7 @@ extern "C" {
         number: usize,
         clock: *mut Clock,
         links: *mut Links,
-        run: *const Entry,
+        run: *mut Entry,
         run_length: usize,
         link: usize,
         buffer: *mut u8,
@@ -94,9 +94,9 @@ extern "C" {
     pub fn hello_lookup(
         settings: *const Settings,
         number: usize,
-        clock: *const Clock,
-        links: *const Links,
-        run: *const Entry,
+        clock: *mut Clock,
+        links: *mut Links,
+        run: *mut Entry,
         run_length: usize,
         address: Address,
     ) -> Route;

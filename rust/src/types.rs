@@ -1,10 +1,33 @@
 //! What is set, what is lent to the calls, and what they answer beside a number.
 
+use std::fmt;
+
 /// The places of the run that one host owns; host k owns those from 255 k.
 pub const PLACES: usize = 255;
 
 /// The hosts that one run can hold.
 pub const HOSTS: usize = 16;
+
+/// The links that a host can have.
+pub const LINKS: usize = 8;
+
+/// The rows that a net table can have.
+pub const ROWS: usize = 32;
+
+/// The clock host's id where clock setting is off.
+pub const NO_CLOCK_HOST: u8 = 255;
+
+/// Clock units to a millisecond.
+pub const UNITS_PER_MS: i64 = 65_536;
+
+/// The octets of the longest message, with the table of 255 hosts.
+pub const LONGEST_MESSAGE: usize = 32 + 4 * PLACES;
+
+/// The DATE word of a day of 1972 to 2003, bits 14 and 15 zero: bits 0-4 year less 1972, 5-9 day,
+/// 10-13 month.
+pub const fn date_word(year: u16, month: u16, day: u16) -> u16 {
+    (month & 15) << 10 | (day & 31) << 5 | (year - 1972) & 31
+}
 
 /// An internet address, first octet first.
 #[repr(C)]
@@ -20,14 +43,56 @@ pub struct Address {
     pub fourth: u8,
 }
 
+impl Address {
+    /// The address of four octets.
+    pub const fn new(first: u8, second: u8, third: u8, fourth: u8) -> Address {
+        Address {
+            first,
+            second,
+            third,
+            fourth,
+        }
+    }
+}
+
+impl fmt::Display for Address {
+    fn fmt(&self, out: &mut fmt::Formatter) -> fmt::Result {
+        let Address {
+            first,
+            second,
+            third,
+            fourth,
+        } = self;
+        out.pad(&format!("{first}.{second}.{third}.{fourth}"))
+    }
+}
+
 /// The setting of one link.
 #[repr(C)]
 #[derive(Clone, Copy, Debug, PartialEq, Eq, Default)]
 pub struct LinkSetting {
-    /// True for a broadcast link, false for a point-to-point link.
-    pub broadcast: bool,
+    /// 0 point-to-point, 1 broadcast; anything else is a setting outside its range.
+    pub broadcast: u8,
     /// NEIGHBOR-ADDRESS of a broadcast link; not looked at for a point-to-point link.
     pub neighbor: Address,
+}
+
+impl LinkSetting {
+    /// A point-to-point link.
+    pub const fn point_to_point() -> LinkSetting {
+        LinkSetting {
+            broadcast: 0,
+            neighbor: Address::new(0, 0, 0, 0),
+        }
+    }
+
+    /// A broadcast link with its NEIGHBOR-ADDRESS.
+    pub const fn broadcast(neighbor: Address) -> LinkSetting {
+        LinkSetting {
+            broadcast: 1,
+            neighbor,
+        }
+    }
 }
 
 /// The layout of host ids, the same at all hosts of a net.
@@ -59,7 +124,7 @@ pub struct Row {
     /// The net; net zero matches every address and ends the search.
     pub net: Net,
     /// The host's id, below NHOSTS.
-    pub host: u8,
+    pub id: u8,
 }
 
 /// The net table: the first `count` rows.
@@ -69,7 +134,7 @@ pub struct NetTable {
     /// How many rows are used, 0 to 32.
     pub count: usize,
     /// The rows, searched from the first.
-    pub rows: [Row; 32],
+    pub rows: [Row; ROWS],
 }
 
 /// The settings of a host. Calls on a host with a setting outside its range answer 1.
@@ -80,7 +145,7 @@ pub struct Settings {
     pub address: Address,
     /// ADDRESS-OFFSET and NHOSTS.
     pub layout: Layout,
-    /// The id of the host that sets the clock, below NHOSTS; 255 for none.
+    /// The id of the host that sets the clock, below NHOSTS; 255 for none: clock setting off.
     pub clock_host: u8,
     /// HOLD-INTERVAL, 1 to 255 s.
     pub hold_interval: u16,
@@ -88,14 +153,31 @@ pub struct Settings {
     pub clock_tick: i64,
     /// The starting time, 0 to 86,399,999 ms.
     pub time: i64,
-    /// The starting date, a real one; its bit 15 is not looked at.
+    /// The starting date, a real one, with bit 14 zero; its bit 15 is not looked at.
     pub date: u16,
     /// How many links the host has, 1 to 8.
     pub link_count: usize,
     /// The links; link 1 comes first.
-    pub links: [LinkSetting; 8],
+    pub links: [LinkSetting; LINKS],
     /// The net table; all its ids are below NHOSTS.
     pub net: NetTable,
+}
+
+impl Settings {
+    /// The settings of a host at an address: one point-to-point link, no net rows, clock setting
+    /// off, HOLD-INTERVAL 1 s, CLOCK-TICK 1 ms, time 0, 1 January 1972.
+    pub fn new(address: Address, layout: Layout) -> Settings {
+        Settings {
+            address,
+            layout,
+            clock_host: NO_CLOCK_HOST,
+            hold_interval: 1,
+            clock_tick: UNITS_PER_MS,
+            date: date_word(1972, 1, 1),
+            link_count: 1,
+            ..Settings::default()
+        }
+    }
 }
 
 /// A host's clock.
@@ -130,7 +212,7 @@ pub struct Link {
 #[derive(Clone, Copy, Debug, PartialEq, Eq, Default)]
 pub struct Links {
     /// Link 1 comes first.
-    pub all: [Link; 8],
+    pub all: [Link; LINKS],
 }
 
 /// An entry of a host table.
@@ -165,8 +247,8 @@ pub struct Sent {
 pub struct Route {
     /// The answer number.
     pub answer: u8,
-    /// The host's id; 0 when refused.
-    pub host: usize,
+    /// The id that the address has; 0 when refused.
+    pub id: usize,
     /// PID, the link of the route; 0 when refused.
     pub pid: u8,
 }

@@ -1,116 +1,125 @@
 //! The ends of what the safe calls take: empty slices, numbers far out of range.
 
-use hello::{answer, Address, Clock, Entry, Layout, Links, Settings, HOSTS, PLACES};
+use hello::{Address, Answer, Clock, Entry, Layout, LinkSetting, Links, Room, Settings};
+use hello::{HOSTS, LONGEST_MESSAGE, PLACES};
 
 /// Good settings of host 192.0.2.1 among four.
 fn settings() -> Settings {
-    Settings {
-        address: Address {
-            first: 192,
-            second: 0,
-            third: 2,
-            fourth: 1,
-        },
-        layout: Layout {
-            address_offset: 1,
-            nhosts: 4,
-        },
-        clock_host: 255,
-        hold_interval: 1,
-        clock_tick: 1,
-        date: 1 << 10 | 1 << 5, // 1 January 1972
-        link_count: 1,
-        ..Settings::default()
-    }
+    let layout = Layout {
+        address_offset: 1,
+        nhosts: 4,
+    };
+    Settings::new(Address::new(192, 0, 2, 1), layout)
 }
 
-/// What a host lends, freshly set as host `number`.
-fn fresh(number: usize, run: &mut [Entry]) -> (Clock, Links) {
-    let (mut clock, mut links) = (Clock::default(), Links::default());
-    let answer = hello::initialize(&settings(), number, &mut clock, &mut links, run);
-    assert_eq!(answer, answer::DONE);
-    (clock, links)
+/// A room of so many hosts, of which the last is set afresh.
+fn room(hosts: usize) -> Room {
+    let mut room = Room::new(hosts);
+    let answer = room.host(hosts - 1).initialize(settings());
+    assert_eq!(answer, Answer::Done);
+    room
 }
 
 #[test]
 fn empty_slices_are_answered() {
-    assert_eq!(hello::packet(&[]), answer::IP_FORM);
+    assert_eq!(hello::packet(&[]), Answer::IpForm.number());
     assert_eq!(hello::checksum(&[]), 0xFFFF);
 
-    let mut run = [Entry::default(); PLACES];
-    let (mut clock, mut links) = fresh(0, &mut run);
-    let tick = hello::tick(&settings(), 0, &mut clock, &links, &[]);
-    assert_eq!(tick, answer::OUT_OF_RANGE);
-    let sent = hello::send(&settings(), 0, &mut clock, &mut links, &run, 1, &mut []);
-    assert_eq!((sent.answer, sent.length), (answer::SHORT_BUFFER, 0));
-    let arrival = hello::receive(&settings(), 0, &mut clock, &mut links, &mut run, 1, &[]);
-    assert_eq!(arrival, answer::IP_FORM);
+    let mut room = room(1);
+    let mut host = room.host(0);
+    assert_eq!(host.send_into(1, &mut []), Err(Answer::ShortBuffer));
+    assert_eq!(host.receive(1, &[]), Answer::IpForm);
+
+    let (clock, links) = (&mut Clock::default(), &mut Links::default());
+    let tick = hello::tick(&settings(), 0, clock, links, &mut []);
+    assert_eq!(tick, Answer::OutOfRange.number());
 }
 
 #[test]
 fn numbers_far_out_of_range_are_answered() {
     let mut run = vec![Entry::default(); HOSTS * PLACES];
-    let (mut clock, mut links) = fresh(HOSTS - 1, &mut run);
     for number in [HOSTS, usize::MAX] {
-        let tick = hello::tick(&settings(), number, &mut clock, &links, &run);
-        assert_eq!(tick, answer::OUT_OF_RANGE);
+        let (clock, links) = (&mut Clock::default(), &mut Links::default());
+        let answer = hello::initialize(&settings(), number, clock, links, &mut run);
+        assert_eq!(answer, Answer::OutOfRange.number());
     }
+    let mut room = room(HOSTS);
+    let mut host = room.host(HOSTS - 1);
     for link in [0, 2, 9, usize::MAX] {
-        let mut buffer = [0; 64];
-        let sent = hello::send(
-            &settings(),
-            0,
-            &mut clock,
-            &mut links,
-            &run,
-            link,
-            &mut buffer,
-        );
-        assert_eq!(sent.answer, answer::OUT_OF_RANGE);
+        assert_eq!(host.send(link), Err(Answer::OutOfRange));
+        assert_eq!(host.receive(link, &[]), Answer::OutOfRange);
     }
 }
 
 #[test]
 fn settings_far_out_of_range_are_answered() {
-    let mut run = vec![Entry::default(); PLACES];
-    let (mut clock, mut links) = fresh(0, &mut run);
+    let mut room = room(1);
+    let mut host = room.host(0);
     let mut broken = [settings(); 4];
     broken[0].layout.nhosts = usize::MAX;
     broken[1].link_count = usize::MAX;
     broken[2].net.count = usize::MAX;
     broken[3].clock_tick = i64::MIN;
-    for settings in &broken {
-        let answer = hello::initialize(settings, 0, &mut clock, &mut links, &mut run);
-        assert_eq!(answer, answer::SETTING);
+    for settings in broken {
+        assert_eq!(host.initialize(settings), Answer::Setting);
     }
+    assert_eq!(*host.settings, self::settings());
+    host.settings.layout.nhosts = usize::MAX;
+    assert_eq!(host.table().len(), PLACES);
 }
 
 #[test]
 fn lent_values_far_out_of_range_are_answered() {
-    let mut run = vec![Entry::default(); PLACES];
-    let (clock, links) = fresh(0, &mut run);
+    let mut room = room(1);
+    let mut host = room.host(0);
     for value in [i64::MIN, -1, i64::MAX] {
-        let mut spoiled = Clock {
-            clock: value,
-            ..clock
-        };
-        let tick = hello::tick(&settings(), 0, &mut spoiled, &links, &run);
-        assert_eq!(tick, answer::OUT_OF_RANGE);
-        assert_eq!(spoiled.clock, value);
+        host.clock.clock = value;
+        assert_eq!(host.tick(), Answer::OutOfRange);
+        assert_eq!(host.clock.clock, value);
     }
 }
 
 #[test]
 fn octets_behind_a_message_and_other_places_stay() {
-    let mut run = vec![Entry::default(); 2 * PLACES];
-    let (mut clock, mut links) = fresh(1, &mut run);
-    assert!(run[..PLACES].iter().all(|entry| *entry == Entry::default()));
-    assert!(run[PLACES + 4..]
-        .iter()
-        .all(|entry| *entry == Entry::default()));
+    let mut room = room(2);
+    let (others, own) = room.run().split_at(PLACES);
+    assert!(others.iter().all(|entry| *entry == Entry::default()));
+    assert!(own[4..].iter().all(|entry| *entry == Entry::default()));
+    assert!(own[..4].iter().all(|entry| entry.delay == 30_000));
 
     let mut buffer = [0xAA; 40];
-    let sent = hello::send(&settings(), 1, &mut clock, &mut links, &run, 1, &mut buffer);
-    assert_eq!((sent.answer, sent.length), (answer::DONE, 32));
+    assert_eq!(room.host(1).send_into(1, &mut buffer), Ok(32));
     assert_eq!(buffer[32..], [0xAA; 8]);
+}
+
+#[test]
+fn a_host_that_is_not_set_is_refused() {
+    let mut room = room(2);
+    let mut host = room.host(0);
+    assert_eq!(host.tick(), Answer::OutOfRange);
+    assert_eq!(host.read(), Err(Answer::OutOfRange));
+    assert_eq!(host.table().len(), 0);
+}
+
+#[test]
+fn the_longest_message_is_sent_whole() {
+    let mut room = Room::new(1);
+    let mut host = room.host(0);
+    let mut wide = settings();
+    wide.layout.nhosts = PLACES;
+    wide.links[0] = LinkSetting::broadcast(Address::new(192, 0, 2, 2));
+    assert_eq!(host.initialize(wide), Answer::Done);
+    assert_eq!(
+        host.send(1).map(|message| message.len()),
+        Ok(LONGEST_MESSAGE)
+    );
+    assert_eq!(LONGEST_MESSAGE, 1_052);
+}
+
+#[test]
+fn answers_have_their_numbers() {
+    for answer in Answer::ALL {
+        assert_eq!(Answer::of(answer.number()), Some(answer));
+    }
+    assert_eq!(Answer::of(255), None);
 }

@@ -19,10 +19,9 @@ use Rattle.route.specs.declared.Found.the-variants.{Id, Nothing}
 use Rattle.table.specs.declared.Update.{Update}
 use Rattle.table.specs.declared.run.Updates.{Updates}
 use Rattle.table.specs.Forms.{Stage, on, end}
-use Rattle.host.specs.declared.Host.{Host}
 use Rattle.host.specs.Settings.{foundFor}
 use Rattle.host.specs.State.{hostCount, broadcast, linkOf, withLink}
-use Rattle.host.specs.Lent.{having}
+use Rattle.host.specs.Lent.{Host, host}
 use Rattle.host.specs.Reply.{plainly}
 use Rattle.arrival.specs.declared.Flight.{Flight}
 use Rattle.arrival.specs.declared.Arrived.{Arrived}
@@ -81,14 +80,14 @@ step5 h i p f = cond (eqb (p .nhosts) 0) (noTable h i p f (foundFor (h .settings
 
 -- the link is stored as steps 2 to 4 leave it, whether they end with 10 or go on to step 5
 abbrev pub concluded : Host → (link : ℕ) → Packet → Stage Flight → Arrived
-concluded h i p (end f) = ends DelayNotValid (having (h .clock) (withLink i (f .link) (h .links)) h)
-concluded h i p (on f) = step5 (having (h .clock) (withLink i (f .link) (h .links)) h) i p f
+concluded h i p (end f) = ends DelayNotValid (host (h .settings) (h .clock) (withLink i (f .link) (h .links)))
+concluded h i p (on f) = step5 (host (h .settings) (h .clock) (withLink i (f .link) (h .links))) i p f
 
 -- one reading, before HOLD is looked at; its clock is carried on
 abbrev pub action : Host → (link : ℕ) → Packet → Arrived
 action h i p =
     let r : Reading = reading (h .clock) in
-    concluded (having (r .clock) (h .links) h) i p
+    concluded (host (h .settings) (r .clock) (h .links)) i p
     (steps2to4 (broadcast (h .settings) i) (r .clock .hold) p (r .time) (linkOf (h .links) i))
 
 -- answers 3 to 9 by the inspection, 10, 11 and 0 by the action

@@ -8,7 +8,7 @@ ghost use Rattle.table.specs.Entry.{upTo};
 ghost use Rattle.host.specs.Settings.{settingsGood};
 ghost use Rattle.host.specs.State.{hasPlace};
 ghost use Rattle.host.specs.declared.guard.Scope.the-variants.{OnLink};
-ghost use Rattle.host.specs.Lent.{having};
+ghost use Rattle.host.specs.Lent.{host};
 ghost use Rattle.host.specs.code.Told.{Told};
 ghost use Rattle.clock.specs.Clock.{clockInRange};
 ghost use Rattle.arrival.specs.Steps.{atLeastMin, neighborUpdate};
@@ -25,7 +25,6 @@ ghost use Rattle.arrival.specs.code.Plan.{planned};
 use answer::Answer;
 use calendar::Date;
 use clock::Clock;
-use host::Host;
 use host::Links;
 use host::Reply;
 use host::Settings;
@@ -68,7 +67,7 @@ pub struct Arrived {
 }
 
 // No updates: the clock stays.
-fn no_updates(c: Clock) -> Updates
+pub fn no_updates(c: Clock) -> Updates
     ensures { λ w. ⌜ w ≡ noUpdates c ⌝ }
 {
     let update = Update {
@@ -91,13 +90,13 @@ fn no_updates(c: Clock) -> Updates
 }
 
 // An answer; the entries stay.
-fn ends(a: Answer, h: Host, clock: Clock, links: Links) -> Arrived
-    ensures { λ p. ⌜ p ≡ ends a (having clock links h) ⌝ }
+fn ends(a: Answer, s: Settings, c: Clock, l: Links) -> Arrived
+    ensures { λ p. ⌜ p ≡ ends a (host s c l) ⌝ }
 {
     Arrived {
         reply: plainly(a),
-        links: links,
-        work: no_updates(clock),
+        links: l,
+        work: no_updates(c),
     }
 }
 
@@ -128,9 +127,9 @@ fn neighbor_update(link: usize, f: Flight) -> Update
 
 // So many ids from one on are updated.
 fn updated(
-    h: Host,
-    clock: Clock,
-    links: Links,
+    s: Settings,
+    c: Clock,
+    l: Links,
     p: Packet,
     u: Update,
     id: usize,
@@ -138,17 +137,17 @@ fn updated(
     table: bool,
 ) -> Arrived
     requires { ⌜ (id ≤ 255) × (count ≤ 255) ⌝ }
-    ensures { λ r. ⌜ r ≡ updated (having clock links h) p u id count table ⌝ }
+    ensures { λ r. ⌜ r ≡ updated (host s c l) p u id count table ⌝ }
 {
-    let settings = h.settings;
-    let hold_interval = settings.hold_interval;
+    let hold_interval = s.hold_interval;
     let date = p.date;
+    let end = id + count;
     let work = Updates {
         first: id,
-        end: id + count,
-        clock: clock,
+        end: end,
+        clock: c,
         base: 0,
-        clock_host: settings.clock_host,
+        clock_host: s.clock_host,
         hold_interval: hold_interval,
         date: date,
         update: u,
@@ -156,16 +155,16 @@ fn updated(
     };
     Arrived {
         reply: plainly(Answer::Done),
-        links: links,
+        links: l,
         work: work,
     }
 }
 
 // Step 5 where the packet has no table: the id that was found for NEIGHBOR-ADDRESS.
 fn no_table(
-    h: Host,
-    clock: Clock,
-    links: Links,
+    s: Settings,
+    c: Clock,
+    l: Links,
     link: usize,
     p: Packet,
     f: Flight,
@@ -173,30 +172,29 @@ fn no_table(
 ) -> Arrived
     requires { ⌜ (1 ≤ link) × (link ≤ 8) ⌝ }
     requires { ⌜ hasPlace found ≡ true ⌝ }
-    ensures { λ r. ⌜ r ≡ noTable (having clock links h) link p f found ⌝ }
+    ensures { λ r. ⌜ r ≡ noTable (host s c l) link p f found ⌝ }
 {
     match found {
-        Found::Nothing => ends(Answer::NoHost, h, clock, links),
-        Found::Id(id) => updated(h, clock, links, p, neighbor_update(link, f), id, 1, false),
+        Found::Nothing => ends(Answer::NoHost, s, c, l),
+        Found::Id(id) => updated(s, c, l, p, neighbor_update(link, f), id, 1, false),
     }
 }
 
-fn step5(h: Host, clock: Clock, links: Links, link: usize, p: Packet, f: Flight) -> Arrived
+fn step5(s: Settings, c: Clock, l: Links, link: usize, p: Packet, f: Flight) -> Arrived
     requires { ⌜ (1 ≤ link) × (link ≤ 8) ⌝ }
-    requires { ⌜ settingsGood (h .settings) ≡ true ⌝ }
-    ensures { λ r. ⌜ r ≡ step5 (having clock links h) link p f ⌝ }
+    requires { ⌜ settingsGood s ≡ true ⌝ }
+    ensures { λ r. ⌜ r ≡ step5 (host s c l) link p f ⌝ }
 {
-    let s = h.settings;
     if p.nhosts == 0 {
         let x = f.link;
         let neighbor = x.neighbor;
         let found = route::find(s.address, s.layout, s.net, neighbor);
-        return no_table(h, clock, links, link, p, f, found);
+        return no_table(s, c, l, link, p, f, found);
     }
     updated(
-        h,
-        clock,
-        links,
+        s,
+        c,
+        l,
         p,
         neighbor_update(link, f),
         0,
@@ -206,42 +204,46 @@ fn step5(h: Host, clock: Clock, links: Links, link: usize, p: Packet, f: Flight)
 }
 
 // Steps 2 to 5, with one reading.
-fn action(h: Host, link: usize, p: Packet) -> Arrived
+fn action(s: Settings, c: Clock, l: Links, link: usize, p: Packet) -> Arrived
     requires { ⌜ (1 ≤ link) × (link ≤ 8) ⌝ }
-    requires { ⌜ (settingsGood (h .settings) ≡ true) × (clockInRange (h .clock) ≡ true) ⌝ }
+    requires { ⌜ (settingsGood s ≡ true) × (clockInRange c ≡ true) ⌝ }
     requires { ⌜ Four (p .time .0) ⌝ }
-    ensures { λ a. ⌜ a ≡ action h link p ⌝ }
+    ensures { λ a. ⌜ a ≡ action (host s c l) link p ⌝ }
 {
-    let r = h.clock.reading();
+    let r = c.reading();
     let clock = r.clock;
-    let settings = h.settings;
-    let links = h.links;
-    match steps::two_to_four(broadcast(settings, link), clock.hold, p, r.time, link_of(links, link)) {
-        Step::End(f) => ends(Answer::DelayNotValid, h, clock, with_link(links, link, f.link)),
-        Step::On(f) => step5(h, clock, with_link(links, link, f.link), link, p, f),
+    match steps::two_to_four(broadcast(s, link), clock.hold, p, r.time, link_of(l, link)) {
+        Step::End(f) => ends(Answer::DelayNotValid, s, clock, with_link(l, link, f.link)),
+        Step::On(f) => step5(s, clock, with_link(l, link, f.link), link, p, f),
     }
 }
 
 // Answers 3 to 9 by the inspection, then the action.
-fn arrival(h: Host, link: usize, packet: &[u8]) -> Arrived
+fn arrival(s: Settings, c: Clock, l: Links, link: usize, packet: &[u8]) -> Arrived
     requires { ⌜ (1 ≤ link) × (link ≤ 8) ⌝ }
-    requires { ⌜ (settingsGood (h .settings) ≡ true) × (clockInRange (h .clock) ≡ true) ⌝ }
-    ensures { λ a. ⌜ a ≡ arrival link (now (packet .entry)) h ⌝ }
+    requires { ⌜ (settingsGood s ≡ true) × (clockInRange c ≡ true) ⌝ }
+    ensures { λ a. ⌜ a ≡ arrival link (now (packet .entry)) (host s c l) ⌝ }
 {
-    let settings = h.settings;
-    match inspection::inspect(settings, link, packet) {
-        Parsed::Bad(a) => ends(a, h, h.clock, h.links),
-        Parsed::Good(p) => action(h, link, p),
+    match inspection::inspect(s, link, packet) {
+        Parsed::Bad(a) => ends(a, s, c, l),
+        Parsed::Good(p) => action(s, c, l, link, p),
     }
 }
 
 // A refusal of the guard's, or the arrival.
-pub fn plan(g: Answer, h: Host, link: usize, packet: &[u8]) -> Arrived
-    requires { ⌜ Told g (OnLink link) h ⌝ }
-    ensures { λ p. ⌜ p ≡ planned g link (now (packet .entry)) h ⌝ }
+pub fn plan(
+    g: Answer,
+    s: Settings,
+    c: Clock,
+    l: Links,
+    link: usize,
+    packet: &[u8],
+) -> Arrived
+    requires { ⌜ Told g (OnLink link) s c ⌝ }
+    ensures { λ p. ⌜ p ≡ planned g link (now (packet .entry)) (host s c l) ⌝ }
 {
     if !answer::is_done(g) {
-        return ends(g, h, h.clock, h.links);
+        return ends(g, s, c, l);
     }
-    arrival(h, link, packet)
+    arrival(s, c, l, link, packet)
 }

@@ -6,18 +6,19 @@ use Prim.Native.Nat.{ℕ, _+_, _-_, _≤_, _<_}
 use native.Mathlib.Omega.{arith}
 use borrow.Author.Tests.{ltb-true, ltb-false}
 use lib.Dec.{ltb}
-use lib.ListN.{length, take, drop, length-map}
-use lib.Seq.{take-add, take-take, drop-at, drop-drop, length-take-le}
+use lib.ListN.{length, getD, take, drop, length-map}
+use lib.Seq.{take-add, take-take, drop-at, drop-drop, length-take-le, getD-take, getD-drop}
 use Rattle.laws.specs.Lists.{part, over}
-use Rattle.laws.proofs.Parts.{part-length, over-nothing, over-part}
+use Rattle.laws.proofs.Parts.{part-length, part-more, over-nothing, over-part}
 use Rattle.table.specs.declared.Entry.{Entry}
 use Rattle.table.specs.declared.run.Changes.{Changes}
+use Rattle.table.specs.Entry.{freshEntry}
 use Rattle.table.specs.Runs.{InRun, changed, changes}
 use Rattle.host.specs.declared.Settings.{Settings}
 use Rattle.host.specs.State.{firstPlace, hostCount, entries, withEntries}
 use Rattle.host.proofs.Places.{Holds}
 use Rattle.calls.specs.Effects.{nothing}
-use Rattle.calls.specs.Planned.{placed}
+use Rattle.calls.specs.code.Places.{placed}
 
 -- some ids of a host
 pub record Ids (s : Settings) (w : Changes) : Type 0 where
@@ -96,3 +97,12 @@ entries-put s k run h =
     ap (over run (firstPlace k)) (sym (over-nothing 0 (part (firstPlace k) (hostCount s) run)))
     ∙ over-part run (firstPlace k) (hostCount s) 0 [] (omega arith) (omega arith)
     ∙ over-nothing (firstPlace k + 0) run
+
+-- the entry of one id
+pub one-part : (s : Settings) (k : ℕ) (run : List Entry) → Holds k run → (id : ℕ) → id < hostCount s
+    → part (firstPlace k + id) 1 run ≡ getD (entries s k run) id freshEntry ∷ []
+unfolding entries
+one-part s k run holds id h =
+    let z : firstPlace k + id + 0 ≡ firstPlace k + id = omega arith in
+    let e = getD-take (hostCount s) (drop (firstPlace k) run) id freshEntry h ∙ getD-drop (firstPlace k) run id freshEntry in
+    part-more (firstPlace k + id) 0 run freshEntry (omega arith) ∙ rw (e, z) refl

@@ -15,7 +15,7 @@ use Rattle.table.proofs.Sweeps.{sweep-from, sweep-length}
 use Rattle.host.specs.declared.Settings.{Settings}
 use Rattle.host.specs.State.{firstPlace, hostCount, entries, withEntries}
 use Rattle.host.proofs.Places.{Holds}
-use Rattle.calls.specs.Planned.{placedUpdates}
+use Rattle.calls.specs.code.Places.{placedUpdates}
 use Rattle.calls.proofs.Carried.{part-part}
 
 module _ (s : Settings) (k : ℕ) (run : List Entry) (h : Holds k run) (w : Updates) (rising : w .first ≤ w .end) (below : w .end ≤ hostCount s) (octets : List ℕ) where

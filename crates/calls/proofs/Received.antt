@@ -1,4 +1,4 @@
--- An arrival: what each update asks is there, and what is planned, placed and updated is what the definition leaves.
+-- An arrival as the code goes: what each update asks is there, and what is planned, placed and updated is what the call leaves.
 use mathlib.Core.Path.{_≡_, refl, sym, ap, _∙_}
 use mathlib.Core.Bool.{Bool, true, false, false≢true, cond, not}
 use mathlib.Core.List.{List, []}
@@ -29,23 +29,24 @@ use Rattle.table.specs.Runs.{updates, UpdatesFit}
 use Rattle.host.specs.declared.Settings.{Settings}
 use Rattle.host.specs.declared.Links.{Links}
 use Rattle.host.specs.State.{firstPlace, hostCount, broadcast, linkOf, entries, withEntries}
-use Rattle.host.specs.Guard.{done}
+use Rattle.host.specs.declared.guard.Scope.the-variants.{OnLink}
+use Rattle.host.specs.Settings.{foundFor}
+use Rattle.host.specs.Lent.{Host, host, Lent}
+use Rattle.host.specs.Guard.{guard, done}
 use Rattle.host.proofs.Places.{Holds}
 use Rattle.host.proofs.Sound.{Sound, sound}
-use Rattle.host.proofs.Guarded.{passed-link, holds}
+use Rattle.host.proofs.Guarded.{passed, holds, number-lent, clock-lent}
 use Rattle.arrival.specs.declared.Flight.{Flight}
-use Rattle.arrival.specs.declared.ArrivalPlan.{ArrivalPlan}
+use Rattle.arrival.specs.declared.Arrived.{Arrived}
 use Rattle.arrival.specs.Inspection.{inspect}
 use Rattle.arrival.specs.Steps.{measured}
-use Rattle.arrival.specs.Plan.{noUpdates}
+use Rattle.arrival.specs.Arrival.{noUpdates, ends, noTable, withTable, step5, concluded, inspected}
+use Rattle.arrival.specs.Arrival as definition
+use Rattle.arrival.specs.code.Plan.{planned}
 use Rattle.arrival.proofs.Flights.{Short, steps-cases, measured-short, new-short}
 use Rattle.arrival.proofs.Inspected.{Fits, inspected-fits}
-use Rattle.host.proofs.Judged.{clock-lent}
-use Rattle.calls.specs.Effects.{Own, host, plainly, foundFor}
-use Rattle.calls.specs.Lent.{Lent, Outcome, Leaves}
-use Rattle.calls.specs.Perform.{refused}
-use Rattle.calls.specs.Arrival.{ends, noTable, withTable, step5, concluded, action, arrived, guardAt, updatedBy, arrival}
-use Rattle.calls.specs.Planned.{placedUpdates, placesOf}
+use Rattle.calls.specs.Perform.{Outcome, Leaves, receive, refused, updatedBy, perform}
+use Rattle.calls.specs.code.Places.{Placeable, placedUpdates, updatesAt}
 use Rattle.calls.proofs.Carried.{entries-put}
 use Rattle.calls.proofs.CarriedUpdates as by-places
 
@@ -65,7 +66,7 @@ module _ (s : Settings) (k : ℕ) (run : List Entry) (h : Holds k run) (octets :
   abbrev spot : Bool → Updates
   spot b = cond b (placedUpdates k w) (noUpdates (w .clock))
 
-  fits : UpdatesFit (placesOf k w) run octets
+  fits : UpdatesFit (updatesAt k w) run octets
   fits = go (ltb (w .first) (w .end)) refl
     where
       go : (b : Bool) → ltb (w .first) (w .end) ≡ b → UpdatesFit (spot b) run octets
@@ -94,7 +95,7 @@ module _ (s : Settings) (k : ℕ) (run : List Entry) (h : Holds k run) (octets :
       let n : w .end - w .first ≡ 0 = omega arith in
       rw (n, over-nothing 0 run, over-nothing (w .first) (entries s k run), entries-put s k run h) refl
 
-  carried : updates (placesOf k w) octets run ≡ left
+  carried : updates (updatesAt k w) octets run ≡ left
   carried = go (ltb (w .first) (w .end)) refl
     where
       go : (b : Bool) → ltb (w .first) (w .end) ≡ b → updates (spot b) octets run ≡ left
@@ -104,10 +105,10 @@ module _ (s : Settings) (k : ℕ) (run : List Entry) (h : Holds k run) (octets :
 -- ---- what an arrival's updates have
 
 module _ (s : Settings) (good : Sound s) (i : ℕ) (octets : List ℕ) where
-  abbrev Fine : ArrivalPlan → Type 0
+  abbrev Fine : Arrived → Type 0
   Fine p = Asked s octets (p .work)
 
-  ended : (a : Answer) (h : Own) → Fine (ends a h)
+  ended : (a : Answer) (h : Host) → Fine (ends a h)
   ended a h =
       record {
         rising = omega arith;
@@ -137,7 +138,7 @@ module _ (s : Settings) (good : Sound s) (i : ℕ) (octets : List ℕ) where
           let t = good .hosts-to in
           record { rising = omega arith; below = omega arith; base = refl; clock = λ _. ok; hold = λ _. good .hold-to; delay = λ _. short; reports = λ _ _. omega arith }
 
-  fine : (c : Clock) (l : Links) → clockInRange (reading c .clock) ≡ true → (q : Parsed) → Fits s octets q → Fine (arrived (host s c l) i q)
+  fine : (c : Clock) (l : Links) → clockInRange (reading c .clock) ≡ true → (q : Parsed) → Fits s octets q → Fine (inspected (host s c l) i q)
   fine c l ok (Bad a) fits = ended a (host s c l)
   fine c l ok (Good p) fits =
       steps-cases (λ g. Fine (concluded (host s (reading c .clock) l) i p g))
@@ -149,36 +150,47 @@ module _ (s : Settings) (good : Sound s) (i : ℕ) (octets : List ℕ) where
 
 -- ---- the call
 
-pub record Received (x : Lent) (octets : List ℕ) (p : ArrivalPlan) (o : Outcome) : Type 0 where
-  pub there : UpdatesFit (placesOf (x .number) (p .work)) (x .run) octets
+pub record Received (x : Lent) (octets : List ℕ) (p : Arrived) (o : Outcome) : Type 0 where
+  pub ids : Placeable (x .number) (p .work .first) (p .work .end) × (p .work .base ≤ p .work .first)
+  pub there : UpdatesFit (updatesAt (x .number) (p .work)) (x .run) octets
   pub left :
-      Leaves o (plainly (p .answer)) (updates (placesOf (x .number) (p .work)) octets (x .run) .clock) (p .links)
-      (updates (placesOf (x .number) (p .work)) octets (x .run) .entries)
+      Leaves o (p .reply) (updates (updatesAt (x .number) (p .work)) octets (x .run) .clock) (p .links)
+      (updates (updatesAt (x .number) (p .work)) octets (x .run) .entries)
 
-refuses : (x : Lent) (octets : List ℕ) (a : Answer) → Received x octets (ends a (x .own)) (refused a x)
-unfolding updates sweep
-refuses x octets a =
-    record {
-      there = record { places = record { rising = omega arith; inside = omega arith }; sound = λ h. absurd (omega (arith, h)) };
-      left = record { reply = refl; clock = refl; links = refl; run = over-nothing 0 (x .run) };
-    }
+module _ (x : Lent) (i : ℕ) (octets : List ℕ) where
+  abbrev g : Answer
+  g = guard (OnLink i) x
 
-pub received : (x : Lent) (i : ℕ) (octets : List ℕ)
-    → Received x octets (cond (not (done (guardAt i x))) (ends (guardAt i x) (x .own)) (arrived (x .own) i (inspect (x .own .settings) i octets))) (arrival i octets x)
-unfolding arrival reading
-received x i octets = go (not (done (guardAt i x))) refl
-  where
-    go : (b : Bool) → not (done (guardAt i x)) ≡ b
-        → Received x octets (cond b (ends (guardAt i x) (x .own)) (arrived (x .own) i (inspect (x .own .settings) i octets)))
-        (cond b (refused (guardAt i x) x) (updatedBy octets (arrived (x .own) i (inspect (x .own .settings) i octets)) x))
-    go true e = refuses x octets (guardAt i x)
-    go false e =
-        let s = x .own .settings in
-        let q = passed-link s (x .number) (x .own .clock) (x .own .links) (x .run) i (is-so _ e) .1 in
-        let h = holds (x .number) (x .run) (q .places-there) in
-        let p = arrived (x .own) i (inspect s i octets) in
-        let a = fine s (sound s (q .settings-good)) i octets (x .own .clock) (x .own .links) (clock-lent s (x .number) (x .own .clock) (x .own .links) (x .run) q) (inspect s i octets) (inspected-fits s i octets) in
-        record {
-          there = fits s (x .number) (x .run) h octets (p .work) a;
-          left = rw (carried s (x .number) (x .run) h octets (p .work) a) record { reply = refl; clock = refl; links = refl; run = refl };
-        }
+  refuses : Received x octets (ends g (x .host)) (refused g (receive i octets) x)
+  unfolding updates sweep
+  refuses =
+      record {
+        ids = (record { number = λ h. absurd (omega (arith, h)); ids = λ h. absurd (omega (arith, h)) }, omega arith);
+        there = record { places = record { rising = omega arith; inside = omega arith }; sound = λ h. absurd (omega (arith, h)) };
+        left = record { reply = refl; clock = refl; links = refl; run = over-nothing 0 (x .run) };
+      }
+
+  goes-on : done g ≡ true → Received x octets (definition.arrival i octets (x .host)) (updatedBy (definition.arrival i octets (x .host)) octets x)
+  unfolding reading
+  goes-on e =
+      let s = x .host .settings in
+      let q = passed (OnLink i) x e in
+      let h = holds (x .number) (x .run) (q .places) in
+      let k-in = number-lent (x .number) (x .run) (q .places) in
+      let p = definition.arrival i octets (x .host) in
+      let a = fine s (sound s (q .settings)) i octets (x .host .clock) (x .host .links) (clock-lent x (q .lent refl)) (inspect s i octets) (inspected-fits s i octets) in
+      record {
+        ids = (record { number = λ _. k-in; ids = λ _. omega (arith, a .below) }, omega (arith, a .base));
+        there = fits s (x .number) (x .run) h octets (p .work) a;
+        left = rw (carried s (x .number) (x .run) h octets (p .work) a) record { reply = refl; clock = refl; links = refl; run = refl };
+      }
+
+  pub received : Received x octets (planned g i octets (x .host)) (perform (receive i octets) x)
+  unfolding perform
+  received = go (not (done g)) refl
+    where
+      go : (b : Bool) → not (done g) ≡ b
+          → Received x octets (cond b (ends g (x .host)) (definition.arrival i octets (x .host)))
+          (cond b (refused g (receive i octets) x) (updatedBy (definition.arrival i octets (x .host)) octets x))
+      go true e = refuses
+      go false e = goes-on (is-so _ e)

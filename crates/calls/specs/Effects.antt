@@ -18,12 +18,12 @@ use Rattle.table.specs.declared.run.Changes.{Changes}
 use Rattle.table.specs.Entry.{up}
 use Rattle.host.specs.declared.Settings.{Settings}
 use Rattle.host.specs.declared.Links.{Links}
-use Rattle.host.specs.declared.Host.{Host}
 use Rattle.host.specs.declared.Reply.{Reply}
 use Rattle.host.specs.declared.guard.Scope.{Scope}
 use Rattle.host.specs.declared.guard.Scope.the-variants.{Places, All}
 use Rattle.host.specs.Settings.{ownId, foundFor}
 use Rattle.host.specs.State.{freshLinks, hostCount}
+use Rattle.host.specs.Lent.{Host}
 use Rattle.host.specs.Reply.{plainly, tellsRoute, tellsTime}
 use Rattle.calls.specs.declared.Effect.{Effect}
 use Rattle.calls.specs.declared.Request.{Request}

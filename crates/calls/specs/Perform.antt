@@ -69,7 +69,7 @@ entryAt (Id id) x = getD (entriesOf x) id freshEntry
 -- the changes that an effect makes to the host's entries
 abbrev pub carriedOut : Effect → Lent → Outcome
 carriedOut e x =
-    record { reply = e .reply; clock = e .clock; links = e .links; run = withEntries (x .host .number) (changes (e .work) (entriesOf x)) (x .run); buffer = [] }
+    record { reply = e .reply; clock = e .clock; links = e .links; run = withEntries (x .number) (changes (e .work) (entriesOf x)) (x .run); buffer = [] }
 
 -- the message, written to the front of the buffer
 abbrev pub sentBy : Sending → (buffer : List ℕ) → Lent → Outcome
@@ -80,7 +80,7 @@ sentBy p buffer x =
 abbrev pub updatedBy : Arrived → (packet : List ℕ) → Lent → Outcome
 updatedBy e octets x =
     let w : Swept = updates (e .work) octets (entriesOf x) in
-    record { reply = e .reply; clock = w .clock; links = e .links; run = withEntries (x .host .number) (w .entries) (x .run); buffer = [] }
+    record { reply = e .reply; clock = w .clock; links = e .links; run = withEntries (x .number) (w .entries) (x .run); buffer = [] }
 
 abbrev pub work : Call → Lent → Outcome
 work (ask q) x = carriedOut (effect q (x .host) (entryAt (wanted q (x .host .settings)) x)) x

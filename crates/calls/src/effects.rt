@@ -1,12 +1,13 @@
-// What each call comes to, by value.
+// What each request comes to, by value.
 ghost use mathlib.Core.Path.{_≡_};
-ghost use mathlib.Core.Bool.{true, false};
+ghost use mathlib.Core.Bool.{true};
 ghost use Rattle.quantity.specs.Quantity.{millis};
 ghost use Rattle.clock.specs.Clock.{clockInRange};
 ghost use Rattle.host.specs.Settings.{settingsGood};
 ghost use Rattle.host.specs.State.{hasPlace};
+ghost use Rattle.host.specs.Lent.{host};
+ghost use Rattle.host.specs.code.Told.{Ready, Told};
 ghost use Rattle.calls.specs.Effects.{
-  plainly,
   nothing,
   each,
   answers,
@@ -19,37 +20,41 @@ ghost use Rattle.calls.specs.Effects.{
   read,
   second,
   selfReport,
-  lookup,
+  scopeOf,
   effect,
-  host,
 };
-ghost use Rattle.calls.specs.Planned.{Told, Ready, planned};
+ghost use Rattle.calls.specs.code.Planned.{planned};
 use super::Effect;
-use super::Reply;
 use super::Request;
 use answer::Answer;
-use calendar::Date;
 use clock::Clock;
 use host::Links;
+use host::Reply;
 use host::Settings;
+use host::guard::Scope;
 use host::host_count;
+use host::replies::plainly;
+use host::replies::tells_route;
+use host::replies::tells_time;
 use quantity::Millis;
 use route::Found;
 use table::Entry;
 use table::run::Change;
 use table::run::Changes;
 
-// An answer without values.
-fn plainly(a: Answer) -> Reply
-    ensures { λ r. ⌜ r ≡ plainly a ⌝ }
+// How much of what is lent is tested.
+pub fn scope_of(q: Request) -> Scope
+    ensures { λ r. ⌜ r ≡ scopeOf q ⌝ }
 {
-    Reply {
-        answer: a,
-        length: 0,
-        host: 0,
-        pid: 0,
-        time: Millis(0),
-        date: Date(0),
+    match q {
+        Request::Initialize => Scope::Places,
+        Request::Tick => Scope::All,
+        Request::Adjust => Scope::All,
+        Request::Set(_) => Scope::All,
+        Request::Read => Scope::All,
+        Request::Second => Scope::All,
+        Request::SelfReport => Scope::All,
+        Request::Lookup(_) => Scope::All,
     }
 }
 
@@ -73,7 +78,7 @@ fn each(s: Settings, change: Change) -> Changes
     }
 }
 
-// Nothing changes.
+// The entries stay.
 fn answers(c: Clock, l: Links, r: Reply) -> Effect
     ensures { λ p. ⌜ p ≡ answers r c l ⌝ }
 {
@@ -131,17 +136,8 @@ fn read(s: Settings, c: Clock, l: Links) -> Effect
 {
     let r = c.reading();
     let clock = r.clock;
-    let time = r.time;
     let date = clock.date;
-    let reply = Reply {
-        answer: Answer::Done,
-        length: 0,
-        host: 0,
-        pid: 0,
-        time: time,
-        date: date,
-    };
-    answers(clock, l, reply)
+    answers(clock, l, tells_time(r.time, date))
 }
 
 fn second(s: Settings, c: Clock, l: Links) -> Effect
@@ -192,20 +188,13 @@ fn looked(found: Found, e: Entry) -> Reply
             if !table::up(e) {
                 return plainly(Answer::HostDown);
             }
-            Reply {
-                answer: Answer::Done,
-                length: 0,
-                host: id,
-                pid: e.pid,
-                time: Millis(0),
-                date: Date(0),
-            }
+            tells_route(id, e.pid)
         }
     }
 }
 
 fn effect(s: Settings, c: Clock, l: Links, e: Entry, q: Request) -> Effect
-    requires { ⌜ Ready s c q ⌝ }
+    requires { ⌜ Ready (scopeOf q) s c ⌝ }
     ensures { λ p. ⌜ p ≡ effect q (host s c l) e ⌝ }
 {
     match q {
@@ -220,9 +209,9 @@ fn effect(s: Settings, c: Clock, l: Links, e: Entry, q: Request) -> Effect
     }
 }
 
-// A refusal, or the effect.
+// A refusal of the guard's, or the effect.
 pub fn plan(g: Answer, s: Settings, c: Clock, l: Links, e: Entry, q: Request) -> Effect
-    requires { ⌜ Told g s c q ⌝ }
+    requires { ⌜ Told g (scopeOf q) s c ⌝ }
     ensures { λ p. ⌜ p ≡ planned g q (host s c l) e ⌝ }
 {
     if !answer::is_done(g) {

@@ -1,28 +1,31 @@
-// The calls of a HELLO host that are lent no octets: one lent function performs them all.
+// The calls of a HELLO host. Each is lent all of a host, its clock, its links and the run with its places; settings, number and what is lent are answered for first, with 12 or 1.
 ghost use mathlib.Core.Path.{_≡_};
-ghost use mathlib.Core.Bool.{true, false};
-ghost use Prim.Native.Nat.{_≤_, _<_};
-ghost use Rattle.host.specs.Settings.{settingsGood};
-ghost use Rattle.calls.specs.Lent.{lent, guardFor, Leaves};
-ghost use Rattle.calls.specs.Perform.{perform};
-use answer::Answer;
+ghost use Rattle.host.specs.declared.guard.Scope.the-variants.{OnLink};
+ghost use Rattle.host.specs.Lent.{lent};
+ghost use Rattle.calls.specs.Perform.{perform, Leaves, ask, send, receive};
 use clock::Clock;
 use host::Links;
+use host::Reply;
 use host::Settings;
+use host::guard::Scope;
+use host::guard::guard;
 use table::Entry;
 use table::run::Changes;
-use table::run::all_in_range;
 use table::run::change_all;
 use table::run::entry_of;
+use table::run::read_out;
+use table::run::update_all;
 
 mod effects;
 mod places;
 
 // What is asked of a host, with its input.
 pub enum Request {
+    // setting afresh
     Initialize,
     Tick,
     Adjust,
+    // by a signed count of ms
     Set(i32),
     Read,
     Second,
@@ -30,17 +33,7 @@ pub enum Request {
     Lookup(wire::Address),
 }
 
-// The answer and its values. A send answers its length, a lookup its host id and PID, a read its time and DATE.
-pub struct Reply {
-    pub answer: Answer,
-    pub length: usize,
-    pub host: usize,
-    pub pid: u8,
-    pub time: quantity::Millis,
-    pub date: calendar::Date,
-}
-
-// What a call comes to: the reply, the clock and the links afterwards, and what becomes of the entries of which ids.
+// What a request comes to: the reply, the clock and the links afterwards, and what becomes of the entries of which ids.
 pub struct Effect {
     pub reply: Reply,
     pub clock: Clock,
@@ -48,23 +41,7 @@ pub struct Effect {
     pub work: Changes,
 }
 
-// The guard: 12, then 1, before anything else in every call.
-fn guard(
-    settings: Settings,
-    number: usize,
-    clock: Clock,
-    links: Links,
-    run: &[Entry],
-    request: Request,
-) -> Answer
-    ensures { λ r. ⌜ r ≡ guardFor request (lent settings number clock links (now (run .entry))) ⌝ }
-{
-    let n = run.len();
-    let w = places::held(settings, number, clock, links, n, request);
-    let good = all_in_range(run, w);
-    plan::guard::judged(settings, good)
-}
-
+// A request: the calls that are lent no octets.
 pub fn call(
     settings: Settings,
     number: usize,
@@ -73,11 +50,12 @@ pub fn call(
     run: &mut [Entry],
     request: Request,
 ) -> Reply
-    ensures { λ r. ⌜ Leaves (perform request (lent settings number (now (clock .entry)) (now (links .entry)) (now (run .entry)))) r (now (clock .exit)) (now (links .exit)) (now (run .exit)) ⌝ }
+    ensures { λ r. ⌜ Leaves (perform (ask request) (lent settings number (now (clock .entry)) (now (links .entry)) (now (run .entry)))) r (now (clock .exit)) (now (links .exit)) (now (run .exit)) ⌝ }
 {
     let c = *clock;
     let l = *links;
-    let g = guard(settings, number, c, l, run, request);
+    let a = effects::scope_of(request);
+    let g = guard(settings, number, c, l, a, run);
     let z = places::sought(g, settings, number, request);
     let e = entry_of(run, z);
     let p = effects::plan(g, settings, c, l, e, request);
@@ -88,22 +66,59 @@ pub fn call(
     p.reply
 }
 
-fn asks_tick() -> Request
-    ensures { λ q. ⌜ q ≡ Request.Tick ⌝ }
+fn on_link(link: usize) -> Scope
+    ensures { λ r. ⌜ r ≡ OnLink link ⌝ }
 {
-    Request::Tick
+    Scope::OnLink(link)
 }
 
-// CLOCK-TICK is added to the clock.
-pub fn tick(
+// A message for the neighbor of a link, written to the front of the buffer.
+pub fn send(
+    settings: Settings,
+    number: usize,
+    clock: &mut Clock,
+    links: &mut Links,
+    run: &[Entry],
+    link: usize,
+    buffer: &mut [u8],
+) -> Reply
+    ensures { λ r. ⌜ Leaves (perform (send link (now (buffer .entry))) (lent settings number (now (clock .entry)) (now (links .entry)) (now (run .entry)))) r (now (clock .exit)) (now (links .exit)) (now (run .entry))
+        × (now (buffer .exit) ≡ perform (send link (now (buffer .entry))) (lent settings number (now (clock .entry)) (now (links .entry)) (now (run .entry))) .buffer) ⌝ }
+{
+    let c = *clock;
+    let l = *links;
+    let n = buffer.len();
+    let a = on_link(link);
+    let g = guard(settings, number, c, l, a, run);
+    let p = sending::plan(g, settings, c, l, link, n);
+    let w = places::reports_at(number, p.work);
+    read_out(buffer, run, w);
+    sending::finish(buffer, p);
+    *clock = p.clock;
+    *links = p.links;
+    p.reply
+}
+
+// A packet that arrives on a link.
+pub fn receive(
     settings: Settings,
     number: usize,
     clock: &mut Clock,
     links: &mut Links,
     run: &mut [Entry],
+    link: usize,
+    packet: &[u8],
 ) -> Reply
-    ensures { λ r. ⌜ Leaves (perform Request.Tick (lent settings number (now (clock .entry)) (now (links .entry)) (now (run .entry)))) r (now (clock .exit)) (now (links .exit)) (now (run .exit)) ⌝ }
+    ensures { λ r. ⌜ Leaves (perform (receive link (now (packet .entry))) (lent settings number (now (clock .entry)) (now (links .entry)) (now (run .entry)))) r (now (clock .exit)) (now (links .exit)) (now (run .exit)) ⌝ }
 {
-    let q = asks_tick();
-    call(settings, number, clock, links, run, q)
+    let c = *clock;
+    let l = *links;
+    let a = on_link(link);
+    let g = guard(settings, number, c, l, a, run);
+    let p = arrival::plan(g, settings, c, l, link, packet);
+    let w = places::updates_at(number, p.work);
+    let k = update_all(run, w, packet);
+    *clock = k;
+    *links = p.links;
+    p.reply
 }

@@ -1,52 +1,30 @@
-// Where the ids of a host stand in the run.
+// Where the ids of a host stand in the run. Where there is no id, there is no place.
 ghost use mathlib.Core.Path.{_≡_};
 ghost use mathlib.Core.Bool.{true};
 ghost use Prim.Native.Nat.{_≤_, _<_};
 ghost use Rattle.host.specs.State.{hasPlace};
-ghost use Rattle.plan.specs.Plans.{noEntry};
-ghost use Rattle.host.specs.Told.{NumberTold};
-ghost use Rattle.calls.specs.Effects.{afresh, wanted};
-ghost use Rattle.calls.specs.Planned.{heldFor, seekAt, soughtAt, placed, Placeable};
+ghost use Rattle.host.specs.code.Told.{NumberTold};
+ghost use Rattle.calls.specs.Effects.{wanted};
+ghost use Rattle.calls.specs.code.Places.{
+  Placeable,
+  noEntry,
+  seekAt,
+  soughtAt,
+  placed,
+  updatesAt,
+  noReports,
+  reportsAt,
+};
 use super::Request;
 use answer::Answer;
-use clock::Clock;
-use host::Links;
 use host::Settings;
 use host::first_place;
 use route::Found;
 use table::run::Change;
 use table::run::Changes;
-use table::run::Scan;
+use table::run::Reports;
 use table::run::Seek;
-
-fn afresh(q: Request) -> bool
-    ensures { λ r. ⌜ r ≡ afresh q ⌝ }
-{
-    match q {
-        Request::Initialize => true,
-        Request::Tick => false,
-        Request::Adjust => false,
-        Request::Set(_) => false,
-        Request::Read => false,
-        Request::Second => false,
-        Request::SelfReport => false,
-        Request::Lookup(_) => false,
-    }
-}
-
-// What is known before the entries are looked at, and which of them to look at.
-pub fn held(s: Settings, number: usize, c: Clock, l: Links, n: usize, q: Request) -> Scan
-    ensures { λ w. ⌜ w ≡ heldFor q s number c l n ⌝ }
-{
-    if afresh(q) {
-        return Scan {
-            first: 0,
-            end: 0,
-            good: !plan::guard::places_missing(number, n),
-        };
-    }
-    plan::guard::held(s, number, c, l, n)
-}
+use table::run::Updates;
 
 // The id whose entry is looked at.
 fn wanted(s: Settings, q: Request) -> Found
@@ -102,17 +80,19 @@ pub fn sought(g: Answer, s: Settings, number: usize, q: Request) -> Seek
     seek_at(number, wanted(s, q))
 }
 
-// The places of ids.
+// The places of ids that are changed.
 pub fn placed(number: usize, w: Changes) -> Changes
-    requires { ⌜ Placeable number w ⌝ }
+    requires { ⌜ Placeable number (w .first) (w .end) ⌝ }
     ensures { λ r. ⌜ r ≡ placed number w ⌝ }
 {
     let change = w.change;
     if w.first < w.end {
         let base = first_place(number);
+        let first = base + w.first;
+        let end = base + w.end;
         return Changes {
-            first: base + w.first,
-            end: base + w.end,
+            first: first,
+            end: end,
             change: change,
         };
     }
@@ -120,5 +100,43 @@ pub fn placed(number: usize, w: Changes) -> Changes
         first: 0,
         end: 0,
         change: Change::Fresh,
+    }
+}
+
+// The places of ids that are updated.
+pub fn updates_at(number: usize, w: Updates) -> Updates
+    requires { ⌜ Placeable number (w .first) (w .end) × (w .base ≤ w .first) ⌝ }
+    ensures { λ r. ⌜ r ≡ updatesAt number w ⌝ }
+{
+    if w.first < w.end {
+        let base = first_place(number);
+        let mut v = w;
+        v.first = base + w.first;
+        v.end = base + w.end;
+        v.base = base + w.base;
+        return v;
+    }
+    arrival::no_updates(w.clock)
+}
+
+// The places of ids that are reported.
+pub fn reports_at(number: usize, w: Reports) -> Reports
+    requires { ⌜ Placeable number (w .first) (w .end) ⌝ }
+    ensures { λ r. ⌜ r ≡ reportsAt number w ⌝ }
+{
+    if w.first < w.end {
+        let base = first_place(number);
+        let first = base + w.first;
+        let end = base + w.end;
+        return Reports {
+            first: first,
+            end: end,
+            pid: w.pid,
+        };
+    }
+    Reports {
+        first: 0,
+        end: 0,
+        pid: 0,
     }
 }

@@ -15,7 +15,7 @@ ghost use Rattle.host.specs.Calls.{
   selfReport,
   lookup,
 };
-ghost use Rattle.packet.specs.Program.{programAnswer};
+ghost use Rattle.program.specs.Program.{programAnswer};
 ghost use Rattle.hello.specs.Told.{answered, numberedTime, numberedSent, numberedRoute, timeTold, sentTold, routeTold};
 use clock::Clock;
 use host::Links;
@@ -93,7 +93,7 @@ pub extern "C" fn hello_checksum(octets: &[u8]) -> u16
 pub extern "C" fn hello_packet(octets: &[u8]) -> u8
     ensures { λ r. ⌜ r ≡ programAnswer (now (octets .entry)) ⌝ }
 {
-    packet::answer(octets)
+    program::answer(octets)
 }
 
 // The host is set afresh.

@@ -22,7 +22,7 @@ use Rattle.host.specs.Settings.{linkCount, settingsGood}
 use Rattle.host.specs.State.{placesPerHost, firstPlace}
 use Rattle.host.specs.Lent.{Lent, entriesOf, hostInRange, lentInRange}
 use Rattle.host.specs.Guard.{noPlaces, noLink, outOfRange, guard, done}
-use Rattle.host.specs.code.Told.{afresh, Ready, Told}
+use Rattle.host.specs.code.Told.{afresh, Ready, Told, NumberTold}
 use Rattle.host.proofs.Places.{Holds}
 
 -- what is so of the refusal and of the work is so of the call
@@ -34,7 +34,7 @@ either P a {refusal} {work} refuses goes-on =
 -- ---- what a call that goes on has
 
 pub record Passed (a : Scope) (x : Lent) : Type 0 where
-  pub places : noPlaces (x .host .number) (x .run) ≡ false
+  pub places : noPlaces (x .number) (x .run) ≡ false
   pub settings : settingsGood (x .host .settings) ≡ true
   pub lent : afresh a ≡ false → lentInRange x ≡ true
   pub link : (i : ℕ) → a ≡ OnLink i → noLink (x .host .settings) i ≡ false
@@ -47,7 +47,7 @@ past false false e = absurd (false≢true e)
 
 module _ (x : Lent) where
   abbrev missing : Bool
-  missing = noPlaces (x .host .number) (x .run)
+  missing = noPlaces (x .number) (x .run)
 
   within : (a : Scope) → outOfRange a x ≡ false → settingsGood (x .host .settings) ≡ true → Passed a x
   within Places e good =
@@ -100,9 +100,16 @@ module _ (x : Lent) (in-range : lentInRange x ≡ true) where
   entries-lent = both (hostInRange (x .host)) _ in-range .1
 
 -- what its answer tells the work behind it
-pub told : (a : Scope) (x : Lent) → Told (guard a x) a (x .host)
-told a x = record {
-  ready = λ d.
-      (let p = passed a x d in
-      record { settings = p .settings; number = number-lent (x .host .number) (x .run) (p .places); clock = λ f. clock-lent x (p .lent f); link = p .link });
-}
+module _ (a : Scope) (x : Lent) where
+  pub told : Told (guard a x) a (x .host .settings) (x .host .clock)
+  told = record {
+    ready = λ d.
+    (let p = passed a x d in
+    record { settings = p .settings; clock = λ f. clock-lent x (p .lent f); link = p .link });
+  }
+
+  pub number-told : NumberTold (guard a x) (x .host .settings) (x .number)
+  number-told = record {
+    settings = λ d. passed a x d .settings;
+    number = λ d. number-lent (x .number) (x .run) (passed a x d .places);
+  }

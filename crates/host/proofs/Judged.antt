@@ -15,12 +15,11 @@ use Rattle.table.specs.Forms.{every}
 use Rattle.table.specs.Entry.{entryInRange}
 use Rattle.table.specs.Runs.{InRun, allInRange}
 use Rattle.host.specs.declared.Settings.{Settings}
-use Rattle.host.specs.declared.Host.{Host}
 use Rattle.host.specs.declared.guard.Scope.{Scope}
 use Rattle.host.specs.declared.guard.Scope.the-variants.{Places, All, OnLink}
 use Rattle.host.specs.Settings.{settingsGood}
 use Rattle.host.specs.State.{placesPerHost, firstPlace, hostCount, entries}
-use Rattle.host.specs.Lent.{Lent, entriesOf, hostInRange, lentInRange}
+use Rattle.host.specs.Lent.{Host, Lent, entriesOf, hostInRange, lentInRange}
 use Rattle.host.specs.Guard.{noPlaces, noLink, outOfRange, guard}
 use Rattle.host.specs.code.Held.{placesMissing, settled, wholeScan, linkScan, scanFor, held, judged}
 
@@ -32,7 +31,7 @@ module _ (x : Lent) where
   run = x .run
 
   abbrev k : ℕ
-  k = x .host .number
+  k = x .number
 
   abbrev s : Settings
   s = x .host .settings
@@ -48,18 +47,18 @@ module _ (x : Lent) where
   nowhere : InRun 0 0 run
   nowhere = record { rising = omega arith; inside = omega arith }
 
-  whole-in : placesMissing k (length run) ≡ false → There (wholeScan h)
+  whole-in : placesMissing k (length run) ≡ false → There (wholeScan k h)
   whole-in there =
       let n : firstPlace k + placesPerHost ≤ length run = ltb-false _ _ (neither (ltb 15 k) (ltb (length run) (firstPlace k + placesPerHost)) there .1) in
       either There (not (hostInRange h)) (settled false) all (λ _. nowhere) (λ _. record { rising = omega arith; inside = omega arith })
 
-  for-in : (a : Scope) → placesMissing k (length run) ≡ false → There (scanFor a h)
+  for-in : (a : Scope) → placesMissing k (length run) ≡ false → There (scanFor a k h)
   for-in Places there = nowhere
   for-in All there = whole-in there
-  for-in (OnLink i) there = either There (noLink s i) (settled false) (wholeScan h) (λ _. nowhere) (λ _. whole-in there)
+  for-in (OnLink i) there = either There (noLink s i) (settled false) (wholeScan k h) (λ _. nowhere) (λ _. whole-in there)
 
-  pub held-in : (a : Scope) → There (held a h (length run))
-  held-in a = either There (placesMissing k (length run)) (settled false) (scanFor a h) (λ _. nowhere) (for-in a)
+  pub held-in : (a : Scope) → There (held a k h (length run))
+  held-in a = either There (placesMissing k (length run)) (settled false) (scanFor a k h) (λ _. nowhere) (for-in a)
 
   -- ---- 12 where a place is missing or something lent is out of range
 
@@ -70,7 +69,7 @@ module _ (x : Lent) where
       let n : firstPlace k + hostCount s - firstPlace k ≡ hostCount s = omega arith in
       rw n refl
 
-  whole-scanned : allInRange (wholeScan h) run ≡ lentInRange x
+  whole-scanned : allInRange (wholeScan k h) run ≡ lentInRange x
   unfolding lentInRange
   whole-scanned = whole (hostInRange h)
 
@@ -79,7 +78,7 @@ module _ (x : Lent) where
   known true = refl
   known false = refl
 
-  tested : (a : Scope) (missing : Bool) → noPlaces k run ≡ missing → not (allInRange (cond missing (settled false) (scanFor a h)) run) ≡ outOfRange a x
+  tested : (a : Scope) (missing : Bool) → noPlaces k run ≡ missing → not (allInRange (cond missing (settled false) (scanFor a k h)) run) ≡ outOfRange a x
   tested Places true e = rw (known false, e)
   tested Places false e = rw (known true, e)
   tested All true e = rw (known false, e)
@@ -91,11 +90,11 @@ module _ (x : Lent) where
       go false = refl
   tested (OnLink i) false e = rw e (go (noLink s i))
     where
-      go : (b : Bool) → not (allInRange (cond b (settled false) (wholeScan h)) run) ≡ (b || (false || not (lentInRange x)))
+      go : (b : Bool) → not (allInRange (cond b (settled false) (wholeScan k h)) run) ≡ (b || (false || not (lentInRange x)))
       go true = rw (known false)
       go false = rw whole-scanned
 
-  pub guarded : (a : Scope) → judged s (allInRange (held a h (length run)) run) ≡ guard a x
+  pub guarded : (a : Scope) → judged s (allInRange (held a k h (length run)) run) ≡ guard a x
   unfolding guard noPlaces
   guarded a =
       ap (λ (b : Bool). cond b OutOfRange (cond (not (settingsGood s)) Setting Done))

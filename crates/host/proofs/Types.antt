@@ -7,8 +7,6 @@ use Rattle.host.proofs.Settings as Settings
 use Rattle.host.proofs.Settings.Laws as Settings′
 use Rattle.host.proofs.Links as Links
 use Rattle.host.proofs.Links.Laws as Links′
-use Rattle.host.proofs.Host as Host
-use Rattle.host.proofs.Host.Laws as Host′
 use Rattle.host.proofs.Reply as Reply
 use Rattle.host.proofs.Reply.Laws as Reply′
 use Rattle.host.proofs.guard.Scope as Scope
@@ -22,9 +20,6 @@ settings = record { S = Settings.the-type; L = Settings′.the-laws; P = Setting
 
 abbrev pub links : Data
 links = record { S = Links.the-type; L = Links′.the-laws; P = Links′.the-plain; low = Links′.lowers; copies = Links′.the-copy }
-
-abbrev pub host : Data
-host = record { S = Host.the-type; L = Host′.the-laws; P = Host′.the-plain; low = Host′.lowers; copies = Host′.the-copy }
 
 abbrev pub reply : Data
 reply = record { S = Reply.the-type; L = Reply′.the-laws; P = Reply′.the-plain; low = Reply′.lowers; copies = Reply′.the-copy }

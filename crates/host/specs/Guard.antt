@@ -25,9 +25,9 @@ noLink s i = eqb i 0 || ltb (linkCount s) i
 
 -- by how much a call tests: setting afresh "tests numbers and places only", the others all that is lent, and the link that they name
 abbrev pub outOfRange : Scope → Lent → Bool
-outOfRange Places x = noPlaces (x .host .number) (x .run)
-outOfRange All x = noPlaces (x .host .number) (x .run) || not (lentInRange x)
-outOfRange (OnLink i) x = noLink (x .host .settings) i || (noPlaces (x .host .number) (x .run) || not (lentInRange x))
+outOfRange Places x = noPlaces (x .number) (x .run)
+outOfRange All x = noPlaces (x .number) (x .run) || not (lentInRange x)
+outOfRange (OnLink i) x = noLink (x .host .settings) i || (noPlaces (x .number) (x .run) || not (lentInRange x))
 
 -- 12, then 1, and Done where the call may go on
 unfoldable pub guard : Scope → Lent → Answer

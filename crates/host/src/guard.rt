@@ -1,16 +1,17 @@
 // The guard: answers 12 and 1, before anything else in every call.
 ghost use mathlib.Core.Path.{_≡_};
 ghost use Prim.Native.Nat.{_≤_};
-ghost use Rattle.host.specs.Lent.{hostInRange};
+ghost use Rattle.host.specs.Lent.{host, hostInRange, lent};
 ghost use Rattle.host.specs.Guard.{guard};
 ghost use Rattle.host.specs.code.Held.{placesMissing, settled, wholeScan, linkScan, scanFor, held, judged};
 use super::HOSTS;
-use super::Host;
+use super::Links;
 use super::PLACES;
 use super::Settings;
 use super::first_place;
 use super::host_count;
 use answer::Answer;
+use clock::Clock;
 use table::Entry;
 use table::run::Scan;
 use table::run::all_in_range;
@@ -25,7 +26,7 @@ pub enum Scope {
 }
 
 // Are the host's places not all in a run of n entries?
-pub fn places_missing(number: usize, n: usize) -> bool
+fn places_missing(number: usize, n: usize) -> bool
     ensures { λ r. ⌜ r ≡ placesMissing number n ⌝ }
 {
     if number >= HOSTS {
@@ -35,16 +36,13 @@ pub fn places_missing(number: usize, n: usize) -> bool
 }
 
 // Are the clock and the links within their ranges?
-fn host_in_range(h: Host) -> bool
-    ensures { λ r. ⌜ r ≡ hostInRange h ⌝ }
+fn host_in_range(s: Settings, c: Clock, l: Links) -> bool
+    ensures { λ r. ⌜ r ≡ hostInRange (host s c l) ⌝ }
 {
-    let clock = h.clock;
-    if !clock.in_range() {
+    if !c.in_range() {
         return false;
     }
-    let settings = h.settings;
-    let links = h.links;
-    super::link_state::in_range(settings, links)
+    super::link_state::in_range(s, l)
 }
 
 fn settled(good: bool) -> Scan
@@ -57,74 +55,79 @@ fn settled(good: bool) -> Scan
     }
 }
 
-fn whole_scan(h: Host) -> Scan
-    requires { ⌜ h .number ≤ 15 ⌝ }
-    ensures { λ w. ⌜ w ≡ wholeScan h ⌝ }
+fn whole_scan(s: Settings, number: usize, c: Clock, l: Links) -> Scan
+    requires { ⌜ number ≤ 15 ⌝ }
+    ensures { λ w. ⌜ w ≡ wholeScan number (host s c l) ⌝ }
 {
-    if !host_in_range(h) {
+    if !host_in_range(s, c, l) {
         return settled(false);
     }
-    let first = first_place(h.number);
-    let settings = h.settings;
+    let first = first_place(number);
+    let end = first + host_count(s);
     Scan {
         first: first,
-        end: first + host_count(settings),
+        end: end,
         good: true,
     }
 }
 
-fn link_scan(h: Host, link: usize) -> Scan
-    requires { ⌜ h .number ≤ 15 ⌝ }
-    ensures { λ w. ⌜ w ≡ linkScan link h ⌝ }
+fn link_scan(s: Settings, number: usize, c: Clock, l: Links, link: usize) -> Scan
+    requires { ⌜ number ≤ 15 ⌝ }
+    ensures { λ w. ⌜ w ≡ linkScan link number (host s c l) ⌝ }
 {
-    let settings = h.settings;
-    if !super::link_state::is_link(settings, link) {
+    if !super::link_state::is_link(s, link) {
         return settled(false);
     }
-    whole_scan(h)
+    whole_scan(s, number, c, l)
 }
 
-fn scan_for(h: Host, scope: Scope) -> Scan
-    requires { ⌜ h .number ≤ 15 ⌝ }
-    ensures { λ w. ⌜ w ≡ scanFor scope h ⌝ }
+fn scan_for(s: Settings, number: usize, c: Clock, l: Links, scope: Scope) -> Scan
+    requires { ⌜ number ≤ 15 ⌝ }
+    ensures { λ w. ⌜ w ≡ scanFor scope number (host s c l) ⌝ }
 {
     match scope {
         Scope::Places => settled(true),
-        Scope::All => whole_scan(h),
-        Scope::OnLink(i) => link_scan(h, i),
+        Scope::All => whole_scan(s, number, c, l),
+        Scope::OnLink(i) => link_scan(s, number, c, l, i),
     }
 }
 
 // What is known before the entries are looked at, and which of them to look at.
-pub fn held(h: Host, scope: Scope, n: usize) -> Scan
-    ensures { λ w. ⌜ w ≡ held scope h n ⌝ }
+fn held(s: Settings, number: usize, c: Clock, l: Links, scope: Scope, n: usize) -> Scan
+    ensures { λ w. ⌜ w ≡ held scope number (host s c l) n ⌝ }
 {
-    if places_missing(h.number, n) {
+    if places_missing(number, n) {
         return settled(false);
     }
-    scan_for(h, scope)
+    scan_for(s, number, c, l, scope)
 }
 
 // 12 where something lent is out of range, then 1.
-pub fn judged(h: Host, good: bool) -> Answer
-    ensures { λ r. ⌜ r ≡ judged (h .settings) good ⌝ }
+fn judged(s: Settings, good: bool) -> Answer
+    ensures { λ r. ⌜ r ≡ judged s good ⌝ }
 {
     if !good {
         return Answer::OutOfRange;
     }
-    let settings = h.settings;
-    if !super::good(settings) {
+    if !super::good(s) {
         return Answer::Setting;
     }
     Answer::Done
 }
 
 // The answer that refuses the call, or Done.
-pub fn guard(host: Host, scope: Scope, run: &[Entry]) -> Answer
-    ensures { λ r. ⌜ r ≡ guard scope record { host = host; run = now (run .entry) } ⌝ }
+pub fn guard(
+    settings: Settings,
+    number: usize,
+    clock: Clock,
+    links: Links,
+    scope: Scope,
+    run: &[Entry],
+) -> Answer
+    ensures { λ r. ⌜ r ≡ guard scope (lent settings number clock links (now (run .entry))) ⌝ }
 {
     let n = run.len();
-    let w = held(host, scope, n);
+    let w = held(settings, number, clock, links, scope, n);
     let good = all_in_range(run, w);
-    judged(host, good)
+    judged(settings, good)
 }

@@ -57,14 +57,6 @@ pub struct Links {
     pub all: [Link; 8],
 }
 
-// A host by itself, without its entries: what document 01 calls a seat. Its number says which places of the run are its own.
-pub struct Host {
-    pub settings: Settings,
-    pub number: usize,
-    pub clock: clock::Clock,
-    pub links: Links,
-}
-
 // The answer of a call and its values: a send tells the length of its message, a lookup the host id and PID of the route, a read the time and DATE.
 pub struct Reply {
     pub answer: answer::Answer,
@@ -177,16 +169,4 @@ pub fn host_count(s: Settings) -> usize
         return n;
     }
     PLACES
-}
-
-// A host of what a call is lent.
-pub fn host_of(settings: Settings, number: usize, clock: clock::Clock, links: Links) -> Host
-    ensures { λ r. ⌜ r ≡ record { settings = settings; number = number; clock = clock; links = links } ⌝ }
-{
-    Host {
-        settings: settings,
-        number: number,
-        clock: clock,
-        links: links,
-    }
 }

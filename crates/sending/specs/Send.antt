@@ -19,8 +19,8 @@ use Rattle.table.specs.declared.Entry.{Entry}
 use Rattle.table.specs.Entry.{advertised}
 use Rattle.host.specs.declared.Settings.{Settings}
 use Rattle.host.specs.declared.Link.{Link}
-use Rattle.host.specs.declared.Host.{Host}
 use Rattle.host.specs.State.{hostCount, linkOf, withLink}
+use Rattle.host.specs.Lent.{Host}
 use Rattle.host.specs.Reply.{plainly, tellsLength}
 use Rattle.sending.specs.declared.Sending.{Sending}
 use Rattle.sending.specs.Message.{tableGoes, linkSent, packetSent}

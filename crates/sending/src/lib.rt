@@ -6,6 +6,7 @@ ghost use Rattle.clock.specs.Midnight.{dayMillis};
 ghost use Rattle.table.specs.Entry.{upTo};
 ghost use Rattle.clock.specs.Clock.{clockInRange};
 ghost use Rattle.host.specs.declared.guard.Scope.the-variants.{OnLink};
+ghost use Rattle.host.specs.Lent.{host};
 ghost use Rattle.host.specs.code.Told.{Told};
 ghost use Rattle.sending.specs.Message.{tableGoes, sentTsp, linkSent, packetSent};
 ghost use Rattle.sending.specs.Send.{noPacket, unsent, reportCount, sends, sendIn};
@@ -13,7 +14,6 @@ ghost use Rattle.sending.specs.code.Finish.{planned, Finishable, finishe
 use answer::Answer;
 use calendar::Date;
 use clock::Clock;
-use host::Host;
 use host::Link;
 use host::Links;
 use host::Reply;
@@ -54,20 +54,18 @@ fn no_packet() -> Packet
 }
 
 // No message: nothing changes.
-fn unsent(a: Answer, h: Host) -> Sending
-    ensures { λ p. ⌜ p ≡ unsent a h ⌝ }
+fn unsent(a: Answer, s: Settings, c: Clock, l: Links) -> Sending
+    ensures { λ p. ⌜ p ≡ unsent a (host s c l) ⌝ }
 {
     let work = Reports {
         first: 0,
         end: 0,
         pid: 0,
     };
-    let clock = h.clock;
-    let links = h.links;
     Sending {
         reply: plainly(a),
-        clock: clock,
-        links: links,
+        clock: c,
+        links: l,
         work: work,
         goes: false,
         destination: Address::ZERO,
@@ -135,20 +133,20 @@ fn packet_sent(s: Settings, x: Link, time: Millis, date: Date, count: u8) -> Pac
     }
 }
 
-fn sends(h: Host, link: usize) -> Sending
+fn sends(s: Settings, c: Clock, l: Links, link: usize) -> Sending
     requires { ⌜ (1 ≤ link) × (link ≤ 8) ⌝ }
-    requires { ⌜ clockInRange (h .clock) ≡ true ⌝ }
-    ensures { λ p. ⌜ p ≡ sends link h ⌝ }
+    requires { ⌜ clockInRange c ≡ true ⌝ }
+    ensures { λ p. ⌜ p ≡ sends link (host s c l) ⌝ }
 {
-    let r = h.clock.reading();
-    let settings = h.settings;
-    let links = h.links;
-    let x = link_of(links, link);
-    let count = report_count(settings, x);
+    let r = c.reading();
+    let x = link_of(l, link);
+    let count = report_count(s, x);
+    let end = count as usize;
+    let pid = link as u8;
     let work = Reports {
         first: 0,
-        end: count as usize,
-        pid: link as u8,
+        end: end,
+        pid: pid,
     };
     let clock = r.clock;
     let date = clock.date;
@@ -156,37 +154,35 @@ fn sends(h: Host, link: usize) -> Sending
     Sending {
         reply: tells_length(wire::length(count)),
         clock: clock,
-        links: with_link(links, link, link_sent(x)),
+        links: with_link(l, link, link_sent(x)),
         work: work,
         goes: true,
         destination: neighbor,
-        packet: packet_sent(settings, x, r.time, date, count),
+        packet: packet_sent(s, x, r.time, date, count),
     }
 }
 
 // A send into a buffer of so many octets.
-fn send_in(h: Host, link: usize, room: usize) -> Sending
+fn send_in(s: Settings, c: Clock, l: Links, link: usize, room: usize) -> Sending
     requires { ⌜ (1 ≤ link) × (link ≤ 8) ⌝ }
-    requires { ⌜ clockInRange (h .clock) ≡ true ⌝ }
-    ensures { λ p. ⌜ p ≡ sendIn link room h ⌝ }
+    requires { ⌜ clockInRange c ≡ true ⌝ }
+    ensures { λ p. ⌜ p ≡ sendIn link room (host s c l) ⌝ }
 {
-    let settings = h.settings;
-    let links = h.links;
-    if room < wire::length(report_count(settings, link_of(links, link))) {
-        return unsent(Answer::ShortBuffer, h);
+    if room < wire::length(report_count(s, link_of(l, link))) {
+        return unsent(Answer::ShortBuffer, s, c, l);
     }
-    sends(h, link)
+    sends(s, c, l, link)
 }
 
 // A refusal of the guard's, or the send.
-pub fn plan(g: Answer, h: Host, link: usize, room: usize) -> Sending
-    requires { ⌜ Told g (OnLink link) h ⌝ }
-    ensures { λ p. ⌜ p ≡ planned g link room h ⌝ }
+pub fn plan(g: Answer, s: Settings, c: Clock, l: Links, link: usize, room: usize) -> Sending
+    requires { ⌜ Told g (OnLink link) s c ⌝ }
+    ensures { λ p. ⌜ p ≡ planned g link room (host s c l) ⌝ }
 {
     if !answer::is_done(g) {
-        return unsent(g, h);
+        return unsent(g, s, c, l);
     }
-    send_in(h, link, room)
+    send_in(s, c, l, link, room)
 }
 
 // The message completed around its reports, if one is sent.

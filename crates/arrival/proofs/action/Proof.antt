@@ -31,7 +31,7 @@ link-of-requires : tie.Need-link-of-requires
 link-of-requires c κs = search needs
 
 two-to-four-requires : tie.Need-two-to-four-requires
-two-to-four-requires c κs = let start = c .before .before .before .before .before .before in (start .pre .1 .1, rw (c .before .before .before .before .before .reading .ensures) (reading-in (start .args .h .clock) (start .pre .1 .0 .1)))
+two-to-four-requires c κs = let start = c .before .before .before .before in (start .pre .1 .1, rw (c .before .before .before .reading .ensures) (reading-in (start .args .c) (start .pre .1 .0 .1)))
 
 enum-known-f : tie.Need-enum-known-f
 enum-known-f c = search needs
@@ -49,20 +49,20 @@ with-link-requires-2 : tie.Need-with-link-requires-2
 with-link-requires-2 c κs = search needs
 
 step5-requires : tie.Need-step5-requires
-step5-requires c κs = let start = c .before .before .before .before .before .before .before .before .before .before .before in (start .pre .0, start .pre .1 .0 .0)
+step5-requires c κs = let start = c .before .before .before .before .before .before .before .before .before in (start .pre .0, start .pre .1 .0 .0)
 
 returns : tie.Need-returns
 returns c =
-    let a = c .before .before .before .before .before .before .before .before .before .before .before .before .args in
-    let r = c .before .before .before .before .before .before .before .before .before .before .before .reading in
+    let a = c .before .before .before .before .before .before .before .before .before .before .args in
+    let r = c .before .before .before .before .before .before .before .before .before .reading in
     let s = steps2to4 (c .before .before .before .before .before .before .before .broadcast .result) (r .result .clock .hold) (a .p) (r .result .time) (c .before .before .before .before .before .before .link-of .result) in
     rw (← r .ensures, ← c .before .before .before .before .before .before .before .broadcast .ensures, ← c .before .before .before .before .before .before .link-of .ensures, ends s (c .before .before .before .f .given .0 .0) (sym (c .before .before .before .f .given .1) ∙ c .before .before .before .before .before .two-to-four .ensures), ← c .before .with-link .ensures)
     (c .ends .ensures)
 
 returns-2 : tie.Need-returns-2
 returns-2 c =
-    let a = c .before .before .before .before .before .before .before .before .before .before .before .before .args in
-    let r = c .before .before .before .before .before .before .before .before .before .before .before .reading in
+    let a = c .before .before .before .before .before .before .before .before .before .before .args in
+    let r = c .before .before .before .before .before .before .before .before .before .reading in
     let s = steps2to4 (c .before .before .before .before .before .before .before .broadcast .result) (r .result .clock .hold) (a .p) (r .result .time) (c .before .before .before .before .before .before .link-of .result) in
     rw (← r .ensures, ← c .before .before .before .before .before .before .before .broadcast .ensures, ← c .before .before .before .before .before .before .link-of .ensures, goes-on s (c .before .before .before .f2 .given .0 .0) (sym (c .before .before .before .f2 .given .1) ∙ c .before .before .before .before .before .two-to-four .ensures), ← c .before .with-link2 .ensures)
     (c .step5 .ensures)

@@ -17,7 +17,7 @@ enum-known-p : tie.Need-enum-known-p
 enum-known-p c = search needs
 
 action-requires : tie.Need-action-requires
-action-requires c κs = let start = c .before .before .before .before .before .before in (start .pre .0, (start .pre .1, rw (c .before .p .given .1) at (c .before .before .before .inspect .ensures .1)))
+action-requires c κs = let start = c .before .before .before .before .before in (start .pre .0, (start .pre .1, rw (c .before .p .given .1) at (c .before .before .before .inspect .ensures .1)))
 
 returns : tie.Need-returns
 returns c = rw (sym (c .before .before .before .before .inspect .ensures .0) ∙ c .before .before .a .given .1) (c .ends .ensures)

@@ -9,7 +9,7 @@ find-requires : tie.Need-find-requires
 find-requires c κs = search needs
 
 no-table-requires : tie.Need-no-table-requires
-no-table-requires c κs = let start = c .before .before .before .before .before .before in (start .pre .0, rw (c .find .ensures) (find-has-place (start .args .h .settings) _ (start .pre .1)))
+no-table-requires c κs = let start = c .before .before .before .before .before in (start .pre .0, rw (c .find .ensures) (find-has-place (start .args .s) _ (start .pre .1)))
 
 returns : tie.Need-returns
 returns c = rw (eq-eqb _ _ (c .before .before .before .before .if1 .taken), ← c .before .find .ensures) (c .no-table .ensures)

@@ -3,8 +3,8 @@ use borrow.Author.Needs.{needs}
 use Rattle.arrival.proofs.updated.Statement.{statement}
 use Rattle.arrival.proofs.updated.Tie as tie
 
-add-t13 : tie.Need-add-t13
-add-t13 c = search needs
+add-end : tie.Need-add-end
+add-end c = search needs
 
 plainly-requires : tie.Need-plainly-requires
 plainly-requires c κs = search needs
@@ -13,4 +13,4 @@ returns : tie.Need-returns
 returns c = rw (← c .plainly .ensures)
 
 pub updated-spec : {M : Type 1} → statement M
-updated-spec = tie.close (tie.spec add-t13 plainly-requires returns)
+updated-spec = tie.close (tie.spec add-end plainly-requires returns)

@@ -4,7 +4,7 @@ use mathlib.Core.List.{List}
 use Prim.Native.Nat.{ℕ}
 use Rattle.answer.specs.declared.Answer.{Answer}
 use Rattle.table.specs.Forms.{Stage, on, end}
-use Rattle.host.specs.declared.Host.{Host}
+use Rattle.host.specs.Lent.{Host}
 use Rattle.host.specs.Guard.{done}
 use Rattle.arrival.specs.declared.Flight.{Flight}
 use Rattle.arrival.specs.declared.Step.{Step}

@@ -10,7 +10,7 @@ use Rattle.table.specs.declared.run.Changes.{Changes}
 use Rattle.table.specs.declared.run.Updates.{Updates}
 use Rattle.table.specs.declared.run.Reports.{Reports}
 use Rattle.table.specs.Entry.{freshEntry}
-use Rattle.host.specs.declared.Host.{Host}
+use Rattle.host.specs.declared.Settings.{Settings}
 use Rattle.host.specs.State.{firstPlace}
 use Rattle.host.specs.Guard.{done}
 use Rattle.arrival.specs.Arrival.{noUpdates}
@@ -31,8 +31,8 @@ abbrev pub seekAt : (number : ℕ) → Found → Seek
 seekAt k Nothing = noEntry
 seekAt k (Id id) = record { first = firstPlace k + id; end = firstPlace k + id + 1; entry = freshEntry }
 
-abbrev pub soughtAt : Answer → Request → Host → Seek
-soughtAt g q h = cond (not (done g)) noEntry (seekAt (h .number) (wanted q (h .settings)))
+abbrev pub soughtAt : Answer → Request → Settings → (number : ℕ) → Seek
+soughtAt g q s k = cond (not (done g)) noEntry (seekAt k (wanted q s))
 
 -- ---- the entries that are changed, updated, or reported
 

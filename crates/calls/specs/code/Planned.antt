@@ -2,7 +2,7 @@
 use mathlib.Core.Bool.{cond, not}
 use Rattle.answer.specs.declared.Answer.{Answer}
 use Rattle.table.specs.declared.Entry.{Entry}
-use Rattle.host.specs.declared.Host.{Host}
+use Rattle.host.specs.Lent.{Host}
 use Rattle.host.specs.Guard.{done}
 use Rattle.host.specs.Reply.{plainly}
 use Rattle.calls.specs.declared.Effect.{Effect}

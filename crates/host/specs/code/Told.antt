@@ -4,7 +4,8 @@ use mathlib.Core.Bool.{Bool, true, false}
 use Prim.Native.Nat.{ℕ, _≤_}
 use Rattle.answer.specs.declared.Answer.{Answer}
 use Rattle.clock.specs.Clock.{clockInRange}
-use Rattle.host.specs.declared.Host.{Host}
+use Rattle.clock.specs.declared.Clock.{Clock}
+use Rattle.host.specs.declared.Settings.{Settings}
 use Rattle.host.specs.declared.guard.Scope.{Scope}
 use Rattle.host.specs.declared.guard.Scope.the-variants.{Places, All, OnLink}
 use Rattle.host.specs.Settings.{settingsGood}
@@ -17,11 +18,15 @@ afresh All = false
 afresh (OnLink i) = false
 
 -- a host that a call may work on
-pub record Ready (a : Scope) (h : Host) : Type 0 where
-  pub settings : settingsGood (h .settings) ≡ true
-  pub number : h .number ≤ 15
-  pub clock : afresh a ≡ false → clockInRange (h .clock) ≡ true
-  pub link : (i : ℕ) → a ≡ OnLink i → noLink (h .settings) i ≡ false
+pub record Ready (a : Scope) (s : Settings) (c : Clock) : Type 0 where
+  pub settings : settingsGood s ≡ true
+  pub clock : afresh a ≡ false → clockInRange c ≡ true
+  pub link : (i : ℕ) → a ≡ OnLink i → noLink s i ≡ false
 
-pub record Told (g : Answer) (a : Scope) (h : Host) : Type 0 where
-  pub ready : done g ≡ true → Ready a h
+pub record Told (g : Answer) (a : Scope) (s : Settings) (c : Clock) : Type 0 where
+  pub ready : done g ≡ true → Ready a s c
+
+-- and one whose places are there
+pub record NumberTold (g : Answer) (s : Settings) (k : ℕ) : Type 0 where
+  pub settings : done g ≡ true → settingsGood s ≡ true
+  pub number : done g ≡ true → k ≤ 15

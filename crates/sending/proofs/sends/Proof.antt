@@ -14,11 +14,11 @@ link-of-requires c κs = search needs
 report-count-requires : tie.Need-report-count-requires
 report-count-requires c κs = search needs
 
-cast-tells-length : tie.Need-cast-tells-length
-cast-tells-length c = search needs
+cast-end : tie.Need-cast-end
+cast-end c = search needs
 
-cast-t13 : tie.Need-cast-t13
-cast-t13 c = search needs
+cast-pid : tie.Need-cast-pid
+cast-pid c = search needs
 
 length-requires : tie.Need-length-requires
 length-requires c κs = search needs
@@ -34,13 +34,13 @@ with-link-requires c κs = search needs
 
 packet-sent-requires : tie.Need-packet-sent-requires
 packet-sent-requires c κs =
-    let start = c .before .before .before .before .before .before .before .before .before .before .before .before in
-    rw (c .before .before .before .before .before .before .before .before .before .before .before .reading .ensures) (reading-in (start .args .h .clock) (start .pre .1))
+    let start = c .before .before .before .before .before .before .before .before .before .before in
+    rw (c .before .before .before .before .before .before .before .before .before .reading .ensures) (reading-in (start .args .c) (start .pre .1))
 
 returns : tie.Need-returns
 returns c =
     rw (
-      ← c .before .before .before .before .before .before .before .before .before .before .before .before .reading .ensures,
+      ← c .before .before .before .before .before .before .before .before .before .before .reading .ensures,
       ← c .before .before .before .before .before .before .before .before .before .link-of .ensures,
       ← c .before .before .before .before .before .before .before .before .report-count .ensures,
       ← c .before .before .before .before .length .ensures,
@@ -57,8 +57,8 @@ sends-spec =
     reading-requires
     link-of-requires
     report-count-requires
-    cast-tells-length
-    cast-t13
+    cast-end
+    cast-pid
     length-requires
     tells-length-requires
     link-sent-requires

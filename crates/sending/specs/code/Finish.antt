@@ -8,7 +8,7 @@ use Rattle.answer.specs.declared.Answer.{Answer}
 use Rattle.wire.specs.Packet.{packetLength}
 use Rattle.wire.specs.Ranges.{Four}
 use Rattle.wire.specs.Sealing.{sealed}
-use Rattle.host.specs.declared.Host.{Host}
+use Rattle.host.specs.Lent.{Host}
 use Rattle.host.specs.Guard.{done}
 use Rattle.sending.specs.declared.Sending.{Sending}
 use Rattle.sending.specs.Send.{unsent, sendIn}

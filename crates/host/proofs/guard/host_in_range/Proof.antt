@@ -15,7 +15,7 @@ in-range-requires-2 : tie.Need-in-range-requires-2
 in-range-requires-2 c κs = search needs
 
 returns-2 : tie.Need-returns-2
-returns-2 c = rw (sym (c .before .before .before .before .in-range .ensures) ∙ is-so _ (c .before .before .before .if1 .left)) (c .in-range2 .ensures)
+returns-2 c = rw (sym (c .before .before .in-range .ensures) ∙ is-so _ (c .before .if1 .left)) (c .in-range2 .ensures)
 
 pub host-in-range-spec : {M : Type 1} → statement M
 host-in-range-spec = tie.close (tie.spec in-range-requires returns in-range-requires-2 returns-2)

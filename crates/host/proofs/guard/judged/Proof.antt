@@ -12,10 +12,10 @@ good-requires : tie.Need-good-requires
 good-requires c κs = search needs
 
 returns-2 : tie.Need-returns-2
-returns-2 c = rw (is-so (c .before .before .before .before .args .good) (c .before .before .before .if1 .left), sym (c .before .good2 .ensures) ∙ is-not _ (c .if2 .taken))
+returns-2 c = rw (is-so (c .before .before .before .args .good) (c .before .before .if1 .left), sym (c .before .good2 .ensures) ∙ is-not _ (c .if2 .taken))
 
 returns-3 : tie.Need-returns-3
-returns-3 c = rw (is-so (c .before .before .before .before .args .good) (c .before .before .before .if1 .left), sym (c .before .good2 .ensures) ∙ is-so _ (c .if2 .left))
+returns-3 c = rw (is-so (c .before .before .before .args .good) (c .before .before .if1 .left), sym (c .before .good2 .ensures) ∙ is-so _ (c .if2 .left))
 
 pub judged-spec : {M : Type 1} → statement M
 judged-spec = tie.close (tie.spec returns good-requires returns-2 returns-3)

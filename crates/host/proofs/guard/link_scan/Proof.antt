@@ -14,16 +14,16 @@ settled-requires c κs = search needs
 
 returns : tie.Need-returns
 returns c =
-    let a = c .before .before .before .before .args in
-    rw (is-so (noLink (a .h .settings) (a .link)) (sym (c .before .before .is-link .ensures) ∙ is-not _ (c .before .if1 .taken))) (c .settled .ensures)
+    let a = c .before .before .before .args in
+    rw (is-so (noLink (a .s) (a .link)) (sym (c .before .before .is-link .ensures) ∙ is-not _ (c .before .if1 .taken))) (c .settled .ensures)
 
 whole-scan-requires : tie.Need-whole-scan-requires
 whole-scan-requires c κs = search needs
 
 returns-2 : tie.Need-returns-2
 returns-2 c =
-    let a = c .before .before .before .before .args in
-    rw (is-not (noLink (a .h .settings) (a .link)) (sym (c .before .before .is-link .ensures) ∙ is-so _ (c .before .if1 .left))) (c .whole-scan .ensures)
+    let a = c .before .before .before .args in
+    rw (is-not (noLink (a .s) (a .link)) (sym (c .before .before .is-link .ensures) ∙ is-so _ (c .before .if1 .left))) (c .whole-scan .ensures)
 
 pub link-scan-spec : {M : Type 1} → statement M
 link-scan-spec = tie.close (tie.spec is-link-requires settled-requires returns whole-scan-requires returns-2)

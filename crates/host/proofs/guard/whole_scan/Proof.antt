@@ -21,14 +21,14 @@ first-place-requires c κs = search needs
 host-count-requires : tie.Need-host-count-requires
 host-count-requires c κs = search needs
 
-add-t7 : tie.Need-add-t7
-add-t7 c = search needs
+add-end : tie.Need-add-end
+add-end c = search needs
 
 returns-2 : tie.Need-returns-2
 returns-2 c =
-    rw (sym (c .before .before .before .before .host-in-range .ensures) ∙ is-so _ (c .before .before .before .if1 .left), ← c .before .before .first-place .ensures, ← c .host-count .ensures)
+    rw (sym (c .before .before .before .host-in-range .ensures) ∙ is-so _ (c .before .before .if1 .left), ← c .before .first-place .ensures, ← c .host-count .ensures)
 
 pub whole-scan-spec : {M : Type 1} → statement M
 whole-scan-spec =
     tie.close
-    (tie.spec host-in-range-requires settled-requires returns first-place-requires host-count-requires add-t7 returns-2)
+    (tie.spec host-in-range-requires settled-requires returns first-place-requires host-count-requires add-end returns-2)

@@ -1,3 +1,4 @@
+-- A number from 0 on is its own octets; of one below, the complement and one are.
 use Rattle.quantity.proofs.Bits.{low-up, low-down}
 use borrow.Author.Needs.{needs}
 use Rattle.vectors.proofs.show.signed.Statement.{statement}

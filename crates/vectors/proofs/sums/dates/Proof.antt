@@ -1,3 +1,4 @@
+-- Each date is a real one: this is computed.
 use Rattle.calendar.specs.Date.{real, lastDay}
 use borrow.Author.Needs.{needs}
 use Rattle.vectors.proofs.sums.dates.Statement.{statement}

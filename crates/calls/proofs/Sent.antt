@@ -1,0 +1,182 @@
+-- A send as the code goes: the reports fit the buffer, the message can be completed around them, and what is written and stored is what the call leaves.
+use mathlib.Core.Path.{_≡_, refl, sym, ap, _∙_}
+use mathlib.Core.Bool.{Bool, true, false, false≢true, cond, not}
+use mathlib.Core.List.{List, _++_, map}
+use Prim.Native.Nat.{ℕ, _+_, _-_, _≤_, _<_}
+use native.Mathlib.Omega.{arith}
+use borrow.Author.Tests.{ltb-true, ltb-false}
+use lib.Dec.{ltb}
+use lib.ListN.{length, drop, length-map}
+use Rattle.laws.specs.Lists.{part}
+use Rattle.laws.proofs.Parts.{part-length, over-length}
+use Rattle.laws.proofs.Tests.{is-so}
+use Rattle.quantity.specs.declared.Millis.{Millis}
+use Rattle.quantity.proofs.Ints.{to-≤ℤ, to-<ℤ}
+use Rattle.answer.specs.declared.Answer.{Answer}
+use Rattle.answer.specs.declared.Answer.the-variants.{ShortBuffer}
+use Rattle.clock.specs.declared.Clock.{Clock}
+use Rattle.clock.specs.Midnight.{dayMillis}
+use Rattle.clock.specs.Clock.{reading, clockInRange}
+use Rattle.wire.specs.declared.Packet.{Packet}
+use Rattle.wire.specs.declared.Address.{Address}
+use Rattle.wire.specs.declared.Report.{Report}
+use Rattle.wire.specs.Hello.{reportsOctets}
+use Rattle.wire.specs.Packet.{packetLength, message}
+use Rattle.wire.specs.Ranges.{Four}
+use Rattle.wire.specs.Sealing.{withReports, sealed}
+use Rattle.wire.proofs.Messages.{reports-length}
+use Rattle.wire.proofs.Sealing.{all-put, put-and-sealed}
+use Rattle.table.specs.declared.Entry.{Entry}
+use Rattle.table.specs.declared.run.Reports.{Reports}
+use Rattle.table.specs.Entry.{upTo, advertised}
+use Rattle.table.specs.Runs.{readOut, ReportsFit}
+use Rattle.table.proofs.Ranges.{within, reading-in}
+use Rattle.host.specs.declared.Settings.{Settings}
+use Rattle.host.specs.declared.Link.{Link}
+use Rattle.host.specs.declared.guard.Scope.the-variants.{OnLink}
+use Rattle.host.specs.State.{firstPlace, hostCount, linkOf, entries}
+use Rattle.host.specs.Lent.{Lent, entriesOf}
+use Rattle.host.specs.Guard.{guard, done}
+use Rattle.host.proofs.Places.{Holds}
+use Rattle.host.proofs.Guarded.{passed, holds, number-lent, clock-lent}
+use Rattle.sending.specs.declared.Sending.{Sending}
+use Rattle.sending.specs.Message.{tableGoes}
+use Rattle.sending.specs.Send.{reportCount, unsent, sends, sendIn}
+use Rattle.sending.specs.code.Finish.{planned, Finishable, finished}
+use Rattle.calls.specs.Perform.{Outcome, Leaves, send, refused, sentBy, perform}
+use Rattle.calls.specs.code.Places.{Placeable, noReports, reportsAt}
+use Rattle.calls.proofs.Carried.{part-part}
+
+pub record Sent (x : Lent) (buffer : List ℕ) (p : Sending) (o : Outcome) : Type 0 where
+  pub ids : Placeable (x .number) (p .work .first) (p .work .end)
+  pub fits : ReportsFit (reportsAt (x .number) (p .work)) (x .run) buffer
+  pub ready : Finishable p (readOut (reportsAt (x .number) (p .work)) (x .run) buffer)
+  pub left : Leaves o (p .reply) (p .clock) (p .links) (x .run)
+  pub octets : finished p (readOut (reportsAt (x .number) (p .work)) (x .run) buffer) ≡ o .buffer
+
+-- a time of the day fits its four octets
+four : (m : Millis) → upTo dayMillis m ≡ true → Four (m .0)
+four m e =
+    let w = within 86400000 (m .0) e in
+    record { not-below = to-≤ℤ _ (m .0) (omega arith); below = to-<ℤ (m .0) _ (omega arith) }
+
+module _ (x : Lent) (i : ℕ) (buffer : List ℕ) where
+  abbrev s : Settings
+  s = x .host .settings
+
+  abbrev k : ℕ
+  k = x .number
+
+  abbrev F : ℕ
+  F = firstPlace (x .number)
+
+  -- no message
+  refuses : (a : Answer) → Sent x buffer (unsent a (x .host)) (refused a (send i buffer) x)
+  unfolding readOut withReports
+  refuses a =
+      record {
+        ids = record { number = λ h. absurd (omega (arith, h)); ids = λ h. absurd (omega (arith, h)) };
+        fits = record { places = record { rising = omega arith; inside = omega arith }; room = λ h. absurd (omega (arith, h)) };
+        ready = record { room = λ e. absurd (false≢true e); time = λ e. absurd (false≢true e) };
+        left = record { reply = refl; clock = refl; links = refl; run = refl };
+        octets = refl;
+      }
+
+  abbrev y : Link
+  y = linkOf (x .host .links) i
+
+  -- so many reports
+  module _ (n : ℕ) (few : n ≤ hostCount s) (h : Holds k (x .run)) (room : packetLength n ≤ length buffer) where
+    abbrev w : Reports
+    w = record { first = 0; end = n; pid = i }
+
+    abbrev rs : List Report
+    rs = map (advertised i) (part 0 n (entriesOf x))
+
+    abbrev spot : Bool → Reports
+    spot b = cond b record { first = F + 0; end = F + n; pid = i } noReports
+
+    same-part : part 0 n (entriesOf x) ≡ part (F + 0) n (x .run)
+    unfolding entries
+    same-part = part-part F (hostCount s) 0 n (x .run) (omega arith) (omega arith)
+
+    how-many : length rs ≡ n
+    how-many = length-map (part 0 n (entriesOf x)) (advertised i) ∙ rw same-part (part-length (F + 0) n (x .run) (omega arith))
+
+    put : readOut (reportsAt k w) (x .run) buffer ≡ withReports 0 rs buffer
+    unfolding readOut
+    put = go (ltb 0 n) refl
+      where
+        go : (b : Bool) → ltb 0 n ≡ b
+            → withReports 0 (map (advertised (spot b .pid)) (part (spot b .first) (spot b .end - spot b .first) (x .run))) buffer ≡ withReports 0 rs buffer
+        go true e =
+            let m : F + n - (F + 0) ≡ n = omega arith in
+            rw (m, same-part) refl
+        go false e =
+            let z : n ≡ 0 = omega (arith, ltb-false 0 n e) in
+            rw z refl
+
+    fitting : ReportsFit (reportsAt k w) (x .run) buffer
+    fitting = go (ltb 0 n)
+      where
+        go : (b : Bool) → ReportsFit (spot b) (x .run) buffer
+        go true = record { places = record { rising = omega arith; inside = omega arith }; room = λ _. (let m : F + n - (F + 0) ≡ n = omega arith in rw m room) }
+        go false = record { places = record { rising = omega arith; inside = omega arith }; room = λ l. absurd (omega (arith, l)) }
+
+    put-length : length (withReports 0 rs buffer) ≡ length buffer
+    put-length =
+        let z : packetLength (0 + length rs) ≤ length buffer = omega (arith, how-many) in
+        rw (all-put 0 rs buffer z) (over-length (packetLength 0) buffer (reportsOctets rs) (omega (arith, how-many, reports-length rs)))
+
+    sealed-is : (a : Address) (p : Packet) → p .nhosts ≡ n → sealed a p (withReports 0 rs buffer) ≡ message a p rs ++ drop (packetLength n) buffer
+    sealed-is a p e =
+        let z : packetLength (0 + length rs) ≤ length buffer = omega (arith, how-many) in
+        rw (all-put 0 rs buffer z) (put-and-sealed a p rs buffer (e ∙ sym how-many) (omega (arith, how-many)) ∙ ap (λ (m : ℕ). message a p rs ++ drop (packetLength m) buffer) how-many)
+
+  few : reportCount s y ≤ hostCount s
+  few = go (tableGoes s y)
+    where
+      go : (goes : Bool) → cond goes (hostCount s) 0 ≤ hostCount s
+      go true = omega arith
+      go false = omega arith
+
+  went : Holds k (x .run) → k ≤ 15 → clockInRange (x .host .clock) ≡ true → packetLength (reportCount s y) ≤ length buffer
+      → Sent x buffer (sends i (x .host)) (sentBy (sends i (x .host)) buffer x)
+  went h k-in ok room =
+      let n = reportCount s y in
+      let p = sends i (x .host) in
+      let z : reportCount s y - 0 ≡ reportCount s y = omega arith in
+      record {
+        ids = record { number = λ _. k-in; ids = λ _. omega (arith, few) };
+        fits = fitting n few h room;
+        ready = record {
+          room = λ _. rw (put n few h room, put-length n few h room) room;
+          time = λ _. four (reading (x .host .clock) .time) (reading-in (x .host .clock) ok);
+        };
+        left = record { reply = refl; clock = refl; links = refl; run = refl };
+        octets = rw (put n few h room, z) (sealed-is n few h room (y .neighbor) (p .packet) refl);
+      }
+
+  abbrev g : Answer
+  g = guard (OnLink i) x
+
+  -- whether the buffer is too short
+  goes-on : done g ≡ true → Sent x buffer (sendIn i (length buffer) (x .host)) (sentBy (sendIn i (length buffer) (x .host)) buffer x)
+  goes-on e =
+      let q = passed (OnLink i) x e in
+      go (holds k (x .run) (q .places)) (number-lent k (x .run) (q .places)) (clock-lent x (q .lent refl)) (ltb (length buffer) (packetLength (reportCount s y))) refl
+    where
+      go : Holds k (x .run) → k ≤ 15 → clockInRange (x .host .clock) ≡ true → (short : Bool) → ltb (length buffer) (packetLength (reportCount s y)) ≡ short
+          → Sent x buffer (cond short (unsent ShortBuffer (x .host)) (sends i (x .host))) (sentBy (cond short (unsent ShortBuffer (x .host)) (sends i (x .host))) buffer x)
+      go h k-in ok true e = refuses ShortBuffer
+      go h k-in ok false e = went h k-in ok (ltb-false _ _ e)
+
+  pub sent : Sent x buffer (planned g i (length buffer) (x .host)) (perform (send i buffer) x)
+  unfolding perform
+  sent = go (not (done g)) refl
+    where
+      go : (b : Bool) → not (done g) ≡ b
+          → Sent x buffer (cond b (unsent g (x .host)) (sendIn i (length buffer) (x .host)))
+          (cond b (refused g (send i buffer) x) (sentBy (sendIn i (length buffer) (x .host)) buffer x))
+      go true e = refuses g
+      go false e = goes-on (is-so _ e)

@@ -1,0 +1,171 @@
+// What a send, a second and a lookup do with an entry and a link.
+use super::show;
+use answer::Answer;
+use calendar::Date;
+use calls::Request;
+use clock::Clock;
+use host::Link;
+use program::Whole;
+use quantity::Millis;
+use quantity::Seconds;
+use quantity::Word;
+use table::Entry;
+use wire::Address;
+
+// A route by that PID.
+fn route_by(pid: u8, delay: Millis, ttl: Seconds) -> Entry {
+    Entry {
+        delay: delay,
+        offset: Word(7),
+        ttl: ttl,
+        pid: pid,
+        time: Millis(0),
+    }
+}
+
+// A line of what a send on link 1 advertises for an entry.
+fn advertised(name: &[u8], e: Entry) {
+    show::text(name);
+    show::report(table::advertised(1, e));
+    show::end();
+}
+
+// The neighbor is not told of the routes that go by itself (split horizon).
+pub fn split_horizon() {
+    advertised(
+        b"sent on link 1, of a route by link 1",
+        route_by(1, Millis(500), Seconds(60)),
+    );
+    advertised(
+        b"sent on link 1, of a route by link 2",
+        route_by(2, Millis(500), Seconds(60)),
+    );
+    advertised(
+        b"sent on link 1, of the host itself",
+        route_by(0, Millis(0), Seconds(60)),
+    );
+}
+
+// The host of the packet program, all whose entries are the same, as a request leaves it.
+fn asked(e: Entry, q: Request) -> Whole {
+    let s = program::settings();
+    let c = Clock::fresh(Millis(0), Date::FIRST);
+    program::call(s, 0, c, host::link_state::fresh(s), [e; 255], q)
+}
+
+// A line of an entry a second later.
+fn second(name: &[u8], e: Entry) {
+    let w = asked(e, Request::Second);
+    let run = w.run;
+    show::text(name);
+    show::entry(run[0]);
+    show::end();
+}
+
+// "Each TTL that isn't zero falls by one; if it thereby reaches zero and DELAY is under 30,000, DELAY becomes 30,000 and TTL 120."
+pub fn ageing() {
+    second(
+        b"a second, live entry, TTL 2",
+        route_by(1, Millis(500), Seconds(2)),
+    );
+    second(
+        b"a second, live entry, TTL 1",
+        route_by(1, Millis(500), Seconds(1)),
+    );
+    second(
+        b"a second, live entry, TTL 0",
+        route_by(1, Millis(500), Seconds(0)),
+    );
+    second(
+        b"a second, down entry, TTL 1",
+        route_by(1, table::MAX_DELAY, Seconds(1)),
+    );
+}
+
+// A line of a lookup of 192.0.2.3, whose id is 2, where that id's entry is so.
+fn lookup(name: &[u8], e: Entry) {
+    let address = Address {
+        first: 192,
+        second: 0,
+        third: 2,
+        fourth: 3,
+    };
+    let w = asked(e, Request::Lookup(address));
+    let r = w.reply;
+    let a = r.answer;
+    show::text(name);
+    show::answer(a);
+    show::count(b": id ", r.id);
+    show::number(b" PID ", r.pid as i64);
+    show::end();
+}
+
+// "a lookup its host id and PID", "lookup: host is down (DELAY 30,000)"
+pub fn lookups() {
+    lookup(
+        b"lookup, route by link 1:",
+        route_by(1, Millis(500), Seconds(60)),
+    );
+    lookup(
+        b"lookup, route by link 8:",
+        route_by(8, Millis(29_999), Seconds(60)),
+    );
+    lookup(
+        b"lookup, the host is down:",
+        route_by(1, table::MAX_DELAY, Seconds(60)),
+    );
+}
+
+// What a message on link 1 carries as TSP, and KEEP-ALIVE behind it.
+struct Sent {
+    tsp: Word,
+    keep_alive: u8,
+}
+
+fn sent_at(x: Link, c: Clock) -> Sent {
+    let s = program::settings();
+    let links = host::link_state::with_link(host::link_state::fresh(s), 1, x);
+    if host::good(s) {
+        if c.in_range() {
+            let p = sending::plan(Answer::Done, s, c, links, 1, 32);
+            let m = p.packet;
+            let tsp = m.tsp;
+            let link = host::link_state::link_of(p.links, 1);
+            return Sent {
+                tsp: tsp,
+                keep_alive: link.keep_alive,
+            };
+        }
+    }
+    Sent {
+        tsp: Word(0),
+        keep_alive: 0,
+    }
+}
+
+// A line of it.
+fn message(name: &[u8], x: Link, c: Clock) {
+    let m = sent_at(x, c);
+    let tsp = m.tsp;
+    show::text(name);
+    show::number(b": TSP ", tsp.bits() as i64);
+    show::number(b", KEEP-ALIVE ", m.keep_alive as i64);
+    show::end();
+}
+
+// "B, 500 ahead, gets it at 40,530 and answers at 45,530 with TSP 45,000"; "if KEEP-ALIVE isn't zero, which then falls by one; else 0"
+pub fn tsp() {
+    let c = Clock::fresh(Millis(45530), Date::FIRST);
+    let heard = Link {
+        neighbor: Address::ZERO,
+        keep_alive: 4,
+        tsp: Word(-530),
+    };
+    message(b"B answers at 45,530 where its TSP is -530", heard, c);
+    let silent = Link {
+        neighbor: Address::ZERO,
+        keep_alive: 0,
+        tsp: Word(-530),
+    };
+    message(b"the same where KEEP-ALIVE is 0", silent, c);
+}

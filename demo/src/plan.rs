@@ -1,0 +1,41 @@
+//! What a room is to be.
+
+/// Milliseconds.
+pub const SECOND: i64 = 1000;
+pub const MINUTE: i64 = 60 * SECOND;
+pub const DAY: i64 = 24 * 60 * MINUTE;
+
+/// The room's millisecond at the start: 08:00.
+pub const START: i64 = 8 * 60 * MINUTE;
+
+/// A room to run.
+pub struct Plan {
+    /// What each host's clock is ahead of the room's millisecond, in ms.
+    pub clocks: Vec<i64>,
+    pub shape: Shape,
+    pub cables: Vec<Cable>,
+    pub minutes: i64,
+    /// Messages lost of a hundred.
+    pub loss: u64,
+    pub seed: u64,
+}
+
+#[derive(Clone, Copy)]
+pub enum Shape {
+    Line,
+    Ring,
+}
+
+/// A host's link, numbered from 1.
+#[derive(Clone, Copy)]
+pub struct End {
+    pub host: usize,
+    pub link: usize,
+}
+
+/// A cable, and how long a message takes from its first end to the second, and back.
+#[derive(Clone, Copy)]
+pub struct Cable {
+    pub ends: [End; 2],
+    pub delay: [i64; 2],
+}

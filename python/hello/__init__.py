@@ -1,0 +1,31 @@
+"""A HELLO host of RFC 891: safe calls of the proved library, by ctypes.
+
+A Room owns the run of entries in which its hosts, 16 at most, have their host tables. A Host of it
+has settings, a clock and links, and the calls as methods.
+
+    room = hello.Room(hosts=1)
+    host = room.host(0, hello.Settings(address=(192, 0, 2, 1), address_offset=1, nhosts=4))
+    host.initialize()  # Answer.DONE
+    host.tick()  # Answer.DONE
+    host.send(1)  # Sent(answer=Answer.DONE, message=b"E...")
+
+Every call ends with an Answer, whatever the host holds; docs/answers.txt says what each means and
+changes. A Python number that does not fit its field raises OverflowError, a wrong type TypeError
+and a wrong count of parts ValueError: nothing is cut off.
+
+The plain calls below the methods, for whoever keeps clocks, links and entries in another way, are
+in hello.library.
+"""
+
+from .answer import Answer
+from .lent import Clock, Links, Run, Settings, date_word
+from .library import checksum
+from .room import Host, Room
+from .values import Address, Entry, Link, LinkSetting, Net, Route, Row, Sent, Time
+from .values import HOSTS, LINKS, LONGEST_MESSAGE, NO_CLOCK_HOST, PLACES, ROWS, UNITS_PER_MS
+from . import library as _library
+
+
+def packet(octets):
+    """The Answer of the fresh host 192.0.2.1 to a packet on its one point-to-point link."""
+    return Answer(_library.packet(octets))

@@ -1,0 +1,22 @@
+"""The answers of the calls; docs/answers.txt is their list, with what each means and changes."""
+
+import enum
+
+
+class Answer(enum.IntEnum):
+    """What a call answers. OUT_OF_RANGE is tested first in all calls, then upwards in number."""
+
+    DONE = 0
+    SETTING = 1
+    SHORT_BUFFER = 2
+    IP_FORM = 3
+    IP_CHECKSUM = 4
+    PROTOCOL = 5
+    HELLO_FORM = 6
+    HELLO_CHECKSUM = 7
+    OTHER_LAYOUT = 8
+    LOOPED_LINE = 9
+    DELAY_NOT_VALID = 10
+    NO_HOST = 11
+    OUT_OF_RANGE = 12
+    HOST_DOWN = 13

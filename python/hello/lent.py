@@ -1,0 +1,175 @@
+"""What is lent to the calls: settings, clock, links and the run of entries."""
+
+import operator
+from ctypes import c_size_t
+
+from .structures import CAddress, CClock, CEntry, CLink, CLinks, CSettings
+from .structures import fitting, into, into_slots, number, part
+from .values import LINKS, NO_CLOCK_HOST, UNITS_PER_MS
+from .values import Address, Entry, Link, LinkSetting, Net, Row
+
+
+def date_word(year, month, day):
+    """The DATE word of a day, 1972 to 2003, with bits 14 and 15 zero."""
+    years = fitting("year", year, 1972, 2003) - 1972
+    return fitting("month", month, 0, 15) << 10 | fitting("day", day, 0, 31) << 5 | years
+
+
+def _address(c):
+    return Address(c.first, c.second, c.third, c.fourth)
+
+
+class Settings:
+    """The settings of a host. With one outside its range, calls on the host answer SETTING.
+
+    address         LOCAL-ADDRESS: first octet 1 to 223; gives an id below NHOSTS
+    address_offset  ADDRESS-OFFSET, 0 to 255: an id is the host octet less this number
+    nhosts          NHOSTS, 1 to 255: ids are 0 to NHOSTS - 1
+    clock_host      id of the host that sets the clock, below NHOSTS; 255: clock setting is off
+    hold_interval   HOLD-INTERVAL, 1 to 255 s
+    clock_tick      CLOCK-TICK, 1 to 65,536,000 units of 1/65,536 ms
+    time            starting time, 0 to 86,399,999 ms
+    date            starting date, a real one; see date_word
+    links           LinkSettings, link 1 first; link_count, 1 to 8, becomes their count
+    net             Rows of the net table; net_count, 0 to 32, becomes their count
+    """
+
+    __slots__ = ("_state",)
+
+    def __init__(
+        self,
+        address,
+        address_offset,
+        nhosts,
+        clock_host=NO_CLOCK_HOST,
+        hold_interval=1,
+        clock_tick=UNITS_PER_MS,
+        time=0,
+        date=date_word(1972, 1, 1),
+        links=(LinkSetting(),),
+        net=(),
+    ):
+        self._state = CSettings()
+        self.address = address
+        self.address_offset = address_offset
+        self.nhosts = nhosts
+        self.clock_host = clock_host
+        self.hold_interval = hold_interval
+        self.clock_tick = clock_tick
+        self.time = time
+        self.date = date
+        self.links = links
+        self.net = net
+
+    address_offset = part("layout", "address_offset")
+    nhosts = part("layout", "nhosts")
+    clock_host = part("clock_host")
+    hold_interval = part("hold_interval")
+    clock_tick = part("clock_tick")
+    time = part("time")
+    date = part("date")
+    link_count = part("link_count")
+    net_count = part("net", "count")
+
+    @property
+    def address(self):
+        return _address(self._state.address)
+
+    @address.setter
+    def address(self, value):
+        self._state.address = into(CAddress, "address", value)
+
+    @property
+    def links(self):
+        """All eight slots."""
+        return tuple(
+            LinkSetting(c.broadcast.value == 1, _address(c.neighbor)) for c in self._state.links
+        )
+
+    @links.setter
+    def links(self, values):
+        values = tuple(values)
+        into_slots(self._state.links, "links", values)
+        self.link_count = len(values)
+
+    @property
+    def net(self):
+        """All 32 slots."""
+        return tuple(
+            Row(Net(c.net.first, c.net.second, c.net.third), c.id) for c in self._state.net.rows
+        )
+
+    @net.setter
+    def net(self, values):
+        values = tuple(values)
+        into_slots(self._state.net.rows, "net", values)
+        self.net_count = len(values)
+
+
+class Clock:
+    """A host's clock.
+
+    clock  CLOCK, 0 to 86,400,000 ms, in units of 1/65,536 ms
+    delta  DELTA, -512 to +511 ms, in units of 1/65,536 ms
+    hold   HOLD, 0 to 255 s
+    date   the DATE word: bits 0-4 year less 1972, 5-9 day, 10-13 month, 14 zero, 15 one while a
+           master's date is awaited
+    """
+
+    __slots__ = ("_state",)
+
+    def __init__(self, clock=0, delta=0, hold=0, date=0):
+        self._state = CClock()
+        self.clock = clock
+        self.delta = delta
+        self.hold = hold
+        self.date = date
+
+    clock = part("clock")
+    delta = part("delta")
+    hold = part("hold")
+    date = part("date")
+
+
+class Links:
+    """The states of a host's eight link slots: links[0] is link 1. Its members are Links."""
+
+    __slots__ = ("_state",)
+
+    def __init__(self, values=()):
+        self._state = CLinks()
+        into_slots(self._state.all, "links", values)
+
+    def __len__(self):
+        return LINKS
+
+    def __getitem__(self, index):
+        c = self._state.all[operator.index(index)]
+        return Link(_address(c.neighbor), c.keep_alive, c.tsp)
+
+    def __setitem__(self, index, value):
+        self._state.all[operator.index(index)] = into(CLink, "link", value)
+
+
+class Run:
+    """A run of entries, at first all zero: host k owns run[255 k] to run[255 k + 254]."""
+
+    __slots__ = ("_state",)
+
+    def __init__(self, length):
+        # One slot more than the length says, so that an empty run has an address too.
+        self._state = (CEntry * (number(c_size_t, "length", length) + 1))()
+
+    def __len__(self):
+        return len(self._state) - 1
+
+    def __getitem__(self, index):
+        c = self._state[self._place(index)]
+        return Entry(c.delay, c.offset, c.ttl, c.pid, c.time)
+
+    def __setitem__(self, index, value):
+        self._state[self._place(index)] = into(CEntry, "entry", value)
+
+    def _place(self, index):
+        """The index counted from the front."""
+        return range(len(self))[operator.index(index)]

@@ -1,0 +1,153 @@
+"""The plain calls of the library, by ctypes: each is lent settings, number, clock, links and run.
+
+They answer the number of an Answer. The library is target/lib/libhello.so, which
+python/make_library makes; the variable HELLO_SO names another file.
+"""
+
+import ctypes
+import os
+from ctypes import POINTER, c_char_p, c_int32, c_size_t, c_uint8, c_uint16
+
+from .lent import Clock, Links, Run, Settings
+from .structures import CAddress, CClock, CEntry, CLinks, CRoute, CSent, CSettings, CTime
+from .structures import into, number as fitting_number
+
+_HERE = os.path.dirname(os.path.abspath(__file__))
+_BUILT = os.path.join(_HERE, "..", "..", "target", "lib", "libhello.so")
+# PyDLL: no other Python thread runs during a call, so nothing lent is used by two calls at once.
+_LIBRARY = ctypes.PyDLL(os.environ.get("HELLO_SO") or _BUILT)
+
+_HOST = (
+    POINTER(CSettings),
+    c_size_t,
+    POINTER(CClock),
+    POINTER(CLinks),
+    POINTER(CEntry),
+    c_size_t,
+)
+
+
+def function(name, result, *arguments):
+    """The library's function of that name, with the types of its result and arguments."""
+    found = getattr(_LIBRARY, name)
+    found.restype = result
+    found.argtypes = arguments
+    return found
+
+
+_INITIALIZE = function("hello_initialize", c_uint8, *_HOST)
+_TICK = function("hello_tick", c_uint8, *_HOST)
+_ADJUST = function("hello_adjust", c_uint8, *_HOST)
+_SET = function("hello_set", c_uint8, *_HOST, c_int32)
+_READ = function("hello_read", CTime, *_HOST)
+_SECOND = function("hello_second", c_uint8, *_HOST)
+_SELF_REPORT = function("hello_self_report", c_uint8, *_HOST)
+_SEND = function("hello_send", CSent, *_HOST, c_size_t, POINTER(c_uint8), c_size_t)
+_RECEIVE = function("hello_receive", c_uint8, *_HOST, c_size_t, c_char_p, c_size_t)
+_LOOKUP = function("hello_lookup", CRoute, *_HOST, CAddress)
+_PACKET = function("hello_packet", c_uint8, c_char_p, c_size_t)
+_CHECKSUM = function("hello_checksum", c_uint16, c_char_p, c_size_t)
+
+
+def _lent(settings, number, clock, links, run):
+    """The arguments that all calls on a host share."""
+    for name, value, kind in (
+        ("settings", settings, Settings),
+        ("clock", clock, Clock),
+        ("links", links, Links),
+        ("run", run, Run),
+    ):
+        if not isinstance(value, kind):
+            raise TypeError(f"{name} must be a {kind.__name__}")
+    return (
+        ctypes.byref(settings._state),
+        fitting_number(c_size_t, "number", number),
+        ctypes.byref(clock._state),
+        ctypes.byref(links._state),
+        run._state,
+        len(run),
+    )
+
+
+def octets_of(packet):
+    """A copy of a bytes-like object, and its length."""
+    octets = bytes(memoryview(packet))
+    return octets, len(octets)
+
+
+def buffer_of(buffer):
+    """The writable, contiguous buffer as a C array, and its length."""
+    length = memoryview(buffer).nbytes
+    if length == 0:
+        return (c_uint8 * 1)(), 0
+    return (c_uint8 * length).from_buffer(buffer), length
+
+
+def initialize(settings, number, clock, links, run):
+    """Sets host `number` afresh by its settings: the clock, all links, the first NHOSTS entries."""
+    return _INITIALIZE(*_lent(settings, number, clock, links, run))
+
+
+def tick(settings, number, clock, links, run):
+    """Adds CLOCK-TICK to the clock."""
+    return _TICK(*_lent(settings, number, clock, links, run))
+
+
+def adjust(settings, number, clock, links, run):
+    """Moves the clock by DELTA / 128, rounded down, which DELTA loses."""
+    return _ADJUST(*_lent(settings, number, clock, links, run))
+
+
+def set(settings, number, clock, links, run, ms):
+    """Corrects the clock by `ms`, signed 32 bits: -512 to +511 becomes DELTA, else at once."""
+    return _SET(*_lent(settings, number, clock, links, run), fitting_number(c_int32, "ms", ms))
+
+
+def read(settings, number, clock, links, run):
+    """The clock's whole milliseconds and the DATE word: answer, time, date."""
+    time = _READ(*_lent(settings, number, clock, links, run))
+    return time.answer, time.time, time.date
+
+
+def second(settings, number, clock, links, run):
+    """A second has passed: HOLD and each TTL fall by one; an entry whose TTL ends goes down."""
+    return _SECOND(*_lent(settings, number, clock, links, run))
+
+
+def self_report(settings, number, clock, links, run):
+    """Updates the host's own entry with PID 0, DELAY 0 and OFFSET 0."""
+    return _SELF_REPORT(*_lent(settings, number, clock, links, run))
+
+
+def send(settings, number, clock, links, run, link, buffer):
+    """Writes the next message of link `link`, from 1, to the front of a buffer: answer, length.
+
+    A message has 32 octets, or with the host table 32 + 4 NHOSTS. Octets behind it stay.
+    """
+    lent = _lent(settings, number, clock, links, run)
+    octets, length = buffer_of(buffer)
+    sent = _SEND(*lent, fitting_number(c_size_t, "link", link), octets, length)
+    return sent.answer, sent.length
+
+
+def receive(settings, number, clock, links, run, link, packet):
+    """Takes in a packet, IP header first, that arrived on link `link`, from 1."""
+    lent = _lent(settings, number, clock, links, run)
+    return _RECEIVE(*lent, fitting_number(c_size_t, "link", link), *octets_of(packet))
+
+
+def lookup(settings, number, clock, links, run, address):
+    """The id of `address`, and the link by which it is reached: answer, id, pid."""
+    lent = _lent(settings, number, clock, links, run)
+    route = _LOOKUP(*lent, into(CAddress, "address", address))
+    return route.answer, route.id, route.pid
+
+
+def packet(octets):
+    """The answer of the fresh host 192.0.2.1 to a packet on its one point-to-point link."""
+    return _PACKET(*octets_of(octets))
+
+
+def checksum(octets):
+    """The internet checksum (RFC 1071) of a bytes-like object."""
+    return _CHECKSUM(*octets_of(octets))

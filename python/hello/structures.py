@@ -1,0 +1,148 @@
+"""The types of the C interface, and the ways from Python values to them."""
+
+import ctypes
+import operator
+from ctypes import c_int16, c_int32, c_int64, c_size_t, c_uint8, c_uint16
+
+from .values import LINKS, ROWS
+
+_SIGNED = (c_int16, c_int32, c_int64)
+
+
+class CAddress(ctypes.Structure):
+    _fields_ = [(octet, c_uint8) for octet in ("first", "second", "third", "fourth")]
+
+
+class Switch(c_uint8):
+    """An octet that is 0 or 1, from False or True."""
+
+
+class CLinkSetting(ctypes.Structure):
+    _fields_ = [("broadcast", Switch), ("neighbor", CAddress)]
+
+
+class CLayout(ctypes.Structure):
+    _fields_ = [("address_offset", c_uint8), ("nhosts", c_size_t)]
+
+
+class CNet(ctypes.Structure):
+    _fields_ = [(octet, c_uint8) for octet in ("first", "second", "third")]
+
+
+class CRow(ctypes.Structure):
+    _fields_ = [("net", CNet), ("id", c_uint8)]
+
+
+class CNetTable(ctypes.Structure):
+    _fields_ = [("count", c_size_t), ("rows", CRow * ROWS)]
+
+
+class CSettings(ctypes.Structure):
+    _fields_ = [
+        ("address", CAddress),
+        ("layout", CLayout),
+        ("clock_host", c_uint8),
+        ("hold_interval", c_uint16),
+        ("clock_tick", c_int64),
+        ("time", c_int64),
+        ("date", c_uint16),
+        ("link_count", c_size_t),
+        ("links", CLinkSetting * LINKS),
+        ("net", CNetTable),
+    ]
+
+
+class CClock(ctypes.Structure):
+    _fields_ = [("clock", c_int64), ("delta", c_int64), ("hold", c_uint16), ("date", c_uint16)]
+
+
+class CLink(ctypes.Structure):
+    _fields_ = [("neighbor", CAddress), ("keep_alive", c_uint8), ("tsp", c_int16)]
+
+
+class CLinks(ctypes.Structure):
+    _fields_ = [("all", CLink * LINKS)]
+
+
+class CEntry(ctypes.Structure):
+    _fields_ = [
+        ("delay", c_int64),
+        ("offset", c_int16),
+        ("ttl", c_uint16),
+        ("pid", c_uint8),
+        ("time", c_int64),
+    ]
+
+
+class CSent(ctypes.Structure):
+    _fields_ = [("answer", c_uint8), ("length", c_size_t)]
+
+
+class CRoute(ctypes.Structure):
+    _fields_ = [("answer", c_uint8), ("id", c_size_t), ("pid", c_uint8)]
+
+
+class CTime(ctypes.Structure):
+    _fields_ = [("answer", c_uint8), ("time", c_int64), ("date", c_uint16)]
+
+
+def fitting(name, value, low, high):
+    """The number, if it is one from low to high."""
+    number = operator.index(value)
+    if not low <= number <= high:
+        raise OverflowError(f"{name} is {number}, and must be from {low} to {high}")
+    return number
+
+
+def number(kind, name, value):
+    """The number, if it fits the C type `kind`."""
+    bits = 8 * ctypes.sizeof(kind)
+    if kind in _SIGNED:
+        return fitting(name, value, -(1 << bits - 1), (1 << bits - 1) - 1)
+    return fitting(name, value, 0, (1 << bits) - 1)
+
+
+def into(kind, name, value):
+    """The value as the C type `kind`: a number, a switch, or a structure from a tuple of its parts."""
+    if kind is Switch:
+        if not isinstance(value, bool):
+            raise TypeError(f"{name} must be True or False")
+        return Switch(value)
+    if not issubclass(kind, ctypes.Structure):
+        return number(kind, name, value)
+    parts = tuple(value)
+    if len(parts) != len(kind._fields_):
+        raise ValueError(f"{name} has {len(parts)} parts, and must have {len(kind._fields_)}")
+    return kind(
+        *(into(field, f"{name}.{part}", v) for (part, field), v in zip(kind._fields_, parts))
+    )
+
+
+def into_slots(slots, name, values):
+    """Writes the values to the first slots of a C array, and zeros to the rest."""
+    new = [into(slots._type_, f"{name}[{i}]", value) for i, value in enumerate(values)]
+    if len(new) > len(slots):
+        raise ValueError(f"{name} has {len(new)} members, and at most {len(slots)} fit")
+    for i in range(len(slots)):
+        slots[i] = new[i] if i < len(new) else slots._type_()
+
+
+def part(*path):
+    """A property for the number at a path of a structure's fields, checked when it is written."""
+    *owners, name = path
+
+    def owner(self):
+        structure = self._state
+        for field in owners:
+            structure = getattr(structure, field)
+        return structure
+
+    def read(self):
+        return getattr(owner(self), name)
+
+    def write(self, value):
+        structure = owner(self)
+        kind = dict(structure._fields_)[name]
+        setattr(structure, name, number(kind, name, value))
+
+    return property(read, write)

@@ -1,0 +1,92 @@
+"""Plain values: what is set, what is lent and what is answered, as named tuples."""
+
+from typing import NamedTuple
+
+from .answer import Answer
+
+PLACES = 255
+"""The places of the run that one host owns."""
+HOSTS = 16
+"""The hosts that one run can hold."""
+LINKS = 8
+"""The links that a host can have."""
+ROWS = 32
+"""The rows that a net table can have."""
+NO_CLOCK_HOST = 255
+"""The clock host's id where clock setting is off."""
+UNITS_PER_MS = 65_536
+"""Clock units to a millisecond."""
+LONGEST_MESSAGE = 32 + 4 * PLACES
+"""The octets of the longest message, with the table of 255 hosts."""
+
+
+class Address(NamedTuple):
+    """An internet address, first octet first."""
+
+    first: int = 0
+    second: int = 0
+    third: int = 0
+    fourth: int = 0
+
+
+class LinkSetting(NamedTuple):
+    """The setting of one link: broadcast or point-to-point, and NEIGHBOR-ADDRESS if broadcast."""
+
+    broadcast: bool = False
+    neighbor: Address = Address()
+
+
+class Net(NamedTuple):
+    """The number of a net; class A has two zeros behind its first octet."""
+
+    first: int = 0
+    second: int = 0
+    third: int = 0
+
+
+class Row(NamedTuple):
+    """A row of the net table: a net and the id of the host through which it is reached."""
+
+    net: Net = Net()
+    id: int = 0
+
+
+class Link(NamedTuple):
+    """A link's state: NEIGHBOR-ADDRESS, KEEP-ALIVE (0 to 4), TSP (ms)."""
+
+    neighbor: Address = Address()
+    keep_alive: int = 0
+    tsp: int = 0
+
+
+class Entry(NamedTuple):
+    """An entry: DELAY (ms), OFFSET (ms), TTL (s), PID (link), time of update (ms)."""
+
+    delay: int = 0
+    offset: int = 0
+    ttl: int = 0
+    pid: int = 0
+    time: int = 0
+
+
+class Sent(NamedTuple):
+    """What a send answers: the answer, and the message (empty when refused)."""
+
+    answer: Answer
+    message: bytes
+
+
+class Route(NamedTuple):
+    """What a lookup answers: the answer, and id and link (0 when refused)."""
+
+    answer: Answer
+    id: int
+    pid: int
+
+
+class Time(NamedTuple):
+    """What a reading answers: the answer, and ms and the DATE word (0 when refused)."""
+
+    answer: Answer
+    time: int
+    date: int

@@ -1,0 +1,194 @@
+//! A host of a room, with the calls as methods.
+
+use crate::{Address, Answer, Clock, Entry, Links, Settings, LONGEST_MESSAGE, PLACES};
+
+/// A host of a [`Room`](crate::Room): its settings, clock and links, and the run that it shares.
+/// Whatever is written to them, each call ends with an [`Answer`].
+#[derive(Debug)]
+pub struct Host<'a> {
+    pub(crate) number: usize,
+    /// The settings; every call is lent them.
+    pub settings: &'a mut Settings,
+    /// The clock, as the last call left it.
+    pub clock: &'a mut Clock,
+    /// The links, as the last call left them.
+    pub links: &'a mut Links,
+    pub(crate) run: &'a mut [Entry],
+}
+
+/// What a reading tells.
+#[derive(Clone, Copy, Debug, PartialEq, Eq)]
+pub struct Reading {
+    /// The whole milliseconds of CLOCK.
+    pub time: i64,
+    /// The DATE word.
+    pub date: u16,
+}
+
+/// Where a lookup leads.
+#[derive(Clone, Copy, Debug, PartialEq, Eq)]
+pub struct Found {
+    /// The id that the address has.
+    pub id: usize,
+    /// PID, the link of the route; 0 for the host itself.
+    pub pid: u8,
+}
+
+impl Host<'_> {
+    /// Its number in the room, from 0.
+    pub fn number(&self) -> usize {
+        self.number
+    }
+
+    /// Its host table: an entry for each id, 255 at most.
+    pub fn table(&self) -> &[Entry] {
+        &self.run[self.number * PLACES..][..self.settings.layout.nhosts.min(PLACES)]
+    }
+
+    /// The same, to be written.
+    pub fn table_mut(&mut self) -> &mut [Entry] {
+        &mut self.run[self.number * PLACES..][..self.settings.layout.nhosts.min(PLACES)]
+    }
+
+    /// Sets the host afresh by these settings: clock, links and table. Refused, it keeps those
+    /// that it had.
+    pub fn initialize(&mut self, settings: Settings) -> Answer {
+        let answer = answer(crate::initialize(
+            &settings,
+            self.number,
+            self.clock,
+            self.links,
+            self.run,
+        ));
+        if answer.is_done() {
+            *self.settings = settings;
+        }
+        answer
+    }
+
+    /// Adds CLOCK-TICK to the clock.
+    pub fn tick(&mut self) -> Answer {
+        answer(crate::tick(
+            self.settings,
+            self.number,
+            self.clock,
+            self.links,
+            self.run,
+        ))
+    }
+
+    /// Moves the clock by DELTA / 128, rounded down, which DELTA loses.
+    pub fn adjust(&mut self) -> Answer {
+        answer(crate::adjust(
+            self.settings,
+            self.number,
+            self.clock,
+            self.links,
+            self.run,
+        ))
+    }
+
+    /// Corrects the clock by `ms`: from -512 to +511 it becomes DELTA, which `adjust` spends;
+    /// otherwise the clock is moved at once and HOLD is loaded.
+    pub fn set(&mut self, ms: i32) -> Answer {
+        answer(crate::set(
+            self.settings,
+            self.number,
+            self.clock,
+            self.links,
+            self.run,
+            ms,
+        ))
+    }
+
+    /// The clock's whole milliseconds and the DATE word.
+    pub fn read(&mut self) -> Result<Reading, Answer> {
+        let read = crate::read(self.settings, self.number, self.clock, self.links, self.run);
+        answer(read.answer).ok()?;
+        Ok(Reading {
+            time: read.time,
+            date: read.date,
+        })
+    }
+
+    /// A second has passed: HOLD and each TTL fall by one, and an entry whose TTL ends goes down.
+    pub fn second(&mut self) -> Answer {
+        answer(crate::second(
+            self.settings,
+            self.number,
+            self.clock,
+            self.links,
+            self.run,
+        ))
+    }
+
+    /// Updates the host's own entry with PID 0, DELAY 0 and OFFSET 0.
+    pub fn self_report(&mut self) -> Answer {
+        answer(crate::self_report(
+            self.settings,
+            self.number,
+            self.clock,
+            self.links,
+            self.run,
+        ))
+    }
+
+    /// The next message of link `link`, from 1.
+    pub fn send(&mut self, link: usize) -> Result<Vec<u8>, Answer> {
+        let mut message = vec![0; LONGEST_MESSAGE];
+        let length = self.send_into(link, &mut message)?;
+        message.truncate(length);
+        Ok(message)
+    }
+
+    /// Writes the next message of link `link`, from 1, to the front of a buffer; its length.
+    /// Octets behind it stay.
+    pub fn send_into(&mut self, link: usize, buffer: &mut [u8]) -> Result<usize, Answer> {
+        let sent = crate::send(
+            self.settings,
+            self.number,
+            self.clock,
+            self.links,
+            self.run,
+            link,
+            buffer,
+        );
+        answer(sent.answer).ok()?;
+        Ok(sent.length)
+    }
+
+    /// Takes in a packet, IP header first, that arrived on link `link`, from 1.
+    pub fn receive(&mut self, link: usize, packet: &[u8]) -> Answer {
+        answer(crate::receive(
+            self.settings,
+            self.number,
+            self.clock,
+            self.links,
+            self.run,
+            link,
+            packet,
+        ))
+    }
+
+    /// The id of `address`, and the link by which it is reached.
+    pub fn lookup(&mut self, address: Address) -> Result<Found, Answer> {
+        let route = crate::lookup(
+            self.settings,
+            self.number,
+            self.clock,
+            self.links,
+            self.run,
+            address,
+        );
+        answer(route.answer).ok()?;
+        Ok(Found {
+            id: route.id,
+            pid: route.pid,
+        })
+    }
+}
+
+/// The answer of a number that a call gave.
+fn answer(number: u8) -> Answer {
+    Answer::of(number).expect("a call gives a number of the table")
+}

@@ -1,0 +1,75 @@
+//! A room: hosts, and the run of entries that they share.
+
+use crate::{Clock, Entry, Host, Links, Settings, HOSTS, PLACES};
+
+/// Up to sixteen hosts and their host tables.
+///
+/// ```
+/// use hello::{Address, Answer, Layout, Room, Settings};
+///
+/// let layout = Layout { address_offset: 1, nhosts: 4 };
+/// let mut room = Room::new(1);
+/// let mut host = room.host(0);
+/// assert_eq!(host.initialize(Settings::new(Address::new(192, 0, 2, 1), layout)), Answer::Done);
+/// assert_eq!(host.tick(), Answer::Done);
+/// let message = host.send(1)?;
+/// assert_eq!(message.len(), 32);
+/// # Ok::<(), Answer>(())
+/// ```
+#[derive(Clone, Debug)]
+pub struct Room {
+    hosts: Vec<Kept>,
+    run: Vec<Entry>,
+}
+
+/// What a room keeps of a host beside its entries.
+#[derive(Clone, Debug, Default)]
+struct Kept {
+    settings: Settings,
+    clock: Clock,
+    links: Links,
+}
+
+impl Room {
+    /// A room of so many hosts, 16 at most, all still to be set by [`Host::initialize`].
+    ///
+    /// # Panics
+    /// If there are more than 16.
+    pub fn new(hosts: usize) -> Room {
+        assert!(hosts <= HOSTS, "a room has at most {HOSTS} hosts");
+        Room {
+            hosts: vec![Kept::default(); hosts],
+            run: vec![Entry::default(); hosts * PLACES],
+        }
+    }
+
+    /// How many hosts there are.
+    pub fn count(&self) -> usize {
+        self.hosts.len()
+    }
+
+    /// The host of that number, from 0.
+    ///
+    /// # Panics
+    /// If there is none.
+    pub fn host(&mut self, number: usize) -> Host<'_> {
+        let kept = &mut self.hosts[number];
+        Host {
+            number,
+            settings: &mut kept.settings,
+            clock: &mut kept.clock,
+            links: &mut kept.links,
+            run: &mut self.run,
+        }
+    }
+
+    /// The entries of all hosts: host k owns the 255 places from 255 k.
+    pub fn run(&self) -> &[Entry] {
+        &self.run
+    }
+
+    /// The same, to be written.
+    pub fn run_mut(&mut self) -> &mut [Entry] {
+        &mut self.run
+    }
+}
