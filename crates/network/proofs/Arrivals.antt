@@ -18,10 +18,9 @@ use Rattle.wire.specs.Octets.{sameAddress}
 use Rattle.route.specs.declared.Found.{Found}
 use Rattle.route.specs.declared.Found.the-variants.{Id, Nothing}
 use Rattle.host.specs.declared.Link.{Link}
-use Rattle.host.specs.declared.Host.{Host}
 use Rattle.host.specs.Settings.{foundFor}
 use Rattle.host.specs.State.{keepAliveInterval, hostCount, broadcast, linkOf, withLink}
-use Rattle.host.specs.Lent.{having}
+use Rattle.host.specs.Lent.{Host, host}
 use Rattle.arrival.specs.declared.Flight.{Flight}
 use Rattle.arrival.specs.declared.Arrived.{Arrived}
 use Rattle.arrival.specs.Inspection.{inspect}
@@ -60,7 +59,7 @@ flown-new b p c x = record { reading-is = refl; keep-alive-is = refl }
 module _ (i : ℕ) (h : Host) where
   -- the host with the link as a flight leaves it
   abbrev pub storing : Flight → Host
-  storing f = having (reading (h .clock) .clock) (withLink i (f .link) (h .links)) h
+  storing f = host (h .settings) (reading (h .clock) .clock) (withLink i (f .link) (h .links))
 
   module _ (P : Arrived → Type 0) where
     -- the ways that an arrival which passed the guard can go
@@ -84,7 +83,7 @@ module _ (i : ℕ) (h : Host) where
       acted : (p : Packet) → P (action h i p)
       unfolding step3 step2
       acted p =
-          steps-cases (λ g. P (concluded (having (reading (h .clock) .clock) (h .links) h) i p g))
+          steps-cases (λ g. P (concluded (host (h .settings) (reading (h .clock) .clock) (h .links)) i p g))
           (broadcast (h .settings) i) (reading (h .clock) .clock .hold) p (reading (h .clock) .time) (linkOf (h .links) i)
           (λ b. fifth p _ (flown (broadcast (h .settings) i) p (h .clock) (linkOf (h .links) i)))
           (λ b n. fifth p _ (flown-new (broadcast (h .settings) i) p (h .clock) (linkOf (h .links) i)))

@@ -82,8 +82,8 @@ time-fits m e =
 -- ---- a send that was done
 
 module _ (i : ℕ) (buffer : List ℕ) (x : Lent) (typed : Typed x i) (ok : Passed (OnLink i) x) where
-  there : Holds (x .host .number) (x .run)
-  there = holds (x .host .number) (x .run) (ok .places)
+  there : Holds (x .number) (x .run)
+  there = holds (x .number) (x .run) (ok .places)
 
   abbrev s : Settings
   s = x .host .settings

@@ -11,9 +11,8 @@ use lib.Seq.{take-take, ext-getD, getD-take, getD-drop}
 use Rattle.table.specs.declared.Entry.{Entry}
 use Rattle.table.specs.Entry.{freshEntry}
 use Rattle.host.specs.declared.Settings.{Settings}
-use Rattle.host.specs.declared.Host.{Host}
 use Rattle.host.specs.State.{placesPerHost, firstPlace, hostCount, entries}
-use Rattle.host.specs.Lent.{Lent}
+use Rattle.host.specs.Lent.{Host, Lent}
 use Rattle.calls.specs.Perform.{Call, perform}
 use Rattle.network.specs.Frame.{Kept}
 use Rattle.network.specs.Locality.{SameInput, Alike, Locality}
@@ -44,25 +43,25 @@ places-same k run r n each =
     within i h = omega (arith, length-take placesPerHost (drop (firstPlace k) run))
 
 -- a call at one number leaves the places of the others
-pub elsewhere : (h : Host) (k : ℕ) → (h .number ≡ k → ⊥) → (before after : List Entry) → Kept h before after
+pub elsewhere : (s : Settings) (j k : ℕ) → (j ≡ k → ⊥) → (before after : List Entry) → Kept s j before after
     → places k after ≡ places k before
-elsewhere h k apart before after f =
-    places-same k after before (f .same-length) (λ i l. go i l (ltb (firstPlace k + i) (firstPlace (h .number))) refl)
+elsewhere s j k apart before after f =
+    places-same k after before (f .same-length) (λ i l. go i l (ltb (firstPlace k + i) (firstPlace j)) refl)
   where
-    go : (i : ℕ) → i < placesPerHost → (b : Bool) → ltb (firstPlace k + i) (firstPlace (h .number)) ≡ b
+    go : (i : ℕ) → i < placesPerHost → (b : Bool) → ltb (firstPlace k + i) (firstPlace j) ≡ b
         → getD after (firstPlace k + i) freshEntry ≡ getD before (firstPlace k + i) freshEntry
     go i l true e = f .in-front (firstPlace k + i) freshEntry (ltb-true _ _ e)
     go i l false e =
-        let low = ltb-false (firstPlace k + i) (firstPlace (h .number)) e in
+        let low = ltb-false (firstPlace k + i) (firstPlace j) e in
         f .behind (firstPlace k + i) freshEntry (omega arith)
 
 -- a call at a number makes the same of the same places
-module _ (c d : Call) (x y : Lent) (inputs : SameInput c d) (alike : Alike x y) (same : places (x .host .number) (x .run) ≡ places (x .host .number) (y .run)) where
+module _ (c d : Call) (x y : Lent) (inputs : SameInput c d) (alike : Alike x y) (same : places (x .number) (x .run) ≡ places (x .number) (y .run)) where
   abbrev s : Settings
   s = x .host .settings
 
   abbrev k : ℕ
-  k = x .host .number
+  k = x .number
 
   abbrev now : List Entry
   now = perform c x .run
@@ -70,10 +69,10 @@ module _ (c d : Call) (x y : Lent) (inputs : SameInput c d) (alike : Alike x y) 
   abbrev now′ : List Entry
   now′ = perform d y .run
 
-  kept : Kept (x .host) (x .run) now
+  kept : Kept (x .host .settings) (x .number) (x .run) now
   kept = kept-places c x
 
-  kept′ : Kept (x .host) (y .run) now′
+  kept′ : Kept (x .host .settings) (x .number) (y .run) now′
   kept′ =
       let f = kept-places d y in
       record {

@@ -22,15 +22,15 @@ module _ (c : Call) (x : Lent) where
   performs P refuses works = guarded.either P (guardOf c x) refuses works
 
   -- all of the host's places stand in the run of a call that passes its guard
-  pub there : done (guardOf c x) ≡ true → Holds (x .host .number) (x .run)
-  there e = holds (x .host .number) (x .run) (passed (scopeOfCall c) x e .places)
+  pub there : done (guardOf c x) ≡ true → Holds (x .number) (x .run)
+  there e = holds (x .number) (x .run) (passed (scopeOfCall c) x e .places)
 
   -- a run that does not hold them
-  missing : noPlaces (x .host .number) (x .run) ≡ true → (a : Scope) → outOfRange a x ≡ true
+  missing : noPlaces (x .number) (x .run) ≡ true → (a : Scope) → outOfRange a x ≡ true
   missing e Places = e
   missing e All = rw e
   missing e (OnLink i) = rw e (or-true (noLink (x .host .settings) i))
 
-  pub perform-short : noPlaces (x .host .number) (x .run) ≡ true → perform c x ≡ refused OutOfRange c x
+  pub perform-short : noPlaces (x .number) (x .run) ≡ true → perform c x ≡ refused OutOfRange c x
   unfolding perform guard
   perform-short e = rw (missing e (scopeOfCall c))

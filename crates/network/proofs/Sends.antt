@@ -21,7 +21,7 @@ use Rattle.sending.specs.Send.{reportCount, sends}
 use Rattle.calls.specs.Perform.{sentBy}
 use Rattle.network.specs.Left.{messageOf}
 
-module _ (x : Lent) (there : Holds (x .host .number) (x .run)) (i : ℕ) where
+module _ (x : Lent) (there : Holds (x .number) (x .run)) (i : ℕ) where
   abbrev link : Link
   link = linkOf (x .host .links) i
 
@@ -34,14 +34,14 @@ module _ (x : Lent) (there : Holds (x .host .number) (x .run)) (i : ℕ) where
   reports-are = go (tableGoes (x .host .settings) link)
     where
       go : (b : Bool) → map (advertised i) (part 0 (cond b (hostCount (x .host .settings)) 0 - 0) (entriesOf x)) ≡ cond b (map (advertised i) (entriesOf x)) []
-      go true = ap (map (advertised i)) (take-all (hostCount (x .host .settings) - 0) (entriesOf x) (omega (arith, entries-length (x .host .settings) (x .host .number) (x .run) there)))
+      go true = ap (map (advertised i)) (take-all (hostCount (x .host .settings) - 0) (entriesOf x) (omega (arith, entries-length (x .host .settings) (x .number) (x .run) there)))
       go false = refl
 
   pub reports-count : length reports ≡ reportCount (x .host .settings) link
   reports-count = go (tableGoes (x .host .settings) link)
     where
       go : (b : Bool) → length (cond b (map (advertised i) (entriesOf x)) []) ≡ cond b (hostCount (x .host .settings)) 0
-      go true = length-map (entriesOf x) (advertised i) ∙ entries-length (x .host .settings) (x .host .number) (x .run) there
+      go true = length-map (entriesOf x) (advertised i) ∙ entries-length (x .host .settings) (x .number) (x .run) there
       go false = refl
 
   -- the whole message; "destination NEIGHBOR-ADDRESS"

@@ -13,10 +13,9 @@ use Rattle.table.specs.declared.Entry.{Entry}
 use Rattle.table.specs.Sweep.{sweep}
 use Rattle.table.specs.Runs.{changes, updates}
 use Rattle.host.specs.declared.Links.{Links}
-use Rattle.host.specs.declared.Host.{Host}
 use Rattle.host.specs.declared.Reply.{Reply}
 use Rattle.host.specs.State.{firstPlace, hostCount, entries, withEntries}
-use Rattle.host.specs.Lent.{Lent, entriesOf}
+use Rattle.host.specs.Lent.{Host, Lent, entriesOf}
 use Rattle.host.specs.Reply.{plainly}
 use Rattle.host.proofs.Places.{Holds, entries-length, withEntries-length, withEntries-front, withEntries-behind, entries-withEntries}
 use Rattle.arrival.specs.Arrival.{ends}
@@ -24,28 +23,28 @@ use Rattle.calls.specs.Effects.{answers}
 use Rattle.calls.specs.Perform.{Outcome, carriedOut, updatedBy}
 use Rattle.network.specs.Frame.{Kept}
 
-module _ (x : Lent) (es : List Entry) (there : Holds (x .host .number) (x .run)) (same : length es ≡ length (entriesOf x)) where
+module _ (x : Lent) (es : List Entry) (there : Holds (x .number) (x .run)) (same : length es ≡ length (entriesOf x)) where
   count : length es ≡ hostCount (x .host .settings)
-  count = same ∙ entries-length (x .host .settings) (x .host .number) (x .run) there
+  count = same ∙ entries-length (x .host .settings) (x .number) (x .run) there
 
-  pub written-kept : Kept (x .host) (x .run) (withEntries (x .host .number) es (x .run))
+  pub written-kept : Kept (x .host .settings) (x .number) (x .run) (withEntries (x .number) es (x .run))
   written-kept =
       let n = count in
       record {
-        same-length = withEntries-length (x .host .number) es (x .run) (omega arith);
-        in-front = withEntries-front (x .host .number) es (x .run) (omega arith);
-        behind = λ i d b. withEntries-behind (x .host .number) es (x .run) (omega arith) i d (omega arith);
+        same-length = withEntries-length (x .number) es (x .run) (omega arith);
+        in-front = withEntries-front (x .number) es (x .run) (omega arith);
+        behind = λ i d b. withEntries-behind (x .number) es (x .run) (omega arith) i d (omega arith);
       }
 
-  pub written-back : entries (x .host .settings) (x .host .number) (withEntries (x .host .number) es (x .run)) ≡ es
+  pub written-back : entries (x .host .settings) (x .number) (withEntries (x .number) es (x .run)) ≡ es
   written-back =
       let n = count in
-      entries-withEntries (x .host .number) es (x .run) (omega arith) (x .host .settings) count
+      entries-withEntries (x .number) es (x .run) (omega arith) (x .host .settings) count
 
 -- what was read, written back
-pub unwritten : (x : Lent) → Holds (x .host .number) (x .run) → withEntries (x .host .number) (entriesOf x) (x .run) ≡ x .run
+pub unwritten : (x : Lent) → Holds (x .number) (x .run) → withEntries (x .number) (entriesOf x) (x .run) ≡ x .run
 unfolding entries withEntries
-unwritten x there = over-part (firstPlace (x .host .number)) (hostCount (x .host .settings)) (x .run) (omega arith)
+unwritten x there = over-part (firstPlace (x .number)) (hostCount (x .host .settings)) (x .run) (omega arith)
   where
     over-part : (k n : ℕ) (b : List Entry) → k + n ≤ length b → over b k (part k n b) ≡ b
     over-part k n b h =
@@ -57,7 +56,7 @@ unwritten x there = over-part (firstPlace (x .host .number)) (hostCount (x .host
 
 -- ---- a call that does nothing to the entries
 
-module _ (x : Lent) (there : Holds (x .host .number) (x .run)) where
+module _ (x : Lent) (there : Holds (x .number) (x .run)) where
   -- what is left, with this reply, this clock and these links
   abbrev pub leaving : Reply → Clock → Links → Outcome
   leaving r c l = record { reply = r; clock = c; links = l; run = x .run; buffer = [] }

@@ -21,10 +21,9 @@ use Rattle.route.specs.declared.Found.the-variants.{Id, Nothing}
 use Rattle.route.specs.Find.{isFound}
 use Rattle.table.specs.declared.Entry.{Entry}
 use Rattle.table.specs.Entry.{freshEntry, up}
-use Rattle.host.specs.declared.Host.{Host}
 use Rattle.host.specs.Settings.{settingsGood, foundFor}
 use Rattle.host.specs.State.{broadcast, linkOf}
-use Rattle.host.specs.Lent.{Lent, entriesOf}
+use Rattle.host.specs.Lent.{Host, Lent, entriesOf}
 use Rattle.host.specs.Guard.{outOfRange}
 use Rattle.sending.specs.Send.{reportCount}
 use Rattle.arrival.specs.Inspection.{otherLayout, looped}

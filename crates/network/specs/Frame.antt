@@ -8,24 +8,23 @@ use Rattle.table.specs.declared.Entry.{Entry}
 use Rattle.host.specs.declared.Settings.{Settings}
 use Rattle.host.specs.declared.Link.{Link}
 use Rattle.host.specs.declared.Links.{Links}
-use Rattle.host.specs.declared.Host.{Host}
 use Rattle.host.specs.Settings.{linkCount}
 use Rattle.host.specs.State.{firstPlace, hostCount}
 use Rattle.host.specs.Lent.{Lent}
 use Rattle.calls.specs.declared.Request.the-variants.{Initialize}
 use Rattle.calls.specs.Perform.{Call, ask, Outcome, perform}
 
-pub record Kept (h : Host) (before after : List Entry) : Type 0 where
+pub record Kept (s : Settings) (k : ℕ) (before after : List Entry) : Type 0 where
   pub same-length : length after ≡ length before
-  pub in-front : (i : ℕ) (d : Entry) → i < firstPlace (h .number) → getD after i d ≡ getD before i d
-  pub behind : (i : ℕ) (d : Entry) → firstPlace (h .number) + hostCount (h .settings) ≤ i → getD after i d ≡ getD before i d
+  pub in-front : (i : ℕ) (d : Entry) → i < firstPlace k → getD after i d ≡ getD before i d
+  pub behind : (i : ℕ) (d : Entry) → firstPlace k + hostCount s ≤ i → getD after i d ≡ getD before i d
 
 -- the slots past the host's links
 abbrev pub spareLinks : Settings → Links → List Link
 spareLinks s l = drop (linkCount s) (l .all)
 
 pub record Framed (c : Call) (x : Lent) (o : Outcome) : Type 0 where
-  pub places : Kept (x .host) (x .run) (o .run)
+  pub places : Kept (x .host .settings) (x .number) (x .run) (o .run)
   pub spare : (c ≡ ask Initialize → ⊥) → spareLinks (x .host .settings) (o .links) ≡ spareLinks (x .host .settings) (x .host .links)
 
 unfoldable pub Frame : Type 0

@@ -19,7 +19,7 @@ pub record Event : Type 0 where
   pub lent : Lent
 
 abbrev pub numberOf : Event → ℕ
-numberOf e = e .lent .host .number
+numberOf e = e .lent .number
 
 abbrev pub outcome : Event → Outcome
 outcome e = perform (e .call) (e .lent)
@@ -45,13 +45,13 @@ Holds k run = firstPlace k + placesPerHost ≤ length run
 pub record Lends (was : Left) (x : Lent) : Type 0 where
   pub own-clock : x .host .clock ≡ was .clock
   pub own-links : ownLinks (x .host .settings) (x .host .links) ≡ ownLinks (x .host .settings) (was .links)
-  pub own-entries : Holds (x .host .number) (x .run) → entriesOf x ≡ take (hostCount (x .host .settings)) (was .places)
+  pub own-entries : Holds (x .number) (x .run) → entriesOf x ≡ take (hostCount (x .host .settings)) (was .places)
 
 -- the same of all eight slots and all 255 places
 pub record LendsWhole (was : Left) (x : Lent) : Type 0 where
   pub own-clock : x .host .clock ≡ was .clock
   pub all-links : x .host .links ≡ was .links
-  pub all-places : Holds (x .host .number) (x .run) → places (x .host .number) (x .run) ≡ was .places
+  pub all-places : Holds (x .number) (x .run) → places (x .number) (x .run) ≡ was .places
 
 -- what an outcome leaves; a run without all the places leaves them as they were
 abbrev pub leftBy : (number : ℕ) → List Entry → Outcome → Left

@@ -11,7 +11,7 @@ use Rattle.table.specs.declared.Entry.{Entry}
 use Rattle.host.specs.declared.Settings.{Settings}
 use Rattle.host.specs.declared.Links.{Links}
 use Rattle.host.specs.State.{hostCount}
-use Rattle.host.specs.Lent.{Lent}
+use Rattle.host.specs.Lent.{Lent, lent}
 use Rattle.calls.specs.declared.Request.the-variants.{Initialize}
 use Rattle.calls.specs.Perform.{Call, ask, Outcome, perform}
 use Rattle.network.specs.Left.{Told, told}
@@ -96,11 +96,7 @@ pub record Shared : Type 0 where
   pub run : List Entry
 
 abbrev pub sharedLent : Shared → SharedEvent → Lent
-sharedLent w e =
-    record {
-      host = record { settings = e .settings; number = e .number; clock = w .clock (e .number); links = w .links (e .number) };
-      run = w .run;
-    }
+sharedLent w e = lent (e .settings) (e .number) (w .clock (e .number)) (w .links (e .number)) (w .run)
 
 abbrev pub sharedOutcome : Shared → SharedEvent → Outcome
 sharedOutcome w e = perform (e .call) (sharedLent w e)

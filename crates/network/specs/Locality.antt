@@ -23,7 +23,7 @@ ownLinks s l = take (linkCount s) (l .all)
 
 pub record Alike (x y : Lent) : Type 0 where
   pub settings-same : x .host .settings ≡ y .host .settings
-  pub number-same : x .host .number ≡ y .host .number
+  pub number-same : x .number ≡ y .number
   pub clock-same : x .host .clock ≡ y .host .clock
   pub links-same : ownLinks (x .host .settings) (x .host .links) ≡ ownLinks (y .host .settings) (y .host .links)
   pub length-same : length (x .run) ≡ length (y .run)

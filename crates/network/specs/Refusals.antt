@@ -6,7 +6,7 @@ use Rattle.answer.specs.declared.Answer.{Answer}
 use Rattle.answer.specs.declared.Answer.the-variants.{Done, DelayNotValid, NoHost}
 use Rattle.host.specs.declared.Link.{Link}
 use Rattle.host.specs.State.{linkOf, withLink}
-use Rattle.host.specs.Lent.{Lent, having}
+use Rattle.host.specs.Lent.{Lent, lent}
 use Rattle.calls.specs.Perform.{Call, receive, refused, perform}
 
 -- an answer that refuses with no change: any but 0, and at an arrival 10 and 11
@@ -15,7 +15,7 @@ Refuses c a = (a ≡ Done → ⊥) × ((i : ℕ) (octets : List ℕ) → c ≡ r
 
 -- what was lent, with another link i
 abbrev pub relinked : (link : ℕ) → Link → Lent → Lent
-relinked i l x = record { host = having (x .host .clock) (withLink i l (x .host .links)) (x .host); run = x .run }
+relinked i l x = lent (x .host .settings) (x .number) (x .host .clock) (withLink i l (x .host .links)) (x .run)
 
 pub record Refusals : Type 0 where
   -- nothing is changed, and the values are zero

@@ -13,7 +13,7 @@ use Rattle.host.specs.declared.Settings.{Settings}
 use Rattle.host.specs.declared.Links.{Links}
 use Rattle.host.specs.Settings.{clockSettingOff, ownId}
 use Rattle.host.specs.State.{broadcast}
-use Rattle.host.specs.Lent.{Lent}
+use Rattle.host.specs.Lent.{Lent, lent}
 use Rattle.host.specs.Guard.{noLink}
 use Rattle.calls.specs.declared.Request.the-variants.{Initialize}
 use Rattle.calls.specs.Perform.{ask, Outcome, perform}
@@ -58,7 +58,7 @@ pub record Room : Type 0 where
 
 -- what a call at seat a is lent: its settings and number, and this
 abbrev pub lentAt : Room → (seat : ℕ) → Clock → Links → List Entry → Lent
-lentAt r a c l run = record { host = record { settings = r .settings a; number = r .number a; clock = c; links = l }; run = run }
+lentAt r a c l run = lent (r .settings a) (r .number a) c l run
 
 -- the setting afresh of seat a
 abbrev pub afresh : Room → ℕ → Outcome

@@ -20,7 +20,7 @@ record Twin (k : ℕ) (w v : Shared) : Type 0 where
   alike : SharedAlike k w v
   lengths : length (w .run) ≡ length (v .run)
 
-kept : (w : Shared) (e : SharedEvent) → Kept (sharedLent w e .host) (w .run) (sharedOutcome w e .run)
+kept : (w : Shared) (e : SharedEvent) → Kept (e .settings) (e .number) (w .run) (sharedOutcome w e .run)
 kept w e = kept-places (e .call) (sharedLent w e)
 
 -- ---- a call elsewhere
@@ -36,7 +36,7 @@ other k w v e apart t =
           record {
             clock-same = put-other (e .number) k _ (w .clock) apart ∙ t .alike .clock-same;
             links-same = put-other (e .number) k _ (w .links) apart ∙ t .alike .links-same;
-            places-same = elsewhere (sharedLent w e .host) k apart (w .run) _ (kept w e) ∙ t .alike .places-same;
+            places-same = elsewhere (e .settings) (e .number) k apart (w .run) _ (kept w e) ∙ t .alike .places-same;
           };
       lengths = kept w e .same-length ∙ t .lengths;
     }

@@ -16,10 +16,9 @@ use Rattle.route.specs.declared.Found.{Found}
 use Rattle.route.specs.declared.Found.the-variants.{Id, Nothing}
 use Rattle.route.specs.Find.{isFound}
 use Rattle.table.specs.Entry.{up}
-use Rattle.host.specs.declared.Host.{Host}
 use Rattle.host.specs.Settings.{settingsGood, foundFor}
 use Rattle.host.specs.State.{broadcast, linkOf}
-use Rattle.host.specs.Lent.{Lent, entriesOf, having}
+use Rattle.host.specs.Lent.{Host, Lent, entriesOf, host}
 use Rattle.host.specs.Guard.{outOfRange, guard, done}
 use Rattle.host.specs.Reply.{plainly, tellsRoute}
 use Rattle.sending.specs.Send.{reportCount, unsent, sends}
@@ -80,7 +79,7 @@ module _ (h : Host) (i : ℕ) where
   action-answer : (p : Packet) → action h i p .reply .answer ≡ acted p
   unfolding step3 step2
   action-answer p =
-      steps-cases (λ g. concluded (having (reading (h .clock) .clock) (h .links) h) i p g .reply .answer ≡ acted p)
+      steps-cases (λ g. concluded (host (h .settings) (reading (h .clock) .clock) (h .links)) i p g .reply .answer ≡ acted p)
       (broadcast (h .settings) i) (reading (h .clock) .clock .hold) p (reading (h .clock) .time) (linkOf (h .links) i)
       (λ b. step5-answer _ p _ ∙ rw b)
       (λ b n. step5-answer _ p _ ∙ rw (b, n))

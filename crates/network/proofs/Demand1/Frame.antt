@@ -33,10 +33,10 @@ use Rattle.network.proofs.Written.{written-kept}
 module _ (x : Lent) where
   -- ---- the run
 
-  untouched : Kept (x .host) (x .run) (x .run)
+  untouched : Kept (x .host .settings) (x .number) (x .run) (x .run)
   untouched = record { same-length = refl; in-front = λ i d h. refl; behind = λ i d h. refl }
 
-  worked : (c : Call) → Holds (x .host .number) (x .run) → Kept (x .host) (x .run) (work c x .run)
+  worked : (c : Call) → Holds (x .number) (x .run) → Kept (x .host .settings) (x .number) (x .run) (work c x .run)
   worked (ask q) h = written-kept x _ h (changes-length (effect q (x .host) (entryAt (wanted q (x .host .settings)) x) .work) (entriesOf x))
   worked (send i buffer) h = untouched
   worked (receive i octets) h = written-kept x _ h (updates-length (arrival i octets (x .host) .work) octets (entriesOf x))
@@ -78,8 +78,8 @@ module _ (x : Lent) where
       }
       octets
 
-pub kept-places : (c : Call) (x : Lent) → Kept (x .host) (x .run) (perform c x .run)
-kept-places c x = performs c x (λ o. Kept (x .host) (x .run) (o .run)) (λ _. untouched x) (λ e. worked x c (there c x e))
+pub kept-places : (c : Call) (x : Lent) → Kept (x .host .settings) (x .number) (x .run) (perform c x .run)
+kept-places c x = performs c x (λ o. Kept (x .host .settings) (x .number) (x .run) (o .run)) (λ _. untouched x) (λ e. worked x c (there c x e))
 
 pub frame-holds : Frame
 unfolding Frame

@@ -24,13 +24,12 @@ use Rattle.table.specs.Runs.{changes, updates}
 use Rattle.host.specs.declared.Settings.{Settings}
 use Rattle.host.specs.declared.Link.{Link}
 use Rattle.host.specs.declared.Links.{Links}
-use Rattle.host.specs.declared.Host.{Host}
 use Rattle.host.specs.declared.Reply.{Reply}
 use Rattle.host.specs.declared.guard.Scope.{Scope}
 use Rattle.host.specs.declared.guard.Scope.the-variants.{Places, All, OnLink}
 use Rattle.host.specs.Settings.{linkCount, foundFor}
 use Rattle.host.specs.State.{unset, freshLink, broadcast, linkOf, withLink, entries, withEntries}
-use Rattle.host.specs.Lent.{Lent, having, entriesOf, lentInRange}
+use Rattle.host.specs.Lent.{Host, Lent, host, lent, entriesOf, lentInRange}
 use Rattle.host.specs.Guard.{noPlaces, noLink, guard, done}
 use Rattle.host.proofs.Places.{Holds}
 use Rattle.host.proofs.Guarded.{passed, counted}
@@ -57,12 +56,12 @@ use Rattle.network.proofs.Written.{written-kept, written-back}
 -- ---- one host, lent with other slots past its count and in another run
 
 module _ (x : Lent) (l′ : Links) (run′ : List Entry) (own : ownLinks (x .host .settings) (x .host .links) ≡ ownLinks (x .host .settings) l′)
-    (lengths : length (x .run) ≡ length run′) (same-entries : entriesOf x ≡ entries (x .host .settings) (x .host .number) run′) where
+    (lengths : length (x .run) ≡ length run′) (same-entries : entriesOf x ≡ entries (x .host .settings) (x .number) run′) where
   abbrev s : Settings
   s = x .host .settings
 
   abbrev y : Lent
-  y = record { host = having (x .host .clock) l′ (x .host); run = run′ }
+  y = lent (x .host .settings) (x .number) (x .host .clock) l′ run′
 
   -- links that agree up to the count, and wholly where l and l′ do
   pub record Linked (m m′ : Links) : Type 0 where
@@ -78,7 +77,7 @@ module _ (x : Lent) (l′ : Links) (run′ : List Entry) (own : ownLinks (x .hos
     pub clock-same : o .clock ≡ p .clock
     pub links-same : Linked (o .links) (p .links)
     pub length-same : length (o .run) ≡ length (p .run)
-    pub entries-same : entries s (x .host .number) (o .run) ≡ entries s (x .host .number) (p .run)
+    pub entries-same : entries s (x .number) (o .run) ≡ entries s (x .number) (p .run)
 
   -- ---- the guard
 
@@ -111,17 +110,18 @@ module _ (x : Lent) (l′ : Links) (run′ : List Entry) (own : ownLinks (x .hos
 
   -- ---- the entries
 
-  module _ (held : Holds (x .host .number) (x .run)) where
+  module _ (held : Holds (x .number) (x .run)) where
     -- the same entries, written to both runs
     written : (es es′ : List Entry) → es ≡ es′ → length es ≡ length (entriesOf x)
-        → (length (withEntries (x .host .number) es (x .run)) ≡ length (withEntries (x .host .number) es′ run′))
-        × (entries s (x .host .number) (withEntries (x .host .number) es (x .run)) ≡ entries s (x .host .number) (withEntries (x .host .number) es′ run′))
+        → (length (withEntries (x .number) es (x .run)) ≡ length (withEntries (x .number) es′ run′))
+        × (entries s (x .number) (withEntries (x .number) es (x .run)) ≡ entries s (x .number) (withEntries (x .number) es′ run′))
     written es es′ e n =
-        let held′ : Holds (x .host .number) run′ = rw (← lengths) held in
+        let held′ : Holds (x .number) run′ = rw (← lengths) held in
         let n′ : length es ≡ length (entriesOf y) = n ∙ ap length same-entries in
-        rw (← e)
-        (written-kept x es held n .same-length ∙ lengths ∙ sym (written-kept y es held′ n′ .same-length),
-        written-back x es held n ∙ sym (written-back y es held′ n′))
+        rw (← e) (
+          written-kept x es held n .same-length ∙ lengths ∙ sym (written-kept y es held′ n′ .same-length),
+          written-back x es held n ∙ sym (written-back y es held′ n′),
+        )
 
     -- ---- requests
 
@@ -164,7 +164,7 @@ module _ (x : Lent) (l′ : Links) (run′ : List Entry) (own : ownLinks (x .hos
     -- ---- a send, into buffers of one length
 
     module _ (i : ℕ) (has : noLink s i ≡ false) (b d : List ℕ) (n : length b ≡ length d) where
-      held′ : Holds (x .host .number) run′
+      held′ : Holds (x .number) run′
       held′ = rw (← lengths) held
 
       same-link : linkOf (x .host .links) i ≡ linkOf l′ i
@@ -209,14 +209,14 @@ module _ (x : Lent) (l′ : Links) (run′ : List Entry) (own : ownLinks (x .hos
     module _ (i : ℕ) (has : noLink s i ≡ false) where
       -- the host with the link as a flight leaves it
       abbrev hx : Flight → Host
-      hx f = having (reading (x .host .clock) .clock) (withLink i (f .link) (x .host .links)) (x .host)
+      hx f = host (x .host .settings) (reading (x .host .clock) .clock) (withLink i (f .link) (x .host .links))
 
       abbrev hy : Flight → Host
-      hy f = having (reading (x .host .clock) .clock) (withLink i (f .link) l′) (x .host)
+      hy f = host (x .host .settings) (reading (x .host .clock) .clock) (withLink i (f .link) l′)
 
       fifth : (p : Packet) (f : Flight)
-          → SameArrived (concluded (having (reading (x .host .clock) .clock) (x .host .links) (x .host)) i p (on f))
-          (concluded (having (reading (x .host .clock) .clock) l′ (x .host)) i p (on f))
+          → SameArrived (concluded (host (x .host .settings) (reading (x .host .clock) .clock) (x .host .links)) i p (on f))
+          (concluded (host (x .host .settings) (reading (x .host .clock) .clock) l′) i p (on f))
       fifth p f = go (eqb (p .nhosts) 0) (foundFor s (f .link .neighbor))
         where
           go : (b : Bool) (g : Found) → SameArrived (cond b (noTable (hx f) i p f g) (withTable (hx f) i p f)) (cond b (noTable (hy f) i p f g) (withTable (hy f) i p f))
@@ -225,8 +225,8 @@ module _ (x : Lent) (l′ : Links) (run′ : List Entry) (own : ownLinks (x .hos
           go false g = record { reply-same = refl; links-same = stored i has (f .link); work-same = refl }
 
       concludes : (p : Packet) (g : Stage Flight)
-          → SameArrived (concluded (having (reading (x .host .clock) .clock) (x .host .links) (x .host)) i p g)
-          (concluded (having (reading (x .host .clock) .clock) l′ (x .host)) i p g)
+          → SameArrived (concluded (host (x .host .settings) (reading (x .host .clock) .clock) (x .host .links)) i p g)
+          (concluded (host (x .host .settings) (reading (x .host .clock) .clock) l′) i p g)
       concludes p (end f) = record { reply-same = refl; links-same = stored i has (f .link); work-same = refl }
       concludes p (on f) = fifth p f
 
@@ -236,7 +236,7 @@ module _ (x : Lent) (l′ : Links) (run′ : List Entry) (own : ownLinks (x .hos
           subst
           (λ z.
           SameArrived (inspected (x .host) i (Good p))
-          (concluded (having (reading (x .host .clock) .clock) l′ (x .host)) i p (steps2to4 (broadcast s i) (reading (x .host .clock) .clock .hold) p (reading (x .host .clock) .time) z)))
+          (concluded (host (x .host .settings) (reading (x .host .clock) .clock) l′) i p (steps2to4 (broadcast s i) (reading (x .host .clock) .clock .hold) p (reading (x .host .clock) .time) z)))
           (sym (link-same i has))
           (concludes p (steps2to4 (broadcast s i) (reading (x .host .clock) .clock .hold) p (reading (x .host .clock) .time) (linkOf (x .host .links) i)))
 
@@ -304,7 +304,7 @@ locality-holds c d x y inputs alike =
     subst₃
     (λ (s : Settings) (k : ℕ) (t : Clock).
     ownLinks (x .host .settings) (x .host .links) ≡ ownLinks s (y .host .links) → entriesOf x ≡ entries s k (y .run)
-    → Local c d x record { host = record { settings = s; number = k; clock = t; links = y .host .links }; run = y .run })
+    → Local c d x (lent s k t (y .host .links) (y .run)))
     (alike .settings-same) (alike .number-same) (alike .clock-same)
     (λ own same-entries. local x (y .host .links) (y .run) own (alike .length-same) same-entries inputs)
     (alike .links-same) (alike .entries-same)

@@ -31,7 +31,7 @@ use Rattle.host.specs.declared.Links.{Links}
 use Rattle.host.specs.declared.guard.Scope.the-variants.{Places}
 use Rattle.host.specs.Settings.{linkCount, settingsGood, ownId}
 use Rattle.host.specs.State.{hostCount, freshLinks, linkOf, withLink, linkInRange, withEntries}
-use Rattle.host.specs.Lent.{Lent, having, entriesOf, lentInRange, hostInRange}
+use Rattle.host.specs.Lent.{Lent, lent, entriesOf, lentInRange, hostInRange}
 use Rattle.host.specs.Guard.{noPlaces, guard, done}
 use Rattle.host.proofs.Places.{entries-length}
 use Rattle.host.proofs.Guarded.{Counted, counted, passed, holds}
@@ -60,13 +60,13 @@ use Rattle.network.proofs.Written.{written-kept, written-back}
 -- ---- what 12 tests, each by itself
 
 pub record InRange (x : Lent) : Type 0 where
-  pub places-there : noPlaces (x .host .number) (x .run) ≡ false
+  pub places-there : noPlaces (x .number) (x .run) ≡ false
   pub clock-in : clockInRange (x .host .clock) ≡ true
   pub links-in : every linkInRange (take (linkCount (x .host .settings)) (x .host .links .all)) ≡ true
   pub entries-in : every entryInRange (entriesOf x) ≡ true
 
 module _ (x : Lent) where
-  parts : noPlaces (x .host .number) (x .run) ≡ false → lentInRange x ≡ true → InRange x
+  parts : noPlaces (x .number) (x .run) ≡ false → lentInRange x ≡ true → InRange x
   unfolding lentInRange
   parts p e =
       let two = both (hostInRange (x .host)) (every entryInRange (entriesOf x)) e in
@@ -75,12 +75,12 @@ module _ (x : Lent) where
 
   accepted : Accepted x → InRange x
   unfolding guard
-  accepted a = go (noPlaces (x .host .number) (x .run) || not (lentInRange x)) refl a
+  accepted a = go (noPlaces (x .number) (x .run) || not (lentInRange x)) refl a
     where
-      go : (b : Bool) → noPlaces (x .host .number) (x .run) || not (lentInRange x) ≡ b
+      go : (b : Bool) → noPlaces (x .number) (x .run) || not (lentInRange x) ≡ b
           → (cond b OutOfRange (cond (not (settingsGood (x .host .settings))) Setting Done) ≡ OutOfRange → ⊥) → InRange x
       go true e h = absurd (h refl)
-      go false e h = let n = neither (noPlaces (x .host .number) (x .run)) (not (lentInRange x)) e in parts (n .0) (is-so _ (n .1))
+      go false e h = let n = neither (noPlaces (x .number) (x .run)) (not (lentInRange x)) e in parts (n .0) (is-so _ (n .1))
 
   accepts : InRange x → Accepted x
   unfolding guard lentInRange
@@ -101,12 +101,12 @@ module _ (x : Lent) where
   linksIn l = every linkInRange (take (linkCount (x .host .settings)) (l .all)) ≡ true
 
   -- entries that are in range, written to the host's first places
-  written : (c : Clock) (l : Links) (es : List Entry) → noPlaces (x .host .number) (x .run) ≡ false → clockInRange c ≡ true → linksIn l
+  written : (c : Clock) (l : Links) (es : List Entry) → noPlaces (x .number) (x .run) ≡ false → clockInRange c ≡ true → linksIn l
       → length es ≡ length (entriesOf x) → every entryInRange es ≡ true
-      → InRange record { host = having c l (x .host); run = withEntries (x .host .number) es (x .run) }
+      → InRange (lent (x .host .settings) (x .number) c l (withEntries (x .number) es (x .run)))
   unfolding noPlaces
   written c l es p clock links n range =
-      let h = holds (x .host .number) (x .run) p in
+      let h = holds (x .number) (x .run) p in
       record {
         places-there = rw (written-kept x es h n .same-length) p;
         clock-in = clock;
@@ -120,12 +120,12 @@ module _ (x : Lent) where
   begun e =
       let p = passed Places x e in
       let good = sound (x .host .settings) (p .settings) in
-      let h = holds (x .host .number) (x .run) (p .places) in
+      let h = holds (x .number) (x .run) (p .places) in
       let time = both (not (lessMillis (x .host .settings .time) (millis (pos 0)))) (lessMillis (x .host .settings .time) dayMillis) (good .time) in
       written _ (freshLinks (x .host .settings)) _ (p .places)
       (fresh-in-range (x .host .settings .time) (x .host .settings .date) (is-not _ (time .0)) (time .1) (good .date)) (fresh-links-in (x .host .settings))
       (changes-length record { first = 0; end = hostCount (x .host .settings); change = Fresh } (entriesOf x))
-      (rw (changes-each (hostCount (x .host .settings)) Fresh (entriesOf x) (omega (arith, entries-length (x .host .settings) (x .host .number) (x .run) h)))
+      (rw (changes-each (hostCount (x .host .settings)) Fresh (entriesOf x) (omega (arith, entries-length (x .host .settings) (x .number) (x .run) h)))
       (all-every entryInRange (map (changed Fresh) (entriesOf x)) (all-made (λ _ e. entryInRange e ≡ true) (changed Fresh) (λ _ _. kept.fresh-in-range) (entriesOf x))))
 
   module _ (r : InRange x) where

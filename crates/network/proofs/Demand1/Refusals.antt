@@ -46,14 +46,14 @@ module _ (x : Lent) where
   abbrev Unchanged : Call → Outcome → Type 0
   Unchanged c o = Refuses c (o .reply .answer) → o ≡ refused (o .reply .answer) c x
 
-  looks : (a : Address) → Holds (x .host .number) (x .run) → (f : Found) (e : Entry)
+  looks : (a : Address) → Holds (x .number) (x .run) → (f : Found) (e : Entry)
       → Unchanged (ask (Lookup a)) (carriedOut (answers (looked f e) (x .host .clock) (x .host .links)) x)
   looks a h Nothing e = λ w. answered x h (plainly NoHost) (x .host .clock) (x .host .links)
   looks a h (Id id) e =
       either (λ (r : Reply). Unchanged (ask (Lookup a)) (carriedOut (answers r (x .host .clock) (x .host .links)) x)) (not (up e)) _ _
       (λ _ _. answered x h (plainly HostDown) (x .host .clock) (x .host .links)) (λ _ w. absurd (w .0 refl))
 
-  asked : (q : Request) → Holds (x .host .number) (x .run) → Unchanged (ask q) (work (ask q) x)
+  asked : (q : Request) → Holds (x .number) (x .run) → Unchanged (ask q) (work (ask q) x)
   unfolding initialize tick adjust setBy read second selfReport lookup
   asked Initialize h = λ w. absurd (w .0 refl)
   asked Tick h = λ w. absurd (w .0 refl)
@@ -64,7 +64,7 @@ module _ (x : Lent) where
   asked SelfReport h = λ w. absurd (w .0 refl)
   asked (Lookup a) h = looks a h (foundFor (x .host .settings) a) (entryAt (foundFor (x .host .settings) a) x)
 
-  works : (c : Call) → Holds (x .host .number) (x .run) → Unchanged c (work c x)
+  works : (c : Call) → Holds (x .number) (x .run) → Unchanged c (work c x)
   works (ask q) h = asked q h
   works (send i buffer) h =
       either (λ (s : Sending). Unchanged (send i buffer) (sentBy s buffer x))
@@ -100,7 +100,7 @@ module _ (x : Lent) where
     alone : (a b : Answer) → b ≡ a → refused b (receive i octets) x ≡ refused a (receive i octets) (relinked i (linkOf (x .host .links) i) x)
     alone a b e = ap (λ r. refused r (receive i octets) x) e ∙ same-link i (receive i octets) a
 
-    stored : Holds (x .host .number) (x .run) → (a : Answer) (f : Flight)
+    stored : Holds (x .number) (x .run) → (a : Answer) (f : Flight)
         → updatedBy (ends a (storing i (x .host) f)) octets x ≡ refused a (receive i octets) (relinked i (f .link) x)
     unfolding reading
     stored h a f = ended x h a (storing i (x .host) f) octets

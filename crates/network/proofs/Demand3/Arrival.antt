@@ -43,11 +43,10 @@ use Rattle.table.proofs.Cases.{stored, update-keeps}
 use Rattle.host.specs.declared.Settings.{Settings}
 use Rattle.host.specs.declared.Link.{Link}
 use Rattle.host.specs.declared.Links.{Links}
-use Rattle.host.specs.declared.Host.{Host}
 use Rattle.host.specs.declared.guard.Scope.the-variants.{OnLink}
 use Rattle.host.specs.Settings.{foundFor}
 use Rattle.host.specs.State.{broadcast, linkOf, withLink, hostCount}
-use Rattle.host.specs.Lent.{Lent, having}
+use Rattle.host.specs.Lent.{Host, Lent, host}
 use Rattle.host.proofs.Places.{Holds, entries-length}
 use Rattle.host.proofs.Guarded.{passed, holds}
 use Rattle.arrival.specs.declared.Flight.{Flight}
@@ -318,18 +317,18 @@ module _ (r : Room) (proper : Proper r) (ways : r .longest ≤ longestWay) (b i 
   Keeps e = RightOutcome r b run (updatedBy e (m .octets) (lentAt r b c l run))
 
   -- our host, which has read its clock
-  abbrev host : Host
-  host = having (reading c .clock) l (lentAt r b c l run .host)
+  abbrev seat : Host
+  seat = host (lentAt r b c l run .host .settings) (reading c .clock) l
 
   -- 5, with the link of that neighbour
   goes-on : (n : Address) → n ≡ r .settings a .address → otherLayout (r .settings b) p ≡ false → (d : Millis) (o : Word)
-      → Direct r proper b a hb (right .seat-in) (flight n d o) → Keeps (concluded host i p (on (flight n d o)))
+      → Direct r proper b a hb (right .seat-in) (flight n d o) → Keeps (concluded seat i p (on (flight n d o)))
   goes-on n neighbor ours d o direct =
-      step5-right r proper b a hb (right .seat-in) i c l run lent there (m .octets) (having (reading c .clock) (withLink i (touched n) l) host) refl (links-right n) p
+      step5-right r proper b a hb (right .seat-in) i c l run lent there (m .octets) (host (seat .settings) (reading c .clock) (withLink i (touched n) l)) refl (links-right n) p
       (flight n d o) direct neighbor (reports-read ours)
 
   -- 4
-  concluded-right : otherLayout (r .settings b) p ≡ false → Keeps (concluded host i p (steps2to4 false (reading c .clock .hold) p now (linkOf l i)))
+  concluded-right : otherLayout (r .settings b) p ≡ false → Keeps (concluded seat i p (steps2to4 false (reading c .clock .hold) p now (linkOf l i)))
   unfolding steps2to4 step2 step3 step4
   concluded-right ours =
       either Kept (not (sameAddress (p .source) (linkOf l i .neighbor))) _ _
@@ -337,14 +336,14 @@ module _ (r : Room) (proper : Proper r) (ways : r .longest ≤ longestWay) (b i 
       (λ t.
       either Kept (zeroWord (p .tsp) || not (eqb (reading c .clock .hold .0) 0)) _ _
       (λ _.
-      updated-right r b c l run lent there (ends DelayNotValid (having (reading c .clock) (withLink i (touched (linkOf l i .neighbor)) l) host)) (m .octets)
+      updated-right r b c l run lent there (ends DelayNotValid (host (seat .settings) (reading c .clock) (withLink i (touched (linkOf l i .neighbor)) l))) (m .octets)
       (links-right (linkOf l i .neighbor)) (λ id e y low high inside h. absurd (omega arith)))
       (λ u.
       goes-on (linkOf l i .neighbor) (sym (same-address (p .source) (linkOf l i .neighbor) (is-so _ t)) ∙ source-is) ours (delayOf now (p .tsp)) _
       (direct-right (neither (zeroWord (p .tsp)) _ u .0) (linkOf l i .neighbor))))
     where
       Kept : Stage Flight → Type 0
-      Kept x = Keeps (concluded host i p x)
+      Kept x = Keeps (concluded seat i p x)
 
   action-right : broadcast (r .settings b) i ≡ false → otherLayout (r .settings b) p ≡ false → Keeps (action (lentAt r b c l run .host) i p)
   action-right point ours = rw point (concluded-right ours)
@@ -361,7 +360,7 @@ action-timed h i p = go (steps2to4 (broadcast (h .settings) i) (reading (h .cloc
     fifth : (g : Host) (f : Flight) → T (timed (step5 g i p f .reply .answer))
     fifth g f = either (λ (e : Arrived). T (timed (e .reply .answer))) (eqb (p .nhosts) 0) _ _ (λ _. found g f (foundFor (g .settings) (f .link .neighbor))) (λ _. tt)
 
-    go : (x : Stage Flight) → T (timed (concluded (having (reading (h .clock) .clock) (h .links) h) i p x .reply .answer))
+    go : (x : Stage Flight) → T (timed (concluded (host (h .settings) (reading (h .clock) .clock) (h .links)) i p x .reply .answer))
     go (end f) = tt
     go (on f) = fifth _ f
 

@@ -28,9 +28,9 @@ use Rattle.network.proofs.Demand1.Frame.{kept-places}
 use Rattle.network.proofs.Demand3.Histories.{demand-3}
 
 -- a setting afresh that is answered 0 was lent all the places
-set-holds : (x : Lent) → perform (ask Initialize) x .reply .answer ≡ Done → Holds (x .host .number) (x .run)
+set-holds : (x : Lent) → perform (ask Initialize) x .reply .answer ≡ Done → Holds (x .number) (x .run)
 set-holds x =
-    performs (ask Initialize) x (λ (o : Outcome). o .reply .answer ≡ Done → Holds (x .host .number) (x .run))
+    performs (ask Initialize) x (λ (o : Outcome). o .reply .answer ≡ Done → Holds (x .number) (x .run))
     (λ d e. absurd (false≢true (sym d ∙ ap done e))) (λ d _. there (ask Initialize) x d)
 
 -- a run with all the places leaves them
@@ -43,7 +43,7 @@ module _ (r : Room) (proper : Proper r) where
   Tracks w = (a : ℕ) → a < r .seats → Holds (r .number a) (w .run) × (places (r .number a) (w .run) ≡ w .world .state (r .number a) .places)
 
   -- what a call keeps of the run
-  kept : (w : SharedWorld) (x : SharedStep) → Kept (eventOf r (w .world) (lent w x) .lent .host) (w .run) (result r (w .world) (lent w x) .run)
+  kept : (w : SharedWorld) (x : SharedStep) → Kept (r .settings (x .seat)) (r .number (x .seat)) (w .run) (result r (w .world) (lent w x) .run)
   kept w x = kept-places _ (eventOf r (w .world) (lent w x) .lent)
 
   step-tracks : (w : SharedWorld) (x : SharedStep) → x .seat < r .seats → Tracks w → Tracks (sharedStep r w x)
@@ -65,7 +65,7 @@ module _ (r : Room) (proper : Proper r) where
       other : eqb (r .number b) (r .number (x .seat)) ≡ false
           → places (r .number b) (result r (w .world) (lent w x) .run) ≡ w .world .state (r .number b) .places
       other e =
-          elsewhere (eventOf r (w .world) (lent w x) .lent .host) (r .number b) (λ same. eqb-false (r .number b) (r .number (x .seat)) e (sym same))
+          elsewhere (r .settings (x .seat)) (r .number (x .seat)) (r .number b) (λ same. eqb-false (r .number b) (r .number (x .seat)) e (sym same))
           (w .run) (result r (w .world) (lent w x) .run) (kept w x)
           ∙ t b hb .1
 
@@ -112,7 +112,7 @@ module _ (r : Room) (proper : Proper r) where
   abbrev first : ℕ → Lent
   first c = lentAt r c (r .clock c) (r .links c) (r .run c)
 
-  afresh-kept : (c : ℕ) → Kept (first c .host) (r .run c) (afresh r c .run)
+  afresh-kept : (c : ℕ) → Kept (r .settings c) (r .number c) (r .run c) (afresh r c .run)
   afresh-kept c = kept-places (ask Initialize) (first c)
 
   -- a seat's places, as its setting afresh left them, stay through the settings afresh of later seats
@@ -133,7 +133,7 @@ module _ (r : Room) (proper : Proper r) where
           record {
             same-length = k .same-length ∙ ap length e ∙ s .same-length;
             same-places =
-                elsewhere (first (suc c) .host) (r .number a) (λ d. differ d) (r .run (suc c)) (afresh r (suc c) .run) k
+                elsewhere (r .settings (suc c)) (r .number (suc c)) (r .number a) (λ d. differ d) (r .run (suc c)) (afresh r (suc c) .run) k
                 ∙ ap (places (r .number a)) e
                 ∙ s .same-places;
           }

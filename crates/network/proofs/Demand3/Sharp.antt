@@ -27,7 +27,7 @@ use Rattle.host.specs.declared.Links.{Links}
 use Rattle.host.specs.declared.guard.Scope.the-variants.{All}
 use Rattle.host.specs.Settings.{linkCount, settingsGood}
 use Rattle.host.specs.State.{freshLinks, placesPerHost, linkInRange, entries}
-use Rattle.host.specs.Lent.{Lent, lentInRange}
+use Rattle.host.specs.Lent.{Lent, lent, lentInRange}
 use Rattle.host.specs.Guard.{noPlaces, guard}
 use Rattle.host.specs.Reply.{plainly}
 use Rattle.host.proofs.Guarded.{holds}
@@ -88,7 +88,7 @@ unfolding opened
 else-good = refl
 
 abbrev lent0 : Clock → Lent
-lent0 c = record { host = record { settings = settings0; number = 0; clock = c; links = links0 }; run = table0 }
+lent0 c = lent settings0 0 c links0 table0
 
 guard-done : (c : Clock) → clockInRange c ≡ true → guard All (lent0 c) ≡ Done
 unfolding guard lentInRange
