@@ -12,7 +12,7 @@ use Rattle.table.specs.declared.Entry.{Entry}
 use Rattle.table.specs.Entry.{freshEntry}
 use Rattle.host.specs.declared.Settings.{Settings}
 use Rattle.host.specs.State.{placesPerHost, firstPlace, hostCount, entries}
-use Rattle.host.specs.Lent.{Host, Lent}
+use Rattle.host.specs.Lent.{Lent}
 use Rattle.calls.specs.Perform.{Call, perform}
 use Rattle.network.specs.Frame.{Kept}
 use Rattle.network.specs.Locality.{SameInput, Alike, Locality}
