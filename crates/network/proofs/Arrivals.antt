@@ -16,20 +16,17 @@ use Rattle.wire.specs.declared.Parsed.{Parsed}
 use Rattle.wire.specs.declared.Parsed.the-variants.{Good, Bad}
 use Rattle.wire.specs.Octets.{sameAddress}
 use Rattle.route.specs.declared.Found.{Found}
-use Rattle.route.specs.declared.Found.the-variants.{Host, Nothing}
-use Rattle.route.specs.Find.{find}
-use Rattle.table.specs.declared.Entry.{Entry}
-use Rattle.config.specs.declared.Settings.{Settings}
-use Rattle.config.specs.declared.Link.{Link}
-use Rattle.config.specs.declared.Links.{Links}
-use Rattle.config.specs.State.{broadcast, linkOf, withLink}
-use Rattle.config.specs.Guard.{keepAliveInterval}
+use Rattle.route.specs.declared.Found.the-variants.{Id, Nothing}
+use Rattle.host.specs.declared.Link.{Link}
+use Rattle.host.specs.Settings.{foundFor}
+use Rattle.host.specs.State.{keepAliveInterval, hostCount, broadcast, linkOf, withLink}
+use Rattle.host.specs.Lent.{Host, host}
 use Rattle.arrival.specs.declared.Flight.{Flight}
-use Rattle.arrival.specs.Steps.{step2, step3, measured, newNeighbor}
+use Rattle.arrival.specs.declared.Arrived.{Arrived}
+use Rattle.arrival.specs.Inspection.{inspect}
+use Rattle.arrival.specs.Steps.{step2, step3, measured, newNeighbor, neighborUpdate}
+use Rattle.arrival.specs.Arrival.{ends, updated, noTable, withTable, step5, concluded, action, inspected, arrival}
 use Rattle.arrival.proofs.Flights.{steps-cases}
-use Rattle.host.specs.Outcome.{Outcome, leaves}
-use Rattle.host.specs.Arrival.{noTable, withTable, step5, concluded, action}
-use Rattle.host.specs.Calls.{arrived}
 
 -- ---- addresses
 
@@ -59,39 +56,43 @@ flown-new : (b : Bool) (p : Packet) (c : Clock) (x : Link) → Flown c (newNeigh
 unfolding step3 step2
 flown-new b p c x = record { reading-is = refl; keep-alive-is = refl }
 
-module _ (s : Settings) (k : ℕ) (c : Clock) (l : Links) (run : List Entry) (i : ℕ) (octets : List ℕ) (P : Outcome → Type 0) where
-  -- the ways that an arrival which passed the guard can go
-  pub record Ways : Type 0 where
-    pub refused : (a : Answer) → P (leaves a c l run)
-    pub ended : (f : Flight) → Flown c f → f .link .neighbor ≡ linkOf l i .neighbor
-        → P (leaves DelayNotValid (reading c .clock) (withLink i (f .link) l) run)
-    pub unknown : (f : Flight) → Flown c f → P (leaves NoHost (reading c .clock) (withLink i (f .link) l) run)
-    pub one : (p : Packet) (f : Flight) (id : ℕ) → Flown c f
-        → P (noTable s k (reading c .clock) (withLink i (f .link) l) run i p f (Host id))
-    pub all : (p : Packet) (f : Flight) → Flown c f
-        → P (withTable s k (reading c .clock) (withLink i (f .link) l) run i octets p f)
+module _ (i : ℕ) (h : Host) where
+  -- the host with the link as a flight leaves it
+  abbrev pub storing : Flight → Host
+  storing f = host (h .settings) (reading (h .clock) .clock) (withLink i (f .link) (h .links))
 
-  module _ (ways : Ways) where
-    fifth : (p : Packet) (f : Flight) → Flown c f → P (step5 s k (reading c .clock) (withLink i (f .link) l) run i octets p f)
-    unfolding step5
-    fifth p f g = go (eqb (p .nhosts) 0) (find (s .address) (s .layout) (s .net) (f .link .neighbor))
-      where
-        go : (b : Bool) (h : Found)
-            → P (cond b (noTable s k (reading c .clock) (withLink i (f .link) l) run i p f h) (withTable s k (reading c .clock) (withLink i (f .link) l) run i octets p f))
-        go true Nothing = ways .unknown f g
-        go true (Host id) = ways .one p f id g
-        go false h = ways .all p f g
+  module _ (P : Arrived → Type 0) where
+    -- the ways that an arrival which passed the guard can go
+    pub record Ways : Type 0 where
+      pub refuses : (a : Answer) → P (ends a h)
+      pub ended : (f : Flight) → Flown (h .clock) f → f .link .neighbor ≡ linkOf (h .links) i .neighbor → P (ends DelayNotValid (storing f))
+      pub unknown : (f : Flight) → Flown (h .clock) f → P (ends NoHost (storing f))
+      pub one : (p : Packet) (f : Flight) (id : ℕ) → Flown (h .clock) f → P (updated (storing f) p (neighborUpdate i f) id 1 false)
+      pub all : (p : Packet) (f : Flight) → Flown (h .clock) f
+          → P (updated (storing f) p (neighborUpdate i f) 0 (hostCount (h .settings)) true)
 
-    acted : (p : Packet) → P (action s k c l run i octets p)
-    unfolding action step3 step2
-    acted p =
-        steps-cases (λ g. P (concluded s k (reading c .clock) l run i octets p g))
-        (broadcast s i) (reading c .clock .hold) p (reading c .time) (linkOf l i)
-        (λ b. fifth p _ (flown (broadcast s i) p c (linkOf l i)))
-        (λ b n. fifth p _ (flown-new (broadcast s i) p c (linkOf l i)))
-        (λ b n z. ways .ended _ (flown (broadcast s i) p c (linkOf l i)) refl)
-        (λ b n z. fifth p _ (flown (broadcast s i) p c (linkOf l i)))
+    module _ (ways : Ways) where
+      fifth : (p : Packet) (f : Flight) → Flown (h .clock) f → P (step5 (storing f) i p f)
+      fifth p f g = go (eqb (p .nhosts) 0) (foundFor (h .settings) (f .link .neighbor))
+        where
+          go : (b : Bool) (x : Found) → P (cond b (noTable (storing f) i p f x) (withTable (storing f) i p f))
+          go true Nothing = ways .unknown f g
+          go true (Id id) = ways .one p f id g
+          go false x = ways .all p f g
 
-    pub arrived-ways : (q : Parsed) → P (arrived s k c l run i octets q)
-    arrived-ways (Bad a) = ways .refused a
-    arrived-ways (Good p) = acted p
+      acted : (p : Packet) → P (action h i p)
+      unfolding step3 step2
+      acted p =
+          steps-cases (λ g. P (concluded (host (h .settings) (reading (h .clock) .clock) (h .links)) i p g))
+          (broadcast (h .settings) i) (reading (h .clock) .clock .hold) p (reading (h .clock) .time) (linkOf (h .links) i)
+          (λ b. fifth p _ (flown (broadcast (h .settings) i) p (h .clock) (linkOf (h .links) i)))
+          (λ b n. fifth p _ (flown-new (broadcast (h .settings) i) p (h .clock) (linkOf (h .links) i)))
+          (λ b n z. ways .ended _ (flown (broadcast (h .settings) i) p (h .clock) (linkOf (h .links) i)) refl)
+          (λ b n z. fifth p _ (flown (broadcast (h .settings) i) p (h .clock) (linkOf (h .links) i)))
+
+      pub arrival-ways : (octets : List ℕ) → P (arrival i octets h)
+      arrival-ways octets = go (inspect (h .settings) i octets)
+        where
+          go : (q : Parsed) → P (inspected h i q)
+          go (Bad a) = ways .refuses a
+          go (Good p) = acted p

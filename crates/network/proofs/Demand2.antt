@@ -5,9 +5,9 @@ use mathlib.Core.List.{List, [], _∷_, map}
 use Prim.Native.Nat.{ℕ, suc, _<_}
 use native.Mathlib.Omega.{arith}
 use borrow.Author.Tests.{eq-eqb}
-use lib.Dec.{eqb}
+use lib.Dec.{ltb, eqb}
 use lib.IntN.{_+ℤ_}
-use lib.ListN.{length, getD, length-map}
+use lib.ListN.{length, getD}
 use Rattle.laws.proofs.Tests.{either, both}
 use Rattle.quantity.specs.declared.Millis.{Millis}
 use Rattle.quantity.specs.declared.Word.{Word}
@@ -15,38 +15,38 @@ use Rattle.quantity.proofs.Ints.{to-≤ℤ, to-<ℤ}
 use Rattle.quantity.proofs.Wrap.{wrap-range}
 use Rattle.answer.specs.declared.Answer.{Answer}
 use Rattle.answer.specs.declared.Answer.the-variants.{Done, OtherLayout, LoopedLine}
-use Rattle.clock.specs.declared.Clock.{Clock}
+use Rattle.clock.specs.Midnight.{dayMillis}
 use Rattle.clock.specs.Clock.{reading}
 use Rattle.wire.specs.declared.Packet.{Packet}
 use Rattle.wire.specs.declared.Report.{Report}
 use Rattle.wire.specs.declared.Parsed.{Parsed}
 use Rattle.wire.specs.declared.Parsed.the-variants.{Good, Bad}
-use Rattle.wire.specs.Packet.{parse}
-use Rattle.wire.specs.Ranges.{SignedTwo, ReportFits, ReportsFit}
+use Rattle.wire.specs.Packet.{packetLength, parse}
+use Rattle.wire.specs.Ranges.{SignedTwo, Four, ReportFits, ReportsFit}
 use Rattle.wire.specs.ReadBack.{MessageFits, ReadBack}
 use Rattle.wire.proofs.ReadBack.{message-is-back}
 use Rattle.table.specs.declared.Entry.{Entry}
 use Rattle.table.specs.Forms.{every}
-use Rattle.table.specs.Entry.{freshEntry, advertised, entryInRange}
-use Rattle.table.proofs.Ranges.{range-says, reading-in}
-use Rattle.config.specs.declared.Settings.{Settings}
-use Rattle.config.specs.declared.Link.{Link}
-use Rattle.config.specs.declared.Links.{Links}
-use Rattle.config.specs.State.{linkOf, entries}
-use Rattle.config.specs.Guard.{done}
-use Rattle.config.proofs.Places.{entries-length}
-use Rattle.config.proofs.Sound.{sound}
-use Rattle.config.proofs.Guarded.{Passed, passed-link, holds}
-use Rattle.plan.specs.Message.{tableGoes, sentTsp, packetSent}
+use Rattle.table.specs.Entry.{freshEntry, advertised, upTo, entryInRange}
+use Rattle.table.proofs.Ranges.{within, range-says, reading-in}
+use Rattle.host.specs.declared.Settings.{Settings}
+use Rattle.host.specs.declared.Link.{Link}
+use Rattle.host.specs.declared.guard.Scope.the-variants.{OnLink}
+use Rattle.host.specs.State.{hostCount, linkOf}
+use Rattle.host.specs.Lent.{Lent, entriesOf}
+use Rattle.host.specs.Guard.{done}
+use Rattle.host.proofs.Places.{Holds}
+use Rattle.host.proofs.Sound.{sound}
+use Rattle.host.proofs.Guarded.{Passed, passed, holds, clock-lent, entries-lent}
+use Rattle.sending.specs.declared.Sending.{Sending}
+use Rattle.sending.specs.Message.{tableGoes, sentTsp, packetSent}
+use Rattle.sending.specs.Send.{reportCount, sends}
 use Rattle.arrival.specs.Inspection.{otherLayout, looped, inspected, inspect}
-use Rattle.host.specs.Outcome.{Outcome}
-use Rattle.host.specs.Send.{reports, sentMessage, sentOutcome}
-use Rattle.host.proofs.Judged.{clock-lent, entries-lent}
-use Rattle.host.proofs.Written.{four}
-use Rattle.network.specs.Call.{Call, perform, messageOf}
+use Rattle.calls.specs.Perform.{Call, Outcome, sentBy}
+use Rattle.network.specs.Left.{messageOf}
 use Rattle.network.specs.Heard.{Typed, Heard}
-use Rattle.network.proofs.Performs.{performs, sent-ways}
-use Rattle.network.proofs.Sends.{sent-message}
+use Rattle.network.proofs.Performs.{performs}
+use Rattle.network.proofs.Sends.{reports, reports-count, sent-message}
 
 -- ---- the fields fit their octets
 
@@ -73,41 +73,45 @@ tsp-fits x time =
     let w = wrap-range 16 (omega arith) (x .tsp .0 +ℤ time .0) in
     record { not-below = to-≤ℤ _ _ (omega arith); below = to-<ℤ _ _ (omega arith) })
 
+-- a time of the day
+time-fits : (m : Millis) → upTo dayMillis m ≡ true → Four (m .0)
+time-fits m e =
+    let w = within 86400000 (m .0) e in
+    record { not-below = to-≤ℤ _ (m .0) (omega arith); below = to-<ℤ (m .0) _ (omega arith) }
+
 -- ---- a send that was done
 
-module _ (s : Settings) (k : ℕ) (c : Clock) (l : Links) (run : List Entry) (i : ℕ) (buffer : List ℕ) (typed : Typed s k c l run i) (ok : Passed s k c l run) where
-  abbrev x : Link
-  x = linkOf l i
+module _ (i : ℕ) (buffer : List ℕ) (x : Lent) (typed : Typed x i) (ok : Passed (OnLink i) x) where
+  there : Holds (x .number) (x .run)
+  there = holds (x .number) (x .run) (ok .places)
 
-  abbrev es : List Entry
-  es = entries s k run
+  abbrev s : Settings
+  s = x .host .settings
+
+  abbrev l : Link
+  l = linkOf (x .host .links) i
 
   abbrev rs : List Report
-  rs = reports s i x es
+  rs = reports x there i
 
   abbrev p : Packet
-  p = packetSent s x (reading c .time) (reading c .clock .date) (length rs)
+  p = packetSent s l (reading (x .host .clock) .time) (reading (x .host .clock) .clock .date) (reportCount s l)
 
-  few : length es ≡ s .layout .nhosts
-  few = omega (arith, entries-length s k run (holds k run (ok .places-there)), sound s (ok .settings-good) .hosts-to)
-
-  fits : MessageFits (x .neighbor) p rs
+  fits : MessageFits (l .neighbor) p rs
   fits =
       record {
         destination-fits = typed .neighbor;
         source-fits = typed .address;
         packet-fits = record {
           date = typed .date;
-          time = four (reading c .time) (reading-in c (clock-lent s k c l run ok));
-          tsp = tsp-fits x (reading c .time);
+          time = time-fits (reading (x .host .clock) .time) (reading-in (x .host .clock) (clock-lent x (ok .lent refl)));
+          tsp = tsp-fits l (reading (x .host .clock) .time);
         };
         address-offset-fits = typed .address-offset;
-        nhosts-fits =
-            either (λ (q : List Report). length q < 256) (tableGoes s x) _ _
-            (λ _. omega (arith, length-map es (advertised i), few, sound s (ok .settings-good) .hosts-to)) (λ _. omega arith);
-        count = refl;
+        nhosts-fits = either (λ (n : ℕ). n < 256) (tableGoes s l) (hostCount s) 0 (λ _. omega arith) (λ _. omega arith);
+        count = sym (reports-count x there i);
         reports-fit =
-            either ReportsFit (tableGoes s x) _ _ (λ _. reports-fit i es (entries-lent s k c l run ok) (typed .offsets)) (λ _. tt);
+            either ReportsFit (tableGoes s l) _ _ (λ _. reports-fit i (entriesOf x) (entries-lent x (ok .lent refl)) (typed .offsets)) (λ _. tt);
       }
 
   ours : (t : Settings) → t .layout ≡ s .layout → otherLayout t p ≡ false
@@ -115,13 +119,11 @@ module _ (s : Settings) (k : ℕ) (c : Clock) (l : Links) (run : List Entry) (i 
   ours t same =
       rw same
       (either
-      (λ (q : List Report).
-      not (eqb (length q) 0)
-      && (not (eqb (length q) (s .layout .nhosts)) || not (eqb (s .layout .«address_offset») (s .layout .«address_offset»)))
-      ≡ false)
-      (tableGoes s x) _ _
+      (λ (n : ℕ). not (eqb n 0) && (not (eqb n (s .layout .nhosts)) || not (eqb (s .layout .«address_offset») (s .layout .«address_offset»))) ≡ false)
+      (tableGoes s l) (hostCount s) 0
       (λ _.
-      rw (eq-eqb _ _ (length-map es (advertised i) ∙ few), eq-eqb (s .layout .«address_offset») _ refl) (never (not (eqb (length (map (advertised i) es)) 0))))
+      let all : hostCount s ≡ s .layout .nhosts = omega (arith, sound s (ok .settings) .hosts-to) in
+      rw (eq-eqb (hostCount s) (s .layout .nhosts) all, eq-eqb (s .layout .«address_offset») _ refl) (never (not (eqb (hostCount s) 0))))
       (λ _. refl))
     where
       never : (b : Bool) → b && false ≡ false
@@ -130,14 +132,14 @@ module _ (s : Settings) (k : ℕ) (c : Clock) (l : Links) (run : List Entry) (i 
 
   -- what is left to refuse it
   left : (t : Settings) → t .layout ≡ s .layout → (j : ℕ) (a : Answer)
-      → inspect t j (messageOf (sentOutcome s k (reading c) l run i buffer)) ≡ Bad a → a ≡ LoopedLine
-  unfolding inspect sentMessage ReadBack
+      → inspect t j (messageOf (sentBy (sends i (x .host)) buffer x)) ≡ Bad a → a ≡ LoopedLine
+  unfolding inspect ReadBack
   left t same j a e = go (looped t j p) (sym read ∙ e)
     where
-      read : inspect t j (messageOf (sentOutcome s k (reading c) l run i buffer)) ≡ cond (looped t j p) (Bad LoopedLine) (Good p)
+      read : inspect t j (messageOf (sentBy (sends i (x .host)) buffer x)) ≡ cond (looped t j p) (Bad LoopedLine) (Good p)
       read =
-          ap (λ (o : List ℕ). inspected t j (parse o)) (sent-message s k (reading c) l run i buffer)
-          ∙ ap (inspected t j) (message-is-back (x .neighbor) p rs fits)
+          ap (λ (o : List ℕ). inspected t j (parse o)) (sent-message x there i buffer)
+          ∙ ap (inspected t j) (message-is-back (l .neighbor) p rs fits)
           ∙ ap (λ (b : Bool). cond b (Bad OtherLayout) (cond (looped t j p) (Bad LoopedLine) (Good p))) (ours t same)
 
       answer : Parsed → Answer
@@ -149,15 +151,17 @@ module _ (s : Settings) (k : ℕ) (c : Clock) (l : Links) (run : List Entry) (i 
       go false d = ap answer (sym d)
 
 -- what is claimed of a send that leaves this
-abbrev Claim : Settings → Outcome → Type 0
-Claim s o =
-    o .answer ≡ Done → (t : Settings) → t .layout ≡ s .layout → (j : ℕ) (a : Answer) → inspect t j (messageOf o) ≡ Bad a → a ≡ LoopedLine
+abbrev Claim : Lent → Outcome → Type 0
+Claim x o =
+    o .reply .answer ≡ Done → (t : Settings) → t .layout ≡ x .host .settings .layout → (j : ℕ) (a : Answer) → inspect t j (messageOf o) ≡ Bad a → a ≡ LoopedLine
 
 pub heard-holds : Heard
-unfolding Heard perform
-heard-holds s k c l run i buffer typed =
-    performs s k c l run (Claim s) (Call.sends i buffer)
+unfolding Heard
+heard-holds i buffer x typed =
+    performs (Call.send i buffer) x (Claim x)
     (λ refused is. absurd (true≢false (sym (ap done is) ∙ refused)))
-    (λ passed.
-    sent-ways s k c l run (Claim s) i buffer (λ is. absurd (false≢true (ap done is)))
-    (λ _. left s k c l run i buffer typed (passed-link s k c l run i passed .1)))
+    (λ e.
+    either (λ (p : Sending). Claim x (sentBy p buffer x))
+    (ltb (length buffer) (packetLength (reportCount (x .host .settings) (linkOf (x .host .links) i)))) _ _
+    (λ _ is. absurd (false≢true (ap done is)))
+    (λ _ _. left i buffer x typed (passed (OnLink i) x e)))

@@ -5,7 +5,7 @@ pub mod Seats
 pub mod Sending
 pub mod Arrival
 pub mod Histories
+pub mod Shared
 pub mod TwoSeats
 pub mod Alive
 pub mod Sharp
-pub mod Shared

@@ -8,18 +8,17 @@ use borrow.Author.Tests.{ltb-true, ltb-false}
 use lib.Dec.{ltb}
 use lib.ListN.{length, getD, take, drop, length-take, length-drop}
 use lib.Seq.{take-take, ext-getD, getD-take, getD-drop}
-use Rattle.clock.specs.declared.Clock.{Clock}
 use Rattle.table.specs.declared.Entry.{Entry}
 use Rattle.table.specs.Entry.{freshEntry}
-use Rattle.config.specs.declared.Settings.{Settings}
-use Rattle.config.specs.declared.Links.{Links}
-use Rattle.config.specs.State.{placesPerHost, firstPlace, hostCount, entries}
-use Rattle.network.specs.Call.{Call, perform}
+use Rattle.host.specs.declared.Settings.{Settings}
+use Rattle.host.specs.State.{placesPerHost, firstPlace, hostCount, entries}
+use Rattle.host.specs.Lent.{Lent}
+use Rattle.calls.specs.Perform.{Call, perform}
 use Rattle.network.specs.Frame.{Kept}
-use Rattle.network.specs.Locality.{SameInput}
+use Rattle.network.specs.Locality.{SameInput, Alike, Locality}
 use Rattle.network.specs.History.{places}
 use Rattle.network.proofs.Demand1.Frame.{kept-places}
-use Rattle.network.proofs.Demand1.Locality.{Twins, twins}
+use Rattle.network.proofs.Demand1.Locality.{locality-holds}
 
 -- the entries are the first of the places
 pub entries-first : (s : Settings) (k : ℕ) (run : List Entry) → entries s k run ≡ take (hostCount s) (places k run)
@@ -47,35 +46,46 @@ places-same k run r n each =
 pub elsewhere : (s : Settings) (j k : ℕ) → (j ≡ k → ⊥) → (before after : List Entry) → Kept s j before after
     → places k after ≡ places k before
 elsewhere s j k apart before after f =
-    places-same k after before (f .same-length) (λ i h. go i h (ltb (firstPlace k + i) (firstPlace j)) refl)
+    places-same k after before (f .same-length) (λ i l. go i l (ltb (firstPlace k + i) (firstPlace j)) refl)
   where
     go : (i : ℕ) → i < placesPerHost → (b : Bool) → ltb (firstPlace k + i) (firstPlace j) ≡ b
         → getD after (firstPlace k + i) freshEntry ≡ getD before (firstPlace k + i) freshEntry
-    go i h true e = f .in-front (firstPlace k + i) freshEntry (ltb-true _ _ e)
-    go i h false e =
+    go i l true e = f .in-front (firstPlace k + i) freshEntry (ltb-true _ _ e)
+    go i l false e =
         let low = ltb-false (firstPlace k + i) (firstPlace j) e in
         f .behind (firstPlace k + i) freshEntry (omega arith)
 
 -- a call at a number makes the same of the same places
-module _ (s : Settings) (k : ℕ) (c : Clock) (l : Links) (run run′ : List Entry) (x x′ : Call) (lengths : length run ≡ length run′)
-    (same : places k run ≡ places k run′) (inputs : SameInput x x′) where
-  abbrev left : List Entry
-  left = perform s k c l run x .run
+module _ (c d : Call) (x y : Lent) (inputs : SameInput c d) (alike : Alike x y) (same : places (x .number) (x .run) ≡ places (x .number) (y .run)) where
+  abbrev s : Settings
+  s = x .host .settings
 
-  abbrev left′ : List Entry
-  left′ = perform s k c l run′ x′ .run
+  abbrev k : ℕ
+  k = x .number
 
-  pub entries-same : entries s k run ≡ entries s k run′
-  entries-same = entries-first s k run ∙ ap (take (hostCount s)) same ∙ sym (entries-first s k run′)
+  abbrev now : List Entry
+  now = perform c x .run
 
-  kept : Kept s k run left
-  kept = kept-places s k c l run x
+  abbrev now′ : List Entry
+  now′ = perform d y .run
 
-  kept′ : Kept s k run′ left′
-  kept′ = kept-places s k c l run′ x′
+  kept : Kept (x .host .settings) (x .number) (x .run) now
+  kept = kept-places c x
 
-  pub alike : Twins s k (perform s k c l run x) (perform s k c l run′ x′)
-  alike = twins s k c l run run′ lengths entries-same inputs
+  kept′ : Kept (x .host .settings) (x .number) (y .run) now′
+  kept′ =
+      let f = kept-places d y in
+      record {
+        same-length = f .same-length;
+        in-front = λ i e h. f .in-front i e (rw (← alike .number-same) h);
+        behind = λ i e h. f .behind i e (rw (← alike .number-same, ← alike .settings-same) h);
+      }
+
+  entries-left : entries s k now ≡ entries s k now′
+  unfolding Locality
+  entries-left =
+      locality-holds c d x y inputs alike .left-alike .entries-same
+      ∙ sym (λ j. entries (alike .settings-same j) (alike .number-same j) now′)
 
   entry-at : (i : ℕ) (r : List Entry) → i < hostCount s → getD (entries s k r) i freshEntry ≡ getD r (firstPlace k + i) freshEntry
   unfolding entries
@@ -83,19 +93,17 @@ module _ (s : Settings) (k : ℕ) (c : Clock) (l : Links) (run run′ : List Ent
 
   -- its first NHOSTS by locality, the others as they were
   each : (i : ℕ) → i < placesPerHost → (b : Bool) → ltb i (hostCount s) ≡ b
-      → getD left (firstPlace k + i) freshEntry ≡ getD left′ (firstPlace k + i) freshEntry
+      → getD now (firstPlace k + i) freshEntry ≡ getD now′ (firstPlace k + i) freshEntry
   each i h true e =
-      sym (entry-at i left (ltb-true _ _ e))
-      ∙ ap (λ es. getD es i freshEntry) (alike .entries-same)
-      ∙ entry-at i left′ (ltb-true _ _ e)
+      sym (entry-at i now (ltb-true _ _ e)) ∙ ap (λ es. getD es i freshEntry) entries-left ∙ entry-at i now′ (ltb-true _ _ e)
   each i h false e =
       let far = ltb-false i (hostCount s) e in
       kept .behind (firstPlace k + i) freshEntry (omega arith)
-      ∙ sym (place-at k i run freshEntry h)
+      ∙ sym (place-at k i (x .run) freshEntry h)
       ∙ ap (λ es. getD es i freshEntry) same
-      ∙ place-at k i run′ freshEntry h
+      ∙ place-at k i (y .run) freshEntry h
       ∙ sym (kept′ .behind (firstPlace k + i) freshEntry (omega arith))
 
-  pub places-kept-same : places k left ≡ places k left′
+  pub places-kept-same : places k now ≡ places k now′
   places-kept-same =
-      places-same k left left′ (kept .same-length ∙ lengths ∙ sym (kept′ .same-length)) (λ i h. each i h (ltb i (hostCount s)) refl)
+      places-same k now now′ (kept .same-length ∙ alike .length-same ∙ sym (kept′ .same-length)) (λ i h. each i h (ltb i (hostCount s)) refl)

@@ -2,10 +2,12 @@ pub mod Lists
 pub mod Swept
 pub mod Performs
 pub mod Arrivals
+pub mod Written
 pub mod Sends
-pub mod HostPlaces
 pub mod Ranges
+pub mod HostPlaces
 pub mod Demand1
 pub mod Demand2
 pub mod Exchange
+pub mod Opened
 pub mod Demand3

@@ -1,10 +1,14 @@
 -- A predicate over the elements of a list, with their places. Nothing here knows of hosts.
-use mathlib.Core.Path.{_≡_, refl, subst}
-use mathlib.Core.Bool.{Bool, true}
-use mathlib.Core.List.{List, [], _∷_, map}
-use Prim.Native.Nat.{ℕ, zero, suc, _≤_}
+use mathlib.Core.Path.{_≡_, refl, sym, ap, subst, _∙_}
+use mathlib.Core.Bool.{Bool, true, false}
+use mathlib.Core.List.{List, [], _∷_, _++_, map}
+use Prim.Native.Nat.{ℕ, zero, suc, _+_, _-_, _≤_, _<_, min}
 use native.Mathlib.Omega.{arith}
-use lib.ListN.{getD, take, replicate, set}
+use borrow.Author.Tests.{ltb-true, ltb-false}
+use lib.Dec.{ltb}
+use lib.ListN.{length, getD, take, drop, set, length-append, length-take, length-drop, List·getD-append}
+use lib.Seq.{getD-take, getD-drop, getD-append-add}
+use Rattle.laws.specs.Lists.{part, over}
 use Rattle.laws.proofs.Tests.{both}
 use Rattle.table.specs.Forms.{every}
 
@@ -19,14 +23,11 @@ all-at P d h [] t i = h i
 all-at P d h (a ∷ l) t zero = t .0
 all-at P d h (a ∷ l) t (suc i) = all-at (λ j. P (suc j)) d (λ j. h (suc j)) l (t .1) i
 
-pub all-replicate : {A : Type 0} (P : ℕ → A → Type 0) (a : A) → ((i : ℕ) → P i a) → (n : ℕ) → All P (replicate n a)
-all-replicate P a h zero = tt
-all-replicate P a h (suc n) = (h 0, all-replicate (λ i. P (suc i)) a (λ i. h (suc i)) n)
-
-pub all-map : {A B : Type 0} (P : ℕ → A → Type 0) (Q : ℕ → B → Type 0) (f : A → B) → ((i : ℕ) (a : A) → P i a → Q i (f a))
-    → (l : List A) → All P l → All Q (map f l)
-all-map P Q f h [] t = tt
-all-map P Q f h (a ∷ l) t = (h 0 a (t .0), all-map (λ i. P (suc i)) (λ i. Q (suc i)) f (λ i. h (suc i)) l (t .1))
+pub all-map : {A B : Type 0} (P : ℕ → A → Type 0) (Q : ℕ → B → Type 0) (f : A → B) (l : List A)
+    → ((i : ℕ) (a : A) → i < length l → P i a → Q i (f a)) → All P l → All Q (map f l)
+all-map P Q f [] h t = tt
+all-map P Q f (a ∷ l) h t =
+    (h 0 a (omega arith) (t .0), all-map (λ i. P (suc i)) (λ i. Q (suc i)) f l (λ i b g. h (suc i) b (omega arith)) (t .1))
 
 pub all-set : {A : Type 0} (P : ℕ → A → Type 0) (i : ℕ) (a : A) → P i a → (l : List A) → All P l → All P (set l i a)
 all-set P i a p [] t = tt
@@ -65,3 +66,65 @@ all-every test (a ∷ l) t = rw (t .0, all-every test l (t .1))
 pub all-both : {A : Type 0} (P Q : ℕ → A → Type 0) (l : List A) → All P l → All Q l → All (λ (i : ℕ) (a : A). P i a × Q i a) l
 all-both P Q [] s t = tt
 all-both P Q (a ∷ l) s t = ((s .0, t .0), all-both (λ i. P (suc i)) (λ i. Q (suc i)) l (s .1) (t .1))
+
+-- ---- by places
+
+-- of the element at a place of the list, and back
+pub all-there : {A : Type 0} (P : ℕ → A → Type 0) (d : A) (l : List A) → All P l → (i : ℕ) → i < length l → P i (getD l i d)
+all-there P d [] t i h = absurd (omega arith)
+all-there P d (a ∷ l) t zero h = t .0
+all-there P d (a ∷ l) t (suc i) h = all-there (λ j. P (suc j)) d l (t .1) i (omega arith)
+
+pub all-of : {A : Type 0} (P : ℕ → A → Type 0) (d : A) (l : List A) → ((i : ℕ) → i < length l → P i (getD l i d)) → All P l
+all-of P d [] h = tt
+all-of P d (a ∷ l) h = (h 0 (omega arith), all-of (λ j. P (suc j)) d l (λ i g. h (suc i) (omega arith)))
+
+-- of a part of the list
+pub all-part : {A : Type 0} (P : ℕ → A → Type 0) (d : A) (k n : ℕ) (l : List A) → All P l → All (λ i. P (i + k)) (part k n l)
+all-part P d k n l t =
+    all-of (λ i. P (i + k)) d (part k n l)
+    (λ i h.
+    let s : length (part k n l) ≡ min n (length l - k) = length-take n (drop k l) ∙ ap (min n) (length-drop k l) in
+    let here : getD (part k n l) i d ≡ getD l (k + i) d = getD-take n (drop k l) i d (omega arith) ∙ getD-drop k l i d in
+    let comm : i + k ≡ k + i = omega arith in
+    rw (here, comm) (all-there P d l t (k + i) (omega arith)))
+
+-- of a list with another over a part of it
+module _ {A : Type 0} (k n : ℕ) (b r : List A) (same : length r ≡ length (part k n b)) where
+  part-size : length r ≡ min n (length b - k)
+  part-size = same ∙ length-take n (drop k b) ∙ ap (min n) (length-drop k b)
+
+  pub over-size : length (over b k r) ≡ length b
+  over-size = simp (length-append, length-take, length-drop) (omega (arith, part-size))
+
+  pub all-over : (P : ℕ → A → Type 0) (d : A) → All P b → All (λ i. P (i + k)) r → All P (over b k r)
+  all-over P d old new = all-of P d (over b k r) (λ i h. go i (omega (arith, over-size)) (ltb i k) (ltb i (k + length r)) refl refl)
+    where
+      front : (i : ℕ) → i < length b → i < k → getD (over b k r) i d ≡ getD b i d
+      front i h g =
+          List·getD-append (take k b ++ r) (drop (k + length r) b) d i (omega (arith, length-append (take k b) r, length-take k b))
+          ∙ List·getD-append (take k b) r d i (omega (arith, length-take k b))
+          ∙ getD-take k b i d g
+
+      go : (i : ℕ) → i < length b → (x y : Bool) → ltb i k ≡ x → ltb i (k + length r) ≡ y → P i (getD (over b k r) i d)
+      go i h true y e f = rw (front i h (ltb-true i k e)) (all-there P d b old i h)
+      go i h false true e f =
+          let low = ltb-false i k e in
+          let high = ltb-true i (k + length r) f in
+          let at : length (take k b) + (i - k) ≡ i = omega (arith, length-take k b) in
+          let here : getD (over b k r) i d ≡ getD r (i - k) d =
+          List·getD-append (take k b ++ r) (drop (k + length r) b) d i (omega (arith, length-append (take k b) r, length-take k b))
+          ∙ ap (λ j. getD (take k b ++ r) j d) (sym at)
+          ∙ getD-append-add (take k b) r (i - k) d in
+          let back : (i - k) + k ≡ i = omega arith in
+          rw here (subst (λ j. P j (getD r (i - k) d)) back (all-there (λ j. P (j + k)) d r new (i - k) (omega arith)))
+      go i h false false e f =
+          let high = ltb-false i (k + length r) f in
+          let at : length (take k b ++ r) + (i - (k + length r)) ≡ i = omega (arith, length-append (take k b) r, length-take k b, part-size) in
+          let back : k + length r + (i - (k + length r)) ≡ i = omega arith in
+          let here : getD (over b k r) i d ≡ getD b i d =
+          ap (λ j. getD (over b k r) j d) (sym at)
+          ∙ getD-append-add (take k b ++ r) (drop (k + length r) b) (i - (k + length r)) d
+          ∙ getD-drop (k + length r) b (i - (k + length r)) d
+          ∙ ap (λ j. getD b j d) back in
+          rw here (all-there P d b old i h)

@@ -5,7 +5,6 @@ use mathlib.Core.List.{List, map}
 use Prim.Native.Nat.{ℕ, _-_, _≤_}
 use native.Mathlib.Omega.{arith}
 use borrow.Author.Tests.{leb-true, le-leb}
-use lib.Dec.{eqb}
 use lib.ListN.{take, set}
 use lib.Seq.{getD-take, take-set-lt}
 use Rattle.laws.proofs.Tests.{either}
@@ -15,23 +14,24 @@ use Rattle.quantity.proofs.Ints.{up, dn, sum, lt-no}
 use Rattle.clock.specs.declared.Clock.{Clock}
 use Rattle.clock.specs.Midnight.{dayMillis}
 use Rattle.clock.specs.Clock.{clockInRange}
-use Rattle.wire.specs.declared.Packet.{Packet}
 use Rattle.wire.specs.Hello.{reportAt}
 use Rattle.table.specs.declared.Entry.{Entry}
 use Rattle.table.specs.declared.Update.{Update}
+use Rattle.table.specs.declared.run.Updates.{Updates}
 use Rattle.table.specs.Forms.{every}
 use Rattle.table.specs.Entry.{minDelay, upTo, entryInRange}
+use Rattle.table.specs.Runs.{updateAt, updatedAt}
 use Rattle.table.proofs.Ranges.{reading-in}
 use Rattle.table.proofs.Kept.{update-in-range, clock-in-range}
-use Rattle.config.specs.declared.Settings.{Settings}
-use Rattle.config.specs.declared.Link.{Link}
-use Rattle.config.specs.declared.Links.{Links}
-use Rattle.config.specs.State.{unset, freshLink, freshLinks, linkOf, withLink}
-use Rattle.config.specs.Guard.{linkCount, linkInRange}
-use Rattle.config.proofs.Guarded.{Counted}
-use Rattle.plan.specs.Message.{linkSent}
+use Rattle.host.specs.declared.Settings.{Settings}
+use Rattle.host.specs.declared.Link.{Link}
+use Rattle.host.specs.declared.Links.{Links}
+use Rattle.host.specs.Settings.{linkCount}
+use Rattle.host.specs.State.{unset, freshLink, freshLinks, linkOf, withLink, linkInRange}
+use Rattle.host.proofs.Guarded.{Counted}
+use Rattle.sending.specs.Message.{linkSent}
 use Rattle.arrival.specs.declared.Flight.{Flight}
-use Rattle.arrival.specs.Steps.{atLeastMin, neighborUpdate, reportUpdate, updateId}
+use Rattle.arrival.specs.Steps.{atLeastMin, neighborUpdate, reportUpdate}
 use Rattle.network.proofs.Arrivals.{Flown}
 use Rattle.network.proofs.Lists.{all-at, all-set, all-made, all-take, every-all, all-every}
 
@@ -92,10 +92,10 @@ module _ (s : Settings) (c : Clock) (i : ℕ) (f : Flight) (has : Counted s i) (
         reading-in = rw (flown .reading-is) (reading-in c clock);
       }
 
-module _ (s : Settings) (p : Packet) (u : Update) (id : ℕ) (c : Clock) (e : Entry) where
-  pub entry-in : Sane u → entryInRange e ≡ true → entryInRange (updateId s p u id c e .entry) ≡ true
-  entry-in good h =
-      update-in-range u (good .delay-low) (good .pid-high) (good .reading-in) (eqb id (s .«clock_host»)) (s .«hold_interval») (p .date) c e h
+-- the updates of an arrival
+module _ (w : Updates) (packet : List ℕ) (id : ℕ) (c : Clock) (e : Entry) where
+  pub entry-in : Sane (updateAt w (id - w .base) packet) → entryInRange e ≡ true → entryInRange (updatedAt w packet id c e .entry) ≡ true
+  entry-in good h = update-in-range _ (good .delay-low) (good .pid-high) (good .reading-in) _ (w .«hold_interval») (w .date) c e h
 
-  pub clock-in : s .«hold_interval» .0 ≤ 255 → clockInRange c ≡ true → clockInRange (updateId s p u id c e .clock) ≡ true
-  clock-in small = clock-in-range (eqb id (s .«clock_host»)) (s .«hold_interval») small (p .date) u c e
+  pub clock-in : w .«hold_interval» .0 ≤ 255 → clockInRange c ≡ true → clockInRange (updatedAt w packet id c e .clock) ≡ true
+  clock-in small = clock-in-range _ (w .«hold_interval») small (w .date) _ c e

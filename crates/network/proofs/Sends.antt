@@ -1,20 +1,57 @@
 -- A message is as long as a send answers, so that it is what stands in front in the buffer.
-use mathlib.Core.Path.{_≡_}
-use mathlib.Core.List.{List}
-use Prim.Native.Nat.{ℕ}
-use lib.ListN.{drop}
-use lib.Seq.{take-at}
-use Rattle.clock.specs.declared.Reading.{Reading}
+use mathlib.Core.Path.{_≡_, refl, ap, _∙_}
+use mathlib.Core.Bool.{Bool, true, false, cond}
+use mathlib.Core.List.{List, [], map}
+use Prim.Native.Nat.{ℕ, _-_}
+use native.Mathlib.Omega.{arith}
+use lib.ListN.{length, drop, length-map}
+use lib.Seq.{take-at, take-all}
+use Rattle.laws.specs.Lists.{part}
+use Rattle.clock.specs.Clock.{reading}
+use Rattle.wire.specs.declared.Report.{Report}
+use Rattle.wire.specs.Packet.{packetLength, message}
 use Rattle.wire.proofs.Messages.{message-length}
-use Rattle.table.specs.declared.Entry.{Entry}
-use Rattle.config.specs.declared.Settings.{Settings}
-use Rattle.config.specs.declared.Links.{Links}
-use Rattle.config.specs.State.{linkOf, entries}
-use Rattle.host.specs.Send.{sentMessage, sentLength, sentOutcome}
-use Rattle.network.specs.Call.{messageOf}
+use Rattle.table.specs.Entry.{advertised}
+use Rattle.host.specs.declared.Link.{Link}
+use Rattle.host.specs.State.{hostCount, linkOf}
+use Rattle.host.specs.Lent.{Lent, entriesOf}
+use Rattle.host.proofs.Places.{Holds, entries-length}
+use Rattle.sending.specs.Message.{tableGoes, packetSent}
+use Rattle.sending.specs.Send.{reportCount, sends}
+use Rattle.calls.specs.Perform.{sentBy}
+use Rattle.network.specs.Left.{messageOf}
 
--- the message of a send that is done
-pub sent-message : (s : Settings) (k : ℕ) (r : Reading) (l : Links) (run : List Entry) (i : ℕ) (buffer : List ℕ)
-    → messageOf (sentOutcome s k r l run i buffer) ≡ sentMessage s i (linkOf l i) (r .time) (r .clock .date) (entries s k run)
-unfolding sentMessage
-sent-message s k r l run i buffer = take-at _ (drop (sentLength s i (linkOf l i) (entries s k run)) buffer) _ (message-length _ _ _)
+module _ (x : Lent) (there : Holds (x .number) (x .run)) (i : ℕ) where
+  abbrev link : Link
+  link = linkOf (x .host .links) i
+
+  -- what is reported: the whole table, or nothing
+  abbrev pub reports : List Report
+  reports = cond (tableGoes (x .host .settings) link) (map (advertised i) (entriesOf x)) []
+
+  -- which are as many as the send counts
+  pub reports-are : map (advertised i) (part 0 (reportCount (x .host .settings) link - 0) (entriesOf x)) ≡ reports
+  reports-are = go (tableGoes (x .host .settings) link)
+    where
+      go : (b : Bool) → map (advertised i) (part 0 (cond b (hostCount (x .host .settings)) 0 - 0) (entriesOf x)) ≡ cond b (map (advertised i) (entriesOf x)) []
+      go true = ap (map (advertised i)) (take-all (hostCount (x .host .settings) - 0) (entriesOf x) (omega (arith, entries-length (x .host .settings) (x .number) (x .run) there)))
+      go false = refl
+
+  pub reports-count : length reports ≡ reportCount (x .host .settings) link
+  reports-count = go (tableGoes (x .host .settings) link)
+    where
+      go : (b : Bool) → length (cond b (map (advertised i) (entriesOf x)) []) ≡ cond b (hostCount (x .host .settings)) 0
+      go true = length-map (entriesOf x) (advertised i) ∙ entries-length (x .host .settings) (x .number) (x .run) there
+      go false = refl
+
+  -- the whole message; "destination NEIGHBOR-ADDRESS"
+  abbrev pub sentMessage : List ℕ
+  sentMessage =
+      message (link .neighbor)
+      (packetSent (x .host .settings) link (reading (x .host .clock) .time) (reading (x .host .clock) .clock .date) (reportCount (x .host .settings) link)) reports
+
+  pub sent-message : (buffer : List ℕ) → messageOf (sentBy (sends i (x .host)) buffer x) ≡ sentMessage
+  sent-message buffer =
+      rw reports-are
+      (take-at sentMessage (drop (packetLength (reportCount (x .host .settings) link)) buffer) (packetLength (reportCount (x .host .settings) link))
+      (message-length _ _ reports ∙ ap packetLength reports-count))

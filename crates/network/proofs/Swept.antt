@@ -1,19 +1,25 @@
--- A sweep over a table, over any predicate of good entries: it keeps what each update keeps.
-use mathlib.Core.Path.{_≡_}
-use mathlib.Core.List.{List, [], _∷_}
-use Prim.Native.Nat.{ℕ, suc, _+_, _<_}
+-- What a call makes of the host's entries: as many as there were, each kept as it was or changed by its rule; so it keeps what each rule keeps.
+use mathlib.Core.Path.{_≡_, ap, _∙_}
+use mathlib.Core.List.{List, [], _∷_, _++_, map, append-nil}
+use Prim.Native.Nat.{ℕ, suc, _+_, _-_, _≤_, _<_, min}
 use native.Mathlib.Omega.{arith}
-use borrow.Author.Tests.{eqb-true}
-use lib.Dec.{eqb}
-use lib.ListN.{length}
-use Rattle.laws.proofs.Tests.{either}
+use lib.ListN.{length, take, drop, length-map, length-take, length-drop, drop-of-length-le}
+use lib.Seq.{take-all}
+use Rattle.laws.specs.Lists.{part}
 use Rattle.clock.specs.declared.Clock.{Clock}
 use Rattle.table.specs.declared.Entry.{Entry}
 use Rattle.table.specs.declared.Updated.{Updated}
-use Rattle.table.specs.Sweep.{sweep, only}
-use Rattle.network.proofs.Lists.{All}
+use Rattle.table.specs.declared.run.Change.{Change}
+use Rattle.table.specs.declared.run.Changes.{Changes}
+use Rattle.table.specs.declared.run.Updates.{Updates}
+use Rattle.table.specs.Entry.{freshEntry}
+use Rattle.table.specs.Sweep.{sweep}
+use Rattle.table.specs.Runs.{changed, changes, updatedAt, updates}
+use Rattle.table.proofs.Sweeps.{sweep-length, sweep-clock}
+use Rattle.network.proofs.Lists.{All, all-map, all-part, over-size, all-over}
 
-pub sweep-keeps : (P : ℕ → Entry → Type 0) (n : ℕ) (f : ℕ → Clock → Entry → Updated) (c : Clock) (es : List Entry)
+-- a sweep, over any predicate of good entries
+sweep-keeps : (P : ℕ → Entry → Type 0) (n : ℕ) (f : ℕ → Clock → Entry → Updated) (c : Clock) (es : List Entry)
     → ((i : ℕ) (d : Clock) (e : Entry) → i < length es → P i e → P i (f (i + n) d e .entry))
     → All P es → All P (sweep n f c es .entries)
 unfolding sweep
@@ -25,11 +31,60 @@ sweep-keeps P n f c (e ∷ es) h t =
           (λ i d x l p. let next : suc i + n ≡ i + suc n = omega arith in rw next at (h (suc i) d x (omega arith) p)) (t .1),
     )
 
--- the sweep of one id alone
-pub only-keeps : (P : ℕ → Entry → Type 0) (id : ℕ) (f : Clock → Entry → Updated) → ((c : Clock) (e : Entry) → P id e → P id (f c e .entry))
-    → (c : Clock) (es : List Entry) → All P es → All P (sweep 0 (only id f) c es .entries)
-only-keeps P id f h c es =
-    sweep-keeps P 0 (only id f) c es
-    (λ i d e l p.
-    either (λ (u : Updated). P i (u .entry)) (eqb (i + 0) id) _ _
-    (λ t. let same : id ≡ i = omega (arith, eqb-true (i + 0) id t) in rw same at (h d e (rw (← same) at p))) (λ t. p))
+part-short : (k n : ℕ) (es : List Entry) → length (part k n es) ≤ n
+part-short k n es = omega (arith, length-take n (drop k es))
+
+module _ (w : Changes) (es : List Entry) where
+  abbrev touched : List Entry
+  touched = part (w .first) (w .end - w .first) es
+
+  pub changes-length : length (changes w es) ≡ length es
+  unfolding changes
+  changes-length = over-size (w .first) (w .end - w .first) es _ (length-map touched (changed (w .change)))
+
+  pub changes-keep : (P : ℕ → Entry → Type 0)
+      → ((id : ℕ) (e : Entry) → w .first ≤ id → id < w .end → P id e → P id (changed (w .change) e))
+      → All P es → All P (changes w es)
+  unfolding changes
+  changes-keep P h t =
+      all-over (w .first) (w .end - w .first) es _ (length-map touched (changed (w .change))) P freshEntry t
+      (all-map (λ i. P (i + w .first)) (λ i. P (i + w .first)) (changed (w .change)) touched
+      (λ i e g p. h (i + w .first) e (omega arith) (omega (arith, part-short (w .first) (w .end - w .first) es)) p)
+      (all-part P freshEntry (w .first) (w .end - w .first) es t))
+
+-- a change of every entry
+pub changes-each : (n : ℕ) (change : Change) (es : List Entry) → length es ≤ n
+    → changes record { first = 0; end = n; change = change } es ≡ map (changed change) es
+unfolding changes
+changes-each n change es h =
+    let all : take (n - 0) es ≡ es = take-all (n - 0) es (omega arith) in
+    let past : length es ≤ 0 + length (map (changed change) es) = omega (arith, length-map es (changed change)) in
+    ap (λ l. map (changed change) l ++ drop (0 + length (map (changed change) l)) es) all
+    ∙ ap (λ l. map (changed change) es ++ l) (drop-of-length-le es past)
+    ∙ append-nil (map (changed change) es)
+
+module _ (w : Updates) (packet : List ℕ) (es : List Entry) where
+  abbrev updated : List Entry
+  updated = part (w .first) (w .end - w .first) es
+
+  pub updates-length : length (updates w packet es .entries) ≡ length es
+  unfolding updates
+  updates-length = over-size (w .first) (w .end - w .first) es _ (sweep-length (w .first) (updatedAt w packet) (w .clock) updated)
+
+  pub updates-keep : (P : ℕ → Entry → Type 0)
+      → ((id : ℕ) (c : Clock) (e : Entry) → w .first ≤ id → id < w .end → id < length es → P id e → P id (updatedAt w packet id c e .entry))
+      → All P es → All P (updates w packet es .entries)
+  unfolding updates
+  updates-keep P h t =
+      all-over (w .first) (w .end - w .first) es _ (sweep-length (w .first) (updatedAt w packet) (w .clock) updated) P freshEntry t
+      (sweep-keeps (λ i. P (i + w .first)) (w .first) (updatedAt w packet) (w .clock) updated
+      (λ i d e g p.
+      let size : length updated ≡ min (w .end - w .first) (length es - w .first) =
+      length-take (w .end - w .first) (drop (w .first) es) ∙ ap (min (w .end - w .first)) (length-drop (w .first) es) in
+      h (i + w .first) d e (omega arith) (omega arith) (omega arith) p)
+      (all-part P freshEntry (w .first) (w .end - w .first) es t))
+
+  pub updates-clock : (P : Clock → Type 0) → ((id : ℕ) (c : Clock) (e : Entry) → P c → P (updatedAt w packet id c e .clock))
+      → P (w .clock) → P (updates w packet es .clock)
+  unfolding updates
+  updates-clock P h p = sweep-clock P (updatedAt w packet) h (w .first) (w .clock) updated p

@@ -2,35 +2,34 @@
 -- For each call, its answers with their conditions, in that order; the call gives the first whose condition holds, and 0 where none does.
 use mathlib.Core.Path.{_≡_}
 use mathlib.Core.Bool.{Bool, false, cond, not, _&&_, _||_}
-use mathlib.Core.List.{List, [], _∷_, _++_}
+use mathlib.Core.List.{List, [], _∷_}
 use Prim.Native.Nat.{ℕ}
 use lib.Dec.{ltb, eqb}
 use lib.ListN.{length, getD}
 use Rattle.quantity.specs.Words.{zeroWord}
 use Rattle.answer.specs.declared.Answer.{Answer}
 use Rattle.answer.specs.declared.Answer.the-variants.{Done, Setting, ShortBuffer, IpForm, IpChecksum, Protocol, HelloForm, HelloChecksum, OtherLayout, LoopedLine, DelayNotValid, NoHost, OutOfRange, HostDown}
-use Rattle.clock.specs.declared.Clock.{Clock}
 use Rattle.clock.specs.Clock.{reading}
 use Rattle.wire.specs.declared.Address.{Address}
 use Rattle.wire.specs.declared.Packet.{Packet}
 use Rattle.wire.specs.Octets.{sameAddress}
 use Rattle.wire.specs.Ip.{ipForm, ipChecksum, protocol}
 use Rattle.wire.specs.Hello.{helloForm, helloChecksum}
-use Rattle.wire.specs.Packet.{helloOf, fields}
+use Rattle.wire.specs.Packet.{helloOf, fields, packetLength}
 use Rattle.route.specs.declared.Found.{Found}
-use Rattle.route.specs.declared.Found.the-variants.{Host, Nothing}
-use Rattle.route.specs.Find.{isHost, find}
+use Rattle.route.specs.declared.Found.the-variants.{Id, Nothing}
+use Rattle.route.specs.Find.{isFound}
 use Rattle.table.specs.declared.Entry.{Entry}
 use Rattle.table.specs.Entry.{freshEntry, up}
-use Rattle.config.specs.declared.Settings.{Settings}
-use Rattle.config.specs.declared.Link.{Link}
-use Rattle.config.specs.declared.Links.{Links}
-use Rattle.config.specs.Settings.{settingsGood}
-use Rattle.config.specs.State.{broadcast, linkOf, entries}
-use Rattle.config.specs.Guard.{noPlaces, noLink, lentInRange}
-use Rattle.host.specs.Send.{sentLength}
+use Rattle.host.specs.Settings.{settingsGood, foundFor}
+use Rattle.host.specs.State.{broadcast, linkOf}
+use Rattle.host.specs.Lent.{Host, Lent, entriesOf}
+use Rattle.host.specs.Guard.{outOfRange}
+use Rattle.sending.specs.Send.{reportCount}
 use Rattle.arrival.specs.Inspection.{otherLayout, looped}
-use Rattle.network.specs.Call.{Call, initializes, ticks, adjusts, sets, reads, seconds, sends, arrives, reports, looksUp, perform}
+use Rattle.calls.specs.declared.Request.{Request}
+use Rattle.calls.specs.declared.Request.the-variants.{Initialize, Tick, Adjust, Set, Read, Second, SelfReport, Lookup}
+use Rattle.calls.specs.Perform.{Call, ask, send, receive, scopeOfCall, perform}
 
 -- an answer and its condition
 pub record Test : Type 0 where
@@ -46,72 +45,66 @@ firstOf (t ∷ ts) = cond (t .holds) (t .answer) (firstOf ts)
 
 -- ---- conditions
 
--- 12
-abbrev pub badlyLent : Settings → (number : ℕ) → Clock → Links → List Entry → Bool
-badlyLent s k c l run = noPlaces k run || not (lentInRange s k c l run)
-
--- 1
-abbrev pub badlySet : Settings → Bool
-badlySet s = not (settingsGood s)
-
--- 12 and 1, of a call that names no link, and of one that does
-abbrev pub guardTests : Settings → (number : ℕ) → Clock → Links → List Entry → List Test
-guardTests s k c l run = on OutOfRange (badlyLent s k c l run) ∷ on Setting (badlySet s) ∷ []
-
-abbrev pub linkTests : Settings → (number : ℕ) → Clock → Links → List Entry → (link : ℕ) → List Test
-linkTests s k c l run i = on OutOfRange (noLink s i || badlyLent s k c l run) ∷ on Setting (badlySet s) ∷ []
-
 -- 10: on a point-to-point link, a known neighbour, and a packet TSP of 0 or HOLD not 0
-abbrev pub delayInvalid : Settings → Clock → Link → (link : ℕ) → Packet → Bool
-delayInvalid s c x i p =
-    not (broadcast s i) && sameAddress (p .source) (x .neighbor)
-    && (zeroWord (p .tsp) || not (eqb (reading c .clock .hold .0) 0))
+abbrev pub delayInvalid : Host → (link : ℕ) → Packet → Bool
+delayInvalid h i p =
+    not (broadcast (h .settings) i) && sameAddress (p .source) (linkOf (h .links) i .neighbor)
+    && (zeroWord (p .tsp) || not (eqb (reading (h .clock) .clock .hold .0) 0))
 
 -- the neighbour after step 4
-abbrev pub neighborNow : Settings → Link → (link : ℕ) → Packet → Address
-neighborNow s x i p = cond (broadcast s i) (x .neighbor) (p .source)
+abbrev pub neighborNow : Host → (link : ℕ) → Packet → Address
+neighborNow h i p = cond (broadcast (h .settings) i) (linkOf (h .links) i .neighbor) (p .source)
 
 -- 11 at an arrival: no table, and no id for the neighbour
-abbrev pub neighborUnknown : Settings → Link → (link : ℕ) → Packet → Bool
-neighborUnknown s x i p =
-    eqb (p .nhosts) 0 && not (isHost (find (s .address) (s .layout) (s .net) (neighborNow s x i p)))
+abbrev pub neighborUnknown : Host → (link : ℕ) → Packet → Bool
+neighborUnknown h i p = eqb (p .nhosts) 0 && not (isFound (foundFor (h .settings) (neighborNow h i p)))
 
 -- 13: an id is found, and its entry is down
 abbrev pub hostDown : List Entry → Found → Bool
 hostDown es Nothing = false
-hostDown es (Host id) = not (up (getD es id freshEntry))
+hostDown es (Id id) = not (up (getD es id freshEntry))
 
--- ---- the tests of each call
+-- ---- the tests of each call, behind 12 and 1
 
-unfoldable pub tests : Settings → (number : ℕ) → Clock → Links → List Entry → Call → List Test
-tests s k c l run initializes = on OutOfRange (noPlaces k run) ∷ on Setting (badlySet s) ∷ []
-tests s k c l run ticks = guardTests s k c l run
-tests s k c l run adjusts = guardTests s k c l run
-tests s k c l run (sets ms) = guardTests s k c l run
-tests s k c l run reads = guardTests s k c l run
-tests s k c l run seconds = guardTests s k c l run
-tests s k c l run (sends i buffer) =
-    linkTests s k c l run i ++ on ShortBuffer (ltb (length buffer) (sentLength s i (linkOf l i) (entries s k run))) ∷ []
-tests s k c l run (arrives i octets) =
-    linkTests s k c l run i
-    ++ on IpForm (not (ipForm octets))
+abbrev pub requestTests : Request → Lent → List Test
+requestTests Initialize x = []
+requestTests Tick x = []
+requestTests Adjust x = []
+requestTests (Set ms) x = []
+requestTests Read x = []
+requestTests Second x = []
+requestTests SelfReport x = []
+requestTests (Lookup a) x =
+    on NoHost (not (isFound (foundFor (x .host .settings) a)))
+    ∷ on HostDown (hostDown (entriesOf x) (foundFor (x .host .settings) a))
+    ∷ []
+
+abbrev pub sendTests : (link : ℕ) (buffer : List ℕ) → Host → List Test
+sendTests i buffer h =
+    on ShortBuffer (ltb (length buffer) (packetLength (reportCount (h .settings) (linkOf (h .links) i)))) ∷ []
+
+abbrev pub arrivalTests : (link : ℕ) (octets : List ℕ) → Host → List Test
+arrivalTests i octets h =
+    on IpForm (not (ipForm octets))
     ∷ on IpChecksum (not (ipChecksum octets))
     ∷ on Protocol (not (protocol octets))
     ∷ on HelloForm (not (helloForm (helloOf octets)))
     ∷ on HelloChecksum (not (helloChecksum (helloOf octets)))
-    ∷ on OtherLayout (otherLayout s (fields octets))
-    ∷ on LoopedLine (looped s i (fields octets))
-    ∷ on DelayNotValid (delayInvalid s c (linkOf l i) i (fields octets))
-    ∷ on NoHost (neighborUnknown s (linkOf l i) i (fields octets))
-    ∷ []
-tests s k c l run reports = guardTests s k c l run
-tests s k c l run (looksUp a) =
-    guardTests s k c l run
-    ++ on NoHost (not (isHost (find (s .address) (s .layout) (s .net) a)))
-    ∷ on HostDown (hostDown (entries s k run) (find (s .address) (s .layout) (s .net) a))
+    ∷ on OtherLayout (otherLayout (h .settings) (fields octets))
+    ∷ on LoopedLine (looped (h .settings) i (fields octets))
+    ∷ on DelayNotValid (delayInvalid h i (fields octets))
+    ∷ on NoHost (neighborUnknown h i (fields octets))
     ∷ []
 
+abbrev pub ownTests : Call → Lent → List Test
+ownTests (ask q) x = requestTests q x
+ownTests (send i buffer) x = sendTests i buffer (x .host)
+ownTests (receive i packet) x = arrivalTests i packet (x .host)
+
+-- 12, by how much the call tests, and 1
+abbrev pub tests : Call → Lent → List Test
+tests c x =
+    on OutOfRange (outOfRange (scopeOfCall c) x) ∷ on Setting (not (settingsGood (x .host .settings))) ∷ ownTests c x
+
 unfoldable pub Answers : Type 0
-Answers =
-    (s : Settings) (k : ℕ) (c : Clock) (l : Links) (run : List Entry) (x : Call)
-    → perform s k c l run x .answer ≡ firstOf (tests s k c l run x)
+Answers = (c : Call) (x : Lent) → perform c x .reply .answer ≡ firstOf (tests c x)

@@ -14,12 +14,13 @@ use Rattle.clock.specs.Midnight.{dayMillis}
 use Rattle.clock.specs.Clock.{reading}
 use Rattle.table.specs.declared.Entry.{Entry}
 use Rattle.table.specs.Entry.{freshEntry, up}
-use Rattle.config.specs.declared.Links.{Links}
-use Rattle.config.specs.Guard.{done}
-use Rattle.host.specs.Outcome.{Outcome}
-use Rattle.network.specs.Call.{Call, messageOf}
-use Rattle.network.specs.History.{Event, State, leftBy, Lends, outcome, after}
-use Rattle.network.specs.Room.{longestWay, errorParts, delayParts, Room, at, afresh, HostAt, Proper}
+use Rattle.host.specs.declared.Links.{Links}
+use Rattle.host.specs.Guard.{done}
+use Rattle.calls.specs.declared.Request.the-variants.{Tick, Second, SelfReport}
+use Rattle.calls.specs.Perform.{Call, ask, send, receive, Outcome}
+use Rattle.network.specs.Left.{messageOf}
+use Rattle.network.specs.History.{Event, State, Left, leftBy, Lends, outcome, after}
+use Rattle.network.specs.Room.{longestWay, errorParts, delayParts, Room, at, lentAt, afresh, HostAt, Proper}
 
 -- ---- the calls of the list
 
@@ -32,11 +33,11 @@ pub data RoomCall : Type 0 where
   arrives : (link : ℕ) (packet : List ℕ) (ms : ℤ) → RoomCall
 
 abbrev pub callOf : RoomCall → Call
-callOf ticks = Call.ticks
-callOf seconds = Call.seconds
-callOf reports = Call.reports
-callOf (sends i buffer t) = Call.sends i buffer
-callOf (arrives i packet t) = Call.arrives i packet
+callOf ticks = ask Tick
+callOf seconds = ask Second
+callOf reports = ask SelfReport
+callOf (sends i buffer t) = send i buffer
+callOf (arrives i packet t) = receive i packet
 
 -- a call at a seat, with the links and the run that it is lent
 pub record Step : Type 0 where
@@ -44,17 +45,6 @@ pub record Step : Type 0 where
   pub links : Links
   pub run : List Entry
   pub call : RoomCall
-
--- "Each call gets its seat's settings"
-abbrev pub eventOf : Room → Step → Event
-eventOf r x =
-    record {
-      number = r .number (x .seat);
-      settings = r .settings (x .seat);
-      links = x .links;
-      run = x .run;
-      call = callOf (x .call);
-    }
 
 -- ---- the room after a list of calls
 
@@ -70,8 +60,17 @@ pub record World : Type 0 where
   pub state : State
   pub mail : List Message
 
+-- what is left at a seat
+abbrev pub leftAt : Room → World → (seat : ℕ) → Left
+leftAt r w a = w .state (r .number a)
+
+-- "Each call gets its seat's settings, and the clock .. as that seat's last call left" it, and is lent these links and this run.
+abbrev pub eventOf : Room → World → Step → Event
+eventOf r w x =
+    record { call = callOf (x .call); lent = lentAt r (x .seat) (leftAt r w (x .seat) .clock) (x .links) (x .run) }
+
 abbrev pub result : Room → World → Step → Outcome
-result r w x = outcome (w .state) (eventOf r x)
+result r w x = outcome (eventOf r w x)
 
 -- the mail after a call that left this
 abbrev pub mailAfter : (seat : ℕ) → Outcome → RoomCall → List Message → List Message
@@ -79,12 +78,12 @@ mailAfter a o ticks mail = mail
 mailAfter a o seconds mail = mail
 mailAfter a o reports mail = mail
 mailAfter a o (sends i buffer t) mail =
-    cond (done (o .answer)) (record { seat = a; link = i; ms = t; octets = messageOf o } ∷ mail) mail
+    cond (done (o .reply .answer)) (record { seat = a; link = i; ms = t; octets = messageOf o } ∷ mail) mail
 mailAfter a o (arrives i packet t) mail = mail
 
 unfoldable pub step : Room → World → Step → World
 step r w x =
-    record { state = after (w .state) (eventOf r x); mail = mailAfter (x .seat) (result r w x) (x .call) (w .mail) }
+    record { state = after (w .state) (eventOf r w x); mail = mailAfter (x .seat) (result r w x) (x .call) (w .mail) }
 
 unfoldable pub history : Room → World → List Step → World
 history r w [] = w
@@ -94,8 +93,8 @@ history r w (x ∷ xs) = history r (step r w x) xs
 
 -- "Our reading in that call is this number plus the seat's fixed number, and is below 86,400,000."
 pub record Reads (r : Room) (w : World) (a : ℕ) (t : ℤ) : Type 0 where
-  pub clock : reading (w .state (r .number a) .clock) .time .0 ≡ t +ℤ r .fixed a
-  pub no-midnight : reading (w .state (r .number a) .clock) .time .0 <ℤ dayMillis .0
+  pub clock : reading (leftAt r w a .clock) .time .0 ≡ t +ℤ r .fixed a
+  pub no-midnight : reading (leftAt r w a .clock) .time .0 <ℤ dayMillis .0
 
 -- "each arrival answered 0, 10 or 11, has a whole number, the room's millisecond"
 abbrev pub timed : Answer → Bool
@@ -121,13 +120,13 @@ abbrev pub Timely : Room → World → (seat : ℕ) → Outcome → RoomCall →
 Timely r w a o ticks = Unit {0}
 Timely r w a o seconds = Unit {0}
 Timely r w a o reports = Unit {0}
-Timely r w a o (sends i buffer t) = o .answer ≡ Done → Reads r w a t
-Timely r w a o (arrives i packet t) = Delivered r w a i packet t (o .answer)
+Timely r w a o (sends i buffer t) = o .reply .answer ≡ Done → Reads r w a t
+Timely r w a o (arrives i packet t) = Delivered r w a i packet t (o .reply .answer)
 
 pub record Allowed (r : Room) (w : World) (x : Step) : Type 0 where
   pub seat-in : x .seat < r .seats
   -- "Each call gets .. the clock, links and entries as that seat's last call left them": "An entry here is one of a seat's first NHOSTS."
-  pub lends : Lends (r .number (x .seat)) (w .state (r .number (x .seat))) (eventOf r x)
+  pub lends : Lends (leftAt r w (x .seat)) (eventOf r w x .lent)
   pub timely : Timely r w (x .seat) (result r w x) (x .call)
 
 -- each call of a list is allowed in the world that those before it made
@@ -139,12 +138,12 @@ Allows r w (x ∷ xs) = Allowed r w x × Allows r (step r w x) xs
 
 -- "setting each afresh gave 0; the list starts there", with nothing sent
 pub record Starts (r : Room) (w : World) : Type 0 where
-  pub set-afresh : (a : ℕ) → a < r .seats → w .state (r .number a) ≡ leftBy (r .number a) [] (afresh r a)
+  pub set-afresh : (a : ℕ) → a < r .seats → leftAt r w a ≡ leftBy (r .number a) [] (afresh r a)
   pub no-mail : w .mail ≡ []
 
 -- the entry of id i in the table of seat b
 abbrev pub entryOf : Room → World → (b i : ℕ) → Entry
-entryOf r w b i = getD (w .state (r .number b) .places) i freshEntry
+entryOf r w b i = getD (leftAt r w b .places) i freshEntry
 
 -- The entry "is for a host at one of these seats. Its offset differs from the true difference, the fixed number of that seat less that of the table's seat, by at most 101/200 of the delay."
 pub record Right (r : Room) (b i : ℕ) (e : Entry) : Type 0 where

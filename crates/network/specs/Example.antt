@@ -8,7 +8,7 @@ use lib.ListN.{replicate}
 use Rattle.quantity.specs.Quantity.{millis, toUnits}
 use Rattle.quantity.specs.Words.{word}
 use Rattle.table.specs.declared.Entry.{Entry}
-use Rattle.network.specs.Call.{messageOf}
+use Rattle.network.specs.Left.{messageOf}
 use Rattle.network.specs.Room.{longestWay, Room, Proper}
 use Rattle.network.specs.Demand3.{ticks, reports, sends, arrives, Step, World, result, step, history, Allows, Starts, entryOf}
 use Rattle.network.specs.TwoSeats.{pair, begun, call}

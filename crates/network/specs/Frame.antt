@@ -4,15 +4,15 @@ use mathlib.Core.Path.{_≡_}
 use mathlib.Core.List.{List}
 use Prim.Native.Nat.{ℕ, _+_, _≤_, _<_}
 use lib.ListN.{length, getD, drop}
-use Rattle.clock.specs.declared.Clock.{Clock}
 use Rattle.table.specs.declared.Entry.{Entry}
-use Rattle.config.specs.declared.Settings.{Settings}
-use Rattle.config.specs.declared.Link.{Link}
-use Rattle.config.specs.declared.Links.{Links}
-use Rattle.config.specs.State.{firstPlace, hostCount}
-use Rattle.config.specs.Guard.{linkCount}
-use Rattle.host.specs.Outcome.{Outcome}
-use Rattle.network.specs.Call.{Call, initializes, perform}
+use Rattle.host.specs.declared.Settings.{Settings}
+use Rattle.host.specs.declared.Link.{Link}
+use Rattle.host.specs.declared.Links.{Links}
+use Rattle.host.specs.Settings.{linkCount}
+use Rattle.host.specs.State.{firstPlace, hostCount}
+use Rattle.host.specs.Lent.{Lent}
+use Rattle.calls.specs.declared.Request.the-variants.{Initialize}
+use Rattle.calls.specs.Perform.{Call, ask, Outcome, perform}
 
 pub record Kept (s : Settings) (k : ℕ) (before after : List Entry) : Type 0 where
   pub same-length : length after ≡ length before
@@ -23,11 +23,9 @@ pub record Kept (s : Settings) (k : ℕ) (before after : List Entry) : Type 0 wh
 abbrev pub spareLinks : Settings → Links → List Link
 spareLinks s l = drop (linkCount s) (l .all)
 
-pub record Framed (s : Settings) (k : ℕ) (l : Links) (run : List Entry) (x : Call) (o : Outcome) : Type 0 where
-  pub places : Kept s k run (o .run)
-  pub spare : (x ≡ initializes → ⊥) → spareLinks s (o .links) ≡ spareLinks s l
+pub record Framed (c : Call) (x : Lent) (o : Outcome) : Type 0 where
+  pub places : Kept (x .host .settings) (x .number) (x .run) (o .run)
+  pub spare : (c ≡ ask Initialize → ⊥) → spareLinks (x .host .settings) (o .links) ≡ spareLinks (x .host .settings) (x .host .links)
 
 unfoldable pub Frame : Type 0
-Frame =
-    (s : Settings) (k : ℕ) (c : Clock) (l : Links) (run : List Entry) (x : Call)
-    → Framed s k l run x (perform s k c l run x)
+Frame = (c : Call) (x : Lent) → Framed c x (perform c x)

@@ -1,40 +1,42 @@
 -- Demand 1, lists: "A seat's answers depend only on its own settings, its own calls, the packets given to it and the lengths of what is lent, provided each call is lent what the seat's last one left."
 use mathlib.Core.Path.{_≡_}
 use mathlib.Core.Bool.{cond}
-use mathlib.Core.List.{List, [], _∷_}
+use mathlib.Core.List.{List, [], _∷_, map}
 use Prim.Native.Nat.{ℕ}
 use lib.Dec.{eqb}
 use lib.ListN.{length, take}
 use Rattle.answer.specs.declared.Answer.the-variants.{Done}
 use Rattle.clock.specs.declared.Clock.{Clock}
 use Rattle.table.specs.declared.Entry.{Entry}
-use Rattle.config.specs.declared.Settings.{Settings}
-use Rattle.config.specs.declared.Links.{Links}
-use Rattle.config.specs.State.{hostCount}
-use Rattle.config.specs.Guard.{guardFresh}
-use Rattle.host.specs.Outcome.{Outcome}
-use Rattle.network.specs.Call.{Call, initializes, perform}
-use Rattle.network.specs.Locality.{SameInput, Told, told, ownLinks}
-use Rattle.network.specs.History.{Event, State, Left, Lends, LendsWhole, outcome, places, put, after, afterAll, LendsAll}
+use Rattle.host.specs.declared.Settings.{Settings}
+use Rattle.host.specs.declared.Links.{Links}
+use Rattle.host.specs.State.{hostCount}
+use Rattle.host.specs.Lent.{Lent, lent}
+use Rattle.calls.specs.declared.Request.the-variants.{Initialize}
+use Rattle.calls.specs.Perform.{Call, ask, Outcome, perform}
+use Rattle.network.specs.Left.{Told, told}
+use Rattle.network.specs.Locality.{SameInput, ownLinks}
+use Rattle.network.specs.History.{Event, State, Left, numberOf, Lends, LendsWhole, outcome, places, put, afterAll, LendsAll}
 
 -- ---- a host's own calls
 
 -- the events of a list at number k
 abbrev pub own : (number : ℕ) → List Event → List Event
 own k [] = []
-own k (e ∷ es) = cond (eqb (e .number) k) (e ∷ own k es) (own k es)
+own k (e ∷ es) = cond (eqb (numberOf e) k) (e ∷ own k es) (own k es)
 
 -- what is told at number k, call by call
-unfoldable pub toldAt : (number : ℕ) → State → List Event → List Told
-toldAt k w [] = []
-toldAt k w (e ∷ es) =
-    cond (eqb (e .number) k) (told (outcome w e) ∷ toldAt k (after w e) es) (toldAt k (after w e) es)
+abbrev pub toldAt : (number : ℕ) → List Event → List Told
+toldAt k es = map (λ (e : Event). told (outcome e)) (own k es)
+
+abbrev pub settingsOf : Event → Settings
+settingsOf e = e .lent .host .settings
 
 -- two calls that agree in settings, input and lengths
 pub record Agree (e f : Event) : Type 0 where
-  pub settings-same : e .settings ≡ f .settings
+  pub settings-same : settingsOf e ≡ settingsOf f
   pub input-same : SameInput (e .call) (f .call)
-  pub length-same : length (e .run) ≡ length (f .run)
+  pub length-same : length (e .lent .run) ≡ length (f .lent .run)
 
 unfoldable pub Pairwise : List Event → List Event → Type 0
 Pairwise [] [] = Unit {0}
@@ -48,24 +50,24 @@ Pairwise (e ∷ es) (f ∷ fs) = Agree e f × Pairwise es fs
 unfoldable pub Isolation : Type 0
 Isolation =
     (k : ℕ) (w v : State) (es fs : List Event) → LendsAll LendsWhole w es → LendsAll LendsWhole v fs → Pairwise (own k es) (own k fs)
-    → w k ≡ v k → (toldAt k w es ≡ toldAt k v fs) × (afterAll w es k ≡ afterAll v fs k)
+    → w k ≡ v k → (toldAt k es ≡ toldAt k fs) × (afterAll w es k ≡ afterAll v fs k)
 
 -- ---- isolation from a setting afresh on
 
 -- The call is a setting afresh that is answered 0.
 pub record SetsAfresh (e : Event) : Type 0 where
-  pub call-is : e .call ≡ initializes
-  pub answered : guardFresh (e .settings) (e .number) (e .run) ≡ Done
+  pub call-is : e .call ≡ ask Initialize
+  pub answered : outcome e .reply .answer ≡ Done
 
 -- The settings stay s up to the next setting afresh that is answered 0, and so on; they end as t.
 pub data Steady : Settings → List Event → Settings → Type 0 where
   stays : {s : Settings} → Steady s [] s
-  goes-on : {s t : Settings} {e : Event} {es : List Event} → e .settings ≡ s → Steady s es t → Steady s (e ∷ es) t
-  begins-anew : {s t : Settings} {e : Event} {es : List Event} → SetsAfresh e → Steady (e .settings) es t → Steady s (e ∷ es) t
+  goes-on : {s t : Settings} {e : Event} {es : List Event} → settingsOf e ≡ s → Steady s es t → Steady s (e ∷ es) t
+  begins-anew : {s t : Settings} {e : Event} {es : List Event} → SetsAfresh e → Steady (settingsOf e) es t → Steady s (e ∷ es) t
 
 -- The first call sets afresh, and the settings are steady from there; they end as t.
 pub data FromAfresh : List Event → Settings → Type 0 where
-  begins : {t : Settings} {e : Event} {es : List Event} → SetsAfresh e → Steady (e .settings) es t → FromAfresh (e ∷ es) t
+  begins : {t : Settings} {e : Event} {es : List Event} → SetsAfresh e → Steady (settingsOf e) es t → FromAfresh (e ∷ es) t
 
 -- what is left agrees, in the links and the places that the settings count
 pub record LeftAlike (s : Settings) (x y : Left) : Type 0 where
@@ -77,7 +79,7 @@ unfoldable pub IsolationFromAfresh : Type 0
 IsolationFromAfresh =
     (k : ℕ) (w v : State) (es fs : List Event) (t : Settings) → LendsAll Lends w es → LendsAll Lends v fs
     → Pairwise (own k es) (own k fs) → FromAfresh (own k es) t
-    → (toldAt k w es ≡ toldAt k v fs) × LeftAlike t (afterAll w es k) (afterAll v fs k)
+    → (toldAt k es ≡ toldAt k fs) × LeftAlike t (afterAll w es k) (afterAll v fs k)
 
 -- ---- one run that all hosts share
 
@@ -93,9 +95,11 @@ pub record Shared : Type 0 where
   pub links : ℕ → Links
   pub run : List Entry
 
+abbrev pub sharedLent : Shared → SharedEvent → Lent
+sharedLent w e = lent (e .settings) (e .number) (w .clock (e .number)) (w .links (e .number)) (w .run)
+
 abbrev pub sharedOutcome : Shared → SharedEvent → Outcome
-sharedOutcome w e =
-    perform (e .settings) (e .number) (w .clock (e .number)) (w .links (e .number)) (w .run) (e .call)
+sharedOutcome w e = perform (e .call) (sharedLent w e)
 
 unfoldable pub sharedAfter : Shared → SharedEvent → Shared
 sharedAfter w e =

@@ -1,4 +1,4 @@
-pub mod Call
+pub mod Left
 pub mod Answers
 pub mod Refusals
 pub mod Frame

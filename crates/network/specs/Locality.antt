@@ -4,44 +4,35 @@ use mathlib.Core.Path.{_≡_}
 use mathlib.Core.List.{List}
 use Prim.Native.Nat.{ℕ}
 use lib.ListN.{length, take}
-use Rattle.answer.specs.declared.Answer.{Answer}
-use Rattle.clock.specs.declared.Clock.{Clock}
-use Rattle.table.specs.declared.Entry.{Entry}
-use Rattle.config.specs.declared.Settings.{Settings}
-use Rattle.config.specs.declared.Link.{Link}
-use Rattle.config.specs.declared.Links.{Links}
-use Rattle.config.specs.State.{entries}
-use Rattle.config.specs.Guard.{linkCount}
-use Rattle.host.specs.Outcome.{Outcome, Values}
-use Rattle.network.specs.Call.{Call, sends, perform, messageOf}
+use Rattle.host.specs.declared.Settings.{Settings}
+use Rattle.host.specs.declared.Link.{Link}
+use Rattle.host.specs.declared.Links.{Links}
+use Rattle.host.specs.Settings.{linkCount}
+use Rattle.host.specs.Lent.{Lent, entriesOf}
+use Rattle.calls.specs.Perform.{Call, send, perform}
+use Rattle.network.specs.Left.{left, told}
 
 -- two inputs that count as one: the same, or sends on one link into buffers of one length
 pub data SameInput : Call → Call → Type 0 where
-  same : {x : Call} → SameInput x x
-  same-send : {i : ℕ} {b d : List ℕ} → length b ≡ length d → SameInput (sends i b) (sends i d)
-
--- what is told of a call: its answer, its values and its message
-pub record Told : Type 0 where
-  pub answer : Answer
-  pub values : Values
-  pub message : List ℕ
-
-abbrev pub told : Outcome → Told
-told o = record { answer = o .answer; values = o .values; message = messageOf o }
+  same : {c : Call} → SameInput c c
+  same-send : {i : ℕ} {b d : List ℕ} → length b ≡ length d → SameInput (send i b) (send i d)
 
 -- the host's links: the slots up to its count
 abbrev pub ownLinks : Settings → Links → List Link
 ownLinks s l = take (linkCount s) (l .all)
 
-pub record Alike (s : Settings) (k : ℕ) (o p : Outcome) : Type 0 where
-  pub told-same : told o ≡ told p
-  pub clock-same : o .clock ≡ p .clock
-  pub links-same : ownLinks s (o .links) ≡ ownLinks s (p .links)
-  pub entries-same : entries s k (o .run) ≡ entries s k (p .run)
+pub record Alike (x y : Lent) : Type 0 where
+  pub settings-same : x .host .settings ≡ y .host .settings
+  pub number-same : x .number ≡ y .number
+  pub clock-same : x .host .clock ≡ y .host .clock
+  pub links-same : ownLinks (x .host .settings) (x .host .links) ≡ ownLinks (y .host .settings) (y .host .links)
+  pub length-same : length (x .run) ≡ length (y .run)
+  pub entries-same : entriesOf x ≡ entriesOf y
+
+pub record Local (c d : Call) (x y : Lent) : Type 0 where
+  pub told-same : told (perform c x) ≡ told (perform d y)
+  pub left-alike : Alike (left x (perform c x)) (left y (perform d y))
+  pub all-links : x .host .links ≡ y .host .links → perform c x .links ≡ perform d y .links
 
 unfoldable pub Locality : Type 0
-Locality =
-    (s : Settings) (k : ℕ) (c : Clock) (l l′ : Links) (run run′ : List Entry) (x x′ : Call)
-    → ownLinks s l ≡ ownLinks s l′ → length run ≡ length run′ → entries s k run ≡ entries s k run′ → SameInput x x′
-    → Alike s k (perform s k c l run x) (perform s k c l′ run′ x′)
-    × (l ≡ l′ → perform s k c l run x .links ≡ perform s k c l′ run′ x′ .links)
+Locality = (c d : Call) (x y : Lent) → SameInput c d → Alike x y → Local c d x y

@@ -6,16 +6,17 @@ use Prim.Native.Nat.{ℕ, _≤_, _<_}
 use lib.IntN.{ℤ, _-ℤ_, natAbs}
 use Rattle.answer.specs.declared.Answer.the-variants.{Done}
 use Rattle.clock.specs.declared.Clock.{Clock}
-use Rattle.route.specs.declared.Found.the-variants.{Host}
+use Rattle.route.specs.declared.Found.the-variants.{Id}
 use Rattle.route.specs.Find.{sameNet}
 use Rattle.table.specs.declared.Entry.{Entry}
-use Rattle.config.specs.declared.Settings.{Settings}
-use Rattle.config.specs.declared.Links.{Links}
-use Rattle.config.specs.Settings.{clockSettingOff, ownId}
-use Rattle.config.specs.State.{broadcast}
-use Rattle.config.specs.Guard.{noLink}
-use Rattle.host.specs.Outcome.{Outcome}
-use Rattle.host.specs.Calls.{initialize}
+use Rattle.host.specs.declared.Settings.{Settings}
+use Rattle.host.specs.declared.Links.{Links}
+use Rattle.host.specs.Settings.{clockSettingOff, ownId}
+use Rattle.host.specs.State.{broadcast}
+use Rattle.host.specs.Lent.{Lent, lent}
+use Rattle.host.specs.Guard.{noLink}
+use Rattle.calls.specs.declared.Request.the-variants.{Initialize}
+use Rattle.calls.specs.Perform.{ask, Outcome, perform}
 
 -- where the cable of a link leads: nowhere, or to a link of a seat
 pub data End : Type 0 where
@@ -55,13 +56,17 @@ pub record Room : Type 0 where
   pub links : ℕ → Links
   pub run : ℕ → List Entry
 
+-- what a call at seat a is lent: its settings and number, and this
+abbrev pub lentAt : Room → (seat : ℕ) → Clock → Links → List Entry → Lent
+lentAt r a c l run = lent (r .settings a) (r .number a) c l run
+
 -- the setting afresh of seat a
 abbrev pub afresh : Room → ℕ → Outcome
-afresh r a = initialize (r .settings a) (r .number a) (r .clock a) (r .links a) (r .run a)
+afresh r a = perform (ask Initialize) (lentAt r a (r .clock a) (r .links a) (r .run a))
 
 -- "An id's host is at the seat whose LOCAL-ADDRESS gives it."
 abbrev pub HostAt : Room → (id seat : ℕ) → Type 0
-HostAt r i a = ownId (r .settings a) ≡ Host i
+HostAt r i a = ownId (r .settings a) ≡ Id i
 
 -- "Each cable joins, for good, point-to-point links of two different seats."
 pub record Cabled (r : Room) (a i b j : ℕ) : Type 0 where
@@ -75,7 +80,7 @@ pub record Proper (r : Room) : Type 0 where
   -- "Take up to sixteen freshly set seats": "The seats have different numbers k, and setting each afresh gave 0"
   pub sixteen : r .seats ≤ 16
   pub numbers-differ : (a b : ℕ) → a < r .seats → b < r .seats → r .number a ≡ r .number b → a ≡ b
-  pub set-afresh : (a : ℕ) → a < r .seats → afresh r a .answer ≡ Done
+  pub set-afresh : (a : ℕ) → a < r .seats → afresh r a .reply .answer ≡ Done
   -- "on one net": "Their LOCAL-ADDRESSes agree in the octets compared when an id is found, and give different ids"
   pub one-net : (a b : ℕ) → a < r .seats → b < r .seats → sameNet (r .settings a .address) (r .settings b .address) ≡ true
   pub ids-differ : (a b : ℕ) → a < r .seats → b < r .seats → ownId (r .settings a) ≡ ownId (r .settings b) → a ≡ b

@@ -6,11 +6,11 @@ use Prim.Native.Nat.{ℕ, suc, _≤_, _<_}
 use lib.ListN.{getD}
 use Rattle.table.specs.declared.Entry.{Entry}
 use Rattle.table.specs.Entry.{freshEntry, up}
-use Rattle.config.specs.declared.Links.{Links}
+use Rattle.host.specs.declared.Links.{Links}
 use Rattle.network.specs.Locality.{ownLinks}
 use Rattle.network.specs.History.{places}
 use Rattle.network.specs.Room.{longestWay, Room, afresh, Proper}
-use Rattle.network.specs.Demand3.{RoomCall, Step, World, result, step, Timely, Starts, Right}
+use Rattle.network.specs.Demand3.{RoomCall, Step, World, leftAt, result, step, Timely, Starts, Right}
 
 -- a call at a seat, with the links that it is lent; the run is the shared one
 pub record SharedStep : Type 0 where
@@ -37,7 +37,7 @@ sharedHistory r w (x ∷ xs) = sharedHistory r (sharedStep r w x) xs
 -- what is asked of each call is as before; that its entries are what its seat's last call left is now a fact, and not asked
 pub record SharedAllowed (r : Room) (w : SharedWorld) (x : SharedStep) : Type 0 where
   pub seat-in : x .seat < r .seats
-  pub own-links : ownLinks (r .settings (x .seat)) (x .links) ≡ ownLinks (r .settings (x .seat)) (w .world .state (r .number (x .seat)) .links)
+  pub own-links : ownLinks (r .settings (x .seat)) (x .links) ≡ ownLinks (r .settings (x .seat)) (leftAt r (w .world) (x .seat) .links)
   pub timely : Timely r (w .world) (x .seat) (result r (w .world) (lent w x)) (x .call)
 
 unfoldable pub SharedAllows : Room → SharedWorld → List SharedStep → Type 0

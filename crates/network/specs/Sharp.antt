@@ -8,8 +8,8 @@ use lib.ListN.{replicate}
 use Rattle.quantity.specs.Quantity.{units, millis}
 use Rattle.table.specs.declared.Entry.{Entry}
 use Rattle.table.specs.Entry.{freshEntry}
-use Rattle.config.specs.State.{freshLinks, placesPerHost}
-use Rattle.network.specs.Call.{messageOf}
+use Rattle.host.specs.State.{freshLinks, placesPerHost}
+use Rattle.network.specs.Left.{messageOf}
 use Rattle.network.specs.Room.{Room, Proper}
 use Rattle.network.specs.Demand3.{RoomCall, ticks, reports, sends, arrives, Step, World, result, step, history, Allows, Starts, entryOf, Demand3Within}
 use Rattle.network.specs.TwoSeats.{Pair, settingsFor, pair, begun, call}

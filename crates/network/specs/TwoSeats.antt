@@ -9,13 +9,13 @@ use Rattle.quantity.specs.declared.Units.{Units}
 use Rattle.quantity.specs.Quantity.{millis, seconds}
 use Rattle.calendar.specs.Date.{firstDate}
 use Rattle.clock.specs.Clock.{freshClock}
+use Rattle.wire.specs.declared.Address.{Address}
 use Rattle.route.specs.Find.{zeroNet}
 use Rattle.table.specs.declared.Entry.{Entry}
 use Rattle.table.specs.Entry.{freshEntry}
-use Rattle.config.specs.declared.Settings.{Settings}
-use Rattle.config.specs.Settings.{clockSettingOff}
-use Rattle.config.specs.State.{unset, freshLinks, placesPerHost}
-use Rattle.host.specs.Exchange.{hostAt}
+use Rattle.host.specs.declared.Settings.{Settings}
+use Rattle.host.specs.Settings.{clockSettingOff}
+use Rattle.host.specs.State.{unset, freshLinks, placesPerHost}
 use Rattle.network.specs.History.{leftBy}
 use Rattle.network.specs.Room.{Room, End, loose, at, afresh}
 use Rattle.network.specs.Demand3.{RoomCall, Step, World}
@@ -25,6 +25,9 @@ pub record Pair : Type 0 where
   pub tick : Units
   pub start : ℕ → ℕ
   pub longest : ℕ
+
+abbrev pub hostAt : (octet : ℕ) → Address
+hostAt n = record { first = 192; second = 0; third = 2; fourth = n }
 
 abbrev pub settingsFor : Pair → (seat : ℕ) → Settings
 settingsFor p a =

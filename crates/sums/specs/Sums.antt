@@ -19,7 +19,7 @@ use Rattle.table.specs.Forms.{Stage, on, end}
 use Rattle.table.specs.Entry.{holdDown}
 use Rattle.table.specs.Update.{lines}
 use Rattle.arrival.specs.Steps.{delayOf}
-use Rattle.host.specs.Exchange.{bAnswers, aGets, learnt}
+use Rattle.sums.specs.Exchange.{bAnswers, aGets, learnt}
 
 -- the checksum that a HELLO with no hosts is sent with
 abbrev pub checksumSent : (date time tsp addressOffset : ℕ) → ℕ
@@ -78,7 +78,7 @@ pub record Sums : Type 0 where
   -- P A sends at 40,000; B, 500 ahead, gets it at 40,530 and answers at 45,530 with TSP 45,000; A gets it at 45,081: DELAY 81, then 100, OFFSET 489
   pub exchange-tsp : fields (bAnswers .buffer) .tsp ≡ word (signed16 45000)
   pub exchange-delay : delayOf (millis (pos 45081)) (fields (bAnswers .buffer) .tsp) ≡ millis (pos 81)
-  pub exchange-answer : aGets .answer ≡ Done
+  pub exchange-answer : aGets .reply .answer ≡ Done
   pub exchange-raised : learnt .delay ≡ millis (pos 100)
   pub exchange-offset : learnt .offset ≡ word (pos 489)
   -- P 86,400,000 stays

@@ -1,156 +1,160 @@
 -- A setting afresh fixes the clock, the links and the entries by the settings alone; from there on, isolation needs no more.
 use mathlib.Core.Path.{_≡_, refl, sym, ap, subst, _∙_}
-use mathlib.Core.Bool.{Bool, true, false, cond}
-use mathlib.Core.List.{List, [], _∷_}
+use mathlib.Core.Bool.{true, false≢true}
+use mathlib.Core.List.{List, [], _∷_, map}
 use Prim.Native.Nat.{ℕ}
 use native.Mathlib.Omega.{arith}
-use borrow.Author.Tests.{eqb-true, le-ltb}
-use lib.Dec.{eqb}
-use lib.ListN.{length, take, replicate, length-replicate}
+use borrow.Author.Tests.{le-ltb}
+use lib.ListN.{length, take, replicate}
 use Rattle.answer.specs.declared.Answer.the-variants.{Done}
 use Rattle.clock.specs.Clock.{freshClock}
 use Rattle.table.specs.declared.Entry.{Entry}
+use Rattle.table.specs.declared.run.Change.the-variants.{Fresh}
 use Rattle.table.specs.Entry.{freshEntry}
-use Rattle.config.specs.declared.Settings.{Settings}
-use Rattle.config.specs.State.{hostCount, freshLinks, entries, withEntries}
-use Rattle.config.specs.Guard.{noPlaces, guardFresh}
-use Rattle.config.proofs.Places.{entries-withEntries}
-use Rattle.config.proofs.Guarded.{passed-fresh, holds}
-use Rattle.network.specs.Call.{Call, initializes, perform}
-use Rattle.network.specs.Locality.{SameInput, same, same-send, told, ownLinks}
-use Rattle.network.specs.History.{Event, Left, Holds, Lends}
-use Rattle.network.specs.Isolation.{own, Agree, Pairwise, SetsAfresh, Steady, stays, goes-on, begins-anew, FromAfresh, begins, LeftAlike, IsolationFromAfresh}
-use Rattle.network.proofs.Performs.{workOf, perform-is}
-use Rattle.network.proofs.HostPlaces.{entries-first}
-use Rattle.network.proofs.Demand1.OwnCalls.{outcomeFrom, leftFrom, toldFrom, lastFrom, AllLend, follows}
-use Rattle.network.proofs.Demand1.Isolation.{short, left-held, told-alike, left-alike}
+use Rattle.table.specs.Runs.{changed}
+use Rattle.host.specs.declared.Settings.{Settings}
+use Rattle.host.specs.declared.guard.Scope.the-variants.{Places}
+use Rattle.host.specs.State.{hostCount, freshLinks, entries}
+use Rattle.host.specs.Lent.{entriesOf}
+use Rattle.host.specs.Guard.{noPlaces, guard, done}
+use Rattle.host.proofs.Places.{entries-length}
+use Rattle.calls.specs.declared.Request.the-variants.{Initialize}
+use Rattle.calls.specs.Effects.{initialize}
+use Rattle.calls.specs.Perform.{Call, ask, work, perform}
+use Rattle.network.specs.Left.{told}
+use Rattle.network.specs.Locality.{SameInput, same, same-send, ownLinks}
+use Rattle.network.specs.History.{Event, Left, Holds, Lends, numberOf, outcome}
+use Rattle.network.specs.Isolation.{own, settingsOf, Agree, Pairwise, SetsAfresh, Steady, stays, goes-on, begins-anew, FromAfresh, begins, LeftAlike, IsolationFromAfresh}
+use Rattle.network.proofs.Performs.{performs, there}
+use Rattle.network.proofs.Swept.{changes-length, changes-each}
+use Rattle.network.proofs.Written.{written-back}
+use Rattle.network.proofs.Demand1.OwnCalls.{leftFrom, lastFrom, AllLend, AllAt, own-at, follows}
+use Rattle.network.proofs.Demand1.Isolation.{allTold, short, first-left, told-alike, left-alike}
 
 -- an input that counts as a setting afresh is one
-initializes-too : {x y : Call} → SameInput x y → x ≡ initializes → y ≡ initializes
-initializes-too same e = e
-initializes-too (same-send n) e = cc
+afresh-too : {c d : Call} → SameInput c d → c ≡ ask Initialize → d ≡ ask Initialize
+afresh-too same e = e
+afresh-too (same-send n) e = absurd (let z : _≡_ {A = ℕ} 0 1 = cc in omega arith)
+
+all-fresh : (es : List Entry) → map (changed Fresh) es ≡ replicate (length es) freshEntry
+all-fresh [] = refl
+all-fresh (e ∷ es) = ap (λ l. freshEntry ∷ l) (all-fresh es)
+
+-- ---- a setting afresh
+
+pub record Begins (e : Event) : Type 0 where
+  pub call-is : e .call ≡ ask Initialize
+  pub passes : done (guard Places (e .lent)) ≡ true
+
+begins-here : (e : Event) → SetsAfresh e → Begins e
+begins-here e a =
+    record {
+      call-is = a .call-is;
+      passes =
+          performs (ask Initialize) (e .lent) (λ o. o .reply .answer ≡ Done → done (guard Places (e .lent)) ≡ true)
+          (λ no is. absurd (false≢true (sym no ∙ ap (λ b. done b) is))) (λ yes _. yes)
+          (subst (λ c. perform c (e .lent) .reply .answer ≡ Done) (a .call-is) (a .answered));
+    }
+
+-- the second of two calls that agree is a setting afresh too
+begins-too : (e f : Event) → numberOf e ≡ numberOf f → Agree e f → Begins e → Begins f
+unfolding guard noPlaces
+begins-too e f number agree b =
+    record {
+      call-is = afresh-too (agree .input-same) (b .call-is);
+      passes = rw (← agree .settings-same, ← agree .length-same, ← number) (b .passes);
+    }
+
+outcome-is : (e : Event) → Begins e → outcome e ≡ work (ask Initialize) (e .lent)
+outcome-is e b =
+    ap (λ c. perform c (e .lent)) (b .call-is)
+    ∙ performs (ask Initialize) (e .lent) (λ o. o ≡ work (ask Initialize) (e .lent)) (λ no. absurd (false≢true (sym no ∙ b .passes))) (λ _. refl)
 
 module _ (k : ℕ) where
-  -- ---- a setting afresh
-
-  pub record Begins (e : Event) : Type 0 where
-    pub call-is : e .call ≡ initializes
-    pub answered : guardFresh (e .settings) k (e .run) ≡ Done
-
   pub record Begun (s : Settings) (x : Left) : Type 0 where
     pub clock-is : x .clock ≡ freshClock (s .time) (s .date)
     pub links-is : x .links ≡ freshLinks s
     pub entries-is : take (hostCount s) (x .places) ≡ replicate (hostCount s) freshEntry
 
-  module _ (x : Left) (e : Event) (b : Begins e) where
-    outcome-is : outcomeFrom k x e ≡ workOf (e .settings) k (x .clock) (e .links) (e .run) initializes
-    outcome-is =
-        ap (perform (e .settings) k (x .clock) (e .links) (e .run)) (b .call-is)
-        ∙ perform-is (e .settings) k (x .clock) (e .links) (e .run) initializes
-        ∙ rw (b .answered)
-
-    held : Holds k (e .run)
-    held = holds k (e .run) (passed-fresh (e .settings) k (e .run) (rw (b .answered)) .0)
-
-    begun : Begun (e .settings) (leftFrom k x e)
-    begun =
-        record {
-          clock-is = ap (λ o. o .clock) outcome-is;
-          links-is = ap (λ o. o .links) outcome-is;
-          entries-is =
-              ap (take (hostCount (e .settings))) (left-held k x e (le-ltb _ _ held))
-              ∙ sym (entries-first (e .settings) k (outcomeFrom k x e .run))
-              ∙ rw outcome-is fresh-entries;
-        }
-      where
-        fresh : List Entry
-        fresh = replicate (hostCount (e .settings)) freshEntry
-
-        fresh-entries : entries (e .settings) k (withEntries k fresh (e .run)) ≡ fresh
-        fresh-entries =
-            let n : length fresh ≡ hostCount (e .settings) = length-replicate (hostCount (e .settings)) freshEntry in
-            let h : Holds k (e .run) = held in
-            entries-withEntries k fresh (e .run) (omega arith) (e .settings) n
-
-  -- the second of two calls that agree is a setting afresh too
-  begins-too : (e f : Event) → Agree e f → Begins e → Begins f
-  unfolding guardFresh noPlaces
-  begins-too e f agree b =
+  begun : (was : Left) (e : Event) → numberOf e ≡ k → Begins e → Begun (settingsOf e) (leftFrom k was e)
+  unfolding initialize
+  begun was e here b =
       record {
-        call-is = initializes-too (agree .input-same) (b .call-is);
-        answered = rw (← agree .settings-same, ← agree .length-same) (b .answered);
+        clock-is = ap (λ o. o .clock) (outcome-is e b);
+        links-is = ap (λ o. o .links) (outcome-is e b);
+        entries-is =
+            first-left k was e here (le-ltb _ _ (rw here at held))
+            ∙ ap (λ o. entries (settingsOf e) (numberOf e) (o .run)) (outcome-is e b)
+            ∙ written-back (e .lent) _ held (changes-length record { first = 0; end = hostCount (settingsOf e); change = Fresh } (entriesOf (e .lent)))
+            ∙ changes-each (hostCount (settingsOf e)) Fresh (entriesOf (e .lent)) (omega (arith, count))
+            ∙ all-fresh (entriesOf (e .lent))
+            ∙ ap (λ n. replicate n freshEntry) count;
       }
+    where
+      held : Holds (numberOf e) (e .lent .run)
+      held = there (ask Initialize) (e .lent) (b .passes)
 
-  module _ (x y : Left) (e f : Event) (agree : Agree e f) (b : Begins e) where
-    told-begun : told (outcomeFrom k x e) ≡ told (outcomeFrom k y f)
-    told-begun = rw (outcome-is x e b) (rw (outcome-is y f (begins-too e f agree b)))
+      count : length (entriesOf (e .lent)) ≡ hostCount (settingsOf e)
+      count = entries-length (settingsOf e) (numberOf e) (e .lent .run) held
 
-    left-begun : LeftAlike (e .settings) (leftFrom k x e) (leftFrom k y f)
+  module _ (was was′ : Left) (e f : Event) (here : numberOf e ≡ k) (here′ : numberOf f ≡ k) (agree : Agree e f) (b : Begins e) where
+    b′ : Begins f
+    b′ = begins-too e f (here ∙ sym here′) agree b
+
+    told-begun : told (outcome e) ≡ told (outcome f)
+    unfolding initialize
+    told-begun = ap (λ o. told o) (outcome-is e b) ∙ ap (λ o. told o) (sym (outcome-is f b′))
+
+    left-begun : LeftAlike (settingsOf e) (leftFrom k was e) (leftFrom k was′ f)
     left-begun =
-        let p : Begun (e .settings) (leftFrom k x e) = begun x e b in
-        let q : Begun (e .settings) (leftFrom k y f) =
-        subst (λ s. Begun s (leftFrom k y f)) (sym (agree .settings-same)) (begun y f (begins-too e f agree b)) in
+        let p : Begun (settingsOf e) (leftFrom k was e) = begun was e here b in
+        let q : Begun (settingsOf e) (leftFrom k was′ f) =
+        subst (λ s. Begun s (leftFrom k was′ f)) (sym (agree .settings-same)) (begun was′ f here′ b′) in
         record {
           clock-same = p .clock-is ∙ sym (q .clock-is);
-          links-same = ap (ownLinks (e .settings)) (p .links-is ∙ sym (q .links-is));
+          links-same = ap (ownLinks (settingsOf e)) (p .links-is ∙ sym (q .links-is));
           entries-same = p .entries-is ∙ sym (q .entries-is);
         }
 
   -- ---- lists of calls at k
 
-  abbrev pub AllAt : List Event → Type 0
-  AllAt [] = Unit {0}
-  AllAt (e ∷ es) = (e .number ≡ k) × AllAt es
-
-  own-at : (es : List Event) → AllAt (own k es)
-  own-at [] = tt
-  own-at (e ∷ es) = go (own-at es) (eqb (e .number) k) refl
-    where
-      go : AllAt (own k es) → (b : Bool) → eqb (e .number) k ≡ b → AllAt (cond b (e ∷ own k es) (own k es))
-      go rest true h = (eqb-true (e .number) k h, rest)
-      go rest false h = rest
-
-  begins-here : (e : Event) → e .number ≡ k → SetsAfresh e → Begins e
-  begins-here e here a =
-      record { call-is = a .call-is; answered = subst (λ j. guardFresh (e .settings) j (e .run) ≡ Done) here (a .answered) }
-
   -- the two lists tell the same, and what they leave is alike
-  abbrev Same : Settings → (x y : Left) (es fs : List Event) → Type 0
-  Same t x y es fs = (toldFrom k x es ≡ toldFrom k y fs) × LeftAlike t (lastFrom k x es) (lastFrom k y fs)
+  abbrev Same : Settings → (was was′ : Left) (es fs : List Event) → Type 0
+  Same t was was′ es fs = (allTold es ≡ allTold fs) × LeftAlike t (lastFrom k was es) (lastFrom k was′ fs)
 
-  steady : {s t : Settings} {es : List Event} → Steady s es t → (x y : Left) (fs : List Event) → AllLend k Lends x es → AllLend k Lends y fs
-      → Pairwise es fs → AllAt es → LeftAlike s x y → Same t x y es fs
+  steady : {s t : Settings} {es : List Event} → Steady s es t → (was was′ : Left) (fs : List Event) → AllAt k es → AllAt k fs → AllLend k Lends was es
+      → AllLend k Lends was′ fs → Pairwise es fs → LeftAlike s was was′ → Same t was was′ es fs
   unfolding Pairwise
-  steady stays x y [] lends lends′ pairs here alike = (refl, alike)
-  steady stays x y (f ∷ fs) lends lends′ pairs here alike = absurd pairs
-  steady (goes-on q rest) x y [] lends lends′ pairs here alike = absurd pairs
-  steady (goes-on {s = s} {e = e} q rest) x y (f ∷ fs) lends lends′ pairs here alike =
-      let now : LeftAlike (e .settings) x y = rw q alike in
-      let after = left-alike k x y e f (lends .0) (lends′ .0) (pairs .0) now (short k e) refl in
-      let then = subst (λ u. LeftAlike u (leftFrom k x e) (leftFrom k y f)) q after in
-      let more = steady rest (leftFrom k x e) (leftFrom k y f) fs (lends .1) (lends′ .1) (pairs .1) (here .1) then in
-      (λ j. told-alike k x y e f (lends .0) (lends′ .0) (pairs .0) now (short k e) refl j ∷ more .0 j, more .1)
-  steady (begins-anew a rest) x y [] lends lends′ pairs here alike = absurd pairs
-  steady (begins-anew {e = e} a rest) x y (f ∷ fs) lends lends′ pairs here alike =
-      let b = begins-here e (here .0) a in
-      let after = left-begun x y e f (pairs .0) b in
-      let more = steady rest (leftFrom k x e) (leftFrom k y f) fs (lends .1) (lends′ .1) (pairs .1) (here .1) after in
-      (λ j. told-begun x y e f (pairs .0) b j ∷ more .0 j, more .1)
+  steady stays was was′ [] here here′ lends lends′ pairs alike = (refl, alike)
+  steady stays was was′ (f ∷ fs) here here′ lends lends′ pairs alike = absurd pairs
+  steady (goes-on q rest) was was′ [] here here′ lends lends′ pairs alike = absurd pairs
+  steady (goes-on {s = s} {e = e} q rest) was was′ (f ∷ fs) here here′ lends lends′ pairs alike =
+      let now : LeftAlike (settingsOf e) was was′ = rw q alike in
+      let after = left-alike k was was′ e f (here .0) (here′ .0) (lends .0) (lends′ .0) (pairs .0) now (short k e) refl in
+      let then = subst (λ u. LeftAlike u (leftFrom k was e) (leftFrom k was′ f)) q after in
+      let more = steady rest (leftFrom k was e) (leftFrom k was′ f) fs (here .1) (here′ .1) (lends .1) (lends′ .1) (pairs .1) then in
+      (λ j. told-alike k was was′ e f (here .0) (here′ .0) (lends .0) (lends′ .0) (pairs .0) now (short k e) refl j ∷ more .0 j, more .1)
+  steady (begins-anew a rest) was was′ [] here here′ lends lends′ pairs alike = absurd pairs
+  steady (begins-anew {e = e} a rest) was was′ (f ∷ fs) here here′ lends lends′ pairs alike =
+      let b = begins-here e a in
+      let after = left-begun was was′ e f (here .0) (here′ .0) (pairs .0) b in
+      let more = steady rest (leftFrom k was e) (leftFrom k was′ f) fs (here .1) (here′ .1) (lends .1) (lends′ .1) (pairs .1) after in
+      (λ j. told-begun was was′ e f (here .0) (here′ .0) (pairs .0) b j ∷ more .0 j, more .1)
 
-  from-afresh : {t : Settings} {es : List Event} → FromAfresh es t → (x y : Left) (fs : List Event) → AllLend k Lends x es
-      → AllLend k Lends y fs → Pairwise es fs → AllAt es → Same t x y es fs
+  from-afresh : {t : Settings} {es : List Event} → FromAfresh es t → (was was′ : Left) (fs : List Event) → AllAt k es → AllAt k fs → AllLend k Lends was es
+      → AllLend k Lends was′ fs → Pairwise es fs → Same t was was′ es fs
   unfolding Pairwise
-  from-afresh (begins a rest) x y [] lends lends′ pairs here = absurd pairs
-  from-afresh (begins {e = e} a rest) x y (f ∷ fs) lends lends′ pairs here =
-      let b = begins-here e (here .0) a in
-      let after = left-begun x y e f (pairs .0) b in
-      let more = steady rest (leftFrom k x e) (leftFrom k y f) fs (lends .1) (lends′ .1) (pairs .1) (here .1) after in
-      (λ j. told-begun x y e f (pairs .0) b j ∷ more .0 j, more .1)
+  from-afresh (begins a rest) was was′ [] here here′ lends lends′ pairs = absurd pairs
+  from-afresh (begins {e = e} a rest) was was′ (f ∷ fs) here here′ lends lends′ pairs =
+      let b = begins-here e a in
+      let after = left-begun was was′ e f (here .0) (here′ .0) (pairs .0) b in
+      let more = steady rest (leftFrom k was e) (leftFrom k was′ f) fs (here .1) (here′ .1) (lends .1) (lends′ .1) (pairs .1) after in
+      (λ j. told-begun was was′ e f (here .0) (here′ .0) (pairs .0) b j ∷ more .0 j, more .1)
 
 pub isolation-from-afresh-holds : IsolationFromAfresh
 unfolding IsolationFromAfresh
 isolation-from-afresh-holds k w v es fs t lends lends′ pairs afresh =
-    let here = follows k Lends w es in
-    let there = follows k Lends v fs in
-    let both = from-afresh k afresh (w k) (v k) (own k fs) (here .all-lend lends) (there .all-lend lends′) pairs (own-at k es) in
-    (here .told-is ∙ both .0 ∙ sym (there .told-is), rw (here .last-is, there .last-is) (both .1))
+    let a = follows k Lends w es in
+    let b = follows k Lends v fs in
+    let both = from-afresh k afresh (w k) (v k) (own k fs) (own-at k es) (own-at k fs) (a .all-lend lends) (b .all-lend lends′) pairs in
+    (both .0, rw (a .last-is, b .last-is) (both .1))

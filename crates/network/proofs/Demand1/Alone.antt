@@ -5,16 +5,15 @@ use mathlib.Core.List.{List, [], _∷_}
 use Prim.Native.Nat.{ℕ}
 use borrow.Author.Tests.{eqb-true, eqb-false, eq-eqb, ne-eqb}
 use lib.Dec.{eqb}
-use lib.ListN.{length}
-use Rattle.host.specs.Outcome.{Outcome}
-use Rattle.network.specs.Call.{perform}
+use lib.ListN.{length, take}
+use Rattle.host.specs.State.{hostCount}
 use Rattle.network.specs.Frame.{Kept}
-use Rattle.network.specs.Locality.{same, told}
-use Rattle.network.specs.History.{places, put}
-use Rattle.network.specs.Isolation.{SharedEvent, Shared, sharedOutcome, sharedAfter, sharedAfterAll, sharedTold, alone, SharedAlike, Alone}
-use Rattle.network.proofs.HostPlaces.{elsewhere, alike, places-kept-same}
+use Rattle.network.specs.Locality.{same, ownLinks, Alike, Local, Locality}
+use Rattle.network.specs.History.{put}
+use Rattle.network.specs.Isolation.{SharedEvent, Shared, sharedLent, sharedOutcome, sharedAfter, sharedAfterAll, sharedTold, alone, SharedAlike, Alone}
+use Rattle.network.proofs.HostPlaces.{entries-first, elsewhere, places-kept-same}
 use Rattle.network.proofs.Demand1.Frame.{kept-places}
-use Rattle.network.proofs.Demand1.Locality.{Twins}
+use Rattle.network.proofs.Demand1.Locality.{locality-holds}
 
 -- the same at number k, in runs of one length
 record Twin (k : ℕ) (w v : Shared) : Type 0 where
@@ -22,7 +21,7 @@ record Twin (k : ℕ) (w v : Shared) : Type 0 where
   lengths : length (w .run) ≡ length (v .run)
 
 kept : (w : Shared) (e : SharedEvent) → Kept (e .settings) (e .number) (w .run) (sharedOutcome w e .run)
-kept w e = kept-places (e .settings) (e .number) (w .clock (e .number)) (w .links (e .number)) (w .run) (e .call)
+kept w e = kept-places (e .call) (sharedLent w e)
 
 -- ---- a call elsewhere
 
@@ -48,29 +47,23 @@ put-here : {A : Type 0} (k : ℕ) (a : A) (f : ℕ → A) → put k a f k ≡ a
 put-here k a f = rw (eq-eqb k k refl)
 
 module _ (w v : Shared) (e : SharedEvent) (t : Twin (e .number) w v) where
-  -- the call in the second run, with the clock and links of the first
-  second : Outcome
-  second = perform (e .settings) (e .number) (w .clock (e .number)) (w .links (e .number)) (v .run) (e .call)
+  lent-alike : Alike (sharedLent w e) (sharedLent v e)
+  lent-alike =
+      record {
+        settings-same = refl;
+        number-same = refl;
+        clock-same = t .alike .clock-same;
+        links-same = ap (ownLinks (e .settings)) (t .alike .links-same);
+        length-same = t .lengths;
+        entries-same =
+            entries-first (e .settings) (e .number) (w .run)
+            ∙ ap (take (hostCount (e .settings))) (t .alike .places-same)
+            ∙ sym (entries-first (e .settings) (e .number) (v .run));
+      }
 
-  second-is : second ≡ sharedOutcome v e
-  unfolding second
-  second-is =
-      λ i. perform (e .settings) (e .number) (t .alike .clock-same i) (t .alike .links-same i) (v .run) (e .call)
-
-  outcomes : Twins (e .settings) (e .number) (sharedOutcome w e) second
-  unfolding second
-  outcomes =
-      alike (e .settings) (e .number) (w .clock (e .number)) (w .links (e .number)) (w .run) (v .run) (e .call) (e .call)
-      (t .lengths) (t .alike .places-same) same
-
-  places-left : places (e .number) (sharedOutcome w e .run) ≡ places (e .number) (second .run)
-  unfolding second
-  places-left =
-      places-kept-same (e .settings) (e .number) (w .clock (e .number)) (w .links (e .number)) (w .run) (v .run) (e .call) (e .call)
-      (t .lengths) (t .alike .places-same) same
-
-  here-told : told (sharedOutcome w e) ≡ told (sharedOutcome v e)
-  here-told = outcomes .told-same ∙ ap (λ o. told o) second-is
+  local : Local (e .call) (e .call) (sharedLent w e) (sharedLent v e)
+  unfolding Locality
+  local = locality-holds (e .call) (e .call) (sharedLent w e) (sharedLent v e) same lent-alike
 
   here : Twin (e .number) (sharedAfter w e) (sharedAfter v e)
   unfolding sharedAfter
@@ -79,14 +72,12 @@ module _ (w v : Shared) (e : SharedEvent) (t : Twin (e .number) w v) where
         alike =
             record {
               clock-same =
-                  put-here (e .number) _ (w .clock) ∙ outcomes .clock-same ∙ ap (λ o. o .clock) second-is
-                  ∙ sym (put-here (e .number) _ (v .clock));
+                  put-here (e .number) _ (w .clock) ∙ local .left-alike .clock-same ∙ sym (put-here (e .number) _ (v .clock));
               links-same =
-                  put-here (e .number) _ (w .links) ∙ outcomes .links-same ∙ ap (λ o. o .links) second-is
-                  ∙ sym (put-here (e .number) _ (v .links));
-              places-same = places-left ∙ ap (λ o. places (e .number) (o .run)) second-is;
+                  put-here (e .number) _ (w .links) ∙ local .all-links (t .alike .links-same) ∙ sym (put-here (e .number) _ (v .links));
+              places-same = places-kept-same (e .call) (e .call) (sharedLent w e) (sharedLent v e) same lent-alike (t .alike .places-same);
             };
-        lengths = kept w e .same-length ∙ t .lengths ∙ sym (kept v e .same-length);
+        lengths = local .left-alike .length-same;
       }
 
 -- ---- the list
@@ -108,7 +99,7 @@ deleted k w v (e ∷ es) t = go (λ v′. deleted k (sharedAfter w e) v′ es) (
         let t′ : Twin (e .number) w v = rw at-k t in
         let rest = again (sharedAfter v e) (subst (λ j. Twin j (sharedAfter w e) (sharedAfter v e)) at-k (here w v e t′)) in
         record {
-          told-same = rw (h, h) (λ i. here-told w v e t′ i ∷ rest .told-same i);
+          told-same = rw (h, h) (λ i. local w v e t′ .told-same i ∷ rest .told-same i);
           left-same = rw h (rest .left-same);
         }
     go again false h =

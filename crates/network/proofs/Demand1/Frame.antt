@@ -1,129 +1,90 @@
 -- A call writes nothing into the run, or as many entries as it counts of its host, at the host's first place; and it stores no link but one that it names, up to the count.
-use mathlib.Core.Path.{_≡_, refl, _∙_}
+use mathlib.Core.Path.{_≡_, refl}
 use mathlib.Core.Bool.{true, false}
-use mathlib.Core.List.{List, map}
 use Prim.Native.Nat.{ℕ, _-_}
-use native.Mathlib.Omega.{arith}
-use lib.ListN.{length, length-replicate, length-map}
+use lib.Dec.{ltb}
+use lib.ListN.{length}
 use lib.Seq.{drop-set-lt}
-use Rattle.clock.specs.declared.Clock.{Clock}
-use Rattle.clock.specs.Clock.{reading}
-use Rattle.wire.specs.Hello.{reportAt}
-use Rattle.wire.specs.Packet.{helloOf}
+use Rattle.laws.proofs.Tests.{either}
+use Rattle.wire.specs.Packet.{packetLength}
 use Rattle.table.specs.declared.Entry.{Entry}
-use Rattle.table.specs.declared.Updated.{Updated}
-use Rattle.table.specs.Entry.{freshEntry, aged}
-use Rattle.table.specs.Update.{selfReported}
-use Rattle.table.specs.Sweep.{sweep, only}
-use Rattle.table.proofs.Sweeps.{sweep-length}
-use Rattle.config.specs.declared.Settings.{Settings}
-use Rattle.config.specs.declared.Link.{Link}
-use Rattle.config.specs.declared.Links.{Links}
-use Rattle.config.specs.State.{hostCount, withLink, entries, withEntries}
-use Rattle.config.specs.Guard.{linkCount, noLink, guard, guardLink, done}
-use Rattle.config.proofs.Places.{Holds, entries-length, withEntries-length, withEntries-front, withEntries-behind}
-use Rattle.config.proofs.Guarded.{passed, passed-link, passed-fresh, holds, counted}
-use Rattle.arrival.specs.Inspection.{inspect}
-use Rattle.arrival.specs.Steps.{neighborUpdate, reportUpdate, updateId}
-use Rattle.network.specs.Call.{Call, initializes, ticks, adjusts, sets, reads, seconds, sends, arrives, reports, looksUp, perform}
-use Rattle.host.specs.Outcome.{Outcome}
+use Rattle.host.specs.declared.Link.{Link}
+use Rattle.host.specs.declared.Links.{Links}
+use Rattle.host.specs.Settings.{linkCount}
+use Rattle.host.specs.State.{linkOf, withLink}
+use Rattle.host.specs.Lent.{Lent, entriesOf}
+use Rattle.host.specs.Guard.{noLink, done}
+use Rattle.host.proofs.Places.{Holds}
+use Rattle.host.proofs.Guarded.{passed, counted}
+use Rattle.sending.specs.declared.Sending.{Sending}
+use Rattle.sending.specs.Send.{reportCount}
+use Rattle.arrival.specs.declared.Arrived.{Arrived}
+use Rattle.arrival.specs.Arrival.{arrival}
+use Rattle.calls.specs.declared.Request.{Request}
+use Rattle.calls.specs.declared.Request.the-variants.{Initialize, Tick, Adjust, Set, Read, Second, SelfReport, Lookup}
+use Rattle.calls.specs.Effects.{tick, adjust, setBy, read, second, selfReport, lookup, wanted, effect}
+use Rattle.calls.specs.Perform.{Call, ask, send, receive, scopeOfCall, entryAt, work, perform}
 use Rattle.network.specs.Frame.{Kept, spareLinks, Frame}
-use Rattle.network.proofs.Performs.{guardOf, workOf, performs, sent-ways, reported-ways, looked-ways}
-use Rattle.network.proofs.Arrivals.{arrived-ways}
+use Rattle.network.proofs.Performs.{guardOf, performs, there}
+use Rattle.network.proofs.Arrivals.{arrival-ways}
+use Rattle.network.proofs.Swept.{changes-length, updates-length}
+use Rattle.network.proofs.Written.{written-kept}
 
-module _ (s : Settings) (k : ℕ) (c : Clock) (l : Links) (run : List Entry) where
-  untouched : Kept s k run run
+module _ (x : Lent) where
+  -- ---- the run
+
+  untouched : Kept (x .host .settings) (x .number) (x .run) (x .run)
   untouched = record { same-length = refl; in-front = λ i d h. refl; behind = λ i d h. refl }
 
-  written : (es : List Entry) → Holds k run → length es ≡ hostCount s → Kept s k run (withEntries k es run)
-  written es h n =
-      record {
-        same-length = withEntries-length k es run (omega arith);
-        in-front = withEntries-front k es run (omega arith);
-        behind = λ i d b. withEntries-behind k es run (omega arith) i d (omega arith);
-      }
-
-  -- all of the host's places stand in the run of a call that passes its guard
-  held : done (guard s k c l run) ≡ true → Holds k run
-  held e = holds k run (passed s k c l run e .places-there)
-
-  held-link : (i : ℕ) → done (guardLink s k c l run i) ≡ true → Holds k run
-  held-link i e = holds k run (passed-link s k c l run i e .1 .places-there)
-
-  -- entries that were swept go back where they came from
-  swept : (h : Holds k run) (update : ℕ → Clock → Entry → Updated) (d : Clock)
-      → Kept s k run (withEntries k (sweep 0 update d (entries s k run) .entries) run)
-  swept h update d = written _ h (sweep-length 0 update d (entries s k run) ∙ entries-length s k run h)
-
-  received : (i : ℕ) (octets : List ℕ) → Holds k run → Kept s k run (workOf s k c l run (arrives i octets) .run)
-  received i octets h =
-      arrived-ways s k c l run i octets (λ o. Kept s k run (o .run))
-      record {
-        refused = λ a. untouched;
-        ended = λ f g n. untouched;
-        unknown = λ f g. untouched;
-        one = λ p f id g. swept h (only id (updateId s p (neighborUpdate i f) id)) (reading c .clock);
-        all = λ p f g. swept h (λ id. updateId s p (reportUpdate i f (reportAt (helloOf octets) id)) id) (reading c .clock);
-      }
-      (inspect s i octets)
-
-  self-reported : Holds k run → Kept s k run (workOf s k c l run reports .run)
-  self-reported h =
-      reported-ways s k c l run (λ o. Kept s k run (o .run)) untouched
-      (λ id. swept h (only id (λ d e. record { clock = d; entry = selfReported (reading c .time) e })) (reading c .clock))
-
-  works : (x : Call) → done (guardOf s k c l run x) ≡ true → Kept s k run (workOf s k c l run x .run)
-  works initializes e = written _ (holds k run (passed-fresh s k run e .0)) (length-replicate (hostCount s) freshEntry)
-  works ticks e = untouched
-  works adjusts e = untouched
-  works (sets ms) e = untouched
-  works reads e = untouched
-  works seconds e =
-      written (map aged (entries s k run)) (held e) (length-map (entries s k run) aged ∙ entries-length s k run (held e))
-  works (sends i buffer) e = sent-ways s k c l run (λ o. Kept s k run (o .run)) i buffer untouched untouched
-  works (arrives i octets) e = received i octets (held-link i e)
-  works reports e = self-reported (held e)
-  works (looksUp a) e = looked-ways s k c l run (λ o. Kept s k run (o .run)) a (λ x. untouched) (λ v. untouched)
+  worked : (c : Call) → Holds (x .number) (x .run) → Kept (x .host .settings) (x .number) (x .run) (work c x .run)
+  worked (ask q) h = written-kept x _ h (changes-length (effect q (x .host) (entryAt (wanted q (x .host .settings)) x) .work) (entriesOf x))
+  worked (send i buffer) h = untouched
+  worked (receive i octets) h = written-kept x _ h (updates-length (arrival i octets (x .host) .work) octets (entriesOf x))
 
   -- ---- the links
 
-  abbrev Spared : Outcome → Type 0
-  Spared o = spareLinks s (o .links) ≡ spareLinks s l
+  abbrev Spared : Links → Type 0
+  Spared l = spareLinks (x .host .settings) l ≡ spareLinks (x .host .settings) (x .host .links)
 
-  stored : (i : ℕ) → noLink s i ≡ false → (x : Link) → spareLinks s (withLink i x l) ≡ spareLinks s l
-  stored i there x = drop-set-lt (linkCount s) (l .all) (i - 1) x (counted s i there .at-place)
+  stored : (i : ℕ) → noLink (x .host .settings) i ≡ false → (l : Link) → Spared (withLink i l (x .host .links))
+  stored i has l = drop-set-lt (linkCount (x .host .settings)) (x .host .links .all) (i - 1) l (counted (x .host .settings) i has .at-place)
 
-  spared : (x : Call) → (x ≡ initializes → ⊥) → done (guardOf s k c l run x) ≡ true → Spared (workOf s k c l run x)
-  spared initializes not e = absurd (not refl)
-  spared ticks not e = refl
-  spared adjusts not e = refl
-  spared (sets ms) not e = refl
-  spared reads not e = refl
-  spared seconds not e = refl
-  spared (sends i buffer) not e =
-      sent-ways s k c l run Spared i buffer refl (stored i (passed-link s k c l run i e .0) _)
-  spared (arrives i octets) not e =
-      let there = passed-link s k c l run i e .0 in
-      arrived-ways s k c l run i octets Spared
+  asked : (q : Request) (e : Entry) → (ask q ≡ ask Initialize → ⊥) → Spared (effect q (x .host) e .links)
+  unfolding tick adjust setBy read second selfReport lookup
+  asked Initialize e not = absurd (not refl)
+  asked Tick e not = refl
+  asked Adjust e not = refl
+  asked (Set ms) e not = refl
+  asked Read e not = refl
+  asked Second e not = refl
+  asked SelfReport e not = refl
+  asked (Lookup a) e not = refl
+
+  spared : (c : Call) → (c ≡ ask Initialize → ⊥) → done (guardOf c x) ≡ true → Spared (work c x .links)
+  spared (ask q) not e = asked q (entryAt (wanted q (x .host .settings)) x) not
+  spared (send i buffer) not e =
+      let has = passed (scopeOfCall (send i buffer)) x e .link i refl in
+      either (λ (s : Sending). Spared (s .links))
+      (ltb (length buffer) (packetLength (reportCount (x .host .settings) (linkOf (x .host .links) i)))) _ _ (λ _. refl) (λ _. stored i has _)
+  spared (receive i octets) not e =
+      let has = passed (scopeOfCall (receive i octets)) x e .link i refl in
+      arrival-ways i (x .host) (λ (a : Arrived). Spared (a .links))
       record {
-        refused = λ a. refl;
-        ended = λ f g n. stored i there (f .link);
-        unknown = λ f g. stored i there (f .link);
-        one = λ p f id g. stored i there (f .link);
-        all = λ p f g. stored i there (f .link);
+        refuses = λ a. refl;
+        ended = λ f g n. stored i has (f .link);
+        unknown = λ f g. stored i has (f .link);
+        one = λ p f id g. stored i has (f .link);
+        all = λ p f g. stored i has (f .link);
       }
-      (inspect s i octets)
-  spared reports not e = reported-ways s k c l run Spared refl (λ id. refl)
-  spared (looksUp a) not e = looked-ways s k c l run Spared a (λ x. refl) (λ v. refl)
+      octets
 
-pub kept-places : (s : Settings) (k : ℕ) (c : Clock) (l : Links) (run : List Entry) (x : Call) → Kept s k run (perform s k c l run x .run)
-kept-places s k c l run x =
-    performs s k c l run (λ o. Kept s k run (o .run)) x (λ e. untouched s k c l run) (works s k c l run x)
+pub kept-places : (c : Call) (x : Lent) → Kept (x .host .settings) (x .number) (x .run) (perform c x .run)
+kept-places c x = performs c x (λ o. Kept (x .host .settings) (x .number) (x .run) (o .run)) (λ _. untouched x) (λ e. worked x c (there c x e))
 
 pub frame-holds : Frame
 unfolding Frame
-frame-holds s k c l run x =
+frame-holds c x =
     record {
-      places = kept-places s k c l run x;
-      spare = λ not. performs s k c l run (Spared s k c l run) x (λ e. refl) (spared s k c l run x not);
+      places = kept-places c x;
+      spare = λ not. performs c x (λ o. Spared x (o .links)) (λ _. refl) (spared x c not);
     }

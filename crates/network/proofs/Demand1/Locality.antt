@@ -1,220 +1,310 @@
--- A call asks of the run its length and the host's entries, and of a send's buffer its length; what it writes are entries made of those. Of the links it asks those up to the count (SpareLinks.antt).
-use mathlib.Core.Path.{_≡_, refl, sym, ap, _∙_}
+-- A call asks of the run its length and the host's entries, of the links those up to the count, and of a send's buffer its length; what it writes are entries made of those.
+use mathlib.Core.Path.{_≡_, refl, sym, ap, subst, subst₃, _∙_}
 use mathlib.Core.Bool.{Bool, true, false, cond, not}
-use mathlib.Core.List.{List}
-use Prim.Native.Nat.{ℕ}
-use native.Mathlib.Omega.{arith}
-use borrow.Author.Tests.{not-false}
+use mathlib.Core.List.{List, [], map}
+use Prim.Native.Nat.{ℕ, _-_}
 use lib.Dec.{ltb, eqb}
-use lib.ListN.{length, getD, length-replicate, length-map}
+use lib.ListN.{length, getD, set, take}
+use lib.Seq.{getD-take, take-set-lt}
 use Rattle.answer.specs.declared.Answer.{Answer}
-use Rattle.answer.specs.declared.Answer.the-variants.{Done}
+use Rattle.answer.specs.declared.Answer.the-variants.{ShortBuffer}
 use Rattle.clock.specs.declared.Clock.{Clock}
 use Rattle.clock.specs.Clock.{reading}
 use Rattle.wire.specs.declared.Packet.{Packet}
 use Rattle.wire.specs.declared.Parsed.{Parsed}
 use Rattle.wire.specs.declared.Parsed.the-variants.{Good, Bad}
-use Rattle.wire.specs.Hello.{reportAt}
-use Rattle.wire.specs.Packet.{helloOf}
+use Rattle.wire.specs.Packet.{packetLength, message}
 use Rattle.route.specs.declared.Found.{Found}
-use Rattle.route.specs.declared.Found.the-variants.{Host, Nothing}
-use Rattle.route.specs.Find.{find}
+use Rattle.route.specs.declared.Found.the-variants.{Id, Nothing}
 use Rattle.table.specs.declared.Entry.{Entry}
-use Rattle.table.specs.declared.Updated.{Updated}
 use Rattle.table.specs.Forms.{Stage, on, end}
-use Rattle.table.specs.Entry.{freshEntry, up, aged}
-use Rattle.table.specs.Update.{selfReported}
-use Rattle.table.specs.Sweep.{sweep, only}
-use Rattle.table.proofs.Sweeps.{sweep-length}
-use Rattle.config.specs.declared.Settings.{Settings}
-use Rattle.config.specs.declared.Links.{Links}
-use Rattle.config.specs.Settings.{ownId}
-use Rattle.config.specs.State.{broadcast, hostCount, linkOf, withLink, entries, withEntries}
-use Rattle.config.specs.Guard.{noPlaces, lentInRange, guard, guardLink, guardFresh, done}
-use Rattle.config.proofs.Places.{Holds, entries-length, entries-withEntries}
-use Rattle.config.proofs.Guarded.{passed, passed-link, passed-fresh, holds}
+use Rattle.table.specs.Entry.{advertised}
+use Rattle.table.specs.Sweep.{Swept}
+use Rattle.table.specs.Runs.{changes, updates}
+use Rattle.host.specs.declared.Settings.{Settings}
+use Rattle.host.specs.declared.Link.{Link}
+use Rattle.host.specs.declared.Links.{Links}
+use Rattle.host.specs.declared.Reply.{Reply}
+use Rattle.host.specs.declared.guard.Scope.{Scope}
+use Rattle.host.specs.declared.guard.Scope.the-variants.{Places, All, OnLink}
+use Rattle.host.specs.Settings.{linkCount, foundFor}
+use Rattle.host.specs.State.{unset, freshLink, broadcast, linkOf, withLink, entries, withEntries}
+use Rattle.host.specs.Lent.{Host, Lent, host, lent, entriesOf, lentInRange}
+use Rattle.host.specs.Guard.{noPlaces, noLink, guard, done}
+use Rattle.host.proofs.Places.{Holds}
+use Rattle.host.proofs.Guarded.{passed, counted}
+use Rattle.host.specs.Reply.{tellsLength}
+use Rattle.sending.specs.Message.{tableGoes, linkSent, packetSent}
+use Rattle.sending.specs.Send.{reportCount, unsent, sends}
 use Rattle.arrival.specs.declared.Flight.{Flight}
+use Rattle.arrival.specs.declared.Arrived.{Arrived}
 use Rattle.arrival.specs.Inspection.{inspect}
-use Rattle.arrival.specs.Steps.{steps2to4, neighborUpdate, reportUpdate, updateId}
-use Rattle.host.specs.Outcome.{Outcome, Values, leaves, lengthValue}
-use Rattle.host.specs.Send.{sentLength, sentMessage, sentOutcome}
-use Rattle.host.specs.Arrival.{noTable, withTable, step5, concluded, action}
-use Rattle.host.specs.Calls.{arrived, reported, looked}
-use Rattle.network.specs.Call.{Call, initializes, ticks, adjusts, sets, reads, seconds, sends, arrives, reports, looksUp, perform, messageOf}
-use Rattle.network.specs.Locality.{SameInput, same, same-send, told, ownLinks, Locality}
-use Rattle.network.proofs.Performs.{guardOf, workOf, perform-is}
-use Rattle.network.proofs.Sends.{sent-message}
-use Rattle.network.proofs.Demand1.SpareLinks.{relinked}
+use Rattle.arrival.specs.Steps.{steps2to4}
+use Rattle.arrival.specs.Arrival.{noTable, withTable, concluded, inspected, arrival}
+use Rattle.calls.specs.declared.Effect.{Effect}
+use Rattle.calls.specs.declared.Request.{Request}
+use Rattle.calls.specs.declared.Request.the-variants.{Initialize, Tick, Adjust, Set, Read, Second, SelfReport, Lookup}
+use Rattle.calls.specs.Effects.{initialize, tick, adjust, setBy, read, second, selfReport, lookup, wanted, effect}
+use Rattle.calls.specs.Perform.{Call, ask, send, receive, Outcome, scopeOfCall, refused, entryAt, carriedOut, sentBy, work, perform}
+use Rattle.network.specs.Left.{told}
+use Rattle.network.specs.Locality.{SameInput, same, same-send, ownLinks, Local, Locality}
+use Rattle.network.proofs.Performs.{guardOf, there}
+use Rattle.network.proofs.Sends.{sentMessage, sent-message}
+use Rattle.network.proofs.Swept.{changes-length, updates-length}
+use Rattle.network.proofs.Written.{written-kept, written-back}
 
--- outcomes that tell the same, and leave the same but for other hosts' places
-pub record Twins (s : Settings) (k : ℕ) (o p : Outcome) : Type 0 where
-  pub told-same : told o ≡ told p
-  pub clock-same : o .clock ≡ p .clock
-  pub links-same : o .links ≡ p .links
-  pub entries-same : entries s k (o .run) ≡ entries s k (p .run)
+-- ---- one host, lent with other slots past its count and in another run
 
-module _ (s : Settings) (k : ℕ) (run run′ : List Entry) (lengths : length run ≡ length run′) (same-entries : entries s k run ≡ entries s k run′) where
-  -- ---- the guards
+module _ (x : Lent) (l′ : Links) (run′ : List Entry) (own : ownLinks (x .host .settings) (x .host .links) ≡ ownLinks (x .host .settings) l′)
+    (lengths : length (x .run) ≡ length run′) (same-entries : entriesOf x ≡ entries (x .host .settings) (x .number) run′) where
+  abbrev s : Settings
+  s = x .host .settings
 
-  guard-same : (c : Clock) (l : Links) → guard s k c l run ≡ guard s k c l run′
+  abbrev y : Lent
+  y = lent (x .host .settings) (x .number) (x .host .clock) l′ run′
+
+  -- links that agree up to the count, and wholly where l and l′ do
+  pub record Linked (m m′ : Links) : Type 0 where
+    pub own-same : ownLinks s m ≡ ownLinks s m′
+    pub all-same : x .host .links ≡ l′ → m ≡ m′
+
+  untouched : Linked (x .host .links) l′
+  untouched = record { own-same = own; all-same = λ e. e }
+
+  -- what two outcomes have in common
+  pub record Twins (o p : Outcome) : Type 0 where
+    pub told-same : told o ≡ told p
+    pub clock-same : o .clock ≡ p .clock
+    pub links-same : Linked (o .links) (p .links)
+    pub length-same : length (o .run) ≡ length (p .run)
+    pub entries-same : entries s (x .number) (o .run) ≡ entries s (x .number) (p .run)
+
+  -- ---- the guard
+
+  guard-same : (a : Scope) → guard a x ≡ guard a y
   unfolding guard noPlaces lentInRange
-  guard-same c l = rw (lengths, same-entries)
+  guard-same Places = rw lengths
+  guard-same All = rw (lengths, own, same-entries)
+  guard-same (OnLink i) = rw (lengths, own, same-entries)
 
-  guards-same : (c : Clock) (l : Links) (x : Call) → guardOf s k c l run x ≡ guardOf s k c l run′ x
-  unfolding guardLink guardFresh noPlaces
-  guards-same c l initializes = rw lengths
-  guards-same c l ticks = guard-same c l
-  guards-same c l adjusts = guard-same c l
-  guards-same c l (sets ms) = guard-same c l
-  guards-same c l reads = guard-same c l
-  guards-same c l seconds = guard-same c l
-  guards-same c l (sends i buffer) = rw guard-same
-  guards-same c l (arrives i octets) = rw guard-same
-  guards-same c l reports = guard-same c l
-  guards-same c l (looksUp a) = guard-same c l
+  -- ---- a link that the host has
 
-  -- ---- outcomes that are alike
+  module _ (i : ℕ) (has : noLink s i ≡ false) where
+    link-same : linkOf l′ i ≡ linkOf (x .host .links) i
+    link-same =
+        let h = counted s i has .at-place in
+        sym (getD-take (linkCount s) (l′ .all) (i - 1) (freshLink unset) h)
+        ∙ ap (λ xs. getD xs (i - 1) (freshLink unset)) (sym own)
+        ∙ getD-take (linkCount s) (x .host .links .all) (i - 1) (freshLink unset) h
 
-  -- a choice by one test
-  chosen : (b : Bool) {o p o′ p′ : Outcome} → (b ≡ true → Twins s k o o′) → (b ≡ false → Twins s k p p′)
-      → Twins s k (cond b o p) (cond b o′ p′)
-  chosen true x y = x refl
-  chosen false x y = y refl
-
-  -- the run is left as it was
-  kept : {a : Answer} {v : Values} {c : Clock} {l : Links} {b : List ℕ}
-      → Twins s k record { answer = a; values = v; clock = c; links = l; run = run; buffer = b }
-      record { answer = a; values = v; clock = c; links = l; run = run′; buffer = b }
-  kept = record { told-same = refl; clock-same = refl; links-same = refl; entries-same = same-entries }
-
-  -- the same entries are written
-  module _ (held : Holds k run) where
-    written : (es : List Entry) → length es ≡ hostCount s → (a : Answer) (c : Clock) (l : Links)
-        → Twins s k (leaves a c l (withEntries k es run)) (leaves a c l (withEntries k es run′))
-    written es n a c l =
+    stored : (z : Link) → Linked (withLink i z (x .host .links)) (withLink i z l′)
+    stored z =
+        let h = counted s i has .at-place in
         record {
-          told-same = refl;
-          clock-same = refl;
-          links-same = refl;
-          entries-same = entries-withEntries k es run (omega arith) s n ∙ sym (entries-withEntries k es run′ (omega arith) s n);
+          own-same =
+              take-set-lt (linkCount s) (x .host .links .all) (i - 1) z h
+              ∙ ap (λ xs. set xs (i - 1) z) own
+              ∙ sym (take-set-lt (linkCount s) (l′ .all) (i - 1) z h);
+          all-same = λ e. ap (withLink i z) e;
         }
 
-    swept : (update : ℕ → Clock → Entry → Updated) (c : Clock) (l : Links)
-        → Twins s k
-        (leaves Done (sweep 0 update c (entries s k run) .clock) l (withEntries k (sweep 0 update c (entries s k run) .entries) run))
-        (leaves Done (sweep 0 update c (entries s k run′) .clock) l (withEntries k (sweep 0 update c (entries s k run′) .entries) run′))
-    swept update c l = rw (← same-entries) (written _ (sweep-length 0 update c (entries s k run) ∙ entries-length s k run held) Done _ l)
+  -- ---- the entries
 
-    -- ---- step 5
+  module _ (held : Holds (x .number) (x .run)) where
+    -- the same entries, written to both runs
+    written : (es es′ : List Entry) → es ≡ es′ → length es ≡ length (entriesOf x)
+        → (length (withEntries (x .number) es (x .run)) ≡ length (withEntries (x .number) es′ run′))
+        × (entries s (x .number) (withEntries (x .number) es (x .run)) ≡ entries s (x .number) (withEntries (x .number) es′ run′))
+    written es es′ e n =
+        let held′ : Holds (x .number) run′ = rw (← lengths) held in
+        let n′ : length es ≡ length (entriesOf y) = n ∙ ap length same-entries in
+        rw (← e) (
+          written-kept x es held n .same-length ∙ lengths ∙ sym (written-kept y es held′ n′ .same-length),
+          written-back x es held n ∙ sym (written-back y es held′ n′),
+        )
 
-    fifth : (c : Clock) (l : Links) (i : ℕ) (octets : List ℕ) (p : Packet) (f : Flight)
-        → Twins s k (step5 s k c l run i octets p f) (step5 s k c l run′ i octets p f)
-    unfolding step5
-    fifth c l i octets p f = chosen (eqb (p .nhosts) 0) (λ _. go (find (s .address) (s .layout) (s .net) (f .link .neighbor))) (λ _. all)
-      where
-        go : (h : Found) → Twins s k (noTable s k c l run i p f h) (noTable s k c l run′ i p f h)
-        go Nothing = kept
-        go (Host id) = swept (only id (updateId s p (neighborUpdate i f) id)) c l
+    -- ---- requests
 
-        all : Twins s k (withTable s k c l run i octets p f) (withTable s k c l run′ i octets p f)
-        all = swept (λ id. updateId s p (reportUpdate i f (reportAt (helloOf octets) id)) id) c l
+    pub record SameEffect (e e′ : Effect) : Type 0 where
+      pub reply-same : e .reply ≡ e′ .reply
+      pub clock-same : e .clock ≡ e′ .clock
+      pub links-same : Linked (e .links) (e′ .links)
+      pub work-same : e .work ≡ e′ .work
 
-    received : (c : Clock) (l : Links) (i : ℕ) (octets : List ℕ) (q : Parsed)
-        → Twins s k (arrived s k c l run i octets q) (arrived s k c l run′ i octets q)
-    unfolding action
-    received c l i octets (Bad a) = kept
-    received c l i octets (Good p) = go (steps2to4 (broadcast s i) (reading c .clock .hold) p (reading c .time) (linkOf l i))
-      where
-        go : (g : Stage Flight) → Twins s k (concluded s k (reading c .clock) l run i octets p g) (concluded s k (reading c .clock) l run′ i octets p g)
-        go (end f) = kept
-        go (on f) = fifth (reading c .clock) (withLink i (f .link) l) i octets p f
+    found-same : (f : Found) → entryAt f x ≡ entryAt f y
+    found-same Nothing = refl
+    found-same (Id id) = rw same-entries
 
-    -- ---- self-report
+    effect-same : (q : Request) (e : Entry) → SameEffect (effect q (x .host) e) (effect q (y .host) e)
+    unfolding initialize tick adjust setBy read second selfReport lookup
+    effect-same Initialize e = record { reply-same = refl; clock-same = refl; links-same = record { own-same = refl; all-same = λ _. refl }; work-same = refl }
+    effect-same Tick e = record { reply-same = refl; clock-same = refl; links-same = untouched; work-same = refl }
+    effect-same Adjust e = record { reply-same = refl; clock-same = refl; links-same = untouched; work-same = refl }
+    effect-same (Set ms) e = record { reply-same = refl; clock-same = refl; links-same = untouched; work-same = refl }
+    effect-same Read e = record { reply-same = refl; clock-same = refl; links-same = untouched; work-same = refl }
+    effect-same Second e = record { reply-same = refl; clock-same = refl; links-same = untouched; work-same = refl }
+    effect-same SelfReport e = record { reply-same = refl; clock-same = refl; links-same = untouched; work-same = refl }
+    effect-same (Lookup a) e = record { reply-same = refl; clock-same = refl; links-same = untouched; work-same = refl }
 
-    self-reported : (c : Clock) (l : Links) (f : Found)
-        → Twins s k (reported k (reading c) l run (entries s k run) f) (reported k (reading c) l run′ (entries s k run′) f)
-    self-reported c l Nothing = kept
-    self-reported c l (Host id) =
-        rw (← same-entries)
-        (written _
-        (sweep-length 0 (only id (λ d e. record { clock = d; entry = selfReported (reading c .time) e })) (reading c .clock) (entries s k run)
-        ∙ entries-length s k run held) Done (reading c .clock) l)
+    carried : (e e′ : Effect) → SameEffect e e′ → Twins (carriedOut e x) (carriedOut e′ y)
+    carried e e′ t =
+        let w = written (changes (e .work) (entriesOf x)) (changes (e′ .work) (entriesOf y)) (λ i. changes (t .work-same i) (same-entries i)) (changes-length (e .work) (entriesOf x)) in
+        record {
+          told-same = ap (λ (r : Reply). record { reply = r; message = take (r .length) [] }) (t .reply-same);
+          clock-same = t .clock-same;
+          links-same = t .links-same;
+          length-same = w .0;
+          entries-same = w .1;
+        }
 
-  module _ (c : Clock) (l : Links) where
-    held : done (guard s k c l run) ≡ true → Holds k run
-    held e = holds k run (passed s k c l run e .places-there)
+    asked : (q : Request) → Twins (work (ask q) x) (work (ask q) y)
+    asked q =
+        rw (← found-same (wanted q s)) (carried _ _ (effect-same q (entryAt (wanted q s) x)))
 
-    held-link : (i : ℕ) → done (guardLink s k c l run i) ≡ true → Holds k run
-    held-link i e = holds k run (passed-link s k c l run i e .1 .places-there)
+    -- ---- a send, into buffers of one length
 
-    looked-up : (f : Found) → Twins s k (looked c l run (entries s k run) f) (looked c l run′ (entries s k run′) f)
-    looked-up Nothing = kept
-    looked-up (Host id) = rw (← same-entries) (chosen (not (up (getD (entries s k run) id freshEntry))) (λ _. kept) (λ _. kept))
+    module _ (i : ℕ) (has : noLink s i ≡ false) (b d : List ℕ) (n : length b ≡ length d) where
+      held′ : Holds (x .number) run′
+      held′ = rw (← lengths) held
 
-    -- a send into buffers of one length
-    sent : (i : ℕ) (b d : List ℕ) → length b ≡ length d → Twins s k (workOf s k c l run (sends i b)) (workOf s k c l run′ (sends i d))
-    sent i b d n =
-        rw (← test)
-        (chosen (ltb (length b) (sentLength s i (linkOf l i) (entries s k run)))
-        (λ _. record { told-same = refl; clock-same = refl; links-same = refl; entries-same = same-entries })
-        (λ _. record { told-same = message; clock-same = refl; links-same = refl; entries-same = same-entries }))
-      where
-        test : ltb (length b) (sentLength s i (linkOf l i) (entries s k run)) ≡ ltb (length d) (sentLength s i (linkOf l i) (entries s k run′))
-        test = rw (n, same-entries)
+      same-link : linkOf (x .host .links) i ≡ linkOf l′ i
+      same-link = sym (link-same i has)
 
-        text : messageOf (sentOutcome s k (reading c) l run i b) ≡ messageOf (sentOutcome s k (reading c) l run′ i d)
-        text =
-            sent-message s k (reading c) l run i b
-            ∙ ap (sentMessage s i (linkOf l i) (reading c .time) (reading c .clock .date)) same-entries
-            ∙ sym (sent-message s k (reading c) l run′ i d)
+      message-same : sentMessage x held i ≡ sentMessage y held′ i
+      message-same =
+          λ j. message (same-link j .neighbor)
+          (packetSent s (same-link j) (reading (x .host .clock) .time) (reading (x .host .clock) .clock .date) (reportCount s (same-link j)))
+          (cond (tableGoes s (same-link j)) (map (advertised i) (same-entries j)) [])
 
-        message : told (sentOutcome s k (reading c) l run i b) ≡ told (sentOutcome s k (reading c) l run′ i d)
-        message = λ j. record { answer = Done; values = lengthValue (sentLength s i (linkOf l i) (same-entries j)); message = text j }
+      gone : Twins (sentBy (sends i (x .host)) b x) (sentBy (sends i (y .host)) d y)
+      gone =
+          let text = sent-message x held i b ∙ message-same ∙ sym (sent-message y held′ i d) in
+          record {
+            told-same = λ j. record { reply = tellsLength (packetLength (reportCount s (same-link j))); message = text j };
+            clock-same = refl;
+            links-same =
+                subst (λ z. Linked (withLink i (linkSent (linkOf (x .host .links) i)) (x .host .links)) (withLink i (linkSent z) l′)) same-link
+                (stored i has (linkSent (linkOf (x .host .links) i)));
+            length-same = lengths;
+            entries-same = same-entries;
+          }
 
-    works : (x : Call) → done (guardOf s k c l run x) ≡ true → Twins s k (workOf s k c l run x) (workOf s k c l run′ x)
-    works initializes e =
-        written (holds k run (passed-fresh s k run e .0)) _ (length-replicate (hostCount s) freshEntry) Done _ _
-    works ticks e = kept
-    works adjusts e = kept
-    works (sets ms) e = kept
-    works reads e = kept
-    works seconds e =
-        rw (← same-entries)
-        (written (held e) _ (length-map (entries s k run) aged ∙ entries-length s k run (held e)) Done _ l)
-    works (sends i buffer) e = sent i buffer buffer refl
-    works (arrives i octets) e = received (held-link i e) c l i octets (inspect s i octets)
-    works reports e = self-reported (held e) c l (ownId s)
-    works (looksUp a) e = looked-up (find (s .address) (s .layout) (s .net) a)
+      sent : Twins (work (send i b) x) (work (send i d) y)
+      sent =
+          subst (λ t. Twins (work (send i b) x) (sentBy (cond t (unsent ShortBuffer (y .host)) (sends i (y .host))) d y))
+          (λ j. ltb (n j) (packetLength (reportCount s (same-link j)))) (go (ltb (length b) (packetLength (reportCount s (linkOf (x .host .links) i)))))
+        where
+          go : (t : Bool)
+              → Twins (sentBy (cond t (unsent ShortBuffer (x .host)) (sends i (x .host))) b x) (sentBy (cond t (unsent ShortBuffer (y .host)) (sends i (y .host))) d y)
+          go true = record { told-same = refl; clock-same = refl; links-same = untouched; length-same = lengths; entries-same = same-entries }
+          go false = gone
 
-    -- refusals by one guard are alike, and so is what comes behind it
-    guarded : (x x′ : Call) → guardOf s k c l run x ≡ guardOf s k c l run′ x′
-        → (done (guardOf s k c l run x) ≡ true → Twins s k (workOf s k c l run x) (workOf s k c l run′ x′))
-        → Twins s k (perform s k c l run x) (perform s k c l run′ x′)
-    guarded x x′ g work =
-        rw (perform-is s k c l run x, perform-is s k c l run′ x′, ← g)
-        (chosen (not (done (guardOf s k c l run x)))
-        (λ _. record { told-same = refl; clock-same = refl; links-same = refl; entries-same = same-entries })
-        (λ e. work (not-false _ e)))
+    -- ---- an arrival
 
-    performed : {x x′ : Call} → SameInput x x′ → Twins s k (perform s k c l run x) (perform s k c l run′ x′)
-    performed (same {x}) = guarded x x (guards-same c l x) (works x)
-    performed (same-send {i} {b} {d} n) = guarded (sends i b) (sends i d) (guards-same c l (sends i b)) (λ _. sent i b d n)
+    pub record SameArrived (e e′ : Arrived) : Type 0 where
+      pub reply-same : e .reply ≡ e′ .reply
+      pub links-same : Linked (e .links) (e′ .links)
+      pub work-same : e .work ≡ e′ .work
 
--- with the same links
-pub twins : (s : Settings) (k : ℕ) (c : Clock) (l : Links) (run run′ : List Entry) {x x′ : Call} → length run ≡ length run′
-    → entries s k run ≡ entries s k run′ → SameInput x x′ → Twins s k (perform s k c l run x) (perform s k c l run′ x′)
-twins s k c l run run′ lengths same-entries inputs = performed s k run run′ lengths same-entries c l inputs
+    module _ (i : ℕ) (has : noLink s i ≡ false) where
+      -- the host with the link as a flight leaves it
+      abbrev hx : Flight → Host
+      hx f = host (x .host .settings) (reading (x .host .clock) .clock) (withLink i (f .link) (x .host .links))
+
+      abbrev hy : Flight → Host
+      hy f = host (x .host .settings) (reading (x .host .clock) .clock) (withLink i (f .link) l′)
+
+      fifth : (p : Packet) (f : Flight)
+          → SameArrived (concluded (host (x .host .settings) (reading (x .host .clock) .clock) (x .host .links)) i p (on f))
+          (concluded (host (x .host .settings) (reading (x .host .clock) .clock) l′) i p (on f))
+      fifth p f = go (eqb (p .nhosts) 0) (foundFor s (f .link .neighbor))
+        where
+          go : (b : Bool) (g : Found) → SameArrived (cond b (noTable (hx f) i p f g) (withTable (hx f) i p f)) (cond b (noTable (hy f) i p f g) (withTable (hy f) i p f))
+          go true Nothing = record { reply-same = refl; links-same = stored i has (f .link); work-same = refl }
+          go true (Id id) = record { reply-same = refl; links-same = stored i has (f .link); work-same = refl }
+          go false g = record { reply-same = refl; links-same = stored i has (f .link); work-same = refl }
+
+      concludes : (p : Packet) (g : Stage Flight)
+          → SameArrived (concluded (host (x .host .settings) (reading (x .host .clock) .clock) (x .host .links)) i p g)
+          (concluded (host (x .host .settings) (reading (x .host .clock) .clock) l′) i p g)
+      concludes p (end f) = record { reply-same = refl; links-same = stored i has (f .link); work-same = refl }
+      concludes p (on f) = fifth p f
+
+      arrived-same : (q : Parsed) → SameArrived (inspected (x .host) i q) (inspected (y .host) i q)
+      arrived-same (Bad a) = record { reply-same = refl; links-same = untouched; work-same = refl }
+      arrived-same (Good p) =
+          subst
+          (λ z.
+          SameArrived (inspected (x .host) i (Good p))
+          (concluded (host (x .host .settings) (reading (x .host .clock) .clock) l′) i p (steps2to4 (broadcast s i) (reading (x .host .clock) .clock .hold) p (reading (x .host .clock) .time) z)))
+          (sym (link-same i has))
+          (concludes p (steps2to4 (broadcast s i) (reading (x .host .clock) .clock .hold) p (reading (x .host .clock) .time) (linkOf (x .host .links) i)))
+
+      received : (octets : List ℕ) → Twins (work (receive i octets) x) (work (receive i octets) y)
+      received octets =
+          let t = arrived-same (inspect s i octets) in
+          let same : updates (arrival i octets (x .host) .work) octets (entriesOf x) ≡ updates (arrival i octets (y .host) .work) octets (entriesOf y) =
+          λ j. updates (t .work-same j) octets (same-entries j) in
+          let w = written _ _ (ap (λ (v : Swept). v .entries) same) (updates-length (arrival i octets (x .host) .work) octets (entriesOf x)) in
+          record {
+            told-same = ap (λ (r : Reply). record { reply = r; message = take (r .length) [] }) (t .reply-same);
+            clock-same = ap (λ (v : Swept). v .clock) same;
+            links-same = t .links-same;
+            length-same = w .0;
+            entries-same = w .1;
+          }
+
+  -- ---- every call
+
+  -- refusals by one guard are alike, and so is what comes behind it
+  guarded : (c d : Call) → scopeOfCall c ≡ scopeOfCall d → ((a : Answer) → Twins (refused a c x) (refused a d y))
+      → (done (guardOf c x) ≡ true → Twins (work c x) (work d y)) → Twins (perform c x) (perform d y)
+  unfolding perform
+  guarded c d scopes refuses works =
+      subst (λ g. Twins (perform c x) (cond (not (done g)) (refused g d y) (work d y)))
+      (guard-same (scopeOfCall c) ∙ ap (λ a. guard a y) scopes)
+      (go (done (guardOf c x)) refl)
+    where
+      go : (b : Bool) → done (guardOf c x) ≡ b
+          → Twins (cond (not b) (refused (guardOf c x) c x) (work c x)) (cond (not b) (refused (guardOf c x) d y) (work d y))
+      go true e = works e
+      go false e = refuses (guardOf c x)
+
+  performed : {c d : Call} → SameInput c d → Twins (perform c x) (perform d y)
+  performed (same {c}) = guarded c c refl (λ a. record { told-same = refl; clock-same = refl; links-same = untouched; length-same = lengths; entries-same = same-entries }) (works c)
+    where
+      works : (c : Call) → done (guardOf c x) ≡ true → Twins (work c x) (work c y)
+      works (ask q) e = asked (there (ask q) x e) q
+      works (send i b) e = sent (there (send i b) x e) i (passed (scopeOfCall (send i b)) x e .link i refl) b b refl
+      works (receive i octets) e = received (there (receive i octets) x e) i (passed (scopeOfCall (receive i octets)) x e .link i refl) octets
+  performed (same-send {i} {b} {d} n) =
+      guarded (send i b) (send i d) refl (λ a. record { told-same = refl; clock-same = refl; links-same = untouched; length-same = lengths; entries-same = same-entries })
+      (λ e. sent (there (send i b) x e) i (passed (scopeOfCall (send i b)) x e .link i refl) b d n)
+
+  local : {c d : Call} → SameInput c d → Local c d x y
+  local inputs =
+      let t = performed inputs in
+      record {
+        told-same = t .told-same;
+        left-alike =
+            record {
+              settings-same = refl;
+              number-same = refl;
+              clock-same = t .clock-same;
+              links-same = t .links-same .own-same;
+              length-same = t .length-same;
+              entries-same = t .entries-same;
+            };
+        all-links = t .links-same .all-same;
+      }
 
 pub locality-holds : Locality
 unfolding Locality
-locality-holds s k c l l′ run run′ x x′ own lengths same-entries inputs =
-    let t = twins s k c l run run′ lengths same-entries inputs in
-    let r = relinked s k c l l′ run′ own x′ in (
-      record {
-        told-same = t .told-same ∙ ap (λ o. told o) (r .rest-same);
-        clock-same = t .clock-same ∙ ap (λ o. o .clock) (r .rest-same);
-        links-same = ap (ownLinks s) (t .links-same) ∙ r .own-same;
-        entries-same = t .entries-same ∙ ap (λ o. entries s k (o .run)) (r .rest-same);
-      },
-      λ e. t .links-same ∙ ap (λ m. perform s k c m run′ x′ .links) e,
-    )
+locality-holds c d x y inputs alike =
+    subst₃
+    (λ (s : Settings) (k : ℕ) (t : Clock).
+    ownLinks (x .host .settings) (x .host .links) ≡ ownLinks s (y .host .links) → entriesOf x ≡ entries s k (y .run)
+    → Local c d x (lent s k t (y .host .links) (y .run)))
+    (alike .settings-same) (alike .number-same) (alike .clock-same)
+    (λ own same-entries. local x (y .host .links) (y .run) own (alike .length-same) same-entries inputs)
+    (alike .links-same) (alike .entries-same)

@@ -1,81 +1,90 @@
 -- Each call leaves a clock, links and entries in range: fresh ones are, and each rule keeps them so.
 use mathlib.Core.Path.{_≡_, refl, sym, ap, _∙_}
-use mathlib.Core.Bool.{Bool, true, false, false≢true, cond, not, _&&_, _||_}
+use mathlib.Core.Bool.{Bool, true, false, false≢true, cond, not, _||_}
 use mathlib.Core.List.{List, map}
-use Prim.Native.Nat.{ℕ, _+_}
+use Prim.Native.Nat.{ℕ, _-_, _≤_, _<_}
 use native.Mathlib.Omega.{arith}
+use lib.Dec.{ltb}
 use lib.IntN.{pos}
-use lib.ListN.{length, take, replicate, length-replicate, length-map}
-use Rattle.laws.proofs.Tests.{both, neither, is-not, is-so}
+use lib.ListN.{length, take}
+use Rattle.laws.proofs.Tests.{either, both, neither, is-not, is-so}
 use Rattle.quantity.specs.Quantity.{millis, lessMillis}
-use Rattle.answer.specs.declared.Answer.the-variants.{Done, Setting, OutOfRange}
+use Rattle.answer.specs.declared.Answer.the-variants.{Done, Setting, DelayNotValid, NoHost, OutOfRange}
 use Rattle.answer.specs.Answer.{number}
 use Rattle.clock.specs.declared.Clock.{Clock}
 use Rattle.clock.specs.Midnight.{dayMillis}
-use Rattle.clock.specs.Clock.{freshClock, reading, holdSecond, clockInRange}
+use Rattle.clock.specs.Clock.{reading, clockInRange}
 use Rattle.clock.proofs.Range.{tick-in-range, adjust-in-range, set-in-range, second-in-range, fresh-in-range}
-use Rattle.wire.specs.Hello.{reportAt}
-use Rattle.wire.specs.Packet.{helloOf}
-use Rattle.route.specs.declared.Found.the-variants.{Host}
+use Rattle.wire.specs.Packet.{helloOf, packetLength}
+use Rattle.route.specs.declared.Found.{Found}
+use Rattle.route.specs.declared.Found.the-variants.{Id, Nothing}
 use Rattle.table.specs.declared.Entry.{Entry}
-use Rattle.table.specs.declared.Updated.{Updated}
+use Rattle.table.specs.declared.run.Change.the-variants.{Fresh}
+use Rattle.table.specs.declared.run.Changes.{Changes}
 use Rattle.table.specs.Forms.{every}
-use Rattle.table.specs.Entry.{freshEntry, aged, entryInRange}
-use Rattle.table.specs.Update.{selfReported}
-use Rattle.table.specs.Sweep.{sweep, only}
+use Rattle.table.specs.Entry.{entryInRange}
+use Rattle.table.specs.Runs.{changed, changes, updatedAt, updates}
 use Rattle.table.proofs.Kept.{aged-in-range, self-in-range}
 use Rattle.table.proofs.Kept as kept
 use Rattle.table.proofs.Ranges.{reading-in}
-use Rattle.table.proofs.Sweeps.{sweep-length, sweep-clock, only-either}
-use Rattle.config.specs.declared.Settings.{Settings}
-use Rattle.config.specs.declared.Links.{Links}
-use Rattle.config.specs.Settings.{settingsGood}
-use Rattle.config.specs.State.{freshLinks, hostCount, withLink, entries, withEntries}
-use Rattle.config.specs.Guard.{noPlaces, linkCount, linkInRange, lentInRange, guard, guardFresh, done}
-use Rattle.config.proofs.Places.{Holds, entries-length, withEntries-length, entries-withEntries}
-use Rattle.config.proofs.Guarded.{Counted, counted, passed, passed-link, passed-fresh, holds}
-use Rattle.config.proofs.Sound.{Sound, sound}
+use Rattle.host.specs.declared.Links.{Links}
+use Rattle.host.specs.declared.guard.Scope.the-variants.{Places}
+use Rattle.host.specs.Settings.{linkCount, settingsGood, ownId}
+use Rattle.host.specs.State.{hostCount, freshLinks, linkOf, withLink, linkInRange, withEntries}
+use Rattle.host.specs.Lent.{Lent, lent, entriesOf, lentInRange, hostInRange}
+use Rattle.host.specs.Guard.{noPlaces, guard, done}
+use Rattle.host.proofs.Places.{entries-length}
+use Rattle.host.proofs.Guarded.{Counted, counted, passed, holds}
+use Rattle.host.proofs.Sound.{Sound, sound}
+use Rattle.sending.specs.declared.Sending.{Sending}
+use Rattle.sending.specs.Send.{reportCount}
 use Rattle.arrival.specs.declared.Flight.{Flight}
-use Rattle.arrival.specs.Inspection.{inspect}
-use Rattle.arrival.specs.Steps.{neighborUpdate, reportUpdate, updateId}
-use Rattle.host.specs.Outcome.{Outcome}
-use Rattle.host.specs.Calls.{initialize, reported}
-use Rattle.network.specs.Call.{Call, initializes, ticks, adjusts, sets, reads, seconds, sends, arrives, reports, looksUp, perform}
+use Rattle.arrival.specs.declared.Arrived.{Arrived}
+use Rattle.arrival.specs.Steps.{neighborUpdate}
+use Rattle.arrival.specs.Arrival.{ends, updated}
+use Rattle.calls.specs.declared.Effect.{Effect}
+use Rattle.calls.specs.declared.Request.{Request}
+use Rattle.calls.specs.declared.Request.the-variants.{Initialize, Tick, Adjust, Set, Read, Second, SelfReport, Lookup}
+use Rattle.calls.specs.Effects.{initialize, tick, adjust, setBy, read, second, selfReport, lookup, ownWork, wanted, effect}
+use Rattle.calls.specs.Perform.{Call, ask, send, receive, scopeOfCall, entryAt, carriedOut, sentBy, updatedBy, work, perform}
+use Rattle.network.specs.Left.{left}
 use Rattle.network.specs.Range.{Accepted, Range}
-use Rattle.network.proofs.Performs.{guardOf, workOf, performs, sent-ways, reported-ways, looked-ways}
-use Rattle.network.proofs.Arrivals.{Flown, arrived-ways}
-use Rattle.network.proofs.Lists.{All, all-replicate, all-map, every-all, all-every}
-use Rattle.network.proofs.Swept.{sweep-keeps}
+use Rattle.network.proofs.Performs.{guardOf, performs}
+use Rattle.network.proofs.Arrivals.{Flown, storing, arrival-ways}
+use Rattle.network.proofs.Lists.{all-made, every-all, all-every}
+use Rattle.network.proofs.Lists as lists
+use Rattle.network.proofs.Swept.{changes-length, changes-keep, changes-each, updates-length, updates-keep, updates-clock}
 use Rattle.network.proofs.Ranges.{withLink-in, sent-in, fresh-links-in, neighbor-sane, report-sane, entry-in, clock-in}
+use Rattle.network.proofs.Written.{written-kept, written-back}
 
 -- ---- what 12 tests, each by itself
 
-pub record InRange (s : Settings) (k : ℕ) (c : Clock) (l : Links) (run : List Entry) : Type 0 where
-  pub places-there : noPlaces k run ≡ false
-  pub clock-in : clockInRange c ≡ true
-  pub links-in : every linkInRange (take (linkCount s) (l .all)) ≡ true
-  pub entries-in : every entryInRange (entries s k run) ≡ true
+pub record InRange (x : Lent) : Type 0 where
+  pub places-there : noPlaces (x .number) (x .run) ≡ false
+  pub clock-in : clockInRange (x .host .clock) ≡ true
+  pub links-in : every linkInRange (take (linkCount (x .host .settings)) (x .host .links .all)) ≡ true
+  pub entries-in : every entryInRange (entriesOf x) ≡ true
 
-module _ (s : Settings) (k : ℕ) (c : Clock) (l : Links) (run : List Entry) where
-  parts : noPlaces k run ≡ false → lentInRange s k c l run ≡ true → InRange s k c l run
+module _ (x : Lent) where
+  parts : noPlaces (x .number) (x .run) ≡ false → lentInRange x ≡ true → InRange x
   unfolding lentInRange
   parts p e =
-      let two = both (clockInRange c && every linkInRange (take (linkCount s) (l .all))) (every entryInRange (entries s k run)) e in
-      let one = both (clockInRange c) (every linkInRange (take (linkCount s) (l .all))) (two .0) in
+      let two = both (hostInRange (x .host)) (every entryInRange (entriesOf x)) e in
+      let one = both (clockInRange (x .host .clock)) _ (two .0) in
       record { places-there = p; clock-in = one .0; links-in = one .1; entries-in = two .1 }
 
-  accepted : Accepted s k c l run → InRange s k c l run
+  accepted : Accepted x → InRange x
   unfolding guard
-  accepted a = go (noPlaces k run || not (lentInRange s k c l run)) refl a
+  accepted a = go (noPlaces (x .number) (x .run) || not (lentInRange x)) refl a
     where
-      go : (b : Bool) → noPlaces k run || not (lentInRange s k c l run) ≡ b → (cond b OutOfRange (cond (not (settingsGood s)) Setting Done) ≡ OutOfRange → ⊥)
-          → InRange s k c l run
+      go : (b : Bool) → noPlaces (x .number) (x .run) || not (lentInRange x) ≡ b
+          → (cond b OutOfRange (cond (not (settingsGood (x .host .settings))) Setting Done) ≡ OutOfRange → ⊥) → InRange x
       go true e h = absurd (h refl)
-      go false e h = let n = neither (noPlaces k run) (not (lentInRange s k c l run)) e in parts (n .0) (is-so _ (n .1))
+      go false e h = let n = neither (noPlaces (x .number) (x .run)) (not (lentInRange x)) e in parts (n .0) (is-so _ (n .1))
 
-  accepts : InRange s k c l run → Accepted s k c l run
+  accepts : InRange x → Accepted x
   unfolding guard lentInRange
-  accepts r e = other (settingsGood s) (rw (r .places-there, r .clock-in, r .links-in, r .entries-in) at e)
+  accepts r e = other (settingsGood (x .host .settings)) (rw (r .places-there, r .clock-in, r .links-in, r .entries-in) at e)
     where
       other : (b : Bool) → cond (not b) Setting Done ≡ OutOfRange → ⊥
       other true h = omega (arith, ap number h)
@@ -83,167 +92,144 @@ module _ (s : Settings) (k : ℕ) (c : Clock) (l : Links) (run : List Entry) whe
 
 -- ---- the calls
 
-module _ (s : Settings) (k : ℕ) (c : Clock) (l : Links) (run : List Entry) where
-  -- the outcome is in range
-  abbrev Leaves : Outcome → Type 0
-  Leaves o = InRange s k (o .clock) (o .links) (o .run)
+-- what each change asks to keep an entry in range
+abbrev Keeps : Changes → Type 0
+Keeps w = (id : ℕ) (e : Entry) → w .first ≤ id → id < w .end → entryInRange e ≡ true → entryInRange (changed (w .change) e) ≡ true
+
+module _ (x : Lent) where
+  abbrev linksIn : Links → Type 0
+  linksIn l = every linkInRange (take (linkCount (x .host .settings)) (l .all)) ≡ true
 
   -- entries that are in range, written to the host's first places
-  written : (d : Clock) (m : Links) (es : List Entry) → noPlaces k run ≡ false → clockInRange d ≡ true
-      → every linkInRange (take (linkCount s) (m .all)) ≡ true → length es ≡ hostCount s → every entryInRange es ≡ true
-      → InRange s k d m (withEntries k es run)
+  written : (c : Clock) (l : Links) (es : List Entry) → noPlaces (x .number) (x .run) ≡ false → clockInRange c ≡ true → linksIn l
+      → length es ≡ length (entriesOf x) → every entryInRange es ≡ true
+      → InRange (lent (x .host .settings) (x .number) c l (withEntries (x .number) es (x .run)))
   unfolding noPlaces
-  written d m es p clock links n range =
-      let h : Holds k run = holds k run p in
+  written c l es p clock links n range =
+      let h = holds (x .number) (x .run) p in
       record {
-        places-there = rw (withEntries-length k es run (omega arith)) p;
+        places-there = rw (written-kept x es h n .same-length) p;
         clock-in = clock;
         links-in = links;
-        entries-in = rw (entries-withEntries k es run (omega arith) s n) range;
+        entries-in = rw (written-back x es h n) range;
       }
 
   -- setting afresh
-  begun : done (guardFresh s k run) ≡ true → Leaves (workOf s k c l run initializes)
+  begun : done (guard Places x) ≡ true → InRange (left x (work (ask Initialize) x))
+  unfolding initialize
   begun e =
-      let p = passed-fresh s k run e in
-      let good = sound s (p .1) in
-      let time = both (not (lessMillis (s .time) (millis (pos 0)))) (lessMillis (s .time) dayMillis) (good .time) in
-      written (freshClock (s .time) (s .date)) (freshLinks s) (replicate (hostCount s) freshEntry) (p .0)
-      (fresh-in-range (s .time) (s .date) (is-not _ (time .0)) (time .1) (good .date)) (fresh-links-in s) (length-replicate (hostCount s) freshEntry)
-      (all-every entryInRange (replicate (hostCount s) freshEntry)
-      (all-replicate (λ _ x. entryInRange x ≡ true) freshEntry (λ _. kept.fresh-in-range) (hostCount s)))
+      let p = passed Places x e in
+      let good = sound (x .host .settings) (p .settings) in
+      let h = holds (x .number) (x .run) (p .places) in
+      let time = both (not (lessMillis (x .host .settings .time) (millis (pos 0)))) (lessMillis (x .host .settings .time) dayMillis) (good .time) in
+      written _ (freshLinks (x .host .settings)) _ (p .places)
+      (fresh-in-range (x .host .settings .time) (x .host .settings .date) (is-not _ (time .0)) (time .1) (good .date)) (fresh-links-in (x .host .settings))
+      (changes-length record { first = 0; end = hostCount (x .host .settings); change = Fresh } (entriesOf x))
+      (rw (changes-each (hostCount (x .host .settings)) Fresh (entriesOf x) (omega (arith, entries-length (x .host .settings) (x .number) (x .run) h)))
+      (all-every entryInRange (map (changed Fresh) (entriesOf x)) (all-made (λ _ e. entryInRange e ≡ true) (changed Fresh) (λ _ _. kept.fresh-in-range) (entriesOf x))))
 
-  module _ (r : InRange s k c l run) where
-    held : Holds k run
-    held = holds k run (r .places-there)
+  module _ (r : InRange x) where
+    all-in : lists.All (λ _ e. entryInRange e ≡ true) (entriesOf x)
+    all-in = every-all entryInRange (entriesOf x) (r .entries-in)
 
-    -- a clock alone
-    timed : (d : Clock) → clockInRange d ≡ true → InRange s k d l run
-    timed d h = record { places-there = r .places-there; clock-in = h; links-in = r .links-in; entries-in = r .entries-in }
+    -- ---- requests
 
-    -- entries that a sweep leaves
-    all-in : All (λ _ e. entryInRange e ≡ true) (entries s k run)
-    all-in = every-all entryInRange (entries s k run) (r .entries-in)
+    carried : (e : Effect) → clockInRange (e .clock) ≡ true → linksIn (e .links) → Keeps (e .work) → InRange (left x (carriedOut e x))
+    carried e clock links keeps =
+        written (e .clock) (e .links) (changes (e .work) (entriesOf x)) (r .places-there) clock links (changes-length (e .work) (entriesOf x))
+        (all-every entryInRange (changes (e .work) (entriesOf x)) (changes-keep (e .work) (entriesOf x) (λ _ e. entryInRange e ≡ true) keeps all-in))
 
-    aged-in : every entryInRange (map aged (entries s k run)) ≡ true
-    aged-in =
-        all-every entryInRange (map aged (entries s k run))
-        (all-map (λ _ e. entryInRange e ≡ true) (λ _ e. entryInRange e ≡ true) aged (λ _ e h. aged-in-range e h) (entries s k run) all-in)
+    -- the entries stay
+    none : Keeps record { first = 0; end = 0; change = Fresh }
+    none id e low high h = absurd (omega arith)
 
-    -- a sweep whose updates keep clocks and entries in range
-    module _ (update : ℕ → Clock → Entry → Updated)
-        (ranges : (i : ℕ) (d : Clock) (e : Entry) → entryInRange e ≡ true → entryInRange (update i d e .entry) ≡ true) where
-      swept-count : length (sweep 0 update c (entries s k run) .entries) ≡ hostCount s
-      swept-count = sweep-length 0 update c (entries s k run) ∙ entries-length s k run held
+    own : (f : Found) → Keeps (ownWork (reading (x .host .clock) .time) f)
+    own Nothing = none
+    own (Id i) = λ id e low high h. self-in-range (reading (x .host .clock) .time) (reading-in (x .host .clock) (r .clock-in)) e h
 
-      swept-in : every entryInRange (sweep 0 update c (entries s k run) .entries) ≡ true
-      swept-in =
-          all-every entryInRange (sweep 0 update c (entries s k run) .entries)
-          (sweep-keeps (λ _ e. entryInRange e ≡ true) 0 update c (entries s k run) (λ i d e _ h. ranges (i + 0) d e h) all-in)
+    abbrev does : Request → Effect
+    does q = effect q (x .host) (entryAt (wanted q (x .host .settings)) x)
 
-      swept : (m : Links) → every linkInRange (take (linkCount s) (m .all)) ≡ true
-          → ((i : ℕ) (d : Clock) (e : Entry) → clockInRange d ≡ true → clockInRange (update i d e .clock) ≡ true)
-          → InRange s k (sweep 0 update (reading c .clock) (entries s k run) .clock) m
-          (withEntries k (sweep 0 update (reading c .clock) (entries s k run) .entries) run)
-      unfolding reading
-      swept m links clocks =
-          written (sweep 0 update c (entries s k run) .clock) m (sweep 0 update c (entries s k run) .entries) (r .places-there)
-          (sweep-clock (λ d. clockInRange d ≡ true) update clocks 0 c (entries s k run) (r .clock-in)) links swept-count swept-in
+    asked : (q : Request) → Sound (x .host .settings) → done (guardOf (ask q) x) ≡ true → InRange (left x (work (ask q) x))
+    unfolding tick adjust setBy read second selfReport lookup reading
+    asked Initialize good e = begun e
+    asked Tick good e =
+        carried (does Tick) (tick-in-range (x .host .settings .«hold_interval») (good .hold-to) (x .host .clock) (r .clock-in) (x .host .settings .«clock_tick»)) (r .links-in) none
+    asked Adjust good e = carried (does Adjust) (adjust-in-range (x .host .settings .«hold_interval») (good .hold-to) (x .host .clock) (r .clock-in)) (r .links-in) none
+    asked (Set ms) good e =
+        carried (does (Set ms)) (set-in-range (x .host .settings .«hold_interval») (good .hold-to) (x .host .clock) (r .clock-in) (millis ms)) (r .links-in) none
+    asked Read good e = carried (does Read) (r .clock-in) (r .links-in) none
+    asked Second good e = carried (does Second) (second-in-range (x .host .clock) (r .clock-in)) (r .links-in) (λ id e low high h. aged-in-range e h)
+    asked SelfReport good e = carried (does SelfReport) (r .clock-in) (r .links-in) (own (ownId (x .host .settings)))
+    asked (Lookup a) good e = carried (does (Lookup a)) (r .clock-in) (r .links-in) none
 
-    -- a send
-    sent : (i : ℕ) (buffer : List ℕ) → Counted s i → Leaves (workOf s k c l run (sends i buffer))
+    -- ---- a send
+
+    sent : (i : ℕ) (buffer : List ℕ) → Counted (x .host .settings) i → InRange (left x (work (send i buffer) x))
     unfolding reading
     sent i buffer has =
-        sent-ways s k c l run Leaves i buffer r
+        either (λ (p : Sending). InRange (left x (sentBy p buffer x)))
+        (ltb (length buffer) (packetLength (reportCount (x .host .settings) (linkOf (x .host .links) i)))) _ _ (λ _. r)
+        (λ _.
         record {
           places-there = r .places-there;
           clock-in = r .clock-in;
-          links-in = sent-in s l i has (r .links-in);
+          links-in = sent-in (x .host .settings) (x .host .links) i has (r .links-in);
           entries-in = r .entries-in;
-        }
+        })
 
-    -- an arrival
-    module _ (i : ℕ) (has : Counted s i) (good : Sound s) where
-      touched : (f : Flight) → Flown c f → every linkInRange (take (linkCount s) (withLink i (f .link) l .all)) ≡ true
-      touched f g = withLink-in s l i has (r .links-in) (f .link) (rw (g .keep-alive-is))
+    -- ---- an arrival
 
-      linked : (f : Flight) → Flown c f → InRange s k (reading c .clock) (withLink i (f .link) l) run
-      unfolding reading
-      linked f g =
-          record { places-there = r .places-there; clock-in = r .clock-in; links-in = touched f g; entries-in = r .entries-in }
+    module _ (octets : List ℕ) where
+      swept : (a : Arrived) → clockInRange (a .work .clock) ≡ true → linksIn (a .links) → a .work .«hold_interval» .0 ≤ 255
+          → ((id : ℕ) (c : Clock) (e : Entry) → a .work .first ≤ id → id < a .work .end → entryInRange e ≡ true
+          → entryInRange (updatedAt (a .work) octets id c e .entry) ≡ true)
+          → InRange (left x (updatedBy a octets x))
+      swept a clock links hold ranges =
+          written _ (a .links) _ (r .places-there)
+          (updates-clock (a .work) octets (entriesOf x) (λ c. clockInRange c ≡ true) (λ id c e h. clock-in (a .work) octets id c e hold h) clock)
+          links (updates-length (a .work) octets (entriesOf x))
+          (all-every entryInRange (updates (a .work) octets (entriesOf x) .entries)
+          (updates-keep (a .work) octets (entriesOf x) (λ _ e. entryInRange e ≡ true) (λ id c e low high _ h. ranges id c e low high h) all-in))
 
-      received : (octets : List ℕ) → Leaves (workOf s k c l run (arrives i octets))
-      received octets =
-          arrived-ways s k c l run i octets Leaves
-          record {
-            refused = λ a. r;
-            ended = λ f g n. linked f g;
-            unknown = λ f g. linked f g;
-            one = λ p f id g.
-                swept (only id (updateId s p (neighborUpdate i f) id))
-                (λ j d e h.
-                only-either (λ u. entryInRange (u .entry) ≡ true) id (updateId s p (neighborUpdate i f) id) j d e
-                (entry-in s p (neighborUpdate i f) id d e (neighbor-sane s c i f has (r .clock-in) g) h) h)
-                (withLink i (f .link) l) (touched f g)
-                (λ j d e h.
-                only-either (λ u. clockInRange (u .clock) ≡ true) id (updateId s p (neighborUpdate i f) id) j d e
-                (clock-in s p (neighborUpdate i f) id d e (good .hold-to) h) h);
-            all = λ p f g.
-                swept (λ id. updateId s p (reportUpdate i f (reportAt (helloOf octets) id)) id)
-                (λ j d e h.
-                entry-in s p (reportUpdate i f (reportAt (helloOf octets) j)) j d e (report-sane s c i f has (r .clock-in) g (helloOf octets) j) h)
-                (withLink i (f .link) l) (touched f g)
-                (λ j d e h. clock-in s p (reportUpdate i f (reportAt (helloOf octets) j)) j d e (good .hold-to) h);
-          }
-          (inspect s i octets)
+      module _ (i : ℕ) (has : Counted (x .host .settings) i) (good : Sound (x .host .settings)) where
+        touched : (f : Flight) → Flown (x .host .clock) f → linksIn (withLink i (f .link) (x .host .links))
+        touched f g = withLink-in (x .host .settings) (x .host .links) i has (r .links-in) (f .link) (rw (g .keep-alive-is))
 
-    self-reported : (id : ℕ) → Leaves (reported k (reading c) l run (entries s k run) (Host id))
-    unfolding reading
-    self-reported id =
-        written c l (sweep 0 own c (entries s k run) .entries) (r .places-there) (r .clock-in) (r .links-in) (swept-count own ranges) (swept-in own ranges)
-      where
-        update : Clock → Entry → Updated
-        update d e = record { clock = d; entry = selfReported (reading c .time) e }
+        received : InRange (left x (work (receive i octets) x))
+        unfolding reading
+        received =
+            arrival-ways i (x .host) (λ a. InRange (left x (updatedBy a octets x)))
+            record {
+              refuses = λ a. swept (ends a (x .host)) (r .clock-in) (r .links-in) (omega arith) (λ id c e low high h. absurd (omega arith));
+              ended = λ f g n. swept (ends DelayNotValid (storing i (x .host) f)) (r .clock-in) (touched f g) (omega arith) (λ id c e low high h. absurd (omega arith));
+              unknown = λ f g. swept (ends NoHost (storing i (x .host) f)) (r .clock-in) (touched f g) (omega arith) (λ id c e low high h. absurd (omega arith));
+              one = λ p f id g.
+                  let a = updated (storing i (x .host) f) p (neighborUpdate i f) id 1 false in
+                  swept a (r .clock-in) (touched f g) (good .hold-to)
+                  (λ j c e low high h. entry-in (a .work) octets j c e (neighbor-sane (x .host .settings) (x .host .clock) i f has (r .clock-in) g) h);
+              all = λ p f g.
+                  let a = updated (storing i (x .host) f) p (neighborUpdate i f) 0 (hostCount (x .host .settings)) true in
+                  swept a (r .clock-in) (touched f g) (good .hold-to)
+                  (λ j c e low high h.
+                  entry-in (a .work) octets j c e (report-sane (x .host .settings) (x .host .clock) i f has (r .clock-in) g (helloOf octets) (j - 0)) h);
+            }
+            octets
 
-        own : ℕ → Clock → Entry → Updated
-        own = only id update
+    works : (c : Call) → done (guardOf c x) ≡ true → InRange (left x (work c x))
+    works (ask q) e = asked q (sound (x .host .settings) (passed (scopeOfCall (ask q)) x e .settings)) e
+    works (send i buffer) e = sent i buffer (counted (x .host .settings) i (passed (scopeOfCall (send i buffer)) x e .link i refl))
+    works (receive i octets) e =
+        let p = passed (scopeOfCall (receive i octets)) x e in
+        received octets i (counted (x .host .settings) i (p .link i refl)) (sound (x .host .settings) (p .settings))
 
-        ranges : (i : ℕ) (d : Clock) (e : Entry) → entryInRange e ≡ true → entryInRange (own i d e .entry) ≡ true
-        ranges i d e h =
-            only-either (λ u. entryInRange (u .entry) ≡ true) id update i d e (self-in-range (reading c .time) (reading-in c (r .clock-in)) e h) h
-
-    good : done (guard s k c l run) ≡ true → Sound s
-    good e = sound s (passed s k c l run e .settings-good)
-
-    works : (x : Call) → done (guardOf s k c l run x) ≡ true → Leaves (workOf s k c l run x)
-    unfolding reading
-    works initializes e = begun e
-    works ticks e = timed _ (tick-in-range (s .«hold_interval») (good e .hold-to) c (r .clock-in) (s .«clock_tick»))
-    works adjusts e = timed _ (adjust-in-range (s .«hold_interval») (good e .hold-to) c (r .clock-in))
-    works (sets ms) e = timed _ (set-in-range (s .«hold_interval») (good e .hold-to) c (r .clock-in) ms)
-    works reads e = r
-    works seconds e =
-        written (holdSecond c) l (map aged (entries s k run)) (r .places-there) (second-in-range c (r .clock-in)) (r .links-in)
-        (length-map (entries s k run) aged ∙ entries-length s k run held) aged-in
-    works (sends i buffer) e = sent i buffer (counted s i (passed-link s k c l run i e .0))
-    works (arrives i octets) e =
-        let p = passed-link s k c l run i e in
-        received i (counted s i (p .0)) (sound s (p .1 .settings-good)) octets
-    works reports e = reported-ways s k c l run Leaves r self-reported
-    works (looksUp a) e = looked-ways s k c l run Leaves a (λ _. r) (λ _. r)
-
-  afresh : initialize s k c l run .answer ≡ Done → Leaves (initialize s k c l run)
-  unfolding perform
+  afresh : perform (ask Initialize) x .reply .answer ≡ Done → InRange (left x (perform (ask Initialize) x))
   afresh =
-      performs s k c l run (λ o. o .answer ≡ Done → Leaves o) initializes (λ e a. absurd (false≢true (sym e ∙ ap (λ x. done x) a)))
-      (λ e _. begun e)
+      performs (ask Initialize) x (λ o. o .reply .answer ≡ Done → InRange (left x o))
+      (λ e a. absurd (false≢true (sym e ∙ ap (λ y. done y) a))) (λ e _. begun e)
 
-  stay : InRange s k c l run → (x : Call) → Leaves (perform s k c l run x)
-  stay r x = performs s k c l run Leaves x (λ _. r) (works r x)
+  stay : InRange x → (c : Call) → InRange (left x (perform c x))
+  stay r c = performs c x (λ o. InRange (left x o)) (λ _. r) (works r c)
 
 pub range-holds : Range
-range-holds =
-    record {
-      fresh = λ s k c l run e. accepts s k _ _ _ (afresh s k c l run e);
-      stays = λ s k c l run x a. accepts s k _ _ _ (stay s k c l run (accepted s k c l run a) x);
-    }
+range-holds = record { fresh = λ x e. accepts _ (afresh x e); stays = λ c x a. accepts _ (stay x (accepted x a) c) }

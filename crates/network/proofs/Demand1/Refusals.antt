@@ -1,122 +1,152 @@
--- A call that is refused leaves all as it was lent; an arrival that steps 2 to 5 refuse leaves all but its link.
-use mathlib.Core.Path.{_≡_, refl, sym, ap}
-use mathlib.Core.List.{List, []}
+-- Who refuses changes nothing: the guard, a lookup, a send into too short a buffer, the inspection of a packet. Steps 2 to 4 of an arrival change its link alone.
+use mathlib.Core.Path.{_≡_, refl, sym, ap, _∙_}
+use mathlib.Core.Bool.{not}
+use mathlib.Core.List.{List}
 use Prim.Native.Nat.{ℕ, _-_}
 use native.Mathlib.Omega.{arith}
+use lib.Dec.{ltb}
+use lib.ListN.{length}
 use lib.Seq.{set-getD}
+use Rattle.laws.proofs.Tests.{either}
 use Rattle.answer.specs.declared.Answer.{Answer}
-use Rattle.answer.specs.declared.Answer.the-variants.{Done, ShortBuffer, DelayNotValid, NoHost}
+use Rattle.answer.specs.declared.Answer.the-variants.{DelayNotValid, NoHost, HostDown}
 use Rattle.answer.specs.Answer.{number}
-use Rattle.clock.specs.declared.Clock.{Clock}
 use Rattle.clock.specs.Clock.{reading}
+use Rattle.wire.specs.declared.Address.{Address}
+use Rattle.wire.specs.Packet.{packetLength}
+use Rattle.route.specs.declared.Found.{Found}
+use Rattle.route.specs.declared.Found.the-variants.{Id, Nothing}
 use Rattle.table.specs.declared.Entry.{Entry}
-use Rattle.config.specs.declared.Settings.{Settings}
-use Rattle.config.specs.declared.Link.{Link}
-use Rattle.config.specs.declared.Links.{Links}
-use Rattle.config.specs.State.{unset, freshLink, linkOf, withLink}
-use Rattle.arrival.specs.Inspection.{inspect}
-use Rattle.host.specs.Outcome.{Outcome, Values, leaves, unsent}
-use Rattle.network.specs.Call.{Call, initializes, ticks, adjusts, sets, reads, seconds, sends, arrives, reports, looksUp, perform, lentBuffer}
-use Rattle.network.specs.Refusals.{Unchanged, LinkAlone, Whole, Refusals}
-use Rattle.network.proofs.Performs.{workOf, performs, sent-ways, reported-ways, looked-ways}
-use Rattle.network.proofs.Arrivals.{arrived-ways}
+use Rattle.table.specs.Entry.{up}
+use Rattle.host.specs.declared.Link.{Link}
+use Rattle.host.specs.declared.Reply.{Reply}
+use Rattle.host.specs.Settings.{foundFor}
+use Rattle.host.specs.State.{unset, freshLink, linkOf}
+use Rattle.host.specs.Lent.{Lent}
+use Rattle.host.specs.Reply.{plainly}
+use Rattle.host.proofs.Places.{Holds}
+use Rattle.sending.specs.declared.Sending.{Sending}
+use Rattle.sending.specs.Send.{reportCount}
+use Rattle.arrival.specs.declared.Flight.{Flight}
+use Rattle.arrival.specs.declared.Arrived.{Arrived}
+use Rattle.arrival.specs.Arrival.{ends}
+use Rattle.calls.specs.declared.Request.{Request}
+use Rattle.calls.specs.declared.Request.the-variants.{Initialize, Tick, Adjust, Set, Read, Second, SelfReport, Lookup}
+use Rattle.calls.specs.Effects.{initialize, tick, adjust, setBy, read, second, selfReport, lookup, looked, answers}
+use Rattle.calls.specs.Perform.{Call, ask, send, receive, Outcome, bufferOf, refused, entryAt, carriedOut, sentBy, updatedBy, work, perform}
+use Rattle.network.specs.Refusals.{Refuses, relinked, Refusals}
+use Rattle.network.proofs.Performs.{guardOf, performs, there}
+use Rattle.network.proofs.Arrivals.{storing, arrival-ways}
+use Rattle.network.proofs.Written.{answered, ended}
 
-module _ (s : Settings) (k : ℕ) (c : Clock) (l : Links) (run : List Entry) where
-  -- ---- a refusal that changes nothing
-
-  same : (a : Answer) (buffer : List ℕ) → Unchanged c l run buffer (unsent a c l run buffer)
-  same a buffer = record { values-zero = refl; clock-same = refl; links-same = refl; run-same = refl; buffer-same = refl }
+module _ (x : Lent) where
+  -- ---- refusals that change nothing
 
   -- the answer refuses, and nothing is changed
-  abbrev Refuses : Call → Outcome → Type 0
-  Refuses x o = Whole x (o .answer) → Unchanged c l run (lentBuffer x) o
+  abbrev Unchanged : Call → Outcome → Type 0
+  Unchanged c o = Refuses c (o .reply .answer) → o ≡ refused (o .reply .answer) c x
 
-  done : (x : Call) {v : Values} {d : Clock} {m : Links} {r : List Entry} {b : List ℕ}
-      → Refuses x record { answer = Done; values = v; clock = d; links = m; run = r; buffer = b }
-  done x w = absurd (w .0 refl)
+  looks : (a : Address) → Holds (x .number) (x .run) → (f : Found) (e : Entry)
+      → Unchanged (ask (Lookup a)) (carriedOut (answers (looked f e) (x .host .clock) (x .host .links)) x)
+  looks a h Nothing e = λ w. answered x h (plainly NoHost) (x .host .clock) (x .host .links)
+  looks a h (Id id) e =
+      either (λ (r : Reply). Unchanged (ask (Lookup a)) (carriedOut (answers r (x .host .clock) (x .host .links)) x)) (not (up e)) _ _
+      (λ _ _. answered x h (plainly HostDown) (x .host .clock) (x .host .links)) (λ _ w. absurd (w .0 refl))
 
-  received : (i : ℕ) (octets : List ℕ) → Refuses (arrives i octets) (workOf s k c l run (arrives i octets))
-  received i octets =
-      arrived-ways s k c l run i octets (Refuses (arrives i octets))
+  asked : (q : Request) → Holds (x .number) (x .run) → Unchanged (ask q) (work (ask q) x)
+  unfolding initialize tick adjust setBy read second selfReport lookup
+  asked Initialize h = λ w. absurd (w .0 refl)
+  asked Tick h = λ w. absurd (w .0 refl)
+  asked Adjust h = λ w. absurd (w .0 refl)
+  asked (Set ms) h = λ w. absurd (w .0 refl)
+  asked Read h = λ w. absurd (w .0 refl)
+  asked Second h = λ w. absurd (w .0 refl)
+  asked SelfReport h = λ w. absurd (w .0 refl)
+  asked (Lookup a) h = looks a h (foundFor (x .host .settings) a) (entryAt (foundFor (x .host .settings) a) x)
+
+  works : (c : Call) → Holds (x .number) (x .run) → Unchanged c (work c x)
+  works (ask q) h = asked q h
+  works (send i buffer) h =
+      either (λ (s : Sending). Unchanged (send i buffer) (sentBy s buffer x))
+      (ltb (length buffer) (packetLength (reportCount (x .host .settings) (linkOf (x .host .links) i)))) _ _ (λ _ _. refl) (λ _ w. absurd (w .0 refl))
+  works (receive i octets) h =
+      arrival-ways i (x .host) (λ (a : Arrived). Unchanged (receive i octets) (updatedBy a octets x))
       record {
-        refused = λ a w. same a [];
-        ended = λ f g e w. absurd (w .1 i octets refl .0 refl);
+        refuses = λ a w. ended x h a (x .host) octets;
+        ended = λ f g n w. absurd (w .1 i octets refl .0 refl);
         unknown = λ f g w. absurd (w .1 i octets refl .1 refl);
-        one = λ p f id g. done (arrives i octets);
-        all = λ p f g. done (arrives i octets);
+        one = λ p f id g w. absurd (w .0 refl);
+        all = λ p f g w. absurd (w .0 refl);
       }
-      (inspect s i octets)
+      octets
 
-  works : (x : Call) → Refuses x (workOf s k c l run x)
-  works initializes = done initializes
-  works ticks = done ticks
-  works adjusts = done adjusts
-  works (sets ms) = done (sets ms)
-  works reads = done reads
-  works seconds = done seconds
-  works (sends i buffer) = sent-ways s k c l run (Refuses (sends i buffer)) i buffer (λ w. same ShortBuffer buffer) (done (sends i buffer))
-  works (arrives i octets) = received i octets
-  works reports = reported-ways s k c l run (Refuses reports) (done reports) (λ id. done reports)
-  works (looksUp a) = looked-ways s k c l run (Refuses (looksUp a)) a (λ x w. same x []) (λ v. done (looksUp a))
+  unchanged : (c : Call) → Unchanged c (perform c x)
+  unchanged c = performs c x (Unchanged c) (λ _ _. refl) (λ e. works c (there c x e))
 
-  refuses : (x : Call) → Refuses x (perform s k c l run x)
-  refuses x = performs s k c l run (Refuses x) x (λ e w. same _ (lentBuffer x)) (λ e. works x)
-
-  -- ---- a refusal that changes the link
+  -- ---- refusals that change the link
 
   -- what was lent is a change of the link to itself
-  alone : (i : ℕ) (a : Answer) → LinkAlone c l run i (leaves a c l run)
-  alone i a =
-      record {
-        values-zero = refl;
-        clock-same = refl;
-        link = linkOf l i;
-        link-alone = λ j. record { all = sym (set-getD (l .all) (i - 1) (freshLink unset)) j };
-        run-same = refl;
+  same-link : (i : ℕ) (c : Call) (a : Answer) → refused a c x ≡ refused a c (relinked i (linkOf (x .host .links) i) x)
+  same-link i c a =
+      λ j. record {
+        reply = plainly a;
+        clock = x .host .clock;
+        links = record { all = sym (set-getD (x .host .links .all) (i - 1) (freshLink unset)) j };
+        run = x .run;
+        buffer = bufferOf c;
       }
 
-  changed : (i : ℕ) (a : Answer) (x : Link) → LinkAlone c l run i (leaves a (reading c .clock) (withLink i x l) run)
-  unfolding reading
-  changed i a x = record { values-zero = refl; clock-same = refl; link = x; link-alone = refl; run-same = refl }
-
   module _ (i : ℕ) (octets : List ℕ) where
+    alone : (a b : Answer) → b ≡ a → refused b (receive i octets) x ≡ refused a (receive i octets) (relinked i (linkOf (x .host .links) i) x)
+    alone a b e = ap (λ r. refused r (receive i octets) x) e ∙ same-link i (receive i octets) a
+
+    stored : Holds (x .number) (x .run) → (a : Answer) (f : Flight)
+        → updatedBy (ends a (storing i (x .host) f)) octets x ≡ refused a (receive i octets) (relinked i (f .link) x)
+    unfolding reading
+    stored h a f = ended x h a (storing i (x .host) f) octets
+
     -- 10 leaves the link's neighbour too
     Delayed : Outcome → Type 0
-    Delayed o = o .answer ≡ DelayNotValid → (u : LinkAlone c l run i o) × (u .link .neighbor ≡ linkOf l i .neighbor)
+    Delayed o =
+        o .reply .answer ≡ DelayNotValid
+        → (l : Link) × (o ≡ refused DelayNotValid (receive i octets) (relinked i l x)) × (l .neighbor ≡ linkOf (x .host .links) i .neighbor)
 
-    delayed : Delayed (perform s k c l run (arrives i octets))
-    unfolding Delayed alone changed
+    delayed : Delayed (perform (receive i octets) x)
+    unfolding Delayed
     delayed =
-        performs s k c l run Delayed (arrives i octets) (λ e d. (alone i _, refl))
+        performs (receive i octets) x Delayed
+        (λ e d. (linkOf (x .host .links) i, alone DelayNotValid (guardOf (receive i octets) x) d, refl))
         (λ e.
-        arrived-ways s k c l run i octets Delayed
+        let h = there (receive i octets) x e in
+        arrival-ways i (x .host) (λ (a : Arrived). Delayed (updatedBy a octets x))
         record {
-          refused = λ a d. (alone i a, refl);
-          ended = λ f g n d. (changed i DelayNotValid (f .link), n);
+          refuses = λ a d. (linkOf (x .host .links) i, ended x h a (x .host) octets ∙ alone DelayNotValid a d, refl);
+          ended = λ f g n d. (f .link, stored h DelayNotValid f, n);
           unknown = λ f g d. absurd (omega (arith, ap number d));
           one = λ p f id g d. absurd (omega (arith, ap number d));
           all = λ p f g d. absurd (omega (arith, ap number d));
         }
-        (inspect s i octets))
+        octets)
 
     Unfound : Outcome → Type 0
-    Unfound o = o .answer ≡ NoHost → LinkAlone c l run i o
+    Unfound o = o .reply .answer ≡ NoHost → (l : Link) × (o ≡ refused NoHost (receive i octets) (relinked i l x))
 
-    unfound : Unfound (perform s k c l run (arrives i octets))
+    unfound : Unfound (perform (receive i octets) x)
     unfolding Unfound
     unfound =
-        performs s k c l run Unfound (arrives i octets) (λ e d. alone i _)
+        performs (receive i octets) x Unfound (λ e d. (linkOf (x .host .links) i, alone NoHost (guardOf (receive i octets) x) d))
         (λ e.
-        arrived-ways s k c l run i octets Unfound
+        let h = there (receive i octets) x e in
+        arrival-ways i (x .host) (λ (a : Arrived). Unfound (updatedBy a octets x))
         record {
-          refused = λ a d. alone i a;
-          ended = λ f g n d. changed i DelayNotValid (f .link);
-          unknown = λ f g d. changed i NoHost (f .link);
+          refuses = λ a d. (linkOf (x .host .links) i, ended x h a (x .host) octets ∙ alone NoHost a d);
+          ended = λ f g n d. absurd (omega (arith, ap number d));
+          unknown = λ f g d. (f .link, stored h NoHost f);
           one = λ p f id g d. absurd (omega (arith, ap number d));
           all = λ p f g d. absurd (omega (arith, ap number d));
         }
-        (inspect s i octets))
+        octets)
 
 pub refusals-hold : Refusals
 unfolding Delayed Unfound
-refusals-hold = record { refused = refuses; delay = delayed; unknown = unfound }
+refusals-hold = record { unchanged = λ c x. unchanged x c; delay = λ i octets x. delayed x i octets; unknown = λ i octets x. unfound x i octets }

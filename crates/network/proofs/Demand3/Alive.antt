@@ -7,20 +7,20 @@ use lib.IntN.{ℤ, pos, _-ℤ_}
 use Rattle.quantity.specs.Quantity.{millis, toUnits}
 use Rattle.quantity.specs.Words.{word}
 use Rattle.answer.specs.declared.Answer.{Answer}
-use Rattle.host.proofs.Opened.{opened}
-use Rattle.network.specs.Call.{perform, messageOf}
+use Rattle.network.specs.Left.{messageOf}
 use Rattle.network.specs.History.{after}
 use Rattle.network.specs.Room.{longestWay, afresh, Proper}
 use Rattle.network.specs.Demand3.{Message, result, step, history, Allows, Starts}
 use Rattle.network.specs.TwoSeats.{Pair}
 use Rattle.network.specs.Example.{near, w₀, x₁, w₁, x₂, w₂, x₃, w₃, x₄, w₄, x₅, w₅, x₆, w₆, x₇, story, learnt, Example}
+use Rattle.network.proofs.Opened.{opened}
 use Rattle.network.proofs.Demand3.TwoSeats.{below-2, pair-proper, starts, as-left, reads, delivered}
 
 abbrev p : Pair
 p = record { tick = toUnits (millis (pos 101)); start = λ a. 40000; longest = longestWay }
 
 entry-is : (learnt .delay .0 ≡ pos 101) × (learnt .offset .0 ≡ pos 449)
-unfolding opened perform after step history w₀ x₁ w₁ x₂ w₂ x₃ w₃ x₄ w₄ x₅ w₅ x₆ w₆ x₇
+unfolding opened after step history w₀ x₁ w₁ x₂ w₂ x₃ w₃ x₄ w₄ x₅ w₅ x₆ w₆ x₇
 entry-is = (refl, refl)
 
 -- what was sent
@@ -31,7 +31,7 @@ abbrev second : Message
 second = record { seat = 1; link = 1; ms = pos 40000; octets = messageOf (result near w₃ x₄) }
 
 allowed : Allows near w₀ story
-unfolding opened perform after step Allows w₀ x₁ w₁ x₂ w₂ x₃ w₃ x₄ w₄ x₅ w₅ x₆ w₆ x₇
+unfolding opened after step Allows w₀ x₁ w₁ x₂ w₂ x₃ w₃ x₄ w₄ x₅ w₅ x₆ w₆ x₇
 allowed = (
   record { seat-in = omega arith; lends = as-left p w₀ 1 (x₁ .call); timely = tt },
   (
@@ -57,7 +57,7 @@ allowed = (
 
 proper : Proper near
 unfolding opened
-proper = pair-proper p (below-2 (λ (a : ℕ). afresh near a .answer ≡ Answer.Done) refl refl)
+proper = pair-proper p (below-2 (λ (a : ℕ). afresh near a .reply .answer ≡ Answer.Done) refl refl)
 
 start : Starts near w₀
 unfolding w₀

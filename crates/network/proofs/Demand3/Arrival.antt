@@ -17,7 +17,7 @@ use Rattle.quantity.specs.Words.{word, wrap, zeroWord}
 use Rattle.quantity.proofs.Ints.{up, dn, sum, diff, one, lt-yes, lt-no, is-lt}
 use Rattle.quantity.proofs.Wrap.{wrap-range}
 use Rattle.answer.specs.declared.Answer.{Answer}
-use Rattle.answer.specs.declared.Answer.the-variants.{Done}
+use Rattle.answer.specs.declared.Answer.the-variants.{DelayNotValid, NoHost}
 use Rattle.clock.specs.declared.Clock.{Clock}
 use Rattle.clock.specs.Clock.{reading}
 use Rattle.wire.specs.declared.Address.{Address}
@@ -32,39 +32,40 @@ use Rattle.wire.specs.Packet.{helloOf, fields, parse}
 use Rattle.wire.proofs.ReadBack.{source-back, nhosts-back, time-back, tsp-back, delay-back, offset-back}
 use Rattle.route.specs.declared.Layout.{Layout}
 use Rattle.route.specs.declared.Found.{Found}
-use Rattle.route.specs.declared.Found.the-variants.{Host, Nothing}
+use Rattle.route.specs.declared.Found.the-variants.{Id, Nothing}
 use Rattle.route.specs.Find.{aboveC, sameNet, localId, find, netOf, search, rowsOf}
 use Rattle.table.specs.declared.Entry.{Entry}
-use Rattle.table.specs.declared.Update.{Update}
+use Rattle.table.specs.declared.run.Updates.{Updates}
 use Rattle.table.specs.Forms.{Stage, on, end}
 use Rattle.table.specs.Entry.{maxDelay, minDelay}
-use Rattle.table.specs.Sweep.{only}
+use Rattle.table.specs.Runs.{updateAt, updatedAt}
 use Rattle.table.proofs.Cases.{stored, update-keeps}
-use Rattle.table.proofs.Sweeps.{sweep-length}
-use Rattle.config.specs.declared.Settings.{Settings}
-use Rattle.config.specs.declared.Link.{Link}
-use Rattle.config.specs.declared.Links.{Links}
-use Rattle.config.specs.State.{broadcast, linkOf, withLink, entries, hostCount}
-use Rattle.config.specs.Guard.{guardLink}
-use Rattle.config.proofs.Places.{Holds, entries-length}
-use Rattle.config.proofs.Guarded.{passed-link, holds}
-use Rattle.config.proofs.Guarded as guarded
+use Rattle.host.specs.declared.Settings.{Settings}
+use Rattle.host.specs.declared.Link.{Link}
+use Rattle.host.specs.declared.Links.{Links}
+use Rattle.host.specs.declared.guard.Scope.the-variants.{OnLink}
+use Rattle.host.specs.Settings.{foundFor}
+use Rattle.host.specs.State.{broadcast, linkOf, withLink, hostCount}
+use Rattle.host.specs.Lent.{Host, Lent, host}
+use Rattle.host.proofs.Places.{Holds, entries-length}
+use Rattle.host.proofs.Guarded.{passed, holds}
 use Rattle.arrival.specs.declared.Flight.{Flight}
-use Rattle.arrival.specs.Inspection.{otherLayout, looped, inspected, inspect}
-use Rattle.arrival.specs.Steps.{step2, step3, step4, steps2to4, tspOf, delayOf, offsetOf, atLeastMin, neighborUpdate, reportUpdate, updateId}
-use Rattle.host.specs.Outcome.{Outcome}
-use Rattle.host.specs.Arrival.{noTable, withTable, step5, concluded, action}
-use Rattle.host.specs.Calls.{arrived, arrival}
-use Rattle.network.specs.Room.{longestWay, Room, at, HostAt, Proper}
+use Rattle.arrival.specs.declared.Arrived.{Arrived}
+use Rattle.arrival.specs.Inspection.{otherLayout, looped, inspect}
+use Rattle.arrival.specs.Inspection as inspection
+use Rattle.arrival.specs.Steps.{step2, step3, step4, steps2to4, tspOf, delayOf, offsetOf, atLeastMin, neighborUpdate, reportUpdate}
+use Rattle.arrival.specs.Arrival.{ends, updated, noTable, withTable, step5, concluded, action, inspected}
+use Rattle.calls.specs.Perform.{receive, Outcome, updatedBy, perform}
+use Rattle.network.specs.Room.{longestWay, Room, at, lentAt, HostAt, Proper}
 use Rattle.network.specs.Demand3.{Message, timed}
+use Rattle.network.proofs.Performs.{performs}
 use Rattle.network.proofs.Arrivals.{same-address}
 use Rattle.network.proofs.Exchange.{tsp-same, tsp-exact, delay-exact}
 use Rattle.network.proofs.Lists.{all-at, all-set}
 use Rattle.network.proofs.Ranges.{raised-low}
 use Rattle.network.proofs.Demand3.Near.{Fits16, Near, Apart, apart, offset-exact, offset-near, relay-near, relay-exact}
-use Rattle.network.proofs.Swept.{sweep-keeps, only-keeps}
 use Rattle.network.proofs.Demand3.Invariant.{Known, RightEntry, RightReport, RightLink, RightLinks, Carries, RightMessage}
-use Rattle.network.proofs.Demand3.Outcomes.{RightOutcome, RightLent, same-right, written-right}
+use Rattle.network.proofs.Demand3.Outcomes.{RightOutcome, RightLent, same-right, updated-right}
 use Rattle.network.proofs.Demand3.Seats.{down-right}
 use Rattle.network.proofs.Demand3.Sending.{link-from-1}
 
@@ -86,7 +87,7 @@ inspect-cases : (P : Parsed → Type 0) (s : Settings) (i : ℕ) (octets : List 
     → (otherLayout s (fields octets) ≡ false → P (Good (fields octets))) → P (inspect s i octets)
 unfolding inspect
 inspect-cases P s i octets bad good =
-    parse-cases (λ (x : Parsed). P (inspected s i x)) octets bad
+    parse-cases (λ (x : Parsed). P (inspection.inspected s i x)) octets bad
     (either P (otherLayout s (fields octets)) _ _ (λ _. bad _)
     (λ ours. either P (looped s i (fields octets)) _ _ (λ _. bad _) (λ _. good ours)))
 
@@ -102,11 +103,11 @@ same-count s p n e =
     go false false c n t e = absurd (true≢false e)
 
 -- an id that is found for an address of our net is the one that the address gives
-found-own : (ours a : Address) (s : Settings) (id : ℕ) → sameNet ours a ≡ true → find ours (s .layout) (s .net) a ≡ Host id → localId (s .layout) a ≡ Host id
+found-own : (ours a : Address) (s : Settings) (id : ℕ) → sameNet ours a ≡ true → find ours (s .layout) (s .net) a ≡ Id id → localId (s .layout) a ≡ Id id
 unfolding find
 found-own ours a s id net e = go (aboveC a) (sameNet ours a) net e
   where
-    go : (x n : Bool) → n ≡ true → cond x Nothing (cond n (localId (s .layout) a) (search (netOf a) (rowsOf (s .net)))) ≡ Host id → localId (s .layout) a ≡ Host id
+    go : (x n : Bool) → n ≡ true → cond x Nothing (cond n (localId (s .layout) a) (search (netOf a) (rowsOf (s .net)))) ≡ Id id → localId (s .layout) a ≡ Id id
     go true n t e = cc
     go false true t e = e
     go false false t e = absurd (false≢true t)
@@ -120,10 +121,12 @@ module _ (r : Room) (proper : Proper r) (b a : ℕ) (hb : b < r .seats) (ha : a 
     pub near : lessMillis (atLeastMin (f .delay)) maxDelay ≡ true → Near (f .offset .0) (r .fixed a) (r .fixed b) (atLeastMin (f .delay) .0)
 
   -- an entry that an update may store
-  entry-keeps : (id : ℕ) (s : Settings) (p : Packet) (u : Update) (c : Clock) (e : Entry) → RightEntry r b id e
-      → (lessMillis (u .delay) maxDelay ≡ true → RightEntry r b id (stored u)) → RightEntry r b id (updateId s p u id c e .entry)
-  entry-keeps id s p u c e right stores =
-      update-keeps (RightEntry r b id) (eqb id (s .«clock_host»)) (s .«hold_interval») (p .date) u c e right (down-right r b id e right) stores
+  entry-keeps : (id : ℕ) (w : Updates) (octets : List ℕ) (c : Clock) (e : Entry) → RightEntry r b id e
+      → (lessMillis (updateAt w (id - w .base) octets .delay) maxDelay ≡ true → RightEntry r b id (stored (updateAt w (id - w .base) octets)))
+      → RightEntry r b id (updatedAt w octets id c e .entry)
+  entry-keeps id w octets c e right stores =
+      update-keeps (RightEntry r b id) (eqb (id - w .base) (w .«clock_host»)) (w .«hold_interval») (w .date) (updateAt w (id - w .base) octets) c e right
+      (down-right r b id e right) stores
 
   -- no table: the entry of a itself
   neighbor-right : (i id : ℕ) (f : Flight) → Direct f → HostAt r id a
@@ -156,40 +159,38 @@ module _ (r : Room) (proper : Proper r) (b a : ℕ) (hb : b < r .seats) (ha : a 
                 (relay-near (r .fixed a) (r .fixed b) (r .fixed (k .seat)) (f .offset .0) (q .offset .0) (atLeastMin (f .delay) .0) (q .delay .0) near-enough direct (k .near));
           }
 
-  module _ (i : ℕ) (c : Clock) (l : Links) (run : List Entry) (links : RightLinks r b (l .all)) (lent : RightLent r b l run) (there : Holds (r .number b) run)
-      (octets : List ℕ) (p : Packet) (f : Flight) (direct : Direct f) where
-    no-table-right : (x : Found) → find (r .settings b .address) (r .settings b .layout) (r .settings b .net) (r .settings a .address) ≡ x
-        → RightOutcome r b run (noTable (r .settings b) (r .number b) c l run i p f x)
-    no-table-right Nothing e = same-right r b l run _ lent refl refl
-    no-table-right (Host id) e =
-        let host : HostAt r id a = ap (λ (y : Layout). localId y (r .settings a .address)) (proper .one-layout a b ha hb) ∙ found-own (r .settings b .address) (r .settings a .address) (r .settings b) id (proper .one-net b a hb ha) e in
-        written-right r b Done _ l run _ links there
-        (sweep-length 0 (only id _) c (entries (r .settings b) (r .number b) run) ∙ entries-length (r .settings b) (r .number b) run there)
-        (only-keeps (RightEntry r b) id _
-        (λ d y right. entry-keeps id (r .settings b) p (neighborUpdate i f) d y right (neighbor-right i id f direct host))
-        c (entries (r .settings b) (r .number b) run) (lent .table there))
+  module _ (i : ℕ) (c : Clock) (l : Links) (run : List Entry) (lent : RightLent r b l run) (there : Holds (r .number b) run) (octets : List ℕ)
+      (h : Host) (ours : h .settings ≡ r .settings b) (links : RightLinks r b (h .links .all)) (p : Packet) (f : Flight) (direct : Direct f) where
+    -- what an arrival comes to keeps the seat right
+    abbrev Right : Arrived → Type 0
+    Right e = RightOutcome r b run (updatedBy e octets (lentAt r b c l run))
 
-    table-right : ((id : ℕ) → id < hostCount (r .settings b) → RightReport r a id (reportAt (helloOf octets) id))
-        → RightOutcome r b run (withTable (r .settings b) (r .number b) c l run i octets p f)
+    no-table-right : (x : Found) → foundFor (r .settings b) (r .settings a .address) ≡ x → Right (noTable h i p f x)
+    no-table-right Nothing e = updated-right r b c l run lent there (ends NoHost h) octets links (λ id d y low high inside right. absurd (omega arith))
+    no-table-right (Id own) e =
+        let host : HostAt r own a = ap (λ (y : Layout). localId y (r .settings a .address)) (proper .one-layout a b ha hb) ∙ found-own (r .settings b .address) (r .settings a .address) (r .settings b) own (proper .one-net b a hb ha) e in
+        let w = updated h p (neighborUpdate i f) own 1 false in
+        updated-right r b c l run lent there w octets links
+        (λ id d y low high inside right.
+        let same : own ≡ id = omega arith in
+        entry-keeps id (w .work) octets d y right (neighbor-right i id f direct (rw same at host)))
+
+    table-right : ((id : ℕ) → id < hostCount (r .settings b) → RightReport r a id (reportAt (helloOf octets) id)) → Right (withTable h i p f)
     table-right good =
-        written-right r b Done _ l run _ links there
-        (sweep-length 0 _ c (entries (r .settings b) (r .number b) run) ∙ entries-length (r .settings b) (r .number b) run there)
-        (sweep-keeps (RightEntry r b) 0 _ c (entries (r .settings b) (r .number b) run)
-        (λ id d y inside right.
-        let same : id + 0 ≡ id = omega arith in
+        let w = updated h p (neighborUpdate i f) 0 (hostCount (h .settings)) true in
+        updated-right r b c l run lent there w octets links
+        (λ id d y low high inside right.
+        let same : id - 0 ≡ id = omega arith in
         let bound : id < hostCount (r .settings b) = omega (arith, entries-length (r .settings b) (r .number b) run there) in
-        rw same
-        (entry-keeps id (r .settings b) p (reportUpdate i f (reportAt (helloOf octets) id)) d y right
-        (report-right i id f direct (reportAt (helloOf octets) id) (good id bound))))
-        (lent .table there))
+        entry-keeps id (w .work) octets d y right
+        (rw same (report-right i id f direct (reportAt (helloOf octets) id) (good id bound))))
 
     step5-right : f .link .neighbor ≡ r .settings a .address
         → (eqb (p .nhosts) 0 ≡ false → (id : ℕ) → id < hostCount (r .settings b) → RightReport r a id (reportAt (helloOf octets) id))
-        → RightOutcome r b run (step5 (r .settings b) (r .number b) c l run i octets p f)
-    unfolding step5
+        → Right (step5 h i p f)
     step5-right neighbor good =
-        either (RightOutcome r b run) (eqb (p .nhosts) 0) _ _
-        (λ _. no-table-right _ (ap (find (r .settings b .address) (r .settings b .layout) (r .settings b .net)) (sym neighbor)))
+        either Right (eqb (p .nhosts) 0) _ _
+        (λ _. no-table-right _ (λ j. foundFor (sym ours j) (sym neighbor j)))
         (λ t. table-right (good t))
 
 -- ---- steps 2 to 5, at link i of seat b, of a message that took `way` ms
@@ -311,59 +312,57 @@ module _ (r : Room) (proper : Proper r) (ways : r .longest ≤ longestWay) (b i 
   reports-read ours some id inside =
       report-read id (omega (arith, same-count (r .settings b) p some ours, count-read))
 
+  -- what it comes to keeps the seat right
+  abbrev Keeps : Arrived → Type 0
+  Keeps e = RightOutcome r b run (updatedBy e (m .octets) (lentAt r b c l run))
+
+  -- our host, which has read its clock
+  abbrev seat : Host
+  seat = host (lentAt r b c l run .host .settings) (reading c .clock) l
+
   -- 5, with the link of that neighbour
   goes-on : (n : Address) → n ≡ r .settings a .address → otherLayout (r .settings b) p ≡ false → (d : Millis) (o : Word)
-      → Direct r proper b a hb (right .seat-in) (flight n d o)
-      → RightOutcome r b run (step5 (r .settings b) (r .number b) (reading c .clock) (withLink i (touched n) l) run i (m .octets) p (flight n d o))
+      → Direct r proper b a hb (right .seat-in) (flight n d o) → Keeps (concluded seat i p (on (flight n d o)))
   goes-on n neighbor ours d o direct =
-      step5-right r proper b a hb (right .seat-in) i (reading c .clock) (withLink i (touched n) l) run (links-right n)
-      record { links = links-right n; table = lent .table } there (m .octets) p (flight n d o) direct neighbor (reports-read ours)
+      step5-right r proper b a hb (right .seat-in) i c l run lent there (m .octets) (host (seat .settings) (reading c .clock) (withLink i (touched n) l)) refl (links-right n) p
+      (flight n d o) direct neighbor (reports-read ours)
 
   -- 4
-  concluded-right : otherLayout (r .settings b) p ≡ false
-      → RightOutcome r b run
-      (concluded (r .settings b) (r .number b) (reading c .clock) l run i (m .octets) p
-      (steps2to4 false (reading c .clock .hold) p now (linkOf l i)))
+  concluded-right : otherLayout (r .settings b) p ≡ false → Keeps (concluded seat i p (steps2to4 false (reading c .clock .hold) p now (linkOf l i)))
   unfolding steps2to4 step2 step3 step4
   concluded-right ours =
       either Kept (not (sameAddress (p .source) (linkOf l i .neighbor))) _ _
       (λ _. goes-on (p .source) source-is ours maxDelay _ (new-right (p .source) (delayOf now (p .tsp))))
       (λ t.
       either Kept (zeroWord (p .tsp) || not (eqb (reading c .clock .hold .0) 0)) _ _
-      (λ _. record { links = links-right (linkOf l i .neighbor); table = lent .table; same-length = refl })
+      (λ _.
+      updated-right r b c l run lent there (ends DelayNotValid (host (seat .settings) (reading c .clock) (withLink i (touched (linkOf l i .neighbor)) l))) (m .octets)
+      (links-right (linkOf l i .neighbor)) (λ id e y low high inside h. absurd (omega arith)))
       (λ u.
       goes-on (linkOf l i .neighbor) (sym (same-address (p .source) (linkOf l i .neighbor) (is-so _ t)) ∙ source-is) ours (delayOf now (p .tsp)) _
       (direct-right (neither (zeroWord (p .tsp)) _ u .0) (linkOf l i .neighbor))))
     where
       Kept : Stage Flight → Type 0
-      Kept x = RightOutcome r b run (concluded (r .settings b) (r .number b) (reading c .clock) l run i (m .octets) p x)
+      Kept x = Keeps (concluded seat i p x)
 
-  action-right : broadcast (r .settings b) i ≡ false → otherLayout (r .settings b) p ≡ false
-      → RightOutcome r b run (action (r .settings b) (r .number b) c l run i (m .octets) p)
-  unfolding action
+  action-right : broadcast (r .settings b) i ≡ false → otherLayout (r .settings b) p ≡ false → Keeps (action (lentAt r b c l run .host) i p)
   action-right point ours = rw point (concluded-right ours)
 
 -- ---- the whole call. A refusal changes nothing; whatever goes on to step 2 has a millisecond
 
-step5-timed : (s : Settings) (k : ℕ) (c : Clock) (l : Links) (run : List Entry) (i : ℕ) (octets : List ℕ) (p : Packet) (f : Flight)
-    → T (timed (step5 s k c l run i octets p f .answer))
-unfolding step5
-step5-timed s k c l run i octets p f =
-    either (λ (o : Outcome). T (timed (o .answer))) (eqb (p .nhosts) 0) _ _
-    (λ _. found (find (s .address) (s .layout) (s .net) (f .link .neighbor))) (λ _. tt)
+action-timed : (h : Host) (i : ℕ) (p : Packet) → T (timed (action h i p .reply .answer))
+action-timed h i p = go (steps2to4 (broadcast (h .settings) i) (reading (h .clock) .clock .hold) p (reading (h .clock) .time) (linkOf (h .links) i))
   where
-    found : (x : Found) → T (timed (noTable s k c l run i p f x .answer))
-    found Nothing = tt
-    found (Host id) = tt
+    found : (g : Host) (f : Flight) (x : Found) → T (timed (noTable g i p f x .reply .answer))
+    found g f Nothing = tt
+    found g f (Id id) = tt
 
-action-timed : (s : Settings) (k : ℕ) (c : Clock) (l : Links) (run : List Entry) (i : ℕ) (octets : List ℕ) (p : Packet)
-    → T (timed (action s k c l run i octets p .answer))
-unfolding action
-action-timed s k c l run i octets p = go (steps2to4 (broadcast s i) (reading c .clock .hold) p (reading c .time) (linkOf l i))
-  where
-    go : (x : Stage Flight) → T (timed (concluded s k (reading c .clock) l run i octets p x .answer))
+    fifth : (g : Host) (f : Flight) → T (timed (step5 g i p f .reply .answer))
+    fifth g f = either (λ (e : Arrived). T (timed (e .reply .answer))) (eqb (p .nhosts) 0) _ _ (λ _. found g f (foundFor (g .settings) (f .link .neighbor))) (λ _. tt)
+
+    go : (x : Stage Flight) → T (timed (concluded (host (h .settings) (reading (h .clock) .clock) (h .links)) i p x .reply .answer))
     go (end f) = tt
-    go (on f) = step5-timed s k (reading c .clock) (withLink i (f .link) l) run i octets p f
+    go (on f) = fifth _ f
 
 -- when a message came to seat b: so long after it was sent
 pub record Came (r : Room) (b : ℕ) (c : Clock) (m : Message) : Type 0 where
@@ -373,19 +372,22 @@ pub record Came (r : Room) (b : ℕ) (c : Clock) (m : Message) : Type 0 where
 
 pub arrival-right : (r : Room) → Proper r → r .longest ≤ longestWay → (b i : ℕ) → b < r .seats → (m : Message) → r .cable b i ≡ at (m .seat) (m .link) → RightMessage r m
     → (c : Clock) (l : Links) (run : List Entry) → RightLent r b l run
-    → (T (timed (arrival (r .settings b) (r .number b) c l run i (m .octets) .answer)) → Came r b c m)
-    → RightOutcome r b run (arrival (r .settings b) (r .number b) c l run i (m .octets))
-unfolding arrival
+    → (T (timed (perform (receive i (m .octets)) (lentAt r b c l run) .reply .answer)) → Came r b c m)
+    → RightOutcome r b run (perform (receive i (m .octets)) (lentAt r b c l run))
 arrival-right r proper ways b i hb m cable right c l run lent =
-    guarded.either Kept (guardLink (r .settings b) (r .number b) c l run i) (λ _ _. same-right r b l run _ lent refl refl)
+    performs (receive i (m .octets)) x Kept (λ _ _. same-right r b l run lent)
     (λ d.
-    let ok = passed-link (r .settings b) (r .number b) c l run i d in
-    inspect-cases (λ (x : Parsed). Kept (arrived (r .settings b) (r .number b) c l run i (m .octets) x)) (r .settings b) i (m .octets)
-    (λ x _. same-right r b l run _ lent refl refl)
+    let ok = passed (OnLink i) x d in
+    let there = holds (r .number b) run (ok .places) in
+    inspect-cases (λ (q : Parsed). Kept (updatedBy (inspected (x .host) i q) (m .octets) x)) (r .settings b) i (m .octets)
+    (λ a _. updated-right r b c l run lent there (ends a (x .host)) (m .octets) (lent .links) (λ id e y low high inside h. absurd (omega arith)))
     (λ ours time.
-    let came = time (action-timed (r .settings b) (r .number b) c l run i (m .octets) (fields (m .octets))) in
-    action-right r proper ways b i hb m cable right c l run lent (holds (r .number b) run (ok .1 .places-there)) (link-from-1 (r .settings b) i (ok .0))
+    let came = time (action-timed (x .host) i (fields (m .octets))) in
+    action-right r proper ways b i hb m cable right c l run lent there (link-from-1 (r .settings b) i (ok .link i refl))
     (came .way) (came .short) (came .clock) (proper .cables b i (m .seat) (m .link) cable .point-to-point) ours))
   where
+    x : Lent
+    x = lentAt r b c l run
+
     Kept : Outcome → Type 0
-    Kept o = (T (timed (o .answer)) → Came r b c m) → RightOutcome r b run o
+    Kept o = (T (timed (o .reply .answer)) → Came r b c m) → RightOutcome r b run o

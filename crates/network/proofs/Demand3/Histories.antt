@@ -12,23 +12,22 @@ use lib.ListN.{getD, take}
 use lib.Seq.{getD-take, take-nil}
 use Rattle.laws.proofs.Tests.{either}
 use Rattle.answer.specs.declared.Answer.the-variants.{Done}
-use Rattle.clock.specs.declared.Clock.{Clock}
 use Rattle.table.specs.declared.Entry.{Entry}
 use Rattle.table.specs.Entry.{freshEntry}
-use Rattle.config.specs.State.{hostCount}
-use Rattle.config.specs.Guard.{guardFresh, done}
-use Rattle.config.specs.Settings.{settingsGood}
-use Rattle.config.specs.declared.Settings.{Settings}
-use Rattle.config.specs.declared.Links.{Links}
-use Rattle.config.proofs.Guarded.{passed-fresh}
-use Rattle.config.proofs.Guarded as guarded
-use Rattle.config.proofs.Sound.{Sound, sound}
-use Rattle.host.specs.Calls.{initialize}
-use Rattle.host.specs.Outcome.{Outcome}
-use Rattle.network.specs.Call.{perform}
+use Rattle.host.specs.declared.Links.{Links}
+use Rattle.host.specs.declared.guard.Scope.the-variants.{Places}
+use Rattle.host.specs.Settings.{settingsGood}
+use Rattle.host.specs.State.{hostCount}
+use Rattle.host.specs.Lent.{Lent}
+use Rattle.host.specs.Guard.{done}
+use Rattle.host.proofs.Guarded.{passed}
+use Rattle.host.proofs.Sound.{Sound, sound}
+use Rattle.calls.specs.declared.Request.the-variants.{Initialize}
+use Rattle.calls.specs.Perform.{ask, Outcome, perform}
 use Rattle.network.specs.History.{Left, leftBy, after}
-use Rattle.network.specs.Room.{longestWay, Room, afresh, Proper}
-use Rattle.network.specs.Demand3.{RoomCall, ticks, seconds, reports, sends, arrives, Step, eventOf, Message, World, result, mailAfter, step, history, timed, Later, Allowed, Allows, Starts, Claim, Demand3Within, Demand3}
+use Rattle.network.specs.Room.{longestWay, Room, lentAt, afresh, Proper}
+use Rattle.network.proofs.Performs.{performs}
+use Rattle.network.specs.Demand3.{RoomCall, ticks, seconds, reports, sends, arrives, Step, Message, World, result, mailAfter, step, history, timed, Later, Allowed, Allows, Starts, Claim, Demand3Within, Demand3}
 use Rattle.network.proofs.Lists.{All, all-at}
 use Rattle.network.proofs.Demand3.Near.{near-close}
 use Rattle.network.proofs.Demand3.Invariant.{RightEntry, RightMessage, RightSeat, RightWorld}
@@ -63,21 +62,19 @@ module _ (r : Room) (proper : Proper r) (ways : r .longest ≤ longestWay) where
     at-seat call = record { seat = a; links = links; run = run; call = call }
 
     lent : (call : RoomCall) → Allowed r w (at-seat call) → RightLent r a links run
-    lent call ok = lent-right r a proper now (eventOf r (at-seat call)) refl (ok .lends) (right .seats a inside)
+    lent call ok = lent-right r a proper now (now .clock) links run (ok .lends) (right .seats a inside)
 
     arrives-right : (i : ℕ) (packet : List ℕ) (t : ℤ) → Allowed r w (at-seat (arrives i packet t)) → RightOutcome r a run (result r w (at-seat (arrives i packet t)))
-    unfolding perform
     arrives-right i packet t ok =
         let d = ok .timely in
         subst (λ (o : List ℕ). RightOutcome r a run (result r w (at-seat (arrives i o t)))) (sym (d .a-copy))
         (arrival-right r proper ways a i inside (d .message) (d .other-end) (right .mail (d .message) (d .earlier)) (now .clock) links run
         (lent (arrives i packet t) ok)
         (λ e.
-        let later = subst (λ (o : List ℕ). T (timed (result r w (at-seat (arrives i o t)) .answer)) → Later r w a t (d .message)) (d .a-copy) (d .in-time) e in
+        let later = subst (λ (o : List ℕ). T (timed (result r w (at-seat (arrives i o t)) .reply .answer)) → Later r w a t (d .message)) (d .a-copy) (d .in-time) e in
         record { way = later .way; short = later .short; clock = later .reads .clock ∙ ap (λ (z : ℤ). z +ℤ r .fixed a) (later .later) }))
 
     call-right : (call : RoomCall) → Allowed r w (at-seat call) → StepRight w (at-seat call)
-    unfolding perform
     call-right ticks ok = record { seat = tick-right r a (now .clock) links run (lent ticks ok); mail = right .mail }
     call-right seconds ok = record { seat = second-right r a (now .clock) links run (lent seconds ok); mail = right .mail }
     call-right reports ok = record { seat = self-right r a (now .clock) links run (lent reports ok) inside; mail = right .mail }
@@ -117,7 +114,7 @@ module _ (r : Room) (proper : Proper r) (ways : r .longest ≤ longestWay) where
         mail = λ m x. absurd (List·Memᴰ·not-nil (subst (List·Memᴰ m) (start .no-mail) x));
       }
     where
-      afresh-seat : (a : ℕ) → afresh r a .answer ≡ Done → RightSeat r a (leftBy (r .number a) [] (afresh r a))
+      afresh-seat : (a : ℕ) → afresh r a .reply .answer ≡ Done → RightSeat r a (leftBy (r .number a) [] (afresh r a))
       afresh-seat a done =
           let o = afresh-right r a done in
           left-right r a record { clock = afresh r a .clock; links = afresh r a .links; places = [] } (r .run a) (afresh r a)
@@ -125,10 +122,10 @@ module _ (r : Room) (proper : Proper r) (ways : r .longest ≤ longestWay) where
 
   -- ---- the claim
 
-  set-good : (s : Settings) (k : ℕ) (c : Clock) (l : Links) (run : List Entry) → initialize s k c l run .answer ≡ Done → settingsGood s ≡ true
-  unfolding initialize
-  set-good s k c l run = guarded.either (λ (o : Outcome). o .answer ≡ Done → settingsGood s ≡ true) (guardFresh s k run)
-      (λ d e. absurd (false≢true (sym d ∙ ap done e))) (λ d _. passed-fresh s k run d .1)
+  set-good : (x : Lent) → perform (ask Initialize) x .reply .answer ≡ Done → settingsGood (x .host .settings) ≡ true
+  set-good x =
+      performs (ask Initialize) x (λ (o : Outcome). o .reply .answer ≡ Done → settingsGood (x .host .settings) ≡ true)
+      (λ d e. absurd (false≢true (sym d ∙ ap done e))) (λ d _. passed Places x d .settings)
 
   right-claim : (w : World) → RightWorld r w → Claim r w
   unfolding Claim
@@ -143,7 +140,7 @@ module _ (r : Room) (proper : Proper r) (ways : r .longest ≤ longestWay) where
       places a = w .state (r .number a) .places
 
       good : (a : ℕ) → a < r .seats → Sound (r .settings a)
-      good a inside = sound (r .settings a) (set-good (r .settings a) (r .number a) (r .clock a) (r .links a) (r .run a) (proper .set-afresh a inside))
+      good a inside = sound (r .settings a) (set-good (lentAt r a (r .clock a) (r .links a) (r .run a)) (proper .set-afresh a inside))
 
 pub demand-3 : Demand3
 unfolding Demand3Within

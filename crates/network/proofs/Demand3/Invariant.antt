@@ -17,8 +17,8 @@ use Rattle.wire.specs.Packet.{message}
 use Rattle.table.specs.declared.Entry.{Entry}
 use Rattle.table.specs.Entry.{maxDelay}
 use Rattle.table.specs.Entry as entry
-use Rattle.config.specs.declared.Link.{Link}
-use Rattle.config.specs.State.{hostCount}
+use Rattle.host.specs.declared.Link.{Link}
+use Rattle.host.specs.State.{hostCount}
 use Rattle.network.specs.History.{Left}
 use Rattle.network.specs.Room.{Room, at, HostAt}
 use Rattle.network.specs.Demand3.{Message, World}

@@ -1,33 +1,42 @@
 -- What a call of seat a has to show of its outcome, so that the seat is right afterwards.
-use mathlib.Core.Path.{_≡_, _∙_, sym, ap, subst}
+use mathlib.Core.Path.{_≡_, refl, _∙_, sym, subst}
 use mathlib.Core.Bool.{true≢false}
 use mathlib.Core.List.{List}
-use Prim.Native.Nat.{ℕ, suc, _+_, _≤_}
+use Prim.Native.Nat.{ℕ, suc, _+_, _≤_, _<_}
 use native.Mathlib.Omega.{arith}
 use borrow.Author.Tests.{ltb-false, lt-ltb}
 use lib.Dec.{ltb, eqb}
 use lib.ListN.{length, take}
 use Rattle.laws.proofs.Tests.{either, neither}
-use Rattle.answer.specs.declared.Answer.{Answer}
 use Rattle.clock.specs.declared.Clock.{Clock}
 use Rattle.table.specs.declared.Entry.{Entry}
-use Rattle.config.specs.declared.Link.{Link}
-use Rattle.config.specs.declared.Links.{Links}
-use Rattle.config.specs.State.{placesPerHost, firstPlace, hostCount, entries, withEntries}
-use Rattle.config.specs.Guard.{linkCount, noLink}
-use Rattle.config.proofs.Places.{Holds, withEntries-length, entries-withEntries}
-use Rattle.host.specs.Outcome.{Outcome, leaves}
-use Rattle.network.specs.Locality.{ownLinks}
-use Rattle.network.specs.History.{Event, Left, Lends, leftBy, places}
-use Rattle.network.specs.Room.{Room, Proper}
+use Rattle.table.specs.Runs.{changed, updatedAt}
+use Rattle.host.specs.declared.Link.{Link}
+use Rattle.host.specs.declared.Links.{Links}
+use Rattle.host.specs.Settings.{linkCount}
+use Rattle.host.specs.State.{placesPerHost, firstPlace, hostCount, entries, withEntries}
+use Rattle.host.specs.Lent.{Lent, entriesOf}
+use Rattle.host.specs.Guard.{noLink}
+use Rattle.host.proofs.Places.{Holds}
+use Rattle.arrival.specs.declared.Arrived.{Arrived}
+use Rattle.calls.specs.declared.Effect.{Effect}
+use Rattle.calls.specs.Perform.{Outcome, carriedOut, updatedBy}
+use Rattle.network.specs.History.{Left, Lends, leftBy, places}
+use Rattle.network.specs.Room.{Room, lentAt, Proper}
 use Rattle.network.proofs.Lists.{All, all-first}
+use Rattle.network.proofs.Swept.{changes-length, changes-keep, updates-length, updates-keep}
+use Rattle.network.proofs.Written.{written-kept, written-back}
 use Rattle.network.proofs.HostPlaces.{entries-first}
 use Rattle.network.proofs.Demand3.Invariant.{RightEntry, RightLink, RightLinks, RightSeat}
 
-pub record RightOutcome (r : Room) (a : ℕ) (run : List Entry) (o : Outcome) : Type 0 where
-  pub links : RightLinks r a (o .links .all)
-  pub table : Holds (r .number a) run → All (RightEntry r a) (entries (r .settings a) (r .number a) (o .run))
-  pub same-length : length (o .run) ≡ length run
+-- these links and this run, left by a call that was lent another run
+pub record RightLeft (r : Room) (a : ℕ) (before : List Entry) (l : Links) (run : List Entry) : Type 0 where
+  pub links : RightLinks r a (l .all)
+  pub table : Holds (r .number a) before → All (RightEntry r a) (entries (r .settings a) (r .number a) run)
+  pub same-length : length run ≡ length before
+
+abbrev pub RightOutcome : (r : Room) (a : ℕ) (run : List Entry) → Outcome → Type 0
+RightOutcome r a run o = RightLeft r a run (o .links) (o .run)
 
 -- what a call is lent, of a seat that is right
 pub record RightLent (r : Room) (a : ℕ) (l : Links) (run : List Entry) : Type 0 where
@@ -46,18 +55,14 @@ module _ (r : Room) (a : ℕ) where
       let there = neither (eqb (suc j) 0) (ltb (linkCount (r .settings a)) (suc j)) (proper .cables a (suc j) b i cable .link-in) .1 in
       absurd (true≢false (sym (lt-ltb (linkCount (r .settings a)) (suc j) (omega arith)) ∙ there))
 
-  pub lent-right : Proper r → (x : Left) (e : Event) → e .settings ≡ r .settings a → Lends (r .number a) x e → RightSeat r a x
-      → RightLent r a (e .links) (e .run)
-  lent-right proper x e same lends right =
+  pub lent-right : Proper r → (x : Left) (c : Clock) (l : Links) (run : List Entry) → Lends x (lentAt r a c l run) → RightSeat r a x
+      → RightLent r a l run
+  lent-right proper x c l run lends right =
       record {
         links =
-            all-first (λ (j : ℕ). RightLink r a (suc j)) (linkCount (r .settings a)) (spare-right proper) (x .links .all) (e .links .all)
-            (sym (subst (λ s. ownLinks s (e .links) ≡ ownLinks s (x .links)) same (lends .own-links))) (right .links);
-        table =
-            λ holds.
-            subst (All (RightEntry r a))
-            (sym (subst (λ s. entries s (r .number a) (e .run) ≡ take (hostCount s) (x .places)) same (lends .own-entries holds)))
-            (right .table);
+            all-first (λ (j : ℕ). RightLink r a (suc j)) (linkCount (r .settings a)) (spare-right proper) (x .links .all) (l .all)
+            (sym (lends .own-links)) (right .links);
+        table = λ holds. subst (All (RightEntry r a)) (sym (lends .own-entries holds)) (right .table);
       }
 
   pub left-right : (x : Left) (run : List Entry) (o : Outcome) → RightSeat r a x → RightOutcome r a run o
@@ -75,22 +80,35 @@ module _ (r : Room) (a : ℕ) where
       }
 
   -- a refusal leaves all as it was lent
-  pub same-right : (l : Links) (run : List Entry) (o : Outcome) → RightLent r a l run → o .links ≡ l → o .run ≡ run → RightOutcome r a run o
-  same-right l run o lent e f =
-      record {
-        links = subst (λ (x : Links). RightLinks r a (x .all)) (sym e) (lent .links);
-        table = λ holds. subst (λ (x : List Entry). All (RightEntry r a) (entries (r .settings a) (r .number a) x)) (sym f) (lent .table holds);
-        same-length = ap length f;
-      }
+  pub same-right : (l : Links) (run : List Entry) → RightLent r a l run → RightLeft r a run l run
+  same-right l run lent = record { links = lent .links; table = lent .table; same-length = refl }
 
-  -- entries that are right, written to the host's first places
-  pub written-right : (answer : Answer) (c : Clock) (l : Links) (run es : List Entry) → RightLinks r a (l .all) → Holds (r .number a) run
-      → length es ≡ hostCount (r .settings a) → All (RightEntry r a) es
-      → RightOutcome r a run (leaves answer c l (withEntries (r .number a) es run))
-  written-right answer c l run es links holds size right =
-      let fits : firstPlace (r .number a) + length es ≤ length run = omega arith in
-      record {
-        links = links;
-        table = λ _. subst (All (RightEntry r a)) (sym (entries-withEntries (r .number a) es run fits (r .settings a) size)) right;
-        same-length = withEntries-length (r .number a) es run fits;
-      }
+  -- what a call that passed its guard makes of the seat's entries
+  module _ (c : Clock) (l : Links) (run : List Entry) (there : Holds (r .number a) run) where
+    abbrev x : Lent
+    x = lentAt r a c l run
+
+    pub written-right : (m : Links) (es : List Entry) → RightLinks r a (m .all) → length es ≡ length (entriesOf x) → All (RightEntry r a) es
+        → RightLeft r a run m (withEntries (r .number a) es run)
+    written-right m es links same right =
+        record {
+          links = links;
+          table = λ _. subst (All (RightEntry r a)) (sym (written-back x es there same)) right;
+          same-length = written-kept x es there same .same-length;
+        }
+
+  module _ (c : Clock) (l : Links) (run : List Entry) (lent : RightLent r a l run) (there : Holds (r .number a) run) where
+    pub carried-right : (e : Effect) → RightLinks r a (e .links .all)
+        → ((id : ℕ) (y : Entry) → e .work .first ≤ id → id < e .work .end → RightEntry r a id y → RightEntry r a id (changed (e .work .change) y))
+        → RightOutcome r a run (carriedOut e (x c l run there))
+    carried-right e links keeps =
+        written-right c l run there (e .links) _ links (changes-length (e .work) (entriesOf (x c l run there)))
+        (changes-keep (e .work) (entriesOf (x c l run there)) (RightEntry r a) keeps (lent .table there))
+
+    pub updated-right : (e : Arrived) (octets : List ℕ) → RightLinks r a (e .links .all)
+        → ((id : ℕ) (d : Clock) (y : Entry) → e .work .first ≤ id → id < e .work .end → id < length (entriesOf (x c l run there)) → RightEntry r a id y
+        → RightEntry r a id (updatedAt (e .work) octets id d y .entry))
+        → RightOutcome r a run (updatedBy e octets (x c l run there))
+    updated-right e octets links keeps =
+        written-right c l run there (e .links) _ links (updates-length (e .work) octets (entriesOf (x c l run there)))
+        (updates-keep (e .work) octets (entriesOf (x c l run there)) (RightEntry r a) keeps (lent .table there))

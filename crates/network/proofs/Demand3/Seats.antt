@@ -1,10 +1,9 @@
 -- Setting afresh, a tick, a second and a self-report keep a seat right: entries are fresh, are left, age, or are the seat's own.
 use mathlib.Core.Path.{_≡_, refl, sym, _∙_, ap}
 use mathlib.Core.Bool.{false≢true, true≢false}
-use mathlib.Core.List.{List, map}
-use Prim.Native.Nat.{ℕ, suc, _<_}
+use mathlib.Core.List.{List}
+use Prim.Native.Nat.{ℕ, suc, _≤_, _<_}
 use native.Mathlib.Omega.{arith}
-use lib.ListN.{length-map, length-replicate}
 use Rattle.quantity.specs.declared.Millis.{Millis}
 use Rattle.quantity.specs.declared.Seconds.{Seconds}
 use Rattle.quantity.specs.Quantity.{fallSeconds}
@@ -12,27 +11,28 @@ use Rattle.answer.specs.declared.Answer.the-variants.{Done}
 use Rattle.clock.specs.declared.Clock.{Clock}
 use Rattle.clock.specs.Clock.{reading}
 use Rattle.route.specs.declared.Found.{Found}
-use Rattle.route.specs.declared.Found.the-variants.{Host, Nothing}
+use Rattle.route.specs.declared.Found.the-variants.{Id, Nothing}
 use Rattle.table.specs.declared.Entry.{Entry}
-use Rattle.table.specs.Entry.{freshEntry, takenDown, withTtl, aged}
+use Rattle.table.specs.declared.run.Change.the-variants.{Fresh}
+use Rattle.table.specs.Entry.{freshEntry, takenDown, withTtl}
 use Rattle.table.specs.Update.{ownUpdate}
-use Rattle.table.specs.Sweep.{only}
+use Rattle.table.specs.Runs.{changed}
 use Rattle.table.proofs.Cases.{stored, self-keeps, aged-keeps}
-use Rattle.table.proofs.Sweeps.{sweep-length}
-use Rattle.config.specs.declared.Links.{Links}
-use Rattle.config.specs.Settings.{ownId}
-use Rattle.config.specs.State.{freshLink, freshLinks, hostCount, entries}
-use Rattle.config.specs.Guard.{guard, guardFresh, done}
-use Rattle.config.proofs.Places.{Holds, entries-length}
-use Rattle.config.proofs.Guarded.{passed, passed-fresh, holds}
-use Rattle.config.proofs.Guarded as guarded
-use Rattle.host.specs.Outcome.{Outcome}
-use Rattle.host.specs.Calls.{initialize, tick, second, selfReport, reported}
-use Rattle.network.specs.Room.{Room, afresh}
-use Rattle.network.proofs.Lists.{all-replicate, all-map, all-made}
-use Rattle.network.proofs.Swept.{only-keeps}
+use Rattle.host.specs.declared.Links.{Links}
+use Rattle.host.specs.Settings.{ownId}
+use Rattle.host.specs.State.{freshLink, freshLinks, hostCount}
+use Rattle.host.specs.Lent.{Lent, entriesOf}
+use Rattle.host.specs.Guard.{done}
+use Rattle.host.proofs.Places.{entries-length}
+use Rattle.calls.specs.declared.Request.the-variants.{Initialize, Tick, Second, SelfReport}
+use Rattle.calls.specs.Effects.{initialize, tick, second, selfReport, ownWork}
+use Rattle.calls.specs.Perform.{ask, Outcome, perform}
+use Rattle.network.specs.Room.{Room, lentAt, afresh}
+use Rattle.network.proofs.Lists.{all-made}
+use Rattle.network.proofs.Performs.{performs, there}
+use Rattle.network.proofs.Swept.{changes-length, changes-each}
 use Rattle.network.proofs.Demand3.Invariant.{RightEntry, RightLink}
-use Rattle.network.proofs.Demand3.Outcomes.{RightOutcome, RightLent, same-right, written-right}
+use Rattle.network.proofs.Demand3.Outcomes.{RightOutcome, RightLent, same-right, written-right, carried-right}
 
 module _ (r : Room) (a : ℕ) where
   -- ---- entries
@@ -48,58 +48,60 @@ module _ (r : Room) (a : ℕ) where
   ttl-right i e t right = record { fits = right .fits; known = right .known }
 
   -- the seat's own entry: no delay and no offset
-  own-right : a < r .seats → (i : ℕ) → ownId (r .settings a) ≡ Host i → (t : Millis) → RightEntry r a i (stored (ownUpdate t))
+  own-right : a < r .seats → (i : ℕ) → ownId (r .settings a) ≡ Id i → (t : Millis) → RightEntry r a i (stored (ownUpdate t))
   own-right inside i e t =
       record { fits = omega arith; known = λ _. record { seat = a; seat-in = inside; host-there = e; near = omega arith } }
 
   -- ---- the calls
 
-  pub afresh-right : afresh r a .answer ≡ Done → RightOutcome r a (r .run a) (afresh r a)
+  pub afresh-right : afresh r a .reply .answer ≡ Done → RightOutcome r a (r .run a) (afresh r a)
   unfolding initialize freshLinks
   afresh-right =
-      guarded.either (λ (o : Outcome). o .answer ≡ Done → RightOutcome r a (r .run a) o) (guardFresh (r .settings a) (r .number a) (r .run a))
-      (λ d e. absurd (false≢true (sym d ∙ ap done e)))
-      (λ d e.
-      written-right r a Done _ (freshLinks (r .settings a)) (r .run a) _
-      (all-made (λ (j : ℕ). RightLink r a (suc j)) freshLink (λ j x b i cable alive. absurd (true≢false alive)) (r .settings a .links))
-      (holds (r .number a) (r .run a) (passed-fresh (r .settings a) (r .number a) (r .run a) d .0))
-      (length-replicate (hostCount (r .settings a)) freshEntry) (all-replicate (RightEntry r a) freshEntry fresh-right (hostCount (r .settings a))))
+      performs (ask Initialize) x (λ (o : Outcome). o .reply .answer ≡ Done → RightOutcome r a (r .run a) o)
+      (λ no is. absurd (false≢true (sym no ∙ ap done is)))
+      (λ e _.
+      let held = there (ask Initialize) x e in
+      written-right r a (r .clock a) (r .links a) (r .run a) held (freshLinks (r .settings a)) _
+      (all-made (λ (j : ℕ). RightLink r a (suc j)) freshLink (λ j y b i cable alive. absurd (true≢false alive)) (r .settings a .links))
+      (changes-length record { first = 0; end = hostCount (r .settings a); change = Fresh } (entriesOf x))
+      (rw (changes-each (hostCount (r .settings a)) Fresh (entriesOf x) (omega (arith, entries-length (r .settings a) (r .number a) (r .run a) held)))
+      (all-made (RightEntry r a) (changed Fresh) (λ i _. fresh-right i) (entriesOf x))))
+    where
+      x : Lent
+      x = lentAt r a (r .clock a) (r .links a) (r .run a)
 
   module _ (c : Clock) (l : Links) (run : List Entry) (lent : RightLent r a l run) where
-    pub tick-right : RightOutcome r a run (tick (r .settings a) (r .number a) c l run)
+    abbrev x : Lent
+    x = lentAt r a c l run
+
+    pub tick-right : RightOutcome r a run (perform (ask Tick) x)
     unfolding tick
     tick-right =
-        guarded.either (RightOutcome r a run) (guard (r .settings a) (r .number a) c l run)
-        (λ _. same-right r a l run _ lent refl refl) (λ _. same-right r a l run _ lent refl refl)
+        performs (ask Tick) x (RightOutcome r a run) (λ _. same-right r a l run lent)
+        (λ e. carried-right r a c l run lent (there (ask Tick) x e) (tick (x .host)) (lent .links) (λ id y low high right. absurd (omega arith)))
 
-    pub second-right : RightOutcome r a run (second (r .settings a) (r .number a) c l run)
+    pub second-right : RightOutcome r a run (perform (ask Second) x)
     unfolding second
     second-right =
-        guarded.either (RightOutcome r a run) (guard (r .settings a) (r .number a) c l run)
-        (λ _. same-right r a l run _ lent refl refl)
-        (λ d.
-        let h = holds (r .number a) run (passed (r .settings a) (r .number a) c l run d .places-there) in
-        written-right r a Done _ l run (map aged (entries (r .settings a) (r .number a) run)) (lent .links) h
-        (length-map (entries (r .settings a) (r .number a) run) aged ∙ entries-length (r .settings a) (r .number a) run h)
-        (all-map (RightEntry r a) (RightEntry r a) aged
-        (λ i e right. aged-keeps (RightEntry r a i) e right (down-right i e right) (ttl-right i e (fallSeconds (e .ttl)) right))
-        (entries (r .settings a) (r .number a) run) (lent .table h)))
+        performs (ask Second) x (RightOutcome r a run) (λ _. same-right r a l run lent)
+        (λ e.
+        carried-right r a c l run lent (there (ask Second) x e) (second (x .host)) (lent .links)
+        (λ id y low high right.
+        aged-keeps (RightEntry r a id) y right (down-right id y right) (ttl-right id y (fallSeconds (y .ttl)) right)))
 
-    pub self-right : a < r .seats → RightOutcome r a run (selfReport (r .settings a) (r .number a) c l run)
+    pub self-right : a < r .seats → RightOutcome r a run (perform (ask SelfReport) x)
     unfolding selfReport
     self-right inside =
-        guarded.either (RightOutcome r a run) (guard (r .settings a) (r .number a) c l run)
-        (λ _. same-right r a l run _ lent refl refl)
-        (λ d.
-        let h = holds (r .number a) run (passed (r .settings a) (r .number a) c l run d .places-there) in
-        go h (ownId (r .settings a)) refl)
+        performs (ask SelfReport) x (RightOutcome r a run) (λ _. same-right r a l run lent)
+        (λ e.
+        carried-right r a c l run lent (there (ask SelfReport) x e) (selfReport (x .host)) (lent .links) (go (ownId (r .settings a)) refl))
       where
-        go : Holds (r .number a) run → (x : Found) → ownId (r .settings a) ≡ x
-            → RightOutcome r a run (reported (r .number a) (reading c) l run (entries (r .settings a) (r .number a) run) x)
-        go h Nothing e = same-right r a l run _ lent refl refl
-        go h (Host id) e =
-            written-right r a Done _ l run _ (lent .links) h
-            (sweep-length 0 (only id _) (reading c .clock) (entries (r .settings a) (r .number a) run) ∙ entries-length (r .settings a) (r .number a) run h)
-            (only-keeps (RightEntry r a) id _
-            (λ d x right. self-keeps (RightEntry r a id) (reading c .time) x right (down-right id x right) (own-right inside id e (reading c .time)))
-            (reading c .clock) (entries (r .settings a) (r .number a) run) (lent .table h))
+        t : Millis
+        t = reading c .time
+
+        go : (f : Found) → ownId (r .settings a) ≡ f → (id : ℕ) (y : Entry) → ownWork t f .first ≤ id → id < ownWork t f .end → RightEntry r a id y
+            → RightEntry r a id (changed (ownWork t f .change) y)
+        go Nothing e id y low high right = absurd (omega arith)
+        go (Id own) e id y low high right =
+            let same : own ≡ id = omega arith in
+            self-keeps (RightEntry r a id) t y right (down-right id y right) (own-right inside id (rw same at e) t)

@@ -19,24 +19,27 @@ use Rattle.answer.specs.declared.Answer.the-variants.{Done}
 use Rattle.clock.specs.declared.Clock.{Clock}
 use Rattle.clock.specs.Midnight.{dayMillis}
 use Rattle.clock.specs.Clock.{reading}
-use Rattle.wire.specs.Packet.{message}
+use Rattle.wire.specs.Packet.{packetLength}
 use Rattle.table.specs.declared.Entry.{Entry}
 use Rattle.table.specs.Entry.{advertised, entryInRange}
 use Rattle.table.proofs.Ranges.{within, range-says, reading-in}
-use Rattle.config.specs.declared.Settings.{Settings}
-use Rattle.config.specs.declared.Link.{Link}
-use Rattle.config.specs.declared.Links.{Links}
-use Rattle.config.specs.State.{unset, freshLink, linkOf, withLink, entries}
-use Rattle.config.specs.Guard.{noLink, guardLink, done}
-use Rattle.config.proofs.Guarded.{Passed, passed-link, holds, counted}
-use Rattle.config.proofs.Guarded as guarded
-use Rattle.plan.specs.Message.{tableGoes, sentTsp, linkSent, packetSent}
-use Rattle.host.specs.Outcome.{Outcome}
-use Rattle.host.specs.Send.{reports, sentMessage, sentLength, sentOutcome, send}
-use Rattle.host.proofs.Judged.{clock-lent, entries-lent}
-use Rattle.network.specs.Call.{messageOf}
-use Rattle.network.specs.Room.{Room, at}
-use Rattle.network.proofs.Sends.{sent-message}
+use Rattle.host.specs.declared.Settings.{Settings}
+use Rattle.host.specs.declared.Link.{Link}
+use Rattle.host.specs.declared.Links.{Links}
+use Rattle.host.specs.declared.guard.Scope.the-variants.{OnLink}
+use Rattle.host.specs.State.{unset, freshLink, linkOf, withLink}
+use Rattle.host.specs.Lent.{Lent, entriesOf}
+use Rattle.host.specs.Guard.{noLink, done}
+use Rattle.host.proofs.Places.{Holds}
+use Rattle.host.proofs.Guarded.{Passed, passed, holds, counted, clock-lent, entries-lent}
+use Rattle.sending.specs.declared.Sending.{Sending}
+use Rattle.sending.specs.Message.{tableGoes, sentTsp, linkSent, packetSent}
+use Rattle.sending.specs.Send.{reportCount, sends}
+use Rattle.calls.specs.Perform.{Call, Outcome, sentBy, perform}
+use Rattle.network.specs.Left.{messageOf}
+use Rattle.network.specs.Room.{Room, at, lentAt}
+use Rattle.network.proofs.Performs.{performs}
+use Rattle.network.proofs.Sends.{reports, reports-count, sent-message}
 use Rattle.network.proofs.Exchange.{word-same}
 use Rattle.network.proofs.Lists.{All, all-at, all-map, all-set, every-all, all-both}
 use Rattle.network.proofs.Demand3.Near.{Fits16}
@@ -53,8 +56,8 @@ module _ (r : Room) (a i : ℕ) (inside : a < r .seats) (c : Clock) (l : Links) 
   abbrev x : Link
   x = linkOf l i
 
-  abbrev es : List Entry
-  es = entries (r .settings a) (r .number a) run
+  abbrev whole : Lent
+  whole = lentAt r a c l run
 
   -- the link as it stands
   link-right : RightLink r a i x
@@ -79,18 +82,21 @@ module _ (r : Room) (a i : ℕ) (inside : a < r .seats) (c : Clock) (l : Links) 
       (λ t. record { not-negative = omega arith; delay-fits = omega arith; fits = h .0 .fits; known = λ low. absurd (false≢true low) })
       (λ t. record { not-negative = omega arith; delay-fits = omega arith; fits = h .0 .fits; known = h .0 .known })
 
-  module _ (ok : Passed (r .settings a) (r .number a) c l run) (t : ℤ) (clock : reading c .time .0 ≡ t +ℤ r .fixed a) (early : reading c .time .0 <ℤ dayMillis .0) where
-    reads-low : dn (reading c .time .0) ≤ 0
-    reads-low =
-        omega (arith, within 86400000 (reading c .time .0) (reading-in c (clock-lent (r .settings a) (r .number a) c l run ok)))
+  module _ (ok : Passed (OnLink i) whole) (t : ℤ) (clock : reading c .time .0 ≡ t +ℤ r .fixed a) (early : reading c .time .0 <ℤ dayMillis .0) where
+    held : Holds (r .number a) run
+    held = holds (r .number a) run (ok .places)
 
-    reports-right : All (RightReport r a) (reports (r .settings a) i x es)
+    reads-low : dn (reading c .time .0) ≤ 0
+    reads-low = omega (arith, within 86400000 (reading c .time .0) (reading-in c (clock-lent whole (ok .lent refl))))
+
+    reports-right : All (RightReport r a) (reports whole held i)
     reports-right =
         either (All (RightReport r a)) (tableGoes (r .settings a) x) _ _
         (λ _.
-        all-map (λ (n : ℕ) (e : Entry). RightEntry r a n e × (entryInRange e ≡ true)) (RightReport r a) (advertised i) advertised-right es
-        (all-both (RightEntry r a) (λ (n : ℕ) (e : Entry). entryInRange e ≡ true) es (lent .table (holds (r .number a) run (ok .places-there)))
-        (every-all entryInRange es (entries-lent (r .settings a) (r .number a) c l run ok))))
+        all-map (λ (n : ℕ) (e : Entry). RightEntry r a n e × (entryInRange e ≡ true)) (RightReport r a) (advertised i) (entriesOf whole)
+        (λ n e _. advertised-right n e)
+        (all-both (RightEntry r a) (λ (n : ℕ) (e : Entry). entryInRange e ≡ true) (entriesOf whole) (lent .table held)
+        (every-all entryInRange (entriesOf whole) (entries-lent whole (ok .lent refl)))))
         (λ _. tt)
 
     tsp-fits : Fits16 (sentTsp x (reading c .time) .0)
@@ -109,20 +115,19 @@ module _ (r : Room) (a i : ℕ) (inside : a < r .seats) (c : Clock) (l : Links) 
           bits = word-same 16 (omega arith) (r .fixed b) (r .fixed a) t (x .tsp .0) (reading c .time .0) (tied .way) (tied .bits) clock;
         })
 
-    message-right : (buffer : List ℕ) → RightMessage r record { seat = a; link = i; ms = t; octets = messageOf (sentOutcome (r .settings a) (r .number a) (reading c) l run i buffer) }
-    unfolding sentMessage
+    message-right : (buffer : List ℕ) → RightMessage r record { seat = a; link = i; ms = t; octets = messageOf (sentBy (sends i (whole .host)) buffer whole) }
     message-right buffer =
         record {
           seat-in = inside;
           destination = x .neighbor;
-          packet = packetSent (r .settings a) x (reading c .time) (reading c .clock .date) (length (reports (r .settings a) i x es));
-          reports = reports (r .settings a) i x es;
-          octets-are = sent-message (r .settings a) (r .number a) (reading c) l run i buffer;
+          packet = packetSent (r .settings a) x (reading c .time) (reading c .clock .date) (reportCount (r .settings a) x);
+          reports = reports whole held i;
+          octets-are = sent-message whole held i buffer;
           source = refl;
           time = clock;
           time-low = reads-low;
           time-high = omega (arith, of-<ℤ early, reads-low);
-          count = refl;
+          count = sym (reports-count whole held i);
           right = reports-right;
           tsp-fits = tsp-fits;
           tsp = tsp-right;
@@ -136,30 +141,32 @@ Clocked r a c t = (reading c .time .0 ≡ t +ℤ r .fixed a) × (reading c .time
 
 pub record SendRight (r : Room) (a i : ℕ) (run : List Entry) (t : ℤ) (o : Outcome) : Type 0 where
   pub seat : RightOutcome r a run o
-  pub message : done (o .answer) ≡ true → RightMessage r record { seat = a; link = i; ms = t; octets = messageOf o }
+  pub message : done (o .reply .answer) ≡ true → RightMessage r record { seat = a; link = i; ms = t; octets = messageOf o }
 
 pub send-right : (r : Room) (a i : ℕ) → a < r .seats → (c : Clock) (l : Links) (run : List Entry) → RightLent r a l run → (buffer : List ℕ) (t : ℤ)
-    → (send (r .settings a) (r .number a) c l run i buffer .answer ≡ Done → Clocked r a c t)
-    → SendRight r a i run t (send (r .settings a) (r .number a) c l run i buffer)
-unfolding send
+    → (perform (Call.send i buffer) (lentAt r a c l run) .reply .answer ≡ Done → Clocked r a c t)
+    → SendRight r a i run t (perform (Call.send i buffer) (lentAt r a c l run))
 send-right r a i inside c l run lent buffer t =
-    guarded.either Kept (guardLink (r .settings a) (r .number a) c l run i)
-    (λ d _. record { seat = same-right r a l run _ lent refl refl; message = λ e. absurd (false≢true (sym d ∙ e)) })
+    performs (Call.send i buffer) x Kept
+    (λ d _. record { seat = same-right r a l run lent; message = λ e. absurd (false≢true (sym d ∙ e)) })
     (λ d.
-    let p = passed-link (r .settings a) (r .number a) c l run i d in
-    either Kept (ltb (length buffer) (sentLength (r .settings a) i (linkOf l i) (entries (r .settings a) (r .number a) run))) _ _
-    (λ _ _. record { seat = same-right r a l run _ lent refl refl; message = λ e. absurd (false≢true e) })
+    let p = passed (OnLink i) x d in
+    either (λ (s : Sending). Kept (sentBy s buffer x)) (ltb (length buffer) (packetLength (reportCount (r .settings a) (linkOf l i)))) _ _
+    (λ _ _. record { seat = same-right r a l run lent; message = λ e. absurd (false≢true e) })
     (λ _ time.
     let now = time refl in
     record {
       seat =
           record {
-            links = sent-links r a i inside c l run lent (p .0);
+            links = sent-links r a i inside c l run lent (p .link i refl);
             table = lent .table;
             same-length = refl;
           };
-      message = λ _. message-right r a i inside c l run lent (p .0) (p .1) t (now .0) (now .1) buffer;
+      message = λ _. message-right r a i inside c l run lent (p .link i refl) p t (now .0) (now .1) buffer;
     }))
   where
+    x : Lent
+    x = lentAt r a c l run
+
     Kept : Outcome → Type 0
-    Kept o = (o .answer ≡ Done → Clocked r a c t) → SendRight r a i run t o
+    Kept o = (o .reply .answer ≡ Done → Clocked r a c t) → SendRight r a i run t o

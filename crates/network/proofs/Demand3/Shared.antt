@@ -9,34 +9,29 @@ use lib.Dec.{ltb, eqb}
 use lib.ListN.{length, getD, take}
 use Rattle.laws.proofs.Tests.{either}
 use Rattle.answer.specs.declared.Answer.the-variants.{Done}
-use Rattle.clock.specs.declared.Clock.{Clock}
 use Rattle.table.specs.declared.Entry.{Entry}
 use Rattle.table.specs.Entry.{freshEntry}
 use Rattle.table.specs.Entry as entry
-use Rattle.config.specs.State.{placesPerHost, firstPlace, hostCount}
-use Rattle.config.specs.Guard.{guardFresh, done}
-use Rattle.config.specs.declared.Settings.{Settings}
-use Rattle.config.specs.declared.Links.{Links}
-use Rattle.config.proofs.Guarded.{passed-fresh, holds}
-use Rattle.config.proofs.Guarded as guarded
-use Rattle.host.specs.Outcome.{Outcome}
-use Rattle.host.specs.Calls.{initialize}
-use Rattle.network.specs.Call.{initializes, perform}
+use Rattle.host.specs.State.{placesPerHost, firstPlace, hostCount}
+use Rattle.host.specs.Lent.{Lent}
+use Rattle.host.specs.Guard.{done}
+use Rattle.calls.specs.declared.Request.the-variants.{Initialize}
+use Rattle.calls.specs.Perform.{ask, Outcome, perform}
 use Rattle.network.specs.Frame.{Kept}
 use Rattle.network.specs.History.{Left, places, Holds, leftBy, after}
-use Rattle.network.specs.Room.{Room, afresh, Proper}
-use Rattle.network.specs.Demand3.{Step, World, result, step, history, Allows, entryOf, Right, Claim, Demand3Within}
+use Rattle.network.specs.Room.{Room, lentAt, afresh, Proper}
+use Rattle.network.specs.Demand3.{Step, World, eventOf, result, step, history, Allows, entryOf, Right, Claim, Demand3Within}
 use Rattle.network.specs.SharedRun.{SharedStep, SharedWorld, lent, sharedStep, sharedHistory, SharedAllows, OneRun, sharedEntry, SharedDemand3}
+use Rattle.network.proofs.Performs.{performs, there}
 use Rattle.network.proofs.HostPlaces.{entries-first, elsewhere}
 use Rattle.network.proofs.Demand1.Frame.{kept-places}
 use Rattle.network.proofs.Demand3.Histories.{demand-3}
 
 -- a setting afresh that is answered 0 was lent all the places
-set-holds : (s : Settings) (k : ℕ) (c : Clock) (l : Links) (run : List Entry) → initialize s k c l run .answer ≡ Done → Holds k run
-unfolding initialize
-set-holds s k c l run =
-    guarded.either (λ (o : Outcome). o .answer ≡ Done → Holds k run) (guardFresh s k run)
-    (λ d e. absurd (false≢true (sym d ∙ ap done e))) (λ d _. holds k run (passed-fresh s k run d .0))
+set-holds : (x : Lent) → perform (ask Initialize) x .reply .answer ≡ Done → Holds (x .number) (x .run)
+set-holds x =
+    performs (ask Initialize) x (λ (o : Outcome). o .reply .answer ≡ Done → Holds (x .number) (x .run))
+    (λ d e. absurd (false≢true (sym d ∙ ap done e))) (λ d _. there (ask Initialize) x d)
 
 -- a run with all the places leaves them
 all-there : (k : ℕ) (were : List Entry) (o : Outcome) → Holds k (o .run) → leftBy k were o .places ≡ places k (o .run)
@@ -49,7 +44,7 @@ module _ (r : Room) (proper : Proper r) where
 
   -- what a call keeps of the run
   kept : (w : SharedWorld) (x : SharedStep) → Kept (r .settings (x .seat)) (r .number (x .seat)) (w .run) (result r (w .world) (lent w x) .run)
-  kept w x = kept-places (r .settings (x .seat)) (r .number (x .seat)) _ _ (w .run) _
+  kept w x = kept-places _ (eventOf r (w .world) (lent w x) .lent)
 
   step-tracks : (w : SharedWorld) (x : SharedStep) → x .seat < r .seats → Tracks w → Tracks (sharedStep r w x)
   unfolding sharedStep step after
@@ -94,6 +89,7 @@ module _ (r : Room) (proper : Proper r) where
           seat-in = now .seat-in;
           lends =
               record {
+                own-clock = refl;
                 own-links = now .own-links;
                 own-entries =
                     λ _.
@@ -112,9 +108,12 @@ module _ (r : Room) (proper : Proper r) where
 
   -- ---- the beginning
 
+  -- what the setting afresh of a seat is lent
+  abbrev first : ℕ → Lent
+  first c = lentAt r c (r .clock c) (r .links c) (r .run c)
+
   afresh-kept : (c : ℕ) → Kept (r .settings c) (r .number c) (r .run c) (afresh r c .run)
-  unfolding perform
-  afresh-kept c = kept-places (r .settings c) (r .number c) (r .clock c) (r .links c) (r .run c) initializes
+  afresh-kept c = kept-places (ask Initialize) (first c)
 
   -- a seat's places, as its setting afresh left them, stay through the settings afresh of later seats
   pub record Stays (a : ℕ) (run : List Entry) : Type 0 where
@@ -146,7 +145,7 @@ module _ (r : Room) (proper : Proper r) where
   start-tracks w one a ha = go (r .seats) refl
     where
       afresh-holds : Holds (r .number a) (afresh r a .run)
-      afresh-holds = omega (arith, afresh-kept a .same-length, set-holds (r .settings a) (r .number a) (r .clock a) (r .links a) (r .run a) (proper .set-afresh a ha))
+      afresh-holds = omega (arith, afresh-kept a .same-length, set-holds (first a) (proper .set-afresh a ha))
 
       go : (n : ℕ) → r .seats ≡ n → Holds (r .number a) (w .run) × (places (r .number a) (w .run) ≡ w .world .state (r .number a) .places)
       go zero e = absurd (omega arith)

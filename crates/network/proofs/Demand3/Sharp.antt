@@ -22,20 +22,26 @@ use Rattle.clock.proofs.Midnight.{rests-hold}
 use Rattle.table.specs.declared.Entry.{Entry}
 use Rattle.table.specs.Entry.{freshEntry, up, entryInRange}
 use Rattle.table.specs.Forms.{every}
-use Rattle.config.specs.declared.Settings.{Settings}
-use Rattle.config.specs.declared.Links.{Links}
-use Rattle.config.specs.Settings.{settingsGood}
-use Rattle.config.specs.State.{freshLinks, placesPerHost, entries}
-use Rattle.config.specs.Guard.{noPlaces, linkCount, linkInRange, lentInRange, guard}
-use Rattle.host.specs.Outcome.{Outcome, leaves}
-use Rattle.host.specs.Calls.{tick}
-use Rattle.host.proofs.Opened.{opened}
-use Rattle.network.specs.Call.{Call, perform, messageOf}
+use Rattle.host.specs.declared.Settings.{Settings}
+use Rattle.host.specs.declared.Links.{Links}
+use Rattle.host.specs.declared.guard.Scope.the-variants.{All}
+use Rattle.host.specs.Settings.{linkCount, settingsGood}
+use Rattle.host.specs.State.{freshLinks, placesPerHost, linkInRange, entries}
+use Rattle.host.specs.Lent.{Lent, lent, lentInRange}
+use Rattle.host.specs.Guard.{noPlaces, guard}
+use Rattle.host.specs.Reply.{plainly}
+use Rattle.host.proofs.Guarded.{holds}
+use Rattle.calls.specs.declared.Request.the-variants.{Tick}
+use Rattle.calls.specs.Effects.{tick}
+use Rattle.calls.specs.Perform.{ask, Outcome, perform}
+use Rattle.network.specs.Left.{messageOf}
 use Rattle.network.specs.History.{Left, leftBy, put, after}
 use Rattle.network.specs.Room.{errorParts, delayParts, Room, afresh, HostAt, Proper}
 use Rattle.network.specs.Demand3.{ticks, Message, World, Step, result, step, history, Allows, Starts, entryOf, Claim, Demand3Within}
 use Rattle.network.specs.TwoSeats.{settingsFor}
 use Rattle.network.specs.Sharp.{lateness, late, early, w₀, x₁, w₁, x₂, w₂, x₃, w₃, x₄, w₄, wait, w₅, x₆, x₇, story, learnt, Sharp}
+use Rattle.network.proofs.Opened.{opened}
+use Rattle.network.proofs.Written.{answered}
 use Rattle.network.proofs.Demand3.TwoSeats.{below-2, pair-proper, starts, as-left, reads, delivered}
 
 -- ---- the clock of seat 0 after n ticks
@@ -81,14 +87,24 @@ else-good : cond (noPlaces 0 table0 || not (true && every linkInRange (take (lin
 unfolding opened
 else-good = refl
 
-guard-done : (c : Clock) → clockInRange c ≡ true → guard settings0 0 c links0 table0 ≡ Done
+abbrev lent0 : Clock → Lent
+lent0 c = lent settings0 0 c links0 table0
+
+guard-done : (c : Clock) → clockInRange c ≡ true → guard All (lent0 c) ≡ Done
 unfolding guard lentInRange
 guard-done c e = rw e else-good
 
+places-there : noPlaces 0 table0 ≡ false
+unfolding opened
+places-there = refl
+
 performed : (n : ℕ) → n < 33
-    → perform settings0 0 (clockOf (unitsAfter n)) links0 table0 Call.ticks ≡ leaves Done (clockOf (unitsAfter (suc n))) links0 table0
+    → perform (ask Tick) (lent0 (clockOf (unitsAfter n)))
+    ≡ record { reply = plainly Done; clock = clockOf (unitsAfter (suc n)); links = links0; run = table0; buffer = [] }
 unfolding perform tick
-performed n h = rw (guard-done (clockOf (unitsAfter n)) (in-range n (omega arith)), ticked n h)
+performed n h =
+    rw (guard-done (clockOf (unitsAfter n)) (in-range n (omega arith)))
+    (answered (lent0 (clockOf (unitsAfter n))) (holds 0 table0 places-there) _ _ _ ∙ rw (ticked n h))
 
 -- ---- the world while seat 0 waits
 
@@ -100,7 +116,7 @@ waited n = record { state = put 0 (seat0 n) (w₄ .state); mail = w₄ .mail }
 
 -- before it waits
 first-is : w₄ .state 0 ≡ seat0 0
-unfolding opened perform after step w₀ x₁ w₁ x₂ w₂ x₃ w₃ x₄ w₄
+unfolding opened after step w₀ x₁ w₁ x₂ w₂ x₃ w₃ x₄ w₄
 first-is = refl
 
 put-same : (x : Left) (f : ℕ → Left) → f 0 ≡ x → (j : ℕ) → f j ≡ put 0 x f j
@@ -131,7 +147,7 @@ unfolding Allows entries
 waits-allowed zero n h = tt
 waits-allowed (suc m) n h =
     let next : step late (waited n) (early ticks) ≡ waited (suc n) = waits-on n (omega arith) in (
-      record { seat-in = omega arith; lends = record { own-links = refl; own-entries = λ _. refl }; timely = tt },
+      record { seat-in = omega arith; lends = record { own-clock = refl; own-links = refl; own-entries = λ _. refl }; timely = tt },
       rw next (waits-allowed m (suc n) (omega arith)),
     )
 
@@ -166,9 +182,9 @@ unfolding w₅
 waits-all = ap (λ w. history late w wait) waits-from ∙ waits 33 0 refl
 
 last-allowed : Allows late (waited 33) (x₆ ∷ x₇ (step late (waited 33) x₆) ∷ [])
-unfolding opened perform after step Allows w₀ x₁ w₁ x₂ w₂ x₃ w₃ x₄ w₄ x₆ x₇
+unfolding opened after step Allows w₀ x₁ w₁ x₂ w₂ x₃ w₃ x₄ w₄ x₆ x₇
 last-allowed = (
-  record { seat-in = omega arith; lends = record { own-links = refl; own-entries = λ _. refl }; timely = delivered lateness (waited 33) 0 (pos 72768) _ second 16384 (List·Memᴰ·head refl) refl (reads lateness (waited 33) 0 (pos 72768) refl record { lt = tt }) (omega arith) refl },
+  record { seat-in = omega arith; lends = record { own-clock = refl; own-links = refl; own-entries = λ _. refl }; timely = delivered lateness (waited 33) 0 (pos 72768) _ second 16384 (List·Memᴰ·head refl) refl (reads lateness (waited 33) 0 (pos 72768) refl record { lt = tt }) (omega arith) refl },
   (
     record { seat-in = omega arith; lends = as-left lateness (step late (waited 33) x₆) 0 (x₇ (step late (waited 33) x₆) .call); timely = delivered lateness (step late (waited 33) x₆) 0 (pos 72768) _ second 16384 (List·Memᴰ·head refl) refl (reads lateness (step late (waited 33) x₆) 0 (pos 72768) refl record { lt = tt }) (omega arith) refl },
     tt,
@@ -183,9 +199,9 @@ wait-allowed =
     (subst (λ w. Allows late w (x₆ ∷ x₇ (step late w x₆) ∷ [])) (sym waits-all) last-allowed)
 
 allowed : Allows late w₀ story
-unfolding opened perform after step Allows w₀ x₁ w₁ x₂ w₂ x₃ w₃ x₄ w₄
+unfolding opened after step Allows w₀ x₁ w₁ x₂ w₂ x₃ w₃ x₄ w₄
 allowed = (
-  record { seat-in = omega arith; lends = record { own-links = refl; own-entries = λ _. refl }; timely = λ _. reads lateness w₀ 0 (pos 40000) refl record { lt = tt } },
+  record { seat-in = omega arith; lends = record { own-clock = refl; own-links = refl; own-entries = λ _. refl }; timely = λ _. reads lateness w₀ 0 (pos 40000) refl record { lt = tt } },
   (
     record { seat-in = omega arith; lends = as-left lateness w₁ 1 (x₂ .call); timely = tt },
     (
@@ -213,7 +229,7 @@ abbrev stored : Entry
 stored = entryOf late last 0 1
 
 stored-is : (stored .delay .0 ≡ pos 100) × (stored .offset .0 ≡ negsuc 32267)
-unfolding opened perform after step w₀ x₁ w₁ x₂ w₂ x₃ w₃ x₄ w₄ x₆ x₇
+unfolding opened after step w₀ x₁ w₁ x₂ w₂ x₃ w₃ x₄ w₄ x₆ x₇
 stored-is = (refl, refl)
 
 learnt-is : learnt ≡ stored
@@ -221,7 +237,7 @@ learnt-is = ap (λ w. entryOf late w 0 1) last-is
 
 proper : Proper late
 unfolding opened
-proper = pair-proper lateness (below-2 (λ (a : ℕ). afresh late a .answer ≡ Answer.Done) refl refl)
+proper = pair-proper lateness (below-2 (λ (a : ℕ). afresh late a .reply .answer ≡ Answer.Done) refl refl)
 
 start : Starts late w₀
 unfolding w₀

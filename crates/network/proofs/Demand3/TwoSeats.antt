@@ -15,12 +15,12 @@ use Rattle.clock.specs.Midnight.{dayMillis}
 use Rattle.clock.specs.Clock.{reading}
 use Rattle.route.specs.Find.{sameNet}
 use Rattle.table.specs.Entry.{freshEntry}
-use Rattle.config.specs.Settings.{ownId}
-use Rattle.config.specs.State.{placesPerHost, firstPlace, hostCount, entries}
-use Rattle.host.proofs.Opened.{opened}
+use Rattle.host.specs.Settings.{ownId}
+use Rattle.host.specs.State.{placesPerHost, firstPlace, hostCount, entries}
 use Rattle.network.specs.History.{Lends}
 use Rattle.network.specs.Room.{clockSpread, loose, at, afresh, Cabled, Proper}
 use Rattle.network.specs.Demand3.{RoomCall, Message, World, eventOf, Reads, Delivered, Starts}
+use Rattle.network.proofs.Opened.{opened}
 use Rattle.network.specs.TwoSeats.{Pair, settingsFor, wire, pair, begun, call}
 
 -- two seats, case by case
@@ -53,7 +53,7 @@ module _ (p : Pair) where
       go true false false t u w e = absurd (let z : _≡_ {A = ℕ} 0 1 = cc in omega arith)
       go false u v t x w e = absurd (let z : _≡_ {A = ℕ} 0 1 = cc in omega arith)
 
-  pub pair-proper : ((a : ℕ) → a < 2 → afresh (pair p) a .answer ≡ Answer.Done) → Proper (pair p)
+  pub pair-proper : ((a : ℕ) → a < 2 → afresh (pair p) a .reply .answer ≡ Answer.Done) → Proper (pair p)
   unfolding opened
   pair-proper fresh =
       record {
@@ -72,10 +72,11 @@ module _ (p : Pair) where
   starts = record { set-afresh = λ a l. refl; no-mail = refl }
 
   -- a call with the links as they were left and the places as they were left
-  pub as-left : (w : World) (a : ℕ) (x : RoomCall) → Lends a (w .state a) (eventOf (pair p) (call w a x))
+  pub as-left : (w : World) (a : ℕ) (x : RoomCall) → Lends (w .state a) (eventOf (pair p) w (call w a x) .lent)
   unfolding entries
   as-left w a x =
       record {
+        own-clock = refl;
         own-links = refl;
         own-entries =
             λ _.

@@ -1,8 +1,8 @@
 -- The sums of the blackboard hold, by computing.
 use mathlib.Core.Path.{refl}
-use Rattle.host.specs.Exchange.{aSends, bGets, bAnswers, aGets, learnt}
+use Rattle.network.proofs.Opened.{opened}
+use Rattle.sums.specs.Exchange.{aSends, bGets, bAnswers, aGets, learnt}
 use Rattle.sums.specs.Sums.{Sums}
-use Rattle.host.proofs.Opened.{opened}
 use Rattle.sums.proofs.sums.Statement.{statement}
 use Rattle.sums.proofs.sums.Tie as tie
 

@@ -1,0 +1,65 @@
+-- The exchange of the blackboard, over the octets that a send writes and an arrival reads: A has the id 0, at 192.0.2.1; B has the id 1, at 192.0.2.2, and is 500 ms ahead.
+use mathlib.Core.List.{List}
+use Prim.Native.Nat.{ℕ}
+use lib.IntN.{pos}
+use lib.ListN.{getD, replicate}
+use Rattle.quantity.specs.Quantity.{units, millis}
+use Rattle.quantity.specs.Words.{word}
+use Rattle.calendar.specs.Date.{firstDate}
+use Rattle.clock.specs.declared.Clock.{Clock}
+use Rattle.clock.specs.Clock.{freshClock}
+use Rattle.table.specs.declared.Entry.{Entry}
+use Rattle.table.specs.Entry.{freshEntry}
+use Rattle.host.specs.declared.Settings.{Settings}
+use Rattle.host.specs.declared.Links.{Links}
+use Rattle.host.specs.State.{freshLinks, withLink, placesPerHost}
+use Rattle.host.specs.Lent.{Lent, lent}
+use Rattle.calls.specs.declared.Request.the-variants.{SelfReport}
+use Rattle.calls.specs.Perform.{ask, send, receive, Outcome, perform}
+use Rattle.network.specs.TwoSeats.{hostAt, settingsFor}
+
+-- seat 0 is A, and seat 1 is B
+abbrev pub settingsOf : (seat : ℕ) → Settings
+settingsOf = settingsFor record { tick = units (pos 1); start = λ a. 0; longest = 0 }
+
+-- a clock that reads so many milliseconds
+abbrev pub clockAt : ℕ → Clock
+clockAt ms = freshClock (millis (pos ms)) firstDate
+
+-- each in a run of its own
+abbrev pub lentAt : (seat ms : ℕ) → Links → List Entry → Lent
+lentAt a ms l run = lent (settingsOf a) 0 (clockAt ms) l run
+
+abbrev pub freshRun : List Entry
+freshRun = replicate placesPerHost freshEntry
+
+abbrev pub room : List ℕ
+room = replicate 40 0
+
+-- A knows its neighbour from earlier
+abbrev pub linksA : Links
+linksA = withLink 1 record { neighbor = hostAt 2; «keep_alive» = 0; tsp = word (pos 0) } (freshLinks (settingsOf 0))
+
+-- B reports itself
+abbrev pub runB : List Entry
+runB = perform (ask SelfReport) (lentAt 1 40500 (freshLinks (settingsOf 1)) freshRun) .run
+
+-- "A sends at 40,000"
+unfoldable pub aSends : Outcome
+aSends = perform (send 1 room) (lentAt 0 40000 linksA freshRun)
+
+-- "B, 500 ahead, gets it at 40,530"
+unfoldable pub bGets : Outcome
+bGets = perform (receive 1 (aSends .buffer)) (lentAt 1 40530 (freshLinks (settingsOf 1)) runB)
+
+-- "and answers at 45,530"
+unfoldable pub bAnswers : Outcome
+bAnswers = perform (send 1 room) (lentAt 1 45530 (bGets .links) (bGets .run))
+
+-- "A gets it at 45,081"
+unfoldable pub aGets : Outcome
+aGets = perform (receive 1 (bAnswers .buffer)) (lentAt 0 45081 (aSends .links) (aSends .run))
+
+-- what A then has of B
+unfoldable pub learnt : Entry
+learnt = getD (aGets .run) 1 freshEntry
