@@ -6,3 +6,4 @@ pub mod Dispatch
 pub mod Receive
 pub mod Ranges
 pub mod Laws
+pub mod HalfDelay

@@ -1,6 +1,7 @@
 // The successor: the NTP header of RFC 5905, read and written, and what an association makes of a packet.
 ghost use mathlib.Core.Path.{_≡_};
 ghost use Rattle.ntp.specs.Answer.{number};
+ghost use Rattle.ntp.specs.HalfDelay.{NtpHalfDelay};
 ghost use Rattle.ntp.specs.Laws.{ReadBack, WrittenBack};
 
 mod dispatch;
@@ -100,4 +101,9 @@ pub fn read_back()
 
 pub fn written_back()
     ensures { λ _. ⌜ WrittenBack ⌝ }
+{}
+
+// The half-delay law of what a packet that is processed tells.
+pub fn ntp_half_delay()
+    ensures { λ _. ⌜ NtpHalfDelay ⌝ }
 {}

@@ -51,12 +51,12 @@ fn passes(a: Association, h: Header, destination: Timestamp) -> bool
 {
     let origin = h.origin;
     let transmit = h.transmit;
-    let last = a.transmit;
+    let ours = a.transmit;
     let saved = a.saved;
     if transmit.0 == 0 {
         return false;
     }
-    if origin.0 != last.0 {
+    if origin.0 != ours.0 {
         return false;
     }
     if transmit.0 == saved.0 {

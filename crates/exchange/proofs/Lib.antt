@@ -1,0 +1,2 @@
+pub mod HalfDelay
+pub mod Needed
