@@ -3,6 +3,7 @@ ghost use mathlib.Core.Path.{_≡_};
 ghost use Rattle.ntp.specs.Answer.{number};
 ghost use Rattle.ntp.specs.HalfDelay.{NtpHalfDelay};
 ghost use Rattle.ntp.specs.Laws.{ReadBack, WrittenBack};
+ghost use Rattle.ntp.specs.Octets.{signedOctet};
 
 mod dispatch;
 mod octets;
@@ -79,6 +80,15 @@ pub struct Outcome {
     pub offset: Interval,
     pub delay: Interval,
     pub association: Association,
+}
+
+impl Exponent {
+    // The octet of the number, as a header has it.
+    pub fn octet(self) -> u8
+        ensures { λ r. ⌜ r ≡ signedOctet self ⌝ }
+    {
+        octets::signed_octet(self)
+    }
 }
 
 // The number of an answer in the table.
