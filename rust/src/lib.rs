@@ -13,6 +13,7 @@
 pub mod answer;
 mod layout;
 mod library;
+pub mod ntp;
 mod types;
 
 pub use types::*;

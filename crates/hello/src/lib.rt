@@ -17,6 +17,9 @@ ghost use Rattle.host.specs.Calls.{
 };
 ghost use Rattle.packet.specs.Program.{programAnswer};
 ghost use Rattle.hello.specs.Told.{answered, numberedTime, numberedSent, numberedRoute, timeTold, sentTold, routeTold};
+
+mod ntp_calls;
+
 use clock::Clock;
 use config::Links;
 use config::Settings;
