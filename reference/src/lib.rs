@@ -10,6 +10,7 @@ pub mod clock;
 pub mod date;
 pub mod host;
 pub mod link;
+pub mod ntp;
 pub mod packet;
 pub mod program;
 pub mod route;
@@ -48,6 +49,16 @@ pub enum Refusal {
     NoHost = 11,
     Lent = 12,
     HostDown = 13,
+    NtpLength = 23,
+    NtpVersion = 24,
+    NtpMode = 25,
+    NtpTimestamp = 26,
+}
+
+impl From<Refusal> for u8 {
+    fn from(refusal: Refusal) -> u8 {
+        refusal as u8
+    }
 }
 
 /// The published answer number of an outcome: 0 where the call was done.

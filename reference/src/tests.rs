@@ -7,6 +7,8 @@ use crate::program;
 use crate::table::{Report, HOLD_DOWN, MAX_DELAY};
 use crate::*;
 
+mod ntp;
+
 const ROUTER: Address = Address([192, 0, 2, 2]);
 const UNITS_OF_DAY: i64 = DAY_MS * 65_536;
 
