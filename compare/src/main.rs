@@ -10,6 +10,7 @@ mod call;
 mod convert;
 mod counts;
 mod generate;
+mod ntp;
 mod packets;
 mod random;
 mod room;
@@ -129,6 +130,7 @@ fn compare(options: &Options) -> Result<Counts, String> {
     }
     println!("seed {}, {} calls", options.seed, comparison.calls);
     vectors::run()?;
+    ntp::run(&mut comparison.random)?;
     Ok(comparison.counts)
 }
 
