@@ -1,6 +1,6 @@
 -- The two differences are the clocks' difference plus the one way and less the other, exactly, since the word holds them. The delay has the bits of their difference, which is the sum of the ways; the offset is half of their sum.
-use mathlib.Core.Path.{_≡_, _∙_, refl, sym, ap}
-use mathlib.Core.Bool.{Bool, true, false}
+use mathlib.Core.Path.{_≡_, _∙_, refl, ap}
+use mathlib.Core.Bool.{Bool, true}
 use mathlib.Core.List.{List, [], _∷_}
 use Prim.Native.Nat.{ℕ, _+_, _*_, _-_, _^_, _≤_, _<_}
 use native.Mathlib.Omega.{arith}
@@ -9,11 +9,11 @@ use lib.Dec.{lit<, T}
 use lib.IntN.{ℤ, pos, negℤ, natAbs, _+ℤ_, _-ℤ_}
 use lib.Signed.{ltZ, leZ, shrZ}
 use Rattle.laws.proofs.Tests.{both, Hold}
-use Rattle.quantity.specs.Words.{wrap, lowBits, signedBits}
+use Rattle.quantity.specs.Words.{wrap, signedBits}
 use Rattle.quantity.proofs.Ints.{up, dn, same, one, sum, diff, neg, floor, abs, lt-yes, le-yes, to-≤ℤ}
 use Rattle.quantity.proofs.Wrap.{Same, wrap-same, wrap-is, wrap-fits}
 use Rattle.exchange.specs.Formulas.{tsp, packetTsp, delay, offset, difference, ntpDelay, ntpOffset}
-use Rattle.exchange.specs.HalfDelay.{congruent, holds, exchange, all, halfDelay, Measured, HalfDelay}
+use Rattle.exchange.specs.HalfDelay.{holds, exchange, all, Measured, HalfDelay}
 
 -- ---- what the conditions say
 

@@ -2,19 +2,16 @@
 use mathlib.Core.Path.{_≡_, refl, sym, ap, ap₂, _∙_}
 use mathlib.Core.Bool.{Bool, true, false, cond, not, _&&_}
 use mathlib.Core.List.{List, [], _∷_, _++_}
-use Prim.Native.Nat.{ℕ, zero, suc, _+_, _*_, _-_, _/_, _%_, _^_, _≤_, _<_}
+use Prim.Native.Nat.{ℕ, zero, suc, _+_, _*_, _-_, _/_, _%_, _^_, _<_}
 use native.Mathlib.Omega.{arith}
 use borrow.Author.Tests.{le-leb, eqb-true, ltb-true, ltb-false}
 use lib.Dec.{ltb, eqb}
 use lib.IntN.{ℤ, pos, negsuc}
 use lib.ListN.{length, getD}
 use Rattle.quantity.specs.Words.{lowBits, signedBits}
-use Rattle.quantity.proofs.Ints.{up, dn}
 use Rattle.quantity.proofs.Wrap.{wrap-fits}
-use Rattle.ntp.specs.declared.Answer.{Answer}
 use Rattle.ntp.specs.declared.Answer.the-variants.{Done, NtpLength, NtpVersion, NtpMode}
 use Rattle.ntp.specs.declared.Header.{Header}
-use Rattle.ntp.specs.declared.Read.{Read}
 use Rattle.ntp.specs.declared.Read.the-variants.{Good, Bad}
 use Rattle.ntp.specs.declared.Written.{Written}
 use Rattle.ntp.specs.Octets.{exponent, timestamp, four, eight, octetAt, fourAt, eightAt}

@@ -1,6 +1,6 @@
 -- What comes of a packet whose header is good, by the first test that fails.
-use mathlib.Core.Path.{_≡_, ap, sym, _∙_}
-use mathlib.Core.Bool.{Bool, true, false}
+use mathlib.Core.Path.{_≡_, ap}
+use mathlib.Core.Bool.{true, false}
 use Prim.Native.Nat.{_≤_}
 use borrow.Author.Tests.{le-leb}
 use Rattle.ntp.specs.declared.Action.{Action}

@@ -1,14 +1,14 @@
 -- Words and the signed numbers that they are read as: a word is the bits of each number that it is congruent to. So a difference or a sum of words is a word of the difference or the sum.
 use mathlib.Core.Path.{_≡_, _∙_, refl, sym, ap}
 use mathlib.Core.Bool.{Bool, true, false, cond, false≢true}
-use Prim.Native.Nat.{ℕ, zero, suc, _+_, _*_, _-_, _/_, _%_, _^_, _≤_, _<_, min}
+use Prim.Native.Nat.{ℕ, suc, _+_, _*_, _-_, _/_, _%_, _^_, _≤_, _<_, min}
 use native.Mathlib.Nat.{mod-eq-of-lt}
 use native.Mathlib.Omega.{arith}
-use borrow.Author.Tests.{leb-false, eq-eqb, ne-eqb, lt-ltb, le-ltb}
+use borrow.Author.Tests.{leb-false, ne-eqb, lt-ltb, le-ltb}
 use lib.Dec.{T, lit<, ltb, eqb}
 use lib.IntN.{ℤ, pos, negsuc, natAbs, _+ℤ_, _-ℤ_}
 use lib.Signed.{leZ, ltZ, nonNeg, shrZ}
-use mir.Syntax.{Width, w8, w64}
+use mir.Syntax.{w8, w64}
 use mir.Val.{SFits, Fits, toZ, ofZ, sel}
 use mir.ValLaws.{toZ-ofZ}
 use mir.Facts.{toZ-pos}

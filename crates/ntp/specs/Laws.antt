@@ -1,10 +1,9 @@
 -- Reading back what was written gives the fields, and writing what was read gives the octets.
 use mathlib.Core.Path.{_≡_}
 use mathlib.Core.List.{List, [], _∷_}
-use Prim.Native.Nat.{ℕ, _<_, _≤_, _^_}
+use Prim.Native.Nat.{ℕ, _<_, _^_}
 use lib.IntN.{ℤ, pos, negsuc}
 use Rattle.ntp.specs.declared.Answer.the-variants.{Done}
-use Rattle.ntp.specs.declared.Exponent.{Exponent}
 use Rattle.ntp.specs.declared.Header.{Header}
 use Rattle.ntp.specs.declared.Read.the-variants.{Good}
 use Rattle.ntp.specs.Header.{read, write}

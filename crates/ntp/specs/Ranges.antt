@@ -1,4 +1,4 @@
--- Which values fit their octets, and which modes have a column in the dispatch table.
+-- What the code hands on from one function to the next: that a header which was read, or is to be written, passed the tests. Nothing else is said with it.
 use mathlib.Core.Path.{_≡_}
 use mathlib.Core.Bool.{true}
 use Rattle.ntp.specs.declared.Header.{Header}

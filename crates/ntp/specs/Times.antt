@@ -1,6 +1,5 @@
 -- Times of 64 bits, their signed differences, and the offset and delay of an exchange.
 use mathlib.Core.Bool.{Bool}
-use Prim.Native.Nat.{ℕ}
 use lib.IntN.{ℤ, pos}
 use lib.Signed.{ltZ}
 use Rattle.exchange.specs.Formulas.{difference, ntpOffset, ntpDelay}

@@ -1,10 +1,10 @@
 // Numbers in octets, the high octet first: read from a place, and written there.
 ghost use mathlib.Core.Path.{_≡_};
 ghost use Prim.Native.Nat.{_+_, _*_, _≤_, _<_};
-ghost use lib.ListN.{length, set};
+ghost use lib.ListN.{length};
 ghost use lib.Seq.{sets};
 ghost use Rattle.quantity.specs.Words.{signedBits};
-ghost use Rattle.ntp.specs.Octets.{exponent, four, eight, signedOctet, fourAt, eightAt, signedAt, timeAt};
+ghost use Rattle.ntp.specs.Octets.{exponent, four, eight, signedOctet, fourAt, signedAt, timeAt};
 use super::Exponent;
 use super::Timestamp;
 

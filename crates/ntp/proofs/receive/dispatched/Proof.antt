@@ -1,6 +1,6 @@
-use mathlib.Core.Path.{_≡_, sym, ap, _∙_}
+use mathlib.Core.Path.{sym, _∙_}
 use borrow.Author.Needs.{needs}
-use borrow.Author.Tests.{lt-leb, le-leb, not-true, not-false}
+use borrow.Author.Tests.{lt-leb, not-true, not-false}
 use Rattle.ntp.specs.Receive.{dispatched}
 use Rattle.ntp.proofs.Outcomes.{left-idle, failed, passed}
 use Rattle.ntp.proofs.receive.dispatched.Statement.{statement}
