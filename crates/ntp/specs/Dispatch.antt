@@ -35,6 +35,10 @@ same (pos a) (negsuc b) = false
 same (negsuc a) (pos b) = false
 same (negsuc a) (negsuc b) = eqb a b
 
+-- the rows of the table: 0 for no association, and 1 to 6
+abbrev pub lastAssociation : ℕ
+lastAssociation = 6
+
 -- figure 20
 abbrev pub figure20 : List (List ℤ)
 figure20 =

@@ -15,7 +15,7 @@ use Rattle.ntp.specs.declared.Read.the-variants.{Good, Bad}
 use Rattle.ntp.specs.declared.Timestamp.{Timestamp}
 use Rattle.ntp.specs.Header.{read}
 use Rattle.ntp.specs.Times.{interval, later, offset, delay}
-use Rattle.ntp.specs.Dispatch.{DSCRD, PROC, same, dispatch}
+use Rattle.ntp.specs.Dispatch.{DSCRD, PROC, same, lastAssociation, dispatch}
 
 abbrev pub action : ℤ → Action
 action z = record { 0 = z }
@@ -66,7 +66,7 @@ passes a h destination = sent h && answers a h && fresh a h && after h destinati
 
 unfoldable pub dispatched : Association → Header → Timestamp → Outcome
 dispatched a h destination =
-    cond (not (leb (a .number) 6)) (refused NtpMode a)
+    cond (not (leb (a .number) lastAssociation)) (refused NtpMode a)
     (cond (not (same (dispatch (a .number) (h .mode)) PROC)) (idle Done (dispatch (a .number) (h .mode)) a)
     (cond (not (passes a h destination)) (refused NtpTimestamp a)
     (processed a h destination)))
