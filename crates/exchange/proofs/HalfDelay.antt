@@ -64,7 +64,7 @@ leZ-of a b h = true-of (to-≤ℤ a b h .le)
     true-of {t = true} x = refl
 
 -- a delay that is the sum of the ways, and an offset that is the true difference plus half of the ways' difference
-measured : (θ d e z v : ℤ) → dn d ≤ 0 → dn e ≤ 0 → z ≡ d +ℤ e → v ≡ θ +ℤ shrZ (d -ℤ e) 2 → Measured θ d e z v
+pub measured : (θ d e z v : ℤ) → dn d ≤ 0 → dn e ≤ 0 → z ≡ d +ℤ e → v ≡ θ +ℤ shrZ (d -ℤ e) 2 → Measured θ d e z v
 measured θ d e z v hd he p q =
     record {
       ways = p;
@@ -74,6 +74,13 @@ measured θ d e z v hd he p q =
           (rw (abs (v -ℤ θ))
           (omega (arith, ap up p, ap dn p, ap up q, ap dn q, sum d e, sum z (pos 1), diff v θ, one (v -ℤ θ), sum θ (shrZ (d -ℤ e) 2), floor (d -ℤ e) 2 (lit< tt), diff d e)));
     }
+
+-- HELLO takes the second difference and half of the delay; that is the true difference plus half of the ways' difference too
+pub middle : (θ d e : ℤ) → (θ -ℤ e) +ℤ shrZ (d +ℤ e) 2 ≡ θ +ℤ shrZ (d -ℤ e) 2
+middle θ d e =
+    same _ _
+    (omega
+    (arith, diff θ e, sum d e, floor (d +ℤ e) 2 (lit< tt), sum (θ -ℤ e) (shrZ (d +ℤ e) 2), diff d e, floor (d -ℤ e) 2 (lit< tt), sum θ (shrZ (d -ℤ e) 2)))
 
 module _ (w : ℕ) (h : 1 ≤ w) (θ d e T1 T2 T3 T4 : ℤ) (c : Conditions w θ d e T1 T2 T3 T4) where
   there-is : wrap w (T2 -ℤ T1) ≡ θ +ℤ d
@@ -127,12 +134,6 @@ module _ (w : ℕ) (h : 1 ≤ w) (θ d e T1 T2 T3 T4 : ℤ) (c : Conditions w θ
             (arith, b .eq, m .eq, diff T1 T2, sum (tsp w T1 T2) T3, diff T4 (packetTsp w T1 T2 T3), diff T4 T1, diff T3 T2, diff (T4 -ℤ T1) (T3 -ℤ T2));
       }
 
-  middle-is : (θ -ℤ e) +ℤ shrZ (d +ℤ e) 2 ≡ θ +ℤ shrZ (d -ℤ e) 2
-  middle-is =
-      same _ _
-      (omega
-      (arith, diff θ e, sum d e, floor (d +ℤ e) 2 (lit< tt), sum (θ -ℤ e) (shrZ (d +ℤ e) 2), diff d e, floor (d -ℤ e) 2 (lit< tt), sum θ (shrZ (d -ℤ e) 2)))
-
   -- it lies between θ - e and θ + d
   middle-range : (up (θ +ℤ shrZ (d -ℤ e) 2) < 2 ^ (w - 1)) × (dn (θ +ℤ shrZ (d -ℤ e) 2) ≤ 2 ^ (w - 1))
   middle-range =
@@ -142,7 +143,7 @@ module _ (w : ℕ) (h : 1 ≤ w) (θ d e T1 T2 T3 T4 : ℤ) (c : Conditions w θ
 
   hello-offset : offset w T1 T2 T3 T4 ≡ θ +ℤ shrZ (d -ℤ e) 2
   hello-offset =
-      rw (back-is, hello-delay, middle-is) (wrap-fits w h (θ +ℤ shrZ (d -ℤ e) 2) (middle-range .0) (middle-range .1))
+      rw (back-is, hello-delay, middle θ d e) (wrap-fits w h (θ +ℤ shrZ (d -ℤ e) 2) (middle-range .0) (middle-range .1))
 
   -- NTP
   ntp-delay : ntpDelay w T1 T2 T3 T4 ≡ d +ℤ e

@@ -7,5 +7,4 @@ pub mod HostPlaces
 pub mod Ranges
 pub mod Demand1
 pub mod Demand2
-pub mod Exchange
 pub mod Demand3

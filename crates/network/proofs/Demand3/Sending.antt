@@ -37,7 +37,7 @@ use Rattle.host.proofs.Judged.{clock-lent, entries-lent}
 use Rattle.network.specs.Call.{messageOf}
 use Rattle.network.specs.Room.{Room, at}
 use Rattle.network.proofs.Sends.{sent-message}
-use Rattle.network.proofs.Exchange.{word-same}
+use Rattle.exchange.proofs.Steps.{word-same}
 use Rattle.network.proofs.Lists.{All, all-at, all-map, all-set, every-all, all-both}
 use Rattle.network.proofs.Demand3.Near.{Fits16}
 use Rattle.network.proofs.Demand3.Invariant.{RightEntry, RightReport, RightLink, RightLinks, Carries, RightMessage}
