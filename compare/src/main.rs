@@ -12,6 +12,7 @@ mod checksum;
 mod convert;
 mod counts;
 mod generate;
+mod ntp;
 mod packets;
 mod random;
 mod room;
@@ -135,6 +136,7 @@ fn compare(options: &Options) -> Result<Counts, String> {
     checksum::run()?;
     capture::run(options.seed)?;
     text::run(options.seed, options.calls.min(20_000))?;
+    ntp::run(&mut comparison.random)?;
     Ok(comparison.counts)
 }
 

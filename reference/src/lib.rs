@@ -11,6 +11,7 @@ pub mod clock;
 pub mod date;
 pub mod host;
 pub mod link;
+pub mod ntp;
 pub mod packet;
 pub mod program;
 pub mod route;
@@ -53,6 +54,10 @@ pub enum Refusal {
     TextForm = 14,
     TextNumber = 15,
     LongInput = 27,
+    NtpLength = 23,
+    NtpVersion = 24,
+    NtpMode = 25,
+    NtpTimestamp = 26,
 }
 
 impl From<Refusal> for u8 {

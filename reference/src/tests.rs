@@ -9,6 +9,7 @@ use crate::*;
 
 mod capture;
 mod text;
+mod ntp;
 
 const ROUTER: Address = Address([192, 0, 2, 2]);
 const UNITS_OF_DAY: i64 = DAY_MS * 65_536;

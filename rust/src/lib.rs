@@ -20,6 +20,7 @@ mod library;
 mod room;
 mod sums;
 pub mod text;
+pub mod ntp;
 mod types;
 
 pub use answer::Answer;

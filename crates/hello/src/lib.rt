@@ -22,6 +22,7 @@ ghost use Rattle.hello.specs.Told.{answered, numberedTime, numberedSent,
 
 mod captures;
 mod paper;
+mod ntp_calls;
 
 use clock::Clock;
 use host::Links;

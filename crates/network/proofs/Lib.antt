@@ -8,6 +8,5 @@ pub mod Ranges
 pub mod HostPlaces
 pub mod Demand1
 pub mod Demand2
-pub mod Exchange
 pub mod Opened
 pub mod Demand3

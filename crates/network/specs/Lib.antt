@@ -7,7 +7,7 @@ pub mod Range
 pub mod Heard
 pub mod History
 pub mod Isolation
-pub mod Exchange
+pub mod HalfDelay
 pub mod Room
 pub mod Demand3
 pub mod SharedRun

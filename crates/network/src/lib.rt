@@ -6,7 +6,7 @@ ghost use Rattle.network.specs.Frame.{Frame};
 ghost use Rattle.network.specs.Locality.{Locality};
 ghost use Rattle.network.specs.Range.{Range};
 ghost use Rattle.network.specs.Isolation.{Isolation, IsolationFromAfresh, Alone};
-ghost use Rattle.network.specs.Exchange.{HalfDelay};
+ghost use Rattle.network.specs.HalfDelay.{HelloHalfDelay};
 ghost use Rattle.network.specs.Demand3.{Demand3};
 ghost use Rattle.network.specs.SharedRun.{SharedDemand3};
 ghost use Rattle.network.specs.Example.{Example};
@@ -57,9 +57,9 @@ pub fn alone()
     ensures { λ _. ⌜ Alone ⌝ }
 {}
 
-// The half-delay law: twice the error of an exchange's OFFSET is at most its DELAY plus one, whatever the width of the words.
-pub fn half_delay()
-    ensures { λ _. ⌜ HalfDelay ⌝ }
+// The half-delay law of step 3: DELAY is the sum of the two ways, and twice the error of OFFSET is at most DELAY plus one.
+pub fn hello_half_delay()
+    ensures { λ _. ⌜ HelloHalfDelay ⌝ }
 {}
 
 // Demand 3: after every list of calls in a room, every live entry is for a host of the room, and its OFFSET is right to within 101/200 of its DELAY.

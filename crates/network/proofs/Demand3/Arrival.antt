@@ -60,7 +60,7 @@ use Rattle.network.specs.Room.{longestWay, Room, at, lentAt, HostAt, Pro
 use Rattle.network.specs.Demand3.{Message, timed}
 use Rattle.network.proofs.Performs.{performs}
 use Rattle.network.proofs.Arrivals.{same-address}
-use Rattle.network.proofs.Exchange.{tsp-same, tsp-exact, delay-exact}
+use Rattle.exchange.proofs.Steps.{tsp-same, tsp-exact, delay-exact}
 use Rattle.network.proofs.Lists.{all-at, all-set}
 use Rattle.network.proofs.Ranges.{raised-low}
 use Rattle.network.proofs.Demand3.Near.{Fits16, Near, Apart, apart, offset-exact, offset-near, relay-near, relay-exact}

@@ -9,7 +9,7 @@ use Rattle.quantity.specs.Words.{wrap}
 use Rattle.quantity.proofs.Ints.{up, dn, sum, diff, times, floor, abs, one, to-≤ℤ}
 use Rattle.quantity.proofs.Wrap.{wrap-fits}
 use Rattle.network.specs.Room.{clockSpread, longestWay, errorParts, delayParts}
-use Rattle.network.proofs.Exchange.{offset-error}
+use Rattle.exchange.proofs.Steps.{offset-error}
 
 -- a number that 16 bits hold, signed
 pub record Fits16 (z : ℤ) : Type 0 where

@@ -40,7 +40,7 @@ use Rattle.network.specs.Left.{messageOf}
 use Rattle.network.specs.Room.{Room, at, lentAt}
 use Rattle.network.proofs.Performs.{performs}
 use Rattle.network.proofs.Sends.{reports, reports-count, sent-message}
-use Rattle.network.proofs.Exchange.{word-same}
+use Rattle.exchange.proofs.Steps.{word-same}
 use Rattle.network.proofs.Lists.{All, all-at, all-map, all-set, every-all, all-both}
 use Rattle.network.proofs.Demand3.Near.{Fits16}
 use Rattle.network.proofs.Demand3.Invariant.{RightEntry, RightReport, RightLink, RightLinks, Carries, RightMessage}

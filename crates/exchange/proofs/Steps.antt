@@ -1,14 +1,13 @@
--- One exchange, step by step, over the width of the words: each step says which number the word holds, as a congruence, until it is in range.
-use mathlib.Core.Path.{_≡_, _∙_, ap}
+-- One HELLO exchange, step by step, over the width of the words: each step says which number the word holds, as a congruence, until it is in range. So a list of calls can carry what it knows from a send to an arrival.
+use mathlib.Core.Path.{_≡_, _∙_, refl, ap}
 use Prim.Native.Nat.{ℕ, _+_, _*_, _-_, _^_, _≤_, _<_}
 use native.Mathlib.Omega.{arith}
-use lib.Dec.{lit<}
-use lib.IntN.{ℤ, pos, _+ℤ_, _-ℤ_}
+use lib.IntN.{ℤ, pos, natAbs, _+ℤ_, _-ℤ_}
 use lib.Signed.{shrZ}
 use Rattle.quantity.specs.Words.{wrap}
-use Rattle.quantity.proofs.Ints.{up, dn, same, sum, diff, floor, abs, one, of-≤ℤ, of-<ℤ}
+use Rattle.quantity.proofs.Ints.{up, dn, same, sum, diff, abs, le-yes}
 use Rattle.quantity.proofs.Wrap.{Same, wrap-same, wrap-is, wrap-fits}
-use Rattle.network.specs.Exchange.{tsp, packetTsp, delay, offset, Holds, HalfDelay}
+use Rattle.exchange.proofs.HalfDelay.{measured, middle}
 
 -- an equation of numbers, as omega reads it
 pub read : (a b : ℤ) → a ≡ b → (up a ≡ up b) × (dn a ≡ dn b)
@@ -68,41 +67,9 @@ pub record Error (d e : ℕ) (z f g : ℤ) : Type 0 where
 
 pub offset-error : (f g : ℤ) (d e : ℕ) → Error d e (((f -ℤ g) -ℤ pos e) +ℤ shrZ (pos (d + e)) 2) f g
 offset-error f g d e =
-    omega
-    (arith, sum ((f -ℤ g) -ℤ pos e) (shrZ (pos (d + e)) 2), floor (pos (d + e)) 2 (lit< tt), diff (f -ℤ g) (pos e), diff f g)
-
-holds-range : (w : ℕ) (z : ℤ) → Holds w z → (up z < 2 ^ (w - 1)) × (dn z ≤ 2 ^ (w - 1))
-holds-range w z h =
-    let l = of-<ℤ (h .not-above) in
-    let b = of-≤ℤ (h .not-below) in
-    omega (arith, sum z (pos (2 ^ (w - 1))), one z)
-
-pub half-delay : HalfDelay
-unfolding HalfDelay
-half-delay w h f g d e T1 T2 T3 T4 r second whole off =
-    record { ways = ways; half = rw (offset-is, abs (z -ℤ (g -ℤ f))) (omega (arith, error, diff z (g -ℤ f), diff g f, one (z -ℤ (g -ℤ f)))) }
-  where
-    ways : delay w T1 T2 T3 T4 ≡ pos (d + e)
-    ways =
-        delay-exact w h f (r .t) (packetTsp w T1 T2 T3) T4 d e
-        (word-same w h f g (r .t) (tsp w T1 T2) T3 d (tsp-same w h f g (r .s) T1 T2 d (r .a-sends) (r .b-gets)) (r .b-sends))
-        (r .a-gets) (omega (arith, holds-range w (pos (d + e)) whole))
-
-    z : ℤ
-    z = ((g -ℤ f) -ℤ pos e) +ℤ shrZ (pos (d + e)) 2
-
-    apart : T3 -ℤ T4 ≡ (g -ℤ f) -ℤ pos e
-    apart = difference g f (r .t) T3 T4 e (r .b-sends) (r .a-gets)
-
-    tsp-is : tsp w T3 T4 ≡ (g -ℤ f) -ℤ pos e
-    tsp-is =
-        let c = holds-range w (T3 -ℤ T4) second in
-        tsp-exact w h g f (r .t) T3 T4 e (r .b-sends) (r .a-gets) (rw apart at (c .0)) (rw apart at (c .1))
-
-    offset-is : offset w T1 T2 T3 T4 ≡ z
-    offset-is =
-        let c = holds-range w ((T3 -ℤ T4) +ℤ shrZ (pos (d + e)) 2) off in
-        rw (tsp-is, ways) (wrap-fits w h z (rw apart at (c .0)) (rw apart at (c .1)))
-
-    error : Error d e z g f
-    error = offset-error g f d e
+    let θ = f -ℤ g in
+    let z = (θ -ℤ pos e) +ℤ shrZ (pos (d + e)) 2 in
+    let m = measured θ (pos d) (pos e) (pos (d + e)) z (omega arith) (omega arith) refl (middle θ (pos d) (pos e)) in
+    let h : 2 * natAbs (z -ℤ θ) ≤ d + e + 1 = le-yes (pos (2 * natAbs (z -ℤ θ))) (pos (d + e + 1)) (m .half) .le-up in
+    let g′ : 2 * (up (z -ℤ θ) + dn (z -ℤ θ)) ≤ d + e + 1 = rw (abs (z -ℤ θ)) at h in
+    omega (arith, g′, diff z θ, diff f g)

@@ -1,0 +1,3 @@
+pub mod HalfDelay
+pub mod Needed
+pub mod Steps

@@ -1,0 +1,36 @@
+-- Reading back what was written gives the fields, and writing what was read gives the octets.
+use mathlib.Core.Path.{_≡_}
+use mathlib.Core.List.{List, [], _∷_}
+use Prim.Native.Nat.{ℕ, _<_, _^_}
+use lib.IntN.{ℤ, pos, negsuc}
+use Rattle.ntp.specs.declared.Answer.the-variants.{Done}
+use Rattle.ntp.specs.declared.Header.{Header}
+use Rattle.ntp.specs.declared.Read.the-variants.{Good}
+use Rattle.ntp.specs.Header.{read, write}
+
+abbrev pub Octets : List ℕ → Type 0
+Octets [] = Unit {0}
+Octets (x ∷ xs) = (x < 256) × Octets xs
+
+-- a signed octet
+abbrev pub SignedOctet : ℤ → Type 0
+SignedOctet (pos n) = n < 128
+SignedOctet (negsuc n) = n < 128
+
+-- the values that the fields' types hold
+pub record HeaderFits (h : Header) : Type 0 where
+  pub poll : SignedOctet (h .poll .0)
+  pub precision : SignedOctet (h .precision .0)
+  pub root-delay : h .«root_delay» < 2 ^ 32
+  pub root-dispersion : h .«root_dispersion» < 2 ^ 32
+  pub reference-id : h .«reference_id» < 2 ^ 32
+  pub reference : h .reference .0 < 2 ^ 64
+  pub origin : h .origin .0 < 2 ^ 64
+  pub receive : h .receive .0 < 2 ^ 64
+  pub transmit : h .transmit .0 < 2 ^ 64
+
+unfoldable pub ReadBack : Type 0
+ReadBack = (h : Header) (octets : List ℕ) → HeaderFits h → write h ≡ record { answer = Done; octets = octets } → read octets ≡ Good h
+
+unfoldable pub WrittenBack : Type 0
+WrittenBack = (octets : List ℕ) (h : Header) → Octets octets → read octets ≡ Good h → write h ≡ record { answer = Done; octets = octets }
