@@ -17,6 +17,7 @@ ghost use Rattle.host.specs.Calls.{
 };
 ghost use Rattle.packet.specs.Program.{programAnswer};
 ghost use Rattle.hello.specs.Told.{answered, numberedTime, numberedSent, numberedRoute, timeTold, sentTold, routeTold};
+
 mod paper;
 
 use clock::Clock;
