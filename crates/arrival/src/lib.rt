@@ -191,16 +191,7 @@ fn step5(s: Settings, c: Clock, l: Links, link: usize, p: Packet, f: Flight) -> 
         let found = route::find(s.address, s.layout, s.net, neighbor);
         return no_table(s, c, l, link, p, f, found);
     }
-    updated(
-        s,
-        c,
-        l,
-        p,
-        neighbor_update(link, f),
-        0,
-        host_count(s),
-        true,
-    )
+    updated(s, c, l, p, neighbor_update(link, f), 0, host_count(s), true)
 }
 
 // Steps 2 to 5, with one reading.
@@ -231,14 +222,7 @@ fn arrival(s: Settings, c: Clock, l: Links, link: usize, packet: &[u8]) -> Arriv
 }
 
 // A refusal of the guard's, or the arrival.
-pub fn plan(
-    g: Answer,
-    s: Settings,
-    c: Clock,
-    l: Links,
-    link: usize,
-    packet: &[u8],
-) -> Arrived
+pub fn plan(g: Answer, s: Settings, c: Clock, l: Links, link: usize, packet: &[u8]) -> Arrived
     requires { ⌜ Told g (OnLink link) s c ⌝ }
     ensures { λ p. ⌜ p ≡ planned g link (now (packet .entry)) (host s c l) ⌝ }
 {

@@ -104,8 +104,8 @@ module _ (a : Scope) (x : Lent) where
   pub told : Told (guard a x) a (x .host .settings) (x .host .clock)
   told = record {
     ready = λ d.
-    (let p = passed a x d in
-    record { settings = p .settings; clock = λ f. clock-lent x (p .lent f); link = p .link });
+        (let p = passed a x d in
+        record { settings = p .settings; clock = λ f. clock-lent x (p .lent f); link = p .link });
   }
 
   pub number-told : NumberTold (guard a x) (x .host .settings) (x .number)
