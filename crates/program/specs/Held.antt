@@ -1,6 +1,6 @@
 -- A host that its holder keeps by value, as a call leaves it.
-use Rattle.host.specs.Outcome.{Outcome}
+use Rattle.calls.specs.Perform.{Outcome}
 use Rattle.program.specs.declared.Whole.{Whole}
 
 abbrev pub wholeOf : Outcome → Whole
-wholeOf o = record { answer = o .answer; clock = o .clock; links = o .links; run = o .run }
+wholeOf o = record { reply = o .reply; clock = o .clock; links = o .links; run = o .run }

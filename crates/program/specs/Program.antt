@@ -1,22 +1,44 @@
 -- "A program reads one packet from standard input, gives it to the one point-to-point link of a fresh seat .. and prints the number": its host, and the number.
 use mathlib.Core.List.{List}
 use Prim.Native.Nat.{ℕ}
+use lib.IntN.{pos}
+use lib.ListN.{replicate}
+use Rattle.quantity.specs.Quantity.{units, millis, seconds}
+use Rattle.calendar.specs.Date.{firstDate}
 use Rattle.answer.specs.Answer.{number}
+use Rattle.clock.specs.Clock.{freshClock}
+use Rattle.route.specs.Find.{zeroNet}
+use Rattle.table.specs.Entry.{freshEntry}
 use Rattle.host.specs.declared.Settings.{Settings}
-use Rattle.host.specs.State.{freshLinks}
-use Rattle.host.specs.Outcome.{Outcome}
-use Rattle.host.specs.Exchange.{settingsOf, clockAt, freshRun}
-use Rattle.host.specs.Calls.{initialize, arrival}
+use Rattle.host.specs.Settings.{clockSettingOff}
+use Rattle.host.specs.State.{unset, freshLinks, placesPerHost}
+use Rattle.host.specs.Lent.{lent}
+use Rattle.calls.specs.declared.Request.the-variants.{Initialize}
+use Rattle.calls.specs.Perform.{Outcome, ask, receive, perform}
 
--- 192.0.2.1, with NHOSTS 4
+-- "192.0.2.1, ADDRESS-OFFSET 1, NHOSTS 4, no net rows, clock setting off, time 0, 1 January 1972, the rest at their least"
 abbrev pub programSettings : Settings
-programSettings = settingsOf 1 4
+programSettings =
+    record {
+      address = record { first = 192; second = 0; third = 2; fourth = 1 };
+      layout = record { «address_offset» = 1; nhosts = 4 };
+      «clock_host» = clockSettingOff;
+      «hold_interval» = seconds 1;
+      «clock_tick» = units (pos 1);
+      time = millis (pos 0);
+      date = firstDate;
+      «link_count» = 1;
+      links = replicate 8 unset;
+      net = record { count = 0; rows = replicate 32 record { net = zeroNet; host = 0 } };
+    }
 
 -- the host of number 0, set afresh
 unfoldable pub programHost : Outcome
-programHost = initialize programSettings 0 (clockAt 0) (freshLinks programSettings) freshRun
+programHost =
+    perform (ask Initialize)
+    (lent programSettings 0 (freshClock (millis (pos 0)) firstDate) (freshLinks programSettings) (replicate placesPerHost freshEntry))
 
 -- the number of its answer to a packet on link 1
 unfoldable pub programAnswer : (packet : List ℕ) → ℕ
 programAnswer octets =
-    number (arrival programSettings 0 (programHost .clock) (programHost .links) (programHost .run) 1 octets .answer)
+    number (perform (receive 1 octets) (lent programSettings 0 (programHost .clock) (programHost .links) (programHost .run)) .reply .answer)

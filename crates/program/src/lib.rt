@@ -1,9 +1,11 @@
-// A host that its holder keeps by value: setting afresh and arrival. And what the host of the packet program answers.
+// A host that its holder keeps by value: its requests and arrivals. And what the host of the packet program answers.
 ghost use mathlib.Core.Path.{_≡_};
-ghost use Rattle.host.specs.Calls.{initialize, arrival};
+ghost use Rattle.host.specs.Lent.{lent};
+ghost use Rattle.calls.specs.Perform.{perform, ask, receive};
 ghost use Rattle.program.specs.Held.{wholeOf};
 ghost use Rattle.program.specs.Program.{programSettings, programAnswer};
 use calendar::Date;
+use calls::Request;
 use clock::Clock;
 use host::LinkSetting;
 use host::Links;
@@ -17,30 +19,31 @@ use route::Row;
 use table::Entry;
 use wire::Address;
 
-// A call's answer, and all of the host as the call leaves it.
+// A call's reply, and all of the host as the call leaves it.
 pub struct Whole {
-    pub answer: answer::Answer,
+    pub reply: host::Reply,
     pub clock: Clock,
     pub links: Links,
     pub run: [Entry; 255],
 }
 
-// The host is set afresh.
-pub fn initialize(
+// A request.
+pub fn call(
     settings: host::Settings,
     number: usize,
     clock: Clock,
     links: Links,
     run: [Entry; 255],
+    request: Request,
 ) -> Whole
-    ensures { λ r. ⌜ r ≡ wholeOf (initialize settings number clock links run) ⌝ }
+    ensures { λ r. ⌜ r ≡ wholeOf (perform (ask request) (lent settings number clock links run)) ⌝ }
 {
     let mut c = clock;
     let mut l = links;
     let mut e = run;
-    let a = host::initialize(settings, number, &mut c, &mut l, &mut e);
+    let a = calls::call(settings, number, &mut c, &mut l, &mut e, request);
     Whole {
-        answer: a,
+        reply: a,
         clock: c,
         links: l,
         run: e,
@@ -57,14 +60,14 @@ pub fn receive(
     link: usize,
     packet: &[u8],
 ) -> Whole
-    ensures { λ r. ⌜ r ≡ wholeOf (arrival settings number clock links run link (now (packet .entry))) ⌝ }
+    ensures { λ r. ⌜ r ≡ wholeOf (perform (receive link (now (packet .entry))) (lent settings number clock links run)) ⌝ }
 {
     let mut c = clock;
     let mut l = links;
     let mut e = run;
-    let a = host::receive(settings, number, &mut c, &mut l, &mut e, link, packet);
+    let a = calls::receive(settings, number, &mut c, &mut l, &mut e, link, packet);
     Whole {
-        answer: a,
+        reply: a,
         clock: c,
         links: l,
         run: e,
@@ -76,7 +79,7 @@ pub fn settings() -> host::Settings
     ensures { λ r. ⌜ r ≡ programSettings ⌝ }
 {
     let unset = LinkSetting {
-        broadcast: false,
+        broadcast: 0,
         neighbor: Address {
             first: 0,
             second: 0,
@@ -130,9 +133,10 @@ pub fn answer(packet: &[u8]) -> u8
     let l = host::link_state::fresh(s);
     let e = table::fresh();
     let run = [e; 255];
-    let afresh = initialize(s, 0, c, l, run);
+    let afresh = call(s, 0, c, l, run, Request::Initialize);
     let entries = afresh.run;
     let arrived = receive(s, 0, afresh.clock, afresh.links, entries, 1, packet);
-    let a = arrived.answer;
+    let r = arrived.reply;
+    let a = r.answer;
     answer::number(a)
 }

@@ -1,3 +1,4 @@
+-- What the functions that are called say, put together.
 use mathlib.Core.Path.{_≡_, ap, _∙_}
 use mathlib.Core.List.{List}
 use Prim.Native.Nat.{ℕ}
@@ -14,7 +15,9 @@ use Rattle.table.specs.Entry.{freshEntry}
 use Rattle.host.specs.declared.Settings.{Settings}
 use Rattle.host.specs.declared.Links.{Links}
 use Rattle.host.specs.State.{freshLinks}
-use Rattle.host.specs.Calls.{initialize, arrival}
+use Rattle.host.specs.Lent.{lent}
+use Rattle.calls.specs.declared.Request.the-variants.{Initialize}
+use Rattle.calls.specs.Perform.{perform, ask, receive}
 use Rattle.program.specs.declared.Whole.{Whole}
 use Rattle.program.specs.Held.{wholeOf}
 use Rattle.program.specs.Program.{programSettings, programHost, programAnswer}
@@ -22,20 +25,20 @@ use Rattle.program.proofs.answer.Statement.{statement}
 use Rattle.program.proofs.answer.Tie as tie
 
 abbrev afresh : Settings → Clock → Links → Entry → Whole
-afresh s c l e = wholeOf (initialize s 0 c l (replicate 255 e))
+afresh s c l e = wholeOf (perform (ask Initialize) (lent s 0 c l (replicate 255 e)))
 
 abbrev arrived : Settings → Whole → (packet : List ℕ) → Whole
-arrived s h octets = wholeOf (arrival s 0 (h .clock) (h .links) (h .run) 1 octets)
+arrived s h octets = wholeOf (perform (receive 1 octets) (lent s 0 (h .clock) (h .links) (h .run)))
 
 -- what the functions that are called say, put together
 chain : (s : Settings) (c : Clock) (l : Links) (e : Entry) (h w : Whole) (octets : List ℕ) (r : ℕ)
-    → s ≡ programSettings → c ≡ freshClock (s .time) (s .date) → l ≡ freshLinks s → e ≡ freshEntry → h ≡ afresh s c l e → w ≡ arrived s h octets → r ≡ number (w .answer) → r ≡ programAnswer octets
+    → s ≡ programSettings → c ≡ freshClock (s .time) (s .date) → l ≡ freshLinks s → e ≡ freshEntry → h ≡ afresh s c l e → w ≡ arrived s h octets → r ≡ number (w .reply .answer) → r ≡ programAnswer octets
 unfolding programAnswer programHost
 chain s c l e h w octets r s-is c-is l-is e-is h-is w-is r-is =
     let c-fresh = c-is ∙ ap (λ (t : Settings). freshClock (t .time) (t .date)) s-is in
     let l-fresh = l-is ∙ ap freshLinks s-is in
-    r-is ∙ ap (λ (x : Whole). number (x .answer)) w-is ∙ ap (λ (x : Whole). number (arrived s x octets .answer)) h-is
-    ∙ (λ i. number (arrived (s-is i) (afresh (s-is i) (c-fresh i) (l-fresh i) (e-is i)) octets .answer))
+    r-is ∙ ap (λ (x : Whole). number (x .reply .answer)) w-is ∙ ap (λ (x : Whole). number (arrived s x octets .reply .answer)) h-is
+    ∙ (λ i. number (arrived (s-is i) (afresh (s-is i) (c-fresh i) (l-fresh i) (e-is i)) octets .reply .answer))
 
 settings-requires : tie.Need-settings-requires
 settings-requires c κs = search needs
@@ -51,8 +54,8 @@ fresh-requires-2 c κs = search needs
 fresh-requires-3 : tie.Need-fresh-requires-3
 fresh-requires-3 c κs = search needs
 
-initialize-requires : tie.Need-initialize-requires
-initialize-requires c κs = search needs
+call-requires : tie.Need-call-requires
+call-requires c κs = search needs
 
 receive-requires : tie.Need-receive-requires
 receive-requires c κs = search needs
@@ -62,12 +65,12 @@ number-requires c κs = search needs
 
 returns : tie.Need-returns
 returns c =
-    let settings-at = c .before .before .before .before .before .before .before .before .before in
-    let afresh-at = c .before .before .before in
+    let settings-at = c .before .before .before .before .before .before .before .before .before .before in
+    let afresh-at = c .before .before .before .before in
     let entry-at = afresh-at .before in
     let links-at = entry-at .before in
     let clock-at = links-at .before in
-    chain _ _ _ _ _ _ (settings-at .before .before .args .packet .now) _ (settings-at .settings .ensures) (clock-at .fresh .ensures) (links-at .fresh2 .ensures) (entry-at .fresh3 .ensures) (afresh-at .initialize .ensures) (c .before .receive .ensures) (c .number .ensures)
+    chain _ _ _ _ _ _ (settings-at .before .before .args .packet .now) _ (settings-at .settings .ensures) (clock-at .fresh .ensures) (links-at .fresh2 .ensures) (entry-at .fresh3 .ensures) (afresh-at .call .ensures) (c .before .before .receive .ensures) (c .number .ensures)
 
 pub answer-spec : {M : Type 1} → statement M
 answer-spec =
@@ -77,7 +80,7 @@ answer-spec =
     fresh-requires
     fresh-requires-2
     fresh-requires-3
-    initialize-requires
+    call-requires
     receive-requires
     number-requires
     returns)
