@@ -13,6 +13,7 @@ ghost use Rattle.calls.specs.declared.Request.the-variants.{
   Lookup,
 };
 ghost use Rattle.calls.specs.Perform.{perform, ask, send, receive};
+ghost use Rattle.program.specs.Program.{programAnswer};
 ghost use Rattle.hello.specs.Told.{numbered, timeTold, sentTold, routeTold, Returns};
 use calls::Request;
 use clock::Clock;
@@ -146,6 +147,14 @@ pub extern "C" fn hello_checksum(octets: &[u8]) -> u16
     ensures { λ r. ⌜ r ≡ checksumOf (now (octets .entry)) ⌝ }
 {
     checksum::complement(octets)
+}
+
+// The number of the answer of a fresh host, that of the packet program, to one packet.
+#[no_mangle]
+pub extern "C" fn hello_packet(octets: &[u8]) -> u8
+    ensures { λ r. ⌜ r ≡ programAnswer (now (octets .entry)) ⌝ }
+{
+    program::answer(octets)
 }
 
 // The host is set afresh.

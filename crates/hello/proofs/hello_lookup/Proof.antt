@@ -27,7 +27,7 @@ pub hello-lookup-spec : {M : Type 1} → stated.statement M
 unfolding code.routine
 hello-lookup-spec 𝓤 H 𝓜 𝓖 𝓡 =
     proof number (by-value address) (chosen-by-value request) (by-value reply) (by-value route) settings clock links entry 𝓤 H 𝓜 𝓖 𝓡
-    (λ i. emp 𝓤) (λ i q. q ≡ (Lookup i))
+    (λ i. emp 𝓤) (λ i q. q ≡ Lookup i)
     (λ s k c l run q. emp 𝓤) (λ s k c l run q a c′ l′ run′. Leaves (perform (ask q) (lent s k c l run)) a c′ l′ run′)
     (λ a. emp 𝓤) (λ a r. r ≡ routeTold a)
     (λ s k c l run i c′ l′ run′ r. Returns routeTold (perform (ask (Lookup i)) (lent s k c l run)) r c′ l′ run′)

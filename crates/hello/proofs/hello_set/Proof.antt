@@ -27,7 +27,7 @@ pub hello-set-spec : {M : Type 1} → stated.statement M
 unfolding code.routine
 hello-set-spec 𝓤 H 𝓜 𝓖 𝓡 =
     proof number (signed w32) (chosen-by-value request) (by-value reply) (unsigned w8) settings clock links entry 𝓤 H 𝓜 𝓖 𝓡
-    (λ i. emp 𝓤) (λ i q. q ≡ (Set i))
+    (λ i. emp 𝓤) (λ i q. q ≡ Set i)
     (λ s k c l run q. emp 𝓤) (λ s k c l run q a c′ l′ run′. Leaves (perform (ask q) (lent s k c l run)) a c′ l′ run′)
     (λ a. emp 𝓤) (λ a r. r ≡ numbered a)
     (λ s k c l run i c′ l′ run′ r. Returns numbered (perform (ask (Set i)) (lent s k c l run)) r c′ l′ run′)
