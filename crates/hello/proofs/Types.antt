@@ -1,11 +1,16 @@
--- The structs that the exported calls answer, as the laws of crate `shapes` take them.
+-- The structs that the exported calls are given and answer, as the laws of crate `shapes` take them.
 use Rattle.laws.proofs.Words.{Data}
+use Rattle.wire.proofs.Address as Address
+use Rattle.wire.proofs.Address.Laws as Address′
 use Rattle.hello.proofs.Sent as Sent
 use Rattle.hello.proofs.Sent.Laws as Sent′
 use Rattle.hello.proofs.Route as Route
 use Rattle.hello.proofs.Route.Laws as Route′
 use Rattle.hello.proofs.Time as Time
 use Rattle.hello.proofs.Time.Laws as Time′
+
+abbrev pub address : Data
+address = record { S = Address.the-type; L = Address′.the-laws; P = Address′.the-plain; low = Address′.lowers; copies = Address′.the-copy }
 
 abbrev pub sent : Data
 sent = record { S = Sent.the-type; L = Sent′.the-laws; P = Sent′.the-plain; low = Sent′.lowers; copies = Sent′.the-copy }

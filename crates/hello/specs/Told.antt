@@ -1,31 +1,32 @@
 -- What the exported calls answer: ".. a definition sets out this paper's number and values for each of its cases."
+use mathlib.Core.Path.{_≡_}
+use mathlib.Core.List.{List}
 use Prim.Native.Nat.{ℕ}
 use Rattle.answer.specs.Answer.{number}
-use Rattle.plan.specs.declared.Sent.{Sent as PlanSent}
-use Rattle.plan.specs.declared.Route.{Route as PlanRoute}
-use Rattle.plan.specs.declared.Time.{Time as PlanTime}
-use Rattle.host.specs.Outcome.{Outcome, timeOf, sentOf, routeOf}
+use Rattle.clock.specs.declared.Clock.{Clock}
+use Rattle.table.specs.declared.Entry.{Entry}
+use Rattle.host.specs.declared.Links.{Links}
+use Rattle.host.specs.declared.Reply.{Reply}
+use Rattle.calls.specs.Perform.{Outcome}
 use Rattle.hello.specs.declared.Sent.{Sent}
 use Rattle.hello.specs.declared.Route.{Route}
 use Rattle.hello.specs.declared.Time.{Time}
 
-abbrev pub answered : Outcome → ℕ
-answered o = number (o .answer)
+abbrev pub numbered : Reply → ℕ
+numbered r = number (r .answer)
 
-abbrev pub numberedTime : PlanTime → Time
-numberedTime t = record { answer = number (t .answer); time = t .time; date = t .date }
+abbrev pub timeTold : Reply → Time
+timeTold r = record { answer = number (r .answer); time = r .time; date = r .date }
 
-abbrev pub numberedSent : PlanSent → Sent
-numberedSent t = record { answer = number (t .answer); length = t .length }
+abbrev pub sentTold : Reply → Sent
+sentTold r = record { answer = number (r .answer); length = r .length }
 
-abbrev pub numberedRoute : PlanRoute → Route
-numberedRoute t = record { answer = number (t .answer); host = t .host; pid = t .pid }
+abbrev pub routeTold : Reply → Route
+routeTold r = record { answer = number (r .answer); id = r .id; pid = r .pid }
 
-abbrev pub timeTold : Outcome → Time
-timeTold o = numberedTime (timeOf o)
-
-abbrev pub sentTold : Outcome → Sent
-sentTold o = numberedSent (sentOf o)
-
-abbrev pub routeTold : Outcome → Route
-routeTold o = numberedRoute (routeOf o)
+-- an outcome as a program sees it, but for a buffer: of the reply it is told a part
+pub record Returns {R : Type 0} (told : Reply → R) (o : Outcome) (r : R) (c : Clock) (l : Links) (es : List Entry) : Type 0 where
+  pub result : r ≡ told (o .reply)
+  pub clock : c ≡ o .clock
+  pub links : l ≡ o .links
+  pub run : es ≡ o .run

@@ -1,34 +1,32 @@
 // The library for programs in C, Rust and Python: the ten calls, with the answer as its number.
-mod sums;
-
 ghost use mathlib.Core.Path.{_≡_};
-ghost use Rattle.quantity.specs.Quantity.{millis};
 ghost use Rattle.checksum.specs.Checksum.{checksumOf};
-ghost use Rattle.host.specs.Outcome.{Leaves};
-ghost use Rattle.host.specs.Send.{send};
-ghost use Rattle.host.specs.Calls.{
-  initialize,
-  tick,
-  adjust,
-  setBy,
-  read,
-  second,
-  arrival,
-  selfReport,
-  lookup,
+ghost use Rattle.host.specs.Lent.{lent};
+ghost use Rattle.calls.specs.declared.Request.the-variants.{
+  Initialize,
+  Tick,
+  Adjust,
+  Set,
+  Read,
+  Second,
+  SelfReport,
+  Lookup,
 };
+ghost use Rattle.calls.specs.Perform.{perform, ask, send, receive};
 ghost use Rattle.program.specs.Program.{programAnswer};
-ghost use Rattle.hello.specs.Told.{answered, numberedTime, numberedSent, numberedRoute, timeTold, sentTold, routeTold};
-
-mod captures;
-mod paper;
-mod ntp_calls;
-
+ghost use Rattle.hello.specs.Told.{numbered, timeTold, sentTold, routeTold, Returns};
+use calls::Request;
 use clock::Clock;
 use host::Links;
+use host::Reply;
 use host::Settings;
 use table::Entry;
 use wire::Address;
+
+mod captures;
+mod ntp_calls;
+mod paper;
+mod sums;
 
 // What a send answers: the number of the answer, and the length of the message.
 #[repr(C)]
@@ -41,7 +39,7 @@ pub struct Sent {
 #[repr(C)]
 pub struct Route {
     pub answer: u8,
-    pub host: usize,
+    pub id: usize,
     pub pid: u8,
 }
 
@@ -53,8 +51,17 @@ pub struct Time {
     pub date: calendar::Date,
 }
 
-fn time_told(t: plan::Time) -> Time
-    ensures { λ r. ⌜ r ≡ numberedTime t ⌝ }
+// ---- what a reply tells
+
+fn numbered(t: Reply) -> u8
+    ensures { λ r. ⌜ r ≡ numbered t ⌝ }
+{
+    let a = t.answer;
+    answer::number(a)
+}
+
+fn time_told(t: Reply) -> Time
+    ensures { λ r. ⌜ r ≡ timeTold t ⌝ }
 {
     let a = t.answer;
     let time = t.time;
@@ -66,8 +73,8 @@ fn time_told(t: plan::Time) -> Time
     }
 }
 
-fn sent_told(t: plan::Sent) -> Sent
-    ensures { λ r. ⌜ r ≡ numberedSent t ⌝ }
+fn sent_told(t: Reply) -> Sent
+    ensures { λ r. ⌜ r ≡ sentTold t ⌝ }
 {
     let a = t.answer;
     Sent {
@@ -76,16 +83,68 @@ fn sent_told(t: plan::Sent) -> Sent
     }
 }
 
-fn route_told(t: plan::Route) -> Route
-    ensures { λ r. ⌜ r ≡ numberedRoute t ⌝ }
+fn route_told(t: Reply) -> Route
+    ensures { λ r. ⌜ r ≡ routeTold t ⌝ }
 {
     let a = t.answer;
     Route {
         answer: answer::number(a),
-        host: t.host,
+        id: t.id,
         pid: t.pid,
     }
 }
+
+// ---- what is asked
+
+fn asks_initialize() -> Request
+    ensures { λ q. ⌜ q ≡ Initialize ⌝ }
+{
+    Request::Initialize
+}
+
+fn asks_tick() -> Request
+    ensures { λ q. ⌜ q ≡ Tick ⌝ }
+{
+    Request::Tick
+}
+
+fn asks_adjust() -> Request
+    ensures { λ q. ⌜ q ≡ Adjust ⌝ }
+{
+    Request::Adjust
+}
+
+fn asks_set(ms: i32) -> Request
+    ensures { λ q. ⌜ q ≡ Set ms ⌝ }
+{
+    Request::Set(ms)
+}
+
+fn asks_read() -> Request
+    ensures { λ q. ⌜ q ≡ Read ⌝ }
+{
+    Request::Read
+}
+
+fn asks_second() -> Request
+    ensures { λ q. ⌜ q ≡ Second ⌝ }
+{
+    Request::Second
+}
+
+fn asks_self_report() -> Request
+    ensures { λ q. ⌜ q ≡ SelfReport ⌝ }
+{
+    Request::SelfReport
+}
+
+fn asks_lookup(address: Address) -> Request
+    ensures { λ q. ⌜ q ≡ Lookup address ⌝ }
+{
+    Request::Lookup(address)
+}
+
+// ---- the calls
 
 // The checksum of the octets.
 #[no_mangle]
@@ -112,12 +171,12 @@ pub extern "C" fn hello_initialize(
     links: &mut Links,
     run: &mut [Entry],
 ) -> u8
-    ensures { λ r. ⌜ (r ≡ answered (initialize (now (settings .entry)) number (now (clock .entry)) (now (links .entry)) (now (run .entry))))
-        × Leaves (initialize (now (settings .entry)) number (now (clock .entry)) (now (links .entry)) (now (run .entry))) (now (clock .exit)) (now (links .exit)) (now (run .exit)) ⌝ }
+    ensures { λ r. ⌜ Returns numbered (perform (ask Initialize) (lent (now (settings .entry)) number (now (clock .entry)) (now (links .entry)) (now (run .entry)))) r (now (clock .exit)) (now (links .exit)) (now (run .exit)) ⌝ }
 {
     let s = *settings;
-    let a = host::initialize(s, number, clock, links, run);
-    answer::number(a)
+    let q = asks_initialize();
+    let a = calls::call(s, number, clock, links, run, q);
+    numbered(a)
 }
 
 // CLOCK-TICK is added to the clock.
@@ -126,15 +185,15 @@ pub extern "C" fn hello_tick(
     settings: &Settings,
     number: usize,
     clock: &mut Clock,
-    links: &Links,
-    run: &[Entry],
+    links: &mut Links,
+    run: &mut [Entry],
 ) -> u8
-    ensures { λ r. ⌜ (r ≡ answered (tick (now (settings .entry)) number (now (clock .entry)) (now (links .entry)) (now (run .entry))))
-        × Leaves (tick (now (settings .entry)) number (now (clock .entry)) (now (links .entry)) (now (run .entry))) (now (clock .exit)) (now (links .entry)) (now (run .entry)) ⌝ }
+    ensures { λ r. ⌜ Returns numbered (perform (ask Tick) (lent (now (settings .entry)) number (now (clock .entry)) (now (links .entry)) (now (run .entry)))) r (now (clock .exit)) (now (links .exit)) (now (run .exit)) ⌝ }
 {
     let s = *settings;
-    let a = host::tick(s, number, clock, links, run);
-    answer::number(a)
+    let q = asks_tick();
+    let a = calls::call(s, number, clock, links, run, q);
+    numbered(a)
 }
 
 // A share of DELTA goes into the clock.
@@ -143,15 +202,15 @@ pub extern "C" fn hello_adjust(
     settings: &Settings,
     number: usize,
     clock: &mut Clock,
-    links: &Links,
-    run: &[Entry],
+    links: &mut Links,
+    run: &mut [Entry],
 ) -> u8
-    ensures { λ r. ⌜ (r ≡ answered (adjust (now (settings .entry)) number (now (clock .entry)) (now (links .entry)) (now (run .entry))))
-        × Leaves (adjust (now (settings .entry)) number (now (clock .entry)) (now (links .entry)) (now (run .entry))) (now (clock .exit)) (now (links .entry)) (now (run .entry)) ⌝ }
+    ensures { λ r. ⌜ Returns numbered (perform (ask Adjust) (lent (now (settings .entry)) number (now (clock .entry)) (now (links .entry)) (now (run .entry)))) r (now (clock .exit)) (now (links .exit)) (now (run .exit)) ⌝ }
 {
     let s = *settings;
-    let a = host::adjust(s, number, clock, links, run);
-    answer::number(a)
+    let q = asks_adjust();
+    let a = calls::call(s, number, clock, links, run, q);
+    numbered(a)
 }
 
 // The clock is set by a signed count of milliseconds.
@@ -160,16 +219,16 @@ pub extern "C" fn hello_set(
     settings: &Settings,
     number: usize,
     clock: &mut Clock,
-    links: &Links,
-    run: &[Entry],
+    links: &mut Links,
+    run: &mut [Entry],
     ms: i32,
 ) -> u8
-    ensures { λ r. ⌜ (r ≡ answered (setBy (now (settings .entry)) number (now (clock .entry)) (now (links .entry)) (now (run .entry)) (millis ms)))
-        × Leaves (setBy (now (settings .entry)) number (now (clock .entry)) (now (links .entry)) (now (run .entry)) (millis ms)) (now (clock .exit)) (now (links .entry)) (now (run .entry)) ⌝ }
+    ensures { λ r. ⌜ Returns numbered (perform (ask (Set ms)) (lent (now (settings .entry)) number (now (clock .entry)) (now (links .entry)) (now (run .entry)))) r (now (clock .exit)) (now (links .exit)) (now (run .exit)) ⌝ }
 {
     let s = *settings;
-    let a = host::set(s, number, clock, links, run, ms);
-    answer::number(a)
+    let q = asks_set(ms);
+    let a = calls::call(s, number, clock, links, run, q);
+    numbered(a)
 }
 
 // The time and DATE.
@@ -178,14 +237,14 @@ pub extern "C" fn hello_read(
     settings: &Settings,
     number: usize,
     clock: &mut Clock,
-    links: &Links,
-    run: &[Entry],
+    links: &mut Links,
+    run: &mut [Entry],
 ) -> Time
-    ensures { λ r. ⌜ (r ≡ timeTold (read (now (settings .entry)) number (now (clock .entry)) (now (links .entry)) (now (run .entry))))
-        × Leaves (read (now (settings .entry)) number (now (clock .entry)) (now (links .entry)) (now (run .entry))) (now (clock .exit)) (now (links .entry)) (now (run .entry)) ⌝ }
+    ensures { λ r. ⌜ Returns timeTold (perform (ask Read) (lent (now (settings .entry)) number (now (clock .entry)) (now (links .entry)) (now (run .entry)))) r (now (clock .exit)) (now (links .exit)) (now (run .exit)) ⌝ }
 {
     let s = *settings;
-    let a = host::read(s, number, clock, links, run);
+    let q = asks_read();
+    let a = calls::call(s, number, clock, links, run, q);
     time_told(a)
 }
 
@@ -195,15 +254,15 @@ pub extern "C" fn hello_second(
     settings: &Settings,
     number: usize,
     clock: &mut Clock,
-    links: &Links,
+    links: &mut Links,
     run: &mut [Entry],
 ) -> u8
-    ensures { λ r. ⌜ (r ≡ answered (second (now (settings .entry)) number (now (clock .entry)) (now (links .entry)) (now (run .entry))))
-        × Leaves (second (now (settings .entry)) number (now (clock .entry)) (now (links .entry)) (now (run .entry))) (now (clock .exit)) (now (links .entry)) (now (run .exit)) ⌝ }
+    ensures { λ r. ⌜ Returns numbered (perform (ask Second) (lent (now (settings .entry)) number (now (clock .entry)) (now (links .entry)) (now (run .entry)))) r (now (clock .exit)) (now (links .exit)) (now (run .exit)) ⌝ }
 {
     let s = *settings;
-    let a = host::second(s, number, clock, links, run);
-    answer::number(a)
+    let q = asks_second();
+    let a = calls::call(s, number, clock, links, run, q);
+    numbered(a)
 }
 
 // The host reports itself.
@@ -212,15 +271,15 @@ pub extern "C" fn hello_self_report(
     settings: &Settings,
     number: usize,
     clock: &mut Clock,
-    links: &Links,
+    links: &mut Links,
     run: &mut [Entry],
 ) -> u8
-    ensures { λ r. ⌜ (r ≡ answered (selfReport (now (settings .entry)) number (now (clock .entry)) (now (links .entry)) (now (run .entry))))
-        × Leaves (selfReport (now (settings .entry)) number (now (clock .entry)) (now (links .entry)) (now (run .entry))) (now (clock .exit)) (now (links .entry)) (now (run .exit)) ⌝ }
+    ensures { λ r. ⌜ Returns numbered (perform (ask SelfReport) (lent (now (settings .entry)) number (now (clock .entry)) (now (links .entry)) (now (run .entry)))) r (now (clock .exit)) (now (links .exit)) (now (run .exit)) ⌝ }
 {
     let s = *settings;
-    let a = host::self_report(s, number, clock, links, run);
-    answer::number(a)
+    let q = asks_self_report();
+    let a = calls::call(s, number, clock, links, run, q);
+    numbered(a)
 }
 
 // A message for the neighbor of a link, written to the front of the buffer.
@@ -234,12 +293,11 @@ pub extern "C" fn hello_send(
     link: usize,
     buffer: &mut [u8],
 ) -> Sent
-    ensures { λ r. ⌜ (r ≡ sentTold (send (now (settings .entry)) number (now (clock .entry)) (now (links .entry)) (now (run .entry)) link (now (buffer .entry))))
-        × Leaves (send (now (settings .entry)) number (now (clock .entry)) (now (links .entry)) (now (run .entry)) link (now (buffer .entry))) (now (clock .exit)) (now (links .exit)) (now (run .entry))
-        × (now (buffer .exit) ≡ send (now (settings .entry)) number (now (clock .entry)) (now (links .entry)) (now (run .entry)) link (now (buffer .entry)) .buffer) ⌝ }
+    ensures { λ r. ⌜ Returns sentTold (perform (send link (now (buffer .entry))) (lent (now (settings .entry)) number (now (clock .entry)) (now (links .entry)) (now (run .entry)))) r (now (clock .exit)) (now (links .exit)) (now (run .entry))
+        × (now (buffer .exit) ≡ perform (send link (now (buffer .entry))) (lent (now (settings .entry)) number (now (clock .entry)) (now (links .entry)) (now (run .entry))) .buffer) ⌝ }
 {
     let s = *settings;
-    let a = host::send(s, number, clock, links, run, link, buffer);
+    let a = calls::send(s, number, clock, links, run, link, buffer);
     sent_told(a)
 }
 
@@ -254,12 +312,11 @@ pub extern "C" fn hello_receive(
     link: usize,
     packet: &[u8],
 ) -> u8
-    ensures { λ r. ⌜ (r ≡ answered (arrival (now (settings .entry)) number (now (clock .entry)) (now (links .entry)) (now (run .entry)) link (now (packet .entry))))
-        × Leaves (arrival (now (settings .entry)) number (now (clock .entry)) (now (links .entry)) (now (run .entry)) link (now (packet .entry))) (now (clock .exit)) (now (links .exit)) (now (run .exit)) ⌝ }
+    ensures { λ r. ⌜ Returns numbered (perform (receive link (now (packet .entry))) (lent (now (settings .entry)) number (now (clock .entry)) (now (links .entry)) (now (run .entry)))) r (now (clock .exit)) (now (links .exit)) (now (run .exit)) ⌝ }
 {
     let s = *settings;
-    let a = host::receive(s, number, clock, links, run, link, packet);
-    answer::number(a)
+    let a = calls::receive(s, number, clock, links, run, link, packet);
+    numbered(a)
 }
 
 // The route to an address.
@@ -267,15 +324,15 @@ pub extern "C" fn hello_receive(
 pub extern "C" fn hello_lookup(
     settings: &Settings,
     number: usize,
-    clock: &Clock,
-    links: &Links,
-    run: &[Entry],
+    clock: &mut Clock,
+    links: &mut Links,
+    run: &mut [Entry],
     address: Address,
 ) -> Route
-    ensures { λ r. ⌜ (r ≡ routeTold (lookup (now (settings .entry)) number (now (clock .entry)) (now (links .entry)) (now (run .entry)) address))
-        × Leaves (lookup (now (settings .entry)) number (now (clock .entry)) (now (links .entry)) (now (run .entry)) address) (now (clock .entry)) (now (links .entry)) (now (run .entry)) ⌝ }
+    ensures { λ r. ⌜ Returns routeTold (perform (ask (Lookup address)) (lent (now (settings .entry)) number (now (clock .entry)) (now (links .entry)) (now (run .entry)))) r (now (clock .exit)) (now (links .exit)) (now (run .exit)) ⌝ }
 {
     let s = *settings;
-    let a = host::lookup(s, number, clock, links, run, address);
+    let q = asks_lookup(address);
+    let a = calls::call(s, number, clock, links, run, q);
     route_told(a)
 }

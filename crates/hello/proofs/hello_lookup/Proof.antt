@@ -1,20 +1,24 @@
--- The call, and what it answers with the number of the answer.
-use mathlib.Core.Path.{_≡_, _∙_, ap}
+-- The request, the call, and what is told of its reply.
+use mathlib.Core.Path.{_≡_, sym}
 use base.Logic.{emp, id⊢}
-use Rattle.laws.proofs.Words.{by-value}
-use Rattle.shapes.proofs.made.ExportLooks.{proof}
+use Rattle.laws.proofs.Words.{by-value, chosen-by-value}
+use Rattle.shapes.proofs.made.ExportAsksWith.{proof}
 use Rattle.clock.proofs.Types.{clock}
 use Rattle.table.proofs.Types.{entry}
-use Rattle.host.specs.Outcome.{Leaves, routeOf}
-use Rattle.host.specs.Calls as definition
-use Rattle.host.proofs.Types.{number, settings, links, address}
-use Rattle.host.proofs.Types as told
-use Rattle.host.proofs.lookup.Symbol as calls
-use Rattle.host.proofs.lookup.Met as calls-known
-use Rattle.hello.specs.Told.{numberedRoute, routeTold}
-use Rattle.hello.proofs.Types.{route}
-use Rattle.hello.proofs.route_told.Symbol as numbers
-use Rattle.hello.proofs.route_told.Met as numbers-known
+use Rattle.host.specs.Lent.{lent}
+use Rattle.host.proofs.Types.{number, settings, links, reply}
+use Rattle.calls.specs.declared.Request.the-variants.{Lookup}
+use Rattle.calls.specs.Perform.{perform, Leaves, ask}
+use Rattle.calls.proofs.Types.{request}
+use Rattle.calls.proofs.call.Symbol as calls
+use Rattle.calls.proofs.call.Met as calls-known
+use Rattle.hello.specs.Told.{routeTold, Returns}
+use Rattle.hello.proofs.Types.{address, route}
+use Rattle.hello.proofs.Returned.{returned}
+use Rattle.hello.proofs.asks_lookup.Symbol as asks
+use Rattle.hello.proofs.asks_lookup.Met as asks-known
+use Rattle.hello.proofs.route_told.Symbol as tells
+use Rattle.hello.proofs.route_told.Met as tells-known
 use Rattle.hello.proofs.hello_lookup.Key.{name as #hello-lookup}
 use Rattle.hello.proofs.hello_lookup.Statement as stated
 use Rattle.hello.proofs.hello_lookup.Code as code
@@ -22,11 +26,13 @@ use Rattle.hello.proofs.hello_lookup.Code as code
 pub hello-lookup-spec : {M : Type 1} → stated.statement M
 unfolding code.routine
 hello-lookup-spec 𝓤 H 𝓜 𝓖 𝓡 =
-    proof number (by-value address) (by-value told.route) (by-value route) settings clock links entry 𝓤 H 𝓜 𝓖 𝓡
-    (λ s k c l run a. emp 𝓤) (λ s k c l run a x. (x ≡ routeOf (definition.lookup s k c l run a)) × Leaves (definition.lookup s k c l run a) c l run)
-    (λ x. emp 𝓤) (λ x r. r ≡ numberedRoute x)
-    (λ s k c l run a r. (r ≡ routeTold (definition.lookup s k c l run a)) × Leaves (definition.lookup s k c l run a) c l run)
-    (λ s k c l run a. id⊢ 𝓤 _) (λ s k c l run a x x-is. id⊢ 𝓤 _)
-    (λ s k c l run a x r x-is r-is. (r-is ∙ ap numberedRoute (x-is .0), x-is .1))
-    code.env #hello-lookup calls.name numbers.name calls.routine numbers.routine code.calls-host·lookup code.calls-hello·route-told
-    (code.unfolded 𝓤 H 𝓜 𝓡) (calls-known.met 𝓤 H 𝓜 𝓖 𝓡) (numbers-known.met 𝓤 H 𝓜 𝓖 𝓡)
+    proof number (by-value address) (chosen-by-value request) (by-value reply) (by-value route) settings clock links entry 𝓤 H 𝓜 𝓖 𝓡
+    (λ i. emp 𝓤) (λ i q. q ≡ Lookup i)
+    (λ s k c l run q. emp 𝓤) (λ s k c l run q a c′ l′ run′. Leaves (perform (ask q) (lent s k c l run)) a c′ l′ run′)
+    (λ a. emp 𝓤) (λ a r. r ≡ routeTold a)
+    (λ s k c l run i c′ l′ run′ r. Returns routeTold (perform (ask (Lookup i)) (lent s k c l run)) r c′ l′ run′)
+    (λ s k c l run i. id⊢ 𝓤 _) (λ s k c l run i q q-is. id⊢ 𝓤 _) (λ s k c l run i q a c′ l′ run′ q-is left. id⊢ 𝓤 _)
+    (λ s k c l run i q a c′ l′ run′ r q-is left r-is. rw (sym q-is) (returned routeTold (perform (ask q) (lent s k c l run)) a c′ l′ run′ r left r-is))
+    code.env #hello-lookup asks.name calls.name tells.name asks.routine calls.routine tells.routine
+    code.calls-hello·asks-lookup code.calls-calls·call code.calls-hello·route-told
+    (code.unfolded 𝓤 H 𝓜 𝓡) (asks-known.met 𝓤 H 𝓜 𝓖 𝓡) (calls-known.met 𝓤 H 𝓜 𝓖 𝓡) (tells-known.met 𝓤 H 𝓜 𝓖 𝓡)

@@ -1,20 +1,24 @@
--- The call, and what it answers with the number of the answer.
-use mathlib.Core.Path.{_≡_, _∙_, ap}
+-- The request, the call, and what is told of its reply.
+use mathlib.Core.Path.{_≡_, sym}
 use base.Logic.{emp, id⊢}
-use Rattle.laws.proofs.Words.{by-value}
-use Rattle.shapes.proofs.made.ExportTests.{proof}
+use Rattle.laws.proofs.Words.{by-value, chosen-by-value}
+use Rattle.shapes.proofs.made.ExportAsks.{proof}
 use Rattle.clock.proofs.Types.{clock}
 use Rattle.table.proofs.Types.{entry}
-use Rattle.host.specs.Outcome.{Leaves, timeOf}
-use Rattle.host.specs.Calls as definition
-use Rattle.host.proofs.Types.{number, settings, links}
-use Rattle.host.proofs.Types as told
-use Rattle.host.proofs.read.Symbol as calls
-use Rattle.host.proofs.read.Met as calls-known
-use Rattle.hello.specs.Told.{numberedTime, timeTold}
+use Rattle.host.specs.Lent.{lent}
+use Rattle.host.proofs.Types.{number, settings, links, reply}
+use Rattle.calls.specs.declared.Request.the-variants.{Read}
+use Rattle.calls.specs.Perform.{perform, Leaves, ask}
+use Rattle.calls.proofs.Types.{request}
+use Rattle.calls.proofs.call.Symbol as calls
+use Rattle.calls.proofs.call.Met as calls-known
+use Rattle.hello.specs.Told.{timeTold, Returns}
 use Rattle.hello.proofs.Types.{time}
-use Rattle.hello.proofs.time_told.Symbol as numbers
-use Rattle.hello.proofs.time_told.Met as numbers-known
+use Rattle.hello.proofs.Returned.{returned}
+use Rattle.hello.proofs.asks_read.Symbol as asks
+use Rattle.hello.proofs.asks_read.Met as asks-known
+use Rattle.hello.proofs.time_told.Symbol as tells
+use Rattle.hello.proofs.time_told.Met as tells-known
 use Rattle.hello.proofs.hello_read.Key.{name as #hello-read}
 use Rattle.hello.proofs.hello_read.Statement as stated
 use Rattle.hello.proofs.hello_read.Code as code
@@ -22,11 +26,13 @@ use Rattle.hello.proofs.hello_read.Code as code
 pub hello-read-spec : {M : Type 1} → stated.statement M
 unfolding code.routine
 hello-read-spec 𝓤 H 𝓜 𝓖 𝓡 =
-    proof number (by-value told.time) (by-value time) settings clock links entry 𝓤 H 𝓜 𝓖 𝓡
-    (λ s k c l run. emp 𝓤) (λ s k c l run x c′. (x ≡ timeOf (definition.read s k c l run)) × Leaves (definition.read s k c l run) c′ l run)
-    (λ x. emp 𝓤) (λ x r. r ≡ numberedTime x)
-    (λ s k c l run c′ r. (r ≡ timeTold (definition.read s k c l run)) × Leaves (definition.read s k c l run) c′ l run)
-    (λ s k c l run. id⊢ 𝓤 _) (λ s k c l run x c′ x-is. id⊢ 𝓤 _)
-    (λ s k c l run x c′ r x-is r-is. (r-is ∙ ap numberedTime (x-is .0), x-is .1))
-    code.env #hello-read calls.name numbers.name calls.routine numbers.routine code.calls-host·read code.calls-hello·time-told
-    (code.unfolded 𝓤 H 𝓜 𝓡) (calls-known.met 𝓤 H 𝓜 𝓖 𝓡) (numbers-known.met 𝓤 H 𝓜 𝓖 𝓡)
+    proof number (chosen-by-value request) (by-value reply) (by-value time) settings clock links entry 𝓤 H 𝓜 𝓖 𝓡
+    (emp 𝓤) (λ q. q ≡ Read)
+    (λ s k c l run q. emp 𝓤) (λ s k c l run q a c′ l′ run′. Leaves (perform (ask q) (lent s k c l run)) a c′ l′ run′)
+    (λ a. emp 𝓤) (λ a r. r ≡ timeTold a)
+    (λ s k c l run c′ l′ run′ r. Returns timeTold (perform (ask Read) (lent s k c l run)) r c′ l′ run′)
+    (λ s k c l run. id⊢ 𝓤 _) (λ s k c l run q q-is. id⊢ 𝓤 _) (λ s k c l run q a c′ l′ run′ q-is left. id⊢ 𝓤 _)
+    (λ s k c l run q a c′ l′ run′ r q-is left r-is. rw (sym q-is) (returned timeTold (perform (ask q) (lent s k c l run)) a c′ l′ run′ r left r-is))
+    code.env #hello-read asks.name calls.name tells.name asks.routine calls.routine tells.routine
+    code.calls-hello·asks-read code.calls-calls·call code.calls-hello·time-told
+    (code.unfolded 𝓤 H 𝓜 𝓡) (asks-known.met 𝓤 H 𝓜 𝓖 𝓡) (calls-known.met 𝓤 H 𝓜 𝓖 𝓡) (tells-known.met 𝓤 H 𝓜 𝓖 𝓡)
