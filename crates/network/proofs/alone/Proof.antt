@@ -1,3 +1,4 @@
+-- Deleting the calls at other numbers changes nothing, since each of them leaves this number's places: Demand1/Alone.antt.
 use Rattle.network.proofs.Demand1.Alone.{alone-holds}
 use Rattle.network.proofs.alone.Statement.{statement}
 use Rattle.network.proofs.alone.Tie as tie

@@ -1,3 +1,4 @@
+-- The tests of each call stand in its definition in their order: Demand1/Answers.antt.
 use Rattle.network.proofs.Demand1.Answers.{answers-hold}
 use Rattle.network.proofs.answers.Statement.{statement}
 use Rattle.network.proofs.answers.Tie as tie

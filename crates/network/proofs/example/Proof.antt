@@ -1,3 +1,4 @@
+-- The history is computed: Demand3/Alive.antt.
 use Rattle.network.proofs.Demand3.Alive.{alive}
 use Rattle.network.proofs.example.Statement.{statement}
 use Rattle.network.proofs.example.Tie as tie

@@ -1,3 +1,4 @@
+-- A call writes its own host's first places and no other: Demand1/Frame.antt.
 use Rattle.network.proofs.Demand1.Frame.{frame-holds}
 use Rattle.network.proofs.frame.Statement.{statement}
 use Rattle.network.proofs.frame.Tie as tie

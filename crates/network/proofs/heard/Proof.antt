@@ -1,3 +1,4 @@
+-- What was written is read back, in the layout of its writer: Demand2.antt.
 use Rattle.network.proofs.Demand2.{heard-holds}
 use Rattle.network.proofs.heard.Statement.{statement}
 use Rattle.network.proofs.heard.Tie as tie

@@ -1,3 +1,4 @@
+-- Call by call, by locality: Demand1/Isolation.antt.
 use Rattle.network.proofs.Demand1.Isolation.{isolation-holds}
 use Rattle.network.proofs.isolation.Statement.{statement}
 use Rattle.network.proofs.isolation.Tie as tie

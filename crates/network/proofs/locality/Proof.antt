@@ -1,3 +1,4 @@
+-- A call looks at nothing else: Demand1/Locality.antt.
 use Rattle.network.proofs.Demand1.Locality.{locality-holds}
 use Rattle.network.proofs.locality.Statement.{statement}
 use Rattle.network.proofs.locality.Tie as tie

@@ -1,3 +1,4 @@
+-- Each rule keeps clock, links and entries in range: Demand1/Range.antt.
 use Rattle.network.proofs.Demand1.Range.{range-holds}
 use Rattle.network.proofs.range.Statement.{statement}
 use Rattle.network.proofs.range.Tie as tie

@@ -1,3 +1,4 @@
+-- Who refuses changes nothing: Demand1/Refusals.antt.
 use Rattle.network.proofs.Demand1.Refusals.{refusals-hold}
 use Rattle.network.proofs.refusals.Statement.{statement}
 use Rattle.network.proofs.refusals.Tie as tie

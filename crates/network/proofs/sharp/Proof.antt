@@ -1,3 +1,4 @@
+-- The history is computed: Demand3/Sharp.antt.
 use Rattle.network.proofs.Demand3.Sharp.{sharp}
 use Rattle.network.proofs.sharp.Statement.{statement}
 use Rattle.network.proofs.sharp.Tie as tie
