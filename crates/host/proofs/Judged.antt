@@ -6,9 +6,10 @@ use Prim.Native.Nat.{ℕ, _+_, _-_, _≤_}
 use native.Mathlib.Omega.{arith}
 use borrow.Author.Tests.{ltb-false}
 use lib.Dec.{ltb}
-use lib.ListN.{length}
+use lib.ListN.{length, take}
 use Rattle.laws.proofs.Tests.{either, neither}
 use Rattle.answer.specs.declared.Answer.the-variants.{Done, Setting, OutOfRange}
+use Rattle.clock.specs.Clock.{clockInRange}
 use Rattle.table.specs.declared.Entry.{Entry}
 use Rattle.table.specs.declared.run.Scan.{Scan}
 use Rattle.table.specs.Forms.{every}
@@ -17,11 +18,12 @@ use Rattle.table.specs.Runs.{InRun, allInRange}
 use Rattle.host.specs.declared.Settings.{Settings}
 use Rattle.host.specs.declared.guard.Scope.{Scope}
 use Rattle.host.specs.declared.guard.Scope.the-variants.{Places, All, OnLink}
-use Rattle.host.specs.Settings.{settingsGood}
-use Rattle.host.specs.State.{placesPerHost, firstPlace, hostCount, entries}
-use Rattle.host.specs.Lent.{Host, Lent, entriesOf, hostInRange, lentInRange}
+use Rattle.host.specs.Settings.{linkCount, settingsGood}
+use Rattle.host.specs.State.{placesPerHost, firstPlace, hostCount, entries, linkInRange}
+use Rattle.host.specs.Lent.{Host, Lent, entriesOf, lentInRange}
 use Rattle.host.specs.Guard.{noPlaces, noLink, outOfRange, guard}
-use Rattle.host.specs.code.Held.{placesMissing, settled, wholeScan, linkScan, scanFor, held, judged}
+use Rattle.host.specs.code.Told.{afresh}
+use Rattle.host.specs.code.Held.{placesMissing, settled, isLink, namesLink, wholeScan, held, judged}
 
 module _ (x : Lent) where
   abbrev h : Host
@@ -47,38 +49,53 @@ module _ (x : Lent) where
   nowhere : InRun 0 0 run
   nowhere = record { rising = omega arith; inside = omega arith }
 
-  whole-in : placesMissing k (length run) ≡ false → There (wholeScan k h)
-  whole-in there =
-      let n : firstPlace k + placesPerHost ≤ length run = ltb-false _ _ (neither (ltb 15 k) (ltb (length run) (firstPlace k + placesPerHost)) there .1) in
-      either There (not (hostInRange h)) (settled false) all (λ _. nowhere) (λ _. record { rising = omega arith; inside = omega arith })
+  abbrev n : ℕ
+  n = linkCount s
 
-  for-in : (a : Scope) → placesMissing k (length run) ≡ false → There (scanFor a k h)
-  for-in Places there = nowhere
-  for-in All there = whole-in there
-  for-in (OnLink i) there = either There (noLink s i) (settled false) (wholeScan k h) (λ _. nowhere) (λ _. whole-in there)
+  abbrev rest : Scan
+  rest = wholeScan k (hostCount s) (h .clock) (h .links) n
+
+  whole-in : placesMissing k (length run) ≡ false → There rest
+  whole-in there =
+      let m : firstPlace k + placesPerHost ≤ length run = ltb-false _ _ (neither (ltb 15 k) (ltb (length run) (firstPlace k + placesPerHost)) there .1) in
+      either There (not (clockInRange (h .clock))) (settled false) _ (λ _. nowhere)
+      (λ _. either There (not (every linkInRange (take n (h .links .all)))) (settled false) all (λ _. nowhere) (λ _. record { rising = omega arith; inside = omega arith }))
 
   pub held-in : (a : Scope) → There (held a k h (length run))
-  held-in a = either There (placesMissing k (length run)) (settled false) (scanFor a k h) (λ _. nowhere) (for-in a)
+  held-in a =
+      either There (placesMissing k (length run)) (settled false) _ (λ _. nowhere)
+      (λ there. either There (afresh a) (settled true) _ (λ _. nowhere)
+      (λ _. either There (not (namesLink n a)) (settled false) rest (λ _. nowhere) (λ _. whole-in there)))
 
   -- ---- 12 where a place is missing or something lent is out of range
 
-  whole : (rest : Bool) → allInRange (cond (not rest) (settled false) all) run ≡ (rest && every entryInRange (entriesOf x))
+  whole : (clock links : Bool)
+      → allInRange (cond (not clock) (settled false) (cond (not links) (settled false) all)) run ≡ ((clock && links) && every entryInRange (entriesOf x))
   unfolding allInRange entries
-  whole false = refl
-  whole true =
-      let n : firstPlace k + hostCount s - firstPlace k ≡ hostCount s = omega arith in
-      rw n refl
+  whole false links = refl
+  whole true false = refl
+  whole true true =
+      let m : firstPlace k + hostCount s - firstPlace k ≡ hostCount s = omega arith in
+      rw m refl
 
-  whole-scanned : allInRange (wholeScan k h) run ≡ lentInRange x
+  whole-scanned : allInRange rest run ≡ lentInRange x
   unfolding lentInRange
-  whole-scanned = whole (hostInRange h)
+  whole-scanned = whole (clockInRange (h .clock)) (every linkInRange (take n (h .links .all)))
 
   known : (good : Bool) → allInRange (settled good) run ≡ good
   unfolding allInRange
   known true = refl
   known false = refl
 
-  tested : (a : Scope) (missing : Bool) → noPlaces k run ≡ missing → not (allInRange (cond missing (settled false) (scanFor a k h)) run) ≡ outOfRange a x
+  abbrev looked : Scope → Scan
+  looked a = cond (afresh a) (settled true) (cond (not (namesLink n a)) (settled false) rest)
+
+  linked : (i : ℕ) (b : Bool) → noLink s i ≡ b → not (allInRange (cond (not (isLink n i)) (settled false) rest) run) ≡ (b || (false || not (lentInRange x)))
+  unfolding noLink
+  linked i true f = rw (f, known false)
+  linked i false f = rw (f, whole-scanned)
+
+  tested : (a : Scope) (missing : Bool) → noPlaces k run ≡ missing → not (allInRange (cond missing (settled false) (looked a)) run) ≡ outOfRange a x
   tested Places true e = rw (known false, e)
   tested Places false e = rw (known true, e)
   tested All true e = rw (known false, e)
@@ -88,11 +105,7 @@ module _ (x : Lent) where
       go : (b : Bool) → true ≡ (b || true)
       go true = refl
       go false = refl
-  tested (OnLink i) false e = rw e (go (noLink s i))
-    where
-      go : (b : Bool) → not (allInRange (cond b (settled false) (wholeScan k h)) run) ≡ (b || (false || not (lentInRange x)))
-      go true = rw (known false)
-      go false = rw whole-scanned
+  tested (OnLink i) false e = rw e (linked i (noLink s i) refl)
 
   pub guarded : (a : Scope) → judged s (allInRange (held a k h (length run)) run) ≡ guard a x
   unfolding guard noPlaces

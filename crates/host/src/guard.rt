@@ -1,9 +1,10 @@
 // The guard: answers 12 and 1, before anything else in every call.
 ghost use mathlib.Core.Path.{_≡_};
 ghost use Prim.Native.Nat.{_≤_};
-ghost use Rattle.host.specs.Lent.{host, hostInRange, lent};
+ghost use Rattle.host.specs.Lent.{host, lent};
 ghost use Rattle.host.specs.Guard.{guard};
-ghost use Rattle.host.specs.code.Held.{placesMissing, settled, wholeScan, linkScan, scanFor, held, judged};
+ghost use Rattle.host.specs.code.Told.{afresh};
+ghost use Rattle.host.specs.code.Held.{placesMissing, settled, wholeScan, namesLink, held, judged};
 use super::HOSTS;
 use super::Links;
 use super::PLACES;
@@ -35,16 +36,6 @@ fn places_missing(number: usize, n: usize) -> bool
     n < first_place(number) + PLACES
 }
 
-// Are the clock and the links within their ranges?
-fn host_in_range(s: Settings, c: Clock, l: Links) -> bool
-    ensures { λ r. ⌜ r ≡ hostInRange (host s c l) ⌝ }
-{
-    if !c.in_range() {
-        return false;
-    }
-    super::link_state::in_range(s, l)
-}
-
 fn settled(good: bool) -> Scan
     ensures { λ w. ⌜ w ≡ settled good ⌝ }
 {
@@ -55,15 +46,19 @@ fn settled(good: bool) -> Scan
     }
 }
 
-fn whole_scan(s: Settings, number: usize, c: Clock, l: Links) -> Scan
-    requires { ⌜ number ≤ 15 ⌝ }
-    ensures { λ w. ⌜ w ≡ wholeScan number (host s c l) ⌝ }
+// So many entries, where the clock and so many links are within their ranges.
+fn whole_scan(number: usize, entries: usize, c: Clock, l: Links, links: usize) -> Scan
+    requires { ⌜ (number ≤ 15) × (entries ≤ 255) × (links ≤ 8) ⌝ }
+    ensures { λ w. ⌜ w ≡ wholeScan number entries c l links ⌝ }
 {
-    if !host_in_range(s, c, l) {
+    if !c.in_range() {
+        return settled(false);
+    }
+    if !super::link_state::in_range(links, l) {
         return settled(false);
     }
     let first = first_place(number);
-    let end = first + host_count(s);
+    let end = first + entries;
     Scan {
         first: first,
         end: end,
@@ -71,24 +66,25 @@ fn whole_scan(s: Settings, number: usize, c: Clock, l: Links) -> Scan
     }
 }
 
-fn link_scan(s: Settings, number: usize, c: Clock, l: Links, link: usize) -> Scan
-    requires { ⌜ number ≤ 15 ⌝ }
-    ensures { λ w. ⌜ w ≡ linkScan link number (host s c l) ⌝ }
-{
-    if !super::link_state::is_link(s, link) {
-        return settled(false);
-    }
-    whole_scan(s, number, c, l)
-}
-
-fn scan_for(s: Settings, number: usize, c: Clock, l: Links, scope: Scope) -> Scan
-    requires { ⌜ number ≤ 15 ⌝ }
-    ensures { λ w. ⌜ w ≡ scanFor scope number (host s c l) ⌝ }
+// Does the scope name no more than numbers and places?
+fn afresh(scope: Scope) -> bool
+    ensures { λ r. ⌜ r ≡ afresh scope ⌝ }
 {
     match scope {
-        Scope::Places => settled(true),
-        Scope::All => whole_scan(s, number, c, l),
-        Scope::OnLink(i) => link_scan(s, number, c, l, i),
+        Scope::Places => true,
+        Scope::All => false,
+        Scope::OnLink(_) => false,
+    }
+}
+
+// Is the link that the scope names, if it names one, a link of a host with so many?
+fn names_link(links: usize, scope: Scope) -> bool
+    ensures { λ r. ⌜ r ≡ namesLink links scope ⌝ }
+{
+    match scope {
+        Scope::Places => true,
+        Scope::All => true,
+        Scope::OnLink(i) => super::link_state::is_link(links, i),
     }
 }
 
@@ -99,7 +95,14 @@ fn held(s: Settings, number: usize, c: Clock, l: Links, scope: Scope, n: usize) 
     if places_missing(number, n) {
         return settled(false);
     }
-    scan_for(s, number, c, l, scope)
+    if afresh(scope) {
+        return settled(true);
+    }
+    let links = super::link_state::count(s);
+    if !names_link(links, scope) {
+        return settled(false);
+    }
+    whole_scan(number, host_count(s), c, l, links)
 }
 
 // 12 where something lent is out of range, then 1.

@@ -6,7 +6,7 @@ ghost use lib.ListN.{take};
 ghost use Rattle.table.specs.Forms.{every};
 ghost use Rattle.host.specs.Settings.{linkCount, switchGood, switchesGood};
 ghost use Rattle.host.specs.State.{isBroadcast, broadcast, freshLink, freshLinks, linkOf, withLink, linkInRange};
-ghost use Rattle.host.specs.Guard.{noLink};
+ghost use Rattle.host.specs.code.Held.{isLink};
 use super::Link;
 use super::LinkSetting;
 use super::Links;
@@ -32,14 +32,14 @@ pub fn count(s: Settings) -> usize
     MAX_LINKS
 }
 
-// Is this the number of a link of the host?
-pub fn is_link(s: Settings, i: usize) -> bool
-    ensures { λ r. ⌜ r ≡ not (noLink s i) ⌝ }
+// Is this the number of a link of a host with so many?
+pub fn is_link(count: usize, i: usize) -> bool
+    ensures { λ r. ⌜ r ≡ isLink count i ⌝ }
 {
     if i == 0 {
         return false;
     }
-    i <= count(s)
+    i <= count
 }
 
 // Is the switch at broadcast?
@@ -123,11 +123,11 @@ fn link_in_range(x: Link) -> bool
     x.keep_alive <= KEEP_ALIVE_INTERVAL
 }
 
-// Are all links of the host within their ranges?
-pub fn in_range(s: Settings, l: Links) -> bool
-    ensures { λ r. ⌜ r ≡ every linkInRange (take (linkCount s) (l .all)) ⌝ }
+// Are so many links within their ranges?
+pub fn in_range(count: usize, l: Links) -> bool
+    requires { ⌜ count ≤ 8 ⌝ }
+    ensures { λ r. ⌜ r ≡ every linkInRange (take count (l .all)) ⌝ }
 {
-    let count = count(s);
     let all = l.all;
     let mut i: usize = 0;
     while i < count {

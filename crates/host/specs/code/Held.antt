@@ -1,17 +1,22 @@
 -- The guard as the code has it: what is tested before the entries, which places are then looked at, and what is judged behind.
 use mathlib.Core.Bool.{Bool, true, false, cond, not, _||_}
 use Prim.Native.Nat.{ℕ, _+_}
-use lib.Dec.{ltb}
+use lib.Dec.{ltb, eqb}
+use lib.ListN.{take}
 use Rattle.answer.specs.declared.Answer.{Answer}
 use Rattle.answer.specs.declared.Answer.the-variants.{Done, Setting, OutOfRange}
+use Rattle.clock.specs.declared.Clock.{Clock}
+use Rattle.clock.specs.Clock.{clockInRange}
 use Rattle.table.specs.declared.run.Scan.{Scan}
+use Rattle.table.specs.Forms.{every}
 use Rattle.host.specs.declared.Settings.{Settings}
-use Rattle.host.specs.Lent.{Host, hostInRange}
+use Rattle.host.specs.Lent.{Host}
 use Rattle.host.specs.declared.guard.Scope.{Scope}
 use Rattle.host.specs.declared.guard.Scope.the-variants.{Places, All, OnLink}
-use Rattle.host.specs.Settings.{settingsGood}
-use Rattle.host.specs.State.{placesPerHost, firstPlace, hostCount}
-use Rattle.host.specs.Guard.{noLink}
+use Rattle.host.specs.declared.Links.{Links}
+use Rattle.host.specs.Settings.{linkCount, settingsGood}
+use Rattle.host.specs.State.{placesPerHost, firstPlace, hostCount, linkInRange}
+use Rattle.host.specs.code.Told.{afresh}
 
 -- the places of a number in a run of n entries
 abbrev pub placesMissing : (number n : ℕ) → Bool
@@ -21,21 +26,29 @@ placesMissing k n = ltb 15 k || ltb n (firstPlace k + placesPerHost)
 abbrev pub settled : (good : Bool) → Scan
 settled good = record { first = 0; end = 0; good = good }
 
-abbrev pub wholeScan : (number : ℕ) → Host → Scan
-wholeScan k h =
-    cond (not (hostInRange h)) (settled false)
-    record { first = firstPlace k; end = firstPlace k + hostCount (h .settings); good = true }
+-- a link of a host with so many
+abbrev pub isLink : (count link : ℕ) → Bool
+isLink n i = not (eqb i 0 || ltb n i)
 
-abbrev pub linkScan : (link number : ℕ) → Host → Scan
-linkScan i k h = cond (noLink (h .settings) i) (settled false) (wholeScan k h)
+-- the link that a call names, if it names one, is there
+abbrev pub namesLink : (count : ℕ) → Scope → Bool
+namesLink n Places = true
+namesLink n All = true
+namesLink n (OnLink i) = isLink n i
 
-abbrev pub scanFor : Scope → (number : ℕ) → Host → Scan
-scanFor Places k h = settled true
-scanFor All k h = wholeScan k h
-scanFor (OnLink i) k h = linkScan i k h
+-- so many entries, where the clock and so many links are within their ranges
+abbrev pub wholeScan : (number entries : ℕ) → Clock → Links → (links : ℕ) → Scan
+wholeScan k m c l n =
+    cond (not (clockInRange c)) (settled false)
+    (cond (not (every linkInRange (take n (l .all)))) (settled false)
+    record { first = firstPlace k; end = firstPlace k + m; good = true })
 
 abbrev pub held : Scope → (number : ℕ) → Host → (n : ℕ) → Scan
-held a k h n = cond (placesMissing k n) (settled false) (scanFor a k h)
+held a k h n =
+    cond (placesMissing k n) (settled false)
+    (cond (afresh a) (settled true)
+    (cond (not (namesLink (linkCount (h .settings)) a)) (settled false)
+    (wholeScan k (hostCount (h .settings)) (h .clock) (h .links) (linkCount (h .settings)))))
 
 abbrev pub judged : Settings → (good : Bool) → Answer
 judged s good = cond (not good) OutOfRange (cond (not (settingsGood s)) Setting Done)

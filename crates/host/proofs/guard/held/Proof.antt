@@ -1,7 +1,9 @@
--- The places first, then the rest by the scope.
+-- The places, then the scope, then all.
+use native.Mathlib.Omega.{arith}
 use mathlib.Core.Path.{_∙_, sym}
-use borrow.Author.Needs.{needs}
+use Rattle.laws.proofs.Tests.{is-not, is-so}
 use Rattle.host.proofs.Numbers.{number-in}
+use borrow.Author.Needs.{needs}
 use Rattle.host.proofs.guard.held.Statement.{statement}
 use Rattle.host.proofs.guard.held.Tie as tie
 
@@ -14,12 +16,58 @@ settled-requires c κs = search needs
 returns : tie.Need-returns
 returns c = rw (sym (c .before .before .places-missing .ensures) ∙ c .before .if1 .taken) (c .settled .ensures)
 
-scan-for-requires : tie.Need-scan-for-requires
-scan-for-requires c κs = number-in _ _ (sym (c .before .places-missing .ensures) ∙ c .if1 .left)
+afresh-requires : tie.Need-afresh-requires
+afresh-requires c κs = search needs
+
+settled-requires-2 : tie.Need-settled-requires-2
+settled-requires-2 c κs = search needs
 
 returns-2 : tie.Need-returns-2
-returns-2 c = rw (sym (c .before .before .places-missing .ensures) ∙ c .before .if1 .left) (c .«scan-for» .ensures)
+returns-2 c = rw (sym (c .before .before .before .before .places-missing .ensures) ∙ c .before .before .before .if1 .left, sym (c .before .before .afresh .ensures) ∙ c .before .if2 .taken) (c .settled2 .ensures)
+
+count-requires : tie.Need-count-requires
+count-requires c κs = search needs
+
+names-link-requires : tie.Need-names-link-requires
+names-link-requires c κs = search needs
+
+settled-requires-3 : tie.Need-settled-requires-3
+settled-requires-3 c κs = search needs
+
+returns-3 : tie.Need-returns-3
+returns-3 c =
+    let links = c .before .before .before .count .ensures in
+    rw (sym (c .before .before .before .before .before .before .before .places-missing .ensures) ∙ c .before .before .before .before .before .before .if1 .left, sym (c .before .before .before .before .before .afresh .ensures) ∙ c .before .before .before .before .if2 .left, ← links, sym (c .before .before .names-link .ensures) ∙ is-not _ (c .before .if3 .taken))
+    (c .settled3 .ensures)
+
+host-count-requires : tie.Need-host-count-requires
+host-count-requires c κs = search needs
+
+whole-scan-requires : tie.Need-whole-scan-requires
+whole-scan-requires c κs =
+    let k = number-in _ _ (sym (c .before .before .before .before .before .before .before .places-missing .ensures) ∙ c .before .before .before .before .before .before .if1 .left) in
+    (k, omega (arith, c .host-count .ensures), omega (arith, c .before .before .before .count .ensures))
+
+returns-4 : tie.Need-returns-4
+returns-4 c =
+    let links = c .before .before .before .before .count .ensures in
+    rw (sym (c .before .before .before .before .before .before .before .before .places-missing .ensures) ∙ c .before .before .before .before .before .before .before .if1 .left, sym (c .before .before .before .before .before .before .afresh .ensures) ∙ c .before .before .before .before .before .if2 .left, ← links, sym (c .before .before .before .names-link .ensures) ∙ is-so _ (c .before .before .if3 .left), ← c .before .host-count .ensures)
+    (c .whole-scan .ensures)
 
 pub held-spec : {M : Type 1} → statement M
 held-spec =
-    tie.close (tie.spec places-missing-requires settled-requires returns scan-for-requires returns-2)
+    tie.close
+    (tie.spec
+    places-missing-requires
+    settled-requires
+    returns
+    afresh-requires
+    settled-requires-2
+    returns-2
+    count-requires
+    names-link-requires
+    settled-requires-3
+    returns-3
+    host-count-requires
+    whole-scan-requires
+    returns-4)

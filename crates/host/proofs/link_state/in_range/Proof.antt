@@ -19,13 +19,10 @@ Inv-loop count all i₀ i =
 abbrev μ-loop : tie.MeasureT-loop
 μ-loop count all i₀ i = count - i
 
-count-requires : tie.Need-count-requires Inv-loop μ-loop
-count-requires c κs = tt
-
 loop-holds : tie.Need-loop-holds Inv-loop μ-loop
 loop-holds c =
-    let l : length (c .before .before .args .l .all) ≡ 8 = search (needs, mapped-long) in
-    (omega arith, omega (arith, c .before .count .ensures), l, refl)
+    let l : length (c .before .args .l .all) ≡ 8 = search (needs, mapped-long) in
+    (omega arith, c .before .pre, l, refl)
 
 mul-link-in-range : tie.Need-mul-link-in-range Inv-loop μ-loop
 mul-link-in-range c = omega arith
@@ -38,11 +35,10 @@ link-in-range-requires c κs = tt
 
 returns : tie.Need-returns Inv-loop μ-loop
 returns c =
-    let l = c .before .before .before .before .before .before .before .args .l .all in
-    let n = c .before .before .before .before .before .before .count in
+    let a = c .before .before .before .before .before .before .args in
     let w = c .before .before .before .before .loop in
     let x = c .before .link-in-range in
-    rw (← n .ensures) (sym (w .inv .3 ∙ slot-bad linkInRange l (n .result) (w .i) (omega arith) _ (omega arith) (x .result) (x .ensures) (is-not _ (c .if1 .taken))))
+    sym (w .inv .3 ∙ slot-bad linkInRange (a .l .all) (a .count) (w .i) (omega arith) _ (omega arith) (x .result) (x .ensures) (is-not _ (c .if1 .taken)))
 
 add-i : tie.Need-add-i Inv-loop μ-loop
 add-i c = omega arith
@@ -52,19 +48,17 @@ loop-less c = omega arith
 
 loop-again : tie.Need-loop-again Inv-loop μ-loop
 loop-again c =
-    let l = c .before .before .before .before .before .before .before .args .l .all in
-    let n = c .before .before .before .before .before .before .count in
+    let a = c .before .before .before .before .before .before .args in
     let w = c .before .before .before .before .loop in
     let x = c .before .link-in-range in
-    let on = slot-good linkInRange l (n .result) (w .i) (omega arith) _ (omega arith) (x .result) (x .ensures) (is-so _ (c .if1 .left)) in
+    let on = slot-good linkInRange (a .l .all) (a .count) (w .i) (omega arith) _ (omega arith) (x .result) (x .ensures) (is-so _ (c .if1 .left)) in
     (omega arith, w .inv .1, w .inv .2, w .inv .3 ∙ on)
 
 returns-2 : tie.Need-returns-2 Inv-loop μ-loop
 returns-2 c =
-    let l = c .before .before .before .before .args .l .all in
-    let n = c .before .before .before .count in
+    let a = c .before .before .before .args in
     let w = c .before .loop in
-    rw (← n .ensures) (sym (w .inv .3 ∙ rw (rest-none l (n .result) (w .i) (omega arith) (c .loop-test .left))))
+    sym (w .inv .3 ∙ rw (rest-none (a .l .all) (a .count) (w .i) (omega arith) (c .loop-test .left)))
 
 pub in-range-spec : {M : Type 1} → statement M
 in-range-spec =
@@ -72,7 +66,6 @@ in-range-spec =
     (tie.spec
     Inv-loop
     μ-loop
-    count-requires
     loop-holds
     mul-link-in-range
     array-copy-out-link-in-range

@@ -2,10 +2,7 @@ use mathlib.Core.Path.{_≡_, refl}
 use mathlib.Core.Bool.{Bool, true, false, not}
 use Prim.Native.Nat.{ℕ, _≤_, _<_}
 use borrow.Author.Tests.{eq-eqb, ne-eqb, leb-true, leb-false, le-ltb, lt-ltb}
-use borrow.Author.Needs.{needs}
 use lib.Dec.{ltb, leb}
-use Rattle.host.specs.Settings.{linkCount}
-use Rattle.host.specs.Guard.{noLink}
 use Rattle.host.proofs.link_state.is_link.Statement.{statement}
 use Rattle.host.proofs.link_state.is_link.Tie as tie
 
@@ -17,15 +14,10 @@ up-to a b = go (leb a b) (leb-true a b) (leb-false a b)
     go false f g = rw (lt-ltb b a (g refl))
 
 returns : tie.Need-returns
-unfolding noLink
 returns c = rw (eq-eqb _ _ (c .if1 .taken))
 
-count-requires : tie.Need-count-requires
-count-requires c κs = search needs
-
 returns-2 : tie.Need-returns-2
-unfolding noLink
-returns-2 c = rw (ne-eqb _ _ (c .before .if1 .left), c .count .ensures) (up-to (c .before .before .args .i) (linkCount (c .before .before .args .s)))
+returns-2 c = rw (ne-eqb _ _ (c .if1 .left)) (up-to (c .before .args .i) (c .before .args .count))
 
 pub is-link-spec : {M : Type 1} → statement M
-is-link-spec = tie.close (tie.spec returns count-requires returns-2)
+is-link-spec = tie.close (tie.spec returns returns-2)
