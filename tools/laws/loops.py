@@ -23,7 +23,7 @@
                                                         }
 J is a struct that begins with first, end and, where there is an x, start.
 The checker checks what is written: nothing here is trusted."""
-from script import Script, digits, items, nest, product, proj, uses
+from script import Law, Script, digits, items, nest, product, proj, uses
 from text import allocates, assign, at_local, copy, frees, function, load, on_entry, opens, plain, put, signature, slice_typed, slot, stayed
 
 # the arguments of a turn
@@ -44,24 +44,16 @@ ENTRY = {"run": "run", "x": "start w", "buffer": "buffer"}
 ROW = {"buffer": "u8", "run": "RE", "packet": "u8"}
 SEEN = {"buffer": "List ℕ", "run": "List (E .S .D)", "packet": "List ℕ", "w": "J .form .D"}
 
-class Law:
-    """the text of the law of a loop, written part by part: a part uses what those before it have found"""
 
+class Loop(Law):
     PARTS = "kind params_and_locals heading mir turns_as_function said exit a_turn leaving place_facts walk theorem cites".split()
-
-    def __init__(self, name):
-        self.name, self.out = name, []
-        self.emit = self.out.append
-        for part in self.PARTS:
-            getattr(self, part)()
-
 
     def kind(self):
         """which of the four it is"""
-        self.lent = self.name in ("Maps", "Applies")  # the run is `&mut`, and a turn stores an entry
-        self.folds = self.name in ("Folds", "Applies")  # a value x is handed from turn to turn
-        self.packet, self.buffer = self.name == "Applies", self.name == "Writes"
-        self.named = NAMED[self.name].split(", ")
+        self.lent = self.shape in ("Maps", "Applies")  # the run is `&mut`, and a turn stores an entry
+        self.folds = self.shape in ("Folds", "Applies")  # a value x is handed from turn to turn
+        self.packet, self.buffer = self.shape == "Applies", self.shape == "Writes"
+        self.named = NAMED[self.shape].split(", ")
 
     def new(self, key, ty):
         self.local.append(ty)
@@ -106,7 +98,7 @@ class Law:
             """-- The law of a loop over a run of entries: `%s`.
 -- It is one walk of that MIR, for any types and any contract of the function that does a turn. J is a struct that begins with first, end%s. `After` is what there is after n turns. The author shows that the places lie in the run (`fits`), that each turn is asked for no more than what is known (`ok`), and that what there is after the last turn is what the loop says (`then`).
 -- Made by tools/laws/make. Assumes nothing."""
-            % (TEXT[self.name], " and start" if self.folds else "")
+            % (TEXT[self.shape], " and start" if self.folds else "")
         )
         self.uses_at = len(self.out)
         self.emit("")
@@ -753,7 +745,3 @@ class Law:
                 (".Loop", ["tests", "repeats"]),
             ],
         )
-
-
-def law(name):
-    return "\n".join(Law(name).out)

@@ -96,6 +96,21 @@ class Script:
         return "\n".join(res + [indent + cur])
 
 
+class Law:
+    """the text of a law, written part by part: a part uses what those before it have found"""
+
+    PARTS = ()
+
+    def __init__(self, shape):
+        self.shape, self.out = shape, []
+        self.emit = self.out.append
+        for part in self.PARTS:
+            getattr(self, part)()
+
+    def text(self):
+        return "\n".join(self.out) + "\n"
+
+
 def walk_cites():
     """the names that Walk.antt cites, in its order"""
     with open(WALK) as walk:

@@ -5,8 +5,8 @@ from script import walk_names
 CRATES = ("laws", "shapes")
 LOOPS = ("Folds", "Maps", "Applies", "Writes")
 
-# What the made text binds or cites itself. A type of the same name would be taken for it, or it for the type.
-CITED = set("LL Word Data Part Outcome Kept LentAgain Declared Struct Plains Denots Array Sym Contract Clauses Post Says Asks".split())
+# What the made text binds or cites itself, beside the names of Walk.antt. A type of the same name would be taken for it, or it for the type. Of a type C the text makes RC and XC besides.
+CITED = set("Type Unit LL Word Data Part Outcome Kept LentAgain Declared Struct Plains Denots Array Sym Contract Clauses Post Says Asks".split())
 STRAIGHT_TYPES = CITED | set("A H M W".split())
 WHOLE_TYPES = STRAIGHT_TYPES | set("D K O LO PO RO".split())
 # The same for parameters: what stands beside them in the made text, and the fields of the records that are made there.
@@ -73,7 +73,7 @@ class Shape:
             if not h:
                 raise Wrong(line, "not a parameter: `%s`" % text)
             self.heads.append(h.groups())
-        self.fresh = {}
+        self.fresh, self.named = {}, set()
         for name, _ in self.heads:
             self.name_value(line, name)
 
@@ -91,6 +91,10 @@ class Shape:
                 raise Wrong(line, "`%s` cannot stand here" % name)
         elif name in reserved or name in walk_names():
             raise Wrong(line, "the type name `%s` is reserved: the made text uses it" % name)
+        for other in self.named:
+            if name in ("R" + other, "X" + other) or other in ("R" + name, "X" + name):
+                raise Wrong(line, "the types `%s` and `%s` do not go together: of a type C the made text makes RC and XC" % (other, name))
+        self.named.add(name)
 
 
 class Straight(Shape):

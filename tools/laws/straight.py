@@ -15,27 +15,21 @@ A shape is the text of a function of straight statements, in which a type is a n
 P(A, C, J) is a struct whose first fields are of these types. Of a `&mut` slice that is passed, `&run` is lent as a `&` and comes back, `&mut run` is lent again and comes back, and `run` is given up for good.
 The checker checks what is written: nothing here is trusted."""
 import re
-from script import Script, digits, items, nest, product, proj, uses
+from script import Law, Script, digits, items, nest, product, proj, uses
 from text import allocates, arrows, assign, at_local, copy, frees, function, load, on_entry, opens, operands, plain, put, sequence, signature, slice_typed, slot, stayed
+
 
 BUILTIN = {"usize": "(unsigned w64)", "()": "void"}
 PART = {"usize": "usize-part", "bool": "bool-part"}
+
 
 class Value:
     def __init__(self, x, w, machine, known):
         self.x, self.w, self.machine, self.known = x, w, machine, known
 
-class Law:
-    """the text of the law of a shape, written part by part: a part uses what those before it have found"""
 
+class Straight(Law):
     PARTS = "calls_and_refs types_of heading signatures mir said knowledge exit walk theorem cites".split()
-
-    def __init__(self, shape):
-        self.shape, self.out = shape, []
-        self.emit = self.out.append
-        for part in self.PARTS:
-            getattr(self, part)()
-
 
     def calls_and_refs(self):
         """the calls, and the parameters that are lent"""
@@ -83,8 +77,8 @@ class Law:
 
         for p in self.refs:
             self.note(p.type, self.data)
-        for self.q in self.parts.values():
-            for t in self.q:
+        for types in self.parts.values():
+            for t in types:
                 if t not in self.data:
                     self.note(t, self.fields)
         for t in [p.type for p in self.params if not p.ref] + [c.type for c in self.calls] + [self.result]:
@@ -820,7 +814,3 @@ class Law:
                 (".Again", ["LentAgain", "lends-again", "comes-back as again-back"]),
             ],
         )
-
-
-def law(shape):
-    return "\n".join(Law(shape).out)

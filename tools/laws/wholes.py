@@ -10,7 +10,7 @@
 
 There is one array, and at most one `&[u8]`, which is passed on. The call takes the parameters in their order.
 The checker checks what is written: nothing here is trusted."""
-from script import Script, digits, items, nest, product, proj, uses
+from script import Law, Script, digits, items, nest, product, proj, uses
 from text import allocates, arrows, assign, at_local, cell, copy, frees, function, load, on_entry, opens, operands, plain, put, sequence, signature, slice_typed, slot, stayed
 
 HERE = "Rattle.shapes.proofs"
@@ -21,17 +21,9 @@ INTO = {"struct": "%s .S .to ", "list": "map (%s .S .to) "}
 OCTETS = "sliceTy (tyRef (named 0) imm (tyInt w8))"
 OCTETS_SLOT = "(shrSliceOf (0 ∷ []) tt (plain (λ _. u8)))"
 
-class Law:
-    """the text of the law of a shape, written part by part: a part uses what those before it have found"""
 
+class Whole(Law):
     PARTS = "params_and_refs handed_back signatures mir said exit walk theorem cites".split()
-
-    def __init__(self, shape):
-        self.shape, self.out = shape, []
-        self.emit = self.out.append
-        for part in self.PARTS:
-            getattr(self, part)()
-
 
     def row(self, p):
         return "u8" if p.kind == "octets" else "R" + p.type
@@ -503,7 +495,3 @@ class Law:
                 (HERE + ".Lists", ["listed", "list-field", "list-laws", "list-plain", "in-field", "counted", "lends-local", "local-back", "lends-array", "array-back"]),
             ],
         ) + "use denote.Struct.Declared as declared\n"
-
-
-def law(shape):
-    return "\n".join(Law(shape).out)
