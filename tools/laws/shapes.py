@@ -48,8 +48,8 @@ class WholeParam:
 class Arg:
     """how: value, field, share, again or give"""
 
-    def __init__(self, mark, name, field, how):
-        self.mark, self.name, self.field, self.how = mark, name, field, how
+    def __init__(self, name, field, how):
+        self.name, self.field, self.how = name, field, how
 
 
 class Call:
@@ -209,13 +209,13 @@ class Straight(Shape):
         if name not in self.types:
             raise Wrong(line, "unknown name: `%s` is no value" % name)
         if field is None:
-            return Arg(None, name, None, "value")
+            return Arg(name, None, "value")
         t, field = self.types[name], int(field)
         if t not in self.parts or field >= len(self.parts[t]):
             raise Wrong(line, "`%s` has no field %d: `%s` is not written with so many" % (name, field, t))
         if self.parts[t][field] == "bool":
             raise Wrong(line, "a field of type bool is not read")
-        return Arg(None, name, field, "field")
+        return Arg(name, field, "field")
 
     def args(self, line, text):
         return [self.arg(line, a) for a in text.split(", ")] if text else []
@@ -241,7 +241,7 @@ class Straight(Shape):
         how = "share" if not p.mut or mark == "&" else "again" if mark else "give"
         p.changed = p.changed or how == "again"
         p.gone = line if how == "give" else False
-        return Arg(mark, name, None, how)
+        return Arg(name, None, how)
 
     def ends(self):
         """each `&mut` is stored to or given away, and the function hands its result back"""

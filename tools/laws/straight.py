@@ -16,7 +16,7 @@ P(A, C, J) is a struct whose first fields are of these types. Of a `&mut` slice 
 The checker checks what is written: nothing here is trusted."""
 import re
 from script import Law, Script, digits, items, nest, product, proj, uses
-from text import allocates, arrows, assign, at_local, copy, frees, function, load, on_entry, opens, operands, plain, put, sequence, signature, slice_typed, slot, stayed
+from text import allocates, arrows, assign, at_local, copy, frees, function, load, on_entry, opens, operands, plain, sequence, signature, slice_typed, slot, stayed
 
 
 BUILTIN = {"usize": "(unsigned w64)", "()": "void"}
