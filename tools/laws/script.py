@@ -2,7 +2,6 @@
 import os
 import re
 
-LIB = os.environ.get("LIB", "Rattle.laws.proofs")
 WALK = os.path.join(os.path.dirname(os.path.abspath(__file__)), "..", "..", "crates/laws/proofs/Walk.antt")
 
 
@@ -97,20 +96,45 @@ class Script:
         return "\n".join(res + [indent + cur])
 
 
-def uses(text, modules):
-    """the lines that bring in what the text uses of Walk.antt, and of the modules with the names given"""
+class Law:
+    """the text of a law, written part by part: a part uses what those before it have found"""
+
+    PARTS = ()
+
+    def __init__(self, shape):
+        self.shape, self.out = shape, []
+        self.emit = self.out.append
+        for part in self.PARTS:
+            getattr(self, part)()
+
+    def text(self):
+        return "\n".join(self.out) + "\n"
+
+
+def walk_cites():
+    """the names that Walk.antt cites, in its order"""
+    with open(WALK) as walk:
+        lists = [re.match(r"(?:unfoldable )?pub use .*\.\{(.*)\}", l) for l in walk]
+    return [n.split(" as ")[-1] for g in lists if g for n in g.group(1).split(", ")]
+
+
+def walk_names():
+    return {n.strip("_") for n in walk_cites()}
+
+
+def lib(crate):
+    """what the laws of a crate call the proofs of crate `laws`"""
+    return "Rattle.laws.proofs" if crate == "laws" else "Rattle.laws.proofs"
+
+
+def uses(text, crate, modules):
+    """the lines that bring in what the text uses of Walk.antt, and of the modules with the names given; a module that begins with a dot is one of crate `laws`"""
     have = set(re.findall(r"[^\s(){}\[\],;.]+", text))
-    cited = []
-    for l in open(WALK):
-        g = re.match(r"(?:unfoldable )?pub use .*\.\{(.*)\}", l)
-        if g:
-            for n in g.group(1).split(", "):
-                short = n.split(" as ")[-1]
-                if short.strip("_") in have or short in have or (short == "[]" and "[]" in text):
-                    cited.append(short)
-    lines = ["use %s.Walk.{%s}" % (LIB, ", ".join(n for n in cited if n != "tablesOf")), "use %s.Walk.{tablesOf}" % LIB, "use denote.Struct.Laws as LL"]
+    cited = [n for n in walk_cites() if n.strip("_") in have or n in have or (n == "[]" and "[]" in text)]
+    home = lib(crate)
+    lines = ["use %s.Walk.{%s}" % (home, ", ".join(n for n in cited if n != "tablesOf")), "use %s.Walk.{tablesOf}" % home, "use denote.Struct.Laws as LL"]
     for module, names in modules:
         ns = [n for n in names if n.split(" as ")[-1] in have]
         if ns:
-            lines.append("use %s.{%s}" % (module, ", ".join(ns)))
+            lines.append("use %s.{%s}" % (home + module if module.startswith(".") else module, ", ".join(ns)))
     return "\n".join(lines) + "\n"

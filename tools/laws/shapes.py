@@ -1,0 +1,338 @@
+"""Read shapes.txt. A line that is not of the language of shapes (README.md) is refused with its number, so that nothing is written from a shape that is half understood."""
+import re
+from script import walk_names
+
+CRATES = ("laws", "shapes")
+LOOPS = ("Folds", "Maps", "Applies", "Writes")
+
+# What the made text binds or cites itself, beside the names of Walk.antt. A type of the same name would be taken for it, or it for the type. Of a type C the text makes RC and XC besides.
+CITED = set("Type Unit LL Word Data Part Outcome Kept LentAgain Declared Struct Plains Denots Array Sym Contract Clauses Post Says Asks".split())
+STRAIGHT_TYPES = CITED | set("A H M W".split())
+WHOLE_TYPES = STRAIGHT_TYPES | set("D K O LO PO RO".split())
+# The same for parameters: what stands beside them in the made text, and the fields of the records that are made there.
+VALUES = set("x at v vs sh r u exits walk fm then stayed ended clauses function slice make made back shown one room".split())
+FIELDS = set("lifetimes outlives params result locals body signature kept ghost requires ensures ptr name now fits".split())
+NUMBERS = ("usize", "bool", "u8")
+
+
+class Wrong(Exception):
+    """what is wrong in a line of shapes.txt"""
+
+    def __init__(self, line, what):
+        super().__init__(what)
+        self.line = line
+
+
+class Param:
+    """a parameter of a straight function: by value, `&`, `&mut`, or a slice of one of these"""
+
+    def __init__(self, name, text):
+        self.name = name
+        self.ref = text.startswith("&")
+        self.mut = text.startswith("&mut ")
+        t = text.replace("&mut ", "").replace("&", "")
+        self.slice = t.startswith("[")
+        self.type = t.strip("[]")
+        self.copied = self.gone = self.changed = False
+
+
+class WholeParam:
+    """a parameter of a call by value. kind: word, passed on by value; struct or list, held in a local that is lent; octets, a slice that is passed on"""
+
+    def __init__(self, name, text, held):
+        self.name = name
+        self.type = re.search(r"\w+", text).group(0)
+        self.kind = "octets" if text.startswith("&") else "list" if text.startswith("[") else "struct" if name in held else "word"
+
+
+class Arg:
+    """how: value, field, share, again or give"""
+
+    def __init__(self, name, field, how):
+        self.name, self.field, self.how = name, field, how
+
+
+class Call:
+    def __init__(self, let, type_, name, args):
+        self.let, self.type, self.name, self.args = let, type_, name, args
+
+
+class Shape:
+    """a function of shapes.txt: its lines with their numbers, and what its heading says"""
+
+    def __init__(self, crate, line, head, lines):
+        self.crate, self.line, self.lines = crate, line, lines
+        g = re.fullmatch(r"fn (\w+)\((.*)\)(?: -> (\w+))?( requires)? \{", head)
+        if not g:
+            raise Wrong(line, "not the heading of a function: `fn NAME(PARAMETERS) -> TYPE {`")
+        self.name, self.result, self.requires = g.group(1), g.group(3) or "()", bool(g.group(4))
+        self.text = " ".join(" ".join([head] + [t for _, t in lines] + ["}"]).split())
+        self.heads = []
+        for text in g.group(2).split(", ") if g.group(2) else []:
+            h = re.fullmatch(r"(\w+): (\S.*)", text)
+            if not h:
+                raise Wrong(line, "not a parameter: `%s`" % text)
+            self.heads.append(h.groups())
+        self.fresh, self.named = {}, set()
+        for name, _ in self.heads:
+            self.name_value(line, name)
+
+    def name_value(self, line, name):
+        """a name that the shape gives to a parameter or a let"""
+        if name in self.fresh:
+            raise Wrong(line, "the name `%s` is taken: it stands on line %d" % (name, self.fresh[name]))
+        if name in FIELDS or (line == self.line and name in VALUES) or name in walk_names():
+            raise Wrong(line, "the name `%s` is reserved: the made text uses it" % name)
+        self.fresh[name] = line
+
+    def name_type(self, line, name, reserved, numbers=()):
+        if name in NUMBERS:
+            if name not in numbers:
+                raise Wrong(line, "`%s` cannot stand here" % name)
+        elif name in reserved or name in walk_names():
+            raise Wrong(line, "the type name `%s` is reserved: the made text uses it" % name)
+        for other in self.named:
+            if name in ("R" + other, "X" + other) or other in ("R" + name, "X" + name):
+                raise Wrong(line, "the types `%s` and `%s` do not go together: of a type C the made text makes RC and XC" % (other, name))
+        self.named.add(name)
+
+
+class Straight(Shape):
+    """a function of straight statements"""
+
+    def __init__(self, *heading):
+        super().__init__(*heading)
+        self.params = [self.param(name, text) for name, text in self.heads]
+        if not self.params:
+            raise Wrong(self.line, "a function without parameters has no law here")
+        if self.result != "()":
+            self.name_type(self.line, self.result, STRAIGHT_TYPES, ("usize",))
+        self.by_name = {p.name: p for p in self.params}
+        self.types = {p.name: p.type for p in self.params if not p.ref}
+        self.body, self.parts, self.stored = [], {}, set()
+        for line, text in self.lines:
+            self.statement(line, text)
+        self.ends()
+
+    def param(self, name, text):
+        if not re.fullmatch(r"\w+|&(mut )?(\w+|\[\w+\])", text):
+            raise Wrong(self.line, "not a type of a parameter: `%s` (T, &T, &mut T, &[T] or &mut [T])" % text)
+        p = Param(name, text)
+        self.name_type(self.line, p.type, STRAIGHT_TYPES, ("u8",) if p.slice else () if p.ref else ("usize",))
+        return p
+
+    def statement(self, line, text):
+        if self.body and self.body[-1][0] == "return" or self.body and self.body[-1][0] == "call" and self.body[-1][1].let == "result":
+            raise Wrong(line, "nothing comes after what is handed back")
+        for form, read in self.FORMS:
+            g = re.fullmatch(form, text)
+            if g:
+                return read(self, line, *g.groups())
+        raise Wrong(line, "unknown form: `%s`" % text)
+
+    def copy(self, line, let, name):
+        p = self.lent(line, name, slice_=False)
+        if p.copied or p.gone:
+            raise Wrong(line, "`%s` is copied out already, or given away" % name)
+        p.copied = line
+        self.name_value(line, let)
+        self.types[let] = p.type
+        self.body.append(("copy", let, name))
+
+    def len(self, line, let, name):
+        p = self.lent(line, name, slice_=True)
+        if p.gone or p.changed:
+            raise Wrong(line, "the length of `%s` is read before it is lent by `&mut` or given away" % name)
+        self.name_value(line, let)
+        self.types[let] = "usize"
+        self.body.append(("len", let, name))
+
+    def let(self, line, let, type_, parts, name, args):
+        self.name_type(line, type_, STRAIGHT_TYPES, ("usize",))
+        if parts is not None:
+            ts = parts.split(", ")
+            for t in ts:
+                if not re.fullmatch(r"\w+", t):
+                    raise Wrong(line, "not a list of types: `%s`" % parts)
+                self.name_type(line, t, STRAIGHT_TYPES, ("usize", "bool"))
+            if self.parts.get(type_, ts) != ts:
+                raise Wrong(line, "`%s` has other fields above" % type_)
+            if type_ in [p.type for p in self.params]:
+                raise Wrong(line, "`%s` has fields that are read, so no parameter is of this type" % type_)
+            self.parts[type_] = ts
+        call = Call(let, type_, name, self.args(line, args))
+        self.name_value(line, let)
+        self.types[let] = type_
+        self.body.append(("call", call))
+
+    def store(self, line, name, value, field):
+        p = self.lent(line, name, slice_=False)
+        if not p.mut:
+            raise Wrong(line, "`%s` is not `&mut`" % name)
+        if not p.copied:
+            raise Wrong(line, "`*%s` is stored to, but was not copied out by `let c = *%s;`" % (name, name))
+        if name in self.stored:
+            raise Wrong(line, "`*%s` is stored to already" % name)
+        self.stored.add(name)
+        self.body.append(("store", name, self.value(line, value, field)))
+
+    def do(self, line, name, args, semicolon):
+        if not semicolon and self.result == "()":
+            raise Wrong(line, "`%s` hands nothing back: a `;` is missing" % self.name)
+        args = self.args(line, args)
+        self.body.append(("call", Call(None, "()", name, args) if semicolon else Call("result", self.result, name, args)))
+
+    def back(self, line, value, field):
+        if self.result == "()":
+            raise Wrong(line, "`%s` hands nothing back" % self.name)
+        self.body.append(("return", self.value(line, value, field)))
+
+    FORMS = (
+        (r"let (\w+) = \*(\w+);", copy),
+        (r"let (\w+) = (\w+)\.len\(\);", len),
+        (r"let (\w+): (\w+)(?:\(([^)]*)\))? = (\w+)\((.*)\);", let),
+        (r"\*(\w+) = (\w+)(?:\.(\d+))?;", store),
+        (r"(\w+)\((.*)\)(;?)", do),
+        (r"(\w+)\.(\d+)", back),
+    )
+
+    def lent(self, line, name, slice_):
+        p = self.by_name.get(name)
+        if not p:
+            raise Wrong(line, "unknown name: `%s` is no parameter" % name)
+        if not p.ref or p.slice != slice_:
+            raise Wrong(line, "`%s` is no %s" % (name, "slice" if slice_ else "lent struct"))
+        return p
+
+    def value(self, line, name, field):
+        """a value, or a field of an outcome"""
+        if name not in self.types:
+            raise Wrong(line, "unknown name: `%s` is no value" % name)
+        if field is None:
+            return Arg(name, None, "value")
+        t, field = self.types[name], int(field)
+        if t not in self.parts or field >= len(self.parts[t]):
+            raise Wrong(line, "`%s` has no field %d: `%s` is not written with so many" % (name, field, t))
+        if self.parts[t][field] == "bool":
+            raise Wrong(line, "a field of type bool is not read")
+        return Arg(name, field, "field")
+
+    def args(self, line, text):
+        return [self.arg(line, a) for a in text.split(", ")] if text else []
+
+    def arg(self, line, text):
+        g = re.fullmatch(r"(&mut |&)?([A-Za-z_]\w*)(?:\.(\d+))?", text)
+        if not g:
+            raise Wrong(line, "not an argument: `%s` (x, p.1, run, &run or &mut run; no literals)" % text)
+        mark, name, field = g.groups()
+        p = self.by_name.get(name)
+        if not (p and p.ref):
+            if mark:
+                raise Wrong(line, "unknown name: `%s` is no slice that is lent" % name if name not in self.types else "`%s` is a value, not lent" % name)
+            return self.value(line, name, field)
+        if field is not None:
+            raise Wrong(line, "`%s` is lent: no field of it is passed" % name)
+        if mark and not (p.slice and p.mut):
+            raise Wrong(line, "only a `&mut` slice is passed as `%s%s`" % (mark, name))
+        if p.gone:
+            raise Wrong(line, "`%s` is given away on line %d" % (name, p.gone))
+        if p.copied:
+            raise Wrong(line, "`%s` is copied out on line %d: pass the copy" % (name, p.copied))
+        how = "share" if not p.mut or mark == "&" else "again" if mark else "give"
+        p.changed = p.changed or how == "again"
+        p.gone = line if how == "give" else False
+        return Arg(name, None, how)
+
+    def ends(self):
+        """each `&mut` is stored to or given away, and the function hands its result back"""
+        last = self.lines[-1][0] if self.lines else self.line
+        for p in self.params:
+            p.end = None if not p.mut else "stored" if p.name in self.stored else "given"
+            if p.end == "given" and not p.gone:
+                raise Wrong(self.line, "`%s` is `&mut`, but is never stored to or given away" % p.name)
+        if not [b for b in self.body if b[0] == "call"]:
+            raise Wrong(last, "a function that calls nothing has no law here")
+        if self.result == "()":
+            self.body.append(("return", None))
+        elif self.body[-1][0] != "return" and not (self.body[-1][0] == "call" and self.body[-1][1].let == "result"):
+            raise Wrong(last, "`%s` ends with what it hands back: `p.0` or `f(..)`" % self.name)
+
+
+class Whole(Shape):
+    """a call by value: locals, one call that is lent them, and a struct of what they hold then"""
+
+    def __init__(self, *heading):
+        super().__init__(*heading)
+        if self.result != "O" or self.requires:
+            raise Wrong(self.line, "a call by value ends in `-> O {`")
+        for name, text in self.heads:
+            if not re.fullmatch(r"\w+|\[\w+; n\]|&\[u8\]", text):
+                raise Wrong(self.line, "not a type of a parameter: `%s` (T, [T; n] or &[u8])" % text)
+            self.name_type(self.line, re.search(r"\w+", text).group(0), WHOLE_TYPES, ("u8",) if text.startswith("&") else ())
+        homes = self.homes()
+        self.params = [WholeParam(name, text, homes) for name, text in self.heads]
+        lists = [p for p in self.params if p.kind == "list"]
+        if len(lists) != 1 or len([p for p in self.params if p.kind == "octets"]) > 1:
+            raise Wrong(self.line, "a call by value has one array, and at most one `&[u8]`")
+        held = [p.name for p in self.params if p.kind in ("struct", "list")]
+        if list(homes) != held:
+            raise Wrong(self.line, "the locals hold %s, in this order" % ", ".join(held))
+        rest = self.lines[len(homes) :]
+        args = ", ".join("&mut " + homes[p.name] if p.name in homes else p.name for p in self.params)
+        self.expect(rest, 0, r"let a: K = \w+\(%s\);" % re.escape(args), "let a: K = call(%s);" % args)
+        made = "O { answer: a, %s }" % ", ".join("%s: %s" % h for h in homes.items())
+        self.expect(rest, 1, re.escape(made), made)
+        if len(rest) > 2:
+            raise Wrong(rest[2][0], "nothing comes after what is handed back")
+
+    def homes(self):
+        """the parameters that are held in locals, with the names of these"""
+        homes = {}
+        for line, text in self.lines:
+            g = re.fullmatch(r"let mut (\w+) = (\w+);", text)
+            if not g:
+                break
+            if g.group(2) not in dict(self.heads):
+                raise Wrong(line, "unknown name: `%s` is no parameter" % g.group(2))
+            if dict(self.heads)[g.group(2)].startswith("&"):
+                raise Wrong(line, "`%s` is lent: it is passed on as it is" % g.group(2))
+            self.name_value(line, g.group(1))
+            homes[g.group(2)] = g.group(1)
+        return homes
+
+    def expect(self, rest, i, form, words):
+        line, text = rest[i] if i < len(rest) else (self.lines[-1][0] if self.lines else self.line, "")
+        if not re.fullmatch(form, text):
+            raise Wrong(line, "unknown form: here stands `%s`" % words)
+
+
+def read(text):
+    """the shapes, in their order"""
+    shapes, crate, head, lines, line_of = [], None, None, [], {name: 0 for name in LOOPS}
+    for line, t in enumerate(text.split("\n"), 1):
+        t = t.rstrip()
+        if head and t == "}":
+            shape = (Whole if head[1].startswith("fn Whole") else Straight)(crate, head[0], head[1], lines)
+            if shape.name in line_of:
+                raise Wrong(head[0], "the name `%s` is taken: it %s" % (shape.name, "stands on line %d" % line_of[shape.name] if line_of[shape.name] else "is a loop's"))
+            line_of[shape.name] = head[0]
+            shapes.append(shape)
+            head, lines = None, []
+        elif head:
+            if not t.startswith("    "):
+                raise Wrong(line, "unknown form: `%s` (a statement stands in by four spaces, and `}` ends the function)" % t)
+            lines.append((line, t.strip()))
+        elif t.startswith("===="):
+            g = re.fullmatch(r"==== (\w+): .+", t)
+            if not g or g.group(1) not in CRATES:
+                raise Wrong(line, "unknown section: `==== CRATE: what`, and CRATE is %s" % " or ".join(CRATES))
+            crate = g.group(1)
+        elif t.startswith("fn "):
+            if not crate:
+                raise Wrong(line, "a function stands in a section, `==== CRATE: what`")
+            head = (line, t)
+        elif t and crate:
+            raise Wrong(line, "unknown form: `%s`" % t)
+    if head:
+        raise Wrong(head[0], "the function is not ended by `}`")
+    return shapes
