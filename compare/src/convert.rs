@@ -24,7 +24,8 @@ pub fn settings(from: &hello::Settings) -> reference::Settings {
 fn link_kind(from: hello::LinkSetting) -> reference::LinkKind {
     match from.broadcast {
         0 => reference::LinkKind::PointToPoint,
-        _ => reference::LinkKind::Broadcast(address(from.neighbor)),
+        1 => reference::LinkKind::Broadcast(address(from.neighbor)),
+        _ => reference::LinkKind::Neither,
     }
 }
 

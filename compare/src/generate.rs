@@ -259,7 +259,7 @@ fn any_entry(random: &mut Random) -> Entry {
 /// Breaks one rule of the settings, or goes to its very edge.
 pub fn spoil_settings(random: &mut Random, settings: &mut Settings) {
     let nhosts = settings.layout.nhosts;
-    match random.below(14) {
+    match random.below(15) {
         0 => settings.address.first = random.pick(&[0, 224, 255]),
         1 => settings.address = with_host_octet(settings.address, random.octet()),
         2 => settings.layout.address_offset = random.octet(),
@@ -273,7 +273,8 @@ pub fn spoil_settings(random: &mut Random, settings: &mut Settings) {
         8 => settings.date = any_date(random),
         9 | 10 => settings.link_count = random.pick(&[0, 8, 9, 10, usize::MAX]),
         11 => settings.net.count = random.pick(&[32, 33, 34, usize::MAX]),
-        12 => {
+        12 => settings.links[random.below(8)].broadcast = random.pick(&[2, 128, 255]),
+        13 => {
             settings.net.rows[random.below(32)].id =
                 random.pick(&[nhosts.min(255) as u8, (nhosts - 1) as u8, 255]);
         }

@@ -13,6 +13,8 @@ pub enum LinkKind {
     PointToPoint,
     /// With its NEIGHBOR-ADDRESS.
     Broadcast(Address),
+    /// A switch that is at neither; where a link of the host has it, the settings are refused.
+    Neither,
 }
 
 #[derive(Clone, Copy, Debug, Default, PartialEq, Eq)]
@@ -28,7 +30,7 @@ pub type Links = [Link; LINKS];
 impl Link {
     pub fn fresh(kind: LinkKind) -> Link {
         let neighbor = match kind {
-            LinkKind::PointToPoint => Address::ZERO,
+            LinkKind::PointToPoint | LinkKind::Neither => Address::ZERO,
             LinkKind::Broadcast(neighbor) => neighbor,
         };
         Link {

@@ -63,6 +63,7 @@ impl Settings {
             && (0..DAY_MS).contains(&self.time)
             && self.date.is_real()
             && (1..=LINKS).contains(&self.link_count)
+            && !self.links[..self.usable_links()].contains(&LinkKind::Neither)
             && self.net_count <= NET_ROWS
             && self.net_table().iter().all(|row| id_is_sound(row.host))
             && route::own_id(self).is_some()

@@ -56,7 +56,8 @@ fn numbers_far_out_of_range_are_answered() {
 fn settings_far_out_of_range_are_answered() {
     let mut room = room(1);
     let mut host = room.host(0);
-    let mut broken = [settings(); 4];
+    let mut broken = [settings(); 5];
+    broken[4].links[0].broadcast = 2;
     broken[0].layout.nhosts = usize::MAX;
     broken[1].link_count = usize::MAX;
     broken[2].net.count = usize::MAX;
