@@ -1,5 +1,5 @@
 -- A month has 1 to 31 days: the table's numbers and 29 lie there.
-use mathlib.Core.Path.{_≡_, refl}
+use mathlib.Core.Path.{_≡_, refl, ap, _∙_}
 use mathlib.Core.Bool.{Bool, true, false, cond, _&&_}
 use mathlib.Core.List.{List, [], _∷_}
 use Prim.Native.Nat.{ℕ, zero, suc, _%_, _≤_, _<_}
@@ -41,3 +41,6 @@ month-length y m h k = go (eqb m 2 && eqb (y % 4) 0)
 pub december : (y : ℕ) → lastDay y 12 ≡ 31
 unfolding lastDay
 december y = refl
+
+pub last-of-december : (y : ℕ) {m d : ℕ} → m ≡ 12 → d ≡ lastDay y m → d ≡ 31
+last-of-december y k l = l ∙ ap (lastDay y) k ∙ december y

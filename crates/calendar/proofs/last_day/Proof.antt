@@ -1,3 +1,4 @@
+-- Each branch is a case of the definition.
 use borrow.Author.Needs.{needs}
 use borrow.Author.Tests.{eq-eqb, ne-eqb}
 use Rattle.calendar.specs.Date.{lastDay}
