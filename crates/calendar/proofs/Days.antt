@@ -33,7 +33,7 @@ fields : (f y m d : ℕ) → f ≤ 1 → y ≤ 31 → m ≤ 12 → d ≤ 31 → 
 fields f y m d hf hy hm hd = omega arith
 
 pub day-fits : {f y m d : ℕ} → Day f y m d → d ≤ 31
-day-fits {y = y} {m = m} r = omega (arith, month-length y m (r .from-january) (r .to-december))
+day-fits {y = y} {m = m} r = omega (arith, month-length y m)
 
 pub day-fields : {f y m d : ℕ} → Day f y m d → Fields f y m d (dateOf f y m d)
 day-fields {f} {y} {m} {d} r = fields f y m d (r .flagged) (r .in-word) (r .to-december) (day-fits r)

@@ -69,18 +69,18 @@ after {f} {y} {m} {d} r = by-day (ltb d (lastDay y m)) refl
   where
     by-year : d ≡ 31 → m ≡ 12 → (b : Bool) → ltb y 31 ≡ b → After f y m d
     by-year h k true e =
-        let l = month-length (y + 1) 1 (omega arith) (omega arith) in
+        let l = month-length (y + 1) 1 in
         let i : y < 31 = ltb-true y 31 e in
         record { y = y + 1; m = 1; d = 1; follows = new-year refl refl refl h k i; its = omega arith }
     by-year h k false e =
-        let l = month-length 0 1 (omega arith) (omega arith) in
+        let l = month-length 0 1 in
         let i : y ≡ 31 = omega (arith, ltb-false y 31 e) in
         record { y = 0; m = 1; d = 1; follows = from-the-start refl refl refl h k i; its = omega arith }
 
     by-month : d ≡ lastDay y m → (b : Bool) → ltb m 12 ≡ b → After f y m d
     by-month h true e =
         let k : m < 12 = ltb-true m 12 e in
-        let l = month-length y (m + 1) (omega arith) (omega arith) in
+        let l = month-length y (m + 1) in
         record { y = y; m = m + 1; d = 1; follows = new-month refl refl refl h k; its = omega arith }
     by-month h false e =
         let k : m ≡ 12 = omega (arith, ltb-false m 12 e) in
@@ -108,7 +108,7 @@ before {f} {y′} {m′} {d′} r = by-day (ltb 1 d′) refl
     by-month : d′ ≡ 1 → (b : Bool) → ltb 1 m′ ≡ b → Before f y′ m′ d′
     by-month h true e =
         let k : 1 < m′ = ltb-true 1 m′ e in
-        let l = month-length y′ (m′ - 1) (omega arith) (omega arith) in
+        let l = month-length y′ (m′ - 1) in
         record {
           y = y′;
           m = m′ - 1;

@@ -30,7 +30,7 @@ of-requires : tie.Need-of-requires
 of-requires c κs =
     let s = c .before in
     let r = real-says (s .before .before .before .before .before .args .self) (s .before .before .before .before .before .pre) .its in
-    let l = month-length (s .before .before .before .year .result) (s .before .before .month .result) (omega arith) (omega arith) in
+    let l = month-length (s .before .before .before .year .result) (s .before .before .month .result) in
     omega arith
 
 returns : tie.Need-returns

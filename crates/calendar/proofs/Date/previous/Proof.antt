@@ -51,7 +51,7 @@ of-requires-2 : tie.Need-of-requires-2
 of-requires-2 c κs =
     let s = c .before .before .before .before .before .before .before in
     let r = real-says (s .args .self) (s .pre) .its in
-    let l = month-length (c .before .before .before .before .before .year .result) (c .before .before .before .before .month .result - 1) (omega arith) (omega arith) in
+    let l = month-length (c .before .before .before .before .before .year .result) (c .before .before .before .before .month .result - 1) in
     omega arith
 
 returns-2 : tie.Need-returns-2
@@ -60,7 +60,7 @@ returns-2 c =
     let t = s .before .before .before .before in
     let v = read (t .args .self) (t .pre) (s .before .before .before .flag .ensures) (s .before .before .year .ensures) (s .before .month .ensures) (s .day .ensures) in
     let r = day-of v (t .pre) in
-    let l = month-length (s .before .before .year .result) (s .before .month .result - 1) (omega arith) (omega arith) in
+    let l = month-length (s .before .before .year .result) (s .before .month .result - 1) in
     c .of2 .ensures ∙ sym (against (omega arith) (omega arith) (new-month refl (omega arith) (omega arith) (c .before .last-day .ensures) (omega arith)) v)
 
 year-requires-2 : tie.Need-year-requires-2
@@ -77,7 +77,7 @@ last-day-requires-2 c κs = search needs
 
 of-requires-3 : tie.Need-of-requires-3
 of-requires-3 c κs =
-    let l = month-length (c .before .before .before .before .before .before .before .year .result - 1) 12 (omega arith) (omega arith) in
+    let l = month-length (c .before .before .before .before .before .before .before .year .result - 1) 12 in
     omega arith
 
 returns-3 : tie.Need-returns-3
