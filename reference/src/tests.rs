@@ -259,6 +259,28 @@ fn dates_step_through_all_days_and_back() {
 }
 
 #[test]
+fn months_have_their_days() {
+    let lengths = [31, 28, 31, 30, 31, 30, 31, 31, 30, 31, 30, 31];
+    for year in 0..32 {
+        for month in 0..16 {
+            let leap_day = u16::from(month == 2 && year % 4 == 0);
+            let days = match month {
+                1..=12 => lengths[usize::from(month) - 1] + leap_day,
+                _ => 0,
+            };
+            for day in 0..32 {
+                let date = Date(year | day << 5 | month << 10);
+                assert_eq!(date.is_real(), 1 <= day && day <= days, "{date:?}");
+                if date.is_real() {
+                    let next = date.next().0 >> 5 & 31;
+                    assert_eq!(next, if day == days { 1 } else { day + 1 });
+                }
+            }
+        }
+    }
+}
+
+#[test]
 fn shorter_route_by_a_hundred_is_taken() {
     let mut at_500 = entry(500, HOLD_DOWN, 2);
     assert!(at_500.update(&report(400, 1)));
