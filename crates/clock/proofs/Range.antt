@@ -9,7 +9,7 @@ use lib.Signed.{ltZ}
 use Rattle.quantity.specs.declared.Units.{Units}
 use Rattle.quantity.specs.declared.Millis.{Millis}
 use Rattle.quantity.specs.declared.Seconds.{Seconds}
-use Rattle.quantity.specs.Quantity.{millis, unitsPerMilli, lessMillis}
+use Rattle.quantity.specs.Quantity.{millis, unitsPerMilli, toUnits, lessMillis}
 use Rattle.quantity.proofs.Ints.{up, dn, one, sum, diff, times, floor, lt-yes, lt-no}
 use Rattle.laws.proofs.Tests.{both, is-not, either}
 use Rattle.calendar.specs.declared.Date.{Date}
@@ -80,8 +80,8 @@ module _ (h : Seconds) (small : h .0 ≤ 255) where
         let f = floor d 128 (lit< tt) in
         let s = diff d (share c .0) in
         let o = one d in
-        let low : dn (d -ℤ share c .0) ≤ 33554432 = omega (arith, r) in
-        let high : up (d -ℤ share c .0) ≤ 33488896 = omega (arith, r) in
+        let low : dn (d -ℤ share c .0) ≤ dn (toUnits slewLeast .0) = omega (arith, r) in
+        let high : up (d -ℤ share c .0) ≤ up (toUnits slewMost .0) = omega (arith, r) in
         midnight-in-range _ (record { delta-low = low; delta-high = high; hold-high = r .hold-high; dated = r .dated })
 
     pub set-in-range : (m : Millis) → clockInRange (setBy h m c) ≡ true
