@@ -155,7 +155,7 @@ typedef struct hello_settings {
  */
 typedef struct hello_clock {
     int64_t clock; /* CLOCK, 0 to 86,400,000 ms, in units of 1/65,536 ms */
-    int64_t delta; /* DELTA, -512 to +511 ms, in units of 1/65,536 ms */
+    int64_t delta; /* DELTA, -128 to +127 ms, in units of 1/65,536 ms */
     uint16_t hold; /* HOLD, 0 to 255 s */
     uint16_t date; /* DATE, a real date */
 } hello_clock;
@@ -222,7 +222,7 @@ uint8_t hello_adjust(const hello_settings *settings, size_t number, hello_clock 
                      hello_links *links, hello_entry *run, size_t run_length);
 
 /*
- * Corrects the clock by `ms`. From -512 to +511 it becomes DELTA, which adjust spends. Otherwise
+ * Corrects the clock by `ms`. From -128 to +127 it becomes DELTA, which adjust spends. Otherwise
  * it is added to CLOCK at once, DELTA becomes 0 and HOLD becomes HOLD-INTERVAL. Answers 0, 1, 12.
  */
 uint8_t hello_set(const hello_settings *settings, size_t number, hello_clock *clock,

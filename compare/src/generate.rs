@@ -7,8 +7,8 @@ use hello::{HOSTS, PLACES, UNITS_PER_MS};
 
 pub const DAY_MS: i64 = 86_400_000;
 pub const DAY_UNITS: i64 = DAY_MS * UNITS_PER_MS;
-const DELTA_LEAST: i64 = -512 * UNITS_PER_MS;
-const DELTA_MOST: i64 = 511 * UNITS_PER_MS;
+const DELTA_LEAST: i64 = -128 * UNITS_PER_MS;
+const DELTA_MOST: i64 = 127 * UNITS_PER_MS;
 
 /// A room of a few hosts, now and then of sixteen, most of them on one net. The
 /// run ends with the last host's places or goes on a little, and all that is

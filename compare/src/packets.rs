@@ -78,7 +78,7 @@ fn packet_date(random: &mut Random) -> u16 {
 /// The packet's time, most often a little off the receiver's.
 fn packet_time(random: &mut Random, reading: i64) -> u32 {
     let any_word = i64::from(random.next() as i16);
-    let near_slew = random.pick(&[-564, -514, -513, -512, 461, 510, 511, 512]);
+    let near_slew = random.pick(&[-180, -130, -129, -128, 77, 126, 127, 128]);
     let off = random.pick(&[0, 0, 450, near_slew, any_word]);
     let any = random.next() as u32;
     random.pick(&[

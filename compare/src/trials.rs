@@ -139,7 +139,7 @@ fn call(random: &mut Random, room: &Room, trial: &Trial, messages: &Messages) ->
 fn ms(random: &mut Random) -> i32 {
     let day = generate::DAY_MS as i32;
     let any_word = i32::from(random.next() as i16);
-    let near = random.pick(&[-513, -512, -1, 0, 1, 511, 512]);
+    let near = random.pick(&[-129, -128, -1, 0, 1, 127, 128]);
     let far = random.pick(&[day, -day, day + 1, -day - 1, i32::MAX, i32::MIN]);
     let any = random.next() as i32;
     random.pick(&[near, near, any_word, far, any])

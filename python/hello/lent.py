@@ -110,7 +110,7 @@ class Clock:
     """A host's clock.
 
     clock  CLOCK, 0 to 86,400,000 ms, in units of 1/65,536 ms
-    delta  DELTA, -512 to +511 ms, in units of 1/65,536 ms
+    delta  DELTA, -128 to +127 ms, in units of 1/65,536 ms
     hold   HOLD, 0 to 255 s
     date   the DATE word: bits 0-4 year less 1972, 5-9 day, 10-13 month, 14 zero, 15 one while a
            master's date is awaited

@@ -100,7 +100,7 @@ def adjust(settings, number, clock, links, run):
 
 
 def set(settings, number, clock, links, run, ms):
-    """Corrects the clock by `ms`, signed 32 bits: -512 to +511 becomes DELTA, else at once."""
+    """Corrects the clock by `ms`, signed 32 bits: -128 to +127 becomes DELTA, else at once."""
     return _SET(*_lent(settings, number, clock, links, run), fitting_number(c_int32, "ms", ms))
 
 

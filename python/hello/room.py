@@ -50,7 +50,7 @@ class Host:
         return Answer(library.adjust(*self._lent()))
 
     def set(self, ms):
-        """Corrects the clock by `ms`, signed 32 bits: -512 to +511 becomes DELTA, else at once."""
+        """Corrects the clock by `ms`, signed 32 bits: -128 to +127 becomes DELTA, else at once."""
         return Answer(library.set(*self._lent(), ms))
 
     def read(self):

@@ -7,8 +7,8 @@ use crate::date::Date;
 /// A day in milliseconds.
 pub const DAY_MS: i64 = 86_400_000;
 /// The milliseconds, both included, by which a set slews the clock; any other
-/// count steps it. They are the powers -2^(16 - 7) and 2^(16 - 7) - 1.
-pub const SLEW_MS: (i32, i32) = (-512, 511);
+/// count steps it. So one adjust moves the clock back by a millisecond at most.
+pub const SLEW_MS: (i32, i32) = (-128, 127);
 /// An adjust takes DELTA / 2^7.
 const ADJUST_FRACTION: u32 = 7;
 const UNITS_PER_MS: i64 = 65_536;

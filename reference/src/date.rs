@@ -70,12 +70,13 @@ impl Date {
     }
 }
 
-/// The days of a month. Every fourth year from 1972 to 2003 is a leap year.
+/// The days of a month: 31, 30, 31 and so on, the odd months to July and the
+/// even ones from August having 31. Every fourth year from 1972 to 2003 is a
+/// leap year.
 fn days(year: u16, month: u16) -> u16 {
     match month {
         2 if year.is_multiple_of(4) => 29,
         2 => 28,
-        4 | 6 | 9 | 11 => 30,
-        _ => 31,
+        _ => 30 + (month + month / 8) % 2,
     }
 }

@@ -260,6 +260,28 @@ fn dates_step_through_all_days_and_back() {
 }
 
 #[test]
+fn months_have_their_days() {
+    let lengths = [31, 28, 31, 30, 31, 30, 31, 31, 30, 31, 30, 31];
+    for year in 0..32 {
+        for month in 0..16 {
+            let leap_day = u16::from(month == 2 && year % 4 == 0);
+            let days = match month {
+                1..=12 => lengths[usize::from(month) - 1] + leap_day,
+                _ => 0,
+            };
+            for day in 0..32 {
+                let date = Date(year | day << 5 | month << 10);
+                assert_eq!(date.is_real(), 1 <= day && day <= days, "{date:?}");
+                if date.is_real() {
+                    let next = date.next().0 >> 5 & 31;
+                    assert_eq!(next, if day == days { 1 } else { day + 1 });
+                }
+            }
+        }
+    }
+}
+
+#[test]
 fn shorter_route_by_a_hundred_is_taken() {
     let mut at_500 = entry(500, HOLD_DOWN, 2);
     assert!(at_500.update(&report(400, 1)));
@@ -434,17 +456,46 @@ fn adjust_below_zero_steps_the_date_back() {
 #[test]
 fn set_slews_or_steps() {
     let mut host = Host::fresh(program::SETTINGS);
-    for ms in [-512, 511] {
+    for ms in [-128, 127] {
         host.set(ms).unwrap();
         assert_eq!(host.clock.delta, Units::from_ms(ms.into()));
         assert_eq!((host.clock.clock, host.clock.hold), (Units::ZERO, 0));
     }
-    host.set(512).unwrap();
-    assert_eq!(host.clock.clock, Units::from_ms(512));
+    host.set(128).unwrap();
+    assert_eq!(host.clock.clock, Units::from_ms(128));
     assert_eq!((host.clock.delta, host.clock.hold), (Units::ZERO, 1));
-    host.set(-513).unwrap();
+    host.set(-129).unwrap();
     assert_eq!(host.clock.clock, Units::from_ms(DAY_MS - 1));
     assert_eq!(host.clock.date, Date::LAST.awaited());
+}
+
+#[test]
+fn an_adjust_goes_back_by_one_millisecond_at_most() {
+    let mut host = Host::fresh(program::SETTINGS);
+    host.set_reading(1_000);
+    host.set(-128).unwrap();
+    host.adjust().unwrap();
+    assert_eq!(host.clock.clock, Units::from_ms(999));
+    assert_eq!(host.clock.delta, Units::from_ms(-127));
+    host.set(-500).unwrap();
+    assert_eq!(
+        (host.clock.clock, host.clock.hold),
+        (Units::from_ms(499), 1)
+    );
+    assert_eq!(host.clock.delta, Units::ZERO);
+}
+
+#[test]
+fn the_clock_hosts_offset_slews_within_the_same_limit() {
+    for (time, clock, delta) in [(10_127, 10_000, 127), (10_128, 10_128, 0)] {
+        let mut host = host_with_router();
+        host.settings.clock_host = 1;
+        host.set_reading(10_000);
+        host.arrival(1, &router_message(heading(time, 10_000), &[]))
+            .unwrap();
+        assert_eq!(host.clock.clock, Units::from_ms(clock));
+        assert_eq!(host.clock.delta, Units::from_ms(delta));
+    }
 }
 
 #[test]
@@ -725,10 +776,15 @@ fn lent_values_out_of_range() {
         12
     );
     assert_eq!(
-        refused(&|host| host.clock.delta = Units(511 * 65_536 + 1)),
+        refused(&|host| host.clock.delta = Units(127 * 65_536 + 1)),
         12
     );
-    assert_eq!(refused(&|host| host.clock.delta = Units(-512 * 65_536)), 0);
+    assert_eq!(
+        refused(&|host| host.clock.delta = Units(-128 * 65_536 - 1)),
+        12
+    );
+    assert_eq!(refused(&|host| host.clock.delta = Units(-128 * 65_536)), 0);
+    assert_eq!(refused(&|host| host.clock.delta = Units(127 * 65_536)), 0);
     assert_eq!(refused(&|host| host.clock.hold = 256), 12);
     assert_eq!(refused(&|host| host.clock.date = Date(0)), 12);
     assert_eq!(refused(&|host| host.links[0].keep_alive = 5), 12);

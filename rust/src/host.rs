@@ -88,7 +88,7 @@ impl Host<'_> {
         ))
     }
 
-    /// Corrects the clock by `ms`: from -512 to +511 it becomes DELTA, which `adjust` spends;
+    /// Corrects the clock by `ms`: from -128 to +127 it becomes DELTA, which `adjust` spends;
     /// otherwise the clock is moved at once and HOLD is loaded.
     pub fn set(&mut self, ms: i32) -> Answer {
         answer(crate::set(

@@ -65,7 +65,7 @@ pub fn adjust(
     unsafe { library::hello_adjust(settings, number, clock, links, run.as_mut_ptr(), run.len()) }
 }
 
-/// Corrects the clock by `ms`: from -512 to +511 it becomes DELTA, which `adjust` spends;
+/// Corrects the clock by `ms`: from -128 to +127 it becomes DELTA, which `adjust` spends;
 /// otherwise the clock is moved at once and HOLD is loaded.
 pub fn set(
     settings: &Settings,

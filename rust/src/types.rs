@@ -186,7 +186,7 @@ impl Settings {
 pub struct Clock {
     /// CLOCK in units of 1/65,536 ms, from 0 to 86,400,000 ms.
     pub clock: i64,
-    /// DELTA in units of 1/65,536 ms, from -512 to +511 ms.
+    /// DELTA in units of 1/65,536 ms, from -128 to +127 ms.
     pub delta: i64,
     /// HOLD in seconds, up to 255.
     pub hold: u16,

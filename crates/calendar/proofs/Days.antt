@@ -29,11 +29,11 @@ pub record Fields (f y m d : ℕ) (t : Date) : Type 0 where
   pub its-day : day t ≡ d
   pub its-spare : spare t ≡ 0
 
-pub fields : (f y m d : ℕ) → f ≤ 1 → y ≤ 31 → m ≤ 12 → d ≤ 31 → Fields f y m d (dateOf f y m d)
+fields : (f y m d : ℕ) → f ≤ 1 → y ≤ 31 → m ≤ 12 → d ≤ 31 → Fields f y m d (dateOf f y m d)
 fields f y m d hf hy hm hd = omega arith
 
 pub day-fits : {f y m d : ℕ} → Day f y m d → d ≤ 31
-day-fits {y = y} {m = m} r = omega (arith, month-length y m (r .from-january) (r .to-december))
+day-fits {y = y} {m = m} r = omega (arith, month-length y m)
 
 pub day-fields : {f y m d : ℕ} → Day f y m d → Fields f y m d (dateOf f y m d)
 day-fields {f} {y} {m} {d} r = fields f y m d (r .flagged) (r .in-word) (r .to-december) (day-fits r)
@@ -69,7 +69,15 @@ real-says t e =
       };
     }
 
-pub is-real : (t : Date) → Real t → real t ≡ true
+-- and of the fields as they were read
+pub read : (t : Date) → real t ≡ true → {f y m d : ℕ} → f ≡ flag t → y ≡ year t → m ≡ month t → d ≡ day t → Fields f y m d t
+read t e hf hy hm hd =
+    record { its-flag = sym hf; its-year = sym hy; its-month = sym hm; its-day = sym hd; its-spare = real-says t e .spare-zero }
+
+pub day-of : {f y m d : ℕ} {t : Date} → Fields f y m d t → real t ≡ true → Day f y m d
+day-of {t = t} v e = rw (v .its-flag, v .its-year, v .its-month, v .its-day) at (real-says t e .its)
+
+is-real : (t : Date) → Real t → real t ≡ true
 unfolding real
 is-real t r =
     rw (

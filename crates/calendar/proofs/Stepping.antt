@@ -8,11 +8,11 @@ use lib.Dec.{ltb}
 use Rattle.calendar.specs.declared.Date.{Date}
 use Rattle.calendar.specs.Date.{year, month, day, flag, dateOf, lastDay, real, next, previous}
 use Rattle.calendar.specs.Steps.{Steps}
-use Rattle.calendar.proofs.Months.{month-length, december}
-use Rattle.calendar.proofs.Days.{Day, Fields, day-fields, word-of-fields, Real, real-says, day-real}
+use Rattle.calendar.proofs.Months.{month-length, december, last-of-december}
+use Rattle.calendar.proofs.Days.{Day, Fields, read, day-fields, word-of-fields, Real, real-says, day-real}
 
 -- the second day follows the first
-data Follows (y m d y′ m′ d′ : ℕ) : Type 0 where
+pub data Follows (y m d y′ m′ d′ : ℕ) : Type 0 where
   new-day : y′ ≡ y → m′ ≡ m → d′ ≡ d + 1 → d < lastDay y m → Follows y m d y′ m′ d′
   new-month : y′ ≡ y → m′ ≡ m + 1 → d′ ≡ 1 → d ≡ lastDay y m → m < 12 → Follows y m d y′ m′ d′
   new-year : y′ ≡ y + 1 → m′ ≡ 1 → d′ ≡ 1 → d ≡ 31 → m ≡ 12 → y < 31 → Follows y m d y′ m′ d′
@@ -24,7 +24,7 @@ word e = ap (λ (n : ℕ). record { 0 = n }) e
 -- ---- along it and against it
 
 module _ {f y m d y′ m′ d′ : ℕ} {t : Date} where
-  along : Follows y m d y′ m′ d′ → Fields f y m d t → next t ≡ dateOf f y′ m′ d′
+  pub along : Follows y m d y′ m′ d′ → Fields f y m d t → next t ≡ dateOf f y′ m′ d′
   unfolding next
   along (new-day ey em ed h) v =
       rw (v .its-flag, v .its-year, v .its-month, v .its-day, lt-ltb _ _ h) (word (omega arith))
@@ -36,7 +36,7 @@ module _ {f y m d y′ m′ d′ : ℕ} {t : Date} where
   along (from-the-start ey em ed l k h) v =
       rw (v .its-flag, v .its-year, v .its-month, v .its-day, l, k, december, h) (word (omega arith))
 
-  against : 1 ≤ d → 1 ≤ m → Follows y m d y′ m′ d′ → Fields f y′ m′ d′ t → previous t ≡ dateOf f y m d
+  pub against : 1 ≤ d → 1 ≤ m → Follows y m d y′ m′ d′ → Fields f y′ m′ d′ t → previous t ≡ dateOf f y m d
   unfolding previous
   against p q (new-day ey em ed h) v =
       rw (v .its-flag, v .its-year, v .its-month, v .its-day, ey, em, ed, lt-ltb 1 (d + 1) (omega arith)) (word (omega arith))
@@ -50,46 +50,46 @@ module _ {f y m d y′ m′ d′ : ℕ} {t : Date} where
 
 -- ---- each real day has one after it and one before
 
-record After (f y m d : ℕ) : Type 0 where
-  y′ : ℕ
-  m′ : ℕ
-  d′ : ℕ
-  follows : Follows y m d y′ m′ d′
-  its : Day f y′ m′ d′
-
-record Before (f y′ m′ d′ : ℕ) : Type 0 where
+-- a real day that R relates
+record Some (f : ℕ) (R : (y m d : ℕ) → Type 0) : Type 0 where
   y : ℕ
   m : ℕ
   d : ℕ
-  follows : Follows y m d y′ m′ d′
+  follows : R y m d
   its : Day f y m d
+
+abbrev After : (f y m d : ℕ) → Type 0
+After f y m d = Some f (λ y′ m′ d′. Follows y m d y′ m′ d′)
+
+abbrev Before : (f y m d : ℕ) → Type 0
+Before f y′ m′ d′ = Some f (λ y m d. Follows y m d y′ m′ d′)
 
 after : {f y m d : ℕ} → Day f y m d → After f y m d
 after {f} {y} {m} {d} r = by-day (ltb d (lastDay y m)) refl
   where
     by-year : d ≡ 31 → m ≡ 12 → (b : Bool) → ltb y 31 ≡ b → After f y m d
     by-year h k true e =
-        let l = month-length (y + 1) 1 (omega arith) (omega arith) in
+        let l = month-length (y + 1) 1 in
         let i : y < 31 = ltb-true y 31 e in
-        record { y′ = y + 1; m′ = 1; d′ = 1; follows = new-year refl refl refl h k i; its = omega arith }
+        record { y = y + 1; m = 1; d = 1; follows = new-year refl refl refl h k i; its = omega arith }
     by-year h k false e =
-        let l = month-length 0 1 (omega arith) (omega arith) in
+        let l = month-length 0 1 in
         let i : y ≡ 31 = omega (arith, ltb-false y 31 e) in
-        record { y′ = 0; m′ = 1; d′ = 1; follows = from-the-start refl refl refl h k i; its = omega arith }
+        record { y = 0; m = 1; d = 1; follows = from-the-start refl refl refl h k i; its = omega arith }
 
     by-month : d ≡ lastDay y m → (b : Bool) → ltb m 12 ≡ b → After f y m d
     by-month h true e =
         let k : m < 12 = ltb-true m 12 e in
-        let l = month-length y (m + 1) (omega arith) (omega arith) in
-        record { y′ = y; m′ = m + 1; d′ = 1; follows = new-month refl refl refl h k; its = omega arith }
+        let l = month-length y (m + 1) in
+        record { y = y; m = m + 1; d = 1; follows = new-month refl refl refl h k; its = omega arith }
     by-month h false e =
         let k : m ≡ 12 = omega (arith, ltb-false m 12 e) in
-        by-year (h ∙ ap (lastDay y) k ∙ december y) k (ltb y 31) refl
+        by-year (last-of-december y k h) k (ltb y 31) refl
 
     by-day : (b : Bool) → ltb d (lastDay y m) ≡ b → After f y m d
     by-day true e =
         let h : d < lastDay y m = ltb-true _ _ e in
-        record { y′ = y; m′ = m; d′ = d + 1; follows = new-day refl refl refl h; its = omega arith }
+        record { y = y; m = m; d = d + 1; follows = new-day refl refl refl h; its = omega arith }
     by-day false e = by-month (omega (arith, ltb-false d (lastDay y m) e)) (ltb m 12) refl
 
 before : {f y′ m′ d′ : ℕ} → Day f y′ m′ d′ → Before f y′ m′ d′
@@ -108,7 +108,7 @@ before {f} {y′} {m′} {d′} r = by-day (ltb 1 d′) refl
     by-month : d′ ≡ 1 → (b : Bool) → ltb 1 m′ ≡ b → Before f y′ m′ d′
     by-month h true e =
         let k : 1 < m′ = ltb-true 1 m′ e in
-        let l = month-length y′ (m′ - 1) (omega arith) (omega arith) in
+        let l = month-length y′ (m′ - 1) in
         record {
           y = y′;
           m = m′ - 1;
@@ -131,7 +131,7 @@ module _ (t : Date) (e : real t ≡ true) where
   r = real-says t e
 
   own : Fields (flag t) (year t) (month t) (day t) t
-  own = record { its-flag = refl; its-year = refl; its-month = refl; its-day = refl; its-spare = r .spare-zero }
+  own = read t e refl refl refl refl
 
   pub real-next : real (next t) ≡ true
   real-next = let a = after (r .its) in ap real (along (a .follows) own) ∙ day-real (a .its)

@@ -1,9 +1,7 @@
 -- "DATE (school, the RT-11 word): bits 0-4 year less 1972, 5-9 day, 10-13 month, 14 zero, 15 one while a master's date is awaited."
 use mathlib.Core.Bool.{Bool, cond, _&&_}
-use mathlib.Core.List.{List, [], _∷_}
 use Prim.Native.Nat.{ℕ, _+_, _*_, _-_, _/_, _%_}
 use lib.Dec.{ltb, leb, eqb}
-use lib.ListN.{getD}
 use Rattle.calendar.specs.declared.Date.{Date}
 use Rattle.calendar.specs.declared.MadeDate.{MadeDate}
 use Rattle.calendar.specs.declared.MadeDate.the-variants.{Made, NoDate}
@@ -40,12 +38,10 @@ await d = record { 0 = d .0 % 32768 + 32768 }
 
 -- ---- real dates
 
-abbrev pub monthDays : List ℕ
-monthDays = 0 ∷ 31 ∷ 28 ∷ 31 ∷ 30 ∷ 31 ∷ 30 ∷ 31 ∷ 31 ∷ 30 ∷ 31 ∷ 30 ∷ 31 ∷ []
-
--- a month's last day; 1972 and every fourth year after it have a 29 February
+-- "a month's last day by arithmetic": 30 + (m + m/8) mod 2. The months have 31 and 30 days by turns, and with August, where m/8 becomes 1, the turns start anew.
+-- February is apart: 28, and 29 in 1972 and every fourth year after it.
 unfoldable pub lastDay : (year month : ℕ) → ℕ
-lastDay y m = cond (eqb m 2 && eqb (y % 4) 0) 29 (getD monthDays m 0)
+lastDay y m = cond (eqb m 2) (cond (eqb (y % 4) 0) 29 28) (30 + (m + m / 8) % 2)
 
 -- "Only real calendar dates are set." Bit 15 is not looked at.
 unfoldable pub real : Date → Bool

@@ -1,2 +1,3 @@
 pub mod Date
+pub mod Months
 pub mod Steps

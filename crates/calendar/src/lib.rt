@@ -3,6 +3,7 @@ ghost use mathlib.Core.Path.{_≡_};
 ghost use mathlib.Core.Bool.{true};
 ghost use Prim.Native.Nat.{_≤_};
 ghost use Rattle.calendar.specs.Date.{year, month, day, spare, flag, dateOf, awaited, await, lastDay, real, made, next, previous};
+ghost use Rattle.calendar.specs.Months.{MonthLengths};
 ghost use Rattle.calendar.specs.Steps.{Steps};
 
 // DATE: bits 0-4 the year less 1972, 5-9 the day, 10-13 the month, 14 zero, 15 one while a master's date is awaited.
@@ -20,10 +21,7 @@ const FIRST_YEAR: u16 = 1972;
 
 const LAST_YEAR: u16 = 2003;
 
-// The days of each month of a common year, by the month's number.
-const MONTH_DAYS: [u16; 13] = [0, 31, 28, 31, 30, 31, 30, 31, 31, 30, 31, 30, 31];
-
-// A month's last day, in a year given as years after 1972.
+// A month's last day, in a year given as years after 1972. But for February, 31 and 30 by turns, anew from August.
 pub fn last_day(year: u16, month: u16) -> u16
     requires { ⌜ month ≤ 12 ⌝ }
     ensures { λ r. ⌜ r ≡ lastDay year month ⌝ }
@@ -34,7 +32,7 @@ pub fn last_day(year: u16, month: u16) -> u16
         }
         return 28;
     }
-    MONTH_DAYS[month as usize]
+    30 + (month + month / 8) % 2
 }
 
 impl Date {
@@ -189,6 +187,11 @@ impl Date {
         Date::LAST.flagged(flag)
     }
 }
+
+// The rule of the months' last days gives the twelve numbers of the calendar, in every year.
+pub fn month_lengths()
+    ensures { λ _. ⌜ MonthLengths ⌝ }
+{}
 
 // A step back undoes a step on and the reverse, and the two ends join.
 pub fn steps()

@@ -48,8 +48,8 @@ tick-says t e = let b = between (units (pos 1)) (toUnits (millis (pos 1000))) t 
 
 -- DELTA, HOLD and DATE
 pub record Rest (c : Clock) : Type 0 where
-  pub delta-low : dn (c .delta .0) ≤ 33554432
-  pub delta-high : up (c .delta .0) ≤ 33488896
+  pub delta-low : dn (c .delta .0) ≤ dn (toUnits slewLeast .0)
+  pub delta-high : up (c .delta .0) ≤ up (toUnits slewMost .0)
   pub hold-high : c .hold .0 ≤ 255
   pub dated : real (c .date) ≡ true
 

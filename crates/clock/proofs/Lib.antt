@@ -3,4 +3,5 @@ pub mod Midnight
 pub mod Bounds
 pub mod Turns
 pub mod Range
+pub mod Slew
 pub mod Types

@@ -1,5 +1,5 @@
 -- A clock in range stays in range: the midnight rule brings CLOCK into its day, however far it is off, and keeps the rest.
-use mathlib.Core.Path.{_≡_, _∙_}
+use mathlib.Core.Path.{_≡_}
 use mathlib.Core.Bool.{true, false, not}
 use Prim.Native.Nat.{_≤_}
 use native.Mathlib.Omega.{arith}
@@ -9,27 +9,30 @@ use lib.Signed.{ltZ}
 use Rattle.quantity.specs.declared.Units.{Units}
 use Rattle.quantity.specs.declared.Millis.{Millis}
 use Rattle.quantity.specs.declared.Seconds.{Seconds}
-use Rattle.quantity.specs.Quantity.{millis, unitsPerMilli, lessMillis}
+use Rattle.quantity.specs.Quantity.{millis, unitsPerMilli, toUnits, lessMillis}
 use Rattle.quantity.proofs.Ints.{up, dn, one, sum, diff, times, floor, lt-yes, lt-no}
 use Rattle.laws.proofs.Tests.{both, is-not, either}
 use Rattle.calendar.specs.declared.Date.{Date}
-use Rattle.calendar.specs.Date.{real}
-use Rattle.calendar.proofs.Days.{real-await}
+use Rattle.calendar.specs.Date.{real, await}
+use Rattle.calendar.proofs.Stepping.{real-next, real-previous}
 use Rattle.clock.specs.declared.Clock.{Clock}
 use Rattle.clock.specs.Midnight.{dayMillis, day, daysAway, exceedsDay, dayOn, belowZero, dayBack, daysOn, daysBack, midnight}
 use Rattle.clock.specs.Clock.{freshClock, tick, adjust, share, slewLeast, slewMost, slews, setBy, holdSecond, clockInRange}
 use Rattle.clock.proofs.Midnight.{dayOn-nearer, dayBack-nearer}
 use Rattle.clock.proofs.Bounds.{Rest, Ranged, range-says, in-range}
-use Rattle.clock.proofs.Turns.{dated-on, dated-back}
+use Rattle.clock.proofs.Turns.{awaiting}
 use Rattle.clock.proofs.While as while
 
 -- ---- midnight
 
 module _ (h : Seconds) (small : h .0 ≤ 255) where
+  -- a turn keeps DELTA, and loads HOLD
+  turned : {c : Clock} → Rest c → (k : Units) (d : Date) → real d ≡ true → Rest (record { clock = k; delta = c .delta; hold = h; date = await d })
+  turned r k d e = record { delta-low = r .delta-low; delta-high = r .delta-high; hold-high = small; dated = awaiting d e }
+
   rest-on : (c : Clock) → exceedsDay c ≡ true → Rest c → Rest (dayOn h c)
   unfolding dayOn
-  rest-on c e r =
-      record { delta-low = r .delta-low; delta-high = r .delta-high; hold-high = small; dated = dated-on (c .date) (r .dated) }
+  rest-on c e r = turned r _ _ (real-next (c .date) (r .dated))
 
   -- going back, CLOCK stays at or below a day
   record Behind (c : Clock) : Type 0 where
@@ -39,13 +42,9 @@ module _ (h : Seconds) (small : h .0 ≤ 255) where
   behind-back : (c : Clock) → belowZero c ≡ true → Behind c → Behind (dayBack h c)
   unfolding dayBack
   behind-back c e b =
-      let r = b .rest in
       let l = lt-yes (c .clock .0) (pos 0) e in
       let s = sum (c .clock .0) (day .0) in
-      record {
-        rest = record { delta-low = r .delta-low; delta-high = r .delta-high; hold-high = small; dated = dated-back (c .date) (r .dated) };
-        clock-high = omega (arith, one (c .clock .0));
-      }
+      record { rest = turned (b .rest) _ _ (real-previous (c .date) (b .rest .dated)); clock-high = omega (arith, one (c .clock .0)) }
 
   midnight-ranged : (c : Clock) → Rest c → Ranged (midnight h c)
   unfolding midnight daysOn daysBack
@@ -81,8 +80,8 @@ module _ (h : Seconds) (small : h .0 ≤ 255) where
         let f = floor d 128 (lit< tt) in
         let s = diff d (share c .0) in
         let o = one d in
-        let low : dn (d -ℤ share c .0) ≤ 33554432 = omega (arith, r) in
-        let high : up (d -ℤ share c .0) ≤ 33488896 = omega (arith, r) in
+        let low : dn (d -ℤ share c .0) ≤ dn (toUnits slewLeast .0) = omega (arith, r) in
+        let high : up (d -ℤ share c .0) ≤ up (toUnits slewMost .0) = omega (arith, r) in
         midnight-in-range _ (record { delta-low = low; delta-high = high; hold-high = r .hold-high; dated = r .dated })
 
     pub set-in-range : (m : Millis) → clockInRange (setBy h m c) ≡ true
@@ -121,5 +120,5 @@ fresh-in-range time date low high dated =
     (record {
       clock-low = omega arith;
       clock-high = omega arith;
-      rest = record { delta-low = omega arith; delta-high = omega arith; hold-high = omega arith; dated = real-await date ∙ dated };
+      rest = record { delta-low = omega arith; delta-high = omega arith; hold-high = omega arith; dated = awaiting date dated };
     })

@@ -56,7 +56,7 @@ module _ {A : Type 0} (size : A → ℕ) (test : A → Bool) (turn : A → A) (f
           turned n a e ∙ again (omega (arith, falls a e)) (omega (arith, falls a e)) ∙ sym (turned m a e)
       go again false e = stays test turn (suc n) a e ∙ sym (stays test turn (suc m) a e)
 
-  pub again : (a : A) → test a ≡ true → while size test turn a ≡ while size test turn (turn a)
+  again : (a : A) → test a ≡ true → while size test turn a ≡ while size test turn (turn a)
   unfolding while
   again a e = go (size a) (falls a e) (le-refl _)
     where
@@ -88,3 +88,30 @@ module _ {A : Type 0} (size : A → ℕ) (test : A → Bool) (turn : A → A) (f
   pub ends : (a : A) → test (while size test turn a) ≡ false
   unfolding while
   ends a = ends-by (size a) a (le-refl _)
+
+-- ---- a loop of code that is such a while, and keeps P
+
+pub record Loop (A : Type 0) : Type 1 where
+  pub size : A → ℕ
+  pub test : A → Bool
+  pub turn : A → A
+  pub falls : (a : A) → test a ≡ true → size (turn a) < size a
+  pub P : A → Type 0
+  pub kept : (a : A) → test a ≡ true → P a → P (turn a)
+
+-- a₀ before it and a now: P holds, and what is left to do is the same
+abbrev pub Going : {A : Type 0} → Loop A → (a₀ a : A) → Type 0
+Going l a₀ a = l .P a × (while (l .size) (l .test) (l .turn) a ≡ while (l .size) (l .test) (l .turn) a₀)
+
+-- the code's test answered b, and its body made r
+module _ {A : Type 0} (l : Loop A) (a₀ a : A) {b : Bool} (answered : b ≡ l .test a) where
+  pub turn-falls : {r : A} → b ≡ true → r ≡ l .turn a → l .size r < l .size a
+  turn-falls e t = rw t (l .falls a (sym answered ∙ e))
+
+  pub turn-keeps : {r : A} → b ≡ true → r ≡ l .turn a → Going l a₀ a → Going l a₀ r
+  turn-keeps e t g =
+      let h : l .test a ≡ true = sym answered ∙ e in
+      rw t (l .kept a h (g .0), sym (again (l .size) (l .test) (l .turn) (l .falls) a h) ∙ g .1)
+
+  pub loop-ends : b ≡ false → Going l a₀ a → a ≡ while (l .size) (l .test) (l .turn) a₀
+  loop-ends e g = sym (rests (l .size) (l .test) (l .turn) a (sym answered ∙ e)) ∙ g .1

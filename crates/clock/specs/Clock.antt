@@ -37,13 +37,13 @@ adjust h c =
     midnight h
     (record { clock = addUnits (c .clock) (share c); delta = subUnits (c .delta) (share c); hold = c .hold; date = c .date })
 
--- ---- set, by a count of ms: "from -512 to +511 it replaces DELTA. Otherwise it is added to CLOCK, DELTA becomes 0 and HOLD becomes HOLD-INTERVAL."
+-- ---- set, by a count of ms: "from -128 to +127 it replaces DELTA. Otherwise it is added to CLOCK, DELTA becomes 0 and HOLD becomes HOLD-INTERVAL."
 
 abbrev pub slewLeast : Millis
-slewLeast = millis (negsuc 511)
+slewLeast = millis (negsuc 127)
 
 abbrev pub slewMost : Millis
-slewMost = millis (pos 511)
+slewMost = millis (pos 127)
 
 abbrev pub slews : Millis → Bool
 slews m = not (lessMillis m slewLeast) && not (lessMillis slewMost m)
@@ -72,7 +72,7 @@ within least most u = not (lessUnits u least) && not (lessUnits most u)
 unfoldable pub tickInRange : Units → Bool
 tickInRange t = within (units (pos 1)) (toUnits (millis (pos 1000))) t
 
--- ---- ranges of what is lent: "CLOCK 0 to 86,400,000 ms, DELTA -512 to +511 ms, HOLD up to 255, DATE real"
+-- ---- ranges of what is lent: "CLOCK 0 to 86,400,000 ms, DELTA -128 to +127 ms, HOLD up to 255, DATE real"
 
 unfoldable pub clockInRange : Clock → Bool
 clockInRange c =

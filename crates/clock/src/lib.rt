@@ -36,6 +36,7 @@ ghost use Rattle.clock.specs.Clock.{
   tickInRange,
   clockInRange,
 };
+ghost use Rattle.clock.specs.Slew.{OneMilli};
 ghost use Rattle.clock.specs.Near.{Near};
 
 // CLK.CLOCK and CLK.DELTA in units, HOLD in seconds, and DATE.
@@ -57,9 +58,9 @@ pub struct Reading {
 pub const DAY: Millis = Millis(86_400_000);
 
 // A set by this much, from the least to the most, is a slew; any other is a step.
-const SLEW_LEAST: Millis = Millis(-512);
+const SLEW_LEAST: Millis = Millis(-128);
 
-const SLEW_MOST: Millis = Millis(511);
+const SLEW_MOST: Millis = Millis(127);
 
 // The units of a day.
 fn day() -> Units
@@ -346,4 +347,9 @@ pub fn whiles()
 
 pub fn rests()
     ensures { λ _. ⌜ Rests ⌝ }
+{}
+
+// Of a clock in range one adjust moves CLOCK by a millisecond at most, on or back.
+pub fn one_milli()
+    ensures { λ _. ⌜ OneMilli ⌝ }
 {}

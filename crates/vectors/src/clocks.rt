@@ -93,3 +93,14 @@ pub fn far_sets() {
     show::clock(b"a Set by 2^31 - 1", set(start, 2_147_483_647));
     show::clock(b"a Set by -2^31", set(start, -2_147_483_648));
 }
+
+// A Set slews from -128 to +127 ms and steps otherwise, and an adjust then moves the clock by a millisecond at most.
+pub fn slew_limits() {
+    let start = clock_of(Units(65_536_000), Units(0));
+    show::clock(b"a Set by 127", set(start, 127));
+    show::clock(b"a Set by 128", set(start, 128));
+    show::clock(b"a Set by -128", set(start, -128));
+    show::clock(b"a Set by -128 and 1 adjust", adjusts(set(start, -128), 1));
+    show::clock(b"a Set by -129", set(start, -129));
+    show::clock(b"a Set by -500", set(start, -500));
+}

@@ -45,6 +45,7 @@ fn main() {
     clocks::deltas();
     clocks::below_zero();
     clocks::far_sets();
+    clocks::slew_limits();
     sums::checksums();
     sums::dates();
     rfc1071::normal();

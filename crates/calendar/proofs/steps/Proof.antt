@@ -1,3 +1,4 @@
+-- Proved in `Stepping`.
 use Rattle.calendar.proofs.Stepping.{steps-hold}
 use Rattle.calendar.proofs.steps.Statement.{statement}
 use Rattle.calendar.proofs.steps.Tie as tie

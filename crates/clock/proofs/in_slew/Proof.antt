@@ -1,3 +1,4 @@
+-- The limits that are computed are those of the definition.
 use borrow.Author.Needs.{needs}
 use Rattle.clock.proofs.in_slew.Statement.{statement}
 use Rattle.clock.proofs.in_slew.Tie as tie

@@ -1,3 +1,4 @@
+-- Proved in `Midnight`.
 use Rattle.clock.proofs.Midnight.{rests-hold}
 use Rattle.clock.proofs.rests.Statement.{statement}
 use Rattle.clock.proofs.rests.Tie as tie

@@ -1,3 +1,4 @@
+-- The limit that is computed is that of the definition.
 use borrow.Author.Needs.{needs}
 use Rattle.clock.specs.Clock.{tickInRange}
 use Rattle.clock.proofs.tick_in_range.Statement.{statement}

@@ -1,3 +1,4 @@
+-- Proved in `Midnight`.
 use Rattle.clock.proofs.Midnight.{whiles-hold}
 use Rattle.clock.proofs.whiles.Statement.{statement}
 use Rattle.clock.proofs.whiles.Tie as tie

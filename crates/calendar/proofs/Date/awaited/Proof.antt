@@ -1,3 +1,4 @@
+-- The test is on bit 15 as it was read.
 use borrow.Author.Needs.{needs}
 use mathlib.Core.Path.{ap}
 use Prim.Native.Nat.{ℕ}

@@ -1,3 +1,4 @@
+-- The fields as they were read make the word.
 use borrow.Author.Needs.{needs}
 use Rattle.calendar.proofs.Date.flagged.Statement.{statement}
 use Rattle.calendar.proofs.Date.flagged.Tie as tie

@@ -1,3 +1,4 @@
+-- Each branch decides one test of the definition, those before it being known.
 use borrow.Author.Needs.{needs}
 use borrow.Author.Tests.{eq-eqb, ne-eqb, le-leb, lt-leb}
 use mathlib.Core.Path.{_≡_}

@@ -1,3 +1,4 @@
+-- Each branch decides one test of the definition, those before it being known.
 use borrow.Author.Needs.{needs}
 use borrow.Author.Tests.{le-leb, lt-leb}
 use Rattle.calendar.specs.Date.{made}

@@ -1,10 +1,10 @@
+-- A real date's fields fit the word, and each branch is one case of `Follows`, along which `next` goes.
 use borrow.Author.Needs.{needs}
-use borrow.Author.Tests.{lt-ltb, le-ltb}
-use Prim.Native.Nat.{_≤_, _<_}
+use mathlib.Core.Path.{_≡_, refl, sym, _∙_}
 use native.Mathlib.Omega.{arith}
-use Rattle.calendar.specs.Date.{next}
-use Rattle.calendar.proofs.Months.{month-length}
-use Rattle.calendar.proofs.Days.{real-says}
+use Rattle.calendar.proofs.Months.{month-length, last-of-december}
+use Rattle.calendar.proofs.Days.{read, real-says, day-of}
+use Rattle.calendar.proofs.Stepping.{new-day, new-month, new-year, from-the-start, along}
 use Rattle.calendar.proofs.Date.next.Statement.{statement}
 use Rattle.calendar.proofs.Date.next.Tie as tie
 
@@ -30,22 +30,16 @@ of-requires : tie.Need-of-requires
 of-requires c κs =
     let s = c .before in
     let r = real-says (s .before .before .before .before .before .args .self) (s .before .before .before .before .before .pre) .its in
-    let l = month-length (s .before .before .before .year .result) (s .before .before .month .result) (omega arith) (omega arith) in
+    let l = month-length (s .before .before .before .year .result) (s .before .before .month .result) in
     omega arith
 
 returns : tie.Need-returns
-unfolding next
 returns c =
     let s = c .before .before in
-    rw (
-      ← s .before .before .before .before .flag .ensures,
-      ← s .before .before .before .year .ensures,
-      ← s .before .before .month .ensures,
-      ← s .before .day .ensures,
-      ← s .last-day .ensures,
-      lt-ltb _ _ (c .before .if1 .taken),
-    )
-    (c .of .ensures)
+    let t = s .before .before .before .before .before in
+    let v = read (t .args .self) (t .pre) (s .before .before .before .before .flag .ensures) (s .before .before .before .year .ensures) (s .before .before .month .ensures) (s .before .day .ensures) in
+    let r = day-of v (t .pre) in
+    c .of .ensures ∙ sym (along (new-day refl refl refl (omega arith)) v)
 
 add-of-2 : tie.Need-add-of-2
 add-of-2 c = search needs
@@ -54,19 +48,12 @@ of-requires-2 : tie.Need-of-requires-2
 of-requires-2 c κs = search needs
 
 returns-2 : tie.Need-returns-2
-unfolding next
 returns-2 c =
     let s = c .before .before .before in
-    rw (
-      ← s .before .before .before .before .flag .ensures,
-      ← s .before .before .before .year .ensures,
-      ← s .before .before .month .ensures,
-      ← s .before .day .ensures,
-      ← s .last-day .ensures,
-      le-ltb _ _ (c .before .before .if1 .left),
-      lt-ltb _ _ (c .before .if2 .taken),
-    )
-    (c .of2 .ensures)
+    let t = s .before .before .before .before .before in
+    let v = read (t .args .self) (t .pre) (s .before .before .before .before .flag .ensures) (s .before .before .before .year .ensures) (s .before .before .month .ensures) (s .before .day .ensures) in
+    let r = day-of v (t .pre) in
+    c .of2 .ensures ∙ sym (along (new-month refl refl refl (omega arith) (omega arith)) v)
 
 year-requires-2 : tie.Need-year-requires-2
 year-requires-2 c κs = search needs
@@ -78,41 +65,27 @@ of-requires-3 : tie.Need-of-requires-3
 of-requires-3 c κs = search needs
 
 returns-3 : tie.Need-returns-3
-unfolding next
 returns-3 c =
     let s = c .before .before .before .before .before in
-    let y : s .before .before .before .year .result < 31 = omega arith in
-    rw (
-      ← s .before .before .before .before .flag .ensures,
-      ← s .before .before .before .year .ensures,
-      ← s .before .before .month .ensures,
-      ← s .before .day .ensures,
-      ← s .last-day .ensures,
-      le-ltb _ _ (c .before .before .before .before .if1 .left),
-      le-ltb _ _ (c .before .before .before .if2 .left),
-      lt-ltb _ _ y,
-    )
-    (c .of3 .ensures)
+    let t = s .before .before .before .before .before in
+    let v = read (t .args .self) (t .pre) (s .before .before .before .before .flag .ensures) (s .before .before .before .year .ensures) (s .before .before .month .ensures) (s .before .day .ensures) in
+    let r = day-of v (t .pre) in
+    let k : s .before .before .month .result ≡ 12 = omega arith in
+    let l : s .before .day .result ≡ 31 = last-of-december (s .before .before .before .year .result) k (omega arith) in
+    c .of3 .ensures ∙ sym (along (new-year refl refl refl l (omega arith) (omega arith)) v)
 
 flagged-requires : tie.Need-flagged-requires
 flagged-requires c κs = search needs
 
 returns-4 : tie.Need-returns-4
-unfolding next
 returns-4 c =
     let s = c .before .before .before .before .before in
-    let y : 31 ≤ s .before .before .before .year .result = omega arith in
-    rw (
-      ← s .before .before .before .before .flag .ensures,
-      ← s .before .before .before .year .ensures,
-      ← s .before .before .month .ensures,
-      ← s .before .day .ensures,
-      ← s .last-day .ensures,
-      le-ltb _ _ (c .before .before .before .before .if1 .left),
-      le-ltb _ _ (c .before .before .before .if2 .left),
-      le-ltb _ _ y,
-    )
-    (c .flagged .ensures)
+    let t = s .before .before .before .before .before in
+    let v = read (t .args .self) (t .pre) (s .before .before .before .before .flag .ensures) (s .before .before .before .year .ensures) (s .before .before .month .ensures) (s .before .day .ensures) in
+    let r = day-of v (t .pre) in
+    let k : s .before .before .month .result ≡ 12 = omega arith in
+    let l : s .before .day .result ≡ 31 = last-of-december (s .before .before .before .year .result) k (omega arith) in
+    c .flagged .ensures ∙ sym (along (from-the-start refl refl refl l (omega arith) (omega arith)) v)
 
 pub next-spec : {M : Type 1} → statement M
 next-spec =

@@ -1,10 +1,11 @@
+-- A real date's fields fit the word, and each branch is one case of `Follows`, against which `previous` goes.
 use borrow.Author.Needs.{needs}
-use borrow.Author.Tests.{lt-ltb, le-ltb}
-use Prim.Native.Nat.{_≤_, _<_, _-_}
+use mathlib.Core.Path.{refl, sym, _∙_}
+use Prim.Native.Nat.{_-_}
 use native.Mathlib.Omega.{arith}
-use Rattle.calendar.specs.Date.{previous}
-use Rattle.calendar.proofs.Months.{month-length}
-use Rattle.calendar.proofs.Days.{real-says, day-fits}
+use Rattle.calendar.proofs.Months.{month-length, last-of-december}
+use Rattle.calendar.proofs.Days.{read, real-says, day-fits, day-of}
+use Rattle.calendar.proofs.Stepping.{new-day, new-month, new-year, from-the-start, against}
 use Rattle.calendar.proofs.Date.previous.Statement.{statement}
 use Rattle.calendar.proofs.Date.previous.Tie as tie
 
@@ -30,17 +31,12 @@ of-requires c κs =
     omega (arith, day-fits r)
 
 returns : tie.Need-returns
-unfolding previous
 returns c =
     let s = c .before .before in
-    rw (
-      ← s .before .before .before .flag .ensures,
-      ← s .before .before .year .ensures,
-      ← s .before .month .ensures,
-      ← s .day .ensures,
-      lt-ltb _ _ (c .before .if1 .taken),
-    )
-    (c .of .ensures)
+    let t = s .before .before .before .before in
+    let v = read (t .args .self) (t .pre) (s .before .before .before .flag .ensures) (s .before .before .year .ensures) (s .before .month .ensures) (s .day .ensures) in
+    let r = day-of v (t .pre) in
+    c .of .ensures ∙ sym (against (omega arith) (omega arith) (new-day refl refl (omega arith) (omega arith)) v)
 
 sub-of-2 : tie.Need-sub-of-2
 sub-of-2 c = search needs
@@ -55,23 +51,17 @@ of-requires-2 : tie.Need-of-requires-2
 of-requires-2 c κs =
     let s = c .before .before .before .before .before .before .before in
     let r = real-says (s .args .self) (s .pre) .its in
-    let l = month-length (c .before .before .before .before .before .year .result) (c .before .before .before .before .month .result - 1) (omega arith) (omega arith) in
+    let l = month-length (c .before .before .before .before .before .year .result) (c .before .before .before .before .month .result - 1) in
     omega arith
 
 returns-2 : tie.Need-returns-2
-unfolding previous
 returns-2 c =
     let s = c .before .before .before .before in
-    rw (
-      ← s .before .before .before .flag .ensures,
-      ← s .before .before .year .ensures,
-      ← s .before .month .ensures,
-      ← s .day .ensures,
-      le-ltb _ _ (c .before .before .before .if1 .left),
-      lt-ltb _ _ (c .before .before .if2 .taken),
-      ← c .before .last-day .ensures,
-    )
-    (c .of2 .ensures)
+    let t = s .before .before .before .before in
+    let v = read (t .args .self) (t .pre) (s .before .before .before .flag .ensures) (s .before .before .year .ensures) (s .before .month .ensures) (s .day .ensures) in
+    let r = day-of v (t .pre) in
+    let l = month-length (s .before .before .year .result) (s .before .month .result - 1) in
+    c .of2 .ensures ∙ sym (against (omega arith) (omega arith) (new-month refl (omega arith) (omega arith) (c .before .last-day .ensures) (omega arith)) v)
 
 year-requires-2 : tie.Need-year-requires-2
 year-requires-2 c κs = search needs
@@ -87,44 +77,28 @@ last-day-requires-2 c κs = search needs
 
 of-requires-3 : tie.Need-of-requires-3
 of-requires-3 c κs =
-    let l = month-length (c .before .before .before .before .before .before .before .year .result - 1) 12 (omega arith) (omega arith) in
+    let l = month-length (c .before .before .before .before .before .before .before .year .result - 1) 12 in
     omega arith
 
 returns-3 : tie.Need-returns-3
-unfolding previous
 returns-3 c =
     let s = c .before .before .before .before .before .before in
-    let y : 0 < s .before .before .year .result = omega arith in
-    rw (
-      ← s .before .before .before .flag .ensures,
-      ← s .before .before .year .ensures,
-      ← s .before .month .ensures,
-      ← s .day .ensures,
-      le-ltb _ _ (c .before .before .before .before .before .if1 .left),
-      le-ltb _ _ (c .before .before .before .before .if2 .left),
-      lt-ltb _ _ y,
-      ← c .before .last-day2 .ensures,
-    )
-    (c .of3 .ensures)
+    let t = s .before .before .before .before in
+    let v = read (t .args .self) (t .pre) (s .before .before .before .flag .ensures) (s .before .before .year .ensures) (s .before .month .ensures) (s .day .ensures) in
+    let r = day-of v (t .pre) in
+    let l = last-of-december (s .before .before .year .result - 1) refl (c .before .last-day2 .ensures) in
+    c .of3 .ensures ∙ sym (against (omega arith) (omega arith) (new-year (omega arith) (omega arith) (omega arith) l refl (omega arith)) v)
 
 flagged-requires : tie.Need-flagged-requires
 flagged-requires c κs = search needs
 
 returns-4 : tie.Need-returns-4
-unfolding previous
 returns-4 c =
     let s = c .before .before .before .before .before in
-    let y : s .before .before .year .result ≤ 0 = omega arith in
-    rw (
-      ← s .before .before .before .flag .ensures,
-      ← s .before .before .year .ensures,
-      ← s .before .month .ensures,
-      ← s .day .ensures,
-      le-ltb _ _ (c .before .before .before .before .if1 .left),
-      le-ltb _ _ (c .before .before .before .if2 .left),
-      le-ltb _ _ y,
-    )
-    (c .flagged .ensures)
+    let t = s .before .before .before .before in
+    let v = read (t .args .self) (t .pre) (s .before .before .before .flag .ensures) (s .before .before .year .ensures) (s .before .month .ensures) (s .day .ensures) in
+    let r = day-of v (t .pre) in
+    c .flagged .ensures ∙ sym (against (omega arith) (omega arith) (from-the-start (omega arith) (omega arith) (omega arith) refl refl refl) v)
 
 pub previous-spec : {M : Type 1} → statement M
 previous-spec =

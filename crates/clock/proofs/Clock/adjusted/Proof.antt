@@ -1,3 +1,4 @@
+-- CLOCK and DELTA in range and the share, which is no further off than DELTA, have sums that fit.
 use borrow.Author.Needs.{needs}
 use native.Mathlib.Omega.{arith}
 use lib.Dec.{lit<}

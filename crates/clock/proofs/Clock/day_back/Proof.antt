@@ -1,8 +1,9 @@
+-- A CLOCK near its day may be moved by one more, and the rest is as the calls answer.
 use borrow.Author.Needs.{needs}
 use native.Mathlib.Omega.{arith}
-use mir.Syntax.{w64}
-use Rattle.quantity.proofs.Ints.{sum, fits, of-≤ℤ}
+use Rattle.quantity.proofs.Ints.{sum}
 use Rattle.clock.specs.Midnight.{day, dayBack}
+use Rattle.clock.proofs.Turns.{a-day-further}
 use Rattle.clock.proofs.Clock.day_back.Statement.{statement}
 use Rattle.clock.proofs.Clock.day_back.Tie as tie
 
@@ -11,11 +12,8 @@ day-requires c κs = search needs
 
 plus-requires : tie.Need-plus-requires
 plus-requires c κs =
-    let k = c .before .args .self .clock .0 in
-    let l = of-≤ℤ (c .before .pre .low) in
-    let h = of-≤ℤ (c .before .pre .high) in
-    let s = sum k (day .0) in
-    rw (c .day .ensures) (fits w64 _ (omega arith))
+    let s = sum (c .before .args .self .clock .0) (day .0) in
+    rw (c .day .ensures) (a-day-further (c .before .args .self) (c .before .pre) _ (omega arith) (omega arith))
 
 previous-requires : tie.Need-previous-requires
 previous-requires c κs = search needs

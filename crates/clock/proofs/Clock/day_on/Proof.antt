@@ -1,8 +1,9 @@
+-- A CLOCK near its day may be moved by one more, and the rest is as the calls answer.
 use borrow.Author.Needs.{needs}
 use native.Mathlib.Omega.{arith}
-use mir.Syntax.{w64}
-use Rattle.quantity.proofs.Ints.{diff, fits, of-≤ℤ}
+use Rattle.quantity.proofs.Ints.{diff}
 use Rattle.clock.specs.Midnight.{day, dayOn}
+use Rattle.clock.proofs.Turns.{a-day-further}
 use Rattle.clock.proofs.Clock.day_on.Statement.{statement}
 use Rattle.clock.proofs.Clock.day_on.Tie as tie
 
@@ -11,11 +12,8 @@ day-requires c κs = search needs
 
 minus-requires : tie.Need-minus-requires
 minus-requires c κs =
-    let k = c .before .args .self .clock .0 in
-    let l = of-≤ℤ (c .before .pre .low) in
-    let h = of-≤ℤ (c .before .pre .high) in
-    let s = diff k (day .0) in
-    rw (c .day .ensures) (fits w64 _ (omega arith))
+    let s = diff (c .before .args .self .clock .0) (day .0) in
+    rw (c .day .ensures) (a-day-further (c .before .args .self) (c .before .pre) _ (omega arith) (omega arith))
 
 next-requires : tie.Need-next-requires
 next-requires c κs = search needs

@@ -1,17 +1,16 @@
-use mathlib.Core.Path.{_≡_, refl, sym, _∙_}
-use mathlib.Core.Bool.{true, false}
-use Rattle.clock.specs.Midnight.{daysAway, belowZero, daysBack}
-use Rattle.clock.specs.Near.{Near}
-use Rattle.clock.proofs.Midnight.{dayBack-nearer, whiles-hold}
-use Rattle.clock.proofs.Turns.{near-back}
+-- As the days on: the loop is the while of the definition.
+use mathlib.Core.Path.{refl}
+use Rattle.clock.specs.Midnight.{daysAway, daysBack}
+use Rattle.clock.proofs.Turns.{back}
+use Rattle.clock.proofs.While.{Going, turn-falls, turn-keeps, loop-ends}
 use Rattle.clock.proofs.Clock.days_back.Statement.{statement}
 use Rattle.clock.proofs.Clock.days_back.Tie as tie
 
 abbrev Inv-loop : tie.InvT-loop
-Inv-loop hold-interval c₀ c = Near c × (daysBack hold-interval c ≡ daysBack hold-interval c₀)
+Inv-loop h c₀ c = Going (back h) c₀ c
 
 abbrev μ-loop : tie.MeasureT-loop
-μ-loop hold-interval c₀ c = daysAway c
+μ-loop h c₀ c = daysAway c
 
 loop-holds : tie.Need-loop-holds Inv-loop μ-loop
 loop-holds c = (c .pre, refl)
@@ -24,24 +23,21 @@ day-back-requires c κs = c .before .before .loop .inv .0
 
 loop-less : tie.Need-loop-less Inv-loop μ-loop
 loop-less c =
-    let h = c .before .before .before .before .args .hold-interval in
-    let x = c .before .before .before .loop .c in
-    let e : belowZero x ≡ true = sym (c .before .before .below-zero .ensures) ∙ c .before .if1 .taken in
-    rw (c .day-back .ensures) (dayBack-nearer h x e)
+    let s = c .before .before .before in
+    turn-falls (back (s .before .args .hold-interval)) (s .before .args .self) (s .loop .c) (c .before .before .below-zero .ensures) (c .before .if1 .taken)
+    (c .day-back .ensures)
 
 loop-again : tie.Need-loop-again Inv-loop μ-loop
 loop-again c =
-    let h = c .before .before .before .before .args .hold-interval in
-    let l = c .before .before .before .loop in
-    let e : belowZero (l .c) ≡ true = sym (c .before .before .below-zero .ensures) ∙ c .before .if1 .taken in
-    rw (c .day-back .ensures) (near-back h (l .c) e (l .inv .0), sym (rw e at (whiles-hold .back h (l .c))) ∙ l .inv .1)
+    let s = c .before .before .before in
+    turn-keeps (back (s .before .args .hold-interval)) (s .before .args .self) (s .loop .c) (c .before .before .below-zero .ensures) (c .before .if1 .taken)
+    (c .day-back .ensures) (s .loop .inv)
 
 returns : tie.Need-returns Inv-loop μ-loop
+unfolding daysBack
 returns c =
-    let h = c .before .before .before .args .hold-interval in
-    let l = c .before .before .loop in
-    let e : belowZero (l .c) ≡ false = sym (c .before .below-zero .ensures) ∙ c .if1 .left in
-    sym (rw e at (whiles-hold .back h (l .c))) ∙ l .inv .1
+    let s = c .before .before in
+    loop-ends (back (s .before .args .hold-interval)) (s .before .args .self) (s .loop .c) (c .before .below-zero .ensures) (c .if1 .left) (s .loop .inv)
 
 pub days-back-spec : {M : Type 1} → statement M
 days-back-spec =

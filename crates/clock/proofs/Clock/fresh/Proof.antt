@@ -1,3 +1,4 @@
+-- A time of day fits its units.
 use borrow.Author.Needs.{needs}
 use native.Mathlib.Omega.{arith}
 use lib.IntN.{pos}

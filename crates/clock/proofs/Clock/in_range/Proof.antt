@@ -1,3 +1,4 @@
+-- Each branch decides one test of the definition, those before it being known.
 use borrow.Author.Needs.{needs}
 use borrow.Author.Tests.{lt-leb, le-leb, not-true, not-false}
 use Rattle.clock.specs.Clock.{clockInRange}

@@ -1,3 +1,4 @@
+-- The first loop leaves CLOCK near its day, as the second asks.
 use borrow.Author.Needs.{needs}
 use Rattle.clock.specs.Midnight.{midnight}
 use Rattle.clock.proofs.Turns.{near-days-on}

@@ -1,3 +1,4 @@
+-- The time is the whole milliseconds as computed.
 use borrow.Author.Needs.{needs}
 use Rattle.clock.specs.Clock.{reading}
 use Rattle.clock.proofs.Clock.reading.Statement.{statement}

@@ -1,3 +1,4 @@
+-- HOLD falls as computed.
 use borrow.Author.Needs.{needs}
 use Rattle.clock.specs.Clock.{holdSecond}
 use Rattle.clock.proofs.Clock.second.Statement.{statement}

@@ -1,3 +1,4 @@
+-- CLOCK and 32 bits of milliseconds are far below 2^62 units, so the sum fits; each branch is a case of the definition.
 use borrow.Author.Needs.{needs}
 use native.Mathlib.Omega.{arith}
 use mir.Syntax.{w32}

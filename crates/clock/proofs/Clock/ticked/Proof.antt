@@ -1,3 +1,4 @@
+-- CLOCK in range and a tick in range have a sum that fits.
 use native.Mathlib.Omega.{arith}
 use mathlib.Core.Path.{_≡_}
 use mathlib.Core.Bool.{true}
