@@ -737,7 +737,7 @@ class Loop(Law):
         """the names that the text uses"""
         self.out[self.uses_at] = uses(
             "\n".join(self.out[self.uses_at:]),
-            "laws",
+            "lent",
             [
                 (".Words", ["Word", "Data", "Part", "by-value", "unsigned", "void", "struct-part", "usize-part", "settled", "passed"]),
                 (".Outcomes", ["Outcome", "whole"]),

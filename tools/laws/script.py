@@ -1,8 +1,8 @@
-"""A proof script over a context whose entries have names, so that no place is counted by hand; and the names of crate `laws` that a text uses."""
+"""A proof script over a context whose entries have names, so that no place is counted by hand; and the names of crate `lent` that a text uses."""
 import os
 import re
 
-WALK = os.path.join(os.path.dirname(os.path.abspath(__file__)), "..", "..", "crates/laws/proofs/Walk.antt")
+WALK = os.path.join(os.path.dirname(os.path.abspath(__file__)), "..", "..", "crates/lent/proofs/Walk.antt")
 
 
 def digits(n):
@@ -123,12 +123,12 @@ def walk_names():
 
 
 def lib(crate):
-    """what the laws of a crate call the proofs of crate `laws`"""
-    return "Rattle.laws.proofs" if crate == "laws" else "Rattle.laws.proofs"
+    """what the laws of a crate call the proofs of crate `lent`"""
+    return "Rattle.lent.proofs" if crate == "lent" else "Rattle.lent.proofs"
 
 
 def uses(text, crate, modules):
-    """the lines that bring in what the text uses of Walk.antt, and of the modules with the names given; a module that begins with a dot is one of crate `laws`"""
+    """the lines that bring in what the text uses of Walk.antt, and of the modules with the names given; a module that begins with a dot is one of crate `lent`"""
     have = set(re.findall(r"[^\s(){}\[\],;.]+", text))
     cited = [n for n in walk_cites() if n.strip("_") in have or n in have or (n == "[]" and "[]" in text)]
     home = lib(crate)

@@ -5,7 +5,7 @@ use Prim.Native.Nat.{_≤_}
 use native.Mathlib.Omega.{arith}
 use lib.Dec.{eqb}
 use lib.IntN.{pos}
-use Rattle.laws.proofs.Tests.{either}
+use Rattle.lists.proofs.Tests.{either}
 use Rattle.quantity.specs.declared.Millis.{Millis}
 use Rattle.quantity.specs.declared.Seconds.{Seconds}
 use Rattle.quantity.specs.Quantity.{millis, lessMillis, subMillis}

@@ -2,7 +2,7 @@
 ghost use mathlib.Core.Path.{_≡_};
 ghost use Prim.Native.Nat.{_≤_};
 ghost use Rattle.wire.specs.declared.Parsed.the-variants.{Good};
-ghost use Rattle.wire.specs.Ranges.{Four, TimeFits};
+ghost use Rattle.wire.specs.code.Ranges.{Four, TimeFits};
 ghost use Rattle.arrival.specs.Inspection.{otherLayout, looped, inspected, inspect};
 use answer::Answer;
 use host::Settings;

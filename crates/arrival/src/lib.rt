@@ -3,7 +3,7 @@ ghost use mathlib.Core.Path.{_≡_};
 ghost use mathlib.Core.Bool.{true};
 ghost use Prim.Native.Nat.{_≤_};
 ghost use Rattle.clock.specs.Midnight.{dayMillis};
-ghost use Rattle.wire.specs.Ranges.{Four};
+ghost use Rattle.wire.specs.code.Ranges.{Four};
 ghost use Rattle.table.specs.Entry.{upTo};
 ghost use Rattle.host.specs.Settings.{settingsGood};
 ghost use Rattle.host.specs.State.{hasPlace};

@@ -4,7 +4,7 @@ ghost use mathlib.Core.Bool.{true, cond};
 ghost use lib.IntN.{pos};
 ghost use Rattle.quantity.specs.Quantity.{millis};
 ghost use Rattle.clock.specs.Midnight.{dayMillis};
-ghost use Rattle.wire.specs.Ranges.{SignedTwo, Four};
+ghost use Rattle.wire.specs.code.Ranges.{SignedTwo, Four};
 ghost use Rattle.table.specs.Entry.{upTo};
 ghost use Rattle.arrival.specs.Steps.{tspOf, delayOf, offsetOf, newNeighbor, step4, measured, steps2to4};
 ghost use Rattle.arrival.specs.code.Plan.{stepOf};

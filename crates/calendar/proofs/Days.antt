@@ -7,7 +7,7 @@ use native.Mathlib.Nat.{add-mul-div-left, add-mul-mod-self-left, mod-add-div, mu
 use native.Mathlib.Omega.{arith}
 use borrow.Author.Tests.{leb-true, eqb-true, le-leb, eq-eqb}
 use lib.Dec.{leb, eqb}
-use Rattle.laws.proofs.Tests.{each}
+use Rattle.lists.proofs.Tests.{each}
 use Rattle.calendar.specs.declared.Date.{Date}
 use Rattle.calendar.specs.Date.{year, month, day, spare, flag, dateOf, lastDay, real, await}
 use Rattle.calendar.proofs.Months.{month-length}

@@ -8,12 +8,13 @@ use borrow.Author.Tests.{ltb-true, ltb-false}
 use lib.Dec.{ltb}
 use lib.ListN.{length, getD, take, drop, length-map}
 use lib.Seq.{take-add, take-take, drop-at, drop-drop, length-take-le, getD-take, getD-drop}
-use Rattle.laws.specs.Lists.{part, over}
-use Rattle.laws.proofs.Parts.{part-length, part-more, over-nothing, over-part}
+use Rattle.lists.specs.Lists.{part, over}
+use Rattle.lists.proofs.Parts.{part-length, part-more, over-nothing, over-part}
 use Rattle.table.specs.declared.Entry.{Entry}
 use Rattle.table.specs.declared.run.Changes.{Changes}
 use Rattle.table.specs.Entry.{freshEntry}
-use Rattle.table.specs.Runs.{InRun, changed, changes}
+use Rattle.table.specs.Runs.{changed, changes}
+use Rattle.table.specs.code.Loops.{InRun}
 use Rattle.host.specs.declared.Settings.{Settings}
 use Rattle.host.specs.State.{firstPlace, hostCount, entries, withEntries}
 use Rattle.host.proofs.Places.{Holds}

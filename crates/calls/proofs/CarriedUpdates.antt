@@ -4,8 +4,8 @@ use mathlib.Core.List.{List}
 use Prim.Native.Nat.{ℕ, _+_, _-_, _≤_}
 use native.Mathlib.Omega.{arith}
 use lib.ListN.{length}
-use Rattle.laws.specs.Lists.{part, over}
-use Rattle.laws.proofs.Parts.{part-length, over-part}
+use Rattle.lists.specs.Lists.{part, over}
+use Rattle.lists.proofs.Parts.{part-length, over-part}
 use Rattle.clock.specs.declared.Clock.{Clock}
 use Rattle.table.specs.declared.Entry.{Entry}
 use Rattle.table.specs.declared.run.Updates.{Updates}

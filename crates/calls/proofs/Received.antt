@@ -7,8 +7,8 @@ use native.Mathlib.Omega.{arith}
 use borrow.Author.Tests.{ltb-true, ltb-false}
 use lib.Dec.{ltb, eqb}
 use lib.ListN.{length}
-use Rattle.laws.proofs.Parts.{over-nothing}
-use Rattle.laws.proofs.Tests.{is-so}
+use Rattle.lists.proofs.Parts.{over-nothing}
+use Rattle.lists.proofs.Tests.{is-so}
 use Rattle.answer.specs.declared.Answer.{Answer}
 use Rattle.answer.specs.declared.Answer.the-variants.{DelayNotValid, NoHost}
 use Rattle.clock.specs.declared.Clock.{Clock}
@@ -25,7 +25,8 @@ use Rattle.table.specs.declared.run.Updates.{Updates}
 use Rattle.table.specs.Entry.{upTo}
 use Rattle.table.specs.Update.{ownMost}
 use Rattle.table.specs.Sweep.{Swept, sweep}
-use Rattle.table.specs.Runs.{updates, UpdatesFit}
+use Rattle.table.specs.Runs.{updates}
+use Rattle.table.specs.code.Loops.{UpdatesFit}
 use Rattle.host.specs.declared.Settings.{Settings}
 use Rattle.host.specs.declared.Links.{Links}
 use Rattle.host.specs.State.{firstPlace, hostCount, broadcast, linkOf, entries, withEntries}

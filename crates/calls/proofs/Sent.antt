@@ -7,9 +7,9 @@ use native.Mathlib.Omega.{arith}
 use borrow.Author.Tests.{ltb-true, ltb-false}
 use lib.Dec.{ltb}
 use lib.ListN.{length, drop, length-map}
-use Rattle.laws.specs.Lists.{part}
-use Rattle.laws.proofs.Parts.{part-length, over-length}
-use Rattle.laws.proofs.Tests.{is-so}
+use Rattle.lists.specs.Lists.{part}
+use Rattle.lists.proofs.Parts.{part-length, over-length}
+use Rattle.lists.proofs.Tests.{is-so}
 use Rattle.quantity.specs.declared.Millis.{Millis}
 use Rattle.quantity.proofs.Ints.{to-≤ℤ, to-<ℤ}
 use Rattle.answer.specs.declared.Answer.{Answer}
@@ -22,14 +22,14 @@ use Rattle.wire.specs.declared.Address.{Address}
 use Rattle.wire.specs.declared.Report.{Report}
 use Rattle.wire.specs.Hello.{reportsOctets}
 use Rattle.wire.specs.Packet.{packetLength, message}
-use Rattle.wire.specs.Ranges.{Four}
-use Rattle.wire.specs.Sealing.{withReports, sealed}
+use Rattle.wire.specs.code.Ranges.{Four}
+use Rattle.wire.specs.code.Sealing.{withReports, sealed}
 use Rattle.wire.proofs.Messages.{reports-length}
 use Rattle.wire.proofs.Sealing.{all-put, put-and-sealed}
 use Rattle.table.specs.declared.Entry.{Entry}
 use Rattle.table.specs.declared.run.Reports.{Reports}
 use Rattle.table.specs.Entry.{upTo, advertised}
-use Rattle.table.specs.Runs.{readOut, ReportsFit}
+use Rattle.table.specs.code.Loops.{readOut, ReportsFit}
 use Rattle.table.proofs.Ranges.{within, reading-in}
 use Rattle.host.specs.declared.Settings.{Settings}
 use Rattle.host.specs.declared.Link.{Link}

@@ -10,7 +10,7 @@ use lib.ListN.{length, take, length-drop}
 use lib.Seq.{getD-take, getD-drop, length-take-le}
 use Rattle.answer.specs.declared.Answer.{Answer}
 use Rattle.answer.specs.declared.Answer.the-variants.{IpForm, IpChecksum, Protocol, HelloForm, HelloChecksum}
-use Rattle.laws.proofs.Tests.{both}
+use Rattle.lists.proofs.Tests.{both}
 use Rattle.wire.specs.declared.Packet.{Packet}
 use Rattle.wire.specs.declared.Parsed.the-variants.{Good, Bad}
 use Rattle.wire.specs.Octets.{octetAt, twoAt}

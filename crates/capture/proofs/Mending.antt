@@ -7,7 +7,7 @@ use native.Mathlib.Omega.{arith}
 use borrow.Author.Tests.{lt-ltb, le-ltb, ltb-false}
 use lib.Dec.{ltb}
 use lib.ListN.{length, length-append}
-use Rattle.laws.proofs.Tests.{either, neither}
+use Rattle.lists.proofs.Tests.{either, neither}
 use Rattle.wire.specs.Octets.{four}
 use Rattle.capture.specs.declared.Answer.the-variants.{ShortBuffer, CaptureLength}
 use Rattle.capture.specs.declared.Mended.{Mended}

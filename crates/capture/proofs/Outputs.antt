@@ -6,8 +6,8 @@ use native.Mathlib.Nat.{zero-add}
 use native.Mathlib.Omega.{arith}
 use borrow.Author.Tests.{lt-ltb, le-ltb}
 use lib.ListN.{length, length-append, length-map}
-use Rattle.laws.specs.Lists.{part, over}
-use Rattle.laws.proofs.Parts.{part-length, over-twice, over-nothing, over-length}
+use Rattle.lists.specs.Lists.{part, over}
+use Rattle.lists.proofs.Parts.{part-length, over-twice, over-nothing, over-length}
 use Rattle.wire.specs.Octets.{four}
 use Rattle.capture.specs.declared.Next.{Next}
 use Rattle.capture.specs.Search.{Span, span, hits, gap, gaps, stretches, hitsAt}

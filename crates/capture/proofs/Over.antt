@@ -5,8 +5,8 @@ use Prim.Native.Nat.{ℕ, _+_, _-_, _≤_}
 use native.Mathlib.Omega.{arith}
 use lib.ListN.{length, take, drop, length-append}
 use lib.Seq.{take-take, take-append-le, take-at, drop-at, length-take-le}
-use Rattle.laws.specs.Lists.{over}
-use Rattle.laws.proofs.Parts.{over-behind}
+use Rattle.lists.specs.Lists.{over}
+use Rattle.lists.proofs.Parts.{over-behind}
 
 module _ {A : Type 0} (b y p : List A) (i j : ℕ) (apart : i + length y ≤ j) (inside : j + length p ≤ length b) where
   abbrev m : ℕ

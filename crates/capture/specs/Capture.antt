@@ -4,7 +4,7 @@ use mathlib.Core.List.{List, [], _∷_, _++_, map, flatten}
 use Prim.Native.Nat.{ℕ, _+_, _*_}
 use lib.Dec.{leb, eqb}
 use lib.ListN.{length}
-use Rattle.laws.specs.Lists.{part}
+use Rattle.lists.specs.Lists.{part}
 use Rattle.wire.specs.Octets.{four, fourAt}
 use Rattle.capture.specs.Search.{Span, hits, stretches}
 

@@ -5,7 +5,7 @@ use mathlib.Core.List.{List}
 use Prim.Native.Nat.{ℕ, _≤_}
 use lib.Dec.{ltb}
 use lib.ListN.{length}
-use Rattle.laws.specs.Lists.{over}
+use Rattle.lists.specs.Lists.{over}
 use Rattle.capture.specs.declared.Answer.{Answer}
 use Rattle.capture.specs.declared.Answer.the-variants.{Done, ShortBuffer, CaptureLength}
 use Rattle.capture.specs.declared.Mended.{Mended}

@@ -2,7 +2,7 @@
 ghost use mathlib.Core.Path.{_≡_};
 ghost use Prim.Native.Nat.{_+_, _*_, _≤_};
 ghost use lib.ListN.{length};
-ghost use Rattle.laws.specs.Lists.{over};
+ghost use Rattle.lists.specs.Lists.{over};
 ghost use Rattle.wire.specs.Octets.{four, twoAt, fourAt};
 
 // The number in two octets, and in four.

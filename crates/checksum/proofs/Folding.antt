@@ -11,7 +11,7 @@ use lib.Dec.{ltb}
 use lib.ListN.{length, getD, drop}
 use lib.Seq.{drop-cons}
 use Rattle.checksum.specs.Checksum.{allOnes, fold, folded, checksumGood, checksumOf}
-use Rattle.checksum.specs.EndAround.{endAround, summed, wordSum}
+use Rattle.checksum.specs.code.EndAround.{endAround, summed, wordSum}
 use Rattle.checksum.proofs.Octets.{Octets, joined}
 
 -- ---- carries added in on the way, and at the end

@@ -7,7 +7,7 @@ use native.Mathlib.Omega.{arith}
 use lib.ListN.{length, getD, take, drop, length-drop, take-append-drop}
 use lib.Seq.{take-all, length-take-le}
 use Rattle.checksum.specs.Checksum.{allOnes}
-use Rattle.checksum.specs.EndAround.{endAround, wordSum, lowSum, lowFour}
+use Rattle.checksum.specs.code.EndAround.{endAround, wordSum, lowSum, lowFour}
 use Rattle.checksum.proofs.Folding.{end-word, end-high, end-again, end-plus, sum-append, one-more}
 
 -- ---- the octets change places

@@ -7,7 +7,7 @@ use native.Mathlib.Omega.{arith}
 use lib.ListN.{length, getD, drop}
 use lib.Seq.{drop-cons, drop-length}
 use Rattle.checksum.specs.Checksum.{allOnes, fold}
-use Rattle.checksum.specs.EndAround.{endAround, wordSum}
+use Rattle.checksum.specs.code.EndAround.{endAround, wordSum}
 use Rattle.checksum.proofs.Folding.{fold-ends, end-word, end-positive, end-again, end-plus, one-more}
 
 -- the sum so far stands for the words in front of place i

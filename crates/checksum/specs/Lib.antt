@@ -1,2 +1,2 @@
 pub mod Checksum
-pub mod EndAround
+pub mod code

@@ -2,7 +2,7 @@
 ghost use mathlib.Core.Path.{_≡_};
 ghost use Prim.Native.Nat.{ℕ, _+_, _*_, _%_, _≤_, _<_, _^_};
 ghost use lib.ListN.{length};
-ghost use Rattle.checksum.specs.EndAround.{endAround, lowSum, lowFour, shortLength, blockLength};
+ghost use Rattle.checksum.specs.code.EndAround.{endAround, lowSum, lowFour, shortLength, blockLength};
 use crate::ALL_ONES;
 
 // Fewer octets than so many are added up by a loop that is quick to set out.

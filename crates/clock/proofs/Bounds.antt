@@ -13,11 +13,11 @@ use mir.Val.{SFits}
 use Rattle.quantity.specs.declared.Units.{Units}
 use Rattle.quantity.specs.Quantity.{units, millis, toUnits}
 use Rattle.quantity.proofs.Ints.{up, dn, Le, lt-no, not-lt, to-≤ℤ, Within, fits}
-use Rattle.laws.proofs.Tests.{both, each, is-not}
+use Rattle.lists.proofs.Tests.{both, each, is-not}
 use Rattle.calendar.specs.Date.{real}
 use Rattle.clock.specs.declared.Clock.{Clock}
 use Rattle.clock.specs.Midnight.{day}
-use Rattle.clock.specs.Near.{Near}
+use Rattle.clock.specs.code.Near.{Near}
 use Rattle.clock.specs.Clock.{within, slewLeast, slewMost, tickInRange, clockInRange}
 
 -- ---- between a least and a most

@@ -11,7 +11,7 @@ use Rattle.quantity.specs.declared.Millis.{Millis}
 use Rattle.quantity.specs.declared.Seconds.{Seconds}
 use Rattle.quantity.specs.Quantity.{millis, unitsPerMilli, toUnits, lessMillis}
 use Rattle.quantity.proofs.Ints.{up, dn, one, sum, diff, times, floor, lt-yes, lt-no}
-use Rattle.laws.proofs.Tests.{both, is-not, either}
+use Rattle.lists.proofs.Tests.{both, is-not, either}
 use Rattle.calendar.specs.declared.Date.{Date}
 use Rattle.calendar.specs.Date.{real, await}
 use Rattle.calendar.proofs.Stepping.{real-next, real-previous}

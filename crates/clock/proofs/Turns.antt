@@ -14,7 +14,7 @@ use Rattle.calendar.proofs.Days.{real-await}
 use Rattle.calendar.proofs.Stepping.{real-next, real-previous}
 use Rattle.clock.specs.declared.Clock.{Clock}
 use Rattle.clock.specs.Midnight.{day, daysAway, exceedsDay, dayOn, belowZero, dayBack, daysOn}
-use Rattle.clock.specs.Near.{Near}
+use Rattle.clock.specs.code.Near.{Near}
 use Rattle.clock.proofs.Midnight.{dayOn-nearer, dayBack-nearer}
 use Rattle.clock.proofs.Bounds.{nearby}
 use Rattle.clock.proofs.While.{Loop, keeps}

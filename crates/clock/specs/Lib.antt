@@ -1,5 +1,5 @@
 pub mod While
 pub mod Midnight
 pub mod Clock
-pub mod Near
 pub mod Slew
+pub mod code

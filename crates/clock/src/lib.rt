@@ -37,7 +37,7 @@ ghost use Rattle.clock.specs.Clock.{
   clockInRange,
 };
 ghost use Rattle.clock.specs.Slew.{OneMilli};
-ghost use Rattle.clock.specs.Near.{Near};
+ghost use Rattle.clock.specs.code.Near.{Near};
 
 // CLK.CLOCK and CLK.DELTA in units, HOLD in seconds, and DATE.
 #[repr(C)]

@@ -8,7 +8,7 @@ use borrow.Author.Tests.{eqb-true}
 use lib.Dec.{lit<, T}
 use lib.IntN.{ℤ, pos, negℤ, natAbs, _+ℤ_, _-ℤ_}
 use lib.Signed.{ltZ, leZ, shrZ}
-use Rattle.laws.proofs.Tests.{both, Hold}
+use Rattle.lists.proofs.Tests.{both, Hold}
 use Rattle.quantity.specs.Words.{wrap, signedBits}
 use Rattle.quantity.proofs.Ints.{up, dn, same, one, sum, diff, neg, floor, abs, lt-yes, le-yes, to-≤ℤ}
 use Rattle.quantity.proofs.Wrap.{Same, wrap-same, wrap-is, wrap-fits}

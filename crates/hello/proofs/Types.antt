@@ -1,5 +1,5 @@
 -- The structs that the exported calls are given and answer, as the laws of crate `shapes` take them.
-use Rattle.laws.proofs.Words.{Data}
+use Rattle.lent.proofs.Words.{Data}
 use Rattle.wire.proofs.Address as Address
 use Rattle.wire.proofs.Address.Laws as Address′
 use Rattle.hello.proofs.Sent as Sent

@@ -1,7 +1,7 @@
 // Messages on paper, for programs in other languages.
 ghost use mathlib.Core.Path.{_≡_};
 ghost use lib.ListN.{length};
-ghost use Rattle.laws.specs.Lists.{over};
+ghost use Rattle.lists.specs.Lists.{over};
 ghost use Rattle.text.specs.Answers.{number, toText, fromText};
 
 // What the writer and the reader answer: the number of the answer, and the length of what was written.

@@ -7,8 +7,8 @@ use native.Mathlib.Omega.{arith}
 use borrow.Author.Tests.{ltb-false, eqb-false}
 use lib.Dec.{ltb, eqb}
 use lib.ListN.{length}
-use Rattle.laws.proofs.Tests.{both, neither, is-not, is-so}
-use Rattle.laws.proofs.Tests as tests
+use Rattle.lists.proofs.Tests.{both, neither, is-not, is-so}
+use Rattle.lists.proofs.Tests as tests
 use Rattle.answer.specs.declared.Answer.{Answer}
 use Rattle.answer.specs.declared.Answer.the-variants.{Done, Setting, OutOfRange}
 use Rattle.clock.specs.Clock.{clockInRange}

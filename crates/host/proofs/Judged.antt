@@ -7,14 +7,14 @@ use native.Mathlib.Omega.{arith}
 use borrow.Author.Tests.{ltb-false}
 use lib.Dec.{ltb}
 use lib.ListN.{length, take}
-use Rattle.laws.proofs.Tests.{either, neither}
+use Rattle.lists.proofs.Tests.{either, neither}
 use Rattle.answer.specs.declared.Answer.the-variants.{Done, Setting, OutOfRange}
 use Rattle.clock.specs.Clock.{clockInRange}
 use Rattle.table.specs.declared.Entry.{Entry}
 use Rattle.table.specs.declared.run.Scan.{Scan}
 use Rattle.table.specs.Forms.{every}
 use Rattle.table.specs.Entry.{entryInRange}
-use Rattle.table.specs.Runs.{InRun, allInRange}
+use Rattle.table.specs.code.Loops.{InRun, allInRange}
 use Rattle.host.specs.declared.Settings.{Settings}
 use Rattle.host.specs.declared.guard.Scope.{Scope}
 use Rattle.host.specs.declared.guard.Scope.the-variants.{Places, All, OnLink}

@@ -4,7 +4,7 @@ use mathlib.Core.Bool.{false}
 use Prim.Native.Nat.{ℕ, _+_, _≤_}
 use borrow.Author.Tests.{ltb-false}
 use lib.Dec.{ltb}
-use Rattle.laws.proofs.Tests.{neither}
+use Rattle.lists.proofs.Tests.{neither}
 use Rattle.host.specs.State.{placesPerHost, firstPlace}
 use Rattle.host.specs.code.Held.{placesMissing}
 

@@ -6,9 +6,9 @@ use Prim.Native.Nat.{ℕ, suc, _+_, _≤_, _<_}
 use native.Mathlib.Omega.{arith}
 use lib.ListN.{length, getD, set, take, drop, length-map, drop-of-length-le}
 use lib.Seq.{take-suc, take-length, length-take-le}
-use Rattle.laws.specs.Lists.{over}
-use Rattle.laws.proofs.Parts.{over-more}
-use Rattle.laws.proofs.Rest.{rest-cons}
+use Rattle.lists.specs.Lists.{over}
+use Rattle.lists.proofs.Parts.{over-more}
+use Rattle.lists.proofs.Rest.{rest-cons}
 use Rattle.table.specs.Forms.{every}
 use Rattle.host.specs.declared.LinkSetting.{LinkSetting}
 use Rattle.host.specs.declared.Link.{Link}

@@ -6,7 +6,7 @@ use Prim.Native.Nat.{_≤_}
 use borrow.Author.Tests.{leb-true}
 use lib.Dec.{ltb, leb, eqb}
 use lib.IntN.{pos}
-use Rattle.laws.proofs.Tests.{both, each}
+use Rattle.lists.proofs.Tests.{both, each}
 use Rattle.quantity.specs.Quantity.{millis, lessMillis}
 use Rattle.calendar.specs.Date.{real}
 use Rattle.clock.specs.Midnight.{dayMillis}

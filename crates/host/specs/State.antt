@@ -5,7 +5,7 @@ use Prim.Native.Nat.{ℕ, _-_, _*_, min}
 use lib.Dec.{ltb, leb, eqb}
 use lib.IntN.{pos}
 use lib.ListN.{getD, set}
-use Rattle.laws.specs.Lists.{part, over}
+use Rattle.lists.specs.Lists.{part, over}
 use Rattle.quantity.specs.Words.{word}
 use Rattle.wire.specs.Octets.{zeroAddress}
 use Rattle.route.specs.declared.Found.{Found}

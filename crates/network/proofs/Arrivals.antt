@@ -5,7 +5,7 @@ use mathlib.Core.List.{List, [], _∷_}
 use Prim.Native.Nat.{ℕ}
 use borrow.Author.Tests.{eqb-true}
 use lib.Dec.{eqb}
-use Rattle.laws.proofs.Tests.{each}
+use Rattle.lists.proofs.Tests.{each}
 use Rattle.answer.specs.declared.Answer.{Answer}
 use Rattle.answer.specs.declared.Answer.the-variants.{DelayNotValid, NoHost}
 use Rattle.clock.specs.declared.Clock.{Clock}

@@ -8,7 +8,7 @@ use borrow.Author.Tests.{eq-eqb}
 use lib.Dec.{ltb, eqb}
 use lib.IntN.{_+ℤ_}
 use lib.ListN.{length, getD}
-use Rattle.laws.proofs.Tests.{either, both}
+use Rattle.lists.proofs.Tests.{either, both}
 use Rattle.quantity.specs.declared.Millis.{Millis}
 use Rattle.quantity.specs.declared.Word.{Word}
 use Rattle.quantity.proofs.Ints.{to-≤ℤ, to-<ℤ}
@@ -22,7 +22,7 @@ use Rattle.wire.specs.declared.Report.{Report}
 use Rattle.wire.specs.declared.Parsed.{Parsed}
 use Rattle.wire.specs.declared.Parsed.the-variants.{Good, Bad}
 use Rattle.wire.specs.Packet.{packetLength, parse}
-use Rattle.wire.specs.Ranges.{SignedTwo, Four, ReportFits, ReportsFit}
+use Rattle.wire.specs.code.Ranges.{SignedTwo, Four, ReportFits, ReportsFit}
 use Rattle.wire.specs.ReadBack.{MessageFits, ReadBack}
 use Rattle.wire.proofs.ReadBack.{message-is-back}
 use Rattle.table.specs.declared.Entry.{Entry}

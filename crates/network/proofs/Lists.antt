@@ -8,8 +8,8 @@ use borrow.Author.Tests.{ltb-true, ltb-false}
 use lib.Dec.{ltb}
 use lib.ListN.{length, getD, take, drop, set, length-append, length-take, length-drop, List·getD-append}
 use lib.Seq.{getD-take, getD-drop, getD-append-add}
-use Rattle.laws.specs.Lists.{part, over}
-use Rattle.laws.proofs.Tests.{both}
+use Rattle.lists.specs.Lists.{part, over}
+use Rattle.lists.proofs.Tests.{both}
 use Rattle.table.specs.Forms.{every}
 
 -- P holds of each element and its place, from 0

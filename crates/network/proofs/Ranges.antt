@@ -7,7 +7,7 @@ use native.Mathlib.Omega.{arith}
 use borrow.Author.Tests.{leb-true, le-leb}
 use lib.ListN.{take, set}
 use lib.Seq.{getD-take, take-set-lt}
-use Rattle.laws.proofs.Tests.{either}
+use Rattle.lists.proofs.Tests.{either}
 use Rattle.quantity.specs.declared.Millis.{Millis}
 use Rattle.quantity.specs.Quantity.{lessMillis}
 use Rattle.quantity.proofs.Ints.{up, dn, sum, lt-no}

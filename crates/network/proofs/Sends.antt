@@ -6,7 +6,7 @@ use Prim.Native.Nat.{ℕ, _-_}
 use native.Mathlib.Omega.{arith}
 use lib.ListN.{length, drop, length-map}
 use lib.Seq.{take-at, take-all}
-use Rattle.laws.specs.Lists.{part}
+use Rattle.lists.specs.Lists.{part}
 use Rattle.clock.specs.Clock.{reading}
 use Rattle.wire.specs.declared.Report.{Report}
 use Rattle.wire.specs.Packet.{packetLength, message}

@@ -5,8 +5,8 @@ use Prim.Native.Nat.{ℕ, _+_, _≤_}
 use native.Mathlib.Omega.{arith}
 use lib.ListN.{length, take, drop, length-drop, take-append-drop}
 use lib.Seq.{length-take-le, drop-drop}
-use Rattle.laws.specs.Lists.{part, over}
-use Rattle.laws.proofs.Parts.{over-nothing}
+use Rattle.lists.specs.Lists.{part, over}
+use Rattle.lists.proofs.Parts.{over-nothing}
 use Rattle.answer.specs.declared.Answer.{Answer}
 use Rattle.clock.specs.declared.Clock.{Clock}
 use Rattle.table.specs.declared.Entry.{Entry}

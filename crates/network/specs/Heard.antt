@@ -7,7 +7,7 @@ use Rattle.answer.specs.declared.Answer.{Answer}
 use Rattle.answer.specs.declared.Answer.the-variants.{Done, LoopedLine}
 use Rattle.clock.specs.Clock.{reading}
 use Rattle.wire.specs.declared.Parsed.the-variants.{Bad}
-use Rattle.wire.specs.Ranges.{SignedTwo, AddressFits}
+use Rattle.wire.specs.code.Ranges.{SignedTwo, AddressFits}
 use Rattle.table.specs.Entry.{freshEntry}
 use Rattle.host.specs.declared.Settings.{Settings}
 use Rattle.host.specs.State.{linkOf}

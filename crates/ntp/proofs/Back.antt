@@ -16,7 +16,7 @@ use Rattle.ntp.specs.declared.Read.the-variants.{Good, Bad}
 use Rattle.ntp.specs.declared.Written.{Written}
 use Rattle.ntp.specs.Octets.{exponent, timestamp, four, eight, octetAt, fourAt, eightAt}
 use Rattle.ntp.specs.Header.{headerLength, versionGood, modeGood, leapGood, fields, read, octetsOf, refusedOctets, write}
-use Rattle.ntp.specs.Ranges.{HeaderPasses}
+use Rattle.ntp.specs.code.Passed.{HeaderPasses}
 use Rattle.ntp.specs.Laws.{Octets, SignedOctet, HeaderFits, ReadBack, WrittenBack}
 use Rattle.ntp.proofs.Headers.{front-range, good, written}
 

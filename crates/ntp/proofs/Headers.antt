@@ -6,13 +6,13 @@ use Prim.Native.Nat.{ℕ, _≤_}
 use borrow.Author.Tests.{leb-true, eqb-true, eq-eqb}
 use lib.ListN.{length, set, replicate}
 use lib.Seq.{sets}
-use Rattle.laws.proofs.Tests.{both}
+use Rattle.lists.proofs.Tests.{both}
 use Rattle.ntp.specs.declared.Answer.the-variants.{Done, NtpVersion, NtpMode}
 use Rattle.ntp.specs.declared.Header.{Header}
 use Rattle.ntp.specs.declared.Read.the-variants.{Good, Bad}
 use Rattle.ntp.specs.Header.{headerLength, versionGood, modeGood, leapGood, frontOf, fields, read, octetsOf, refusedOctets, write}
 use Rattle.ntp.specs.Octets.{four, eight, signedOctet}
-use Rattle.ntp.specs.Ranges.{HeaderPasses}
+use Rattle.ntp.specs.code.Passed.{HeaderPasses}
 
 pub mode-range : (mode : ℕ) → modeGood mode ≡ true → (1 ≤ mode) × (mode ≤ 5)
 mode-range mode e = let b = both _ _ e in (leb-true 1 mode (b .0), leb-true mode 5 (b .1))

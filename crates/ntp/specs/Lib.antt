@@ -4,6 +4,6 @@ pub mod Header
 pub mod Times
 pub mod Dispatch
 pub mod Receive
-pub mod Ranges
 pub mod Laws
 pub mod HalfDelay
+pub mod code

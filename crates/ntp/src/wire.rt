@@ -3,7 +3,7 @@ ghost use mathlib.Core.Path.{_≡_};
 ghost use Prim.Native.Nat.{_≤_};
 ghost use lib.ListN.{length};
 ghost use Rattle.ntp.specs.Header.{headerLength, versionGood, modeGood, leapGood, fields, read, octetsOf, refusedOctets, write};
-ghost use Rattle.ntp.specs.Ranges.{InTable, HeaderPasses};
+ghost use Rattle.ntp.specs.code.Passed.{InTable, HeaderPasses};
 use super::Answer;
 use super::Header;
 use super::Read;

@@ -5,7 +5,7 @@ use mathlib.Core.List.{List, [], _∷_}
 use Prim.Native.Nat.{ℕ, _-_, _<_}
 use borrow.Author.Tests.{ltb-true}
 use lib.Dec.{ltb, leb}
-use Rattle.laws.proofs.Tests.{either, both}
+use Rattle.lists.proofs.Tests.{either, both}
 use Rattle.wire.specs.declared.Address.{Address}
 use Rattle.route.specs.declared.Layout.{Layout}
 use Rattle.route.specs.declared.Net.{Net}

@@ -5,7 +5,7 @@ use mathlib.Core.List.{List}
 use Prim.Native.Nat.{ℕ, _+_, _≤_, _<_}
 use borrow.Author.Tests.{lt-ltb, le-ltb}
 use lib.ListN.{length, getD, take, drop}
-use Rattle.laws.proofs.Rest.{rest-cons, rest-none}
+use Rattle.lists.proofs.Rest.{rest-cons, rest-none}
 use Rattle.route.specs.declared.Net.{Net}
 use Rattle.route.specs.declared.Row.{Row}
 use Rattle.route.specs.declared.Found.the-variants.{Id, Nothing}

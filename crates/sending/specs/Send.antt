@@ -5,7 +5,7 @@ use Prim.Native.Nat.{ℕ, _-_}
 use lib.Dec.{ltb}
 use lib.IntN.{pos}
 use lib.ListN.{drop}
-use Rattle.laws.specs.Lists.{part}
+use Rattle.lists.specs.Lists.{part}
 use Rattle.quantity.specs.Quantity.{millis}
 use Rattle.quantity.specs.Words.{word}
 use Rattle.answer.specs.declared.Answer.{Answer}

@@ -9,7 +9,7 @@ use Rattle.quantity.specs.declared.Seconds.{Seconds}
 use Rattle.quantity.specs.Quantity.{lessMillis}
 use Rattle.quantity.specs.Words.{ofWord}
 use Rattle.quantity.proofs.Ints.{dn, lt-yes}
-use Rattle.laws.proofs.Tests.{either, both}
+use Rattle.lists.proofs.Tests.{either, both}
 use Rattle.calendar.specs.declared.Date.{Date}
 use Rattle.calendar.specs.Date.{real, awaited}
 use Rattle.clock.specs.declared.Clock.{Clock}

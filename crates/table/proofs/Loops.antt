@@ -5,16 +5,16 @@ use mathlib.Core.List.{List, [], _∷_, _++_, map, map-append}
 use Prim.Native.Nat.{ℕ, suc, _+_, _-_, _<_}
 use native.Mathlib.Omega.{arith}
 use lib.ListN.{length, getD, set, length-map}
-use Rattle.laws.specs.Lists.{part, over}
-use Rattle.laws.proofs.Parts.{part-more, part-length, over-next, over-more}
+use Rattle.lists.specs.Lists.{part, over}
+use Rattle.lists.proofs.Parts.{part-more, part-length, over-next, over-more}
 use Rattle.clock.specs.declared.Clock.{Clock}
 use Rattle.wire.specs.declared.Report.{Report}
-use Rattle.wire.specs.Sealing.{withReport, withReports}
+use Rattle.wire.specs.code.Sealing.{withReport, withReports}
 use Rattle.table.specs.declared.Entry.{Entry}
 use Rattle.table.specs.declared.Updated.{Updated}
 use Rattle.table.specs.Forms.{every}
 use Rattle.table.specs.Sweep.{Swept, sweep}
-use Rattle.table.specs.Runs.{latest}
+use Rattle.table.specs.code.Loops.{latest}
 use Rattle.table.proofs.Sweeps.{sweep-length, sweep-more}
 
 -- ---- one element more

@@ -12,13 +12,13 @@ use mir.Syntax.{w64}
 use mir.Val.{SFits}
 use Rattle.quantity.specs.Quantity.{unitsPerMilli, millis, wholeMillis}
 use Rattle.quantity.proofs.Ints.{Within, floor, lt-no, not-lt, of-≤ℤ, of-<ℤ, sum, fits}
-use Rattle.laws.proofs.Tests.{both, each}
+use Rattle.lists.proofs.Tests.{both, each}
 use Rattle.clock.specs.declared.Clock.{Clock}
 use Rattle.clock.specs.Midnight.{dayMillis}
 use Rattle.clock.specs.Clock.{reading, clockInRange}
 use Rattle.clock.proofs.Bounds as clock
 use Rattle.wire.specs.declared.Report.{Report}
-use Rattle.wire.specs.Ranges.{Two}
+use Rattle.wire.specs.code.Ranges.{Two}
 use Rattle.table.specs.declared.Entry.{Entry}
 use Rattle.table.specs.declared.Update.{Update}
 use Rattle.table.specs.Entry.{maxDelay, holdDown, upTo, entryInRange}

@@ -6,8 +6,8 @@ use native.Mathlib.Omega.{arith}
 use borrow.Author.Tests.{eq-eqb, ne-eqb}
 use lib.Dec.{eqb}
 use lib.ListN.{length, getD}
-use Rattle.laws.specs.Lists.{over}
-use Rattle.laws.proofs.Tests.{either}
+use Rattle.lists.specs.Lists.{over}
+use Rattle.lists.proofs.Tests.{either}
 use Rattle.clock.specs.declared.Clock.{Clock}
 use Rattle.table.specs.declared.Entry.{Entry}
 use Rattle.table.specs.declared.Updated.{Updated}

@@ -1,7 +1,7 @@
 -- The structs that the loops over the run are lent, passed and hand back, as the laws of crate `laws` take them.
 use mathlib.Core.List.{[], _∷_}
-use Rattle.laws.proofs.Words.{Data, struct-part, usize-part, bool-part}
-use Rattle.laws.proofs.Outcomes.{Outcome, behind}
+use Rattle.lent.proofs.Words.{Data, struct-part, usize-part, bool-part}
+use Rattle.lent.proofs.Outcomes.{Outcome, behind}
 use Rattle.clock.proofs.Types.{clock}
 use Rattle.table.proofs.Entry as Entry
 use Rattle.table.proofs.Entry.Laws as Entry′

@@ -4,3 +4,4 @@ pub mod Update
 pub mod Sweep
 pub mod Runs
 pub mod Switching
+pub mod code

@@ -3,26 +3,11 @@ ghost use mathlib.Core.Path.{_≡_};
 ghost use mathlib.Core.Bool.{true};
 ghost use Prim.Native.Nat.{_-_, _≤_};
 ghost use Rattle.clock.specs.Clock.{clockInRange};
-ghost use Rattle.wire.specs.Ranges.{Two};
+ghost use Rattle.wire.specs.code.Ranges.{Two};
 ghost use Rattle.table.specs.Entry.{upTo};
 ghost use Rattle.table.specs.Update.{plusReport, ownMost, delayInRange};
-ghost use Rattle.table.specs.Runs.{
-  InRun,
-  stillGood,
-  allInRange,
-  entryOf,
-  changed,
-  changes,
-  updateAt,
-  updatedAt,
-  Updatable,
-  UpdatesFit,
-  updates,
-  reported,
-  ReportFits,
-  ReportsFit,
-  readOut,
-};
+ghost use Rattle.table.specs.Runs.{changed, changes, updateAt, updatedAt, updates};
+ghost use Rattle.table.specs.code.Loops.{InRun, stillGood, allInRange, entryOf, Updatable, UpdatesFit, reported, ReportFits, ReportsFit, readOut};
 use super::Entry;
 use super::Update;
 use super::Updated;

@@ -15,8 +15,8 @@ use Rattle.text.specs.declared.read.Read.the-variants.{Good, Bad}
 use Rattle.text.specs.Numbers.{numbersOf}
 use Rattle.text.specs.Text.{textOf}
 use Rattle.text.specs.Answers.{Made, into, toText, fromText, Leaves}
-use Rattle.text.specs.Code.{Put}
-use Rattle.text.specs.Reading.{ReadSays}
+use Rattle.text.specs.code.Put.{Put}
+use Rattle.text.specs.code.Reading.{ReadSays}
 
 -- what was put at the start
 pub put-taken : {b a xs : List ℕ} {n : ℕ} → Put b a 0 n xs → take n a ≡ xs

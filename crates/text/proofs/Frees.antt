@@ -6,7 +6,7 @@ use Prim.Native.Nat.{ℕ, _+_, _<_}
 use native.Mathlib.Omega.{arith}
 use borrow.Author.Tests.{leb-true, eqb-true, eq-eqb, ne-eqb}
 use lib.Dec.{eqb, leb}
-use Rattle.laws.proofs.Tests.{both}
+use Rattle.lists.proofs.Tests.{both}
 use Rattle.text.specs.Numerals.{zeroSign, nineSign, minusSign, isDigit, allDigits, isNumeral, isSigned, value}
 use Rattle.text.specs.Words.{space, cut, words, Test, pass}
 use Rattle.text.proofs.Cuts.{cut-some}

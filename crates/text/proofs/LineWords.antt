@@ -15,7 +15,7 @@ use Rattle.text.specs.declared.scan.First.{First}
 use Rattle.text.specs.Numerals.{isNumeral, isSigned}
 use Rattle.text.specs.Words.{space, words, Test, pass, same}
 use Rattle.text.specs.Text.{hello}
-use Rattle.text.specs.Scan.{NumberRead, OffsetRead, FieldRead, TimesGood, TimesRead, RowRead, FirstRead, LineRead}
+use Rattle.text.specs.code.Scan.{NumberRead, OffsetRead, FieldRead, TimesGood, TimesRead, RowRead, FirstRead, LineRead}
 use Rattle.text.proofs.Readings.{from-on, field-passes, and-false}
 use Rattle.text.proofs.Frees.{cut-free, numeral-free, signed-free, last-word}
 

@@ -5,15 +5,15 @@ use Prim.Native.Nat.{ℕ, suc, _+_, _-_, _≤_, _<_}
 use native.Mathlib.Omega.{arith}
 use borrow.Author.Tests.{lt-ltb, le-ltb}
 use lib.ListN.{length, drop, length-append}
-use Rattle.laws.specs.Lists.{over}
-use Rattle.laws.proofs.Parts.{over-twice, over-nothing}
+use Rattle.lists.specs.Lists.{over}
+use Rattle.lists.proofs.Parts.{over-twice, over-nothing}
 use Rattle.quantity.specs.Words.{signed16}
 use Rattle.wire.specs.Octets.{twoAt, fourAt}
 use Rattle.text.specs.Numerals.{minusSign, numeral, signedNumeral}
 use Rattle.text.specs.Words.{space, newline}
 use Rattle.text.specs.Numbers.{rowsOf, numbersOf}
 use Rattle.text.specs.Text.{hello, firstLine, rowLine, rowLines}
-use Rattle.text.specs.Code.{Put, row, timesText}
+use Rattle.text.specs.code.Put.{Put, row, timesText}
 use Rattle.text.proofs.Puts.{put, put-then}
 use Rattle.text.proofs.Rows.{rowAt, rows-more, rows-none}
 

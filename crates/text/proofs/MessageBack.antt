@@ -8,7 +8,7 @@ use borrow.Author.Tests.{leb-true, le-leb, lt-ltb, le-ltb, ltb-true, ltb-false, 
 use lib.Dec.{leb, ltb}
 use lib.IntN.{ℤ, pos, negsuc}
 use lib.ListN.{length}
-use Rattle.laws.proofs.Tests.{both}
+use Rattle.lists.proofs.Tests.{both}
 use Rattle.quantity.specs.Words.{bits16, signed16}
 use Rattle.checksum.specs.Checksum.{checksumOf}
 use Rattle.wire.specs.Octets.{two, four, octetAt}

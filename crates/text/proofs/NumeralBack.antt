@@ -9,7 +9,7 @@ use borrow.Author.Tests.{leb-true, ltb-true, ltb-false, eqb-true, eqb-false, ne-
 use lib.Dec.{leb, ltb, eqb}
 use lib.IntN.{ℤ, pos, negsuc, negℤ}
 use lib.ListN.{length, getD, List·getD-append}
-use Rattle.laws.proofs.Tests.{both}
+use Rattle.lists.proofs.Tests.{both}
 use Rattle.text.specs.Numerals.{zeroSign, nineSign, minusSign, digits, width, numeral, signedNumeral, isDigit, allDigits, isNumeral, value, isNegative, isSigned, signedValue}
 use Rattle.text.specs.Numbers.{fitsSigned}
 use Rattle.text.proofs.Puts.{digits-length}

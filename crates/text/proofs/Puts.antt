@@ -7,10 +7,10 @@ use native.Mathlib.Nat.{lt-suc-self}
 use native.Mathlib.Omega.{arith}
 use lib.ListN.{length, take, drop, getD, set, length-append, length-set, drop-of-length-le}
 use lib.Seq.{set-split, take-set-le, drop-set-lt, drop-cons, getD-set-same}
-use Rattle.laws.specs.Lists.{over}
-use Rattle.laws.proofs.Parts.{over-twice, over-nothing, over-length}
+use Rattle.lists.specs.Lists.{over}
+use Rattle.lists.proofs.Parts.{over-twice, over-nothing, over-length}
 use Rattle.text.specs.Numerals.{zeroSign, digits}
-use Rattle.text.specs.Code.{Put}
+use Rattle.text.specs.code.Put.{Put}
 
 pub octet-put : (b : List ℕ) (i n : ℕ) → i < length b → set b i n ≡ over b i (n ∷ [])
 octet-put b i n h =

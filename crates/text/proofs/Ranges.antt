@@ -8,15 +8,15 @@ use borrow.Author.Tests.{leb-true, lt-ltb}
 use lib.Dec.{leb, ltb, leb·suc-suc}
 use lib.IntN.{pos, negℤ}
 use lib.ListN.{length}
-use Rattle.laws.specs.Lists.{over}
-use Rattle.laws.proofs.Parts.{over-twice, over-length}
-use Rattle.laws.proofs.Tests.{both}
+use Rattle.lists.specs.Lists.{over}
+use Rattle.lists.proofs.Parts.{over-twice, over-length}
+use Rattle.lists.proofs.Tests.{both}
 use Rattle.quantity.specs.Words.{bits16}
 use Rattle.wire.specs.Octets.{two, four}
 use Rattle.wire.specs.Hello.{reportPlace}
 use Rattle.text.specs.declared.scan.First.{First}
 use Rattle.text.specs.Numbers.{Row, fitsOctet, fitsTwo, fitsFour, fitsSigned, rowFits, firstFits, fixedOctets}
-use Rattle.text.specs.Reading.{mostHosts, mostLength, signedOf, rowOctets, firstTold, RowPut}
+use Rattle.text.specs.code.Reading.{mostHosts, mostLength, signedOf, rowOctets, firstTold, RowPut}
 use Rattle.text.proofs.Readings.{and-true}
 
 pub fits-negative : (n : ℕ) → fitsSigned (negℤ (pos n)) ≡ leb n 32768

@@ -13,7 +13,7 @@ use Rattle.text.specs.declared.scan.Offset.{Offset}
 use Rattle.text.specs.declared.scan.Field.{Field}
 use Rattle.text.specs.Numerals.{zeroSign, minusSign, isDigit, allDigits, isNumeral, isSigned, value}
 use Rattle.text.specs.Words.{words, Test, pass}
-use Rattle.text.specs.Scan.{Stands, NumberRead, OffsetRead, FieldGood, FieldRead}
+use Rattle.text.specs.code.Scan.{Stands, NumberRead, OffsetRead, FieldGood, FieldRead}
 
 -- ---- a word that is no number, and one of which only the test is another
 

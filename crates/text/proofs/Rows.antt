@@ -9,7 +9,7 @@ use borrow.Author.Tests.{leb-true, eqb-true}
 use lib.Dec.{leb, eqb}
 use lib.ListN.{length, drop, length-drop}
 use lib.Seq.{drop-cons}
-use Rattle.laws.proofs.Tests.{both}
+use Rattle.lists.proofs.Tests.{both}
 use Rattle.quantity.specs.Words.{signed16}
 use Rattle.wire.specs.Octets.{octetAt, twoAt}
 use Rattle.wire.specs.Hello.{fixedLength, nhostsPlace, helloLength, helloForm}

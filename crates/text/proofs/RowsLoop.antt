@@ -9,17 +9,17 @@ use borrow.Author.Tests.{le-leb, ltb-true}
 use lib.Dec.{leb, ltb}
 use lib.ListN.{length, take, drop, length-append, length-drop, drop-of-length-le}
 use lib.Seq.{append-snoc, drop-drop}
-use Rattle.laws.specs.Lists.{over}
-use Rattle.laws.proofs.Parts.{over-twice, over-nothing}
-use Rattle.laws.proofs.Tests.{both}
+use Rattle.lists.specs.Lists.{over}
+use Rattle.lists.proofs.Parts.{over-twice, over-nothing}
+use Rattle.lists.proofs.Tests.{both}
 use Rattle.wire.specs.Hello.{fixedLength, reportPlace}
 use Rattle.text.specs.declared.scan.Row as Scanned
 use Rattle.text.specs.declared.read.Rows.{Rows}
 use Rattle.text.specs.Words.{newline, cut, words, lines, pass}
 use Rattle.text.specs.Numbers.{Row, rowFits, rowsFit, rowsOctets}
 use Rattle.text.specs.Text.{rowTests, rowsForm, rowIn, rowsIn}
-use Rattle.text.specs.Scan.{Found, RowRead}
-use Rattle.text.specs.Reading.{mostHosts, mostLength, rowTold, rowOctets, RowPut, RowsRead}
+use Rattle.text.specs.code.Scan.{Found, RowRead}
+use Rattle.text.specs.code.Reading.{mostHosts, mostLength, rowTold, rowOctets, RowPut, RowsRead}
 use Rattle.text.proofs.Cuts.{cut-some}
 use Rattle.text.proofs.Readings.{and-true, and-false}
 use Rattle.text.proofs.LineWords.{part-read}

@@ -8,13 +8,13 @@ use borrow.Author.Tests.{leb-true, leb-false, lt-leb, le-leb}
 use lib.Dec.{leb}
 use lib.IntN.{pos, negℤ}
 use lib.ListN.{drop}
-use Rattle.laws.proofs.Tests.{both}
+use Rattle.lists.proofs.Tests.{both}
 use Rattle.text.specs.declared.scan.Row as Scanned
 use Rattle.text.specs.Numerals.{isNegative, value, signedValue}
 use Rattle.text.specs.Numbers.{Row, fitsTwo, fitsSigned, rowFits}
 use Rattle.text.specs.Text.{wordAt, rowIn}
-use Rattle.text.specs.Scan.{large, Stands, size, RowGood}
-use Rattle.text.specs.Reading.{signedOf, rowTold}
+use Rattle.text.specs.code.Scan.{large, Stands, size, RowGood}
+use Rattle.text.specs.code.Reading.{signedOf, rowTold}
 use Rattle.text.proofs.Ranges.{fits-negative, size-fits}
 
 pub stands-le : (r n k : ℕ) → k < large → Stands r n → leb r k ≡ leb n k

@@ -7,7 +7,7 @@ use native.Mathlib.Omega.{arith}
 use borrow.Author.Tests.{leb-true, eqb-true}
 use lib.Dec.{eqb}
 use lib.ListN.{length}
-use Rattle.laws.proofs.Tests.{both}
+use Rattle.lists.proofs.Tests.{both}
 use Rattle.text.specs.Numerals.{numeral, signedNumeral, isNumeral, isSigned, value, signedValue}
 use Rattle.text.specs.Words.{space, newline, ahead, cut, words, lines, Test, pass, same}
 use Rattle.text.specs.Numbers.{Row, Numbers, fitsOctet, fitsTwo, fitsFour, fitsSigned, rowFits, rowsFit, firstFits, numbersFit}

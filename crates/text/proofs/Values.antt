@@ -10,7 +10,7 @@ use borrow.Author.Tests.{lt-leb, le-leb, eqb-true}
 use lib.Dec.{eqb}
 use lib.ListN.{length, getD, take, drop, length-append, drop-of-length-le}
 use lib.Seq.{drop-cons, take-suc}
-use Rattle.laws.proofs.Tests.{both}
+use Rattle.lists.proofs.Tests.{both}
 use Rattle.text.specs.Numerals.{zeroSign, nineSign, isDigit, allDigits, value}
 use Rattle.text.specs.Words.{same}
 use Rattle.text.specs.Text.{hello}

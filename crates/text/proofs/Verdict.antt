@@ -8,8 +8,8 @@ use borrow.Author.Tests.{eq-eqb, ne-eqb, le-leb}
 use lib.Dec.{eqb}
 use lib.ListN.{length, take, drop, length-drop}
 use lib.Seq.{getD-drop, take-append-add, length-take-le}
-use Rattle.laws.specs.Lists.{over}
-use Rattle.laws.proofs.Parts.{over-there, over-length}
+use Rattle.lists.specs.Lists.{over}
+use Rattle.lists.proofs.Parts.{over-there, over-length}
 use Rattle.checksum.specs.Checksum.{checksumOf}
 use Rattle.wire.specs.Octets.{two}
 use Rattle.wire.specs.Hello.{fixedLength}
@@ -22,8 +22,8 @@ use Rattle.text.specs.Words.{newline, words, lines, pass}
 use Rattle.text.specs.Numbers.{Row, Numbers, firstFits, rowsFit, numbersFit, rowsOctets, fixedOctets, octetsBehind, messageOf}
 use Rattle.text.specs.Text.{wordAt, firstTests, rowsForm, rowsIn, form, numbersIn}
 use Rattle.text.specs.Answers.{refused, into, fromText}
-use Rattle.text.specs.Scan.{large, Stands, Found, FirstGood, LineRead}
-use Rattle.text.specs.Reading.{mostHosts, mostLength, firstTold, RowsGood, RowsRead, ReadSays}
+use Rattle.text.specs.code.Scan.{large, Stands, Found, FirstGood, LineRead}
+use Rattle.text.specs.code.Reading.{mostHosts, mostLength, firstTold, RowsGood, RowsRead, ReadSays}
 use Rattle.text.proofs.Readings.{and-false}
 use Rattle.text.proofs.LineWords.{part-read}
 use Rattle.text.proofs.Ranges.{first-fits}

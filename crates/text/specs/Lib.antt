@@ -4,6 +4,4 @@ pub mod Numbers
 pub mod Text
 pub mod Answers
 pub mod Back
-pub mod Code
-pub mod Scan
-pub mod Reading
+pub mod code

@@ -3,8 +3,8 @@ ghost use mathlib.Core.Path.{_≡_};
 ghost use mathlib.Core.List.{_∷_, []};
 ghost use Prim.Native.Nat.{_+_, _*_, _≤_, _<_};
 ghost use lib.ListN.{length};
-ghost use Rattle.laws.specs.Lists.{over};
-ghost use Rattle.text.specs.Code.{Put};
+ghost use Rattle.lists.specs.Lists.{over};
+ghost use Rattle.text.specs.code.Put.{Put};
 ghost use Rattle.wire.specs.Octets.{two, four, twoAt, fourAt};
 
 // The number in two octets, and in four.

@@ -6,7 +6,7 @@ ghost use lib.ListN.{length};
 ghost use Rattle.text.specs.Numerals.{allDigits, isNumeral};
 ghost use Rattle.text.specs.Words.{words, same};
 ghost use Rattle.text.specs.Text.{hello};
-ghost use Rattle.text.specs.Scan.{Found, More, NumberRead, OffsetRead, FieldRead, TimesRead, RowRead, FirstRead, LineRead};
+ghost use Rattle.text.specs.code.Scan.{Found, More, NumberRead, OffsetRead, FieldRead, TimesRead, RowRead, FirstRead, LineRead};
 
 // What a word is, read as a number: whether it is a numeral, and the number, or a large one for any that is as large.
 pub struct Number {

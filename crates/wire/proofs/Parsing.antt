@@ -12,14 +12,14 @@ use Rattle.quantity.specs.declared.Word.{Word}
 use Rattle.quantity.specs.Quantity.{millis}
 use Rattle.quantity.specs.Words.{word, signed16}
 use Rattle.quantity.proofs.Ints.{to-≤ℤ, to-<ℤ}
-use Rattle.laws.proofs.Tests.{both}
+use Rattle.lists.proofs.Tests.{both}
 use Rattle.wire.specs.declared.Address.{Address}
 use Rattle.wire.specs.declared.Parsed.the-variants.{Good}
 use Rattle.wire.specs.Octets.{octetAt, twoAt, fourAt, addressAt}
 use Rattle.wire.specs.Ip.{headerLength, versionAndLength, versionPlace, totalPlace, fragmentPlace, sourcePlace, ipForm, ipChecksum, protocol}
 use Rattle.wire.specs.Hello.{fixedLength, datePlace, timePlace, tspPlace, addressOffsetPlace, nhostsPlace, helloLength, helloForm, helloChecksum}
 use Rattle.wire.specs.Packet.{helloOf, fields, parse}
-use Rattle.wire.specs.Ranges.{Four}
+use Rattle.wire.specs.code.Ranges.{Four}
 
 pub ip-long : (s : List ℕ) → ipForm s ≡ true → headerLength ≤ length s
 unfolding ipForm

@@ -21,7 +21,7 @@ use Rattle.wire.specs.Octets.{two, addressOctets}
 use Rattle.wire.specs.Ip.{ipChecksum, protocol, headerFront, headerBack, header}
 use Rattle.wire.specs.Hello.{reportAt, reportPlace, helloLength, helloChecksum, reportsOctets, helloBehind, hello}
 use Rattle.wire.specs.Packet.{helloOf, fields, packetLength, message}
-use Rattle.wire.specs.Ranges.{Two, SignedTwo, Four, AddressFits, PacketFits, ReportFits, ReportsFit}
+use Rattle.wire.specs.code.Ranges.{Two, SignedTwo, Four, AddressFits, PacketFits, ReportFits, ReportsFit}
 use Rattle.wire.specs.ReadBack.{MessageFits, ReadBack, ReportsBack}
 use Rattle.wire.proofs.Messages.{octet-of-report, message-length, hello-length, behind-octets}
 use Rattle.wire.proofs.Parsing.{ip-form, hello-form, HeaderPasses, HelloPasses, passes}

@@ -5,15 +5,15 @@ use Prim.Native.Nat.{ℕ, suc, _+_, _*_, _≤_}
 use native.Mathlib.Omega.{arith}
 use lib.ListN.{length, take, drop}
 use lib.Seq.{drop-drop, paste-zero}
-use Rattle.laws.specs.Lists.{over}
-use Rattle.laws.proofs.Parts.{over-there, over-rest, over-twice, over-length}
+use Rattle.lists.specs.Lists.{over}
+use Rattle.lists.proofs.Parts.{over-there, over-rest, over-twice, over-length}
 use Rattle.wire.specs.declared.Address.{Address}
 use Rattle.wire.specs.declared.Packet.{Packet}
 use Rattle.wire.specs.declared.Report.{Report}
 use Rattle.wire.specs.Ip.{headerLength, header}
 use Rattle.wire.specs.Hello.{fixedLength, reportLength, reportPlace, helloLength, reportOctets, reportsOctets, hello}
 use Rattle.wire.specs.Packet.{packetLength, message}
-use Rattle.wire.specs.Sealing.{sealedHello, sealed, withReport, withReports}
+use Rattle.wire.specs.code.Sealing.{sealedHello, sealed, withReport, withReports}
 use Rattle.wire.proofs.Messages.{reports-length, reports-append}
 
 -- with its reports in their places, what is sealed is the message

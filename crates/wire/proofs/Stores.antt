@@ -7,7 +7,7 @@ use native.Mathlib.Omega.{arith}
 use lib.IntN.{natAbs}
 use lib.ListN.{length, take, drop, set, take-append-drop}
 use lib.Seq.{sets, sets-eq, drop-drop, drop-at, take-append-add, length-take-le}
-use Rattle.laws.proofs.Parts.{over-behind}
+use Rattle.lists.proofs.Parts.{over-behind}
 use Rattle.quantity.specs.Words.{bits16}
 use Rattle.checksum.specs.Checksum.{checksumOf}
 use Rattle.checksum.proofs.Octets.{Octets, in-front, behind}
@@ -19,7 +19,7 @@ use Rattle.wire.specs.declared.Report.{Report}
 use Rattle.wire.specs.Octets.{two, four, addressOctets}
 use Rattle.wire.specs.Ip.{headerLength, versionAndLength, helloProtocol, versionPlace, totalPlace, fragmentPlace, protocolPlace, sourcePlace, headerFront, headerBack, header}
 use Rattle.wire.specs.Hello.{fixedLength, datePlace, timePlace, tspPlace, addressOffsetPlace, nhostsPlace, reportLength, reportPlace, helloLength, reportOctets, helloBehind}
-use Rattle.wire.specs.Sealing.{sealedBehind, sealedHello, sealed, helloWithReport, withReport}
+use Rattle.wire.specs.code.Sealing.{sealedBehind, sealedHello, sealed, helloWithReport, withReport}
 use Rattle.wire.proofs.Parts.{from-on, comes-back}
 
 -- ---- a report

@@ -9,7 +9,7 @@ use Rattle.wire.specs.declared.Report.{Report}
 use Rattle.wire.specs.declared.Parsed.the-variants.{Good}
 use Rattle.wire.specs.Hello.{reportAt}
 use Rattle.wire.specs.Packet.{helloOf, parse, message}
-use Rattle.wire.specs.Ranges.{AddressFits, PacketFits, ReportsFit}
+use Rattle.wire.specs.code.Ranges.{AddressFits, PacketFits, ReportsFit}
 
 -- all octets of a message are octets, and its NHOSTS counts its reports
 pub record MessageFits (destination : Address) (p : Packet) (rs : List Report) : Type 0 where

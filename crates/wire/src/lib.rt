@@ -6,9 +6,9 @@ ghost use Rattle.wire.specs.Octets.{zeroAddress, sameAddress};
 ghost use Rattle.wire.specs.Ip.{headerLength};
 ghost use Rattle.wire.specs.Hello.{reportLength, reportPlace, reportAt};
 ghost use Rattle.wire.specs.Packet.{packetLength, helloOf, fields, parse};
-ghost use Rattle.wire.specs.Ranges.{Two, Four, TimeFits};
+ghost use Rattle.wire.specs.code.Ranges.{Two, Four, TimeFits};
 ghost use Rattle.wire.specs.ReadBack.{ReadBack, ReportsBack};
-ghost use Rattle.wire.specs.Sealing.{withReport, sealed};
+ghost use Rattle.wire.specs.code.Sealing.{withReport, sealed};
 
 mod hello;
 mod ip;

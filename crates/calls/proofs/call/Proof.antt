@@ -2,11 +2,11 @@
 use mathlib.Core.Path.{_≡_}
 use base.Logic.{emp, id⊢}
 use contract.Monad.{fact, factI}
-use Rattle.laws.proofs.Words.{by-value, chosen-by-value, struct-part}
-use Rattle.laws.proofs.Outcomes.{whole}
+use Rattle.lent.proofs.Words.{by-value, chosen-by-value, struct-part}
+use Rattle.lent.proofs.Outcomes.{whole}
 use Rattle.shapes.proofs.made.Performs.{proof}
 use Rattle.clock.proofs.Types.{clock}
-use Rattle.table.specs.Runs.{InRun, entryOf}
+use Rattle.table.specs.code.Loops.{InRun, entryOf}
 use Rattle.table.specs.Runs as loops
 use Rattle.table.proofs.Types.{entry, seek, changes}
 use Rattle.table.proofs.run.entry_of.Symbol as seeks

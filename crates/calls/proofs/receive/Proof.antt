@@ -3,11 +3,11 @@ use mathlib.Core.Path.{_≡_}
 use Prim.Native.Nat.{_≤_}
 use base.Logic.{emp, id⊢}
 use contract.Monad.{fact, factI}
-use Rattle.laws.proofs.Words.{by-value, chosen-by-value, struct-part}
-use Rattle.laws.proofs.Outcomes.{whole}
+use Rattle.lent.proofs.Words.{by-value, chosen-by-value, struct-part}
+use Rattle.lent.proofs.Outcomes.{whole}
 use Rattle.shapes.proofs.made.Receives.{proof}
 use Rattle.clock.proofs.Types.{clock}
-use Rattle.table.specs.Runs.{UpdatesFit}
+use Rattle.table.specs.code.Loops.{UpdatesFit}
 use Rattle.table.specs.Runs as loops
 use Rattle.table.proofs.Types.{entry, updates}
 use Rattle.table.proofs.run.update_all.Symbol as updates-all

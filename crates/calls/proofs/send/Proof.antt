@@ -4,11 +4,11 @@ use mathlib.Core.List.{List}
 use Prim.Native.Nat.{ℕ}
 use base.Logic.{emp, id⊢}
 use contract.Monad.{fact, factI}
-use Rattle.laws.proofs.Words.{by-value, chosen-by-value, struct-part}
-use Rattle.laws.proofs.Outcomes.{whole}
+use Rattle.lent.proofs.Words.{by-value, chosen-by-value, struct-part}
+use Rattle.lent.proofs.Outcomes.{whole}
 use Rattle.shapes.proofs.made.Sends.{proof}
 use Rattle.clock.proofs.Types.{clock}
-use Rattle.table.specs.Runs.{ReportsFit, readOut}
+use Rattle.table.specs.code.Loops.{ReportsFit, readOut}
 use Rattle.table.proofs.Types.{entry, reports}
 use Rattle.table.proofs.run.read_out.Symbol as reads
 use Rattle.table.proofs.run.read_out.Met as reads-known

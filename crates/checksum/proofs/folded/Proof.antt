@@ -2,7 +2,7 @@
 use borrow.Author.Needs.{needs}
 use mathlib.Core.Path.{sym, ap, _∙_}
 use Prim.Native.Nat.{_*_}
-use Rattle.checksum.specs.EndAround.{endAround, lowSum}
+use Rattle.checksum.specs.code.EndAround.{endAround, lowSum}
 use Rattle.checksum.proofs.Octets.{of-places}
 use Rattle.checksum.proofs.Folding.{folded-sum}
 use Rattle.checksum.proofs.LowFirst.{low-times, end-times}

@@ -1,8 +1,8 @@
 -- It does in place what `Clock::reading` does by value, and gives its time.
 use mathlib.Core.Path.{_≡_, ap}
 use base.Logic.{emp, id⊢}
-use Rattle.laws.proofs.Words.{struct-part}
-use Rattle.laws.proofs.made.Reads.{proof}
+use Rattle.lent.proofs.Words.{struct-part}
+use Rattle.lent.proofs.made.Reads.{proof}
 use Rattle.clock.specs.declared.Reading.{Reading}
 use Rattle.clock.specs.Clock.{reading}
 use Rattle.clock.proofs.Types.{clock, millis}

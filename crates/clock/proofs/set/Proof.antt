@@ -5,8 +5,8 @@ use mir.Syntax.{w32}
 use mir.Val.{SFits}
 use base.Logic.{sep, id⊢}
 use contract.Monad.{fact}
-use Rattle.laws.proofs.Words.{by-value}
-use Rattle.laws.proofs.made.Moves2.{proof}
+use Rattle.lent.proofs.Words.{by-value}
+use Rattle.lent.proofs.made.Moves2.{proof}
 use Rattle.clock.specs.Clock.{setBy, clockInRange}
 use Rattle.clock.proofs.Types.{clock, millis, seconds}
 use Rattle.clock.proofs.Clock.set_by.Symbol as set-by

@@ -2,7 +2,7 @@
 use mathlib.Core.Path.{_≡_}
 use mir.Syntax.{w8}
 use base.Logic.{emp, id⊢}
-use Rattle.laws.proofs.Words.{by-value, unsigned}
+use Rattle.lent.proofs.Words.{by-value, unsigned}
 use Rattle.shapes.proofs.made.ExportReceives.{proof}
 use Rattle.clock.proofs.Types.{clock}
 use Rattle.table.proofs.Types.{entry}

@@ -2,7 +2,7 @@
 use mathlib.Core.Path.{_≡_, sym}
 use mir.Syntax.{w8}
 use base.Logic.{emp, id⊢}
-use Rattle.laws.proofs.Words.{by-value, chosen-by-value, unsigned}
+use Rattle.lent.proofs.Words.{by-value, chosen-by-value, unsigned}
 use Rattle.shapes.proofs.made.ExportAsks.{proof}
 use Rattle.clock.proofs.Types.{clock}
 use Rattle.table.proofs.Types.{entry}

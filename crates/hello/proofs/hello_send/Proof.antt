@@ -1,7 +1,7 @@
 -- The call, and what is told of its reply.
 use mathlib.Core.Path.{_≡_}
 use base.Logic.{emp, id⊢}
-use Rattle.laws.proofs.Words.{by-value}
+use Rattle.lent.proofs.Words.{by-value}
 use Rattle.shapes.proofs.made.ExportSends.{proof}
 use Rattle.clock.proofs.Types.{clock}
 use Rattle.table.proofs.Types.{entry}

@@ -2,7 +2,7 @@
 use mathlib.Core.Path.{_≡_, sym}
 use mir.Syntax.{w8, w32}
 use base.Logic.{emp, id⊢}
-use Rattle.laws.proofs.Words.{by-value, chosen-by-value, unsigned, signed}
+use Rattle.lent.proofs.Words.{by-value, chosen-by-value, unsigned, signed}
 use Rattle.shapes.proofs.made.ExportAsksWith.{proof}
 use Rattle.clock.proofs.Types.{clock}
 use Rattle.table.proofs.Types.{entry}

@@ -5,7 +5,7 @@ use Prim.Native.Nat.{ℕ, _-_}
 use lib.Dec.{ltb}
 use lib.ListN.{length}
 use lib.Seq.{drop-set-lt}
-use Rattle.laws.proofs.Tests.{either}
+use Rattle.lists.proofs.Tests.{either}
 use Rattle.wire.specs.Packet.{packetLength}
 use Rattle.table.specs.declared.Entry.{Entry}
 use Rattle.host.specs.declared.Link.{Link}

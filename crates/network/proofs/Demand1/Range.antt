@@ -7,7 +7,7 @@ use native.Mathlib.Omega.{arith}
 use lib.Dec.{ltb}
 use lib.IntN.{pos}
 use lib.ListN.{length, take}
-use Rattle.laws.proofs.Tests.{either, both, neither, is-not, is-so}
+use Rattle.lists.proofs.Tests.{either, both, neither, is-not, is-so}
 use Rattle.quantity.specs.Quantity.{millis, lessMillis}
 use Rattle.answer.specs.declared.Answer.the-variants.{Done, Setting, DelayNotValid, NoHost, OutOfRange}
 use Rattle.answer.specs.Answer.{number}

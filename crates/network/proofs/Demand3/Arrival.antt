@@ -9,7 +9,7 @@ use lib.Dec.{T, eqb}
 use lib.IntN.{pos, _+ℤ_, _-ℤ_}
 use lib.ListN.{length, getD}
 use lib.Signed.{shrZ}
-use Rattle.laws.proofs.Tests.{either, is-so, neither}
+use Rattle.lists.proofs.Tests.{either, is-so, neither}
 use Rattle.quantity.specs.declared.Millis.{Millis}
 use Rattle.quantity.specs.declared.Word.{Word}
 use Rattle.quantity.specs.Quantity.{millis, addMillis, lessMillis}

@@ -10,7 +10,7 @@ use lib.Dec.{T, eqb}
 use lib.IntN.{ℤ, _+ℤ_}
 use lib.ListN.{getD, take}
 use lib.Seq.{getD-take, take-nil}
-use Rattle.laws.proofs.Tests.{either}
+use Rattle.lists.proofs.Tests.{either}
 use Rattle.answer.specs.declared.Answer.the-variants.{Done}
 use Rattle.table.specs.declared.Entry.{Entry}
 use Rattle.table.specs.Entry.{freshEntry}

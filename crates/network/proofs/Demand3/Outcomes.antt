@@ -7,7 +7,7 @@ use native.Mathlib.Omega.{arith}
 use borrow.Author.Tests.{ltb-false, lt-ltb}
 use lib.Dec.{ltb, eqb}
 use lib.ListN.{length, take}
-use Rattle.laws.proofs.Tests.{either, neither}
+use Rattle.lists.proofs.Tests.{either, neither}
 use Rattle.clock.specs.declared.Clock.{Clock}
 use Rattle.table.specs.declared.Entry.{Entry}
 use Rattle.table.specs.Runs.{changed, updatedAt}

@@ -4,7 +4,7 @@ use Prim.Native.Nat.{_≤_, _-_}
 use native.Mathlib.Omega.{arith}
 use lib.ListN.{length, take, drop, length-take}
 use Rattle.route.specs.Find.{idsBelow}
-use Rattle.laws.proofs.Rest.{mapped-long, counted}
+use Rattle.lists.proofs.Rest.{mapped-long, counted}
 use Rattle.route.proofs.Rows.{id-below, id-over, all-below}
 use Rattle.route.proofs.ids_below.Statement.{statement}
 use Rattle.route.proofs.ids_below.Tie as tie

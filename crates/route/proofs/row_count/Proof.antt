@@ -2,7 +2,7 @@ use mathlib.Core.Path.{_≡_}
 use native.Mathlib.Omega.{arith}
 use lib.ListN.{length, length-take}
 use borrow.Author.Needs.{needs}
-use Rattle.laws.proofs.Rest.{mapped-long}
+use Rattle.lists.proofs.Rest.{mapped-long}
 use Rattle.route.proofs.row_count.Statement.{statement}
 use Rattle.route.proofs.row_count.Tie as tie
 

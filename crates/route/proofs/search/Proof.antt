@@ -5,7 +5,7 @@ use native.Mathlib.Omega.{arith}
 use lib.ListN.{length, take, drop, length-take}
 use Rattle.route.specs.declared.Found.the-variants.{Id}
 use Rattle.route.specs.Find.{search as searched}
-use Rattle.laws.proofs.Rest.{mapped-long, counted}
+use Rattle.lists.proofs.Rest.{mapped-long, counted}
 use Rattle.route.proofs.Rows.{passed, ended, missed}
 use Rattle.route.proofs.search.Statement.{statement}
 use Rattle.route.proofs.search.Tie as tie

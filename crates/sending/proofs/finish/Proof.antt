@@ -1,5 +1,5 @@
 use borrow.Author.Needs.{needs}
-use Rattle.laws.proofs.Tests.{is-not, is-so}
+use Rattle.lists.proofs.Tests.{is-not, is-so}
 use Rattle.sending.proofs.finish.Statement.{statement}
 use Rattle.sending.proofs.finish.Tie as tie
 

@@ -6,8 +6,8 @@ use Prim.Native.Nat.{ℕ, _≤_}
 use lib.ListN.{length}
 use Rattle.answer.specs.declared.Answer.{Answer}
 use Rattle.wire.specs.Packet.{packetLength}
-use Rattle.wire.specs.Ranges.{Four}
-use Rattle.wire.specs.Sealing.{sealed}
+use Rattle.wire.specs.code.Ranges.{Four}
+use Rattle.wire.specs.code.Sealing.{sealed}
 use Rattle.host.specs.Lent.{Host}
 use Rattle.host.specs.Guard.{done}
 use Rattle.sending.specs.declared.Sending.{Sending}

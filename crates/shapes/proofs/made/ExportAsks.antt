@@ -1,10 +1,10 @@
 -- The law of a thin function: `fn ExportAsks(settings: &S, number: N, clock: &mut C, links: &mut L, run: &mut [E]) -> K { let s = *settings; let q: I = request(); let a: O = call(s, number, clock, links, run, q); answer(a) }`.
 -- It is one walk of that MIR, for any types and any contracts of the functions that are called. The author shows that each of them is asked for no more than what is known (`ok`), and that what they say comes to what the function says (`then`).
 -- Made by tools/laws/make. Assumes nothing.
-use Rattle.laws.proofs.Walk.{_≡_, refl, ap, ℕ, List, [], _∷_, length, T, URA, fullShare, Name, Fn, named, erased, mut, imm, tyRef, local, valueLocal, place, deref, field, copy, rvOpd, addrOf, aggregate, assign, call, seq, return, Val, vptr, SProp, ent, sep, emp, id⊢, GName, Lft, Share, ftrue, fat, flft, fres, Model, Routine, Env, Heap, Calls, Loops, WpFn, Tables, Closed, Atoms, fact, GhostRules, Running, givenOf, tables, Given, ‵, raw, _⊛_, ⋆, some, later, _$_, _∵_, !, qed, by, move, keep, drop, use0, use1, use3, split, join, pick, rewrite, fsplit, fsplit3, fjoin, feqL, suffices, frame, await, done, look, look-raw, init, forget, stop, hop, fld, from, load, addr, of-opd, and-then, no-more, assigns, land, returns, enter, alloc1, alloc0, params1, pass1, pass0, free1, free0, agg, whole-part, sub, look-in, FmC, fmOf, WpFn-mono, RattleType, owns, Is, shows, pointee, RefOf, RefMutOf, SliceRefMutOf, RefT, MutRef, ShrRef, ptr-vals, mut-tells, shr-tells, sliceVal, sliceTy, slice-vals, MutSlice, Room, finally, mut-slice-tells, Signature, plain, shrRefTo, only, looks, shuts, owned, peeks, heard, nothing, spelt, layout, row, shape, onEntry, Meets, tripleOf, Contract, Triple, calls-at, entered, cited, Ended, Clauses, Lasts, closing, ensured, lasts, Stays, stay-dropped, gave-ref, gave-slice, says, walkOf, goes-dropped, goes-gave-ref, goes-gave-slice, ends-at, walked, walk-meets, yes}
-use Rattle.laws.proofs.Walk.{tablesOf}
+use Rattle.lent.proofs.Walk.{_≡_, refl, ap, ℕ, List, [], _∷_, length, T, URA, fullShare, Name, Fn, named, erased, mut, imm, tyRef, local, valueLocal, place, deref, field, copy, rvOpd, addrOf, aggregate, assign, call, seq, return, Val, vptr, SProp, ent, sep, emp, id⊢, GName, Lft, Share, ftrue, fat, flft, fres, Model, Routine, Env, Heap, Calls, Loops, WpFn, Tables, Closed, Atoms, fact, GhostRules, Running, givenOf, tables, Given, ‵, raw, _⊛_, ⋆, some, later, _$_, _∵_, !, qed, by, move, keep, drop, use0, use1, use3, split, join, pick, rewrite, fsplit, fsplit3, fjoin, feqL, suffices, frame, await, done, look, look-raw, init, forget, stop, hop, fld, from, load, addr, of-opd, and-then, no-more, assigns, land, returns, enter, alloc1, alloc0, params1, pass1, pass0, free1, free0, agg, whole-part, sub, look-in, FmC, fmOf, WpFn-mono, RattleType, owns, Is, shows, pointee, RefOf, RefMutOf, SliceRefMutOf, RefT, MutRef, ShrRef, ptr-vals, mut-tells, shr-tells, sliceVal, sliceTy, slice-vals, MutSlice, Room, finally, mut-slice-tells, Signature, plain, shrRefTo, only, looks, shuts, owned, peeks, heard, nothing, spelt, layout, row, shape, onEntry, Meets, tripleOf, Contract, Triple, calls-at, entered, cited, Ended, Clauses, Lasts, closing, ensured, lasts, Stays, stay-dropped, gave-ref, gave-slice, says, walkOf, goes-dropped, goes-gave-ref, goes-gave-slice, ends-at, walked, walk-meets, yes}
+use Rattle.lent.proofs.Walk.{tablesOf}
 use denote.Struct.Laws as LL
-use Rattle.laws.proofs.Words.{Word, Data, by-value, settled, passed}
+use Rattle.lent.proofs.Words.{Word, Data, by-value, settled, passed}
 
 module _ (N I O K : Word) (S C L E : Data) where
   abbrev RS : RattleType

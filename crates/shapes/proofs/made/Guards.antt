@@ -1,10 +1,10 @@
 -- The law of a thin function: `fn Guards(settings: S, number: N, clock: C, links: L, scope: U, run: &[E]) -> G { let n = run.len(); let w: J = held(settings, number, clock, links, scope, n); let good: B = scan(run, w); judged(settings, good) }`.
 -- It is one walk of that MIR, for any types and any contracts of the functions that are called. The author shows that each of them is asked for no more than what is known (`ok`), and that what they say comes to what the function says (`then`).
 -- Made by tools/laws/make. Assumes nothing.
-use Rattle.laws.proofs.Walk.{_≡_, refl, ap, ℕ, List, [], _∷_, length, T, URA, fullShare, Name, Fn, named, imm, tyRef, w64, local, valueLocal, place, field, copy, rvOpd, assign, call, seq, return, Val, vint, SProp, ent, sep, emp, id⊢, GName, Lft, Share, ftrue, fat, flft, Model, Routine, Env, Heap, Calls, Loops, WpFn, Tables, Closed, Atoms, fact, GhostRules, Running, givenOf, tables, Given, ‵, raw, _⊛_, ⋆, some, later, _$_, _∵_, !, qed, by, move, keep, drop, use0, use1, use3, split, join, pick, rewrite, fsplit, fjoin, suffices, frame, await, done, look, init, forget, stop, fld, from, load, of-opd, and-then, no-more, assigns, land, returns, enter, alloc1, alloc0, params1, pass1, pass0, free1, free0, whole-part, sub, look-in, FmC, fmOf, WpFn-mono, RattleType, owns, Is, shows, pointee, SliceRefOf, RefT, sliceVal, sliceTy, slice-vals, ShrSlice, Room, shr-slice-tells, shr-slice-copy, Signature, plain, shrSliceOf, only, owned, peeks, heard, nothing, row, onEntry, Meets, tripleOf, Contract, Triple, calls-at, entered, cited, Ended, Clauses, Lasts, closing, ensured, lasts, Stays, stay-dropped, says, walkOf, goes-dropped, ends-at, walked, walk-meets, yes}
-use Rattle.laws.proofs.Walk.{tablesOf}
+use Rattle.lent.proofs.Walk.{_≡_, refl, ap, ℕ, List, [], _∷_, length, T, URA, fullShare, Name, Fn, named, imm, tyRef, w64, local, valueLocal, place, field, copy, rvOpd, assign, call, seq, return, Val, vint, SProp, ent, sep, emp, id⊢, GName, Lft, Share, ftrue, fat, flft, Model, Routine, Env, Heap, Calls, Loops, WpFn, Tables, Closed, Atoms, fact, GhostRules, Running, givenOf, tables, Given, ‵, raw, _⊛_, ⋆, some, later, _$_, _∵_, !, qed, by, move, keep, drop, use0, use1, use3, split, join, pick, rewrite, fsplit, fjoin, suffices, frame, await, done, look, init, forget, stop, fld, from, load, of-opd, and-then, no-more, assigns, land, returns, enter, alloc1, alloc0, params1, pass1, pass0, free1, free0, whole-part, sub, look-in, FmC, fmOf, WpFn-mono, RattleType, owns, Is, shows, pointee, SliceRefOf, RefT, sliceVal, sliceTy, slice-vals, ShrSlice, Room, shr-slice-tells, shr-slice-copy, Signature, plain, shrSliceOf, only, owned, peeks, heard, nothing, row, onEntry, Meets, tripleOf, Contract, Triple, calls-at, entered, cited, Ended, Clauses, Lasts, closing, ensured, lasts, Stays, stay-dropped, says, walkOf, goes-dropped, ends-at, walked, walk-meets, yes}
+use Rattle.lent.proofs.Walk.{tablesOf}
 use denote.Struct.Laws as LL
-use Rattle.laws.proofs.Words.{Word, Data, by-value, unsigned, settled, passed}
+use Rattle.lent.proofs.Words.{Word, Data, by-value, unsigned, settled, passed}
 
 module _ (S N C L U J B G : Word) (E : Data) where
   abbrev RE : RattleType

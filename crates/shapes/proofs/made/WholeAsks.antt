@@ -1,8 +1,8 @@
 -- The law of a call by value: `fn WholeAsks(settings: S, number: N, clock: C, links: L, run: [E; n], request: I) -> O { let mut c = clock; let mut l = links; let mut e = run; let a: K = call(settings, number, &mut c, &mut l, &mut e, request); O { answer: a, clock: c, links: l, run: e } }`.
 -- It is one walk of that MIR, for any types and any contract of the call that asks nothing. What is handed back is a struct of the answer and of what the call leaves, which `make` makes; `back` is the answer as its field. The author shows that what the call says comes to what the function says (`then`).
 -- Made by tools/laws/make. Assumes nothing.
-use Rattle.laws.proofs.Walk.{_≡_, refl, sym, ap, subst, ℕ, _*_, _^_, List, [], _∷_, length, T, ltb, ltb→lt, URA, fullShare, Name, Fn, named, erased, mut, tyRef, w64, local, valueLocal, place, field, copy, int, rvOpd, addrOf, aggregate, assign, call, seq, return, Val, vptr, SProp, ent, sep, emp, id⊢, GName, ftrue, fat, flft, Model, Routine, Env, Heap, Calls, Loops, WpFn, Tables, Closed, Atoms, fact, GhostRules, Running, givenOf, tables, Given, ‵, raw, _⊛_, ⋆, some, later, _$_, _∵_, !, qed, by, move, keep, drop, use0, use1, use3, split, join, pick, rewrite, fsplit, fjoin, suffices, frame, await, done, look, init, forget, stop, from, load, lit, addr, of-opd, and-then, no-more, assigns, land, returns, enter, alloc1, alloc0, params1, pass1, pass0, free1, free0, agg, lft-new, lft-end, Referent, FmC, fmOf, WpFn-mono, RattleType, owns, Is, shows, mem, pointee, RefMutOf, SliceRefMutOf, MutRef, sliceVal, sliceTy, MutSlice, Room, Held, Signature, plain, only, owned, peeks, heard, nothing, layout, row, shape, onEntry, Meets, tripleOf, Contract, Triple, calls-at, entered, cited, Ended, Clauses, Lasts, closing, ensured, lasts, Stays, stay-dropped, says, walkOf, goes-dropped, ends-at, walked, walk-meets, yes}
-use Rattle.laws.proofs.Walk.{tablesOf}
+use Rattle.lent.proofs.Walk.{_≡_, refl, sym, ap, subst, ℕ, _*_, _^_, List, [], _∷_, length, T, ltb, ltb→lt, URA, fullShare, Name, Fn, named, erased, mut, tyRef, w64, local, valueLocal, place, field, copy, int, rvOpd, addrOf, aggregate, assign, call, seq, return, Val, vptr, SProp, ent, sep, emp, id⊢, GName, ftrue, fat, flft, Model, Routine, Env, Heap, Calls, Loops, WpFn, Tables, Closed, Atoms, fact, GhostRules, Running, givenOf, tables, Given, ‵, raw, _⊛_, ⋆, some, later, _$_, _∵_, !, qed, by, move, keep, drop, use0, use1, use3, split, join, pick, rewrite, fsplit, fjoin, suffices, frame, await, done, look, init, forget, stop, from, load, lit, addr, of-opd, and-then, no-more, assigns, land, returns, enter, alloc1, alloc0, params1, pass1, pass0, free1, free0, agg, lft-new, lft-end, Referent, FmC, fmOf, WpFn-mono, RattleType, owns, Is, shows, mem, pointee, RefMutOf, SliceRefMutOf, MutRef, sliceVal, sliceTy, MutSlice, Room, Held, Signature, plain, only, owned, peeks, heard, nothing, layout, row, shape, onEntry, Meets, tripleOf, Contract, Triple, calls-at, entered, cited, Ended, Clauses, Lasts, closing, ensured, lasts, Stays, stay-dropped, says, walkOf, goes-dropped, ends-at, walked, walk-meets, yes}
+use Rattle.lent.proofs.Walk.{tablesOf}
 use denote.Struct.Laws as LL
 use mathlib.Core.List.{map}
 use mir.Syntax.{Sym, memorySlot}
@@ -14,7 +14,7 @@ use denote.Array.{Array}
 use denote.Struct.Struct.{Struct, Plains}
 use denote.Struct.Field.{rows}
 use denote.Struct.Declared.{Declared, fields}
-use Rattle.laws.proofs.Words.{Word, Data, Part, by-value, at-type, passed}
+use Rattle.lent.proofs.Words.{Word, Data, Part, by-value, at-type, passed}
 use Rattle.shapes.proofs.Lists.{listed, list-field, list-laws, list-plain, in-field, counted, lends-local, local-back, lends-array, array-back}
 use denote.Struct.Declared as declared
 

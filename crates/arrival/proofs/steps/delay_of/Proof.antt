@@ -9,7 +9,7 @@ use Rattle.quantity.specs.Quantity.{subMillis}
 use Rattle.quantity.specs.Words.{wrap, toWord, ofWord}
 use Rattle.quantity.proofs.Ints.{diff, fits, fits-up, fits-dn, to-≤ℤ, to-<ℤ}
 use Rattle.quantity.proofs.Wrap.{wrap-range}
-use Rattle.wire.specs.Ranges.{SignedTwo}
+use Rattle.wire.specs.code.Ranges.{SignedTwo}
 use Rattle.table.proofs.Ranges.{within}
 use Rattle.arrival.specs.Steps.{delayOf}
 use Rattle.arrival.proofs.steps.delay_of.Statement.{statement}

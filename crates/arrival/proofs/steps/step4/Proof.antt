@@ -1,7 +1,7 @@
 use mathlib.Core.Path.{_∙_, sym, ap}
 use borrow.Author.Tests.{eq-eqb, ne-eqb}
 use borrow.Author.Needs.{needs}
-use Rattle.laws.proofs.Tests.{is-not, is-so}
+use Rattle.lists.proofs.Tests.{is-not, is-so}
 use Rattle.arrival.specs.declared.Step.the-variants.{On}
 use Rattle.arrival.specs.Steps.{step4}
 use Rattle.arrival.proofs.steps.step4.Statement.{statement}

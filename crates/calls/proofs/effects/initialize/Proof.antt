@@ -1,6 +1,6 @@
 use Rattle.calls.specs.Effects as definition
 use Rattle.host.proofs.Sound.{sound}
-use Rattle.laws.proofs.Tests.{is-not, both}
+use Rattle.lists.proofs.Tests.{is-not, both}
 use borrow.Author.Needs.{needs}
 use Rattle.calls.proofs.effects.initialize.Statement.{statement}
 use Rattle.calls.proofs.effects.initialize.Tie as tie

@@ -2,8 +2,8 @@
 use mathlib.Core.Path.{_≡_, ap, _∙_}
 use Prim.Native.Nat.{_+_, _-_, _≤_, _<_}
 use native.Mathlib.Omega.{arith}
-use Rattle.laws.specs.Lists.{over}
-use Rattle.laws.proofs.Parts.{part-length}
+use Rattle.lists.specs.Lists.{over}
+use Rattle.lists.proofs.Parts.{part-length}
 use Rattle.wire.specs.Octets.{four}
 use Rattle.capture.specs.Search.{hits}
 use Rattle.capture.specs.Capture.{mendedCapture}

@@ -3,7 +3,7 @@ use native.Mathlib.Omega.{arith}
 use borrow.Author.Needs.{needs}
 use lib.ListN.{length, length-take, length-drop}
 use lib.Seq.{length-take-le}
-use Rattle.checksum.specs.EndAround.{endAround}
+use Rattle.checksum.specs.code.EndAround.{endAround}
 use Rattle.checksum.proofs.LowFirst.{halved}
 use mathlib.Core.Path.{sym, ap, _∙_}
 use Prim.Native.Nat.{ℕ, _*_, _/_, _<_}

@@ -2,7 +2,7 @@
 use mathlib.Core.Path.{sym, ap}
 use native.Mathlib.Omega.{arith}
 use borrow.Author.Needs.{needs}
-use Rattle.checksum.specs.EndAround.{endAround}
+use Rattle.checksum.specs.code.EndAround.{endAround}
 use Rattle.checksum.proofs.Folding.{end-positive}
 use Rattle.checksum.proofs.fours.end_around.Statement.{statement}
 use Rattle.checksum.proofs.fours.end_around.Tie as tie

@@ -6,7 +6,7 @@ use Prim.Native.Nat.{_+_, _-_, _*_, _≤_, _<_, _^_}
 use native.Mathlib.Nat.{zero-add}
 use native.Mathlib.Omega.{arith}
 use lib.ListN.{length, length-take, length-drop}
-use Rattle.checksum.specs.EndAround.{endAround, lowSum}
+use Rattle.checksum.specs.code.EndAround.{endAround, lowSum}
 use Rattle.checksum.proofs.LowFirst.{Stands, one-four, all-stand}
 use Rattle.checksum.proofs.fours.short.Statement.{statement}
 use Rattle.checksum.proofs.fours.short.Tie as tie

@@ -6,7 +6,7 @@ use native.Mathlib.Nat.{zero-add}
 use native.Mathlib.Omega.{arith}
 use lib.ListN.{length}
 use Rattle.checksum.specs.Checksum.{allOnes}
-use Rattle.checksum.specs.EndAround.{endAround, wordSum}
+use Rattle.checksum.specs.code.EndAround.{endAround, wordSum}
 use Rattle.checksum.proofs.Octets.{of-places}
 use Rattle.checksum.proofs.Folding.{folded-sum}
 use Rattle.checksum.proofs.Words.{Added, turned, even-end, odd-end}

@@ -2,12 +2,12 @@
 use mathlib.Core.Path.{_≡_, _∙_, ap, subst, sym}
 use base.Logic.{emp, id⊢}
 use contract.Monad.{fact, factI}
-use Rattle.laws.proofs.Words.{by-value, chosen-by-value, boolean}
-use Rattle.laws.proofs.Outcomes.{whole}
+use Rattle.lent.proofs.Words.{by-value, chosen-by-value, boolean}
+use Rattle.lent.proofs.Outcomes.{whole}
 use Rattle.shapes.proofs.made.Guards.{proof}
 use Rattle.clock.proofs.Types.{clock}
 use Rattle.table.specs.declared.run.Scan.{Scan}
-use Rattle.table.specs.Runs.{InRun, allInRange}
+use Rattle.table.specs.code.Loops.{InRun, allInRange}
 use Rattle.table.proofs.Types.{scan, entry}
 use Rattle.table.proofs.run.all_in_range.Symbol as scans
 use Rattle.table.proofs.run.all_in_range.Met as scans-known

@@ -1,7 +1,7 @@
 -- The places, then the scope, then all.
 use native.Mathlib.Omega.{arith}
 use mathlib.Core.Path.{_∙_, sym}
-use Rattle.laws.proofs.Tests.{is-not, is-so}
+use Rattle.lists.proofs.Tests.{is-not, is-so}
 use Rattle.host.proofs.Numbers.{number-in}
 use borrow.Author.Needs.{needs}
 use Rattle.host.proofs.guard.held.Statement.{statement}

@@ -1,7 +1,7 @@
 -- 12 by the test before, 1 by the settings.
 use mathlib.Core.Path.{_∙_, sym}
 use borrow.Author.Needs.{needs}
-use Rattle.laws.proofs.Tests.{is-not, is-so}
+use Rattle.lists.proofs.Tests.{is-not, is-so}
 use Rattle.host.proofs.guard.judged.Statement.{statement}
 use Rattle.host.proofs.guard.judged.Tie as tie
 

@@ -1,6 +1,6 @@
 -- The clock first, then the links; all places of the host where both are in range.
 use mathlib.Core.Path.{_∙_, sym}
-use Rattle.laws.proofs.Tests.{is-not, is-so}
+use Rattle.lists.proofs.Tests.{is-not, is-so}
 use borrow.Author.Needs.{needs}
 use Rattle.host.proofs.guard.whole_scan.Statement.{statement}
 use Rattle.host.proofs.guard.whole_scan.Tie as tie

@@ -4,8 +4,8 @@ use Prim.Native.Nat.{_-_, _≤_}
 use native.Mathlib.Omega.{arith}
 use borrow.Author.Needs.{needs}
 use lib.ListN.{length, set, take, replicate}
-use Rattle.laws.specs.Lists.{over}
-use Rattle.laws.proofs.Rest.{mapped-long}
+use Rattle.lists.specs.Lists.{over}
+use Rattle.lists.proofs.Rest.{mapped-long}
 use Rattle.host.specs.declared.Link.{Link}
 use Rattle.host.specs.State.{freshLink, freshLinks}
 use Rattle.host.proofs.Slots.{fresh-more, fresh-all}

@@ -6,14 +6,14 @@ use Prim.Native.Nat.{ℕ, zero, suc, _+_, _-_, _≤_}
 use native.Mathlib.Omega.{arith}
 use lib.ListN.{getD}
 use base.Logic.{emp, id⊢}
-use Rattle.laws.specs.Lists.{part}
-use Rattle.laws.proofs.Words.{bool-part}
-use Rattle.laws.proofs.made.Folds.{After, proof}
+use Rattle.lists.specs.Lists.{part}
+use Rattle.lent.proofs.Words.{bool-part}
+use Rattle.lent.proofs.made.Folds.{After, proof}
 use Rattle.table.specs.declared.Entry.{Entry}
 use Rattle.table.specs.declared.run.Scan.{Scan}
 use Rattle.table.specs.Forms.{every}
 use Rattle.table.specs.Entry.{freshEntry, entryInRange}
-use Rattle.table.specs.Runs.{InRun, stillGood, allInRange}
+use Rattle.table.specs.code.Loops.{InRun, stillGood, allInRange}
 use Rattle.table.proofs.Loops.{scan-turn}
 use Rattle.table.proofs.Types.{entry, scan}
 use Rattle.table.proofs.run.still_good.Symbol as still-good

@@ -5,13 +5,14 @@ use Prim.Native.Nat.{ℕ, zero, suc, _+_, _-_, _≤_}
 use native.Mathlib.Omega.{arith}
 use lib.ListN.{getD, set}
 use base.Logic.{emp, id⊢}
-use Rattle.laws.specs.Lists.{part, over}
-use Rattle.laws.proofs.Parts.{over-nothing}
-use Rattle.laws.proofs.made.Maps.{After, proof}
+use Rattle.lists.specs.Lists.{part, over}
+use Rattle.lists.proofs.Parts.{over-nothing}
+use Rattle.lent.proofs.made.Maps.{After, proof}
 use Rattle.table.specs.declared.Entry.{Entry}
 use Rattle.table.specs.declared.run.Changes.{Changes}
 use Rattle.table.specs.Entry.{freshEntry}
-use Rattle.table.specs.Runs.{InRun, changed, changes}
+use Rattle.table.specs.Runs.{changed, changes}
+use Rattle.table.specs.code.Loops.{InRun}
 use Rattle.table.proofs.Loops.{map-turn}
 use Rattle.table.proofs.Types.{entry}
 use Rattle.table.proofs.Types as types

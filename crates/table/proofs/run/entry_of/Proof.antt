@@ -4,13 +4,13 @@ use mathlib.Core.List.{List}
 use Prim.Native.Nat.{ℕ, zero, suc, _+_, _-_, _≤_}
 use native.Mathlib.Omega.{arith}
 use base.Logic.{emp, id⊢}
-use Rattle.laws.specs.Lists.{part}
-use Rattle.laws.proofs.Words.{struct-part}
-use Rattle.laws.proofs.made.Folds.{After, proof}
+use Rattle.lists.specs.Lists.{part}
+use Rattle.lent.proofs.Words.{struct-part}
+use Rattle.lent.proofs.made.Folds.{After, proof}
 use Rattle.table.specs.declared.Entry.{Entry}
 use Rattle.table.specs.declared.run.Seek.{Seek}
 use Rattle.table.specs.Entry.{freshEntry}
-use Rattle.table.specs.Runs.{InRun, latest, entryOf}
+use Rattle.table.specs.code.Loops.{InRun, latest, entryOf}
 use Rattle.table.proofs.Loops.{seek-turn}
 use Rattle.table.proofs.Types.{entry, seek}
 use Rattle.table.proofs.run.latest.Symbol as taken

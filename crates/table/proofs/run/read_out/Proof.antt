@@ -5,13 +5,13 @@ use Prim.Native.Nat.{ℕ, zero, suc, _+_, _-_, _≤_, _<_}
 use native.Mathlib.Omega.{arith}
 use lib.ListN.{length, getD}
 use contract.Monad.{fact, factI}
-use Rattle.laws.specs.Lists.{part}
-use Rattle.laws.proofs.made.Writes.{After, proof}
-use Rattle.wire.specs.Sealing.{withReports}
+use Rattle.lists.specs.Lists.{part}
+use Rattle.lent.proofs.made.Writes.{After, proof}
+use Rattle.wire.specs.code.Sealing.{withReports}
 use Rattle.table.specs.declared.Entry.{Entry}
 use Rattle.table.specs.declared.run.Reports.{Reports}
 use Rattle.table.specs.Entry.{freshEntry, advertised}
-use Rattle.table.specs.Runs.{reported, readOut, ReportFits, ReportsFit}
+use Rattle.table.specs.code.Loops.{reported, readOut, ReportFits, ReportsFit}
 use Rattle.table.proofs.Loops.{report-turn}
 use Rattle.table.proofs.Types.{entry, reports}
 use Rattle.table.proofs.run.put.Symbol as put

@@ -6,10 +6,10 @@ use Prim.Native.Nat.{ℕ, zero, suc, _+_, _-_, _≤_, _<_}
 use native.Mathlib.Omega.{arith}
 use lib.ListN.{length}
 use contract.Monad.{fact, factI}
-use Rattle.laws.specs.Lists.{part, over}
-use Rattle.laws.proofs.Parts.{over-nothing}
-use Rattle.laws.proofs.Words.{struct-part}
-use Rattle.laws.proofs.made.Applies.{After, proof}
+use Rattle.lists.specs.Lists.{part, over}
+use Rattle.lists.proofs.Parts.{over-nothing}
+use Rattle.lent.proofs.Words.{struct-part}
+use Rattle.lent.proofs.made.Applies.{After, proof}
 use Rattle.clock.specs.declared.Clock.{Clock}
 use Rattle.clock.specs.Clock.{clockInRange}
 use Rattle.clock.proofs.Types.{clock}
@@ -18,7 +18,8 @@ use Rattle.table.specs.declared.Updated.{Updated}
 use Rattle.table.specs.declared.run.Updates.{Updates}
 use Rattle.table.specs.Entry.{freshEntry}
 use Rattle.table.specs.Sweep.{Swept, sweep}
-use Rattle.table.specs.Runs.{updatedAt, updates, Updatable, Sound, UpdatesFit}
+use Rattle.table.specs.Runs.{updatedAt, updates}
+use Rattle.table.specs.code.Loops.{Updatable, Sound, UpdatesFit}
 use Rattle.table.proofs.Kept.{clock-in-range}
 use Rattle.table.proofs.Loops.{sweep-entries, sweep-clock}
 use Rattle.table.proofs.Types.{entry, updated}

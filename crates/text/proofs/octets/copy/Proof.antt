@@ -3,7 +3,7 @@ use mathlib.Core.Path.{_≡_, refl, sym, _∙_}
 use Prim.Native.Nat.{_≤_, _-_}
 use native.Mathlib.Omega.{arith}
 use lib.ListN.{length, drop, length-set}
-use Rattle.laws.specs.Lists.{over}
+use Rattle.lists.specs.Lists.{over}
 use Rattle.text.proofs.Puts.{copied-more, copied-all}
 use Rattle.text.proofs.octets.copy.Statement.{statement}
 use Rattle.text.proofs.octets.copy.Tie as tie

@@ -1,8 +1,8 @@
 -- The bits of a negative number are as far from 65,536.
 use native.Mathlib.Omega.{arith}
-use Rattle.laws.proofs.Tests.{both}
+use Rattle.lists.proofs.Tests.{both}
 use Rattle.text.specs.Numbers.{fitsTwo, fitsSigned}
-use Rattle.text.specs.Reading.{signedOf}
+use Rattle.text.specs.code.Reading.{signedOf}
 use Rattle.text.proofs.Ranges.{size-fits, bits-negative}
 use borrow.Author.Needs.{needs}
 use Rattle.text.proofs.read.offset_bits.Statement.{statement}

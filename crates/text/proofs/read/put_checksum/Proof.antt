@@ -1,6 +1,6 @@
 -- The sum is taken of what stands behind the checksum.
 use mathlib.Core.Path.{ap, _∙_}
-use Rattle.laws.specs.Lists.{over}
+use Rattle.lists.specs.Lists.{over}
 use Rattle.wire.specs.Octets.{two}
 use borrow.Author.Needs.{needs}
 use Rattle.text.proofs.read.put_checksum.Statement.{statement}

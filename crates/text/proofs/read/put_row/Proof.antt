@@ -2,9 +2,9 @@
 use mathlib.Core.Path.{sym, _∙_}
 use native.Mathlib.Omega.{arith}
 use borrow.Author.Tests.{not-true, not-false, leb-true, lt-ltb, le-ltb}
-use Rattle.laws.proofs.Tests.{both}
+use Rattle.lists.proofs.Tests.{both}
 use Rattle.text.specs.Numbers.{fitsTwo, fitsSigned}
-use Rattle.text.specs.Reading.{rowTold}
+use Rattle.text.specs.code.Reading.{rowTold}
 use Rattle.text.proofs.Ranges.{row-not-put, row-put}
 use borrow.Author.Needs.{needs}
 use Rattle.text.proofs.read.put_row.Statement.{statement}

@@ -8,8 +8,8 @@ use Prim.Native.Nat.{_+_, _<_}
 use lib.ListN.{length}
 use lib.Seq.{length-take-le}
 use Rattle.text.specs.Numbers.{firstFits}
-use Rattle.text.specs.Scan.{large}
-use Rattle.text.specs.Reading.{firstTold}
+use Rattle.text.specs.code.Scan.{large}
+use Rattle.text.specs.code.Reading.{firstTold}
 use Rattle.text.proofs.Verdict.{first-refused, rows-form-refused, count-refused, first-range, few, rows-range, text-read, nothing-read, part-rows}
 use borrow.Author.Needs.{needs}
 use Rattle.text.proofs.read.read_text.Statement.{statement}

@@ -5,7 +5,7 @@ use mathlib.Core.Path.{_≡_, refl, sym, _∙_}
 use Prim.Native.Nat.{_≤_, _-_}
 use lib.ListN.{length, take, drop}
 use Rattle.text.specs.Numerals.{allDigits, value}
-use Rattle.text.specs.Scan.{Stands}
+use Rattle.text.specs.code.Scan.{Stands}
 use lib.Seq.{take-all}
 use Rattle.text.proofs.Readings.{no-number}
 use Rattle.text.proofs.scan.digits.Statement.{statement}

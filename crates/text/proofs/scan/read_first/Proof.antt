@@ -6,7 +6,7 @@ use Prim.Native.Nat.{_+_, _<_}
 use lib.ListN.{length, take, drop}
 use lib.Seq.{length-take-le}
 use Rattle.text.specs.Words.{words}
-use Rattle.text.specs.Scan.{FirstRead}
+use Rattle.text.specs.code.Scan.{FirstRead}
 use Rattle.text.proofs.LineWords.{part-read, line-alone, line-other, line-there}
 use borrow.Author.Needs.{needs}
 use Rattle.text.proofs.scan.read_first.Statement.{statement}

@@ -3,7 +3,7 @@ use mathlib.Core.Path.{refl}
 use borrow.Author.Tests.{not-true, not-false}
 use Prim.Native.Nat.{_+_}
 use Rattle.text.specs.Numerals.{isNumeral}
-use Rattle.text.specs.Scan.{NumberRead, FieldRead}
+use Rattle.text.specs.code.Scan.{NumberRead, FieldRead}
 use Rattle.text.proofs.LineWords.{part-read, numbers-first, numbers-second, numbers-there}
 use borrow.Author.Needs.{needs}
 use Rattle.text.proofs.scan.read_numbers.Statement.{statement}

@@ -1,7 +1,7 @@
 -- A field, and a signed number behind it.
 use mathlib.Core.Path.{refl}
 use borrow.Author.Tests.{not-true, not-false}
-use Rattle.text.specs.Scan.{OffsetRead}
+use Rattle.text.specs.code.Scan.{OffsetRead}
 use Rattle.text.proofs.LineWords.{part-read, row-none, row-there}
 use borrow.Author.Needs.{needs}
 use Rattle.text.proofs.scan.read_row.Statement.{statement}

@@ -2,7 +2,7 @@
 use mathlib.Core.Path.{refl}
 use borrow.Author.Tests.{not-true, not-false}
 use Prim.Native.Nat.{_+_}
-use Rattle.text.specs.Scan.{FieldRead}
+use Rattle.text.specs.code.Scan.{FieldRead}
 use Rattle.text.proofs.LineWords.{part-read, times-first, times-second, times-there}
 use borrow.Author.Needs.{needs}
 use Rattle.text.proofs.scan.read_times.Statement.{statement}

@@ -3,7 +3,7 @@ use mathlib.Core.Path.{_≡_, refl, sym, _∙_}
 use Prim.Native.Nat.{_≤_}
 use native.Mathlib.Omega.{arith}
 use lib.ListN.{length, length-set}
-use Rattle.laws.specs.Lists.{over}
+use Rattle.lists.specs.Lists.{over}
 use Rattle.text.specs.Numerals.{digits}
 use Rattle.text.proofs.Puts.{digits-turn, digits-none}
 use Rattle.text.proofs.write.put_digits.Statement.{statement}

@@ -3,7 +3,7 @@ use native.Mathlib.Omega.{arith}
 use Rattle.text.proofs.Widths.{width-held, numeral-length}
 use mathlib.Core.Path.{ap, _∙_}
 use Prim.Native.Nat.{ℕ, _+_}
-use Rattle.laws.specs.Lists.{over}
+use Rattle.lists.specs.Lists.{over}
 use Rattle.text.specs.Numerals.{digits, numeral}
 use Rattle.text.proofs.Puts.{put}
 use borrow.Author.Needs.{needs}

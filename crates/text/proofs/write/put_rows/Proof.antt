@@ -4,7 +4,7 @@ use Rattle.text.proofs.Lines.{Left, left-less, all-put}
 use mathlib.Core.Path.{_≡_, refl}
 use Prim.Native.Nat.{_+_, _-_, _*_, _≤_}
 use lib.ListN.{length}
-use Rattle.text.specs.Code.{rowRoom}
+use Rattle.text.specs.code.Put.{rowRoom}
 use Rattle.text.proofs.write.put_rows.Statement.{statement}
 use Rattle.text.proofs.write.put_rows.Tie as tie
 

@@ -6,7 +6,7 @@ use Rattle.quantity.specs.declared.Millis.{Millis}
 use Rattle.quantity.specs.Quantity.{millis}
 use Rattle.quantity.proofs.Ints.{to-≤ℤ, to-<ℤ}
 use Rattle.wire.specs.Hello.{reportAt}
-use Rattle.wire.specs.Ranges.{Two}
+use Rattle.wire.specs.code.Ranges.{Two}
 use borrow.Author.Needs.{needs}
 use Rattle.wire.proofs.hello.report.Statement.{statement}
 use Rattle.wire.proofs.hello.report.Tie as tie

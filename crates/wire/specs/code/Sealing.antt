@@ -2,7 +2,7 @@
 use mathlib.Core.List.{List, [], _∷_, _++_}
 use Prim.Native.Nat.{ℕ, suc, _+_, _*_}
 use lib.ListN.{take, drop}
-use Rattle.laws.specs.Lists.{over}
+use Rattle.lists.specs.Lists.{over}
 use Rattle.checksum.specs.Checksum.{checksumOf}
 use Rattle.wire.specs.declared.Address.{Address}
 use Rattle.wire.specs.declared.Packet.{Packet}

@@ -11,7 +11,7 @@ use denote.Struct.Struct.{Plains}
 use denote.Struct.Field.{Field, rows}
 use denote.Struct.Declared.{Declared}
 use denote.Struct.Laws as LL
-use Rattle.laws.proofs.Words.{Part, Data, at-type}
+use Rattle.lent.proofs.Words.{Part, Data, at-type}
 
 abbrev pub Values : List Part → Type 0
 Values [] = Unit {0}

@@ -3,7 +3,7 @@ use mathlib.Core.Path.{_≡_}
 use mathlib.Core.List.{List, _∷_, _++_}
 use Prim.Native.Nat.{ℕ, _+_, _≤_}
 use lib.ListN.{length}
-use Rattle.laws.specs.Lists.{over}
+use Rattle.lists.specs.Lists.{over}
 use Rattle.quantity.specs.Words.{signed16}
 use Rattle.text.specs.Numerals.{numeral}
 use Rattle.text.specs.Words.{space}

@@ -2,9 +2,6 @@ pub mod Again
 pub mod Loop
 pub mod made
 pub mod Outcomes
-pub mod Parts
-pub mod Rest
 pub mod Shared
-pub mod Tests
 pub mod Walk
 pub mod Words

@@ -1,10 +1,10 @@
 -- The law of a thin function: `fn Moves2(clock: &mut C, a: X, b: Y) requires { let c = *clock; let k: C = move(c, a, b); *clock = k; }`.
 -- It is one walk of that MIR, for any types and any contracts of the functions that are called. The author shows that each of them is asked for no more than what is known (`ok`), and that what they say comes to what the function says (`then`).
 -- Made by tools/laws/make. Assumes nothing.
-use Rattle.laws.proofs.Walk.{_≡_, refl, ap, ℕ, List, [], _∷_, T, URA, fullShare, Name, Fn, named, mut, tyRef, local, valueLocal, place, deref, copy, opdUnit, rvOpd, assign, call, seq, return, Val, vptr, vunit, SProp, ent, sep, id⊢, GName, Lft, Share, ftrue, fat, flft, fobs, fbor, Model, Routine, Env, Heap, Calls, Loops, WpFn, Tables, Closed, Atoms, fact, GhostRules, Running, givenOf, tables, Given, ‵, raw, _⊛_, ⋆, some, later, _$_, _∵_, !, qed, by, move, keep, drop, use1, use3, split, join, pick, rewrite, fsplit, fsplit3, fjoin, fjoin3, feqI, suffices, frame, await, done, look, look-raw, init, store-raw, forget, stop, hop, from, load, unit-lit, of-opd, and-then, no-more, assigns, land, returns, enter, alloc1, alloc0, params1, pass1, pass0, free1, free0, Referent, FmC, fmOf, WpFn-mono, RattleType, owns, Is, shows, mem, pointee, RefMutOf, RefT, MutRef, ptr-vals, mut-tells, Signature, plain, only, opens, closes, owned, peeks, heard, nothing, spelt, layout, row, shape, onEntry, Meets, tripleOf, Contract, Triple, calls-at, entered, cited, Ended, Clauses, Lasts, closing, ensured, lasts, Stays, stay-ref, stay-dropped, says, walkOf, goes-ref, goes-dropped, ends-at, walked, walk-meets, yes}
-use Rattle.laws.proofs.Walk.{tablesOf}
+use Rattle.lent.proofs.Walk.{_≡_, refl, ap, ℕ, List, [], _∷_, T, URA, fullShare, Name, Fn, named, mut, tyRef, local, valueLocal, place, deref, copy, opdUnit, rvOpd, assign, call, seq, return, Val, vptr, vunit, SProp, ent, sep, id⊢, GName, Lft, Share, ftrue, fat, flft, fobs, fbor, Model, Routine, Env, Heap, Calls, Loops, WpFn, Tables, Closed, Atoms, fact, GhostRules, Running, givenOf, tables, Given, ‵, raw, _⊛_, ⋆, some, later, _$_, _∵_, !, qed, by, move, keep, drop, use1, use3, split, join, pick, rewrite, fsplit, fsplit3, fjoin, fjoin3, feqI, suffices, frame, await, done, look, look-raw, init, store-raw, forget, stop, hop, from, load, unit-lit, of-opd, and-then, no-more, assigns, land, returns, enter, alloc1, alloc0, params1, pass1, pass0, free1, free0, Referent, FmC, fmOf, WpFn-mono, RattleType, owns, Is, shows, mem, pointee, RefMutOf, RefT, MutRef, ptr-vals, mut-tells, Signature, plain, only, opens, closes, owned, peeks, heard, nothing, spelt, layout, row, shape, onEntry, Meets, tripleOf, Contract, Triple, calls-at, entered, cited, Ended, Clauses, Lasts, closing, ensured, lasts, Stays, stay-ref, stay-dropped, says, walkOf, goes-ref, goes-dropped, ends-at, walked, walk-meets, yes}
+use Rattle.lent.proofs.Walk.{tablesOf}
 use denote.Struct.Laws as LL
-use Rattle.laws.proofs.Words.{Word, Data, by-value, void, settled, passed}
+use Rattle.lent.proofs.Words.{Word, Data, by-value, void, settled, passed}
 
 module _ (X Y : Word) (C : Data) where
   abbrev RC : RattleType

@@ -6,7 +6,7 @@ use native.Mathlib.Nat.{add-zero}
 use native.Mathlib.Omega.{arith}
 use lib.ListN.{length, take, drop, getD, set, length-append, length-take, length-drop, take-append-drop}
 use lib.Seq.{take-suc, take-add, take-take, drop-cons, drop-drop, drop-append-le, take-at, drop-at, getD-at, set-at, getD-drop, length-take-le}
-use Rattle.laws.specs.Lists.{part, over}
+use Rattle.lists.specs.Lists.{part, over}
 
 module _ {A : Type 0} where
   pub part-length : (first count : ℕ) (l : List A) → first + count ≤ length l → length (part first count l) ≡ count

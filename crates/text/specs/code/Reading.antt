@@ -6,7 +6,7 @@ use Prim.Native.Nat.{ℕ, _+_, _≤_}
 use lib.Dec.{ltb, leb}
 use lib.IntN.{ℤ, pos, negℤ}
 use lib.ListN.{length, take}
-use Rattle.laws.specs.Lists.{over}
+use Rattle.lists.specs.Lists.{over}
 use Rattle.quantity.specs.Words.{bits16}
 use Rattle.wire.specs.Octets.{two}
 use Rattle.wire.specs.Hello.{fixedLength, reportPlace}

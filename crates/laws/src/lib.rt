@@ -1,1 +1,0 @@
-// Laws that hold for all types. They stand in proofs/; there is no code.
