@@ -37,12 +37,13 @@ class Param:
 
 
 class WholeParam:
-    """a parameter of a call by value. kind: word, passed on by value; struct or list, held in a local that is lent; octets, a slice that is passed on"""
+    """a parameter of a call by value. kind: word, passed on by value; struct or list, held in a local that is lent by `&mut`; shared, held in a local that is lent by `&`; octets, a slice that is passed on"""
 
-    def __init__(self, name, text, held):
+    def __init__(self, name, text, homes):
         self.name = name
         self.type = re.search(r"\w+", text).group(0)
-        self.kind = "octets" if text.startswith("&") else "list" if text.startswith("[") else "struct" if name in held else "word"
+        held = "word" if name not in homes else "struct" if homes[name].startswith("&mut") else "shared"
+        self.kind = "octets" if text.startswith("&") else "list" if text.startswith("[") else held
 
 
 class Arg:
@@ -236,7 +237,7 @@ class Straight(Shape):
             raise Wrong(line, "only a `&mut` slice is passed as `%s%s`" % (mark, name))
         if p.gone:
             raise Wrong(line, "`%s` is given away on line %d" % (name, p.gone))
-        if p.copied:
+        if p.copied and p.mut:
             raise Wrong(line, "`%s` is copied out on line %d: pass the copy" % (name, p.copied))
         how = "share" if not p.mut or mark == "&" else "again" if mark else "give"
         p.changed = p.changed or how == "again"
@@ -274,30 +275,34 @@ class Whole(Shape):
         lists = [p for p in self.params if p.kind == "list"]
         if len(lists) != 1 or len([p for p in self.params if p.kind == "octets"]) > 1:
             raise Wrong(self.line, "a call by value has one array, and at most one `&[u8]`")
-        held = [p.name for p in self.params if p.kind in ("struct", "list")]
+        held = [p.name for p in self.params if p.kind in ("shared", "struct", "list")]
         if list(homes) != held:
             raise Wrong(self.line, "the locals hold %s, in this order" % ", ".join(held))
         rest = self.lines[len(homes) :]
-        args = ", ".join("&mut " + homes[p.name] if p.name in homes else p.name for p in self.params)
+        args = ", ".join(homes.get(p.name, p.name) for p in self.params)
         self.expect(rest, 0, r"let a: K = \w+\(%s\);" % re.escape(args), "let a: K = call(%s);" % args)
-        made = "O { answer: a, %s }" % ", ".join("%s: %s" % h for h in homes.items())
+        left = [p.name for p in self.params if p.kind in ("struct", "list")]
+        made = "O { answer: a, %s }" % ", ".join("%s: %s" % (name, homes[name].split()[-1]) for name in left)
         self.expect(rest, 1, re.escape(made), made)
         if len(rest) > 2:
             raise Wrong(rest[2][0], "nothing comes after what is handed back")
 
     def homes(self):
-        """the parameters that are held in locals, with the names of these"""
+        """the parameters that are held in locals, and how these are lent"""
         homes = {}
         for line, text in self.lines:
-            g = re.fullmatch(r"let mut (\w+) = (\w+);", text)
+            g = re.fullmatch(r"let (mut )?(\w+) = (\w+);", text)
             if not g:
                 break
-            if g.group(2) not in dict(self.heads):
-                raise Wrong(line, "unknown name: `%s` is no parameter" % g.group(2))
-            if dict(self.heads)[g.group(2)].startswith("&"):
-                raise Wrong(line, "`%s` is lent: it is passed on as it is" % g.group(2))
-            self.name_value(line, g.group(1))
-            homes[g.group(2)] = g.group(1)
+            mut, local, name = g.groups()
+            if name not in dict(self.heads):
+                raise Wrong(line, "unknown name: `%s` is no parameter" % name)
+            if dict(self.heads)[name].startswith("&"):
+                raise Wrong(line, "`%s` is lent: it is passed on as it is" % name)
+            if dict(self.heads)[name].startswith("[") and not mut:
+                raise Wrong(line, "an array is held in a `let mut`")
+            self.name_value(line, local)
+            homes[name] = ("&mut " if mut else "&") + local
         return homes
 
     def expect(self, rest, i, form, words):

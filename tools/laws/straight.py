@@ -450,11 +450,25 @@ class Straight(Law):
     def own(self, v):
         self.s.head("owned ! (%s .row) (Is (%s .row)) (%s .makes M 𝓤 H A W) %s (%s ∷ []) %s $" % (v.w, v.w, v.w, v.x, v.machine, v.known), 0, ["o"])
 
+    def twice(self, p):
+        """what is shared is had once more"""
+        here = "ref%s γ%s %s" % (p.d, p.d, self.now[p.name])
+        vals = self.ref_vals(p, here)
+        once = "‵ (%s .own (%s) (%s))" % (self.owner(p), here, vals)
+        self.s.move("own" + p.d)
+        copied = "shr-slice-copy" if p.slice else "shr-copy"
+        self.s.head("use1 W (%s ⊛ %s) (%s 𝓤 H A W (named %d) κ%s %s .twice (%s) (%s)) $" % (once, once, copied, p.j, p.d, self.row(p), here, vals), 1, ["w"])
+        self.s.split("w", "once" + p.d, "own" + p.d)
+
     def walk_copy(self, b):
         p = self.by_name[b[2]]
         t, R, x, d = p.type, self.row(p), p.name, p.d
         self.s.note("%s is copied out" % p.name)
-        self.s.move("own" + d)
+        if p.mut:
+            self.s.move("own" + d)
+        else:
+            self.twice(p)
+            self.s.move("once" + d)
         self.s.head("fsplit3 ! $", 1, ["eq", "obs" + d, "bor" + d])
         self.s.drop("eq")
         vals = "(λ z. X%s .val z ∷ [])" % t
@@ -511,14 +525,7 @@ class Straight(Law):
             cur = self.now[a.name]
             here = "ref%s γ%s %s" % (p.d, p.d, cur)
             if a.how == "share" and not p.mut:
-                once = "‵ (%s .own (%s) (%s))" % (self.owner(p), here, self.ref_vals(p, here))
-                self.s.move("own" + p.d)
-                self.s.head(
-                    "use1 W (%s ⊛ %s) (%s 𝓤 H A W (named %d) κ%s %s .twice (%s) (%s)) $" % (once, once, "shr-slice-copy" if p.slice else "shr-copy", p.j, p.d, self.row(p), here, self.ref_vals(p, here)),
-                    1,
-                    ["w"],
-                )
-                self.s.split("w", "once" + p.d, "own" + p.d)
+                self.twice(p)
                 a.own, a.token, lft, share, x = "once" + p.d, "token" + p.d, "κ" + p.d, "q" + p.d, here
             elif a.how == "give":
                 a.own, a.token, lft, share, x = "own" + p.d, "token" + p.d, "κ" + p.d, "q" + p.d, here

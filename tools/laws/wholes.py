@@ -1,10 +1,11 @@
 """Write the law of one shape of call by value: it makes locals of what it is given, lends them to a call, and hands back what they hold then. One walk of its MIR, for any types and any contract of the call that asks nothing.
 
     fn WholeStarts(settings: S, number: N, clock: C, links: L, run: [E; n]) -> O {
+        let s = settings;
         let mut c = clock;
         let mut l = links;
         let mut e = run;
-        let a: K = call(settings, number, &mut c, &mut l, &mut e);
+        let a: K = call(&s, number, &mut c, &mut l, &mut e);
         O { answer: a, clock: c, links: l, run: e }
     }
 
@@ -33,7 +34,7 @@ class Whole(Law):
 
     def seen(self, p):
         """what a parameter is in a contract"""
-        return {"word": "%s .row .Denot", "struct": "%s .S .D", "list": "List (%s .S .D)", "octets": "List ℕ"}[p.kind].replace("%s", p.type)
+        return {"word": "%s .row .Denot", "shared": "%s .S .D", "struct": "%s .S .D", "list": "List (%s .S .D)", "octets": "List ℕ"}[p.kind].replace("%s", p.type)
 
     def bind(self, ps, prime=""):
         return " ".join("(%s%s : %s)" % (p.name, prime, self.seen(p)) for p in ps)
@@ -43,6 +44,8 @@ class Whole(Law):
         self.params = self.shape.params
         self.words = [p for p in self.params if p.kind == "word"]
         self.held = [p for p in self.params if p.kind in ("struct", "list")]
+        self.shared = [p for p in self.params if p.kind == "shared"]
+        self.homed = [p for p in self.params if p in self.held or p in self.shared]
         self.run = [p for p in self.params if p.kind == "list"][0]
         self.octets = [p for p in self.params if p.kind == "octets"]
         self.refs = [p for p in self.params if p.kind != "word"]  # what the call is lent
@@ -91,7 +94,7 @@ class Whole(Law):
 """
             % (
                 " ".join(p.type for p in self.words),
-                " ".join(p.type for p in self.held),
+                " ".join(p.type for p in self.homed),
                 fields,
                 arrows(map(self.seen, self.held)),
                 self.bind(self.held),
@@ -102,8 +105,8 @@ class Whole(Law):
                 nest(["K .plain"] + self.each(PLAIN)),
             )
         )
-        for p in self.held:
-            by_value = "by-value %s" % p.type if p.kind == "struct" else "listed %s n" % p.type
+        for p in self.homed:
+            by_value = "listed %s n" % p.type if p.kind == "list" else "by-value %s" % p.type
             self.emit("  abbrev X%s : Word\n  X%s = %s\n" % (p.type, p.type, by_value))
             self.emit("  abbrev R%s : RattleType\n  R%s = row (%s .S)\n" % (p.type, p.type, p.type))
 
@@ -146,7 +149,7 @@ class Whole(Law):
         return plain(self.word(p) + " .row")
 
     def lent_slot(self, p):
-        return self.by_value_slot(p) if p.kind == "word" else slot({"struct": "RefMutOf", "list": "SliceRefMutOf", "octets": "SliceRefOf"}[p.kind], p.j, self.row(p))
+        return self.by_value_slot(p) if p.kind == "word" else slot({"shared": "RefOf", "struct": "RefMutOf", "list": "SliceRefMutOf", "octets": "SliceRefOf"}[p.kind], p.j, self.row(p))
 
     def own_slot(self, p):
         return slot("SliceRefOf", 0, "u8") if p.kind == "octets" else self.by_value_slot(p)
@@ -174,14 +177,14 @@ class Whole(Law):
 
         for p in self.params:
             self.at[p.name] = self.new(OCTETS if p.kind == "octets" else self.word(p) + " .ty")
-        for p in self.held:
+        for p in self.homed:
             p.home = self.new(self.word(p) + " .ty")
         self.answer_at = self.new("K .word .ty")
-        statements = [assign(p.home, "rvOpd (%s)" % copy(self.at[p.name])) for p in self.held]
+        statements = [assign(p.home, "rvOpd (%s)" % copy(self.at[p.name])) for p in self.homed]
         passed_at = dict(self.at)
-        for p in self.held:
-            written = "R%s .written" % p.type if p.kind == "struct" else "Array R%s n .written" % p.type
-            p.ptr = passed_at[p.name] = self.new("tyRef erased mut (pointee (%s))" % written)
+        for p in self.homed:
+            written = "Array R%s n .written" % p.type if p.kind == "list" else "R%s .written" % p.type
+            p.ptr = passed_at[p.name] = self.new("tyRef erased %s (pointee (%s))" % ("imm" if p.kind == "shared" else "mut", written))
             statements.append(assign(p.ptr, "addrOf (place %d [])" % p.home))
             if p.kind == "list":
                 p.whole = passed_at[p.name] = self.new("sliceTy (tyRef erased mut (pointee (R%s .written)))" % p.type)
@@ -193,7 +196,7 @@ class Whole(Law):
             statements.append(assign(p.out, "rvOpd (%s)" % copy(p.home)))
         self.parts_at = [self.answer_at] + [p.out for p in self.held]
         statements.append(assign(0, "aggregate (%s)" % items(map(copy, self.parts_at))))
-        self.emit(function(["g"], len(self.octets), len(self.params), self.local, sequence(statements), {p.home for p in self.held}))
+        self.emit(function(["g"], len(self.octets), len(self.params), self.local, sequence(statements), {p.home for p in self.homed}))
 
         self.emit(stayed("stay-dropped %s yes" % self.dropped_slot(p) for p in self.params))
 
@@ -318,9 +321,9 @@ class Whole(Law):
         for p in self.params:
             self.s.put("pass1 ! (init ! %d refl %s) $" % (self.L(self.at[p.name]), slice_typed("room-" + p.name) if p.kind == "octets" else self.typed(p, p.name, "is-" + p.name)))
         self.s.put("pass0 ! $")
-        for p in self.held:
+        for p in self.homed:
             put(self.s, p.home, "of-opd ! " + load(self.s, self.at[p.name]), self.typed(p, p.name, "is-" + p.name))
-        for p in self.held:
+        for p in self.homed:
             put(self.s, p.ptr, "addr ! (from ! (stop !))", "(tt, tt)")
             if p.kind == "list":
                 put(self.s, p.whole, "agg ! (and-then ! %s (and-then ! (lit ! few) (no-more !)))" % load(self.s, p.ptr), slice_typed("room"))
@@ -328,11 +331,15 @@ class Whole(Law):
                 self.s.put("rewrite ! %d (λ (j : ℕ). ‵ (%s)) (sym (counted %s n %s _ is-%s)) refl $" % (self.L(p.whole), long, self.E, self.R, self.R))
 
         self.s.note("the locals are lent, each for a lifetime of its own that is made for the call")
-        for p in self.held:
+        for p in self.homed:
             z = "z" + digits(p.home)
             p.share = "fullShare"
             p.ref = "record { ptr = (%s, 0); name = %s; now = %s }" % (z, p.ghost, p.name)
-            if p.kind == "struct":
+            if p.kind == "shared":
+                p.vals, owner = "vptr %s 0 ∷ []" % z, "ShrRef (named %d) %s %s" % (p.j, p.lft, self.row(p))
+                kept = "flent %s (partAt %s fullShare %s %s 0)" % (p.lft, self.row(p), p.name, z)
+                lends = "shares-local 𝓤 H A W %s (named %d) %s %s %s is-%s" % (p.type, p.j, p.lft, p.name, z, p.name)
+            elif p.kind == "struct":
                 p.vals, owner = "vptr %s 0 ∷ []" % z, "MutRef (named %d) %s %s" % (p.j, p.lft, self.row(p))
                 kept = "flent %s (Referent (mem %s) %s 0 %s)" % (p.lft, self.row(p), z, p.ghost)
                 lends = "lends-local 𝓤 H A W %s (named %d) %s %s %s is-%s" % (p.type, p.j, p.lft, p.name, z, p.name)
@@ -400,6 +407,12 @@ class Whole(Law):
         self.s.drop("result")
 
         self.s.note("the lifetimes end, and the locals are back")
+        for p in self.shared:
+            self.s.move("token-" + p.name)
+            self.s.head("lft-end ! tt $", 1, ["dead"])
+            self.s.move("dead", "kept-" + p.name)
+            holds = self.held_at(p.home, "%s .val %s" % (self.word(p), p.name))
+            self.s.head("use2 W (later (‵ (%s))) (shared-local-back 𝓤 H A W %s %s %s z%s) $ await ! tt $" % (holds, p.type, p.lft, p.name, digits(p.home)), 2, ["l%d" % p.home])
         for p in self.held:
             z = "z" + digits(p.home)
             self.s.move("token-" + p.name)
@@ -492,6 +505,7 @@ class Whole(Law):
                 ("denote.Struct.Field", ["rows"]),
                 ("denote.Struct.Declared", ["Declared", "fields"]),
                 (".Words", ["Word", "Data", "Part", "by-value", "at-type", "passed"]),
-                (HERE + ".Lists", ["listed", "list-field", "list-laws", "list-plain", "in-field", "counted", "lends-local", "local-back", "lends-array", "array-back"]),
+                (HERE + ".Lists", ["listed", "list-field", "list-laws", "list-plain", "in-field", "counted", "lends-local", "local-back", "shares-local", "shared-local-back", "lends-array", "array-back"]),
+                ("denote.Memory", ["partAt"]),
             ],
         ) + "use denote.Struct.Declared as declared\n"

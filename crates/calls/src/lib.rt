@@ -43,22 +43,23 @@ pub struct Effect {
 
 // A request: the calls that are lent no octets.
 pub fn call(
-    settings: Settings,
+    settings: &Settings,
     number: usize,
     clock: &mut Clock,
     links: &mut Links,
     run: &mut [Entry],
     request: Request,
 ) -> Reply
-    ensures { λ r. ⌜ Leaves (perform (ask request) (lent settings number (now (clock .entry)) (now (links .entry)) (now (run .entry)))) r (now (clock .exit)) (now (links .exit)) (now (run .exit)) ⌝ }
+    ensures { λ r. ⌜ Leaves (perform (ask request) (lent (now (settings .entry)) number (now (clock .entry)) (now (links .entry)) (now (run .entry)))) r (now (clock .exit)) (now (links .exit)) (now (run .exit)) ⌝ }
 {
+    let s = *settings;
     let c = *clock;
     let l = *links;
     let a = effects::scope_of(request);
     let g = guard(settings, number, c, l, a, run);
-    let z = places::sought(g, settings, number, request);
+    let z = places::sought(g, s, number, request);
     let e = entry_of(run, z);
-    let p = effects::plan(g, settings, c, l, e, request);
+    let p = effects::plan(g, s, c, l, e, request);
     let w = places::placed(number, p.work);
     change_all(run, w);
     *clock = p.clock;
@@ -74,7 +75,7 @@ fn on_link(link: usize) -> Scope
 
 // A message for the neighbor of a link, written to the front of the buffer.
 pub fn send(
-    settings: Settings,
+    settings: &Settings,
     number: usize,
     clock: &mut Clock,
     links: &mut Links,
@@ -82,15 +83,16 @@ pub fn send(
     link: usize,
     buffer: &mut [u8],
 ) -> Reply
-    ensures { λ r. ⌜ Leaves (perform (send link (now (buffer .entry))) (lent settings number (now (clock .entry)) (now (links .entry)) (now (run .entry)))) r (now (clock .exit)) (now (links .exit)) (now (run .entry))
-        × (now (buffer .exit) ≡ perform (send link (now (buffer .entry))) (lent settings number (now (clock .entry)) (now (links .entry)) (now (run .entry))) .buffer) ⌝ }
+    ensures { λ r. ⌜ Leaves (perform (send link (now (buffer .entry))) (lent (now (settings .entry)) number (now (clock .entry)) (now (links .entry)) (now (run .entry)))) r (now (clock .exit)) (now (links .exit)) (now (run .entry))
+        × (now (buffer .exit) ≡ perform (send link (now (buffer .entry))) (lent (now (settings .entry)) number (now (clock .entry)) (now (links .entry)) (now (run .entry))) .buffer) ⌝ }
 {
+    let s = *settings;
     let c = *clock;
     let l = *links;
     let n = buffer.len();
     let a = on_link(link);
     let g = guard(settings, number, c, l, a, run);
-    let p = sending::plan(g, settings, c, l, link, n);
+    let p = sending::plan(g, s, c, l, link, n);
     let w = places::reports_at(number, p.work);
     read_out(buffer, run, w);
     sending::finish(buffer, p);
@@ -101,7 +103,7 @@ pub fn send(
 
 // A packet that arrives on a link.
 pub fn receive(
-    settings: Settings,
+    settings: &Settings,
     number: usize,
     clock: &mut Clock,
     links: &mut Links,
@@ -109,13 +111,14 @@ pub fn receive(
     link: usize,
     packet: &[u8],
 ) -> Reply
-    ensures { λ r. ⌜ Leaves (perform (receive link (now (packet .entry))) (lent settings number (now (clock .entry)) (now (links .entry)) (now (run .entry)))) r (now (clock .exit)) (now (links .exit)) (now (run .exit)) ⌝ }
+    ensures { λ r. ⌜ Leaves (perform (receive link (now (packet .entry))) (lent (now (settings .entry)) number (now (clock .entry)) (now (links .entry)) (now (run .entry)))) r (now (clock .exit)) (now (links .exit)) (now (run .exit)) ⌝ }
 {
+    let s = *settings;
     let c = *clock;
     let l = *links;
     let a = on_link(link);
     let g = guard(settings, number, c, l, a, run);
-    let p = arrival::plan(g, settings, c, l, link, packet);
+    let p = arrival::plan(g, s, c, l, link, packet);
     let w = places::updates_at(number, p.work);
     let k = update_all(run, w, packet);
     *clock = k;

@@ -173,9 +173,8 @@ pub extern "C" fn hello_initialize(
 ) -> u8
     ensures { λ r. ⌜ Returns numbered (perform (ask Initialize) (lent (now (settings .entry)) number (now (clock .entry)) (now (links .entry)) (now (run .entry)))) r (now (clock .exit)) (now (links .exit)) (now (run .exit)) ⌝ }
 {
-    let s = *settings;
     let q = asks_initialize();
-    let a = calls::call(s, number, clock, links, run, q);
+    let a = calls::call(settings, number, clock, links, run, q);
     numbered(a)
 }
 
@@ -190,9 +189,8 @@ pub extern "C" fn hello_tick(
 ) -> u8
     ensures { λ r. ⌜ Returns numbered (perform (ask Tick) (lent (now (settings .entry)) number (now (clock .entry)) (now (links .entry)) (now (run .entry)))) r (now (clock .exit)) (now (links .exit)) (now (run .exit)) ⌝ }
 {
-    let s = *settings;
     let q = asks_tick();
-    let a = calls::call(s, number, clock, links, run, q);
+    let a = calls::call(settings, number, clock, links, run, q);
     numbered(a)
 }
 
@@ -207,9 +205,8 @@ pub extern "C" fn hello_adjust(
 ) -> u8
     ensures { λ r. ⌜ Returns numbered (perform (ask Adjust) (lent (now (settings .entry)) number (now (clock .entry)) (now (links .entry)) (now (run .entry)))) r (now (clock .exit)) (now (links .exit)) (now (run .exit)) ⌝ }
 {
-    let s = *settings;
     let q = asks_adjust();
-    let a = calls::call(s, number, clock, links, run, q);
+    let a = calls::call(settings, number, clock, links, run, q);
     numbered(a)
 }
 
@@ -225,9 +222,8 @@ pub extern "C" fn hello_set(
 ) -> u8
     ensures { λ r. ⌜ Returns numbered (perform (ask (Set ms)) (lent (now (settings .entry)) number (now (clock .entry)) (now (links .entry)) (now (run .entry)))) r (now (clock .exit)) (now (links .exit)) (now (run .exit)) ⌝ }
 {
-    let s = *settings;
     let q = asks_set(ms);
-    let a = calls::call(s, number, clock, links, run, q);
+    let a = calls::call(settings, number, clock, links, run, q);
     numbered(a)
 }
 
@@ -242,9 +238,8 @@ pub extern "C" fn hello_read(
 ) -> Time
     ensures { λ r. ⌜ Returns timeTold (perform (ask Read) (lent (now (settings .entry)) number (now (clock .entry)) (now (links .entry)) (now (run .entry)))) r (now (clock .exit)) (now (links .exit)) (now (run .exit)) ⌝ }
 {
-    let s = *settings;
     let q = asks_read();
-    let a = calls::call(s, number, clock, links, run, q);
+    let a = calls::call(settings, number, clock, links, run, q);
     time_told(a)
 }
 
@@ -259,9 +254,8 @@ pub extern "C" fn hello_second(
 ) -> u8
     ensures { λ r. ⌜ Returns numbered (perform (ask Second) (lent (now (settings .entry)) number (now (clock .entry)) (now (links .entry)) (now (run .entry)))) r (now (clock .exit)) (now (links .exit)) (now (run .exit)) ⌝ }
 {
-    let s = *settings;
     let q = asks_second();
-    let a = calls::call(s, number, clock, links, run, q);
+    let a = calls::call(settings, number, clock, links, run, q);
     numbered(a)
 }
 
@@ -276,9 +270,8 @@ pub extern "C" fn hello_self_report(
 ) -> u8
     ensures { λ r. ⌜ Returns numbered (perform (ask SelfReport) (lent (now (settings .entry)) number (now (clock .entry)) (now (links .entry)) (now (run .entry)))) r (now (clock .exit)) (now (links .exit)) (now (run .exit)) ⌝ }
 {
-    let s = *settings;
     let q = asks_self_report();
-    let a = calls::call(s, number, clock, links, run, q);
+    let a = calls::call(settings, number, clock, links, run, q);
     numbered(a)
 }
 
@@ -296,8 +289,7 @@ pub extern "C" fn hello_send(
     ensures { λ r. ⌜ Returns sentTold (perform (send link (now (buffer .entry))) (lent (now (settings .entry)) number (now (clock .entry)) (now (links .entry)) (now (run .entry)))) r (now (clock .exit)) (now (links .exit)) (now (run .entry))
         × (now (buffer .exit) ≡ perform (send link (now (buffer .entry))) (lent (now (settings .entry)) number (now (clock .entry)) (now (links .entry)) (now (run .entry))) .buffer) ⌝ }
 {
-    let s = *settings;
-    let a = calls::send(s, number, clock, links, run, link, buffer);
+    let a = calls::send(settings, number, clock, links, run, link, buffer);
     sent_told(a)
 }
 
@@ -314,8 +306,7 @@ pub extern "C" fn hello_receive(
 ) -> u8
     ensures { λ r. ⌜ Returns numbered (perform (receive link (now (packet .entry))) (lent (now (settings .entry)) number (now (clock .entry)) (now (links .entry)) (now (run .entry)))) r (now (clock .exit)) (now (links .exit)) (now (run .exit)) ⌝ }
 {
-    let s = *settings;
-    let a = calls::receive(s, number, clock, links, run, link, packet);
+    let a = calls::receive(settings, number, clock, links, run, link, packet);
     numbered(a)
 }
 
@@ -331,8 +322,7 @@ pub extern "C" fn hello_lookup(
 ) -> Route
     ensures { λ r. ⌜ Returns routeTold (perform (ask (Lookup address)) (lent (now (settings .entry)) number (now (clock .entry)) (now (links .entry)) (now (run .entry)))) r (now (clock .exit)) (now (links .exit)) (now (run .exit)) ⌝ }
 {
-    let s = *settings;
     let q = asks_lookup(address);
-    let a = calls::call(s, number, clock, links, run, q);
+    let a = calls::call(settings, number, clock, links, run, q);
     route_told(a)
 }

@@ -120,17 +120,18 @@ fn judged(s: Settings, good: bool) -> Answer
 
 // The answer that refuses the call, or Done.
 pub fn guard(
-    settings: Settings,
+    settings: &Settings,
     number: usize,
     clock: Clock,
     links: Links,
     scope: Scope,
     run: &[Entry],
 ) -> Answer
-    ensures { λ r. ⌜ r ≡ guard scope (lent settings number clock links (now (run .entry))) ⌝ }
+    ensures { λ r. ⌜ r ≡ guard scope (lent (now (settings .entry)) number clock links (now (run .entry))) ⌝ }
 {
+    let s = *settings;
     let n = run.len();
-    let w = held(settings, number, clock, links, scope, n);
+    let w = held(s, number, clock, links, scope, n);
     let good = all_in_range(run, w);
-    judged(settings, good)
+    judged(s, good)
 }

@@ -38,10 +38,11 @@ pub fn call(
 ) -> Whole
     ensures { λ r. ⌜ r ≡ wholeOf (perform (ask request) (lent settings number clock links run)) ⌝ }
 {
+    let s = settings;
     let mut c = clock;
     let mut l = links;
     let mut e = run;
-    let a = calls::call(settings, number, &mut c, &mut l, &mut e, request);
+    let a = calls::call(&s, number, &mut c, &mut l, &mut e, request);
     Whole {
         reply: a,
         clock: c,
@@ -62,10 +63,11 @@ pub fn receive(
 ) -> Whole
     ensures { λ r. ⌜ r ≡ wholeOf (perform (receive link (now (packet .entry))) (lent settings number clock links run)) ⌝ }
 {
+    let s = settings;
     let mut c = clock;
     let mut l = links;
     let mut e = run;
-    let a = calls::receive(settings, number, &mut c, &mut l, &mut e, link, packet);
+    let a = calls::receive(&s, number, &mut c, &mut l, &mut e, link, packet);
     Whole {
         reply: a,
         clock: c,

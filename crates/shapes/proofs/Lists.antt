@@ -2,6 +2,8 @@
 --     listed           an array of n structs by value, as a `Word`; list-field, list-laws, list-plain: as a struct's field
 --     lends-local      the local that holds x  ⊢ ⇛ ∃ γ. own (the `&κ mut S` ((b, 0), γ, x)) ∗ the lender's part
 --     local-back       [†κ] ∗ the lender's part ∗ res γ y  ⊢ ⇛ the local holds y
+--     shares-local     the local that holds x  ⊢ ⇛ ∃ γ. own (the `&κ S` ((b, 0), γ, x)) ∗ the lender's part
+--     shared-local-back  [†κ] ∗ the lender's part  ⊢ ⇛ the local holds x
 --     lends-array      the local that holds the array ys  ⊢ ⇛ ∃ γ. own (the `&κ mut [S]` ((b, 0), γ, ys)) ∗ the lender's part
 --     array-back       [†κ] ∗ the lender's part ∗ finally γ zs  ⊢ ⇛ the local holds the array zs
 -- Assumes `Given`.
@@ -20,15 +22,16 @@ use ghost.Atoms.{Atoms, sem}
 use types.Kit.{Given, ‵, given, later, _$_, _∵_, !, qed, by, move, drop, use1, use3, rewrite, fsplit, fjoin, fpick, fpack, feqL, feqI, await, updating, now as at-once, check, learn, done}
 use types.SemTy.{Body, Arr}
 use types.Share.{arr-parts}
+use types.Tokens.{lent-back}
 use denote.RattleType.{RattleType}
 use denote.Laws.{Is, Makes, Tells, shows}
 use denote.Shadow.{shadow}
 use denote.Memory.{mem, cellAt, partAt, partOf, shares}
 use denote.Array.{Array, each, arrayVal, array-tells, array-typed, array-makes}
 use denote.ArrayMemory.{array-apart, array-whole}
-use denote.Ref.{RefT, MutRef}
+use denote.Ref.{RefT, MutRef, ShrRef}
 use denote.Slice.{sliceVal, MutSlice, Room, finally}
-use denote.Lend.{Held, lends-ref, ref-back, lends-slice, slice-back}
+use denote.Lend.{Held, lends-ref, ref-back, lends-shr, lends-slice, slice-back}
 use denote.Steps.{owned, peeks}
 use denote.Struct.Steps.{spelt}
 use denote.Struct.Struct.{layout, Struct}
@@ -122,6 +125,16 @@ module _ {M : Type 1} (𝓤 : URA M) (H : Heap 𝓤) (A : Atoms 𝓤) (W : Given
         qed W (‵ (fdead κ) ∷ ‵ (flent κ (Body (mem R) b 0 γ)) ∷ ‵ (fres γ (R .coded .code y)) ∷ []) {P = H .⇛ (guard 𝓤 (Is R y (val y ∷ [])) (sem 𝓤 H A (fat fullShare τ b 0 (val y))))} (
         updating ! $ use3 W (later (‵ (mem R .lies y b 0))) (ref-back 𝓤 H A W R κ γ y b 0) $ await ! tt $
         use1 W (given (Is R y (val y ∷ [])) (‵ (fat fullShare τ b 0 (val y)))) (lies-out R τ val (LL.tells (d .S) (d .L)) y b) $ learn ! (λ is. at-once ! $ check ! is $ done !))
+
+    pub shares-local : (ℓ : Lifetime) (κ : Lft) (x : d .S .D) (b : ℕ) → Is R x (val x ∷ []) → ent 𝓤 (sem 𝓤 H A (fat fullShare τ b 0 (val x)))
+        (H .⇛ (ex 𝓤 (λ (γ : GName). sep 𝓤 (sem 𝓤 H A (ShrRef ℓ κ R .own (at-ref b x γ) (vptr b 0 ∷ []))) (sem 𝓤 H A (flent κ (partAt R fullShare x b 0))))))
+    shares-local ℓ κ x b is =
+        qed W (‵ (fat fullShare τ b 0 (val x)) ∷ []) ∵ use1 W (‵ (partAt R fullShare x b 0)) (lies-in R τ val (LL.makes (d .S) (d .P) 𝓤 H A) x b is) $ by ! (lends-shr 𝓤 H A W R ℓ κ fullShare x b 0)
+
+    pub shared-local-back : (κ : Lft) (x : d .S .D) (b : ℕ) → ent 𝓤 (sep 𝓤 (A .dead κ) (A .lent κ (partAt R fullShare x b 0))) (H .⇛ (sem 𝓤 H A (fat fullShare τ b 0 (val x))))
+    shared-local-back κ x b =
+        qed W (‵ (fdead κ) ∷ ‵ (flent κ (partAt R fullShare x b 0)) ∷ []) ∵ updating ! $ lent-back ! tt $
+        use1 W (given (Is R x (val x ∷ [])) (‵ (fat fullShare τ b 0 (val x)))) (lies-out R τ val (LL.tells (d .S) (d .L)) x b) $ learn ! (λ is. at-once ! $ done !)
 
     -- ---- an array of structs
     abbrev vals : List (d .S .D) → Val

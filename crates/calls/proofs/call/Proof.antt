@@ -42,8 +42,8 @@ use Rattle.calls.proofs.call.Code as code
 pub call-spec : {M : Type 1} → stated.statement M
 unfolding code.routine
 call-spec 𝓤 H 𝓜 𝓖 𝓡 =
-    proof (by-value settings) number (chosen-by-value request) (chosen-by-value scope) (chosen-by-value answer) (by-value (whole seek)) (by-value entry) (by-value (whole changes))
-    clock links entry (struct-part reply) (struct-part (whole changes)) effect 𝓤 H 𝓜 𝓖 𝓡
+    proof number (chosen-by-value request) (chosen-by-value scope) (chosen-by-value answer) (by-value (whole seek)) (by-value entry) (by-value (whole changes))
+    settings clock links entry (struct-part reply) (struct-part (whole changes)) effect 𝓤 H 𝓜 𝓖 𝓡
     (λ q. emp 𝓤) (λ q a. a ≡ scopeOf q)
     (λ s k c l a run. emp 𝓤) (λ s k c l a run g. g ≡ guard a (lent s k c l run))
     (λ g s k q. fact 𝓤 (NumberTold g s k)) (λ g s k q z. z ≡ soughtAt g q s k)

@@ -38,8 +38,8 @@ use Rattle.calls.proofs.receive.Code as code
 pub receive-spec : {M : Type 1} → stated.statement M
 unfolding code.routine
 receive-spec 𝓤 H 𝓜 𝓖 𝓡 =
-    proof (by-value settings) number number (chosen-by-value scope) (chosen-by-value answer) (by-value (whole updates))
-    clock links entry (struct-part reply) (struct-part (whole updates)) arrived 𝓤 H 𝓜 𝓖 𝓡
+    proof number number (chosen-by-value scope) (chosen-by-value answer) (by-value (whole updates))
+    settings clock links entry (struct-part reply) (struct-part (whole updates)) arrived 𝓤 H 𝓜 𝓖 𝓡
     (λ i. emp 𝓤) (λ i a. a ≡ OnLink i)
     (λ s k c l a run. emp 𝓤) (λ s k c l a run g. g ≡ guard a (lent s k c l run))
     (λ g s c l i b. fact 𝓤 (Told g (OnLink i) s c)) (λ g s c l i b p. p ≡ planned g i b (host s c l))

@@ -21,7 +21,7 @@ use Rattle.program.proofs.call.Code as code
 pub call-spec : {M : Type 1} → stated.statement M
 unfolding code.routine
 call-spec 𝓤 H 𝓜 𝓖 𝓡 =
-    proof (by-value settings) number (chosen-by-value request) clock links entry 255 (struct-part reply) (λ r. r) (λ r vs is. is)
+    proof number (chosen-by-value request) settings clock links entry 255 (struct-part reply) (λ r. r) (λ r vs is. is)
     (W.the-type .name) Whole (W.the-type .to) (W.the-type .to-one) (λ a c l run. record { reply = a; clock = c; links = l; run = run }) (λ a c l run. refl) 𝓤 H 𝓜 𝓖 𝓡
     (λ s k c l run q c′ l′ run′ r. Leaves (perform (definition.ask q) (lent s k c l run)) r c′ l′ run′)
     (λ s k c l run q w. w ≡ wholeOf (perform (definition.ask q) (lent s k c l run)))

@@ -20,7 +20,7 @@ use Rattle.program.proofs.receive.Code as code
 pub receive-spec : {M : Type 1} → stated.statement M
 unfolding code.routine
 receive-spec 𝓤 H 𝓜 𝓖 𝓡 =
-    proof (by-value settings) number number clock links entry 255 (struct-part reply) (λ r. r) (λ r vs is. is)
+    proof number number settings clock links entry 255 (struct-part reply) (λ r. r) (λ r vs is. is)
     (W.the-type .name) Whole (W.the-type .to) (W.the-type .to-one) (λ a c l run. record { reply = a; clock = c; links = l; run = run }) (λ a c l run. refl) 𝓤 H 𝓜 𝓖 𝓡
     (λ s k c l run n b c′ l′ run′ r. Leaves (perform (definition.receive n b) (lent s k c l run)) r c′ l′ run′)
     (λ s k c l run n b w. w ≡ wholeOf (perform (definition.receive n b) (lent s k c l run)))

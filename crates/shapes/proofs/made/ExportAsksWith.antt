@@ -1,7 +1,7 @@
--- The law of a thin function: `fn ExportAsksWith(settings: &S, number: N, clock: &mut C, links: &mut L, run: &mut [E], input: Y) -> K { let s = *settings; let q: I = request(input); let a: O = call(s, number, clock, links, run, q); answer(a) }`.
+-- The law of a thin function: `fn ExportAsksWith(settings: &S, number: N, clock: &mut C, links: &mut L, run: &mut [E], input: Y) -> K { let q: I = request(input); let a: O = call(settings, number, clock, links, run, q); answer(a) }`.
 -- It is one walk of that MIR, for any types and any contracts of the functions that are called. The author shows that each of them is asked for no more than what is known (`ok`), and that what they say comes to what the function says (`then`).
 -- Made by tools/laws/make. Assumes nothing.
-use Rattle.lent.proofs.Walk.{_≡_, refl, ap, ℕ, List, [], _∷_, length, T, URA, fullShare, Name, Fn, named, erased, mut, imm, tyRef, local, valueLocal, place, deref, field, copy, rvOpd, addrOf, aggregate, assign, call, seq, return, Val, vptr, SProp, ent, sep, emp, id⊢, GName, Lft, Share, ftrue, fat, flft, fres, Model, Routine, Env, Heap, Calls, Loops, WpFn, Tables, Closed, Atoms, fact, GhostRules, Running, givenOf, tables, Given, ‵, raw, _⊛_, ⋆, some, later, _$_, _∵_, !, qed, by, move, keep, drop, use0, use1, use3, split, join, pick, rewrite, fsplit, fsplit3, fjoin, feqL, suffices, frame, await, done, look, look-raw, init, forget, stop, hop, fld, from, load, addr, of-opd, and-then, no-more, assigns, land, returns, enter, alloc1, alloc0, params1, pass1, pass0, free1, free0, agg, whole-part, sub, look-in, FmC, fmOf, WpFn-mono, RattleType, owns, Is, shows, pointee, RefOf, RefMutOf, SliceRefMutOf, RefT, MutRef, ShrRef, ptr-vals, mut-tells, shr-tells, sliceVal, sliceTy, slice-vals, MutSlice, Room, finally, mut-slice-tells, Signature, plain, shrRefTo, only, looks, shuts, owned, peeks, heard, nothing, spelt, layout, row, shape, onEntry, Meets, tripleOf, Contract, Triple, calls-at, entered, cited, Ended, Clauses, Lasts, closing, ensured, lasts, Stays, stay-dropped, gave-ref, gave-slice, says, walkOf, goes-dropped, goes-gave-ref, goes-gave-slice, ends-at, walked, walk-meets, yes}
+use Rattle.lent.proofs.Walk.{_≡_, refl, ap, ℕ, List, [], _∷_, length, T, URA, fullShare, Name, Fn, named, erased, mut, imm, tyRef, local, valueLocal, place, deref, field, copy, addrOf, aggregate, assign, call, seq, return, Val, vptr, SProp, ent, sep, emp, id⊢, GName, Lft, Share, ftrue, fat, flft, fres, Model, Routine, Env, Heap, Calls, Loops, WpFn, Tables, Closed, Atoms, fact, GhostRules, Running, givenOf, tables, Given, ‵, raw, _⊛_, ⋆, some, later, _$_, _∵_, !, qed, by, move, keep, drop, use0, use1, use3, split, join, pick, rewrite, fsplit, fjoin, feqL, suffices, frame, await, done, look, init, forget, stop, hop, fld, from, load, addr, and-then, no-more, assigns, land, returns, enter, alloc1, alloc0, params1, pass1, pass0, free1, free0, agg, whole-part, sub, look-in, FmC, fmOf, WpFn-mono, RattleType, owns, Is, shows, pointee, RefOf, RefMutOf, SliceRefMutOf, RefT, MutRef, ShrRef, ptr-vals, mut-tells, shr-tells, shr-copy, sliceVal, sliceTy, slice-vals, MutSlice, Room, finally, mut-slice-tells, Signature, plain, shrRefTo, only, owned, peeks, heard, nothing, layout, row, shape, onEntry, Meets, tripleOf, Contract, Triple, calls-at, entered, cited, Ended, Clauses, Lasts, closing, ensured, lasts, Stays, stay-dropped, gave-ref, gave-slice, says, walkOf, goes-dropped, goes-gave-ref, goes-gave-slice, ends-at, walked, walk-meets, yes}
 use Rattle.lent.proofs.Walk.{tablesOf}
 use denote.Struct.Laws as LL
 use Rattle.lent.proofs.Words.{Word, Data, by-value, settled, passed}
@@ -38,7 +38,7 @@ module _ (N Y I O K : Word) (S C L E : Data) where
   ended₁ = record { signature = signature₁; kept = (yes, tt) }
 
   abbrev signature₂ : Signature
-  signature₂ = record { lifetimes = 3; outlives = []; params = plain (λ _. XS .row) ∷ plain (λ _. N .row) ∷ RefMutOf (0 ∷ []) tt (plain (λ _. RC)) (λ _. tt) ∷ RefMutOf (1 ∷ []) tt (plain (λ _. RL)) (λ _. tt) ∷ SliceRefMutOf (2 ∷ []) tt (plain (λ _. RE)) (λ _. tt) ∷ plain (λ _. I .row) ∷ []; result = plain (λ _. O .row) }
+  signature₂ = record { lifetimes = 4; outlives = []; params = RefOf (0 ∷ []) tt (plain (λ _. RS)) (λ _. tt) ∷ plain (λ _. N .row) ∷ RefMutOf (1 ∷ []) tt (plain (λ _. RC)) (λ _. tt) ∷ RefMutOf (2 ∷ []) tt (plain (λ _. RL)) (λ _. tt) ∷ SliceRefMutOf (3 ∷ []) tt (plain (λ _. RE)) (λ _. tt) ∷ plain (λ _. I .row) ∷ []; result = plain (λ _. O .row) }
 
   abbrev ended₂ : Ended
   ended₂ = record { signature = signature₂; kept = (yes, (yes, (yes, (yes, (yes, (yes, tt)))))) }
@@ -60,22 +60,21 @@ module _ (N Y I O K : Word) (S C L E : Data) where
     lifetimes = 4;
     outlives = [];
     params = 6;
-    locals = local (K .ty) valueLocal ∷ local (tyRef (named 0) imm (pointee (RS .written))) valueLocal ∷ local (N .ty) valueLocal ∷ local (tyRef (named 1) mut (pointee (RC .written))) valueLocal ∷ local (tyRef (named 2) mut (pointee (RL .written))) valueLocal ∷ local (sliceTy (tyRef (named 3) mut (pointee (RE .written)))) valueLocal ∷ local (Y .ty) valueLocal ∷ local (XS .ty) valueLocal ∷ local (I .ty) valueLocal ∷ local (O .ty) valueLocal ∷ local (tyRef erased mut (pointee (RC .written))) valueLocal ∷ local (tyRef erased mut (pointee (RL .written))) valueLocal ∷ local (tyRef erased mut (pointee (RE .written))) valueLocal ∷ local (sliceTy (tyRef erased mut (pointee (RE .written)))) valueLocal ∷ [];
-    body = seq (assign (place 7 []) (rvOpd (copy (place 1 (deref (layout (shape (S .S))) ∷ [])))))
-        (seq (call g₁ (copy (place 6 []) ∷ []) (place 8 []))
-        (seq (assign (place 10 []) (addrOf (place 3 (deref (layout (shape (C .S))) ∷ []))))
-        (seq (assign (place 11 []) (addrOf (place 4 (deref (layout (shape (L .S))) ∷ []))))
-        (seq (assign (place 12 []) (addrOf (place 5 (field 0 ∷ deref (layout (shape (E .S))) ∷ []))))
-        (seq (assign (place 13 []) (aggregate (copy (place 12 []) ∷ copy (place 5 (field 1 ∷ [])) ∷ [])))
-        (seq (call g₂ (copy (place 7 []) ∷ copy (place 2 []) ∷ copy (place 10 []) ∷ copy (place 11 []) ∷ copy (place 13 []) ∷ copy (place 8 []) ∷ []) (place 9 []))
-        (seq (call g₃ (copy (place 9 []) ∷ []) (place 0 [])) return)))))));
+    locals = local (K .ty) valueLocal ∷ local (tyRef (named 0) imm (pointee (RS .written))) valueLocal ∷ local (N .ty) valueLocal ∷ local (tyRef (named 1) mut (pointee (RC .written))) valueLocal ∷ local (tyRef (named 2) mut (pointee (RL .written))) valueLocal ∷ local (sliceTy (tyRef (named 3) mut (pointee (RE .written)))) valueLocal ∷ local (Y .ty) valueLocal ∷ local (I .ty) valueLocal ∷ local (O .ty) valueLocal ∷ local (tyRef erased mut (pointee (RC .written))) valueLocal ∷ local (tyRef erased mut (pointee (RL .written))) valueLocal ∷ local (tyRef erased mut (pointee (RE .written))) valueLocal ∷ local (sliceTy (tyRef erased mut (pointee (RE .written)))) valueLocal ∷ [];
+    body = seq (call g₁ (copy (place 6 []) ∷ []) (place 7 []))
+        (seq (assign (place 9 []) (addrOf (place 3 (deref (layout (shape (C .S))) ∷ []))))
+        (seq (assign (place 10 []) (addrOf (place 4 (deref (layout (shape (L .S))) ∷ []))))
+        (seq (assign (place 11 []) (addrOf (place 5 (field 0 ∷ deref (layout (shape (E .S))) ∷ []))))
+        (seq (assign (place 12 []) (aggregate (copy (place 11 []) ∷ copy (place 5 (field 1 ∷ [])) ∷ [])))
+        (seq (call g₂ (copy (place 1 []) ∷ copy (place 2 []) ∷ copy (place 9 []) ∷ copy (place 10 []) ∷ copy (place 12 []) ∷ copy (place 7 []) ∷ []) (place 8 []))
+        (seq (call g₃ (copy (place 8 []) ∷ []) (place 0 [])) return))))));
   }
 
   abbrev stayed : Stays (ended .signature .params) (ended .kept)
   stayed = (stay-dropped (shrRefTo (0 ∷ []) tt (plain (λ _. RS))) yes, (stay-dropped (plain (λ _. N .row)) yes, (gave-ref (1 ∷ []) tt (plain (λ _. RC)), (gave-ref (2 ∷ []) tt (plain (λ _. RL)), (gave-slice (3 ∷ []) tt (plain (λ _. RE)), (stay-dropped (plain (λ _. Y .row)) yes, tt))))))
 
   -- what each callee asks and says, and what the function says
-  module _ {M : Type 1} (𝓤 : URA M) (H : Heap 𝓤) (A : Atoms 𝓤) (asks₁ : Y .row .Denot → SProp 𝓤) (gives₁ : Y .row .Denot → I .row .Denot → Type 0) (asks₂ : XS .row .Denot → N .row .Denot → C .S .D → L .S .D → List (E .S .D) → I .row .Denot → SProp 𝓤) (gives₂ : XS .row .Denot → N .row .Denot → C .S .D → L .S .D → List (E .S .D) → I .row .Denot → O .row .Denot → C .S .D → L .S .D → List (E .S .D) → Type 0) (asks₃ : O .row .Denot → SProp 𝓤) (gives₃ : O .row .Denot → K .row .Denot → Type 0) (Says : S .S .D → N .row .Denot → C .S .D → L .S .D → List (E .S .D) → Y .row .Denot → C .S .D → L .S .D → List (E .S .D) → K .row .Denot → Type 0) where
+  module _ {M : Type 1} (𝓤 : URA M) (H : Heap 𝓤) (A : Atoms 𝓤) (asks₁ : Y .row .Denot → SProp 𝓤) (gives₁ : Y .row .Denot → I .row .Denot → Type 0) (asks₂ : S .S .D → N .row .Denot → C .S .D → L .S .D → List (E .S .D) → I .row .Denot → SProp 𝓤) (gives₂ : S .S .D → N .row .Denot → C .S .D → L .S .D → List (E .S .D) → I .row .Denot → O .row .Denot → C .S .D → L .S .D → List (E .S .D) → Type 0) (asks₃ : O .row .Denot → SProp 𝓤) (gives₃ : O .row .Denot → K .row .Denot → Type 0) (Says : S .S .D → N .row .Denot → C .S .D → L .S .D → List (E .S .D) → Y .row .Denot → C .S .D → L .S .D → List (E .S .D) → K .row .Denot → Type 0) where
     abbrev clauses₁ : Clauses 𝓤 ended₁
     clauses₁ = λ κs a. record { ghost = Unit {0}; requires = λ _. asks₁ (a .0); ensures = λ _ r e. fact 𝓤 (gives₁ (a .0) r) }
 
@@ -83,7 +82,7 @@ module _ (N Y I O K : Word) (S C L E : Data) where
     Contract₁ = tripleOf 𝓤 H A signature₁ (closing 𝓤 H A ended₁ clauses₁)
 
     abbrev clauses₂ : Clauses 𝓤 ended₂
-    clauses₂ = λ κs a. record { ghost = Unit {0}; requires = λ _. asks₂ (a .0) (a .1 .0) (a .1 .1 .0 .now) (a .1 .1 .1 .0 .now) (a .1 .1 .1 .1 .0 .now) (a .1 .1 .1 .1 .1 .0); ensures = λ _ r e. fact 𝓤 (gives₂ (a .0) (a .1 .0) (a .1 .1 .0 .now) (a .1 .1 .1 .0 .now) (a .1 .1 .1 .1 .0 .now) (a .1 .1 .1 .1 .1 .0) r (e .1 .1 .0 .now) (e .1 .1 .1 .0 .now) (e .1 .1 .1 .1 .0 .now)) }
+    clauses₂ = λ κs a. record { ghost = Unit {0}; requires = λ _. asks₂ (a .0 .now) (a .1 .0) (a .1 .1 .0 .now) (a .1 .1 .1 .0 .now) (a .1 .1 .1 .1 .0 .now) (a .1 .1 .1 .1 .1 .0); ensures = λ _ r e. fact 𝓤 (gives₂ (a .0 .now) (a .1 .0) (a .1 .1 .0 .now) (a .1 .1 .1 .0 .now) (a .1 .1 .1 .1 .0 .now) (a .1 .1 .1 .1 .1 .0) r (e .1 .1 .0 .now) (e .1 .1 .1 .0 .now) (e .1 .1 .1 .1 .0 .now)) }
 
     abbrev Contract₂ : Contract 𝓤
     Contract₂ = tripleOf 𝓤 H A signature₂ (closing 𝓤 H A ended₂ clauses₂)
@@ -139,62 +138,57 @@ module _ (N Y I O K : Word) (S C L E : Data) where
             split ! $ move ! (2 ∷ []) $ drop ! $ split ! $ move ! (1 ∷ []) $ split ! $ move ! (1 ∷ []) $ split ! $ move ! (1 ∷ []) $ split ! $ move ! (1 ∷ []) $ drop ! $ move ! (4 ∷ []) $ fsplit ! $
             move ! (1 ∷ []) $ fsplit ! $ drop ! $ fsplit ! $ move ! (1 ∷ []) $ fsplit ! $ move ! (1 ∷ []) $ fsplit ! $ move ! (1 ∷ []) $ fsplit ! $ drop ! $ drop ! $
             enter ! T Λ (function g₁ g₂ g₃) (vptr b₀ o₀ ∷ N .val number ∷ vptr b₁ o₁ ∷ vptr b₂ o₂ ∷ sliceVal (b₃, o₃) (length run) ∷ Y .val input ∷ []) _ $ alloc1 ! (λ z₀. alloc1 ! (λ z₁. alloc1 ! (λ z₂.
-            alloc1 ! (λ z₃. alloc1 ! (λ z₄. alloc1 ! (λ z₅. alloc1 ! (λ z₆. alloc1 ! (λ z₇. alloc1 ! (λ z₈. alloc1 ! (λ z₉. alloc1 ! (λ z₁₀. alloc1 ! (λ z₁₁. alloc1 ! (λ z₁₂. alloc1 ! (λ z₁₃.
-            alloc0 ! $ params1 ! $ pass1 ! (init ! 24 refl (tt, tt)) $ pass1 ! (init ! 22 refl (N .typed M 𝓤 H A W number _ is-number)) $ pass1 ! (init ! 20 refl (tt, tt)) $ pass1 ! (init ! 18 refl (tt, tt)) $
-            pass1 ! (init ! 16 refl (tt, (tt, (record { fits = room-run .0 }, tt)))) $ pass1 ! (init ! 14 refl (Y .typed M 𝓤 H A W input _ is-input)) $ pass0 ! $
-            -- settings is copied out
-            move ! (31 ∷ []) $ fsplit3 ! $ drop ! $ drop ! $ move ! (0 ∷ 35 ∷ []) $
-            looks ! tt RS (Is RS) (shows 𝓤 H A RS) (λ z. XS .val z ∷ []) (XS .tells) (LL.copy (S .S) (S .copies) 𝓤 H A W) settings b₀ o₀ (λ sh vs.
-            spelt ! RS (Is RS) (shows 𝓤 H A RS) (λ z. XS .val z ∷ []) (XS .tells) sh settings vs b₀ o₀ $ move ! (1 ∷ []) $ peeks ! RS (Is RS) (shows 𝓤 H A RS) settings (XS .val settings ∷ []) (λ is-settings.
-            assigns ! (of-opd ! (load ! (from ! (hop ! (look ! 28 refl) (stop !))) (look-raw ! 1 refl))) (from ! (stop !)) (init ! 16 refl (XS .typed M 𝓤 H A W settings _ is-settings)) $ move ! (1 ∷ 0 ∷ 2 ∷ []) $
-            shuts ! tt RS sh settings (XS .val settings ∷ []) b₀ o₀ $ move ! (1 ∷ []) $ drop ! $
+            alloc1 ! (λ z₃. alloc1 ! (λ z₄. alloc1 ! (λ z₅. alloc1 ! (λ z₆. alloc1 ! (λ z₇. alloc1 ! (λ z₈. alloc1 ! (λ z₉. alloc1 ! (λ z₁₀. alloc1 ! (λ z₁₁. alloc1 ! (λ z₁₂. alloc0 ! $ params1 ! $
+            pass1 ! (init ! 22 refl (tt, tt)) $ pass1 ! (init ! 20 refl (N .typed M 𝓤 H A W number _ is-number)) $ pass1 ! (init ! 18 refl (tt, tt)) $ pass1 ! (init ! 16 refl (tt, tt)) $
+            pass1 ! (init ! 14 refl (tt, (tt, (record { fits = room-run .0 }, tt)))) $ pass1 ! (init ! 12 refl (Y .typed M 𝓤 H A W input _ is-input)) $ pass0 ! $
             -- request
             nothing ! $ nothing ! $ owned ! (Y .row) (Is (Y .row)) (Y .makes M 𝓤 H A W) input (Y .val input ∷ []) is-input $ fjoin ! $ use0 W (raw (asks₁ input)) (ok₁ settings number clock links run input) $
             move ! (2 ∷ 1 ∷ 0 ∷ []) $ use3 W (raw (Contract₁ .pre ((tt, tt, tt, (input, tt), (Y .val input ∷ [], tt)), tt))) (passed 𝓤 H A signature₁ tt tt (input, tt) (Y .val input ∷ [], tt) (asks₁ input)) $
-            calls-at ! fm Contract₁ known₁ ((tt, tt, tt, (input, tt), (Y .val input ∷ [], tt)), tt) (and-then ! (load ! (from ! (stop !)) (look ! 16 refl)) (no-more !)) (λ v₁.
+            calls-at ! fm Contract₁ known₁ ((tt, tt, tt, (input, tt), (Y .val input ∷ [], tt)), tt) (and-then ! (load ! (from ! (stop !)) (look ! 13 refl)) (no-more !)) (λ v₁.
             use1 W (later (some (λ (q : I .row .Denot). (‵ ftrue ⊛ ‵ (I .row .own q (v₁ ∷ []))) ⊛ raw (ensured 𝓤 H A ended₁ clauses₁ tt (input, tt) tt q)))) (id⊢ 𝓤 _) $ await ! tt $ pick ! (λ q. split ! $
             split ! $ drop ! $ move ! (1 ∷ []) $ use1 W (some (λ (ends₁ : Lasts ended₁ tt (input, tt)). ‵ (lasts ended₁ tt (input, tt) ends₁) ⊛ raw (fact 𝓤 (gives₁ input q)))) (id⊢ 𝓤 _) $ pick ! (λ ends₁.
             split ! $ move ! (1 ∷ []) $ heard ! (gives₁ input q) (λ φ₁. drop ! $ peeks ! (I .row) (Is (I .row)) (shows 𝓤 H A (I .row)) q (v₁ ∷ []) (λ said-q. drop ! $
-            land ! (from ! (stop !)) (init ! 11 refl (I .typed M 𝓤 H A W q _ said-q)) $ rewrite ! 11 (λ (u : Val). ‵ (fat fullShare (I .ty) z₈ 0 u)) (ap only (I .tells q (v₁ ∷ []) said-q)) refl $
+            land ! (from ! (stop !)) (init ! 10 refl (I .typed M 𝓤 H A W q _ said-q)) $ rewrite ! 10 (λ (u : Val). ‵ (fat fullShare (I .ty) z₇ 0 u)) (ap only (I .tells q (v₁ ∷ []) said-q)) refl $
             -- call
-            assigns ! (addr ! (from ! (hop ! (look ! 21 refl) (stop !)))) (from ! (stop !)) (init ! 7 refl (tt, tt)) $
-            assigns ! (addr ! (from ! (hop ! (look ! 19 refl) (stop !)))) (from ! (stop !)) (init ! 5 refl (tt, tt)) $
-            assigns ! (addr ! (from ! (fld ! refl (hop ! (look-in ! 17 (sub ! 0 refl (whole-part !))) (stop !))))) (from ! (stop !)) (init ! 3 refl (tt, tt)) $
-            assigns ! (agg ! (and-then ! (load ! (from ! (stop !)) (look ! 3 refl)) (and-then ! (load ! (from ! (fld ! refl (stop !))) (look-in ! 17 (sub ! 1 refl (whole-part !)))) (no-more !)))) (from ! (stop !)) (init ! 1 refl (tt, (tt, (record { fits = room-run .0 }, tt)))) $
-            nothing ! $ move ! (33 ∷ 0 ∷ []) $ join ! $ move ! (33 ∷ 0 ∷ []) $ join ! $ move ! (33 ∷ 0 ∷ []) $ join ! $ nothing ! $
-            owned ! (I .row) (Is (I .row)) (I .makes M 𝓤 H A W) q (I .val q ∷ []) (settled I q v₁ said-q) $ fjoin ! $ move ! (31 ∷ 0 ∷ []) $ fjoin ! $ move ! (31 ∷ 0 ∷ []) $ fjoin ! $ move ! (31 ∷ 0 ∷ []) $
-            fjoin ! $ owned ! (N .row) (Is (N .row)) (N .makes M 𝓤 H A W) number (N .val number ∷ []) is-number $ fjoin ! $
-            owned ! (XS .row) (Is (XS .row)) (XS .makes M 𝓤 H A W) settings (XS .val settings ∷ []) is-settings $ fjoin ! $
+            assigns ! (addr ! (from ! (hop ! (look ! 18 refl) (stop !)))) (from ! (stop !)) (init ! 6 refl (tt, tt)) $
+            assigns ! (addr ! (from ! (hop ! (look ! 16 refl) (stop !)))) (from ! (stop !)) (init ! 4 refl (tt, tt)) $
+            assigns ! (addr ! (from ! (fld ! refl (hop ! (look-in ! 14 (sub ! 0 refl (whole-part !))) (stop !))))) (from ! (stop !)) (init ! 2 refl (tt, tt)) $
+            assigns ! (agg ! (and-then ! (load ! (from ! (stop !)) (look ! 2 refl)) (and-then ! (load ! (from ! (fld ! refl (stop !))) (look-in ! 14 (sub ! 1 refl (whole-part !)))) (no-more !)))) (from ! (stop !)) (init ! 0 refl (tt, (tt, (record { fits = room-run .0 }, tt)))) $
+            move ! (29 ∷ []) $
+            use1 W (‵ (ShrRef (named 0) κ₀ RS .own (ref₀ γ₀ settings) (vptr b₀ o₀ ∷ [])) ⊛ ‵ (ShrRef (named 0) κ₀ RS .own (ref₀ γ₀ settings) (vptr b₀ o₀ ∷ []))) (shr-copy 𝓤 H A W (named 0) κ₀ RS .twice (ref₀ γ₀ settings) (vptr b₀ o₀ ∷ [])) $
+            split ! $ nothing ! $ move ! (32 ∷ 0 ∷ []) $ join ! $ move ! (32 ∷ 0 ∷ []) $ join ! $ move ! (32 ∷ 0 ∷ []) $ join ! $ move ! (32 ∷ 0 ∷ []) $ join ! $ nothing ! $
+            owned ! (I .row) (Is (I .row)) (I .makes M 𝓤 H A W) q (I .val q ∷ []) (settled I q v₁ said-q) $ fjoin ! $ move ! (30 ∷ 0 ∷ []) $ fjoin ! $ move ! (30 ∷ 0 ∷ []) $ fjoin ! $ move ! (30 ∷ 0 ∷ []) $
+            fjoin ! $ owned ! (N .row) (Is (N .row)) (N .makes M 𝓤 H A W) number (N .val number ∷ []) is-number $ fjoin ! $ move ! (2 ∷ 0 ∷ []) $ fjoin ! $
             use0 W (raw (asks₂ settings number clock links run q)) (ok₂ settings number clock links run input q φ₁) $ move ! (2 ∷ 1 ∷ 0 ∷ []) $
-            use3 W (raw (Contract₂ .pre (((κ₁, (κ₂, (κ₃, tt))), (q₁, (q₂, (q₃, tt))), tt, (settings, (number, (ref₁ γ₁ clock, (ref₂ γ₂ links, (ref₃ γ₃ run, (q, tt)))))), (XS .val settings ∷ [], (N .val number ∷ [], (vptr b₁ o₁ ∷ [], (vptr b₂ o₂ ∷ [], (slice-vals (ref₃ γ₃ run), (I .val q ∷ [], tt))))))), tt))) (passed 𝓤 H A signature₂ (κ₁, (κ₂, (κ₃, tt))) (q₁, (q₂, (q₃, tt))) (settings, (number, (ref₁ γ₁ clock, (ref₂ γ₂ links, (ref₃ γ₃ run, (q, tt)))))) (XS .val settings ∷ [], (N .val number ∷ [], (vptr b₁ o₁ ∷ [], (vptr b₂ o₂ ∷ [], (slice-vals (ref₃ γ₃ run), (I .val q ∷ [], tt)))))) (asks₂ settings number clock links run q)) $
-            calls-at ! fm Contract₂ known₂ (((κ₁, (κ₂, (κ₃, tt))), (q₁, (q₂, (q₃, tt))), tt, (settings, (number, (ref₁ γ₁ clock, (ref₂ γ₂ links, (ref₃ γ₃ run, (q, tt)))))), (XS .val settings ∷ [], (N .val number ∷ [], (vptr b₁ o₁ ∷ [], (vptr b₂ o₂ ∷ [], (slice-vals (ref₃ γ₃ run), (I .val q ∷ [], tt))))))), tt) (and-then ! (load ! (from ! (stop !)) (look ! 14 refl)) (and-then ! (load ! (from ! (stop !)) (look ! 24 refl)) (and-then ! (load ! (from ! (stop !)) (look ! 8 refl)) (and-then ! (load ! (from ! (stop !)) (look ! 6 refl)) (and-then ! (load ! (from ! (stop !)) (look ! 2 refl)) (and-then ! (load ! (from ! (stop !)) (look ! 12 refl)) (no-more !))))))) (λ v₂.
-            use1 W (later (some (λ (a : O .row .Denot). ((‵ (flft κ₁ q₁) ⊛ ‵ (flft κ₂ q₂) ⊛ ‵ (flft κ₃ q₃) ⊛ ‵ ftrue) ⊛ ‵ (O .row .own a (v₂ ∷ []))) ⊛ raw (ensured 𝓤 H A ended₂ clauses₂ (κ₁, (κ₂, (κ₃, tt))) (settings, (number, (ref₁ γ₁ clock, (ref₂ γ₂ links, (ref₃ γ₃ run, (q, tt)))))) tt a)))) (id⊢ 𝓤 _) $ await ! tt $
-            pick ! (λ a. split ! $ split ! $ split ! $ move ! (1 ∷ []) $ split ! $ move ! (1 ∷ []) $ split ! $ move ! (1 ∷ []) $ drop ! $ move ! (4 ∷ []) $
-            use1 W (some (λ (ends₂ : Lasts ended₂ (κ₁, (κ₂, (κ₃, tt))) (settings, (number, (ref₁ γ₁ clock, (ref₂ γ₂ links, (ref₃ γ₃ run, (q, tt))))))). ‵ (lasts ended₂ (κ₁, (κ₂, (κ₃, tt))) (settings, (number, (ref₁ γ₁ clock, (ref₂ γ₂ links, (ref₃ γ₃ run, (q, tt)))))) ends₂) ⊛ raw (fact 𝓤 (gives₂ settings number clock links run q a (ends₂ .1 .1 .0) (ends₂ .1 .1 .1 .0) (ends₂ .1 .1 .1 .1 .0))))) (id⊢ 𝓤 _) $
+            use3 W (raw (Contract₂ .pre (((κ₀, (κ₁, (κ₂, (κ₃, tt)))), (q₀, (q₁, (q₂, (q₃, tt)))), tt, (ref₀ γ₀ settings, (number, (ref₁ γ₁ clock, (ref₂ γ₂ links, (ref₃ γ₃ run, (q, tt)))))), (vptr b₀ o₀ ∷ [], (N .val number ∷ [], (vptr b₁ o₁ ∷ [], (vptr b₂ o₂ ∷ [], (slice-vals (ref₃ γ₃ run), (I .val q ∷ [], tt))))))), tt))) (passed 𝓤 H A signature₂ (κ₀, (κ₁, (κ₂, (κ₃, tt)))) (q₀, (q₁, (q₂, (q₃, tt)))) (ref₀ γ₀ settings, (number, (ref₁ γ₁ clock, (ref₂ γ₂ links, (ref₃ γ₃ run, (q, tt)))))) (vptr b₀ o₀ ∷ [], (N .val number ∷ [], (vptr b₁ o₁ ∷ [], (vptr b₂ o₂ ∷ [], (slice-vals (ref₃ γ₃ run), (I .val q ∷ [], tt)))))) (asks₂ settings number clock links run q)) $
+            calls-at ! fm Contract₂ known₂ (((κ₀, (κ₁, (κ₂, (κ₃, tt)))), (q₀, (q₁, (q₂, (q₃, tt)))), tt, (ref₀ γ₀ settings, (number, (ref₁ γ₁ clock, (ref₂ γ₂ links, (ref₃ γ₃ run, (q, tt)))))), (vptr b₀ o₀ ∷ [], (N .val number ∷ [], (vptr b₁ o₁ ∷ [], (vptr b₂ o₂ ∷ [], (slice-vals (ref₃ γ₃ run), (I .val q ∷ [], tt))))))), tt) (and-then ! (load ! (from ! (stop !)) (look ! 24 refl)) (and-then ! (load ! (from ! (stop !)) (look ! 22 refl)) (and-then ! (load ! (from ! (stop !)) (look ! 8 refl)) (and-then ! (load ! (from ! (stop !)) (look ! 6 refl)) (and-then ! (load ! (from ! (stop !)) (look ! 2 refl)) (and-then ! (load ! (from ! (stop !)) (look ! 12 refl)) (no-more !))))))) (λ v₂.
+            use1 W (later (some (λ (a : O .row .Denot). ((‵ (flft κ₀ q₀) ⊛ ‵ (flft κ₁ q₁) ⊛ ‵ (flft κ₂ q₂) ⊛ ‵ (flft κ₃ q₃) ⊛ ‵ ftrue) ⊛ ‵ (O .row .own a (v₂ ∷ []))) ⊛ raw (ensured 𝓤 H A ended₂ clauses₂ (κ₀, (κ₁, (κ₂, (κ₃, tt)))) (ref₀ γ₀ settings, (number, (ref₁ γ₁ clock, (ref₂ γ₂ links, (ref₃ γ₃ run, (q, tt)))))) tt a)))) (id⊢ 𝓤 _) $ await ! tt $
+            pick ! (λ a. split ! $ split ! $ split ! $ move ! (1 ∷ []) $ split ! $ move ! (1 ∷ []) $ split ! $ move ! (1 ∷ []) $ split ! $ move ! (1 ∷ []) $ drop ! $ move ! (5 ∷ []) $
+            use1 W (some (λ (ends₂ : Lasts ended₂ (κ₀, (κ₁, (κ₂, (κ₃, tt)))) (ref₀ γ₀ settings, (number, (ref₁ γ₁ clock, (ref₂ γ₂ links, (ref₃ γ₃ run, (q, tt))))))). ‵ (lasts ended₂ (κ₀, (κ₁, (κ₂, (κ₃, tt)))) (ref₀ γ₀ settings, (number, (ref₁ γ₁ clock, (ref₂ γ₂ links, (ref₃ γ₃ run, (q, tt)))))) ends₂) ⊛ raw (fact 𝓤 (gives₂ settings number clock links run q a (ends₂ .1 .1 .0) (ends₂ .1 .1 .1 .0) (ends₂ .1 .1 .1 .1 .0))))) (id⊢ 𝓤 _) $
             pick ! (λ ends₂. split ! $ move ! (1 ∷ []) $ heard ! (gives₂ settings number clock links run q a (ends₂ .1 .1 .0) (ends₂ .1 .1 .1 .0) (ends₂ .1 .1 .1 .1 .0)) (λ φ₂. fsplit ! $ drop ! $ fsplit ! $
-            drop ! $ fsplit ! $ move ! (1 ∷ []) $ fsplit ! $ move ! (1 ∷ []) $ fsplit ! $ fsplit ! $ move ! (1 ∷ []) $ feqL ! (λ len₂. move ! (1 ∷ []) $ fsplit ! $ drop ! $ drop ! $ move ! (6 ∷ []) $
-            peeks ! (O .row) (Is (O .row)) (shows 𝓤 H A (O .row)) a (v₂ ∷ []) (λ said-a. drop ! $ land ! (from ! (stop !)) (init ! 15 refl (O .typed M 𝓤 H A W a _ said-a)) $
-            rewrite ! 15 (λ (u : Val). ‵ (fat fullShare (O .ty) z₉ 0 u)) (ap only (O .tells a (v₂ ∷ []) said-a)) refl $
+            drop ! $ fsplit ! $ move ! (1 ∷ []) $ fsplit ! $ move ! (1 ∷ []) $ fsplit ! $ fsplit ! $ move ! (1 ∷ []) $ feqL ! (λ len₂. move ! (1 ∷ []) $ fsplit ! $ drop ! $ drop ! $ move ! (7 ∷ []) $
+            peeks ! (O .row) (Is (O .row)) (shows 𝓤 H A (O .row)) a (v₂ ∷ []) (λ said-a. drop ! $ land ! (from ! (stop !)) (init ! 16 refl (O .typed M 𝓤 H A W a _ said-a)) $
+            rewrite ! 16 (λ (u : Val). ‵ (fat fullShare (O .ty) z₈ 0 u)) (ap only (O .tells a (v₂ ∷ []) said-a)) refl $
             -- answer
             nothing ! $ nothing ! $ owned ! (O .row) (Is (O .row)) (O .makes M 𝓤 H A W) a (O .val a ∷ []) (settled O a v₂ said-a) $ fjoin ! $
             use0 W (raw (asks₃ a)) (ok₃ settings number clock links run input q a (ends₂ .1 .1 .0) (ends₂ .1 .1 .1 .0) (ends₂ .1 .1 .1 .1 .0) φ₁ φ₂) $ move ! (2 ∷ 1 ∷ 0 ∷ []) $
             use3 W (raw (Contract₃ .pre ((tt, tt, tt, (a, tt), (O .val a ∷ [], tt)), tt))) (passed 𝓤 H A signature₃ tt tt (a, tt) (O .val a ∷ [], tt) (asks₃ a)) $
-            calls-at ! fm Contract₃ known₃ ((tt, tt, tt, (a, tt), (O .val a ∷ [], tt)), tt) (and-then ! (load ! (from ! (stop !)) (look ! 16 refl)) (no-more !)) (λ v₃.
+            calls-at ! fm Contract₃ known₃ ((tt, tt, tt, (a, tt), (O .val a ∷ [], tt)), tt) (and-then ! (load ! (from ! (stop !)) (look ! 17 refl)) (no-more !)) (λ v₃.
             use1 W (later (some (λ (result : K .row .Denot). (‵ ftrue ⊛ ‵ (K .row .own result (v₃ ∷ []))) ⊛ raw (ensured 𝓤 H A ended₃ clauses₃ tt (a, tt) tt result)))) (id⊢ 𝓤 _) $ await ! tt $ pick ! (λ result.
             split ! $ split ! $ drop ! $ move ! (1 ∷ []) $ use1 W (some (λ (ends₃ : Lasts ended₃ tt (a, tt)). ‵ (lasts ended₃ tt (a, tt) ends₃) ⊛ raw (fact 𝓤 (gives₃ a result)))) (id⊢ 𝓤 _) $ pick ! (λ ends₃.
             split ! $ move ! (1 ∷ []) $ heard ! (gives₃ a result) (λ φ₃. drop ! $ peeks ! (K .row) (Is (K .row)) (shows 𝓤 H A (K .row)) result (v₃ ∷ []) (λ said-result. drop ! $
-            land ! (from ! (stop !)) (init ! 33 refl (K .typed M 𝓤 H A W result _ said-result)) $
-            rewrite ! 33 (λ (u : Val). ‵ (fat fullShare (K .ty) z₀ 0 u)) (ap only (K .tells result (v₃ ∷ []) said-result)) refl $
+            land ! (from ! (stop !)) (init ! 32 refl (K .typed M 𝓤 H A W result _ said-result)) $
+            rewrite ! 32 (λ (u : Val). ‵ (fat fullShare (K .ty) z₀ 0 u)) (ap only (K .tells result (v₃ ∷ []) said-result)) refl $
             -- the locals are freed
-            returns ! (look ! 33 refl) $ forget ! 7 refl $ forget ! 9 refl $ forget ! 11 refl $ forget ! 13 refl $ forget ! 15 refl $ forget ! 17 refl $ forget ! 19 refl $ forget ! 21 refl $ forget ! 23 refl $
-            forget ! 25 refl $ forget ! 27 refl $ forget ! 29 refl $ forget ! 31 refl $ forget ! 33 refl $ move ! (33 ∷ 34 ∷ []) $ free1 ! $ move ! (31 ∷ 32 ∷ []) $ free1 ! $ move ! (29 ∷ 30 ∷ []) $ free1 ! $
-            move ! (27 ∷ 28 ∷ []) $ free1 ! $ move ! (25 ∷ 26 ∷ []) $ free1 ! $ move ! (23 ∷ 24 ∷ []) $ free1 ! $ move ! (21 ∷ 22 ∷ []) $ free1 ! $ move ! (19 ∷ 20 ∷ []) $ free1 ! $ move ! (17 ∷ 18 ∷ []) $
-            free1 ! $ move ! (15 ∷ 16 ∷ []) $ free1 ! $ move ! (13 ∷ 14 ∷ []) $ free1 ! $ move ! (11 ∷ 12 ∷ []) $ free1 ! $ move ! (9 ∷ 10 ∷ []) $ free1 ! $ move ! (7 ∷ 8 ∷ []) $ free1 ! $ free0 ! $
+            returns ! (look ! 32 refl) $ forget ! 8 refl $ forget ! 10 refl $ forget ! 12 refl $ forget ! 14 refl $ forget ! 16 refl $ forget ! 18 refl $ forget ! 20 refl $ forget ! 22 refl $ forget ! 24 refl $
+            forget ! 26 refl $ forget ! 28 refl $ forget ! 30 refl $ forget ! 32 refl $ move ! (32 ∷ 33 ∷ []) $ free1 ! $ move ! (30 ∷ 31 ∷ []) $ free1 ! $ move ! (28 ∷ 29 ∷ []) $ free1 ! $
+            move ! (26 ∷ 27 ∷ []) $ free1 ! $ move ! (24 ∷ 25 ∷ []) $ free1 ! $ move ! (22 ∷ 23 ∷ []) $ free1 ! $ move ! (20 ∷ 21 ∷ []) $ free1 ! $ move ! (18 ∷ 19 ∷ []) $ free1 ! $ move ! (16 ∷ 17 ∷ []) $
+            free1 ! $ move ! (14 ∷ 15 ∷ []) $ free1 ! $ move ! (12 ∷ 13 ∷ []) $ free1 ! $ move ! (10 ∷ 11 ∷ []) $ free1 ! $ move ! (8 ∷ 9 ∷ []) $ free1 ! $ free0 ! $
             owned ! (K .row) (Is (K .row)) (K .makes M 𝓤 H A W) result (K .val result ∷ []) (settled K result v₃ said-result) $ keep ! (3 ∷ 2 ∷ 1 ∷ 7 ∷ 6 ∷ 5 ∷ 4 ∷ 0 ∷ []) $
-            by ! (exits (ends₂ .1 .1 .0) (ends₂ .1 .1 .1 .0) (ends₂ .1 .1 .1 .1 .0) result (K .val result) len₂ (then settings number clock links run input q a (ends₂ .1 .1 .0) (ends₂ .1 .1 .1 .0) (ends₂ .1 .1 .1 .1 .0) result φ₁ φ₂ φ₃))))))))))))))))))))))))))))))))))
+            by ! (exits (ends₂ .1 .1 .0) (ends₂ .1 .1 .1 .0) (ends₂ .1 .1 .1 .1 .0) result (K .val result) len₂ (then settings number clock links run input q a (ends₂ .1 .1 .0) (ends₂ .1 .1 .1 .0) (ends₂ .1 .1 .1 .1 .0) result φ₁ φ₂ φ₃)))))))))))))))))))))))))))))))
 
   -- γ is the function's `code.env`, f and the others are the keys
-  module _ {M : Type 1} (𝓤 : URA M) (H : Heap 𝓤) (𝓜 : Model 𝓤 H) (𝓖 : GhostRules 𝓤 H) (𝓡 : Running 𝓤 H 𝓜) (asks₁ : Y .row .Denot → SProp 𝓤) (gives₁ : Y .row .Denot → I .row .Denot → Type 0) (asks₂ : XS .row .Denot → N .row .Denot → C .S .D → L .S .D → List (E .S .D) → I .row .Denot → SProp 𝓤) (gives₂ : XS .row .Denot → N .row .Denot → C .S .D → L .S .D → List (E .S .D) → I .row .Denot → O .row .Denot → C .S .D → L .S .D → List (E .S .D) → Type 0) (asks₃ : O .row .Denot → SProp 𝓤) (gives₃ : O .row .Denot → K .row .Denot → Type 0) (Says : S .S .D → N .row .Denot → C .S .D → L .S .D → List (E .S .D) → Y .row .Denot → C .S .D → L .S .D → List (E .S .D) → K .row .Denot → Type 0)
+  module _ {M : Type 1} (𝓤 : URA M) (H : Heap 𝓤) (𝓜 : Model 𝓤 H) (𝓖 : GhostRules 𝓤 H) (𝓡 : Running 𝓤 H 𝓜) (asks₁ : Y .row .Denot → SProp 𝓤) (gives₁ : Y .row .Denot → I .row .Denot → Type 0) (asks₂ : S .S .D → N .row .Denot → C .S .D → L .S .D → List (E .S .D) → I .row .Denot → SProp 𝓤) (gives₂ : S .S .D → N .row .Denot → C .S .D → L .S .D → List (E .S .D) → I .row .Denot → O .row .Denot → C .S .D → L .S .D → List (E .S .D) → Type 0) (asks₃ : O .row .Denot → SProp 𝓤) (gives₃ : O .row .Denot → K .row .Denot → Type 0) (Says : S .S .D → N .row .Denot → C .S .D → L .S .D → List (E .S .D) → Y .row .Denot → C .S .D → L .S .D → List (E .S .D) → K .row .Denot → Type 0)
       (ok₁ : (settings : S .S .D) (number : N .row .Denot) (clock : C .S .D) (links : L .S .D) (run : List (E .S .D)) (input : Y .row .Denot) → ent 𝓤 (emp 𝓤) (asks₁ input))
       (ok₂ : (settings : S .S .D) (number : N .row .Denot) (clock : C .S .D) (links : L .S .D) (run : List (E .S .D)) (input : Y .row .Denot) (q : I .row .Denot) → gives₁ input q → ent 𝓤 (emp 𝓤) (asks₂ settings number clock links run q))
       (ok₃ : (settings : S .S .D) (number : N .row .Denot) (clock : C .S .D) (links : L .S .D) (run : List (E .S .D)) (input : Y .row .Denot) (q : I .row .Denot) (a : O .row .Denot) (clock′ : C .S .D) (links′ : L .S .D) (run′ : List (E .S .D)) → gives₁ input q → gives₂ settings number clock links run q a clock′ links′ run′ → ent 𝓤 (emp 𝓤) (asks₃ a))

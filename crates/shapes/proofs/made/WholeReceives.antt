@@ -1,7 +1,7 @@
--- The law of a call by value: `fn WholeReceives(settings: S, number: N, clock: C, links: L, run: [E; n], link: I, packet: &[u8]) -> O { let mut c = clock; let mut l = links; let mut e = run; let a: K = call(settings, number, &mut c, &mut l, &mut e, link, packet); O { answer: a, clock: c, links: l, run: e } }`.
+-- The law of a call by value: `fn WholeReceives(settings: S, number: N, clock: C, links: L, run: [E; n], link: I, packet: &[u8]) -> O { let s = settings; let mut c = clock; let mut l = links; let mut e = run; let a: K = call(&s, number, &mut c, &mut l, &mut e, link, packet); O { answer: a, clock: c, links: l, run: e } }`.
 -- It is one walk of that MIR, for any types and any contract of the call that asks nothing. What is handed back is a struct of the answer and of what the call leaves, which `make` makes; `back` is the answer as its field. The author shows that what the call says comes to what the function says (`then`).
 -- Made by tools/laws/make. Assumes nothing.
-use Rattle.lent.proofs.Walk.{_≡_, refl, sym, ap, subst, ℕ, _*_, _^_, List, [], _∷_, length, T, ltb, ltb→lt, URA, fullShare, Name, Fn, named, erased, mut, imm, tyRef, tyInt, w8, w64, local, valueLocal, place, field, copy, int, rvOpd, addrOf, aggregate, assign, call, seq, return, Val, vptr, SProp, ent, sep, emp, id⊢, GName, Lft, Share, ftrue, fat, flft, Model, Routine, Env, Heap, Calls, Loops, WpFn, Tables, Closed, Atoms, fact, GhostRules, Running, givenOf, tables, Given, ‵, raw, _⊛_, ⋆, some, later, _$_, _∵_, !, qed, by, move, keep, drop, use0, use1, use3, split, join, pick, rewrite, fsplit, fjoin, suffices, frame, await, done, look, init, forget, stop, from, load, lit, addr, of-opd, and-then, no-more, assigns, land, returns, enter, alloc1, alloc0, params1, pass1, pass0, free1, free0, agg, lft-new, lft-end, Referent, FmC, fmOf, WpFn-mono, RattleType, owns, Is, shows, mem, pointee, u8, RefMutOf, SliceRefOf, SliceRefMutOf, RefT, MutRef, sliceVal, sliceTy, slice-vals, MutSlice, ShrSlice, Room, shr-slice-tells, Held, Signature, plain, shrSliceOf, only, owned, peeks, heard, nothing, layout, row, shape, onEntry, Meets, tripleOf, Contract, Triple, calls-at, entered, cited, Ended, Clauses, Lasts, closing, ensured, lasts, Stays, stay-dropped, says, walkOf, goes-dropped, ends-at, walked, walk-meets, yes}
+use Rattle.lent.proofs.Walk.{_≡_, refl, sym, ap, subst, ℕ, _*_, _^_, List, [], _∷_, length, T, ltb, ltb→lt, URA, fullShare, Name, Fn, named, erased, mut, imm, tyRef, tyInt, w8, w64, local, valueLocal, place, field, copy, int, rvOpd, addrOf, aggregate, assign, call, seq, return, Val, vptr, SProp, ent, sep, emp, id⊢, GName, Lft, Share, ftrue, fat, flft, Model, Routine, Env, Heap, Calls, Loops, WpFn, Tables, Closed, Atoms, fact, GhostRules, Running, givenOf, tables, Given, ‵, raw, _⊛_, ⋆, some, later, _$_, _∵_, !, qed, by, move, keep, drop, use0, use1, use2, use3, split, join, pick, rewrite, fsplit, fjoin, suffices, frame, await, done, look, init, forget, stop, from, load, lit, addr, of-opd, and-then, no-more, assigns, land, returns, enter, alloc1, alloc0, params1, pass1, pass0, free1, free0, agg, lft-new, lft-end, Referent, FmC, fmOf, WpFn-mono, RattleType, owns, Is, shows, mem, pointee, u8, RefOf, RefMutOf, SliceRefOf, SliceRefMutOf, RefT, MutRef, ShrRef, sliceVal, sliceTy, slice-vals, MutSlice, ShrSlice, Room, shr-slice-tells, Held, Signature, plain, shrSliceOf, only, owned, peeks, heard, nothing, layout, row, shape, onEntry, Meets, tripleOf, Contract, Triple, calls-at, entered, cited, Ended, Clauses, Lasts, closing, ensured, lasts, Stays, stay-dropped, says, walkOf, goes-dropped, ends-at, walked, walk-meets, yes}
 use Rattle.lent.proofs.Walk.{tablesOf}
 use denote.Struct.Laws as LL
 use mathlib.Core.List.{map}
@@ -15,10 +15,11 @@ use denote.Struct.Struct.{Struct, Plains}
 use denote.Struct.Field.{rows}
 use denote.Struct.Declared.{Declared, fields}
 use Rattle.lent.proofs.Words.{Word, Data, Part, by-value, at-type, passed}
-use Rattle.shapes.proofs.Lists.{listed, list-field, list-laws, list-plain, in-field, counted, lends-local, local-back, lends-array, array-back}
+use Rattle.shapes.proofs.Lists.{listed, list-field, list-laws, list-plain, in-field, counted, lends-local, local-back, shares-local, shared-local-back, lends-array, array-back}
+use denote.Memory.{partAt}
 use denote.Struct.Declared as declared
 
-module _ (S N I : Word) (C L E : Data) (n : ℕ) (K : Part) (back : K .word .row .Denot → K .K .Value) (shown : (r : K .word .row .Denot) (vs : List Val) → Is (K .word .row) r vs → Is (K .K .row) (K .K .into (back r)) vs)
+module _ (N I : Word) (S C L E : Data) (n : ℕ) (K : Part) (back : K .word .row .Denot → K .K .Value) (shown : (r : K .word .row .Denot) (vs : List Val) → Is (K .word .row) r vs → Is (K .K .row) (K .K .into (back r)) vs)
     (ν : Sym) (D : Type 0) (to : D → Denots (rows (at-type (K .K) (K .word .ty) ∷ declared.field (C .S) ∷ declared.field (L .S) ∷ list-field E n ∷ []))) (one : (x y : D) → to x ≡ to y → x ≡ y)
     (make : K .K .Value → C .S .D → L .S .D → List (E .S .D) → D) (made : (answer : K .K .Value) (clock : C .S .D) (links : L .S .D) (run : List (E .S .D)) → to (make answer clock links run) ≡ (K .K .into answer, (C .S .to clock, (L .S .to links, (map (E .S .to) run, tt))))) where
   abbrev O : Declared
@@ -32,6 +33,12 @@ module _ (S N I : Word) (C L E : Data) (n : ℕ) (K : Part) (back : K .word .row
 
   abbrev RO : RattleType
   RO = row O
+
+  abbrev XS : Word
+  XS = by-value S
+
+  abbrev RS : RattleType
+  RS = row (S .S)
 
   abbrev XC : Word
   XC = by-value C
@@ -65,13 +72,13 @@ module _ (S N I : Word) (C L E : Data) (n : ℕ) (K : Part) (back : K .word .row
       (valss (fields O) (LL.spells (O .parts) LO) (K .K .into answer, (C .S .to clock, (L .S .to links, (map (E .S .to) run, tt)))), (refl, (is-answer, (is-clock, (is-links, (subst (λ (v : Val). Is (list-field E n .row) (map (E .S .to) run) (v ∷ [])) (same-val run is-run) (in-field E n run _ is-run), tt))))))
 
   abbrev signature₁ : Signature
-  signature₁ = record { lifetimes = 4; outlives = []; params = plain (λ _. S .row) ∷ plain (λ _. N .row) ∷ RefMutOf (0 ∷ []) tt (plain (λ _. RC)) (λ _. tt) ∷ RefMutOf (1 ∷ []) tt (plain (λ _. RL)) (λ _. tt) ∷ SliceRefMutOf (2 ∷ []) tt (plain (λ _. RE)) (λ _. tt) ∷ plain (λ _. I .row) ∷ SliceRefOf (3 ∷ []) tt (plain (λ _. u8)) (λ _. tt) ∷ []; result = plain (λ _. K .word .row) }
+  signature₁ = record { lifetimes = 5; outlives = []; params = RefOf (0 ∷ []) tt (plain (λ _. RS)) (λ _. tt) ∷ plain (λ _. N .row) ∷ RefMutOf (1 ∷ []) tt (plain (λ _. RC)) (λ _. tt) ∷ RefMutOf (2 ∷ []) tt (plain (λ _. RL)) (λ _. tt) ∷ SliceRefMutOf (3 ∷ []) tt (plain (λ _. RE)) (λ _. tt) ∷ plain (λ _. I .row) ∷ SliceRefOf (4 ∷ []) tt (plain (λ _. u8)) (λ _. tt) ∷ []; result = plain (λ _. K .word .row) }
 
   abbrev ended₁ : Ended
   ended₁ = record { signature = signature₁; kept = (yes, (yes, (yes, (yes, (yes, (yes, (yes, tt))))))) }
 
   abbrev signature : Signature
-  signature = record { lifetimes = 1; outlives = []; params = plain (λ _. S .row) ∷ plain (λ _. N .row) ∷ plain (λ _. XC .row) ∷ plain (λ _. XL .row) ∷ plain (λ _. XE .row) ∷ plain (λ _. I .row) ∷ SliceRefOf (0 ∷ []) tt (plain (λ _. u8)) (λ _. tt) ∷ []; result = plain (λ _. RO) }
+  signature = record { lifetimes = 1; outlives = []; params = plain (λ _. XS .row) ∷ plain (λ _. N .row) ∷ plain (λ _. XC .row) ∷ plain (λ _. XL .row) ∷ plain (λ _. XE .row) ∷ plain (λ _. I .row) ∷ SliceRefOf (0 ∷ []) tt (plain (λ _. u8)) (λ _. tt) ∷ []; result = plain (λ _. RO) }
 
   abbrev ended : Ended
   ended = record { signature = signature; kept = (yes, (yes, (yes, (yes, (yes, (yes, (yes, tt))))))) }
@@ -81,28 +88,30 @@ module _ (S N I : Word) (C L E : Data) (n : ℕ) (K : Part) (back : K .word .row
     lifetimes = 1;
     outlives = [];
     params = 7;
-    locals = local (layout (shape O)) valueLocal ∷ local (S .ty) valueLocal ∷ local (N .ty) valueLocal ∷ local (XC .ty) valueLocal ∷ local (XL .ty) valueLocal ∷ local (XE .ty) valueLocal ∷ local (I .ty) valueLocal ∷ local (sliceTy (tyRef (named 0) imm (tyInt w8))) valueLocal ∷ local (XC .ty) memorySlot ∷ local (XL .ty) memorySlot ∷ local (XE .ty) memorySlot ∷ local (K .word .ty) valueLocal ∷ local (tyRef erased mut (pointee (RC .written))) valueLocal ∷ local (tyRef erased mut (pointee (RL .written))) valueLocal ∷ local (tyRef erased mut (pointee (Array RE n .written))) valueLocal ∷ local (sliceTy (tyRef erased mut (pointee (RE .written)))) valueLocal ∷ local (XC .ty) valueLocal ∷ local (XL .ty) valueLocal ∷ local (XE .ty) valueLocal ∷ [];
-    body = seq (assign (place 8 []) (rvOpd (copy (place 3 []))))
-        (seq (assign (place 9 []) (rvOpd (copy (place 4 []))))
-        (seq (assign (place 10 []) (rvOpd (copy (place 5 []))))
-        (seq (assign (place 12 []) (addrOf (place 8 [])))
-        (seq (assign (place 13 []) (addrOf (place 9 [])))
-        (seq (assign (place 14 []) (addrOf (place 10 [])))
-        (seq (assign (place 15 []) (aggregate (copy (place 14 []) ∷ int w64 n ∷ [])))
-        (seq (call g (copy (place 1 []) ∷ copy (place 2 []) ∷ copy (place 12 []) ∷ copy (place 13 []) ∷ copy (place 15 []) ∷ copy (place 6 []) ∷ copy (place 7 []) ∷ []) (place 11 []))
-        (seq (assign (place 16 []) (rvOpd (copy (place 8 []))))
-        (seq (assign (place 17 []) (rvOpd (copy (place 9 []))))
-        (seq (assign (place 18 []) (rvOpd (copy (place 10 []))))
-        (seq (assign (place 0 []) (aggregate (copy (place 11 []) ∷ copy (place 16 []) ∷ copy (place 17 []) ∷ copy (place 18 []) ∷ []))) return)))))))))));
+    locals = local (layout (shape O)) valueLocal ∷ local (XS .ty) valueLocal ∷ local (N .ty) valueLocal ∷ local (XC .ty) valueLocal ∷ local (XL .ty) valueLocal ∷ local (XE .ty) valueLocal ∷ local (I .ty) valueLocal ∷ local (sliceTy (tyRef (named 0) imm (tyInt w8))) valueLocal ∷ local (XS .ty) memorySlot ∷ local (XC .ty) memorySlot ∷ local (XL .ty) memorySlot ∷ local (XE .ty) memorySlot ∷ local (K .word .ty) valueLocal ∷ local (tyRef erased imm (pointee (RS .written))) valueLocal ∷ local (tyRef erased mut (pointee (RC .written))) valueLocal ∷ local (tyRef erased mut (pointee (RL .written))) valueLocal ∷ local (tyRef erased mut (pointee (Array RE n .written))) valueLocal ∷ local (sliceTy (tyRef erased mut (pointee (RE .written)))) valueLocal ∷ local (XC .ty) valueLocal ∷ local (XL .ty) valueLocal ∷ local (XE .ty) valueLocal ∷ [];
+    body = seq (assign (place 8 []) (rvOpd (copy (place 1 []))))
+        (seq (assign (place 9 []) (rvOpd (copy (place 3 []))))
+        (seq (assign (place 10 []) (rvOpd (copy (place 4 []))))
+        (seq (assign (place 11 []) (rvOpd (copy (place 5 []))))
+        (seq (assign (place 13 []) (addrOf (place 8 [])))
+        (seq (assign (place 14 []) (addrOf (place 9 [])))
+        (seq (assign (place 15 []) (addrOf (place 10 [])))
+        (seq (assign (place 16 []) (addrOf (place 11 [])))
+        (seq (assign (place 17 []) (aggregate (copy (place 16 []) ∷ int w64 n ∷ [])))
+        (seq (call g (copy (place 13 []) ∷ copy (place 2 []) ∷ copy (place 14 []) ∷ copy (place 15 []) ∷ copy (place 17 []) ∷ copy (place 6 []) ∷ copy (place 7 []) ∷ []) (place 12 []))
+        (seq (assign (place 18 []) (rvOpd (copy (place 9 []))))
+        (seq (assign (place 19 []) (rvOpd (copy (place 10 []))))
+        (seq (assign (place 20 []) (rvOpd (copy (place 11 []))))
+        (seq (assign (place 0 []) (aggregate (copy (place 12 []) ∷ copy (place 18 []) ∷ copy (place 19 []) ∷ copy (place 20 []) ∷ []))) return)))))))))))));
   }
 
   abbrev stayed : Stays (ended .signature .params) (ended .kept)
-  stayed = (stay-dropped (plain (λ _. S .row)) yes, (stay-dropped (plain (λ _. N .row)) yes, (stay-dropped (plain (λ _. XC .row)) yes, (stay-dropped (plain (λ _. XL .row)) yes, (stay-dropped (plain (λ _. XE .row)) yes, (stay-dropped (plain (λ _. I .row)) yes, (stay-dropped (shrSliceOf (0 ∷ []) tt (plain (λ _. u8))) yes, tt)))))))
+  stayed = (stay-dropped (plain (λ _. XS .row)) yes, (stay-dropped (plain (λ _. N .row)) yes, (stay-dropped (plain (λ _. XC .row)) yes, (stay-dropped (plain (λ _. XL .row)) yes, (stay-dropped (plain (λ _. XE .row)) yes, (stay-dropped (plain (λ _. I .row)) yes, (stay-dropped (shrSliceOf (0 ∷ []) tt (plain (λ _. u8))) yes, tt)))))))
 
   -- what the call says, and what the function says
-  module _ {M : Type 1} (𝓤 : URA M) (H : Heap 𝓤) (A : Atoms 𝓤) (gives : S .row .Denot → N .row .Denot → C .S .D → L .S .D → List (E .S .D) → I .row .Denot → List ℕ → C .S .D → L .S .D → List (E .S .D) → K .word .row .Denot → Type 0) (Says : S .row .Denot → N .row .Denot → C .S .D → L .S .D → List (E .S .D) → I .row .Denot → List ℕ → D → Type 0) where
+  module _ {M : Type 1} (𝓤 : URA M) (H : Heap 𝓤) (A : Atoms 𝓤) (gives : S .S .D → N .row .Denot → C .S .D → L .S .D → List (E .S .D) → I .row .Denot → List ℕ → C .S .D → L .S .D → List (E .S .D) → K .word .row .Denot → Type 0) (Says : S .S .D → N .row .Denot → C .S .D → L .S .D → List (E .S .D) → I .row .Denot → List ℕ → D → Type 0) where
     abbrev clauses₁ : Clauses 𝓤 ended₁
-    clauses₁ = λ κs a. record { ghost = Unit {0}; requires = λ _. emp 𝓤; ensures = λ _ r e. fact 𝓤 (gives (a .0) (a .1 .0) (a .1 .1 .0 .now) (a .1 .1 .1 .0 .now) (a .1 .1 .1 .1 .0 .now) (a .1 .1 .1 .1 .1 .0) (a .1 .1 .1 .1 .1 .1 .0 .now) (e .1 .1 .0 .now) (e .1 .1 .1 .0 .now) (e .1 .1 .1 .1 .0 .now) r) }
+    clauses₁ = λ κs a. record { ghost = Unit {0}; requires = λ _. emp 𝓤; ensures = λ _ r e. fact 𝓤 (gives (a .0 .now) (a .1 .0) (a .1 .1 .0 .now) (a .1 .1 .1 .0 .now) (a .1 .1 .1 .1 .0 .now) (a .1 .1 .1 .1 .1 .0) (a .1 .1 .1 .1 .1 .1 .0 .now) (e .1 .1 .0 .now) (e .1 .1 .1 .0 .now) (e .1 .1 .1 .1 .0 .now) r) }
 
     abbrev Contract₁ : Contract 𝓤
     Contract₁ = tripleOf 𝓤 H A signature₁ (closing 𝓤 H A ended₁ clauses₁)
@@ -111,17 +120,17 @@ module _ (S N I : Word) (C L E : Data) (n : ℕ) (K : Part) (back : K .word .row
     clauses = λ κs a. record { ghost = Unit {0}; requires = λ _. emp 𝓤; ensures = λ _ r e. fact 𝓤 (Says (a .0) (a .1 .0) (a .1 .1 .0) (a .1 .1 .1 .0) (a .1 .1 .1 .1 .0) (a .1 .1 .1 .1 .1 .0) (a .1 .1 .1 .1 .1 .1 .0 .now) r) }
 
     module _ (W : Given 𝓤 H A)
-        (then : (settings : S .row .Denot) (number : N .row .Denot) (clock : C .S .D) (links : L .S .D) (run : List (E .S .D)) (link : I .row .Denot) (packet : List ℕ) (clock′ : C .S .D) (links′ : L .S .D) (run′ : List (E .S .D)) (r : K .word .row .Denot) → gives settings number clock links run link packet clock′ links′ run′ r → Says settings number clock links run link packet (make (back r) clock′ links′ run′)) (few : T (ltb n (2 ^ 64))) (small : T (ltb (n * mem RE .size) (2 ^ 63)))
-        (κ : Lft) (q : Share) (b o : ℕ) (γ : GName) (settings : S .row .Denot) (number : N .row .Denot) (clock : C .S .D) (links : L .S .D) (run : List (E .S .D)) (link : I .row .Denot) (packet : List ℕ)
-        (is-settings : Is (S .row) settings (S .val settings ∷ [])) (is-number : Is (N .row) number (N .val number ∷ [])) (is-clock : Is (XC .row) clock (XC .val clock ∷ [])) (is-links : Is (XL .row) links (XL .val links ∷ [])) (is-run : Is (XE .row) run (XE .val run ∷ [])) (is-link : Is (I .row) link (I .val link ∷ [])) (room-packet : Room u8 (length packet)) where
+        (then : (settings : S .S .D) (number : N .row .Denot) (clock : C .S .D) (links : L .S .D) (run : List (E .S .D)) (link : I .row .Denot) (packet : List ℕ) (clock′ : C .S .D) (links′ : L .S .D) (run′ : List (E .S .D)) (r : K .word .row .Denot) → gives settings number clock links run link packet clock′ links′ run′ r → Says settings number clock links run link packet (make (back r) clock′ links′ run′)) (few : T (ltb n (2 ^ 64))) (small : T (ltb (n * mem RE .size) (2 ^ 63)))
+        (κ : Lft) (q : Share) (b o : ℕ) (γ : GName) (settings : S .S .D) (number : N .row .Denot) (clock : C .S .D) (links : L .S .D) (run : List (E .S .D)) (link : I .row .Denot) (packet : List ℕ)
+        (is-settings : Is (XS .row) settings (XS .val settings ∷ [])) (is-number : Is (N .row) number (N .val number ∷ [])) (is-clock : Is (XC .row) clock (XC .val clock ∷ [])) (is-links : Is (XL .row) links (XL .val links ∷ [])) (is-run : Is (XE .row) run (XE .val run ∷ [])) (is-link : Is (I .row) link (I .val link ∷ [])) (room-packet : Room u8 (length packet)) where
       abbrev slice : RefT (List ℕ)
       slice = record { ptr = (b, o); name = γ; now = packet }
 
-      abbrev x : S .row .Denot × (N .row .Denot × (C .S .D × (L .S .D × (List (E .S .D) × (I .row .Denot × (RefT (List ℕ) × Unit {0}))))))
+      abbrev x : S .S .D × (N .row .Denot × (C .S .D × (L .S .D × (List (E .S .D) × (I .row .Denot × (RefT (List ℕ) × Unit {0}))))))
       x = (settings, (number, (clock, (links, (run, (link, (slice, tt)))))))
 
       abbrev at : List Val × (List Val × (List Val × (List Val × (List Val × (List Val × (List Val × Unit {0}))))))
-      at = (S .val settings ∷ [], (N .val number ∷ [], (XC .val clock ∷ [], (XL .val links ∷ [], (XE .val run ∷ [], (I .val link ∷ [], (slice-vals slice, tt)))))))
+      at = (XS .val settings ∷ [], (N .val number ∷ [], (XC .val clock ∷ [], (XL .val links ∷ [], (XE .val run ∷ [], (I .val link ∷ [], (slice-vals slice, tt)))))))
 
       room : Room RE n
       room = (ltb→lt n (2 ^ 64) few, ltb→lt (n * mem RE .size) (2 ^ 63) small)
@@ -132,77 +141,81 @@ module _ (S N I : Word) (C L E : Data) (n : ℕ) (K : Part) (back : K .word .row
       exits : (w : D) (v : Val) → Says settings number clock links run link packet w → ent 𝓤 (⋆ 𝓤 H A (‵ (flft κ q) ∷ ‵ (RO .own w (v ∷ [])) ∷ [])) (Post v)
       exits w v φ =
           qed W (‵ (flft κ q) ∷ ‵ (RO .own w (v ∷ [])) ∷ []) ∵
-          suffices ! _ (ends-at 𝓤 H A ended stayed clauses W (((κ, tt), (q, tt), tt, x, at), tt) v w (S .last settings, (N .last number, (XC .last clock, (XL .last links, (XE .last run, (I .last link, (tt, tt))))))) (tt, (tt, (tt, (tt, (tt, (tt, (tt, tt)))))))) $ says ! φ $
+          suffices ! _ (ends-at 𝓤 H A ended stayed clauses W (((κ, tt), (q, tt), tt, x, at), tt) v w (XS .last settings, (N .last number, (XC .last clock, (XL .last links, (XE .last run, (I .last link, (tt, tt))))))) (tt, (tt, (tt, (tt, (tt, (tt, (tt, tt)))))))) $ says ! φ $
           nothing ! $ move ! (1 ∷ 0 ∷ []) $ join ! $ frame ! $ nothing ! $ nothing ! $ fjoin ! $ nothing ! $ fjoin ! $ nothing ! $ fjoin ! $ nothing ! $ fjoin ! $ nothing ! $ fjoin ! $ nothing ! $ fjoin ! $
           nothing ! $ fjoin ! $ frame ! $ done !
 
       module _ (T₁ : Calls 𝓤 H) (Λ : Loops 𝓤 H) (g : Name) (fm : FmC 𝓤 H (W .laws) T₁) (known : Triple 𝓤 (T₁ g) Contract₁) where
-        walk : ent 𝓤 (sep 𝓤 (onEntry 𝓤 H A signature (κ, tt) (q, tt) x at) (emp 𝓤)) (WpFn 𝓤 H T₁ Λ (function g) (S .val settings ∷ N .val number ∷ XC .val clock ∷ XL .val links ∷ XE .val run ∷ I .val link ∷ sliceVal (b, o) (length packet) ∷ []) Post)
+        walk : ent 𝓤 (sep 𝓤 (onEntry 𝓤 H A signature (κ, tt) (q, tt) x at) (emp 𝓤)) (WpFn 𝓤 H T₁ Λ (function g) (XS .val settings ∷ N .val number ∷ XC .val clock ∷ XL .val links ∷ XE .val run ∷ I .val link ∷ sliceVal (b, o) (length packet) ∷ []) Post)
         walk =
-            qed W (((‵ (flft κ q) ⊛ ‵ ftrue) ⊛ ‵ (owns (S .row ∷ N .row ∷ XC .row ∷ XL .row ∷ XE .row ∷ I .row ∷ ShrSlice (named 0) κ u8 ∷ []) x at)) ∷ raw (emp 𝓤) ∷ []) ∵ split ! $ move ! (2 ∷ []) $ drop ! $
+            qed W (((‵ (flft κ q) ⊛ ‵ ftrue) ⊛ ‵ (owns (XS .row ∷ N .row ∷ XC .row ∷ XL .row ∷ XE .row ∷ I .row ∷ ShrSlice (named 0) κ u8 ∷ []) x at)) ∷ raw (emp 𝓤) ∷ []) ∵ split ! $ move ! (2 ∷ []) $ drop ! $
             split ! $ move ! (1 ∷ []) $ drop ! $ move ! (1 ∷ []) $ fsplit ! $ drop ! $ fsplit ! $ drop ! $ fsplit ! $ drop ! $ fsplit ! $ drop ! $ fsplit ! $ drop ! $ fsplit ! $ drop ! $ fsplit ! $
-            move ! (1 ∷ []) $ drop ! $ enter ! T₁ Λ (function g) (S .val settings ∷ N .val number ∷ XC .val clock ∷ XL .val links ∷ XE .val run ∷ I .val link ∷ sliceVal (b, o) (length packet) ∷ []) _ $
+            move ! (1 ∷ []) $ drop ! $ enter ! T₁ Λ (function g) (XS .val settings ∷ N .val number ∷ XC .val clock ∷ XL .val links ∷ XE .val run ∷ I .val link ∷ sliceVal (b, o) (length packet) ∷ []) _ $
             alloc1 ! (λ z₀. alloc1 ! (λ z₁. alloc1 ! (λ z₂. alloc1 ! (λ z₃. alloc1 ! (λ z₄. alloc1 ! (λ z₅. alloc1 ! (λ z₆. alloc1 ! (λ z₇. alloc1 ! (λ z₈. alloc1 ! (λ z₉. alloc1 ! (λ z₁₀. alloc1 ! (λ z₁₁.
-            alloc1 ! (λ z₁₂. alloc1 ! (λ z₁₃. alloc1 ! (λ z₁₄. alloc1 ! (λ z₁₅. alloc1 ! (λ z₁₆. alloc1 ! (λ z₁₇. alloc1 ! (λ z₁₈. alloc0 ! $ params1 ! $
-            pass1 ! (init ! 34 refl (S .typed M 𝓤 H A W settings _ is-settings)) $ pass1 ! (init ! 32 refl (N .typed M 𝓤 H A W number _ is-number)) $
-            pass1 ! (init ! 30 refl (XC .typed M 𝓤 H A W clock _ is-clock)) $ pass1 ! (init ! 28 refl (XL .typed M 𝓤 H A W links _ is-links)) $ pass1 ! (init ! 26 refl (XE .typed M 𝓤 H A W run _ is-run)) $
-            pass1 ! (init ! 24 refl (I .typed M 𝓤 H A W link _ is-link)) $ pass1 ! (init ! 22 refl (tt, (tt, (record { fits = room-packet .0 }, tt)))) $ pass0 ! $
-            assigns ! (of-opd ! (load ! (from ! (stop !)) (look ! 30 refl))) (from ! (stop !)) (init ! 20 refl (XC .typed M 𝓤 H A W clock _ is-clock)) $
-            assigns ! (of-opd ! (load ! (from ! (stop !)) (look ! 28 refl))) (from ! (stop !)) (init ! 18 refl (XL .typed M 𝓤 H A W links _ is-links)) $
-            assigns ! (of-opd ! (load ! (from ! (stop !)) (look ! 26 refl))) (from ! (stop !)) (init ! 16 refl (XE .typed M 𝓤 H A W run _ is-run)) $
-            assigns ! (addr ! (from ! (stop !))) (from ! (stop !)) (init ! 12 refl (tt, tt)) $ assigns ! (addr ! (from ! (stop !))) (from ! (stop !)) (init ! 10 refl (tt, tt)) $
-            assigns ! (addr ! (from ! (stop !))) (from ! (stop !)) (init ! 8 refl (tt, tt)) $
+            alloc1 ! (λ z₁₂. alloc1 ! (λ z₁₃. alloc1 ! (λ z₁₄. alloc1 ! (λ z₁₅. alloc1 ! (λ z₁₆. alloc1 ! (λ z₁₇. alloc1 ! (λ z₁₈. alloc1 ! (λ z₁₉. alloc1 ! (λ z₂₀. alloc0 ! $ params1 ! $
+            pass1 ! (init ! 38 refl (XS .typed M 𝓤 H A W settings _ is-settings)) $ pass1 ! (init ! 36 refl (N .typed M 𝓤 H A W number _ is-number)) $
+            pass1 ! (init ! 34 refl (XC .typed M 𝓤 H A W clock _ is-clock)) $ pass1 ! (init ! 32 refl (XL .typed M 𝓤 H A W links _ is-links)) $ pass1 ! (init ! 30 refl (XE .typed M 𝓤 H A W run _ is-run)) $
+            pass1 ! (init ! 28 refl (I .typed M 𝓤 H A W link _ is-link)) $ pass1 ! (init ! 26 refl (tt, (tt, (record { fits = room-packet .0 }, tt)))) $ pass0 ! $
+            assigns ! (of-opd ! (load ! (from ! (stop !)) (look ! 38 refl))) (from ! (stop !)) (init ! 24 refl (XS .typed M 𝓤 H A W settings _ is-settings)) $
+            assigns ! (of-opd ! (load ! (from ! (stop !)) (look ! 34 refl))) (from ! (stop !)) (init ! 22 refl (XC .typed M 𝓤 H A W clock _ is-clock)) $
+            assigns ! (of-opd ! (load ! (from ! (stop !)) (look ! 32 refl))) (from ! (stop !)) (init ! 20 refl (XL .typed M 𝓤 H A W links _ is-links)) $
+            assigns ! (of-opd ! (load ! (from ! (stop !)) (look ! 30 refl))) (from ! (stop !)) (init ! 18 refl (XE .typed M 𝓤 H A W run _ is-run)) $
+            assigns ! (addr ! (from ! (stop !))) (from ! (stop !)) (init ! 14 refl (tt, tt)) $ assigns ! (addr ! (from ! (stop !))) (from ! (stop !)) (init ! 12 refl (tt, tt)) $
+            assigns ! (addr ! (from ! (stop !))) (from ! (stop !)) (init ! 10 refl (tt, tt)) $ assigns ! (addr ! (from ! (stop !))) (from ! (stop !)) (init ! 8 refl (tt, tt)) $
             assigns ! (agg ! (and-then ! (load ! (from ! (stop !)) (look ! 8 refl)) (and-then ! (lit ! few) (no-more !)))) (from ! (stop !)) (init ! 6 refl (tt, (tt, (record { fits = room .0 }, tt)))) $
-            rewrite ! 6 (λ (j : ℕ). ‵ (fat fullShare (sliceTy (tyRef erased mut (pointee (RE .written)))) z₁₅ 0 (sliceVal (z₁₀, 0) j))) (sym (counted E n run _ is-run)) refl $
+            rewrite ! 6 (λ (j : ℕ). ‵ (fat fullShare (sliceTy (tyRef erased mut (pointee (RE .written)))) z₁₇ 0 (sliceVal (z₁₁, 0) j))) (sym (counted E n run _ is-run)) refl $
             -- the locals are lent, each for a lifetime of its own that is made for the call
-            lft-new ! tt (λ α₀. move ! (21 ∷ []) $
-            use1 W (later (some (λ (γ₀ : GName). ‵ (MutRef (named 0) (α₀ ∷ []) RC .own (record { ptr = (z₈, 0); name = γ₀; now = clock }) (vptr z₈ 0 ∷ [])) ⊛ ‵ (flent (α₀ ∷ []) (Referent (mem RC) z₈ 0 γ₀))))) (lends-local 𝓤 H A W C (named 0) (α₀ ∷ []) clock z₈ is-clock) $ await ! tt $
-            pick ! (λ γ₀. split ! $ lft-new ! tt (λ α₁. move ! (22 ∷ []) $
-            use1 W (later (some (λ (γ₁ : GName). ‵ (MutRef (named 1) (α₁ ∷ []) RL .own (record { ptr = (z₉, 0); name = γ₁; now = links }) (vptr z₉ 0 ∷ [])) ⊛ ‵ (flent (α₁ ∷ []) (Referent (mem RL) z₉ 0 γ₁))))) (lends-local 𝓤 H A W L (named 1) (α₁ ∷ []) links z₉ is-links) $ await ! tt $
-            pick ! (λ γ₁. split ! $ lft-new ! tt (λ α₂. move ! (23 ∷ []) $
-            use1 W (later (some (λ (γ₂ : GName). ‵ (MutSlice (named 2) (α₂ ∷ []) RE .own (record { ptr = (z₁₀, 0); name = γ₂; now = run }) (sliceVal (z₁₀, 0) (length run) ∷ [])) ⊛ ‵ (flent (α₂ ∷ []) (Held RE (length run) z₁₀ 0 γ₂))))) (lends-array 𝓤 H A W E n room (named 2) (α₂ ∷ []) run z₁₀ is-run) $ await ! tt $
-            pick ! (λ γ₂. split ! $
+            lft-new ! tt (λ α₀. move ! (25 ∷ []) $
+            use1 W (later (some (λ (γ₀ : GName). ‵ (ShrRef (named 0) (α₀ ∷ []) RS .own (record { ptr = (z₈, 0); name = γ₀; now = settings }) (vptr z₈ 0 ∷ [])) ⊛ ‵ (flent (α₀ ∷ []) (partAt RS fullShare settings z₈ 0))))) (shares-local 𝓤 H A W S (named 0) (α₀ ∷ []) settings z₈ is-settings) $ await ! tt $
+            pick ! (λ γ₀. split ! $ lft-new ! tt (λ α₁. move ! (26 ∷ []) $
+            use1 W (later (some (λ (γ₁ : GName). ‵ (MutRef (named 1) (α₁ ∷ []) RC .own (record { ptr = (z₉, 0); name = γ₁; now = clock }) (vptr z₉ 0 ∷ [])) ⊛ ‵ (flent (α₁ ∷ []) (Referent (mem RC) z₉ 0 γ₁))))) (lends-local 𝓤 H A W C (named 1) (α₁ ∷ []) clock z₉ is-clock) $ await ! tt $
+            pick ! (λ γ₁. split ! $ lft-new ! tt (λ α₂. move ! (27 ∷ []) $
+            use1 W (later (some (λ (γ₂ : GName). ‵ (MutRef (named 2) (α₂ ∷ []) RL .own (record { ptr = (z₁₀, 0); name = γ₂; now = links }) (vptr z₁₀ 0 ∷ [])) ⊛ ‵ (flent (α₂ ∷ []) (Referent (mem RL) z₁₀ 0 γ₂))))) (lends-local 𝓤 H A W L (named 2) (α₂ ∷ []) links z₁₀ is-links) $ await ! tt $
+            pick ! (λ γ₂. split ! $ lft-new ! tt (λ α₃. move ! (28 ∷ []) $
+            use1 W (later (some (λ (γ₃ : GName). ‵ (MutSlice (named 3) (α₃ ∷ []) RE .own (record { ptr = (z₁₁, 0); name = γ₃; now = run }) (sliceVal (z₁₁, 0) (length run) ∷ [])) ⊛ ‵ (flent (α₃ ∷ []) (Held RE (length run) z₁₁ 0 γ₃))))) (lends-array 𝓤 H A W E n room (named 3) (α₃ ∷ []) run z₁₁ is-run) $ await ! tt $
+            pick ! (λ γ₃. split ! $
             -- the call
-            nothing ! $ move ! (46 ∷ 0 ∷ []) $ join ! $ move ! (3 ∷ 0 ∷ []) $ join ! $ move ! (5 ∷ 0 ∷ []) $ join ! $ move ! (7 ∷ 0 ∷ []) $ join ! $ nothing ! $ move ! (43 ∷ 0 ∷ []) $ fjoin ! $
-            owned ! (I .row) (Is (I .row)) (I .makes M 𝓤 H A W) link (I .val link ∷ []) is-link $ fjoin ! $ move ! (2 ∷ 0 ∷ []) $ fjoin ! $ move ! (3 ∷ 0 ∷ []) $ fjoin ! $ move ! (4 ∷ 0 ∷ []) $ fjoin ! $
-            owned ! (N .row) (Is (N .row)) (N .makes M 𝓤 H A W) number (N .val number ∷ []) is-number $ fjoin ! $ owned ! (S .row) (Is (S .row)) (S .makes M 𝓤 H A W) settings (S .val settings ∷ []) is-settings $
-            fjoin ! $ use0 W (raw (emp 𝓤)) (id⊢ 𝓤 _) $ move ! (2 ∷ 1 ∷ 0 ∷ []) $
-            use3 W (raw (Contract₁ .pre ((((α₀ ∷ []), ((α₁ ∷ []), ((α₂ ∷ []), (κ, tt)))), (fullShare, (fullShare, (fullShare, (q, tt)))), tt, (settings, (number, (record { ptr = (z₈, 0); name = γ₀; now = clock }, (record { ptr = (z₉, 0); name = γ₁; now = links }, (record { ptr = (z₁₀, 0); name = γ₂; now = run }, (link, (slice, tt))))))), (S .val settings ∷ [], (N .val number ∷ [], (vptr z₈ 0 ∷ [], (vptr z₉ 0 ∷ [], (sliceVal (z₁₀, 0) (length run) ∷ [], (I .val link ∷ [], (slice-vals slice, tt)))))))), tt))) (passed 𝓤 H A signature₁ ((α₀ ∷ []), ((α₁ ∷ []), ((α₂ ∷ []), (κ, tt)))) (fullShare, (fullShare, (fullShare, (q, tt)))) (settings, (number, (record { ptr = (z₈, 0); name = γ₀; now = clock }, (record { ptr = (z₉, 0); name = γ₁; now = links }, (record { ptr = (z₁₀, 0); name = γ₂; now = run }, (link, (slice, tt))))))) (S .val settings ∷ [], (N .val number ∷ [], (vptr z₈ 0 ∷ [], (vptr z₉ 0 ∷ [], (sliceVal (z₁₀, 0) (length run) ∷ [], (I .val link ∷ [], (slice-vals slice, tt))))))) (emp 𝓤)) $
-            calls-at ! fm Contract₁ known ((((α₀ ∷ []), ((α₁ ∷ []), ((α₂ ∷ []), (κ, tt)))), (fullShare, (fullShare, (fullShare, (q, tt)))), tt, (settings, (number, (record { ptr = (z₈, 0); name = γ₀; now = clock }, (record { ptr = (z₉, 0); name = γ₁; now = links }, (record { ptr = (z₁₀, 0); name = γ₂; now = run }, (link, (slice, tt))))))), (S .val settings ∷ [], (N .val number ∷ [], (vptr z₈ 0 ∷ [], (vptr z₉ 0 ∷ [], (sliceVal (z₁₀, 0) (length run) ∷ [], (I .val link ∷ [], (slice-vals slice, tt)))))))), tt) (and-then ! (load ! (from ! (stop !)) (look ! 35 refl)) (and-then ! (load ! (from ! (stop !)) (look ! 33 refl)) (and-then ! (load ! (from ! (stop !)) (look ! 16 refl)) (and-then ! (load ! (from ! (stop !)) (look ! 14 refl)) (and-then ! (load ! (from ! (stop !)) (look ! 10 refl)) (and-then ! (load ! (from ! (stop !)) (look ! 25 refl)) (and-then ! (load ! (from ! (stop !)) (look ! 23 refl)) (no-more !)))))))) (λ v.
-            use1 W (later (some (λ (r : K .word .row .Denot). ((‵ (flft (α₀ ∷ []) fullShare) ⊛ ‵ (flft (α₁ ∷ []) fullShare) ⊛ ‵ (flft (α₂ ∷ []) fullShare) ⊛ ‵ (flft κ q) ⊛ ‵ ftrue) ⊛ ‵ (K .word .row .own r (v ∷ []))) ⊛ raw (ensured 𝓤 H A ended₁ clauses₁ ((α₀ ∷ []), ((α₁ ∷ []), ((α₂ ∷ []), (κ, tt)))) (settings, (number, (record { ptr = (z₈, 0); name = γ₀; now = clock }, (record { ptr = (z₉, 0); name = γ₁; now = links }, (record { ptr = (z₁₀, 0); name = γ₂; now = run }, (link, (slice, tt))))))) tt r)))) (id⊢ 𝓤 _) $ await ! tt $
-            pick ! (λ r. split ! $ split ! $ split ! $ move ! (1 ∷ []) $ split ! $ move ! (1 ∷ []) $ split ! $ move ! (1 ∷ []) $ split ! $ move ! (1 ∷ []) $ drop ! $ move ! (5 ∷ []) $
-            use1 W (some (λ (ends : Lasts ended₁ ((α₀ ∷ []), ((α₁ ∷ []), ((α₂ ∷ []), (κ, tt)))) (settings, (number, (record { ptr = (z₈, 0); name = γ₀; now = clock }, (record { ptr = (z₉, 0); name = γ₁; now = links }, (record { ptr = (z₁₀, 0); name = γ₂; now = run }, (link, (slice, tt)))))))). ‵ (lasts ended₁ ((α₀ ∷ []), ((α₁ ∷ []), ((α₂ ∷ []), (κ, tt)))) (settings, (number, (record { ptr = (z₈, 0); name = γ₀; now = clock }, (record { ptr = (z₉, 0); name = γ₁; now = links }, (record { ptr = (z₁₀, 0); name = γ₂; now = run }, (link, (slice, tt))))))) ends) ⊛ raw (fact 𝓤 (gives settings number clock links run link packet (ends .1 .1 .0) (ends .1 .1 .1 .0) (ends .1 .1 .1 .1 .0) r)))) (id⊢ 𝓤 _) $
+            nothing ! $ move ! (52 ∷ 0 ∷ []) $ join ! $ move ! (3 ∷ 0 ∷ []) $ join ! $ move ! (5 ∷ 0 ∷ []) $ join ! $ move ! (7 ∷ 0 ∷ []) $ join ! $ move ! (9 ∷ 0 ∷ []) $ join ! $ nothing ! $
+            move ! (48 ∷ 0 ∷ []) $ fjoin ! $ owned ! (I .row) (Is (I .row)) (I .makes M 𝓤 H A W) link (I .val link ∷ []) is-link $ fjoin ! $ move ! (2 ∷ 0 ∷ []) $ fjoin ! $ move ! (3 ∷ 0 ∷ []) $ fjoin ! $
+            move ! (4 ∷ 0 ∷ []) $ fjoin ! $ owned ! (N .row) (Is (N .row)) (N .makes M 𝓤 H A W) number (N .val number ∷ []) is-number $ fjoin ! $ move ! (5 ∷ 0 ∷ []) $ fjoin ! $ use0 W (raw (emp 𝓤)) (id⊢ 𝓤 _) $
+            move ! (2 ∷ 1 ∷ 0 ∷ []) $
+            use3 W (raw (Contract₁ .pre ((((α₀ ∷ []), ((α₁ ∷ []), ((α₂ ∷ []), ((α₃ ∷ []), (κ, tt))))), (fullShare, (fullShare, (fullShare, (fullShare, (q, tt))))), tt, (record { ptr = (z₈, 0); name = γ₀; now = settings }, (number, (record { ptr = (z₉, 0); name = γ₁; now = clock }, (record { ptr = (z₁₀, 0); name = γ₂; now = links }, (record { ptr = (z₁₁, 0); name = γ₃; now = run }, (link, (slice, tt))))))), (vptr z₈ 0 ∷ [], (N .val number ∷ [], (vptr z₉ 0 ∷ [], (vptr z₁₀ 0 ∷ [], (sliceVal (z₁₁, 0) (length run) ∷ [], (I .val link ∷ [], (slice-vals slice, tt)))))))), tt))) (passed 𝓤 H A signature₁ ((α₀ ∷ []), ((α₁ ∷ []), ((α₂ ∷ []), ((α₃ ∷ []), (κ, tt))))) (fullShare, (fullShare, (fullShare, (fullShare, (q, tt))))) (record { ptr = (z₈, 0); name = γ₀; now = settings }, (number, (record { ptr = (z₉, 0); name = γ₁; now = clock }, (record { ptr = (z₁₀, 0); name = γ₂; now = links }, (record { ptr = (z₁₁, 0); name = γ₃; now = run }, (link, (slice, tt))))))) (vptr z₈ 0 ∷ [], (N .val number ∷ [], (vptr z₉ 0 ∷ [], (vptr z₁₀ 0 ∷ [], (sliceVal (z₁₁, 0) (length run) ∷ [], (I .val link ∷ [], (slice-vals slice, tt))))))) (emp 𝓤)) $
+            calls-at ! fm Contract₁ known ((((α₀ ∷ []), ((α₁ ∷ []), ((α₂ ∷ []), ((α₃ ∷ []), (κ, tt))))), (fullShare, (fullShare, (fullShare, (fullShare, (q, tt))))), tt, (record { ptr = (z₈, 0); name = γ₀; now = settings }, (number, (record { ptr = (z₉, 0); name = γ₁; now = clock }, (record { ptr = (z₁₀, 0); name = γ₂; now = links }, (record { ptr = (z₁₁, 0); name = γ₃; now = run }, (link, (slice, tt))))))), (vptr z₈ 0 ∷ [], (N .val number ∷ [], (vptr z₉ 0 ∷ [], (vptr z₁₀ 0 ∷ [], (sliceVal (z₁₁, 0) (length run) ∷ [], (I .val link ∷ [], (slice-vals slice, tt)))))))), tt) (and-then ! (load ! (from ! (stop !)) (look ! 19 refl)) (and-then ! (load ! (from ! (stop !)) (look ! 37 refl)) (and-then ! (load ! (from ! (stop !)) (look ! 17 refl)) (and-then ! (load ! (from ! (stop !)) (look ! 15 refl)) (and-then ! (load ! (from ! (stop !)) (look ! 11 refl)) (and-then ! (load ! (from ! (stop !)) (look ! 29 refl)) (and-then ! (load ! (from ! (stop !)) (look ! 27 refl)) (no-more !)))))))) (λ v.
+            use1 W (later (some (λ (r : K .word .row .Denot). ((‵ (flft (α₀ ∷ []) fullShare) ⊛ ‵ (flft (α₁ ∷ []) fullShare) ⊛ ‵ (flft (α₂ ∷ []) fullShare) ⊛ ‵ (flft (α₃ ∷ []) fullShare) ⊛ ‵ (flft κ q) ⊛ ‵ ftrue) ⊛ ‵ (K .word .row .own r (v ∷ []))) ⊛ raw (ensured 𝓤 H A ended₁ clauses₁ ((α₀ ∷ []), ((α₁ ∷ []), ((α₂ ∷ []), ((α₃ ∷ []), (κ, tt))))) (record { ptr = (z₈, 0); name = γ₀; now = settings }, (number, (record { ptr = (z₉, 0); name = γ₁; now = clock }, (record { ptr = (z₁₀, 0); name = γ₂; now = links }, (record { ptr = (z₁₁, 0); name = γ₃; now = run }, (link, (slice, tt))))))) tt r)))) (id⊢ 𝓤 _) $ await ! tt $
+            pick ! (λ r. split ! $ split ! $ split ! $ move ! (1 ∷ []) $ split ! $ move ! (1 ∷ []) $ split ! $ move ! (1 ∷ []) $ split ! $ move ! (1 ∷ []) $ split ! $ move ! (1 ∷ []) $ drop ! $ move ! (6 ∷ []) $
+            use1 W (some (λ (ends : Lasts ended₁ ((α₀ ∷ []), ((α₁ ∷ []), ((α₂ ∷ []), ((α₃ ∷ []), (κ, tt))))) (record { ptr = (z₈, 0); name = γ₀; now = settings }, (number, (record { ptr = (z₉, 0); name = γ₁; now = clock }, (record { ptr = (z₁₀, 0); name = γ₂; now = links }, (record { ptr = (z₁₁, 0); name = γ₃; now = run }, (link, (slice, tt)))))))). ‵ (lasts ended₁ ((α₀ ∷ []), ((α₁ ∷ []), ((α₂ ∷ []), ((α₃ ∷ []), (κ, tt))))) (record { ptr = (z₈, 0); name = γ₀; now = settings }, (number, (record { ptr = (z₉, 0); name = γ₁; now = clock }, (record { ptr = (z₁₀, 0); name = γ₂; now = links }, (record { ptr = (z₁₁, 0); name = γ₃; now = run }, (link, (slice, tt))))))) ends) ⊛ raw (fact 𝓤 (gives settings number clock links run link packet (ends .1 .1 .0) (ends .1 .1 .1 .0) (ends .1 .1 .1 .1 .0) r)))) (id⊢ 𝓤 _) $
             pick ! (λ ends. split ! $ move ! (1 ∷ []) $ heard ! (gives settings number clock links run link packet (ends .1 .1 .0) (ends .1 .1 .1 .0) (ends .1 .1 .1 .1 .0) r) (λ φ. fsplit ! $ drop ! $ fsplit ! $
-            drop ! $ fsplit ! $ move ! (1 ∷ []) $ fsplit ! $ move ! (1 ∷ []) $ fsplit ! $ fsplit ! $ move ! (1 ∷ []) $ drop ! $ move ! (1 ∷ []) $ fsplit ! $ drop ! $ fsplit ! $ drop ! $ drop ! $ move ! (7 ∷ []) $
+            drop ! $ fsplit ! $ move ! (1 ∷ []) $ fsplit ! $ move ! (1 ∷ []) $ fsplit ! $ fsplit ! $ move ! (1 ∷ []) $ drop ! $ move ! (1 ∷ []) $ fsplit ! $ drop ! $ fsplit ! $ drop ! $ drop ! $ move ! (8 ∷ []) $
             peeks ! (K .word .row) (Is (K .word .row)) (shows 𝓤 H A (K .word .row)) r (v ∷ []) (λ said-r. drop ! $
             -- the lifetimes end, and the locals are back
-            move ! (6 ∷ []) $ lft-end ! tt $ move ! (0 ∷ 9 ∷ 3 ∷ []) $
-            use3 W (later (given (Is (XC .row) (ends .1 .1 .0) (XC .val (ends .1 .1 .0) ∷ [])) (‵ (fat fullShare (XC .ty) z₈ 0 (XC .val (ends .1 .1 .0)))))) (local-back 𝓤 H A W C (α₀ ∷ []) γ₀ (ends .1 .1 .0) z₈) $ await ! tt $
-            learn ! (λ left-clock. move ! (5 ∷ []) $ lft-end ! tt $ move ! (0 ∷ 7 ∷ 3 ∷ []) $
-            use3 W (later (given (Is (XL .row) (ends .1 .1 .1 .0) (XL .val (ends .1 .1 .1 .0) ∷ [])) (‵ (fat fullShare (XL .ty) z₉ 0 (XL .val (ends .1 .1 .1 .0)))))) (local-back 𝓤 H A W L (α₁ ∷ []) γ₁ (ends .1 .1 .1 .0) z₉) $ await ! tt $
-            learn ! (λ left-links. move ! (4 ∷ []) $ lft-end ! tt $ move ! (0 ∷ 5 ∷ 3 ∷ []) $
-            use3 W (later (given (Is (XE .row) (ends .1 .1 .1 .1 .0) (XE .val (ends .1 .1 .1 .1 .0) ∷ [])) (‵ (fat fullShare (XE .ty) z₁₀ 0 (XE .val (ends .1 .1 .1 .1 .0)))))) (array-back 𝓤 H A W E n (α₂ ∷ []) γ₂ run (ends .1 .1 .1 .1 .0) z₁₀ (counted E n run _ is-run)) $ await ! tt $
-            learn ! (λ left-run. land ! (from ! (stop !)) (init ! 18 refl (K .laws .lawful 𝓤 H A W .typed (K .K .into (back r)) _ (shown r (v ∷ []) said-r) .0)) $
-            rewrite ! 18 (λ (u : Val). ‵ (fat fullShare (K .word .ty) z₁₁ 0 (u))) (ap only (K .laws .tells (K .K .into (back r)) (v ∷ []) (shown r (v ∷ []) said-r))) refl $
+            move ! (7 ∷ []) $ lft-end ! tt $ move ! (0 ∷ 11 ∷ []) $ use2 W (later (‵ (fat fullShare (XS .ty) z₈ 0 (XS .val settings)))) (shared-local-back 𝓤 H A W S (α₀ ∷ []) settings z₈) $ await ! tt $
+            move ! (7 ∷ []) $ lft-end ! tt $ move ! (0 ∷ 10 ∷ 4 ∷ []) $
+            use3 W (later (given (Is (XC .row) (ends .1 .1 .0) (XC .val (ends .1 .1 .0) ∷ [])) (‵ (fat fullShare (XC .ty) z₉ 0 (XC .val (ends .1 .1 .0)))))) (local-back 𝓤 H A W C (α₁ ∷ []) γ₁ (ends .1 .1 .0) z₉) $ await ! tt $
+            learn ! (λ left-clock. move ! (6 ∷ []) $ lft-end ! tt $ move ! (0 ∷ 8 ∷ 4 ∷ []) $
+            use3 W (later (given (Is (XL .row) (ends .1 .1 .1 .0) (XL .val (ends .1 .1 .1 .0) ∷ [])) (‵ (fat fullShare (XL .ty) z₁₀ 0 (XL .val (ends .1 .1 .1 .0)))))) (local-back 𝓤 H A W L (α₂ ∷ []) γ₂ (ends .1 .1 .1 .0) z₁₀) $ await ! tt $
+            learn ! (λ left-links. move ! (5 ∷ []) $ lft-end ! tt $ move ! (0 ∷ 6 ∷ 4 ∷ []) $
+            use3 W (later (given (Is (XE .row) (ends .1 .1 .1 .1 .0) (XE .val (ends .1 .1 .1 .1 .0) ∷ [])) (‵ (fat fullShare (XE .ty) z₁₁ 0 (XE .val (ends .1 .1 .1 .1 .0)))))) (array-back 𝓤 H A W E n (α₃ ∷ []) γ₃ run (ends .1 .1 .1 .1 .0) z₁₁ (counted E n run _ is-run)) $ await ! tt $
+            learn ! (λ left-run. land ! (from ! (stop !)) (init ! 21 refl (K .laws .lawful 𝓤 H A W .typed (K .K .into (back r)) _ (shown r (v ∷ []) said-r) .0)) $
+            rewrite ! 21 (λ (u : Val). ‵ (fat fullShare (K .word .ty) z₁₂ 0 (u))) (ap only (K .laws .tells (K .K .into (back r)) (v ∷ []) (shown r (v ∷ []) said-r))) refl $
             -- what is handed back is made of them
-            assigns ! (of-opd ! (load ! (from ! (stop !)) (look ! 2 refl))) (from ! (stop !)) (init ! 8 refl (XC .typed M 𝓤 H A W (ends .1 .1 .0) _ left-clock)) $
-            assigns ! (of-opd ! (load ! (from ! (stop !)) (look ! 1 refl))) (from ! (stop !)) (init ! 6 refl (XL .typed M 𝓤 H A W (ends .1 .1 .1 .0) _ left-links)) $
-            assigns ! (of-opd ! (load ! (from ! (stop !)) (look ! 0 refl))) (from ! (stop !)) (init ! 4 refl (XE .typed M 𝓤 H A W (ends .1 .1 .1 .1 .0) _ left-run)) $
-            rewrite ! 4 (λ (u : Val). ‵ (fat fullShare (XE .ty) z₁₈ 0 (u))) (same-val (ends .1 .1 .1 .1 .0) left-run) refl $
-            assigns ! (agg ! (and-then ! (load ! (from ! (stop !)) (look ! 18 refl)) (and-then ! (load ! (from ! (stop !)) (look ! 8 refl)) (and-then ! (load ! (from ! (stop !)) (look ! 6 refl)) (and-then ! (load ! (from ! (stop !)) (look ! 4 refl)) (no-more !)))))) (from ! (stop !)) (init ! 37 refl (LL.lawful O LO 𝓤 H A W .typed (make (back r) (ends .1 .1 .0) (ends .1 .1 .1 .0) (ends .1 .1 .1 .1 .0)) _ (whole-is (back r) (ends .1 .1 .0) (ends .1 .1 .1 .0) (ends .1 .1 .1 .1 .0) (subst (λ (us : List Val). Is (K .K .row) (K .K .into (back r)) us) (K .laws .tells (K .K .into (back r)) (v ∷ []) (shown r (v ∷ []) said-r)) (shown r (v ∷ []) said-r)) left-clock left-links left-run) .0)) $
-            returns ! (look ! 37 refl) $ forget ! 4 refl $ forget ! 6 refl $ forget ! 8 refl $ forget ! 10 refl $ forget ! 12 refl $ forget ! 14 refl $ forget ! 16 refl $ forget ! 18 refl $ forget ! 0 refl $
-            forget ! 1 refl $ forget ! 2 refl $ forget ! 23 refl $ forget ! 25 refl $ forget ! 27 refl $ forget ! 29 refl $ forget ! 31 refl $ forget ! 33 refl $ forget ! 35 refl $ forget ! 37 refl $
-            move ! (37 ∷ 38 ∷ []) $ free1 ! $ move ! (35 ∷ 36 ∷ []) $ free1 ! $ move ! (33 ∷ 34 ∷ []) $ free1 ! $ move ! (31 ∷ 32 ∷ []) $ free1 ! $ move ! (29 ∷ 30 ∷ []) $ free1 ! $ move ! (27 ∷ 28 ∷ []) $
-            free1 ! $ move ! (25 ∷ 26 ∷ []) $ free1 ! $ move ! (23 ∷ 24 ∷ []) $ free1 ! $ move ! (2 ∷ 22 ∷ []) $ free1 ! $ move ! (1 ∷ 20 ∷ []) $ free1 ! $ move ! (0 ∷ 18 ∷ []) $ free1 ! $ move ! (15 ∷ 16 ∷ []) $
-            free1 ! $ move ! (13 ∷ 14 ∷ []) $ free1 ! $ move ! (11 ∷ 12 ∷ []) $ free1 ! $ move ! (9 ∷ 10 ∷ []) $ free1 ! $ move ! (7 ∷ 8 ∷ []) $ free1 ! $ move ! (5 ∷ 6 ∷ []) $ free1 ! $ move ! (3 ∷ 4 ∷ []) $
-            free1 ! $ move ! (1 ∷ 2 ∷ []) $ free1 ! $ free0 ! $
+            assigns ! (of-opd ! (load ! (from ! (stop !)) (look ! 2 refl))) (from ! (stop !)) (init ! 9 refl (XC .typed M 𝓤 H A W (ends .1 .1 .0) _ left-clock)) $
+            assigns ! (of-opd ! (load ! (from ! (stop !)) (look ! 1 refl))) (from ! (stop !)) (init ! 7 refl (XL .typed M 𝓤 H A W (ends .1 .1 .1 .0) _ left-links)) $
+            assigns ! (of-opd ! (load ! (from ! (stop !)) (look ! 0 refl))) (from ! (stop !)) (init ! 5 refl (XE .typed M 𝓤 H A W (ends .1 .1 .1 .1 .0) _ left-run)) $
+            rewrite ! 5 (λ (u : Val). ‵ (fat fullShare (XE .ty) z₂₀ 0 (u))) (same-val (ends .1 .1 .1 .1 .0) left-run) refl $
+            assigns ! (agg ! (and-then ! (load ! (from ! (stop !)) (look ! 21 refl)) (and-then ! (load ! (from ! (stop !)) (look ! 9 refl)) (and-then ! (load ! (from ! (stop !)) (look ! 7 refl)) (and-then ! (load ! (from ! (stop !)) (look ! 5 refl)) (no-more !)))))) (from ! (stop !)) (init ! 41 refl (LL.lawful O LO 𝓤 H A W .typed (make (back r) (ends .1 .1 .0) (ends .1 .1 .1 .0) (ends .1 .1 .1 .1 .0)) _ (whole-is (back r) (ends .1 .1 .0) (ends .1 .1 .1 .0) (ends .1 .1 .1 .1 .0) (subst (λ (us : List Val). Is (K .K .row) (K .K .into (back r)) us) (K .laws .tells (K .K .into (back r)) (v ∷ []) (shown r (v ∷ []) said-r)) (shown r (v ∷ []) said-r)) left-clock left-links left-run) .0)) $
+            returns ! (look ! 41 refl) $ forget ! 5 refl $ forget ! 7 refl $ forget ! 9 refl $ forget ! 11 refl $ forget ! 13 refl $ forget ! 15 refl $ forget ! 17 refl $ forget ! 19 refl $ forget ! 21 refl $
+            forget ! 0 refl $ forget ! 1 refl $ forget ! 2 refl $ forget ! 3 refl $ forget ! 27 refl $ forget ! 29 refl $ forget ! 31 refl $ forget ! 33 refl $ forget ! 35 refl $ forget ! 37 refl $
+            forget ! 39 refl $ forget ! 41 refl $ move ! (41 ∷ 42 ∷ []) $ free1 ! $ move ! (39 ∷ 40 ∷ []) $ free1 ! $ move ! (37 ∷ 38 ∷ []) $ free1 ! $ move ! (35 ∷ 36 ∷ []) $ free1 ! $ move ! (33 ∷ 34 ∷ []) $
+            free1 ! $ move ! (31 ∷ 32 ∷ []) $ free1 ! $ move ! (29 ∷ 30 ∷ []) $ free1 ! $ move ! (27 ∷ 28 ∷ []) $ free1 ! $ move ! (3 ∷ 26 ∷ []) $ free1 ! $ move ! (2 ∷ 24 ∷ []) $ free1 ! $ move ! (1 ∷ 22 ∷ []) $
+            free1 ! $ move ! (0 ∷ 20 ∷ []) $ free1 ! $ move ! (17 ∷ 18 ∷ []) $ free1 ! $ move ! (15 ∷ 16 ∷ []) $ free1 ! $ move ! (13 ∷ 14 ∷ []) $ free1 ! $ move ! (11 ∷ 12 ∷ []) $ free1 ! $
+            move ! (9 ∷ 10 ∷ []) $ free1 ! $ move ! (7 ∷ 8 ∷ []) $ free1 ! $ move ! (5 ∷ 6 ∷ []) $ free1 ! $ move ! (3 ∷ 4 ∷ []) $ free1 ! $ move ! (1 ∷ 2 ∷ []) $ free1 ! $ free0 ! $
             owned ! RO (Is RO) (LL.makes O PO 𝓤 H A) (make (back r) (ends .1 .1 .0) (ends .1 .1 .1 .0) (ends .1 .1 .1 .1 .0)) ((whole-val (back r) (ends .1 .1 .0) (ends .1 .1 .1 .0) (ends .1 .1 .1 .1 .0)) ∷ []) (whole-is (back r) (ends .1 .1 .0) (ends .1 .1 .1 .0) (ends .1 .1 .1 .1 .0) (subst (λ (us : List Val). Is (K .K .row) (K .K .into (back r)) us) (K .laws .tells (K .K .into (back r)) (v ∷ []) (shown r (v ∷ []) said-r)) (shown r (v ∷ []) said-r)) left-clock left-links left-run) $
             keep ! (1 ∷ 0 ∷ []) $
-            by ! (exits (make (back r) (ends .1 .1 .0) (ends .1 .1 .1 .0) (ends .1 .1 .1 .1 .0)) (whole-val (back r) (ends .1 .1 .0) (ends .1 .1 .1 .0) (ends .1 .1 .1 .1 .0)) (then settings number clock links run link packet (ends .1 .1 .0) (ends .1 .1 .1 .0) (ends .1 .1 .1 .1 .0) r φ)))))))))))))))))))))))))))))))))))
+            by ! (exits (make (back r) (ends .1 .1 .0) (ends .1 .1 .1 .0) (ends .1 .1 .1 .1 .0)) (whole-val (back r) (ends .1 .1 .0) (ends .1 .1 .1 .0) (ends .1 .1 .1 .1 .0)) (then settings number clock links run link packet (ends .1 .1 .0) (ends .1 .1 .1 .0) (ends .1 .1 .1 .1 .0) r φ)))))))))))))))))))))))))))))))))))))))
 
   -- γ is the function's `code.env`, f and g are the keys
-  module _ {M : Type 1} (𝓤 : URA M) (H : Heap 𝓤) (𝓜 : Model 𝓤 H) (𝓖 : GhostRules 𝓤 H) (𝓡 : Running 𝓤 H 𝓜) (gives : S .row .Denot → N .row .Denot → C .S .D → L .S .D → List (E .S .D) → I .row .Denot → List ℕ → C .S .D → L .S .D → List (E .S .D) → K .word .row .Denot → Type 0) (Says : S .row .Denot → N .row .Denot → C .S .D → L .S .D → List (E .S .D) → I .row .Denot → List ℕ → D → Type 0)
-      (then : (settings : S .row .Denot) (number : N .row .Denot) (clock : C .S .D) (links : L .S .D) (run : List (E .S .D)) (link : I .row .Denot) (packet : List ℕ) (clock′ : C .S .D) (links′ : L .S .D) (run′ : List (E .S .D)) (r : K .word .row .Denot) → gives settings number clock links run link packet clock′ links′ run′ r → Says settings number clock links run link packet (make (back r) clock′ links′ run′)) (few : T (ltb n (2 ^ 64))) (small : T (ltb (n * mem RE .size) (2 ^ 63)))
+  module _ {M : Type 1} (𝓤 : URA M) (H : Heap 𝓤) (𝓜 : Model 𝓤 H) (𝓖 : GhostRules 𝓤 H) (𝓡 : Running 𝓤 H 𝓜) (gives : S .S .D → N .row .Denot → C .S .D → L .S .D → List (E .S .D) → I .row .Denot → List ℕ → C .S .D → L .S .D → List (E .S .D) → K .word .row .Denot → Type 0) (Says : S .S .D → N .row .Denot → C .S .D → L .S .D → List (E .S .D) → I .row .Denot → List ℕ → D → Type 0)
+      (then : (settings : S .S .D) (number : N .row .Denot) (clock : C .S .D) (links : L .S .D) (run : List (E .S .D)) (link : I .row .Denot) (packet : List ℕ) (clock′ : C .S .D) (links′ : L .S .D) (run′ : List (E .S .D)) (r : K .word .row .Denot) → gives settings number clock links run link packet clock′ links′ run′ r → Says settings number clock links run link packet (make (back r) clock′ links′ run′)) (few : T (ltb n (2 ^ 64))) (small : T (ltb (n * mem RE .size) (2 ^ 63)))
       (γ : Env) (f g : Name) (r : Routine) where
     abbrev Clauses′ : Clauses 𝓤 ended
     Clauses′ = clauses 𝓤 H (𝓖 .A) gives Says
@@ -210,10 +223,10 @@ module _ (S N I : Word) (C L E : Data) (n : ℕ) (K : Part) (back : K .word .row
     meets : (W : Given 𝓤 H (𝓖 .A)) (𝓣 : Tables 𝓤 H) → Triple 𝓤 (𝓣 .C g) (Contract₁ 𝓤 H (𝓖 .A) gives Says) → Meets 𝓤 H (𝓖 .A) signature (WpFn 𝓤 H (𝓣 .C) (𝓣 .Λ) (function g)) (closing 𝓤 H (𝓖 .A) ended Clauses′)
     meets W 𝓣 known =
         walk-meets 𝓤 H (𝓖 .A) ended stayed W
-        (goes-dropped 𝓤 H (𝓖 .A) W 1 (plain (λ _. S .row)) yes (λ κs. S .silent), (goes-dropped 𝓤 H (𝓖 .A) W 1 (plain (λ _. N .row)) yes (λ κs. N .silent), (goes-dropped 𝓤 H (𝓖 .A) W 1 (plain (λ _. XC .row)) yes (λ κs. XC .silent), (goes-dropped 𝓤 H (𝓖 .A) W 1 (plain (λ _. XL .row)) yes (λ κs. XL .silent), (goes-dropped 𝓤 H (𝓖 .A) W 1 (plain (λ _. XE .row)) yes (λ κs. XE .silent), (goes-dropped 𝓤 H (𝓖 .A) W 1 (plain (λ _. I .row)) yes (λ κs. I .silent), (goes-dropped 𝓤 H (𝓖 .A) W 1 (shrSliceOf (0 ∷ []) tt (plain (λ _. u8))) yes (λ κs x f. refl), tt)))))))
+        (goes-dropped 𝓤 H (𝓖 .A) W 1 (plain (λ _. XS .row)) yes (λ κs. XS .silent), (goes-dropped 𝓤 H (𝓖 .A) W 1 (plain (λ _. N .row)) yes (λ κs. N .silent), (goes-dropped 𝓤 H (𝓖 .A) W 1 (plain (λ _. XC .row)) yes (λ κs. XC .silent), (goes-dropped 𝓤 H (𝓖 .A) W 1 (plain (λ _. XL .row)) yes (λ κs. XL .silent), (goes-dropped 𝓤 H (𝓖 .A) W 1 (plain (λ _. XE .row)) yes (λ κs. XE .silent), (goes-dropped 𝓤 H (𝓖 .A) W 1 (plain (λ _. I .row)) yes (λ κs. I .silent), (goes-dropped 𝓤 H (𝓖 .A) W 1 (shrSliceOf (0 ∷ []) tt (plain (λ _. u8))) yes (λ κs x f. refl), tt)))))))
         Clauses′ (WpFn 𝓤 H (𝓣 .C) (𝓣 .Λ) (function g)) (WpFn-mono 𝓤 H (W .laws) 𝓣 (function g))
-        (walked 𝓤 H (𝓖 .A) ended stayed Clauses′ (WpFn 𝓤 H (𝓣 .C) (𝓣 .Λ) (function g)) (λ κs. ((λ m. S .val m ∷ []), ((λ m. N .val m ∷ []), ((λ m. XC .val m ∷ []), ((λ m. XL .val m ∷ []), ((λ m. XE .val m ∷ []), ((λ m. I .val m ∷ []), (slice-vals, tt))))))))
-        (λ κs. (S .tells, (N .tells, (XC .tells, (XL .tells, (XE .tells, (I .tells, (shr-slice-tells (named 0) (κs .0) u8, tt))))))))
+        (walked 𝓤 H (𝓖 .A) ended stayed Clauses′ (WpFn 𝓤 H (𝓣 .C) (𝓣 .Λ) (function g)) (λ κs. ((λ m. XS .val m ∷ []), ((λ m. N .val m ∷ []), ((λ m. XC .val m ∷ []), ((λ m. XL .val m ∷ []), ((λ m. XE .val m ∷ []), ((λ m. I .val m ∷ []), (slice-vals, tt))))))))
+        (λ κs. (XS .tells, (N .tells, (XC .tells, (XL .tells, (XE .tells, (I .tells, (shr-slice-tells (named 0) (κs .0) u8, tt))))))))
         (λ κs qs bounds a _ are. walk 𝓤 H (𝓖 .A) gives Says W then few small
         (κs .0) (qs .0) (a .1 .1 .1 .1 .1 .1 .0 .ptr .0) (a .1 .1 .1 .1 .1 .1 .0 .ptr .1) (a .1 .1 .1 .1 .1 .1 .0 .name) (a .0) (a .1 .0) (a .1 .1 .0) (a .1 .1 .1 .0) (a .1 .1 .1 .1 .0) (a .1 .1 .1 .1 .1 .0) (a .1 .1 .1 .1 .1 .1 .0 .now) (are .0) (are .1 .0) (are .1 .1 .0) (are .1 .1 .1 .0) (are .1 .1 .1 .1 .0) (are .1 .1 .1 .1 .1 .0) (are .1 .1 .1 .1 .1 .1 .0 .0 .1)
         (𝓣 .C) (𝓣 .Λ) g (fmOf 𝓤 H (W .laws) 𝓣) known))

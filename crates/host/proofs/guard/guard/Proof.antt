@@ -27,7 +27,7 @@ use Rattle.host.proofs.guard.guard.Code as code
 pub guard-spec : {M : Type 1} → stated.statement M
 unfolding code.routine
 guard-spec 𝓤 H 𝓜 𝓖 𝓡 =
-    proof (by-value settings) number (by-value clock) (by-value links) (chosen-by-value scope) (by-value (whole scan)) boolean (chosen-by-value answer) entry 𝓤 H 𝓜 𝓖 𝓡
+    proof number (by-value clock) (by-value links) (chosen-by-value scope) (by-value (whole scan)) boolean (chosen-by-value answer) settings entry 𝓤 H 𝓜 𝓖 𝓡
     (λ s k c l a n. emp 𝓤) (λ s k c l a n w. w ≡ held a k (host s c l) n)
     (λ run w. fact 𝓤 (InRun (w .first) (w .end) run)) (λ run w good. good ≡ allInRange w run)
     (λ s good. emp 𝓤) (λ s good r. r ≡ judged s good)
