@@ -1,2 +1,3 @@
 pub mod Flights
 pub mod Inspected
+pub mod Pair

@@ -1,4 +1,4 @@
--- What an arrival comes to: the inspection, answers 3 to 9, and the action, steps 2 to 5 of section 3.3.3: the reply, the links afterwards, and the updates of which ids, with the clock that they start from.
+-- What a packet that arrives comes to: the inspection, answers 3 to 9, and the action, steps 2 to 5 of section 3.3.3: the reply, the links afterwards, and the updates of which ids, with the clock that they start from.
 use mathlib.Core.Bool.{Bool, true, false, cond}
 use mathlib.Core.List.{List}
 use Prim.Native.Nat.{ℕ, _+_}
@@ -22,10 +22,14 @@ use Rattle.table.specs.Forms.{Stage, on, end}
 use Rattle.host.specs.Settings.{foundFor}
 use Rattle.host.specs.State.{hostCount, broadcast, linkOf, withLink}
 use Rattle.host.specs.Lent.{Host, host}
+use Rattle.host.specs.Guard.{done}
+use Rattle.host.specs.declared.Reply.{Reply}
 use Rattle.host.specs.Reply.{plainly}
 use Rattle.arrival.specs.declared.Flight.{Flight}
 use Rattle.arrival.specs.declared.Arrived.{Arrived}
-use Rattle.arrival.specs.Inspection.{inspect}
+use Rattle.arrival.specs.declared.Delivery.{Delivery}
+use Rattle.arrival.specs.declared.Delivery.the-variants.{Inspect, Act, Receive}
+use Rattle.arrival.specs.Inspection.{inspect, tells}
 use Rattle.arrival.specs.Steps.{steps2to4, neighborUpdate}
 
 -- no updates: the clock stays
@@ -43,9 +47,12 @@ noUpdates c =
       table = false;
     }
 
--- an answer; the entries stay
+-- a reply; clock, links and entries stay
+abbrev pub quiet : Reply → Host → Arrived
+quiet r h = record { reply = r; links = h .links; work = noUpdates (h .clock) }
+
 abbrev pub ends : Answer → Host → Arrived
-ends a h = record { reply = plainly a; links = h .links; work = noUpdates (h .clock) }
+ends a h = quiet (plainly a) h
 
 -- so many ids from one on are updated, each with its report added where the packet has a table
 abbrev pub updated : Host → Packet → Update → (id count : ℕ) → (table : Bool) → Arrived
@@ -90,10 +97,31 @@ action h i p =
     concluded (host (h .settings) (r .clock) (h .links)) i p
     (steps2to4 (broadcast (h .settings) i) (r .clock .hold) p (r .time) (linkOf (h .links) i))
 
--- answers 3 to 9 by the inspection, 10, 11 and 0 by the action
+-- ---- the three calls
+
+-- "an inspection, which tests for answers 3 to 9 and tells .., changing nothing"
+abbrev pub inspection : (link : ℕ) (packet : List ℕ) → Host → Arrived
+inspection i octets h = quiet (tells (inspect (h .settings) i octets)) h
+
+-- "an action, which carries out steps 2 to 5. .. the action inspects again and takes its own reading": answers 3 to 9, then 10, 11 and 0
 abbrev pub inspected : Host → (link : ℕ) → Parsed → Arrived
 inspected h i (Bad a) = ends a h
 inspected h i (Good p) = action h i p
 
+abbrev pub act : (link : ℕ) (packet : List ℕ) → Host → Arrived
+act i octets h = inspected h i (inspect (h .settings) i octets)
+
+-- "The one-piece arrival remains and equals the two in direct succession."
 abbrev pub arrival : (link : ℕ) (packet : List ℕ) → Host → Arrived
-arrival i octets h = inspected h i (inspect (h .settings) i octets)
+arrival i octets h = cond (done (inspection i octets h .reply .answer)) (act i octets h) (inspection i octets h)
+
+abbrev pub delivered : Delivery → (packet : List ℕ) → Host → Arrived
+delivered (Inspect i) octets h = inspection i octets h
+delivered (Act i) octets h = act i octets h
+delivered (Receive i) octets h = arrival i octets h
+
+-- the link that a packet arrives on
+abbrev pub onLink : Delivery → ℕ
+onLink (Inspect i) = i
+onLink (Act i) = i
+onLink (Receive i) = i

@@ -3,6 +3,7 @@ use mathlib.Core.Bool.{Bool, cond, not, _&&_, _||_}
 use mathlib.Core.List.{List}
 use Prim.Native.Nat.{ℕ}
 use lib.Dec.{eqb}
+use Rattle.quantity.specs.Words.{bits16}
 use Rattle.answer.specs.declared.Answer.the-variants.{OtherLayout, LoopedLine}
 use Rattle.wire.specs.declared.Packet.{Packet}
 use Rattle.wire.specs.declared.Parsed.{Parsed}
@@ -11,6 +12,8 @@ use Rattle.wire.specs.Octets.{sameAddress}
 use Rattle.wire.specs.Packet.{parse}
 use Rattle.host.specs.declared.Settings.{Settings}
 use Rattle.host.specs.State.{broadcast}
+use Rattle.host.specs.declared.Reply.{Reply}
+use Rattle.host.specs.Reply.{plainly, tellsPacket}
 
 -- "If NHOSTS isn't 0, it and ADDRESS-OFFSET must equal ours, else 8."
 unfoldable pub otherLayout : Settings → Packet → Bool
@@ -28,3 +31,8 @@ inspected s i (Good p) = cond (otherLayout s p) (Bad OtherLayout) (cond (looped 
 
 unfoldable pub inspect : Settings → (link : ℕ) → (packet : List ℕ) → Parsed
 inspect s i octets = inspected s i (parse octets)
+
+-- ".. and tells source, time, TSP and host count (zeros if refused)"
+abbrev pub tells : Parsed → Reply
+tells (Bad a) = plainly a
+tells (Good p) = tellsPacket (p .source) (p .time) (bits16 (p .tsp .0)) (p .nhosts)

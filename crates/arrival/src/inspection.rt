@@ -3,10 +3,13 @@ ghost use mathlib.Core.Path.{_≡_};
 ghost use Prim.Native.Nat.{_≤_};
 ghost use Rattle.wire.specs.declared.Parsed.the-variants.{Good};
 ghost use Rattle.wire.specs.code.Ranges.{Four, TimeFits};
-ghost use Rattle.arrival.specs.Inspection.{otherLayout, looped, inspected, inspect};
+ghost use Rattle.arrival.specs.Inspection.{otherLayout, looped, inspected, inspect, tells};
 use answer::Answer;
+use host::Reply;
 use host::Settings;
 use host::link_state::broadcast;
+use host::replies::plainly;
+use host::replies::tells_packet;
 use wire::Packet;
 use wire::Parsed;
 
@@ -58,5 +61,20 @@ pub fn inspect(s: Settings, link: usize, packet: &[u8]) -> Parsed
     match wire::parse(packet) {
         Parsed::Bad(a) => Parsed::Bad(a),
         Parsed::Good(p) => compared(s, link, p),
+    }
+}
+
+// What an inspection tells.
+pub fn tells(q: Parsed) -> Reply
+    ensures { λ r. ⌜ r ≡ tells q ⌝ }
+{
+    match q {
+        Parsed::Bad(a) => plainly(a),
+        Parsed::Good(p) => {
+            let source = p.source;
+            let time = p.time;
+            let tsp = p.tsp;
+            tells_packet(source, time, tsp.bits(), p.nhosts)
+        }
     }
 }

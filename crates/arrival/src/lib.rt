@@ -1,4 +1,4 @@
-// An arrival by value: the inspection, steps 2 to 4, and what step 5 does to the entries.
+// A packet that arrives, by value: the inspection, steps 2 to 4, and what step 5 does to the entries.
 ghost use mathlib.Core.Path.{_≡_};
 ghost use mathlib.Core.Bool.{true};
 ghost use Prim.Native.Nat.{_≤_};
@@ -19,7 +19,10 @@ ghost use Rattle.arrival.specs.Arrival.{
   noTable,
   step5,
   action,
-  arrival,
+  inspection,
+  act,
+  onLink,
+  delivered,
 };
 ghost use Rattle.arrival.specs.code.Plan.{planned};
 use answer::Answer;
@@ -59,7 +62,14 @@ pub enum Step {
     End(Flight),
 }
 
-// What an arrival comes to: the reply, the links afterwards, and the updates of which ids, with the clock that they start from.
+// What is done with a packet that arrives on a link: it is looked at, it is acted on, or both in turn, the arrival in one piece.
+pub enum Delivery {
+    Inspect(usize),
+    Act(usize),
+    Receive(usize),
+}
+
+// What a packet that arrives comes to: the reply, the links afterwards, and the updates of which ids, with the clock that they start from.
 pub struct Arrived {
     pub reply: Reply,
     pub links: Links,
@@ -209,11 +219,24 @@ fn action(s: Settings, c: Clock, l: Links, link: usize, p: Packet) -> Arrived
     }
 }
 
+// The inspection: answers 3 to 9, and what a packet that passes has in it. Nothing changes.
+fn look(s: Settings, c: Clock, l: Links, link: usize, packet: &[u8]) -> Arrived
+    requires { ⌜ (1 ≤ link) × (link ≤ 8) ⌝ }
+    ensures { λ a. ⌜ a ≡ inspection link (now (packet .entry)) (host s c l) ⌝ }
+{
+    let p = inspection::inspect(s, link, packet);
+    Arrived {
+        reply: inspection::tells(p),
+        links: l,
+        work: no_updates(c),
+    }
+}
+
 // Answers 3 to 9 by the inspection, then the action.
-fn arrival(s: Settings, c: Clock, l: Links, link: usize, packet: &[u8]) -> Arrived
+fn act(s: Settings, c: Clock, l: Links, link: usize, packet: &[u8]) -> Arrived
     requires { ⌜ (1 ≤ link) × (link ≤ 8) ⌝ }
     requires { ⌜ (settingsGood s ≡ true) × (clockInRange c ≡ true) ⌝ }
-    ensures { λ a. ⌜ a ≡ arrival link (now (packet .entry)) (host s c l) ⌝ }
+    ensures { λ a. ⌜ a ≡ act link (now (packet .entry)) (host s c l) ⌝ }
 {
     match inspection::inspect(s, link, packet) {
         Parsed::Bad(a) => ends(a, s, c, l),
@@ -221,13 +244,36 @@ fn arrival(s: Settings, c: Clock, l: Links, link: usize, packet: &[u8]) -> Arriv
     }
 }
 
-// A refusal of the guard's, or the arrival.
-pub fn plan(g: Answer, s: Settings, c: Clock, l: Links, link: usize, packet: &[u8]) -> Arrived
-    requires { ⌜ Told g (OnLink link) s c ⌝ }
-    ensures { λ p. ⌜ p ≡ planned g link (now (packet .entry)) (host s c l) ⌝ }
+pub fn on_link(d: Delivery) -> usize
+    ensures { λ i. ⌜ i ≡ onLink d ⌝ }
+{
+    match d {
+        Delivery::Inspect(i) => i,
+        Delivery::Act(i) => i,
+        Delivery::Receive(i) => i,
+    }
+}
+
+// The arrival in one piece is what the action alone comes to, since that inspects too.
+fn deliver(s: Settings, c: Clock, l: Links, d: Delivery, packet: &[u8]) -> Arrived
+    requires { ⌜ (1 ≤ onLink d) × (onLink d ≤ 8) ⌝ }
+    requires { ⌜ (settingsGood s ≡ true) × (clockInRange c ≡ true) ⌝ }
+    ensures { λ a. ⌜ a ≡ delivered d (now (packet .entry)) (host s c l) ⌝ }
+{
+    match d {
+        Delivery::Inspect(i) => look(s, c, l, i, packet),
+        Delivery::Act(i) => act(s, c, l, i, packet),
+        Delivery::Receive(i) => act(s, c, l, i, packet),
+    }
+}
+
+// A refusal of the guard's, or what the delivery comes to.
+pub fn plan(g: Answer, s: Settings, c: Clock, l: Links, d: Delivery, packet: &[u8]) -> Arrived
+    requires { ⌜ Told g (OnLink (onLink d)) s c ⌝ }
+    ensures { λ p. ⌜ p ≡ planned g d (now (packet .entry)) (host s c l) ⌝ }
 {
     if !answer::is_done(g) {
         return ends(g, s, c, l);
     }
-    arrival(s, c, l, link, packet)
+    deliver(s, c, l, d, packet)
 }

@@ -17,22 +17,34 @@ use Rattle.host.specs.declared.Reply.{Reply}
 use Rattle.host.specs.declared.guard.Scope.{Scope}
 use Rattle.host.specs.declared.guard.Scope.the-variants.{OnLink}
 use Rattle.host.specs.State.{withEntries}
-use Rattle.host.specs.Lent.{Lent, entriesOf}
+use Rattle.host.specs.Lent.{Lent, lent, entriesOf}
 use Rattle.host.specs.Guard.{guard, done}
 use Rattle.host.specs.Reply.{plainly}
 use Rattle.sending.specs.declared.Sending.{Sending}
 use Rattle.sending.specs.Send.{sendIn, written}
 use Rattle.arrival.specs.declared.Arrived.{Arrived}
-use Rattle.arrival.specs.Arrival.{arrival}
+use Rattle.arrival.specs.declared.Delivery.{Delivery}
+use Rattle.arrival.specs.declared.Delivery.the-variants.{Inspect, Act, Receive}
+use Rattle.arrival.specs.Arrival.{onLink, delivered}
 use Rattle.calls.specs.declared.Effect.{Effect}
 use Rattle.calls.specs.declared.Request.{Request}
 use Rattle.calls.specs.Effects.{scopeOf, wanted, effect}
 
--- a call with its input: a request, a send on a link into a buffer, a packet that arrives on a link
+-- a call with its input: a request, a send on a link into a buffer, a packet that arrives and what is done with it
 pub data Call : Type 0 where
   ask : Request → Call
   send : (link : ℕ) (buffer : List ℕ) → Call
-  receive : (link : ℕ) (packet : List ℕ) → Call
+  deliver : Delivery → (packet : List ℕ) → Call
+
+-- the inspection, the action, and the arrival in one piece
+abbrev pub inspect : (link : ℕ) (packet : List ℕ) → Call
+inspect i packet = deliver (Inspect i) packet
+
+abbrev pub act : (link : ℕ) (packet : List ℕ) → Call
+act i packet = deliver (Act i) packet
+
+abbrev pub receive : (link : ℕ) (packet : List ℕ) → Call
+receive i packet = deliver (Receive i) packet
 
 -- the reply, and everything that was lent, as it is afterwards; a call that is lent no buffer leaves none
 pub record Outcome : Type 0 where
@@ -47,12 +59,12 @@ pub record Outcome : Type 0 where
 abbrev pub scopeOfCall : Call → Scope
 scopeOfCall (ask q) = scopeOf q
 scopeOfCall (send i buffer) = OnLink i
-scopeOfCall (receive i packet) = OnLink i
+scopeOfCall (deliver d packet) = OnLink (onLink d)
 
 abbrev pub bufferOf : Call → List ℕ
 bufferOf (ask q) = []
 bufferOf (send i buffer) = buffer
-bufferOf (receive i packet) = []
+bufferOf (deliver d packet) = []
 
 -- a refusal changes nothing
 abbrev pub refused : Answer → Call → Lent → Outcome
@@ -85,13 +97,23 @@ updatedBy e octets x =
 abbrev pub work : Call → Lent → Outcome
 work (ask q) x = carriedOut (effect q (x .host) (entryAt (wanted q (x .host .settings)) x)) x
 work (send i buffer) x = sentBy (sendIn i (length buffer) (x .host)) buffer x
-work (receive i packet) x = updatedBy (arrival i packet (x .host)) packet x
+work (deliver d packet) x = updatedBy (delivered d packet (x .host)) packet x
 
 -- ---- the call
 
 unfoldable pub perform : Call → Lent → Outcome
 perform call x =
     cond (not (done (guard (scopeOfCall call) x))) (refused (guard (scopeOfCall call) x) call x) (work call x)
+
+-- what a call leaves, as it may be lent again
+abbrev pub left : Lent → Outcome → Lent
+left x o = lent (x .host .settings) (x .number) (o .clock) (o .links) (o .run)
+
+-- the inspection and, where it answers 0, the action: how a program takes a packet
+abbrev pub inTurn : (link : ℕ) (packet : List ℕ) → Lent → Outcome
+inTurn i packet x =
+    let o : Outcome = perform (inspect i packet) x in
+    cond (done (o .reply .answer)) (perform (act i packet) (left x o)) o
 
 -- an outcome as a caller sees it, but for a buffer
 pub record Leaves (o : Outcome) (r : Reply) (c : Clock) (l : Links) (es : List Entry) : Type 0 where

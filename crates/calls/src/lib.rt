@@ -2,7 +2,9 @@
 ghost use mathlib.Core.Path.{_≡_};
 ghost use Rattle.host.specs.declared.guard.Scope.the-variants.{OnLink};
 ghost use Rattle.host.specs.Lent.{lent};
-ghost use Rattle.calls.specs.Perform.{perform, Leaves, ask, send, receive};
+ghost use Rattle.calls.specs.Perform.{perform, Leaves, ask, send, deliver};
+ghost use Rattle.arrival.specs.Arrival.{onLink};
+use arrival::Delivery;
 use clock::Clock;
 use host::Links;
 use host::Reply;
@@ -101,24 +103,30 @@ pub fn send(
     p.reply
 }
 
-// A packet that arrives on a link.
-pub fn receive(
+fn on_its_link(delivery: Delivery) -> Scope
+    ensures { λ r. ⌜ r ≡ OnLink (onLink delivery) ⌝ }
+{
+    Scope::OnLink(arrival::on_link(delivery))
+}
+
+// A packet that arrives on a link: it is inspected, acted on, or received, which is both in turn.
+pub fn deliver(
     settings: &Settings,
     number: usize,
     clock: &mut Clock,
     links: &mut Links,
     run: &mut [Entry],
-    link: usize,
+    delivery: Delivery,
     packet: &[u8],
 ) -> Reply
-    ensures { λ r. ⌜ Leaves (perform (receive link (now (packet .entry))) (lent (now (settings .entry)) number (now (clock .entry)) (now (links .entry)) (now (run .entry)))) r (now (clock .exit)) (now (links .exit)) (now (run .exit)) ⌝ }
+    ensures { λ r. ⌜ Leaves (perform (deliver delivery (now (packet .entry))) (lent (now (settings .entry)) number (now (clock .entry)) (now (links .entry)) (now (run .entry)))) r (now (clock .exit)) (now (links .exit)) (now (run .exit)) ⌝ }
 {
     let s = *settings;
     let c = *clock;
     let l = *links;
-    let a = on_link(link);
+    let a = on_its_link(delivery);
     let g = guard(settings, number, c, l, a, run);
-    let p = arrival::plan(g, s, c, l, link, packet);
+    let p = arrival::plan(g, s, c, l, delivery, packet);
     let w = places::updates_at(number, p.work);
     let k = update_all(run, w, packet);
     *clock = k;

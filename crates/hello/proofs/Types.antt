@@ -8,6 +8,8 @@ use Rattle.hello.proofs.Route as Route
 use Rattle.hello.proofs.Route.Laws as Route′
 use Rattle.hello.proofs.Time as Time
 use Rattle.hello.proofs.Time.Laws as Time′
+use Rattle.hello.proofs.Inspected as Inspected
+use Rattle.hello.proofs.Inspected.Laws as Inspected′
 
 abbrev pub address : Data
 address = record { S = Address.the-type; L = Address′.the-laws; P = Address′.the-plain; low = Address′.lowers; copies = Address′.the-copy }
@@ -20,3 +22,6 @@ route = record { S = Route.the-type; L = Route′.the-laws; P = Route′.the-pla
 
 abbrev pub time : Data
 time = record { S = Time.the-type; L = Time′.the-laws; P = Time′.the-plain; low = Time′.lowers; copies = Time′.the-copy }
+
+abbrev pub inspected : Data
+inspected = record { S = Inspected.the-type; L = Inspected′.the-laws; P = Inspected′.the-plain; low = Inspected′.lowers; copies = Inspected′.the-copy }

@@ -11,6 +11,7 @@ use Rattle.calls.specs.Perform.{Outcome}
 use Rattle.hello.specs.declared.Sent.{Sent}
 use Rattle.hello.specs.declared.Route.{Route}
 use Rattle.hello.specs.declared.Time.{Time}
+use Rattle.hello.specs.declared.Inspected.{Inspected}
 
 abbrev pub numbered : Reply → ℕ
 numbered r = number (r .answer)
@@ -23,6 +24,10 @@ sentTold r = record { answer = number (r .answer); length = r .length }
 
 abbrev pub routeTold : Reply → Route
 routeTold r = record { answer = number (r .answer); id = r .id; pid = r .pid }
+
+abbrev pub inspectedTold : Reply → Inspected
+inspectedTold r =
+    record { answer = number (r .answer); source = r .source; time = r .time; tsp = r .tsp; nhosts = r .nhosts }
 
 -- an outcome as a program sees it, but for a buffer: of the reply it is told a part
 pub record Returns {R : Type 0} (told : Reply → R) (o : Outcome) (r : R) (c : Clock) (l : Links) (es : List Entry) : Type 0 where

@@ -1,4 +1,4 @@
-// The library for programs in C, Rust and Python: the ten calls, with the answer as its number.
+// The library for programs in C, Rust and Python: the calls of a host, with the answer as its number.
 ghost use mathlib.Core.Path.{_≡_};
 ghost use Rattle.checksum.specs.Checksum.{checksumOf};
 ghost use Rattle.host.specs.Lent.{lent};
@@ -12,9 +12,18 @@ ghost use Rattle.calls.specs.declared.Request.the-variants.{
   SelfReport,
   Lookup,
 };
-ghost use Rattle.calls.specs.Perform.{perform, ask, send, receive};
+ghost use Rattle.arrival.specs.declared.Delivery.the-variants.{Inspect, Act, Receive};
+ghost use Rattle.calls.specs.Perform.{perform, ask, send, inspect, act, receive};
 ghost use Rattle.program.specs.Program.{programAnswer};
-ghost use Rattle.hello.specs.Told.{numbered, timeTold, sentTold, routeTold, Returns};
+ghost use Rattle.hello.specs.Told.{
+  numbered,
+  timeTold,
+  sentTold,
+  routeTold,
+  inspectedTold,
+  Returns,
+};
+use arrival::Delivery;
 use calls::Request;
 use clock::Clock;
 use host::Links;
@@ -49,6 +58,16 @@ pub struct Time {
     pub answer: u8,
     pub time: quantity::Millis,
     pub date: calendar::Date,
+}
+
+// What an inspection answers: the number of the answer, and of a packet that passes its source, time, TSP (as an unsigned number) and NHOSTS.
+#[repr(C)]
+pub struct Inspected {
+    pub answer: u8,
+    pub source: Address,
+    pub time: quantity::Millis,
+    pub tsp: u16,
+    pub nhosts: u8,
 }
 
 // ---- what a reply tells
@@ -91,6 +110,21 @@ fn route_told(t: Reply) -> Route
         answer: answer::number(a),
         id: t.id,
         pid: t.pid,
+    }
+}
+
+fn inspected_told(t: Reply) -> Inspected
+    ensures { λ r. ⌜ r ≡ inspectedTold t ⌝ }
+{
+    let a = t.answer;
+    let source = t.source;
+    let time = t.time;
+    Inspected {
+        answer: answer::number(a),
+        source: source,
+        time: time,
+        tsp: t.tsp,
+        nhosts: t.nhosts,
     }
 }
 
@@ -142,6 +176,24 @@ fn asks_lookup(address: Address) -> Request
     ensures { λ q. ⌜ q ≡ Lookup address ⌝ }
 {
     Request::Lookup(address)
+}
+
+fn inspects(link: usize) -> Delivery
+    ensures { λ d. ⌜ d ≡ Inspect link ⌝ }
+{
+    Delivery::Inspect(link)
+}
+
+fn acts(link: usize) -> Delivery
+    ensures { λ d. ⌜ d ≡ Act link ⌝ }
+{
+    Delivery::Act(link)
+}
+
+fn receives(link: usize) -> Delivery
+    ensures { λ d. ⌜ d ≡ Receive link ⌝ }
+{
+    Delivery::Receive(link)
 }
 
 // ---- the calls
@@ -293,7 +345,43 @@ pub extern "C" fn hello_send(
     sent_told(a)
 }
 
-// A packet that arrives on a link.
+// A packet that arrives on a link is looked at; nothing changes.
+#[no_mangle]
+pub extern "C" fn hello_inspect(
+    settings: &Settings,
+    number: usize,
+    clock: &mut Clock,
+    links: &mut Links,
+    run: &mut [Entry],
+    link: usize,
+    packet: &[u8],
+) -> Inspected
+    ensures { λ r. ⌜ Returns inspectedTold (perform (inspect link (now (packet .entry))) (lent (now (settings .entry)) number (now (clock .entry)) (now (links .entry)) (now (run .entry)))) r (now (clock .exit)) (now (links .exit)) (now (run .exit)) ⌝ }
+{
+    let d = inspects(link);
+    let a = calls::deliver(settings, number, clock, links, run, d, packet);
+    inspected_told(a)
+}
+
+// A packet that arrives on a link is acted on.
+#[no_mangle]
+pub extern "C" fn hello_act(
+    settings: &Settings,
+    number: usize,
+    clock: &mut Clock,
+    links: &mut Links,
+    run: &mut [Entry],
+    link: usize,
+    packet: &[u8],
+) -> u8
+    ensures { λ r. ⌜ Returns numbered (perform (act link (now (packet .entry))) (lent (now (settings .entry)) number (now (clock .entry)) (now (links .entry)) (now (run .entry)))) r (now (clock .exit)) (now (links .exit)) (now (run .exit)) ⌝ }
+{
+    let d = acts(link);
+    let a = calls::deliver(settings, number, clock, links, run, d, packet);
+    numbered(a)
+}
+
+// A packet that arrives on a link, in one piece: it is looked at and, if that is answered 0, acted on.
 #[no_mangle]
 pub extern "C" fn hello_receive(
     settings: &Settings,
@@ -306,7 +394,8 @@ pub extern "C" fn hello_receive(
 ) -> u8
     ensures { λ r. ⌜ Returns numbered (perform (receive link (now (packet .entry))) (lent (now (settings .entry)) number (now (clock .entry)) (now (links .entry)) (now (run .entry)))) r (now (clock .exit)) (now (links .exit)) (now (run .exit)) ⌝ }
 {
-    let a = calls::receive(settings, number, clock, links, run, link, packet);
+    let d = receives(link);
+    let a = calls::deliver(settings, number, clock, links, run, d, packet);
     numbered(a)
 }
 

@@ -1,4 +1,4 @@
--- What a call answers: "A send answers its length, a lookup its host id and PID, a read its time and DATE; every refusal answers zero for them."
+-- What a call answers: "A send answers its length, a lookup its host id and PID, a read its time and DATE; every refusal answers zero for them." An inspection "tells source, time, TSP and host count (zeros if refused)".
 use Prim.Native.Nat.{ℕ}
 use lib.IntN.{pos}
 use Rattle.quantity.specs.declared.Millis.{Millis}
@@ -6,16 +6,77 @@ use Rattle.quantity.specs.Quantity.{millis}
 use Rattle.calendar.specs.declared.Date.{Date}
 use Rattle.answer.specs.declared.Answer.{Answer}
 use Rattle.answer.specs.declared.Answer.the-variants.{Done}
+use Rattle.wire.specs.declared.Address.{Address}
+use Rattle.wire.specs.Octets.{zeroAddress}
 use Rattle.host.specs.declared.Reply.{Reply}
 
 abbrev pub plainly : Answer → Reply
-plainly a = record { answer = a; length = 0; id = 0; pid = 0; time = millis (pos 0); date = record { 0 = 0 } }
+plainly a =
+    record {
+      answer = a;
+      length = 0;
+      id = 0;
+      pid = 0;
+      time = millis (pos 0);
+      date = record { 0 = 0 };
+      source = zeroAddress;
+      tsp = 0;
+      nhosts = 0;
+    }
 
 abbrev pub tellsLength : ℕ → Reply
-tellsLength n = record { answer = Done; length = n; id = 0; pid = 0; time = millis (pos 0); date = record { 0 = 0 } }
+tellsLength n =
+    record {
+      answer = Done;
+      length = n;
+      id = 0;
+      pid = 0;
+      time = millis (pos 0);
+      date = record { 0 = 0 };
+      source = zeroAddress;
+      tsp = 0;
+      nhosts = 0;
+    }
 
 abbrev pub tellsRoute : (id pid : ℕ) → Reply
-tellsRoute i p = record { answer = Done; length = 0; id = i; pid = p; time = millis (pos 0); date = record { 0 = 0 } }
+tellsRoute i p =
+    record {
+      answer = Done;
+      length = 0;
+      id = i;
+      pid = p;
+      time = millis (pos 0);
+      date = record { 0 = 0 };
+      source = zeroAddress;
+      tsp = 0;
+      nhosts = 0;
+    }
 
 abbrev pub tellsTime : Millis → Date → Reply
-tellsTime t d = record { answer = Done; length = 0; id = 0; pid = 0; time = t; date = d }
+tellsTime t d =
+    record {
+      answer = Done;
+      length = 0;
+      id = 0;
+      pid = 0;
+      time = t;
+      date = d;
+      source = zeroAddress;
+      tsp = 0;
+      nhosts = 0;
+    }
+
+-- TSP as the unsigned 16-bit word
+abbrev pub tellsPacket : (source : Address) → Millis → (tsp nhosts : ℕ) → Reply
+tellsPacket a t v n =
+    record {
+      answer = Done;
+      length = 0;
+      id = 0;
+      pid = 0;
+      time = t;
+      date = record { 0 = 0 };
+      source = a;
+      tsp = v;
+      nhosts = n;
+    }

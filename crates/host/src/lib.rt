@@ -57,7 +57,7 @@ pub struct Links {
     pub all: [Link; 8],
 }
 
-// The answer of a call and its values: a send tells the length of its message, a lookup the host id and PID of the route, a read the time and DATE.
+// The answer of a call and its values: a send tells the length of its message, a lookup the host id and PID of the route, a read the time and DATE, an inspection the packet's source, time, TSP and NHOSTS.
 pub struct Reply {
     pub answer: answer::Answer,
     pub length: usize,
@@ -65,6 +65,9 @@ pub struct Reply {
     pub pid: u8,
     pub time: quantity::Millis,
     pub date: calendar::Date,
+    pub source: wire::Address,
+    pub tsp: u16,
+    pub nhosts: u8,
 }
 
 // The most hosts, and the most seconds of HOLD-INTERVAL.

@@ -1,10 +1,11 @@
 // The replies of calls.
 ghost use mathlib.Core.Path.{_≡_};
-ghost use Rattle.host.specs.Reply.{plainly, tellsLength, tellsRoute, tellsTime};
+ghost use Rattle.host.specs.Reply.{plainly, tellsLength, tellsRoute, tellsTime, tellsPacket};
 use super::Reply;
 use answer::Answer;
 use calendar::Date;
 use quantity::Millis;
+use wire::Address;
 
 // An answer without values.
 pub fn plainly(a: Answer) -> Reply
@@ -17,6 +18,9 @@ pub fn plainly(a: Answer) -> Reply
         pid: 0,
         time: Millis(0),
         date: Date(0),
+        source: Address::ZERO,
+        tsp: 0,
+        nhosts: 0,
     }
 }
 
@@ -31,6 +35,9 @@ pub fn tells_length(n: usize) -> Reply
         pid: 0,
         time: Millis(0),
         date: Date(0),
+        source: Address::ZERO,
+        tsp: 0,
+        nhosts: 0,
     }
 }
 
@@ -45,6 +52,9 @@ pub fn tells_route(id: usize, pid: u8) -> Reply
         pid: pid,
         time: Millis(0),
         date: Date(0),
+        source: Address::ZERO,
+        tsp: 0,
+        nhosts: 0,
     }
 }
 
@@ -59,5 +69,25 @@ pub fn tells_time(time: Millis, date: Date) -> Reply
         pid: 0,
         time: time,
         date: date,
+        source: Address::ZERO,
+        tsp: 0,
+        nhosts: 0,
+    }
+}
+
+// What an inspection tells of a packet.
+pub fn tells_packet(source: Address, time: Millis, tsp: u16, nhosts: u8) -> Reply
+    ensures { λ r. ⌜ r ≡ tellsPacket source time tsp nhosts ⌝ }
+{
+    Reply {
+        answer: Answer::Done,
+        length: 0,
+        id: 0,
+        pid: 0,
+        time: time,
+        date: Date(0),
+        source: source,
+        tsp: tsp,
+        nhosts: nhosts,
     }
 }

@@ -1,4 +1,4 @@
--- The ways that an arrival can go: refused by the inspection; ended by step 4; or through step 4, by the table or without one.
+-- The ways that a packet which arrives can go: refused by the inspection; told of by it; ended by step 4; or through step 4, by the table or without one.
 use mathlib.Core.Path.{_≡_, refl}
 use mathlib.Core.Bool.{Bool, true, false, cond}
 use mathlib.Core.List.{List, [], _∷_}
@@ -23,10 +23,13 @@ use Rattle.host.specs.State.{keepAliveInterval, hostCount, broadcast, linkOf, w
 use Rattle.host.specs.Lent.{Host, host}
 use Rattle.arrival.specs.declared.Flight.{Flight}
 use Rattle.arrival.specs.declared.Arrived.{Arrived}
-use Rattle.arrival.specs.Inspection.{inspect}
+use Rattle.arrival.specs.declared.Delivery.{Delivery}
+use Rattle.arrival.specs.declared.Delivery.the-variants.{Inspect, Act, Receive}
+use Rattle.arrival.specs.Inspection.{inspect, tells}
 use Rattle.arrival.specs.Steps.{step2, step3, measured, newNeighbor, neighborUpdate}
-use Rattle.arrival.specs.Arrival.{ends, updated, noTable, withTable, step5, concluded, action, inspected, arrival}
+use Rattle.arrival.specs.Arrival.{quiet, ends, updated, noTable, withTable, step5, concluded, action, inspected, act, onLink, delivered}
 use Rattle.arrival.proofs.Flights.{steps-cases}
+use Rattle.arrival.proofs.Pair.{one-piece}
 
 -- ---- addresses
 
@@ -62,9 +65,10 @@ module _ (i : ℕ) (h : Host) where
   storing f = host (h .settings) (reading (h .clock) .clock) (withLink i (f .link) (h .links))
 
   module _ (P : Arrived → Type 0) where
-    -- the ways that an arrival which passed the guard can go
+    -- the ways that a packet which passed the guard can go
     pub record Ways : Type 0 where
       pub refuses : (a : Answer) → P (ends a h)
+      pub looks : (p : Packet) → P (quiet (tells (Good p)) h)
       pub ended : (f : Flight) → Flown (h .clock) f → f .link .neighbor ≡ linkOf (h .links) i .neighbor → P (ends DelayNotValid (storing f))
       pub unknown : (f : Flight) → Flown (h .clock) f → P (ends NoHost (storing f))
       pub one : (p : Packet) (f : Flight) (id : ℕ) → Flown (h .clock) f → P (updated (storing f) p (neighborUpdate i f) id 1 false)
@@ -90,9 +94,18 @@ module _ (i : ℕ) (h : Host) where
           (λ b n z. ways .ended _ (flown (broadcast (h .settings) i) p (h .clock) (linkOf (h .links) i)) refl)
           (λ b n z. fifth p _ (flown (broadcast (h .settings) i) p (h .clock) (linkOf (h .links) i)))
 
-      pub arrival-ways : (octets : List ℕ) → P (arrival i octets h)
-      arrival-ways octets = go (inspect (h .settings) i octets)
+      looked : (q : Parsed) → P (quiet (tells q) h)
+      looked (Bad a) = ways .refuses a
+      looked (Good p) = ways .looks p
+
+      act-ways : (octets : List ℕ) → P (act i octets h)
+      act-ways octets = go (inspect (h .settings) i octets)
         where
           go : (q : Parsed) → P (inspected h i q)
           go (Bad a) = ways .refuses a
           go (Good p) = acted p
+
+pub delivery-ways : (d : Delivery) (h : Host) (P : Arrived → Type 0) → Ways (onLink d) h P → (octets : List ℕ) → P (delivered d octets h)
+delivery-ways (Inspect i) h P ways octets = looked i h P ways (inspect (h .settings) i octets)
+delivery-ways (Act i) h P ways octets = act-ways i h P ways octets
+delivery-ways (Receive i) h P ways octets = rw (one-piece i octets h) (act-ways i h P ways octets)

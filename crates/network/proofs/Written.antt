@@ -18,7 +18,7 @@ use Rattle.host.specs.State.{firstPlace, hostCount, entries, withEntries}
 use Rattle.host.specs.Lent.{Host, Lent, entriesOf}
 use Rattle.host.specs.Reply.{plainly}
 use Rattle.host.proofs.Places.{Holds, entries-length, withEntries-length, withEntries-front, withEntries-behind, entries-withEntries}
-use Rattle.arrival.specs.Arrival.{ends}
+use Rattle.arrival.specs.Arrival.{quiet, ends}
 use Rattle.calls.specs.Effects.{answers}
 use Rattle.calls.specs.Perform.{Outcome, carriedOut, updatedBy}
 use Rattle.network.specs.Frame.{Kept}
@@ -65,7 +65,10 @@ module _ (x : Lent) (there : Holds (x .number) (x .run)) where
   unfolding changes
   answered r c l = ap (λ run. record { reply = r; clock = c; links = l; run = run; buffer = [] }) (rw (over-nothing 0 (entriesOf x)) (unwritten x there))
 
-  pub ended : (a : Answer) (h : Host) (octets : List ℕ) → updatedBy (ends a h) octets x ≡ leaving (plainly a) (h .clock) (h .links)
+  pub quieted : (r : Reply) (h : Host) (octets : List ℕ) → updatedBy (quiet r h) octets x ≡ leaving r (h .clock) (h .links)
   unfolding updates sweep
-  ended a h octets =
-      ap (λ run. record { reply = plainly a; clock = h .clock; links = h .links; run = run; buffer = [] }) (rw (over-nothing 0 (entriesOf x)) (unwritten x there))
+  quieted r h octets =
+      ap (λ run. record { reply = r; clock = h .clock; links = h .links; run = run; buffer = [] }) (rw (over-nothing 0 (entriesOf x)) (unwritten x there))
+
+  pub ended : (a : Answer) (h : Host) (octets : List ℕ) → updatedBy (ends a h) octets x ≡ leaving (plainly a) (h .clock) (h .links)
+  ended a h octets = quieted (plainly a) h octets

@@ -2,7 +2,7 @@
 -- For each call, its answers with their conditions, in that order; the call gives the first whose condition holds, and 0 where none does.
 use mathlib.Core.Path.{_≡_}
 use mathlib.Core.Bool.{Bool, false, cond, not, _&&_, _||_}
-use mathlib.Core.List.{List, [], _∷_}
+use mathlib.Core.List.{List, [], _∷_, _++_}
 use Prim.Native.Nat.{ℕ}
 use lib.Dec.{ltb, eqb}
 use lib.ListN.{length, getD}
@@ -26,10 +26,12 @@ use Rattle.host.specs.State.{broadcast, linkOf}
 use Rattle.host.specs.Lent.{Host, Lent, entriesOf}
 use Rattle.host.specs.Guard.{outOfRange}
 use Rattle.sending.specs.Send.{reportCount}
+use Rattle.arrival.specs.declared.Delivery.{Delivery}
+use Rattle.arrival.specs.declared.Delivery.the-variants.{Inspect, Act, Receive}
 use Rattle.arrival.specs.Inspection.{otherLayout, looped}
 use Rattle.calls.specs.declared.Request.{Request}
 use Rattle.calls.specs.declared.Request.the-variants.{Initialize, Tick, Adjust, Set, Read, Second, SelfReport, Lookup}
-use Rattle.calls.specs.Perform.{Call, ask, send, receive, scopeOfCall, perform}
+use Rattle.calls.specs.Perform.{Call, ask, send, deliver, scopeOfCall, perform}
 
 -- an answer and its condition
 pub record Test : Type 0 where
@@ -83,8 +85,8 @@ abbrev pub sendTests : (link : ℕ) (buffer : List ℕ) → Host → List Test
 sendTests i buffer h =
     on ShortBuffer (ltb (length buffer) (packetLength (reportCount (h .settings) (linkOf (h .links) i)))) ∷ []
 
-abbrev pub arrivalTests : (link : ℕ) (octets : List ℕ) → Host → List Test
-arrivalTests i octets h =
+abbrev pub inspectionTests : (link : ℕ) (octets : List ℕ) → Host → List Test
+inspectionTests i octets h =
     on IpForm (not (ipForm octets))
     ∷ on IpChecksum (not (ipChecksum octets))
     ∷ on Protocol (not (protocol octets))
@@ -92,14 +94,25 @@ arrivalTests i octets h =
     ∷ on HelloChecksum (not (helloChecksum (helloOf octets)))
     ∷ on OtherLayout (otherLayout (h .settings) (fields octets))
     ∷ on LoopedLine (looped (h .settings) i (fields octets))
-    ∷ on DelayNotValid (delayInvalid h i (fields octets))
+    ∷ []
+
+-- "the action adds 10 and 11"
+abbrev pub actionTests : (link : ℕ) (octets : List ℕ) → Host → List Test
+actionTests i octets h =
+    inspectionTests i octets h
+    ++ on DelayNotValid (delayInvalid h i (fields octets))
     ∷ on NoHost (neighborUnknown h i (fields octets))
     ∷ []
+
+abbrev pub deliveryTests : Delivery → (octets : List ℕ) → Host → List Test
+deliveryTests (Inspect i) octets h = inspectionTests i octets h
+deliveryTests (Act i) octets h = actionTests i octets h
+deliveryTests (Receive i) octets h = actionTests i octets h
 
 abbrev pub ownTests : Call → Lent → List Test
 ownTests (ask q) x = requestTests q x
 ownTests (send i buffer) x = sendTests i buffer (x .host)
-ownTests (receive i packet) x = arrivalTests i packet (x .host)
+ownTests (deliver d packet) x = deliveryTests d packet (x .host)
 
 -- 12, by how much the call tests, and 1
 abbrev pub tests : Call → Lent → List Test

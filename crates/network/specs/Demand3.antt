@@ -17,20 +17,22 @@ use Rattle.table.specs.Entry.{freshEntry, up}
 use Rattle.host.specs.declared.Links.{Links}
 use Rattle.host.specs.Guard.{done}
 use Rattle.calls.specs.declared.Request.the-variants.{Tick, Second, SelfReport}
-use Rattle.calls.specs.Perform.{Call, ask, send, receive, Outcome}
+use Rattle.calls.specs.Perform.{Call, ask, send, inspect, act, receive, Outcome}
 use Rattle.network.specs.Left.{messageOf}
 use Rattle.network.specs.History.{Event, State, Left, leftBy, Lends, outcome, after}
 use Rattle.network.specs.Room.{longestWay, errorParts, delayParts, Room, at, lentAt, afresh, HostAt, Proper}
 
 -- ---- the calls of the list
 
--- "ticks, sends, arrivals, self-reports and seconds"; a send and an arrival have the room's millisecond
+-- "ticks, sends, arrivals, self-reports and seconds"; a send and an arrival have the room's millisecond. An action is an arrival; an inspection may be given any packet.
 pub data RoomCall : Type 0 where
   ticks : RoomCall
   seconds : RoomCall
   reports : RoomCall
   sends : (link : ℕ) (buffer : List ℕ) (ms : ℤ) → RoomCall
   arrives : (link : ℕ) (packet : List ℕ) (ms : ℤ) → RoomCall
+  acts : (link : ℕ) (packet : List ℕ) (ms : ℤ) → RoomCall
+  inspects : (link : ℕ) (packet : List ℕ) → RoomCall
 
 abbrev pub callOf : RoomCall → Call
 callOf ticks = ask Tick
@@ -38,6 +40,8 @@ callOf seconds = ask Second
 callOf reports = ask SelfReport
 callOf (sends i buffer t) = send i buffer
 callOf (arrives i packet t) = receive i packet
+callOf (acts i packet t) = act i packet
+callOf (inspects i packet) = inspect i packet
 
 -- a call at a seat, with the links and the run that it is lent
 pub record Step : Type 0 where
@@ -80,6 +84,8 @@ mailAfter a o reports mail = mail
 mailAfter a o (sends i buffer t) mail =
     cond (done (o .reply .answer)) (record { seat = a; link = i; ms = t; octets = messageOf o } ∷ mail) mail
 mailAfter a o (arrives i packet t) mail = mail
+mailAfter a o (acts i packet t) mail = mail
+mailAfter a o (inspects i packet) mail = mail
 
 unfoldable pub step : Room → World → Step → World
 step r w x =
@@ -122,6 +128,8 @@ Timely r w a o seconds = Unit {0}
 Timely r w a o reports = Unit {0}
 Timely r w a o (sends i buffer t) = o .reply .answer ≡ Done → Reads r w a t
 Timely r w a o (arrives i packet t) = Delivered r w a i packet t (o .reply .answer)
+Timely r w a o (acts i packet t) = Delivered r w a i packet t (o .reply .answer)
+Timely r w a o (inspects i packet) = Unit {0}
 
 pub record Allowed (r : Room) (w : World) (x : Step) : Type 0 where
   pub seat-in : x .seat < r .seats

@@ -1,13 +1,9 @@
--- What a call leaves, as it may be lent again, and what it tells.
+-- What a call tells.
 use mathlib.Core.List.{List}
 use Prim.Native.Nat.{ℕ}
 use lib.ListN.{take}
 use Rattle.host.specs.declared.Reply.{Reply}
-use Rattle.host.specs.Lent.{Lent, lent}
 use Rattle.calls.specs.Perform.{Outcome}
-
-abbrev pub left : Lent → Outcome → Lent
-left x o = lent (x .host .settings) (x .number) (o .clock) (o .links) (o .run)
 
 -- the message of a send: the first n octets of its buffer, n being the length answered
 abbrev pub messageOf : Outcome → List ℕ

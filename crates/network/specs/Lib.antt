@@ -7,6 +7,7 @@ pub mod Range
 pub mod Heard
 pub mod History
 pub mod Isolation
+pub mod Pair
 pub mod HalfDelay
 pub mod Room
 pub mod Demand3

@@ -9,8 +9,8 @@ use Rattle.host.specs.declared.Link.{Link}
 use Rattle.host.specs.declared.Links.{Links}
 use Rattle.host.specs.Settings.{linkCount}
 use Rattle.host.specs.Lent.{Lent, entriesOf}
-use Rattle.calls.specs.Perform.{Call, send, perform}
-use Rattle.network.specs.Left.{left, told}
+use Rattle.calls.specs.Perform.{Call, send, perform, left}
+use Rattle.network.specs.Left.{told}
 
 -- two inputs that count as one: the same, or sends on one link into buffers of one length
 pub data SameInput : Call → Call → Type 0 where

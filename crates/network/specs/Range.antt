@@ -5,8 +5,7 @@ use Rattle.host.specs.declared.guard.Scope.the-variants.{All}
 use Rattle.host.specs.Lent.{Lent}
 use Rattle.host.specs.Guard.{guard}
 use Rattle.calls.specs.declared.Request.the-variants.{Initialize}
-use Rattle.calls.specs.Perform.{Call, ask, perform}
-use Rattle.network.specs.Left.{left}
+use Rattle.calls.specs.Perform.{Call, ask, perform, left}
 
 -- 12 does not refuse the host
 abbrev pub Accepted : Lent → Type 0

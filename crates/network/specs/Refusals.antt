@@ -7,11 +7,13 @@ use Rattle.answer.specs.declared.Answer.the-variants.{Done, DelayNotValid, NoHo
 use Rattle.host.specs.declared.Link.{Link}
 use Rattle.host.specs.State.{linkOf, withLink}
 use Rattle.host.specs.Lent.{Lent, lent}
-use Rattle.calls.specs.Perform.{Call, receive, refused, perform}
+use Rattle.arrival.specs.declared.Delivery.{Delivery}
+use Rattle.arrival.specs.Arrival.{onLink}
+use Rattle.calls.specs.Perform.{Call, deliver, refused, perform}
 
 -- an answer that refuses with no change: any but 0, and at an arrival 10 and 11
 abbrev pub Refuses : Call → Answer → Type 0
-Refuses c a = (a ≡ Done → ⊥) × ((i : ℕ) (octets : List ℕ) → c ≡ receive i octets → (a ≡ DelayNotValid → ⊥) × (a ≡ NoHost → ⊥))
+Refuses c a = (a ≡ Done → ⊥) × ((d : Delivery) (octets : List ℕ) → c ≡ deliver d octets → (a ≡ DelayNotValid → ⊥) × (a ≡ NoHost → ⊥))
 
 -- what was lent, with another link i
 abbrev pub relinked : (link : ℕ) → Link → Lent → Lent
@@ -23,10 +25,10 @@ pub record Refusals : Type 0 where
       (c : Call) (x : Lent) → Refuses c (perform c x .reply .answer) → perform c x ≡ refused (perform c x .reply .answer) c x
   -- 10: "KEEP-ALIVE and TSP only"
   pub delay :
-      (i : ℕ) (octets : List ℕ) (x : Lent) → perform (receive i octets) x .reply .answer ≡ DelayNotValid
-      → (l : Link) × (perform (receive i octets) x ≡ refused DelayNotValid (receive i octets) (relinked i l x))
-      × (l .neighbor ≡ linkOf (x .host .links) i .neighbor)
+      (d : Delivery) (octets : List ℕ) (x : Lent) → perform (deliver d octets) x .reply .answer ≡ DelayNotValid
+      → (l : Link) × (perform (deliver d octets) x ≡ refused DelayNotValid (deliver d octets) (relinked (onLink d) l x))
+      × (l .neighbor ≡ linkOf (x .host .links) (onLink d) .neighbor)
   -- 11 at an arrival: "steps 2 to 4 only", which change the link
   pub unknown :
-      (i : ℕ) (octets : List ℕ) (x : Lent) → perform (receive i octets) x .reply .answer ≡ NoHost
-      → (l : Link) × (perform (receive i octets) x ≡ refused NoHost (receive i octets) (relinked i l x))
+      (d : Delivery) (octets : List ℕ) (x : Lent) → perform (deliver d octets) x .reply .answer ≡ NoHost
+      → (l : Link) × (perform (deliver d octets) x ≡ refused NoHost (deliver d octets) (relinked (onLink d) l x))

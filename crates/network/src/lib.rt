@@ -6,6 +6,7 @@ ghost use Rattle.network.specs.Frame.{Frame};
 ghost use Rattle.network.specs.Locality.{Locality};
 ghost use Rattle.network.specs.Range.{Range};
 ghost use Rattle.network.specs.Isolation.{Isolation, IsolationFromAfresh, Alone};
+ghost use Rattle.network.specs.Pair.{Pair};
 ghost use Rattle.network.specs.HalfDelay.{HelloHalfDelay};
 ghost use Rattle.network.specs.Demand3.{Demand3};
 ghost use Rattle.network.specs.SharedRun.{SharedDemand3};
@@ -55,6 +56,11 @@ pub fn isolation_from_afresh()
 // In one run that all hosts share, deleting every other host's calls changes nothing at a number.
 pub fn alone()
     ensures { λ _. ⌜ Alone ⌝ }
+{}
+
+// The arrival in one piece is the inspection and then the action, whatever comes between them, and so is the action alone.
+pub fn inspect_then_act()
+    ensures { λ _. ⌜ Pair ⌝ }
 {}
 
 // The half-delay law of step 3: DELAY is the sum of the two ways, and twice the error of OFFSET is at most DELAY plus one.

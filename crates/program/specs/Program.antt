@@ -12,9 +12,10 @@ use Rattle.table.specs.Entry.{freshEntry}
 use Rattle.host.specs.declared.Settings.{Settings}
 use Rattle.host.specs.Settings.{clockSettingOff}
 use Rattle.host.specs.State.{unset, freshLinks, placesPerHost}
-use Rattle.host.specs.Lent.{lent}
+use Rattle.host.specs.declared.Reply.{Reply}
+use Rattle.host.specs.Lent.{Lent, lent}
 use Rattle.calls.specs.declared.Request.the-variants.{Initialize}
-use Rattle.calls.specs.Perform.{Outcome, ask, receive, perform}
+use Rattle.calls.specs.Perform.{Outcome, ask, inspect, perform, inTurn}
 
 -- "192.0.2.1, ADDRESS-OFFSET 1, NHOSTS 4, no net rows, clock setting off, time 0, 1 January 1972, the rest at their least"
 abbrev pub programSettings : Settings
@@ -38,7 +39,13 @@ programHost =
     perform (ask Initialize)
     (lent programSettings 0 (freshClock (millis (pos 0)) firstDate) (freshLinks programSettings) (replicate placesPerHost freshEntry))
 
--- the number of its answer to a packet on link 1
+abbrev pub programLent : Lent
+programLent = lent programSettings 0 (programHost .clock) (programHost .links) (programHost .run)
+
+-- the number of its answer to a packet on link 1, which is inspected and then acted on
 unfoldable pub programAnswer : (packet : List ℕ) → ℕ
-programAnswer octets =
-    number (perform (receive 1 octets) (lent programSettings 0 (programHost .clock) (programHost .links) (programHost .run)) .reply .answer)
+programAnswer octets = number (inTurn 1 octets programLent .reply .answer)
+
+-- what it tells of a packet on link 1 that it only looks at
+unfoldable pub programInspection : (packet : List ℕ) → Reply
+programInspection octets = perform (inspect 1 octets) programLent .reply

@@ -1,9 +1,15 @@
 // A host that its holder keeps by value: its requests and arrivals. And what the host of the packet program answers.
 ghost use mathlib.Core.Path.{_≡_};
 ghost use Rattle.host.specs.Lent.{lent};
-ghost use Rattle.calls.specs.Perform.{perform, ask, receive};
+ghost use Rattle.calls.specs.Perform.{perform, ask, deliver, inTurn};
 ghost use Rattle.program.specs.Held.{wholeOf};
-ghost use Rattle.program.specs.Program.{programSettings, programAnswer};
+ghost use Rattle.program.specs.Program.{
+  programSettings,
+  programHost,
+  programAnswer,
+  programInspection,
+};
+use arrival::Delivery;
 use calendar::Date;
 use calls::Request;
 use clock::Clock;
@@ -51,8 +57,33 @@ pub fn call(
     }
 }
 
-// A packet arrives on a link.
-pub fn receive(
+// A packet that arrives on a link, and what is done with it.
+pub fn deliver(
+    settings: host::Settings,
+    number: usize,
+    clock: Clock,
+    links: Links,
+    run: [Entry; 255],
+    delivery: Delivery,
+    packet: &[u8],
+) -> Whole
+    ensures { λ r. ⌜ r ≡ wholeOf (perform (deliver delivery (now (packet .entry))) (lent settings number clock links run)) ⌝ }
+{
+    let s = settings;
+    let mut c = clock;
+    let mut l = links;
+    let mut e = run;
+    let a = calls::deliver(&s, number, &mut c, &mut l, &mut e, delivery, packet);
+    Whole {
+        reply: a,
+        clock: c,
+        links: l,
+        run: e,
+    }
+}
+
+// A packet is inspected and, where that is answered 0, acted on.
+pub fn take(
     settings: host::Settings,
     number: usize,
     clock: Clock,
@@ -61,19 +92,32 @@ pub fn receive(
     link: usize,
     packet: &[u8],
 ) -> Whole
-    ensures { λ r. ⌜ r ≡ wholeOf (perform (receive link (now (packet .entry))) (lent settings number clock links run)) ⌝ }
+    ensures { λ r. ⌜ r ≡ wholeOf (inTurn link (now (packet .entry)) (lent settings number clock links run)) ⌝ }
 {
-    let s = settings;
-    let mut c = clock;
-    let mut l = links;
-    let mut e = run;
-    let a = calls::receive(&s, number, &mut c, &mut l, &mut e, link, packet);
-    Whole {
-        reply: a,
-        clock: c,
-        links: l,
-        run: e,
+    let looked = deliver(
+        settings,
+        number,
+        clock,
+        links,
+        run,
+        Delivery::Inspect(link),
+        packet,
+    );
+    let r = looked.reply;
+    let a = r.answer;
+    if !answer::is_done(a) {
+        return looked;
     }
+    let entries = looked.run;
+    deliver(
+        settings,
+        number,
+        looked.clock,
+        looked.links,
+        entries,
+        Delivery::Act(link),
+        packet,
+    )
 }
 
 // The settings of the packet program's host.
@@ -124,9 +168,9 @@ pub fn settings() -> host::Settings
     }
 }
 
-// The number of the answer of that host, set afresh, to a packet on link 1.
-pub fn answer(packet: &[u8]) -> u8
-    ensures { λ r. ⌜ r ≡ programAnswer (now (packet .entry)) ⌝ }
+// That host, set afresh.
+fn fresh_host() -> Whole
+    ensures { λ r. ⌜ r ≡ wholeOf programHost ⌝ }
 {
     let s = settings();
     let time = s.time;
@@ -134,11 +178,29 @@ pub fn answer(packet: &[u8]) -> u8
     let c = Clock::fresh(time, date);
     let l = host::link_state::fresh(s);
     let e = table::fresh();
-    let run = [e; 255];
-    let afresh = call(s, 0, c, l, run, Request::Initialize);
-    let entries = afresh.run;
-    let arrived = receive(s, 0, afresh.clock, afresh.links, entries, 1, packet);
-    let r = arrived.reply;
+    call(s, 0, c, l, [e; 255], Request::Initialize)
+}
+
+// The number of its answer to a packet on link 1.
+pub fn answer(packet: &[u8]) -> u8
+    ensures { λ r. ⌜ r ≡ programAnswer (now (packet .entry)) ⌝ }
+{
+    let s = settings();
+    let h = fresh_host();
+    let run = h.run;
+    let taken = take(s, 0, h.clock, h.links, run, 1, packet);
+    let r = taken.reply;
     let a = r.answer;
     answer::number(a)
+}
+
+// What it tells of a packet on link 1 that it only looks at.
+pub fn inspection(packet: &[u8]) -> host::Reply
+    ensures { λ r. ⌜ r ≡ programInspection (now (packet .entry)) ⌝ }
+{
+    let s = settings();
+    let h = fresh_host();
+    let run = h.run;
+    let looked = deliver(s, 0, h.clock, h.links, run, Delivery::Inspect(1), packet);
+    looked.reply
 }

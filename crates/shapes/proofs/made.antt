@@ -1,10 +1,10 @@
+pub mod Delivers
 pub mod ExportAsks
 pub mod ExportAsksWith
-pub mod ExportReceives
+pub mod ExportDelivers
 pub mod ExportSends
 pub mod Guards
 pub mod Performs
-pub mod Receives
 pub mod Sends
 pub mod WholeAsks
-pub mod WholeReceives
+pub mod WholeDelivers

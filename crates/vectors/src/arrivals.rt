@@ -63,7 +63,7 @@ fn arrival(host: Address, neighbor: Address, c: Clock, e: Entry, octets: &[u8]) 
         tsp: Word(0),
     };
     let links = host::link_state::with_link(host::link_state::fresh(s), 1, link);
-    program::receive(s, 0, c, links, [e; 255], 1, octets)
+    program::take(s, 0, c, links, [e; 255], 1, octets)
 }
 
 // The entry of an id.

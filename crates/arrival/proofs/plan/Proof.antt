@@ -15,14 +15,14 @@ ends-requires c κs = search needs
 returns : tie.Need-returns
 returns c = rw (sym (c .before .before .is-done .ensures) ∙ is-not _ (c .before .if1 .taken)) (c .ends .ensures)
 
-arrival-requires : tie.Need-arrival-requires
-arrival-requires c κs =
+deliver-requires : tie.Need-deliver-requires
+deliver-requires c κs =
     let t = c .before .before .before .pre .ready (sym (c .before .is-done .ensures) ∙ is-so _ (c .if1 .left)) in
     let has = counted _ _ (t .link _ refl) in
     ((has .from-one, has .to-eight), (t .settings, t .clock refl))
 
 returns-2 : tie.Need-returns-2
-returns-2 c = rw (sym (c .before .before .is-done .ensures) ∙ is-so _ (c .before .if1 .left)) (c .arrival .ensures)
+returns-2 c = rw (sym (c .before .before .is-done .ensures) ∙ is-so _ (c .before .if1 .left)) (c .deliver .ensures)
 
 pub plan-spec : {M : Type 1} → statement M
-plan-spec = tie.close (tie.spec is-done-requires ends-requires returns arrival-requires returns-2)
+plan-spec = tie.close (tie.spec is-done-requires ends-requires returns deliver-requires returns-2)

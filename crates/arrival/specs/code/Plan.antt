@@ -1,4 +1,4 @@
--- How the code has an arrival: the outcome of a step as an enum, and a refusal of the guard's or the arrival.
+-- How the code has a packet that arrives: the outcome of a step as an enum, and a refusal of the guard's or what the delivery comes to.
 use mathlib.Core.Bool.{cond, not}
 use mathlib.Core.List.{List}
 use Prim.Native.Nat.{ℕ}
@@ -10,11 +10,12 @@ use Rattle.arrival.specs.declared.Flight.{Flight}
 use Rattle.arrival.specs.declared.Step.{Step}
 use Rattle.arrival.specs.declared.Step.the-variants.{On, End}
 use Rattle.arrival.specs.declared.Arrived.{Arrived}
-use Rattle.arrival.specs.Arrival.{ends, arrival}
+use Rattle.arrival.specs.declared.Delivery.{Delivery}
+use Rattle.arrival.specs.Arrival.{ends, delivered}
 
 abbrev pub stepOf : Stage Flight → Step
 stepOf (on f) = On f
 stepOf (end f) = End f
 
-abbrev pub planned : Answer → (link : ℕ) (packet : List ℕ) → Host → Arrived
-planned g i octets h = cond (not (done g)) (ends g h) (arrival i octets h)
+abbrev pub planned : Answer → Delivery → (packet : List ℕ) → Host → Arrived
+planned g d octets h = cond (not (done g)) (ends g h) (delivered d octets h)

@@ -1,6 +1,7 @@
 -- The tests of each call stand in its definition in their order: those of the guard, and then those of its work.
-use mathlib.Core.Path.{_≡_, refl, _∙_}
+use mathlib.Core.Path.{_≡_, refl, ap, _∙_}
 use mathlib.Core.Bool.{Bool, true, false, cond, not, _&&_}
+use mathlib.Core.List.{List}
 use Prim.Native.Nat.{ℕ}
 use lib.Dec.{ltb, eqb}
 use lib.ListN.{length}
@@ -8,6 +9,7 @@ use Rattle.answer.specs.declared.Answer.{Answer}
 use Rattle.answer.specs.declared.Answer.the-variants.{Done, Setting, ShortBuffer, IpForm, IpChecksum, Protocol, HelloForm, HelloChecksum, OtherLayout, LoopedLine, DelayNotValid, NoHost, OutOfRange, HostDown}
 use Rattle.clock.specs.Clock.{reading}
 use Rattle.wire.specs.declared.Packet.{Packet}
+use Rattle.wire.specs.declared.Parsed.{Parsed}
 use Rattle.wire.specs.declared.Parsed.the-variants.{Good, Bad}
 use Rattle.wire.specs.Ip.{ipForm, ipChecksum, protocol}
 use Rattle.wire.specs.Hello.{helloForm, helloChecksum}
@@ -23,16 +25,20 @@ use Rattle.host.specs.Guard.{outOfRange, guard, done}
 use Rattle.host.specs.Reply.{plainly, tellsRoute}
 use Rattle.sending.specs.Send.{reportCount, unsent, sends}
 use Rattle.arrival.specs.declared.Flight.{Flight}
-use Rattle.arrival.specs.Inspection.{otherLayout, looped, inspect}
-use Rattle.arrival.specs.Inspection as inspection
+use Rattle.arrival.specs.declared.Arrived.{Arrived}
+use Rattle.arrival.specs.declared.Delivery.{Delivery}
+use Rattle.arrival.specs.declared.Delivery.the-variants.{Inspect, Act, Receive}
+use Rattle.arrival.specs.Inspection.{otherLayout, looped, inspect, tells}
+use Rattle.arrival.specs.Inspection as inspecting
 use Rattle.arrival.specs.Steps.{step2, step3}
-use Rattle.arrival.specs.Arrival.{noTable, withTable, step5, concluded, action, inspected}
+use Rattle.arrival.specs.Arrival.{noTable, withTable, step5, concluded, action, inspected, inspection, act, delivered}
 use Rattle.arrival.proofs.Flights.{steps-cases}
+use Rattle.arrival.proofs.Pair.{one-piece}
 use Rattle.calls.specs.declared.Request.{Request}
 use Rattle.calls.specs.declared.Request.the-variants.{Initialize, Tick, Adjust, Set, Read, Second, SelfReport, Lookup}
 use Rattle.calls.specs.Effects.{initialize, tick, adjust, setBy, read, second, selfReport, lookup, looked}
-use Rattle.calls.specs.Perform.{Call, ask, send, receive, scopeOfCall, entryAt, work, perform}
-use Rattle.network.specs.Answers.{Answers, firstOf, delayInvalid, neighborUnknown, hostDown, ownTests}
+use Rattle.calls.specs.Perform.{Call, ask, send, deliver, scopeOfCall, entryAt, work, perform}
+use Rattle.network.specs.Answers.{Answers, firstOf, delayInvalid, neighborUnknown, hostDown, inspectionTests, actionTests, deliveryTests, ownTests}
 use Rattle.network.proofs.Performs.{guardOf, performs}
 use Rattle.network.proofs.Arrivals.{same-address}
 
@@ -86,32 +92,50 @@ module _ (h : Host) (i : ℕ) where
       (λ b n z. rw (b, n, z))
       (λ b n z. step5-answer _ p _ ∙ rw (b, n, z, same-address (p .source) (linkOf (h .links) i .neighbor) n))
 
-  module _ (p : Packet) where
-    -- 8 and 9, and then steps 2 to 5
+  -- 3 to 9 in turn, and then what comes of a packet that passes
+  module _ (answers : Parsed → Answer) (refuses : (a : Answer) → answers (Bad a) ≡ a) (p : Packet) where
     ours-answer : (y z : Bool)
-        → inspected h i (cond y (Bad OtherLayout) (cond z (Bad LoopedLine) (Good p))) .reply .answer ≡ cond y OtherLayout (cond z LoopedLine (acted p))
-    ours-answer true z = refl
-    ours-answer false true = refl
-    ours-answer false false = action-answer p
+        → answers (cond y (Bad OtherLayout) (cond z (Bad LoopedLine) (Good p))) ≡ cond y OtherLayout (cond z LoopedLine (answers (Good p)))
+    ours-answer true z = refuses OtherLayout
+    ours-answer false true = refuses LoopedLine
+    ours-answer false false = refl
 
-    -- 3 to 7, and then the others
-    arrived-answer : (t u v w x : Bool)
-        → inspected h i
-        (inspection.inspected (h .settings) i
+    inspected-answer : (t u v w x : Bool)
+        → answers
+        (inspecting.inspected (h .settings) i
         (cond t (Bad IpForm)
         (cond u (Bad IpChecksum) (cond v (Bad Protocol) (cond w (Bad HelloForm) (cond x (Bad HelloChecksum) (Good p)))))))
-        .reply .answer
         ≡ cond t IpForm
         (cond u IpChecksum
         (cond v Protocol
         (cond w HelloForm
-        (cond x HelloChecksum (cond (otherLayout (h .settings) p) OtherLayout (cond (looped (h .settings) i p) LoopedLine (acted p)))))))
-    arrived-answer true u v w x = refl
-    arrived-answer false true v w x = refl
-    arrived-answer false false true w x = refl
-    arrived-answer false false false true x = refl
-    arrived-answer false false false false true = refl
-    arrived-answer false false false false false = ours-answer (otherLayout (h .settings) p) (looped (h .settings) i p)
+        (cond x HelloChecksum (cond (otherLayout (h .settings) p) OtherLayout (cond (looped (h .settings) i p) LoopedLine (answers (Good p))))))))
+    inspected-answer true u v w x = refuses IpForm
+    inspected-answer false true v w x = refuses IpChecksum
+    inspected-answer false false true w x = refuses Protocol
+    inspected-answer false false false true x = refuses HelloForm
+    inspected-answer false false false false true = refuses HelloChecksum
+    inspected-answer false false false false false = ours-answer (otherLayout (h .settings) p) (looped (h .settings) i p)
+
+  module _ (octets : List ℕ) where
+    answered : (answers : Parsed → Answer) → ((a : Answer) → answers (Bad a) ≡ a) → answers (inspect (h .settings) i octets)
+        ≡ cond (not (ipForm octets)) IpForm
+        (cond (not (ipChecksum octets)) IpChecksum
+        (cond (not (protocol octets)) Protocol
+        (cond (not (helloForm (helloOf octets))) HelloForm
+        (cond (not (helloChecksum (helloOf octets))) HelloChecksum
+        (cond (otherLayout (h .settings) (fields octets)) OtherLayout
+        (cond (looped (h .settings) i (fields octets)) LoopedLine (answers (Good (fields octets)))))))))
+    unfolding inspect parse
+    answered answers refuses =
+        inspected-answer answers refuses (fields octets) (not (ipForm octets)) (not (ipChecksum octets)) (not (protocol octets))
+        (not (helloForm (helloOf octets))) (not (helloChecksum (helloOf octets)))
+
+    looked-at : inspection i octets h .reply .answer ≡ firstOf (inspectionTests i octets h)
+    looked-at = answered (λ q. tells q .answer) (λ a. refl)
+
+    acted-on : act i octets h .reply .answer ≡ firstOf (actionTests i octets h)
+    acted-on = answered (λ q. inspected h i q .reply .answer) (λ a. refl) ∙ rw (action-answer (fields octets))
 
 -- ---- every call
 
@@ -127,13 +151,15 @@ module _ (x : Lent) where
   asked-answer SelfReport = refl
   asked-answer (Lookup a) = looked-answer x (foundFor (x .host .settings) a)
 
+  delivered-answer : (d : Delivery) (octets : List ℕ) → delivered d octets (x .host) .reply .answer ≡ firstOf (deliveryTests d octets (x .host))
+  delivered-answer (Inspect i) octets = looked-at (x .host) i octets
+  delivered-answer (Act i) octets = acted-on (x .host) i octets
+  delivered-answer (Receive i) octets = ap (λ (a : Arrived). a .reply .answer) (one-piece i octets (x .host)) ∙ acted-on (x .host) i octets
+
   work-answer : (c : Call) → work c x .reply .answer ≡ firstOf (ownTests c x)
-  unfolding inspect parse
   work-answer (ask q) = asked-answer q
   work-answer (send i buffer) = sent-answer (x .host) i (ltb (length buffer) (packetLength (reportCount (x .host .settings) (linkOf (x .host .links) i))))
-  work-answer (receive i octets) =
-      arrived-answer (x .host) i (fields octets) (not (ipForm octets)) (not (ipChecksum octets)) (not (protocol octets))
-      (not (helloForm (helloOf octets))) (not (helloChecksum (helloOf octets)))
+  work-answer (deliver d octets) = delivered-answer d octets
 
   -- the guard's answer, or else that of the work
   call-answer : (c : Call) → perform c x .reply .answer ≡ cond (not (done (guardOf c x))) (guardOf c x) (work c x .reply .answer)

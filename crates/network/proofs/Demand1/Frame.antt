@@ -19,14 +19,14 @@ use Rattle.host.proofs.Guarded.{passed, counted}
 use Rattle.sending.specs.declared.Sending.{Sending}
 use Rattle.sending.specs.Send.{reportCount}
 use Rattle.arrival.specs.declared.Arrived.{Arrived}
-use Rattle.arrival.specs.Arrival.{arrival}
+use Rattle.arrival.specs.Arrival.{onLink, delivered}
 use Rattle.calls.specs.declared.Request.{Request}
 use Rattle.calls.specs.declared.Request.the-variants.{Initialize, Tick, Adjust, Set, Read, Second, SelfReport, Lookup}
 use Rattle.calls.specs.Effects.{tick, adjust, setBy, read, second, selfReport, lookup, wanted, effect}
-use Rattle.calls.specs.Perform.{Call, ask, send, receive, scopeOfCall, entryAt, work, perform}
+use Rattle.calls.specs.Perform.{Call, ask, send, deliver, scopeOfCall, entryAt, work, perform}
 use Rattle.network.specs.Frame.{Kept, spareLinks, Frame}
 use Rattle.network.proofs.Performs.{guardOf, performs, there}
-use Rattle.network.proofs.Arrivals.{arrival-ways}
+use Rattle.network.proofs.Arrivals.{delivery-ways}
 use Rattle.network.proofs.Swept.{changes-length, updates-length}
 use Rattle.network.proofs.Written.{written-kept}
 
@@ -39,7 +39,7 @@ module _ (x : Lent) where
   worked : (c : Call) → Holds (x .number) (x .run) → Kept (x .host .settings) (x .number) (x .run) (work c x .run)
   worked (ask q) h = written-kept x _ h (changes-length (effect q (x .host) (entryAt (wanted q (x .host .settings)) x) .work) (entriesOf x))
   worked (send i buffer) h = untouched
-  worked (receive i octets) h = written-kept x _ h (updates-length (arrival i octets (x .host) .work) octets (entriesOf x))
+  worked (deliver d octets) h = written-kept x _ h (updates-length (delivered d octets (x .host) .work) octets (entriesOf x))
 
   -- ---- the links
 
@@ -66,15 +66,16 @@ module _ (x : Lent) where
       let has = passed (scopeOfCall (send i buffer)) x e .link i refl in
       either (λ (s : Sending). Spared (s .links))
       (ltb (length buffer) (packetLength (reportCount (x .host .settings) (linkOf (x .host .links) i)))) _ _ (λ _. refl) (λ _. stored i has _)
-  spared (receive i octets) not e =
-      let has = passed (scopeOfCall (receive i octets)) x e .link i refl in
-      arrival-ways i (x .host) (λ (a : Arrived). Spared (a .links))
+  spared (deliver d octets) not e =
+      let has = passed (scopeOfCall (deliver d octets)) x e .link (onLink d) refl in
+      delivery-ways d (x .host) (λ (a : Arrived). Spared (a .links))
       record {
         refuses = λ a. refl;
-        ended = λ f g n. stored i has (f .link);
-        unknown = λ f g. stored i has (f .link);
-        one = λ p f id g. stored i has (f .link);
-        all = λ p f g. stored i has (f .link);
+        looks = λ p. refl;
+        ended = λ f g n. stored (onLink d) has (f .link);
+        unknown = λ f g. stored (onLink d) has (f .link);
+        one = λ p f id g. stored (onLink d) has (f .link);
+        all = λ p f g. stored (onLink d) has (f .link);
       }
       octets
 

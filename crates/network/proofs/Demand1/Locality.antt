@@ -38,14 +38,17 @@ use Rattle.sending.specs.Message.{tableGoes, linkSent, packetSent}
 use Rattle.sending.specs.Send.{reportCount, unsent, sends}
 use Rattle.arrival.specs.declared.Flight.{Flight}
 use Rattle.arrival.specs.declared.Arrived.{Arrived}
+use Rattle.arrival.specs.declared.Delivery.{Delivery}
+use Rattle.arrival.specs.declared.Delivery.the-variants.{Inspect, Act, Receive}
 use Rattle.arrival.specs.Inspection.{inspect}
 use Rattle.arrival.specs.Steps.{steps2to4}
-use Rattle.arrival.specs.Arrival.{noTable, withTable, concluded, inspected, arrival}
+use Rattle.arrival.specs.Arrival.{noTable, withTable, concluded, inspected, onLink, delivered}
+use Rattle.arrival.proofs.Pair.{one-piece}
 use Rattle.calls.specs.declared.Effect.{Effect}
 use Rattle.calls.specs.declared.Request.{Request}
 use Rattle.calls.specs.declared.Request.the-variants.{Initialize, Tick, Adjust, Set, Read, Second, SelfReport, Lookup}
 use Rattle.calls.specs.Effects.{initialize, tick, adjust, setBy, read, second, selfReport, lookup, wanted, effect}
-use Rattle.calls.specs.Perform.{Call, ask, send, receive, Outcome, scopeOfCall, refused, entryAt, carriedOut, sentBy, work, perform}
+use Rattle.calls.specs.Perform.{Call, ask, send, deliver, Outcome, scopeOfCall, refused, entryAt, carriedOut, sentBy, work, perform}
 use Rattle.network.specs.Left.{told}
 use Rattle.network.specs.Locality.{SameInput, same, same-send, ownLinks, Local, Locality}
 use Rattle.network.proofs.Performs.{guardOf, there}
@@ -199,7 +202,7 @@ module _ (x : Lent) (l′ : Links) (run′ : List Entry) (own : ownLinks (x .hos
           go true = record { told-same = refl; clock-same = refl; links-same = untouched; length-same = lengths; entries-same = same-entries }
           go false = gone
 
-    -- ---- an arrival
+    -- ---- a packet that arrives
 
     pub record SameArrived (e e′ : Arrived) : Type 0 where
       pub reply-same : e .reply ≡ e′ .reply
@@ -240,12 +243,19 @@ module _ (x : Lent) (l′ : Links) (run′ : List Entry) (own : ownLinks (x .hos
           (sym (link-same i has))
           (concludes p (steps2to4 (broadcast s i) (reading (x .host .clock) .clock .hold) p (reading (x .host .clock) .time) (linkOf (x .host .links) i)))
 
-      received : (octets : List ℕ) → Twins (work (receive i octets) x) (work (receive i octets) y)
-      received octets =
-          let t = arrived-same (inspect s i octets) in
-          let same : updates (arrival i octets (x .host) .work) octets (entriesOf x) ≡ updates (arrival i octets (y .host) .work) octets (entriesOf y) =
+    -- what each delivery comes to
+    delivered-same : (d : Delivery) → noLink s (onLink d) ≡ false → (octets : List ℕ) → SameArrived (delivered d octets (x .host)) (delivered d octets (y .host))
+    delivered-same (Inspect i) has octets = record { reply-same = refl; links-same = untouched; work-same = refl }
+    delivered-same (Act i) has octets = arrived-same i has (inspect s i octets)
+    delivered-same (Receive i) has octets = rw (one-piece i octets (x .host), one-piece i octets (y .host)) (arrived-same i has (inspect s i octets))
+
+    module _ (d : Delivery) (has : noLink s (onLink d) ≡ false) where
+      arrived : (octets : List ℕ) → Twins (work (deliver d octets) x) (work (deliver d octets) y)
+      arrived octets =
+          let t = delivered-same d has octets in
+          let same : updates (delivered d octets (x .host) .work) octets (entriesOf x) ≡ updates (delivered d octets (y .host) .work) octets (entriesOf y) =
           λ j. updates (t .work-same j) octets (same-entries j) in
-          let w = written _ _ (ap (λ (v : Swept). v .entries) same) (updates-length (arrival i octets (x .host) .work) octets (entriesOf x)) in
+          let w = written _ _ (ap (λ (v : Swept). v .entries) same) (updates-length (delivered d octets (x .host) .work) octets (entriesOf x)) in
           record {
             told-same = ap (λ (r : Reply). record { reply = r; message = take (r .length) [] }) (t .reply-same);
             clock-same = ap (λ (v : Swept). v .clock) same;
@@ -276,7 +286,7 @@ module _ (x : Lent) (l′ : Links) (run′ : List Entry) (own : ownLinks (x .hos
       works : (c : Call) → done (guardOf c x) ≡ true → Twins (work c x) (work c y)
       works (ask q) e = asked (there (ask q) x e) q
       works (send i b) e = sent (there (send i b) x e) i (passed (scopeOfCall (send i b)) x e .link i refl) b b refl
-      works (receive i octets) e = received (there (receive i octets) x e) i (passed (scopeOfCall (receive i octets)) x e .link i refl) octets
+      works (deliver d octets) e = arrived (there (deliver d octets) x e) d (passed (scopeOfCall (deliver d octets)) x e .link (onLink d) refl) octets
   performed (same-send {i} {b} {d} n) =
       guarded (send i b) (send i d) refl (λ a. record { told-same = refl; clock-same = refl; links-same = untouched; length-same = lengths; entries-same = same-entries })
       (λ e. sent (there (send i b) x e) i (passed (scopeOfCall (send i b)) x e .link i refl) b d n)

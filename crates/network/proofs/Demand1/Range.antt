@@ -15,6 +15,7 @@ use Rattle.clock.specs.declared.Clock.{Clock}
 use Rattle.clock.specs.Midnight.{dayMillis}
 use Rattle.clock.specs.Clock.{reading, clockInRange}
 use Rattle.clock.proofs.Range.{tick-in-range, adjust-in-range, set-in-range, second-in-range, fresh-in-range}
+use Rattle.wire.specs.declared.Parsed.the-variants.{Good}
 use Rattle.wire.specs.Packet.{helloOf, packetLength}
 use Rattle.route.specs.declared.Found.{Found}
 use Rattle.route.specs.declared.Found.the-variants.{Id, Nothing}
@@ -40,17 +41,18 @@ use Rattle.sending.specs.declared.Sending.{Sending}
 use Rattle.sending.specs.Send.{reportCount}
 use Rattle.arrival.specs.declared.Flight.{Flight}
 use Rattle.arrival.specs.declared.Arrived.{Arrived}
+use Rattle.arrival.specs.declared.Delivery.{Delivery}
+use Rattle.arrival.specs.Inspection.{tells}
 use Rattle.arrival.specs.Steps.{neighborUpdate}
-use Rattle.arrival.specs.Arrival.{ends, updated}
+use Rattle.arrival.specs.Arrival.{quiet, ends, updated, onLink}
 use Rattle.calls.specs.declared.Effect.{Effect}
 use Rattle.calls.specs.declared.Request.{Request}
 use Rattle.calls.specs.declared.Request.the-variants.{Initialize, Tick, Adjust, Set, Read, Second, SelfReport, Lookup}
 use Rattle.calls.specs.Effects.{initialize, tick, adjust, setBy, read, second, selfReport, lookup, ownWork, wanted, effect}
-use Rattle.calls.specs.Perform.{Call, ask, send, receive, scopeOfCall, entryAt, carriedOut, sentBy, updatedBy, work, perform}
-use Rattle.network.specs.Left.{left}
+use Rattle.calls.specs.Perform.{Call, ask, send, deliver, scopeOfCall, entryAt, carriedOut, sentBy, updatedBy, work, perform, left}
 use Rattle.network.specs.Range.{Accepted, Range}
 use Rattle.network.proofs.Performs.{guardOf, performs}
-use Rattle.network.proofs.Arrivals.{Flown, storing, arrival-ways}
+use Rattle.network.proofs.Arrivals.{Flown, storing, delivery-ways}
 use Rattle.network.proofs.Lists.{all-made, every-all, all-every}
 use Rattle.network.proofs.Lists as lists
 use Rattle.network.proofs.Swept.{changes-length, changes-keep, changes-each, updates-length, updates-keep, updates-clock}
@@ -178,7 +180,7 @@ module _ (x : Lent) where
           entries-in = r .entries-in;
         })
 
-    -- ---- an arrival
+    -- ---- a packet that arrives
 
     module _ (octets : List ℕ) where
       swept : (a : Arrived) → clockInRange (a .work .clock) ≡ true → linksIn (a .links) → a .work .«hold_interval» .0 ≤ 255
@@ -192,16 +194,20 @@ module _ (x : Lent) where
           (all-every entryInRange (updates (a .work) octets (entriesOf x) .entries)
           (updates-keep (a .work) octets (entriesOf x) (λ _ e. entryInRange e ≡ true) (λ id c e low high _ h. ranges id c e low high h) all-in))
 
-      module _ (i : ℕ) (has : Counted (x .host .settings) i) (good : Sound (x .host .settings)) where
+      module _ (d : Delivery) (has : Counted (x .host .settings) (onLink d)) (good : Sound (x .host .settings)) where
+        abbrev i : ℕ
+        i = onLink d
+
         touched : (f : Flight) → Flown (x .host .clock) f → linksIn (withLink i (f .link) (x .host .links))
         touched f g = withLink-in (x .host .settings) (x .host .links) i has (r .links-in) (f .link) (rw (g .keep-alive-is))
 
-        received : InRange (left x (work (receive i octets) x))
+        arrived : InRange (left x (work (deliver d octets) x))
         unfolding reading
-        received =
-            arrival-ways i (x .host) (λ a. InRange (left x (updatedBy a octets x)))
+        arrived =
+            delivery-ways d (x .host) (λ a. InRange (left x (updatedBy a octets x)))
             record {
               refuses = λ a. swept (ends a (x .host)) (r .clock-in) (r .links-in) (omega arith) (λ id c e low high h. absurd (omega arith));
+              looks = λ p. swept (quiet (tells (Good p)) (x .host)) (r .clock-in) (r .links-in) (omega arith) (λ id c e low high h. absurd (omega arith));
               ended = λ f g n. swept (ends DelayNotValid (storing i (x .host) f)) (r .clock-in) (touched f g) (omega arith) (λ id c e low high h. absurd (omega arith));
               unknown = λ f g. swept (ends NoHost (storing i (x .host) f)) (r .clock-in) (touched f g) (omega arith) (λ id c e low high h. absurd (omega arith));
               one = λ p f id g.
@@ -219,9 +225,9 @@ module _ (x : Lent) where
     works : (c : Call) → done (guardOf c x) ≡ true → InRange (left x (work c x))
     works (ask q) e = asked q (sound (x .host .settings) (passed (scopeOfCall (ask q)) x e .settings)) e
     works (send i buffer) e = sent i buffer (counted (x .host .settings) i (passed (scopeOfCall (send i buffer)) x e .link i refl))
-    works (receive i octets) e =
-        let p = passed (scopeOfCall (receive i octets)) x e in
-        received octets i (counted (x .host .settings) i (p .link i refl)) (sound (x .host .settings) (p .settings))
+    works (deliver d octets) e =
+        let p = passed (scopeOfCall (deliver d octets)) x e in
+        arrived octets d (counted (x .host .settings) (onLink d) (p .link (onLink d) refl)) (sound (x .host .settings) (p .settings))
 
   afresh : perform (ask Initialize) x .reply .answer ≡ Done → InRange (left x (perform (ask Initialize) x))
   afresh =

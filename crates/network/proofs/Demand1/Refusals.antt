@@ -29,14 +29,15 @@ use Rattle.sending.specs.declared.Sending.{Sending}
 use Rattle.sending.specs.Send.{reportCount}
 use Rattle.arrival.specs.declared.Flight.{Flight}
 use Rattle.arrival.specs.declared.Arrived.{Arrived}
-use Rattle.arrival.specs.Arrival.{ends}
+use Rattle.arrival.specs.declared.Delivery.{Delivery}
+use Rattle.arrival.specs.Arrival.{ends, onLink}
 use Rattle.calls.specs.declared.Request.{Request}
 use Rattle.calls.specs.declared.Request.the-variants.{Initialize, Tick, Adjust, Set, Read, Second, SelfReport, Lookup}
 use Rattle.calls.specs.Effects.{initialize, tick, adjust, setBy, read, second, selfReport, lookup, looked, answers}
-use Rattle.calls.specs.Perform.{Call, ask, send, receive, Outcome, bufferOf, refused, entryAt, carriedOut, sentBy, updatedBy, work, perform}
+use Rattle.calls.specs.Perform.{Call, ask, send, deliver, Outcome, bufferOf, refused, entryAt, carriedOut, sentBy, updatedBy, work, perform}
 use Rattle.network.specs.Refusals.{Refuses, relinked, Refusals}
 use Rattle.network.proofs.Performs.{guardOf, performs, there}
-use Rattle.network.proofs.Arrivals.{storing, arrival-ways}
+use Rattle.network.proofs.Arrivals.{storing, delivery-ways}
 use Rattle.network.proofs.Written.{answered, ended}
 
 module _ (x : Lent) where
@@ -69,12 +70,13 @@ module _ (x : Lent) where
   works (send i buffer) h =
       either (λ (s : Sending). Unchanged (send i buffer) (sentBy s buffer x))
       (ltb (length buffer) (packetLength (reportCount (x .host .settings) (linkOf (x .host .links) i)))) _ _ (λ _ _. refl) (λ _ w. absurd (w .0 refl))
-  works (receive i octets) h =
-      arrival-ways i (x .host) (λ (a : Arrived). Unchanged (receive i octets) (updatedBy a octets x))
+  works (deliver d octets) h =
+      delivery-ways d (x .host) (λ (a : Arrived). Unchanged (deliver d octets) (updatedBy a octets x))
       record {
         refuses = λ a w. ended x h a (x .host) octets;
-        ended = λ f g n w. absurd (w .1 i octets refl .0 refl);
-        unknown = λ f g w. absurd (w .1 i octets refl .1 refl);
+        looks = λ p w. absurd (w .0 refl);
+        ended = λ f g n w. absurd (w .1 d octets refl .0 refl);
+        unknown = λ f g w. absurd (w .1 d octets refl .1 refl);
         one = λ p f id g w. absurd (w .0 refl);
         all = λ p f g w. absurd (w .0 refl);
       }
@@ -96,12 +98,15 @@ module _ (x : Lent) where
         buffer = bufferOf c;
       }
 
-  module _ (i : ℕ) (octets : List ℕ) where
-    alone : (a b : Answer) → b ≡ a → refused b (receive i octets) x ≡ refused a (receive i octets) (relinked i (linkOf (x .host .links) i) x)
-    alone a b e = ap (λ r. refused r (receive i octets) x) e ∙ same-link i (receive i octets) a
+  module _ (d : Delivery) (octets : List ℕ) where
+    abbrev i : ℕ
+    i = onLink d
+
+    alone : (a b : Answer) → b ≡ a → refused b (deliver d octets) x ≡ refused a (deliver d octets) (relinked i (linkOf (x .host .links) i) x)
+    alone a b e = ap (λ r. refused r (deliver d octets) x) e ∙ same-link i (deliver d octets) a
 
     stored : Holds (x .number) (x .run) → (a : Answer) (f : Flight)
-        → updatedBy (ends a (storing i (x .host) f)) octets x ≡ refused a (receive i octets) (relinked i (f .link) x)
+        → updatedBy (ends a (storing i (x .host) f)) octets x ≡ refused a (deliver d octets) (relinked i (f .link) x)
     unfolding reading
     stored h a f = ended x h a (storing i (x .host) f) octets
 
@@ -109,44 +114,46 @@ module _ (x : Lent) where
     Delayed : Outcome → Type 0
     Delayed o =
         o .reply .answer ≡ DelayNotValid
-        → (l : Link) × (o ≡ refused DelayNotValid (receive i octets) (relinked i l x)) × (l .neighbor ≡ linkOf (x .host .links) i .neighbor)
+        → (l : Link) × (o ≡ refused DelayNotValid (deliver d octets) (relinked i l x)) × (l .neighbor ≡ linkOf (x .host .links) i .neighbor)
 
-    delayed : Delayed (perform (receive i octets) x)
+    delayed : Delayed (perform (deliver d octets) x)
     unfolding Delayed
     delayed =
-        performs (receive i octets) x Delayed
-        (λ e d. (linkOf (x .host .links) i, alone DelayNotValid (guardOf (receive i octets) x) d, refl))
+        performs (deliver d octets) x Delayed
+        (λ e is. (linkOf (x .host .links) i, alone DelayNotValid (guardOf (deliver d octets) x) is, refl))
         (λ e.
-        let h = there (receive i octets) x e in
-        arrival-ways i (x .host) (λ (a : Arrived). Delayed (updatedBy a octets x))
+        let h = there (deliver d octets) x e in
+        delivery-ways d (x .host) (λ (a : Arrived). Delayed (updatedBy a octets x))
         record {
-          refuses = λ a d. (linkOf (x .host .links) i, ended x h a (x .host) octets ∙ alone DelayNotValid a d, refl);
-          ended = λ f g n d. (f .link, stored h DelayNotValid f, n);
-          unknown = λ f g d. absurd (omega (arith, ap number d));
-          one = λ p f id g d. absurd (omega (arith, ap number d));
-          all = λ p f g d. absurd (omega (arith, ap number d));
+          refuses = λ a is. (linkOf (x .host .links) i, ended x h a (x .host) octets ∙ alone DelayNotValid a is, refl);
+          looks = λ p is. absurd (omega (arith, ap number is));
+          ended = λ f g n is. (f .link, stored h DelayNotValid f, n);
+          unknown = λ f g is. absurd (omega (arith, ap number is));
+          one = λ p f id g is. absurd (omega (arith, ap number is));
+          all = λ p f g is. absurd (omega (arith, ap number is));
         }
         octets)
 
     Unfound : Outcome → Type 0
-    Unfound o = o .reply .answer ≡ NoHost → (l : Link) × (o ≡ refused NoHost (receive i octets) (relinked i l x))
+    Unfound o = o .reply .answer ≡ NoHost → (l : Link) × (o ≡ refused NoHost (deliver d octets) (relinked i l x))
 
-    unfound : Unfound (perform (receive i octets) x)
+    unfound : Unfound (perform (deliver d octets) x)
     unfolding Unfound
     unfound =
-        performs (receive i octets) x Unfound (λ e d. (linkOf (x .host .links) i, alone NoHost (guardOf (receive i octets) x) d))
+        performs (deliver d octets) x Unfound (λ e is. (linkOf (x .host .links) i, alone NoHost (guardOf (deliver d octets) x) is))
         (λ e.
-        let h = there (receive i octets) x e in
-        arrival-ways i (x .host) (λ (a : Arrived). Unfound (updatedBy a octets x))
+        let h = there (deliver d octets) x e in
+        delivery-ways d (x .host) (λ (a : Arrived). Unfound (updatedBy a octets x))
         record {
-          refuses = λ a d. (linkOf (x .host .links) i, ended x h a (x .host) octets ∙ alone NoHost a d);
-          ended = λ f g n d. absurd (omega (arith, ap number d));
-          unknown = λ f g d. (f .link, stored h NoHost f);
-          one = λ p f id g d. absurd (omega (arith, ap number d));
-          all = λ p f g d. absurd (omega (arith, ap number d));
+          refuses = λ a is. (linkOf (x .host .links) i, ended x h a (x .host) octets ∙ alone NoHost a is);
+          looks = λ p is. absurd (omega (arith, ap number is));
+          ended = λ f g n is. absurd (omega (arith, ap number is));
+          unknown = λ f g is. (f .link, stored h NoHost f);
+          one = λ p f id g is. absurd (omega (arith, ap number is));
+          all = λ p f g is. absurd (omega (arith, ap number is));
         }
         octets)
 
 pub refusals-hold : Refusals
 unfolding Delayed Unfound
-refusals-hold = record { unchanged = λ c x. unchanged x c; delay = λ i octets x. delayed x i octets; unknown = λ i octets x. unfound x i octets }
+refusals-hold = record { unchanged = λ c x. unchanged x c; delay = λ d octets x. delayed x d octets; unknown = λ d octets x. unfound x d octets }

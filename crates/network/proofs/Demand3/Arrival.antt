@@ -55,7 +55,7 @@ use Rattle.arrival.specs.Inspection.{otherLayout, looped, inspect}
 use Rattle.arrival.specs.Inspection as inspection
 use Rattle.arrival.specs.Steps.{step2, step3, step4, steps2to4, tspOf, delayOf, offsetOf, atLeastMin, neighborUpdate, reportUpdate}
 use Rattle.arrival.specs.Arrival.{ends, updated, noTable, withTable, step5, concluded, action, inspected}
-use Rattle.calls.specs.Perform.{receive, Outcome, updatedBy, perform}
+use Rattle.calls.specs.Perform.{act, Outcome, updatedBy, perform}
 use Rattle.network.specs.Room.{longestWay, Room, at, lentAt, HostAt, Proper}
 use Rattle.network.specs.Demand3.{Message, timed}
 use Rattle.network.proofs.Performs.{performs}
@@ -350,7 +350,7 @@ module _ (r : Room) (proper : Proper r) (ways : r .longest ≤ longestWay) (b i 
 
 -- ---- the whole call. A refusal changes nothing; whatever goes on to step 2 has a millisecond
 
-action-timed : (h : Host) (i : ℕ) (p : Packet) → T (timed (action h i p .reply .answer))
+pub action-timed : (h : Host) (i : ℕ) (p : Packet) → T (timed (action h i p .reply .answer))
 action-timed h i p = go (steps2to4 (broadcast (h .settings) i) (reading (h .clock) .clock .hold) p (reading (h .clock) .time) (linkOf (h .links) i))
   where
     found : (g : Host) (f : Flight) (x : Found) → T (timed (noTable g i p f x .reply .answer))
@@ -370,12 +370,12 @@ pub record Came (r : Room) (b : ℕ) (c : Clock) (m : Message) : Type 0 where
   pub short : way ≤ r .longest
   pub clock : reading c .time .0 ≡ (m .ms +ℤ pos way) +ℤ r .fixed b
 
-pub arrival-right : (r : Room) → Proper r → r .longest ≤ longestWay → (b i : ℕ) → b < r .seats → (m : Message) → r .cable b i ≡ at (m .seat) (m .link) → RightMessage r m
+pub act-right : (r : Room) → Proper r → r .longest ≤ longestWay → (b i : ℕ) → b < r .seats → (m : Message) → r .cable b i ≡ at (m .seat) (m .link) → RightMessage r m
     → (c : Clock) (l : Links) (run : List Entry) → RightLent r b l run
-    → (T (timed (perform (receive i (m .octets)) (lentAt r b c l run) .reply .answer)) → Came r b c m)
-    → RightOutcome r b run (perform (receive i (m .octets)) (lentAt r b c l run))
-arrival-right r proper ways b i hb m cable right c l run lent =
-    performs (receive i (m .octets)) x Kept (λ _ _. same-right r b l run lent)
+    → (T (timed (perform (act i (m .octets)) (lentAt r b c l run) .reply .answer)) → Came r b c m)
+    → RightOutcome r b run (perform (act i (m .octets)) (lentAt r b c l run))
+act-right r proper ways b i hb m cable right c l run lent =
+    performs (act i (m .octets)) x Kept (λ _ _. same-right r b l run lent)
     (λ d.
     let ok = passed (OnLink i) x d in
     let there = holds (r .number b) run (ok .places) in

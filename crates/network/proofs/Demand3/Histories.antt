@@ -22,19 +22,21 @@ use Rattle.host.specs.Lent.{Lent}
 use Rattle.host.specs.Guard.{done}
 use Rattle.host.proofs.Guarded.{passed}
 use Rattle.host.proofs.Sound.{Sound, sound}
+use Rattle.arrival.specs.Arrival.{inspection}
 use Rattle.calls.specs.declared.Request.the-variants.{Initialize}
-use Rattle.calls.specs.Perform.{ask, Outcome, perform}
+use Rattle.calls.specs.Perform.{ask, inspect, Outcome, perform}
 use Rattle.network.specs.History.{Left, leftBy, after}
 use Rattle.network.specs.Room.{longestWay, Room, lentAt, afresh, Proper}
-use Rattle.network.proofs.Performs.{performs}
-use Rattle.network.specs.Demand3.{RoomCall, ticks, seconds, reports, sends, arrives, Step, Message, World, result, mailAfter, step, history, timed, Later, Allowed, Allows, Starts, Claim, Demand3Within, Demand3}
+use Rattle.network.proofs.Performs.{performs, there}
+use Rattle.network.specs.Demand3.{RoomCall, ticks, seconds, reports, sends, arrives, acts, inspects, Step, Message, World, result, mailAfter, step, history, timed, Later, Delivered, Allowed, Allows, Starts, Claim, Demand3Within, Demand3}
 use Rattle.network.proofs.Lists.{All, all-at}
 use Rattle.network.proofs.Demand3.Near.{near-close}
 use Rattle.network.proofs.Demand3.Invariant.{RightEntry, RightMessage, RightSeat, RightWorld}
-use Rattle.network.proofs.Demand3.Outcomes.{RightOutcome, RightLent, lent-right, left-right}
+use Rattle.network.proofs.Demand3.Outcomes.{RightOutcome, RightLent, same-right, updated-right, lent-right, left-right}
 use Rattle.network.proofs.Demand3.Seats.{fresh-right, afresh-right, tick-right, second-right, self-right}
 use Rattle.network.proofs.Demand3.Sending.{send-right}
-use Rattle.network.proofs.Demand3.Arrival.{arrival-right}
+use Rattle.network.proofs.Demand3.Arrival.{act-right}
+use Rattle.network.proofs.Pair.{receive-acts}
 
 module _ (r : Room) (proper : Proper r) (ways : r .longest ≤ longestWay) where
   -- ---- one call
@@ -64,15 +66,35 @@ module _ (r : Room) (proper : Proper r) (ways : r .longest ≤ longestWay) where
     lent : (call : RoomCall) → Allowed r w (at-seat call) → RightLent r a links run
     lent call ok = lent-right r a proper now (now .clock) links run (ok .lends) (right .seats a inside)
 
+    acts-right : (i : ℕ) (packet : List ℕ) (t : ℤ) → Allowed r w (at-seat (acts i packet t)) → RightOutcome r a run (result r w (at-seat (acts i packet t)))
+    acts-right i packet t ok =
+        let d = ok .timely in
+        subst (λ (o : List ℕ). RightOutcome r a run (result r w (at-seat (acts i o t)))) (sym (d .a-copy))
+        (act-right r proper ways a i inside (d .message) (d .other-end) (right .mail (d .message) (d .earlier)) (now .clock) links run
+        (lent (acts i packet t) ok)
+        (λ e.
+        let later = subst (λ (o : List ℕ). T (timed (result r w (at-seat (acts i o t)) .reply .answer)) → Later r w a t (d .message)) (d .a-copy) (d .in-time) e in
+        record { way = later .way; short = later .short; clock = later .reads .clock ∙ ap (λ (z : ℤ). z +ℤ r .fixed a) (later .later) }))
+
     arrives-right : (i : ℕ) (packet : List ℕ) (t : ℤ) → Allowed r w (at-seat (arrives i packet t)) → RightOutcome r a run (result r w (at-seat (arrives i packet t)))
     arrives-right i packet t ok =
-        let d = ok .timely in
-        subst (λ (o : List ℕ). RightOutcome r a run (result r w (at-seat (arrives i o t)))) (sym (d .a-copy))
-        (arrival-right r proper ways a i inside (d .message) (d .other-end) (right .mail (d .message) (d .earlier)) (now .clock) links run
-        (lent (arrives i packet t) ok)
+        let same = receive-acts i packet (lentAt r a (now .clock) links run) in
+        subst (RightOutcome r a run) (sym same)
+        (acts-right i packet t
+        record {
+          seat-in = ok .seat-in;
+          lends = ok .lends;
+          timely = subst (λ (o : Outcome). Delivered r w a i packet t (o .reply .answer)) same (ok .timely);
+        })
+
+    inspects-right : (i : ℕ) (packet : List ℕ) → Allowed r w (at-seat (inspects i packet)) → RightOutcome r a run (result r w (at-seat (inspects i packet)))
+    inspects-right i packet ok =
+        let x = lentAt r a (now .clock) links run in
+        let right = lent (inspects i packet) ok in
+        performs (inspect i packet) x (RightOutcome r a run) (λ _. same-right r a links run right)
         (λ e.
-        let later = subst (λ (o : List ℕ). T (timed (result r w (at-seat (arrives i o t)) .reply .answer)) → Later r w a t (d .message)) (d .a-copy) (d .in-time) e in
-        record { way = later .way; short = later .short; clock = later .reads .clock ∙ ap (λ (z : ℤ). z +ℤ r .fixed a) (later .later) }))
+        updated-right r a (now .clock) links run right (there (inspect i packet) x e) (inspection i packet (x .host)) packet (right .links)
+        (λ id d y low high inside h. absurd (omega arith)))
 
     call-right : (call : RoomCall) → Allowed r w (at-seat call) → StepRight w (at-seat call)
     call-right ticks ok = record { seat = tick-right r a (now .clock) links run (lent ticks ok); mail = right .mail }
@@ -82,6 +104,8 @@ module _ (r : Room) (proper : Proper r) (ways : r .longest ≤ longestWay) where
         let s = send-right r a i inside (now .clock) links run (lent (sends i buffer t) ok) buffer t (λ e. let q = ok .timely e in (q .clock, q .no-midnight)) in
         record { seat = s .seat; mail = post _ (w .mail) _ (s .message) (right .mail) }
     call-right (arrives i packet t) ok = record { seat = arrives-right i packet t ok; mail = right .mail }
+    call-right (acts i packet t) ok = record { seat = acts-right i packet t ok; mail = right .mail }
+    call-right (inspects i packet) ok = record { seat = inspects-right i packet ok; mail = right .mail }
 
   step-right : (w : World) (x : Step) → Allowed r w x → RightWorld r w → RightWorld r (step r w x)
   unfolding step after

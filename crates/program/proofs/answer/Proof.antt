@@ -2,85 +2,44 @@
 use mathlib.Core.Path.{_≡_, ap, _∙_}
 use mathlib.Core.List.{List}
 use Prim.Native.Nat.{ℕ}
-use borrow.Author.Needs.{needs}
-use lib.IntN.{pos}
-use lib.ListN.{replicate}
-use Rattle.quantity.specs.Quantity.{millis, lessMillis}
-use Rattle.answer.specs.Answer.{number}
-use Rattle.clock.specs.declared.Clock.{Clock}
-use Rattle.clock.specs.Midnight.{dayMillis}
-use Rattle.clock.specs.Clock.{freshClock}
-use Rattle.table.specs.declared.Entry.{Entry}
-use Rattle.table.specs.Entry.{freshEntry}
 use Rattle.host.specs.declared.Settings.{Settings}
-use Rattle.host.specs.declared.Links.{Links}
-use Rattle.host.specs.State.{freshLinks}
+use Rattle.answer.specs.Answer.{number}
 use Rattle.host.specs.Lent.{lent}
-use Rattle.calls.specs.declared.Request.the-variants.{Initialize}
-use Rattle.calls.specs.Perform.{perform, ask, receive}
+use Rattle.calls.specs.Perform.{inTurn}
 use Rattle.program.specs.declared.Whole.{Whole}
 use Rattle.program.specs.Held.{wholeOf}
 use Rattle.program.specs.Program.{programSettings, programHost, programAnswer}
+use borrow.Author.Needs.{needs}
 use Rattle.program.proofs.answer.Statement.{statement}
 use Rattle.program.proofs.answer.Tie as tie
 
-abbrev afresh : Settings → Clock → Links → Entry → Whole
-afresh s c l e = wholeOf (perform (ask Initialize) (lent s 0 c l (replicate 255 e)))
+abbrev taken : Settings → Whole → (packet : List ℕ) → Whole
+taken s h octets = wholeOf (inTurn 1 octets (lent s 0 (h .clock) (h .links) (h .run)))
 
-abbrev arrived : Settings → Whole → (packet : List ℕ) → Whole
-arrived s h octets = wholeOf (perform (receive 1 octets) (lent s 0 (h .clock) (h .links) (h .run)))
-
--- what the functions that are called say, put together
-chain : (s : Settings) (c : Clock) (l : Links) (e : Entry) (h w : Whole) (octets : List ℕ) (r : ℕ)
-    → s ≡ programSettings → c ≡ freshClock (s .time) (s .date) → l ≡ freshLinks s → e ≡ freshEntry → h ≡ afresh s c l e → w ≡ arrived s h octets → r ≡ number (w .reply .answer) → r ≡ programAnswer octets
-unfolding programAnswer programHost
-chain s c l e h w octets r s-is c-is l-is e-is h-is w-is r-is =
-    let c-fresh = c-is ∙ ap (λ (t : Settings). freshClock (t .time) (t .date)) s-is in
-    let l-fresh = l-is ∙ ap freshLinks s-is in
-    r-is ∙ ap (λ (x : Whole). number (x .reply .answer)) w-is ∙ ap (λ (x : Whole). number (arrived s x octets .reply .answer)) h-is
-    ∙ (λ i. number (arrived (s-is i) (afresh (s-is i) (c-fresh i) (l-fresh i) (e-is i)) octets .reply .answer))
+chain : (s : Settings) (h w : Whole) (octets : List ℕ) (r : ℕ) → s ≡ programSettings → h ≡ wholeOf programHost → w ≡ taken s h octets
+    → r ≡ number (w .reply .answer) → r ≡ programAnswer octets
+unfolding programAnswer
+chain s h w octets r s-is h-is w-is r-is =
+    r-is ∙ ap (λ (x : Whole). number (x .reply .answer)) w-is ∙ (λ i. number (taken (s-is i) (h-is i) octets .reply .answer))
 
 settings-requires : tie.Need-settings-requires
 settings-requires c κs = search needs
 
-fresh-requires : tie.Need-fresh-requires
-fresh-requires c κs =
-    let s-is = c .before .before .settings .ensures in
-    (ap (λ (s : Settings). lessMillis (s .time) (millis (pos 0))) s-is, ap (λ (s : Settings). lessMillis (s .time) dayMillis) s-is)
+fresh-host-requires : tie.Need-fresh-host-requires
+fresh-host-requires c κs = search needs
 
-fresh-requires-2 : tie.Need-fresh-requires-2
-fresh-requires-2 c κs = search needs
-
-fresh-requires-3 : tie.Need-fresh-requires-3
-fresh-requires-3 c κs = search needs
-
-call-requires : tie.Need-call-requires
-call-requires c κs = search needs
-
-receive-requires : tie.Need-receive-requires
-receive-requires c κs = search needs
+take-requires : tie.Need-take-requires
+take-requires c κs = search needs
 
 number-requires : tie.Need-number-requires
 number-requires c κs = search needs
 
 returns : tie.Need-returns
 returns c =
-    let settings-at = c .before .before .before .before .before .before .before .before .before .before in
-    let afresh-at = c .before .before .before .before in
-    let entry-at = afresh-at .before in
-    let links-at = entry-at .before in
-    let clock-at = links-at .before in
-    chain _ _ _ _ _ _ (settings-at .before .before .args .packet .now) _ (settings-at .settings .ensures) (clock-at .fresh .ensures) (links-at .fresh2 .ensures) (entry-at .fresh3 .ensures) (afresh-at .call .ensures) (c .before .before .receive .ensures) (c .number .ensures)
+    let settings-at = c .before .before .before .before .before in
+    chain _ _ _ (settings-at .before .before .args .packet .now) _ (settings-at .settings .ensures) (c .before .before .before .before .fresh-host .ensures) (c .before .before .take .ensures) (c .number .ensures)
 
 pub answer-spec : {M : Type 1} → statement M
 answer-spec =
     tie.close
-    (tie.spec
-    settings-requires
-    fresh-requires
-    fresh-requires-2
-    fresh-requires-3
-    call-requires
-    receive-requires
-    number-requires
-    returns)
+    (tie.spec settings-requires fresh-host-requires take-requires number-requires returns)

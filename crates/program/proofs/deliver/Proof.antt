@@ -1,28 +1,29 @@
 -- Clock, links and run are held in locals, lent to the call, and handed back.
 use mathlib.Core.Path.{_≡_, refl}
 use Rattle.lent.proofs.Words.{by-value, chosen-by-value, struct-part}
-use Rattle.shapes.proofs.made.WholeReceives.{proof}
+use Rattle.shapes.proofs.made.WholeDelivers.{proof}
 use Rattle.clock.proofs.Types.{clock}
 use Rattle.table.proofs.Types.{entry}
 use Rattle.host.specs.Lent.{lent}
 use Rattle.host.proofs.Types.{number, settings, links, reply}
 use Rattle.calls.specs.Perform.{perform, Leaves}
 use Rattle.calls.specs.Perform as definition
-use Rattle.calls.proofs.receive.Symbol as calls
-use Rattle.calls.proofs.receive.Met as calls-known
+use Rattle.calls.proofs.Types.{delivery}
+use Rattle.calls.proofs.deliver.Symbol as calls
+use Rattle.calls.proofs.deliver.Met as calls-known
 use Rattle.program.specs.declared.Whole.{Whole}
 use Rattle.program.specs.Held.{wholeOf}
 use Rattle.program.proofs.Whole as W
-use Rattle.program.proofs.receive.Key.{name as #receive}
-use Rattle.program.proofs.receive.Statement as stated
-use Rattle.program.proofs.receive.Code as code
+use Rattle.program.proofs.deliver.Key.{name as #deliver}
+use Rattle.program.proofs.deliver.Statement as stated
+use Rattle.program.proofs.deliver.Code as code
 
-pub receive-spec : {M : Type 1} → stated.statement M
+pub deliver-spec : {M : Type 1} → stated.statement M
 unfolding code.routine
-receive-spec 𝓤 H 𝓜 𝓖 𝓡 =
-    proof number number settings clock links entry 255 (struct-part reply) (λ r. r) (λ r vs is. is)
+deliver-spec 𝓤 H 𝓜 𝓖 𝓡 =
+    proof number (chosen-by-value delivery) settings clock links entry 255 (struct-part reply) (λ r. r) (λ r vs is. is)
     (W.the-type .name) Whole (W.the-type .to) (W.the-type .to-one) (λ a c l run. record { reply = a; clock = c; links = l; run = run }) (λ a c l run. refl) 𝓤 H 𝓜 𝓖 𝓡
-    (λ s k c l run n b c′ l′ run′ r. Leaves (perform (definition.receive n b) (lent s k c l run)) r c′ l′ run′)
-    (λ s k c l run n b w. w ≡ wholeOf (perform (definition.receive n b) (lent s k c l run)))
+    (λ s k c l run n b c′ l′ run′ r. Leaves (perform (definition.deliver n b) (lent s k c l run)) r c′ l′ run′)
+    (λ s k c l run n b w. w ≡ wholeOf (perform (definition.deliver n b) (lent s k c l run)))
     (λ s k c l run n b c′ l′ run′ r is. λ i. record { reply = is .reply i; clock = is .clock i; links = is .links i; run = is .run i }) tt tt
-    code.env #receive calls.name calls.routine code.calls-calls·receive (code.unfolded 𝓤 H 𝓜 𝓡) (calls-known.met 𝓤 H 𝓜 𝓖 𝓡)
+    code.env #deliver calls.name calls.routine code.calls-calls·deliver (code.unfolded 𝓤 H 𝓜 𝓡) (calls-known.met 𝓤 H 𝓜 𝓖 𝓡)

@@ -1,4 +1,4 @@
--- An arrival as the code goes: what each update asks is there, and what is planned, placed and updated is what the call leaves.
+-- A packet that arrives, as the code goes: what each update asks is there, and what is planned, placed and updated is what the call leaves.
 use mathlib.Core.Path.{_≡_, refl, sym, ap, _∙_}
 use mathlib.Core.Bool.{Bool, true, false, false≢true, cond, not}
 use mathlib.Core.List.{List, []}
@@ -39,14 +39,17 @@ use Rattle.host.proofs.Sound.{Sound, sound}
 use Rattle.host.proofs.Guarded.{passed, holds, number-lent, clock-lent}
 use Rattle.arrival.specs.declared.Flight.{Flight}
 use Rattle.arrival.specs.declared.Arrived.{Arrived}
+use Rattle.arrival.specs.declared.Delivery.{Delivery}
+use Rattle.arrival.specs.declared.Delivery.the-variants.{Inspect, Act, Receive}
 use Rattle.arrival.specs.Inspection.{inspect}
 use Rattle.arrival.specs.Steps.{measured}
-use Rattle.arrival.specs.Arrival.{noUpdates, ends, noTable, withTable, step5, concluded, inspected}
+use Rattle.arrival.specs.Arrival.{noUpdates, ends, noTable, withTable, step5, concluded, inspected, onLink}
 use Rattle.arrival.specs.Arrival as definition
 use Rattle.arrival.specs.code.Plan.{planned}
 use Rattle.arrival.proofs.Flights.{Short, steps-cases, measured-short, new-short}
 use Rattle.arrival.proofs.Inspected.{Fits, inspected-fits}
-use Rattle.calls.specs.Perform.{Outcome, Leaves, receive, refused, updatedBy, perform}
+use Rattle.arrival.proofs.Pair.{one-piece}
+use Rattle.calls.specs.Perform.{Outcome, Leaves, deliver, refused, updatedBy, perform}
 use Rattle.calls.specs.code.Places.{Placeable, placedUpdates, updatesAt}
 use Rattle.calls.proofs.Carried.{entries-put}
 use Rattle.calls.proofs.CarriedUpdates as by-places
@@ -109,8 +112,9 @@ module _ (s : Settings) (good : Sound s) (i : ℕ) (octets : List ℕ) where
   abbrev Fine : Arrived → Type 0
   Fine p = Asked s octets (p .work)
 
-  ended : (a : Answer) (h : Host) → Fine (ends a h)
-  ended a h =
+  -- nothing is updated
+  quiet : (c : Clock) → Asked s octets (noUpdates c)
+  quiet c =
       record {
         rising = omega arith;
         below = omega arith;
@@ -120,6 +124,9 @@ module _ (s : Settings) (good : Sound s) (i : ℕ) (octets : List ℕ) where
         delay = λ l. absurd (omega (arith, l));
         reports = λ l. absurd (omega (arith, l));
       }
+
+  ended : (a : Answer) (h : Host) → Fine (ends a h)
+  ended a h = quiet (h .clock)
 
   fifth : (c : Clock) (l : Links) → clockInRange c ≡ true → (p : Packet) (f : Flight) → Short f → packetLength (p .nhosts) ≤ length octets
       → (eqb (p .nhosts) 0 ≡ false → p .nhosts ≡ s .layout .nhosts) → Fine (step5 (host s c l) i p f)
@@ -149,20 +156,30 @@ module _ (s : Settings) (good : Sound s) (i : ℕ) (octets : List ℕ) where
       (λ b n z. ended DelayNotValid (host s (reading c .clock) l))
       (λ b n z. fifth (reading c .clock) _ ok p _ (measured-short _ p _ _) (fits .0) (fits .1))
 
+  acted : (c : Clock) (l : Links) → clockInRange (reading c .clock) ≡ true → Fine (definition.act i octets (host s c l))
+  acted c l ok = fine c l ok (inspect s i octets) (inspected-fits s i octets)
+
+-- what each delivery's updates have
+delivered-fine : (s : Settings) → Sound s → (d : Delivery) (octets : List ℕ) (c : Clock) (l : Links) → clockInRange (reading c .clock) ≡ true
+    → Asked s octets (definition.delivered d octets (host s c l) .work)
+delivered-fine s good (Inspect i) octets c l ok = quiet s good i octets c
+delivered-fine s good (Act i) octets c l ok = acted s good i octets c l ok
+delivered-fine s good (Receive i) octets c l ok = rw (one-piece i octets (host s c l)) (acted s good i octets c l ok)
+
 -- ---- the call
 
-pub record Received (x : Lent) (octets : List ℕ) (p : Arrived) (o : Outcome) : Type 0 where
+pub record Delivered (x : Lent) (octets : List ℕ) (p : Arrived) (o : Outcome) : Type 0 where
   pub ids : Placeable (x .number) (p .work .first) (p .work .end) × (p .work .base ≤ p .work .first)
   pub there : UpdatesFit (updatesAt (x .number) (p .work)) (x .run) octets
   pub left :
       Leaves o (p .reply) (updates (updatesAt (x .number) (p .work)) octets (x .run) .clock) (p .links)
       (updates (updatesAt (x .number) (p .work)) octets (x .run) .entries)
 
-module _ (x : Lent) (i : ℕ) (octets : List ℕ) where
+module _ (x : Lent) (d : Delivery) (octets : List ℕ) where
   abbrev g : Answer
-  g = guard (OnLink i) x
+  g = guard (OnLink (onLink d)) x
 
-  refuses : Received x octets (ends g (x .host)) (refused g (receive i octets) x)
+  refuses : Delivered x octets (ends g (x .host)) (refused g (deliver d octets) x)
   unfolding updates sweep
   refuses =
       record {
@@ -171,27 +188,27 @@ module _ (x : Lent) (i : ℕ) (octets : List ℕ) where
         left = record { reply = refl; clock = refl; links = refl; run = over-nothing 0 (x .run) };
       }
 
-  goes-on : done g ≡ true → Received x octets (definition.arrival i octets (x .host)) (updatedBy (definition.arrival i octets (x .host)) octets x)
+  goes-on : done g ≡ true → Delivered x octets (definition.delivered d octets (x .host)) (updatedBy (definition.delivered d octets (x .host)) octets x)
   unfolding reading
   goes-on e =
       let s = x .host .settings in
-      let q = passed (OnLink i) x e in
+      let q = passed (OnLink (onLink d)) x e in
       let h = holds (x .number) (x .run) (q .places) in
       let k-in = number-lent (x .number) (x .run) (q .places) in
-      let p = definition.arrival i octets (x .host) in
-      let a = fine s (sound s (q .settings)) i octets (x .host .clock) (x .host .links) (clock-lent x (q .lent refl)) (inspect s i octets) (inspected-fits s i octets) in
+      let p = definition.delivered d octets (x .host) in
+      let a = delivered-fine s (sound s (q .settings)) d octets (x .host .clock) (x .host .links) (clock-lent x (q .lent refl)) in
       record {
         ids = (record { number = λ _. k-in; ids = λ _. omega (arith, a .below) }, omega (arith, a .base));
         there = fits s (x .number) (x .run) h octets (p .work) a;
         left = rw (carried s (x .number) (x .run) h octets (p .work) a) record { reply = refl; clock = refl; links = refl; run = refl };
       }
 
-  pub received : Received x octets (planned g i octets (x .host)) (perform (receive i octets) x)
+  pub delivered : Delivered x octets (planned g d octets (x .host)) (perform (deliver d octets) x)
   unfolding perform
-  received = go (not (done g)) refl
+  delivered = go (not (done g)) refl
     where
       go : (b : Bool) → not (done g) ≡ b
-          → Received x octets (cond b (ends g (x .host)) (definition.arrival i octets (x .host)))
-          (cond b (refused g (receive i octets) x) (updatedBy (definition.arrival i octets (x .host)) octets x))
+          → Delivered x octets (cond b (ends g (x .host)) (definition.delivered d octets (x .host)))
+          (cond b (refused g (deliver d octets) x) (updatedBy (definition.delivered d octets (x .host)) octets x))
       go true e = refuses
       go false e = goes-on (is-so _ e)

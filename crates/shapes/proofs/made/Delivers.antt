@@ -1,4 +1,4 @@
--- The law of a thin function: `fn Receives(settings: &S, number: N, clock: &mut C, links: &mut L, run: &mut [E], link: I, packet: &[u8]) -> K { let s = *settings; let c = *clock; let l = *links; let a: U = scope(link); let g: G = guard(settings, number, c, l, a, &run); let p: P(K, L, J) = plan(g, s, c, l, link, packet); let w: X = place(number, p.2); let k: C = act(run, w, packet); *clock = k; *links = p.1; p.0 }`.
+-- The law of a thin function: `fn Delivers(settings: &S, number: N, clock: &mut C, links: &mut L, run: &mut [E], delivery: I, packet: &[u8]) -> K { let s = *settings; let c = *clock; let l = *links; let a: U = scope(delivery); let g: G = guard(settings, number, c, l, a, &run); let p: P(K, L, J) = plan(g, s, c, l, delivery, packet); let w: X = place(number, p.2); let k: C = act(run, w, packet); *clock = k; *links = p.1; p.0 }`.
 -- It is one walk of that MIR, for any types and any contracts of the functions that are called. The author shows that each of them is asked for no more than what is known (`ok`), and that what they say comes to what the function says (`then`).
 -- Made by tools/laws/make. Assumes nothing.
 use Rattle.lent.proofs.Walk.{_≡_, refl, ap, ℕ, List, [], _∷_, length, T, URA, fullShare, Name, Fn, named, erased, mut, imm, tyRef, tyInt, w8, local, valueLocal, place, deref, field, copy, rvOpd, addrOf, aggregate, assign, call, seq, return, Val, vptr, SProp, ent, sep, emp, id⊢, GName, Lft, Share, ftrue, fat, flft, fobs, fbor, Model, Routine, Env, Heap, Calls, Loops, WpFn, Tables, Closed, Atoms, fact, GhostRules, Running, givenOf, tables, Given, ‵, raw, _⊛_, ⋆, some, later, _$_, _∵_, !, qed, by, move, keep, drop, use0, use1, use2, use3, split, join, pick, rewrite, fsplit, fsplit3, fjoin, fjoin3, feqI, feqL, suffices, frame, await, done, look, look-raw, init, store-raw, forget, stop, hop, fld, from, load, addr, of-opd, and-then, no-more, assigns, land, returns, enter, alloc1, alloc0, params1, pass1, pass0, free1, free0, agg, whole-part, sub, look-in, lft-new, lft-end, Referent, FmC, fmOf, WpFn-mono, RattleType, owns, Is, shows, mem, pointee, u8, RefOf, RefMutOf, SliceRefOf, SliceRefMutOf, RefT, MutRef, ShrRef, ptr-vals, mut-tells, shr-tells, shr-copy, sliceVal, sliceTy, slice-vals, MutSlice, ShrSlice, Room, finally, mut-slice-tells, shr-slice-tells, shr-slice-copy, Signature, plain, shrRefTo, shrSliceOf, only, opens, closes, looks, shuts, owned, peeks, heard, nothing, spelt, layout, row, shape, onEntry, Meets, tripleOf, Contract, Triple, calls-at, entered, cited, Ended, Clauses, Lasts, closing, ensured, lasts, Stays, stay-ref, stay-dropped, gave-slice, says, walkOf, goes-ref, goes-dropped, goes-gave-slice, ends-at, walked, walk-meets, yes}
@@ -140,13 +140,13 @@ module _ (N I U G X : Word) (S C L E : Data) (K J : Part) (P : Outcome (K ∷ (s
     clauses = λ κs a. record { ghost = Unit {0}; requires = λ _. emp 𝓤; ensures = λ _ r e. fact 𝓤 (Says (a .0 .now) (a .1 .0) (a .1 .1 .0 .now) (a .1 .1 .1 .0 .now) (a .1 .1 .1 .1 .0 .now) (a .1 .1 .1 .1 .1 .0) (a .1 .1 .1 .1 .1 .1 .0 .now) (e .1 .1 .0 .now) (e .1 .1 .1 .0 .now) (e .1 .1 .1 .1 .0 .now) r) }
 
     module _ (W : Given 𝓤 H A)
-        (ok₁ : (settings : S .S .D) (number : N .row .Denot) (clock : C .S .D) (links : L .S .D) (run : List (E .S .D)) (link : I .row .Denot) (packet : List (ℕ)) → ent 𝓤 (emp 𝓤) (asks₁ link))
-        (ok₂ : (settings : S .S .D) (number : N .row .Denot) (clock : C .S .D) (links : L .S .D) (run : List (E .S .D)) (link : I .row .Denot) (packet : List (ℕ)) (a : U .row .Denot) → gives₁ link a → ent 𝓤 (emp 𝓤) (asks₂ settings number clock links a run))
-        (ok₃ : (settings : S .S .D) (number : N .row .Denot) (clock : C .S .D) (links : L .S .D) (run : List (E .S .D)) (link : I .row .Denot) (packet : List (ℕ)) (a : U .row .Denot) (g : G .row .Denot) → gives₁ link a → gives₂ settings number clock links a run g → ent 𝓤 (emp 𝓤) (asks₃ g settings clock links link packet))
-        (ok₄ : (settings : S .S .D) (number : N .row .Denot) (clock : C .S .D) (links : L .S .D) (run : List (E .S .D)) (link : I .row .Denot) (packet : List (ℕ)) (a : U .row .Denot) (g : G .row .Denot) (p : XP .row .Denot) → gives₁ link a → gives₂ settings number clock links a run g → gives₃ g settings clock links link packet p → ent 𝓤 (emp 𝓤) (asks₄ number (J .res (P .form .read p .1 .1 .0))))
-        (ok₅ : (settings : S .S .D) (number : N .row .Denot) (clock : C .S .D) (links : L .S .D) (run : List (E .S .D)) (link : I .row .Denot) (packet : List (ℕ)) (a : U .row .Denot) (g : G .row .Denot) (p : XP .row .Denot) (w : X .row .Denot) → gives₁ link a → gives₂ settings number clock links a run g → gives₃ g settings clock links link packet p → gives₄ number (J .res (P .form .read p .1 .1 .0)) w → ent 𝓤 (emp 𝓤) (asks₅ run w packet))
-        (then : (settings : S .S .D) (number : N .row .Denot) (clock : C .S .D) (links : L .S .D) (run : List (E .S .D)) (link : I .row .Denot) (packet : List (ℕ)) (a : U .row .Denot) (g : G .row .Denot) (p : XP .row .Denot) (w : X .row .Denot) (k : XC .row .Denot) (run′ : List (E .S .D)) → gives₁ link a → gives₂ settings number clock links a run g → gives₃ g settings clock links link packet p → gives₄ number (J .res (P .form .read p .1 .1 .0)) w → gives₅ run w packet k run′ → Says settings number clock links run link packet k ((struct-part L) .res (P .form .read p .1 .0)) run′ (K .res (P .form .read p .0)))
-        (κ₀ κ₁ κ₂ κ₃ κ₄ : Lft) (q₀ q₁ q₂ q₃ q₄ : Share) (b₀ o₀ b₁ o₁ b₂ o₂ b₃ o₃ b₄ o₄ : ℕ) (γ₀ γ₁ γ₂ γ₃ γ₄ : GName) (settings : S .S .D) (number : N .row .Denot) (clock : C .S .D) (links : L .S .D) (run : List (E .S .D)) (link : I .row .Denot) (packet : List (ℕ)) where
+        (ok₁ : (settings : S .S .D) (number : N .row .Denot) (clock : C .S .D) (links : L .S .D) (run : List (E .S .D)) (delivery : I .row .Denot) (packet : List (ℕ)) → ent 𝓤 (emp 𝓤) (asks₁ delivery))
+        (ok₂ : (settings : S .S .D) (number : N .row .Denot) (clock : C .S .D) (links : L .S .D) (run : List (E .S .D)) (delivery : I .row .Denot) (packet : List (ℕ)) (a : U .row .Denot) → gives₁ delivery a → ent 𝓤 (emp 𝓤) (asks₂ settings number clock links a run))
+        (ok₃ : (settings : S .S .D) (number : N .row .Denot) (clock : C .S .D) (links : L .S .D) (run : List (E .S .D)) (delivery : I .row .Denot) (packet : List (ℕ)) (a : U .row .Denot) (g : G .row .Denot) → gives₁ delivery a → gives₂ settings number clock links a run g → ent 𝓤 (emp 𝓤) (asks₃ g settings clock links delivery packet))
+        (ok₄ : (settings : S .S .D) (number : N .row .Denot) (clock : C .S .D) (links : L .S .D) (run : List (E .S .D)) (delivery : I .row .Denot) (packet : List (ℕ)) (a : U .row .Denot) (g : G .row .Denot) (p : XP .row .Denot) → gives₁ delivery a → gives₂ settings number clock links a run g → gives₃ g settings clock links delivery packet p → ent 𝓤 (emp 𝓤) (asks₄ number (J .res (P .form .read p .1 .1 .0))))
+        (ok₅ : (settings : S .S .D) (number : N .row .Denot) (clock : C .S .D) (links : L .S .D) (run : List (E .S .D)) (delivery : I .row .Denot) (packet : List (ℕ)) (a : U .row .Denot) (g : G .row .Denot) (p : XP .row .Denot) (w : X .row .Denot) → gives₁ delivery a → gives₂ settings number clock links a run g → gives₃ g settings clock links delivery packet p → gives₄ number (J .res (P .form .read p .1 .1 .0)) w → ent 𝓤 (emp 𝓤) (asks₅ run w packet))
+        (then : (settings : S .S .D) (number : N .row .Denot) (clock : C .S .D) (links : L .S .D) (run : List (E .S .D)) (delivery : I .row .Denot) (packet : List (ℕ)) (a : U .row .Denot) (g : G .row .Denot) (p : XP .row .Denot) (w : X .row .Denot) (k : XC .row .Denot) (run′ : List (E .S .D)) → gives₁ delivery a → gives₂ settings number clock links a run g → gives₃ g settings clock links delivery packet p → gives₄ number (J .res (P .form .read p .1 .1 .0)) w → gives₅ run w packet k run′ → Says settings number clock links run delivery packet k ((struct-part L) .res (P .form .read p .1 .0)) run′ (K .res (P .form .read p .0)))
+        (κ₀ κ₁ κ₂ κ₃ κ₄ : Lft) (q₀ q₁ q₂ q₃ q₄ : Share) (b₀ o₀ b₁ o₁ b₂ o₂ b₃ o₃ b₄ o₄ : ℕ) (γ₀ γ₁ γ₂ γ₃ γ₄ : GName) (settings : S .S .D) (number : N .row .Denot) (clock : C .S .D) (links : L .S .D) (run : List (E .S .D)) (delivery : I .row .Denot) (packet : List (ℕ)) where
       abbrev ref₀ : GName → S .S .D → RefT (S .S .D)
       ref₀ γ x = record { ptr = (b₀, o₀); name = γ; now = x }
 
@@ -163,35 +163,35 @@ module _ (N I U G X : Word) (S C L E : Data) (K J : Part) (P : Outcome (K ∷ (s
       ref₄ γ x = record { ptr = (b₄, o₄); name = γ; now = x }
 
       abbrev x : RefT (S .S .D) × (N .row .Denot × (RefT (C .S .D) × (RefT (L .S .D) × (RefT (List (E .S .D)) × (I .row .Denot × (RefT (List (ℕ)) × Unit {0}))))))
-      x = (ref₀ γ₀ settings, (number, (ref₁ γ₁ clock, (ref₂ γ₂ links, (ref₃ γ₃ run, (link, (ref₄ γ₄ packet, tt)))))))
+      x = (ref₀ γ₀ settings, (number, (ref₁ γ₁ clock, (ref₂ γ₂ links, (ref₃ γ₃ run, (delivery, (ref₄ γ₄ packet, tt)))))))
 
       abbrev at : List Val × (List Val × (List Val × (List Val × (List Val × (List Val × (List Val × Unit {0}))))))
-      at = (vptr b₀ o₀ ∷ [], (N .val number ∷ [], (vptr b₁ o₁ ∷ [], (vptr b₂ o₂ ∷ [], (slice-vals (ref₃ γ₃ run), (I .val link ∷ [], (slice-vals (ref₄ γ₄ packet), tt)))))))
+      at = (vptr b₀ o₀ ∷ [], (N .val number ∷ [], (vptr b₁ o₁ ∷ [], (vptr b₂ o₂ ∷ [], (slice-vals (ref₃ γ₃ run), (I .val delivery ∷ [], (slice-vals (ref₄ γ₄ packet), tt)))))))
 
       abbrev Post : Val → SProp 𝓤
       Post = walkOf 𝓤 H A ended stayed clauses .post (((κ₀, (κ₁, (κ₂, (κ₃, (κ₄, tt))))), (q₀, (q₁, (q₂, (q₃, (q₄, tt))))), tt, x, at), tt)
 
-      exits : (clock′ : C .S .D) (links′ : L .S .D) (run′ : List (E .S .D)) (r : XK .row .Denot) (v : Val) → length run′ ≡ length run → Says settings number clock links run link packet clock′ links′ run′ r → ent 𝓤 (⋆ 𝓤 H A (‵ (fobs γ₁ (RC .coded .code clock′)) ∷ ‵ (fbor κ₁ (Referent (mem RC) b₁ o₁ γ₁)) ∷ ‵ (fobs γ₂ (RL .coded .code links′)) ∷ ‵ (fbor κ₂ (Referent (mem RL) b₂ o₂ γ₂)) ∷ ‵ (finally RE γ₃ run′) ∷ ‵ (flft κ₀ q₀) ∷ ‵ (flft κ₁ q₁) ∷ ‵ (flft κ₂ q₂) ∷ ‵ (flft κ₃ q₃) ∷ ‵ (flft κ₄ q₄) ∷ ‵ (XK .row .own r (v ∷ [])) ∷ [])) (Post v)
+      exits : (clock′ : C .S .D) (links′ : L .S .D) (run′ : List (E .S .D)) (r : XK .row .Denot) (v : Val) → length run′ ≡ length run → Says settings number clock links run delivery packet clock′ links′ run′ r → ent 𝓤 (⋆ 𝓤 H A (‵ (fobs γ₁ (RC .coded .code clock′)) ∷ ‵ (fbor κ₁ (Referent (mem RC) b₁ o₁ γ₁)) ∷ ‵ (fobs γ₂ (RL .coded .code links′)) ∷ ‵ (fbor κ₂ (Referent (mem RL) b₂ o₂ γ₂)) ∷ ‵ (finally RE γ₃ run′) ∷ ‵ (flft κ₀ q₀) ∷ ‵ (flft κ₁ q₁) ∷ ‵ (flft κ₂ q₂) ∷ ‵ (flft κ₃ q₃) ∷ ‵ (flft κ₄ q₄) ∷ ‵ (XK .row .own r (v ∷ [])) ∷ [])) (Post v)
       exits clock′ links′ run′ r v len-run φ =
           qed W (‵ (fobs γ₁ (RC .coded .code clock′)) ∷ ‵ (fbor κ₁ (Referent (mem RC) b₁ o₁ γ₁)) ∷ ‵ (fobs γ₂ (RL .coded .code links′)) ∷ ‵ (fbor κ₂ (Referent (mem RL) b₂ o₂ γ₂)) ∷ ‵ (finally RE γ₃ run′) ∷ ‵ (flft κ₀ q₀) ∷ ‵ (flft κ₁ q₁) ∷ ‵ (flft κ₂ q₂) ∷ ‵ (flft κ₃ q₃) ∷ ‵ (flft κ₄ q₄) ∷ ‵ (XK .row .own r (v ∷ [])) ∷ []) ∵
-          suffices ! _ (ends-at 𝓤 H A ended stayed clauses W (((κ₀, (κ₁, (κ₂, (κ₃, (κ₄, tt))))), (q₀, (q₁, (q₂, (q₃, (q₄, tt))))), tt, x, at), tt) v r (tt, (N .last number, (clock′, (links′, (run′, (I .last link, (tt, tt))))))) (tt, (tt, (tt, (tt, (len-run, (tt, (tt, tt)))))))) $ says ! φ $
+          suffices ! _ (ends-at 𝓤 H A ended stayed clauses W (((κ₀, (κ₁, (κ₂, (κ₃, (κ₄, tt))))), (q₀, (q₁, (q₂, (q₃, (q₄, tt))))), tt, x, at), tt) v r (tt, (N .last number, (clock′, (links′, (run′, (I .last delivery, (tt, tt))))))) (tt, (tt, (tt, (tt, (len-run, (tt, (tt, tt)))))))) $ says ! φ $
           nothing ! $ move ! (10 ∷ 0 ∷ []) $ join ! $ move ! (9 ∷ 0 ∷ []) $ join ! $ move ! (8 ∷ 0 ∷ []) $ join ! $ move ! (7 ∷ 0 ∷ []) $ join ! $ move ! (6 ∷ 0 ∷ []) $ join ! $ frame ! $ nothing ! $
           nothing ! $ fjoin ! $ nothing ! $ fjoin ! $ move ! (5 ∷ 0 ∷ []) $ fjoin ! $ move ! (3 ∷ 4 ∷ []) $ feqI ! (List Val) (vptr b₂ o₂ ∷ []) (vptr b₂ o₂ ∷ []) refl $ fjoin3 ! $ fjoin ! $
           move ! (1 ∷ 2 ∷ []) $ feqI ! (List Val) (vptr b₁ o₁ ∷ []) (vptr b₁ o₁ ∷ []) refl $ fjoin3 ! $ fjoin ! $ nothing ! $ fjoin ! $ nothing ! $ fjoin ! $ frame ! $ done !
 
-      module _ (is-number : Is (N .row) number (N .val number ∷ [])) (is-link : Is (I .row) link (I .val link ∷ [])) (room-run : Room RE (length run)) (room-packet : Room u8 (length packet))
+      module _ (is-number : Is (N .row) number (N .val number ∷ [])) (is-delivery : Is (I .row) delivery (I .val delivery ∷ [])) (room-run : Room RE (length run)) (room-packet : Room u8 (length packet))
           (T : Calls 𝓤 H) (Λ : Loops 𝓤 H) (g₁ g₂ g₃ g₄ g₅ : Name) (fm : FmC 𝓤 H (W .laws) T) (known₁ : Triple 𝓤 (T g₁) Contract₁) (known₂ : Triple 𝓤 (T g₂) Contract₂) (known₃ : Triple 𝓤 (T g₃) Contract₃) (known₄ : Triple 𝓤 (T g₄) Contract₄) (known₅ : Triple 𝓤 (T g₅) Contract₅) where
-        walk : ent 𝓤 (sep 𝓤 (onEntry 𝓤 H A signature (κ₀, (κ₁, (κ₂, (κ₃, (κ₄, tt))))) (q₀, (q₁, (q₂, (q₃, (q₄, tt))))) x at) (emp 𝓤)) (WpFn 𝓤 H T Λ (function g₁ g₂ g₃ g₄ g₅) (vptr b₀ o₀ ∷ N .val number ∷ vptr b₁ o₁ ∷ vptr b₂ o₂ ∷ sliceVal (b₃, o₃) (length run) ∷ I .val link ∷ sliceVal (b₄, o₄) (length packet) ∷ []) Post)
+        walk : ent 𝓤 (sep 𝓤 (onEntry 𝓤 H A signature (κ₀, (κ₁, (κ₂, (κ₃, (κ₄, tt))))) (q₀, (q₁, (q₂, (q₃, (q₄, tt))))) x at) (emp 𝓤)) (WpFn 𝓤 H T Λ (function g₁ g₂ g₃ g₄ g₅) (vptr b₀ o₀ ∷ N .val number ∷ vptr b₁ o₁ ∷ vptr b₂ o₂ ∷ sliceVal (b₃, o₃) (length run) ∷ I .val delivery ∷ sliceVal (b₄, o₄) (length packet) ∷ []) Post)
         walk =
             qed W (((‵ (flft κ₀ q₀) ⊛ ‵ (flft κ₁ q₁) ⊛ ‵ (flft κ₂ q₂) ⊛ ‵ (flft κ₃ q₃) ⊛ ‵ (flft κ₄ q₄) ⊛ ‵ ftrue) ⊛ ‵ (owns (ShrRef (named 0) κ₀ RS ∷ N .row ∷ MutRef (named 1) κ₁ RC ∷ MutRef (named 2) κ₂ RL ∷ MutSlice (named 3) κ₃ RE ∷ I .row ∷ ShrSlice (named 4) κ₄ u8 ∷ []) x at)) ∷ raw (emp 𝓤) ∷ []) ∵
             split ! $ move ! (2 ∷ []) $ drop ! $ split ! $ move ! (1 ∷ []) $ split ! $ move ! (1 ∷ []) $ split ! $ move ! (1 ∷ []) $ split ! $ move ! (1 ∷ []) $ split ! $ move ! (1 ∷ []) $ drop ! $
             move ! (5 ∷ []) $ fsplit ! $ move ! (1 ∷ []) $ fsplit ! $ drop ! $ fsplit ! $ move ! (1 ∷ []) $ fsplit ! $ move ! (1 ∷ []) $ fsplit ! $ move ! (1 ∷ []) $ fsplit ! $ drop ! $ fsplit ! $
             move ! (1 ∷ []) $ drop ! $
-            enter ! T Λ (function g₁ g₂ g₃ g₄ g₅) (vptr b₀ o₀ ∷ N .val number ∷ vptr b₁ o₁ ∷ vptr b₂ o₂ ∷ sliceVal (b₃, o₃) (length run) ∷ I .val link ∷ sliceVal (b₄, o₄) (length packet) ∷ []) _ $ alloc1 ! (λ z₀.
-            alloc1 ! (λ z₁. alloc1 ! (λ z₂. alloc1 ! (λ z₃. alloc1 ! (λ z₄. alloc1 ! (λ z₅. alloc1 ! (λ z₆. alloc1 ! (λ z₇. alloc1 ! (λ z₈. alloc1 ! (λ z₉. alloc1 ! (λ z₁₀. alloc1 ! (λ z₁₁. alloc1 ! (λ z₁₂.
-            alloc1 ! (λ z₁₃. alloc1 ! (λ z₁₄. alloc1 ! (λ z₁₅. alloc1 ! (λ z₁₆. alloc1 ! (λ z₁₇. alloc1 ! (λ z₁₈. alloc1 ! (λ z₁₉. alloc0 ! $ params1 ! $ pass1 ! (init ! 36 refl (tt, tt)) $
+            enter ! T Λ (function g₁ g₂ g₃ g₄ g₅) (vptr b₀ o₀ ∷ N .val number ∷ vptr b₁ o₁ ∷ vptr b₂ o₂ ∷ sliceVal (b₃, o₃) (length run) ∷ I .val delivery ∷ sliceVal (b₄, o₄) (length packet) ∷ []) _ $
+            alloc1 ! (λ z₀. alloc1 ! (λ z₁. alloc1 ! (λ z₂. alloc1 ! (λ z₃. alloc1 ! (λ z₄. alloc1 ! (λ z₅. alloc1 ! (λ z₆. alloc1 ! (λ z₇. alloc1 ! (λ z₈. alloc1 ! (λ z₉. alloc1 ! (λ z₁₀. alloc1 ! (λ z₁₁.
+            alloc1 ! (λ z₁₂. alloc1 ! (λ z₁₃. alloc1 ! (λ z₁₄. alloc1 ! (λ z₁₅. alloc1 ! (λ z₁₆. alloc1 ! (λ z₁₇. alloc1 ! (λ z₁₈. alloc1 ! (λ z₁₉. alloc0 ! $ params1 ! $ pass1 ! (init ! 36 refl (tt, tt)) $
             pass1 ! (init ! 34 refl (N .typed M 𝓤 H A W number _ is-number)) $ pass1 ! (init ! 32 refl (tt, tt)) $ pass1 ! (init ! 30 refl (tt, tt)) $
-            pass1 ! (init ! 28 refl (tt, (tt, (record { fits = room-run .0 }, tt)))) $ pass1 ! (init ! 26 refl (I .typed M 𝓤 H A W link _ is-link)) $
+            pass1 ! (init ! 28 refl (tt, (tt, (record { fits = room-run .0 }, tt)))) $ pass1 ! (init ! 26 refl (I .typed M 𝓤 H A W delivery _ is-delivery)) $
             pass1 ! (init ! 24 refl (tt, (tt, (record { fits = room-packet .0 }, tt)))) $ pass0 ! $
             -- settings is copied out
             move ! (44 ∷ []) $
@@ -209,12 +209,13 @@ module _ (N I U G X : Word) (S C L E : Data) (K J : Part) (P : Outcome (K ∷ (s
             spelt ! RL (Is RL) (shows 𝓤 H A RL) (λ z. XL .val z ∷ []) (XL .tells) fullShare links vs b₂ o₂ $ move ! (1 ∷ []) $ peeks ! RL (Is RL) (shows 𝓤 H A RL) links (XL .val links ∷ []) (λ is-links.
             assigns ! (of-opd ! (load ! (from ! (hop ! (look ! 41 refl) (stop !))) (look-raw ! 1 refl))) (from ! (stop !)) (init ! 29 refl (XL .typed M 𝓤 H A W links _ is-links)) $ drop ! $
             -- scope
-            nothing ! $ nothing ! $ owned ! (I .row) (Is (I .row)) (I .makes M 𝓤 H A W) link (I .val link ∷ []) is-link $ fjoin ! $ use0 W (raw (asks₁ link)) (ok₁ settings number clock links run link packet) $
-            move ! (2 ∷ 1 ∷ 0 ∷ []) $ use3 W (raw (Contract₁ .pre ((tt, tt, tt, (link, tt), (I .val link ∷ [], tt)), tt))) (passed 𝓤 H A signature₁ tt tt (link, tt) (I .val link ∷ [], tt) (asks₁ link)) $
-            calls-at ! fm Contract₁ known₁ ((tt, tt, tt, (link, tt), (I .val link ∷ [], tt)), tt) (and-then ! (load ! (from ! (stop !)) (look ! 37 refl)) (no-more !)) (λ v₁.
-            use1 W (later (some (λ (a : U .row .Denot). (‵ ftrue ⊛ ‵ (U .row .own a (v₁ ∷ []))) ⊛ raw (ensured 𝓤 H A ended₁ clauses₁ tt (link, tt) tt a)))) (id⊢ 𝓤 _) $ await ! tt $ pick ! (λ a. split ! $
-            split ! $ drop ! $ move ! (1 ∷ []) $ use1 W (some (λ (ends₁ : Lasts ended₁ tt (link, tt)). ‵ (lasts ended₁ tt (link, tt) ends₁) ⊛ raw (fact 𝓤 (gives₁ link a)))) (id⊢ 𝓤 _) $ pick ! (λ ends₁. split ! $
-            move ! (1 ∷ []) $ heard ! (gives₁ link a) (λ φ₁. drop ! $ peeks ! (U .row) (Is (U .row)) (shows 𝓤 H A (U .row)) a (v₁ ∷ []) (λ said-a. drop ! $
+            nothing ! $ nothing ! $ owned ! (I .row) (Is (I .row)) (I .makes M 𝓤 H A W) delivery (I .val delivery ∷ []) is-delivery $ fjoin ! $
+            use0 W (raw (asks₁ delivery)) (ok₁ settings number clock links run delivery packet) $ move ! (2 ∷ 1 ∷ 0 ∷ []) $
+            use3 W (raw (Contract₁ .pre ((tt, tt, tt, (delivery, tt), (I .val delivery ∷ [], tt)), tt))) (passed 𝓤 H A signature₁ tt tt (delivery, tt) (I .val delivery ∷ [], tt) (asks₁ delivery)) $
+            calls-at ! fm Contract₁ known₁ ((tt, tt, tt, (delivery, tt), (I .val delivery ∷ [], tt)), tt) (and-then ! (load ! (from ! (stop !)) (look ! 37 refl)) (no-more !)) (λ v₁.
+            use1 W (later (some (λ (a : U .row .Denot). (‵ ftrue ⊛ ‵ (U .row .own a (v₁ ∷ []))) ⊛ raw (ensured 𝓤 H A ended₁ clauses₁ tt (delivery, tt) tt a)))) (id⊢ 𝓤 _) $ await ! tt $ pick ! (λ a. split ! $
+            split ! $ drop ! $ move ! (1 ∷ []) $ use1 W (some (λ (ends₁ : Lasts ended₁ tt (delivery, tt)). ‵ (lasts ended₁ tt (delivery, tt) ends₁) ⊛ raw (fact 𝓤 (gives₁ delivery a)))) (id⊢ 𝓤 _) $
+            pick ! (λ ends₁. split ! $ move ! (1 ∷ []) $ heard ! (gives₁ delivery a) (λ φ₁. drop ! $ peeks ! (U .row) (Is (U .row)) (shows 𝓤 H A (U .row)) a (v₁ ∷ []) (λ said-a. drop ! $
             land ! (from ! (stop !)) (init ! 26 refl (U .typed M 𝓤 H A W a _ said-a)) $ rewrite ! 26 (λ (u : Val). ‵ (fat fullShare (U .ty) z₁₁ 0 u)) (ap only (U .tells a (v₁ ∷ []) said-a)) refl $
             -- guard
             assigns ! (addr ! (from ! (fld ! refl (hop ! (look-in ! 38 (sub ! 0 refl (whole-part !))) (stop !))))) (from ! (stop !)) (init ! 16 refl (tt, tt)) $
@@ -227,7 +228,7 @@ module _ (N I U G X : Word) (S C L E : Data) (K J : Part) (P : Outcome (K ∷ (s
             owned ! (U .row) (Is (U .row)) (U .makes M 𝓤 H A W) a (U .val a ∷ []) (settled U a v₁ said-a) $ fjoin ! $ owned ! (XL .row) (Is (XL .row)) (XL .makes M 𝓤 H A W) links (XL .val links ∷ []) is-links $
             fjoin ! $ owned ! (XC .row) (Is (XC .row)) (XC .makes M 𝓤 H A W) clock (XC .val clock ∷ []) is-clock $ fjoin ! $
             owned ! (N .row) (Is (N .row)) (N .makes M 𝓤 H A W) number (N .val number ∷ []) is-number $ fjoin ! $ move ! (3 ∷ 0 ∷ []) $ fjoin ! $
-            use0 W (raw (asks₂ settings number clock links a run)) (ok₂ settings number clock links run link packet a φ₁) $ move ! (2 ∷ 1 ∷ 0 ∷ []) $
+            use0 W (raw (asks₂ settings number clock links a run)) (ok₂ settings number clock links run delivery packet a φ₁) $ move ! (2 ∷ 1 ∷ 0 ∷ []) $
             use3 W (raw (Contract₂ .pre (((κ₀, ((α₂ ∷ []), tt)), (q₀, (fullShare, tt)), tt, (ref₀ γ₀ settings, (number, (clock, (links, (a, (ref₃ δ₂ run, tt)))))), (vptr b₀ o₀ ∷ [], (N .val number ∷ [], (XC .val clock ∷ [], (XL .val links ∷ [], (U .val a ∷ [], (slice-vals (ref₃ δ₂ run), tt))))))), tt))) (passed 𝓤 H A signature₂ (κ₀, ((α₂ ∷ []), tt)) (q₀, (fullShare, tt)) (ref₀ γ₀ settings, (number, (clock, (links, (a, (ref₃ δ₂ run, tt)))))) (vptr b₀ o₀ ∷ [], (N .val number ∷ [], (XC .val clock ∷ [], (XL .val links ∷ [], (U .val a ∷ [], (slice-vals (ref₃ δ₂ run), tt)))))) (asks₂ settings number clock links a run)) $
             calls-at ! fm Contract₂ known₂ (((κ₀, ((α₂ ∷ []), tt)), (q₀, (fullShare, tt)), tt, (ref₀ γ₀ settings, (number, (clock, (links, (a, (ref₃ δ₂ run, tt)))))), (vptr b₀ o₀ ∷ [], (N .val number ∷ [], (XC .val clock ∷ [], (XL .val links ∷ [], (U .val a ∷ [], (slice-vals (ref₃ δ₂ run), tt))))))), tt) (and-then ! (load ! (from ! (stop !)) (look ! 47 refl)) (and-then ! (load ! (from ! (stop !)) (look ! 45 refl)) (and-then ! (load ! (from ! (stop !)) (look ! 31 refl)) (and-then ! (load ! (from ! (stop !)) (look ! 29 refl)) (and-then ! (load ! (from ! (stop !)) (look ! 27 refl)) (and-then ! (load ! (from ! (stop !)) (look ! 15 refl)) (no-more !))))))) (λ v₂.
             use1 W (later (some (λ (g : G .row .Denot). ((‵ (flft κ₀ q₀) ⊛ ‵ (flft (α₂ ∷ []) fullShare) ⊛ ‵ ftrue) ⊛ ‵ (G .row .own g (v₂ ∷ []))) ⊛ raw (ensured 𝓤 H A ended₂ clauses₂ (κ₀, ((α₂ ∷ []), tt)) (ref₀ γ₀ settings, (number, (clock, (links, (a, (ref₃ δ₂ run, tt)))))) tt g)))) (id⊢ 𝓤 _) $ await ! tt $
@@ -240,24 +241,25 @@ module _ (N I U G X : Word) (S C L E : Data) (K J : Part) (P : Outcome (K ∷ (s
             -- plan
             move ! (52 ∷ []) $
             use1 W (‵ (ShrSlice (named 4) κ₄ u8 .own (ref₄ γ₄ packet) (slice-vals (ref₄ γ₄ packet))) ⊛ ‵ (ShrSlice (named 4) κ₄ u8 .own (ref₄ γ₄ packet) (slice-vals (ref₄ γ₄ packet)))) (shr-slice-copy 𝓤 H A W (named 4) κ₄ u8 .twice (ref₄ γ₄ packet) (slice-vals (ref₄ γ₄ packet))) $
-            split ! $ nothing ! $ move ! (55 ∷ 0 ∷ []) $ join ! $ nothing ! $ move ! (2 ∷ 0 ∷ []) $ fjoin ! $ owned ! (I .row) (Is (I .row)) (I .makes M 𝓤 H A W) link (I .val link ∷ []) is-link $ fjoin ! $
-            owned ! (XL .row) (Is (XL .row)) (XL .makes M 𝓤 H A W) links (XL .val links ∷ []) is-links $ fjoin ! $ owned ! (XC .row) (Is (XC .row)) (XC .makes M 𝓤 H A W) clock (XC .val clock ∷ []) is-clock $
-            fjoin ! $ owned ! (XS .row) (Is (XS .row)) (XS .makes M 𝓤 H A W) settings (XS .val settings ∷ []) is-settings $ fjoin ! $
+            split ! $ nothing ! $ move ! (55 ∷ 0 ∷ []) $ join ! $ nothing ! $ move ! (2 ∷ 0 ∷ []) $ fjoin ! $ owned ! (I .row) (Is (I .row)) (I .makes M 𝓤 H A W) delivery (I .val delivery ∷ []) is-delivery $
+            fjoin ! $ owned ! (XL .row) (Is (XL .row)) (XL .makes M 𝓤 H A W) links (XL .val links ∷ []) is-links $ fjoin ! $
+            owned ! (XC .row) (Is (XC .row)) (XC .makes M 𝓤 H A W) clock (XC .val clock ∷ []) is-clock $ fjoin ! $
+            owned ! (XS .row) (Is (XS .row)) (XS .makes M 𝓤 H A W) settings (XS .val settings ∷ []) is-settings $ fjoin ! $
             owned ! (G .row) (Is (G .row)) (G .makes M 𝓤 H A W) g (G .val g ∷ []) (settled G g v₂ said-g) $ fjoin ! $
-            use0 W (raw (asks₃ g settings clock links link packet)) (ok₃ settings number clock links run link packet a g φ₁ φ₂) $ move ! (2 ∷ 1 ∷ 0 ∷ []) $
-            use3 W (raw (Contract₃ .pre (((κ₄, tt), (q₄, tt), tt, (g, (settings, (clock, (links, (link, (ref₄ γ₄ packet, tt)))))), (G .val g ∷ [], (XS .val settings ∷ [], (XC .val clock ∷ [], (XL .val links ∷ [], (I .val link ∷ [], (slice-vals (ref₄ γ₄ packet), tt))))))), tt))) (passed 𝓤 H A signature₃ (κ₄, tt) (q₄, tt) (g, (settings, (clock, (links, (link, (ref₄ γ₄ packet, tt)))))) (G .val g ∷ [], (XS .val settings ∷ [], (XC .val clock ∷ [], (XL .val links ∷ [], (I .val link ∷ [], (slice-vals (ref₄ γ₄ packet), tt)))))) (asks₃ g settings clock links link packet)) $
-            calls-at ! fm Contract₃ known₃ (((κ₄, tt), (q₄, tt), tt, (g, (settings, (clock, (links, (link, (ref₄ γ₄ packet, tt)))))), (G .val g ∷ [], (XS .val settings ∷ [], (XC .val clock ∷ [], (XL .val links ∷ [], (I .val link ∷ [], (slice-vals (ref₄ γ₄ packet), tt))))))), tt) (and-then ! (load ! (from ! (stop !)) (look ! 28 refl)) (and-then ! (load ! (from ! (stop !)) (look ! 36 refl)) (and-then ! (load ! (from ! (stop !)) (look ! 34 refl)) (and-then ! (load ! (from ! (stop !)) (look ! 32 refl)) (and-then ! (load ! (from ! (stop !)) (look ! 40 refl)) (and-then ! (load ! (from ! (stop !)) (look ! 38 refl)) (no-more !))))))) (λ v₃.
-            use1 W (later (some (λ (p : XP .row .Denot). ((‵ (flft κ₄ q₄) ⊛ ‵ ftrue) ⊛ ‵ (XP .row .own p (v₃ ∷ []))) ⊛ raw (ensured 𝓤 H A ended₃ clauses₃ (κ₄, tt) (g, (settings, (clock, (links, (link, (ref₄ γ₄ packet, tt)))))) tt p)))) (id⊢ 𝓤 _) $ await ! tt $
+            use0 W (raw (asks₃ g settings clock links delivery packet)) (ok₃ settings number clock links run delivery packet a g φ₁ φ₂) $ move ! (2 ∷ 1 ∷ 0 ∷ []) $
+            use3 W (raw (Contract₃ .pre (((κ₄, tt), (q₄, tt), tt, (g, (settings, (clock, (links, (delivery, (ref₄ γ₄ packet, tt)))))), (G .val g ∷ [], (XS .val settings ∷ [], (XC .val clock ∷ [], (XL .val links ∷ [], (I .val delivery ∷ [], (slice-vals (ref₄ γ₄ packet), tt))))))), tt))) (passed 𝓤 H A signature₃ (κ₄, tt) (q₄, tt) (g, (settings, (clock, (links, (delivery, (ref₄ γ₄ packet, tt)))))) (G .val g ∷ [], (XS .val settings ∷ [], (XC .val clock ∷ [], (XL .val links ∷ [], (I .val delivery ∷ [], (slice-vals (ref₄ γ₄ packet), tt)))))) (asks₃ g settings clock links delivery packet)) $
+            calls-at ! fm Contract₃ known₃ (((κ₄, tt), (q₄, tt), tt, (g, (settings, (clock, (links, (delivery, (ref₄ γ₄ packet, tt)))))), (G .val g ∷ [], (XS .val settings ∷ [], (XC .val clock ∷ [], (XL .val links ∷ [], (I .val delivery ∷ [], (slice-vals (ref₄ γ₄ packet), tt))))))), tt) (and-then ! (load ! (from ! (stop !)) (look ! 28 refl)) (and-then ! (load ! (from ! (stop !)) (look ! 36 refl)) (and-then ! (load ! (from ! (stop !)) (look ! 34 refl)) (and-then ! (load ! (from ! (stop !)) (look ! 32 refl)) (and-then ! (load ! (from ! (stop !)) (look ! 40 refl)) (and-then ! (load ! (from ! (stop !)) (look ! 38 refl)) (no-more !))))))) (λ v₃.
+            use1 W (later (some (λ (p : XP .row .Denot). ((‵ (flft κ₄ q₄) ⊛ ‵ ftrue) ⊛ ‵ (XP .row .own p (v₃ ∷ []))) ⊛ raw (ensured 𝓤 H A ended₃ clauses₃ (κ₄, tt) (g, (settings, (clock, (links, (delivery, (ref₄ γ₄ packet, tt)))))) tt p)))) (id⊢ 𝓤 _) $ await ! tt $
             pick ! (λ p. split ! $ split ! $ split ! $ move ! (1 ∷ []) $ drop ! $ move ! (2 ∷ []) $
-            use1 W (some (λ (ends₃ : Lasts ended₃ (κ₄, tt) (g, (settings, (clock, (links, (link, (ref₄ γ₄ packet, tt))))))). ‵ (lasts ended₃ (κ₄, tt) (g, (settings, (clock, (links, (link, (ref₄ γ₄ packet, tt)))))) ends₃) ⊛ raw (fact 𝓤 (gives₃ g settings clock links link packet p)))) (id⊢ 𝓤 _) $
-            pick ! (λ ends₃. split ! $ move ! (1 ∷ []) $ heard ! (gives₃ g settings clock links link packet p) (λ φ₃. drop ! $ move ! (1 ∷ []) $
+            use1 W (some (λ (ends₃ : Lasts ended₃ (κ₄, tt) (g, (settings, (clock, (links, (delivery, (ref₄ γ₄ packet, tt))))))). ‵ (lasts ended₃ (κ₄, tt) (g, (settings, (clock, (links, (delivery, (ref₄ γ₄ packet, tt)))))) ends₃) ⊛ raw (fact 𝓤 (gives₃ g settings clock links delivery packet p)))) (id⊢ 𝓤 _) $
+            pick ! (λ ends₃. split ! $ move ! (1 ∷ []) $ heard ! (gives₃ g settings clock links delivery packet p) (λ φ₃. drop ! $ move ! (1 ∷ []) $
             peeks ! (XP .row) (Is (XP .row)) (shows 𝓤 H A (XP .row)) p (v₃ ∷ []) (λ said-p. drop ! $ land ! (from ! (stop !)) (init ! 26 refl (XP .typed M 𝓤 H A W p _ said-p)) $
             rewrite ! 26 (λ (u : Val). ‵ (fat fullShare (XP .ty) z₁₃ 0 u)) (ap only (XP .tells p (v₃ ∷ []) said-p)) refl $
             -- place
             nothing ! $ nothing ! $
             owned ! ((J .word) .row) (Is ((J .word) .row)) ((J .word) .makes M 𝓤 H A W) (J .res (P .form .read p .1 .1 .0)) (J .laws .val (J .K .into (P .form .read p .1 .1 .0)) ∷ []) (J .is (P .form .read p .1 .1 .0) (LL.owed (whole P .S) (whole P .L) p _ (settled XP p v₃ said-p) .1 .1 .0)) $
             fjoin ! $ owned ! (N .row) (Is (N .row)) (N .makes M 𝓤 H A W) number (N .val number ∷ []) is-number $ fjoin ! $
-            use0 W (raw (asks₄ number (J .res (P .form .read p .1 .1 .0)))) (ok₄ settings number clock links run link packet a g p φ₁ φ₂ φ₃) $ move ! (2 ∷ 1 ∷ 0 ∷ []) $
+            use0 W (raw (asks₄ number (J .res (P .form .read p .1 .1 .0)))) (ok₄ settings number clock links run delivery packet a g p φ₁ φ₂ φ₃) $ move ! (2 ∷ 1 ∷ 0 ∷ []) $
             use3 W (raw (Contract₄ .pre ((tt, tt, tt, (number, ((J .res (P .form .read p .1 .1 .0)), tt)), (N .val number ∷ [], (J .laws .val (J .K .into (P .form .read p .1 .1 .0)) ∷ [], tt))), tt))) (passed 𝓤 H A signature₄ tt tt (number, ((J .res (P .form .read p .1 .1 .0)), tt)) (N .val number ∷ [], (J .laws .val (J .K .into (P .form .read p .1 .1 .0)) ∷ [], tt)) (asks₄ number (J .res (P .form .read p .1 .1 .0)))) $
             calls-at ! fm Contract₄ known₄ ((tt, tt, tt, (number, ((J .res (P .form .read p .1 .1 .0)), tt)), (N .val number ∷ [], (J .laws .val (J .K .into (P .form .read p .1 .1 .0)) ∷ [], tt))), tt) (and-then ! (load ! (from ! (stop !)) (look ! 49 refl)) (and-then ! (load ! (from ! (fld ! refl (stop !))) (look-in ! 27 (sub ! 2 refl (whole-part !)))) (no-more !))) (λ v₄.
             use1 W (later (some (λ (w : X .row .Denot). (‵ ftrue ⊛ ‵ (X .row .own w (v₄ ∷ []))) ⊛ raw (ensured 𝓤 H A ended₄ clauses₄ tt (number, ((J .res (P .form .read p .1 .1 .0)), tt)) tt w)))) (id⊢ 𝓤 _) $ await ! tt $
@@ -272,7 +274,7 @@ module _ (N I U G X : Word) (S C L E : Data) (K J : Part) (P : Outcome (K ∷ (s
             use1 W (‵ (ShrSlice (named 4) κ₄ u8 .own (ref₄ γ₄ packet) (slice-vals (ref₄ γ₄ packet))) ⊛ ‵ (ShrSlice (named 4) κ₄ u8 .own (ref₄ γ₄ packet) (slice-vals (ref₄ γ₄ packet)))) (shr-slice-copy 𝓤 H A W (named 4) κ₄ u8 .twice (ref₄ γ₄ packet) (slice-vals (ref₄ γ₄ packet))) $
             split ! $ nothing ! $ move ! (3 ∷ 0 ∷ []) $ join ! $ move ! (4 ∷ 0 ∷ []) $ join ! $ nothing ! $ move ! (2 ∷ 0 ∷ []) $ fjoin ! $
             owned ! (X .row) (Is (X .row)) (X .makes M 𝓤 H A W) w (X .val w ∷ []) (settled X w v₄ said-w) $ fjoin ! $ move ! (3 ∷ 0 ∷ []) $ fjoin ! $
-            use0 W (raw (asks₅ run w packet)) (ok₅ settings number clock links run link packet a g p w φ₁ φ₂ φ₃ φ₄) $ move ! (2 ∷ 1 ∷ 0 ∷ []) $
+            use0 W (raw (asks₅ run w packet)) (ok₅ settings number clock links run delivery packet a g p w φ₁ φ₂ φ₃ φ₄) $ move ! (2 ∷ 1 ∷ 0 ∷ []) $
             use3 W (raw (Contract₅ .pre (((κ₃, (κ₄, tt)), (q₃, (q₄, tt)), tt, (ref₃ γ₃ run, (w, (ref₄ γ₄ packet, tt))), (slice-vals (ref₃ γ₃ run), (X .val w ∷ [], (slice-vals (ref₄ γ₄ packet), tt)))), tt))) (passed 𝓤 H A signature₅ (κ₃, (κ₄, tt)) (q₃, (q₄, tt)) (ref₃ γ₃ run, (w, (ref₄ γ₄ packet, tt))) (slice-vals (ref₃ γ₃ run), (X .val w ∷ [], (slice-vals (ref₄ γ₄ packet), tt))) (asks₅ run w packet)) $
             calls-at ! fm Contract₅ known₅ (((κ₃, (κ₄, tt)), (q₃, (q₄, tt)), tt, (ref₃ γ₃ run, (w, (ref₄ γ₄ packet, tt))), (slice-vals (ref₃ γ₃ run), (X .val w ∷ [], (slice-vals (ref₄ γ₄ packet), tt)))), tt) (and-then ! (load ! (from ! (stop !)) (look ! 12 refl)) (and-then ! (load ! (from ! (stop !)) (look ! 22 refl)) (and-then ! (load ! (from ! (stop !)) (look ! 36 refl)) (no-more !)))) (λ v₅.
             use1 W (later (some (λ (k : XC .row .Denot). ((‵ (flft κ₃ q₃) ⊛ ‵ (flft κ₄ q₄) ⊛ ‵ ftrue) ⊛ ‵ (XC .row .own k (v₅ ∷ []))) ⊛ raw (ensured 𝓤 H A ended₅ clauses₅ (κ₃, (κ₄, tt)) (ref₃ γ₃ run, (w, (ref₄ γ₄ packet, tt))) tt k)))) (id⊢ 𝓤 _) $ await ! tt $
@@ -298,16 +300,16 @@ module _ (N I U G X : Word) (S C L E : Data) (K J : Part) (P : Outcome (K ∷ (s
             move ! (18 ∷ 19 ∷ []) $ free1 ! $ move ! (16 ∷ 17 ∷ []) $ free1 ! $ move ! (14 ∷ 15 ∷ []) $ free1 ! $ move ! (12 ∷ 13 ∷ []) $ free1 ! $ free0 ! $
             owned ! ((K .word) .row) (Is ((K .word) .row)) ((K .word) .makes M 𝓤 H A W) (K .res (P .form .read p .0)) (K .laws .val (K .K .into (P .form .read p .0)) ∷ []) (K .is (P .form .read p .0) (LL.owed (whole P .S) (whole P .L) p _ (settled XP p v₃ said-p) .0)) $
             keep ! (4 ∷ 5 ∷ 1 ∷ 2 ∷ 7 ∷ 11 ∷ 6 ∷ 3 ∷ 9 ∷ 8 ∷ 0 ∷ []) $
-            by ! (exits k ((struct-part L) .res (P .form .read p .1 .0)) (ends₅ .0) (K .res (P .form .read p .0)) (K .laws .val (K .K .into (P .form .read p .0))) len₅ (then settings number clock links run link packet a g p w k (ends₅ .0) φ₁ φ₂ φ₃ φ₄ φ₅))))))))))))))))))))))))))))))))))))))))))))))))))))))))
+            by ! (exits k ((struct-part L) .res (P .form .read p .1 .0)) (ends₅ .0) (K .res (P .form .read p .0)) (K .laws .val (K .K .into (P .form .read p .0))) len₅ (then settings number clock links run delivery packet a g p w k (ends₅ .0) φ₁ φ₂ φ₃ φ₄ φ₅))))))))))))))))))))))))))))))))))))))))))))))))))))))))
 
   -- γ is the function's `code.env`, f and the others are the keys
   module _ {M : Type 1} (𝓤 : URA M) (H : Heap 𝓤) (𝓜 : Model 𝓤 H) (𝓖 : GhostRules 𝓤 H) (𝓡 : Running 𝓤 H 𝓜) (asks₁ : I .row .Denot → SProp 𝓤) (gives₁ : I .row .Denot → U .row .Denot → Type 0) (asks₂ : S .S .D → N .row .Denot → XC .row .Denot → XL .row .Denot → U .row .Denot → List (E .S .D) → SProp 𝓤) (gives₂ : S .S .D → N .row .Denot → XC .row .Denot → XL .row .Denot → U .row .Denot → List (E .S .D) → G .row .Denot → Type 0) (asks₃ : G .row .Denot → XS .row .Denot → XC .row .Denot → XL .row .Denot → I .row .Denot → List (ℕ) → SProp 𝓤) (gives₃ : G .row .Denot → XS .row .Denot → XC .row .Denot → XL .row .Denot → I .row .Denot → List (ℕ) → XP .row .Denot → Type 0) (asks₄ : N .row .Denot → XJ .row .Denot → SProp 𝓤) (gives₄ : N .row .Denot → XJ .row .Denot → X .row .Denot → Type 0) (asks₅ : List (E .S .D) → X .row .Denot → List (ℕ) → SProp 𝓤) (gives₅ : List (E .S .D) → X .row .Denot → List (ℕ) → XC .row .Denot → List (E .S .D) → Type 0) (Says : S .S .D → N .row .Denot → C .S .D → L .S .D → List (E .S .D) → I .row .Denot → List (ℕ) → C .S .D → L .S .D → List (E .S .D) → XK .row .Denot → Type 0)
-      (ok₁ : (settings : S .S .D) (number : N .row .Denot) (clock : C .S .D) (links : L .S .D) (run : List (E .S .D)) (link : I .row .Denot) (packet : List (ℕ)) → ent 𝓤 (emp 𝓤) (asks₁ link))
-      (ok₂ : (settings : S .S .D) (number : N .row .Denot) (clock : C .S .D) (links : L .S .D) (run : List (E .S .D)) (link : I .row .Denot) (packet : List (ℕ)) (a : U .row .Denot) → gives₁ link a → ent 𝓤 (emp 𝓤) (asks₂ settings number clock links a run))
-      (ok₃ : (settings : S .S .D) (number : N .row .Denot) (clock : C .S .D) (links : L .S .D) (run : List (E .S .D)) (link : I .row .Denot) (packet : List (ℕ)) (a : U .row .Denot) (g : G .row .Denot) → gives₁ link a → gives₂ settings number clock links a run g → ent 𝓤 (emp 𝓤) (asks₃ g settings clock links link packet))
-      (ok₄ : (settings : S .S .D) (number : N .row .Denot) (clock : C .S .D) (links : L .S .D) (run : List (E .S .D)) (link : I .row .Denot) (packet : List (ℕ)) (a : U .row .Denot) (g : G .row .Denot) (p : XP .row .Denot) → gives₁ link a → gives₂ settings number clock links a run g → gives₃ g settings clock links link packet p → ent 𝓤 (emp 𝓤) (asks₄ number (J .res (P .form .read p .1 .1 .0))))
-      (ok₅ : (settings : S .S .D) (number : N .row .Denot) (clock : C .S .D) (links : L .S .D) (run : List (E .S .D)) (link : I .row .Denot) (packet : List (ℕ)) (a : U .row .Denot) (g : G .row .Denot) (p : XP .row .Denot) (w : X .row .Denot) → gives₁ link a → gives₂ settings number clock links a run g → gives₃ g settings clock links link packet p → gives₄ number (J .res (P .form .read p .1 .1 .0)) w → ent 𝓤 (emp 𝓤) (asks₅ run w packet))
-      (then : (settings : S .S .D) (number : N .row .Denot) (clock : C .S .D) (links : L .S .D) (run : List (E .S .D)) (link : I .row .Denot) (packet : List (ℕ)) (a : U .row .Denot) (g : G .row .Denot) (p : XP .row .Denot) (w : X .row .Denot) (k : XC .row .Denot) (run′ : List (E .S .D)) → gives₁ link a → gives₂ settings number clock links a run g → gives₃ g settings clock links link packet p → gives₄ number (J .res (P .form .read p .1 .1 .0)) w → gives₅ run w packet k run′ → Says settings number clock links run link packet k ((struct-part L) .res (P .form .read p .1 .0)) run′ (K .res (P .form .read p .0)))
+      (ok₁ : (settings : S .S .D) (number : N .row .Denot) (clock : C .S .D) (links : L .S .D) (run : List (E .S .D)) (delivery : I .row .Denot) (packet : List (ℕ)) → ent 𝓤 (emp 𝓤) (asks₁ delivery))
+      (ok₂ : (settings : S .S .D) (number : N .row .Denot) (clock : C .S .D) (links : L .S .D) (run : List (E .S .D)) (delivery : I .row .Denot) (packet : List (ℕ)) (a : U .row .Denot) → gives₁ delivery a → ent 𝓤 (emp 𝓤) (asks₂ settings number clock links a run))
+      (ok₃ : (settings : S .S .D) (number : N .row .Denot) (clock : C .S .D) (links : L .S .D) (run : List (E .S .D)) (delivery : I .row .Denot) (packet : List (ℕ)) (a : U .row .Denot) (g : G .row .Denot) → gives₁ delivery a → gives₂ settings number clock links a run g → ent 𝓤 (emp 𝓤) (asks₃ g settings clock links delivery packet))
+      (ok₄ : (settings : S .S .D) (number : N .row .Denot) (clock : C .S .D) (links : L .S .D) (run : List (E .S .D)) (delivery : I .row .Denot) (packet : List (ℕ)) (a : U .row .Denot) (g : G .row .Denot) (p : XP .row .Denot) → gives₁ delivery a → gives₂ settings number clock links a run g → gives₃ g settings clock links delivery packet p → ent 𝓤 (emp 𝓤) (asks₄ number (J .res (P .form .read p .1 .1 .0))))
+      (ok₅ : (settings : S .S .D) (number : N .row .Denot) (clock : C .S .D) (links : L .S .D) (run : List (E .S .D)) (delivery : I .row .Denot) (packet : List (ℕ)) (a : U .row .Denot) (g : G .row .Denot) (p : XP .row .Denot) (w : X .row .Denot) → gives₁ delivery a → gives₂ settings number clock links a run g → gives₃ g settings clock links delivery packet p → gives₄ number (J .res (P .form .read p .1 .1 .0)) w → ent 𝓤 (emp 𝓤) (asks₅ run w packet))
+      (then : (settings : S .S .D) (number : N .row .Denot) (clock : C .S .D) (links : L .S .D) (run : List (E .S .D)) (delivery : I .row .Denot) (packet : List (ℕ)) (a : U .row .Denot) (g : G .row .Denot) (p : XP .row .Denot) (w : X .row .Denot) (k : XC .row .Denot) (run′ : List (E .S .D)) → gives₁ delivery a → gives₂ settings number clock links a run g → gives₃ g settings clock links delivery packet p → gives₄ number (J .res (P .form .read p .1 .1 .0)) w → gives₅ run w packet k run′ → Says settings number clock links run delivery packet k ((struct-part L) .res (P .form .read p .1 .0)) run′ (K .res (P .form .read p .0)))
       (γ : Env) (f g₁ g₂ g₃ g₄ g₅ : Name) (r₁ r₂ r₃ r₄ r₅ : Routine) where
     abbrev Clauses′ : Clauses 𝓤 ended
     Clauses′ = clauses 𝓤 H (𝓖 .A) asks₁ gives₁ asks₂ gives₂ asks₃ gives₃ asks₄ gives₄ asks₅ gives₅ Says

@@ -5,7 +5,7 @@ use base.Logic.{emp, id⊢}
 use contract.Monad.{fact, factI}
 use Rattle.lent.proofs.Words.{by-value, chosen-by-value, struct-part}
 use Rattle.lent.proofs.Outcomes.{whole}
-use Rattle.shapes.proofs.made.Receives.{proof}
+use Rattle.shapes.proofs.made.Delivers.{proof}
 use Rattle.clock.proofs.Types.{clock}
 use Rattle.table.specs.code.Loops.{UpdatesFit}
 use Rattle.table.specs.Runs as loops
@@ -20,40 +20,42 @@ use Rattle.host.proofs.Types.{number, settings, links, reply, scope, answer}
 use Rattle.host.proofs.Guarded.{told}
 use Rattle.host.proofs.guard.guard.Symbol as guards
 use Rattle.host.proofs.guard.guard.Met as guards-known
+use Rattle.arrival.specs.Arrival.{onLink}
 use Rattle.arrival.specs.code.Plan.{planned}
 use Rattle.arrival.proofs.plan.Symbol as plans
 use Rattle.arrival.proofs.plan.Met as plans-known
-use Rattle.calls.specs.Perform.{perform, Leaves, receive}
+use Rattle.calls.specs.Perform.{perform, Leaves}
+use Rattle.calls.specs.Perform as definition
 use Rattle.calls.specs.code.Places.{Placeable, updatesAt}
-use Rattle.calls.proofs.Types.{arrived}
-use Rattle.calls.proofs.Received.{received}
-use Rattle.calls.proofs.on_link.Symbol as scopes
-use Rattle.calls.proofs.on_link.Met as scopes-known
+use Rattle.calls.proofs.Types.{delivery, arrived}
+use Rattle.calls.proofs.Delivered.{delivered}
+use Rattle.calls.proofs.on_its_link.Symbol as scopes
+use Rattle.calls.proofs.on_its_link.Met as scopes-known
 use Rattle.calls.proofs.places.updates_at.Symbol as places
 use Rattle.calls.proofs.places.updates_at.Met as places-known
-use Rattle.calls.proofs.receive.Key.{name as #receive}
-use Rattle.calls.proofs.receive.Statement as stated
-use Rattle.calls.proofs.receive.Code as code
+use Rattle.calls.proofs.deliver.Key.{name as #deliver}
+use Rattle.calls.proofs.deliver.Statement as stated
+use Rattle.calls.proofs.deliver.Code as code
 
-pub receive-spec : {M : Type 1} → stated.statement M
+pub deliver-spec : {M : Type 1} → stated.statement M
 unfolding code.routine
-receive-spec 𝓤 H 𝓜 𝓖 𝓡 =
-    proof number number (chosen-by-value scope) (chosen-by-value answer) (by-value (whole updates))
+deliver-spec 𝓤 H 𝓜 𝓖 𝓡 =
+    proof number (chosen-by-value delivery) (chosen-by-value scope) (chosen-by-value answer) (by-value (whole updates))
     settings clock links entry (struct-part reply) (struct-part (whole updates)) arrived 𝓤 H 𝓜 𝓖 𝓡
-    (λ i. emp 𝓤) (λ i a. a ≡ OnLink i)
+    (λ d. emp 𝓤) (λ d a. a ≡ OnLink (onLink d))
     (λ s k c l a run. emp 𝓤) (λ s k c l a run g. g ≡ guard a (lent s k c l run))
-    (λ g s c l i b. fact 𝓤 (Told g (OnLink i) s c)) (λ g s c l i b p. p ≡ planned g i b (host s c l))
+    (λ g s c l d b. fact 𝓤 (Told g (OnLink (onLink d)) s c)) (λ g s c l d b p. p ≡ planned g d b (host s c l))
     (λ k w. fact 𝓤 (Placeable k (w .first) (w .end) × (w .base ≤ w .first))) (λ k w v. v ≡ updatesAt k w)
     (λ run w b. fact 𝓤 (UpdatesFit w run b)) (λ run w b k run′. (run′ ≡ loops.updates w b run .entries) × (k ≡ loops.updates w b run .clock))
-    (λ s k c l run i b c′ l′ run′ r. Leaves (perform (receive i b) (lent s k c l run)) r c′ l′ run′)
-    (λ s k c l run i b. id⊢ 𝓤 _)
-    (λ s k c l run i b a a-is. id⊢ 𝓤 _)
-    (λ s k c l run i b a g a-is g-is. factI 𝓤 _ _ (rw (g-is, a-is) (told (OnLink i) (lent s k c l run))))
-    (λ s k c l run i b a g p a-is g-is p-is. factI 𝓤 _ _ (rw (p-is, g-is, a-is) (received (lent s k c l run) i b .ids)))
-    (λ s k c l run i b a g p w a-is g-is p-is w-is. factI 𝓤 _ _ (rw (w-is, p-is, g-is, a-is) (received (lent s k c l run) i b .there)))
-    (λ s k c l run i b a g p w c′ run′ a-is g-is p-is w-is is. rw (is .0, is .1, w-is, p-is, g-is, a-is) (received (lent s k c l run) i b .left))
-    code.env #receive scopes.name guards.name plans.name places.name updates-all.name
+    (λ s k c l run d b c′ l′ run′ r. Leaves (perform (definition.deliver d b) (lent s k c l run)) r c′ l′ run′)
+    (λ s k c l run d b. id⊢ 𝓤 _)
+    (λ s k c l run d b a a-is. id⊢ 𝓤 _)
+    (λ s k c l run d b a g a-is g-is. factI 𝓤 _ _ (rw (g-is, a-is) (told (OnLink (onLink d)) (lent s k c l run))))
+    (λ s k c l run d b a g p a-is g-is p-is. factI 𝓤 _ _ (rw (p-is, g-is, a-is) (delivered (lent s k c l run) d b .ids)))
+    (λ s k c l run d b a g p w a-is g-is p-is w-is. factI 𝓤 _ _ (rw (w-is, p-is, g-is, a-is) (delivered (lent s k c l run) d b .there)))
+    (λ s k c l run d b a g p w c′ run′ a-is g-is p-is w-is is. rw (is .0, is .1, w-is, p-is, g-is, a-is) (delivered (lent s k c l run) d b .left))
+    code.env #deliver scopes.name guards.name plans.name places.name updates-all.name
     scopes.routine guards.routine plans.routine places.routine updates-all.routine
-    code.calls-calls·on-link code.calls-host·guard·guard code.calls-arrival·plan code.calls-calls·places·updates-at code.calls-table·run·update-all
+    code.calls-calls·on-its-link code.calls-host·guard·guard code.calls-arrival·plan code.calls-calls·places·updates-at code.calls-table·run·update-all
     (code.unfolded 𝓤 H 𝓜 𝓡)
     (scopes-known.met 𝓤 H 𝓜 𝓖 𝓡) (guards-known.met 𝓤 H 𝓜 𝓖 𝓡) (plans-known.met 𝓤 H 𝓜 𝓖 𝓡) (places-known.met 𝓤 H 𝓜 𝓖 𝓡) (updates-known.met 𝓤 H 𝓜 𝓖 𝓡)

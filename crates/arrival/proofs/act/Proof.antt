@@ -1,8 +1,8 @@
 -- By the inspection.
 use mathlib.Core.Path.{_∙_, sym}
 use borrow.Author.Needs.{needs}
-use Rattle.arrival.proofs.arrival.Statement.{statement}
-use Rattle.arrival.proofs.arrival.Tie as tie
+use Rattle.arrival.proofs.act.Statement.{statement}
+use Rattle.arrival.proofs.act.Tie as tie
 
 inspect-requires : tie.Need-inspect-requires
 inspect-requires c κs = search needs
@@ -25,8 +25,8 @@ returns c = rw (sym (c .before .before .before .before .inspect .ensures .0) ∙
 returns-2 : tie.Need-returns-2
 returns-2 c = rw (sym (c .before .before .before .before .inspect .ensures .0) ∙ c .before .before .p .given .1) (c .action .ensures)
 
-pub arrival-spec : {M : Type 1} → statement M
-arrival-spec =
+pub act-spec : {M : Type 1} → statement M
+act-spec =
     tie.close
     (tie.spec
     inspect-requires

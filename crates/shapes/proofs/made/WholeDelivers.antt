@@ -1,4 +1,4 @@
--- The law of a call by value: `fn WholeReceives(settings: S, number: N, clock: C, links: L, run: [E; n], link: I, packet: &[u8]) -> O { let s = settings; let mut c = clock; let mut l = links; let mut e = run; let a: K = call(&s, number, &mut c, &mut l, &mut e, link, packet); O { answer: a, clock: c, links: l, run: e } }`.
+-- The law of a call by value: `fn WholeDelivers(settings: S, number: N, clock: C, links: L, run: [E; n], delivery: I, packet: &[u8]) -> O { let s = settings; let mut c = clock; let mut l = links; let mut e = run; let a: K = call(&s, number, &mut c, &mut l, &mut e, delivery, packet); O { answer: a, clock: c, links: l, run: e } }`.
 -- It is one walk of that MIR, for any types and any contract of the call that asks nothing. What is handed back is a struct of the answer and of what the call leaves, which `make` makes; `back` is the answer as its field. The author shows that what the call says comes to what the function says (`then`).
 -- Made by tools/laws/make. Assumes nothing.
 use Rattle.lent.proofs.Walk.{_≡_, refl, sym, ap, subst, ℕ, _*_, _^_, List, [], _∷_, length, T, ltb, ltb→lt, URA, fullShare, Name, Fn, named, erased, mut, imm, tyRef, tyInt, w8, w64, local, valueLocal, place, field, copy, int, rvOpd, addrOf, aggregate, assign, call, seq, return, Val, vptr, SProp, ent, sep, emp, id⊢, GName, Lft, Share, ftrue, fat, flft, Model, Routine, Env, Heap, Calls, Loops, WpFn, Tables, Closed, Atoms, fact, GhostRules, Running, givenOf, tables, Given, ‵, raw, _⊛_, ⋆, some, later, _$_, _∵_, !, qed, by, move, keep, drop, use0, use1, use2, use3, split, join, pick, rewrite, fsplit, fjoin, suffices, frame, await, done, look, init, forget, stop, from, load, lit, addr, of-opd, and-then, no-more, assigns, land, returns, enter, alloc1, alloc0, params1, pass1, pass0, free1, free0, agg, lft-new, lft-end, Referent, FmC, fmOf, WpFn-mono, RattleType, owns, Is, shows, mem, pointee, u8, RefOf, RefMutOf, SliceRefOf, SliceRefMutOf, RefT, MutRef, ShrRef, sliceVal, sliceTy, slice-vals, MutSlice, ShrSlice, Room, shr-slice-tells, Held, Signature, plain, shrSliceOf, only, owned, peeks, heard, nothing, layout, row, shape, onEntry, Meets, tripleOf, Contract, Triple, calls-at, entered, cited, Ended, Clauses, Lasts, closing, ensured, lasts, Stays, stay-dropped, says, walkOf, goes-dropped, ends-at, walked, walk-meets, yes}
@@ -120,17 +120,17 @@ module _ (N I : Word) (S C L E : Data) (n : ℕ) (K : Part) (back : K .word .row
     clauses = λ κs a. record { ghost = Unit {0}; requires = λ _. emp 𝓤; ensures = λ _ r e. fact 𝓤 (Says (a .0) (a .1 .0) (a .1 .1 .0) (a .1 .1 .1 .0) (a .1 .1 .1 .1 .0) (a .1 .1 .1 .1 .1 .0) (a .1 .1 .1 .1 .1 .1 .0 .now) r) }
 
     module _ (W : Given 𝓤 H A)
-        (then : (settings : S .S .D) (number : N .row .Denot) (clock : C .S .D) (links : L .S .D) (run : List (E .S .D)) (link : I .row .Denot) (packet : List ℕ) (clock′ : C .S .D) (links′ : L .S .D) (run′ : List (E .S .D)) (r : K .word .row .Denot) → gives settings number clock links run link packet clock′ links′ run′ r → Says settings number clock links run link packet (make (back r) clock′ links′ run′)) (few : T (ltb n (2 ^ 64))) (small : T (ltb (n * mem RE .size) (2 ^ 63)))
-        (κ : Lft) (q : Share) (b o : ℕ) (γ : GName) (settings : S .S .D) (number : N .row .Denot) (clock : C .S .D) (links : L .S .D) (run : List (E .S .D)) (link : I .row .Denot) (packet : List ℕ)
-        (is-settings : Is (XS .row) settings (XS .val settings ∷ [])) (is-number : Is (N .row) number (N .val number ∷ [])) (is-clock : Is (XC .row) clock (XC .val clock ∷ [])) (is-links : Is (XL .row) links (XL .val links ∷ [])) (is-run : Is (XE .row) run (XE .val run ∷ [])) (is-link : Is (I .row) link (I .val link ∷ [])) (room-packet : Room u8 (length packet)) where
+        (then : (settings : S .S .D) (number : N .row .Denot) (clock : C .S .D) (links : L .S .D) (run : List (E .S .D)) (delivery : I .row .Denot) (packet : List ℕ) (clock′ : C .S .D) (links′ : L .S .D) (run′ : List (E .S .D)) (r : K .word .row .Denot) → gives settings number clock links run delivery packet clock′ links′ run′ r → Says settings number clock links run delivery packet (make (back r) clock′ links′ run′)) (few : T (ltb n (2 ^ 64))) (small : T (ltb (n * mem RE .size) (2 ^ 63)))
+        (κ : Lft) (q : Share) (b o : ℕ) (γ : GName) (settings : S .S .D) (number : N .row .Denot) (clock : C .S .D) (links : L .S .D) (run : List (E .S .D)) (delivery : I .row .Denot) (packet : List ℕ)
+        (is-settings : Is (XS .row) settings (XS .val settings ∷ [])) (is-number : Is (N .row) number (N .val number ∷ [])) (is-clock : Is (XC .row) clock (XC .val clock ∷ [])) (is-links : Is (XL .row) links (XL .val links ∷ [])) (is-run : Is (XE .row) run (XE .val run ∷ [])) (is-delivery : Is (I .row) delivery (I .val delivery ∷ [])) (room-packet : Room u8 (length packet)) where
       abbrev slice : RefT (List ℕ)
       slice = record { ptr = (b, o); name = γ; now = packet }
 
       abbrev x : S .S .D × (N .row .Denot × (C .S .D × (L .S .D × (List (E .S .D) × (I .row .Denot × (RefT (List ℕ) × Unit {0}))))))
-      x = (settings, (number, (clock, (links, (run, (link, (slice, tt)))))))
+      x = (settings, (number, (clock, (links, (run, (delivery, (slice, tt)))))))
 
       abbrev at : List Val × (List Val × (List Val × (List Val × (List Val × (List Val × (List Val × Unit {0}))))))
-      at = (XS .val settings ∷ [], (N .val number ∷ [], (XC .val clock ∷ [], (XL .val links ∷ [], (XE .val run ∷ [], (I .val link ∷ [], (slice-vals slice, tt)))))))
+      at = (XS .val settings ∷ [], (N .val number ∷ [], (XC .val clock ∷ [], (XL .val links ∷ [], (XE .val run ∷ [], (I .val delivery ∷ [], (slice-vals slice, tt)))))))
 
       room : Room RE n
       room = (ltb→lt n (2 ^ 64) few, ltb→lt (n * mem RE .size) (2 ^ 63) small)
@@ -138,24 +138,24 @@ module _ (N I : Word) (S C L E : Data) (n : ℕ) (K : Part) (back : K .word .row
       abbrev Post : Val → SProp 𝓤
       Post = walkOf 𝓤 H A ended stayed clauses .post (((κ, tt), (q, tt), tt, x, at), tt)
 
-      exits : (w : D) (v : Val) → Says settings number clock links run link packet w → ent 𝓤 (⋆ 𝓤 H A (‵ (flft κ q) ∷ ‵ (RO .own w (v ∷ [])) ∷ [])) (Post v)
+      exits : (w : D) (v : Val) → Says settings number clock links run delivery packet w → ent 𝓤 (⋆ 𝓤 H A (‵ (flft κ q) ∷ ‵ (RO .own w (v ∷ [])) ∷ [])) (Post v)
       exits w v φ =
           qed W (‵ (flft κ q) ∷ ‵ (RO .own w (v ∷ [])) ∷ []) ∵
-          suffices ! _ (ends-at 𝓤 H A ended stayed clauses W (((κ, tt), (q, tt), tt, x, at), tt) v w (XS .last settings, (N .last number, (XC .last clock, (XL .last links, (XE .last run, (I .last link, (tt, tt))))))) (tt, (tt, (tt, (tt, (tt, (tt, (tt, tt)))))))) $ says ! φ $
+          suffices ! _ (ends-at 𝓤 H A ended stayed clauses W (((κ, tt), (q, tt), tt, x, at), tt) v w (XS .last settings, (N .last number, (XC .last clock, (XL .last links, (XE .last run, (I .last delivery, (tt, tt))))))) (tt, (tt, (tt, (tt, (tt, (tt, (tt, tt)))))))) $ says ! φ $
           nothing ! $ move ! (1 ∷ 0 ∷ []) $ join ! $ frame ! $ nothing ! $ nothing ! $ fjoin ! $ nothing ! $ fjoin ! $ nothing ! $ fjoin ! $ nothing ! $ fjoin ! $ nothing ! $ fjoin ! $ nothing ! $ fjoin ! $
           nothing ! $ fjoin ! $ frame ! $ done !
 
       module _ (T₁ : Calls 𝓤 H) (Λ : Loops 𝓤 H) (g : Name) (fm : FmC 𝓤 H (W .laws) T₁) (known : Triple 𝓤 (T₁ g) Contract₁) where
-        walk : ent 𝓤 (sep 𝓤 (onEntry 𝓤 H A signature (κ, tt) (q, tt) x at) (emp 𝓤)) (WpFn 𝓤 H T₁ Λ (function g) (XS .val settings ∷ N .val number ∷ XC .val clock ∷ XL .val links ∷ XE .val run ∷ I .val link ∷ sliceVal (b, o) (length packet) ∷ []) Post)
+        walk : ent 𝓤 (sep 𝓤 (onEntry 𝓤 H A signature (κ, tt) (q, tt) x at) (emp 𝓤)) (WpFn 𝓤 H T₁ Λ (function g) (XS .val settings ∷ N .val number ∷ XC .val clock ∷ XL .val links ∷ XE .val run ∷ I .val delivery ∷ sliceVal (b, o) (length packet) ∷ []) Post)
         walk =
             qed W (((‵ (flft κ q) ⊛ ‵ ftrue) ⊛ ‵ (owns (XS .row ∷ N .row ∷ XC .row ∷ XL .row ∷ XE .row ∷ I .row ∷ ShrSlice (named 0) κ u8 ∷ []) x at)) ∷ raw (emp 𝓤) ∷ []) ∵ split ! $ move ! (2 ∷ []) $ drop ! $
             split ! $ move ! (1 ∷ []) $ drop ! $ move ! (1 ∷ []) $ fsplit ! $ drop ! $ fsplit ! $ drop ! $ fsplit ! $ drop ! $ fsplit ! $ drop ! $ fsplit ! $ drop ! $ fsplit ! $ drop ! $ fsplit ! $
-            move ! (1 ∷ []) $ drop ! $ enter ! T₁ Λ (function g) (XS .val settings ∷ N .val number ∷ XC .val clock ∷ XL .val links ∷ XE .val run ∷ I .val link ∷ sliceVal (b, o) (length packet) ∷ []) _ $
+            move ! (1 ∷ []) $ drop ! $ enter ! T₁ Λ (function g) (XS .val settings ∷ N .val number ∷ XC .val clock ∷ XL .val links ∷ XE .val run ∷ I .val delivery ∷ sliceVal (b, o) (length packet) ∷ []) _ $
             alloc1 ! (λ z₀. alloc1 ! (λ z₁. alloc1 ! (λ z₂. alloc1 ! (λ z₃. alloc1 ! (λ z₄. alloc1 ! (λ z₅. alloc1 ! (λ z₆. alloc1 ! (λ z₇. alloc1 ! (λ z₈. alloc1 ! (λ z₉. alloc1 ! (λ z₁₀. alloc1 ! (λ z₁₁.
             alloc1 ! (λ z₁₂. alloc1 ! (λ z₁₃. alloc1 ! (λ z₁₄. alloc1 ! (λ z₁₅. alloc1 ! (λ z₁₆. alloc1 ! (λ z₁₇. alloc1 ! (λ z₁₈. alloc1 ! (λ z₁₉. alloc1 ! (λ z₂₀. alloc0 ! $ params1 ! $
             pass1 ! (init ! 38 refl (XS .typed M 𝓤 H A W settings _ is-settings)) $ pass1 ! (init ! 36 refl (N .typed M 𝓤 H A W number _ is-number)) $
             pass1 ! (init ! 34 refl (XC .typed M 𝓤 H A W clock _ is-clock)) $ pass1 ! (init ! 32 refl (XL .typed M 𝓤 H A W links _ is-links)) $ pass1 ! (init ! 30 refl (XE .typed M 𝓤 H A W run _ is-run)) $
-            pass1 ! (init ! 28 refl (I .typed M 𝓤 H A W link _ is-link)) $ pass1 ! (init ! 26 refl (tt, (tt, (record { fits = room-packet .0 }, tt)))) $ pass0 ! $
+            pass1 ! (init ! 28 refl (I .typed M 𝓤 H A W delivery _ is-delivery)) $ pass1 ! (init ! 26 refl (tt, (tt, (record { fits = room-packet .0 }, tt)))) $ pass0 ! $
             assigns ! (of-opd ! (load ! (from ! (stop !)) (look ! 38 refl))) (from ! (stop !)) (init ! 24 refl (XS .typed M 𝓤 H A W settings _ is-settings)) $
             assigns ! (of-opd ! (load ! (from ! (stop !)) (look ! 34 refl))) (from ! (stop !)) (init ! 22 refl (XC .typed M 𝓤 H A W clock _ is-clock)) $
             assigns ! (of-opd ! (load ! (from ! (stop !)) (look ! 32 refl))) (from ! (stop !)) (init ! 20 refl (XL .typed M 𝓤 H A W links _ is-links)) $
@@ -176,17 +176,17 @@ module _ (N I : Word) (S C L E : Data) (n : ℕ) (K : Part) (back : K .word .row
             pick ! (λ γ₃. split ! $
             -- the call
             nothing ! $ move ! (52 ∷ 0 ∷ []) $ join ! $ move ! (3 ∷ 0 ∷ []) $ join ! $ move ! (5 ∷ 0 ∷ []) $ join ! $ move ! (7 ∷ 0 ∷ []) $ join ! $ move ! (9 ∷ 0 ∷ []) $ join ! $ nothing ! $
-            move ! (48 ∷ 0 ∷ []) $ fjoin ! $ owned ! (I .row) (Is (I .row)) (I .makes M 𝓤 H A W) link (I .val link ∷ []) is-link $ fjoin ! $ move ! (2 ∷ 0 ∷ []) $ fjoin ! $ move ! (3 ∷ 0 ∷ []) $ fjoin ! $
-            move ! (4 ∷ 0 ∷ []) $ fjoin ! $ owned ! (N .row) (Is (N .row)) (N .makes M 𝓤 H A W) number (N .val number ∷ []) is-number $ fjoin ! $ move ! (5 ∷ 0 ∷ []) $ fjoin ! $ use0 W (raw (emp 𝓤)) (id⊢ 𝓤 _) $
-            move ! (2 ∷ 1 ∷ 0 ∷ []) $
-            use3 W (raw (Contract₁ .pre ((((α₀ ∷ []), ((α₁ ∷ []), ((α₂ ∷ []), ((α₃ ∷ []), (κ, tt))))), (fullShare, (fullShare, (fullShare, (fullShare, (q, tt))))), tt, (record { ptr = (z₈, 0); name = γ₀; now = settings }, (number, (record { ptr = (z₉, 0); name = γ₁; now = clock }, (record { ptr = (z₁₀, 0); name = γ₂; now = links }, (record { ptr = (z₁₁, 0); name = γ₃; now = run }, (link, (slice, tt))))))), (vptr z₈ 0 ∷ [], (N .val number ∷ [], (vptr z₉ 0 ∷ [], (vptr z₁₀ 0 ∷ [], (sliceVal (z₁₁, 0) (length run) ∷ [], (I .val link ∷ [], (slice-vals slice, tt)))))))), tt))) (passed 𝓤 H A signature₁ ((α₀ ∷ []), ((α₁ ∷ []), ((α₂ ∷ []), ((α₃ ∷ []), (κ, tt))))) (fullShare, (fullShare, (fullShare, (fullShare, (q, tt))))) (record { ptr = (z₈, 0); name = γ₀; now = settings }, (number, (record { ptr = (z₉, 0); name = γ₁; now = clock }, (record { ptr = (z₁₀, 0); name = γ₂; now = links }, (record { ptr = (z₁₁, 0); name = γ₃; now = run }, (link, (slice, tt))))))) (vptr z₈ 0 ∷ [], (N .val number ∷ [], (vptr z₉ 0 ∷ [], (vptr z₁₀ 0 ∷ [], (sliceVal (z₁₁, 0) (length run) ∷ [], (I .val link ∷ [], (slice-vals slice, tt))))))) (emp 𝓤)) $
-            calls-at ! fm Contract₁ known ((((α₀ ∷ []), ((α₁ ∷ []), ((α₂ ∷ []), ((α₃ ∷ []), (κ, tt))))), (fullShare, (fullShare, (fullShare, (fullShare, (q, tt))))), tt, (record { ptr = (z₈, 0); name = γ₀; now = settings }, (number, (record { ptr = (z₉, 0); name = γ₁; now = clock }, (record { ptr = (z₁₀, 0); name = γ₂; now = links }, (record { ptr = (z₁₁, 0); name = γ₃; now = run }, (link, (slice, tt))))))), (vptr z₈ 0 ∷ [], (N .val number ∷ [], (vptr z₉ 0 ∷ [], (vptr z₁₀ 0 ∷ [], (sliceVal (z₁₁, 0) (length run) ∷ [], (I .val link ∷ [], (slice-vals slice, tt)))))))), tt) (and-then ! (load ! (from ! (stop !)) (look ! 19 refl)) (and-then ! (load ! (from ! (stop !)) (look ! 37 refl)) (and-then ! (load ! (from ! (stop !)) (look ! 17 refl)) (and-then ! (load ! (from ! (stop !)) (look ! 15 refl)) (and-then ! (load ! (from ! (stop !)) (look ! 11 refl)) (and-then ! (load ! (from ! (stop !)) (look ! 29 refl)) (and-then ! (load ! (from ! (stop !)) (look ! 27 refl)) (no-more !)))))))) (λ v.
-            use1 W (later (some (λ (r : K .word .row .Denot). ((‵ (flft (α₀ ∷ []) fullShare) ⊛ ‵ (flft (α₁ ∷ []) fullShare) ⊛ ‵ (flft (α₂ ∷ []) fullShare) ⊛ ‵ (flft (α₃ ∷ []) fullShare) ⊛ ‵ (flft κ q) ⊛ ‵ ftrue) ⊛ ‵ (K .word .row .own r (v ∷ []))) ⊛ raw (ensured 𝓤 H A ended₁ clauses₁ ((α₀ ∷ []), ((α₁ ∷ []), ((α₂ ∷ []), ((α₃ ∷ []), (κ, tt))))) (record { ptr = (z₈, 0); name = γ₀; now = settings }, (number, (record { ptr = (z₉, 0); name = γ₁; now = clock }, (record { ptr = (z₁₀, 0); name = γ₂; now = links }, (record { ptr = (z₁₁, 0); name = γ₃; now = run }, (link, (slice, tt))))))) tt r)))) (id⊢ 𝓤 _) $ await ! tt $
+            move ! (48 ∷ 0 ∷ []) $ fjoin ! $ owned ! (I .row) (Is (I .row)) (I .makes M 𝓤 H A W) delivery (I .val delivery ∷ []) is-delivery $ fjoin ! $ move ! (2 ∷ 0 ∷ []) $ fjoin ! $ move ! (3 ∷ 0 ∷ []) $
+            fjoin ! $ move ! (4 ∷ 0 ∷ []) $ fjoin ! $ owned ! (N .row) (Is (N .row)) (N .makes M 𝓤 H A W) number (N .val number ∷ []) is-number $ fjoin ! $ move ! (5 ∷ 0 ∷ []) $ fjoin ! $
+            use0 W (raw (emp 𝓤)) (id⊢ 𝓤 _) $ move ! (2 ∷ 1 ∷ 0 ∷ []) $
+            use3 W (raw (Contract₁ .pre ((((α₀ ∷ []), ((α₁ ∷ []), ((α₂ ∷ []), ((α₃ ∷ []), (κ, tt))))), (fullShare, (fullShare, (fullShare, (fullShare, (q, tt))))), tt, (record { ptr = (z₈, 0); name = γ₀; now = settings }, (number, (record { ptr = (z₉, 0); name = γ₁; now = clock }, (record { ptr = (z₁₀, 0); name = γ₂; now = links }, (record { ptr = (z₁₁, 0); name = γ₃; now = run }, (delivery, (slice, tt))))))), (vptr z₈ 0 ∷ [], (N .val number ∷ [], (vptr z₉ 0 ∷ [], (vptr z₁₀ 0 ∷ [], (sliceVal (z₁₁, 0) (length run) ∷ [], (I .val delivery ∷ [], (slice-vals slice, tt)))))))), tt))) (passed 𝓤 H A signature₁ ((α₀ ∷ []), ((α₁ ∷ []), ((α₂ ∷ []), ((α₃ ∷ []), (κ, tt))))) (fullShare, (fullShare, (fullShare, (fullShare, (q, tt))))) (record { ptr = (z₈, 0); name = γ₀; now = settings }, (number, (record { ptr = (z₉, 0); name = γ₁; now = clock }, (record { ptr = (z₁₀, 0); name = γ₂; now = links }, (record { ptr = (z₁₁, 0); name = γ₃; now = run }, (delivery, (slice, tt))))))) (vptr z₈ 0 ∷ [], (N .val number ∷ [], (vptr z₉ 0 ∷ [], (vptr z₁₀ 0 ∷ [], (sliceVal (z₁₁, 0) (length run) ∷ [], (I .val delivery ∷ [], (slice-vals slice, tt))))))) (emp 𝓤)) $
+            calls-at ! fm Contract₁ known ((((α₀ ∷ []), ((α₁ ∷ []), ((α₂ ∷ []), ((α₃ ∷ []), (κ, tt))))), (fullShare, (fullShare, (fullShare, (fullShare, (q, tt))))), tt, (record { ptr = (z₈, 0); name = γ₀; now = settings }, (number, (record { ptr = (z₉, 0); name = γ₁; now = clock }, (record { ptr = (z₁₀, 0); name = γ₂; now = links }, (record { ptr = (z₁₁, 0); name = γ₃; now = run }, (delivery, (slice, tt))))))), (vptr z₈ 0 ∷ [], (N .val number ∷ [], (vptr z₉ 0 ∷ [], (vptr z₁₀ 0 ∷ [], (sliceVal (z₁₁, 0) (length run) ∷ [], (I .val delivery ∷ [], (slice-vals slice, tt)))))))), tt) (and-then ! (load ! (from ! (stop !)) (look ! 19 refl)) (and-then ! (load ! (from ! (stop !)) (look ! 37 refl)) (and-then ! (load ! (from ! (stop !)) (look ! 17 refl)) (and-then ! (load ! (from ! (stop !)) (look ! 15 refl)) (and-then ! (load ! (from ! (stop !)) (look ! 11 refl)) (and-then ! (load ! (from ! (stop !)) (look ! 29 refl)) (and-then ! (load ! (from ! (stop !)) (look ! 27 refl)) (no-more !)))))))) (λ v.
+            use1 W (later (some (λ (r : K .word .row .Denot). ((‵ (flft (α₀ ∷ []) fullShare) ⊛ ‵ (flft (α₁ ∷ []) fullShare) ⊛ ‵ (flft (α₂ ∷ []) fullShare) ⊛ ‵ (flft (α₃ ∷ []) fullShare) ⊛ ‵ (flft κ q) ⊛ ‵ ftrue) ⊛ ‵ (K .word .row .own r (v ∷ []))) ⊛ raw (ensured 𝓤 H A ended₁ clauses₁ ((α₀ ∷ []), ((α₁ ∷ []), ((α₂ ∷ []), ((α₃ ∷ []), (κ, tt))))) (record { ptr = (z₈, 0); name = γ₀; now = settings }, (number, (record { ptr = (z₉, 0); name = γ₁; now = clock }, (record { ptr = (z₁₀, 0); name = γ₂; now = links }, (record { ptr = (z₁₁, 0); name = γ₃; now = run }, (delivery, (slice, tt))))))) tt r)))) (id⊢ 𝓤 _) $ await ! tt $
             pick ! (λ r. split ! $ split ! $ split ! $ move ! (1 ∷ []) $ split ! $ move ! (1 ∷ []) $ split ! $ move ! (1 ∷ []) $ split ! $ move ! (1 ∷ []) $ split ! $ move ! (1 ∷ []) $ drop ! $ move ! (6 ∷ []) $
-            use1 W (some (λ (ends : Lasts ended₁ ((α₀ ∷ []), ((α₁ ∷ []), ((α₂ ∷ []), ((α₃ ∷ []), (κ, tt))))) (record { ptr = (z₈, 0); name = γ₀; now = settings }, (number, (record { ptr = (z₉, 0); name = γ₁; now = clock }, (record { ptr = (z₁₀, 0); name = γ₂; now = links }, (record { ptr = (z₁₁, 0); name = γ₃; now = run }, (link, (slice, tt)))))))). ‵ (lasts ended₁ ((α₀ ∷ []), ((α₁ ∷ []), ((α₂ ∷ []), ((α₃ ∷ []), (κ, tt))))) (record { ptr = (z₈, 0); name = γ₀; now = settings }, (number, (record { ptr = (z₉, 0); name = γ₁; now = clock }, (record { ptr = (z₁₀, 0); name = γ₂; now = links }, (record { ptr = (z₁₁, 0); name = γ₃; now = run }, (link, (slice, tt))))))) ends) ⊛ raw (fact 𝓤 (gives settings number clock links run link packet (ends .1 .1 .0) (ends .1 .1 .1 .0) (ends .1 .1 .1 .1 .0) r)))) (id⊢ 𝓤 _) $
-            pick ! (λ ends. split ! $ move ! (1 ∷ []) $ heard ! (gives settings number clock links run link packet (ends .1 .1 .0) (ends .1 .1 .1 .0) (ends .1 .1 .1 .1 .0) r) (λ φ. fsplit ! $ drop ! $ fsplit ! $
-            drop ! $ fsplit ! $ move ! (1 ∷ []) $ fsplit ! $ move ! (1 ∷ []) $ fsplit ! $ fsplit ! $ move ! (1 ∷ []) $ drop ! $ move ! (1 ∷ []) $ fsplit ! $ drop ! $ fsplit ! $ drop ! $ drop ! $ move ! (8 ∷ []) $
-            peeks ! (K .word .row) (Is (K .word .row)) (shows 𝓤 H A (K .word .row)) r (v ∷ []) (λ said-r. drop ! $
+            use1 W (some (λ (ends : Lasts ended₁ ((α₀ ∷ []), ((α₁ ∷ []), ((α₂ ∷ []), ((α₃ ∷ []), (κ, tt))))) (record { ptr = (z₈, 0); name = γ₀; now = settings }, (number, (record { ptr = (z₉, 0); name = γ₁; now = clock }, (record { ptr = (z₁₀, 0); name = γ₂; now = links }, (record { ptr = (z₁₁, 0); name = γ₃; now = run }, (delivery, (slice, tt)))))))). ‵ (lasts ended₁ ((α₀ ∷ []), ((α₁ ∷ []), ((α₂ ∷ []), ((α₃ ∷ []), (κ, tt))))) (record { ptr = (z₈, 0); name = γ₀; now = settings }, (number, (record { ptr = (z₉, 0); name = γ₁; now = clock }, (record { ptr = (z₁₀, 0); name = γ₂; now = links }, (record { ptr = (z₁₁, 0); name = γ₃; now = run }, (delivery, (slice, tt))))))) ends) ⊛ raw (fact 𝓤 (gives settings number clock links run delivery packet (ends .1 .1 .0) (ends .1 .1 .1 .0) (ends .1 .1 .1 .1 .0) r)))) (id⊢ 𝓤 _) $
+            pick ! (λ ends. split ! $ move ! (1 ∷ []) $ heard ! (gives settings number clock links run delivery packet (ends .1 .1 .0) (ends .1 .1 .1 .0) (ends .1 .1 .1 .1 .0) r) (λ φ. fsplit ! $ drop ! $
+            fsplit ! $ drop ! $ fsplit ! $ move ! (1 ∷ []) $ fsplit ! $ move ! (1 ∷ []) $ fsplit ! $ fsplit ! $ move ! (1 ∷ []) $ drop ! $ move ! (1 ∷ []) $ fsplit ! $ drop ! $ fsplit ! $ drop ! $ drop ! $
+            move ! (8 ∷ []) $ peeks ! (K .word .row) (Is (K .word .row)) (shows 𝓤 H A (K .word .row)) r (v ∷ []) (λ said-r. drop ! $
             -- the lifetimes end, and the locals are back
             move ! (7 ∷ []) $ lft-end ! tt $ move ! (0 ∷ 11 ∷ []) $ use2 W (later (‵ (fat fullShare (XS .ty) z₈ 0 (XS .val settings)))) (shared-local-back 𝓤 H A W S (α₀ ∷ []) settings z₈) $ await ! tt $
             move ! (7 ∷ []) $ lft-end ! tt $ move ! (0 ∷ 10 ∷ 4 ∷ []) $
@@ -211,11 +211,11 @@ module _ (N I : Word) (S C L E : Data) (n : ℕ) (K : Part) (back : K .word .row
             move ! (9 ∷ 10 ∷ []) $ free1 ! $ move ! (7 ∷ 8 ∷ []) $ free1 ! $ move ! (5 ∷ 6 ∷ []) $ free1 ! $ move ! (3 ∷ 4 ∷ []) $ free1 ! $ move ! (1 ∷ 2 ∷ []) $ free1 ! $ free0 ! $
             owned ! RO (Is RO) (LL.makes O PO 𝓤 H A) (make (back r) (ends .1 .1 .0) (ends .1 .1 .1 .0) (ends .1 .1 .1 .1 .0)) ((whole-val (back r) (ends .1 .1 .0) (ends .1 .1 .1 .0) (ends .1 .1 .1 .1 .0)) ∷ []) (whole-is (back r) (ends .1 .1 .0) (ends .1 .1 .1 .0) (ends .1 .1 .1 .1 .0) (subst (λ (us : List Val). Is (K .K .row) (K .K .into (back r)) us) (K .laws .tells (K .K .into (back r)) (v ∷ []) (shown r (v ∷ []) said-r)) (shown r (v ∷ []) said-r)) left-clock left-links left-run) $
             keep ! (1 ∷ 0 ∷ []) $
-            by ! (exits (make (back r) (ends .1 .1 .0) (ends .1 .1 .1 .0) (ends .1 .1 .1 .1 .0)) (whole-val (back r) (ends .1 .1 .0) (ends .1 .1 .1 .0) (ends .1 .1 .1 .1 .0)) (then settings number clock links run link packet (ends .1 .1 .0) (ends .1 .1 .1 .0) (ends .1 .1 .1 .1 .0) r φ)))))))))))))))))))))))))))))))))))))))
+            by ! (exits (make (back r) (ends .1 .1 .0) (ends .1 .1 .1 .0) (ends .1 .1 .1 .1 .0)) (whole-val (back r) (ends .1 .1 .0) (ends .1 .1 .1 .0) (ends .1 .1 .1 .1 .0)) (then settings number clock links run delivery packet (ends .1 .1 .0) (ends .1 .1 .1 .0) (ends .1 .1 .1 .1 .0) r φ)))))))))))))))))))))))))))))))))))))))
 
   -- γ is the function's `code.env`, f and g are the keys
   module _ {M : Type 1} (𝓤 : URA M) (H : Heap 𝓤) (𝓜 : Model 𝓤 H) (𝓖 : GhostRules 𝓤 H) (𝓡 : Running 𝓤 H 𝓜) (gives : S .S .D → N .row .Denot → C .S .D → L .S .D → List (E .S .D) → I .row .Denot → List ℕ → C .S .D → L .S .D → List (E .S .D) → K .word .row .Denot → Type 0) (Says : S .S .D → N .row .Denot → C .S .D → L .S .D → List (E .S .D) → I .row .Denot → List ℕ → D → Type 0)
-      (then : (settings : S .S .D) (number : N .row .Denot) (clock : C .S .D) (links : L .S .D) (run : List (E .S .D)) (link : I .row .Denot) (packet : List ℕ) (clock′ : C .S .D) (links′ : L .S .D) (run′ : List (E .S .D)) (r : K .word .row .Denot) → gives settings number clock links run link packet clock′ links′ run′ r → Says settings number clock links run link packet (make (back r) clock′ links′ run′)) (few : T (ltb n (2 ^ 64))) (small : T (ltb (n * mem RE .size) (2 ^ 63)))
+      (then : (settings : S .S .D) (number : N .row .Denot) (clock : C .S .D) (links : L .S .D) (run : List (E .S .D)) (delivery : I .row .Denot) (packet : List ℕ) (clock′ : C .S .D) (links′ : L .S .D) (run′ : List (E .S .D)) (r : K .word .row .Denot) → gives settings number clock links run delivery packet clock′ links′ run′ r → Says settings number clock links run delivery packet (make (back r) clock′ links′ run′)) (few : T (ltb n (2 ^ 64))) (small : T (ltb (n * mem RE .size) (2 ^ 63)))
       (γ : Env) (f g : Name) (r : Routine) where
     abbrev Clauses′ : Clauses 𝓤 ended
     Clauses′ = clauses 𝓤 H (𝓖 .A) gives Says

@@ -1,0 +1,25 @@
+-- The arrival in one piece is the action alone, since the action inspects too: where the inspection refuses, both end with its answer.
+use mathlib.Core.Path.{_≡_, refl, ap}
+use mathlib.Core.Bool.{Bool, true, false, cond}
+use mathlib.Core.List.{List}
+use Prim.Native.Nat.{ℕ}
+use Rattle.answer.specs.declared.Answer.{Answer}
+use Rattle.wire.specs.declared.Parsed.{Parsed}
+use Rattle.wire.specs.declared.Parsed.the-variants.{Good, Bad}
+use Rattle.host.specs.Lent.{Host}
+use Rattle.host.specs.Guard.{done}
+use Rattle.arrival.specs.declared.Arrived.{Arrived}
+use Rattle.arrival.specs.Inspection.{inspect, tells}
+use Rattle.arrival.specs.Arrival.{quiet, ends, inspected, act, arrival}
+
+pub one-piece : (i : ℕ) (octets : List ℕ) (h : Host) → arrival i octets h ≡ act i octets h
+one-piece i octets h = go (inspect (h .settings) i octets)
+  where
+    same : (b : Bool) (a : Arrived) → cond b a a ≡ a
+    same true a = refl
+    same false a = refl
+
+    go : (q : Parsed)
+        → cond (done (tells q .answer)) (inspected h i q) (quiet (tells q) h) ≡ inspected h i q
+    go (Good p) = refl
+    go (Bad a) = same (done a) (ends a h)
