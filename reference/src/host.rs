@@ -1,4 +1,4 @@
-//! The ten calls of a host.
+//! The calls of a host.
 //!
 //! Each is lent the host's settings, clock and links and the run of entries
 //! that all hosts share. Answer 12 is tested first, then 1, then the others.
@@ -28,6 +28,17 @@ pub struct Reading {
 pub struct Route {
     pub host: usize,
     pub pid: u8,
+}
+
+/// What an inspection tells of a packet.
+#[derive(Clone, Copy, Debug, Default, PartialEq, Eq)]
+pub struct Inspected {
+    pub source: Address,
+    /// In milliseconds.
+    pub time: u32,
+    pub tsp: u16,
+    /// How many hosts its table has.
+    pub hosts: u8,
 }
 
 pub fn set_afresh(
@@ -165,8 +176,31 @@ pub fn send(
     Ok(length)
 }
 
-/// Takes a packet that arrived on a link.
-pub fn arrival(
+/// Whether a packet that arrived on a link would be taken, and what it says.
+/// Nothing changes and the clock is not read.
+pub fn inspect(
+    settings: &Settings,
+    number: usize,
+    clock: &Clock,
+    links: &Links,
+    run: &[Entry],
+    link: usize,
+    packet: &[u8],
+) -> Result<Inspected, Refusal> {
+    admit_link(settings, link)?;
+    admit(settings, number, clock, links, run)?;
+    let message = message_on(settings, link, packet)?;
+    Ok(Inspected {
+        source: message.source,
+        time: message.time() as u32,
+        tsp: message.tsp(),
+        hosts: message.nhosts(),
+    })
+}
+
+/// Carries out steps 2 to 5 for a packet. Other calls may have come since its
+/// inspection, so it is tested again.
+pub fn act(
     settings: &Settings,
     number: usize,
     clock: &mut Clock,
@@ -177,10 +211,10 @@ pub fn arrival(
 ) -> Result<(), Refusal> {
     admit_link(settings, link)?;
     let places = admit(settings, number, clock, links, run)?;
-    let message = Message::parse(packet, settings)?;
+    let message = message_on(settings, link, packet)?;
     let kind = settings.links[link - 1];
     let receiver = &mut links[link - 1];
-    let path = measure(settings, clock, kind, receiver, &message)?;
+    let path = measure(clock, kind, receiver, &message)?;
     let report = Report {
         delay: path.delay,
         offset: path.offset,
@@ -203,6 +237,21 @@ pub fn arrival(
         learn(settings, clock, id, entry, &through, date);
     }
     Ok(())
+}
+
+/// Takes a packet that arrived on a link: an inspection and, where that does
+/// not refuse it, the action directly behind it.
+pub fn arrival(
+    settings: &Settings,
+    number: usize,
+    clock: &mut Clock,
+    links: &mut Links,
+    run: &mut [Entry],
+    link: usize,
+    packet: &[u8],
+) -> Result<(), Refusal> {
+    inspect(settings, number, clock, links, run, link, packet)?;
+    act(settings, number, clock, links, run, link, packet)
 }
 
 pub fn lookup(
@@ -265,24 +314,35 @@ fn admit_link(settings: &Settings, link: usize) -> Result<(), Refusal> {
     }
 }
 
+/// The message of a packet on a link of the host, unless 3 to 9 refuse it.
+fn message_on<'a>(
+    settings: &Settings,
+    link: usize,
+    packet: &'a [u8],
+) -> Result<Message<'a>, Refusal> {
+    let message = Message::parse(packet, settings)?;
+    // Step 1 of an arrival.
+    let point_to_point = settings.links[link - 1] == LinkKind::PointToPoint;
+    if point_to_point && message.source == settings.address {
+        return Err(Refusal::LoopedLine);
+    }
+    Ok(message)
+}
+
 /// The measured DELAY and OFFSET to the neighbour.
 struct Path {
     delay: i64,
     offset: i16,
 }
 
-/// Steps 1 to 4 of an arrival, and the least DELAY of step 5.
+/// Steps 2 to 4 of an arrival, and the least DELAY of step 5.
 fn measure(
-    settings: &Settings,
     clock: &Clock,
     kind: LinkKind,
     link: &mut Link,
     message: &Message,
 ) -> Result<Path, Refusal> {
     let point_to_point = kind == LinkKind::PointToPoint;
-    if point_to_point && message.source == settings.address {
-        return Err(Refusal::LoopedLine);
-    }
     let reading = clock.reading();
     link.keep_alive = KEEP_ALIVE_INTERVAL;
     link.tsp = (message.time() - reading) as i16;

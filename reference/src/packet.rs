@@ -25,7 +25,7 @@ pub struct Message<'a> {
 }
 
 impl<'a> Message<'a> {
-    /// Tests a packet, the refusals in rising order.
+    /// Tests a packet for 3 to 8, the refusals in rising order.
     pub fn parse(packet: &'a [u8], settings: &Settings) -> Result<Message<'a>, Refusal> {
         let (header, hello) = hello_of(packet)?;
         let layout = (hello[10], usize::from(hello[11]));
@@ -48,8 +48,12 @@ impl<'a> Message<'a> {
         word(self.hello, 8)
     }
 
+    pub fn nhosts(&self) -> u8 {
+        self.hello[11]
+    }
+
     pub fn has_table(&self) -> bool {
-        self.hello.len() > HELLO
+        self.nhosts() != 0
     }
 
     /// DELAY and OFFSET of each host, in the order of the ids.

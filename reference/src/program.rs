@@ -35,6 +35,7 @@ pub fn packet(octets: &[u8]) -> u8 {
     let mut links = [Link::default(); LINKS];
     let mut run = [Entry::FRESH; PLACES];
     let outcome = host::set_afresh(&SETTINGS, 0, &mut clock, &mut links, &mut run)
-        .and_then(|()| host::arrival(&SETTINGS, 0, &mut clock, &mut links, &mut run, 1, octets));
+        .and_then(|()| host::inspect(&SETTINGS, 0, &clock, &links, &run, 1, octets))
+        .and_then(|_| host::act(&SETTINGS, 0, &mut clock, &mut links, &mut run, 1, octets));
     answer(&outcome)
 }

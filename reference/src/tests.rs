@@ -1,15 +1,17 @@
 //! The rules' own sums, the known slips, and the points that surprise.
 
 use crate::clock::DAY_MS;
-use crate::host::{self, Reading, Route};
+use crate::host::{self, Inspected, Reading, Route};
 use crate::packet::{self, Heading};
 use crate::program;
 use crate::table::{Report, HOLD_DOWN, MAX_DELAY};
 use crate::*;
 
 mod capture;
-mod text;
+mod inspect;
 mod ntp;
+mod random;
+mod text;
 
 const ROUTER: Address = Address([192, 0, 2, 2]);
 const UNITS_OF_DAY: i64 = DAY_MS * 65_536;
@@ -127,6 +129,30 @@ impl Host {
         let length = self.send(link, &mut buffer).unwrap();
         buffer.truncate(length);
         buffer
+    }
+
+    fn inspect(&self, link: usize, packet: &[u8]) -> Result<Inspected, Refusal> {
+        host::inspect(
+            &self.settings,
+            self.number,
+            &self.clock,
+            &self.links,
+            &self.run,
+            link,
+            packet,
+        )
+    }
+
+    fn act(&mut self, link: usize, packet: &[u8]) -> Done {
+        host::act(
+            &self.settings,
+            self.number,
+            &mut self.clock,
+            &mut self.links,
+            &mut self.run,
+            link,
+            packet,
+        )
     }
 
     fn arrival(&mut self, link: usize, packet: &[u8]) -> Done {
@@ -572,6 +598,13 @@ fn no_table_goes_to_another_net_or_to_nobody() {
     assert_eq!(host.message(1).len(), 48);
 }
 
+/// Makes the header's checksum right.
+fn sum_header(packet: &mut [u8]) {
+    packet[10..12].fill(0);
+    let word = checksum::checksum(&packet[..20]);
+    packet[10..12].copy_from_slice(&word.to_be_bytes());
+}
+
 #[test]
 fn packets_are_refused_in_rising_order() {
     let mut host = host_with_router();
@@ -580,9 +613,7 @@ fn packets_are_refused_in_rising_order() {
         let mut packet = good.clone();
         change(&mut packet);
         if sum {
-            packet[10..12].fill(0);
-            let word = checksum::checksum(&packet[..20]);
-            packet[10..12].copy_from_slice(&word.to_be_bytes());
+            sum_header(&mut packet);
         }
         let before = host.clone();
         let outcome = host.arrival(1, &packet);
@@ -615,9 +646,7 @@ fn free_header_bits() {
     packet[4] = 7;
     packet[6] = 0xC0;
     packet[8] = 1;
-    packet[10..12].fill(0);
-    let word = checksum::checksum(&packet[..20]);
-    packet[10..12].copy_from_slice(&word.to_be_bytes());
+    sum_header(&mut packet);
     assert_eq!(host.arrival(1, &packet), Ok(()));
 }
 
