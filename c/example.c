@@ -88,12 +88,16 @@ static size_t send_now(host *h, uint8_t *message)
     return sent.length;
 }
 
-/* Gives the host a message that arrives now. */
-static void receive_now(host *h, const uint8_t *message, size_t length)
+/* Takes a message that arrives now: looks at it, then acts on it. Answers what it says. */
+static hello_inspected take_now(host *h, const uint8_t *message, size_t length)
 {
-    uint8_t answer = hello_receive(&h->settings, h->number, &h->clock, &h->links, run, RUN, LINK,
-                                   message, length);
+    hello_inspected said = hello_inspect(&h->settings, h->number, &h->clock, &h->links, run, RUN,
+                                         LINK, message, length);
+    assert(said.answer == HELLO_DONE);
+    uint8_t answer = hello_act(&h->settings, h->number, &h->clock, &h->links, run, RUN, LINK,
+                               message, length);
     assert(answer == HELLO_DONE);
+    return said;
 }
 
 static int same_address(hello_address x, hello_address y)
@@ -107,6 +111,7 @@ int main(void)
     host a, b;
     uint8_t message[MESSAGE];
     size_t length;
+    hello_inspected said;
 
     set_up(&a, 0, 39900);
     set_up(&b, 1, 40400);
@@ -114,21 +119,24 @@ int main(void)
     /* B introduces itself, so that A knows its neighbor. */
     length = send_now(&b, message);
     wait_until(&a, 39930);
-    receive_now(&a, message, length);
+    said = take_now(&a, message, length);
+    assert(same_address(said.source, address_of(1)) && said.time == 40400);
+    assert(said.tsp == 0 && said.nhosts == 0); /* B has heard nobody yet */
     assert(same_address(a.links.all[0].neighbor, address_of(1)));
 
     wait_until(&a, 40000);
     length = send_now(&a, message);
     wait_until(&b, 40530);
-    receive_now(&b, message, length);
+    said = take_now(&b, message, length);
+    assert(said.time == 40000);
     assert(b.links.all[0].tsp == -530);
 
     wait_until(&b, 45530);
     self_report(&b);
     length = send_now(&b, message);
-    assert(message[28] * 256 + message[29] == 45000); /* the TSP that B sends */
     wait_until(&a, 45081);
-    receive_now(&a, message, length);
+    said = take_now(&a, message, length);
+    assert(said.time == 45530 && said.tsp == 45000 && said.nhosts == 2);
 
     /* DELAY 81 counts as the least one, 100; OFFSET is 449 + 81 / 2. */
     hello_entry b_at_a = run[1];

@@ -29,14 +29,17 @@
  *   10   the delay is not valid: from the neighbor on   that link's KEEP-ALIVE and TSP
  *        a point-to-point link, the packet's TSP is 0
  *        or HOLD is not 0
- *   11   the address has no id                          receive: that link's KEEP-ALIVE, TSP and
- *                                                       NEIGHBOR-ADDRESS; lookup: nothing
+ *   11   the address has no id                          act, receive: that link's KEEP-ALIVE, TSP
+ *                                                       and NEIGHBOR-ADDRESS; lookup: nothing
  *   12   the host's number is over 15; the link is not  nothing
  *        from 1 to the host's count (8 at most); the
  *        host's 255 places are not all in the run; or
  *        something lent is out of range
  *   13   the host looked up is down: its DELAY is       nothing
  *        30,000
+ *
+ * All calls answer 0, 1 and 12; hello_send also 2; hello_inspect, hello_act and hello_receive 3 to
+ * 9, of which hello_act and hello_receive give 10 and 11 besides; hello_lookup 11 and 13.
  *
  * 12 is tested first in all calls, then upwards in number. hello_initialize tests, for 12, the
  * host's number and the length of the run only; every other call tests the ranges of all that it
@@ -201,6 +204,15 @@ typedef struct hello_time {
     uint16_t date; /* the DATE word; 0 when refused */
 } hello_time;
 
+/* What an inspection answers: of a packet that passes, what it says. */
+typedef struct hello_inspected {
+    uint8_t answer;
+    hello_address source; /* its source; 0.0.0.0 when refused */
+    int64_t time;         /* its time, 0 to 4,294,967,295 ms; 0 when refused */
+    uint16_t tsp;         /* its TSP, as an unsigned number; 0 when refused */
+    uint8_t nhosts;       /* NHOSTS: how many hosts its table has; 0 when refused */
+} hello_inspected;
+
 /*
  * Sets host `number` afresh by its settings: the clock, all eight links, each by its own of the
  * eight link settings, and the first NHOSTS entries. What stood there does not matter, but
@@ -254,9 +266,27 @@ hello_sent hello_send(const hello_settings *settings, size_t number, hello_clock
                       uint8_t *buffer, size_t buffer_length);
 
 /*
- * Takes in a packet, IP header first, that arrived on link `link` (from 1). On 0 the link's
- * keep_alive, tsp and neighbor, the entries that the packet's report changes and, where the report
- * of the clock host is taken, the clock are as RFC 891 says. Answers 0, 1, 3 to 12.
+ * Looks at a packet, IP header first, that arrived on link `link` (from 1): would it be taken, and
+ * what does it say? Changes nothing. Answers 0, 1, 3 to 9, 12; hello_act may still answer 10 or 11
+ * to a packet that is answered 0 here.
+ */
+hello_inspected hello_inspect(const hello_settings *settings, size_t number, hello_clock *clock,
+                              hello_links *links, hello_entry *run, size_t run_length, size_t link,
+                              const uint8_t *packet, size_t packet_length);
+
+/*
+ * Acts on a packet, IP header first, that arrived on link `link` (from 1). Any calls may have come
+ * since hello_inspect, so it tests the packet again. On 0 the link's keep_alive, tsp and neighbor,
+ * the entries that the packet's report changes and, where the report of the clock host is taken,
+ * the clock are as RFC 891 says. Answers 0, 1, 3 to 12.
+ */
+uint8_t hello_act(const hello_settings *settings, size_t number, hello_clock *clock,
+                  hello_links *links, hello_entry *run, size_t run_length, size_t link,
+                  const uint8_t *packet, size_t packet_length);
+
+/*
+ * An arrival in one piece: hello_inspect and, where that answers 0, hello_act. It answers and
+ * leaves what hello_act alone does. Answers 0, 1, 3 to 12.
  */
 uint8_t hello_receive(const hello_settings *settings, size_t number, hello_clock *clock,
                       hello_links *links, hello_entry *run, size_t run_length, size_t link,
