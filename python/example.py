@@ -45,6 +45,14 @@ def send(host):
     return sent.message
 
 
+def take(host, message):
+    """Takes a message that arrives now: looks at it, then acts on it. What it says."""
+    inspected = host.inspect(LINK, message)
+    expect(inspected.answer, Answer.DONE)
+    expect(host.act(LINK, message), Answer.DONE)
+    return inspected
+
+
 def main():
     room = hello.Room(hosts=2)
     a = fresh(room, 0, 39_900)
@@ -53,22 +61,23 @@ def main():
     # B introduces itself, so that A knows its neighbor.
     introduction = send(b)
     wait_until(a, 39_930)
-    expect(a.receive(LINK, introduction), Answer.DONE)
+    # B has heard nobody yet, so that TSP is 0, and it sends no table.
+    seen = hello.Inspected(Answer.DONE, source=address(1), time=40_400, tsp=0, nhosts=0)
+    expect(take(a, introduction), seen)
     expect(a.links[0].neighbor, address(1))
 
     wait_until(a, 40_000)
     question = send(a)
     wait_until(b, 40_530)
-    expect(b.receive(LINK, question), Answer.DONE)
+    expect(take(b, question).time, 40_000)
     expect(b.links[0].tsp, -530)
 
     wait_until(b, 45_530)
     expect(b.self_report(), Answer.DONE)
     reply = send(b)
-    packet_tsp = int.from_bytes(reply[28:30], "big")
-    expect(packet_tsp, 45_000)
     wait_until(a, 45_081)
-    expect(a.receive(LINK, reply), Answer.DONE)
+    seen = hello.Inspected(Answer.DONE, source=address(1), time=45_530, tsp=45_000, nhosts=2)
+    expect(take(a, reply), seen)
 
     # DELAY 81 counts as the least one, 100; OFFSET is 449 + 81 / 2.
     learned = a.table[1]

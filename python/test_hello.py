@@ -95,6 +95,9 @@ class Fields(unittest.TestCase):
             host.set(1 << 31)
         with self.assertRaises(OverflowError):
             host.send(1 << 64)
+        for call in (host.inspect, host.act, host.receive):
+            with self.assertRaises(OverflowError):
+                call(1 << 64, b"")
         with self.assertRaises(OverflowError):
             host.lookup((1, 2, 3, 256))
         host.number = -1
@@ -131,8 +134,9 @@ class Types(unittest.TestCase):
             with self.assertRaises(TypeError):
                 host.send_into(1, buffer)
         for packet in ("packet", 20, None, [1, 2]):
-            with self.assertRaises(TypeError):
-                host.receive(1, packet)
+            for call in (host.inspect, host.act, host.receive):
+                with self.assertRaises(TypeError):
+                    call(1, packet)
 
 
 class Answers(unittest.TestCase):
@@ -144,6 +148,9 @@ class Answers(unittest.TestCase):
         self.assertEqual(hello.checksum(b""), 0xFFFF)
         self.assertEqual(hello.checksum_plain(b""), 0xFFFF)
         self.assertEqual(host.send_into(1, bytearray()), (Answer.SHORT_BUFFER, 0))
+        refused = hello.Inspected(Answer.IP_FORM, hello.Address(), 0, 0, 0)
+        self.assertEqual(host.inspect(1, b""), refused)
+        self.assertIs(host.act(1, b""), Answer.IP_FORM)
         self.assertIs(host.receive(1, b""), Answer.IP_FORM)
         self.assertIs(hello.Room(0).host(0, settings()).initialize(), Answer.OUT_OF_RANGE)
 
@@ -178,6 +185,23 @@ class Answers(unittest.TestCase):
         buffer = bytearray(40 * b"\xaa")
         self.assertEqual(host.send_into(1, buffer), (Answer.DONE, 32))
         self.assertEqual(buffer[32:], 8 * b"\xaa")
+
+    def test_packets_are_looked_at_and_acted_on(self):
+        neighbor = hello.Room(1).host(0, settings(address=(192, 0, 2, 2), time=5))
+        self.assertIs(neighbor.initialize(), Answer.DONE)
+        neighbor.links[0] = hello.Link(hello.Address(192, 0, 2, 1), keep_alive=1, tsp=-7)
+        message = neighbor.send(1).message
+        host = fresh()
+        seen = hello.Inspected(Answer.DONE, hello.Address(192, 0, 2, 2), 5, 65_534, 4)
+        self.assertEqual(host.inspect(1, message), seen)
+        self.assertEqual(host.links[0], hello.Link())
+        host.tick()
+        self.assertIs(host.act(1, message), Answer.DONE)
+        self.assertEqual(host.links[0], hello.Link(hello.Address(192, 0, 2, 2), 4, 4))
+        other = fresh()
+        other.tick()
+        self.assertIs(other.receive(1, message), Answer.DONE)
+        self.assertEqual((other.links[0], other.table), (host.links[0], host.table))
 
     def test_longest_message(self):
         host = fresh(nhosts=255, links=[hello.LinkSetting(True, hello.Address(192, 0, 2, 2))])

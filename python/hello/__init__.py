@@ -21,7 +21,7 @@ from .answer import Answer
 from .lent import Clock, Links, Run, Settings, date_word
 from .library import checksum, checksum_plain
 from .room import Host, Room
-from .values import Address, Entry, Link, LinkSetting, Net, Route, Row, Sent, Time
+from .values import Address, Entry, Inspected, Link, LinkSetting, Net, Route, Row, Sent, Time
 from .values import HOSTS, LINKS, LONGEST_MESSAGE, NO_CLOCK_HOST, PLACES, ROWS, UNITS_PER_MS
 from . import library as _library
 

@@ -15,7 +15,8 @@ def date_word(year, month, day):
     return fitting("month", month, 0, 15) << 10 | fitting("day", day, 0, 31) << 5 | years
 
 
-def _address(c):
+def address_of(c):
+    """The address in a C structure."""
     return Address(c.first, c.second, c.third, c.fourth)
 
 
@@ -73,7 +74,7 @@ class Settings:
 
     @property
     def address(self):
-        return _address(self._state.address)
+        return address_of(self._state.address)
 
     @address.setter
     def address(self, value):
@@ -83,7 +84,7 @@ class Settings:
     def links(self):
         """All eight slots."""
         return tuple(
-            LinkSetting(c.broadcast.value == 1, _address(c.neighbor)) for c in self._state.links
+            LinkSetting(c.broadcast.value == 1, address_of(c.neighbor)) for c in self._state.links
         )
 
     @links.setter
@@ -145,7 +146,7 @@ class Links:
 
     def __getitem__(self, index):
         c = self._state.all[operator.index(index)]
-        return Link(_address(c.neighbor), c.keep_alive, c.tsp)
+        return Link(address_of(c.neighbor), c.keep_alive, c.tsp)
 
     def __setitem__(self, index, value):
         self._state.all[operator.index(index)] = into(CLink, "link", value)

@@ -8,9 +8,9 @@ import ctypes
 import os
 from ctypes import POINTER, c_char_p, c_int32, c_size_t, c_uint8, c_uint16
 
-from .lent import Clock, Links, Run, Settings
-from .structures import CAddress, CClock, CEntry, CLinks, CRoute, CSent, CSettings, CTime
-from .structures import into, number as fitting_number
+from .lent import Clock, Links, Run, Settings, address_of
+from .structures import CAddress, CClock, CEntry, CInspected, CLinks, CRoute, CSent, CSettings
+from .structures import CTime, into, number as fitting_number
 
 _HERE = os.path.dirname(os.path.abspath(__file__))
 _BUILT = os.path.join(_HERE, "..", "..", "target", "lib", "libhello.so")
@@ -43,7 +43,10 @@ _READ = function("hello_read", CTime, *_HOST)
 _SECOND = function("hello_second", c_uint8, *_HOST)
 _SELF_REPORT = function("hello_self_report", c_uint8, *_HOST)
 _SEND = function("hello_send", CSent, *_HOST, c_size_t, POINTER(c_uint8), c_size_t)
-_RECEIVE = function("hello_receive", c_uint8, *_HOST, c_size_t, c_char_p, c_size_t)
+_PACKET_ON_LINK = (c_size_t, c_char_p, c_size_t)
+_INSPECT = function("hello_inspect", CInspected, *_HOST, *_PACKET_ON_LINK)
+_ACT = function("hello_act", c_uint8, *_HOST, *_PACKET_ON_LINK)
+_RECEIVE = function("hello_receive", c_uint8, *_HOST, *_PACKET_ON_LINK)
 _LOOKUP = function("hello_lookup", CRoute, *_HOST, CAddress)
 _PACKET = function("hello_packet", c_uint8, c_char_p, c_size_t)
 _CHECKSUM = function("hello_checksum", c_uint16, c_char_p, c_size_t)
@@ -131,10 +134,31 @@ def send(settings, number, clock, links, run, link, buffer):
     return sent.answer, sent.length
 
 
-def receive(settings, number, clock, links, run, link, packet):
-    """Takes in a packet, IP header first, that arrived on link `link`, from 1."""
+def _arriving(link, packet):
+    """The arguments of a packet that arrived on a link."""
+    return fitting_number(c_size_t, "link", link), *octets_of(packet)
+
+
+def inspect(settings, number, clock, links, run, link, packet):
+    """Looks at a packet, IP header first, that arrived on link `link`, from 1: would it be taken,
+    and what does it say? Nothing is changed: answer, source, time, tsp, nhosts.
+    """
     lent = _lent(settings, number, clock, links, run)
-    return _RECEIVE(*lent, fitting_number(c_size_t, "link", link), *octets_of(packet))
+    told = _INSPECT(*lent, *_arriving(link, packet))
+    return told.answer, address_of(told.source), told.time, told.tsp, told.nhosts
+
+
+def act(settings, number, clock, links, run, link, packet):
+    """Acts on a packet, IP header first, that arrived on link `link`, from 1.
+
+    Any calls may have come since inspect, so it tests the packet again.
+    """
+    return _ACT(*_lent(settings, number, clock, links, run), *_arriving(link, packet))
+
+
+def receive(settings, number, clock, links, run, link, packet):
+    """An arrival in one piece: inspect and, where that answers 0, act."""
+    return _RECEIVE(*_lent(settings, number, clock, links, run), *_arriving(link, packet))
 
 
 def lookup(settings, number, clock, links, run, address):

@@ -4,7 +4,7 @@ from . import library
 from .answer import Answer
 from .lent import Clock, Links, Run
 from .structures import fitting
-from .values import HOSTS, LONGEST_MESSAGE, PLACES, Route, Sent, Time
+from .values import HOSTS, LONGEST_MESSAGE, PLACES, Inspected, Route, Sent, Time
 
 
 class Room:
@@ -77,8 +77,23 @@ class Host:
         answer, length = library.send(*self._lent(), link, buffer)
         return Answer(answer), length
 
+    def inspect(self, link, packet):
+        """Looks at a packet, IP header first, that arrived on link `link`, from 1: an Inspected.
+
+        Nothing is changed. Of a packet that passes, act may still answer DELAY_NOT_VALID or NO_HOST.
+        """
+        answer, *told = library.inspect(*self._lent(), link, packet)
+        return Inspected(Answer(answer), *told)
+
+    def act(self, link, packet):
+        """Acts on a packet, IP header first, that arrived on link `link`, from 1.
+
+        Any calls may have come since inspect, so it tests the packet again.
+        """
+        return Answer(library.act(*self._lent(), link, packet))
+
     def receive(self, link, packet):
-        """Takes in a packet, IP header first, that arrived on link `link`, from 1."""
+        """An arrival in one piece: inspect and, where that is DONE, act."""
         return Answer(library.receive(*self._lent(), link, packet))
 
     def lookup(self, address):

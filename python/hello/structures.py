@@ -86,6 +86,16 @@ class CTime(ctypes.Structure):
     _fields_ = [("answer", c_uint8), ("time", c_int64), ("date", c_uint16)]
 
 
+class CInspected(ctypes.Structure):
+    _fields_ = [
+        ("answer", c_uint8),
+        ("source", CAddress),
+        ("time", c_int64),
+        ("tsp", c_uint16),
+        ("nhosts", c_uint8),
+    ]
+
+
 def fitting(name, value, low, high):
     """The number, if it is one from low to high."""
     number = operator.index(value)

@@ -90,3 +90,14 @@ class Time(NamedTuple):
     answer: Answer
     time: int
     date: int
+
+
+class Inspected(NamedTuple):
+    """What an inspection answers: the answer, and of a packet that passes source, time (ms), TSP
+    (as an unsigned number) and NHOSTS (0 when refused)."""
+
+    answer: Answer
+    source: Address
+    time: int
+    tsp: int
+    nhosts: int

@@ -6,7 +6,7 @@
 //!
 //! Run with `cargo run --example exchange`.
 
-use hello::{Address, Answer, Entry, Found, Host, Layout, Room, Settings};
+use hello::{Address, Answer, Entry, Found, Host, Layout, Room, Seen, Settings};
 
 /// The hosts' numbers in the room, which are their ids too.
 const A: usize = 0;
@@ -41,6 +41,13 @@ fn wait_until(mut host: Host, time: i64) -> Result<(), Answer> {
     Ok(())
 }
 
+/// Takes a message that arrives now: looks at it, then acts on it. What it says.
+fn take(mut host: Host, message: &[u8]) -> Result<Seen, Answer> {
+    let seen = host.inspect(LINK, message)?;
+    host.act(LINK, message).ok()?;
+    Ok(seen)
+}
+
 fn main() -> Result<(), Answer> {
     let mut room = Room::new(2);
     room.host(A).initialize(settings(A, 39_900)).ok()?;
@@ -49,22 +56,28 @@ fn main() -> Result<(), Answer> {
     // B introduces itself, so that A knows its neighbor.
     let introduction = room.host(B).send(LINK)?;
     wait_until(room.host(A), 39_930)?;
-    room.host(A).receive(LINK, &introduction).ok()?;
+    let seen = take(room.host(A), &introduction)?;
+    let expected = Seen {
+        source: address(B),
+        time: 40_400,
+        tsp: 0, // B has heard nobody yet
+        nhosts: 0,
+    };
+    assert_eq!(seen, expected);
     assert_eq!(room.host(A).links.all[0].neighbor, address(B));
 
     wait_until(room.host(A), 40_000)?;
     let question = room.host(A).send(LINK)?;
     wait_until(room.host(B), 40_530)?;
-    room.host(B).receive(LINK, &question).ok()?;
+    assert_eq!(take(room.host(B), &question)?.time, 40_000);
     assert_eq!(room.host(B).links.all[0].tsp, -530);
 
     wait_until(room.host(B), 45_530)?;
     room.host(B).self_report().ok()?;
     let reply = room.host(B).send(LINK)?;
-    let packet_tsp = u16::from_be_bytes([reply[28], reply[29]]);
-    assert_eq!(packet_tsp, 45_000);
     wait_until(room.host(A), 45_081)?;
-    room.host(A).receive(LINK, &reply).ok()?;
+    let seen = take(room.host(A), &reply)?;
+    assert_eq!((seen.time, seen.tsp, seen.nhosts), (45_530, 45_000, 2));
 
     // DELAY 81 counts as the least one, 100; OFFSET is 449 + 81 / 2.
     let learned = room.host(A).table()[B];

@@ -32,8 +32,8 @@ pub enum Answer {
     /// The delay is not valid: the packet's TSP is 0, or HOLD is not. The link's KEEP-ALIVE and
     /// TSP are changed.
     DelayNotValid = 10,
-    /// The address has no id. A lookup changes nothing; an arrival changes the link's KEEP-ALIVE,
-    /// TSP and NEIGHBOR-ADDRESS.
+    /// The address has no id. A lookup changes nothing; `act` and `receive` change the link's
+    /// KEEP-ALIVE, TSP and NEIGHBOR-ADDRESS.
     NoHost = 11,
     /// The host's number is over 15; the link is not from 1 to the host's count (8 at most); the
     /// host's 255 places are not all in the run; or something lent is out of range.

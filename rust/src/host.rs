@@ -25,6 +25,19 @@ pub struct Reading {
     pub date: u16,
 }
 
+/// What an inspection tells of a packet.
+#[derive(Clone, Copy, Debug, PartialEq, Eq)]
+pub struct Seen {
+    /// Its source.
+    pub source: Address,
+    /// Its time in ms, an unsigned 32-bit number.
+    pub time: i64,
+    /// Its TSP, as an unsigned number.
+    pub tsp: u16,
+    /// NHOSTS: how many hosts its table has.
+    pub nhosts: u8,
+}
+
 /// Where a lookup leads.
 #[derive(Clone, Copy, Debug, PartialEq, Eq)]
 pub struct Found {
@@ -157,7 +170,43 @@ impl Host<'_> {
         Ok(sent.length)
     }
 
-    /// Takes in a packet, IP header first, that arrived on link `link`, from 1.
+    /// Looks at a packet, IP header first, that arrived on link `link`, from 1: what it says, or why
+    /// it would not be taken. [`act`](Host::act) may still refuse it with 10 or 11.
+    pub fn inspect(&mut self, link: usize, packet: &[u8]) -> Result<Seen, Answer> {
+        let inspected = crate::inspect(
+            self.settings,
+            self.number,
+            self.clock,
+            self.links,
+            self.run,
+            link,
+            packet,
+        );
+        answer(inspected.answer).ok()?;
+        Ok(Seen {
+            source: inspected.source,
+            time: inspected.time,
+            tsp: inspected.tsp,
+            nhosts: inspected.nhosts,
+        })
+    }
+
+    /// Acts on a packet, IP header first, that arrived on link `link`, from 1. Any calls may have
+    /// come since [`inspect`](Host::inspect), so it tests the packet again.
+    pub fn act(&mut self, link: usize, packet: &[u8]) -> Answer {
+        answer(crate::act(
+            self.settings,
+            self.number,
+            self.clock,
+            self.links,
+            self.run,
+            link,
+            packet,
+        ))
+    }
+
+    /// An arrival in one piece: [`inspect`](Host::inspect) and, where that refuses nothing,
+    /// [`act`](Host::act).
     pub fn receive(&mut self, link: usize, packet: &[u8]) -> Answer {
         answer(crate::receive(
             self.settings,

@@ -80,4 +80,11 @@ const _: () = {
     assert!(offset_of!(Time, answer) == 0);
     assert!(offset_of!(Time, time) == 8);
     assert!(offset_of!(Time, date) == 16);
+
+    assert!(size_of::<Inspected>() == 24 && align_of::<Inspected>() == 8);
+    assert!(offset_of!(Inspected, answer) == 0);
+    assert!(offset_of!(Inspected, source) == 1);
+    assert!(offset_of!(Inspected, time) == 8);
+    assert!(offset_of!(Inspected, tsp) == 16);
+    assert!(offset_of!(Inspected, nhosts) == 18);
 };

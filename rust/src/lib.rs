@@ -24,7 +24,7 @@ pub mod ntp;
 mod types;
 
 pub use answer::Answer;
-pub use host::{Found, Host, Reading};
+pub use host::{Found, Host, Reading, Seen};
 pub use room::Room;
 pub use sums::checksum_plain;
 pub use types::*;
@@ -149,7 +149,59 @@ pub fn send(
     }
 }
 
-/// Takes in a packet, IP header first, that arrived on link `link`, from 1.
+/// Looks at a packet, IP header first, that arrived on link `link`, from 1: would it be taken, and
+/// what does it say? Nothing is changed.
+pub fn inspect(
+    settings: &Settings,
+    number: usize,
+    clock: &mut Clock,
+    links: &mut Links,
+    run: &mut [Entry],
+    link: usize,
+    packet: &[u8],
+) -> Inspected {
+    unsafe {
+        library::hello_inspect(
+            settings,
+            number,
+            clock,
+            links,
+            run.as_mut_ptr(),
+            run.len(),
+            link,
+            packet.as_ptr(),
+            packet.len(),
+        )
+    }
+}
+
+/// Acts on a packet, IP header first, that arrived on link `link`, from 1. Any calls may have come
+/// since `inspect`, so it tests the packet again, and takes its own reading.
+pub fn act(
+    settings: &Settings,
+    number: usize,
+    clock: &mut Clock,
+    links: &mut Links,
+    run: &mut [Entry],
+    link: usize,
+    packet: &[u8],
+) -> u8 {
+    unsafe {
+        library::hello_act(
+            settings,
+            number,
+            clock,
+            links,
+            run.as_mut_ptr(),
+            run.len(),
+            link,
+            packet.as_ptr(),
+            packet.len(),
+        )
+    }
+}
+
+/// An arrival in one piece: `inspect` and, where that answers 0, `act`.
 pub fn receive(
     settings: &Settings,
     number: usize,

@@ -1,6 +1,6 @@
 //! The C interface of `libhello.a`. Nothing but the plain calls uses it.
 
-use crate::{Address, Clock, Entry, Links, Route, Sent, Settings, Time};
+use crate::{Address, Clock, Entry, Inspected, Links, Route, Sent, Settings, Time};
 
 extern "C" {
     pub fn hello_initialize(
@@ -78,6 +78,30 @@ extern "C" {
         buffer: *mut u8,
         buffer_length: usize,
     ) -> Sent;
+
+    pub fn hello_inspect(
+        settings: *const Settings,
+        number: usize,
+        clock: *mut Clock,
+        links: *mut Links,
+        run: *mut Entry,
+        run_length: usize,
+        link: usize,
+        packet: *const u8,
+        packet_length: usize,
+    ) -> Inspected;
+
+    pub fn hello_act(
+        settings: *const Settings,
+        number: usize,
+        clock: *mut Clock,
+        links: *mut Links,
+        run: *mut Entry,
+        run_length: usize,
+        link: usize,
+        packet: *const u8,
+        packet_length: usize,
+    ) -> u8;
 
     pub fn hello_receive(
         settings: *const Settings,

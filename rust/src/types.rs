@@ -264,3 +264,19 @@ pub struct Time {
     /// The DATE word; 0 when refused.
     pub date: u16,
 }
+
+/// What an inspection answers.
+#[repr(C)]
+#[derive(Clone, Copy, Debug, PartialEq, Eq, Default)]
+pub struct Inspected {
+    /// The answer number.
+    pub answer: u8,
+    /// The packet's source; zero when refused.
+    pub source: Address,
+    /// The packet's time in ms, an unsigned 32-bit number; 0 when refused.
+    pub time: i64,
+    /// The packet's TSP, as an unsigned number; 0 when refused.
+    pub tsp: u16,
+    /// The packet's NHOSTS: how many hosts its table has; 0 when refused.
+    pub nhosts: u8,
+}

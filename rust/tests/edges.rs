@@ -29,6 +29,8 @@ fn empty_slices_are_answered() {
     let mut room = room(1);
     let mut host = room.host(0);
     assert_eq!(host.send_into(1, &mut []), Err(Answer::ShortBuffer));
+    assert_eq!(host.inspect(1, &[]), Err(Answer::IpForm));
+    assert_eq!(host.act(1, &[]), Answer::IpForm);
     assert_eq!(host.receive(1, &[]), Answer::IpForm);
 
     let (clock, links) = (&mut Clock::default(), &mut Links::default());
@@ -48,6 +50,8 @@ fn numbers_far_out_of_range_are_answered() {
     let mut host = room.host(HOSTS - 1);
     for link in [0, 2, 9, usize::MAX] {
         assert_eq!(host.send(link), Err(Answer::OutOfRange));
+        assert_eq!(host.inspect(link, &[]), Err(Answer::OutOfRange));
+        assert_eq!(host.act(link, &[]), Answer::OutOfRange);
         assert_eq!(host.receive(link, &[]), Answer::OutOfRange);
     }
 }

@@ -1,7 +1,7 @@
-//! Rules that are seen at whole calls only: what a send tells of a route, how an entry ages, and
-//! what a lookup tells.
+//! Rules that are seen at whole calls only: what a send tells of a route, how an entry ages, what a
+//! lookup tells, and how a packet is inspected and acted on.
 
-use hello::{Address, Answer, Entry, Found, Host, Layout, LinkSetting, Room, Settings};
+use hello::{Address, Answer, Entry, Found, Host, Layout, LinkSetting, Room, Seen, Settings};
 
 /// A route by that link.
 fn route(delay: i64, ttl: u16, pid: u8) -> Entry {
@@ -65,4 +65,80 @@ fn a_lookup_tells_id_and_link() {
     assert_eq!(found(route(500, 60, 1)), Ok(Found { id: 2, pid: 1 }));
     assert_eq!(found(route(29_999, 60, 8)), Ok(Found { id: 2, pid: 8 }));
     assert_eq!(found(route(30_000, 60, 1)), Err(Answer::HostDown));
+}
+
+/// The two hosts of a room, 192.0.2.1 and 192.0.2.2, each with one point-to-point link.
+const A: usize = 0;
+const B: usize = 1;
+
+fn address(number: usize) -> Address {
+    Address::new(192, 0, 2, 1 + number as u8)
+}
+
+/// That room, and a message of B with TSP 65,534, which A has not heard yet.
+fn room_and_message() -> (Room, Vec<u8>) {
+    let layout = Layout {
+        address_offset: 1,
+        nhosts: 2,
+    };
+    let mut room = Room::new(2);
+    for number in [A, B] {
+        let settings = Settings::new(address(number), layout);
+        assert_eq!(room.host(number).initialize(settings), Answer::Done);
+    }
+    let mut b = room.host(B);
+    let link = &mut b.links.all[0];
+    (link.neighbor, link.keep_alive, link.tsp) = (address(A), 1, -2);
+    let message = b.send(1).expect("a send that is done");
+    (room, message)
+}
+
+/// All that a host keeps.
+fn kept(room: &mut Room, number: usize) -> impl PartialEq + std::fmt::Debug {
+    let host = room.host(number);
+    (*host.clock, *host.links, host.table().to_vec())
+}
+
+#[test]
+fn an_inspection_tells_and_changes_nothing() {
+    let (mut room, mut message) = room_and_message();
+    let before = kept(&mut room, A);
+    let seen = Seen {
+        source: address(B),
+        time: 0,
+        tsp: 65_534,
+        nhosts: 2,
+    };
+    assert_eq!(room.host(A).inspect(1, &message), Ok(seen));
+    message[25] ^= 1;
+    let damaged = room.host(A).inspect(1, &message);
+    assert_eq!(damaged, Err(Answer::HelloChecksum));
+    assert_eq!(kept(&mut room, A), before);
+}
+
+#[test]
+fn calls_may_come_between_inspection_and_action() {
+    let (mut room, message) = room_and_message();
+    let mut a = room.host(A);
+    assert!(a.inspect(1, &message).is_ok());
+    assert_eq!(a.set(200), Answer::Done);
+    assert_eq!(a.act(1, &message), Answer::Done);
+    assert_eq!(a.links.all[0].tsp, -200);
+    // Its delay is not valid while HOLD runs, and its source may become the host's own address.
+    assert!(a.inspect(1, &message).is_ok());
+    assert_eq!(a.act(1, &message), Answer::DelayNotValid);
+    a.settings.address = address(B);
+    assert_eq!(a.act(1, &message), Answer::LoopedLine);
+}
+
+#[test]
+fn an_arrival_is_the_pair_and_the_action_alone() {
+    let (room, message) = room_and_message();
+    let [mut whole, mut pair, mut alone] = [room.clone(), room.clone(), room];
+    assert_eq!(whole.host(A).receive(1, &message), Answer::Done);
+    assert!(pair.host(A).inspect(1, &message).is_ok());
+    for acting in [&mut pair, &mut alone] {
+        assert_eq!(acting.host(A).act(1, &message), Answer::Done);
+        assert_eq!(kept(acting, A), kept(&mut whole, A));
+    }
 }
