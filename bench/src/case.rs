@@ -24,8 +24,36 @@ fn batch(mut call: impl FnMut() -> u8 + 'static) -> Batch {
     })
 }
 
-/// An arrival of the neighbor's message with the table; every entry is updated.
-pub fn arrival(nhosts: usize) -> Case {
+/// An inspection of the neighbor's message with the table.
+pub fn inspect(nhosts: usize) -> Case {
+    let (mut ours, theirs) = both(nhosts);
+    let packet = message(nhosts);
+    let same_packet = packet.clone();
+    Case {
+        library: batch(move || {
+            let Ours {
+                settings,
+                clock,
+                links,
+                run,
+            } = black_box(&mut ours);
+            hello::inspect(settings, 0, clock, links, run, LINK, black_box(&packet)).answer
+        }),
+        reference: batch(move || {
+            let Theirs {
+                settings,
+                clock,
+                links,
+                run,
+            } = black_box(&theirs);
+            let packet = black_box(&same_packet);
+            reference::answer(&host::inspect(settings, 0, clock, links, run, LINK, packet))
+        }),
+    }
+}
+
+/// The action on that message; every entry is updated.
+pub fn act(nhosts: usize) -> Case {
     let (mut ours, mut theirs) = both(nhosts);
     let packet = message(nhosts);
     let same_packet = packet.clone();
@@ -37,7 +65,7 @@ pub fn arrival(nhosts: usize) -> Case {
                 links,
                 run,
             } = black_box(&mut ours);
-            hello::receive(settings, 0, clock, links, run, LINK, black_box(&packet))
+            hello::act(settings, 0, clock, links, run, LINK, black_box(&packet))
         }),
         reference: batch(move || {
             let Theirs {
@@ -47,7 +75,7 @@ pub fn arrival(nhosts: usize) -> Case {
                 run,
             } = black_box(&mut theirs);
             let packet = black_box(&same_packet);
-            reference::answer(&host::arrival(settings, 0, clock, links, run, LINK, packet))
+            reference::answer(&host::act(settings, 0, clock, links, run, LINK, packet))
         }),
     }
 }

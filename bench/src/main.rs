@@ -15,8 +15,9 @@ const SIZES: [usize; 4] = [4, 16, 64, 255];
 /// A call on a host: its name, and its case with so many hosts in the table.
 type Call = (&'static str, fn(usize) -> case::Case);
 
-const CALLS: [Call; 4] = [
-    ("arrival", case::arrival),
+const CALLS: [Call; 5] = [
+    ("inspect", case::inspect),
+    ("act", case::act),
     ("send", case::send),
     ("tick", case::tick),
     ("lookup", case::lookup),

@@ -3,7 +3,7 @@
 use crate::host::{settings, Place};
 use crate::random::Random;
 use demo::plan::{Cable, End, Plan, SECOND, START};
-use hello::Answer;
+use hello::{Answer, Host};
 use std::collections::BTreeMap;
 
 /// A host sends on each link, and reports itself, every so many seconds.
@@ -121,7 +121,7 @@ impl Room {
                 return;
             }
             let Message { to, octets } = first.remove();
-            let answer = self.hosts.host(to.host).receive(to.link, &octets);
+            let answer = take(self.hosts.host(to.host), to.link, &octets);
             *self.tally.answers.entry(answer).or_default() += 1;
         }
     }
@@ -129,6 +129,14 @@ impl Room {
     /// How many messages are on their way.
     pub fn on_the_way(&self) -> usize {
         self.on_the_way.len()
+    }
+}
+
+/// A host looks at a message and, where nothing refuses it, acts on it.
+fn take(mut host: Host, link: usize, message: &[u8]) -> Answer {
+    match host.inspect(link, message) {
+        Ok(_) => host.act(link, message),
+        Err(refusal) => refusal,
     }
 }
 
