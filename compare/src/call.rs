@@ -26,6 +26,8 @@ pub enum Call {
     Second,
     SelfReport,
     Send { link: usize, buffer: Octets },
+    Inspect { link: usize, packet: Octets },
+    Act { link: usize, packet: Octets },
     Receive { link: usize, packet: Octets },
     Lookup { address: hello::Address },
     Packet { octets: Octets },
@@ -33,7 +35,7 @@ pub enum Call {
 }
 
 /// The names of the calls, in the order of `Call::row`.
-pub const NAMES: [&str; 12] = [
+pub const NAMES: [&str; 14] = [
     "initialize",
     "tick",
     "adjust",
@@ -42,6 +44,8 @@ pub const NAMES: [&str; 12] = [
     "second",
     "self_report",
     "send",
+    "inspect",
+    "act",
     "receive",
     "lookup",
     "packet",
@@ -60,10 +64,12 @@ impl Call {
             Call::Second => 5,
             Call::SelfReport => 6,
             Call::Send { .. } => 7,
-            Call::Receive { .. } => 8,
-            Call::Lookup { .. } => 9,
-            Call::Packet { .. } => 10,
-            Call::Checksum { .. } => 11,
+            Call::Inspect { .. } => 8,
+            Call::Act { .. } => 9,
+            Call::Receive { .. } => 10,
+            Call::Lookup { .. } => 11,
+            Call::Packet { .. } => 12,
+            Call::Checksum { .. } => 13,
         }
     }
 }
@@ -82,9 +88,21 @@ pub struct Trial {
 #[derive(Debug, PartialEq, Eq)]
 pub enum Value {
     Nothing,
-    Time { time: i64, date: u16 },
+    Time {
+        time: i64,
+        date: u16,
+    },
     Length(usize),
-    Route { host: usize, pid: u8 },
+    Inspected {
+        source: reference::Address,
+        time: i64,
+        tsp: u16,
+        nhosts: u8,
+    },
+    Route {
+        host: usize,
+        pid: u8,
+    },
     Checksum(u16),
 }
 

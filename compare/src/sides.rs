@@ -44,6 +44,19 @@ impl Library {
                     buffer: Octets(octets),
                 }
             }
+            Call::Inspect { link, packet } => {
+                let told = hello::inspect(settings, number, clock, links, run, *link, &packet.0);
+                let value = Value::Inspected {
+                    source: convert::address(told.source),
+                    time: told.time,
+                    tsp: told.tsp,
+                    nhosts: told.nhosts,
+                };
+                Outcome::new(told.answer, value)
+            }
+            Call::Act { link, packet } => Outcome::of(hello::act(
+                settings, number, clock, links, run, *link, &packet.0,
+            )),
             Call::Receive { link, packet } => Outcome::of(hello::receive(
                 settings, number, clock, links, run, *link, &packet.0,
             )),
@@ -98,6 +111,20 @@ impl Reference {
                     buffer: Octets(octets),
                 }
             }
+            Call::Inspect { link, packet } => {
+                let said = host::inspect(settings, number, clock, links, run, *link, &packet.0);
+                let told = said.unwrap_or_default();
+                let value = Value::Inspected {
+                    source: told.source,
+                    time: told.time.into(),
+                    tsp: told.tsp,
+                    nhosts: told.hosts,
+                };
+                Outcome::new(answer(&said), value)
+            }
+            Call::Act { link, packet } => done(host::act(
+                settings, number, clock, links, run, *link, &packet.0,
+            )),
             Call::Receive { link, packet } => done(host::arrival(
                 settings, number, clock, links, run, *link, &packet.0,
             )),

@@ -119,7 +119,11 @@ fn call(random: &mut Random, room: &Room, trial: &Trial, messages: &Messages) ->
         65..=88 => {
             let link = link(random, trial.settings.link_count);
             let packet = arriving(random, room, trial, link, messages);
-            Call::Receive { link, packet }
+            match random.below(3) {
+                0 => Call::Inspect { link, packet },
+                1 => Call::Act { link, packet },
+                _ => Call::Receive { link, packet },
+            }
         }
         89..=96 => Call::Lookup {
             address: generate::address(random, &trial.settings),

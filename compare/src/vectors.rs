@@ -96,10 +96,16 @@ impl Pair {
         Ok(outcome.buffer.0[..length].to_vec())
     }
 
-    fn receive(&mut self, host: usize, packet: Vec<u8>) -> Result<u8, String> {
-        let packet = Octets(packet);
-        let outcome = self.call(host, Call::Receive { link: 1, packet })?;
-        Ok(outcome.answer)
+    /// A packet is looked at and, where that is answered 0, acted on.
+    fn take(&mut self, host: usize, packet: Vec<u8>) -> Result<u8, String> {
+        let (link, packet) = (1, Octets(packet));
+        let again = packet.clone();
+        let looked = self.call(host, Call::Inspect { link, packet })?;
+        if looked.answer != 0 {
+            return Ok(looked.answer);
+        }
+        let packet = again;
+        Ok(self.call(host, Call::Act { link, packet })?.answer)
     }
 }
 
@@ -198,7 +204,7 @@ fn takes(entry: Entry, delay: u16) -> Result<bool, String> {
     links.all[0].keep_alive = 1;
     pair.0.lend_links(1, links);
     let message = pair.send(1)?;
-    expect("a report", pair.receive(0, message)?, 0)?;
+    expect("a report", pair.take(0, message)?, 0)?;
     Ok(pair.0.library.run[1].delay == i64::from(delay))
 }
 
@@ -232,7 +238,7 @@ fn halves() -> Result<(), String> {
     links.all[0].tsp = 3;
     pair.0.lend_links(1, links);
     let message = pair.send(1)?;
-    expect("a report", pair.receive(0, message)?, 0)?;
+    expect("a report", pair.take(0, message)?, 0)?;
     let entry = pair.0.library.run[1];
     expect("DELAY and OFFSET", (entry.delay, entry.offset), (100, -2))
 }
@@ -245,13 +251,13 @@ fn round_trip() -> Result<(), String> {
     pair.set_reading(0, 40_000);
     let question = pair.send(0)?;
     pair.set_reading(1, 40_530);
-    expect("the question", pair.receive(1, question)?, 10)?;
+    expect("the question", pair.take(1, question)?, 10)?;
     pair.set_reading(1, 45_530);
     pair.call(1, Call::SelfReport)?;
     let answer = pair.send(1)?;
     expect("TSP", &answer[28..30], &45_000_u16.to_be_bytes())?;
     pair.set_reading(0, 45_081);
-    expect("the answer", pair.receive(0, answer)?, 0)?;
+    expect("the answer", pair.take(0, answer)?, 0)?;
     let learned = Entry {
         delay: 100,
         offset: 489,
