@@ -1,7 +1,7 @@
 #!/usr/bin/env python3
 """Packets and what a host makes of them: the table of the arrivals that the program vectors runs. Checksums are computed here, and nothing of the library is used.
 
-usage: packets.py FOLDER     write the packets for the packet program to FOLDER/NAME, and print the name and number of each
+usage: packets.py FOLDER     write each packet for the packet program to FOLDER/NAME, what hello_packet prints of it to NAME.hello_packet and what hello_inspect prints to NAME.hello_inspect, and print the names
        packets.py stdin      print the arrivals as vectors reads them: crates/vectors/stdin
        packets.py stdout     print what it writes of them: the lines in front of crates/vectors/stdout
 """
@@ -116,8 +116,10 @@ PACKETS = [
     Arrival("a new neighbor whose address has no id, no table", ip(hello(), source=STRANGER), 11, Link(4, -25536, STRANGER)),
 ]
 
-# too long for the table
-LONG = [
+# for the programs alone: the numbers that an inspection tells at their ends, and what is too long for the table
+OTHERS = [
+    ("time_and_TSP_of_all_ones", 0, ip(hello(TABLE, time=0xFFFFFFFF, tsp=0xFFFF))),
+    ("TSP_8000_hex", 0, ip(hello(tsp=0x8000))),
     ("empty", 3, b""),
     ("long_2000", 6, ip(bytes(1980))),
     ("longest", 6, ip(bytes(65515))),
@@ -169,12 +171,23 @@ def line(a):
     return f"{a.name:64} answer {a.answer}: KEEP-ALIVE {link.keep_alive} TSP {link.tsp} neighbor {neighbor}; id {a.id}: DELAY {e.delay} OFFSET {e.offset} TTL {e.ttl} PID {e.pid}"
 
 
+def inspection(answer, octets):
+    """What hello_inspect prints: 10 and 11 arise in the action alone, and of a packet that is not refused it tells four things."""
+    if 3 <= answer <= 9:
+        return f"{answer}\n"
+    source = ".".join(map(str, octets[12:16]))
+    time, tsp = int.from_bytes(octets[24:28], "big"), int.from_bytes(octets[28:30], "big")
+    return f"0\nsource {source}\ntime {time}\nTSP {tsp}\nhosts {octets[31]}\n"
+
+
 def write(folder):
     packets = [(a.name.replace(" ", "_"), a.answer, a.packet) for a in PACKETS]
-    for name, number, octets in packets + LONG:
-        with open(os.path.join(folder, name), "wb") as f:
-            f.write(octets)
-        print(name, number)
+    for name, answer, octets in packets + OTHERS:
+        written = {"": octets, ".hello_packet": b"%d\n" % answer, ".hello_inspect": inspection(answer, octets).encode()}
+        for ending, contents in written.items():
+            with open(os.path.join(folder, name + ending), "wb") as f:
+                f.write(contents)
+        print(name)
 
 
 if sys.argv[1] == "stdin":
