@@ -4,6 +4,7 @@ use mathlib.Core.Bool.{Bool, true, false, cond}
 use mathlib.Core.List.{List}
 use Prim.Native.Nat.{ℕ}
 use Rattle.answer.specs.declared.Answer.{Answer}
+use Rattle.clock.specs.declared.Counter.{Counter}
 use Rattle.wire.specs.declared.Parsed.{Parsed}
 use Rattle.wire.specs.declared.Parsed.the-variants.{Good, Bad}
 use Rattle.host.specs.Lent.{Host}
@@ -12,14 +13,14 @@ use Rattle.arrival.specs.declared.Arrived.{Arrived}
 use Rattle.arrival.specs.Inspection.{inspect, tells}
 use Rattle.arrival.specs.Arrival.{quiet, ends, inspected, act, arrival}
 
-pub one-piece : (i : ℕ) (octets : List ℕ) (h : Host) → arrival i octets h ≡ act i octets h
-one-piece i octets h = go (inspect (h .settings) i octets)
+pub one-piece : (i : ℕ) (k : Counter) (octets : List ℕ) (h : Host) → arrival i k octets h ≡ act i k octets h
+one-piece i k octets h = go (inspect (h .settings) i octets)
   where
     same : (b : Bool) (a : Arrived) → cond b a a ≡ a
     same true a = refl
     same false a = refl
 
     go : (q : Parsed)
-        → cond (done (tells q .answer)) (inspected h i q) (quiet (tells q) h) ≡ inspected h i q
+        → cond (done (tells q .answer)) (inspected k h i q) (quiet (tells q) h) ≡ inspected k h i q
     go (Good p) = refl
     go (Bad a) = same (done a) (ends a h)

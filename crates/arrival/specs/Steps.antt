@@ -5,6 +5,7 @@ use lib.Dec.{eqb}
 use lib.IntN.{pos}
 use Rattle.quantity.specs.declared.Millis.{Millis}
 use Rattle.quantity.specs.declared.Seconds.{Seconds}
+use Rattle.quantity.specs.declared.Count.{Count}
 use Rattle.quantity.specs.declared.Word.{Word}
 use Rattle.quantity.specs.Quantity.{millis, addMillis, subMillis, halfMillis, lessMillis}
 use Rattle.quantity.specs.Words.{word, toWord, ofWord, zeroWord}
@@ -91,5 +92,5 @@ abbrev pub reportUpdate : (link : ℕ) → Flight → Report → Update
 reportUpdate i f r = plusReport (neighborUpdate i f) r
 
 -- the update of the entry of one id; line (d) is for the clock host
-abbrev pub updateId : Settings → Packet → Update → (id : ℕ) → Clock → Entry → Updated
-updateId s p u id c e = update (eqb id (s .«clock_host»)) (s .«hold_interval») (p .date) u c e
+abbrev pub updateId : Settings → Count → Packet → Update → (id : ℕ) → Clock → Entry → Updated
+updateId s n p u id c e = update (eqb id (s .«clock_host»)) (s .«hold_interval») n (p .date) u c e

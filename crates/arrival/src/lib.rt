@@ -1,7 +1,7 @@
 // A packet that arrives, by value: the inspection, steps 2 to 4, and what step 5 does to the entries.
 ghost use mathlib.Core.Path.{_≡_};
 ghost use mathlib.Core.Bool.{true};
-ghost use Prim.Native.Nat.{_≤_};
+ghost use Prim.Native.Nat.{_≤_, _<_, _^_};
 ghost use Rattle.clock.specs.Midnight.{dayMillis};
 ghost use Rattle.wire.specs.code.Ranges.{Four};
 ghost use Rattle.table.specs.Entry.{upTo};
@@ -28,6 +28,7 @@ ghost use Rattle.arrival.specs.code.Plan.{planned};
 use answer::Answer;
 use calendar::Date;
 use clock::Clock;
+use clock::Counter;
 use host::Links;
 use host::Reply;
 use host::Settings;
@@ -36,6 +37,7 @@ use host::link_state::broadcast;
 use host::link_state::link_of;
 use host::link_state::with_link;
 use host::replies::plainly;
+use quantity::Count;
 use quantity::Millis;
 use quantity::Seconds;
 use quantity::Word;
@@ -65,8 +67,8 @@ pub enum Step {
 // What is done with a packet that arrives on a link: it is looked at, it is acted on, or both in turn, the arrival in one piece.
 pub enum Delivery {
     Inspect(usize),
-    Act(usize),
-    Receive(usize),
+    Act(usize, Counter),
+    Receive(usize, Counter),
 }
 
 // What a packet that arrives comes to: the reply, the links afterwards, and the updates of which ids, with the clock that they start from.
@@ -93,6 +95,7 @@ pub fn no_updates(c: Clock) -> Updates
         base: 0,
         clock_host: 0,
         hold_interval: Seconds(0),
+        count: Count(0),
         date: Date(0),
         update: update,
         table: false,
@@ -140,18 +143,19 @@ fn updated(
     s: Settings,
     c: Clock,
     l: Links,
+    n: Count,
     p: Packet,
     u: Update,
     id: usize,
-    count: usize,
+    ids: usize,
     table: bool,
 ) -> Arrived
-    requires { ⌜ (id ≤ 255) × (count ≤ 255) ⌝ }
-    ensures { λ r. ⌜ r ≡ updated (host s c l) p u id count table ⌝ }
+    requires { ⌜ (id ≤ 255) × (ids ≤ 255) ⌝ }
+    ensures { λ r. ⌜ r ≡ updated (host s c l) n p u id ids table ⌝ }
 {
     let hold_interval = s.hold_interval;
     let date = p.date;
-    let end = id + count;
+    let end = id + ids;
     let work = Updates {
         first: id,
         end: end,
@@ -159,6 +163,7 @@ fn updated(
         base: 0,
         clock_host: s.clock_host,
         hold_interval: hold_interval,
+        count: n,
         date: date,
         update: u,
         table: table,
@@ -176,46 +181,58 @@ fn no_table(
     c: Clock,
     l: Links,
     link: usize,
+    n: Count,
     p: Packet,
     f: Flight,
     found: Found,
 ) -> Arrived
     requires { ⌜ (1 ≤ link) × (link ≤ 8) ⌝ }
     requires { ⌜ hasPlace found ≡ true ⌝ }
-    ensures { λ r. ⌜ r ≡ noTable (host s c l) link p f found ⌝ }
+    ensures { λ r. ⌜ r ≡ noTable (host s c l) link n p f found ⌝ }
 {
     match found {
         Found::Nothing => ends(Answer::NoHost, s, c, l),
-        Found::Id(id) => updated(s, c, l, p, neighbor_update(link, f), id, 1, false),
+        Found::Id(id) => updated(s, c, l, n, p, neighbor_update(link, f), id, 1, false),
     }
 }
 
-fn step5(s: Settings, c: Clock, l: Links, link: usize, p: Packet, f: Flight) -> Arrived
+fn step5(s: Settings, c: Clock, l: Links, link: usize, n: Count, p: Packet, f: Flight) -> Arrived
     requires { ⌜ (1 ≤ link) × (link ≤ 8) ⌝ }
     requires { ⌜ settingsGood s ≡ true ⌝ }
-    ensures { λ r. ⌜ r ≡ step5 (host s c l) link p f ⌝ }
+    ensures { λ r. ⌜ r ≡ step5 (host s c l) link n p f ⌝ }
 {
     if p.nhosts == 0 {
         let x = f.link;
         let neighbor = x.neighbor;
         let found = route::find(s.address, s.layout, s.net, neighbor);
-        return no_table(s, c, l, link, p, f, found);
+        return no_table(s, c, l, link, n, p, f, found);
     }
-    updated(s, c, l, p, neighbor_update(link, f), 0, host_count(s), true)
+    updated(
+        s,
+        c,
+        l,
+        n,
+        p,
+        neighbor_update(link, f),
+        0,
+        host_count(s),
+        true,
+    )
 }
 
 // Steps 2 to 5, with one reading.
-fn action(s: Settings, c: Clock, l: Links, link: usize, p: Packet) -> Arrived
+fn action(s: Settings, c: Clock, l: Links, link: usize, k: Counter, p: Packet) -> Arrived
     requires { ⌜ (1 ≤ link) × (link ≤ 8) ⌝ }
     requires { ⌜ (settingsGood s ≡ true) × (clockInRange c ≡ true) ⌝ }
     requires { ⌜ Four (p .time .0) ⌝ }
-    ensures { λ a. ⌜ a ≡ action (host s c l) link p ⌝ }
+    ensures { λ a. ⌜ a ≡ action k (host s c l) link p ⌝ }
 {
-    let r = c.reading();
+    let r = host::our_reading(s, c, k);
+    let n = k.used();
     let clock = r.clock;
     match steps::two_to_four(broadcast(s, link), clock.hold, p, r.time, link_of(l, link)) {
         Step::End(f) => ends(Answer::DelayNotValid, s, clock, with_link(l, link, f.link)),
-        Step::On(f) => step5(s, clock, with_link(l, link, f.link), link, p, f),
+        Step::On(f) => step5(s, clock, with_link(l, link, f.link), link, n, p, f),
     }
 }
 
@@ -233,14 +250,14 @@ fn look(s: Settings, c: Clock, l: Links, link: usize, packet: &[u8]) -> Arrived
 }
 
 // Answers 3 to 9 by the inspection, then the action.
-fn act(s: Settings, c: Clock, l: Links, link: usize, packet: &[u8]) -> Arrived
+fn act(s: Settings, c: Clock, l: Links, link: usize, k: Counter, packet: &[u8]) -> Arrived
     requires { ⌜ (1 ≤ link) × (link ≤ 8) ⌝ }
     requires { ⌜ (settingsGood s ≡ true) × (clockInRange c ≡ true) ⌝ }
-    ensures { λ a. ⌜ a ≡ act link (now (packet .entry)) (host s c l) ⌝ }
+    ensures { λ a. ⌜ a ≡ act link k (now (packet .entry)) (host s c l) ⌝ }
 {
     match inspection::inspect(s, link, packet) {
         Parsed::Bad(a) => ends(a, s, c, l),
-        Parsed::Good(p) => action(s, c, l, link, p),
+        Parsed::Good(p) => action(s, c, l, link, k, p),
     }
 }
 
@@ -249,8 +266,8 @@ pub fn on_link(d: Delivery) -> usize
 {
     match d {
         Delivery::Inspect(i) => i,
-        Delivery::Act(i) => i,
-        Delivery::Receive(i) => i,
+        Delivery::Act(i, _) => i,
+        Delivery::Receive(i, _) => i,
     }
 }
 
@@ -262,15 +279,15 @@ fn deliver(s: Settings, c: Clock, l: Links, d: Delivery, packet: &[u8]) -> Arriv
 {
     match d {
         Delivery::Inspect(i) => look(s, c, l, i, packet),
-        Delivery::Act(i) => act(s, c, l, i, packet),
-        Delivery::Receive(i) => act(s, c, l, i, packet),
+        Delivery::Act(i, k) => act(s, c, l, i, k, packet),
+        Delivery::Receive(i, k) => act(s, c, l, i, k, packet),
     }
 }
 
 // A refusal of the guard's, or what the delivery comes to.
 pub fn plan(g: Answer, s: Settings, c: Clock, l: Links, d: Delivery, packet: &[u8]) -> Arrived
     requires { ⌜ Told g (OnLink (onLink d)) s c ⌝ }
-    ensures { λ p. ⌜ p ≡ planned g d (now (packet .entry)) (host s c l) ⌝ }
+    ensures { λ p. ⌜ (p ≡ planned g d (now (packet .entry)) (host s c l)) × (p .work .count .0 < 2 ^ 16) ⌝ }
 {
     if !answer::is_done(g) {
         return ends(g, s, c, l);

@@ -2,17 +2,21 @@
 use mathlib.Core.Path.{_≡_, refl, sym, ap, _∙_}
 use mathlib.Core.Bool.{Bool, true, false, false≢true, cond, not}
 use mathlib.Core.List.{List, []}
-use Prim.Native.Nat.{ℕ, _+_, _-_, _≤_, _<_}
+use Prim.Native.Nat.{ℕ, _+_, _-_, _≤_, _<_, _^_}
 use native.Mathlib.Omega.{arith}
 use borrow.Author.Tests.{ltb-true, ltb-false}
 use lib.Dec.{ltb, eqb}
 use lib.ListN.{length}
 use Rattle.lists.proofs.Parts.{over-nothing}
 use Rattle.lists.proofs.Tests.{is-so}
+use Rattle.quantity.specs.declared.Count.{Count}
 use Rattle.answer.specs.declared.Answer.{Answer}
 use Rattle.answer.specs.declared.Answer.the-variants.{DelayNotValid, NoHost}
 use Rattle.clock.specs.declared.Clock.{Clock}
-use Rattle.clock.specs.Clock.{reading, clockInRange}
+use Rattle.clock.specs.declared.Counter.{Counter}
+use Rattle.clock.specs.declared.Reading.{Reading}
+use Rattle.clock.specs.Clock.{countUsed, clockInRange}
+use Rattle.clock.proofs.Range.{reading-in-range}
 use Rattle.wire.specs.declared.Packet.{Packet}
 use Rattle.wire.specs.declared.Parsed.{Parsed}
 use Rattle.wire.specs.declared.Parsed.the-variants.{Good, Bad}
@@ -29,10 +33,10 @@ use Rattle.table.specs.Runs.{updates}
 use Rattle.table.specs.code.Loops.{UpdatesFit}
 use Rattle.host.specs.declared.Settings.{Settings}
 use Rattle.host.specs.declared.Links.{Links}
-use Rattle.host.specs.State.{firstPlace, hostCount, broadcast, linkOf, entries, withEntries}
+use Rattle.host.specs.State.{firstPlace, hostCount, broadcast, linkOf, withLink, entries, withEntries}
 use Rattle.host.specs.declared.guard.Scope.the-variants.{OnLink}
 use Rattle.host.specs.Settings.{foundFor}
-use Rattle.host.specs.Lent.{Host, host, Lent}
+use Rattle.host.specs.Lent.{Host, host, Lent, ourReading}
 use Rattle.host.specs.Guard.{guard, done}
 use Rattle.host.proofs.Places.{Holds}
 use Rattle.host.proofs.Sound.{Sound, sound}
@@ -61,6 +65,7 @@ pub record Asked (s : Settings) (octets : List ℕ) (w : Updates) : Type 0 where
   pub base : w .base ≡ 0
   pub clock : w .first < w .end → clockInRange (w .clock) ≡ true
   pub hold : w .first < w .end → w .«hold_interval» .0 ≤ 255
+  pub count : w .first < w .end → w .count .0 < 2 ^ 16
   pub delay : w .first < w .end → upTo ownMost (w .update .delay) ≡ true
   pub reports : w .first < w .end → w .table ≡ true → packetLength (w .end) ≤ length octets
 
@@ -82,7 +87,7 @@ module _ (s : Settings) (k : ℕ) (run : List Entry) (h : Holds k run) (octets :
           let n : firstPlace k + w .end - (firstPlace k + w .base) ≡ w .end = omega arith in
           record {
             places = record { rising = omega arith; inside = omega arith };
-            sound = λ _. record { based = omega arith; clock = a .clock some; hold = a .hold some; delay = a .delay some; reports = λ t. rw n (a .reports some t) };
+            sound = λ _. record { based = omega arith; clock = a .clock some; hold = a .hold some; count = a .count some; delay = a .delay some; reports = λ t. rw n (a .reports some t) };
           }
       go false e = record { places = record { rising = omega arith; inside = omega arith }; sound = λ l. absurd (omega (arith, l)) }
 
@@ -109,8 +114,9 @@ module _ (s : Settings) (k : ℕ) (run : List Entry) (h : Holds k run) (octets :
 -- ---- what an arrival's updates have
 
 module _ (s : Settings) (good : Sound s) (i : ℕ) (octets : List ℕ) where
+  -- a count has 16 bits
   abbrev Fine : Arrived → Type 0
-  Fine p = Asked s octets (p .work)
+  Fine p = p .work .count .0 < 2 ^ 16 → Asked s octets (p .work)
 
   -- nothing is updated
   quiet : (c : Clock) → Asked s octets (noUpdates c)
@@ -121,50 +127,61 @@ module _ (s : Settings) (good : Sound s) (i : ℕ) (octets : List ℕ) where
         base = refl;
         clock = λ l. absurd (omega (arith, l));
         hold = λ l. absurd (omega (arith, l));
+        count = λ l. absurd (omega (arith, l));
         delay = λ l. absurd (omega (arith, l));
         reports = λ l. absurd (omega (arith, l));
       }
 
   ended : (a : Answer) (h : Host) → Fine (ends a h)
-  ended a h = quiet (h .clock)
+  ended a h few = quiet (h .clock)
 
-  fifth : (c : Clock) (l : Links) → clockInRange c ≡ true → (p : Packet) (f : Flight) → Short f → packetLength (p .nhosts) ≤ length octets
-      → (eqb (p .nhosts) 0 ≡ false → p .nhosts ≡ s .layout .nhosts) → Fine (step5 (host s c l) i p f)
-  fifth c l ok p f short long ours = go (eqb (p .nhosts) 0) refl
+  fifth : (c : Clock) (l : Links) (n : Count) → (n .0 < 2 ^ 16 → clockInRange c ≡ true) → (p : Packet) (f : Flight) → Short f → packetLength (p .nhosts) ≤ length octets
+      → (eqb (p .nhosts) 0 ≡ false → p .nhosts ≡ s .layout .nhosts) → Fine (step5 (host s c l) i n p f)
+  fifth c l n ok p f short long ours = go (eqb (p .nhosts) 0) refl
     where
-      neighbor : (x : Found) → ((id : ℕ) → x ≡ Id id → id < hostCount s) → Fine (noTable (host s c l) i p f x)
-      neighbor Nothing below = ended NoHost (host s c l)
-      neighbor (Id id) below =
+      neighbor : (x : Found) → ((id : ℕ) → x ≡ Id id → id < hostCount s) → Fine (noTable (host s c l) i n p f x)
+      neighbor Nothing below few = ended NoHost (host s c l) few
+      neighbor (Id id) below few =
           let b = below id refl in
-          record { rising = omega arith; below = omega arith; base = refl; clock = λ _. ok; hold = λ _. good .hold-to; delay = λ _. short; reports = λ _ e. absurd (false≢true e) }
+          record { rising = omega arith; below = omega arith; base = refl; clock = λ _. ok few; hold = λ _. good .hold-to; count = λ _. few; delay = λ _. short; reports = λ _ e. absurd (false≢true e) }
 
-      go : (b : Bool) → eqb (p .nhosts) 0 ≡ b → Fine (cond b (noTable (host s c l) i p f (foundFor s (f .link .neighbor))) (withTable (host s c l) i p f))
-      go true e =
-          neighbor (foundFor s (f .link .neighbor)) (λ id q. omega (arith, found-below (s .address) (s .layout) (s .net) (f .link .neighbor) id (good .row-ids) q, good .hosts-to))
-      go false e =
+      go : (b : Bool) → eqb (p .nhosts) 0 ≡ b → Fine (cond b (noTable (host s c l) i n p f (foundFor s (f .link .neighbor))) (withTable (host s c l) i n p f))
+      go true e few =
+          neighbor (foundFor s (f .link .neighbor)) (λ id q. omega (arith, found-below (s .address) (s .layout) (s .net) (f .link .neighbor) id (good .row-ids) q, good .hosts-to)) few
+      go false e few =
           let o = ours e in
           let t = good .hosts-to in
-          record { rising = omega arith; below = omega arith; base = refl; clock = λ _. ok; hold = λ _. good .hold-to; delay = λ _. short; reports = λ _ _. omega arith }
+          record { rising = omega arith; below = omega arith; base = refl; clock = λ _. ok few; hold = λ _. good .hold-to; count = λ _. few; delay = λ _. short; reports = λ _ _. omega arith }
 
-  fine : (c : Clock) (l : Links) → clockInRange (reading c .clock) ≡ true → (q : Parsed) → Fits s octets q → Fine (inspected (host s c l) i q)
-  fine c l ok (Bad a) fits = ended a (host s c l)
-  fine c l ok (Good p) fits =
-      steps-cases (λ g. Fine (concluded (host s (reading c .clock) l) i p g))
-      (broadcast s i) (reading c .clock .hold) p (reading c .time) (linkOf l i)
-      (λ b. fifth (reading c .clock) _ ok p _ (measured-short _ p _ _) (fits .0) (fits .1))
-      (λ b n. fifth (reading c .clock) _ ok p _ (new-short p (measured (broadcast s i) p (reading c .time) (linkOf l i))) (fits .0) (fits .1))
-      (λ b n z. ended DelayNotValid (host s (reading c .clock) l))
-      (λ b n z. fifth (reading c .clock) _ ok p _ (measured-short _ p _ _) (fits .0) (fits .1))
+  module _ (c : Clock) (l : Links) (ok : clockInRange c ≡ true) (k : Counter) where
+    abbrev r : Reading
+    r = ourReading k (host s c l)
 
-  acted : (c : Clock) (l : Links) → clockInRange (reading c .clock) ≡ true → Fine (definition.act i octets (host s c l))
-  acted c l ok = fine c l ok (inspect s i octets) (inspected-fits s i octets)
+    still-ok : countUsed k .0 < 2 ^ 16 → clockInRange (r .clock) ≡ true
+    still-ok = reading-in-range (s .«hold_interval») (good .hold-to) c ok (s .«clock_tick») k
+
+    fifth-step : (p : Packet) → Fits s octets (Good p) → (f : Flight) → Short f → Fine (step5 (host s (r .clock) (withLink i (f .link) l)) i (countUsed k) p f)
+    fifth-step p fits f short = fifth (r .clock) (withLink i (f .link) l) (countUsed k) still-ok p f short (fits .0) (fits .1)
+
+    fine : (q : Parsed) → Fits s octets q → Fine (inspected k (host s c l) i q)
+    fine (Bad a) fits = ended a (host s c l)
+    fine (Good p) fits =
+        steps-cases (λ g. Fine (concluded (host s (r .clock) l) i (countUsed k) p g))
+        (broadcast s i) (r .clock .hold) p (r .time) (linkOf l i)
+        (λ b. fifth-step p fits _ (measured-short _ p _ _))
+        (λ b n. fifth-step p fits _ (new-short p (measured (broadcast s i) p (r .time) (linkOf l i))))
+        (λ b n z. ended DelayNotValid (host s (r .clock) l))
+        (λ b n z. fifth-step p fits _ (measured-short _ p _ _))
+
+    acted : Fine (definition.act i k octets (host s c l))
+    acted = fine (inspect s i octets) (inspected-fits s i octets)
 
 -- what each delivery's updates have
-delivered-fine : (s : Settings) → Sound s → (d : Delivery) (octets : List ℕ) (c : Clock) (l : Links) → clockInRange (reading c .clock) ≡ true
-    → Asked s octets (definition.delivered d octets (host s c l) .work)
-delivered-fine s good (Inspect i) octets c l ok = quiet s good i octets c
-delivered-fine s good (Act i) octets c l ok = acted s good i octets c l ok
-delivered-fine s good (Receive i) octets c l ok = rw (one-piece i octets (host s c l)) (acted s good i octets c l ok)
+delivered-fine : (s : Settings) (good : Sound s) (d : Delivery) (octets : List ℕ) (c : Clock) (l : Links) → clockInRange c ≡ true
+    → Fine s good (onLink d) octets (definition.delivered d octets (host s c l))
+delivered-fine s good (Inspect i) octets c l ok = λ few. quiet s good i octets c
+delivered-fine s good (Act i k) octets c l ok = acted s good i octets c l ok k
+delivered-fine s good (Receive i k) octets c l ok = rw (one-piece i k octets (host s c l)) (acted s good i octets c l ok k)
 
 -- ---- the call
 
@@ -188,27 +205,28 @@ module _ (x : Lent) (d : Delivery) (octets : List ℕ) where
         left = record { reply = refl; clock = refl; links = refl; run = over-nothing 0 (x .run) };
       }
 
-  goes-on : done g ≡ true → Delivered x octets (definition.delivered d octets (x .host)) (updatedBy (definition.delivered d octets (x .host)) octets x)
-  unfolding reading
-  goes-on e =
+  goes-on : done g ≡ true → definition.delivered d octets (x .host) .work .count .0 < 2 ^ 16
+      → Delivered x octets (definition.delivered d octets (x .host)) (updatedBy (definition.delivered d octets (x .host)) octets x)
+  goes-on e few =
       let s = x .host .settings in
       let q = passed (OnLink (onLink d)) x e in
       let h = holds (x .number) (x .run) (q .places) in
       let k-in = number-lent (x .number) (x .run) (q .places) in
       let p = definition.delivered d octets (x .host) in
-      let a = delivered-fine s (sound s (q .settings)) d octets (x .host .clock) (x .host .links) (clock-lent x (q .lent refl)) in
+      let a = delivered-fine s (sound s (q .settings)) d octets (x .host .clock) (x .host .links) (clock-lent x (q .lent refl)) few in
       record {
         ids = (record { number = λ _. k-in; ids = λ _. omega (arith, a .below) }, omega (arith, a .base));
         there = fits s (x .number) (x .run) h octets (p .work) a;
         left = rw (carried s (x .number) (x .run) h octets (p .work) a) record { reply = refl; clock = refl; links = refl; run = refl };
       }
 
-  pub delivered : Delivered x octets (planned g d octets (x .host)) (perform (deliver d octets) x)
+  pub delivered : planned g d octets (x .host) .work .count .0 < 2 ^ 16 → Delivered x octets (planned g d octets (x .host)) (perform (deliver d octets) x)
   unfolding perform
   delivered = go (not (done g)) refl
     where
       go : (b : Bool) → not (done g) ≡ b
+          → cond b (ends g (x .host)) (definition.delivered d octets (x .host)) .work .count .0 < 2 ^ 16
           → Delivered x octets (cond b (ends g (x .host)) (definition.delivered d octets (x .host)))
           (cond b (refused g (deliver d octets) x) (updatedBy (definition.delivered d octets (x .host)) octets x))
-      go true e = refuses
-      go false e = goes-on (is-so _ e)
+      go true e few = refuses
+      go false e few = goes-on (is-so _ e) few

@@ -8,7 +8,6 @@ use Rattle.lists.proofs.Tests.{either, is-so}
 use Rattle.quantity.specs.declared.Millis.{Millis}
 use Rattle.answer.specs.declared.Answer.{Answer}
 use Rattle.clock.specs.declared.Clock.{Clock}
-use Rattle.clock.specs.Clock.{reading}
 use Rattle.route.specs.declared.Found.{Found}
 use Rattle.route.specs.declared.Found.the-variants.{Id, Nothing}
 use Rattle.route.proofs.Ids.{local-id-below}
@@ -20,7 +19,7 @@ use Rattle.host.specs.declared.Settings.{Settings}
 use Rattle.host.specs.declared.Links.{Links}
 use Rattle.host.specs.Settings.{settingsGood, ownId}
 use Rattle.host.specs.State.{firstPlace, hostCount}
-use Rattle.host.specs.Lent.{Host, Lent}
+use Rattle.host.specs.Lent.{Host, Lent, ourReading}
 use Rattle.host.specs.Guard.{guard, done}
 use Rattle.host.specs.Reply.{plainly}
 use Rattle.host.proofs.Places.{Holds}
@@ -46,14 +45,14 @@ own-ids s (Id id) below time = let i = below id refl in record { rising = omega 
 pub effect-ids : (q : Request) (h : Host) (e : Entry) → settingsGood (h .settings) ≡ true → Ids (h .settings) (effect q h e .work)
 unfolding definition.initialize definition.tick definition.adjust definition.setBy definition.read definition.second definition.selfReport definition.lookup
 effect-ids Initialize h e good = record { rising = omega arith; below = omega arith }
-effect-ids Tick h e good = record { rising = omega arith; below = omega arith }
-effect-ids Adjust h e good = record { rising = omega arith; below = omega arith }
-effect-ids (Set ms) h e good = record { rising = omega arith; below = omega arith }
-effect-ids Read h e good = record { rising = omega arith; below = omega arith }
+effect-ids (Tick n) h e good = record { rising = omega arith; below = omega arith }
+effect-ids (Adjust n) h e good = record { rising = omega arith; below = omega arith }
+effect-ids (Set ms n) h e good = record { rising = omega arith; below = omega arith }
+effect-ids (Read k) h e good = record { rising = omega arith; below = omega arith }
 effect-ids Second h e good = record { rising = omega arith; below = omega arith }
-effect-ids SelfReport h e good =
+effect-ids (SelfReport k) h e good =
     let s : Settings = h .settings in
-    own-ids s (ownId s) (λ id q. omega (arith, local-id-below (s .layout) (s .address) id q, sound s good .hosts-to)) (reading (h .clock) .time)
+    own-ids s (ownId s) (λ id q. omega (arith, local-id-below (s .layout) (s .address) id q, sound s good .hosts-to)) (ourReading k h .time)
 effect-ids (Lookup a) h e good = record { rising = omega arith; below = omega arith }
 
 module _ (x : Lent) (q : Request) where

@@ -16,7 +16,7 @@ use Rattle.answer.specs.declared.Answer.{Answer}
 use Rattle.answer.specs.declared.Answer.the-variants.{ShortBuffer}
 use Rattle.clock.specs.declared.Clock.{Clock}
 use Rattle.clock.specs.Midnight.{dayMillis}
-use Rattle.clock.specs.Clock.{reading, clockInRange}
+use Rattle.clock.specs.declared.Counter.{Counter}
 use Rattle.wire.specs.declared.Packet.{Packet}
 use Rattle.wire.specs.declared.Address.{Address}
 use Rattle.wire.specs.declared.Report.{Report}
@@ -35,10 +35,10 @@ use Rattle.host.specs.declared.Settings.{Settings}
 use Rattle.host.specs.declared.Link.{Link}
 use Rattle.host.specs.declared.guard.Scope.the-variants.{OnLink}
 use Rattle.host.specs.State.{firstPlace, hostCount, linkOf, entries}
-use Rattle.host.specs.Lent.{Lent, entriesOf}
+use Rattle.host.specs.Lent.{Lent, entriesOf, ourReading}
 use Rattle.host.specs.Guard.{guard, done}
 use Rattle.host.proofs.Places.{Holds}
-use Rattle.host.proofs.Guarded.{passed, holds, number-lent, clock-lent}
+use Rattle.host.proofs.Guarded.{passed, holds, number-lent}
 use Rattle.sending.specs.declared.Sending.{Sending}
 use Rattle.sending.specs.Message.{tableGoes}
 use Rattle.sending.specs.Send.{reportCount, unsent, sends, sendIn}
@@ -60,7 +60,7 @@ four m e =
     let w = within 86400000 (m .0) e in
     record { not-below = to-≤ℤ _ (m .0) (omega arith); below = to-<ℤ (m .0) _ (omega arith) }
 
-module _ (x : Lent) (i : ℕ) (buffer : List ℕ) where
+module _ (x : Lent) (i : ℕ) (counter : Counter) (buffer : List ℕ) where
   abbrev s : Settings
   s = x .host .settings
 
@@ -71,7 +71,7 @@ module _ (x : Lent) (i : ℕ) (buffer : List ℕ) where
   F = firstPlace (x .number)
 
   -- no message
-  refuses : (a : Answer) → Sent x buffer (unsent a (x .host)) (refused a (send i buffer) x)
+  refuses : (a : Answer) → Sent x buffer (unsent a (x .host)) (refused a (send i counter buffer) x)
   unfolding readOut withReports
   refuses a =
       record {
@@ -140,18 +140,18 @@ module _ (x : Lent) (i : ℕ) (buffer : List ℕ) where
       go true = omega arith
       go false = omega arith
 
-  went : Holds k (x .run) → k ≤ 15 → clockInRange (x .host .clock) ≡ true → packetLength (reportCount s y) ≤ length buffer
-      → Sent x buffer (sends i (x .host)) (sentBy (sends i (x .host)) buffer x)
-  went h k-in ok room =
+  went : Holds k (x .run) → k ≤ 15 → packetLength (reportCount s y) ≤ length buffer
+      → Sent x buffer (sends i counter (x .host)) (sentBy (sends i counter (x .host)) buffer x)
+  went h k-in room =
       let n = reportCount s y in
-      let p = sends i (x .host) in
+      let p = sends i counter (x .host) in
       let z : reportCount s y - 0 ≡ reportCount s y = omega arith in
       record {
         ids = record { number = λ _. k-in; ids = λ _. omega (arith, few) };
         fits = fitting n few h room;
         ready = record {
           room = λ _. rw (put n few h room, put-length n few h room) room;
-          time = λ _. four (reading (x .host .clock) .time) (reading-in (x .host .clock) ok);
+          time = λ _. four (ourReading counter (x .host) .time) (reading-in (s .«clock_tick») (s .«hold_interval») counter (x .host .clock));
         };
         left = record { reply = refl; clock = refl; links = refl; run = refl };
         octets = rw (put n few h room, z) (sealed-is n few h room (y .neighbor) (p .packet) refl);
@@ -161,22 +161,22 @@ module _ (x : Lent) (i : ℕ) (buffer : List ℕ) where
   g = guard (OnLink i) x
 
   -- whether the buffer is too short
-  goes-on : done g ≡ true → Sent x buffer (sendIn i (length buffer) (x .host)) (sentBy (sendIn i (length buffer) (x .host)) buffer x)
+  goes-on : done g ≡ true → Sent x buffer (sendIn i counter (length buffer) (x .host)) (sentBy (sendIn i counter (length buffer) (x .host)) buffer x)
   goes-on e =
       let q = passed (OnLink i) x e in
-      go (holds k (x .run) (q .places)) (number-lent k (x .run) (q .places)) (clock-lent x (q .lent refl)) (ltb (length buffer) (packetLength (reportCount s y))) refl
+      go (holds k (x .run) (q .places)) (number-lent k (x .run) (q .places)) (ltb (length buffer) (packetLength (reportCount s y))) refl
     where
-      go : Holds k (x .run) → k ≤ 15 → clockInRange (x .host .clock) ≡ true → (short : Bool) → ltb (length buffer) (packetLength (reportCount s y)) ≡ short
-          → Sent x buffer (cond short (unsent ShortBuffer (x .host)) (sends i (x .host))) (sentBy (cond short (unsent ShortBuffer (x .host)) (sends i (x .host))) buffer x)
-      go h k-in ok true e = refuses ShortBuffer
-      go h k-in ok false e = went h k-in ok (ltb-false _ _ e)
+      go : Holds k (x .run) → k ≤ 15 → (short : Bool) → ltb (length buffer) (packetLength (reportCount s y)) ≡ short
+          → Sent x buffer (cond short (unsent ShortBuffer (x .host)) (sends i counter (x .host))) (sentBy (cond short (unsent ShortBuffer (x .host)) (sends i counter (x .host))) buffer x)
+      go h k-in true e = refuses ShortBuffer
+      go h k-in false e = went h k-in (ltb-false _ _ e)
 
-  pub sent : Sent x buffer (planned g i (length buffer) (x .host)) (perform (send i buffer) x)
+  pub sent : Sent x buffer (planned g i counter (length buffer) (x .host)) (perform (send i counter buffer) x)
   unfolding perform
   sent = go (not (done g)) refl
     where
       go : (b : Bool) → not (done g) ≡ b
-          → Sent x buffer (cond b (unsent g (x .host)) (sendIn i (length buffer) (x .host)))
-          (cond b (refused g (send i buffer) x) (sentBy (sendIn i (length buffer) (x .host)) buffer x))
+          → Sent x buffer (cond b (unsent g (x .host)) (sendIn i counter (length buffer) (x .host)))
+          (cond b (refused g (send i counter buffer) x) (sentBy (sendIn i counter (length buffer) (x .host)) buffer x))
       go true e = refuses g
       go false e = goes-on (is-so _ e)

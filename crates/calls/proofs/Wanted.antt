@@ -16,22 +16,22 @@ use Rattle.calls.specs.Effects.{wanted}
 
 pub wanted-has-place : (s : Settings) (q : Request) → settingsGood s ≡ true → hasPlace (wanted q s) ≡ true
 wanted-has-place s Initialize good = refl
-wanted-has-place s Tick good = refl
-wanted-has-place s Adjust good = refl
-wanted-has-place s (Set ms) good = refl
-wanted-has-place s Read good = refl
+wanted-has-place s (Tick n) good = refl
+wanted-has-place s (Adjust n) good = refl
+wanted-has-place s (Set ms n) good = refl
+wanted-has-place s (Read k) good = refl
 wanted-has-place s Second good = refl
-wanted-has-place s SelfReport good = refl
+wanted-has-place s (SelfReport k) good = refl
 wanted-has-place s (Lookup a) good = find-has-place s a good
 
 pub wanted-below : (s : Settings) (q : Request) → settingsGood s ≡ true → (id : ℕ) → wanted q s ≡ Id id → id < hostCount s
 wanted-below s Initialize good id e = let z : _≡_ {A = ℕ} 0 1 = cc in absurd (omega arith)
-wanted-below s Tick good id e = let z : _≡_ {A = ℕ} 0 1 = cc in absurd (omega arith)
-wanted-below s Adjust good id e = let z : _≡_ {A = ℕ} 0 1 = cc in absurd (omega arith)
-wanted-below s (Set ms) good id e = let z : _≡_ {A = ℕ} 0 1 = cc in absurd (omega arith)
-wanted-below s Read good id e = let z : _≡_ {A = ℕ} 0 1 = cc in absurd (omega arith)
+wanted-below s (Tick n) good id e = let z : _≡_ {A = ℕ} 0 1 = cc in absurd (omega arith)
+wanted-below s (Adjust n) good id e = let z : _≡_ {A = ℕ} 0 1 = cc in absurd (omega arith)
+wanted-below s (Set ms n) good id e = let z : _≡_ {A = ℕ} 0 1 = cc in absurd (omega arith)
+wanted-below s (Read k) good id e = let z : _≡_ {A = ℕ} 0 1 = cc in absurd (omega arith)
 wanted-below s Second good id e = let z : _≡_ {A = ℕ} 0 1 = cc in absurd (omega arith)
-wanted-below s SelfReport good id e = let z : _≡_ {A = ℕ} 0 1 = cc in absurd (omega arith)
+wanted-below s (SelfReport k) good id e = let z : _≡_ {A = ℕ} 0 1 = cc in absurd (omega arith)
 wanted-below s (Lookup a) good id e =
     let g = sound s good in
     omega (arith, found-below (s .address) (s .layout) (s .net) a id (g .row-ids) e, g .hosts-to)

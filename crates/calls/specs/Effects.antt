@@ -2,11 +2,13 @@
 use mathlib.Core.Bool.{cond, not}
 use Prim.Native.Nat.{ℕ, _+_}
 use Rattle.quantity.specs.declared.Millis.{Millis}
+use Rattle.quantity.specs.declared.Count.{Count}
 use Rattle.quantity.specs.Quantity.{millis}
 use Rattle.answer.specs.declared.Answer.the-variants.{Done, NoHost, HostDown}
 use Rattle.clock.specs.declared.Clock.{Clock}
+use Rattle.clock.specs.declared.Counter.{Counter}
 use Rattle.clock.specs.declared.Reading.{Reading}
-use Rattle.clock.specs.Clock.{freshClock, reading, holdSecond}
+use Rattle.clock.specs.Clock.{freshClock, holdSecond}
 use Rattle.clock.specs.Clock as clock
 use Rattle.wire.specs.declared.Address.{Address}
 use Rattle.route.specs.declared.Found.{Found}
@@ -23,7 +25,7 @@ use Rattle.host.specs.declared.guard.Scope.{Scope}
 use Rattle.host.specs.declared.guard.Scope.the-variants.{Places, All}
 use Rattle.host.specs.Settings.{ownId, foundFor}
 use Rattle.host.specs.State.{freshLinks, hostCount}
-use Rattle.host.specs.Lent.{Host}
+use Rattle.host.specs.Lent.{Host, ourReading}
 use Rattle.host.specs.Reply.{plainly, tellsRoute, tellsTime}
 use Rattle.calls.specs.declared.Effect.{Effect}
 use Rattle.calls.specs.declared.Request.{Request}
@@ -51,19 +53,19 @@ unfoldable pub initialize : Settings → Effect
 initialize s =
     record { reply = plainly Done; clock = freshClock (s .time) (s .date); links = freshLinks s; work = each s Fresh }
 
-unfoldable pub tick : Host → Effect
-tick h = answers (plainly Done) (clock.tick (h .settings .«clock_tick») (h .settings .«hold_interval») (h .clock)) (h .links)
+unfoldable pub tick : Count → Host → Effect
+tick n h = answers (plainly Done) (clock.tick (h .settings .«clock_tick») (h .settings .«hold_interval») n (h .clock)) (h .links)
 
-unfoldable pub adjust : Host → Effect
-adjust h = answers (plainly Done) (clock.adjust (h .settings .«hold_interval») (h .clock)) (h .links)
+unfoldable pub adjust : Count → Host → Effect
+adjust n h = answers (plainly Done) (clock.adjust (h .settings .«hold_interval») n (h .clock)) (h .links)
 
 -- by a signed count of ms
-unfoldable pub setBy : Millis → Host → Effect
-setBy ms h = answers (plainly Done) (clock.setBy (h .settings .«hold_interval») ms (h .clock)) (h .links)
+unfoldable pub setBy : Millis → Count → Host → Effect
+setBy ms n h = answers (plainly Done) (clock.setBy (h .settings .«hold_interval») n ms (h .clock)) (h .links)
 
-unfoldable pub read : Host → Effect
-read h =
-    let r : Reading = reading (h .clock) in
+unfoldable pub read : Counter → Host → Effect
+read k h =
+    let r : Reading = ourReading k h in
     answers (tellsTime (r .time) (r .clock .date)) (r .clock) (h .links)
 
 unfoldable pub second : Host → Effect
@@ -74,9 +76,9 @@ abbrev pub ownWork : Millis → Found → Changes
 ownWork time Nothing = nothing
 ownWork time (Id id) = one id (Reported time)
 
-unfoldable pub selfReport : Host → Effect
-selfReport h =
-    let r : Reading = reading (h .clock) in
+unfoldable pub selfReport : Counter → Host → Effect
+selfReport k h =
+    let r : Reading = ourReading k h in
     record { reply = plainly Done; clock = r .clock; links = h .links; work = ownWork (r .time) (ownId (h .settings)) }
 
 -- 11 where no id is found, 13 where its host is down
@@ -90,12 +92,12 @@ lookup a h e = answers (looked (foundFor (h .settings) a) e) (h .clock) (h .link
 -- by what is asked; a lookup has the entry of the id that it finds
 abbrev pub effect : Request → Host → Entry → Effect
 effect Initialize h e = initialize (h .settings)
-effect Tick h e = tick h
-effect Adjust h e = adjust h
-effect (Set ms) h e = setBy (millis ms) h
-effect Read h e = read h
+effect (Tick n) h e = tick n h
+effect (Adjust n) h e = adjust n h
+effect (Set ms n) h e = setBy (millis ms) n h
+effect (Read k) h e = read k h
 effect Second h e = second h
-effect SelfReport h e = selfReport h
+effect (SelfReport k) h e = selfReport k h
 effect (Lookup a) h e = lookup a h e
 
 -- ---- what a call asks for beside
@@ -103,21 +105,21 @@ effect (Lookup a) h e = lookup a h e
 -- how much of what is lent is tested
 abbrev pub scopeOf : Request → Scope
 scopeOf Initialize = Places
-scopeOf Tick = All
-scopeOf Adjust = All
-scopeOf (Set ms) = All
-scopeOf Read = All
+scopeOf (Tick n) = All
+scopeOf (Adjust n) = All
+scopeOf (Set ms n) = All
+scopeOf (Read k) = All
 scopeOf Second = All
-scopeOf SelfReport = All
+scopeOf (SelfReport k) = All
 scopeOf (Lookup a) = All
 
 -- the id whose entry is looked at
 abbrev pub wanted : Request → Settings → Found
 wanted Initialize s = Nothing
-wanted Tick s = Nothing
-wanted Adjust s = Nothing
-wanted (Set ms) s = Nothing
-wanted Read s = Nothing
+wanted (Tick n) s = Nothing
+wanted (Adjust n) s = Nothing
+wanted (Set ms n) s = Nothing
+wanted (Read k) s = Nothing
 wanted Second s = Nothing
-wanted SelfReport s = Nothing
+wanted (SelfReport k) s = Nothing
 wanted (Lookup a) s = foundFor s a

@@ -6,6 +6,7 @@ use Prim.Native.Nat.{ℕ}
 use lib.ListN.{length, getD}
 use Rattle.answer.specs.declared.Answer.{Answer}
 use Rattle.clock.specs.declared.Clock.{Clock}
+use Rattle.clock.specs.declared.Counter.{Counter}
 use Rattle.route.specs.declared.Found.{Found}
 use Rattle.route.specs.declared.Found.the-variants.{Id, Nothing}
 use Rattle.table.specs.declared.Entry.{Entry}
@@ -33,18 +34,18 @@ use Rattle.calls.specs.Effects.{scopeOf, wanted, effect}
 -- a call with its input: a request, a send on a link into a buffer, a packet that arrives and what is done with it
 pub data Call : Type 0 where
   ask : Request → Call
-  send : (link : ℕ) (buffer : List ℕ) → Call
+  send : (link : ℕ) → Counter → (buffer : List ℕ) → Call
   deliver : Delivery → (packet : List ℕ) → Call
 
 -- the inspection, the action, and the arrival in one piece
 abbrev pub inspect : (link : ℕ) (packet : List ℕ) → Call
 inspect i packet = deliver (Inspect i) packet
 
-abbrev pub act : (link : ℕ) (packet : List ℕ) → Call
-act i packet = deliver (Act i) packet
+abbrev pub act : (link : ℕ) → Counter → (packet : List ℕ) → Call
+act i k packet = deliver (Act i k) packet
 
-abbrev pub receive : (link : ℕ) (packet : List ℕ) → Call
-receive i packet = deliver (Receive i) packet
+abbrev pub receive : (link : ℕ) → Counter → (packet : List ℕ) → Call
+receive i k packet = deliver (Receive i k) packet
 
 -- the reply, and everything that was lent, as it is afterwards; a call that is lent no buffer leaves none
 pub record Outcome : Type 0 where
@@ -58,12 +59,12 @@ pub record Outcome : Type 0 where
 
 abbrev pub scopeOfCall : Call → Scope
 scopeOfCall (ask q) = scopeOf q
-scopeOfCall (send i buffer) = OnLink i
+scopeOfCall (send i k buffer) = OnLink i
 scopeOfCall (deliver d packet) = OnLink (onLink d)
 
 abbrev pub bufferOf : Call → List ℕ
 bufferOf (ask q) = []
-bufferOf (send i buffer) = buffer
+bufferOf (send i k buffer) = buffer
 bufferOf (deliver d packet) = []
 
 -- a refusal changes nothing
@@ -96,7 +97,7 @@ updatedBy e octets x =
 
 abbrev pub work : Call → Lent → Outcome
 work (ask q) x = carriedOut (effect q (x .host) (entryAt (wanted q (x .host .settings)) x)) x
-work (send i buffer) x = sentBy (sendIn i (length buffer) (x .host)) buffer x
+work (send i k buffer) x = sentBy (sendIn i k (length buffer) (x .host)) buffer x
 work (deliver d packet) x = updatedBy (delivered d packet (x .host)) packet x
 
 -- ---- the call
@@ -110,10 +111,10 @@ abbrev pub left : Lent → Outcome → Lent
 left x o = lent (x .host .settings) (x .number) (o .clock) (o .links) (o .run)
 
 -- the inspection and, where it answers 0, the action: how a program takes a packet
-abbrev pub inTurn : (link : ℕ) (packet : List ℕ) → Lent → Outcome
-inTurn i packet x =
+abbrev pub inTurn : (link : ℕ) → Counter → (packet : List ℕ) → Lent → Outcome
+inTurn i k packet x =
     let o : Outcome = perform (inspect i packet) x in
-    cond (done (o .reply .answer)) (perform (act i packet) (left x o)) o
+    cond (done (o .reply .answer)) (perform (act i k packet) (left x o)) o
 
 -- an outcome as a caller sees it, but for a buffer
 pub record Leaves (o : Outcome) (r : Reply) (c : Clock) (l : Links) (es : List Entry) : Type 0 where

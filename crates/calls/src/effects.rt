@@ -28,6 +28,7 @@ use super::Effect;
 use super::Request;
 use answer::Answer;
 use clock::Clock;
+use clock::Counter;
 use host::Links;
 use host::Reply;
 use host::Settings;
@@ -36,6 +37,7 @@ use host::host_count;
 use host::replies::plainly;
 use host::replies::tells_route;
 use host::replies::tells_time;
+use quantity::Count;
 use quantity::Millis;
 use route::Found;
 use table::Entry;
@@ -48,12 +50,12 @@ pub fn scope_of(q: Request) -> Scope
 {
     match q {
         Request::Initialize => Scope::Places,
-        Request::Tick => Scope::All,
-        Request::Adjust => Scope::All,
-        Request::Set(_) => Scope::All,
-        Request::Read => Scope::All,
+        Request::Tick(_) => Scope::All,
+        Request::Adjust(_) => Scope::All,
+        Request::Set(_, _) => Scope::All,
+        Request::Read(_) => Scope::All,
         Request::Second => Scope::All,
-        Request::SelfReport => Scope::All,
+        Request::SelfReport(_) => Scope::All,
         Request::Lookup(_) => Scope::All,
     }
 }
@@ -102,39 +104,40 @@ fn initialize(s: Settings) -> Effect
     }
 }
 
-fn tick(s: Settings, c: Clock, l: Links) -> Effect
+fn tick(s: Settings, c: Clock, l: Links, n: Count) -> Effect
     requires { ⌜ (settingsGood s ≡ true) × (clockInRange c ≡ true) ⌝ }
-    ensures { λ p. ⌜ p ≡ tick (host s c l) ⌝ }
+    ensures { λ p. ⌜ p ≡ tick n (host s c l) ⌝ }
 {
     answers(
-        c.ticked(s.clock_tick, s.hold_interval),
+        c.ticked(s.clock_tick, s.hold_interval, n),
         l,
         plainly(Answer::Done),
     )
 }
 
-fn adjust(s: Settings, c: Clock, l: Links) -> Effect
+fn adjust(s: Settings, c: Clock, l: Links, n: Count) -> Effect
     requires { ⌜ (settingsGood s ≡ true) × (clockInRange c ≡ true) ⌝ }
-    ensures { λ p. ⌜ p ≡ adjust (host s c l) ⌝ }
+    ensures { λ p. ⌜ p ≡ adjust n (host s c l) ⌝ }
 {
-    answers(c.adjusted(s.hold_interval), l, plainly(Answer::Done))
+    answers(c.adjusted(s.hold_interval, n), l, plainly(Answer::Done))
 }
 
-fn set(s: Settings, c: Clock, l: Links, ms: i32) -> Effect
+fn set(s: Settings, c: Clock, l: Links, ms: i32, n: Count) -> Effect
     requires { ⌜ (settingsGood s ≡ true) × (clockInRange c ≡ true) ⌝ }
-    ensures { λ p. ⌜ p ≡ setBy (millis ms) (host s c l) ⌝ }
+    ensures { λ p. ⌜ p ≡ setBy (millis ms) n (host s c l) ⌝ }
 {
     answers(
-        c.set_by(s.hold_interval, Millis::of_count(ms)),
+        c.set_by(s.hold_interval, n, Millis::of_count(ms)),
         l,
         plainly(Answer::Done),
     )
 }
 
-fn read(s: Settings, c: Clock, l: Links) -> Effect
-    ensures { λ p. ⌜ p ≡ read (host s c l) ⌝ }
+fn read(s: Settings, c: Clock, l: Links, k: Counter) -> Effect
+    requires { ⌜ (settingsGood s ≡ true) × (clockInRange c ≡ true) ⌝ }
+    ensures { λ p. ⌜ p ≡ read k (host s c l) ⌝ }
 {
-    let r = c.reading();
+    let r = host::our_reading(s, c, k);
     let clock = r.clock;
     let date = clock.date;
     answers(clock, l, tells_time(r.time, date))
@@ -165,11 +168,11 @@ fn own_work(time: Millis, own: Found) -> Changes
     }
 }
 
-fn self_report(s: Settings, c: Clock, l: Links) -> Effect
-    requires { ⌜ settingsGood s ≡ true ⌝ }
-    ensures { λ p. ⌜ p ≡ selfReport (host s c l) ⌝ }
+fn self_report(s: Settings, c: Clock, l: Links, k: Counter) -> Effect
+    requires { ⌜ (settingsGood s ≡ true) × (clockInRange c ≡ true) ⌝ }
+    ensures { λ p. ⌜ p ≡ selfReport k (host s c l) ⌝ }
 {
-    let r = c.reading();
+    let r = host::our_reading(s, c, k);
     let clock = r.clock;
     Effect {
         reply: plainly(Answer::Done),
@@ -199,12 +202,12 @@ fn effect(s: Settings, c: Clock, l: Links, e: Entry, q: Request) -> Effect
 {
     match q {
         Request::Initialize => initialize(s),
-        Request::Tick => tick(s, c, l),
-        Request::Adjust => adjust(s, c, l),
-        Request::Set(ms) => set(s, c, l, ms),
-        Request::Read => read(s, c, l),
+        Request::Tick(n) => tick(s, c, l, n),
+        Request::Adjust(n) => adjust(s, c, l, n),
+        Request::Set(ms, n) => set(s, c, l, ms, n),
+        Request::Read(k) => read(s, c, l, k),
         Request::Second => second(s, c, l),
-        Request::SelfReport => self_report(s, c, l),
+        Request::SelfReport(k) => self_report(s, c, l, k),
         Request::Lookup(a) => answers(c, l, looked(route::find(s.address, s.layout, s.net, a), e)),
     }
 }

@@ -6,11 +6,13 @@ ghost use Rattle.calls.specs.Perform.{perform, Leaves, ask, send, delive
 ghost use Rattle.arrival.specs.Arrival.{onLink};
 use arrival::Delivery;
 use clock::Clock;
+use clock::Counter;
 use host::Links;
 use host::Reply;
 use host::Settings;
 use host::guard::Scope;
 use host::guard::guard;
+use quantity::Count;
 use table::Entry;
 use table::run::Changes;
 use table::run::change_all;
@@ -25,13 +27,13 @@ mod places;
 pub enum Request {
     // setting afresh
     Initialize,
-    Tick,
-    Adjust,
+    Tick(Count),
+    Adjust(Count),
     // by a signed count of ms
-    Set(i32),
-    Read,
+    Set(i32, Count),
+    Read(Counter),
     Second,
-    SelfReport,
+    SelfReport(Counter),
     Lookup(wire::Address),
 }
 
@@ -83,10 +85,11 @@ pub fn send(
     links: &mut Links,
     run: &[Entry],
     link: usize,
+    counter: Counter,
     buffer: &mut [u8],
 ) -> Reply
-    ensures { λ r. ⌜ Leaves (perform (send link (now (buffer .entry))) (lent (now (settings .entry)) number (now (clock .entry)) (now (links .entry)) (now (run .entry)))) r (now (clock .exit)) (now (links .exit)) (now (run .entry))
-        × (now (buffer .exit) ≡ perform (send link (now (buffer .entry))) (lent (now (settings .entry)) number (now (clock .entry)) (now (links .entry)) (now (run .entry))) .buffer) ⌝ }
+    ensures { λ r. ⌜ Leaves (perform (send link counter (now (buffer .entry))) (lent (now (settings .entry)) number (now (clock .entry)) (now (links .entry)) (now (run .entry)))) r (now (clock .exit)) (now (links .exit)) (now (run .entry))
+        × (now (buffer .exit) ≡ perform (send link counter (now (buffer .entry))) (lent (now (settings .entry)) number (now (clock .entry)) (now (links .entry)) (now (run .entry))) .buffer) ⌝ }
 {
     let s = *settings;
     let c = *clock;
@@ -94,7 +97,7 @@ pub fn send(
     let n = buffer.len();
     let a = on_link(link);
     let g = guard(settings, number, c, l, a, run);
-    let p = sending::plan(g, s, c, l, link, n);
+    let p = sending::plan(g, s, c, l, link, counter, n);
     let w = places::reports_at(number, p.work);
     read_out(buffer, run, w);
     sending::finish(buffer, p);

@@ -32,12 +32,12 @@ fn wanted(s: Settings, q: Request) -> Found
 {
     match q {
         Request::Initialize => Found::Nothing,
-        Request::Tick => Found::Nothing,
-        Request::Adjust => Found::Nothing,
-        Request::Set(_) => Found::Nothing,
-        Request::Read => Found::Nothing,
+        Request::Tick(_) => Found::Nothing,
+        Request::Adjust(_) => Found::Nothing,
+        Request::Set(_, _) => Found::Nothing,
+        Request::Read(_) => Found::Nothing,
         Request::Second => Found::Nothing,
-        Request::SelfReport => Found::Nothing,
+        Request::SelfReport(_) => Found::Nothing,
         Request::Lookup(a) => route::find(s.address, s.layout, s.net, a),
     }
 }

@@ -6,19 +6,19 @@ use Prim.Native.Nat.{_≤_, _^_}
 use native.Mathlib.Omega.{arith}
 use borrow.Author.Tests.{leb-true, le-leb}
 use lib.Dec.{leb}
-use lib.IntN.{ℤ, pos, negℤ}
+use lib.IntN.{ℤ, pos, negℤ, _+ℤ_}
 use lib.Signed.{ltZ}
 use mir.Syntax.{w64}
 use mir.Val.{SFits}
 use Rattle.quantity.specs.declared.Units.{Units}
-use Rattle.quantity.specs.Quantity.{units, millis, toUnits}
-use Rattle.quantity.proofs.Ints.{up, dn, Le, lt-no, not-lt, to-≤ℤ, Within, fits}
+use Rattle.quantity.specs.Quantity.{units, toUnits}
+use Rattle.quantity.proofs.Ints.{up, dn, sum, Le, lt-no, not-lt, to-≤ℤ, Within, fits}
 use Rattle.lists.proofs.Tests.{both, each, is-not}
 use Rattle.calendar.specs.Date.{real}
 use Rattle.clock.specs.declared.Clock.{Clock}
 use Rattle.clock.specs.Midnight.{day}
 use Rattle.clock.specs.code.Near.{Near}
-use Rattle.clock.specs.Clock.{within, slewLeast, slewMost, tickInRange, clockInRange}
+use Rattle.clock.specs.Clock.{within, slewLeast, slewMost, tickMost, tickInRange, clockLeast, clockInRange}
 
 -- ---- between a least and a most
 
@@ -38,11 +38,11 @@ between l m u e =
 
 pub record Tick (t : Units) : Type 0 where
   pub tick-low : dn (t .0) ≤ 0
-  pub tick-high : up (t .0) ≤ 65536000
+  pub tick-high : up (t .0) ≤ up (toUnits tickMost .0)
 
 pub tick-says : (t : Units) → tickInRange t ≡ true → Tick t
 unfolding tickInRange
-tick-says t e = let b = between (units (pos 1)) (toUnits (millis (pos 1000))) t e in omega arith
+tick-says t e = let b = between (units (pos 1)) (toUnits tickMost) t e in omega arith
 
 -- ---- what is lent
 
@@ -54,15 +54,15 @@ pub record Rest (c : Clock) : Type 0 where
   pub dated : real (c .date) ≡ true
 
 pub record Ranged (c : Clock) : Type 0 where
-  pub clock-low : dn (c .clock .0) ≤ 0
-  pub clock-high : up (c .clock .0) ≤ 5662310400000
+  pub clock-low : dn (c .clock .0) ≤ dn (toUnits clockLeast .0)
+  pub clock-high : up (c .clock .0) ≤ up (day .0)
   pub rest : Rest c
 
 pub range-says : (c : Clock) → clockInRange c ≡ true → Ranged c
 unfolding clockInRange
 range-says c e =
-    let t = each (within (units (pos 0)) day (c .clock)) (within (toUnits slewLeast) (toUnits slewMost) (c .delta) ∷ leb (c .hold .0) 255 ∷ real (c .date) ∷ []) e in
-    let k = between (units (pos 0)) day (c .clock) (t .0) in
+    let t = each (within (toUnits clockLeast) day (c .clock)) (within (toUnits slewLeast) (toUnits slewMost) (c .delta) ∷ leb (c .hold .0) 255 ∷ real (c .date) ∷ []) e in
+    let k = between (toUnits clockLeast) day (c .clock) (t .0) in
     let d = between (toUnits slewLeast) (toUnits slewMost) (c .delta) (t .1 .0) in
     record {
       clock-low = omega arith;
@@ -74,7 +74,7 @@ pub in-range : (c : Clock) → Ranged c → clockInRange c ≡ true
 unfolding clockInRange
 in-range c r =
     rw (
-      not-lt (c .clock .0) (pos 0) (omega arith),
+      not-lt (c .clock .0) (toUnits clockLeast .0) (omega arith),
       not-lt (day .0) (c .clock .0) (omega arith),
       not-lt (c .delta .0) (toUnits slewLeast .0) (omega arith),
       not-lt (toUnits slewMost .0) (c .delta .0) (omega arith),
@@ -90,6 +90,14 @@ Off z = Within (2 ^ 62) (2 ^ 62) z
 pub off-fits : (z : ℤ) → Off z → SFits w64 z
 off-fits z o = fits w64 z (omega arith)
 
+-- CLOCK in range and a tick in range have a sum that fits
+pub ticked-off : (c : Clock) (t : Units) → clockInRange c ≡ true → tickInRange t ≡ true → Off (c .clock .0 +ℤ t .0)
+ticked-off c t e f =
+    let r = range-says c e in
+    let k = tick-says t f in
+    let s = sum (c .clock .0) (t .0) in
+    omega arith
+
 pub nearby : (c : Clock) → Off (c .clock .0) → real (c .date) ≡ true → Near c
 nearby c o d =
     record {
@@ -97,3 +105,6 @@ nearby c o d =
       high = to-≤ℤ (c .clock .0) (pos (2 ^ 62)) (omega arith);
       dated = d;
     }
+
+pub in-range-near : (c : Clock) → clockInRange c ≡ true → Near c
+in-range-near c e = let r = range-says c e in nearby c (omega arith) (r .rest .dated)

@@ -1,11 +1,13 @@
 -- "A correction of -500 ms moves the clock back almost 4 ms at one adjust; the RFC promises one."
--- Of a clock in range one adjust moves CLOCK by a millisecond at most, on or back, but for the day that a midnight takes off or adds.
+-- Of a clock in range one adjust moves CLOCK by a millisecond at most, on or back, but for the day that a midnight takes off or adds, whatever the 16-bit count is.
 use mathlib.Core.Path.{_≡_}
 use mathlib.Core.Bool.{true}
+use Prim.Native.Nat.{_<_, _^_}
 use lib.IntN.{pos}
 use lib.Signed.{_≤ℤ_}
 use Rattle.quantity.specs.declared.Units.{Units}
 use Rattle.quantity.specs.declared.Seconds.{Seconds}
+use Rattle.quantity.specs.declared.Count.{Count}
 use Rattle.quantity.specs.Quantity.{millis, toUnits, addUnits, subUnits}
 use Rattle.clock.specs.declared.Clock.{Clock}
 use Rattle.clock.specs.Midnight.{day}
@@ -26,4 +28,5 @@ pub data Moved (a b : Units) : Type 0 where
   day-back : Close a (subUnits b day) → Moved a b
 
 unfoldable pub OneMilli : Type 0
-OneMilli = (h : Seconds) (c : Clock) → clockInRange c ≡ true → Moved (c .clock) (adjust h c .clock)
+OneMilli =
+    (h : Seconds) (n : Count) (c : Clock) → n .0 < 2 ^ 16 → clockInRange c ≡ true → Moved (c .clock) (adjust h n c .clock)

@@ -1,5 +1,6 @@
 // A host's clock.
 use calendar::Date;
+use quantity::Count;
 use quantity::Millis;
 use quantity::Seconds;
 use quantity::Units;
@@ -12,6 +13,7 @@ ghost use Rattle.quantity.specs.Quantity.{units, millis, lessMillis, toUnits};
 ghost use Rattle.clock.specs.Midnight.{
   dayMillis,
   day,
+  plusCount,
   exceedsDay,
   dayOn,
   belowZero,
@@ -30,12 +32,17 @@ ghost use Rattle.clock.specs.Clock.{
   slewMost,
   slews,
   setBy,
+  countUsed,
+  overflowed,
   reading,
   holdSecond,
+  clockLeast,
   within,
   tickInRange,
   clockInRange,
 };
+ghost use Rattle.clock.specs.Crystal.{Crystal};
+ghost use Rattle.clock.specs.LineClock.{noCounter, LineClock};
 ghost use Rattle.clock.specs.Slew.{OneMilli};
 ghost use Rattle.clock.specs.code.Near.{Near};
 
@@ -48,6 +55,14 @@ pub struct Clock {
     pub date: Date,
 }
 
+// What a reading is handed: the count of the crystal's counter, a mark (not 0) where the counter has overflowed since the last tick, and the count taken again after that. A line clock's are zero.
+#[repr(C)]
+pub struct Counter {
+    pub count: Count,
+    pub overflow: u8,
+    pub again: Count,
+}
+
 // What a reading yields: the clock to carry on with, and the time.
 pub struct Reading {
     pub clock: Clock,
@@ -56,6 +71,11 @@ pub struct Reading {
 
 // The milliseconds of a day.
 pub const DAY: Millis = Millis(86_400_000);
+
+// The least CLOCK: a count may bring it up to 0.
+const CLOCK_LEAST: Millis = Millis(-65_535);
+
+const TICK_MOST: Millis = Millis(65_536);
 
 // A set by this much, from the least to the most, is a slew; any other is a step.
 const SLEW_LEAST: Millis = Millis(-128);
@@ -79,11 +99,11 @@ fn within(least: Units, most: Units, u: Units) -> bool
     !most.less(u)
 }
 
-// Whether a CLOCK lies within its day.
+// Whether a CLOCK lies within its day, or as far below as a count may reach.
 fn in_day(clock: Units) -> bool
-    ensures { λ r. ⌜ r ≡ within (units (pos 0)) day clock ⌝ }
+    ensures { λ r. ⌜ r ≡ within (toUnits clockLeast) day clock ⌝ }
 {
-    within(Units(0), day(), clock)
+    within(Units::of_millis(CLOCK_LEAST), day(), clock)
 }
 
 // Whether a DELTA lies within the limits of a slew.
@@ -101,7 +121,7 @@ fn in_slew(delta: Units) -> bool
 pub fn tick_in_range(clock_tick: Units) -> bool
     ensures { λ r. ⌜ r ≡ tickInRange «clock_tick» ⌝ }
 {
-    within(Units(1), Units::of_millis(Millis(1000)), clock_tick)
+    within(Units(1), Units::of_millis(TICK_MOST), clock_tick)
 }
 
 // Whether a set by this many milliseconds is a slew.
@@ -112,6 +132,29 @@ fn slews(ms: Millis) -> bool
         return false;
     }
     !SLEW_MOST.less(ms)
+}
+
+impl Counter {
+    // That of a line clock.
+    pub fn zero() -> Counter
+        ensures { λ k. ⌜ k ≡ noCounter ⌝ }
+    {
+        Counter {
+            count: Count(0),
+            overflow: 0,
+            again: Count(0),
+        }
+    }
+
+    // The count that counts: the second one where the counter has overflowed.
+    pub fn used(self) -> Count
+        ensures { λ n. ⌜ n ≡ countUsed self ⌝ }
+    {
+        if self.overflow != 0 {
+            return self.again;
+        }
+        self.count
+    }
 }
 
 impl Clock {
@@ -152,21 +195,21 @@ impl Clock {
     }
 
     // The clock a tick later.
-    pub fn ticked(self, clock_tick: Units, hold_interval: Seconds) -> Clock
+    pub fn ticked(self, clock_tick: Units, hold_interval: Seconds, n: Count) -> Clock
         requires { ⌜ clockInRange self ≡ true ⌝ }
         requires { ⌜ tickInRange «clock_tick» ≡ true ⌝ }
-        ensures { λ r. ⌜ r ≡ tick «clock_tick» «hold_interval» self ⌝ }
+        ensures { λ r. ⌜ r ≡ tick «clock_tick» «hold_interval» n self ⌝ }
     {
         let clock = self.clock;
         let mut c = self;
         c.clock = clock.plus(clock_tick);
-        c.midnight(hold_interval)
+        c.midnight(hold_interval, n)
     }
 
     // The clock with a share of DELTA moved into CLOCK.
-    pub fn adjusted(self, hold_interval: Seconds) -> Clock
+    pub fn adjusted(self, hold_interval: Seconds, n: Count) -> Clock
         requires { ⌜ clockInRange self ≡ true ⌝ }
-        ensures { λ r. ⌜ r ≡ adjust «hold_interval» self ⌝ }
+        ensures { λ r. ⌜ r ≡ adjust «hold_interval» n self ⌝ }
     {
         let clock = self.clock;
         let delta = self.delta;
@@ -174,37 +217,55 @@ impl Clock {
         let mut c = self;
         c.clock = clock.plus(share);
         c.delta = delta.minus(share);
-        c.midnight(hold_interval)
+        c.midnight(hold_interval, n)
     }
 
     // The clock set by a count of milliseconds, by a slew or by a step.
-    pub fn set_by(self, hold_interval: Seconds, ms: Millis) -> Clock
+    pub fn set_by(self, hold_interval: Seconds, n: Count, ms: Millis) -> Clock
         requires { ⌜ clockInRange self ≡ true ⌝ }
         requires { ⌜ SFits w32 (ms .0) ⌝ }
-        ensures { λ r. ⌜ r ≡ setBy «hold_interval» ms self ⌝ }
+        ensures { λ r. ⌜ r ≡ setBy «hold_interval» n ms self ⌝ }
     {
         let moved = Units::of_millis(ms);
         let mut c = self;
         if slews(ms) {
             c.delta = moved;
-            return c.midnight(hold_interval);
+            return c.midnight(hold_interval, n);
         }
         let clock = self.clock;
         let spent = Units(0);
         c.clock = clock.plus(moved);
         c.delta = spent;
         c.hold = hold_interval;
-        c.midnight(hold_interval)
+        c.midnight(hold_interval, n)
     }
 
-    // The whole milliseconds of CLOCK, and the clock to carry on with.
-    pub fn reading(self) -> Reading
-        ensures { λ r. ⌜ r ≡ reading self ⌝ }
+    // The clock with the tick of a counter that has overflowed.
+    fn overflowed(self, clock_tick: Units, k: Counter) -> Clock
+        requires { ⌜ clockInRange self ≡ true ⌝ }
+        requires { ⌜ tickInRange «clock_tick» ≡ true ⌝ }
+        ensures { λ r. ⌜ (r ≡ overflowed «clock_tick» k self) × Near r ⌝ }
     {
-        let time = Millis::whole(self.clock);
+        if k.overflow == 0 {
+            return self;
+        }
+        let clock = self.clock;
+        let mut c = self;
+        c.clock = clock.plus(clock_tick);
+        c
+    }
+
+    // The whole milliseconds of CLOCK plus the count, and the clock to carry on with.
+    pub fn reading(self, clock_tick: Units, hold_interval: Seconds, k: Counter) -> Reading
+        requires { ⌜ clockInRange self ≡ true ⌝ }
+        requires { ⌜ tickInRange «clock_tick» ≡ true ⌝ }
+        ensures { λ r. ⌜ r ≡ reading «clock_tick» «hold_interval» k self ⌝ }
+    {
+        let n = k.used();
+        let c = self.overflowed(clock_tick, k).midnight(hold_interval, n);
         Reading {
-            clock: self,
-            time: time,
+            clock: c,
+            time: Millis::whole(c.plus_count(n)),
         }
     }
 
@@ -218,17 +279,28 @@ impl Clock {
         c
     }
 
-    fn exceeds_day(self) -> bool
-        ensures { λ r. ⌜ r ≡ exceedsDay self ⌝ }
-    {
-        day().less(self.clock)
-    }
-
-    fn below_zero(self) -> bool
-        ensures { λ r. ⌜ r ≡ belowZero self ⌝ }
+    // CLOCK plus the count.
+    fn plus_count(self, n: Count) -> Units
+        requires { ⌜ Near self ⌝ }
+        ensures { λ r. ⌜ r ≡ plusCount n self ⌝ }
     {
         let clock = self.clock;
-        clock.less(Units(0))
+        clock.plus(Units::of_millis(Millis::of_counter(n)))
+    }
+
+    fn exceeds_day(self, n: Count) -> bool
+        requires { ⌜ Near self ⌝ }
+        ensures { λ r. ⌜ r ≡ exceedsDay n self ⌝ }
+    {
+        day().less(self.plus_count(n))
+    }
+
+    fn below_zero(self, n: Count) -> bool
+        requires { ⌜ Near self ⌝ }
+        ensures { λ r. ⌜ r ≡ belowZero n self ⌝ }
+    {
+        let sum = self.plus_count(n);
+        sum.less(Units(0))
     }
 
     // A day off CLOCK, DATE on a day, HOLD loaded.
@@ -265,77 +337,79 @@ impl Clock {
         }
     }
 
-    fn days_on(self, hold_interval: Seconds) -> Clock
+    fn days_on(self, hold_interval: Seconds, n: Count) -> Clock
         requires { ⌜ Near self ⌝ }
-        ensures { λ r. ⌜ r ≡ daysOn «hold_interval» self ⌝ }
+        ensures { λ r. ⌜ r ≡ daysOn «hold_interval» n self ⌝ }
     {
         let mut c = self;
-        while c.exceeds_day() {
+        while c.exceeds_day(n) {
             c = c.day_on(hold_interval);
         }
         c
     }
 
-    fn days_back(self, hold_interval: Seconds) -> Clock
+    fn days_back(self, hold_interval: Seconds, n: Count) -> Clock
         requires { ⌜ Near self ⌝ }
-        ensures { λ r. ⌜ r ≡ daysBack «hold_interval» self ⌝ }
+        ensures { λ r. ⌜ r ≡ daysBack «hold_interval» n self ⌝ }
     {
         let mut c = self;
-        while c.below_zero() {
+        while c.below_zero(n) {
             c = c.day_back(hold_interval);
         }
         c
     }
 
-    // The clock within its day: each midnight passed moves DATE and loads HOLD.
-    fn midnight(self, hold_interval: Seconds) -> Clock
+    // The clock so that CLOCK plus the count lies within its day: each midnight passed moves DATE and loads HOLD.
+    fn midnight(self, hold_interval: Seconds, n: Count) -> Clock
         requires { ⌜ Near self ⌝ }
-        ensures { λ r. ⌜ r ≡ midnight «hold_interval» self ⌝ }
+        ensures { λ r. ⌜ (r ≡ midnight «hold_interval» n self) × Near r ⌝ }
     {
-        self.days_on(hold_interval).days_back(hold_interval)
+        self.days_on(hold_interval, n).days_back(hold_interval, n)
     }
 }
 
 // The same in place, of a clock that is lent.
 
 // The clock ticks.
-pub fn tick(c: &mut Clock, clock_tick: Units, hold_interval: Seconds)
+pub fn tick(c: &mut Clock, clock_tick: Units, hold_interval: Seconds, n: Count)
     requires { ⌜ clockInRange (now c) ≡ true ⌝ }
     requires { ⌜ tickInRange «clock_tick» ≡ true ⌝ }
-    ensures { λ _. ⌜ now (c .exit) ≡ tick «clock_tick» «hold_interval» (now (c .entry)) ⌝ }
+    ensures { λ _. ⌜ now (c .exit) ≡ tick «clock_tick» «hold_interval» n (now (c .entry)) ⌝ }
 {
     let before = *c;
-    let after = before.ticked(clock_tick, hold_interval);
+    let after = before.ticked(clock_tick, hold_interval, n);
     *c = after;
 }
 
 // A share of DELTA goes into CLOCK.
-pub fn adjust(c: &mut Clock, hold_interval: Seconds)
+pub fn adjust(c: &mut Clock, hold_interval: Seconds, n: Count)
     requires { ⌜ clockInRange (now c) ≡ true ⌝ }
-    ensures { λ _. ⌜ now (c .exit) ≡ adjust «hold_interval» (now (c .entry)) ⌝ }
+    ensures { λ _. ⌜ now (c .exit) ≡ adjust «hold_interval» n (now (c .entry)) ⌝ }
 {
     let before = *c;
-    let after = before.adjusted(hold_interval);
+    let after = before.adjusted(hold_interval, n);
     *c = after;
 }
 
 // The clock is set by a count of milliseconds.
-pub fn set(c: &mut Clock, hold_interval: Seconds, ms: Millis)
+pub fn set(c: &mut Clock, hold_interval: Seconds, n: Count, ms: Millis)
     requires { ⌜ clockInRange (now c) ≡ true ⌝ }
     requires { ⌜ SFits w32 (ms .0) ⌝ }
-    ensures { λ _. ⌜ now (c .exit) ≡ setBy «hold_interval» ms (now (c .entry)) ⌝ }
+    ensures { λ _. ⌜ now (c .exit) ≡ setBy «hold_interval» n ms (now (c .entry)) ⌝ }
 {
     let before = *c;
-    let after = before.set_by(hold_interval, ms);
+    let after = before.set_by(hold_interval, n, ms);
     *c = after;
 }
 
-// The whole milliseconds of CLOCK. A reading may move the clock.
-pub fn read(c: &mut Clock) -> Millis
-    ensures { λ r. ⌜ (now (c .exit) ≡ reading (now (c .entry)) .clock) × (r ≡ reading (now (c .entry)) .time) ⌝ }
+// The whole milliseconds of CLOCK plus the count. A reading may move the clock.
+pub fn read(c: &mut Clock, clock_tick: Units, hold_interval: Seconds, k: Counter) -> Millis
+    requires { ⌜ clockInRange (now c) ≡ true ⌝ }
+    requires { ⌜ tickInRange «clock_tick» ≡ true ⌝ }
+    ensures { λ r. ⌜ (now (c .exit) ≡ reading «clock_tick» «hold_interval» k (now (c .entry)) .clock) × (r ≡ reading «clock_tick» «hold_interval» k (now (c .entry)) .time) ⌝ }
 {
     let before = *c;
-    let r = before.reading();
+    let r = before.reading(clock_tick, hold_interval, k);
     *c = r.clock;
     r.time
 }
@@ -347,6 +421,16 @@ pub fn whiles()
 
 pub fn rests()
     ensures { λ _. ⌜ Rests ⌝ }
+{}
+
+// A reading lies within its day; read again, it changes nothing; and within its day it changes nothing but a marked tick.
+pub fn crystal()
+    ensures { λ _. ⌜ Crystal ⌝ }
+{}
+
+// With counts of zero the clock is the line clock.
+pub fn line_clock()
+    ensures { λ _. ⌜ LineClock ⌝ }
 {}
 
 // Of a clock in range one adjust moves CLOCK by a millisecond at most, on or back.

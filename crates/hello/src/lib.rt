@@ -26,9 +26,11 @@ ghost use Rattle.hello.specs.Told.{
 use arrival::Delivery;
 use calls::Request;
 use clock::Clock;
+use clock::Counter;
 use host::Links;
 use host::Reply;
 use host::Settings;
+use quantity::Count;
 use table::Entry;
 use wire::Address;
 
@@ -136,28 +138,28 @@ fn asks_initialize() -> Request
     Request::Initialize
 }
 
-fn asks_tick() -> Request
-    ensures { λ q. ⌜ q ≡ Tick ⌝ }
+fn asks_tick(count: Count) -> Request
+    ensures { λ q. ⌜ q ≡ Tick count ⌝ }
 {
-    Request::Tick
+    Request::Tick(count)
 }
 
-fn asks_adjust() -> Request
-    ensures { λ q. ⌜ q ≡ Adjust ⌝ }
+fn asks_adjust(count: Count) -> Request
+    ensures { λ q. ⌜ q ≡ Adjust count ⌝ }
 {
-    Request::Adjust
+    Request::Adjust(count)
 }
 
-fn asks_set(ms: i32) -> Request
-    ensures { λ q. ⌜ q ≡ Set ms ⌝ }
+fn asks_set(ms: i32, count: Count) -> Request
+    ensures { λ q. ⌜ q ≡ Set ms count ⌝ }
 {
-    Request::Set(ms)
+    Request::Set(ms, count)
 }
 
-fn asks_read() -> Request
-    ensures { λ q. ⌜ q ≡ Read ⌝ }
+fn asks_read(counter: Counter) -> Request
+    ensures { λ q. ⌜ q ≡ Read counter ⌝ }
 {
-    Request::Read
+    Request::Read(counter)
 }
 
 fn asks_second() -> Request
@@ -166,10 +168,10 @@ fn asks_second() -> Request
     Request::Second
 }
 
-fn asks_self_report() -> Request
-    ensures { λ q. ⌜ q ≡ SelfReport ⌝ }
+fn asks_self_report(counter: Counter) -> Request
+    ensures { λ q. ⌜ q ≡ SelfReport counter ⌝ }
 {
-    Request::SelfReport
+    Request::SelfReport(counter)
 }
 
 fn asks_lookup(address: Address) -> Request
@@ -184,16 +186,16 @@ fn inspects(link: usize) -> Delivery
     Delivery::Inspect(link)
 }
 
-fn acts(link: usize) -> Delivery
-    ensures { λ d. ⌜ d ≡ Act link ⌝ }
+fn acts(link: usize, counter: Counter) -> Delivery
+    ensures { λ d. ⌜ d ≡ Act link counter ⌝ }
 {
-    Delivery::Act(link)
+    Delivery::Act(link, counter)
 }
 
-fn receives(link: usize) -> Delivery
-    ensures { λ d. ⌜ d ≡ Receive link ⌝ }
+fn receives(link: usize, counter: Counter) -> Delivery
+    ensures { λ d. ⌜ d ≡ Receive link counter ⌝ }
 {
-    Delivery::Receive(link)
+    Delivery::Receive(link, counter)
 }
 
 // ---- the calls
@@ -238,10 +240,11 @@ pub extern "C" fn hello_tick(
     clock: &mut Clock,
     links: &mut Links,
     run: &mut [Entry],
+    count: Count,
 ) -> u8
-    ensures { λ r. ⌜ Returns numbered (perform (ask Tick) (lent (now (settings .entry)) number (now (clock .entry)) (now (links .entry)) (now (run .entry)))) r (now (clock .exit)) (now (links .exit)) (now (run .exit)) ⌝ }
+    ensures { λ r. ⌜ Returns numbered (perform (ask (Tick count)) (lent (now (settings .entry)) number (now (clock .entry)) (now (links .entry)) (now (run .entry)))) r (now (clock .exit)) (now (links .exit)) (now (run .exit)) ⌝ }
 {
-    let q = asks_tick();
+    let q = asks_tick(count);
     let a = calls::call(settings, number, clock, links, run, q);
     numbered(a)
 }
@@ -254,10 +257,11 @@ pub extern "C" fn hello_adjust(
     clock: &mut Clock,
     links: &mut Links,
     run: &mut [Entry],
+    count: Count,
 ) -> u8
-    ensures { λ r. ⌜ Returns numbered (perform (ask Adjust) (lent (now (settings .entry)) number (now (clock .entry)) (now (links .entry)) (now (run .entry)))) r (now (clock .exit)) (now (links .exit)) (now (run .exit)) ⌝ }
+    ensures { λ r. ⌜ Returns numbered (perform (ask (Adjust count)) (lent (now (settings .entry)) number (now (clock .entry)) (now (links .entry)) (now (run .entry)))) r (now (clock .exit)) (now (links .exit)) (now (run .exit)) ⌝ }
 {
-    let q = asks_adjust();
+    let q = asks_adjust(count);
     let a = calls::call(settings, number, clock, links, run, q);
     numbered(a)
 }
@@ -271,10 +275,11 @@ pub extern "C" fn hello_set(
     links: &mut Links,
     run: &mut [Entry],
     ms: i32,
+    count: Count,
 ) -> u8
-    ensures { λ r. ⌜ Returns numbered (perform (ask (Set ms)) (lent (now (settings .entry)) number (now (clock .entry)) (now (links .entry)) (now (run .entry)))) r (now (clock .exit)) (now (links .exit)) (now (run .exit)) ⌝ }
+    ensures { λ r. ⌜ Returns numbered (perform (ask (Set ms count)) (lent (now (settings .entry)) number (now (clock .entry)) (now (links .entry)) (now (run .entry)))) r (now (clock .exit)) (now (links .exit)) (now (run .exit)) ⌝ }
 {
-    let q = asks_set(ms);
+    let q = asks_set(ms, count);
     let a = calls::call(settings, number, clock, links, run, q);
     numbered(a)
 }
@@ -287,10 +292,11 @@ pub extern "C" fn hello_read(
     clock: &mut Clock,
     links: &mut Links,
     run: &mut [Entry],
+    counter: Counter,
 ) -> Time
-    ensures { λ r. ⌜ Returns timeTold (perform (ask Read) (lent (now (settings .entry)) number (now (clock .entry)) (now (links .entry)) (now (run .entry)))) r (now (clock .exit)) (now (links .exit)) (now (run .exit)) ⌝ }
+    ensures { λ r. ⌜ Returns timeTold (perform (ask (Read counter)) (lent (now (settings .entry)) number (now (clock .entry)) (now (links .entry)) (now (run .entry)))) r (now (clock .exit)) (now (links .exit)) (now (run .exit)) ⌝ }
 {
-    let q = asks_read();
+    let q = asks_read(counter);
     let a = calls::call(settings, number, clock, links, run, q);
     time_told(a)
 }
@@ -319,10 +325,11 @@ pub extern "C" fn hello_self_report(
     clock: &mut Clock,
     links: &mut Links,
     run: &mut [Entry],
+    counter: Counter,
 ) -> u8
-    ensures { λ r. ⌜ Returns numbered (perform (ask SelfReport) (lent (now (settings .entry)) number (now (clock .entry)) (now (links .entry)) (now (run .entry)))) r (now (clock .exit)) (now (links .exit)) (now (run .exit)) ⌝ }
+    ensures { λ r. ⌜ Returns numbered (perform (ask (SelfReport counter)) (lent (now (settings .entry)) number (now (clock .entry)) (now (links .entry)) (now (run .entry)))) r (now (clock .exit)) (now (links .exit)) (now (run .exit)) ⌝ }
 {
-    let q = asks_self_report();
+    let q = asks_self_report(counter);
     let a = calls::call(settings, number, clock, links, run, q);
     numbered(a)
 }
@@ -336,12 +343,13 @@ pub extern "C" fn hello_send(
     links: &mut Links,
     run: &[Entry],
     link: usize,
+    counter: Counter,
     buffer: &mut [u8],
 ) -> Sent
-    ensures { λ r. ⌜ Returns sentTold (perform (send link (now (buffer .entry))) (lent (now (settings .entry)) number (now (clock .entry)) (now (links .entry)) (now (run .entry)))) r (now (clock .exit)) (now (links .exit)) (now (run .entry))
-        × (now (buffer .exit) ≡ perform (send link (now (buffer .entry))) (lent (now (settings .entry)) number (now (clock .entry)) (now (links .entry)) (now (run .entry))) .buffer) ⌝ }
+    ensures { λ r. ⌜ Returns sentTold (perform (send link counter (now (buffer .entry))) (lent (now (settings .entry)) number (now (clock .entry)) (now (links .entry)) (now (run .entry)))) r (now (clock .exit)) (now (links .exit)) (now (run .entry))
+        × (now (buffer .exit) ≡ perform (send link counter (now (buffer .entry))) (lent (now (settings .entry)) number (now (clock .entry)) (now (links .entry)) (now (run .entry))) .buffer) ⌝ }
 {
-    let a = calls::send(settings, number, clock, links, run, link, buffer);
+    let a = calls::send(settings, number, clock, links, run, link, counter, buffer);
     sent_told(a)
 }
 
@@ -372,11 +380,12 @@ pub extern "C" fn hello_act(
     links: &mut Links,
     run: &mut [Entry],
     link: usize,
+    counter: Counter,
     packet: &[u8],
 ) -> u8
-    ensures { λ r. ⌜ Returns numbered (perform (act link (now (packet .entry))) (lent (now (settings .entry)) number (now (clock .entry)) (now (links .entry)) (now (run .entry)))) r (now (clock .exit)) (now (links .exit)) (now (run .exit)) ⌝ }
+    ensures { λ r. ⌜ Returns numbered (perform (act link counter (now (packet .entry))) (lent (now (settings .entry)) number (now (clock .entry)) (now (links .entry)) (now (run .entry)))) r (now (clock .exit)) (now (links .exit)) (now (run .exit)) ⌝ }
 {
-    let d = acts(link);
+    let d = acts(link, counter);
     let a = calls::deliver(settings, number, clock, links, run, d, packet);
     numbered(a)
 }
@@ -390,11 +399,12 @@ pub extern "C" fn hello_receive(
     links: &mut Links,
     run: &mut [Entry],
     link: usize,
+    counter: Counter,
     packet: &[u8],
 ) -> u8
-    ensures { λ r. ⌜ Returns numbered (perform (receive link (now (packet .entry))) (lent (now (settings .entry)) number (now (clock .entry)) (now (links .entry)) (now (run .entry)))) r (now (clock .exit)) (now (links .exit)) (now (run .exit)) ⌝ }
+    ensures { λ r. ⌜ Returns numbered (perform (receive link counter (now (packet .entry))) (lent (now (settings .entry)) number (now (clock .entry)) (now (links .entry)) (now (run .entry)))) r (now (clock .exit)) (now (links .exit)) (now (run .exit)) ⌝ }
 {
-    let d = receives(link);
+    let d = receives(link, counter);
     let a = calls::deliver(settings, number, clock, links, run, d, packet);
     numbered(a)
 }

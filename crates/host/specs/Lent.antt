@@ -4,7 +4,9 @@ use mathlib.Core.List.{List}
 use Prim.Native.Nat.{ℕ}
 use lib.ListN.{take}
 use Rattle.clock.specs.declared.Clock.{Clock}
-use Rattle.clock.specs.Clock.{clockInRange}
+use Rattle.clock.specs.declared.Counter.{Counter}
+use Rattle.clock.specs.declared.Reading.{Reading}
+use Rattle.clock.specs.Clock.{reading, clockInRange}
 use Rattle.table.specs.declared.Entry.{Entry}
 use Rattle.table.specs.Forms.{every}
 use Rattle.table.specs.Entry.{entryInRange}
@@ -20,6 +22,10 @@ pub record Host : Type 0 where
 
 abbrev pub host : Settings → Clock → Links → Host
 host s c l = record { settings = s; clock = c; links = l }
+
+-- our reading: "CLOCK plus a 16-bit count"
+abbrev pub ourReading : Counter → Host → Reading
+ourReading k h = reading (h .settings .«clock_tick») (h .settings .«hold_interval») k (h .clock)
 
 pub record Lent : Type 0 where
   pub host : Host

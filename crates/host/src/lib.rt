@@ -1,10 +1,11 @@
 // A host: its settings and their test, answer 1, its links, and its places in the run.
 ghost use mathlib.Core.Path.{_≡_};
-ghost use mathlib.Core.Bool.{not, _&&_, _||_};
+ghost use mathlib.Core.Bool.{true, not, _&&_, _||_};
 ghost use lib.Dec.{ltb, eqb};
 ghost use lib.IntN.{pos};
 ghost use Rattle.quantity.specs.Quantity.{millis, lessMillis};
 ghost use Rattle.clock.specs.Midnight.{dayMillis};
+ghost use Rattle.clock.specs.Clock.{reading, clockInRange};
 ghost use Prim.Native.Nat.{_≤_};
 ghost use Rattle.host.specs.Settings.{fromTo, clockSettingOff, ownId, switchesGood, settingsGood};
 ghost use Rattle.host.specs.State.{firstPlace, hostCount};
@@ -121,6 +122,14 @@ pub fn own_id(s: Settings) -> route::Found
     let layout = s.layout;
     let address = s.address;
     route::local_id(layout, address)
+}
+
+// Our reading of the clock, and the clock to carry on with.
+pub fn our_reading(s: Settings, c: clock::Clock, k: clock::Counter) -> clock::Reading
+    requires { ⌜ (settingsGood s ≡ true) × (clockInRange c ≡ true) ⌝ }
+    ensures { λ r. ⌜ r ≡ reading (s .«clock_tick») (s .«hold_interval») k c ⌝ }
+{
+    c.reading(s.clock_tick, s.hold_interval, k)
 }
 
 // Are all settings within their rules?

@@ -16,7 +16,7 @@ use Rattle.quantity.proofs.Wrap.{wrap-range}
 use Rattle.answer.specs.declared.Answer.{Answer}
 use Rattle.answer.specs.declared.Answer.the-variants.{Done, OtherLayout, LoopedLine}
 use Rattle.clock.specs.Midnight.{dayMillis}
-use Rattle.clock.specs.Clock.{reading}
+use Rattle.clock.specs.declared.Counter.{Counter}
 use Rattle.wire.specs.declared.Packet.{Packet}
 use Rattle.wire.specs.declared.Report.{Report}
 use Rattle.wire.specs.declared.Parsed.{Parsed}
@@ -33,11 +33,11 @@ use Rattle.host.specs.declared.Settings.{Settings}
 use Rattle.host.specs.declared.Link.{Link}
 use Rattle.host.specs.declared.guard.Scope.the-variants.{OnLink}
 use Rattle.host.specs.State.{hostCount, linkOf}
-use Rattle.host.specs.Lent.{Lent, entriesOf}
+use Rattle.host.specs.Lent.{Lent, entriesOf, ourReading}
 use Rattle.host.specs.Guard.{done}
 use Rattle.host.proofs.Places.{Holds}
 use Rattle.host.proofs.Sound.{sound}
-use Rattle.host.proofs.Guarded.{Passed, passed, holds, clock-lent, entries-lent}
+use Rattle.host.proofs.Guarded.{Passed, passed, holds, entries-lent}
 use Rattle.sending.specs.declared.Sending.{Sending}
 use Rattle.sending.specs.Message.{tableGoes, sentTsp, packetSent}
 use Rattle.sending.specs.Send.{reportCount, sends}
@@ -81,7 +81,7 @@ time-fits m e =
 
 -- ---- a send that was done
 
-module _ (i : ℕ) (buffer : List ℕ) (x : Lent) (typed : Typed x i) (ok : Passed (OnLink i) x) where
+module _ (i : ℕ) (k : Counter) (buffer : List ℕ) (x : Lent) (typed : Typed x i k) (ok : Passed (OnLink i) x) where
   there : Holds (x .number) (x .run)
   there = holds (x .number) (x .run) (ok .places)
 
@@ -95,7 +95,7 @@ module _ (i : ℕ) (buffer : List ℕ) (x : Lent) (typed : Typed x i) (ok : Pass
   rs = reports x there i
 
   abbrev p : Packet
-  p = packetSent s l (reading (x .host .clock) .time) (reading (x .host .clock) .clock .date) (reportCount s l)
+  p = packetSent s l (ourReading k (x .host) .time) (ourReading k (x .host) .clock .date) (reportCount s l)
 
   fits : MessageFits (l .neighbor) p rs
   fits =
@@ -104,8 +104,8 @@ module _ (i : ℕ) (buffer : List ℕ) (x : Lent) (typed : Typed x i) (ok : Pass
         source-fits = typed .address;
         packet-fits = record {
           date = typed .date;
-          time = time-fits (reading (x .host .clock) .time) (reading-in (x .host .clock) (clock-lent x (ok .lent refl)));
-          tsp = tsp-fits l (reading (x .host .clock) .time);
+          time = time-fits (ourReading k (x .host) .time) (reading-in (s .«clock_tick») (s .«hold_interval») k (x .host .clock));
+          tsp = tsp-fits l (ourReading k (x .host) .time);
         };
         address-offset-fits = typed .address-offset;
         nhosts-fits = either (λ (n : ℕ). n < 256) (tableGoes s l) (hostCount s) 0 (λ _. omega arith) (λ _. omega arith);
@@ -132,13 +132,13 @@ module _ (i : ℕ) (buffer : List ℕ) (x : Lent) (typed : Typed x i) (ok : Pass
 
   -- what is left to refuse it
   left : (t : Settings) → t .layout ≡ s .layout → (j : ℕ) (a : Answer)
-      → inspect t j (messageOf (sentBy (sends i (x .host)) buffer x)) ≡ Bad a → a ≡ LoopedLine
+      → inspect t j (messageOf (sentBy (sends i k (x .host)) buffer x)) ≡ Bad a → a ≡ LoopedLine
   unfolding inspect ReadBack
   left t same j a e = go (looped t j p) (sym read ∙ e)
     where
-      read : inspect t j (messageOf (sentBy (sends i (x .host)) buffer x)) ≡ cond (looped t j p) (Bad LoopedLine) (Good p)
+      read : inspect t j (messageOf (sentBy (sends i k (x .host)) buffer x)) ≡ cond (looped t j p) (Bad LoopedLine) (Good p)
       read =
-          ap (λ (o : List ℕ). inspected t j (parse o)) (sent-message x there i buffer)
+          ap (λ (o : List ℕ). inspected t j (parse o)) (sent-message x there i k buffer)
           ∙ ap (inspected t j) (message-is-back (l .neighbor) p rs fits)
           ∙ ap (λ (b : Bool). cond b (Bad OtherLayout) (cond (looped t j p) (Bad LoopedLine) (Good p))) (ours t same)
 
@@ -157,11 +157,11 @@ Claim x o =
 
 pub heard-holds : Heard
 unfolding Heard
-heard-holds i buffer x typed =
-    performs (Call.send i buffer) x (Claim x)
+heard-holds i k buffer x typed =
+    performs (Call.send i k buffer) x (Claim x)
     (λ refused is. absurd (true≢false (sym (ap done is) ∙ refused)))
     (λ e.
     either (λ (p : Sending). Claim x (sentBy p buffer x))
     (ltb (length buffer) (packetLength (reportCount (x .host .settings) (linkOf (x .host .links) i)))) _ _
     (λ _ is. absurd (false≢true (ap done is)))
-    (λ _ _. left i buffer x typed (passed (OnLink i) x e)))
+    (λ _ _. left i k buffer x typed (passed (OnLink i) x e)))

@@ -11,3 +11,4 @@ pub mod Demand2
 pub mod Opened
 pub mod Demand3
 pub mod Pair
+pub mod LineCalls

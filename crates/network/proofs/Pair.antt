@@ -11,6 +11,7 @@ use lib.ListN.{length}
 use Rattle.lists.proofs.Tests.{either}
 use Rattle.answer.specs.declared.Answer.{Answer}
 use Rattle.answer.specs.Answer.{number}
+use Rattle.clock.specs.declared.Counter.{Counter}
 use Rattle.wire.specs.declared.Packet.{Packet}
 use Rattle.wire.specs.declared.Parsed.{Parsed}
 use Rattle.wire.specs.declared.Parsed.the-variants.{Good, Bad}
@@ -33,37 +34,48 @@ use Rattle.network.proofs.Performs.{performs, there}
 use Rattle.network.proofs.Written.{quieted}
 use Rattle.network.proofs.Demand3.Arrival.{action-timed}
 
+-- ---- an inspection changes nothing
+
 module _ (i : ℕ) (octets : List ℕ) (x : Lent) where
+  leaves : perform (inspect i octets) x ≡ record { reply = perform (inspect i octets) x .reply; clock = x .host .clock; links = x .host .links; run = x .run; buffer = [] }
+  leaves =
+      performs (inspect i octets) x (λ o. o ≡ record { reply = o .reply; clock = x .host .clock; links = x .host .links; run = x .run; buffer = [] }) (λ _. refl)
+      (λ e. quieted x (there (inspect i octets) x e) (tells (inspecting.inspect (x .host .settings) i octets)) (x .host) octets)
+
+  looks : left x (perform (inspect i octets) x) ≡ x
+  looks = ap (left x) leaves
+
+module _ (i : ℕ) (k : Counter) (octets : List ℕ) (x : Lent) where
   abbrev h : Host
   h = x .host
 
   -- ---- the action alone
 
-  pub receive-acts : perform (receive i octets) x ≡ perform (act i octets) x
+  pub receive-acts : perform (receive i k octets) x ≡ perform (act i k octets) x
   unfolding perform
   receive-acts =
-      ap (λ (a : Arrived). cond (not (done (guard (OnLink i) x))) (refused (guard (OnLink i) x) (act i octets) x) (updatedBy a octets x))
-      (pieces.one-piece i octets h)
+      ap (λ (a : Arrived). cond (not (done (guard (OnLink i) x))) (refused (guard (OnLink i) x) (act i k octets) x) (updatedBy a octets x))
+      (pieces.one-piece i k octets h)
 
   -- ---- the inspection and the action, side by side
 
   module _ (P : Outcome → Outcome → Type 0) (alike : (o : Outcome) → P o o)
-      (passes : (p : Packet) → P (updatedBy (quiet (tells (Good p)) h) octets x) (updatedBy (action h i p) octets x)) where
-    by-packet : (q : Parsed) → P (updatedBy (quiet (tells q) h) octets x) (updatedBy (inspected h i q) octets x)
+      (passes : (p : Packet) → P (updatedBy (quiet (tells (Good p)) h) octets x) (updatedBy (action k h i p) octets x)) where
+    by-packet : (q : Parsed) → P (updatedBy (quiet (tells q) h) octets x) (updatedBy (inspected k h i q) octets x)
     by-packet (Bad a) = alike _
     by-packet (Good p) = passes p
 
-    pair-ways : P (perform (inspect i octets) x) (perform (act i octets) x)
+    pair-ways : P (perform (inspect i octets) x) (perform (act i k octets) x)
     unfolding perform
     pair-ways = go (not (done (guard (OnLink i) x)))
       where
         go : (b : Bool)
             → P (cond b (refused (guard (OnLink i) x) (inspect i octets) x) (updatedBy (inspection i octets h) octets x))
-            (cond b (refused (guard (OnLink i) x) (act i octets) x) (updatedBy (arrivals.act i octets h) octets x))
+            (cond b (refused (guard (OnLink i) x) (act i k octets) x) (updatedBy (arrivals.act i k octets h) octets x))
         go true = alike _
         go false = by-packet (inspecting.inspect (h .settings) i octets)
 
-  refuses : done (answerOf (inspect i octets) x) ≡ false → perform (act i octets) x ≡ perform (inspect i octets) x
+  refuses : done (answerOf (inspect i octets) x) ≡ false → perform (act i k octets) x ≡ perform (inspect i octets) x
   refuses = pair-ways (λ o o′. done (o .reply .answer) ≡ false → o′ ≡ o) (λ o _. refl) (λ p e. absurd (true≢false e))
 
   -- the answers of an action whose packet passed
@@ -76,32 +88,22 @@ module _ (i : ℕ) (octets : List ℕ) (x : Lent) where
       go false false true _ _ e _ = omega (arith, eqb-true (number a) 11 e)
       go false false false _ _ _ z = z
 
-  exactly : (n : ℕ) → 3 ≤ n → n ≤ 9 → (number (answerOf (inspect i octets) x) ≡ n) ↔ (number (answerOf (act i octets) x) ≡ n)
+  exactly : (n : ℕ) → 3 ≤ n → n ≤ 9 → (number (answerOf (inspect i octets) x) ≡ n) ↔ (number (answerOf (act i k octets) x) ≡ n)
   exactly n low high =
       pair-ways (λ o o′. (number (o .reply .answer) ≡ n) ↔ (number (o′ .reply .answer) ≡ n)) (λ o. (λ e. e, λ e. e))
-      (λ p. (λ e. absurd (omega (arith, e)), λ e. absurd (late (action h i p .reply .answer) (action-timed h i p) (omega (arith, e)) (omega (arith, e)))))
+      (λ p. (λ e. absurd (omega (arith, e)), λ e. absurd (late (action k h i p .reply .answer) (action-timed k h i p) (omega (arith, e)) (omega (arith, e)))))
 
-  -- ---- an inspection changes nothing
-
-  leaves : perform (inspect i octets) x ≡ record { reply = perform (inspect i octets) x .reply; clock = h .clock; links = h .links; run = x .run; buffer = [] }
-  leaves =
-      performs (inspect i octets) x (λ o. o ≡ record { reply = o .reply; clock = h .clock; links = h .links; run = x .run; buffer = [] }) (λ _. refl)
-      (λ e. quieted x (there (inspect i octets) x e) (tells (inspecting.inspect (h .settings) i octets)) h octets)
-
-  looks : left x (perform (inspect i octets) x) ≡ x
-  looks = ap (left x) leaves
-
-  in-turn : perform (act i octets) x ≡ cond (done (answerOf (inspect i octets) x)) (perform (act i octets) x) (perform (inspect i octets) x)
+  in-turn : perform (act i k octets) x ≡ cond (done (answerOf (inspect i octets) x)) (perform (act i k octets) x) (perform (inspect i octets) x)
   in-turn = pair-ways (λ o o′. o′ ≡ cond (done (o .reply .answer)) o′ o) (λ o. same (done (o .reply .answer)) o) (λ p. refl)
     where
       same : (b : Bool) (o : Outcome) → o ≡ cond b o o
       same true o = refl
       same false o = refl
 
-  one-piece : perform (receive i octets) x ≡ inTurn i octets x
+  one-piece : perform (receive i k octets) x ≡ inTurn i k octets x
   one-piece =
       receive-acts ∙ in-turn
-      ∙ ap (λ (y : Lent). cond (done (answerOf (inspect i octets) x)) (perform (act i octets) y) (perform (inspect i octets) x)) (sym looks)
+      ∙ ap (λ (y : Lent). cond (done (answerOf (inspect i octets) x)) (perform (act i k octets) y) (perform (inspect i octets) x)) (sym (looks i octets x))
 
 -- ---- calls between the two
 
@@ -130,8 +132,8 @@ unfolding afterAll after
 last-alike f g lent same w [] = λ j. put (lent j .number) (leftBy (lent j .number) (w (lent j .number) .places) (same j)) w
 last-alike f g lent same w (e ∷ es) = last-alike f g lent same (after w e) es
 
-acted : (f : Event) (j : ℕ) (packet : List ℕ) → f .call ≡ act j packet → outcome f ≡ perform (receive j packet) (f .lent)
-acted f j packet is = ap (λ c. perform c (f .lent)) is ∙ sym (receive-acts j packet (f .lent))
+acted : (f : Event) (j : ℕ) (k : Counter) (packet : List ℕ) → f .call ≡ act j k packet → outcome f ≡ perform (receive j k packet) (f .lent)
+acted f j k packet is = ap (λ c. perform c (f .lent)) is ∙ sym (receive-acts j k packet (f .lent))
 
 pub pair-holds : Pair
 unfolding afterAll
@@ -142,7 +144,7 @@ pair-holds =
       looks = looks;
       refuses = refuses;
       exactly = exactly;
-      between = λ w e f es i j octets packet inspects lends acts.
-          let same = acted f j packet acts in
-          (same, ap (λ v. afterAll v (es ++ f ∷ [])) (stays w e i octets inspects lends) ∙ last-alike f (instead (receive j packet) f) refl same w es);
+      between = λ w e f es i j k octets packet inspects lends acts.
+          let same = acted f j k packet acts in
+          (same, ap (λ v. afterAll v (es ++ f ∷ [])) (stays w e i octets inspects lends) ∙ last-alike f (instead (receive j k packet) f) refl same w es);
     }

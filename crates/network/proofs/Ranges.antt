@@ -2,7 +2,7 @@
 use mathlib.Core.Path.{_≡_, refl, subst}
 use mathlib.Core.Bool.{true}
 use mathlib.Core.List.{List, map}
-use Prim.Native.Nat.{ℕ, _-_, _≤_}
+use Prim.Native.Nat.{ℕ, _-_, _≤_, _<_, _^_}
 use native.Mathlib.Omega.{arith}
 use borrow.Author.Tests.{leb-true, le-leb}
 use lib.ListN.{take, set}
@@ -21,7 +21,6 @@ use Rattle.table.specs.declared.run.Updates.{Updates}
 use Rattle.table.specs.Forms.{every}
 use Rattle.table.specs.Entry.{minDelay, upTo, entryInRange}
 use Rattle.table.specs.Runs.{updateAt, updatedAt}
-use Rattle.table.proofs.Ranges.{reading-in}
 use Rattle.table.proofs.Kept.{update-in-range, clock-in-range}
 use Rattle.host.specs.declared.Settings.{Settings}
 use Rattle.host.specs.declared.Link.{Link}
@@ -78,10 +77,10 @@ raised-low d =
     either (λ (m : Millis). (dn (m .0) ≤ 0) × (100 ≤ up (m .0))) (lessMillis d minDelay) _ _ (λ _. (omega arith, omega arith))
     (λ t. let l = lt-no (d .0) (minDelay .0) t in (omega arith, omega arith))
 
-module _ (s : Settings) (c : Clock) (i : ℕ) (f : Flight) (has : Counted s i) (clock : clockInRange c ≡ true) (flown : Flown c f) where
+module _ (s : Settings) (time : Millis) (i : ℕ) (f : Flight) (has : Counted s i) (in-day : upTo dayMillis time ≡ true) (flown : Flown time f) where
   pub neighbor-sane : Sane (neighborUpdate i f)
   neighbor-sane =
-      record { delay-low = raised-low (f .delay) .0; pid-high = has .to-eight; reading-in = rw (flown .reading-is) (reading-in c clock) }
+      record { delay-low = raised-low (f .delay) .0; pid-high = has .to-eight; reading-in = rw (flown .reading-is) in-day }
 
   pub report-sane : (hello : List ℕ) (id : ℕ) → Sane (reportUpdate i f (reportAt hello id))
   unfolding reportAt
@@ -89,13 +88,13 @@ module _ (s : Settings) (c : Clock) (i : ℕ) (f : Flight) (has : Counted s i) (
       record {
         delay-low = omega (arith, raised-low (f .delay), sum (atLeastMin (f .delay) .0) (reportAt hello id .delay .0));
         pid-high = has .to-eight;
-        reading-in = rw (flown .reading-is) (reading-in c clock);
+        reading-in = rw (flown .reading-is) in-day;
       }
 
 -- the updates of an arrival
 module _ (w : Updates) (packet : List ℕ) (id : ℕ) (c : Clock) (e : Entry) where
   pub entry-in : Sane (updateAt w (id - w .base) packet) → entryInRange e ≡ true → entryInRange (updatedAt w packet id c e .entry) ≡ true
-  entry-in good h = update-in-range _ (good .delay-low) (good .pid-high) (good .reading-in) _ (w .«hold_interval») (w .date) c e h
+  entry-in good h = update-in-range _ (good .delay-low) (good .pid-high) (good .reading-in) _ (w .«hold_interval») (w .count) (w .date) c e h
 
-  pub clock-in : w .«hold_interval» .0 ≤ 255 → clockInRange c ≡ true → clockInRange (updatedAt w packet id c e .clock) ≡ true
-  clock-in small = clock-in-range _ (w .«hold_interval») small (w .date) _ c e
+  pub clock-in : w .«hold_interval» .0 ≤ 255 → w .count .0 < 2 ^ 16 → clockInRange c ≡ true → clockInRange (updatedAt w packet id c e .clock) ≡ true
+  clock-in small few = clock-in-range _ (w .«hold_interval») small (w .count) few (w .date) _ c e

@@ -7,14 +7,14 @@ use native.Mathlib.Omega.{arith}
 use lib.ListN.{length, drop, length-map}
 use lib.Seq.{take-at, take-all}
 use Rattle.lists.specs.Lists.{part}
-use Rattle.clock.specs.Clock.{reading}
+use Rattle.clock.specs.declared.Counter.{Counter}
 use Rattle.wire.specs.declared.Report.{Report}
 use Rattle.wire.specs.Packet.{packetLength, message}
 use Rattle.wire.proofs.Messages.{message-length}
 use Rattle.table.specs.Entry.{advertised}
 use Rattle.host.specs.declared.Link.{Link}
 use Rattle.host.specs.State.{hostCount, linkOf}
-use Rattle.host.specs.Lent.{Lent, entriesOf}
+use Rattle.host.specs.Lent.{Lent, entriesOf, ourReading}
 use Rattle.host.proofs.Places.{Holds, entries-length}
 use Rattle.sending.specs.Message.{tableGoes, packetSent}
 use Rattle.sending.specs.Send.{reportCount, sends}
@@ -45,13 +45,13 @@ module _ (x : Lent) (there : Holds (x .number) (x .run)) (i : ℕ) where
       go false = refl
 
   -- the whole message; "destination NEIGHBOR-ADDRESS"
-  abbrev pub sentMessage : List ℕ
-  sentMessage =
+  abbrev pub sentMessage : Counter → List ℕ
+  sentMessage k =
       message (link .neighbor)
-      (packetSent (x .host .settings) link (reading (x .host .clock) .time) (reading (x .host .clock) .clock .date) (reportCount (x .host .settings) link)) reports
+      (packetSent (x .host .settings) link (ourReading k (x .host) .time) (ourReading k (x .host) .clock .date) (reportCount (x .host .settings) link)) reports
 
-  pub sent-message : (buffer : List ℕ) → messageOf (sentBy (sends i (x .host)) buffer x) ≡ sentMessage
-  sent-message buffer =
+  pub sent-message : (k : Counter) (buffer : List ℕ) → messageOf (sentBy (sends i k (x .host)) buffer x) ≡ sentMessage k
+  sent-message k buffer =
       rw reports-are
-      (take-at sentMessage (drop (packetLength (reportCount (x .host .settings) link)) buffer) (packetLength (reportCount (x .host .settings) link))
+      (take-at (sentMessage k) (drop (packetLength (reportCount (x .host .settings) link)) buffer) (packetLength (reportCount (x .host .settings) link))
       (message-length _ _ reports ∙ ap packetLength reports-count))

@@ -9,7 +9,7 @@ use lib.ListN.{length, getD}
 use Rattle.quantity.specs.Words.{zeroWord}
 use Rattle.answer.specs.declared.Answer.{Answer}
 use Rattle.answer.specs.declared.Answer.the-variants.{Done, Setting, ShortBuffer, IpForm, IpChecksum, Protocol, HelloForm, HelloChecksum, OtherLayout, LoopedLine, DelayNotValid, NoHost, OutOfRange, HostDown}
-use Rattle.clock.specs.Clock.{reading}
+use Rattle.clock.specs.declared.Counter.{Counter}
 use Rattle.wire.specs.declared.Address.{Address}
 use Rattle.wire.specs.declared.Packet.{Packet}
 use Rattle.wire.specs.Octets.{sameAddress}
@@ -23,7 +23,7 @@ use Rattle.table.specs.declared.Entry.{Entry}
 use Rattle.table.specs.Entry.{freshEntry, up}
 use Rattle.host.specs.Settings.{settingsGood, foundFor}
 use Rattle.host.specs.State.{broadcast, linkOf}
-use Rattle.host.specs.Lent.{Host, Lent, entriesOf}
+use Rattle.host.specs.Lent.{Host, Lent, entriesOf, ourReading}
 use Rattle.host.specs.Guard.{outOfRange}
 use Rattle.sending.specs.Send.{reportCount}
 use Rattle.arrival.specs.declared.Delivery.{Delivery}
@@ -47,11 +47,11 @@ firstOf (t ∷ ts) = cond (t .holds) (t .answer) (firstOf ts)
 
 -- ---- conditions
 
--- 10: on a point-to-point link, a known neighbour, and a packet TSP of 0 or HOLD not 0
-abbrev pub delayInvalid : Host → (link : ℕ) → Packet → Bool
-delayInvalid h i p =
+-- 10: on a point-to-point link, a known neighbour, and a packet TSP of 0 or HOLD not 0 behind the reading
+abbrev pub delayInvalid : Counter → Host → (link : ℕ) → Packet → Bool
+delayInvalid k h i p =
     not (broadcast (h .settings) i) && sameAddress (p .source) (linkOf (h .links) i .neighbor)
-    && (zeroWord (p .tsp) || not (eqb (reading (h .clock) .clock .hold .0) 0))
+    && (zeroWord (p .tsp) || not (eqb (ourReading k h .clock .hold .0) 0))
 
 -- the neighbour after step 4
 abbrev pub neighborNow : Host → (link : ℕ) → Packet → Address
@@ -70,12 +70,12 @@ hostDown es (Id id) = not (up (getD es id freshEntry))
 
 abbrev pub requestTests : Request → Lent → List Test
 requestTests Initialize x = []
-requestTests Tick x = []
-requestTests Adjust x = []
-requestTests (Set ms) x = []
-requestTests Read x = []
+requestTests (Tick n) x = []
+requestTests (Adjust n) x = []
+requestTests (Set ms n) x = []
+requestTests (Read k) x = []
 requestTests Second x = []
-requestTests SelfReport x = []
+requestTests (SelfReport k) x = []
 requestTests (Lookup a) x =
     on NoHost (not (isFound (foundFor (x .host .settings) a)))
     ∷ on HostDown (hostDown (entriesOf x) (foundFor (x .host .settings) a))
@@ -97,21 +97,21 @@ inspectionTests i octets h =
     ∷ []
 
 -- "the action adds 10 and 11"
-abbrev pub actionTests : (link : ℕ) (octets : List ℕ) → Host → List Test
-actionTests i octets h =
+abbrev pub actionTests : (link : ℕ) → Counter → (octets : List ℕ) → Host → List Test
+actionTests i k octets h =
     inspectionTests i octets h
-    ++ on DelayNotValid (delayInvalid h i (fields octets))
+    ++ on DelayNotValid (delayInvalid k h i (fields octets))
     ∷ on NoHost (neighborUnknown h i (fields octets))
     ∷ []
 
 abbrev pub deliveryTests : Delivery → (octets : List ℕ) → Host → List Test
 deliveryTests (Inspect i) octets h = inspectionTests i octets h
-deliveryTests (Act i) octets h = actionTests i octets h
-deliveryTests (Receive i) octets h = actionTests i octets h
+deliveryTests (Act i k) octets h = actionTests i k octets h
+deliveryTests (Receive i k) octets h = actionTests i k octets h
 
 abbrev pub ownTests : Call → Lent → List Test
 ownTests (ask q) x = requestTests q x
-ownTests (send i buffer) x = sendTests i buffer (x .host)
+ownTests (send i k buffer) x = sendTests i buffer (x .host)
 ownTests (deliver d packet) x = deliveryTests d packet (x .host)
 
 -- 12, by how much the call tests, and 1

@@ -10,6 +10,10 @@ use lib.Signed.{_≤ℤ_, _<ℤ_}
 use Rattle.answer.specs.declared.Answer.{Answer}
 use Rattle.answer.specs.declared.Answer.the-variants.{Done}
 use Rattle.answer.specs.Answer.{number}
+use Rattle.quantity.specs.declared.Count.{Count}
+use Rattle.clock.specs.declared.Clock.{Clock}
+use Rattle.clock.specs.declared.Counter.{Counter}
+use Rattle.clock.specs.declared.Reading.{Reading}
 use Rattle.clock.specs.Midnight.{dayMillis}
 use Rattle.clock.specs.Clock.{reading}
 use Rattle.table.specs.declared.Entry.{Entry}
@@ -26,21 +30,21 @@ use Rattle.network.specs.Room.{longestWay, errorParts, delayParts, Room,
 
 -- "ticks, sends, arrivals, self-reports and seconds"; a send and an arrival have the room's millisecond. An action is an arrival; an inspection may be given any packet.
 pub data RoomCall : Type 0 where
-  ticks : RoomCall
+  ticks : Count → RoomCall
   seconds : RoomCall
-  reports : RoomCall
-  sends : (link : ℕ) (buffer : List ℕ) (ms : ℤ) → RoomCall
-  arrives : (link : ℕ) (packet : List ℕ) (ms : ℤ) → RoomCall
-  acts : (link : ℕ) (packet : List ℕ) (ms : ℤ) → RoomCall
+  reports : Counter → RoomCall
+  sends : (link : ℕ) → Counter → (buffer : List ℕ) (ms : ℤ) → RoomCall
+  arrives : (link : ℕ) → Counter → (packet : List ℕ) (ms : ℤ) → RoomCall
+  acts : (link : ℕ) → Counter → (packet : List ℕ) (ms : ℤ) → RoomCall
   inspects : (link : ℕ) (packet : List ℕ) → RoomCall
 
 abbrev pub callOf : RoomCall → Call
-callOf ticks = ask Tick
+callOf (ticks n) = ask (Tick n)
 callOf seconds = ask Second
-callOf reports = ask SelfReport
-callOf (sends i buffer t) = send i buffer
-callOf (arrives i packet t) = receive i packet
-callOf (acts i packet t) = act i packet
+callOf (reports k) = ask (SelfReport k)
+callOf (sends i k buffer t) = send i k buffer
+callOf (arrives i k packet t) = receive i k packet
+callOf (acts i k packet t) = act i k packet
 callOf (inspects i packet) = inspect i packet
 
 -- a call at a seat, with the links and the run that it is lent
@@ -78,13 +82,13 @@ result r w x = outcome (eventOf r w x)
 
 -- the mail after a call that left this
 abbrev pub mailAfter : (seat : ℕ) → Outcome → RoomCall → List Message → List Message
-mailAfter a o ticks mail = mail
+mailAfter a o (ticks n) mail = mail
 mailAfter a o seconds mail = mail
-mailAfter a o reports mail = mail
-mailAfter a o (sends i buffer t) mail =
+mailAfter a o (reports k) mail = mail
+mailAfter a o (sends i k buffer t) mail =
     cond (done (o .reply .answer)) (record { seat = a; link = i; ms = t; octets = messageOf o } ∷ mail) mail
-mailAfter a o (arrives i packet t) mail = mail
-mailAfter a o (acts i packet t) mail = mail
+mailAfter a o (arrives i k packet t) mail = mail
+mailAfter a o (acts i k packet t) mail = mail
 mailAfter a o (inspects i packet) mail = mail
 
 unfoldable pub step : Room → World → Step → World
@@ -97,38 +101,42 @@ history r w (x ∷ xs) = history r (step r w x) xs
 
 -- ---- what demand 3 asks of each call
 
+-- our reading of this clock at a seat, with this counter: "Demand 3's "reads" means this sum."
+abbrev pub readingAt : Room → (seat : ℕ) → Clock → Counter → Reading
+readingAt r a c k = reading (r .settings a .«clock_tick») (r .settings a .«hold_interval») k c
+
 -- "Our reading in that call is this number plus the seat's fixed number, and is below 86,400,000."
-pub record Reads (r : Room) (w : World) (a : ℕ) (t : ℤ) : Type 0 where
-  pub clock : reading (leftAt r w a .clock) .time .0 ≡ t +ℤ r .fixed a
-  pub no-midnight : reading (leftAt r w a .clock) .time .0 <ℤ dayMillis .0
+pub record Reads (r : Room) (w : World) (a : ℕ) (k : Counter) (t : ℤ) : Type 0 where
+  pub clock : readingAt r a (leftAt r w a .clock) k .time .0 ≡ t +ℤ r .fixed a
+  pub no-midnight : readingAt r a (leftAt r w a .clock) k .time .0 <ℤ dayMillis .0
 
 -- "each arrival answered 0, 10 or 11, has a whole number, the room's millisecond"
 abbrev pub timed : Answer → Bool
 timed a = eqb (number a) 0 || eqb (number a) 10 || eqb (number a) 11
 
 -- ".. where the arrival has a millisecond, that is 0 to 16,383 above the send's": up to the room's longest way
-pub record Later (r : Room) (w : World) (a : ℕ) (t : ℤ) (m : Message) : Type 0 where
-  pub reads : Reads r w a t
+pub record Later (r : Room) (w : World) (a : ℕ) (k : Counter) (t : ℤ) (m : Message) : Type 0 where
+  pub reads : Reads r w a k t
   pub way : ℕ
   pub short : way ≤ r .longest
   pub later : t ≡ m .ms +ℤ pos way
 
 -- "Each arrival is given a copy of the message that one earlier send of the list, answered 0, wrote at the cable's other end"
-pub record Delivered (r : Room) (w : World) (a i : ℕ) (packet : List ℕ) (t : ℤ) (answer : Answer) : Type 0 where
+pub record Delivered (r : Room) (w : World) (a i : ℕ) (k : Counter) (packet : List ℕ) (t : ℤ) (answer : Answer) : Type 0 where
   pub message : Message
   pub earlier : List·Memᴰ message (w .mail)
   pub a-copy : packet ≡ message .octets
   pub other-end : r .cable a i ≡ at (message .seat) (message .link)
-  pub in-time : T (timed answer) → Later r w a t message
+  pub in-time : T (timed answer) → Later r w a k t message
 
 -- nothing is asked of the reading in other calls; a send may name any link and lend any buffer
 abbrev pub Timely : Room → World → (seat : ℕ) → Outcome → RoomCall → Type 0
-Timely r w a o ticks = Unit {0}
+Timely r w a o (ticks n) = Unit {0}
 Timely r w a o seconds = Unit {0}
-Timely r w a o reports = Unit {0}
-Timely r w a o (sends i buffer t) = o .reply .answer ≡ Done → Reads r w a t
-Timely r w a o (arrives i packet t) = Delivered r w a i packet t (o .reply .answer)
-Timely r w a o (acts i packet t) = Delivered r w a i packet t (o .reply .answer)
+Timely r w a o (reports k) = Unit {0}
+Timely r w a o (sends i k buffer t) = o .reply .answer ≡ Done → Reads r w a k t
+Timely r w a o (arrives i k packet t) = Delivered r w a i k packet t (o .reply .answer)
+Timely r w a o (acts i k packet t) = Delivered r w a i k packet t (o .reply .answer)
 Timely r w a o (inspects i packet) = Unit {0}
 
 pub record Allowed (r : Room) (w : World) (x : Step) : Type 0 where

@@ -5,17 +5,19 @@ use mathlib.Core.List.{List, [], _∷_}
 use Prim.Native.Nat.{_*_, _≤_, _<_}
 use lib.IntN.{pos, negsuc, _-ℤ_}
 use lib.ListN.{replicate}
-use Rattle.quantity.specs.Quantity.{millis, toUnits}
+use Rattle.quantity.specs.Quantity.{millis, counts, toUnits}
 use Rattle.quantity.specs.Words.{word}
+use Rattle.clock.specs.Crystal.{counting}
+use Rattle.clock.specs.LineClock.{noCounter}
 use Rattle.table.specs.declared.Entry.{Entry}
 use Rattle.network.specs.Left.{messageOf}
 use Rattle.network.specs.Room.{longestWay, Room, Proper}
-use Rattle.network.specs.Demand3.{ticks, reports, sends, arrives, Step, World, result, step, history, Allows, Starts, entryOf}
+use Rattle.network.specs.Demand3.{reports, sends, arrives, Step, World, result, step, history, Allows, Starts, entryOf}
 use Rattle.network.specs.TwoSeats.{pair, begun, call}
 
--- ticks of 101 ms; both start at millisecond 40,000
+-- Seat 0 has a crystal, whose counter stands at 65,500 as the history begins, with CLOCK at 0; CLOCK-TICK is 65,536 ms. Seat 1 has a line clock.
 abbrev pub near : Room
-near = pair record { tick = toUnits (millis (pos 101)); start = λ a. 40000; longest = longestWay }
+near = pair record { tick = toUnits (millis (pos 65536)); start = λ a. 65500 * a; longest = longestWay }
 
 -- ---- the history
 
@@ -24,51 +26,45 @@ w₀ = begun near
 
 -- seat 1 reports itself
 unfoldable pub x₁ : Step
-x₁ = call w₀ 1 reports
+x₁ = call w₀ 1 (reports noCounter)
 
 unfoldable pub w₁ : World
 w₁ = step near w₀ x₁
 
--- seat 0 sends at millisecond 40,000
+-- seat 0 sends at millisecond 65,500
 unfoldable pub x₂ : Step
-x₂ = call w₁ 0 (sends 1 (replicate 32 0) (pos 40000))
+x₂ = call w₁ 0 (sends 1 (counting (counts 65500)) (replicate 32 0) (pos 65500))
 
 unfoldable pub w₂ : World
 w₂ = step near w₁ x₂
 
 -- at once seat 1 has it
 unfoldable pub x₃ : Step
-x₃ = call w₂ 1 (arrives 1 (messageOf (result near w₁ x₂)) (pos 40000))
+x₃ = call w₂ 1 (arrives 1 noCounter (messageOf (result near w₁ x₂)) (pos 65500))
 
 unfoldable pub w₃ : World
 w₃ = step near w₂ x₃
 
 -- and answers
 unfoldable pub x₄ : Step
-x₄ = call w₃ 1 (sends 1 (replicate 40 0) (pos 40000))
+x₄ = call w₃ 1 (sends 1 noCounter (replicate 40 0) (pos 65500))
 
 unfoldable pub w₄ : World
 w₄ = step near w₃ x₄
 
--- 101 ms pass at seat 0
+-- 101 ms later, as its counter overflows, seat 0 has the answer
 unfoldable pub x₅ : Step
-x₅ = call w₄ 0 ticks
+x₅ = call w₄ 0 (arrives 1 record { count = counts 65535; overflow = 1; again = counts 65 } (messageOf (result near w₃ x₄)) (pos 65601))
 
 unfoldable pub w₅ : World
 w₅ = step near w₄ x₅
 
--- the answer arrives there, and once more
+-- and has it once more
 unfoldable pub x₆ : Step
-x₆ = call w₅ 0 (arrives 1 (messageOf (result near w₃ x₄)) (pos 40101))
-
-unfoldable pub w₆ : World
-w₆ = step near w₅ x₆
-
-unfoldable pub x₇ : Step
-x₇ = call w₆ 0 (arrives 1 (messageOf (result near w₃ x₄)) (pos 40101))
+x₆ = call w₅ 0 (arrives 1 (counting (counts 65)) (messageOf (result near w₃ x₄)) (pos 65601))
 
 abbrev pub story : List Step
-story = x₁ ∷ x₂ ∷ x₃ ∷ x₄ ∷ x₅ ∷ x₆ ∷ x₇ ∷ []
+story = x₁ ∷ x₂ ∷ x₃ ∷ x₄ ∷ x₅ ∷ x₆ ∷ []
 
 -- what seat 0 has of seat 1 at the end
 abbrev pub learnt : Entry

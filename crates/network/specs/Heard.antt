@@ -5,27 +5,27 @@ use Prim.Native.Nat.{ℕ, _<_, _^_}
 use lib.ListN.{getD}
 use Rattle.answer.specs.declared.Answer.{Answer}
 use Rattle.answer.specs.declared.Answer.the-variants.{Done, LoopedLine}
-use Rattle.clock.specs.Clock.{reading}
+use Rattle.clock.specs.declared.Counter.{Counter}
 use Rattle.wire.specs.declared.Parsed.the-variants.{Bad}
 use Rattle.wire.specs.code.Ranges.{SignedTwo, AddressFits}
 use Rattle.table.specs.Entry.{freshEntry}
 use Rattle.host.specs.declared.Settings.{Settings}
 use Rattle.host.specs.State.{linkOf}
-use Rattle.host.specs.Lent.{Lent, entriesOf}
+use Rattle.host.specs.Lent.{Lent, entriesOf, ourReading}
 use Rattle.arrival.specs.Inspection.{inspect}
 use Rattle.calls.specs.Perform.{send, perform}
 use Rattle.network.specs.Left.{messageOf}
 
 -- octets and 16-bit words, which the code's types hold at all times
-pub record Typed (x : Lent) (i : ℕ) : Type 0 where
+pub record Typed (x : Lent) (i : ℕ) (k : Counter) : Type 0 where
   pub address : AddressFits (x .host .settings .address)
   pub neighbor : AddressFits (linkOf (x .host .links) i .neighbor)
   pub address-offset : x .host .settings .layout .«address_offset» < 256
-  pub date : reading (x .host .clock) .clock .date .0 < 2 ^ 16
+  pub date : ourReading k (x .host) .clock .date .0 < 2 ^ 16
   pub offsets : (id : ℕ) → SignedTwo (getD (entriesOf x) id freshEntry .offset .0)
 
 unfoldable pub Heard : Type 0
 Heard =
-    (i : ℕ) (buffer : List ℕ) (x : Lent) → Typed x i → perform (send i buffer) x .reply .answer ≡ Done
+    (i : ℕ) (k : Counter) (buffer : List ℕ) (x : Lent) → Typed x i k → perform (send i k buffer) x .reply .answer ≡ Done
     → (t : Settings) → t .layout ≡ x .host .settings .layout → (j : ℕ) (a : Answer)
-    → inspect t j (messageOf (perform (send i buffer) x)) ≡ Bad a → a ≡ LoopedLine
+    → inspect t j (messageOf (perform (send i k buffer) x)) ≡ Bad a → a ≡ LoopedLine

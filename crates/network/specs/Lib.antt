@@ -8,6 +8,7 @@ pub mod Heard
 pub mod History
 pub mod Isolation
 pub mod Pair
+pub mod LineCalls
 pub mod HalfDelay
 pub mod Room
 pub mod Demand3

@@ -4,6 +4,7 @@ use mathlib.Core.Path.{_≡_}
 use mathlib.Core.List.{List}
 use Prim.Native.Nat.{ℕ}
 use lib.ListN.{length, take}
+use Rattle.clock.specs.declared.Counter.{Counter}
 use Rattle.host.specs.declared.Settings.{Settings}
 use Rattle.host.specs.declared.Link.{Link}
 use Rattle.host.specs.declared.Links.{Links}
@@ -12,10 +13,10 @@ use Rattle.host.specs.Lent.{Lent, entriesOf}
 use Rattle.calls.specs.Perform.{Call, send, perform, left}
 use Rattle.network.specs.Left.{told}
 
--- two inputs that count as one: the same, or sends on one link into buffers of one length
+-- two inputs that count as one: the same, or sends on one link with one counter into buffers of one length
 pub data SameInput : Call → Call → Type 0 where
   same : {c : Call} → SameInput c c
-  same-send : {i : ℕ} {b d : List ℕ} → length b ≡ length d → SameInput (send i b) (send i d)
+  same-send : {i : ℕ} {k : Counter} {b d : List ℕ} → length b ≡ length d → SameInput (send i k b) (send i k d)
 
 -- the host's links: the slots up to its count
 abbrev pub ownLinks : Settings → Links → List Link

@@ -6,6 +6,7 @@ use Prim.Native.Nat.{ℕ, _+_, _*_}
 use lib.IntN.{pos, negsuc, _-ℤ_}
 use lib.ListN.{replicate}
 use Rattle.quantity.specs.Quantity.{units, millis}
+use Rattle.clock.specs.LineClock.{noCount, noCounter}
 use Rattle.table.specs.declared.Entry.{Entry}
 use Rattle.table.specs.Entry.{freshEntry}
 use Rattle.host.specs.State.{freshLinks, placesPerHost}
@@ -35,45 +36,45 @@ w₀ = begun late
 
 -- seat 0 sends at millisecond 40,000
 unfoldable pub x₁ : Step
-x₁ = early (sends 1 (replicate 32 0) (pos 40000))
+x₁ = early (sends 1 noCounter (replicate 32 0) (pos 40000))
 
 unfoldable pub w₁ : World
 w₁ = step late w₀ x₁
 
 -- seat 1 reports itself
 unfoldable pub x₂ : Step
-x₂ = call w₁ 1 reports
+x₂ = call w₁ 1 (reports noCounter)
 
 unfoldable pub w₂ : World
 w₂ = step late w₁ x₂
 
 -- gets the message, 16,384 ms after it was sent
 unfoldable pub x₃ : Step
-x₃ = call w₂ 1 (arrives 1 (messageOf (result late w₀ x₁)) (pos 56384))
+x₃ = call w₂ 1 (arrives 1 noCounter (messageOf (result late w₀ x₁)) (pos 56384))
 
 unfoldable pub w₃ : World
 w₃ = step late w₂ x₃
 
 -- and answers
 unfoldable pub x₄ : Step
-x₄ = call w₃ 1 (sends 1 (replicate 40 0) (pos 56384))
+x₄ = call w₃ 1 (sends 1 noCounter (replicate 40 0) (pos 56384))
 
 unfoldable pub w₄ : World
 w₄ = step late w₃ x₄
 
 -- 32,768 ms pass at seat 0
 abbrev pub wait : List Step
-wait = replicate 33 (early ticks)
+wait = replicate 33 (early (ticks noCount))
 
 unfoldable pub w₅ : World
 w₅ = history late w₄ wait
 
 -- the answer arrives there, 16,384 ms after it was sent, and once more
 unfoldable pub x₆ : Step
-x₆ = early (arrives 1 (messageOf (result late w₃ x₄)) (pos 72768))
+x₆ = early (arrives 1 noCounter (messageOf (result late w₃ x₄)) (pos 72768))
 
 unfoldable pub x₇ : World → Step
-x₇ w = call w 0 (arrives 1 (messageOf (result late w₃ x₄)) (pos 72768))
+x₇ w = call w 0 (arrives 1 noCounter (messageOf (result late w₃ x₄)) (pos 72768))
 
 abbrev pub story : List Step
 story = x₁ ∷ x₂ ∷ x₃ ∷ x₄ ∷ (wait ++ x₆ ∷ x₇ (step late w₅ x₆) ∷ [])

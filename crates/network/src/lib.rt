@@ -7,6 +7,7 @@ ghost use Rattle.network.specs.Locality.{Locality};
 ghost use Rattle.network.specs.Range.{Range};
 ghost use Rattle.network.specs.Isolation.{Isolation, IsolationFromAfresh, Alone};
 ghost use Rattle.network.specs.Pair.{Pair};
+ghost use Rattle.network.specs.LineCalls.{LineCalls};
 ghost use Rattle.network.specs.HalfDelay.{HelloHalfDelay};
 ghost use Rattle.network.specs.Demand3.{Demand3};
 ghost use Rattle.network.specs.SharedRun.{SharedDemand3};
@@ -18,7 +19,7 @@ pub fn answers()
     ensures { λ _. ⌜ Answers ⌝ }
 {}
 
-// A refusal changes nothing, but for 10 and 11 at an arrival, which change its link alone.
+// A refusal changes nothing, but for 10 and 11 at an arrival, which change its link and keep what the reading did.
 pub fn refusals()
     ensures { λ _. ⌜ Refusals ⌝ }
 {}
@@ -61,6 +62,11 @@ pub fn alone()
 // The arrival in one piece is the inspection and then the action, whatever comes between them, and so is the action alone.
 pub fn inspect_then_act()
     ensures { λ _. ⌜ Pair ⌝ }
+{}
+
+// A call that is handed no count is the line clock's call of document 01, and keeps CLOCK within its day.
+pub fn line_calls()
+    ensures { λ _. ⌜ LineCalls ⌝ }
 {}
 
 // The half-delay law of step 3: DELAY is the sum of the two ways, and twice the error of OFFSET is at most DELAY plus one.

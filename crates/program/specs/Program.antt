@@ -7,6 +7,7 @@ use Rattle.quantity.specs.Quantity.{units, millis, seconds}
 use Rattle.calendar.specs.Date.{firstDate}
 use Rattle.answer.specs.Answer.{number}
 use Rattle.clock.specs.Clock.{freshClock}
+use Rattle.clock.specs.LineClock.{noCounter}
 use Rattle.route.specs.Find.{zeroNet}
 use Rattle.table.specs.Entry.{freshEntry}
 use Rattle.host.specs.declared.Settings.{Settings}
@@ -42,9 +43,9 @@ programHost =
 abbrev pub programLent : Lent
 programLent = lent programSettings 0 (programHost .clock) (programHost .links) (programHost .run)
 
--- the number of its answer to a packet on link 1, which is inspected and then acted on
+-- the number of its answer to a packet on link 1, which is inspected and then acted on; its clock is a line clock
 unfoldable pub programAnswer : (packet : List ℕ) → ℕ
-programAnswer octets = number (inTurn 1 octets programLent .reply .answer)
+programAnswer octets = number (inTurn 1 noCounter octets programLent .reply .answer)
 
 -- what it tells of a packet on link 1 that it only looks at
 unfoldable pub programInspection : (packet : List ℕ) → Reply

@@ -13,6 +13,7 @@ use arrival::Delivery;
 use calendar::Date;
 use calls::Request;
 use clock::Clock;
+use clock::Counter;
 use host::LinkSetting;
 use host::Links;
 use quantity::Millis;
@@ -90,9 +91,10 @@ pub fn take(
     links: Links,
     run: [Entry; 255],
     link: usize,
+    counter: Counter,
     packet: &[u8],
 ) -> Whole
-    ensures { λ r. ⌜ r ≡ wholeOf (inTurn link (now (packet .entry)) (lent settings number clock links run)) ⌝ }
+    ensures { λ r. ⌜ r ≡ wholeOf (inTurn link counter (now (packet .entry)) (lent settings number clock links run)) ⌝ }
 {
     let looked = deliver(
         settings,
@@ -115,7 +117,7 @@ pub fn take(
         looked.clock,
         looked.links,
         entries,
-        Delivery::Act(link),
+        Delivery::Act(link, counter),
         packet,
     )
 }
@@ -188,7 +190,7 @@ pub fn answer(packet: &[u8]) -> u8
     let s = settings();
     let h = fresh_host();
     let run = h.run;
-    let taken = take(s, 0, h.clock, h.links, run, 1, packet);
+    let taken = take(s, 0, h.clock, h.links, run, 1, Counter::zero(), packet);
     let r = taken.reply;
     let a = r.answer;
     answer::number(a)

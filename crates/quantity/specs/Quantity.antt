@@ -6,6 +6,7 @@ use lib.IntN.{ℤ, pos, _+ℤ_, _-ℤ_, _*ℤ_}
 use lib.Signed.{ltZ, shrZ}
 use Rattle.quantity.specs.declared.Units.{Units}
 use Rattle.quantity.specs.declared.Millis.{Millis}
+use Rattle.quantity.specs.declared.Count.{Count}
 use Rattle.quantity.specs.declared.Seconds.{Seconds}
 
 -- ---- clock units
@@ -44,6 +45,10 @@ halfMillis a = millis (shrZ (a .0) 2)
 abbrev pub lessMillis : Millis → Millis → Bool
 lessMillis a b = ltZ (a .0) (b .0)
 
+-- "a 16-bit count of milliseconds", as a counter shows it
+abbrev pub counts : ℕ → Count
+counts n = record { 0 = n }
+
 -- ---- seconds
 
 abbrev pub seconds : ℕ → Seconds
@@ -61,6 +66,12 @@ unitsPerMilli = 65536
 
 abbrev pub toUnits : Millis → Units
 toUnits m = units (m .0 *ℤ pos unitsPerMilli)
+
+abbrev pub countMillis : Count → Millis
+countMillis n = millis (pos (n .0))
+
+abbrev pub countUnits : Count → Units
+countUnits n = toUnits (countMillis n)
 
 -- the whole milliseconds of a number of units, rounded down
 abbrev pub wholeMillis : Units → Millis

@@ -20,6 +20,7 @@ ghost use Rattle.quantity.specs.Quantity.{
   fallSeconds,
   unitsPerMilli,
   toUnits,
+  countMillis,
   wholeMillis,
 };
 ghost use Rattle.quantity.specs.Words.{toWord, ofWord, zeroWord, bits16, signed16, word};
@@ -31,6 +32,10 @@ pub struct Units(pub i64);
 // Milliseconds.
 #[repr(C)]
 pub struct Millis(pub i64);
+
+// A count of milliseconds of 16 bits: what the 1000 Hz counter of a crystal clock shows.
+#[repr(C)]
+pub struct Count(pub u16);
 
 // Seconds.
 #[repr(C)]
@@ -117,6 +122,13 @@ impl Millis {
         ensures { λ r. ⌜ r ≡ millis n ⌝ }
     {
         Millis(n as i64)
+    }
+
+    // A counter's count.
+    pub fn of_counter(n: Count) -> Millis
+        ensures { λ r. ⌜ r ≡ countMillis n ⌝ }
+    {
+        Millis(n.0 as i64)
     }
 
     // An unsigned count of milliseconds, as a packet has it.

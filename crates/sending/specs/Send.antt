@@ -10,8 +10,8 @@ use Rattle.quantity.specs.Quantity.{millis}
 use Rattle.quantity.specs.Words.{word}
 use Rattle.answer.specs.declared.Answer.{Answer}
 use Rattle.answer.specs.declared.Answer.the-variants.{ShortBuffer}
+use Rattle.clock.specs.declared.Counter.{Counter}
 use Rattle.clock.specs.declared.Reading.{Reading}
-use Rattle.clock.specs.Clock.{reading}
 use Rattle.wire.specs.declared.Packet.{Packet}
 use Rattle.wire.specs.Octets.{zeroAddress}
 use Rattle.wire.specs.Packet.{packetLength, message}
@@ -20,7 +20,7 @@ use Rattle.table.specs.Entry.{advertised}
 use Rattle.host.specs.declared.Settings.{Settings}
 use Rattle.host.specs.declared.Link.{Link}
 use Rattle.host.specs.State.{hostCount, linkOf, withLink}
-use Rattle.host.specs.Lent.{Host}
+use Rattle.host.specs.Lent.{Host, ourReading}
 use Rattle.host.specs.Reply.{plainly, tellsLength}
 use Rattle.sending.specs.declared.Sending.{Sending}
 use Rattle.sending.specs.Message.{tableGoes, linkSent, packetSent}
@@ -54,9 +54,8 @@ unsent a h =
     }
 
 -- "destination NEIGHBOR-ADDRESS"; a report of each id goes out, or of none
-abbrev pub sends : (link : ℕ) → Host → Sending
-sends i h =
-    let r : Reading = reading (h .clock) in
+abbrev pub sentAt : Reading → (link : ℕ) → Host → Sending
+sentAt r i h =
     let x : Link = linkOf (h .links) i in
     let n : ℕ = reportCount (h .settings) x in
     record {
@@ -69,10 +68,14 @@ sends i h =
       packet = packetSent (h .settings) x (r .time) (r .clock .date) n;
     }
 
--- 2, "send buffer shorter than the message"
-abbrev pub sendIn : (link room : ℕ) → Host → Sending
-sendIn i room h =
-    cond (ltb room (packetLength (reportCount (h .settings) (linkOf (h .links) i)))) (unsent ShortBuffer h) (sends i h)
+-- "sends .. read once, before DATE or HOLD is used"
+abbrev pub sends : (link : ℕ) → Counter → Host → Sending
+sends i k h = sentAt (ourReading k h) i h
+
+-- 2, "send buffer shorter than the message"; it doesn't read
+abbrev pub sendIn : (link : ℕ) → Counter → (room : ℕ) → Host → Sending
+sendIn i k room h =
+    cond (ltb room (packetLength (reportCount (h .settings) (linkOf (h .links) i)))) (unsent ShortBuffer h) (sends i k h)
 
 -- the message in front; "octets beyond the message stay"
 abbrev pub written : Sending → List Entry → (buffer : List ℕ) → List ℕ

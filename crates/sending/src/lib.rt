@@ -5,6 +5,7 @@ ghost use Prim.Native.Nat.{_≤_};
 ghost use Rattle.clock.specs.Midnight.{dayMillis};
 ghost use Rattle.table.specs.Entry.{upTo};
 ghost use Rattle.clock.specs.Clock.{clockInRange};
+ghost use Rattle.host.specs.Settings.{settingsGood};
 ghost use Rattle.host.specs.declared.guard.Scope.the-variants.{OnLink};
 ghost use Rattle.host.specs.Lent.{host};
 ghost use Rattle.host.specs.code.Told.{Told};
@@ -14,6 +15,7 @@ ghost use Rattle.sending.specs.code.Finish.{planned, Finishable, finishe
 use answer::Answer;
 use calendar::Date;
 use clock::Clock;
+use clock::Counter;
 use host::Link;
 use host::Links;
 use host::Reply;
@@ -133,12 +135,12 @@ fn packet_sent(s: Settings, x: Link, time: Millis, date: Date, count: u8) -> Pac
     }
 }
 
-fn sends(s: Settings, c: Clock, l: Links, link: usize) -> Sending
+fn sends(s: Settings, c: Clock, l: Links, link: usize, k: Counter) -> Sending
     requires { ⌜ (1 ≤ link) × (link ≤ 8) ⌝ }
-    requires { ⌜ clockInRange c ≡ true ⌝ }
-    ensures { λ p. ⌜ p ≡ sends link (host s c l) ⌝ }
+    requires { ⌜ (settingsGood s ≡ true) × (clockInRange c ≡ true) ⌝ }
+    ensures { λ p. ⌜ p ≡ sends link k (host s c l) ⌝ }
 {
-    let r = c.reading();
+    let r = host::our_reading(s, c, k);
     let x = link_of(l, link);
     let count = report_count(s, x);
     let end = count as usize;
@@ -163,26 +165,34 @@ fn sends(s: Settings, c: Clock, l: Links, link: usize) -> Sending
 }
 
 // A send into a buffer of so many octets.
-fn send_in(s: Settings, c: Clock, l: Links, link: usize, room: usize) -> Sending
+fn send_in(s: Settings, c: Clock, l: Links, link: usize, k: Counter, room: usize) -> Sending
     requires { ⌜ (1 ≤ link) × (link ≤ 8) ⌝ }
-    requires { ⌜ clockInRange c ≡ true ⌝ }
-    ensures { λ p. ⌜ p ≡ sendIn link room (host s c l) ⌝ }
+    requires { ⌜ (settingsGood s ≡ true) × (clockInRange c ≡ true) ⌝ }
+    ensures { λ p. ⌜ p ≡ sendIn link k room (host s c l) ⌝ }
 {
     if room < wire::length(report_count(s, link_of(l, link))) {
         return unsent(Answer::ShortBuffer, s, c, l);
     }
-    sends(s, c, l, link)
+    sends(s, c, l, link, k)
 }
 
 // A refusal of the guard's, or the send.
-pub fn plan(g: Answer, s: Settings, c: Clock, l: Links, link: usize, room: usize) -> Sending
+pub fn plan(
+    g: Answer,
+    s: Settings,
+    c: Clock,
+    l: Links,
+    link: usize,
+    k: Counter,
+    room: usize,
+) -> Sending
     requires { ⌜ Told g (OnLink link) s c ⌝ }
-    ensures { λ p. ⌜ p ≡ planned g link room (host s c l) ⌝ }
+    ensures { λ p. ⌜ p ≡ planned g link k room (host s c l) ⌝ }
 {
     if !answer::is_done(g) {
         return unsent(g, s, c, l);
     }
-    send_in(s, c, l, link, room)
+    send_in(s, c, l, link, k, room)
 }
 
 // The message completed around its reports, if one is sent.

@@ -1,7 +1,9 @@
 pub mod Delivers
 pub mod ExportAsks
 pub mod ExportAsksWith
+pub mod ExportAsksWithTwo
 pub mod ExportDelivers
+pub mod ExportDeliversWith
 pub mod ExportSends
 pub mod Guards
 pub mod Performs

@@ -8,6 +8,7 @@ use Rattle.quantity.specs.Words.{word}
 use Rattle.calendar.specs.Date.{firstDate}
 use Rattle.clock.specs.declared.Clock.{Clock}
 use Rattle.clock.specs.Clock.{freshClock}
+use Rattle.clock.specs.LineClock.{noCounter}
 use Rattle.table.specs.declared.Entry.{Entry}
 use Rattle.table.specs.Entry.{freshEntry}
 use Rattle.host.specs.declared.Settings.{Settings}
@@ -42,23 +43,23 @@ linksA = withLink 1 record { neighbor = hostAt 2; «keep_alive» = 0; tsp = word
 
 -- B reports itself
 abbrev pub runB : List Entry
-runB = perform (ask SelfReport) (lentAt 1 40500 (freshLinks (settingsOf 1)) freshRun) .run
+runB = perform (ask (SelfReport noCounter)) (lentAt 1 40500 (freshLinks (settingsOf 1)) freshRun) .run
 
 -- "A sends at 40,000"
 unfoldable pub aSends : Outcome
-aSends = perform (send 1 room) (lentAt 0 40000 linksA freshRun)
+aSends = perform (send 1 noCounter room) (lentAt 0 40000 linksA freshRun)
 
 -- "B, 500 ahead, gets it at 40,530"
 unfoldable pub bGets : Outcome
-bGets = perform (receive 1 (aSends .buffer)) (lentAt 1 40530 (freshLinks (settingsOf 1)) runB)
+bGets = perform (receive 1 noCounter (aSends .buffer)) (lentAt 1 40530 (freshLinks (settingsOf 1)) runB)
 
 -- "and answers at 45,530"
 unfoldable pub bAnswers : Outcome
-bAnswers = perform (send 1 room) (lentAt 1 45530 (bGets .links) (bGets .run))
+bAnswers = perform (send 1 noCounter room) (lentAt 1 45530 (bGets .links) (bGets .run))
 
 -- "A gets it at 45,081"
 unfoldable pub aGets : Outcome
-aGets = perform (receive 1 (bAnswers .buffer)) (lentAt 0 45081 (aSends .links) (aSends .run))
+aGets = perform (receive 1 noCounter (bAnswers .buffer)) (lentAt 0 45081 (aSends .links) (aSends .run))
 
 -- what A then has of B
 unfoldable pub learnt : Entry

@@ -10,6 +10,7 @@ use Rattle.calendar.specs.Date.{next, await, firstDate}
 use Rattle.answer.specs.declared.Answer.the-variants.{Done}
 use Rattle.clock.specs.declared.Clock.{Clock}
 use Rattle.clock.specs.Midnight.{day, midnight}
+use Rattle.clock.specs.LineClock.{noCount}
 use Rattle.wire.specs.Octets.{zeroAddress, twoAt}
 use Rattle.wire.specs.Hello.{hello}
 use Rattle.wire.specs.Packet.{fields}
@@ -82,8 +83,8 @@ pub record Sums : Type 0 where
   pub exchange-raised : learnt .delay ≡ millis (pos 100)
   pub exchange-offset : learnt .offset ≡ word (pos 489)
   -- P 86,400,000 stays
-  pub midnight-stays : midnight (seconds 1) (clockOf (day .0)) ≡ clockOf (day .0)
+  pub midnight-stays : midnight (seconds 1) noCount (clockOf (day .0)) ≡ clockOf (day .0)
   -- P one unit more leaves 1 unit on the next day
   pub midnight-passes :
-      midnight (seconds 1) (clockOf (day .0 +ℤ pos 1))
+      midnight (seconds 1) noCount (clockOf (day .0 +ℤ pos 1))
       ≡ record { clock = units (pos 1); delta = units (pos 0); hold = seconds 1; date = await (date 1088) }

@@ -6,6 +6,7 @@ use lib.Dec.{eqb}
 use Rattle.lists.proofs.Tests.{either, both}
 use Rattle.quantity.specs.declared.Millis.{Millis}
 use Rattle.quantity.specs.declared.Seconds.{Seconds}
+use Rattle.quantity.specs.declared.Count.{Count}
 use Rattle.quantity.specs.Quantity.{addMillis, lessMillis, fallSeconds}
 use Rattle.calendar.specs.declared.Date.{Date}
 use Rattle.clock.specs.declared.Clock.{Clock}
@@ -38,16 +39,16 @@ pub self-keeps : (P : Entry → Type 0) (reading : Millis) (e : Entry) → P e �
 unfolding selfReported
 self-keeps P reading e stays down stores = lines-keep P (ownUpdate reading) e stays down (λ _. stores)
 
-settled-entry : (clockHost : Bool) (h : Seconds) (date : Date) (u : Update) (c : Clock) (x : Stage Entry)
-    → settled clockHost h date u c x .entry ≡ left x
-settled-entry clockHost h date u c (on e) = refl
-settled-entry clockHost h date u c (end e) = refl
+settled-entry : (clockHost : Bool) (h : Seconds) (n : Count) (date : Date) (u : Update) (c : Clock) (x : Stage Entry)
+    → settled clockHost h n date u c x .entry ≡ left x
+settled-entry clockHost h n date u c (on e) = refl
+settled-entry clockHost h n date u c (end e) = refl
 
-pub update-keeps : (P : Entry → Type 0) (clockHost : Bool) (h : Seconds) (date : Date) (u : Update) (c : Clock) (e : Entry)
-    → P e → P (takenDown e) → (lessMillis (u .delay) maxDelay ≡ true → P (stored u)) → P (update clockHost h date u c e .entry)
+pub update-keeps : (P : Entry → Type 0) (clockHost : Bool) (h : Seconds) (n : Count) (date : Date) (u : Update) (c : Clock) (e : Entry)
+    → P e → P (takenDown e) → (lessMillis (u .delay) maxDelay ≡ true → P (stored u)) → P (update clockHost h n date u c e .entry)
 unfolding update
-update-keeps P clockHost h date u c e stays down stores =
-    subst P (sym (settled-entry clockHost h date u c (lines u e))) (lines-keep P u e stays down stores)
+update-keeps P clockHost h n date u c e stays down stores =
+    subst P (sym (settled-entry clockHost h n date u c (lines u e))) (lines-keep P u e stays down stores)
 
 pub aged-keeps : (P : Entry → Type 0) (e : Entry) → P e → P (takenDown e) → P (withTtl (fallSeconds (e .ttl)) e) → P (aged e)
 unfolding aged
@@ -56,12 +57,12 @@ aged-keeps P e stays down falls =
     (λ t. either P (eqb (fallSeconds (e .ttl) .0) 0 && up e) _ _ (λ v. down) (λ v. falls))
 
 -- the clock is left, or set by line (d)
-settled-clock : (P : Clock → Type 0) (clockHost : Bool) (h : Seconds) (date : Date) (u : Update) (c : Clock) (x : Stage Entry)
-    → P c → P (lineD h date (u .offset) c) → P (settled clockHost h date u c x .clock)
-settled-clock P clockHost h date u c (on e) stays set = either P clockHost _ _ (λ t. set) (λ t. stays)
-settled-clock P clockHost h date u c (end e) stays set = stays
+settled-clock : (P : Clock → Type 0) (clockHost : Bool) (h : Seconds) (n : Count) (date : Date) (u : Update) (c : Clock) (x : Stage Entry)
+    → P c → P (lineD h n date (u .offset) c) → P (settled clockHost h n date u c x .clock)
+settled-clock P clockHost h n date u c (on e) stays set = either P clockHost _ _ (λ t. set) (λ t. stays)
+settled-clock P clockHost h n date u c (end e) stays set = stays
 
-pub clock-keeps : (P : Clock → Type 0) (clockHost : Bool) (h : Seconds) (date : Date) (u : Update) (c : Clock) (e : Entry)
-    → P c → P (lineD h date (u .offset) c) → P (update clockHost h date u c e .clock)
+pub clock-keeps : (P : Clock → Type 0) (clockHost : Bool) (h : Seconds) (n : Count) (date : Date) (u : Update) (c : Clock) (e : Entry)
+    → P c → P (lineD h n date (u .offset) c) → P (update clockHost h n date u c e .clock)
 unfolding update
-clock-keeps P clockHost h date u c e stays set = settled-clock P clockHost h date u c (lines u e) stays set
+clock-keeps P clockHost h n date u c e stays set = settled-clock P clockHost h n date u c (lines u e) stays set

@@ -2,10 +2,11 @@
 -- The clock does too: a date that is taken is real, and a set keeps its ranges.
 use mathlib.Core.Path.{_≡_, refl}
 use mathlib.Core.Bool.{Bool, true, not, _&&_}
-use Prim.Native.Nat.{_≤_}
+use Prim.Native.Nat.{_≤_, _<_, _^_}
 use native.Mathlib.Omega.{arith}
 use Rattle.quantity.specs.declared.Millis.{Millis}
 use Rattle.quantity.specs.declared.Seconds.{Seconds}
+use Rattle.quantity.specs.declared.Count.{Count}
 use Rattle.quantity.specs.Quantity.{lessMillis}
 use Rattle.quantity.specs.Words.{ofWord}
 use Rattle.quantity.proofs.Ints.{dn, lt-yes}
@@ -49,12 +50,12 @@ module _ (u : Update) (delay : dn (u .delay .0) ≤ 0) (pid : u .pid ≤ 8) (rea
       let r = range-says e h in
       in-range (left (lines u e)) (lines-keep Ranged u e r (down-ranged e r) stored-ranged)
 
-  pub update-in-range : (clockHost : Bool) (h : Seconds) (date : Date) (c : Clock) (e : Entry) → entryInRange e ≡ true
-      → entryInRange (update clockHost h date u c e .entry) ≡ true
-  update-in-range clockHost h date c e i =
+  pub update-in-range : (clockHost : Bool) (h : Seconds) (n : Count) (date : Date) (c : Clock) (e : Entry) → entryInRange e ≡ true
+      → entryInRange (update clockHost h n date u c e .entry) ≡ true
+  update-in-range clockHost h n date c e i =
       let r = range-says e i in
-      in-range (update clockHost h date u c e .entry)
-      (update-keeps Ranged clockHost h date u c e r (down-ranged e r) stored-ranged)
+      in-range (update clockHost h n date u c e .entry)
+      (update-keeps Ranged clockHost h n date u c e r (down-ranged e r) stored-ranged)
 
 pub self-in-range : (reading : Millis) → upTo dayMillis reading ≡ true → (e : Entry) → entryInRange e ≡ true
     → entryInRange (selfReported reading e) ≡ true
@@ -77,9 +78,9 @@ date-in-range date c i =
     })
     (λ t. i)
 
-pub clock-in-range : (clockHost : Bool) (h : Seconds) → h .0 ≤ 255 → (date : Date) (u : Update) (c : Clock) (e : Entry)
-    → clockInRange c ≡ true → clockInRange (update clockHost h date u c e .clock) ≡ true
+pub clock-in-range : (clockHost : Bool) (h : Seconds) → h .0 ≤ 255 → (n : Count) → n .0 < 2 ^ 16 → (date : Date) (u : Update) (c : Clock) (e : Entry)
+    → clockInRange c ≡ true → clockInRange (update clockHost h n date u c e .clock) ≡ true
 unfolding lineD
-clock-in-range clockHost h small date u c e i =
-    clock-keeps (λ (x : Clock). clockInRange x ≡ true) clockHost h date u c e i
-    (set-in-range h small (dateTaken date c) (date-in-range date c i) (ofWord (u .offset)))
+clock-in-range clockHost h small n few date u c e i =
+    clock-keeps (λ (x : Clock). clockInRange x ≡ true) clockHost h n date u c e i
+    (set-in-range h small (dateTaken date c) (date-in-range date c i) n few (ofWord (u .offset)))

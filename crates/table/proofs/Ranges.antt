@@ -10,13 +10,16 @@ use lib.IntN.{ℤ, pos, _+ℤ_}
 use lib.Signed.{ltZ}
 use mir.Syntax.{w64}
 use mir.Val.{SFits}
-use Rattle.quantity.specs.Quantity.{unitsPerMilli, millis, wholeMillis}
-use Rattle.quantity.proofs.Ints.{Within, floor, lt-no, not-lt, of-≤ℤ, of-<ℤ, sum, fits}
+use Rattle.quantity.specs.declared.Units.{Units}
+use Rattle.quantity.specs.declared.Seconds.{Seconds}
+use Rattle.quantity.specs.Quantity.{millis}
+use Rattle.quantity.proofs.Ints.{Within, lt-no, not-lt, of-≤ℤ, of-<ℤ, sum, fits}
 use Rattle.lists.proofs.Tests.{both, each}
 use Rattle.clock.specs.declared.Clock.{Clock}
+use Rattle.clock.specs.declared.Counter.{Counter}
 use Rattle.clock.specs.Midnight.{dayMillis}
-use Rattle.clock.specs.Clock.{reading, clockInRange}
-use Rattle.clock.proofs.Bounds as clock
+use Rattle.clock.specs.Clock.{reading}
+use Rattle.clock.proofs.Readings.{crystal-holds}
 use Rattle.wire.specs.declared.Report.{Report}
 use Rattle.wire.specs.code.Ranges.{Two}
 use Rattle.table.specs.declared.Entry.{Entry}
@@ -78,10 +81,9 @@ module _ (u : Update) (r : Report) (own : upTo ownMost (u .delay) ≡ true) (rep
   pub sum-in-range : delayInRange (plusReport u r) ≡ true
   sum-in-range = up-to 98302 (u .delay .0 +ℤ r .delay .0) within-sum
 
--- our reading of a clock in range
-pub reading-in : (c : Clock) → clockInRange c ≡ true → upTo dayMillis (reading c .time) ≡ true
-unfolding reading
-reading-in c e =
-    let k = clock.range-says c e in
-    let whole = floor (c .clock .0) unitsPerMilli (omega arith) in
-    up-to 86400000 (wholeMillis (c .clock) .0) (omega arith)
+-- our reading of a clock
+pub reading-in : (t : Units) (h : Seconds) (k : Counter) (c : Clock) → upTo dayMillis (reading t h k c .time) ≡ true
+reading-in t h k c =
+    let low = of-≤ℤ (crystal-holds .from-0 t h k c) in
+    let high = of-≤ℤ (crystal-holds .to-day t h k c) in
+    up-to 86400000 (reading t h k c .time .0) (omega (arith, low, high))

@@ -4,6 +4,7 @@ use mathlib.Core.Bool.{Bool, true, false}
 use native.Mathlib.Omega.{arith}
 use Prim.Native.Nat.{ℕ}
 use Rattle.quantity.specs.declared.Seconds.{Seconds}
+use Rattle.quantity.specs.declared.Count.{Count}
 use Rattle.calendar.specs.declared.Date.{Date}
 use Rattle.clock.specs.declared.Clock.{Clock}
 use Rattle.table.specs.declared.Entry.{Entry}
@@ -41,17 +42,17 @@ pub left-end : (s : Stage Entry) (x : Entry) → End x ≡ lineOf s → x ≡ le
 left-end s x q = rw (ends s x q)
 
 -- what an update leaves, by how its lines come out and whether the id is the clock host's
-module _ (h : Seconds) (date : Date) (u : Update) (c : Clock) (e x : Entry) where
-  pub ended : (clockHost : Bool) → End x ≡ lineOf (lines u e) → record { clock = c; entry = x } ≡ update clockHost h date u c e
+module _ (h : Seconds) (n : Count) (date : Date) (u : Update) (c : Clock) (e x : Entry) where
+  pub ended : (clockHost : Bool) → End x ≡ lineOf (lines u e) → record { clock = c; entry = x } ≡ update clockHost h n date u c e
   unfolding update
   ended clockHost q = rw (ends (lines u e) x q)
 
   pub stored-unset : (clockHost : Bool) → clockHost ≡ false → On x ≡ lineOf (lines u e)
-      → record { clock = c; entry = x } ≡ update clockHost h date u c e
+      → record { clock = c; entry = x } ≡ update clockHost h n date u c e
   unfolding update
   stored-unset clockHost off q = rw (goes-on (lines u e) x q, off)
 
-  pub stored-set : (clockHost : Bool) (d : Clock) → clockHost ≡ true → d ≡ lineD h date (u .offset) c → On x ≡ lineOf (lines u e)
-      → record { clock = d; entry = x } ≡ update clockHost h date u c e
+  pub stored-set : (clockHost : Bool) (d : Clock) → clockHost ≡ true → d ≡ lineD h n date (u .offset) c → On x ≡ lineOf (lines u e)
+      → record { clock = d; entry = x } ≡ update clockHost h n date u c e
   unfolding update
   stored-set clockHost d own set q = rw (goes-on (lines u e) x q, own, set)

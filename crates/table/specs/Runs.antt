@@ -35,7 +35,7 @@ updateAt w id packet = cond (w .table) (plusReport (w .update) (reportAt (helloO
 
 abbrev pub updatedAt : Updates → (packet : List ℕ) → (place : ℕ) → Clock → Entry → Updated
 updatedAt w packet i c e =
-    update (eqb (i - w .base) (w .«clock_host»)) (w .«hold_interval») (w .date) (updateAt w (i - w .base) packet) c e
+    update (eqb (i - w .base) (w .«clock_host»)) (w .«hold_interval») (w .count) (w .date) (updateAt w (i - w .base) packet) c e
 
 -- the clock, and the whole run
 unfoldable pub updates : Updates → (packet : List ℕ) → List Entry → Swept

@@ -5,6 +5,7 @@ use lib.Dec.{eqb}
 use lib.IntN.{pos}
 use Rattle.quantity.specs.declared.Millis.{Millis}
 use Rattle.quantity.specs.declared.Seconds.{Seconds}
+use Rattle.quantity.specs.declared.Count.{Count}
 use Rattle.quantity.specs.Quantity.{millis, addMillis, lessMillis}
 use Rattle.quantity.specs.declared.Word.{Word}
 use Rattle.quantity.specs.Words.{word, toWord, ofWord}
@@ -73,17 +74,18 @@ dateTaken date c =
     cond (real date && not (awaited date))
     record { clock = c .clock; delta = c .delta; hold = c .hold; date = date } c
 
-unfoldable pub lineD : (holdInterval : Seconds) → Date → Word → Clock → Clock
-lineD h date offset c = setBy h (ofWord offset) (dateTaken date c)
+-- "an arrival's Set takes that count": the one of its reading
+unfoldable pub lineD : (holdInterval : Seconds) → Count → Date → Word → Clock → Clock
+lineD h n date offset c = setBy h n (ofWord offset) (dateTaken date c)
 
 -- What is left: the entry, and the clock, which line (d) sets for the clock host where (c) stored.
-abbrev pub settled : (clockHost : Bool) → Seconds → Date → Update → Clock → Stage Entry → Updated
-settled clockHost h date u c (on e) = record { clock = cond clockHost (lineD h date (u .offset) c) c; entry = e }
-settled clockHost h date u c (end e) = record { clock = c; entry = e }
+abbrev pub settled : (clockHost : Bool) → Seconds → Count → Date → Update → Clock → Stage Entry → Updated
+settled clockHost h n date u c (on e) = record { clock = cond clockHost (lineD h n date (u .offset) c) c; entry = e }
+settled clockHost h n date u c (end e) = record { clock = c; entry = e }
 
 -- one entry updated by an arrival
-unfoldable pub update : (clockHost : Bool) → Seconds → Date → Update → Clock → Entry → Updated
-update clockHost h date u c e = settled clockHost h date u c (lines u e)
+unfoldable pub update : (clockHost : Bool) → Seconds → Count → Date → Update → Clock → Entry → Updated
+update clockHost h n date u c e = settled clockHost h n date u c (lines u e)
 
 -- Self-report: "PID 0, DELAY 0, OFFSET 0, without (d)"
 abbrev pub ownUpdate : (reading : Millis) → Update

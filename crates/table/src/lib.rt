@@ -7,6 +7,7 @@ ghost use Rattle.table.specs.Update.{lineOf, delayInRange, lineA, lineB,
 ghost use Rattle.table.specs.Switching.{Switching};
 use calendar::Date;
 use clock::Clock;
+use quantity::Count;
 use quantity::Millis;
 use quantity::Seconds;
 use quantity::Word;
@@ -250,17 +251,18 @@ fn date_taken(date: Date, c: Clock) -> Clock
 }
 
 // Line (d), for the clock host: the packet's date is taken, and the clock is set by OFFSET.
-fn line_d(hold_interval: Seconds, date: Date, offset: Word, c: Clock) -> Clock
+fn line_d(hold_interval: Seconds, n: Count, date: Date, offset: Word, c: Clock) -> Clock
     requires { ⌜ clockInRange c ≡ true ⌝ }
-    ensures { λ r. ⌜ r ≡ lineD «hold_interval» date offset c ⌝ }
+    ensures { λ r. ⌜ r ≡ lineD «hold_interval» n date offset c ⌝ }
 {
-    date_taken(date, c).set_by(hold_interval, Millis::of_word(offset))
+    date_taken(date, c).set_by(hold_interval, n, Millis::of_word(offset))
 }
 
 // One entry updated by an arrival, and the clock. Only the entry of the clock host can set the clock.
 pub fn update_entry(
     clock_host: bool,
     hold_interval: Seconds,
+    n: Count,
     date: Date,
     u: Update,
     c: Clock,
@@ -268,14 +270,14 @@ pub fn update_entry(
 ) -> Updated
     requires { ⌜ delayInRange u ≡ true ⌝ }
     requires { ⌜ clockInRange c ≡ true ⌝ }
-    ensures { λ r. ⌜ r ≡ update «clock_host» «hold_interval» date u c e ⌝ }
+    ensures { λ r. ⌜ r ≡ update «clock_host» «hold_interval» n date u c e ⌝ }
 {
     match lines(u, e) {
         Line::End(x) => Updated { clock: c, entry: x },
         Line::On(x) => {
             if clock_host {
                 let by = u.offset;
-                let d = line_d(hold_interval, date, by, c);
+                let d = line_d(hold_interval, n, date, by, c);
                 return Updated { clock: d, entry: x };
             }
             Updated { clock: c, entry: x }

@@ -13,6 +13,7 @@ use super::Update;
 use super::Updated;
 use calendar::Date;
 use clock::Clock;
+use quantity::Count;
 use quantity::Millis;
 use quantity::Seconds;
 use quantity::Word;
@@ -45,7 +46,7 @@ pub struct Changes {
     pub change: Change,
 }
 
-// An arrival's updates, from the clock on: `base` is the place of id 0, and `update` what the neighbor itself is updated with, to which a packet's table adds its reports.
+// An arrival's updates, from the clock on: `base` is the place of id 0, `count` that of the reading, and `update` what the neighbor itself is updated with, to which a packet's table adds its reports.
 pub struct Updates {
     pub first: usize,
     pub end: usize,
@@ -53,6 +54,7 @@ pub struct Updates {
     pub base: usize,
     pub clock_host: u8,
     pub hold_interval: Seconds,
+    pub count: Count,
     pub date: Date,
     pub update: Update,
     pub table: bool,
@@ -172,8 +174,17 @@ fn updated(c: Clock, e: Entry, i: usize, w: Updates, packet: &[u8]) -> Updated
     let id = i - w.base;
     let u = update_at(w, id, packet);
     let hold_interval = w.hold_interval;
+    let count = w.count;
     let date = w.date;
-    super::update_entry(id == w.clock_host as usize, hold_interval, date, u, c, e)
+    super::update_entry(
+        id == w.clock_host as usize,
+        hold_interval,
+        count,
+        date,
+        u,
+        c,
+        e,
+    )
 }
 
 pub fn update_all(run: &mut [Entry], w: Updates, packet: &[u8]) -> Clock

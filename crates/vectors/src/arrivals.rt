@@ -4,6 +4,7 @@ use super::show;
 use answer::Answer;
 use calendar::Date;
 use clock::Clock;
+use clock::Counter;
 use host::Link;
 use program::Whole;
 use quantity::Millis;
@@ -63,7 +64,7 @@ fn arrival(host: Address, neighbor: Address, c: Clock, e: Entry, octets: &[u8]) 
         tsp: Word(0),
     };
     let links = host::link_state::with_link(host::link_state::fresh(s), 1, link);
-    program::take(s, 0, c, links, [e; 255], 1, octets)
+    program::take(s, 0, c, links, [e; 255], 1, Counter::zero(), octets)
 }
 
 // The entry of an id.

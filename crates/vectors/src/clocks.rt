@@ -2,6 +2,8 @@
 use super::show;
 use calendar::Date;
 use clock::Clock;
+use clock::Counter;
+use quantity::Count;
 use quantity::Millis;
 use quantity::Seconds;
 use quantity::Units;
@@ -9,20 +11,23 @@ use quantity::Units;
 // HOLD-INTERVAL of the clocks that are run.
 const HOLD_INTERVAL: Seconds = Seconds(1);
 
+// A line clock's count.
+const NO_COUNT: Count = Count(0);
+
 // The clock a tick later. A clock or a tick out of range stays, as with a host.
-fn ticked(c: Clock, clock_tick: Units) -> Clock {
+fn ticked(c: Clock, clock_tick: Units, n: Count) -> Clock {
     if c.in_range() {
         if clock::tick_in_range(clock_tick) {
-            return c.ticked(clock_tick, HOLD_INTERVAL);
+            return c.ticked(clock_tick, HOLD_INTERVAL, n);
         }
     }
     c
 }
 
 // The clock after an adjust.
-fn adjusted(c: Clock) -> Clock {
+fn adjusted(c: Clock, n: Count) -> Clock {
     if c.in_range() {
-        return c.adjusted(HOLD_INTERVAL);
+        return c.adjusted(HOLD_INTERVAL, n);
     }
     c
 }
@@ -32,16 +37,16 @@ fn adjusts(c: Clock, times: u32) -> Clock {
     let mut x = c;
     let mut i: u32 = 0;
     while i < times {
-        x = adjusted(x);
+        x = adjusted(x, NO_COUNT);
         i += 1;
     }
     x
 }
 
 // The clock set by a count of milliseconds.
-fn set(c: Clock, ms: i32) -> Clock {
+fn set(c: Clock, ms: i32, n: Count) -> Clock {
     if c.in_range() {
-        return c.set_by(HOLD_INTERVAL, Millis::of_count(ms));
+        return c.set_by(HOLD_INTERVAL, n, Millis::of_count(ms));
     }
     c
 }
@@ -49,9 +54,9 @@ fn set(c: Clock, ms: i32) -> Clock {
 // "86,400,000 stays; one unit more leaves 1 unit on the next day."
 pub fn midnight() {
     let late = Clock::fresh(Millis(86_399_999), Date::FIRST);
-    let stays = ticked(late, Units::of_millis(Millis(1)));
+    let stays = ticked(late, Units::of_millis(Millis(1)), NO_COUNT);
     show::clock(b"86,400,000 ms", stays);
-    show::clock(b"one unit more", ticked(stays, Units(1)));
+    show::clock(b"one unit more", ticked(stays, Units(1), NO_COUNT));
 }
 
 // A clock of so many units at the start of 1972.
@@ -90,17 +95,112 @@ pub fn below_zero() {
 // A Set by the most and by the least that it takes passes midnight 24 times, and 25 times back.
 pub fn far_sets() {
     let start = clock_of(Units(0), Units(0));
-    show::clock(b"a Set by 2^31 - 1", set(start, 2_147_483_647));
-    show::clock(b"a Set by -2^31", set(start, -2_147_483_648));
+    show::clock(b"a Set by 2^31 - 1", set(start, 2_147_483_647, NO_COUNT));
+    show::clock(b"a Set by -2^31", set(start, -2_147_483_648, NO_COUNT));
 }
 
 // A Set slews from -128 to +127 ms and steps otherwise, and an adjust then moves the clock by a millisecond at most.
 pub fn slew_limits() {
     let start = clock_of(Units(65_536_000), Units(0));
-    show::clock(b"a Set by 127", set(start, 127));
-    show::clock(b"a Set by 128", set(start, 128));
-    show::clock(b"a Set by -128", set(start, -128));
-    show::clock(b"a Set by -128 and 1 adjust", adjusts(set(start, -128), 1));
-    show::clock(b"a Set by -129", set(start, -129));
-    show::clock(b"a Set by -500", set(start, -500));
+    show::clock(b"a Set by 127", set(start, 127, NO_COUNT));
+    show::clock(b"a Set by 128", set(start, 128, NO_COUNT));
+    show::clock(b"a Set by -128", set(start, -128, NO_COUNT));
+    show::clock(
+        b"a Set by -128 and 1 adjust",
+        adjusts(set(start, -128, NO_COUNT), 1),
+    );
+    show::clock(b"a Set by -129", set(start, -129, NO_COUNT));
+    show::clock(b"a Set by -500", set(start, -500, NO_COUNT));
+}
+
+// A line of what a clock reads, and of the clock behind it. A clock or a tick out of range isn't read.
+fn reading(name: &[u8], c: Clock, clock_tick: Units, k: Counter) {
+    if c.in_range() {
+        if clock::tick_in_range(clock_tick) {
+            let r = c.reading(clock_tick, HOLD_INTERVAL, k);
+            let time = r.time;
+            show::text(name);
+            show::number(b": TIME ", time.0);
+            show::clock(b"", r.clock);
+        }
+    }
+}
+
+// A count, and no mark.
+fn counting(n: u16) -> Counter {
+    Counter {
+        count: Count(n),
+        overflow: 0,
+        again: Count(0),
+    }
+}
+
+// A mark, and the count before and after it.
+fn marked(n: u16, again: u16) -> Counter {
+    Counter {
+        count: Count(n),
+        overflow: 1,
+        again: Count(again),
+    }
+}
+
+// "Both midnight rules now test the sum, so a reading may move the date and load HOLD, and CLOCK alone may stand up to 65,535 ms below zero"
+pub fn crystal_midnights() {
+    let late = clock_of(Units::of_millis(Millis(86_399_000)), Units(0));
+    reading(b"86,399,000 ms and 1,000", late, Units(1), counting(1_000));
+    reading(b"86,399,000 ms and 1,001", late, Units(1), counting(1_001));
+    let first = clock_of(Units::of_millis(Millis(86_334_466)), Units(0));
+    reading(
+        b"86,334,466 ms and 65,535",
+        first,
+        Units(1),
+        counting(65_535),
+    );
+    let below = clock_of(Units::of_millis(Millis(-65_535)), Units(0));
+    reading(
+        b"65,535 ms below zero and 65,535",
+        below,
+        Units(1),
+        counting(65_535),
+    );
+    reading(
+        b"65,535 ms below zero and 65,534",
+        below,
+        Units(1),
+        counting(65_534),
+    );
+}
+
+// "With the mark, CLOCK-TICK is added first and the second count is used." "CLOCK-TICK may now be up to 65,536 ms."
+pub fn crystal_overflow() {
+    let most = Units::of_millis(Millis(65_536));
+    let start = clock_of(Units(0), Units(0));
+    reading(b"0 ms and 65,535", start, most, counting(65_535));
+    reading(b"0 ms, a mark, and 3 again", start, most, marked(65_535, 3));
+    let late = clock_of(Units::of_millis(Millis(86_400_000)), Units(0));
+    reading(
+        b"86,400,000 ms, a mark, and 3 again",
+        late,
+        most,
+        marked(65_535, 3),
+    );
+}
+
+// "Every call that reads or alters CLOCK takes the count, tick, adjust and set without a mark"
+pub fn crystal_changes() {
+    let late = clock_of(Units::of_millis(Millis(86_399_000)), Units(128));
+    show::clock(
+        b"a tick of 1 ms, 999",
+        ticked(late, Units::of_millis(Millis(1)), Count(999)),
+    );
+    show::clock(
+        b"a tick of 1 ms, 1,000",
+        ticked(late, Units::of_millis(Millis(1)), Count(1_000)),
+    );
+    show::clock(b"an adjust, 999", adjusted(late, Count(999)));
+    show::clock(b"an adjust, 1,000", adjusted(late, Count(1_000)));
+    show::clock(b"a Set by 0, 1,000", set(late, 0, Count(1_000)));
+    show::clock(b"a Set by 0, 1,001", set(late, 0, Count(1_001)));
+    show::clock(b"a Set by 500, 500", set(late, 500, Count(500)));
+    show::clock(b"a Set by 500, 501", set(late, 500, Count(501)));
 }

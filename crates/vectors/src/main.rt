@@ -46,6 +46,9 @@ fn main() {
     clocks::below_zero();
     clocks::far_sets();
     clocks::slew_limits();
+    clocks::crystal_midnights();
+    clocks::crystal_overflow();
+    clocks::crystal_changes();
     sums::checksums();
     sums::dates();
     rfc1071::normal();

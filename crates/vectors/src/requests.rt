@@ -4,6 +4,7 @@ use answer::Answer;
 use calendar::Date;
 use calls::Request;
 use clock::Clock;
+use clock::Counter;
 use host::Link;
 use program::Whole;
 use quantity::Millis;
@@ -127,7 +128,7 @@ fn sent_at(x: Link, c: Clock) -> Sent {
     let links = host::link_state::with_link(host::link_state::fresh(s), 1, x);
     if host::good(s) {
         if c.in_range() {
-            let p = sending::plan(Answer::Done, s, c, links, 1, 32);
+            let p = sending::plan(Answer::Done, s, c, links, 1, Counter::zero(), 32);
             let m = p.packet;
             let tsp = m.tsp;
             let link = host::link_state::link_of(p.links, 1);

@@ -1,5 +1,6 @@
 -- By the guard's answer, which tells that the link is one and the clock is in range.
 use mathlib.Core.Path.{_∙_, sym, refl}
+use native.Mathlib.Omega.{arith}
 use Rattle.lists.proofs.Tests.{is-not, is-so}
 use Rattle.host.proofs.Guarded.{counted}
 use borrow.Author.Needs.{needs}
@@ -13,7 +14,7 @@ ends-requires : tie.Need-ends-requires
 ends-requires c κs = search needs
 
 returns : tie.Need-returns
-returns c = rw (sym (c .before .before .is-done .ensures) ∙ is-not _ (c .before .if1 .taken)) (c .ends .ensures)
+returns c = (rw (sym (c .before .before .is-done .ensures) ∙ is-not _ (c .before .if1 .taken)) (c .ends .ensures), rw (c .ends .ensures) (omega arith))
 
 deliver-requires : tie.Need-deliver-requires
 deliver-requires c κs =
@@ -22,7 +23,7 @@ deliver-requires c κs =
     ((has .from-one, has .to-eight), (t .settings, t .clock refl))
 
 returns-2 : tie.Need-returns-2
-returns-2 c = rw (sym (c .before .before .is-done .ensures) ∙ is-so _ (c .before .if1 .left)) (c .deliver .ensures)
+returns-2 c = (rw (sym (c .before .before .is-done .ensures) ∙ is-so _ (c .before .if1 .left)) (c .deliver .ensures), omega (arith, c .deliver .ok .1 .1 .1 .1 .0 .1 .1 .1 .1 .1 .1 .1 .1 .0))
 
 pub plan-spec : {M : Type 1} → statement M
 plan-spec = tie.close (tie.spec is-done-requires ends-requires returns deliver-requires returns-2)

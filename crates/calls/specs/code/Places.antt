@@ -50,6 +50,7 @@ placedUpdates k w =
       base = firstPlace k + w .base;
       «clock_host» = w .«clock_host»;
       «hold_interval» = w .«hold_interval»;
+      count = w .count;
       date = w .date;
       update = w .update;
       table = w .table;

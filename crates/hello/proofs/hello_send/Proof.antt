@@ -3,7 +3,7 @@ use mathlib.Core.Path.{_≡_}
 use base.Logic.{emp, id⊢}
 use Rattle.lent.proofs.Words.{by-value}
 use Rattle.shapes.proofs.made.ExportSends.{proof}
-use Rattle.clock.proofs.Types.{clock}
+use Rattle.clock.proofs.Types.{clock, counter}
 use Rattle.table.proofs.Types.{entry}
 use Rattle.host.specs.Lent.{lent}
 use Rattle.host.proofs.Types.{number, settings, links, reply}
@@ -23,11 +23,11 @@ use Rattle.hello.proofs.hello_send.Code as code
 pub hello-send-spec : {M : Type 1} → stated.statement M
 unfolding code.routine
 hello-send-spec 𝓤 H 𝓜 𝓖 𝓡 =
-    proof number number (by-value reply) (by-value sent) settings clock links entry 𝓤 H 𝓜 𝓖 𝓡
-    (λ s k c l run i o. emp 𝓤) (λ s k c l run i o a c′ l′ o′. Leaves (perform (definition.send i o) (lent s k c l run)) a c′ l′ run × (o′ ≡ perform (definition.send i o) (lent s k c l run) .buffer))
+    proof number number (by-value counter) (by-value reply) (by-value sent) settings clock links entry 𝓤 H 𝓜 𝓖 𝓡
+    (λ s k c l run i q o. emp 𝓤) (λ s k c l run i q o a c′ l′ o′. Leaves (perform (definition.send i q o) (lent s k c l run)) a c′ l′ run × (o′ ≡ perform (definition.send i q o) (lent s k c l run) .buffer))
     (λ a. emp 𝓤) (λ a r. r ≡ sentTold a)
-    (λ s k c l run i o c′ l′ o′ r. Returns sentTold (perform (definition.send i o) (lent s k c l run)) r c′ l′ run × (o′ ≡ perform (definition.send i o) (lent s k c l run) .buffer))
-    (λ s k c l run i o. id⊢ 𝓤 _) (λ s k c l run i o a c′ l′ o′ left. id⊢ 𝓤 _)
-    (λ s k c l run i o a c′ l′ o′ r left r-is. (returned sentTold (perform (definition.send i o) (lent s k c l run)) a c′ l′ run r (left .0) r-is, left .1))
+    (λ s k c l run i q o c′ l′ o′ r. Returns sentTold (perform (definition.send i q o) (lent s k c l run)) r c′ l′ run × (o′ ≡ perform (definition.send i q o) (lent s k c l run) .buffer))
+    (λ s k c l run i q o. id⊢ 𝓤 _) (λ s k c l run i q o a c′ l′ o′ left. id⊢ 𝓤 _)
+    (λ s k c l run i q o a c′ l′ o′ r left r-is. (returned sentTold (perform (definition.send i q o) (lent s k c l run)) a c′ l′ run r (left .0) r-is, left .1))
     code.env #hello-send calls.name tells.name calls.routine tells.routine code.calls-calls·send code.calls-hello·sent-told
     (code.unfolded 𝓤 H 𝓜 𝓡) (calls-known.met 𝓤 H 𝓜 𝓖 𝓡) (tells-known.met 𝓤 H 𝓜 𝓖 𝓡)

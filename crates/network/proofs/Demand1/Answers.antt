@@ -7,7 +7,9 @@ use lib.Dec.{ltb, eqb}
 use lib.ListN.{length}
 use Rattle.answer.specs.declared.Answer.{Answer}
 use Rattle.answer.specs.declared.Answer.the-variants.{Done, Setting, ShortBuffer, IpForm, IpChecksum, Protocol, HelloForm, HelloChecksum, OtherLayout, LoopedLine, DelayNotValid, NoHost, OutOfRange, HostDown}
-use Rattle.clock.specs.Clock.{reading}
+use Rattle.quantity.specs.declared.Count.{Count}
+use Rattle.clock.specs.declared.Counter.{Counter}
+use Rattle.clock.specs.Clock.{countUsed}
 use Rattle.wire.specs.declared.Packet.{Packet}
 use Rattle.wire.specs.declared.Parsed.{Parsed}
 use Rattle.wire.specs.declared.Parsed.the-variants.{Good, Bad}
@@ -20,7 +22,7 @@ use Rattle.route.specs.Find.{isFound}
 use Rattle.table.specs.Entry.{up}
 use Rattle.host.specs.Settings.{settingsGood, foundFor}
 use Rattle.host.specs.State.{broadcast, linkOf}
-use Rattle.host.specs.Lent.{Host, Lent, entriesOf, host}
+use Rattle.host.specs.Lent.{Host, Lent, entriesOf, host, ourReading}
 use Rattle.host.specs.Guard.{outOfRange, guard, done}
 use Rattle.host.specs.Reply.{plainly, tellsRoute}
 use Rattle.sending.specs.Send.{reportCount, unsent, sends}
@@ -62,35 +64,36 @@ looked-answer x (Id id) = go (up (entryAt (Id id) x))
 module _ (h : Host) (i : ℕ) where
   -- ---- send
 
-  sent-answer : (b : Bool) → cond b (unsent ShortBuffer h) (sends i h) .reply .answer ≡ cond b ShortBuffer Done
-  sent-answer true = refl
-  sent-answer false = refl
+  sent-answer : (k : Counter) (b : Bool) → cond b (unsent ShortBuffer h) (sends i k h) .reply .answer ≡ cond b ShortBuffer Done
+  sent-answer k true = refl
+  sent-answer k false = refl
 
   -- ---- arrival
 
   -- step 5 gives 11 where the packet has no table and its neighbour has no id
-  step5-answer : (g : Host) (p : Packet) (f : Flight)
-      → step5 g i p f .reply .answer ≡ cond (eqb (p .nhosts) 0 && not (isFound (foundFor (g .settings) (f .link .neighbor)))) NoHost Done
-  step5-answer g p f = go (eqb (p .nhosts) 0) (foundFor (g .settings) (f .link .neighbor))
+  step5-answer : (n : Count) (g : Host) (p : Packet) (f : Flight)
+      → step5 g i n p f .reply .answer ≡ cond (eqb (p .nhosts) 0 && not (isFound (foundFor (g .settings) (f .link .neighbor)))) NoHost Done
+  step5-answer n g p f = go (eqb (p .nhosts) 0) (foundFor (g .settings) (f .link .neighbor))
     where
-      go : (b : Bool) (x : Found) → cond b (noTable g i p f x) (withTable g i p f) .reply .answer ≡ cond (b && not (isFound x)) NoHost Done
+      go : (b : Bool) (x : Found) → cond b (noTable g i n p f x) (withTable g i n p f) .reply .answer ≡ cond (b && not (isFound x)) NoHost Done
       go true Nothing = refl
       go true (Id id) = refl
       go false x = refl
 
   -- the answer of steps 2 to 5
-  abbrev acted : Packet → Answer
-  acted p = cond (delayInvalid h i p) DelayNotValid (cond (neighborUnknown h i p) NoHost Done)
+  abbrev acted : Counter → Packet → Answer
+  acted k p = cond (delayInvalid k h i p) DelayNotValid (cond (neighborUnknown h i p) NoHost Done)
 
-  action-answer : (p : Packet) → action h i p .reply .answer ≡ acted p
+  action-answer : (k : Counter) (p : Packet) → action k h i p .reply .answer ≡ acted k p
   unfolding step3 step2
-  action-answer p =
-      steps-cases (λ g. concluded (host (h .settings) (reading (h .clock) .clock) (h .links)) i p g .reply .answer ≡ acted p)
-      (broadcast (h .settings) i) (reading (h .clock) .clock .hold) p (reading (h .clock) .time) (linkOf (h .links) i)
-      (λ b. step5-answer _ p _ ∙ rw b)
-      (λ b n. step5-answer _ p _ ∙ rw (b, n))
+  action-answer k p =
+      let r = ourReading k h in
+      steps-cases (λ g. concluded (host (h .settings) (r .clock) (h .links)) i (countUsed k) p g .reply .answer ≡ acted k p)
+      (broadcast (h .settings) i) (r .clock .hold) p (r .time) (linkOf (h .links) i)
+      (λ b. step5-answer (countUsed k) _ p _ ∙ rw b)
+      (λ b n. step5-answer (countUsed k) _ p _ ∙ rw (b, n))
       (λ b n z. rw (b, n, z))
-      (λ b n z. step5-answer _ p _ ∙ rw (b, n, z, same-address (p .source) (linkOf (h .links) i .neighbor) n))
+      (λ b n z. step5-answer (countUsed k) _ p _ ∙ rw (b, n, z, same-address (p .source) (linkOf (h .links) i .neighbor) n))
 
   -- 3 to 9 in turn, and then what comes of a packet that passes
   module _ (answers : Parsed → Answer) (refuses : (a : Answer) → answers (Bad a) ≡ a) (p : Packet) where
@@ -134,8 +137,8 @@ module _ (h : Host) (i : ℕ) where
     looked-at : inspection i octets h .reply .answer ≡ firstOf (inspectionTests i octets h)
     looked-at = answered (λ q. tells q .answer) (λ a. refl)
 
-    acted-on : act i octets h .reply .answer ≡ firstOf (actionTests i octets h)
-    acted-on = answered (λ q. inspected h i q .reply .answer) (λ a. refl) ∙ rw (action-answer (fields octets))
+    acted-on : (k : Counter) → act i k octets h .reply .answer ≡ firstOf (actionTests i k octets h)
+    acted-on k = answered (λ q. inspected k h i q .reply .answer) (λ a. refl) ∙ rw (action-answer k (fields octets))
 
 -- ---- every call
 
@@ -143,22 +146,22 @@ module _ (x : Lent) where
   asked-answer : (q : Request) → work (ask q) x .reply .answer ≡ firstOf (ownTests (ask q) x)
   unfolding initialize tick adjust setBy read second selfReport lookup
   asked-answer Initialize = refl
-  asked-answer Tick = refl
-  asked-answer Adjust = refl
-  asked-answer (Set ms) = refl
-  asked-answer Read = refl
+  asked-answer (Tick n) = refl
+  asked-answer (Adjust n) = refl
+  asked-answer (Set ms n) = refl
+  asked-answer (Read k) = refl
   asked-answer Second = refl
-  asked-answer SelfReport = refl
+  asked-answer (SelfReport k) = refl
   asked-answer (Lookup a) = looked-answer x (foundFor (x .host .settings) a)
 
   delivered-answer : (d : Delivery) (octets : List ℕ) → delivered d octets (x .host) .reply .answer ≡ firstOf (deliveryTests d octets (x .host))
   delivered-answer (Inspect i) octets = looked-at (x .host) i octets
-  delivered-answer (Act i) octets = acted-on (x .host) i octets
-  delivered-answer (Receive i) octets = ap (λ (a : Arrived). a .reply .answer) (one-piece i octets (x .host)) ∙ acted-on (x .host) i octets
+  delivered-answer (Act i k) octets = acted-on (x .host) i octets k
+  delivered-answer (Receive i k) octets = ap (λ (a : Arrived). a .reply .answer) (one-piece i k octets (x .host)) ∙ acted-on (x .host) i octets k
 
   work-answer : (c : Call) → work c x .reply .answer ≡ firstOf (ownTests c x)
   work-answer (ask q) = asked-answer q
-  work-answer (send i buffer) = sent-answer (x .host) i (ltb (length buffer) (packetLength (reportCount (x .host .settings) (linkOf (x .host .links) i))))
+  work-answer (send i k buffer) = sent-answer (x .host) i k (ltb (length buffer) (packetLength (reportCount (x .host .settings) (linkOf (x .host .links) i))))
   work-answer (deliver d octets) = delivered-answer d octets
 
   -- the guard's answer, or else that of the work

@@ -38,7 +38,7 @@ module _ (x : Lent) where
 
   worked : (c : Call) → Holds (x .number) (x .run) → Kept (x .host .settings) (x .number) (x .run) (work c x .run)
   worked (ask q) h = written-kept x _ h (changes-length (effect q (x .host) (entryAt (wanted q (x .host .settings)) x) .work) (entriesOf x))
-  worked (send i buffer) h = untouched
+  worked (send i k buffer) h = untouched
   worked (deliver d octets) h = written-kept x _ h (updates-length (delivered d octets (x .host) .work) octets (entriesOf x))
 
   -- ---- the links
@@ -52,25 +52,25 @@ module _ (x : Lent) where
   asked : (q : Request) (e : Entry) → (ask q ≡ ask Initialize → ⊥) → Spared (effect q (x .host) e .links)
   unfolding tick adjust setBy read second selfReport lookup
   asked Initialize e not = absurd (not refl)
-  asked Tick e not = refl
-  asked Adjust e not = refl
-  asked (Set ms) e not = refl
-  asked Read e not = refl
+  asked (Tick n) e not = refl
+  asked (Adjust n) e not = refl
+  asked (Set ms n) e not = refl
+  asked (Read k) e not = refl
   asked Second e not = refl
-  asked SelfReport e not = refl
+  asked (SelfReport k) e not = refl
   asked (Lookup a) e not = refl
 
   spared : (c : Call) → (c ≡ ask Initialize → ⊥) → done (guardOf c x) ≡ true → Spared (work c x .links)
   spared (ask q) not e = asked q (entryAt (wanted q (x .host .settings)) x) not
-  spared (send i buffer) not e =
-      let has = passed (scopeOfCall (send i buffer)) x e .link i refl in
+  spared (send i k buffer) not e =
+      let has = passed (scopeOfCall (send i k buffer)) x e .link i refl in
       either (λ (s : Sending). Spared (s .links))
       (ltb (length buffer) (packetLength (reportCount (x .host .settings) (linkOf (x .host .links) i)))) _ _ (λ _. refl) (λ _. stored i has _)
   spared (deliver d octets) not e =
       let has = passed (scopeOfCall (deliver d octets)) x e .link (onLink d) refl in
       delivery-ways d (x .host) (λ (a : Arrived). Spared (a .links))
       record {
-        refuses = λ a. refl;
+        refuses = λ a few. refl;
         looks = λ p. refl;
         ended = λ f g n. stored (onLink d) has (f .link);
         unknown = λ f g. stored (onLink d) has (f .link);

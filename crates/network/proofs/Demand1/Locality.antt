@@ -8,8 +8,11 @@ use lib.ListN.{length, getD, set, take}
 use lib.Seq.{getD-take, take-set-lt}
 use Rattle.answer.specs.declared.Answer.{Answer}
 use Rattle.answer.specs.declared.Answer.the-variants.{ShortBuffer}
+use Rattle.quantity.specs.declared.Count.{Count}
 use Rattle.clock.specs.declared.Clock.{Clock}
-use Rattle.clock.specs.Clock.{reading}
+use Rattle.clock.specs.declared.Counter.{Counter}
+use Rattle.clock.specs.declared.Reading.{Reading}
+use Rattle.clock.specs.Clock.{countUsed}
 use Rattle.wire.specs.declared.Packet.{Packet}
 use Rattle.wire.specs.declared.Parsed.{Parsed}
 use Rattle.wire.specs.declared.Parsed.the-variants.{Good, Bad}
@@ -29,7 +32,7 @@ use Rattle.host.specs.declared.guard.Scope.{Scope}
 use Rattle.host.specs.declared.guard.Scope.the-variants.{Places, All, OnLink}
 use Rattle.host.specs.Settings.{linkCount, foundFor}
 use Rattle.host.specs.State.{unset, freshLink, broadcast, linkOf, withLink, entries, withEntries}
-use Rattle.host.specs.Lent.{Host, Lent, host, lent, entriesOf, lentInRange}
+use Rattle.host.specs.Lent.{Host, Lent, host, lent, entriesOf, ourReading, lentInRange}
 use Rattle.host.specs.Guard.{noPlaces, noLink, guard, done}
 use Rattle.host.proofs.Places.{Holds}
 use Rattle.host.proofs.Guarded.{passed, counted}
@@ -141,12 +144,12 @@ module _ (x : Lent) (l′ : Links) (run′ : List Entry) (own : ownLinks (x .hos
     effect-same : (q : Request) (e : Entry) → SameEffect (effect q (x .host) e) (effect q (y .host) e)
     unfolding initialize tick adjust setBy read second selfReport lookup
     effect-same Initialize e = record { reply-same = refl; clock-same = refl; links-same = record { own-same = refl; all-same = λ _. refl }; work-same = refl }
-    effect-same Tick e = record { reply-same = refl; clock-same = refl; links-same = untouched; work-same = refl }
-    effect-same Adjust e = record { reply-same = refl; clock-same = refl; links-same = untouched; work-same = refl }
-    effect-same (Set ms) e = record { reply-same = refl; clock-same = refl; links-same = untouched; work-same = refl }
-    effect-same Read e = record { reply-same = refl; clock-same = refl; links-same = untouched; work-same = refl }
+    effect-same (Tick n) e = record { reply-same = refl; clock-same = refl; links-same = untouched; work-same = refl }
+    effect-same (Adjust n) e = record { reply-same = refl; clock-same = refl; links-same = untouched; work-same = refl }
+    effect-same (Set ms n) e = record { reply-same = refl; clock-same = refl; links-same = untouched; work-same = refl }
+    effect-same (Read k) e = record { reply-same = refl; clock-same = refl; links-same = untouched; work-same = refl }
     effect-same Second e = record { reply-same = refl; clock-same = refl; links-same = untouched; work-same = refl }
-    effect-same SelfReport e = record { reply-same = refl; clock-same = refl; links-same = untouched; work-same = refl }
+    effect-same (SelfReport k) e = record { reply-same = refl; clock-same = refl; links-same = untouched; work-same = refl }
     effect-same (Lookup a) e = record { reply-same = refl; clock-same = refl; links-same = untouched; work-same = refl }
 
     carried : (e e′ : Effect) → SameEffect e e′ → Twins (carriedOut e x) (carriedOut e′ y)
@@ -166,22 +169,22 @@ module _ (x : Lent) (l′ : Links) (run′ : List Entry) (own : ownLinks (x .hos
 
     -- ---- a send, into buffers of one length
 
-    module _ (i : ℕ) (has : noLink s i ≡ false) (b d : List ℕ) (n : length b ≡ length d) where
+    module _ (i : ℕ) (k : Counter) (has : noLink s i ≡ false) (b d : List ℕ) (n : length b ≡ length d) where
       held′ : Holds (x .number) run′
       held′ = rw (← lengths) held
 
       same-link : linkOf (x .host .links) i ≡ linkOf l′ i
       same-link = sym (link-same i has)
 
-      message-same : sentMessage x held i ≡ sentMessage y held′ i
+      message-same : sentMessage x held i k ≡ sentMessage y held′ i k
       message-same =
           λ j. message (same-link j .neighbor)
-          (packetSent s (same-link j) (reading (x .host .clock) .time) (reading (x .host .clock) .clock .date) (reportCount s (same-link j)))
+          (packetSent s (same-link j) (ourReading k (x .host) .time) (ourReading k (x .host) .clock .date) (reportCount s (same-link j)))
           (cond (tableGoes s (same-link j)) (map (advertised i) (same-entries j)) [])
 
-      gone : Twins (sentBy (sends i (x .host)) b x) (sentBy (sends i (y .host)) d y)
+      gone : Twins (sentBy (sends i k (x .host)) b x) (sentBy (sends i k (y .host)) d y)
       gone =
-          let text = sent-message x held i b ∙ message-same ∙ sym (sent-message y held′ i d) in
+          let text = sent-message x held i k b ∙ message-same ∙ sym (sent-message y held′ i k d) in
           record {
             told-same = λ j. record { reply = tellsLength (packetLength (reportCount s (same-link j))); message = text j };
             clock-same = refl;
@@ -192,13 +195,13 @@ module _ (x : Lent) (l′ : Links) (run′ : List Entry) (own : ownLinks (x .hos
             entries-same = same-entries;
           }
 
-      sent : Twins (work (send i b) x) (work (send i d) y)
+      sent : Twins (work (send i k b) x) (work (send i k d) y)
       sent =
-          subst (λ t. Twins (work (send i b) x) (sentBy (cond t (unsent ShortBuffer (y .host)) (sends i (y .host))) d y))
+          subst (λ t. Twins (work (send i k b) x) (sentBy (cond t (unsent ShortBuffer (y .host)) (sends i k (y .host))) d y))
           (λ j. ltb (n j) (packetLength (reportCount s (same-link j)))) (go (ltb (length b) (packetLength (reportCount s (linkOf (x .host .links) i)))))
         where
           go : (t : Bool)
-              → Twins (sentBy (cond t (unsent ShortBuffer (x .host)) (sends i (x .host))) b x) (sentBy (cond t (unsent ShortBuffer (y .host)) (sends i (y .host))) d y)
+              → Twins (sentBy (cond t (unsent ShortBuffer (x .host)) (sends i k (x .host))) b x) (sentBy (cond t (unsent ShortBuffer (y .host)) (sends i k (y .host))) d y)
           go true = record { told-same = refl; clock-same = refl; links-same = untouched; length-same = lengths; entries-same = same-entries }
           go false = gone
 
@@ -209,45 +212,51 @@ module _ (x : Lent) (l′ : Links) (run′ : List Entry) (own : ownLinks (x .hos
       pub links-same : Linked (e .links) (e′ .links)
       pub work-same : e .work ≡ e′ .work
 
-    module _ (i : ℕ) (has : noLink s i ≡ false) where
+    module _ (i : ℕ) (k : Counter) (has : noLink s i ≡ false) where
+      abbrev r : Reading
+      r = ourReading k (x .host)
+
+      abbrev n : Count
+      n = countUsed k
+
       -- the host with the link as a flight leaves it
       abbrev hx : Flight → Host
-      hx f = host (x .host .settings) (reading (x .host .clock) .clock) (withLink i (f .link) (x .host .links))
+      hx f = host (x .host .settings) (r .clock) (withLink i (f .link) (x .host .links))
 
       abbrev hy : Flight → Host
-      hy f = host (x .host .settings) (reading (x .host .clock) .clock) (withLink i (f .link) l′)
+      hy f = host (x .host .settings) (r .clock) (withLink i (f .link) l′)
 
       fifth : (p : Packet) (f : Flight)
-          → SameArrived (concluded (host (x .host .settings) (reading (x .host .clock) .clock) (x .host .links)) i p (on f))
-          (concluded (host (x .host .settings) (reading (x .host .clock) .clock) l′) i p (on f))
+          → SameArrived (concluded (host (x .host .settings) (r .clock) (x .host .links)) i n p (on f))
+          (concluded (host (x .host .settings) (r .clock) l′) i n p (on f))
       fifth p f = go (eqb (p .nhosts) 0) (foundFor s (f .link .neighbor))
         where
-          go : (b : Bool) (g : Found) → SameArrived (cond b (noTable (hx f) i p f g) (withTable (hx f) i p f)) (cond b (noTable (hy f) i p f g) (withTable (hy f) i p f))
+          go : (b : Bool) (g : Found) → SameArrived (cond b (noTable (hx f) i n p f g) (withTable (hx f) i n p f)) (cond b (noTable (hy f) i n p f g) (withTable (hy f) i n p f))
           go true Nothing = record { reply-same = refl; links-same = stored i has (f .link); work-same = refl }
           go true (Id id) = record { reply-same = refl; links-same = stored i has (f .link); work-same = refl }
           go false g = record { reply-same = refl; links-same = stored i has (f .link); work-same = refl }
 
       concludes : (p : Packet) (g : Stage Flight)
-          → SameArrived (concluded (host (x .host .settings) (reading (x .host .clock) .clock) (x .host .links)) i p g)
-          (concluded (host (x .host .settings) (reading (x .host .clock) .clock) l′) i p g)
+          → SameArrived (concluded (host (x .host .settings) (r .clock) (x .host .links)) i n p g)
+          (concluded (host (x .host .settings) (r .clock) l′) i n p g)
       concludes p (end f) = record { reply-same = refl; links-same = stored i has (f .link); work-same = refl }
       concludes p (on f) = fifth p f
 
-      arrived-same : (q : Parsed) → SameArrived (inspected (x .host) i q) (inspected (y .host) i q)
+      arrived-same : (q : Parsed) → SameArrived (inspected k (x .host) i q) (inspected k (y .host) i q)
       arrived-same (Bad a) = record { reply-same = refl; links-same = untouched; work-same = refl }
       arrived-same (Good p) =
           subst
           (λ z.
-          SameArrived (inspected (x .host) i (Good p))
-          (concluded (host (x .host .settings) (reading (x .host .clock) .clock) l′) i p (steps2to4 (broadcast s i) (reading (x .host .clock) .clock .hold) p (reading (x .host .clock) .time) z)))
+          SameArrived (inspected k (x .host) i (Good p))
+          (concluded (host (x .host .settings) (r .clock) l′) i n p (steps2to4 (broadcast s i) (r .clock .hold) p (r .time) z)))
           (sym (link-same i has))
-          (concludes p (steps2to4 (broadcast s i) (reading (x .host .clock) .clock .hold) p (reading (x .host .clock) .time) (linkOf (x .host .links) i)))
+          (concludes p (steps2to4 (broadcast s i) (r .clock .hold) p (r .time) (linkOf (x .host .links) i)))
 
     -- what each delivery comes to
     delivered-same : (d : Delivery) → noLink s (onLink d) ≡ false → (octets : List ℕ) → SameArrived (delivered d octets (x .host)) (delivered d octets (y .host))
     delivered-same (Inspect i) has octets = record { reply-same = refl; links-same = untouched; work-same = refl }
-    delivered-same (Act i) has octets = arrived-same i has (inspect s i octets)
-    delivered-same (Receive i) has octets = rw (one-piece i octets (x .host), one-piece i octets (y .host)) (arrived-same i has (inspect s i octets))
+    delivered-same (Act i k) has octets = arrived-same i k has (inspect s i octets)
+    delivered-same (Receive i k) has octets = rw (one-piece i k octets (x .host), one-piece i k octets (y .host)) (arrived-same i k has (inspect s i octets))
 
     module _ (d : Delivery) (has : noLink s (onLink d) ≡ false) where
       arrived : (octets : List ℕ) → Twins (work (deliver d octets) x) (work (deliver d octets) y)
@@ -285,11 +294,11 @@ module _ (x : Lent) (l′ : Links) (run′ : List Entry) (own : ownLinks (x .hos
     where
       works : (c : Call) → done (guardOf c x) ≡ true → Twins (work c x) (work c y)
       works (ask q) e = asked (there (ask q) x e) q
-      works (send i b) e = sent (there (send i b) x e) i (passed (scopeOfCall (send i b)) x e .link i refl) b b refl
+      works (send i k b) e = sent (there (send i k b) x e) i k (passed (scopeOfCall (send i k b)) x e .link i refl) b b refl
       works (deliver d octets) e = arrived (there (deliver d octets) x e) d (passed (scopeOfCall (deliver d octets)) x e .link (onLink d) refl) octets
-  performed (same-send {i} {b} {d} n) =
-      guarded (send i b) (send i d) refl (λ a. record { told-same = refl; clock-same = refl; links-same = untouched; length-same = lengths; entries-same = same-entries })
-      (λ e. sent (there (send i b) x e) i (passed (scopeOfCall (send i b)) x e .link i refl) b d n)
+  performed (same-send {i} {k} {b} {d} n) =
+      guarded (send i k b) (send i k d) refl (λ a. record { told-same = refl; clock-same = refl; links-same = untouched; length-same = lengths; entries-same = same-entries })
+      (λ e. sent (there (send i k b) x e) i k (passed (scopeOfCall (send i k b)) x e .link i refl) b d n)
 
   local : {c d : Call} → SameInput c d → Local c d x y
   local inputs =

@@ -1,17 +1,15 @@
--- Who refuses changes nothing: the guard, a lookup, a send into too short a buffer, the inspection of a packet. Steps 2 to 4 of an arrival change its link alone.
-use mathlib.Core.Path.{_≡_, refl, sym, ap, _∙_}
+-- Who refuses changes nothing: the guard, a lookup, a send into too short a buffer, the inspection of a packet. Steps 2 to 4 of an arrival change its link, behind the reading.
+use mathlib.Core.Path.{_≡_, refl, ap}
 use mathlib.Core.Bool.{not}
 use mathlib.Core.List.{List}
-use Prim.Native.Nat.{ℕ, _-_}
+use Prim.Native.Nat.{ℕ, _≤_}
 use native.Mathlib.Omega.{arith}
 use lib.Dec.{ltb}
 use lib.ListN.{length}
-use lib.Seq.{set-getD}
 use Rattle.lists.proofs.Tests.{either}
 use Rattle.answer.specs.declared.Answer.{Answer}
-use Rattle.answer.specs.declared.Answer.the-variants.{DelayNotValid, NoHost, HostDown}
+use Rattle.answer.specs.declared.Answer.the-variants.{Done, Setting, DelayNotValid, NoHost, OutOfRange, HostDown}
 use Rattle.answer.specs.Answer.{number}
-use Rattle.clock.specs.Clock.{reading}
 use Rattle.wire.specs.declared.Address.{Address}
 use Rattle.wire.specs.Packet.{packetLength}
 use Rattle.route.specs.declared.Found.{Found}
@@ -20,9 +18,12 @@ use Rattle.table.specs.declared.Entry.{Entry}
 use Rattle.table.specs.Entry.{up}
 use Rattle.host.specs.declared.Link.{Link}
 use Rattle.host.specs.declared.Reply.{Reply}
-use Rattle.host.specs.Settings.{foundFor}
-use Rattle.host.specs.State.{unset, freshLink, linkOf}
+use Rattle.host.specs.Settings.{settingsGood, foundFor}
+use Rattle.host.specs.State.{linkOf}
+use Rattle.host.specs.declared.guard.Scope.{Scope}
+use Rattle.host.specs.declared.guard.Scope.the-variants.{OnLink}
 use Rattle.host.specs.Lent.{Lent}
+use Rattle.host.specs.Guard.{outOfRange, guard}
 use Rattle.host.specs.Reply.{plainly}
 use Rattle.host.proofs.Places.{Holds}
 use Rattle.sending.specs.declared.Sending.{Sending}
@@ -30,14 +31,16 @@ use Rattle.sending.specs.Send.{reportCount}
 use Rattle.arrival.specs.declared.Flight.{Flight}
 use Rattle.arrival.specs.declared.Arrived.{Arrived}
 use Rattle.arrival.specs.declared.Delivery.{Delivery}
+use Rattle.arrival.specs.declared.Delivery.the-variants.{Inspect, Act, Receive}
 use Rattle.arrival.specs.Arrival.{ends, onLink}
 use Rattle.calls.specs.declared.Request.{Request}
 use Rattle.calls.specs.declared.Request.the-variants.{Initialize, Tick, Adjust, Set, Read, Second, SelfReport, Lookup}
 use Rattle.calls.specs.Effects.{initialize, tick, adjust, setBy, read, second, selfReport, lookup, looked, answers}
 use Rattle.calls.specs.Perform.{Call, ask, send, deliver, Outcome, bufferOf, refused, entryAt, carriedOut, sentBy, updatedBy, work, perform}
-use Rattle.network.specs.Refusals.{Refuses, relinked, Refusals}
-use Rattle.network.proofs.Performs.{guardOf, performs, there}
-use Rattle.network.proofs.Arrivals.{storing, delivery-ways}
+use Rattle.network.specs.Refusals.{Refuses, clockRead, relinked, Refusals}
+use Rattle.network.specs.Range.{countBy}
+use Rattle.network.proofs.Performs.{performs, there}
+use Rattle.network.proofs.Arrivals.{storing, readBy, delivery-ways}
 use Rattle.network.proofs.Written.{answered, ended}
 
 module _ (x : Lent) where
@@ -57,23 +60,23 @@ module _ (x : Lent) where
   asked : (q : Request) → Holds (x .number) (x .run) → Unchanged (ask q) (work (ask q) x)
   unfolding initialize tick adjust setBy read second selfReport lookup
   asked Initialize h = λ w. absurd (w .0 refl)
-  asked Tick h = λ w. absurd (w .0 refl)
-  asked Adjust h = λ w. absurd (w .0 refl)
-  asked (Set ms) h = λ w. absurd (w .0 refl)
-  asked Read h = λ w. absurd (w .0 refl)
+  asked (Tick n) h = λ w. absurd (w .0 refl)
+  asked (Adjust n) h = λ w. absurd (w .0 refl)
+  asked (Set ms n) h = λ w. absurd (w .0 refl)
+  asked (Read k) h = λ w. absurd (w .0 refl)
   asked Second h = λ w. absurd (w .0 refl)
-  asked SelfReport h = λ w. absurd (w .0 refl)
+  asked (SelfReport k) h = λ w. absurd (w .0 refl)
   asked (Lookup a) h = looks a h (foundFor (x .host .settings) a) (entryAt (foundFor (x .host .settings) a) x)
 
   works : (c : Call) → Holds (x .number) (x .run) → Unchanged c (work c x)
   works (ask q) h = asked q h
-  works (send i buffer) h =
-      either (λ (s : Sending). Unchanged (send i buffer) (sentBy s buffer x))
+  works (send i k buffer) h =
+      either (λ (s : Sending). Unchanged (send i k buffer) (sentBy s buffer x))
       (ltb (length buffer) (packetLength (reportCount (x .host .settings) (linkOf (x .host .links) i)))) _ _ (λ _ _. refl) (λ _ w. absurd (w .0 refl))
   works (deliver d octets) h =
       delivery-ways d (x .host) (λ (a : Arrived). Unchanged (deliver d octets) (updatedBy a octets x))
       record {
-        refuses = λ a w. ended x h a (x .host) octets;
+        refuses = λ a few w. ended x h a (x .host) octets;
         looks = λ p w. absurd (w .0 refl);
         ended = λ f g n w. absurd (w .1 d octets refl .0 refl);
         unknown = λ f g w. absurd (w .1 d octets refl .1 refl);
@@ -85,47 +88,44 @@ module _ (x : Lent) where
   unchanged : (c : Call) → Unchanged c (perform c x)
   unchanged c = performs c x (Unchanged c) (λ _ _. refl) (λ e. works c (there c x e))
 
-  -- ---- refusals that change the link
+  -- ---- refusals that change the link, and keep the reading's clock
 
-  -- what was lent is a change of the link to itself
-  same-link : (i : ℕ) (c : Call) (a : Answer) → refused a c x ≡ refused a c (relinked i (linkOf (x .host .links) i) x)
-  same-link i c a =
-      λ j. record {
-        reply = plainly a;
-        clock = x .host .clock;
-        links = record { all = sym (set-getD (x .host .links .all) (i - 1) (freshLink unset)) j };
-        run = x .run;
-        buffer = bufferOf c;
-      }
+  -- the guard refuses with 1 and 12 only
+  guard-number : (a : Scope) (n : ℕ) → 2 ≤ n → n ≤ 11 → number (guard a x) ≡ n → ⊥
+  unfolding guard
+  guard-number a n low high =
+      either (λ (b : Answer). number b ≡ n → ⊥) (outOfRange a x) _ _ (λ _ e. omega arith)
+      (λ _. either (λ (b : Answer). number b ≡ n → ⊥) (not (settingsGood (x .host .settings))) _ _ (λ _ e. omega arith) (λ _ e. omega arith))
 
   module _ (d : Delivery) (octets : List ℕ) where
     abbrev i : ℕ
     i = onLink d
 
-    alone : (a b : Answer) → b ≡ a → refused b (deliver d octets) x ≡ refused a (deliver d octets) (relinked i (linkOf (x .host .links) i) x)
-    alone a b e = ap (λ r. refused r (deliver d octets) x) e ∙ same-link i (deliver d octets) a
+    same-clock : (d : Delivery) → readBy d (x .host) .clock ≡ clockRead d (x .host)
+    same-clock (Inspect i) = refl
+    same-clock (Act i k) = refl
+    same-clock (Receive i k) = refl
 
     stored : Holds (x .number) (x .run) → (a : Answer) (f : Flight)
-        → updatedBy (ends a (storing i (x .host) f)) octets x ≡ refused a (deliver d octets) (relinked i (f .link) x)
-    unfolding reading
-    stored h a f = ended x h a (storing i (x .host) f) octets
+        → updatedBy (ends a (storing i (readBy d (x .host)) (countBy d) (x .host) f)) octets x ≡ refused a (deliver d octets) (relinked d (f .link) x)
+    stored h a f = rw (← same-clock d) (ended x h a (storing i (readBy d (x .host)) (countBy d) (x .host) f) octets)
 
     -- 10 leaves the link's neighbour too
     Delayed : Outcome → Type 0
     Delayed o =
         o .reply .answer ≡ DelayNotValid
-        → (l : Link) × (o ≡ refused DelayNotValid (deliver d octets) (relinked i l x)) × (l .neighbor ≡ linkOf (x .host .links) i .neighbor)
+        → (l : Link) × (o ≡ refused DelayNotValid (deliver d octets) (relinked d l x)) × (l .neighbor ≡ linkOf (x .host .links) i .neighbor)
 
     delayed : Delayed (perform (deliver d octets) x)
     unfolding Delayed
     delayed =
         performs (deliver d octets) x Delayed
-        (λ e is. (linkOf (x .host .links) i, alone DelayNotValid (guardOf (deliver d octets) x) is, refl))
+        (λ e is. absurd (guard-number (OnLink i) 10 (omega arith) (omega arith) (ap number is)))
         (λ e.
         let h = there (deliver d octets) x e in
         delivery-ways d (x .host) (λ (a : Arrived). Delayed (updatedBy a octets x))
         record {
-          refuses = λ a is. (linkOf (x .host .links) i, ended x h a (x .host) octets ∙ alone DelayNotValid a is, refl);
+          refuses = λ a few is. absurd (omega (arith, few, ap number is));
           looks = λ p is. absurd (omega (arith, ap number is));
           ended = λ f g n is. (f .link, stored h DelayNotValid f, n);
           unknown = λ f g is. absurd (omega (arith, ap number is));
@@ -135,17 +135,18 @@ module _ (x : Lent) where
         octets)
 
     Unfound : Outcome → Type 0
-    Unfound o = o .reply .answer ≡ NoHost → (l : Link) × (o ≡ refused NoHost (deliver d octets) (relinked i l x))
+    Unfound o = o .reply .answer ≡ NoHost → (l : Link) × (o ≡ refused NoHost (deliver d octets) (relinked d l x))
 
     unfound : Unfound (perform (deliver d octets) x)
     unfolding Unfound
     unfound =
-        performs (deliver d octets) x Unfound (λ e is. (linkOf (x .host .links) i, alone NoHost (guardOf (deliver d octets) x) is))
+        performs (deliver d octets) x Unfound
+        (λ e is. absurd (guard-number (OnLink i) 11 (omega arith) (omega arith) (ap number is)))
         (λ e.
         let h = there (deliver d octets) x e in
         delivery-ways d (x .host) (λ (a : Arrived). Unfound (updatedBy a octets x))
         record {
-          refuses = λ a is. (linkOf (x .host .links) i, ended x h a (x .host) octets ∙ alone NoHost a is);
+          refuses = λ a few is. absurd (omega (arith, few, ap number is));
           looks = λ p is. absurd (omega (arith, ap number is));
           ended = λ f g n is. absurd (omega (arith, ap number is));
           unknown = λ f g is. (f .link, stored h NoHost f);

@@ -1,7 +1,7 @@
 -- The history of specs/Example.antt, by computing.
 use mathlib.Core.Path.{_≡_, refl, ap}
 use mathlib.Core.List.{List·Memᴰ·head}
-use Prim.Native.Nat.{ℕ}
+use Prim.Native.Nat.{ℕ, _*_}
 use native.Mathlib.Omega.{arith}
 use lib.IntN.{ℤ, pos, _-ℤ_}
 use Rattle.quantity.specs.Quantity.{millis, toUnits}
@@ -12,42 +12,39 @@ use Rattle.network.specs.History.{after}
 use Rattle.network.specs.Room.{longestWay, afresh, Proper}
 use Rattle.network.specs.Demand3.{Message, result, step, history, Allows, Starts}
 use Rattle.network.specs.TwoSeats.{Pair}
-use Rattle.network.specs.Example.{near, w₀, x₁, w₁, x₂, w₂, x₃, w₃, x₄, w₄, x₅, w₅, x₆, w₆, x₇, story, learnt, Example}
+use Rattle.network.specs.Example.{near, w₀, x₁, w₁, x₂, w₂, x₃, w₃, x₄, w₄, x₅, w₅, x₆, story, learnt, Example}
 use Rattle.network.proofs.Opened.{opened}
 use Rattle.network.proofs.Demand3.TwoSeats.{below-2, pair-proper, starts, as-left, reads, delivered}
 
 abbrev p : Pair
-p = record { tick = toUnits (millis (pos 101)); start = λ a. 40000; longest = longestWay }
+p = record { tick = toUnits (millis (pos 65536)); start = λ a. 65500 * a; longest = longestWay }
 
 entry-is : (learnt .delay .0 ≡ pos 101) × (learnt .offset .0 ≡ pos 449)
-unfolding opened after step history w₀ x₁ w₁ x₂ w₂ x₃ w₃ x₄ w₄ x₅ w₅ x₆ w₆ x₇
+unfolding opened after step history w₀ x₁ w₁ x₂ w₂ x₃ w₃ x₄ w₄ x₅ w₅ x₆
 entry-is = (refl, refl)
 
 -- what was sent
 abbrev first : Message
-first = record { seat = 0; link = 1; ms = pos 40000; octets = messageOf (result near w₁ x₂) }
+first = record { seat = 0; link = 1; ms = pos 65500; octets = messageOf (result near w₁ x₂) }
 
 abbrev second : Message
-second = record { seat = 1; link = 1; ms = pos 40000; octets = messageOf (result near w₃ x₄) }
+second = record { seat = 1; link = 1; ms = pos 65500; octets = messageOf (result near w₃ x₄) }
 
 allowed : Allows near w₀ story
-unfolding opened after step Allows w₀ x₁ w₁ x₂ w₂ x₃ w₃ x₄ w₄ x₅ w₅ x₆ w₆ x₇
+unfolding opened after step Allows w₀ x₁ w₁ x₂ w₂ x₃ w₃ x₄ w₄ x₅ w₅ x₆
 allowed = (
   record { seat-in = omega arith; lends = as-left p w₀ 1 (x₁ .call); timely = tt },
   (
-    record { seat-in = omega arith; lends = as-left p w₁ 0 (x₂ .call); timely = λ _. reads p w₁ 0 (pos 40000) refl record { lt = tt } },
+    record { seat-in = omega arith; lends = as-left p w₁ 0 (x₂ .call); timely = λ _. reads p w₁ 0 _ (pos 65500) refl record { lt = tt } },
     (
-      record { seat-in = omega arith; lends = as-left p w₂ 1 (x₃ .call); timely = delivered p w₂ 1 (pos 40000) _ first 0 (List·Memᴰ·head refl) refl (reads p w₂ 1 (pos 40000) refl record { lt = tt }) (omega arith) refl },
+      record { seat-in = omega arith; lends = as-left p w₂ 1 (x₃ .call); timely = delivered p w₂ 1 _ (pos 65500) _ first 0 (List·Memᴰ·head refl) refl (reads p w₂ 1 _ (pos 65500) refl record { lt = tt }) (omega arith) refl },
       (
-        record { seat-in = omega arith; lends = as-left p w₃ 1 (x₄ .call); timely = λ _. reads p w₃ 1 (pos 40000) refl record { lt = tt } },
+        record { seat-in = omega arith; lends = as-left p w₃ 1 (x₄ .call); timely = λ _. reads p w₃ 1 _ (pos 65500) refl record { lt = tt } },
         (
-          record { seat-in = omega arith; lends = as-left p w₄ 0 (x₅ .call); timely = tt },
+          record { seat-in = omega arith; lends = as-left p w₄ 0 (x₅ .call); timely = delivered p w₄ 0 _ (pos 65601) _ second 101 (List·Memᴰ·head refl) refl (reads p w₄ 0 _ (pos 65601) refl record { lt = tt }) (omega arith) refl },
           (
-            record { seat-in = omega arith; lends = as-left p w₅ 0 (x₆ .call); timely = delivered p w₅ 0 (pos 40101) _ second 101 (List·Memᴰ·head refl) refl (reads p w₅ 0 (pos 40101) refl record { lt = tt }) (omega arith) refl },
-            (
-              record { seat-in = omega arith; lends = as-left p w₆ 0 (x₇ .call); timely = delivered p w₆ 0 (pos 40101) _ second 101 (List·Memᴰ·head refl) refl (reads p w₆ 0 (pos 40101) refl record { lt = tt }) (omega arith) refl },
-              tt,
-            ),
+            record { seat-in = omega arith; lends = as-left p w₅ 0 (x₆ .call); timely = delivered p w₅ 0 _ (pos 65601) _ second 101 (List·Memᴰ·head refl) refl (reads p w₅ 0 _ (pos 65601) refl record { lt = tt }) (omega arith) refl },
+            tt,
           ),
         ),
       ),

@@ -18,8 +18,10 @@ use Rattle.quantity.proofs.Ints.{up, dn, sum, diff, one, lt-yes, lt-no, is-lt}
 use Rattle.quantity.proofs.Wrap.{wrap-range}
 use Rattle.answer.specs.declared.Answer.{Answer}
 use Rattle.answer.specs.declared.Answer.the-variants.{DelayNotValid, NoHost}
+use Rattle.quantity.specs.declared.Count.{Count}
 use Rattle.clock.specs.declared.Clock.{Clock}
-use Rattle.clock.specs.Clock.{reading}
+use Rattle.clock.specs.declared.Counter.{Counter}
+use Rattle.clock.specs.Clock.{countUsed}
 use Rattle.wire.specs.declared.Address.{Address}
 use Rattle.wire.specs.declared.Packet.{Packet}
 use Rattle.wire.specs.declared.Parsed.{Parsed}
@@ -46,7 +48,7 @@ use Rattle.host.specs.declared.Links.{Links}
 use Rattle.host.specs.declared.guard.Scope.the-variants.{OnLink}
 use Rattle.host.specs.Settings.{foundFor}
 use Rattle.host.specs.State.{broadcast, linkOf, withLink, hostCount}
-use Rattle.host.specs.Lent.{Host, Lent, host}
+use Rattle.host.specs.Lent.{Host, Lent, host, ourReading}
 use Rattle.host.proofs.Places.{Holds, entries-length}
 use Rattle.host.proofs.Guarded.{passed, holds}
 use Rattle.arrival.specs.declared.Flight.{Flight}
@@ -57,7 +59,7 @@ use Rattle.arrival.specs.Steps.{step2, step3, step4, steps2to4, tspOf, delayOf,
 use Rattle.arrival.specs.Arrival.{ends, updated, noTable, withTable, step5, concluded, action, inspected}
 use Rattle.calls.specs.Perform.{act, Outcome, updatedBy, perform}
 use Rattle.network.specs.Room.{longestWay, Room, at, lentAt, HostAt, Proper}
-use Rattle.network.specs.Demand3.{Message, timed}
+use Rattle.network.specs.Demand3.{Message, readingAt, timed}
 use Rattle.network.proofs.Performs.{performs}
 use Rattle.network.proofs.Arrivals.{same-address}
 use Rattle.exchange.proofs.Steps.{tsp-same, tsp-exact, delay-exact}
@@ -125,7 +127,7 @@ module _ (r : Room) (proper : Proper r) (b a : ℕ) (hb : b < r .seats) (ha : a 
       → (lessMillis (updateAt w (id - w .base) octets .delay) maxDelay ≡ true → RightEntry r b id (stored (updateAt w (id - w .base) octets)))
       → RightEntry r b id (updatedAt w octets id c e .entry)
   entry-keeps id w octets c e right stores =
-      update-keeps (RightEntry r b id) (eqb (id - w .base) (w .«clock_host»)) (w .«hold_interval») (w .date) (updateAt w (id - w .base) octets) c e right
+      update-keeps (RightEntry r b id) (eqb (id - w .base) (w .«clock_host»)) (w .«hold_interval») (w .count) (w .date) (updateAt w (id - w .base) octets) c e right
       (down-right r b id e right) stores
 
   -- no table: the entry of a itself
@@ -160,24 +162,24 @@ module _ (r : Room) (proper : Proper r) (b a : ℕ) (hb : b < r .seats) (ha : a 
           }
 
   module _ (i : ℕ) (c : Clock) (l : Links) (run : List Entry) (lent : RightLent r b l run) (there : Holds (r .number b) run) (octets : List ℕ)
-      (h : Host) (ours : h .settings ≡ r .settings b) (links : RightLinks r b (h .links .all)) (p : Packet) (f : Flight) (direct : Direct f) where
+      (h : Host) (ours : h .settings ≡ r .settings b) (links : RightLinks r b (h .links .all)) (n : Count) (p : Packet) (f : Flight) (direct : Direct f) where
     -- what an arrival comes to keeps the seat right
     abbrev Right : Arrived → Type 0
     Right e = RightOutcome r b run (updatedBy e octets (lentAt r b c l run))
 
-    no-table-right : (x : Found) → foundFor (r .settings b) (r .settings a .address) ≡ x → Right (noTable h i p f x)
+    no-table-right : (x : Found) → foundFor (r .settings b) (r .settings a .address) ≡ x → Right (noTable h i n p f x)
     no-table-right Nothing e = updated-right r b c l run lent there (ends NoHost h) octets links (λ id d y low high inside right. absurd (omega arith))
     no-table-right (Id own) e =
         let host : HostAt r own a = ap (λ (y : Layout). localId y (r .settings a .address)) (proper .one-layout a b ha hb) ∙ found-own (r .settings b .address) (r .settings a .address) (r .settings b) own (proper .one-net b a hb ha) e in
-        let w = updated h p (neighborUpdate i f) own 1 false in
+        let w = updated h n p (neighborUpdate i f) own 1 false in
         updated-right r b c l run lent there w octets links
         (λ id d y low high inside right.
         let same : own ≡ id = omega arith in
         entry-keeps id (w .work) octets d y right (neighbor-right i id f direct (rw same at host)))
 
-    table-right : ((id : ℕ) → id < hostCount (r .settings b) → RightReport r a id (reportAt (helloOf octets) id)) → Right (withTable h i p f)
+    table-right : ((id : ℕ) → id < hostCount (r .settings b) → RightReport r a id (reportAt (helloOf octets) id)) → Right (withTable h i n p f)
     table-right good =
-        let w = updated h p (neighborUpdate i f) 0 (hostCount (h .settings)) true in
+        let w = updated h n p (neighborUpdate i f) 0 (hostCount (h .settings)) true in
         updated-right r b c l run lent there w octets links
         (λ id d y low high inside right.
         let same : id - 0 ≡ id = omega arith in
@@ -187,7 +189,7 @@ module _ (r : Room) (proper : Proper r) (b a : ℕ) (hb : b < r .seats) (ha : a 
 
     step5-right : f .link .neighbor ≡ r .settings a .address
         → (eqb (p .nhosts) 0 ≡ false → (id : ℕ) → id < hostCount (r .settings b) → RightReport r a id (reportAt (helloOf octets) id))
-        → Right (step5 h i p f)
+        → Right (step5 h i n p f)
     step5-right neighbor good =
         either Right (eqb (p .nhosts) 0) _ _
         (λ _. no-table-right _ (λ j. foundFor (sym ours j) (sym neighbor j)))
@@ -207,7 +209,7 @@ raised n =
 
 module _ (r : Room) (proper : Proper r) (ways : r .longest ≤ longestWay) (b i : ℕ) (hb : b < r .seats) (m : Message) (cable : r .cable b i ≡ at (m .seat) (m .link)) (right : RightMessage r m)
     (c : Clock) (l : Links) (run : List Entry) (lent : RightLent r b l run) (there : Holds (r .number b) run) (numbered : suc (i - 1) ≡ i)
-    (way : ℕ) (short : way ≤ r .longest) (clock : reading c .time .0 ≡ (m .ms +ℤ pos way) +ℤ r .fixed b) where
+    (k : Counter) (way : ℕ) (short : way ≤ r .longest) (clock : readingAt r b c k .time .0 ≡ (m .ms +ℤ pos way) +ℤ r .fixed b) where
   abbrev a : ℕ
   a = m .seat
 
@@ -215,7 +217,11 @@ module _ (r : Room) (proper : Proper r) (ways : r .longest ≤ longestWay) (b i 
   p = fields (m .octets)
 
   abbrev now : Millis
-  now = reading c .time
+  now = readingAt r b c k .time
+
+  -- and our clock behind it
+  abbrev carried-on : Clock
+  carried-on = readingAt r b c k .clock
 
   -- what is read is what was written
   source-is : p .source ≡ r .settings a .address
@@ -318,76 +324,76 @@ module _ (r : Room) (proper : Proper r) (ways : r .longest ≤ longestWay) (b i 
 
   -- our host, which has read its clock
   abbrev seat : Host
-  seat = host (lentAt r b c l run .host .settings) (reading c .clock) l
+  seat = host (lentAt r b c l run .host .settings) carried-on l
 
   -- 5, with the link of that neighbour
   goes-on : (n : Address) → n ≡ r .settings a .address → otherLayout (r .settings b) p ≡ false → (d : Millis) (o : Word)
-      → Direct r proper b a hb (right .seat-in) (flight n d o) → Keeps (concluded seat i p (on (flight n d o)))
+      → Direct r proper b a hb (right .seat-in) (flight n d o) → Keeps (concluded seat i (countUsed k) p (on (flight n d o)))
   goes-on n neighbor ours d o direct =
-      step5-right r proper b a hb (right .seat-in) i c l run lent there (m .octets) (host (seat .settings) (reading c .clock) (withLink i (touched n) l)) refl (links-right n) p
+      step5-right r proper b a hb (right .seat-in) i c l run lent there (m .octets) (host (seat .settings) carried-on (withLink i (touched n) l)) refl (links-right n) (countUsed k) p
       (flight n d o) direct neighbor (reports-read ours)
 
   -- 4
-  concluded-right : otherLayout (r .settings b) p ≡ false → Keeps (concluded seat i p (steps2to4 false (reading c .clock .hold) p now (linkOf l i)))
+  concluded-right : otherLayout (r .settings b) p ≡ false → Keeps (concluded seat i (countUsed k) p (steps2to4 false (carried-on .hold) p now (linkOf l i)))
   unfolding steps2to4 step2 step3 step4
   concluded-right ours =
       either Kept (not (sameAddress (p .source) (linkOf l i .neighbor))) _ _
       (λ _. goes-on (p .source) source-is ours maxDelay _ (new-right (p .source) (delayOf now (p .tsp))))
       (λ t.
-      either Kept (zeroWord (p .tsp) || not (eqb (reading c .clock .hold .0) 0)) _ _
+      either Kept (zeroWord (p .tsp) || not (eqb (carried-on .hold .0) 0)) _ _
       (λ _.
-      updated-right r b c l run lent there (ends DelayNotValid (host (seat .settings) (reading c .clock) (withLink i (touched (linkOf l i .neighbor)) l))) (m .octets)
+      updated-right r b c l run lent there (ends DelayNotValid (host (seat .settings) carried-on (withLink i (touched (linkOf l i .neighbor)) l))) (m .octets)
       (links-right (linkOf l i .neighbor)) (λ id e y low high inside h. absurd (omega arith)))
       (λ u.
       goes-on (linkOf l i .neighbor) (sym (same-address (p .source) (linkOf l i .neighbor) (is-so _ t)) ∙ source-is) ours (delayOf now (p .tsp)) _
       (direct-right (neither (zeroWord (p .tsp)) _ u .0) (linkOf l i .neighbor))))
     where
       Kept : Stage Flight → Type 0
-      Kept x = Keeps (concluded seat i p x)
+      Kept x = Keeps (concluded seat i (countUsed k) p x)
 
-  action-right : broadcast (r .settings b) i ≡ false → otherLayout (r .settings b) p ≡ false → Keeps (action (lentAt r b c l run .host) i p)
+  action-right : broadcast (r .settings b) i ≡ false → otherLayout (r .settings b) p ≡ false → Keeps (action k (lentAt r b c l run .host) i p)
   action-right point ours = rw point (concluded-right ours)
 
 -- ---- the whole call. A refusal changes nothing; whatever goes on to step 2 has a millisecond
 
-pub action-timed : (h : Host) (i : ℕ) (p : Packet) → T (timed (action h i p .reply .answer))
-action-timed h i p = go (steps2to4 (broadcast (h .settings) i) (reading (h .clock) .clock .hold) p (reading (h .clock) .time) (linkOf (h .links) i))
+pub action-timed : (k : Counter) (h : Host) (i : ℕ) (p : Packet) → T (timed (action k h i p .reply .answer))
+action-timed k h i p = go (steps2to4 (broadcast (h .settings) i) (ourReading k h .clock .hold) p (ourReading k h .time) (linkOf (h .links) i))
   where
-    found : (g : Host) (f : Flight) (x : Found) → T (timed (noTable g i p f x .reply .answer))
+    found : (g : Host) (f : Flight) (x : Found) → T (timed (noTable g i (countUsed k) p f x .reply .answer))
     found g f Nothing = tt
     found g f (Id id) = tt
 
-    fifth : (g : Host) (f : Flight) → T (timed (step5 g i p f .reply .answer))
+    fifth : (g : Host) (f : Flight) → T (timed (step5 g i (countUsed k) p f .reply .answer))
     fifth g f = either (λ (e : Arrived). T (timed (e .reply .answer))) (eqb (p .nhosts) 0) _ _ (λ _. found g f (foundFor (g .settings) (f .link .neighbor))) (λ _. tt)
 
-    go : (x : Stage Flight) → T (timed (concluded (host (h .settings) (reading (h .clock) .clock) (h .links)) i p x .reply .answer))
+    go : (x : Stage Flight) → T (timed (concluded (host (h .settings) (ourReading k h .clock) (h .links)) i (countUsed k) p x .reply .answer))
     go (end f) = tt
     go (on f) = fifth _ f
 
 -- when a message came to seat b: so long after it was sent
-pub record Came (r : Room) (b : ℕ) (c : Clock) (m : Message) : Type 0 where
+pub record Came (r : Room) (b : ℕ) (c : Clock) (k : Counter) (m : Message) : Type 0 where
   pub way : ℕ
   pub short : way ≤ r .longest
-  pub clock : reading c .time .0 ≡ (m .ms +ℤ pos way) +ℤ r .fixed b
+  pub clock : readingAt r b c k .time .0 ≡ (m .ms +ℤ pos way) +ℤ r .fixed b
 
 pub act-right : (r : Room) → Proper r → r .longest ≤ longestWay → (b i : ℕ) → b < r .seats → (m : Message) → r .cable b i ≡ at (m .seat) (m .link) → RightMessage r m
-    → (c : Clock) (l : Links) (run : List Entry) → RightLent r b l run
-    → (T (timed (perform (act i (m .octets)) (lentAt r b c l run) .reply .answer)) → Came r b c m)
-    → RightOutcome r b run (perform (act i (m .octets)) (lentAt r b c l run))
-act-right r proper ways b i hb m cable right c l run lent =
-    performs (act i (m .octets)) x Kept (λ _ _. same-right r b l run lent)
+    → (c : Clock) (l : Links) (run : List Entry) → RightLent r b l run → (k : Counter)
+    → (T (timed (perform (act i k (m .octets)) (lentAt r b c l run) .reply .answer)) → Came r b c k m)
+    → RightOutcome r b run (perform (act i k (m .octets)) (lentAt r b c l run))
+act-right r proper ways b i hb m cable right c l run lent k =
+    performs (act i k (m .octets)) x Kept (λ _ _. same-right r b l run lent)
     (λ d.
     let ok = passed (OnLink i) x d in
     let there = holds (r .number b) run (ok .places) in
-    inspect-cases (λ (q : Parsed). Kept (updatedBy (inspected (x .host) i q) (m .octets) x)) (r .settings b) i (m .octets)
+    inspect-cases (λ (q : Parsed). Kept (updatedBy (inspected k (x .host) i q) (m .octets) x)) (r .settings b) i (m .octets)
     (λ a _. updated-right r b c l run lent there (ends a (x .host)) (m .octets) (lent .links) (λ id e y low high inside h. absurd (omega arith)))
     (λ ours time.
-    let came = time (action-timed (x .host) i (fields (m .octets))) in
+    let came = time (action-timed k (x .host) i (fields (m .octets))) in
     action-right r proper ways b i hb m cable right c l run lent there (link-from-1 (r .settings b) i (ok .link i refl))
-    (came .way) (came .short) (came .clock) (proper .cables b i (m .seat) (m .link) cable .point-to-point) ours))
+    k (came .way) (came .short) (came .clock) (proper .cables b i (m .seat) (m .link) cable .point-to-point) ours))
   where
     x : Lent
     x = lentAt r b c l run
 
     Kept : Outcome → Type 0
-    Kept o = (T (timed (o .reply .answer)) → Came r b c m) → RightOutcome r b run o
+    Kept o = (T (timed (o .reply .answer)) → Came r b c k m) → RightOutcome r b run o

@@ -12,6 +12,7 @@ use lib.ListN.{getD, take}
 use lib.Seq.{getD-take, take-nil}
 use Rattle.lists.proofs.Tests.{either}
 use Rattle.answer.specs.declared.Answer.the-variants.{Done}
+use Rattle.clock.specs.declared.Counter.{Counter}
 use Rattle.table.specs.declared.Entry.{Entry}
 use Rattle.table.specs.Entry.{freshEntry}
 use Rattle.host.specs.declared.Links.{Links}
@@ -66,25 +67,26 @@ module _ (r : Room) (proper : Proper r) (ways : r .longest ≤ longestWay) where
     lent : (call : RoomCall) → Allowed r w (at-seat call) → RightLent r a links run
     lent call ok = lent-right r a proper now (now .clock) links run (ok .lends) (right .seats a inside)
 
-    acts-right : (i : ℕ) (packet : List ℕ) (t : ℤ) → Allowed r w (at-seat (acts i packet t)) → RightOutcome r a run (result r w (at-seat (acts i packet t)))
-    acts-right i packet t ok =
+    acts-right : (i : ℕ) (k : Counter) (packet : List ℕ) (t : ℤ) → Allowed r w (at-seat (acts i k packet t)) → RightOutcome r a run (result r w (at-seat (acts i k packet t)))
+    acts-right i k packet t ok =
         let d = ok .timely in
-        subst (λ (o : List ℕ). RightOutcome r a run (result r w (at-seat (acts i o t)))) (sym (d .a-copy))
+        subst (λ (o : List ℕ). RightOutcome r a run (result r w (at-seat (acts i k o t)))) (sym (d .a-copy))
         (act-right r proper ways a i inside (d .message) (d .other-end) (right .mail (d .message) (d .earlier)) (now .clock) links run
-        (lent (acts i packet t) ok)
+        (lent (acts i k packet t) ok) k
         (λ e.
-        let later = subst (λ (o : List ℕ). T (timed (result r w (at-seat (acts i o t)) .reply .answer)) → Later r w a t (d .message)) (d .a-copy) (d .in-time) e in
+        let later = subst (λ (o : List ℕ). T (timed (result r w (at-seat (acts i k o t)) .reply .answer)) → Later r w a k t (d .message)) (d .a-copy) (d .in-time) e in
         record { way = later .way; short = later .short; clock = later .reads .clock ∙ ap (λ (z : ℤ). z +ℤ r .fixed a) (later .later) }))
 
-    arrives-right : (i : ℕ) (packet : List ℕ) (t : ℤ) → Allowed r w (at-seat (arrives i packet t)) → RightOutcome r a run (result r w (at-seat (arrives i packet t)))
-    arrives-right i packet t ok =
-        let same = receive-acts i packet (lentAt r a (now .clock) links run) in
+    arrives-right : (i : ℕ) (k : Counter) (packet : List ℕ) (t : ℤ) → Allowed r w (at-seat (arrives i k packet t))
+        → RightOutcome r a run (result r w (at-seat (arrives i k packet t)))
+    arrives-right i k packet t ok =
+        let same = receive-acts i k packet (lentAt r a (now .clock) links run) in
         subst (RightOutcome r a run) (sym same)
-        (acts-right i packet t
+        (acts-right i k packet t
         record {
           seat-in = ok .seat-in;
           lends = ok .lends;
-          timely = subst (λ (o : Outcome). Delivered r w a i packet t (o .reply .answer)) same (ok .timely);
+          timely = subst (λ (o : Outcome). Delivered r w a i k packet t (o .reply .answer)) same (ok .timely);
         })
 
     inspects-right : (i : ℕ) (packet : List ℕ) → Allowed r w (at-seat (inspects i packet)) → RightOutcome r a run (result r w (at-seat (inspects i packet)))
@@ -97,14 +99,14 @@ module _ (r : Room) (proper : Proper r) (ways : r .longest ≤ longestWay) where
         (λ id d y low high inside h. absurd (omega arith)))
 
     call-right : (call : RoomCall) → Allowed r w (at-seat call) → StepRight w (at-seat call)
-    call-right ticks ok = record { seat = tick-right r a (now .clock) links run (lent ticks ok); mail = right .mail }
+    call-right (ticks n) ok = record { seat = tick-right r a (now .clock) links run (lent (ticks n) ok) n; mail = right .mail }
     call-right seconds ok = record { seat = second-right r a (now .clock) links run (lent seconds ok); mail = right .mail }
-    call-right reports ok = record { seat = self-right r a (now .clock) links run (lent reports ok) inside; mail = right .mail }
-    call-right (sends i buffer t) ok =
-        let s = send-right r a i inside (now .clock) links run (lent (sends i buffer t) ok) buffer t (λ e. let q = ok .timely e in (q .clock, q .no-midnight)) in
+    call-right (reports k) ok = record { seat = self-right r a (now .clock) links run (lent (reports k) ok) inside k; mail = right .mail }
+    call-right (sends i k buffer t) ok =
+        let s = send-right r a i inside (now .clock) links run (lent (sends i k buffer t) ok) k buffer t (λ e. let q = ok .timely e in (q .clock, q .no-midnight)) in
         record { seat = s .seat; mail = post _ (w .mail) _ (s .message) (right .mail) }
-    call-right (arrives i packet t) ok = record { seat = arrives-right i packet t ok; mail = right .mail }
-    call-right (acts i packet t) ok = record { seat = acts-right i packet t ok; mail = right .mail }
+    call-right (arrives i k packet t) ok = record { seat = arrives-right i k packet t ok; mail = right .mail }
+    call-right (acts i k packet t) ok = record { seat = acts-right i k packet t ok; mail = right .mail }
     call-right (inspects i packet) ok = record { seat = inspects-right i packet ok; mail = right .mail }
 
   step-right : (w : World) (x : Step) → Allowed r w x → RightWorld r w → RightWorld r (step r w x)

@@ -8,8 +8,9 @@ use Rattle.quantity.specs.declared.Millis.{Millis}
 use Rattle.quantity.specs.declared.Seconds.{Seconds}
 use Rattle.quantity.specs.Quantity.{fallSeconds}
 use Rattle.answer.specs.declared.Answer.the-variants.{Done}
+use Rattle.quantity.specs.declared.Count.{Count}
 use Rattle.clock.specs.declared.Clock.{Clock}
-use Rattle.clock.specs.Clock.{reading}
+use Rattle.clock.specs.declared.Counter.{Counter}
 use Rattle.route.specs.declared.Found.{Found}
 use Rattle.route.specs.declared.Found.the-variants.{Id, Nothing}
 use Rattle.table.specs.declared.Entry.{Entry}
@@ -28,6 +29,7 @@ use Rattle.calls.specs.declared.Request.the-variants.{Initialize, Tick, Second,
 use Rattle.calls.specs.Effects.{initialize, tick, second, selfReport, ownWork}
 use Rattle.calls.specs.Perform.{ask, Outcome, perform}
 use Rattle.network.specs.Room.{Room, lentAt, afresh}
+use Rattle.network.specs.Demand3.{readingAt}
 use Rattle.network.proofs.Lists.{all-made}
 use Rattle.network.proofs.Performs.{performs, there}
 use Rattle.network.proofs.Swept.{changes-length, changes-each}
@@ -74,11 +76,11 @@ module _ (r : Room) (a : ℕ) where
     abbrev x : Lent
     x = lentAt r a c l run
 
-    pub tick-right : RightOutcome r a run (perform (ask Tick) x)
+    pub tick-right : (n : Count) → RightOutcome r a run (perform (ask (Tick n)) x)
     unfolding tick
-    tick-right =
-        performs (ask Tick) x (RightOutcome r a run) (λ _. same-right r a l run lent)
-        (λ e. carried-right r a c l run lent (there (ask Tick) x e) (tick (x .host)) (lent .links) (λ id y low high right. absurd (omega arith)))
+    tick-right n =
+        performs (ask (Tick n)) x (RightOutcome r a run) (λ _. same-right r a l run lent)
+        (λ e. carried-right r a c l run lent (there (ask (Tick n)) x e) (tick n (x .host)) (lent .links) (λ id y low high right. absurd (omega arith)))
 
     pub second-right : RightOutcome r a run (perform (ask Second) x)
     unfolding second
@@ -89,15 +91,15 @@ module _ (r : Room) (a : ℕ) where
         (λ id y low high right.
         aged-keeps (RightEntry r a id) y right (down-right id y right) (ttl-right id y (fallSeconds (y .ttl)) right)))
 
-    pub self-right : a < r .seats → RightOutcome r a run (perform (ask SelfReport) x)
+    pub self-right : a < r .seats → (k : Counter) → RightOutcome r a run (perform (ask (SelfReport k)) x)
     unfolding selfReport
-    self-right inside =
-        performs (ask SelfReport) x (RightOutcome r a run) (λ _. same-right r a l run lent)
+    self-right inside k =
+        performs (ask (SelfReport k)) x (RightOutcome r a run) (λ _. same-right r a l run lent)
         (λ e.
-        carried-right r a c l run lent (there (ask SelfReport) x e) (selfReport (x .host)) (lent .links) (go (ownId (r .settings a)) refl))
+        carried-right r a c l run lent (there (ask (SelfReport k)) x e) (selfReport k (x .host)) (lent .links) (go (ownId (r .settings a)) refl))
       where
         t : Millis
-        t = reading c .time
+        t = readingAt r a c k .time
 
         go : (f : Found) → ownId (r .settings a) ≡ f → (id : ℕ) (y : Entry) → ownWork t f .first ≤ id → id < ownWork t f .end → RightEntry r a id y
             → RightEntry r a id (changed (ownWork t f .change) y)

@@ -17,8 +17,9 @@ use Rattle.quantity.proofs.Ints.{dn, of-<ℤ}
 use Rattle.quantity.proofs.Wrap.{wrap-range}
 use Rattle.answer.specs.declared.Answer.the-variants.{Done}
 use Rattle.clock.specs.declared.Clock.{Clock}
+use Rattle.clock.specs.declared.Counter.{Counter}
+use Rattle.clock.specs.declared.Reading.{Reading}
 use Rattle.clock.specs.Midnight.{dayMillis}
-use Rattle.clock.specs.Clock.{reading}
 use Rattle.wire.specs.Packet.{packetLength}
 use Rattle.table.specs.declared.Entry.{Entry}
 use Rattle.table.specs.Entry.{advertised, entryInRange}
@@ -31,13 +32,14 @@ use Rattle.host.specs.State.{unset, freshLink, linkOf, withLink}
 use Rattle.host.specs.Lent.{Lent, entriesOf}
 use Rattle.host.specs.Guard.{noLink, done}
 use Rattle.host.proofs.Places.{Holds}
-use Rattle.host.proofs.Guarded.{Passed, passed, holds, counted, clock-lent, entries-lent}
+use Rattle.host.proofs.Guarded.{Passed, passed, holds, counted, entries-lent}
 use Rattle.sending.specs.declared.Sending.{Sending}
 use Rattle.sending.specs.Message.{tableGoes, sentTsp, linkSent, packetSent}
 use Rattle.sending.specs.Send.{reportCount, sends}
 use Rattle.calls.specs.Perform.{Call, Outcome, sentBy, perform}
 use Rattle.network.specs.Left.{messageOf}
 use Rattle.network.specs.Room.{Room, at, lentAt}
+use Rattle.network.specs.Demand3.{readingAt}
 use Rattle.network.proofs.Performs.{performs}
 use Rattle.network.proofs.Sends.{reports, reports-count, sent-message}
 use Rattle.exchange.proofs.Steps.{word-same}
@@ -82,12 +84,15 @@ module _ (r : Room) (a i : ℕ) (inside : a < r .seats) (c : Clock) (l : Links) 
       (λ t. record { not-negative = omega arith; delay-fits = omega arith; fits = h .0 .fits; known = λ low. absurd (false≢true low) })
       (λ t. record { not-negative = omega arith; delay-fits = omega arith; fits = h .0 .fits; known = h .0 .known })
 
-  module _ (ok : Passed (OnLink i) whole) (t : ℤ) (clock : reading c .time .0 ≡ t +ℤ r .fixed a) (early : reading c .time .0 <ℤ dayMillis .0) where
+  module _ (ok : Passed (OnLink i) whole) (k : Counter) (t : ℤ) (clock : readingAt r a c k .time .0 ≡ t +ℤ r .fixed a) (early : readingAt r a c k .time .0 <ℤ dayMillis .0) where
+    abbrev now : Reading
+    now = readingAt r a c k
+
     held : Holds (r .number a) run
     held = holds (r .number a) run (ok .places)
 
-    reads-low : dn (reading c .time .0) ≤ 0
-    reads-low = omega (arith, within 86400000 (reading c .time .0) (reading-in c (clock-lent whole (ok .lent refl))))
+    reads-low : dn (now .time .0) ≤ 0
+    reads-low = omega (arith, within 86400000 (now .time .0) (reading-in (r .settings a .«clock_tick») (r .settings a .«hold_interval») k c))
 
     reports-right : All (RightReport r a) (reports whole held i)
     reports-right =
@@ -99,12 +104,12 @@ module _ (r : Room) (a i : ℕ) (inside : a < r .seats) (c : Clock) (l : Links) 
         (every-all entryInRange (entriesOf whole) (entries-lent whole (ok .lent refl)))))
         (λ _. tt)
 
-    tsp-fits : Fits16 (sentTsp x (reading c .time) .0)
+    tsp-fits : Fits16 (sentTsp x (now .time) .0)
     tsp-fits =
         either (λ (v : Word). Fits16 (v .0)) (eqb (x .«keep_alive») 0) _ _ (λ _. omega arith)
-        (λ _. let w = wrap-range 16 (omega arith) (x .tsp .0 +ℤ reading c .time .0) in record { high = w .0; low = w .1 })
+        (λ _. let w = wrap-range 16 (omega arith) (x .tsp .0 +ℤ now .time .0) in record { high = w .0; low = w .1 })
 
-    tsp-right : (b j : ℕ) → r .cable a i ≡ at b j → zeroWord (sentTsp x (reading c .time)) ≡ false → Carries r b t (sentTsp x (reading c .time) .0)
+    tsp-right : (b j : ℕ) → r .cable a i ≡ at b j → zeroWord (sentTsp x (now .time)) ≡ false → Carries r b t (sentTsp x (now .time) .0)
     tsp-right b j cable =
         either (λ (v : Word). zeroWord v ≡ false → Carries r b t (v .0)) (eqb (x .«keep_alive») 0) _ _ (λ _ z. absurd (true≢false z))
         (λ alive z.
@@ -112,17 +117,17 @@ module _ (r : Room) (a i : ℕ) (inside : a < r .seats) (c : Clock) (l : Links) 
         record {
           way = tied .way;
           short = tied .short;
-          bits = word-same 16 (omega arith) (r .fixed b) (r .fixed a) t (x .tsp .0) (reading c .time .0) (tied .way) (tied .bits) clock;
+          bits = word-same 16 (omega arith) (r .fixed b) (r .fixed a) t (x .tsp .0) (now .time .0) (tied .way) (tied .bits) clock;
         })
 
-    message-right : (buffer : List ℕ) → RightMessage r record { seat = a; link = i; ms = t; octets = messageOf (sentBy (sends i (whole .host)) buffer whole) }
+    message-right : (buffer : List ℕ) → RightMessage r record { seat = a; link = i; ms = t; octets = messageOf (sentBy (sends i k (whole .host)) buffer whole) }
     message-right buffer =
         record {
           seat-in = inside;
           destination = x .neighbor;
-          packet = packetSent (r .settings a) x (reading c .time) (reading c .clock .date) (reportCount (r .settings a) x);
+          packet = packetSent (r .settings a) x (now .time) (now .clock .date) (reportCount (r .settings a) x);
           reports = reports whole held i;
-          octets-are = sent-message whole held i buffer;
+          octets-are = sent-message whole held i k buffer;
           source = refl;
           time = clock;
           time-low = reads-low;
@@ -136,18 +141,18 @@ module _ (r : Room) (a i : ℕ) (inside : a < r .seats) (c : Clock) (l : Links) 
 -- ---- the whole call
 
 -- the room's time of a call of seat a
-abbrev pub Clocked : (r : Room) (a : ℕ) (c : Clock) (t : ℤ) → Type 0
-Clocked r a c t = (reading c .time .0 ≡ t +ℤ r .fixed a) × (reading c .time .0 <ℤ dayMillis .0)
+abbrev pub Clocked : (r : Room) (a : ℕ) (c : Clock) (k : Counter) (t : ℤ) → Type 0
+Clocked r a c k t = (readingAt r a c k .time .0 ≡ t +ℤ r .fixed a) × (readingAt r a c k .time .0 <ℤ dayMillis .0)
 
 pub record SendRight (r : Room) (a i : ℕ) (run : List Entry) (t : ℤ) (o : Outcome) : Type 0 where
   pub seat : RightOutcome r a run o
   pub message : done (o .reply .answer) ≡ true → RightMessage r record { seat = a; link = i; ms = t; octets = messageOf o }
 
-pub send-right : (r : Room) (a i : ℕ) → a < r .seats → (c : Clock) (l : Links) (run : List Entry) → RightLent r a l run → (buffer : List ℕ) (t : ℤ)
-    → (perform (Call.send i buffer) (lentAt r a c l run) .reply .answer ≡ Done → Clocked r a c t)
-    → SendRight r a i run t (perform (Call.send i buffer) (lentAt r a c l run))
-send-right r a i inside c l run lent buffer t =
-    performs (Call.send i buffer) x Kept
+pub send-right : (r : Room) (a i : ℕ) → a < r .seats → (c : Clock) (l : Links) (run : List Entry) → RightLent r a l run → (k : Counter) (buffer : List ℕ) (t : ℤ)
+    → (perform (Call.send i k buffer) (lentAt r a c l run) .reply .answer ≡ Done → Clocked r a c k t)
+    → SendRight r a i run t (perform (Call.send i k buffer) (lentAt r a c l run))
+send-right r a i inside c l run lent k buffer t =
+    performs (Call.send i k buffer) x Kept
     (λ d _. record { seat = same-right r a l run lent; message = λ e. absurd (false≢true (sym d ∙ e)) })
     (λ d.
     let p = passed (OnLink i) x d in
@@ -162,11 +167,11 @@ send-right r a i inside c l run lent buffer t =
             table = lent .table;
             same-length = refl;
           };
-      message = λ _. message-right r a i inside c l run lent (p .link i refl) p t (now .0) (now .1) buffer;
+      message = λ _. message-right r a i inside c l run lent (p .link i refl) p k t (now .0) (now .1) buffer;
     }))
   where
     x : Lent
     x = lentAt r a c l run
 
     Kept : Outcome → Type 0
-    Kept o = (o .reply .answer ≡ Done → Clocked r a c t) → SendRight r a i run t o
+    Kept o = (o .reply .answer ≡ Done → Clocked r a c k t) → SendRight r a i run t o

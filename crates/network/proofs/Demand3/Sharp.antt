@@ -9,16 +9,20 @@ use lib.Dec.{eqb}
 use lib.IntN.{ℤ, pos, negsuc, _-ℤ_, _*ℤ_, natAbs}
 use lib.ListN.{take, replicate}
 use lib.Signed.{ltZ, _≤ℤ_}
+use Rattle.quantity.specs.declared.Units.{Units}
 use Rattle.quantity.specs.Quantity.{units, millis, seconds}
-use Rattle.quantity.proofs.Ints.{to-≤ℤ, not-lt}
+use Rattle.quantity.proofs.Ints.{to-≤ℤ}
 use Rattle.calendar.specs.Date.{firstDate, await, real}
 use Rattle.answer.specs.declared.Answer.{Answer}
 use Rattle.answer.specs.declared.Answer.the-variants.{Done, Setting, OutOfRange}
 use Rattle.clock.specs.declared.Clock.{Clock}
 use Rattle.clock.specs.Midnight.{day, midnight, Rests}
 use Rattle.clock.specs.Clock.{clockInRange}
+use Rattle.clock.specs.LineClock.{noCount, noCounter}
 use Rattle.clock.specs.Clock as clock
 use Rattle.clock.proofs.Midnight.{rests-hold}
+use Rattle.clock.proofs.Readings.{plus-none}
+use Rattle.clock.proofs.Bounds as bounds
 use Rattle.table.specs.declared.Entry.{Entry}
 use Rattle.table.specs.Entry.{freshEntry, up, entryInRange}
 use Rattle.table.specs.Forms.{every}
@@ -52,24 +56,26 @@ clockOf n = record { clock = units (pos n); delta = units (pos 0); hold = second
 abbrev unitsAfter : ℕ → ℕ
 unitsAfter n = 2621440000 + n * 65075263
 
-ticked : (n : ℕ) → n < 33 → clock.tick (lateness .tick) (seconds 1) (clockOf (unitsAfter n)) ≡ clockOf (unitsAfter (suc n))
+ticked : (n : ℕ) → n < 33 → clock.tick (lateness .tick) (seconds 1) noCount (clockOf (unitsAfter n)) ≡ clockOf (unitsAfter (suc n))
 unfolding clock.tick Rests
 ticked n h =
     let more : unitsAfter n + 65075263 ≡ unitsAfter (suc n) = omega arith in
-    ap (λ (m : ℕ). midnight (seconds 1) (clockOf m)) more
-    ∙ rests-hold (seconds 1) (clockOf (unitsAfter (suc n))) (to-≤ℤ (pos 0) (pos (unitsAfter (suc n))) (omega arith))
-    (to-≤ℤ (pos (unitsAfter (suc n))) (day .0) (omega arith))
+    ap (λ (m : ℕ). midnight (seconds 1) noCount (clockOf m)) more
+    ∙ rests-hold (seconds 1) noCount (clockOf (unitsAfter (suc n))) (subst (λ (u : Units). (pos 0) ≤ℤ (u .0)) (sym (plus-none (clockOf (unitsAfter (suc n))))) (to-≤ℤ (pos 0) (pos (unitsAfter (suc n))) (omega arith)))
+    (subst (λ (u : Units). (u .0) ≤ℤ (day .0)) (sym (plus-none (clockOf (unitsAfter (suc n))))) (to-≤ℤ (pos (unitsAfter (suc n))) (day .0) (omega arith)))
 
 date-good : real (await firstDate) ≡ true
 unfolding opened
 date-good = refl
 
 in-range : (n : ℕ) → n < 34 → clockInRange (clockOf (unitsAfter n)) ≡ true
-unfolding clockInRange
 in-range n h =
-    let low = not-lt (pos (unitsAfter n)) (pos 0) (omega arith) in
-    let high = not-lt (day .0) (pos (unitsAfter n)) (omega arith) in
-    rw (low, high) date-good
+    bounds.in-range (clockOf (unitsAfter n))
+    record {
+      clock-low = omega arith;
+      clock-high = omega arith;
+      rest = record { delta-low = omega arith; delta-high = omega arith; hold-high = omega arith; dated = date-good };
+    }
 
 -- ---- a tick of seat 0
 
@@ -99,7 +105,7 @@ unfolding opened
 places-there = refl
 
 performed : (n : ℕ) → n < 33
-    → perform (ask Tick) (lent0 (clockOf (unitsAfter n)))
+    → perform (ask (Tick noCount)) (lent0 (clockOf (unitsAfter n)))
     ≡ record { reply = plainly Done; clock = clockOf (unitsAfter (suc n)); links = links0; run = table0; buffer = [] }
 unfolding perform tick
 performed n h =
@@ -136,26 +142,26 @@ put-twice x y f j = go (eqb j 0)
 waits-from : w₄ ≡ waited 0
 waits-from = λ i. record { state = λ j. put-same (seat0 0) (w₄ .state) first-is j i; mail = w₄ .mail }
 
-waits-on : (n : ℕ) → n < 33 → step late (waited n) (early ticks) ≡ waited (suc n)
+waits-on : (n : ℕ) → n < 33 → step late (waited n) (early (ticks noCount)) ≡ waited (suc n)
 unfolding step after
 waits-on n h =
     ap (λ (o : Outcome). record { state = put 0 (leftBy 0 table0 o) (waited n .state); mail = w₄ .mail }) (performed n h)
     ∙ (λ i. record { state = λ j. put-twice (seat0 (suc n)) (seat0 n) (w₄ .state) j i; mail = w₄ .mail })
 
-waits-allowed : (m n : ℕ) → n + m ≡ 33 → Allows late (waited n) (replicate m (early ticks))
+waits-allowed : (m n : ℕ) → n + m ≡ 33 → Allows late (waited n) (replicate m (early (ticks noCount)))
 unfolding Allows entries
 waits-allowed zero n h = tt
 waits-allowed (suc m) n h =
-    let next : step late (waited n) (early ticks) ≡ waited (suc n) = waits-on n (omega arith) in (
+    let next : step late (waited n) (early (ticks noCount)) ≡ waited (suc n) = waits-on n (omega arith) in (
       record { seat-in = omega arith; lends = record { own-clock = refl; own-links = refl; own-entries = λ _. refl }; timely = tt },
       rw next (waits-allowed m (suc n) (omega arith)),
     )
 
-waits : (m n : ℕ) → n + m ≡ 33 → history late (waited n) (replicate m (early ticks)) ≡ waited 33
+waits : (m n : ℕ) → n + m ≡ 33 → history late (waited n) (replicate m (early (ticks noCount))) ≡ waited 33
 unfolding history
 waits zero n h = let e : n ≡ 33 = omega arith in ap waited e
 waits (suc m) n h =
-    ap (λ w. history late w (replicate m (early ticks))) (waits-on n (omega arith)) ∙ waits m (suc n) (omega arith)
+    ap (λ w. history late w (replicate m (early (ticks noCount)))) (waits-on n (omega arith)) ∙ waits m (suc n) (omega arith)
 
 -- ---- lists of calls, one behind the other
 
@@ -184,9 +190,9 @@ waits-all = ap (λ w. history late w wait) waits-from ∙ waits 33 0 refl
 last-allowed : Allows late (waited 33) (x₆ ∷ x₇ (step late (waited 33) x₆) ∷ [])
 unfolding opened after step Allows w₀ x₁ w₁ x₂ w₂ x₃ w₃ x₄ w₄ x₆ x₇
 last-allowed = (
-  record { seat-in = omega arith; lends = record { own-clock = refl; own-links = refl; own-entries = λ _. refl }; timely = delivered lateness (waited 33) 0 (pos 72768) _ second 16384 (List·Memᴰ·head refl) refl (reads lateness (waited 33) 0 (pos 72768) refl record { lt = tt }) (omega arith) refl },
+  record { seat-in = omega arith; lends = record { own-clock = refl; own-links = refl; own-entries = λ _. refl }; timely = delivered lateness (waited 33) 0 noCounter (pos 72768) _ second 16384 (List·Memᴰ·head refl) refl (reads lateness (waited 33) 0 noCounter (pos 72768) refl record { lt = tt }) (omega arith) refl },
   (
-    record { seat-in = omega arith; lends = as-left lateness (step late (waited 33) x₆) 0 (x₇ (step late (waited 33) x₆) .call); timely = delivered lateness (step late (waited 33) x₆) 0 (pos 72768) _ second 16384 (List·Memᴰ·head refl) refl (reads lateness (step late (waited 33) x₆) 0 (pos 72768) refl record { lt = tt }) (omega arith) refl },
+    record { seat-in = omega arith; lends = as-left lateness (step late (waited 33) x₆) 0 (x₇ (step late (waited 33) x₆) .call); timely = delivered lateness (step late (waited 33) x₆) 0 noCounter (pos 72768) _ second 16384 (List·Memᴰ·head refl) refl (reads lateness (step late (waited 33) x₆) 0 noCounter (pos 72768) refl record { lt = tt }) (omega arith) refl },
     tt,
   ),
 )
@@ -201,13 +207,13 @@ wait-allowed =
 allowed : Allows late w₀ story
 unfolding opened after step Allows w₀ x₁ w₁ x₂ w₂ x₃ w₃ x₄ w₄
 allowed = (
-  record { seat-in = omega arith; lends = record { own-clock = refl; own-links = refl; own-entries = λ _. refl }; timely = λ _. reads lateness w₀ 0 (pos 40000) refl record { lt = tt } },
+  record { seat-in = omega arith; lends = record { own-clock = refl; own-links = refl; own-entries = λ _. refl }; timely = λ _. reads lateness w₀ 0 noCounter (pos 40000) refl record { lt = tt } },
   (
     record { seat-in = omega arith; lends = as-left lateness w₁ 1 (x₂ .call); timely = tt },
     (
-      record { seat-in = omega arith; lends = as-left lateness w₂ 1 (x₃ .call); timely = delivered lateness w₂ 1 (pos 56384) _ first 16384 (List·Memᴰ·head refl) refl (reads lateness w₂ 1 (pos 56384) refl record { lt = tt }) (omega arith) refl },
+      record { seat-in = omega arith; lends = as-left lateness w₂ 1 (x₃ .call); timely = delivered lateness w₂ 1 noCounter (pos 56384) _ first 16384 (List·Memᴰ·head refl) refl (reads lateness w₂ 1 noCounter (pos 56384) refl record { lt = tt }) (omega arith) refl },
       (
-        record { seat-in = omega arith; lends = as-left lateness w₃ 1 (x₄ .call); timely = λ _. reads lateness w₃ 1 (pos 56384) refl record { lt = tt } },
+        record { seat-in = omega arith; lends = as-left lateness w₃ 1 (x₄ .call); timely = λ _. reads lateness w₃ 1 noCounter (pos 56384) refl record { lt = tt } },
         wait-allowed,
       ),
     ),

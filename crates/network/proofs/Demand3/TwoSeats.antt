@@ -11,15 +11,15 @@ use lib.ListN.{take, replicate, length-replicate}
 use lib.Seq.{drop-at}
 use lib.Signed.{_<ℤ_}
 use Rattle.answer.specs.declared.Answer.{Answer}
+use Rattle.clock.specs.declared.Counter.{Counter}
 use Rattle.clock.specs.Midnight.{dayMillis}
-use Rattle.clock.specs.Clock.{reading}
 use Rattle.route.specs.Find.{sameNet}
 use Rattle.table.specs.Entry.{freshEntry}
 use Rattle.host.specs.Settings.{ownId}
 use Rattle.host.specs.State.{placesPerHost, firstPlace, hostCount, entries}
 use Rattle.network.specs.History.{Lends}
 use Rattle.network.specs.Room.{clockSpread, loose, at, afresh, Cabled, Proper}
-use Rattle.network.specs.Demand3.{RoomCall, Message, World, eventOf, Reads, Delivered, Starts}
+use Rattle.network.specs.Demand3.{RoomCall, Message, World, eventOf, readingAt, Reads, Delivered, Starts}
 use Rattle.network.proofs.Opened.{opened}
 use Rattle.network.specs.TwoSeats.{Pair, settingsFor, wire, pair, begun, call}
 
@@ -84,12 +84,12 @@ module _ (p : Pair) where
             (drop-at (replicate (placesPerHost * a) freshEntry) (w .state a .places) (firstPlace a) (length-replicate (placesPerHost * a) freshEntry));
       }
 
-  pub reads : (w : World) (a : ℕ) (t : ℤ) → reading (w .state a .clock) .time .0 ≡ t +ℤ pos (500 * a) → reading (w .state a .clock) .time .0 <ℤ dayMillis .0
-      → Reads (pair p) w a t
-  reads w a t e l = record { clock = e; no-midnight = l }
+  pub reads : (w : World) (a : ℕ) (k : Counter) (t : ℤ) → readingAt (pair p) a (w .state a .clock) k .time .0 ≡ t +ℤ pos (500 * a)
+      → readingAt (pair p) a (w .state a .clock) k .time .0 <ℤ dayMillis .0 → Reads (pair p) w a k t
+  reads w a k t e l = record { clock = e; no-midnight = l }
 
   -- an arrival of a message that was sent
-  pub delivered : (w : World) (a : ℕ) (t : ℤ) (answer : Answer) (m : Message) (way : ℕ) → List·Memᴰ m (w .mail) → wire a 1 ≡ at (m .seat) (m .link)
-      → Reads (pair p) w a t → way ≤ p .longest → t ≡ m .ms +ℤ pos way → Delivered (pair p) w a 1 (m .octets) t answer
-  delivered w a t answer m way x c r h e =
+  pub delivered : (w : World) (a : ℕ) (k : Counter) (t : ℤ) (answer : Answer) (m : Message) (way : ℕ) → List·Memᴰ m (w .mail) → wire a 1 ≡ at (m .seat) (m .link)
+      → Reads (pair p) w a k t → way ≤ p .longest → t ≡ m .ms +ℤ pos way → Delivered (pair p) w a 1 k (m .octets) t answer
+  delivered w a k t answer m way x c r h e =
       record { message = m; earlier = x; a-copy = refl; other-end = c; in-time = λ _. record { reads = r; way = way; short = h; later = e } }

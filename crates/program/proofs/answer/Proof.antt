@@ -4,6 +4,8 @@ use mathlib.Core.List.{List}
 use Prim.Native.Nat.{ℕ}
 use Rattle.host.specs.declared.Settings.{Settings}
 use Rattle.answer.specs.Answer.{number}
+use Rattle.clock.specs.declared.Counter.{Counter}
+use Rattle.clock.specs.LineClock.{noCounter}
 use Rattle.host.specs.Lent.{lent}
 use Rattle.calls.specs.Perform.{inTurn}
 use Rattle.program.specs.declared.Whole.{Whole}
@@ -13,20 +15,24 @@ use borrow.Author.Needs.{needs}
 use Rattle.program.proofs.answer.Statement.{statement}
 use Rattle.program.proofs.answer.Tie as tie
 
-abbrev taken : Settings → Whole → (packet : List ℕ) → Whole
-taken s h octets = wholeOf (inTurn 1 octets (lent s 0 (h .clock) (h .links) (h .run)))
+abbrev taken : Settings → Whole → Counter → (packet : List ℕ) → Whole
+taken s h k octets = wholeOf (inTurn 1 k octets (lent s 0 (h .clock) (h .links) (h .run)))
 
-chain : (s : Settings) (h w : Whole) (octets : List ℕ) (r : ℕ) → s ≡ programSettings → h ≡ wholeOf programHost → w ≡ taken s h octets
+chain : (s : Settings) (h w : Whole) (k : Counter) (octets : List ℕ) (r : ℕ) → s ≡ programSettings → h ≡ wholeOf programHost → k ≡ noCounter
+    → w ≡ taken s h k octets
     → r ≡ number (w .reply .answer) → r ≡ programAnswer octets
 unfolding programAnswer
-chain s h w octets r s-is h-is w-is r-is =
-    r-is ∙ ap (λ (x : Whole). number (x .reply .answer)) w-is ∙ (λ i. number (taken (s-is i) (h-is i) octets .reply .answer))
+chain s h w k octets r s-is h-is k-is w-is r-is =
+    r-is ∙ ap (λ (x : Whole). number (x .reply .answer)) w-is ∙ (λ i. number (taken (s-is i) (h-is i) (k-is i) octets .reply .answer))
 
 settings-requires : tie.Need-settings-requires
 settings-requires c κs = search needs
 
 fresh-host-requires : tie.Need-fresh-host-requires
 fresh-host-requires c κs = search needs
+
+zero-requires : tie.Need-zero-requires
+zero-requires c κs = search needs
 
 take-requires : tie.Need-take-requires
 take-requires c κs = search needs
@@ -36,10 +42,11 @@ number-requires c κs = search needs
 
 returns : tie.Need-returns
 returns c =
-    let settings-at = c .before .before .before .before .before in
-    chain _ _ _ (settings-at .before .before .args .packet .now) _ (settings-at .settings .ensures) (c .before .before .before .before .fresh-host .ensures) (c .before .before .take .ensures) (c .number .ensures)
+    let settings-at = c .before .before .before .before .before .before in
+    chain _ _ _ _ (settings-at .before .before .args .packet .now) _ (settings-at .settings .ensures) (c .before .before .before .before .before .fresh-host .ensures) (c .before .before .before .zero .ensures)
+    (c .before .before .take .ensures) (c .number .ensures)
 
 pub answer-spec : {M : Type 1} → statement M
 answer-spec =
     tie.close
-    (tie.spec settings-requires fresh-host-requires take-requires number-requires returns)
+    (tie.spec settings-requires fresh-host-requires zero-requires take-requires number-requires returns)

@@ -5,6 +5,7 @@ use mathlib.Core.List.{List}
 use Prim.Native.Nat.{ℕ}
 use borrow.Author.Needs.{needs}
 use Rattle.lists.proofs.Tests.{is-not, is-so}
+use Rattle.clock.specs.declared.Counter.{Counter}
 use Rattle.host.specs.Lent.{Lent, lent}
 use Rattle.host.specs.Guard.{done}
 use Rattle.calls.specs.Perform.{inspect, act, perform, inTurn}
@@ -13,16 +14,16 @@ use Rattle.program.specs.Held.{wholeOf}
 use Rattle.program.proofs.take.Statement.{statement}
 use Rattle.program.proofs.take.Tie as tie
 
-module _ (x : Lent) (i : ℕ) (octets : List ℕ) (w : Whole) (looked : w ≡ wholeOf (perform (inspect i octets) x)) where
+module _ (x : Lent) (i : ℕ) (k : Counter) (octets : List ℕ) (w : Whole) (looked : w ≡ wholeOf (perform (inspect i octets) x)) where
   abbrev acted : Whole → Whole
-  acted h = wholeOf (perform (act i octets) (lent (x .host .settings) (x .number) (h .clock) (h .links) (h .run)))
+  acted h = wholeOf (perform (act i k octets) (lent (x .host .settings) (x .number) (h .clock) (h .links) (h .run)))
 
-  refusing : done (w .reply .answer) ≡ false → w ≡ wholeOf (inTurn i octets x)
+  refusing : done (w .reply .answer) ≡ false → w ≡ wholeOf (inTurn i k octets x)
   refusing d =
       let e : done (perform (inspect i octets) x .reply .answer) ≡ false = ap (λ (h : Whole). done (h .reply .answer)) (sym looked) ∙ d in
       rw e looked
 
-  acting : done (w .reply .answer) ≡ true → (v : Whole) → v ≡ acted w → v ≡ wholeOf (inTurn i octets x)
+  acting : done (w .reply .answer) ≡ true → (v : Whole) → v ≡ acted w → v ≡ wholeOf (inTurn i k octets x)
   acting d v v-is =
       let e : done (perform (inspect i octets) x .reply .answer) ≡ true = ap (λ (h : Whole). done (h .reply .answer)) (sym looked) ∙ d in
       rw e (v-is ∙ ap acted looked)
@@ -37,7 +38,7 @@ returns : tie.Need-returns
 returns c =
     let at = c .before .before .before in
     let a = at .before .before .args in
-    refusing (lent (a .settings) (a .number) (a .clock) (a .links) (a .run)) (a .link) (a .packet .now) _ (at .deliver .ensures)
+    refusing (lent (a .settings) (a .number) (a .clock) (a .links) (a .run)) (a .link) (a .counter) (a .packet .now) _ (at .deliver .ensures)
     (sym (c .before .is-done .ensures) ∙ is-not _ (c .if1 .taken))
 
 deliver-requires-2 : tie.Need-deliver-requires-2
@@ -47,7 +48,7 @@ returns-2 : tie.Need-returns-2
 returns-2 c =
     let at = c .before .before .before .before .before in
     let a = at .before .before .args in
-    acting (lent (a .settings) (a .number) (a .clock) (a .links) (a .run)) (a .link) (a .packet .now) _ (at .deliver .ensures)
+    acting (lent (a .settings) (a .number) (a .clock) (a .links) (a .run)) (a .link) (a .counter) (a .packet .now) _ (at .deliver .ensures)
     (sym (c .before .before .before .is-done .ensures) ∙ is-so _ (c .before .before .if1 .left)) _ (c .deliver2 .ensures)
 
 pub take-spec : {M : Type 1} → statement M

@@ -19,7 +19,7 @@ send-in-requires : tie.Need-send-in-requires
 send-in-requires c κs =
     let t = c .before .before .pre .ready (sym (c .before .is-done .ensures) ∙ is-so _ (c .if1 .left)) in
     let has = counted _ _ (t .link _ refl) in
-    ((has .from-one, has .to-eight), t .clock refl)
+    ((has .from-one, has .to-eight), (t .settings, t .clock refl))
 
 returns-2 : tie.Need-returns-2
 returns-2 c = rw (sym (c .before .before .is-done .ensures) ∙ is-so _ (c .before .if1 .left)) (c .send-in .ensures)

@@ -1,12 +1,12 @@
--- Each part by its function; our reading is a time of the day, since the clock is in range.
+-- Each part by its function; our reading is a time of the day.
 use mathlib.Core.Path.{_∙_, sym}
 use borrow.Author.Needs.{needs}
 use Rattle.table.proofs.Ranges.{reading-in}
 use Rattle.sending.proofs.sends.Statement.{statement}
 use Rattle.sending.proofs.sends.Tie as tie
 
-reading-requires : tie.Need-reading-requires
-reading-requires c κs = search needs
+our-reading-requires : tie.Need-our-reading-requires
+our-reading-requires c κs = search needs
 
 link-of-requires : tie.Need-link-of-requires
 link-of-requires c κs = search needs
@@ -35,12 +35,12 @@ with-link-requires c κs = search needs
 packet-sent-requires : tie.Need-packet-sent-requires
 packet-sent-requires c κs =
     let start = c .before .before .before .before .before .before .before .before .before .before in
-    rw (c .before .before .before .before .before .before .before .before .before .reading .ensures) (reading-in (start .args .c) (start .pre .1))
+    rw (c .before .before .before .before .before .before .before .before .before .our-reading .ensures) (reading-in (start .args .s .«clock_tick») (start .args .s .«hold_interval») (start .args .k) (start .args .c))
 
 returns : tie.Need-returns
 returns c =
     rw (
-      ← c .before .before .before .before .before .before .before .before .before .before .reading .ensures,
+      ← c .before .before .before .before .before .before .before .before .before .before .our-reading .ensures,
       ← c .before .before .before .before .before .before .before .before .before .link-of .ensures,
       ← c .before .before .before .before .before .before .before .before .report-count .ensures,
       ← c .before .before .before .before .length .ensures,
@@ -54,7 +54,7 @@ pub sends-spec : {M : Type 1} → statement M
 sends-spec =
     tie.close
     (tie.spec
-    reading-requires
+    our-reading-requires
     link-of-requires
     report-count-requires
     cast-end

@@ -5,6 +5,7 @@ use mathlib.Core.List.{List}
 use Prim.Native.Nat.{ℕ, _≤_}
 use lib.ListN.{length}
 use Rattle.answer.specs.declared.Answer.{Answer}
+use Rattle.clock.specs.declared.Counter.{Counter}
 use Rattle.wire.specs.Packet.{packetLength}
 use Rattle.wire.specs.code.Ranges.{Four}
 use Rattle.wire.specs.code.Sealing.{sealed}
@@ -13,8 +14,8 @@ use Rattle.host.specs.Guard.{done}
 use Rattle.sending.specs.declared.Sending.{Sending}
 use Rattle.sending.specs.Send.{unsent, sendIn}
 
-abbrev pub planned : Answer → (link room : ℕ) → Host → Sending
-planned g i room h = cond (not (done g)) (unsent g h) (sendIn i room h)
+abbrev pub planned : Answer → (link : ℕ) → Counter → (room : ℕ) → Host → Sending
+planned g i k room h = cond (not (done g)) (unsent g h) (sendIn i k room h)
 
 -- what completing a message asks: its room, and a time that four octets hold
 pub record Finishable (p : Sending) (buffer : List ℕ) : Type 0 where

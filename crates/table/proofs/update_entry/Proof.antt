@@ -19,15 +19,15 @@ line-d-requires c κs = search needs
 returns : tie.Need-returns
 returns c =
     let came = sym (c .before .before .before .before .x2 .given .1) ∙ c .before .before .before .before .before .before .lines .ensures in
-    stored-set _ _ _ _ _ _ _ _ (c .before .before .if1 .taken) (c .line-d .ensures) came
+    stored-set _ _ _ _ _ _ _ _ _ (c .before .before .if1 .taken) (c .line-d .ensures) came
 
 returns-2 : tie.Need-returns-2
-returns-2 c = ended _ _ _ _ _ _ _ (sym (c .before .x .given .1) ∙ c .before .before .before .lines .ensures)
+returns-2 c = ended _ _ _ _ _ _ _ _ (sym (c .before .x .given .1) ∙ c .before .before .before .lines .ensures)
 
 returns-3 : tie.Need-returns-3
 returns-3 c =
     let came = sym (c .before .before .x2 .given .1) ∙ c .before .before .before .before .lines .ensures in
-    stored-unset _ _ _ _ _ _ _ (c .if1 .left) came
+    stored-unset _ _ _ _ _ _ _ _ (c .if1 .left) came
 
 pub update-entry-spec : {M : Type 1} → statement M
 update-entry-spec =

@@ -2,7 +2,7 @@
 use mathlib.Core.Path.{_≡_}
 use mathlib.Core.Bool.{Bool, true, _&&_}
 use mathlib.Core.List.{List, [], _∷_, map}
-use Prim.Native.Nat.{ℕ, _+_, _-_, _≤_, _<_}
+use Prim.Native.Nat.{ℕ, _+_, _-_, _≤_, _<_, _^_}
 use lib.ListN.{length}
 use Rattle.lists.specs.Lists.{part}
 use Rattle.clock.specs.Clock.{clockInRange}
@@ -52,6 +52,7 @@ pub record Sound (w : Updates) (packet : List ℕ) : Type 0 where
   pub based : w .base ≤ w .first
   pub clock : clockInRange (w .clock) ≡ true
   pub hold : w .«hold_interval» .0 ≤ 255
+  pub count : w .count .0 < 2 ^ 16
   pub delay : upTo ownMost (w .update .delay) ≡ true
   pub reports : w .table ≡ true → packetLength (w .end - w .base) ≤ length packet
 

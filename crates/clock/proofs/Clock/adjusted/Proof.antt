@@ -49,7 +49,7 @@ midnight-requires c κs =
 returns : tie.Need-returns
 unfolding adjust
 returns c =
-    rw (c .before .before .plus .ensures, c .before .minus .ensures, c .before .before .before .share .ensures) at (c .midnight .ensures)
+    rw (c .before .before .plus .ensures, c .before .minus .ensures, c .before .before .before .share .ensures) at (c .midnight .ensures .0)
 
 pub adjusted-spec : {M : Type 1} → statement M
 adjusted-spec =

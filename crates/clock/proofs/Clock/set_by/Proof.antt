@@ -46,7 +46,7 @@ midnight-requires c κs =
 
 returns : tie.Need-returns
 unfolding setBy
-returns c = rw (← c .before .before .slews .ensures, c .before .if1 .taken, ← c .before .before .before .of-millis .ensures) (c .midnight .ensures)
+returns c = rw (← c .before .before .slews .ensures, c .before .if1 .taken, ← c .before .before .before .of-millis .ensures) (c .midnight .ensures .0)
 
 plus-requires : tie.Need-plus-requires
 plus-requires c κs =
@@ -64,7 +64,7 @@ returns-2 : tie.Need-returns-2
 unfolding setBy
 returns-2 c =
     rw (← c .before .before .before .before .slews .ensures, c .before .before .before .if1 .left)
-    (rw (c .before .plus .ensures, c .before .before .before .before .before .of-millis .ensures) at (c .midnight2 .ensures))
+    (rw (c .before .plus .ensures, c .before .before .before .before .before .of-millis .ensures) at (c .midnight2 .ensures .0))
 
 pub set-by-spec : {M : Type 1} → statement M
 set-by-spec =

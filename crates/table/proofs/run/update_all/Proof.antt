@@ -58,7 +58,7 @@ module _ (run : List Entry) (w : Updates) (packet : List ℕ) (h : UpdatesFit w 
 
   in-range : Sound w packet → (n : ℕ) → clockInRange (made n .1) ≡ true
   in-range sound zero = sound .clock
-  in-range sound (suc n) = clock-in-range _ (w .«hold_interval») (sound .hold) (w .date) _ (made n .1) _ (in-range sound n)
+  in-range sound (suc n) = clock-in-range _ (w .«hold_interval») (sound .hold) (w .count) (sound .count) (w .date) _ (made n .1) _ (in-range sound n)
 
   asked : (n : ℕ) → w .first + n < w .end
       → (w .base ≤ w .first + n) × (Updatable w (w .first + n - w .base) packet) × (clockInRange (made n .1) ≡ true)

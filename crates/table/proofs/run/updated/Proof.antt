@@ -12,11 +12,11 @@ cast-update-entry : tie.Need-cast-update-entry
 cast-update-entry c = search needs
 
 update-entry-requires : tie.Need-update-entry-requires
-update-entry-requires c κs = (c .before .before .before .update-at .ensures .1, c .before .before .before .before .before .before .pre .2)
+update-entry-requires c κs = (c .before .before .before .before .update-at .ensures .1, c .before .before .before .before .before .before .before .pre .2)
 
 returns : tie.Need-returns
 returns c =
-    rw (← c .before .before .before .before .update-at .ensures .0) (c .update-entry .ensures)
+    rw (← c .before .before .before .before .before .update-at .ensures .0) (c .update-entry .ensures)
 
 pub updated-spec : {M : Type 1} → statement M
 updated-spec =

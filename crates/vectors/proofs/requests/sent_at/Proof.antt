@@ -30,10 +30,13 @@ good-requires c κs = search needs
 in-range-requires : tie.Need-in-range-requires
 in-range-requires c κs = search needs
 
+zero-requires : tie.Need-zero-requires
+zero-requires c κs = search needs
+
 plan-requires : tie.Need-plan-requires
 plan-requires c κs =
-    let good = sym (c .before .before .before .good2 .ensures) ∙ c .before .before .if1 .taken in
-    let ready = sym (c .before .in-range .ensures) ∙ c .if2 .taken in
+    let good = sym (c .before .before .before .before .good2 .ensures) ∙ c .before .before .before .if1 .taken in
+    let ready = sym (c .before .before .in-range .ensures) ∙ c .before .if2 .taken in
     record { ready = λ _. record { settings = good; clock = λ _. ready; link = λ j f. (let same : 1 ≡ j = cc in rw (sym same) (first-link _ good)) } }
 
 link-of-requires : tie.Need-link-of-requires
@@ -57,6 +60,7 @@ sent-at-spec =
     with-link-requires
     good-requires
     in-range-requires
+    zero-requires
     plan-requires
     link-of-requires
     returns
