@@ -1,9 +1,13 @@
 //! A host of a room, with the calls as methods.
 
-use crate::{Address, Answer, Clock, Entry, Links, Settings, LONGEST_MESSAGE, PLACES};
+use crate::{Address, Answer, Clock, Counter, Entry, Links, Settings, LONGEST_MESSAGE, PLACES};
 
 /// A host of a [`Room`](crate::Room): its settings, clock and links, and the run that it shares.
 /// Whatever is written to them, each call ends with an [`Answer`].
+///
+/// A call that reads the clock is handed the crystal's [`Counter`] as it stands then, and `tick`,
+/// `adjust` and `set` its count; the host keeps none of it. A line clock hands in
+/// [`Counter::LINE_CLOCK`], and 0. What a reading does to the clock stays, also at 10 and 11.
 #[derive(Debug)]
 pub struct Host<'a> {
     pub(crate) number: usize,
@@ -19,7 +23,7 @@ pub struct Host<'a> {
 /// What a reading tells.
 #[derive(Clone, Copy, Debug, PartialEq, Eq)]
 pub struct Reading {
-    /// The whole milliseconds of CLOCK.
+    /// The whole milliseconds of CLOCK plus the count.
     pub time: i64,
     /// The DATE word.
     pub date: u16,
@@ -79,31 +83,34 @@ impl Host<'_> {
         answer
     }
 
-    /// Adds CLOCK-TICK to the clock.
-    pub fn tick(&mut self) -> Answer {
+    /// Adds CLOCK-TICK to the clock. Midnight is tested on CLOCK plus `count`; so also in `adjust`
+    /// and `set`.
+    pub fn tick(&mut self, count: u16) -> Answer {
         answer(crate::tick(
             self.settings,
             self.number,
             self.clock,
             self.links,
             self.run,
+            count,
         ))
     }
 
     /// Moves the clock by DELTA / 128, rounded down, which DELTA loses.
-    pub fn adjust(&mut self) -> Answer {
+    pub fn adjust(&mut self, count: u16) -> Answer {
         answer(crate::adjust(
             self.settings,
             self.number,
             self.clock,
             self.links,
             self.run,
+            count,
         ))
     }
 
     /// Corrects the clock by `ms`: from -128 to +127 it becomes DELTA, which `adjust` spends;
     /// otherwise the clock is moved at once and HOLD is loaded.
-    pub fn set(&mut self, ms: i32) -> Answer {
+    pub fn set(&mut self, ms: i32, count: u16) -> Answer {
         answer(crate::set(
             self.settings,
             self.number,
@@ -111,12 +118,20 @@ impl Host<'_> {
             self.links,
             self.run,
             ms,
+            count,
         ))
     }
 
-    /// The clock's whole milliseconds and the DATE word.
-    pub fn read(&mut self) -> Result<Reading, Answer> {
-        let read = crate::read(self.settings, self.number, self.clock, self.links, self.run);
+    /// The whole milliseconds of CLOCK plus the count, and the DATE word.
+    pub fn read(&mut self, counter: Counter) -> Result<Reading, Answer> {
+        let read = crate::read(
+            self.settings,
+            self.number,
+            self.clock,
+            self.links,
+            self.run,
+            counter,
+        );
         answer(read.answer).ok()?;
         Ok(Reading {
             time: read.time,
@@ -136,27 +151,33 @@ impl Host<'_> {
     }
 
     /// Updates the host's own entry with PID 0, DELAY 0 and OFFSET 0.
-    pub fn self_report(&mut self) -> Answer {
+    pub fn self_report(&mut self, counter: Counter) -> Answer {
         answer(crate::self_report(
             self.settings,
             self.number,
             self.clock,
             self.links,
             self.run,
+            counter,
         ))
     }
 
     /// The next message of link `link`, from 1.
-    pub fn send(&mut self, link: usize) -> Result<Vec<u8>, Answer> {
+    pub fn send(&mut self, link: usize, counter: Counter) -> Result<Vec<u8>, Answer> {
         let mut message = vec![0; LONGEST_MESSAGE];
-        let length = self.send_into(link, &mut message)?;
+        let length = self.send_into(link, counter, &mut message)?;
         message.truncate(length);
         Ok(message)
     }
 
     /// Writes the next message of link `link`, from 1, to the front of a buffer; its length.
     /// Octets behind it stay.
-    pub fn send_into(&mut self, link: usize, buffer: &mut [u8]) -> Result<usize, Answer> {
+    pub fn send_into(
+        &mut self,
+        link: usize,
+        counter: Counter,
+        buffer: &mut [u8],
+    ) -> Result<usize, Answer> {
         let sent = crate::send(
             self.settings,
             self.number,
@@ -164,6 +185,7 @@ impl Host<'_> {
             self.links,
             self.run,
             link,
+            counter,
             buffer,
         );
         answer(sent.answer).ok()?;
@@ -193,7 +215,7 @@ impl Host<'_> {
 
     /// Acts on a packet, IP header first, that arrived on link `link`, from 1. Any calls may have
     /// come since [`inspect`](Host::inspect), so it tests the packet again.
-    pub fn act(&mut self, link: usize, packet: &[u8]) -> Answer {
+    pub fn act(&mut self, link: usize, counter: Counter, packet: &[u8]) -> Answer {
         answer(crate::act(
             self.settings,
             self.number,
@@ -201,13 +223,14 @@ impl Host<'_> {
             self.links,
             self.run,
             link,
+            counter,
             packet,
         ))
     }
 
     /// An arrival in one piece: [`inspect`](Host::inspect) and, where that refuses nothing,
     /// [`act`](Host::act).
-    pub fn receive(&mut self, link: usize, packet: &[u8]) -> Answer {
+    pub fn receive(&mut self, link: usize, counter: Counter, packet: &[u8]) -> Answer {
         answer(crate::receive(
             self.settings,
             self.number,
@@ -215,6 +238,7 @@ impl Host<'_> {
             self.links,
             self.run,
             link,
+            counter,
             packet,
         ))
     }

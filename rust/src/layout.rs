@@ -52,6 +52,11 @@ const _: () = {
     assert!(offset_of!(Clock, hold) == 16);
     assert!(offset_of!(Clock, date) == 18);
 
+    assert!(size_of::<Counter>() == 6 && align_of::<Counter>() == 2);
+    assert!(offset_of!(Counter, count) == 0);
+    assert!(offset_of!(Counter, overflow) == 2);
+    assert!(offset_of!(Counter, again) == 4);
+
     assert!(size_of::<Link>() == 8 && align_of::<Link>() == 2);
     assert!(offset_of!(Link, neighbor) == 0);
     assert!(offset_of!(Link, keep_alive) == 4);

@@ -17,10 +17,10 @@ pub mod capture;
 mod host;
 mod layout;
 mod library;
+pub mod ntp;
 mod room;
 mod sums;
 pub mod text;
-pub mod ntp;
 mod types;
 
 pub use answer::Answer;
@@ -43,15 +43,27 @@ pub fn initialize(
     }
 }
 
-/// Adds CLOCK-TICK to the clock.
+/// Adds CLOCK-TICK to the clock. Midnight is tested on CLOCK plus `count`, the crystal's count (0
+/// for a line clock); so also in `adjust` and `set`.
 pub fn tick(
     settings: &Settings,
     number: usize,
     clock: &mut Clock,
     links: &mut Links,
     run: &mut [Entry],
+    count: u16,
 ) -> u8 {
-    unsafe { library::hello_tick(settings, number, clock, links, run.as_mut_ptr(), run.len()) }
+    unsafe {
+        library::hello_tick(
+            settings,
+            number,
+            clock,
+            links,
+            run.as_mut_ptr(),
+            run.len(),
+            count,
+        )
+    }
 }
 
 /// Moves the clock by DELTA / 128, rounded down, which DELTA loses.
@@ -61,8 +73,19 @@ pub fn adjust(
     clock: &mut Clock,
     links: &mut Links,
     run: &mut [Entry],
+    count: u16,
 ) -> u8 {
-    unsafe { library::hello_adjust(settings, number, clock, links, run.as_mut_ptr(), run.len()) }
+    unsafe {
+        library::hello_adjust(
+            settings,
+            number,
+            clock,
+            links,
+            run.as_mut_ptr(),
+            run.len(),
+            count,
+        )
+    }
 }
 
 /// Corrects the clock by `ms`: from -128 to +127 it becomes DELTA, which `adjust` spends;
@@ -74,6 +97,7 @@ pub fn set(
     links: &mut Links,
     run: &mut [Entry],
     ms: i32,
+    count: u16,
 ) -> u8 {
     unsafe {
         library::hello_set(
@@ -84,19 +108,32 @@ pub fn set(
             run.as_mut_ptr(),
             run.len(),
             ms,
+            count,
         )
     }
 }
 
-/// The clock's whole milliseconds and the DATE word. Nothing is changed.
+/// The whole milliseconds of CLOCK plus the count, and the DATE word. What a mark adds to the clock
+/// stays, and midnight is tested on the sum; so at every reading.
 pub fn read(
     settings: &Settings,
     number: usize,
     clock: &mut Clock,
     links: &mut Links,
     run: &mut [Entry],
+    counter: Counter,
 ) -> Time {
-    unsafe { library::hello_read(settings, number, clock, links, run.as_mut_ptr(), run.len()) }
+    unsafe {
+        library::hello_read(
+            settings,
+            number,
+            clock,
+            links,
+            run.as_mut_ptr(),
+            run.len(),
+            counter,
+        )
+    }
 }
 
 /// A second has passed: HOLD and each TTL fall by one, and an entry whose TTL ends goes down.
@@ -110,21 +147,31 @@ pub fn second(
     unsafe { library::hello_second(settings, number, clock, links, run.as_mut_ptr(), run.len()) }
 }
 
-/// Updates the host's own entry with PID 0, DELAY 0 and OFFSET 0.
+/// Updates the host's own entry with PID 0, DELAY 0 and OFFSET 0, at the time of a reading.
 pub fn self_report(
     settings: &Settings,
     number: usize,
     clock: &mut Clock,
     links: &mut Links,
     run: &mut [Entry],
+    counter: Counter,
 ) -> u8 {
     unsafe {
-        library::hello_self_report(settings, number, clock, links, run.as_mut_ptr(), run.len())
+        library::hello_self_report(
+            settings,
+            number,
+            clock,
+            links,
+            run.as_mut_ptr(),
+            run.len(),
+            counter,
+        )
     }
 }
 
 /// Writes the next message of link `link`, from 1, to the front of `buffer`; a message has 32
-/// octets, or with the host table 32 + 4 NHOSTS. Octets behind it stay.
+/// octets, or with the host table 32 + 4 NHOSTS. Octets behind it stay. The clock is read once, as
+/// by `read`.
 pub fn send(
     settings: &Settings,
     number: usize,
@@ -132,6 +179,7 @@ pub fn send(
     links: &mut Links,
     run: &mut [Entry],
     link: usize,
+    counter: Counter,
     buffer: &mut [u8],
 ) -> Sent {
     unsafe {
@@ -143,6 +191,7 @@ pub fn send(
             run.as_mut_ptr(),
             run.len(),
             link,
+            counter,
             buffer.as_mut_ptr(),
             buffer.len(),
         )
@@ -176,7 +225,8 @@ pub fn inspect(
 }
 
 /// Acts on a packet, IP header first, that arrived on link `link`, from 1. Any calls may have come
-/// since `inspect`, so it tests the packet again, and takes its own reading.
+/// since `inspect`, so it tests the packet again. The clock is read once, as by `read`, unless it
+/// answers 1 to 9 or 12.
 pub fn act(
     settings: &Settings,
     number: usize,
@@ -184,6 +234,7 @@ pub fn act(
     links: &mut Links,
     run: &mut [Entry],
     link: usize,
+    counter: Counter,
     packet: &[u8],
 ) -> u8 {
     unsafe {
@@ -195,6 +246,7 @@ pub fn act(
             run.as_mut_ptr(),
             run.len(),
             link,
+            counter,
             packet.as_ptr(),
             packet.len(),
         )
@@ -209,6 +261,7 @@ pub fn receive(
     links: &mut Links,
     run: &mut [Entry],
     link: usize,
+    counter: Counter,
     packet: &[u8],
 ) -> u8 {
     unsafe {
@@ -220,6 +273,7 @@ pub fn receive(
             run.as_mut_ptr(),
             run.len(),
             link,
+            counter,
             packet.as_ptr(),
             packet.len(),
         )

@@ -1,6 +1,6 @@
 //! The C interface of `libhello.a`. Nothing but the plain calls uses it.
 
-use crate::{Address, Clock, Entry, Inspected, Links, Route, Sent, Settings, Time};
+use crate::{Address, Clock, Counter, Entry, Inspected, Links, Route, Sent, Settings, Time};
 
 extern "C" {
     pub fn hello_initialize(
@@ -19,6 +19,7 @@ extern "C" {
         links: *mut Links,
         run: *mut Entry,
         run_length: usize,
+        count: u16,
     ) -> u8;
 
     pub fn hello_adjust(
@@ -28,6 +29,7 @@ extern "C" {
         links: *mut Links,
         run: *mut Entry,
         run_length: usize,
+        count: u16,
     ) -> u8;
 
     pub fn hello_set(
@@ -38,6 +40,7 @@ extern "C" {
         run: *mut Entry,
         run_length: usize,
         ms: i32,
+        count: u16,
     ) -> u8;
 
     pub fn hello_read(
@@ -47,6 +50,7 @@ extern "C" {
         links: *mut Links,
         run: *mut Entry,
         run_length: usize,
+        counter: Counter,
     ) -> Time;
 
     pub fn hello_second(
@@ -65,6 +69,7 @@ extern "C" {
         links: *mut Links,
         run: *mut Entry,
         run_length: usize,
+        counter: Counter,
     ) -> u8;
 
     pub fn hello_send(
@@ -75,6 +80,7 @@ extern "C" {
         run: *mut Entry,
         run_length: usize,
         link: usize,
+        counter: Counter,
         buffer: *mut u8,
         buffer_length: usize,
     ) -> Sent;
@@ -99,6 +105,7 @@ extern "C" {
         run: *mut Entry,
         run_length: usize,
         link: usize,
+        counter: Counter,
         packet: *const u8,
         packet_length: usize,
     ) -> u8;
@@ -111,6 +118,7 @@ extern "C" {
         run: *mut Entry,
         run_length: usize,
         link: usize,
+        counter: Counter,
         packet: *const u8,
         packet_length: usize,
     ) -> u8;

@@ -5,14 +5,14 @@ use crate::{Clock, Entry, Host, Links, Settings, HOSTS, PLACES};
 /// Up to sixteen hosts and their host tables.
 ///
 /// ```
-/// use hello::{Address, Answer, Layout, Room, Settings};
+/// use hello::{Address, Answer, Counter, Layout, Room, Settings};
 ///
 /// let layout = Layout { address_offset: 1, nhosts: 4 };
 /// let mut room = Room::new(1);
 /// let mut host = room.host(0);
 /// assert_eq!(host.initialize(Settings::new(Address::new(192, 0, 2, 1), layout)), Answer::Done);
-/// assert_eq!(host.tick(), Answer::Done);
-/// let message = host.send(1)?;
+/// assert_eq!(host.tick(0), Answer::Done);
+/// let message = host.send(1, Counter::LINE_CLOCK)?;
 /// assert_eq!(message.len(), 32);
 /// # Ok::<(), Answer>(())
 /// ```

@@ -149,7 +149,7 @@ pub struct Settings {
     pub clock_host: u8,
     /// HOLD-INTERVAL, 1 to 255 s.
     pub hold_interval: u16,
-    /// CLOCK-TICK, 1 to 65,536,000 units of 1/65,536 ms.
+    /// CLOCK-TICK, up to 65,536 ms: 1 to 4,294,967,296 units of 1/65,536 ms.
     pub clock_tick: i64,
     /// The starting time, 0 to 86,399,999 ms.
     pub time: i64,
@@ -184,7 +184,8 @@ impl Settings {
 #[repr(C)]
 #[derive(Clone, Copy, Debug, PartialEq, Eq, Default)]
 pub struct Clock {
-    /// CLOCK in units of 1/65,536 ms, from 0 to 86,400,000 ms.
+    /// CLOCK in units of 1/65,536 ms, from -65,535 to 86,400,000 ms. A reading is CLOCK plus the
+    /// count of the crystal's counter.
     pub clock: i64,
     /// DELTA in units of 1/65,536 ms, from -128 to +127 ms.
     pub delta: i64,
@@ -193,6 +194,43 @@ pub struct Clock {
     /// The DATE word: bits 0-4 year less 1972, 5-9 day, 10-13 month, 14 zero, 15 one while a
     /// master's date is awaited.
     pub date: u16,
+}
+
+/// What a call that reads the clock is handed from the counter of 1,000 Hz that a crystal clock
+/// has. A line clock has none, and hands in [`Counter::LINE_CLOCK`], which is also the default.
+#[repr(C)]
+#[derive(Clone, Copy, Debug, PartialEq, Eq, Default)]
+pub struct Counter {
+    /// The count, in ms.
+    pub count: u16,
+    /// The mark, any number but 0: the counter has overflowed, and the tick for it is not made
+    /// yet. The reading adds CLOCK-TICK, which is then that tick, and uses `again`.
+    pub overflow: u8,
+    /// The count taken again after the overflow; not looked at without the mark.
+    pub again: u16,
+}
+
+impl Counter {
+    /// What a line clock hands in: zeros.
+    pub const LINE_CLOCK: Counter = Counter::of(0);
+
+    /// A count without the mark.
+    pub const fn of(count: u16) -> Counter {
+        Counter {
+            count,
+            overflow: 0,
+            again: 0,
+        }
+    }
+
+    /// A count behind which the counter overflowed, and the count taken again.
+    pub const fn overflowed(count: u16, again: u16) -> Counter {
+        Counter {
+            count,
+            overflow: 1,
+            again,
+        }
+    }
 }
 
 /// A link's state.
@@ -259,7 +297,7 @@ pub struct Route {
 pub struct Time {
     /// The answer number.
     pub answer: u8,
-    /// The whole milliseconds of CLOCK; 0 when refused.
+    /// The whole milliseconds of CLOCK plus the count; 0 when refused.
     pub time: i64,
     /// The DATE word; 0 when refused.
     pub date: u16,
