@@ -57,7 +57,8 @@ static void set_up(host *h, size_t number, int64_t time)
 /* The clock's whole milliseconds. */
 static int64_t reading(host *h)
 {
-    hello_time time = hello_read(&h->settings, h->number, &h->clock, &h->links, run, RUN);
+    hello_time time = hello_read(&h->settings, h->number, &h->clock, &h->links, run, RUN,
+                                 HELLO_LINE_CLOCK);
     assert(time.answer == HELLO_DONE);
     return time.time;
 }
@@ -66,7 +67,7 @@ static int64_t reading(host *h)
 static void wait_until(host *h, int64_t time)
 {
     while (reading(h) < time) {
-        uint8_t answer = hello_tick(&h->settings, h->number, &h->clock, &h->links, run, RUN);
+        uint8_t answer = hello_tick(&h->settings, h->number, &h->clock, &h->links, run, RUN, 0);
         assert(answer == HELLO_DONE);
     }
     assert(reading(h) == time);
@@ -75,7 +76,8 @@ static void wait_until(host *h, int64_t time)
 /* Reports the host itself in its own table. */
 static void self_report(host *h)
 {
-    uint8_t answer = hello_self_report(&h->settings, h->number, &h->clock, &h->links, run, RUN);
+    uint8_t answer = hello_self_report(&h->settings, h->number, &h->clock, &h->links, run, RUN,
+                                       HELLO_LINE_CLOCK);
     assert(answer == HELLO_DONE);
 }
 
@@ -83,7 +85,7 @@ static void self_report(host *h)
 static size_t send_now(host *h, uint8_t *message)
 {
     hello_sent sent = hello_send(&h->settings, h->number, &h->clock, &h->links, run, RUN, LINK,
-                                 message, MESSAGE);
+                                 HELLO_LINE_CLOCK, message, MESSAGE);
     assert(sent.answer == HELLO_DONE);
     return sent.length;
 }
@@ -95,7 +97,7 @@ static hello_inspected take_now(host *h, const uint8_t *message, size_t length)
                                          LINK, message, length);
     assert(said.answer == HELLO_DONE);
     uint8_t answer = hello_act(&h->settings, h->number, &h->clock, &h->links, run, RUN, LINK,
-                               message, length);
+                               HELLO_LINE_CLOCK, message, length);
     assert(answer == HELLO_DONE);
     return said;
 }

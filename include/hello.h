@@ -26,11 +26,12 @@
  *        ADDRESS-OFFSET is not ours
  *   9    the source is our own LOCAL-ADDRESS, on a      nothing
  *        point-to-point link
- *   10   the delay is not valid: from the neighbor on   that link's KEEP-ALIVE and TSP
- *        a point-to-point link, the packet's TSP is 0
+ *   10   the delay is not valid: from the neighbor on   the clock, by its reading; that link's
+ *        a point-to-point link, the packet's TSP is 0   KEEP-ALIVE and TSP
  *        or HOLD is not 0
- *   11   the address has no id                          act, receive: that link's KEEP-ALIVE, TSP
- *                                                       and NEIGHBOR-ADDRESS; lookup: nothing
+ *   11   the address has no id                          act, receive: the clock, by its reading;
+ *                                                       that link's KEEP-ALIVE, TSP and
+ *                                                       NEIGHBOR-ADDRESS; lookup: nothing
  *   12   the host's number is over 15; the link is not  nothing
  *        from 1 to the host's count (8 at most); the
  *        host's 255 places are not all in the run; or
@@ -60,6 +61,11 @@
  *
  * A call need not keep the padding between members, so structs are not to be compared or hashed
  * octet by octet.
+ *
+ * A host has a line clock, which is CLOCK alone, or a crystal clock, which is CLOCK plus the count
+ * of a 16-bit counter of 1,000 Hz. Each call that reads the clock is handed a hello_counter, and
+ * tick, adjust and set the count; a line clock hands in HELLO_LINE_CLOCK, and 0. Nothing in the
+ * settings tells which clock a host has.
  *
  * The library keeps nothing between calls, allocates nothing and does no input or output.
  */
@@ -144,7 +150,8 @@ typedef struct hello_settings {
     uint8_t clock_host;     /* id of the host that sets the clock, below NHOSTS; 255: clock setting
                                is off */
     uint16_t hold_interval; /* HOLD-INTERVAL, 1 to 255 s */
-    int64_t clock_tick;     /* CLOCK-TICK, 1 to 65,536,000 units of 1/65,536 ms */
+    int64_t clock_tick;     /* CLOCK-TICK, up to 65,536 ms: 1 to 4,294,967,296 units of 1/65,536
+                               ms */
     int64_t time;           /* starting time, 0 to 86,399,999 ms */
     uint16_t date;          /* starting date, a real one with bit 14 zero; bit 15 not looked at */
     size_t link_count;      /* 1 to 8: the host's links are the first link_count */
@@ -157,11 +164,22 @@ typedef struct hello_settings {
  * while a master's date is awaited. Only real dates from 1 January 1972 to 31 December 2003.
  */
 typedef struct hello_clock {
-    int64_t clock; /* CLOCK, 0 to 86,400,000 ms, in units of 1/65,536 ms */
+    int64_t clock; /* CLOCK, -65,535 to 86,400,000 ms, in units of 1/65,536 ms */
     int64_t delta; /* DELTA, -128 to +127 ms, in units of 1/65,536 ms */
     uint16_t hold; /* HOLD, 0 to 255 s */
     uint16_t date; /* DATE, a real date */
 } hello_clock;
+
+/* What a reading is handed of a crystal's counter. */
+typedef struct hello_counter {
+    uint16_t count;   /* its count, ms */
+    uint8_t overflow; /* the mark, any number but 0: it has overflowed, and there has been no tick
+                         for that yet. The reading makes it, and uses the count taken again */
+    uint16_t again;   /* the count taken again after the overflow; else not looked at */
+} hello_counter;
+
+/* What a line clock hands in. */
+static const hello_counter HELLO_LINE_CLOCK = {0, 0, 0};
 
 /* The state of a link. */
 typedef struct hello_link {
@@ -200,7 +218,7 @@ typedef struct hello_route {
 /* What a reading answers. */
 typedef struct hello_time {
     uint8_t answer;
-    int64_t time;  /* the whole milliseconds of CLOCK; 0 when refused */
+    int64_t time;  /* the whole milliseconds of CLOCK plus the count; 0 when refused */
     uint16_t date; /* the DATE word; 0 when refused */
 } hello_time;
 
@@ -222,27 +240,33 @@ uint8_t hello_initialize(const hello_settings *settings, size_t number, hello_cl
                          hello_links *links, hello_entry *run, size_t run_length);
 
 /*
- * Adds CLOCK-TICK to CLOCK. Past 86,400,000 ms the clock loses a day, DATE moves on, its bit 15 is
- * set and HOLD becomes HOLD-INTERVAL; so also after adjust and set, and the other way below 0.
- * Answers 0, 1, 12.
+ * Adds CLOCK-TICK to CLOCK. Where CLOCK plus `count` is past 86,400,000 ms, CLOCK loses a day, DATE
+ * moves on, its bit 15 is set and HOLD becomes HOLD-INTERVAL; so also after adjust and set, and the
+ * other way below 0. Answers 0, 1, 12.
  */
 uint8_t hello_tick(const hello_settings *settings, size_t number, hello_clock *clock,
-                   hello_links *links, hello_entry *run, size_t run_length);
+                   hello_links *links, hello_entry *run, size_t run_length, uint16_t count);
 
 /* Moves CLOCK by DELTA / 128, rounded down, which DELTA loses. Answers 0, 1, 12. */
 uint8_t hello_adjust(const hello_settings *settings, size_t number, hello_clock *clock,
-                     hello_links *links, hello_entry *run, size_t run_length);
+                     hello_links *links, hello_entry *run, size_t run_length, uint16_t count);
 
 /*
  * Corrects the clock by `ms`. From -128 to +127 it becomes DELTA, which adjust spends. Otherwise
  * it is added to CLOCK at once, DELTA becomes 0 and HOLD becomes HOLD-INTERVAL. Answers 0, 1, 12.
  */
 uint8_t hello_set(const hello_settings *settings, size_t number, hello_clock *clock,
-                  hello_links *links, hello_entry *run, size_t run_length, int32_t ms);
+                  hello_links *links, hello_entry *run, size_t run_length, int32_t ms,
+                  uint16_t count);
 
-/* Reads the whole milliseconds of CLOCK, and DATE. Changes nothing. Answers 0, 1, 12. */
+/*
+ * Reads the whole milliseconds of CLOCK plus the count, and DATE. With the mark, CLOCK-TICK is added
+ * to CLOCK first, and stays. Midnight is tested on the sum as after a tick, so that a reading may
+ * move DATE and load HOLD. Answers 0, 1, 12.
+ */
 hello_time hello_read(const hello_settings *settings, size_t number, hello_clock *clock,
-                      hello_links *links, hello_entry *run, size_t run_length);
+                      hello_links *links, hello_entry *run, size_t run_length,
+                      hello_counter counter);
 
 /*
  * A second has passed: HOLD and each TTL fall by one unless zero. An entry that was up and whose
@@ -251,19 +275,24 @@ hello_time hello_read(const hello_settings *settings, size_t number, hello_clock
 uint8_t hello_second(const hello_settings *settings, size_t number, hello_clock *clock,
                      hello_links *links, hello_entry *run, size_t run_length);
 
-/* Updates the host's own entry with PID 0, DELAY 0 and OFFSET 0. Answers 0, 1, 12. */
+/*
+ * Reads the clock as hello_read does, and updates the host's own entry with PID 0, DELAY 0 and
+ * OFFSET 0. Answers 0, 1, 12.
+ */
 uint8_t hello_self_report(const hello_settings *settings, size_t number, hello_clock *clock,
-                          hello_links *links, hello_entry *run, size_t run_length);
+                          hello_links *links, hello_entry *run, size_t run_length,
+                          hello_counter counter);
 
 /*
- * Writes the next message of link `link` (from 1) to the front of the buffer, IP header first, and
- * answers its length: 32 octets, or 32 + 4 NHOSTS (1,052 at most) with the host table, which goes
- * out once the neighbor is known and on the host's net. KEEP-ALIVE falls by one unless zero.
- * Octets of the buffer behind the message stay. Answers 0, 1, 2, 12.
+ * Reads the clock as hello_read does, unless it answers 1, 2 or 12. Writes the next message of link
+ * `link` (from 1) to the front of the buffer, IP header first, and answers its length: 32 octets, or
+ * 32 + 4 NHOSTS (1,052 at most) with the host table, which goes out once the neighbor is known and
+ * on the host's net. KEEP-ALIVE falls by one unless zero. Octets of the buffer behind the message
+ * stay. Answers 0, 1, 2, 12.
  */
 hello_sent hello_send(const hello_settings *settings, size_t number, hello_clock *clock,
                       hello_links *links, hello_entry *run, size_t run_length, size_t link,
-                      uint8_t *buffer, size_t buffer_length);
+                      hello_counter counter, uint8_t *buffer, size_t buffer_length);
 
 /*
  * Looks at a packet, IP header first, that arrived on link `link` (from 1): would it be taken, and
@@ -276,13 +305,14 @@ hello_inspected hello_inspect(const hello_settings *settings, size_t number, hel
 
 /*
  * Acts on a packet, IP header first, that arrived on link `link` (from 1). Any calls may have come
- * since hello_inspect, so it tests the packet again. On 0 the link's keep_alive, tsp and neighbor,
- * the entries that the packet's report changes and, where the report of the clock host is taken,
- * the clock are as RFC 891 says. Answers 0, 1, 3 to 12.
+ * since hello_inspect, so it tests the packet again. Unless it answers 1 to 9 or 12, it reads the
+ * clock as hello_read does. On 0 the link's keep_alive, tsp and neighbor, the entries that the
+ * packet's report changes and, where the report of the clock host is taken, the clock are as RFC
+ * 891 says. Answers 0, 1, 3 to 12.
  */
 uint8_t hello_act(const hello_settings *settings, size_t number, hello_clock *clock,
                   hello_links *links, hello_entry *run, size_t run_length, size_t link,
-                  const uint8_t *packet, size_t packet_length);
+                  hello_counter counter, const uint8_t *packet, size_t packet_length);
 
 /*
  * An arrival in one piece: hello_inspect and, where that answers 0, hello_act. It answers and
@@ -290,7 +320,7 @@ uint8_t hello_act(const hello_settings *settings, size_t number, hello_clock *cl
  */
 uint8_t hello_receive(const hello_settings *settings, size_t number, hello_clock *clock,
                       hello_links *links, hello_entry *run, size_t run_length, size_t link,
-                      const uint8_t *packet, size_t packet_length);
+                      hello_counter counter, const uint8_t *packet, size_t packet_length);
 
 /*
  * Answers the id of `address`, by the host's own net or by the net table, and the link by which it

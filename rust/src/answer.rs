@@ -29,11 +29,11 @@ pub enum Answer {
     OtherLayout = 8,
     /// The source is our own LOCAL-ADDRESS, on a point-to-point link.
     LoopedLine = 9,
-    /// The delay is not valid: the packet's TSP is 0, or HOLD is not. The link's KEEP-ALIVE and
-    /// TSP are changed.
+    /// The delay is not valid: the packet's TSP is 0, or HOLD is not. The clock is changed, by its
+    /// reading, and the link's KEEP-ALIVE and TSP are.
     DelayNotValid = 10,
-    /// The address has no id. A lookup changes nothing; `act` and `receive` change the link's
-    /// KEEP-ALIVE, TSP and NEIGHBOR-ADDRESS.
+    /// The address has no id. A lookup changes nothing; `act` and `receive` change the clock, by
+    /// its reading, and the link's KEEP-ALIVE, TSP and NEIGHBOR-ADDRESS.
     NoHost = 11,
     /// The host's number is over 15; the link is not from 1 to the host's count (8 at most); the
     /// host's 255 places are not all in the run; or something lent is out of range.
