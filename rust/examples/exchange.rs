@@ -6,7 +6,7 @@
 //!
 //! Run with `cargo run --example exchange`.
 
-use hello::{Address, Answer, Entry, Found, Host, Layout, Room, Seen, Settings};
+use hello::{Address, Answer, Counter, Entry, Found, Host, Layout, Room, Seen, Settings};
 
 /// The hosts' numbers in the room, which are their ids too.
 const A: usize = 0;
@@ -14,6 +14,9 @@ const B: usize = 1;
 
 /// Both hosts have one link, number 1.
 const LINK: usize = 1;
+
+/// Both have a line clock, which ticks each ms.
+const LINE_CLOCK: Counter = Counter::LINE_CLOCK;
 
 /// The address of host `number`: 192.0.2.1 and 192.0.2.2.
 fn address(number: usize) -> Address {
@@ -34,17 +37,17 @@ fn settings(number: usize, time: i64) -> Settings {
 
 /// Ticks until the host's clock reads `time` ms.
 fn wait_until(mut host: Host, time: i64) -> Result<(), Answer> {
-    while host.read()?.time < time {
-        host.tick().ok()?;
+    while host.read(LINE_CLOCK)?.time < time {
+        host.tick(0).ok()?;
     }
-    assert_eq!(host.read()?.time, time);
+    assert_eq!(host.read(LINE_CLOCK)?.time, time);
     Ok(())
 }
 
 /// Takes a message that arrives now: looks at it, then acts on it. What it says.
 fn take(mut host: Host, message: &[u8]) -> Result<Seen, Answer> {
     let seen = host.inspect(LINK, message)?;
-    host.act(LINK, message).ok()?;
+    host.act(LINK, LINE_CLOCK, message).ok()?;
     Ok(seen)
 }
 
@@ -54,7 +57,7 @@ fn main() -> Result<(), Answer> {
     room.host(B).initialize(settings(B, 40_400)).ok()?;
 
     // B introduces itself, so that A knows its neighbor.
-    let introduction = room.host(B).send(LINK)?;
+    let introduction = room.host(B).send(LINK, LINE_CLOCK)?;
     wait_until(room.host(A), 39_930)?;
     let seen = take(room.host(A), &introduction)?;
     let expected = Seen {
@@ -67,14 +70,14 @@ fn main() -> Result<(), Answer> {
     assert_eq!(room.host(A).links.all[0].neighbor, address(B));
 
     wait_until(room.host(A), 40_000)?;
-    let question = room.host(A).send(LINK)?;
+    let question = room.host(A).send(LINK, LINE_CLOCK)?;
     wait_until(room.host(B), 40_530)?;
     assert_eq!(take(room.host(B), &question)?.time, 40_000);
     assert_eq!(room.host(B).links.all[0].tsp, -530);
 
     wait_until(room.host(B), 45_530)?;
-    room.host(B).self_report().ok()?;
-    let reply = room.host(B).send(LINK)?;
+    room.host(B).self_report(LINE_CLOCK).ok()?;
+    let reply = room.host(B).send(LINK, LINE_CLOCK)?;
     wait_until(room.host(A), 45_081)?;
     let seen = take(room.host(A), &reply)?;
     assert_eq!((seen.time, seen.tsp, seen.nhosts), (45_530, 45_000, 2));

@@ -1,7 +1,9 @@
 //! The ends of what the safe calls take: empty slices, numbers far out of range.
 
-use hello::{Address, Answer, Clock, Entry, Layout, LinkSetting, Links, Room, Settings};
-use hello::{HOSTS, LONGEST_MESSAGE, PLACES};
+use hello::{Address, Answer, Clock, Counter, Entry, Layout, LinkSetting, Links, Room, Settings};
+use hello::{HOSTS, LONGEST_MESSAGE, PLACES, UNITS_PER_MS};
+
+const LINE_CLOCK: Counter = Counter::LINE_CLOCK;
 
 /// Good settings of host 192.0.2.1 among four.
 fn settings() -> Settings {
@@ -28,13 +30,16 @@ fn empty_slices_are_answered() {
 
     let mut room = room(1);
     let mut host = room.host(0);
-    assert_eq!(host.send_into(1, &mut []), Err(Answer::ShortBuffer));
+    assert_eq!(
+        host.send_into(1, LINE_CLOCK, &mut []),
+        Err(Answer::ShortBuffer)
+    );
     assert_eq!(host.inspect(1, &[]), Err(Answer::IpForm));
-    assert_eq!(host.act(1, &[]), Answer::IpForm);
-    assert_eq!(host.receive(1, &[]), Answer::IpForm);
+    assert_eq!(host.act(1, LINE_CLOCK, &[]), Answer::IpForm);
+    assert_eq!(host.receive(1, LINE_CLOCK, &[]), Answer::IpForm);
 
     let (clock, links) = (&mut Clock::default(), &mut Links::default());
-    let tick = hello::tick(&settings(), 0, clock, links, &mut []);
+    let tick = hello::tick(&settings(), 0, clock, links, &mut [], 0);
     assert_eq!(tick, Answer::OutOfRange.number());
 }
 
@@ -49,10 +54,10 @@ fn numbers_far_out_of_range_are_answered() {
     let mut room = room(HOSTS);
     let mut host = room.host(HOSTS - 1);
     for link in [0, 2, 9, usize::MAX] {
-        assert_eq!(host.send(link), Err(Answer::OutOfRange));
+        assert_eq!(host.send(link, LINE_CLOCK), Err(Answer::OutOfRange));
         assert_eq!(host.inspect(link, &[]), Err(Answer::OutOfRange));
-        assert_eq!(host.act(link, &[]), Answer::OutOfRange);
-        assert_eq!(host.receive(link, &[]), Answer::OutOfRange);
+        assert_eq!(host.act(link, LINE_CLOCK, &[]), Answer::OutOfRange);
+        assert_eq!(host.receive(link, LINE_CLOCK, &[]), Answer::OutOfRange);
     }
 }
 
@@ -78,9 +83,9 @@ fn settings_far_out_of_range_are_answered() {
 fn lent_values_far_out_of_range_are_answered() {
     let mut room = room(1);
     let mut host = room.host(0);
-    for value in [i64::MIN, -1, i64::MAX] {
+    for value in [i64::MIN, -65_535 * UNITS_PER_MS - 1, i64::MAX] {
         host.clock.clock = value;
-        assert_eq!(host.tick(), Answer::OutOfRange);
+        assert_eq!(host.tick(0), Answer::OutOfRange);
         assert_eq!(host.clock.clock, value);
     }
 }
@@ -94,7 +99,7 @@ fn octets_behind_a_message_and_other_places_stay() {
     assert!(own[..4].iter().all(|entry| entry.delay == 30_000));
 
     let mut buffer = [0xAA; 40];
-    assert_eq!(room.host(1).send_into(1, &mut buffer), Ok(32));
+    assert_eq!(room.host(1).send_into(1, LINE_CLOCK, &mut buffer), Ok(32));
     assert_eq!(buffer[32..], [0xAA; 8]);
 }
 
@@ -102,8 +107,8 @@ fn octets_behind_a_message_and_other_places_stay() {
 fn a_host_that_is_not_set_is_refused() {
     let mut room = room(2);
     let mut host = room.host(0);
-    assert_eq!(host.tick(), Answer::OutOfRange);
-    assert_eq!(host.read(), Err(Answer::OutOfRange));
+    assert_eq!(host.tick(0), Answer::OutOfRange);
+    assert_eq!(host.read(LINE_CLOCK), Err(Answer::OutOfRange));
     assert_eq!(host.table().len(), 0);
 }
 
@@ -116,7 +121,7 @@ fn the_longest_message_is_sent_whole() {
     wide.links[0] = LinkSetting::broadcast(Address::new(192, 0, 2, 2));
     assert_eq!(host.initialize(wide), Answer::Done);
     assert_eq!(
-        host.send(1).map(|message| message.len()),
+        host.send(1, LINE_CLOCK).map(|message| message.len()),
         Ok(LONGEST_MESSAGE)
     );
     assert_eq!(LONGEST_MESSAGE, 1_052);

@@ -1,7 +1,11 @@
 //! Rules that are seen at whole calls only: what a send tells of a route, how an entry ages, what a
 //! lookup tells, and how a packet is inspected and acted on.
 
-use hello::{Address, Answer, Entry, Found, Host, Layout, LinkSetting, Room, Seen, Settings};
+use hello::{
+    Address, Answer, Counter, Entry, Found, Host, Layout, LinkSetting, Room, Seen, Settings,
+};
+
+const LINE_CLOCK: Counter = Counter::LINE_CLOCK;
 
 /// A route by that link.
 fn route(delay: i64, ttl: u16, pid: u8) -> Entry {
@@ -32,7 +36,8 @@ fn with_host<T>(entry: Entry, run: impl Fn(Host) -> T) -> T {
 
 /// DELAY and OFFSET of id 2 in a message of the link.
 fn advertised(entry: Entry, link: usize) -> (u16, u16) {
-    let message = with_host(entry, |mut host| host.send(link)).expect("a send that is done");
+    let message =
+        with_host(entry, |mut host| host.send(link, LINE_CLOCK)).expect("a send that is done");
     let word = |at: usize| u16::from_be_bytes([message[at], message[at + 1]]);
     (word(40), word(42))
 }
@@ -89,7 +94,7 @@ fn room_and_message() -> (Room, Vec<u8>) {
     let mut b = room.host(B);
     let link = &mut b.links.all[0];
     (link.neighbor, link.keep_alive, link.tsp) = (address(A), 1, -2);
-    let message = b.send(1).expect("a send that is done");
+    let message = b.send(1, LINE_CLOCK).expect("a send that is done");
     (room, message)
 }
 
@@ -121,24 +126,24 @@ fn calls_may_come_between_inspection_and_action() {
     let (mut room, message) = room_and_message();
     let mut a = room.host(A);
     assert!(a.inspect(1, &message).is_ok());
-    assert_eq!(a.set(200), Answer::Done);
-    assert_eq!(a.act(1, &message), Answer::Done);
+    assert_eq!(a.set(200, 0), Answer::Done);
+    assert_eq!(a.act(1, LINE_CLOCK, &message), Answer::Done);
     assert_eq!(a.links.all[0].tsp, -200);
     // Its delay is not valid while HOLD runs, and its source may become the host's own address.
     assert!(a.inspect(1, &message).is_ok());
-    assert_eq!(a.act(1, &message), Answer::DelayNotValid);
+    assert_eq!(a.act(1, LINE_CLOCK, &message), Answer::DelayNotValid);
     a.settings.address = address(B);
-    assert_eq!(a.act(1, &message), Answer::LoopedLine);
+    assert_eq!(a.act(1, LINE_CLOCK, &message), Answer::LoopedLine);
 }
 
 #[test]
 fn an_arrival_is_the_pair_and_the_action_alone() {
     let (room, message) = room_and_message();
     let [mut whole, mut pair, mut alone] = [room.clone(), room.clone(), room];
-    assert_eq!(whole.host(A).receive(1, &message), Answer::Done);
+    assert_eq!(whole.host(A).receive(1, LINE_CLOCK, &message), Answer::Done);
     assert!(pair.host(A).inspect(1, &message).is_ok());
     for acting in [&mut pair, &mut alone] {
-        assert_eq!(acting.host(A).act(1, &message), Answer::Done);
+        assert_eq!(acting.host(A).act(1, LINE_CLOCK, &message), Answer::Done);
         assert_eq!(kept(acting, A), kept(&mut whole, A));
     }
 }
