@@ -100,6 +100,14 @@ class Fields(unittest.TestCase):
                 call(1 << 64, b"")
         with self.assertRaises(OverflowError):
             host.lookup((1, 2, 3, 256))
+        for call in (host.tick, host.adjust):
+            with self.assertRaises(OverflowError):
+                call(count=1 << 16)
+        for counter in ((1 << 16, False, 0), (0, True, -1)):
+            with self.assertRaises(OverflowError, msg=counter):
+                host.read(counter=counter)
+        with self.assertRaises(ValueError):
+            host.read(counter=(0, False))
         host.number = -1
         with self.assertRaises(OverflowError):
             host.tick()
@@ -115,6 +123,8 @@ class Types(unittest.TestCase):
         for value in (1, 2, None):
             with self.assertRaises(TypeError):
                 settings(links=[(value, (0, 0, 0, 0))])
+            with self.assertRaises(TypeError):
+                fresh().read(counter=(0, value, 0))
 
     def test_lent(self):
         for place in ("settings", "clock", "links"):
@@ -213,6 +223,76 @@ class Answers(unittest.TestCase):
         self.assertEqual(library.tick(*lent), 0)
         self.assertEqual(library.read(*lent), (0, 1, host.clock.date))
         self.assertEqual(library.tick(*lent[:4], hello.Run(0)), 12)
+
+
+class CrystalClock(unittest.TestCase):
+    """A reading is CLOCK plus the count of a counter of 1,000 Hz, which overflows each TICK ms."""
+
+    DAY = 86_400_000
+    TICK = 65_536
+
+    def crystal(self, time):
+        """A host with a crystal clock, that many ms after midnight of 2 January 1972."""
+        return fresh(
+            clock_tick=self.TICK * hello.UNITS_PER_MS, time=time, date=hello.date_word(1972, 1, 2)
+        )
+
+    def state(self, host):
+        """CLOCK in ms, and the day of January."""
+        return host.clock.clock / hello.UNITS_PER_MS, host.clock.date >> 5 & 31
+
+    def test_count(self):
+        host = self.crystal(1000)
+        self.assertEqual(host.read().time, 1000)
+        self.assertEqual(host.read(hello.Counter(234)).time, 1234)
+        message = host.send(1, counter=hello.Counter(234)).message
+        self.assertEqual(message[24:28], (1234).to_bytes(4, "big"))
+        self.assertEqual(self.state(host), (1000, 2))
+
+    def test_mark(self):
+        host = self.crystal(1000)
+        marked = hello.Counter(65_535, overflow=True, again=7)
+        self.assertEqual(host.read(counter=marked).time, 1000 + self.TICK + 7)
+        self.assertEqual(self.state(host), (1000 + self.TICK, 2))
+        self.assertIs(host.self_report(counter=marked), Answer.DONE)
+        self.assertEqual(host.table[0].time, 1000 + 2 * self.TICK + 7)
+
+    def test_midnight(self):
+        host = self.crystal(self.DAY - 10)
+        self.assertEqual(host.read(hello.Counter(10)).time, self.DAY)
+        self.assertEqual(host.read(hello.Counter(11)).time, 1)
+        self.assertEqual((self.state(host), host.clock.hold), ((-10, 3), 1))
+        self.assertIs(host.adjust(count=10), Answer.DONE)
+        self.assertEqual(self.state(host), (-10, 3))
+        self.assertEqual(host.read(hello.Counter(9)).time, self.DAY - 1)
+        self.assertEqual(self.state(host), (self.DAY - 10, 2))
+        self.assertIs(host.set(-self.DAY, count=9), Answer.DONE)
+        self.assertEqual(self.state(host), (self.DAY - 10, 1))
+        self.assertIs(host.tick(count=0), Answer.DONE)
+        self.assertEqual(self.state(host), (self.TICK - 10, 2))
+
+    def test_ranges(self):
+        host = self.crystal(0)
+        host.clock.clock = -65_535 * hello.UNITS_PER_MS
+        self.assertIs(host.second(), Answer.DONE)
+        host.clock.clock -= 1
+        self.assertIs(host.second(), Answer.OUT_OF_RANGE)
+        host = self.crystal(0)
+        host.settings.clock_tick += 1
+        self.assertIs(host.tick(), Answer.SETTING)
+
+    def test_refusals_keep_the_reading(self):
+        marked = hello.Counter(0, overflow=True, again=5)
+        neighbor = hello.Address(192, 0, 2, 2)
+        message = fresh(address=neighbor).send(1).message
+        for call in ("act", "receive"):
+            host = self.crystal(1000)
+            host.links[0] = hello.Link(neighbor)
+            answer = getattr(host, call)(1, message, counter=marked)
+            self.assertIs(answer, Answer.DELAY_NOT_VALID)
+            self.assertEqual(self.state(host), (1000 + self.TICK, 2))
+            self.assertIs(getattr(host, call)(1, b"", counter=marked), Answer.IP_FORM)
+            self.assertEqual(self.state(host), (1000 + self.TICK, 2))
 
 
 if __name__ == "__main__":

@@ -9,6 +9,12 @@ has settings, a clock and links, and the calls as methods.
     host.tick()  # Answer.DONE
     host.send(1)  # Sent(answer=Answer.DONE, message=b"E...")
 
+The clock is a line clock unless a call is told otherwise. A host with a crystal clock hands the
+counter, as it stands then, to each call that reads, and its count to tick, adjust and set:
+
+    host.read(counter=hello.Counter(count=1234))
+    host.tick(count=0)
+
 Every call ends with an Answer, whatever the host holds; docs/answers.txt says what each means and
 changes. A Python number that does not fit its field raises OverflowError, a wrong type TypeError
 and a wrong count of parts ValueError: nothing is cut off.
@@ -21,8 +27,9 @@ from .answer import Answer
 from .lent import Clock, Links, Run, Settings, date_word
 from .library import checksum, checksum_plain
 from .room import Host, Room
-from .values import Address, Entry, Inspected, Link, LinkSetting, Net, Route, Row, Sent, Time
-from .values import HOSTS, LINKS, LONGEST_MESSAGE, NO_CLOCK_HOST, PLACES, ROWS, UNITS_PER_MS
+from .values import Address, Counter, Entry, Inspected, Link, LinkSetting, Net, Route, Row, Sent
+from .values import Time, HOSTS, LINE_CLOCK, LINKS, LONGEST_MESSAGE, NO_CLOCK_HOST, PLACES, ROWS
+from .values import UNITS_PER_MS
 from . import library as _library
 
 

@@ -28,7 +28,7 @@ class Settings:
     nhosts          NHOSTS, 1 to 255: ids are 0 to NHOSTS - 1
     clock_host      id of the host that sets the clock, below NHOSTS; 255: clock setting is off
     hold_interval   HOLD-INTERVAL, 1 to 255 s
-    clock_tick      CLOCK-TICK, 1 to 65,536,000 units of 1/65,536 ms
+    clock_tick      CLOCK-TICK, up to 65,536 ms: 1 to 4,294,967,296 units of 1/65,536 ms
     time            starting time, 0 to 86,399,999 ms
     date            starting date, a real one; see date_word
     links           LinkSettings, link 1 first; link_count, 1 to 8, becomes their count
@@ -110,7 +110,7 @@ class Settings:
 class Clock:
     """A host's clock.
 
-    clock  CLOCK, 0 to 86,400,000 ms, in units of 1/65,536 ms
+    clock  CLOCK, -65,535 to 86,400,000 ms, in units of 1/65,536 ms
     delta  DELTA, -128 to +127 ms, in units of 1/65,536 ms
     hold   HOLD, 0 to 255 s
     date   the DATE word: bits 0-4 year less 1972, 5-9 day, 10-13 month, 14 zero, 15 one while a

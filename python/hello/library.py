@@ -9,8 +9,9 @@ import os
 from ctypes import POINTER, c_char_p, c_int32, c_size_t, c_uint8, c_uint16
 
 from .lent import Clock, Links, Run, Settings, address_of
-from .structures import CAddress, CClock, CEntry, CInspected, CLinks, CRoute, CSent, CSettings
-from .structures import CTime, into, number as fitting_number
+from .structures import CAddress, CClock, CCounter, CEntry, CInspected, CLinks, CRoute, CSent
+from .structures import CSettings, CTime, into, number as fitting_number
+from .values import LINE_CLOCK
 
 _HERE = os.path.dirname(os.path.abspath(__file__))
 _BUILT = os.path.join(_HERE, "..", "..", "target", "lib", "libhello.so")
@@ -36,17 +37,17 @@ def function(name, result, *arguments):
 
 
 _INITIALIZE = function("hello_initialize", c_uint8, *_HOST)
-_TICK = function("hello_tick", c_uint8, *_HOST)
-_ADJUST = function("hello_adjust", c_uint8, *_HOST)
-_SET = function("hello_set", c_uint8, *_HOST, c_int32)
-_READ = function("hello_read", CTime, *_HOST)
+_TICK = function("hello_tick", c_uint8, *_HOST, c_uint16)
+_ADJUST = function("hello_adjust", c_uint8, *_HOST, c_uint16)
+_SET = function("hello_set", c_uint8, *_HOST, c_int32, c_uint16)
+_READ = function("hello_read", CTime, *_HOST, CCounter)
 _SECOND = function("hello_second", c_uint8, *_HOST)
-_SELF_REPORT = function("hello_self_report", c_uint8, *_HOST)
-_SEND = function("hello_send", CSent, *_HOST, c_size_t, POINTER(c_uint8), c_size_t)
-_PACKET_ON_LINK = (c_size_t, c_char_p, c_size_t)
-_INSPECT = function("hello_inspect", CInspected, *_HOST, *_PACKET_ON_LINK)
-_ACT = function("hello_act", c_uint8, *_HOST, *_PACKET_ON_LINK)
-_RECEIVE = function("hello_receive", c_uint8, *_HOST, *_PACKET_ON_LINK)
+_SELF_REPORT = function("hello_self_report", c_uint8, *_HOST, CCounter)
+_SEND = function("hello_send", CSent, *_HOST, c_size_t, CCounter, POINTER(c_uint8), c_size_t)
+_INSPECT = function("hello_inspect", CInspected, *_HOST, c_size_t, c_char_p, c_size_t)
+_ARRIVING = (c_size_t, CCounter, c_char_p, c_size_t)
+_ACT = function("hello_act", c_uint8, *_HOST, *_ARRIVING)
+_RECEIVE = function("hello_receive", c_uint8, *_HOST, *_ARRIVING)
 _LOOKUP = function("hello_lookup", CRoute, *_HOST, CAddress)
 _PACKET = function("hello_packet", c_uint8, c_char_p, c_size_t)
 _CHECKSUM = function("hello_checksum", c_uint16, c_char_p, c_size_t)
@@ -73,6 +74,18 @@ def _lent(settings, number, clock, links, run):
     )
 
 
+def _link(link):
+    return fitting_number(c_size_t, "link", link)
+
+
+def _count(count):
+    return fitting_number(c_uint16, "count", count)
+
+
+def _counter(counter):
+    return into(CCounter, "counter", counter)
+
+
 def octets_of(packet):
     """A copy of a bytes-like object, and its length."""
     octets = bytes(memoryview(packet))
@@ -92,24 +105,31 @@ def initialize(settings, number, clock, links, run):
     return _INITIALIZE(*_lent(settings, number, clock, links, run))
 
 
-def tick(settings, number, clock, links, run):
-    """Adds CLOCK-TICK to the clock."""
-    return _TICK(*_lent(settings, number, clock, links, run))
+def tick(settings, number, clock, links, run, count=0):
+    """Adds CLOCK-TICK to the clock.
+
+    Midnight is tested on CLOCK plus the crystal's count; so also in adjust and set.
+    """
+    return _TICK(*_lent(settings, number, clock, links, run), _count(count))
 
 
-def adjust(settings, number, clock, links, run):
+def adjust(settings, number, clock, links, run, count=0):
     """Moves the clock by DELTA / 128, rounded down, which DELTA loses."""
-    return _ADJUST(*_lent(settings, number, clock, links, run))
+    return _ADJUST(*_lent(settings, number, clock, links, run), _count(count))
 
 
-def set(settings, number, clock, links, run, ms):
+def set(settings, number, clock, links, run, ms, count=0):
     """Corrects the clock by `ms`, signed 32 bits: -128 to +127 becomes DELTA, else at once."""
-    return _SET(*_lent(settings, number, clock, links, run), fitting_number(c_int32, "ms", ms))
+    lent = _lent(settings, number, clock, links, run)
+    return _SET(*lent, fitting_number(c_int32, "ms", ms), _count(count))
 
 
-def read(settings, number, clock, links, run):
-    """The clock's whole milliseconds and the DATE word: answer, time, date."""
-    time = _READ(*_lent(settings, number, clock, links, run))
+def read(settings, number, clock, links, run, counter=LINE_CLOCK):
+    """The whole milliseconds of CLOCK plus the count, and the DATE word: answer, time, date.
+
+    What a mark adds to the clock stays, and midnight is tested on the sum; so at every reading.
+    """
+    time = _READ(*_lent(settings, number, clock, links, run), _counter(counter))
     return time.answer, time.time, time.date
 
 
@@ -118,25 +138,21 @@ def second(settings, number, clock, links, run):
     return _SECOND(*_lent(settings, number, clock, links, run))
 
 
-def self_report(settings, number, clock, links, run):
-    """Updates the host's own entry with PID 0, DELAY 0 and OFFSET 0."""
-    return _SELF_REPORT(*_lent(settings, number, clock, links, run))
+def self_report(settings, number, clock, links, run, counter=LINE_CLOCK):
+    """Updates the host's own entry with PID 0, DELAY 0 and OFFSET 0, at the time of a reading."""
+    return _SELF_REPORT(*_lent(settings, number, clock, links, run), _counter(counter))
 
 
-def send(settings, number, clock, links, run, link, buffer):
+def send(settings, number, clock, links, run, link, buffer, counter=LINE_CLOCK):
     """Writes the next message of link `link`, from 1, to the front of a buffer: answer, length.
 
-    A message has 32 octets, or with the host table 32 + 4 NHOSTS. Octets behind it stay.
+    A message has 32 octets, or with the host table 32 + 4 NHOSTS. Octets behind it stay. The clock
+    is read once, as by read, unless it answers 1, 2 or 12.
     """
     lent = _lent(settings, number, clock, links, run)
     octets, length = buffer_of(buffer)
-    sent = _SEND(*lent, fitting_number(c_size_t, "link", link), octets, length)
+    sent = _SEND(*lent, _link(link), _counter(counter), octets, length)
     return sent.answer, sent.length
-
-
-def _arriving(link, packet):
-    """The arguments of a packet that arrived on a link."""
-    return fitting_number(c_size_t, "link", link), *octets_of(packet)
 
 
 def inspect(settings, number, clock, links, run, link, packet):
@@ -144,21 +160,28 @@ def inspect(settings, number, clock, links, run, link, packet):
     and what does it say? Nothing is changed: answer, source, time, tsp, nhosts.
     """
     lent = _lent(settings, number, clock, links, run)
-    told = _INSPECT(*lent, *_arriving(link, packet))
+    told = _INSPECT(*lent, _link(link), *octets_of(packet))
     return told.answer, address_of(told.source), told.time, told.tsp, told.nhosts
 
 
-def act(settings, number, clock, links, run, link, packet):
+def _arriving(link, counter, packet):
+    """The arguments of a packet that arrived on a link."""
+    return _link(link), _counter(counter), *octets_of(packet)
+
+
+def act(settings, number, clock, links, run, link, packet, counter=LINE_CLOCK):
     """Acts on a packet, IP header first, that arrived on link `link`, from 1.
 
-    Any calls may have come since inspect, so it tests the packet again.
+    Any calls may have come since inspect, so it tests the packet again. Unless it answers 1 to 9
+    or 12, it reads the clock, and what the reading did stays, also at 10 and 11.
     """
-    return _ACT(*_lent(settings, number, clock, links, run), *_arriving(link, packet))
+    return _ACT(*_lent(settings, number, clock, links, run), *_arriving(link, counter, packet))
 
 
-def receive(settings, number, clock, links, run, link, packet):
+def receive(settings, number, clock, links, run, link, packet, counter=LINE_CLOCK):
     """An arrival in one piece: inspect and, where that answers 0, act."""
-    return _RECEIVE(*_lent(settings, number, clock, links, run), *_arriving(link, packet))
+    lent = _lent(settings, number, clock, links, run)
+    return _RECEIVE(*lent, *_arriving(link, counter, packet))
 
 
 def lookup(settings, number, clock, links, run, address):

@@ -4,7 +4,7 @@ from . import library
 from .answer import Answer
 from .lent import Clock, Links, Run
 from .structures import fitting
-from .values import HOSTS, LONGEST_MESSAGE, PLACES, Inspected, Route, Sent, Time
+from .values import HOSTS, LINE_CLOCK, LONGEST_MESSAGE, PLACES, Inspected, Route, Sent, Time
 
 
 class Room:
@@ -19,7 +19,12 @@ class Room:
 
 
 class Host:
-    """A host of a room: its number, settings, clock and links. Each call gives an Answer."""
+    """A host of a room: its number, settings, clock and links. Each call gives an Answer.
+
+    A host with a crystal clock hands the Counter to each call that reads the clock, and its count
+    to tick, adjust and set; without them the clock is a line clock. What a reading does to the
+    clock stays, also at DELAY_NOT_VALID and NO_HOST.
+    """
 
     def __init__(self, room, number, settings):
         self.room = room
@@ -41,40 +46,40 @@ class Host:
         """Sets the host afresh by its settings: clock, links and table."""
         return Answer(library.initialize(*self._lent()))
 
-    def tick(self):
-        """Adds CLOCK-TICK to the clock."""
-        return Answer(library.tick(*self._lent()))
+    def tick(self, count=0):
+        """Adds CLOCK-TICK to the clock. Midnight is tested on CLOCK plus the count."""
+        return Answer(library.tick(*self._lent(), count))
 
-    def adjust(self):
+    def adjust(self, count=0):
         """Moves the clock by DELTA / 128, rounded down, which DELTA loses."""
-        return Answer(library.adjust(*self._lent()))
+        return Answer(library.adjust(*self._lent(), count))
 
-    def set(self, ms):
+    def set(self, ms, count=0):
         """Corrects the clock by `ms`, signed 32 bits: -128 to +127 becomes DELTA, else at once."""
-        return Answer(library.set(*self._lent(), ms))
+        return Answer(library.set(*self._lent(), ms, count))
 
-    def read(self):
-        """The clock's whole milliseconds and the DATE word, as a Time."""
-        answer, time, date = library.read(*self._lent())
+    def read(self, counter=LINE_CLOCK):
+        """The whole milliseconds of CLOCK plus the count, and the DATE word, as a Time."""
+        answer, time, date = library.read(*self._lent(), counter)
         return Time(Answer(answer), time, date)
 
     def second(self):
         """A second has passed: HOLD and each TTL fall by one; an entry whose TTL ends goes down."""
         return Answer(library.second(*self._lent()))
 
-    def self_report(self):
+    def self_report(self, counter=LINE_CLOCK):
         """Updates the host's own entry with PID 0, DELAY 0 and OFFSET 0."""
-        return Answer(library.self_report(*self._lent()))
+        return Answer(library.self_report(*self._lent(), counter))
 
-    def send(self, link):
+    def send(self, link, counter=LINE_CLOCK):
         """The next message of link `link`, from 1, as a Sent."""
         buffer = bytearray(LONGEST_MESSAGE)
-        answer, length = self.send_into(link, buffer)
+        answer, length = self.send_into(link, buffer, counter)
         return Sent(answer, bytes(buffer[:length]))
 
-    def send_into(self, link, buffer):
+    def send_into(self, link, buffer, counter=LINE_CLOCK):
         """Writes that message to the front of a writable buffer: its answer and its length."""
-        answer, length = library.send(*self._lent(), link, buffer)
+        answer, length = library.send(*self._lent(), link, buffer, counter)
         return Answer(answer), length
 
     def inspect(self, link, packet):
@@ -85,16 +90,16 @@ class Host:
         answer, *told = library.inspect(*self._lent(), link, packet)
         return Inspected(Answer(answer), *told)
 
-    def act(self, link, packet):
+    def act(self, link, packet, counter=LINE_CLOCK):
         """Acts on a packet, IP header first, that arrived on link `link`, from 1.
 
         Any calls may have come since inspect, so it tests the packet again.
         """
-        return Answer(library.act(*self._lent(), link, packet))
+        return Answer(library.act(*self._lent(), link, packet, counter))
 
-    def receive(self, link, packet):
+    def receive(self, link, packet, counter=LINE_CLOCK):
         """An arrival in one piece: inspect and, where that is DONE, act."""
-        return Answer(library.receive(*self._lent(), link, packet))
+        return Answer(library.receive(*self._lent(), link, packet, counter))
 
     def lookup(self, address):
         """The id of `address`, and the link by which it is reached, as a Route."""

@@ -56,6 +56,10 @@ class CClock(ctypes.Structure):
     _fields_ = [("clock", c_int64), ("delta", c_int64), ("hold", c_uint16), ("date", c_uint16)]
 
 
+class CCounter(ctypes.Structure):
+    _fields_ = [("count", c_uint16), ("overflow", Switch), ("again", c_uint16)]
+
+
 class CLink(ctypes.Structure):
     _fields_ = [("neighbor", CAddress), ("keep_alive", c_uint8), ("tsp", c_int16)]
 

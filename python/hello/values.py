@@ -51,6 +51,24 @@ class Row(NamedTuple):
     id: int = 0
 
 
+class Counter(NamedTuple):
+    """What a reading is handed of a crystal's counter of 1,000 Hz.
+
+    count     the count in ms, 0 to 65,535
+    overflow  the mark: the counter has overflowed, and there has been no tick for that yet. The
+              reading makes it, and uses the count taken again
+    again     the count taken again after the overflow; without the mark not looked at
+    """
+
+    count: int = 0
+    overflow: bool = False
+    again: int = 0
+
+
+LINE_CLOCK = Counter()
+"""What a line clock, which has no counter, hands in."""
+
+
 class Link(NamedTuple):
     """A link's state: NEIGHBOR-ADDRESS, KEEP-ALIVE (0 to 4), TSP (ms)."""
 
