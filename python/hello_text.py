@@ -4,13 +4,13 @@
     message = hello_text.from_text(text)    # str to bytes
 
 A refusal raises Refused, with the number of its answer: 6 a message of wrong length, 14 text of
-another form, 15 a number that does not fit its field. The module uses the library of hello.py.
+another form, 15 a number that does not fit its field. The module uses the library of hello.
 """
 
 import ctypes
 from ctypes import POINTER, c_char_p, c_size_t, c_uint8
 
-import hello
+from hello.library import function
 
 TEXT_FORM = 14
 FIELD_RANGE = 15
@@ -33,20 +33,14 @@ class _Written(ctypes.Structure):
     _fields_ = [("answer", c_uint8), ("length", c_size_t)]
 
 
-def _function(name):
-    function = getattr(hello._LIBRARY, name)
-    function.restype = _Written
-    function.argtypes = [c_char_p, c_size_t, POINTER(c_uint8), c_size_t]
-    return function
+_ARGUMENTS = (c_char_p, c_size_t, POINTER(c_uint8), c_size_t)
+_TO_TEXT = function("hello_to_text", _Written, *_ARGUMENTS)
+_FROM_TEXT = function("hello_from_text", _Written, *_ARGUMENTS)
 
 
-_TO_TEXT = _function("hello_to_text")
-_FROM_TEXT = _function("hello_from_text")
-
-
-def _written(function, octets, room):
+def _written(call, octets, room):
     buffer = (c_uint8 * room)()
-    written = function(octets, len(octets), buffer, room)
+    written = call(octets, len(octets), buffer, room)
     if written.answer:
         raise Refused(written.answer)
     return bytes(buffer[: written.length])

@@ -33,7 +33,7 @@ class Text(unittest.TestCase):
         self.assertEqual(refusal.exception.answer, answer)
 
     def test_refused(self):
-        self.refused(hello.HELLO_FORM, hello_text.to_text, b"")
+        self.refused(hello.Answer.HELLO_FORM, hello_text.to_text, b"")
         for text in ("", BOARD[:-1], BOARD + "\n", BOARD.upper(), BOARD.replace("1 0", "1 -0")):
             self.refused(hello_text.TEXT_FORM, hello_text.from_text, text)
         self.refused(hello_text.FIELD_RANGE, hello_text.from_text, BOARD.replace("12331", "65536"))
