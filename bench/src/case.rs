@@ -1,7 +1,7 @@
 //! What is timed: the same call by both programs, on the same inputs.
 
 use crate::convert;
-use crate::host::{both, message, Ours, Theirs, LINK, NEIGHBOR};
+use crate::host::{both, message, Ours, Theirs, COUNTER, LINK, NEIGHBOR};
 use hello::Answer;
 use reference::host;
 use std::hint::black_box;
@@ -57,6 +57,7 @@ pub fn act(nhosts: usize) -> Case {
     let (mut ours, mut theirs) = both(nhosts);
     let packet = message(nhosts);
     let same_packet = packet.clone();
+    let same_counter = convert::counter(COUNTER);
     Case {
         library: batch(move || {
             let Ours {
@@ -65,7 +66,8 @@ pub fn act(nhosts: usize) -> Case {
                 links,
                 run,
             } = black_box(&mut ours);
-            hello::act(settings, 0, clock, links, run, LINK, black_box(&packet))
+            let (counter, packet) = (black_box(COUNTER), black_box(&packet));
+            hello::act(settings, 0, clock, links, run, LINK, counter, packet)
         }),
         reference: batch(move || {
             let Theirs {
@@ -74,8 +76,10 @@ pub fn act(nhosts: usize) -> Case {
                 links,
                 run,
             } = black_box(&mut theirs);
-            let packet = black_box(&same_packet);
-            reference::answer(&host::act(settings, 0, clock, links, run, LINK, packet))
+            let (counter, packet) = (black_box(same_counter), black_box(&same_packet));
+            reference::answer(&host::act(
+                settings, 0, clock, links, run, LINK, counter, packet,
+            ))
         }),
     }
 }
@@ -85,6 +89,7 @@ pub fn send(nhosts: usize) -> Case {
     let (mut ours, mut theirs) = both(nhosts);
     let mut buffer = vec![0; 32 + 4 * nhosts];
     let mut same_buffer = buffer.clone();
+    let same_counter = convert::counter(COUNTER);
     Case {
         library: batch(move || {
             let Ours {
@@ -93,7 +98,8 @@ pub fn send(nhosts: usize) -> Case {
                 links,
                 run,
             } = black_box(&mut ours);
-            hello::send(settings, 0, clock, links, run, LINK, black_box(&mut buffer)).answer
+            let (counter, buffer) = (black_box(COUNTER), black_box(&mut buffer));
+            hello::send(settings, 0, clock, links, run, LINK, counter, buffer).answer
         }),
         reference: batch(move || {
             let Theirs {
@@ -102,8 +108,10 @@ pub fn send(nhosts: usize) -> Case {
                 links,
                 run,
             } = black_box(&mut theirs);
-            let buffer = black_box(&mut same_buffer);
-            reference::answer(&host::send(settings, 0, clock, links, run, LINK, buffer))
+            let (counter, buffer) = (black_box(same_counter), black_box(&mut same_buffer));
+            reference::answer(&host::send(
+                settings, 0, clock, links, run, LINK, counter, buffer,
+            ))
         }),
     }
 }
@@ -119,7 +127,7 @@ pub fn tick(nhosts: usize) -> Case {
                 links,
                 run,
             } = black_box(&mut ours);
-            hello::tick(settings, 0, clock, links, run)
+            hello::tick(settings, 0, clock, links, run, black_box(COUNTER.count))
         }),
         reference: batch(move || {
             let Theirs {
@@ -128,7 +136,8 @@ pub fn tick(nhosts: usize) -> Case {
                 links,
                 run,
             } = black_box(&mut theirs);
-            reference::answer(&host::tick(settings, 0, clock, links, run))
+            let count = black_box(COUNTER.count);
+            reference::answer(&host::tick(settings, 0, clock, links, run, count))
         }),
     }
 }

@@ -1,10 +1,13 @@
 //! A host that has heard its neighbor, for either program.
 
 use crate::convert;
-use hello::{Address, Answer, Clock, Entry, Layout, Links, Settings, PLACES};
+use hello::{Address, Answer, Clock, Counter, Entry, Layout, Links, Settings, PLACES};
 
 /// The host's one link.
 pub const LINK: usize = 1;
+
+/// Both hosts have a line clock.
+pub const COUNTER: Counter = Counter::LINE_CLOCK;
 
 /// The reading of both hosts, in ms.
 const READING: i64 = 40_000;
@@ -95,6 +98,7 @@ pub fn message(nhosts: usize) -> Vec<u8> {
         &mut neighbor.links,
         &mut neighbor.run,
         LINK,
+        COUNTER,
         &mut buffer,
     );
     assert_eq!(
