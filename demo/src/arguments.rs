@@ -8,12 +8,14 @@ use std::str::FromStr;
 pub const HELP: &str = "\
 Runs a room of HELLO hosts (RFC 891) on cables, and shows what each host has learned.
 
-  ./run [--hosts N] [--shape line|ring] [--delay LIST] [--clocks LIST]
+  ./run [--hosts N] [--crystal N] [--shape line|ring] [--delay LIST] [--clocks LIST]
         [--minutes N] [--loss PERCENT] [--seed N] [--help]
 
-Without arguments: four hosts in a line, ten minutes, no losses.
+Without arguments: four hosts in a line, all with line clocks, ten minutes, no losses.
 
   --hosts N        how many hosts, 2 to 16 (default 4). Their addresses are 192.0.2.1 and on
+  --crystal N      so many hosts, from the first, have a crystal clock, whose counter of 1000 Hz
+                   overflows each 65536 ms; the others have a line clock (default 0)
   --shape line     a cable from each host to the next (default)
   --shape ring     the same, and a cable from the last host to the first
   --delay LIST     how long a message takes on a cable, 0 to 60000 ms: one number for all cables,
@@ -27,7 +29,9 @@ Without arguments: four hosts in a line, ten minutes, no losses.
   --help           this text
 
 Every cable joins a point-to-point link of one host to one of another host. Each host sends on each
-of its links every 5 s and reports itself in its own table every 10 s.
+of its links every 5 s and reports itself in its own table every 10 s. A line clock ticks at each
+step of the room. A crystal clock ticks for an overflow at the next whole second; a reading before
+that is handed the mark, and makes the tick.
 
 An OFFSET is promised to be off the true difference of two clocks by at most 101/200 of the DELAY
 beside it, if clocks differ by at most 16384 ms, each message takes 0 to 16383 ms and no clock
@@ -69,6 +73,7 @@ const DELAYS: [Delay; 16] = [
 /// The request of the words, or what is wrong with them.
 pub fn parse(mut words: impl Iterator<Item = String>) -> Result<Request, String> {
     let mut hosts = 4;
+    let mut crystals = 0;
     let mut shape = Shape::Line;
     let mut delays = None;
     let mut clocks = None;
@@ -82,6 +87,7 @@ pub fn parse(mut words: impl Iterator<Item = String>) -> Result<Request, String>
         let mut value = || words.next().ok_or(format!("{option} lacks its value"));
         match option.as_str() {
             "--hosts" => hosts = number(&option, &value()?, 2..=16)?,
+            "--crystal" => crystals = number(&option, &value()?, 0..=16)?,
             "--shape" => shape = shape_named(&value()?)?,
             "--delay" => delays = Some(list(&value()?, delay)?),
             "--clocks" => clocks = Some(list(&value()?, clock)?),
@@ -93,6 +99,7 @@ pub fn parse(mut words: impl Iterator<Item = String>) -> Result<Request, String>
     }
     Ok(Request::Run(Plan {
         clocks: clocks_of(hosts, clocks)?,
+        crystals: crystals_of(hosts, crystals)?,
         shape,
         cables: cables_of(hosts, shape, delays)?,
         minutes,
@@ -150,6 +157,16 @@ fn clocks_of(hosts: usize, given: Option<Vec<i64>>) -> Result<Vec<i64>, String> 
         Err(format!(
             "--clocks has {} numbers, and there are {hosts} hosts",
             clocks.len()
+        ))
+    }
+}
+
+fn crystals_of(hosts: usize, crystals: usize) -> Result<usize, String> {
+    if crystals <= hosts {
+        Ok(crystals)
+    } else {
+        Err(format!(
+            "--crystal asks for {crystals} hosts, and there are {hosts}"
         ))
     }
 }

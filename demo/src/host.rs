@@ -8,7 +8,7 @@ pub struct Place {
     pub hosts: usize,
     pub link_count: usize,
     /// The ms of one tick, and the time at the start.
-    pub step: i64,
+    pub tick: i64,
     pub time: i64,
 }
 
@@ -24,7 +24,7 @@ pub fn settings(place: Place) -> Settings {
     };
     Settings {
         hold_interval: 10,
-        clock_tick: place.step * UNITS_PER_MS,
+        clock_tick: place.tick * UNITS_PER_MS,
         time: place.time,
         date: date_word(1983, 12, 1),
         link_count: place.link_count,

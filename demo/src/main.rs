@@ -1,6 +1,7 @@
 //! A room of HELLO hosts on cables: runs it for some minutes and shows what each host has learned.
 
 mod conditions;
+mod drive;
 mod host;
 mod progress;
 mod random;

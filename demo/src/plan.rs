@@ -12,6 +12,8 @@ pub const START: i64 = 8 * 60 * MINUTE;
 pub struct Plan {
     /// What each host's clock is ahead of the room's millisecond, in ms.
     pub clocks: Vec<i64>,
+    /// So many hosts, from the first, have a crystal clock; the others have a line clock.
+    pub crystals: usize,
     pub shape: Shape,
     pub cables: Vec<Cable>,
     pub minutes: i64,

@@ -1,8 +1,9 @@
 //! What the program prints.
 
 use crate::conditions;
+use crate::drive::Drive;
 use crate::host::address;
-use crate::room::{Room, WELL_LENT};
+use crate::room::Room;
 use demo::plan::{Plan, Shape, MINUTE, SECOND};
 use hello::{Answer, Entry, Host, Reading};
 use std::io::{Result, Write};
@@ -38,7 +39,8 @@ pub fn plan(out: &mut impl Write, plan: &Plan) -> Result<()> {
     )?;
     writeln!(out, "Clocks, ahead of the room's:")?;
     for (number, clock) in plan.clocks.iter().enumerate() {
-        writeln!(out, "  {:<12} {clock:>+10} ms", address(number))?;
+        let kind = clock_kind(plan, number);
+        writeln!(out, "  {:<12} {clock:>+10} ms  {kind}", address(number))?;
     }
     writeln!(out, "Cables, with the time a message takes there and back:")?;
     for cable in &plan.cables {
@@ -78,13 +80,16 @@ pub fn result(out: &mut impl Write, plan: &Plan, room: &mut Room) -> Result<()> 
     let mut live = 0;
     let mut beyond = 0;
     for number in 0..room.hosts.count() {
+        let clock = date_and_time(room.read(number));
         let host = room.hosts.host(number);
         let rows = live_rows(&plan.clocks, &host);
         live += rows.len();
         beyond += rows.iter().filter(|row| !row.within_bound()).count();
-        print_host(out, host, &rows)?;
+        writeln!(out, "Host {} (id {number})", address(number))?;
+        writeln!(out, "  Clock: {clock}, {}", clock_kind(plan, number))?;
+        print_host(out, &host, &rows)?;
     }
-    print_tally(out, room)?;
+    print_tally(out, plan, room)?;
     match beyond {
         0 => writeln!(out, "{live} live entries: all errors are within the bound."),
         _ => writeln!(
@@ -130,11 +135,8 @@ fn live_rows(clocks: &[i64], host: &Host) -> Vec<Row> {
         .collect()
 }
 
-fn print_host(out: &mut impl Write, mut host: Host, rows: &[Row]) -> Result<()> {
-    let number = host.number();
-    let reading = host.read().expect(WELL_LENT);
-    writeln!(out, "Host {} (id {number})", address(number))?;
-    writeln!(out, "  Clock: {}", date_and_time(reading))?;
+/// A host's links and its live entries.
+fn print_host(out: &mut impl Write, host: &Host, rows: &[Row]) -> Result<()> {
     writeln!(out, "  Links")?;
     writeln!(out, "    link  neighbor      KEEP-ALIVE  TSP (ms)")?;
     let links = &host.links.all[..host.settings.link_count];
@@ -183,7 +185,7 @@ fn print_row(out: &mut impl Write, row: &Row) -> Result<()> {
     )
 }
 
-fn print_tally(out: &mut impl Write, room: &Room) -> Result<()> {
+fn print_tally(out: &mut impl Write, plan: &Plan, room: &Room) -> Result<()> {
     writeln!(
         out,
         "Messages: {} sent, {} lost, {} still on their way. Arrivals by answer:",
@@ -202,7 +204,33 @@ fn print_tally(out: &mut impl Write, room: &Room) -> Result<()> {
             meaning(*answer)
         )?;
     }
+    if plan.crystals > 0 {
+        print_overflows(out, room)?;
+    }
     writeln!(out)
+}
+
+/// How often the crystals' counters overflowed, and who made the ticks for that.
+fn print_overflows(out: &mut impl Write, room: &Room) -> Result<()> {
+    let (mut overflows, mut marked) = (0, 0);
+    for drive in &room.drives {
+        if let Drive::Crystal(crystal) = drive {
+            overflows += crystal.ticked;
+            marked += crystal.marked;
+        }
+    }
+    writeln!(
+        out,
+        "Overflows of the crystals' counters: {overflows}; ticks for them that a reading with the mark made: {marked}."
+    )
+}
+
+fn clock_kind(plan: &Plan, number: usize) -> &'static str {
+    if number < plan.crystals {
+        "crystal clock"
+    } else {
+        "line clock"
+    }
 }
 
 /// What an answer to an arrival means.

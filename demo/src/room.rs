@@ -1,9 +1,10 @@
 //! The room: hosts, cables, and the messages on their way.
 
+use crate::drive::{Crystal, Drive, OVERFLOW};
 use crate::host::{settings, Place};
 use crate::random::Random;
 use demo::plan::{Cable, End, Plan, SECOND, START};
-use hello::{Answer, Host};
+use hello::{Answer, Counter, Reading};
 use std::collections::BTreeMap;
 
 /// A host sends on each link, and reports itself, every so many seconds.
@@ -28,13 +29,15 @@ pub struct Tally {
 pub struct Room {
     pub hosts: hello::Room,
     pub tally: Tally,
+    /// What drives each host's clock.
+    pub drives: Vec<Drive>,
     cables: Vec<Cable>,
     loss: u64,
     random: Random,
     /// Milliseconds since the start.
     now: i64,
-    /// The ms of one tick. Every send and arrival is at a multiple of it, so that each host's clock
-    /// then reads the room's millisecond plus the host's own fixed number.
+    /// The ms of a step, which is a line clock's tick. Every send and arrival is at a multiple of it,
+    /// so that each host's clock then reads the room's millisecond plus the host's own fixed number.
     step: i64,
     /// By the ms of arrival, then by order of sending.
     on_the_way: BTreeMap<(i64, u64), Message>,
@@ -46,19 +49,27 @@ impl Room {
         let delays = plan.cables.iter().flat_map(|cable| cable.delay);
         let step = delays.fold(SECOND, greatest_common_divisor);
         let mut hosts = hello::Room::new(plan.clocks.len());
+        let mut drives = Vec::new();
         for (number, clock) in plan.clocks.iter().enumerate() {
+            let (drive, tick) = if number < plan.crystals {
+                (Drive::Crystal(Crystal::default()), OVERFLOW)
+            } else {
+                (Drive::Line, step)
+            };
             let settings = settings(Place {
                 number,
                 hosts: hosts.count(),
                 link_count: links_of(&plan.cables, number),
-                step,
+                tick,
                 time: START + clock,
             });
             done(hosts.host(number).initialize(settings));
+            drives.push(drive);
         }
         Room {
             hosts,
             tally: Tally::default(),
+            drives,
             cables: plan.cables.clone(),
             loss: plan.loss,
             random: Random::seeded(plan.seed),
@@ -76,19 +87,37 @@ impl Room {
             }
             self.arrivals();
             self.now += self.step;
-            for number in 0..self.hosts.count() {
-                done(self.hosts.host(number).tick());
+            self.ticks();
+        }
+    }
+
+    /// The ticks of the clocks that are due now.
+    fn ticks(&mut self) {
+        for (number, drive) in self.drives.iter_mut().enumerate() {
+            if let Some(count) = drive.tick(self.now) {
+                done(self.hosts.host(number).tick(count));
             }
         }
+    }
+
+    /// What a host's clock reads now.
+    pub fn read(&mut self, number: usize) -> Reading {
+        let counter = self.counter(number);
+        self.hosts.host(number).read(counter).expect(WELL_LENT)
+    }
+
+    /// What a call of the host that reads its clock now is handed.
+    fn counter(&mut self, number: usize) -> Counter {
+        self.drives[number].counter(self.now)
     }
 
     /// What the hosts do once a second.
     fn each_second(&mut self, second: i64) {
         for number in 0..self.hosts.count() {
-            let mut host = self.hosts.host(number);
-            done(host.second());
+            done(self.hosts.host(number).second());
             if second % SELF_REPORT_INTERVAL == 0 {
-                done(host.self_report());
+                let counter = self.counter(number);
+                done(self.hosts.host(number).self_report(counter));
             }
         }
         for cable in self.cables.clone() {
@@ -103,7 +132,8 @@ impl Room {
         if (second + from.host as i64) % SEND_INTERVAL != 0 {
             return;
         }
-        let octets = self.hosts.host(from.host).send(from.link);
+        let counter = self.counter(from.host);
+        let octets = self.hosts.host(from.host).send(from.link, counter);
         let octets = octets.expect(WELL_LENT);
         self.tally.sent += 1;
         if self.random.happens(self.loss) {
@@ -121,8 +151,19 @@ impl Room {
                 return;
             }
             let Message { to, octets } = first.remove();
-            let answer = take(self.hosts.host(to.host), to.link, &octets);
+            let answer = self.take(to, &octets);
             *self.tally.answers.entry(answer).or_default() += 1;
+        }
+    }
+
+    /// A host looks at a message and, where nothing refuses it, acts on it.
+    fn take(&mut self, to: End, message: &[u8]) -> Answer {
+        match self.hosts.host(to.host).inspect(to.link, message) {
+            Ok(_) => {
+                let counter = self.counter(to.host);
+                self.hosts.host(to.host).act(to.link, counter, message)
+            }
+            Err(refusal) => refusal,
         }
     }
 
@@ -132,16 +173,8 @@ impl Room {
     }
 }
 
-/// A host looks at a message and, where nothing refuses it, acts on it.
-fn take(mut host: Host, link: usize, message: &[u8]) -> Answer {
-    match host.inspect(link, message) {
-        Ok(_) => host.act(link, message),
-        Err(refusal) => refusal,
-    }
-}
-
 /// Such calls are done.
-pub const WELL_LENT: &str = "the settings are good, and the room keeps what the last call left";
+const WELL_LENT: &str = "the settings are good, and the room keeps what the last call left";
 
 fn done(answer: Answer) {
     answer.ok().expect(WELL_LENT);
