@@ -27,9 +27,10 @@ from .answer import Answer
 from .lent import Clock, Links, Run, Settings, date_word
 from .library import checksum, checksum_plain
 from .room import Host, Room
-from .values import Address, Counter, Entry, Inspected, Link, LinkSetting, Net, Route, Row, Sent
-from .values import Time, HOSTS, LINE_CLOCK, LINKS, LONGEST_MESSAGE, NO_CLOCK_HOST, PLACES, ROWS
-from .values import UNITS_PER_MS
+from .values import Address, Counter, Entry, Inspected, Link, LinkSetting
+from .values import Net, Route, Row, Sent, Time
+from .values import HOSTS, LINE_CLOCK, LINKS, LONGEST_MESSAGE
+from .values import NO_CLOCK_HOST, PLACES, ROWS, UNITS_PER_MS
 from . import library as _library
 
 

@@ -171,7 +171,7 @@ pub fn self_report(
 
 /// Writes the next message of link `link`, from 1, to the front of `buffer`; a message has 32
 /// octets, or with the host table 32 + 4 NHOSTS. Octets behind it stay. The clock is read once, as
-/// by `read`.
+/// by `read`, unless it answers 1, 2 or 12.
 pub fn send(
     settings: &Settings,
     number: usize,
