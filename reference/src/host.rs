@@ -2,11 +2,19 @@
 //!
 //! Each is lent the host's settings, clock and links and the run of entries
 //! that all hosts share. Answer 12 is tested first, then 1, then the others.
+//!
+//! "Every call that reads or alters CLOCK takes the count, tick, adjust and
+//! set without a mark". Calls refused with 1 to 9 or 12 do not read; the
+//! others read once, "before DATE or HOLD is used", and 10, and 11 at an
+//! arrival, keep what the reading did.
+
+// What is lent to a call makes many arguments.
+#![allow(clippy::too_many_arguments)]
 
 use std::ops::Range;
 
 use crate::address::Address;
-use crate::clock::Clock;
+use crate::clock::{Clock, Counter, Sample};
 use crate::date::Date;
 use crate::link::{Link, LinkKind, Links, KEEP_ALIVE_INTERVAL};
 use crate::packet::{self, Heading, Message};
@@ -64,9 +72,10 @@ pub fn tick(
     clock: &mut Clock,
     links: &Links,
     run: &[Entry],
+    count: u16,
 ) -> Result<(), Refusal> {
     admit(settings, number, clock, links, run)?;
-    clock.tick(settings.clock_tick, settings.hold_interval);
+    clock.tick(count, settings.clock_tick, settings.hold_interval);
     Ok(())
 }
 
@@ -76,9 +85,10 @@ pub fn adjust(
     clock: &mut Clock,
     links: &Links,
     run: &[Entry],
+    count: u16,
 ) -> Result<(), Refusal> {
     admit(settings, number, clock, links, run)?;
-    clock.adjust(settings.hold_interval);
+    clock.adjust(count, settings.hold_interval);
     Ok(())
 }
 
@@ -89,22 +99,25 @@ pub fn set(
     links: &Links,
     run: &[Entry],
     ms: i32,
+    count: u16,
 ) -> Result<(), Refusal> {
     admit(settings, number, clock, links, run)?;
-    clock.set(ms, settings.hold_interval);
+    clock.set(ms, count, settings.hold_interval);
     Ok(())
 }
 
 pub fn read(
     settings: &Settings,
     number: usize,
-    clock: &Clock,
+    clock: &mut Clock,
     links: &Links,
     run: &[Entry],
+    counter: Counter,
 ) -> Result<Reading, Refusal> {
     admit(settings, number, clock, links, run)?;
+    let time = take_reading(settings, clock, counter).time;
     Ok(Reading {
-        time: clock.reading(),
+        time,
         date: clock.date,
     })
 }
@@ -125,9 +138,10 @@ pub fn second(
 pub fn self_report(
     settings: &Settings,
     number: usize,
-    clock: &Clock,
+    clock: &mut Clock,
     links: &Links,
     run: &mut [Entry],
+    counter: Counter,
 ) -> Result<(), Refusal> {
     let places = admit(settings, number, clock, links, run)?;
     let own_id = route::own_id(settings).ok_or(Refusal::Settings)?;
@@ -135,7 +149,7 @@ pub fn self_report(
         delay: 0,
         offset: 0,
         pid: 0,
-        reading: clock.reading(),
+        reading: take_reading(settings, clock, counter).time,
     });
     Ok(())
 }
@@ -144,10 +158,11 @@ pub fn self_report(
 pub fn send(
     settings: &Settings,
     number: usize,
-    clock: &Clock,
+    clock: &mut Clock,
     links: &mut Links,
     run: &[Entry],
     link: usize,
+    counter: Counter,
     buffer: &mut [u8],
 ) -> Result<usize, Refusal> {
     admit_link(settings, link)?;
@@ -161,7 +176,7 @@ pub fn send(
     };
     let length = packet::HEADER + packet::hello_length(table.len());
     let message = buffer.get_mut(..length).ok_or(Refusal::ShortBuffer)?;
-    let reading = clock.reading();
+    let reading = take_reading(settings, clock, counter).time;
     let heading = Heading {
         date: clock.date,
         time: reading as u32,
@@ -207,6 +222,7 @@ pub fn act(
     links: &mut Links,
     run: &mut [Entry],
     link: usize,
+    counter: Counter,
     packet: &[u8],
 ) -> Result<(), Refusal> {
     admit_link(settings, link)?;
@@ -214,18 +230,27 @@ pub fn act(
     let message = message_on(settings, link, packet)?;
     let kind = settings.links[link - 1];
     let receiver = &mut links[link - 1];
-    let path = measure(clock, kind, receiver, &message)?;
+    let sample = take_reading(settings, clock, counter);
+    let path = measure(sample.time, clock.hold, kind, receiver, &message)?;
     let report = Report {
         delay: path.delay,
         offset: path.offset,
         pid: link as u8,
-        reading: clock.reading(),
+        reading: sample.time,
     };
     let table = &mut run[places];
     let date = message.date();
     if !message.has_table() {
         let id = route::find(settings, receiver.neighbor).ok_or(Refusal::NoHost)?;
-        learn(settings, clock, id, &mut table[id], &report, date);
+        learn(
+            settings,
+            clock,
+            id,
+            &mut table[id],
+            &report,
+            date,
+            sample.count,
+        );
         return Ok(());
     }
     for (id, (entry, (delay, offset))) in table.iter_mut().zip(message.hosts()).enumerate() {
@@ -234,7 +259,7 @@ pub fn act(
             offset: report.offset.wrapping_add(offset),
             ..report
         };
-        learn(settings, clock, id, entry, &through, date);
+        learn(settings, clock, id, entry, &through, date, sample.count);
     }
     Ok(())
 }
@@ -248,10 +273,11 @@ pub fn arrival(
     links: &mut Links,
     run: &mut [Entry],
     link: usize,
+    counter: Counter,
     packet: &[u8],
 ) -> Result<(), Refusal> {
     inspect(settings, number, clock, links, run, link, packet)?;
-    act(settings, number, clock, links, run, link, packet)
+    act(settings, number, clock, links, run, link, counter, packet)
 }
 
 pub fn lookup(
@@ -314,6 +340,11 @@ fn admit_link(settings: &Settings, link: usize) -> Result<(), Refusal> {
     }
 }
 
+/// The one reading of a call.
+fn take_reading(settings: &Settings, clock: &mut Clock, counter: Counter) -> Sample {
+    clock.read(counter, settings.clock_tick, settings.hold_interval)
+}
+
 /// The message of a packet on a link of the host, unless 3 to 9 refuse it.
 fn message_on<'a>(
     settings: &Settings,
@@ -335,15 +366,16 @@ struct Path {
     offset: i16,
 }
 
-/// Steps 2 to 4 of an arrival, and the least DELAY of step 5.
+/// Steps 2 to 4 of an arrival, and the least DELAY of step 5. HOLD is as the
+/// reading left it.
 fn measure(
-    clock: &Clock,
+    reading: i64,
+    hold: u16,
     kind: LinkKind,
     link: &mut Link,
     message: &Message,
 ) -> Result<Path, Refusal> {
     let point_to_point = kind == LinkKind::PointToPoint;
-    let reading = clock.reading();
     link.keep_alive = KEEP_ALIVE_INTERVAL;
     link.tsp = (message.time() - reading) as i16;
     let round_trip = if point_to_point {
@@ -358,7 +390,7 @@ fn measure(
         if message.source != link.neighbor {
             link.neighbor = message.source;
             delay = MAX_DELAY;
-        } else if message.tsp() == 0 || clock.hold != 0 {
+        } else if message.tsp() == 0 || hold != 0 {
             return Err(Refusal::DelayNotValid);
         }
     }
@@ -368,7 +400,8 @@ fn measure(
     })
 }
 
-/// Updates an entry; a stored report of the clock host also sets the clock.
+/// Updates an entry; a stored report of the clock host also sets the clock,
+/// with the count of the arrival's reading.
 fn learn(
     settings: &Settings,
     clock: &mut Clock,
@@ -376,9 +409,10 @@ fn learn(
     entry: &mut Entry,
     report: &Report,
     date: Date,
+    count: u16,
 ) {
     if entry.update(report) && id == usize::from(settings.clock_host) {
         clock.take_date(date);
-        clock.set(report.offset.into(), settings.hold_interval);
+        clock.set(report.offset.into(), count, settings.hold_interval);
     }
 }

@@ -23,7 +23,7 @@ pub mod text;
 mod tests;
 
 pub use address::Address;
-pub use clock::{Clock, Units};
+pub use clock::{Clock, Counter, Units};
 pub use date::Date;
 pub use link::{Link, LinkKind, Links, LINKS};
 pub use settings::{NetRow, Settings, NET_ROWS};

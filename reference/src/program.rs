@@ -2,7 +2,7 @@
 
 use crate::address::Address;
 use crate::answer;
-use crate::clock::{Clock, Units};
+use crate::clock::{Clock, Counter, Units};
 use crate::date::Date;
 use crate::host;
 use crate::link::{Link, LinkKind, LINKS};
@@ -36,6 +36,17 @@ pub fn packet(octets: &[u8]) -> u8 {
     let mut run = [Entry::FRESH; PLACES];
     let outcome = host::set_afresh(&SETTINGS, 0, &mut clock, &mut links, &mut run)
         .and_then(|()| host::inspect(&SETTINGS, 0, &clock, &links, &run, 1, octets))
-        .and_then(|_| host::act(&SETTINGS, 0, &mut clock, &mut links, &mut run, 1, octets));
+        .and_then(|_| {
+            host::act(
+                &SETTINGS,
+                0,
+                &mut clock,
+                &mut links,
+                &mut run,
+                1,
+                Counter::LINE_CLOCK,
+                octets,
+            )
+        });
     answer(&outcome)
 }

@@ -11,6 +11,8 @@ use crate::PLACES;
 pub const NET_ROWS: usize = 32;
 /// The clock host id that switches clock setting off.
 pub const CLOCK_SETTING_OFF: u8 = 255;
+/// The longest CLOCK-TICK, between two overflows of a 16-bit counter.
+const MOST_TICK: Units = Units::from_ms(65_536);
 
 #[derive(Clone, Copy, Debug, PartialEq, Eq)]
 pub struct NetRow {
@@ -59,7 +61,7 @@ impl Settings {
             && (1..=PLACES).contains(&self.nhosts)
             && (self.clock_host == CLOCK_SETTING_OFF || id_is_sound(self.clock_host))
             && (1..=255).contains(&self.hold_interval)
-            && (Units(1)..=Units(65_536_000)).contains(&self.clock_tick)
+            && (Units(1)..=MOST_TICK).contains(&self.clock_tick)
             && (0..DAY_MS).contains(&self.time)
             && self.date.is_real()
             && (1..=LINKS).contains(&self.link_count)

@@ -8,6 +8,7 @@ use crate::table::{Report, HOLD_DOWN, MAX_DELAY};
 use crate::*;
 
 mod capture;
+mod crystal;
 mod inspect;
 mod ntp;
 mod random;
@@ -24,6 +25,8 @@ struct Host {
     clock: Clock,
     links: Links,
     run: Vec<Entry>,
+    /// What its calls are handed of the counter.
+    counter: Counter,
 }
 
 type Done = Result<(), Refusal>;
@@ -36,6 +39,7 @@ impl Host {
             clock: Clock::default(),
             links: [Link::default(); LINKS],
             run: vec![Entry::FRESH; PLACES],
+            counter: Counter::LINE_CLOCK,
         };
         assert_eq!(host.set_afresh(), Ok(()));
         host
@@ -58,6 +62,7 @@ impl Host {
             &mut self.clock,
             &self.links,
             &self.run,
+            self.counter.count,
         )
     }
 
@@ -68,6 +73,7 @@ impl Host {
             &mut self.clock,
             &self.links,
             &self.run,
+            self.counter.count,
         )
     }
 
@@ -79,16 +85,18 @@ impl Host {
             &self.links,
             &self.run,
             ms,
+            self.counter.count,
         )
     }
 
-    fn read(&self) -> Result<Reading, Refusal> {
+    fn read(&mut self) -> Result<Reading, Refusal> {
         host::read(
             &self.settings,
             self.number,
-            &self.clock,
+            &mut self.clock,
             &self.links,
             &self.run,
+            self.counter,
         )
     }
 
@@ -106,9 +114,10 @@ impl Host {
         host::self_report(
             &self.settings,
             self.number,
-            &self.clock,
+            &mut self.clock,
             &self.links,
             &mut self.run,
+            self.counter,
         )
     }
 
@@ -116,10 +125,11 @@ impl Host {
         host::send(
             &self.settings,
             self.number,
-            &self.clock,
+            &mut self.clock,
             &mut self.links,
             &self.run,
             link,
+            self.counter,
             buffer,
         )
     }
@@ -151,6 +161,7 @@ impl Host {
             &mut self.links,
             &mut self.run,
             link,
+            self.counter,
             packet,
         )
     }
@@ -163,6 +174,7 @@ impl Host {
             &mut self.links,
             &mut self.run,
             link,
+            self.counter,
             packet,
         )
     }
@@ -799,7 +811,9 @@ fn lent_values_out_of_range() {
     };
     assert_eq!(refused(&|host| host.number = 16), 12);
     assert_eq!(refused(&|host| host.run.truncate(254)), 12);
-    assert_eq!(refused(&|host| host.clock.clock = Units(-1)), 12);
+    let least = -65_535 * 65_536;
+    assert_eq!(refused(&|host| host.clock.clock = Units(least - 1)), 12);
+    assert_eq!(refused(&|host| host.clock.clock = Units(least)), 0);
     assert_eq!(
         refused(&|host| host.clock.clock = Units(UNITS_OF_DAY + 1)),
         12
@@ -872,7 +886,8 @@ fn settings_are_tested() {
     assert_eq!(refused(&|set| set.hold_interval = 0), 1);
     assert_eq!(refused(&|set| set.hold_interval = 256), 1);
     assert_eq!(refused(&|set| set.clock_tick = Units(0)), 1);
-    assert_eq!(refused(&|set| set.clock_tick = Units(65_536_001)), 1);
+    assert_eq!(refused(&|set| set.clock_tick = Units((1 << 32) + 1)), 1);
+    assert_eq!(refused(&|set| set.clock_tick = Units(1 << 32)), 0);
     assert_eq!(refused(&|set| set.time = -1), 1);
     assert_eq!(refused(&|set| set.time = DAY_MS), 1);
     assert_eq!(refused(&|set| set.date = Date(0x4000 | 1056)), 1);
@@ -896,7 +911,7 @@ fn setting_afresh_leaves_the_other_places() {
     let used = entry(1, 1, 1);
     host.run = vec![used; 3 * PLACES];
     host.number = 1;
-    host.clock.clock = Units(-1);
+    host.clock.clock = Units(i64::MIN);
     host.set_afresh().unwrap();
     assert_eq!(host.run[PLACES..PLACES + 4], [Entry::FRESH; 4]);
     assert!(host.run[..PLACES].iter().all(|entry| *entry == used));

@@ -41,6 +41,7 @@ impl Random {
 pub fn host(random: &mut Random) -> Host {
     let mut host = Host::fresh(settings(random));
     host.clock = clock(random);
+    host.counter = counter(random);
     for link in &mut host.links {
         link.neighbor = address(random, &host.settings);
         link.keep_alive = random.below(5) as u8;
@@ -68,6 +69,7 @@ fn settings(random: &mut Random) -> Settings {
         nhosts,
         clock_host: random.pick(&[CLOCK_SETTING_OFF, id, any_id, any_id]),
         hold_interval: random.pick(&[1, 30, 255]),
+        clock_tick: random.pick(&[Units(1), Units(65_536_000), Units(1 << 32)]),
         link_count: random.pick(&[1, 2, 8]),
         ..program::SETTINGS
     };
@@ -85,13 +87,26 @@ fn settings(random: &mut Random) -> Settings {
 }
 
 fn clock(random: &mut Random) -> Clock {
-    let any = random.between(0, DAY_MS);
+    let any = random.between(-65_535, DAY_MS);
     let date = random.pick(&[Date::FIRST, Date(2956), Date(2988), Date::LAST]);
     Clock {
-        clock: Units::from_ms(random.pick(&[0, 1_000, DAY_MS - 200, DAY_MS, any])),
+        clock: Units::from_ms(random.pick(&[-65_535, 0, 1_000, DAY_MS - 200, DAY_MS, any])),
         delta: Units::from_ms(random.between(SLEW_MS.0.into(), SLEW_MS.1.into())),
         hold: random.pick(&[0, 0, 0, 7]),
         date: random.pick(&[date, date.awaited()]),
+    }
+}
+
+/// What a crystal clock hands in, or a line clock.
+pub fn counter(random: &mut Random) -> Counter {
+    if random.one_in(3) {
+        return Counter::LINE_CLOCK;
+    }
+    let any = random.next();
+    Counter {
+        count: random.pick(&[0, 1, 65_535, any as u16]),
+        overflow: random.pick(&[0, 0, 1, 255]),
+        again: random.pick(&[0, 1, 65_535, (any >> 16) as u16]),
     }
 }
 
@@ -127,7 +142,7 @@ fn address(random: &mut Random, settings: &Settings) -> Address {
 
 /// A packet for a link of the host, most often a good one.
 pub fn packet(random: &mut Random, host: &Host, link: usize) -> Vec<u8> {
-    let reading = host.clock.reading();
+    let reading = host.clone().read().map_or(0, |reading| reading.time);
     let any = random.next();
     let near = reading + random.between(-200, 200);
     let earlier = reading - random.between(0, 500);
@@ -150,8 +165,9 @@ pub fn packet(random: &mut Random, host: &Host, link: usize) -> Vec<u8> {
     let hosts: Vec<_> = (0..count).map(|_| reported(random)).collect();
     let mut packet = message_from(source, heading, &hosts);
     if random.one_in(10) {
-        let place = match random.below(3) {
+        let place = match random.below(4) {
             0 => 9,
+            1 => 31,
             _ => random.below(packet.len()),
         };
         packet[place] ^= 1 << random.below(8);
