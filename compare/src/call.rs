@@ -1,5 +1,6 @@
 //! A call with all its arguments, and what comes of it.
 
+use hello::Counter;
 use std::fmt;
 
 /// Octets, shown in hex.
@@ -19,19 +20,51 @@ impl fmt::Debug for Octets {
 #[derive(Debug)]
 pub enum Call {
     Initialize,
-    Tick,
-    Adjust,
-    Set { ms: i32 },
-    Read,
+    Tick {
+        count: u16,
+    },
+    Adjust {
+        count: u16,
+    },
+    Set {
+        ms: i32,
+        count: u16,
+    },
+    Read {
+        counter: Counter,
+    },
     Second,
-    SelfReport,
-    Send { link: usize, buffer: Octets },
-    Inspect { link: usize, packet: Octets },
-    Act { link: usize, packet: Octets },
-    Receive { link: usize, packet: Octets },
-    Lookup { address: hello::Address },
-    Packet { octets: Octets },
-    Checksum { octets: Octets },
+    SelfReport {
+        counter: Counter,
+    },
+    Send {
+        link: usize,
+        counter: Counter,
+        buffer: Octets,
+    },
+    Inspect {
+        link: usize,
+        packet: Octets,
+    },
+    Act {
+        link: usize,
+        counter: Counter,
+        packet: Octets,
+    },
+    Receive {
+        link: usize,
+        counter: Counter,
+        packet: Octets,
+    },
+    Lookup {
+        address: hello::Address,
+    },
+    Packet {
+        octets: Octets,
+    },
+    Checksum {
+        octets: Octets,
+    },
 }
 
 /// The names of the calls, in the order of `Call::row`.
@@ -57,12 +90,12 @@ impl Call {
     pub fn row(&self) -> usize {
         match self {
             Call::Initialize => 0,
-            Call::Tick => 1,
-            Call::Adjust => 2,
+            Call::Tick { .. } => 1,
+            Call::Adjust { .. } => 2,
             Call::Set { .. } => 3,
-            Call::Read => 4,
+            Call::Read { .. } => 4,
             Call::Second => 5,
-            Call::SelfReport => 6,
+            Call::SelfReport { .. } => 6,
             Call::Send { .. } => 7,
             Call::Inspect { .. } => 8,
             Call::Act { .. } => 9,
@@ -70,6 +103,18 @@ impl Call {
             Call::Lookup { .. } => 11,
             Call::Packet { .. } => 12,
             Call::Checksum { .. } => 13,
+        }
+    }
+
+    /// The counter that the call is handed, if it may take a reading.
+    pub fn counter(&self) -> Option<Counter> {
+        match self {
+            Call::Read { counter }
+            | Call::SelfReport { counter }
+            | Call::Send { counter, .. }
+            | Call::Act { counter, .. }
+            | Call::Receive { counter, .. } => Some(*counter),
+            _ => None,
         }
     }
 }

@@ -45,6 +45,14 @@ pub fn clock(from: &hello::Clock) -> reference::Clock {
     }
 }
 
+pub fn counter(from: hello::Counter) -> reference::Counter {
+    reference::Counter {
+        count: from.count,
+        overflow: from.overflow,
+        again: from.again,
+    }
+}
+
 pub fn links(from: &hello::Links) -> reference::Links {
     from.all.map(|link| reference::Link {
         neighbor: address(link.neighbor),

@@ -1,6 +1,9 @@
-//! How often each call gave each answer, and which pairs can occur.
+//! How often each call gave each answer, and which pairs can occur; and what
+//! readings did.
 
 use crate::call::NAMES;
+use crate::generate::DAY_UNITS;
+use hello::{Clock, Counter};
 
 const ANSWERS: usize = 14;
 
@@ -60,5 +63,52 @@ impl Counts {
             }
         }
         complaints
+    }
+}
+
+/// What readings did, and how often.
+#[derive(Default)]
+pub struct Readings {
+    all: u64,
+    marked: u64,
+    days_on: u64,
+    days_back: u64,
+    below_zero: u64,
+}
+
+impl Readings {
+    /// Adds the reading of a call, by the clock before and after the call.
+    pub fn add(&mut self, counter: Counter, before: &Clock, after: &Clock) {
+        let moved = after.clock - before.clock;
+        self.all += 1;
+        self.marked += u64::from(counter.overflow != 0);
+        self.days_on += u64::from(moved < -DAY_UNITS / 2);
+        self.days_back += u64::from(moved > DAY_UNITS / 2);
+        self.below_zero += u64::from(after.clock < 0);
+    }
+
+    fn named(&self) -> [(&'static str, u64); 5] {
+        [
+            ("readings", self.all),
+            ("with a mark", self.marked),
+            ("a day on", self.days_on),
+            ("a day back", self.days_back),
+            ("CLOCK then below zero", self.below_zero),
+        ]
+    }
+
+    pub fn print(&self) {
+        let named = self.named();
+        let told: Vec<String> = named.map(|(name, count)| format!("{name} {count}")).into();
+        println!("{}", told.join(", "));
+    }
+
+    /// What never occurred.
+    pub fn complaints(&self) -> Vec<String> {
+        let named = self.named().into_iter();
+        named
+            .filter(|(_, count)| *count == 0)
+            .map(|(name, _)| format!("no {name}"))
+            .collect()
     }
 }

@@ -2,11 +2,14 @@
 
 use crate::random::Random;
 use crate::room::Room;
-use hello::{Address, Clock, Entry, Layout, Link, LinkSetting, Links, Net, Row, Settings};
+use hello::{Address, Clock, Counter, Entry, Layout, Link, LinkSetting, Links, Net, Row, Settings};
 use hello::{HOSTS, PLACES, UNITS_PER_MS};
 
 pub const DAY_MS: i64 = 86_400_000;
 pub const DAY_UNITS: i64 = DAY_MS * UNITS_PER_MS;
+/// CLOCK and a count of 65,535 ms are at least 0.
+const CLOCK_LEAST: i64 = -65_535 * UNITS_PER_MS;
+const TICK_MOST: i64 = 65_536 * UNITS_PER_MS;
 const DELTA_LEAST: i64 = -128 * UNITS_PER_MS;
 const DELTA_MOST: i64 = 127 * UNITS_PER_MS;
 
@@ -31,12 +34,13 @@ pub fn room(random: &mut Random) -> Room {
             }
         })
         .collect();
+    let crystals = (0..hosts).map(|_| random.one_in(2)).collect();
     let clocks = (0..hosts).map(|_| any_clock(random)).collect();
     let links = settings.iter().map(|set| links(random, set)).collect();
     let run = (0..hosts * PLACES + past_the_end)
         .map(|_| any_entry(random))
         .collect();
-    Room::new(settings, clocks, links, run)
+    Room::new(settings, crystals, clocks, links, run)
 }
 
 /// An address of class A, B or C, whose host octet does not matter.
@@ -88,8 +92,8 @@ fn settings(random: &mut Random, net: Address, layout: Layout) -> Settings {
 }
 
 fn clock_tick(random: &mut Random) -> i64 {
-    let any = random.between(1, 65_536_000);
-    random.pick(&[1, 1_092_267, 65_536, 65_536_000, any])
+    let any = random.between(1, TICK_MOST);
+    random.pick(&[1, 1_092_267, 65_536, 65_536_000, TICK_MOST, TICK_MOST, any])
 }
 
 /// A row, most often of a net that addresses of the room can be on.
@@ -186,20 +190,81 @@ pub fn any_date(random: &mut Random) -> u16 {
     random.pick(&[real ^ month, real ^ day, real, 0, 0xFFFF])
 }
 
-/// CLOCK in range, often close to midnight.
-fn clock_units(random: &mut Random) -> i64 {
+/// CLOCK in range, often close to midnight; a crystal's so close that a count
+/// brings the sum there, or below zero.
+fn clock_units(random: &mut Random, crystal: bool) -> i64 {
     let two_seconds = random.between(0, 2_000 * UNITS_PER_MS);
     let any = random.between(0, DAY_UNITS);
     let from_edge = random.pick(&[0, 1, UNITS_PER_MS, two_seconds]);
+    let from_count = random.between(0, -CLOCK_LEAST);
+    if crystal && random.one_in(2) {
+        return random.pick(&[
+            CLOCK_LEAST + from_edge,
+            -from_edge,
+            -from_count,
+            DAY_UNITS - from_count,
+        ]);
+    }
     random.pick(&[from_edge, DAY_UNITS - from_edge, any])
 }
 
+/// What the counter of a host shows: nothing at a line clock; at a crystal, in
+/// one of three with a mark, often a count that brings CLOCK to a midnight.
+pub fn counter(random: &mut Random, crystal: bool, clock: i64, tick: i64) -> Counter {
+    Counter {
+        count: count(random, crystal, clock),
+        overflow: if crystal && random.one_in(3) {
+            random.pick(&[1, 2, 128, 255])
+        } else {
+            0
+        },
+        again: count(random, crystal, clock.wrapping_add(tick)),
+    }
+}
+
+/// A count, for a CLOCK to which it is added.
+pub fn count(random: &mut Random, crystal: bool, clock: i64) -> u16 {
+    if !crystal {
+        return 0;
+    }
+    let midnight = if clock < 0 { 0 } else { DAY_UNITS };
+    let short = midnight.saturating_sub(clock).div_euclid(UNITS_PER_MS);
+    let near = (short + random.between(-1, 1)).clamp(0, u16::MAX.into()) as u16;
+    let any = random.next() as u16;
+    random.pick(&[near, near, any, any, 0, 1, u16::MAX])
+}
+
+/// The units by which a Set moves CLOCK; none where it slews.
+pub fn step(ms: i32) -> i64 {
+    let units = i64::from(ms) * UNITS_PER_MS;
+    if (DELTA_LEAST..=DELTA_MOST).contains(&units) {
+        0
+    } else {
+        units
+    }
+}
+
+/// The whole milliseconds that a reading is going to tell.
+pub fn reading(clock: i64, tick: i64, counter: Counter) -> i64 {
+    let (ticked, count) = match counter.overflow {
+        0 => (clock, counter.count),
+        _ => (clock.wrapping_add(tick), counter.again),
+    };
+    let sum = ticked.wrapping_add(i64::from(count) * UNITS_PER_MS);
+    let in_day = match sum {
+        ..0 => sum + DAY_UNITS,
+        0..=DAY_UNITS => sum,
+        _ => sum - DAY_UNITS,
+    };
+    in_day.div_euclid(UNITS_PER_MS)
+}
+
 /// A clock in range.
-pub fn clock(random: &mut Random) -> Clock {
+pub fn clock(random: &mut Random, crystal: bool) -> Clock {
     let any_delta = random.between(DELTA_LEAST, DELTA_MOST);
     let small = random.between(-130, 130);
     Clock {
-        clock: clock_units(random),
+        clock: clock_units(random, crystal),
         delta: random.pick(&[0, small, DELTA_LEAST, DELTA_MOST, any_delta]),
         hold: random.pick(&[0, 0, 0, 1, 2, 255]),
         date: real_date(random),
@@ -267,7 +332,8 @@ pub fn spoil_settings(random: &mut Random, settings: &mut Settings) {
         4 => settings.clock_host = random.pick(&[nhosts.min(254) as u8, 254, 255]),
         5 => settings.hold_interval = random.pick(&[0, 255, 256, u16::MAX]),
         6 => {
-            settings.clock_tick = random.pick(&[0, -1, 65_536_000, 65_536_001, i64::MIN, i64::MAX])
+            settings.clock_tick =
+                random.pick(&[0, -1, TICK_MOST, TICK_MOST + 1, i64::MIN, i64::MAX])
         }
         7 => settings.time = random.pick(&[-1, DAY_MS - 1, DAY_MS, i64::MIN, i64::MAX]),
         8 => settings.date = any_date(random),
@@ -288,7 +354,17 @@ pub fn spoil_settings(random: &mut Random, settings: &mut Settings) {
 /// Takes one field of a clock out of its range, or to its very edge.
 pub fn spoil_clock(random: &mut Random, clock: &mut Clock) {
     match random.below(4) {
-        0 => clock.clock = random.pick(&[-1, DAY_UNITS, DAY_UNITS + 1, i64::MIN, i64::MAX]),
+        0 => {
+            clock.clock = random.pick(&[
+                -1,
+                CLOCK_LEAST,
+                CLOCK_LEAST - 1,
+                DAY_UNITS,
+                DAY_UNITS + 1,
+                i64::MIN,
+                i64::MAX,
+            ])
+        }
         1 => {
             clock.delta = random.pick(&[
                 DELTA_LEAST,

@@ -4,7 +4,7 @@
 //!
 //! `compare [--seed N] [--calls N]` makes at least N calls. It ends with 1 at
 //! the first difference, and with 2 where an answer that can occur was never
-//! given.
+//! given, or something that readings do never occurred.
 
 mod call;
 mod capture;
@@ -22,7 +22,7 @@ mod trials;
 mod vectors;
 
 use call::{Call, Trial, Value};
-use counts::Counts;
+use counts::{Counts, Readings};
 use hello::{Clock, Entry, Links, PLACES};
 use random::Random;
 use room::{Difference, Room};
@@ -59,6 +59,7 @@ struct Comparison {
     random: Random,
     messages: Messages,
     counts: Counts,
+    readings: Readings,
     calls: u64,
     /// The host's entries before the call, for the report of a difference.
     table: Vec<Entry>,
@@ -90,6 +91,10 @@ impl Comparison {
             .perform(trial)
             .map_err(|difference| self.report(trial, &lent, &difference))?;
         self.counts.add(trial.call.row(), outcome.answer);
+        if let (Some(counter), 0 | 10 | 11) = (trial.call.counter(), outcome.answer) {
+            let after = &room.library.clocks[trial.host];
+            self.readings.add(counter, &lent.0, after);
+        }
         if let (Call::Send { .. }, Value::Length(length @ 1..)) = (&trial.call, &outcome.value) {
             self.messages.keep(&outcome.buffer.0[..*length]);
         }
@@ -118,11 +123,12 @@ impl Comparison {
     }
 }
 
-fn compare(options: &Options) -> Result<Counts, String> {
+fn compare(options: &Options) -> Result<(Counts, Readings), String> {
     let mut comparison = Comparison {
         random: Random::new(options.seed),
         messages: Messages::default(),
         counts: Counts::default(),
+        readings: Readings::default(),
         calls: 0,
         table: Vec::new(),
     };
@@ -137,7 +143,7 @@ fn compare(options: &Options) -> Result<Counts, String> {
     capture::run(options.seed)?;
     text::run(options.seed, options.calls.min(20_000))?;
     ntp::run(&mut comparison.random)?;
-    Ok(comparison.counts)
+    Ok((comparison.counts, comparison.readings))
 }
 
 fn main() -> ExitCode {
@@ -145,15 +151,17 @@ fn main() -> ExitCode {
         eprintln!("usage: compare [--seed N] [--calls N]");
         return ExitCode::from(2);
     };
-    let counts = match compare(&options) {
-        Ok(counts) => counts,
+    let (counts, readings) = match compare(&options) {
+        Ok(counted) => counted,
         Err(difference) => {
             println!("seed {}\n{difference}", options.seed);
             return ExitCode::from(1);
         }
     };
     counts.print();
-    let complaints = counts.complaints();
+    readings.print();
+    let mut complaints = counts.complaints();
+    complaints.extend(readings.complaints());
     complaints
         .iter()
         .for_each(|complaint| println!("{complaint}"));

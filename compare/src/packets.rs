@@ -13,7 +13,7 @@ pub struct Receiver<'a> {
     pub settings: &'a Settings,
     pub link: LinkSetting,
     pub neighbor: Address,
-    /// The clock in whole milliseconds.
+    /// What the clock reads, in whole milliseconds.
     pub reading: i64,
     pub table: &'a [Entry],
 }

@@ -7,6 +7,8 @@ use crate::sides::{Library, Reference};
 pub struct Room {
     /// The settings of each host.
     pub settings: Vec<hello::Settings>,
+    /// Whether a host's clock is a crystal's; a line clock has no counter.
+    pub crystals: Vec<bool>,
     pub library: Library,
     reference: Reference,
 }
@@ -23,6 +25,7 @@ impl Room {
     /// A room in which both programs are lent the same.
     pub fn new(
         settings: Vec<hello::Settings>,
+        crystals: Vec<bool>,
         clocks: Vec<hello::Clock>,
         links: Vec<hello::Links>,
         run: Vec<hello::Entry>,
@@ -35,6 +38,7 @@ impl Room {
         let library = Library { clocks, links, run };
         Room {
             settings,
+            crystals,
             library,
             reference,
         }

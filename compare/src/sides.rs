@@ -20,11 +20,17 @@ impl Library {
         let run = &mut self.run[..trial.run_length];
         match &trial.call {
             Call::Initialize => Outcome::of(hello::initialize(settings, number, clock, links, run)),
-            Call::Tick => Outcome::of(hello::tick(settings, number, clock, links, run)),
-            Call::Adjust => Outcome::of(hello::adjust(settings, number, clock, links, run)),
-            Call::Set { ms } => Outcome::of(hello::set(settings, number, clock, links, run, *ms)),
-            Call::Read => {
-                let read = hello::read(settings, number, clock, links, run);
+            Call::Tick { count } => {
+                Outcome::of(hello::tick(settings, number, clock, links, run, *count))
+            }
+            Call::Adjust { count } => {
+                Outcome::of(hello::adjust(settings, number, clock, links, run, *count))
+            }
+            Call::Set { ms, count } => {
+                Outcome::of(hello::set(settings, number, clock, links, run, *ms, *count))
+            }
+            Call::Read { counter } => {
+                let read = hello::read(settings, number, clock, links, run, *counter);
                 let value = Value::Time {
                     time: read.time,
                     date: read.date,
@@ -32,12 +38,25 @@ impl Library {
                 Outcome::new(read.answer, value)
             }
             Call::Second => Outcome::of(hello::second(settings, number, clock, links, run)),
-            Call::SelfReport => {
-                Outcome::of(hello::self_report(settings, number, clock, links, run))
-            }
-            Call::Send { link, buffer } => {
+            Call::SelfReport { counter } => Outcome::of(hello::self_report(
+                settings, number, clock, links, run, *counter,
+            )),
+            Call::Send {
+                link,
+                counter,
+                buffer,
+            } => {
                 let mut octets = buffer.0.clone();
-                let sent = hello::send(settings, number, clock, links, run, *link, &mut octets);
+                let sent = hello::send(
+                    settings,
+                    number,
+                    clock,
+                    links,
+                    run,
+                    *link,
+                    *counter,
+                    &mut octets,
+                );
                 Outcome {
                     answer: sent.answer,
                     value: Value::Length(sent.length),
@@ -54,11 +73,19 @@ impl Library {
                 };
                 Outcome::new(told.answer, value)
             }
-            Call::Act { link, packet } => Outcome::of(hello::act(
-                settings, number, clock, links, run, *link, &packet.0,
+            Call::Act {
+                link,
+                counter,
+                packet,
+            } => Outcome::of(hello::act(
+                settings, number, clock, links, run, *link, *counter, &packet.0,
             )),
-            Call::Receive { link, packet } => Outcome::of(hello::receive(
-                settings, number, clock, links, run, *link, &packet.0,
+            Call::Receive {
+                link,
+                counter,
+                packet,
+            } => Outcome::of(hello::receive(
+                settings, number, clock, links, run, *link, *counter, &packet.0,
             )),
             Call::Lookup { address } => {
                 let route = hello::lookup(settings, number, clock, links, run, *address);
@@ -92,19 +119,42 @@ impl Reference {
         let run = &mut self.run[..trial.run_length];
         match &trial.call {
             Call::Initialize => done(host::set_afresh(settings, number, clock, links, run)),
-            Call::Tick => done(host::tick(settings, number, clock, links, run)),
-            Call::Adjust => done(host::adjust(settings, number, clock, links, run)),
-            Call::Set { ms } => done(host::set(settings, number, clock, links, run, *ms)),
-            Call::Read => {
-                let read = host::read(settings, number, clock, links, run);
+            Call::Tick { count } => done(host::tick(settings, number, clock, links, run, *count)),
+            Call::Adjust { count } => {
+                done(host::adjust(settings, number, clock, links, run, *count))
+            }
+            Call::Set { ms, count } => {
+                done(host::set(settings, number, clock, links, run, *ms, *count))
+            }
+            Call::Read { counter } => {
+                let counter = convert::counter(*counter);
+                let read = host::read(settings, number, clock, links, run, counter);
                 let (time, date) = read.map_or((0, 0), |reading| (reading.time, reading.date.0));
                 Outcome::new(answer(&read), Value::Time { time, date })
             }
             Call::Second => done(host::second(settings, number, clock, links, run)),
-            Call::SelfReport => done(host::self_report(settings, number, clock, links, run)),
-            Call::Send { link, buffer } => {
+            Call::SelfReport { counter } => {
+                let counter = convert::counter(*counter);
+                done(host::self_report(
+                    settings, number, clock, links, run, counter,
+                ))
+            }
+            Call::Send {
+                link,
+                counter,
+                buffer,
+            } => {
                 let mut octets = buffer.0.clone();
-                let sent = host::send(settings, number, clock, links, run, *link, &mut octets);
+                let sent = host::send(
+                    settings,
+                    number,
+                    clock,
+                    links,
+                    run,
+                    *link,
+                    convert::counter(*counter),
+                    &mut octets,
+                );
                 Outcome {
                     answer: answer(&sent),
                     value: Value::Length(sent.unwrap_or(0)),
@@ -122,12 +172,26 @@ impl Reference {
                 };
                 Outcome::new(answer(&said), value)
             }
-            Call::Act { link, packet } => done(host::act(
-                settings, number, clock, links, run, *link, &packet.0,
-            )),
-            Call::Receive { link, packet } => done(host::arrival(
-                settings, number, clock, links, run, *link, &packet.0,
-            )),
+            Call::Act {
+                link,
+                counter,
+                packet,
+            } => {
+                let counter = convert::counter(*counter);
+                done(host::act(
+                    settings, number, clock, links, run, *link, counter, &packet.0,
+                ))
+            }
+            Call::Receive {
+                link,
+                counter,
+                packet,
+            } => {
+                let counter = convert::counter(*counter);
+                done(host::arrival(
+                    settings, number, clock, links, run, *link, counter, &packet.0,
+                ))
+            }
             Call::Lookup { address } => {
                 let address = convert::address(*address);
                 let route = host::lookup(settings, number, clock, links, run, address);

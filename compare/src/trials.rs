@@ -5,7 +5,7 @@ use crate::generate;
 use crate::packets::{self, Receiver};
 use crate::random::Random;
 use crate::room::Room;
-use hello::{Address, Clock, Entry, Layout, Links, Settings, HOSTS, PLACES, UNITS_PER_MS};
+use hello::{Address, Clock, Counter, Entry, Layout, Links, Settings, HOSTS, PLACES};
 
 /// The messages that were sent last; they arrive at other hosts.
 #[derive(Default)]
@@ -81,7 +81,8 @@ pub fn next(random: &mut Random, room: &mut Room, messages: &Messages) -> Trial 
 /// Lends other values in range now and then, as if the host had a longer past.
 fn stir(random: &mut Random, room: &mut Room, host: usize) {
     if random.one_in(6) {
-        room.lend_clock(host, generate::clock(random));
+        let clock = generate::clock(random, room.crystals[host]);
+        room.lend_clock(host, clock);
     }
     if random.one_in(10) {
         let links = generate::links(random, &room.settings[host]);
@@ -106,23 +107,45 @@ fn run_length(random: &mut Random, whole: usize, host: usize) -> usize {
 fn call(random: &mut Random, room: &Room, trial: &Trial, messages: &Messages) -> Call {
     match random.below(100) {
         0..=3 => Call::Initialize,
-        4..=13 => Call::Tick,
-        14..=24 => Call::Adjust,
-        25..=31 => Call::Set { ms: ms(random) },
-        32..=35 => Call::Read,
+        4..=13 => Call::Tick {
+            count: count(random, room, trial, trial.settings.clock_tick),
+        },
+        14..=24 => Call::Adjust {
+            count: count(random, room, trial, 0),
+        },
+        25..=31 => {
+            let ms = ms(random);
+            let count = count(random, room, trial, generate::step(ms));
+            Call::Set { ms, count }
+        }
+        32..=35 => Call::Read {
+            counter: counter(random, room, trial),
+        },
         36..=46 => Call::Second,
-        47..=51 => Call::SelfReport,
+        47..=51 => Call::SelfReport {
+            counter: counter(random, room, trial),
+        },
         52..=64 => Call::Send {
             link: link(random, trial.settings.link_count),
+            counter: counter(random, room, trial),
             buffer: buffer(random, &trial.settings),
         },
         65..=88 => {
             let link = link(random, trial.settings.link_count);
-            let packet = arriving(random, room, trial, link, messages);
+            let counter = counter(random, room, trial);
+            let packet = arriving(random, room, trial, link, counter, messages);
             match random.below(3) {
                 0 => Call::Inspect { link, packet },
-                1 => Call::Act { link, packet },
-                _ => Call::Receive { link, packet },
+                1 => Call::Act {
+                    link,
+                    counter,
+                    packet,
+                },
+                _ => Call::Receive {
+                    link,
+                    counter,
+                    packet,
+                },
             }
         }
         89..=96 => Call::Lookup {
@@ -138,6 +161,19 @@ fn call(random: &mut Random, room: &Room, trial: &Trial, messages: &Messages) ->
             }
         }
     }
+}
+
+/// What the host's counter shows as a call reads the clock.
+fn counter(random: &mut Random, room: &Room, trial: &Trial) -> Counter {
+    let clock = room.library.clocks[trial.host].clock;
+    let tick = trial.settings.clock_tick;
+    generate::counter(random, room.crystals[trial.host], clock, tick)
+}
+
+/// The host's count as a call moves CLOCK by so much.
+fn count(random: &mut Random, room: &Room, trial: &Trial, moved: i64) -> u16 {
+    let clock = room.library.clocks[trial.host].clock;
+    generate::count(random, room.crystals[trial.host], clock.wrapping_add(moved))
 }
 
 fn ms(random: &mut Random) -> i32 {
@@ -181,6 +217,7 @@ fn arriving(
     room: &Room,
     trial: &Trial,
     link: usize,
+    counter: Counter,
     messages: &Messages,
 ) -> Octets {
     let place = link.clamp(1, 8) - 1;
@@ -189,9 +226,11 @@ fn arriving(
         settings: &trial.settings,
         link: trial.settings.links[place],
         neighbor: room.library.links[trial.host].all[place].neighbor,
-        reading: room.library.clocks[trial.host]
-            .clock
-            .div_euclid(UNITS_PER_MS),
+        reading: generate::reading(
+            room.library.clocks[trial.host].clock,
+            trial.settings.clock_tick,
+            counter,
+        ),
         table: &room.library.run[start..start + PLACES],
     };
     packet(random, &receiver, messages)

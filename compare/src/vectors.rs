@@ -3,7 +3,7 @@
 use crate::call::{Call, Octets, Outcome, Trial, Value};
 use crate::generate::DAY_UNITS;
 use crate::room::Room;
-use hello::{Address, Clock, Entry, Layout, Links, Settings, PLACES, UNITS_PER_MS};
+use hello::{Address, Clock, Counter, Entry, Layout, Links, Settings, PLACES, UNITS_PER_MS};
 use std::fmt::Debug;
 
 const DOWN: Entry = Entry {
@@ -22,6 +22,7 @@ pub fn run() -> Result<(), String> {
     halves()?;
     round_trip()?;
     midnight()?;
+    crystal()?;
     program()?;
     println!("the vectors agree");
     Ok(())
@@ -43,6 +44,7 @@ impl Pair {
         let settings = vec![settings(1), settings(2)];
         let room = Room::new(
             settings,
+            vec![false; 2],
             vec![Clock::default(); 2],
             vec![Links::default(); 2],
             vec![DOWN; 2 * PLACES],
@@ -88,7 +90,12 @@ impl Pair {
 
     fn send(&mut self, host: usize) -> Result<Vec<u8>, String> {
         let buffer = Octets(vec![0; 48]);
-        let outcome = self.call(host, Call::Send { link: 1, buffer })?;
+        let send = Call::Send {
+            link: 1,
+            counter: Counter::LINE_CLOCK,
+            buffer,
+        };
+        let outcome = self.call(host, send)?;
         let Value::Length(length) = outcome.value else {
             return Err("a send answers its length".into());
         };
@@ -104,8 +111,12 @@ impl Pair {
         if looked.answer != 0 {
             return Ok(looked.answer);
         }
-        let packet = again;
-        Ok(self.call(host, Call::Act { link, packet })?.answer)
+        let act = Call::Act {
+            link,
+            counter: Counter::LINE_CLOCK,
+            packet: again,
+        };
+        Ok(self.call(host, act)?.answer)
     }
 }
 
@@ -181,7 +192,7 @@ fn dates() -> Result<(), String> {
             ..Clock::default()
         };
         pair.0.lend_clock(0, clock);
-        pair.call(0, Call::Tick)?;
+        pair.call(0, Call::Tick { count: 0 })?;
         expect("the next date", pair.clock(0).date & 0x7FFF, after)?;
     }
     Ok(())
@@ -253,7 +264,8 @@ fn round_trip() -> Result<(), String> {
     pair.set_reading(1, 40_530);
     expect("the question", pair.take(1, question)?, 10)?;
     pair.set_reading(1, 45_530);
-    pair.call(1, Call::SelfReport)?;
+    let counter = Counter::LINE_CLOCK;
+    pair.call(1, Call::SelfReport { counter })?;
     let answer = pair.send(1)?;
     expect("TSP", &answer[28..30], &45_000_u16.to_be_bytes())?;
     pair.set_reading(0, 45_081);
@@ -277,13 +289,13 @@ fn midnight() -> Result<(), String> {
         ..Clock::default()
     };
     pair.0.lend_clock(0, clock);
-    pair.call(0, Call::Tick)?;
+    pair.call(0, Call::Tick { count: 0 })?;
     let at_midnight = Clock {
         clock: DAY_UNITS,
         ..clock
     };
     expect("midnight", pair.clock(0), at_midnight)?;
-    pair.call(0, Call::Tick)?;
+    pair.call(0, Call::Tick { count: 0 })?;
     let next_day = Clock {
         clock: 1,
         hold: 1,
@@ -291,6 +303,45 @@ fn midnight() -> Result<(), String> {
         ..clock
     };
     expect("past midnight", pair.clock(0), next_day)
+}
+
+/// Readings of a crystal, with a CLOCK-TICK of 65,536 ms: CLOCK, the counter,
+/// what is told, CLOCK afterwards and the date's step.
+fn crystal() -> Result<(), String> {
+    for (ms, counter, time, left, date) in [
+        (86_399_000, Counter::of(1_000), 86_400_000, 86_399_000, 0),
+        (86_399_000, Counter::of(1_001), 1, -1_000, 1),
+        (86_334_466, Counter::of(65_535), 1, -65_534, 1),
+        (-65_535, Counter::of(65_535), 0, -65_535, 0),
+        (-65_535, Counter::of(65_534), 86_399_999, 86_334_465, -1),
+        (0, Counter::of(65_535), 65_535, 0, 0),
+        (0, Counter::overflowed(65_535, 3), 65_539, 65_536, 0),
+        (86_400_000, Counter::overflowed(0, 3), 65_539, 65_536, 1),
+    ] {
+        let mut pair = Pair::fresh()?;
+        pair.0.settings[0].clock_tick = 65_536 * UNITS_PER_MS;
+        let clock = Clock {
+            date: 1088,
+            ..pair.clock(0)
+        };
+        pair.0.lend_clock(0, clock);
+        pair.set_reading(0, ms);
+        let outcome = pair.call(0, Call::Read { counter })?;
+        let (date, hold) = match date {
+            -1 => (0x8000 | 1056, 1),
+            1 => (0x8000 | 1120, 1),
+            _ => (1088, 0),
+        };
+        expect("a reading", outcome.value, Value::Time { time, date })?;
+        let after = Clock {
+            clock: left * UNITS_PER_MS,
+            hold,
+            date,
+            ..clock
+        };
+        expect("the crystal's clock", pair.clock(0), after)?;
+    }
+    Ok(())
 }
 
 fn program() -> Result<(), String> {
