@@ -20,17 +20,17 @@ use Rattle.clock.proofs.Midnight.{sum-on, sum-back, at-rest, rests-hold
 use Rattle.clock.proofs.Turns.{count-up, count-not-below}
 
 -- one turn of either while, where it is enough
-once-on : (h : Seconds) (n : Count) (c : Clock) → exceedsDay n c ≡ true → (pos 0) ≤ℤ (plusCount n (dayOn h c) .0) → (plusCount n (dayOn h c) .0) ≤ℤ (day .0)
+pub once-on : (h : Seconds) (n : Count) (c : Clock) → exceedsDay n c ≡ true → (pos 0) ≤ℤ (plusCount n (dayOn h c) .0) → (plusCount n (dayOn h c) .0) ≤ℤ (day .0)
     → midnight h n c ≡ dayOn h c
 unfolding midnight Rests
 once-on h n c e low high = ap (daysBack h n) (rw e at (whiles-hold .on h n c)) ∙ rests-hold h n (dayOn h c) low high
 
-once-back : (h : Seconds) (n : Count) (c : Clock) → exceedsDay n c ≡ false → belowZero n c ≡ true → belowZero n (dayBack h c) ≡ false
+pub once-back : (h : Seconds) (n : Count) (c : Clock) → exceedsDay n c ≡ false → belowZero n c ≡ true → belowZero n (dayBack h c) ≡ false
     → midnight h n c ≡ dayBack h c
 unfolding midnight
 once-back h n c e f g = ap (daysBack h n) (rw e at (whiles-hold .on h n c)) ∙ rw f at (whiles-hold .back h n c) ∙ rw g at (whiles-hold .back h n (dayBack h c))
 
-share-small : (c : Clock) → clockInRange c ≡ true → Within 65536 65536 (share c .0)
+pub share-small : (c : Clock) → clockInRange c ≡ true → Within 65536 65536 (share c .0)
 share-small c e =
     let r = range-says c e .rest in
     let f = floor (c .delta .0) 128 (lit< tt) in

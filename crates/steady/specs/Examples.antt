@@ -1,0 +1,116 @@
+-- A seat for examples that are computed: 192.0.2.1, with the host 192.0.2.2 on its link, by whom it sets its clock. CLOCK-TICK is 1,000 ms, and set afresh the clock stands at 3,600,000 ms.
+use mathlib.Core.List.{List, [], _∷_}
+use Prim.Native.Nat.{ℕ}
+use lib.IntN.{ℤ, pos}
+use lib.ListN.{replicate}
+use Rattle.quantity.specs.declared.Millis.{Millis}
+use Rattle.quantity.specs.Quantity.{millis, seconds, toUnits, addMillis, subMillis}
+use Rattle.quantity.specs.Words.{word, toWord}
+use Rattle.calendar.specs.Date.{firstDate}
+use Rattle.clock.specs.declared.Counter.{Counter}
+use Rattle.clock.specs.Midnight.{dayMillis}
+use Rattle.clock.specs.Clock.{freshClock}
+use Rattle.clock.specs.LineClock.{noCount, noCounter}
+use Rattle.wire.specs.Packet.{message}
+use Rattle.route.specs.Find.{zeroNet}
+use Rattle.table.specs.Entry.{minDelay, freshEntry}
+use Rattle.host.specs.declared.Settings.{Settings}
+use Rattle.host.specs.State.{unset, freshLinks, withLink, placesPerHost}
+use Rattle.calls.specs.declared.Request.{Request}
+use Rattle.calls.specs.declared.Request.the-variants.{Adjust, Set, Read}
+use Rattle.calls.specs.Perform.{Call, ask, receive}
+use Rattle.network.specs.TwoSeats.{hostAt}
+use Rattle.steady.specs.Turns.{Turn}
+use Rattle.steady.specs.NeverBack.{setMost, Readings}
+use Rattle.steady.specs.Slewed.{Slew}
+
+abbrev pub start : Millis
+start = millis (pos 3600000)
+
+abbrev pub seat : Settings
+seat =
+    record {
+      address = hostAt 1;
+      layout = record { «address_offset» = 1; nhosts = 2 };
+      «clock_host» = 1;
+      «hold_interval» = seconds 1;
+      «clock_tick» = toUnits (millis (pos 1000));
+      time = start;
+      date = firstDate;
+      «link_count» = 1;
+      links = replicate 8 unset;
+      net = record { count = 0; rows = replicate 32 record { net = zeroNet; host = 0 } };
+    }
+
+-- ---- calls
+
+abbrev pub turn : Call → Turn
+turn c =
+    record {
+      call = c;
+      number = 0;
+      links = withLink 1 record { neighbor = hostAt 2; «keep_alive» = 0; tsp = word (pos 0) } (freshLinks seat);
+      run = replicate placesPerHost freshEntry;
+    }
+
+abbrev pub asks : Request → Turn
+asks q = turn (ask q)
+
+abbrev pub setTo : (ms : ℤ) → Turn
+setTo ms = asks (Set ms noCount)
+
+abbrev pub adjustOnce : Turn
+adjustOnce = asks (Adjust noCount)
+
+-- 12: no host has the number 16
+abbrev pub refusedAdjust : Turn
+refusedAdjust = record { call = ask (Adjust noCount); number = 16; links = adjustOnce .links; run = adjustOnce .run }
+
+-- the clock host's packet, that arrives at the starting time with a DELAY of 100 ms and this OFFSET: its time, 50 ms later, is that much ahead
+abbrev pub packetOf : (offset : Millis) → List ℕ
+packetOf offset =
+    message (hostAt 1)
+    record {
+      source = hostAt 2;
+      date = firstDate;
+      time = subMillis (addMillis start offset) (millis (pos 50));
+      tsp = toWord (subMillis start minDelay);
+      «address_offset» = 0;
+      nhosts = 0;
+    }
+    []
+
+abbrev pub arrives : (offset : Millis) → Turn
+arrives offset = turn (receive 1 noCounter (packetOf offset))
+
+-- ---- lists of calls
+
+-- a read, these calls, and a read again, from a clock that is set afresh to this time
+abbrev pub betweenReads : Millis → Counter → List Turn → Counter → Readings
+betweenReads time k between j =
+    record {
+      settings = seat;
+      clock = freshClock time firstDate;
+      first = asks (Read k);
+      counter = k;
+      between = between;
+      last = asks (Read j);
+      counterAgain = j;
+    }
+
+-- a set of +127 as the day ends, and an adjust past midnight
+abbrev pub lateSlew : Slew
+lateSlew = record { settings = seat; clock = freshClock dayMillis firstDate; first = setTo (pos 127); amount = setMost; after = adjustOnce ∷ [] }
+
+-- the arrival of that packet, these calls, and a read
+abbrev pub afterArrival : (offset : Millis) → List Turn → Readings
+afterArrival offset between =
+    record {
+      settings = seat;
+      clock = freshClock start firstDate;
+      first = arrives offset;
+      counter = noCounter;
+      between = between;
+      last = asks (Read noCounter);
+      counterAgain = noCounter;
+    }

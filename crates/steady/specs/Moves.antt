@@ -1,0 +1,120 @@
+-- What a call does to the clock, as a list of moves: each is one of the clock's own procedures. A refused call makes none, but for the reading of 10 and 11 at an arrival.
+use mathlib.Core.Path.{_≡_}
+use mathlib.Core.Bool.{Bool, cond, not}
+use mathlib.Core.List.{List, [], _∷_, _++_}
+use Prim.Native.Nat.{ℕ, suc, _-_}
+use lib.Dec.{ltb, eqb}
+use lib.ListN.{length}
+use Rattle.lists.specs.Lists.{part}
+use Rattle.quantity.specs.declared.Millis.{Millis}
+use Rattle.quantity.specs.declared.Count.{Count}
+use Rattle.quantity.specs.Quantity.{millis}
+use Rattle.quantity.specs.Words.{ofWord}
+use Rattle.calendar.specs.declared.Date.{Date}
+use Rattle.answer.specs.declared.Answer.the-variants.{Done}
+use Rattle.clock.specs.declared.Clock.{Clock}
+use Rattle.clock.specs.declared.Counter.{Counter}
+use Rattle.clock.specs.Clock.{freshClock, tick, adjust, setBy, reading, holdSecond}
+use Rattle.wire.specs.declared.Parsed.{Parsed}
+use Rattle.wire.specs.declared.Parsed.the-variants.{Good, Bad}
+use Rattle.wire.specs.Packet.{packetLength}
+use Rattle.table.specs.declared.Entry.{Entry}
+use Rattle.table.specs.declared.Update.{Update}
+use Rattle.table.specs.declared.run.Updates.{Updates}
+use Rattle.table.specs.Forms.{Stage, on, end}
+use Rattle.table.specs.Update.{lines, dateTaken}
+use Rattle.table.specs.Runs.{updateAt}
+use Rattle.host.specs.declared.Settings.{Settings}
+use Rattle.host.specs.State.{linkOf}
+use Rattle.host.specs.Lent.{Lent, entriesOf, ourReading}
+use Rattle.host.specs.Guard.{guard, done}
+use Rattle.sending.specs.Send.{reportCount}
+use Rattle.arrival.specs.declared.Delivery.{Delivery}
+use Rattle.arrival.specs.declared.Delivery.the-variants.{Inspect, Act, Receive}
+use Rattle.arrival.specs.Inspection.{inspect}
+use Rattle.arrival.specs.Arrival.{action}
+use Rattle.calls.specs.declared.Request.{Request}
+use Rattle.calls.specs.declared.Request.the-variants.{Initialize, Tick, Adjust, Set, Read, Second, SelfReport, Lookup}
+use Rattle.calls.specs.Perform.{Call, ask, send, deliver, scopeOfCall, perform}
+
+-- ---- moves
+
+-- `dates` is the date that line (d) takes; `second` is what a second does to HOLD
+pub data Move : Type 0 where
+  reads : Counter → Move
+  ticks : Count → Move
+  adjusts : Count → Move
+  sets : Count → Millis → Move
+  dates : Date → Move
+  second : Move
+  afresh : Move
+
+abbrev pub moved : Settings → Move → Clock → Clock
+moved s (reads k) c = reading (s .«clock_tick») (s .«hold_interval») k c .clock
+moved s (ticks n) c = tick (s .«clock_tick») (s .«hold_interval») n c
+moved s (adjusts n) c = adjust (s .«hold_interval») n c
+moved s (sets n m) c = setBy (s .«hold_interval») n m c
+moved s (dates d) c = dateTaken d c
+moved s second c = holdSecond c
+moved s afresh c = freshClock (s .time) (s .date)
+
+abbrev pub movedBy : Settings → List Move → Clock → Clock
+movedBy s [] c = c
+movedBy s (m ∷ ms) c = movedBy s ms (moved s m c)
+
+-- ---- the moves of an arrival
+
+-- line (d), for the clock host where (c) stored
+abbrev pub lineDMoves : (clockHost : Bool) → Updates → Update → Stage Entry → List Move
+lineDMoves clockHost w u (on e) = cond clockHost (dates (w .date) ∷ sets (w .count) (ofWord (u .offset)) ∷ []) []
+lineDMoves clockHost w u (end e) = []
+
+-- the ids from i on
+abbrev pub sweepMoves : (i : ℕ) → Updates → (packet : List ℕ) → List Entry → List Move
+sweepMoves i w packet [] = []
+sweepMoves i w packet (e ∷ es) =
+    lineDMoves (eqb (i - w .base) (w .«clock_host»)) w (updateAt w (i - w .base) packet) (lines (updateAt w (i - w .base) packet) e)
+    ++ sweepMoves (suc i) w packet es
+
+abbrev pub updateMoves : Updates → (packet : List ℕ) → List Entry → List Move
+updateMoves w packet es = sweepMoves (w .first) w packet (part (w .first) (w .end - w .first) es)
+
+-- 3 to 9 don't read
+abbrev pub actionMoves : (link : ℕ) → Counter → (packet : List ℕ) → Lent → Parsed → List Move
+actionMoves i k packet x (Bad a) = []
+actionMoves i k packet x (Good p) = reads k ∷ updateMoves (action k (x .host) i p .work) packet (entriesOf x)
+
+abbrev pub deliveryMoves : Delivery → (packet : List ℕ) → Lent → List Move
+deliveryMoves (Inspect i) packet x = []
+deliveryMoves (Act i k) packet x = actionMoves i k packet x (inspect (x .host .settings) i packet)
+deliveryMoves (Receive i k) packet x = actionMoves i k packet x (inspect (x .host .settings) i packet)
+
+-- ---- the moves of a call
+
+abbrev pub requestMoves : Request → List Move
+requestMoves Initialize = afresh ∷ []
+requestMoves (Tick n) = ticks n ∷ []
+requestMoves (Adjust n) = adjusts n ∷ []
+requestMoves (Set ms n) = sets n (millis ms) ∷ []
+requestMoves (Read k) = reads k ∷ []
+requestMoves Second = second ∷ []
+requestMoves (SelfReport k) = reads k ∷ []
+requestMoves (Lookup a) = []
+
+abbrev pub workMoves : Call → Lent → List Move
+workMoves (ask q) x = requestMoves q
+workMoves (send i k buffer) x =
+    cond (ltb (length buffer) (packetLength (reportCount (x .host .settings) (linkOf (x .host .links) i)))) [] (reads k ∷ [])
+workMoves (deliver d packet) x = deliveryMoves d packet x
+
+unfoldable pub moves : Call → Lent → List Move
+moves c x = cond (not (done (guard (scopeOfCall c) x))) [] (workMoves c x)
+
+-- ---- the law
+
+pub record ClockMoves : Type 0 where
+  -- a call makes its moves, and nothing else becomes of the clock
+  pub clock : (c : Call) (x : Lent) → perform c x .clock ≡ movedBy (x .host .settings) (moves c x) (x .host .clock)
+  -- what a read tells is its reading
+  pub told : (k : Counter) (x : Lent) → perform (ask (Read k)) x .reply .answer ≡ Done
+      → perform (ask (Read k)) x .reply .time ≡ ourReading k (x .host) .time
