@@ -21,6 +21,8 @@ enum {
 static hello_settings settings;
 static hello_clock clock;
 static hello_links links;
+static hello_walk walk; /* closed: the host does not walk, and the copy is empty */
+static uint8_t copy[1];
 static hello_entry run[HELLO_PLACES];
 
 static void set_up(void)
@@ -35,7 +37,8 @@ static void set_up(void)
     settings.time = 86340000;
     settings.date = FIRST;
     settings.link_count = 1;
-    assert(hello_initialize(&settings, NUMBER, &clock, &links, run, HELLO_PLACES) == HELLO_DONE);
+    assert(hello_initialize(&settings, NUMBER, &clock, &links, &walk, copy, 0, run,
+                            HELLO_PLACES) == HELLO_DONE);
 }
 
 /* A count without the mark. */
@@ -48,7 +51,8 @@ static hello_counter at(uint16_t count)
 /* Reads the clock: it must be that time and date. The ms of CLOCK that the reading leaves. */
 static int64_t reads(hello_counter counter, int64_t time, uint16_t date)
 {
-    hello_time told = hello_read(&settings, NUMBER, &clock, &links, run, HELLO_PLACES, counter);
+    hello_time told = hello_read(&settings, NUMBER, &clock, &links, &walk, copy, 0, run,
+                                 HELLO_PLACES, counter);
     assert(told.answer == HELLO_DONE);
     assert(told.time == time);
     assert(told.date == (date | AWAITED));
@@ -64,7 +68,8 @@ int main(void)
     /* The sum is past midnight: CLOCK stands below zero until the tick. */
     assert(reads(at(60001), 1, SECOND) == -60000);
     assert(clock.hold == HOLD_INTERVAL);
-    assert(hello_tick(&settings, NUMBER, &clock, &links, run, HELLO_PLACES, 0) == HELLO_DONE);
+    assert(hello_tick(&settings, NUMBER, &clock, &links, &walk, copy, 0, run, HELLO_PLACES,
+                      0) == HELLO_DONE);
     assert(reads(at(0), 5536, SECOND) == 5536);
 
     /* The counter overflows behind its count: the mark stands for the tick. */
@@ -73,8 +78,8 @@ int main(void)
     assert(reads(at(4), 5536 + 65536 + 4, SECOND) == 5536 + 65536);
 
     /* Set back by 80 s, at a count of 10: the sum is before midnight. */
-    assert(hello_set(&settings, NUMBER, &clock, &links, run, HELLO_PLACES, -80000, 10) ==
-           HELLO_DONE);
+    assert(hello_set(&settings, NUMBER, &clock, &links, &walk, copy, 0, run, HELLO_PLACES, -80000,
+                     10) == HELLO_DONE);
     assert(reads(at(10), 86400000 - 8918, FIRST) == 86400000 - 8928);
 
     printf("A crystal clock was read over midnight and back.\n");

@@ -11,7 +11,8 @@
  *
  * Every call ends with one of the numbers below. None asks that another call came first, that the
  * settings are good or that a packet is well formed. A host is set afresh by hello_initialize; each
- * later call is lent the clock, the links and the run as the host's last call left them.
+ * later call is lent the clock, the links, the walk with its copy, and the run as the host's last
+ * call left them.
  *
  *   no.  meaning                                        changes
  *   0    done                                           as the call's rule says
@@ -26,36 +27,49 @@
  *        ADDRESS-OFFSET is not ours
  *   9    the source is our own LOCAL-ADDRESS, on a      nothing
  *        point-to-point link
- *   10   the delay is not valid: from the neighbor on   the clock, by its reading; that link's
- *        a point-to-point link, the packet's TSP is 0   KEEP-ALIVE and TSP
- *        or HOLD is not 0
+ *   10   the delay is not valid: from the neighbor on   act, receive: the clock, by its reading;
+ *        a point-to-point link, the packet's TSP is 0   that link's KEEP-ALIVE and TSP; step: the
+ *        or HOLD is not 0                               walk, which ends
  *   11   the address has no id                          act, receive: the clock, by its reading;
  *                                                       that link's KEEP-ALIVE, TSP and
- *                                                       NEIGHBOR-ADDRESS; lookup: nothing
+ *                                                       NEIGHBOR-ADDRESS; step: the walk, which
+ *                                                       ends; lookup: nothing
  *   12   the host's number is over 15; the link is not  nothing
  *        from 1 to the host's count (8 at most); the
- *        host's 255 places are not all in the run; or
- *        something lent is out of range
+ *        host's 255 places are not all in the run;
+ *        where a walk is opened, its copy has no room
+ *        for 1,052 octets; or something lent is out of
+ *        range
  *   13   the host looked up is down: its DELAY is       nothing
  *        30,000
+ *   16   the host is in the middle of a walk            nothing
+ *   17   no walk is open                                nothing
  *
- * All calls answer 0, 1 and 12; hello_send also 2; hello_inspect, hello_act and hello_receive 3 to
- * 9, of which hello_act and hello_receive give 10 and 11 besides; hello_lookup 11 and 13.
+ * All calls answer 0, 1 and 12, and all but hello_initialize and hello_step 16; hello_send also 2;
+ * hello_inspect, hello_act, hello_receive and hello_open_walk 3 to 9, hello_act, hello_receive and
+ * hello_step 10 and 11; hello_step 17; hello_lookup 11 and 13.
  *
- * 12 is tested first in all calls, then upwards in number. hello_initialize tests, for 12, the
- * host's number and the length of the run only; every other call tests the ranges of all that it
- * is lent: the clock, the host's links, which are the first link_count (8 at most), and the host's
- * first NHOSTS entries (255 at most).
+ * 12 is tested first in all calls, then 16, then upwards in number. hello_initialize tests, for 12,
+ * the host's number and the length of the run only; every other call tests the ranges of all that
+ * it is lent: the clock, the host's links, which are the first link_count (8 at most), a walk that is
+ * open, with its packet, and the host's first NHOSTS entries (255 at most).
+ *
+ * A walk is an arrival one box at a time: hello_open_walk tests and copies the packet, and each
+ * hello_step makes the changes of one step of the arrival, or of one line of a host's update, and
+ * answers the next place. Run to its end, it answers and leaves what hello_act with the counter of
+ * the first step does. While it is open, the host refuses its other calls with 16, but for
+ * hello_initialize, which drops it. The caller keeps the walk, at first HELLO_WALK_CLOSED, and the
+ * octets of its copy, HELLO_LONGEST_MESSAGE of them, and lends both to each call.
  *
  * What a caller owes, and the library cannot test:
  *   - each pointer is valid for its type, or for as many elements as the length beside it says,
  *     and aligned;
- *   - clock, links and run are writable, also where a call changes nothing in them: it may store
- *     what stood there;
+ *   - what is lent without const is writable, also where a call changes nothing in it: it may
+ *     store what stood there;
  *   - all that is lent has been written before, whatever it holds: hello_initialize too loads the
- *     clock, the links and the entries that it then overwrites;
+ *     clock, the links, the walk and the entries that it then overwrites;
  *   - what one call is lent does not overlap, and no other thread uses it during the call;
- *   - a length counts elements: entries of the run, octets of a buffer or packet;
+ *   - a length counts elements: entries of the run, octets of a copy, buffer or packet;
  *   - a pointer beside a length of 0 is not null either.
  * No value of a member is undefined: one out of its range is answered with 1 or 12.
  *
@@ -102,6 +116,8 @@ extern "C" {
 #define HELLO_NO_HOST 11
 #define HELLO_OUT_OF_RANGE 12
 #define HELLO_HOST_DOWN 13
+#define HELLO_IN_WALK 16
+#define HELLO_NO_WALK 17
 
 /* An internet address, first octet first. */
 typedef struct hello_address {
@@ -193,6 +209,26 @@ typedef struct hello_links {
     hello_link all[HELLO_LINKS]; /* link 1 comes first */
 } hello_links;
 
+/*
+ * A walk: what is held of an arrival between two of its boxes. Its packet stands in the copy beside
+ * it. Only a walk that is open is looked at, and of it only what is held at its place.
+ */
+typedef struct hello_walk {
+    uint8_t opened;  /* any number but 0: a walk is open */
+    uint8_t link;    /* the link on which the packet arrived, from 1 */
+    uint8_t step;    /* the next place: step 1 to 5 */
+    uint8_t line;    /* in step 5, behind its own box, line 1 to 4 for (a) to (d); else 0 */
+    uint8_t id;      /* the host id of a line, below NHOSTS */
+    uint16_t length; /* the octets of the packet, at the front of the copy */
+    uint16_t count;  /* from step 1 on: the count that was used, ms */
+    int64_t reading; /* from step 1 on: our reading, 0 to 86,400,000 ms */
+    int16_t delay;   /* from step 3 on: DELAY, ms; line (c) is to store one of 100 to 29,999 */
+    int16_t offset;  /* from step 3 on: OFFSET, ms */
+} hello_walk;
+
+/* No walk. */
+static const hello_walk HELLO_WALK_CLOSED = {0, 0, 0, 0, 0, 0, 0, 0, 0, 0};
+
 /* An entry of a host table. */
 typedef struct hello_entry {
     int64_t delay;  /* DELAY, 0 to 30,000 ms; 30,000 is down */
@@ -231,103 +267,145 @@ typedef struct hello_inspected {
     uint8_t nhosts;       /* NHOSTS: how many hosts its table has; 0 when refused */
 } hello_inspected;
 
+/* What the opening of a walk and a step of it answer: the next place. */
+typedef struct hello_stepped {
+    uint8_t answer;
+    uint8_t step; /* 1 to 5; 0 when refused, and where no place is left */
+    uint8_t line; /* in step 5, behind its own box, 1 to 4 for (a) to (d); else 0 */
+    size_t id;    /* the host id of a line; else 0 */
+} hello_stepped;
+
 /*
  * Sets host `number` afresh by its settings: the clock, all eight links, each by its own of the
- * eight link settings, and the first NHOSTS entries. What stood there does not matter, but
- * something must. Answers 0, 1, 12.
+ * eight link settings, and the first NHOSTS entries; a walk is dropped. What stood there does not
+ * matter, but something must. Answers 0, 1, 12.
  */
 uint8_t hello_initialize(const hello_settings *settings, size_t number, hello_clock *clock,
-                         hello_links *links, hello_entry *run, size_t run_length);
+                         hello_links *links, hello_walk *walk, const uint8_t *copy,
+                         size_t copy_length, hello_entry *run, size_t run_length);
 
 /*
  * Adds CLOCK-TICK to CLOCK. Where CLOCK plus `count` is past 86,400,000 ms, CLOCK loses a day, DATE
  * moves on, its bit 15 is set and HOLD becomes HOLD-INTERVAL; so also after adjust and set, and the
- * other way below 0. Answers 0, 1, 12.
+ * other way below 0. Answers 0, 1, 12, 16.
  */
 uint8_t hello_tick(const hello_settings *settings, size_t number, hello_clock *clock,
-                   hello_links *links, hello_entry *run, size_t run_length, uint16_t count);
+                   hello_links *links, hello_walk *walk, const uint8_t *copy, size_t copy_length,
+                   hello_entry *run, size_t run_length, uint16_t count);
 
-/* Moves CLOCK by DELTA / 128, rounded down, which DELTA loses. Answers 0, 1, 12. */
+/* Moves CLOCK by DELTA / 128, rounded down, which DELTA loses. Answers 0, 1, 12, 16. */
 uint8_t hello_adjust(const hello_settings *settings, size_t number, hello_clock *clock,
-                     hello_links *links, hello_entry *run, size_t run_length, uint16_t count);
+                     hello_links *links, hello_walk *walk, const uint8_t *copy, size_t copy_length,
+                     hello_entry *run, size_t run_length, uint16_t count);
 
 /*
  * Corrects the clock by `ms`. From -128 to +127 it becomes DELTA, which adjust spends. Otherwise
- * it is added to CLOCK at once, DELTA becomes 0 and HOLD becomes HOLD-INTERVAL. Answers 0, 1, 12.
+ * it is added to CLOCK at once, DELTA becomes 0 and HOLD becomes HOLD-INTERVAL. Answers 0, 1, 12,
+ * 16.
  */
 uint8_t hello_set(const hello_settings *settings, size_t number, hello_clock *clock,
-                  hello_links *links, hello_entry *run, size_t run_length, int32_t ms,
-                  uint16_t count);
+                  hello_links *links, hello_walk *walk, const uint8_t *copy, size_t copy_length,
+                  hello_entry *run, size_t run_length, int32_t ms, uint16_t count);
 
 /*
  * Reads the whole milliseconds of CLOCK plus the count, and DATE. With the mark, CLOCK-TICK is added
  * to CLOCK first, and stays. Midnight is tested on the sum as after a tick, so that a reading may
- * move DATE and load HOLD. Answers 0, 1, 12.
+ * move DATE and load HOLD. Answers 0, 1, 12, 16.
  */
 hello_time hello_read(const hello_settings *settings, size_t number, hello_clock *clock,
-                      hello_links *links, hello_entry *run, size_t run_length,
-                      hello_counter counter);
+                      hello_links *links, hello_walk *walk, const uint8_t *copy, size_t copy_length,
+                      hello_entry *run, size_t run_length, hello_counter counter);
 
 /*
  * A second has passed: HOLD and each TTL fall by one unless zero. An entry that was up and whose
- * TTL thereby ends goes down: DELAY 30,000, TTL 120. Answers 0, 1, 12.
+ * TTL thereby ends goes down: DELAY 30,000, TTL 120. Answers 0, 1, 12, 16.
  */
 uint8_t hello_second(const hello_settings *settings, size_t number, hello_clock *clock,
-                     hello_links *links, hello_entry *run, size_t run_length);
+                     hello_links *links, hello_walk *walk, const uint8_t *copy, size_t copy_length,
+                     hello_entry *run, size_t run_length);
 
 /*
  * Reads the clock as hello_read does, and updates the host's own entry with PID 0, DELAY 0 and
- * OFFSET 0. Answers 0, 1, 12.
+ * OFFSET 0. Answers 0, 1, 12, 16.
  */
 uint8_t hello_self_report(const hello_settings *settings, size_t number, hello_clock *clock,
-                          hello_links *links, hello_entry *run, size_t run_length,
+                          hello_links *links, hello_walk *walk, const uint8_t *copy,
+                          size_t copy_length, hello_entry *run, size_t run_length,
                           hello_counter counter);
 
 /*
- * Reads the clock as hello_read does, unless it answers 1, 2 or 12. Writes the next message of link
- * `link` (from 1) to the front of the buffer, IP header first, and answers its length: 32 octets, or
- * 32 + 4 NHOSTS (1,052 at most) with the host table, which goes out once the neighbor is known and
- * on the host's net. KEEP-ALIVE falls by one unless zero. Octets of the buffer behind the message
- * stay. Answers 0, 1, 2, 12.
+ * Reads the clock as hello_read does, unless it answers 1, 2, 12 or 16. Writes the next message of
+ * link `link` (from 1) to the front of the buffer, IP header first, and answers its length: 32
+ * octets, or 32 + 4 NHOSTS (1,052 at most) with the host table, which goes out once the neighbor is
+ * known and on the host's net. KEEP-ALIVE falls by one unless zero. Octets of the buffer behind the
+ * message stay. Answers 0, 1, 2, 12, 16.
  */
 hello_sent hello_send(const hello_settings *settings, size_t number, hello_clock *clock,
-                      hello_links *links, hello_entry *run, size_t run_length, size_t link,
+                      hello_links *links, const hello_walk *walk, const uint8_t *copy,
+                      size_t copy_length, hello_entry *run, size_t run_length, size_t link,
                       hello_counter counter, uint8_t *buffer, size_t buffer_length);
 
 /*
  * Looks at a packet, IP header first, that arrived on link `link` (from 1): would it be taken, and
- * what does it say? Changes nothing. Answers 0, 1, 3 to 9, 12; hello_act may still answer 10 or 11
- * to a packet that is answered 0 here.
+ * what does it say? Changes nothing. Answers 0, 1, 3 to 9, 12, 16; hello_act may still answer 10 or
+ * 11 to a packet that is answered 0 here.
  */
 hello_inspected hello_inspect(const hello_settings *settings, size_t number, hello_clock *clock,
-                              hello_links *links, hello_entry *run, size_t run_length, size_t link,
+                              hello_links *links, const hello_walk *walk, const uint8_t *copy,
+                              size_t copy_length, hello_entry *run, size_t run_length, size_t link,
                               const uint8_t *packet, size_t packet_length);
 
 /*
  * Acts on a packet, IP header first, that arrived on link `link` (from 1). Any calls may have come
- * since hello_inspect, so it tests the packet again. Unless it answers 1 to 9 or 12, it reads the
- * clock as hello_read does. On 0 the link's keep_alive, tsp and neighbor, the entries that the
+ * since hello_inspect, so it tests the packet again. Unless it answers 1 to 9, 12 or 16, it reads
+ * the clock as hello_read does. On 0 the link's keep_alive, tsp and neighbor, the entries that the
  * packet's report changes and, where the report of the clock host is taken, the clock are as RFC
- * 891 says. Answers 0, 1, 3 to 12.
+ * 891 says. Answers 0, 1, 3 to 12, 16.
  */
 uint8_t hello_act(const hello_settings *settings, size_t number, hello_clock *clock,
-                  hello_links *links, hello_entry *run, size_t run_length, size_t link,
+                  hello_links *links, const hello_walk *walk, const uint8_t *copy,
+                  size_t copy_length, hello_entry *run, size_t run_length, size_t link,
                   hello_counter counter, const uint8_t *packet, size_t packet_length);
 
 /*
  * An arrival in one piece: hello_inspect and, where that answers 0, hello_act. It answers and
- * leaves what hello_act alone does. Answers 0, 1, 3 to 12.
+ * leaves what hello_act alone does. Answers 0, 1, 3 to 12, 16.
  */
 uint8_t hello_receive(const hello_settings *settings, size_t number, hello_clock *clock,
-                      hello_links *links, hello_entry *run, size_t run_length, size_t link,
+                      hello_links *links, const hello_walk *walk, const uint8_t *copy,
+                      size_t copy_length, hello_entry *run, size_t run_length, size_t link,
                       hello_counter counter, const uint8_t *packet, size_t packet_length);
 
 /*
+ * Opens a walk for a packet, IP header first, that arrived on link `link` (from 1): the packet is
+ * copied to the front of the copy, which must have room for HELLO_LONGEST_MESSAGE octets, and step 1
+ * is next. Nothing else changes, and the clock is not read. Answers 0, 1, 3 to 9, 12, 16.
+ */
+hello_stepped hello_open_walk(const hello_settings *settings, size_t number,
+                              const hello_clock *clock, const hello_links *links, hello_walk *walk,
+                              uint8_t *copy, size_t copy_length, const hello_entry *run,
+                              size_t run_length, size_t link, const uint8_t *packet,
+                              size_t packet_length);
+
+/*
+ * Makes the changes of the place at which the walk stands, and answers the next. Step 1 reads the
+ * clock as hello_read does; the counter of a later step is not looked at. Behind step 5 come, for
+ * each id of the packet's table in rising order, or for the one id that step 5 found, the lines
+ * (a), (b) and (c) of its update, as far as it goes, and (d) where the clock host's was stored. The
+ * walk is closed where no place is left, and at 10 and 11. Answers 0, 1, 10, 11, 12, 17.
+ */
+hello_stepped hello_step(const hello_settings *settings, size_t number, hello_clock *clock,
+                         hello_links *links, hello_walk *walk, const uint8_t *copy,
+                         size_t copy_length, hello_entry *run, size_t run_length,
+                         hello_counter counter);
+
+/*
  * Answers the id of `address`, by the host's own net or by the net table, and the link by which it
- * is reached. Changes nothing. Answers 0, 1, 11, 12, 13.
+ * is reached. Changes nothing. Answers 0, 1, 11, 12, 13, 16.
  */
 hello_route hello_lookup(const hello_settings *settings, size_t number, hello_clock *clock,
-                         hello_links *links, hello_entry *run, size_t run_length,
+                         hello_links *links, hello_walk *walk, const uint8_t *copy,
+                         size_t copy_length, hello_entry *run, size_t run_length,
                          hello_address address);
 
 /*

@@ -219,10 +219,10 @@ class Answers(unittest.TestCase):
 
     def test_plain_calls(self):
         host = fresh()
-        lent = (host.settings, 0, host.clock, host.links, host.room.run)
+        lent = (host.settings, 0, host.clock, host.links, host.walk, host.room.run)
         self.assertEqual(library.tick(*lent), 0)
         self.assertEqual(library.read(*lent), (0, 1, host.clock.date))
-        self.assertEqual(library.tick(*lent[:4], hello.Run(0)), 12)
+        self.assertEqual(library.tick(*lent[:5], hello.Run(0)), 12)
 
 
 class CrystalClock(unittest.TestCase):
@@ -293,6 +293,102 @@ class CrystalClock(unittest.TestCase):
             self.assertEqual(self.state(host), (1000 + self.TICK, 2))
             self.assertIs(getattr(host, call)(1, b"", counter=marked), Answer.IP_FORM)
             self.assertEqual(self.state(host), (1000 + self.TICK, 2))
+
+
+class Walking(unittest.TestCase):
+    """An arrival, one box at a time."""
+
+    NEIGHBOR = hello.Address(192, 0, 2, 2)
+
+    def host(self):
+        """A host that knows its neighbor, which sets its clock."""
+        host = fresh(clock_host=1, time=40_000)
+        host.links[0] = hello.Link(self.NEIGHBOR)
+        return host
+
+    def message(self, heard=True):
+        """A message of the neighbor with its table, and with a TSP where it heard the host."""
+        host = fresh(address=self.NEIGHBOR, time=40_001)
+        self.assertIs(host.self_report(), Answer.DONE)
+        host.links[0] = hello.Link((192, 0, 2, 1), int(heard), -300)
+        return host.send(1).message
+
+    def state(self, host):
+        clock = host.clock
+        return (clock.clock, clock.delta, clock.hold, clock.date), list(host.links), host.table
+
+    def walked(self, host, packet):
+        """The places of a walk, by name, and the last answer."""
+        stepped, names = host.open_walk(1, packet), []
+        while stepped.place is not None:
+            names.append(str(stepped.place))
+            stepped = host.step()
+        return names, stepped.answer
+
+    def test_ends_as_the_arrival(self):
+        walked, acted = self.host(), self.host()
+        names, answer = self.walked(walked, self.message())
+        steps = [f"step {step}" for step in range(1, 6)]
+        lines = ["host 0, line a", *(f"host 1, line {line}" for line in "abcd")]
+        self.assertEqual(names, steps + lines + ["host 2, line a", "host 3, line a"])
+        self.assertIs(answer, Answer.DONE)
+        self.assertIs(acted.act(1, self.message()), Answer.DONE)
+        self.assertEqual(self.state(walked), self.state(acted))
+        self.assertEqual(walked.step(), (Answer.NO_WALK, None))
+
+    def test_ten_ends_it(self):
+        walked, acted = self.host(), self.host()
+        packet = self.message(heard=False)
+        names, answer = self.walked(walked, packet)
+        self.assertEqual((names[-1], answer), ("step 4", Answer.DELAY_NOT_VALID))
+        self.assertIs(acted.receive(1, packet), Answer.DELAY_NOT_VALID)
+        self.assertEqual(self.state(walked), self.state(acted))
+        self.assertEqual(walked.walk.opened, 0)
+
+    def test_other_calls(self):
+        host, packet = self.host(), self.message()
+        self.assertEqual(host.open_walk(1, packet), (Answer.DONE, hello.Place(1)))
+        before = self.state(host)
+        for answer in (
+            host.tick(),
+            host.adjust(),
+            host.set(5),
+            host.read().answer,
+            host.second(),
+            host.self_report(),
+            host.send(1).answer,
+            host.inspect(1, packet).answer,
+            host.act(1, packet),
+            host.receive(1, packet),
+            host.open_walk(1, packet).answer,
+            host.lookup(self.NEIGHBOR).answer,
+        ):
+            self.assertIs(answer, Answer.IN_WALK)
+        self.assertEqual(self.state(host), before)
+        self.assertEqual(host.walk.copy[: len(packet)], packet)
+        self.assertIs(host.initialize(), Answer.DONE)
+        self.assertIs(host.tick(), Answer.DONE)
+        self.assertIs(host.step().answer, Answer.NO_WALK)
+
+    def test_what_is_held(self):
+        host = self.host()
+        self.assertIs(host.open_walk(1, self.message()).answer, Answer.DONE)
+        copy = host.walk.copy
+        host.walk.copy = bytes(len(copy))
+        self.assertIs(host.step().answer, Answer.OUT_OF_RANGE)
+        host.walk.copy = copy
+        host.walk.step = 6
+        self.assertIs(host.second(), Answer.OUT_OF_RANGE)
+        host.walk.step = 1
+        self.assertEqual(str(host.step().place), "step 2")
+        with self.assertRaises(OverflowError):
+            host.walk.id = 256
+        with self.assertRaises(ValueError):
+            host.walk.copy = b""
+        host.walk = hello.Walk(room=hello.LONGEST_MESSAGE - 1)
+        self.assertIs(host.open_walk(1, self.message()).answer, Answer.OUT_OF_RANGE)
+        host.walk = hello.Walk(room=0)
+        self.assertIs(host.tick(), Answer.DONE)
 
 
 if __name__ == "__main__":

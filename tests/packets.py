@@ -1,7 +1,7 @@
 #!/usr/bin/env python3
 """Packets and what a host makes of them: the table of the arrivals that the program vectors runs. Checksums are computed here, and nothing of the library is used.
 
-usage: packets.py FOLDER     write each packet for the packet program to FOLDER/NAME, what hello_packet prints of it to NAME.hello_packet and what hello_inspect prints to NAME.hello_inspect, and print the names
+usage: packets.py FOLDER     write each packet for the packet program to FOLDER/NAME, what the programs print of it to NAME.hello_packet, NAME.hello_inspect and NAME.hello_walk, and print the names
        packets.py stdin      print the arrivals as vectors reads them: crates/vectors/stdin
        packets.py stdout     print what it writes of them: the lines in front of crates/vectors/stdout
 """
@@ -180,10 +180,59 @@ def inspection(answer, octets):
     return f"0\nsource {source}\ntime {time}\nTSP {tsp}\nhosts {octets[31]}\n"
 
 
+def signed(n):
+    """The low 16 bits, signed."""
+    return (n + 0x8000) % 0x10000 - 0x8000
+
+
+def changes(*fields):
+    return ", ".join(f"{name} {before} -> {after}" for name, before, after in fields if before != after) or "nothing"
+
+
+def host_lines(host, delay, offset):
+    """The boxes of an id whose entry is fresh: line (a) ends a route that is not shorter by 100 than 30,000; any other is stored."""
+    yield f"host {host}, line a: nothing"
+    if delay <= 29900:
+        yield f"host {host}, line b: nothing"
+        yield f"host {host}, line c: " + changes(("DELAY", 30000, delay), ("OFFSET", 0, offset), ("TTL", 0, 120), ("PID", 0, 1))
+
+
+def boxes(octets):
+    """The boxes of a packet that is not refused, at a reading of 0."""
+    source = octets[12:16]
+    numbers = [signed(int.from_bytes(octets[i : i + 2], "big")) for i in range(26, 32 + 4 * octets[31], 2)]
+    link_tsp, tsp, table = numbers[0], numbers[1], numbers[3:]
+    delay = signed(-tsp)
+    offset = signed(link_tsp + (delay >> 1))
+    yield "step 1: reading 0 ms"
+    yield "step 2: KEEP-ALIVE 0 -> 4"
+    yield "step 3: " + changes(("TSP", 0, link_tsp), ("DELAY", 0, delay), ("OFFSET", 0, offset))
+    neighbor = ".".join(map(str, source))
+    heard = delay if source == NOBODY else 30000
+    yield "step 4: " + changes(("NEIGHBOR-ADDRESS", "0.0.0.0", neighbor), ("DELAY", delay, heard))
+    if source == NOBODY and tsp == 0:
+        return
+    if not table and source[:3] != US[:3]:
+        yield "step 5: nothing"
+        return
+    least = max(heard, 100)
+    yield "step 5: " + changes(("DELAY", heard, least))
+    if not table:
+        yield from host_lines(source[3] - 1, least, offset)
+    for host in range(octets[31]):
+        yield from host_lines(host, least + table[2 * host] % 0x10000, signed(offset + table[2 * host + 1]))
+
+
+def walk(answer, octets):
+    """What hello_walk prints: the boxes, unless the packet is refused, and the answer."""
+    lines = [] if 3 <= answer <= 9 else boxes(octets)
+    return "".join(f"{x}\n" for x in [*lines, answer])
+
+
 def write(folder):
     packets = [(a.name.replace(" ", "_"), a.answer, a.packet) for a in PACKETS]
     for name, answer, octets in packets + OTHERS:
-        written = {"": octets, ".hello_packet": b"%d\n" % answer, ".hello_inspect": inspection(answer, octets).encode()}
+        written = {"": octets, ".hello_packet": b"%d\n" % answer, ".hello_inspect": inspection(answer, octets).encode(), ".hello_walk": walk(answer, octets).encode()}
         for ending, contents in written.items():
             with open(os.path.join(folder, name + ending), "wb") as f:
                 f.write(contents)

@@ -1,7 +1,7 @@
 //! What is timed: the same call by both programs, on the same inputs.
 
 use crate::convert;
-use crate::host::{both, message, Ours, Theirs, COUNTER, LINK, NEIGHBOR};
+use crate::host::{both, message, Ours, Theirs, COUNTER, LINK, NEIGHBOR, NO_COPY};
 use hello::Answer;
 use reference::host;
 use std::hint::black_box;
@@ -26,7 +26,7 @@ fn batch(mut call: impl FnMut() -> u8 + 'static) -> Batch {
 
 /// An inspection of the neighbor's message with the table.
 pub fn inspect(nhosts: usize) -> Case {
-    let (mut ours, theirs) = both(nhosts);
+    let (mut ours, mut theirs) = both(nhosts);
     let packet = message(nhosts);
     let same_packet = packet.clone();
     Case {
@@ -35,19 +35,34 @@ pub fn inspect(nhosts: usize) -> Case {
                 settings,
                 clock,
                 links,
+                walk,
                 run,
             } = black_box(&mut ours);
-            hello::inspect(settings, 0, clock, links, run, LINK, black_box(&packet)).answer
+            hello::inspect(
+                settings,
+                0,
+                clock,
+                links,
+                walk,
+                NO_COPY,
+                run,
+                LINK,
+                black_box(&packet),
+            )
+            .answer
         }),
         reference: batch(move || {
             let Theirs {
                 settings,
                 clock,
                 links,
+                walk,
                 run,
-            } = black_box(&theirs);
+            } = black_box(&mut theirs);
             let packet = black_box(&same_packet);
-            reference::answer(&host::inspect(settings, 0, clock, links, run, LINK, packet))
+            reference::answer(&host::inspect(
+                settings, 0, clock, links, walk, run, LINK, packet,
+            ))
         }),
     }
 }
@@ -64,21 +79,25 @@ pub fn act(nhosts: usize) -> Case {
                 settings,
                 clock,
                 links,
+                walk,
                 run,
             } = black_box(&mut ours);
             let (counter, packet) = (black_box(COUNTER), black_box(&packet));
-            hello::act(settings, 0, clock, links, run, LINK, counter, packet)
+            hello::act(
+                settings, 0, clock, links, walk, NO_COPY, run, LINK, counter, packet,
+            )
         }),
         reference: batch(move || {
             let Theirs {
                 settings,
                 clock,
                 links,
+                walk,
                 run,
             } = black_box(&mut theirs);
             let (counter, packet) = (black_box(same_counter), black_box(&same_packet));
             reference::answer(&host::act(
-                settings, 0, clock, links, run, LINK, counter, packet,
+                settings, 0, clock, links, walk, run, LINK, counter, packet,
             ))
         }),
     }
@@ -96,21 +115,26 @@ pub fn send(nhosts: usize) -> Case {
                 settings,
                 clock,
                 links,
+                walk,
                 run,
             } = black_box(&mut ours);
             let (counter, buffer) = (black_box(COUNTER), black_box(&mut buffer));
-            hello::send(settings, 0, clock, links, run, LINK, counter, buffer).answer
+            hello::send(
+                settings, 0, clock, links, walk, NO_COPY, run, LINK, counter, buffer,
+            )
+            .answer
         }),
         reference: batch(move || {
             let Theirs {
                 settings,
                 clock,
                 links,
+                walk,
                 run,
             } = black_box(&mut theirs);
             let (counter, buffer) = (black_box(same_counter), black_box(&mut same_buffer));
             reference::answer(&host::send(
-                settings, 0, clock, links, run, LINK, counter, buffer,
+                settings, 0, clock, links, walk, run, LINK, counter, buffer,
             ))
         }),
     }
@@ -125,26 +149,37 @@ pub fn tick(nhosts: usize) -> Case {
                 settings,
                 clock,
                 links,
+                walk,
                 run,
             } = black_box(&mut ours);
-            hello::tick(settings, 0, clock, links, run, black_box(COUNTER.count))
+            hello::tick(
+                settings,
+                0,
+                clock,
+                links,
+                walk,
+                NO_COPY,
+                run,
+                black_box(COUNTER.count),
+            )
         }),
         reference: batch(move || {
             let Theirs {
                 settings,
                 clock,
                 links,
+                walk,
                 run,
             } = black_box(&mut theirs);
             let count = black_box(COUNTER.count);
-            reference::answer(&host::tick(settings, 0, clock, links, run, count))
+            reference::answer(&host::tick(settings, 0, clock, links, walk, run, count))
         }),
     }
 }
 
 /// A lookup of the neighbor's address.
 pub fn lookup(nhosts: usize) -> Case {
-    let (mut ours, theirs) = both(nhosts);
+    let (mut ours, mut theirs) = both(nhosts);
     let address = convert::address(NEIGHBOR);
     Case {
         library: batch(move || {
@@ -152,22 +187,35 @@ pub fn lookup(nhosts: usize) -> Case {
                 settings,
                 clock,
                 links,
+                walk,
                 run,
             } = black_box(&mut ours);
-            hello::lookup(settings, 0, clock, links, run, black_box(NEIGHBOR)).answer
+            hello::lookup(
+                settings,
+                0,
+                clock,
+                links,
+                walk,
+                NO_COPY,
+                run,
+                black_box(NEIGHBOR),
+            )
+            .answer
         }),
         reference: batch(move || {
             let Theirs {
                 settings,
                 clock,
                 links,
+                walk,
                 run,
-            } = black_box(&theirs);
+            } = black_box(&mut theirs);
             reference::answer(&host::lookup(
                 settings,
                 0,
                 clock,
                 links,
+                walk,
                 run,
                 black_box(address),
             ))

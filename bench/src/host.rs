@@ -1,13 +1,16 @@
 //! A host that has heard its neighbor, for either program.
 
 use crate::convert;
-use hello::{Address, Answer, Clock, Counter, Entry, Layout, Links, Settings, PLACES};
+use hello::{Address, Answer, Clock, Counter, Entry, Layout, Links, Settings, Walk, PLACES};
 
 /// The host's one link.
 pub const LINK: usize = 1;
 
 /// Both hosts have a line clock.
 pub const COUNTER: Counter = Counter::LINE_CLOCK;
+
+/// The copy of a walk's packet: no walk is opened.
+pub const NO_COPY: &[u8] = &[];
 
 /// The reading of both hosts, in ms.
 const READING: i64 = 40_000;
@@ -21,6 +24,7 @@ pub struct Ours {
     pub settings: Settings,
     pub clock: Clock,
     pub links: Links,
+    pub walk: Walk,
     pub run: Vec<Entry>,
 }
 
@@ -29,6 +33,7 @@ pub struct Theirs {
     pub settings: reference::Settings,
     pub clock: reference::Clock,
     pub links: reference::Links,
+    pub walk: reference::Walk,
     pub run: Vec<reference::Entry>,
 }
 
@@ -54,7 +59,10 @@ impl Ours {
             time: READING,
         };
         let mut run = vec![entry; PLACES];
-        let answer = hello::initialize(&settings, 0, &mut clock, &mut links, &mut run);
+        let mut walk = Walk::CLOSED;
+        let answer = hello::initialize(
+            &settings, 0, &mut clock, &mut links, &mut walk, NO_COPY, &mut run,
+        );
         assert_eq!(answer, Answer::Done.number());
         run.fill(entry);
         let link = &mut links.all[LINK - 1];
@@ -65,6 +73,7 @@ impl Ours {
             settings,
             clock,
             links,
+            walk,
             run,
         }
     }
@@ -75,6 +84,7 @@ impl Ours {
             settings: convert::settings(&self.settings),
             clock: convert::clock(&self.clock),
             links: convert::links(&self.links),
+            walk: convert::walk(&self.walk, NO_COPY),
             run: self.run.iter().map(convert::entry).collect(),
         }
     }
@@ -96,6 +106,8 @@ pub fn message(nhosts: usize) -> Vec<u8> {
         0,
         &mut neighbor.clock,
         &mut neighbor.links,
+        &neighbor.walk,
+        NO_COPY,
         &mut neighbor.run,
         LINK,
         COUNTER,

@@ -56,6 +56,13 @@ pub enum Call {
         counter: Counter,
         packet: Octets,
     },
+    OpenWalk {
+        link: usize,
+        packet: Octets,
+    },
+    Step {
+        counter: Counter,
+    },
     Lookup {
         address: hello::Address,
     },
@@ -68,7 +75,7 @@ pub enum Call {
 }
 
 /// The names of the calls, in the order of `Call::row`.
-pub const NAMES: [&str; 14] = [
+pub const NAMES: [&str; 16] = [
     "initialize",
     "tick",
     "adjust",
@@ -80,6 +87,8 @@ pub const NAMES: [&str; 14] = [
     "inspect",
     "act",
     "receive",
+    "open_walk",
+    "step",
     "lookup",
     "packet",
     "checksum",
@@ -100,13 +109,16 @@ impl Call {
             Call::Inspect { .. } => 8,
             Call::Act { .. } => 9,
             Call::Receive { .. } => 10,
-            Call::Lookup { .. } => 11,
-            Call::Packet { .. } => 12,
-            Call::Checksum { .. } => 13,
+            Call::OpenWalk { .. } => 11,
+            Call::Step { .. } => 12,
+            Call::Lookup { .. } => 13,
+            Call::Packet { .. } => 14,
+            Call::Checksum { .. } => 15,
         }
     }
 
-    /// The counter that the call is handed, if it may take a reading.
+    /// The counter that the call is handed, if it takes a reading wherever it is done. A step does
+    /// so at the first box alone.
     pub fn counter(&self) -> Option<Counter> {
         match self {
             Call::Read { counter }
@@ -119,12 +131,14 @@ impl Call {
     }
 }
 
-/// A call on a host: `host` tells whose clock and links are lent.
+/// A call on a host: `host` tells whose clock, links and walk are lent.
 #[derive(Debug)]
 pub struct Trial {
     pub host: usize,
     pub settings: hello::Settings,
     pub number: usize,
+    /// How many octets of the copy of a walk's packet are lent.
+    pub copy_length: usize,
     pub run_length: usize,
     pub call: Call,
 }
@@ -144,6 +158,8 @@ pub enum Value {
         tsp: u16,
         nhosts: u8,
     },
+    /// The next place of a walk, if one is left.
+    Next(Option<reference::Place>),
     Route {
         host: usize,
         pid: u8,

@@ -61,6 +61,38 @@ pub fn links(from: &hello::Links) -> reference::Links {
     })
 }
 
+/// The walk, with the copy of its packet; the octets that the copy has no room for are zeros.
+pub fn walk(from: &hello::Walk, copy: &[u8]) -> reference::Walk {
+    let place = place(from.step, from.line, from.id);
+    let mut walk = reference::Walk {
+        open: from.opened,
+        link: from.link,
+        step: place.step,
+        line: place.line,
+        id: place.id,
+        count: from.count,
+        // The reference's number is shorter; one out of its range stays so.
+        reading: from.reading.clamp(i32::MIN.into(), i32::MAX.into()) as i32,
+        delay: from.delay,
+        offset: from.offset,
+        length: from.length,
+        ..reference::Walk::CLOSED
+    };
+    walk.packet[..copy.len()].copy_from_slice(copy);
+    walk
+}
+
+/// A place. The library has the lines 1 to 4 in step 5, the reference 0 to 3 in a step of their own;
+/// what is no place to the one is none to the other.
+pub fn place(step: u8, line: u8, id: u8) -> reference::Place {
+    let (step, line) = match (step, line) {
+        (1..=5, 0) => (step, 0),
+        (5, 1..) => (reference::walk::IN_LINES, line - 1),
+        _ => (0, 0),
+    };
+    reference::Place { step, line, id }
+}
+
 pub fn entry(from: &hello::Entry) -> reference::Entry {
     reference::Entry {
         delay: from.delay,

@@ -1,26 +1,28 @@
 //! How often each call gave each answer, and which pairs can occur; and what
-//! readings did.
+//! readings and walks did.
 
 use crate::call::NAMES;
 use crate::generate::DAY_UNITS;
-use hello::{Clock, Counter};
+use hello::{Clock, Counter, Walk};
 
-const ANSWERS: usize = 14;
+const ANSWERS: usize = 18;
 
 /// The answers that each call can give, in the order of `NAMES`.
 const CAN_OCCUR: [&[u8]; NAMES.len()] = [
     &[0, 1, 12],
-    &[0, 1, 12],
-    &[0, 1, 12],
-    &[0, 1, 12],
-    &[0, 1, 12],
-    &[0, 1, 12],
-    &[0, 1, 12],
-    &[0, 1, 2, 12],
-    &[0, 1, 3, 4, 5, 6, 7, 8, 9, 12],
-    &[0, 1, 3, 4, 5, 6, 7, 8, 9, 10, 11, 12],
-    &[0, 1, 3, 4, 5, 6, 7, 8, 9, 10, 11, 12],
-    &[0, 1, 11, 12, 13],
+    &[0, 1, 12, 16],
+    &[0, 1, 12, 16],
+    &[0, 1, 12, 16],
+    &[0, 1, 12, 16],
+    &[0, 1, 12, 16],
+    &[0, 1, 12, 16],
+    &[0, 1, 2, 12, 16],
+    &[0, 1, 3, 4, 5, 6, 7, 8, 9, 12, 16],
+    &[0, 1, 3, 4, 5, 6, 7, 8, 9, 10, 11, 12, 16],
+    &[0, 1, 3, 4, 5, 6, 7, 8, 9, 10, 11, 12, 16],
+    &[0, 1, 3, 4, 5, 6, 7, 8, 9, 12, 16],
+    &[0, 1, 10, 11, 12, 17],
+    &[0, 1, 11, 12, 13, 16],
     &[0, 3, 4, 5, 6, 7, 8, 9, 10, 11],
     &[0],
 ];
@@ -35,14 +37,14 @@ impl Counts {
 
     pub fn print(&self) {
         print!("{:<12}", "call");
-        (0..ANSWERS).for_each(|answer| print!("{answer:>8}"));
+        (0..ANSWERS).for_each(|answer| print!("{answer:>7}"));
         println!();
         for (name, row) in NAMES.iter().zip(&self.0) {
             print!("{name:<12}");
             for count in row {
                 match count {
-                    0 => print!("{:>8}", "."),
-                    _ => print!("{count:>8}"),
+                    0 => print!("{:>7}", "."),
+                    _ => print!("{count:>7}"),
                 }
             }
             println!();
@@ -100,6 +102,60 @@ impl Readings {
     pub fn print(&self) {
         let named = self.named();
         let told: Vec<String> = named.map(|(name, count)| format!("{name} {count}")).into();
+        println!("{}", told.join(", "));
+    }
+
+    /// What never occurred.
+    pub fn complaints(&self) -> Vec<String> {
+        let named = self.named().into_iter();
+        named
+            .filter(|(_, count)| *count == 0)
+            .map(|(name, _)| format!("no {name}"))
+            .collect()
+    }
+}
+
+/// The places of a walk: steps 1 to 5, then lines a to d.
+const PLACES: [&str; 9] = [
+    "step 1", "step 2", "step 3", "step 4", "step 5", "line a", "line b", "line c", "line d",
+];
+
+/// What walks did, and how often.
+#[derive(Default)]
+pub struct Walks {
+    /// The boxes that were done, by their places.
+    boxes: [u64; PLACES.len()],
+    to_the_end: u64,
+    dropped: u64,
+    refused: u64,
+}
+
+impl Walks {
+    /// Adds a call on a host whose walk is open, by the walk before and after the call.
+    pub fn add(&mut self, before: &Walk, after: &Walk, is_step: bool, answer: u8) {
+        if is_step && answer != 1 && answer != 12 {
+            let line = usize::from(before.line);
+            let step = usize::from(before.step);
+            self.boxes[step + line - 1] += 1;
+            self.to_the_end += u64::from(answer == 0 && !after.is_open());
+        }
+        self.dropped += u64::from(!is_step && !after.is_open());
+        self.refused += u64::from(answer == 12);
+    }
+
+    fn named(&self) -> Vec<(&'static str, u64)> {
+        let mut named: Vec<_> = PLACES.into_iter().zip(self.boxes).collect();
+        named.push(("walked to the end", self.to_the_end));
+        named.push(("dropped", self.dropped));
+        named.push(("12 in a walk", self.refused));
+        named
+    }
+
+    pub fn print(&self) {
+        let named = self.named().into_iter();
+        let told: Vec<String> = named
+            .map(|(name, count)| format!("{name} {count}"))
+            .collect();
         println!("{}", told.join(", "));
     }
 

@@ -3,7 +3,7 @@
 use crate::random::Random;
 use crate::room::Room;
 use hello::{Address, Clock, Counter, Entry, Layout, Link, LinkSetting, Links, Net, Row, Settings};
-use hello::{HOSTS, PLACES, UNITS_PER_MS};
+use hello::{Walk, HOSTS, LONGEST_MESSAGE, PLACES, UNITS_PER_MS};
 
 pub const DAY_MS: i64 = 86_400_000;
 pub const DAY_UNITS: i64 = DAY_MS * UNITS_PER_MS;
@@ -37,10 +37,12 @@ pub fn room(random: &mut Random) -> Room {
     let crystals = (0..hosts).map(|_| random.one_in(2)).collect();
     let clocks = (0..hosts).map(|_| any_clock(random)).collect();
     let links = settings.iter().map(|set| links(random, set)).collect();
+    let walks = (0..hosts).map(|_| any_walk(random)).collect();
+    let copies = (0..hosts).map(|_| random.octets(LONGEST_MESSAGE)).collect();
     let run = (0..hosts * PLACES + past_the_end)
         .map(|_| any_entry(random))
         .collect();
-    Room::new(settings, crystals, clocks, links, run)
+    Room::new(settings, crystals, clocks, links, walks, copies, run)
 }
 
 /// An address of class A, B or C, whose host octet does not matter.
@@ -319,6 +321,86 @@ fn any_entry(random: &mut Random) -> Entry {
         spoil_entry(random, &mut entry);
     }
     entry
+}
+
+/// An open walk for a packet of that length on a link, somewhere on its way.
+pub fn walk(random: &mut Random, settings: &Settings, link: usize, length: usize) -> Walk {
+    let in_lines = random.one_in(2);
+    let any_id = random.below(settings.layout.nhosts.clamp(1, PLACES)) as u8;
+    let clock_host = settings.clock_host;
+    let any_reading = random.between(0, DAY_MS);
+    Walk {
+        opened: random.pick(&[1, 1, 2, 255]),
+        link: link as u8,
+        step: if in_lines {
+            5
+        } else {
+            random.between(1, 5) as u8
+        },
+        line: if in_lines {
+            random.between(1, 4) as u8
+        } else {
+            0
+        },
+        id: random.pick(&[0, any_id, any_id, clock_host, any_id.saturating_add(1)]),
+        length: length as u16,
+        count: random.pick(&[0, 1, 65_535]),
+        reading: random.pick(&[0, DAY_MS, any_reading]),
+        delay: held_delay(random),
+        offset: random.next() as i16,
+    }
+}
+
+fn held_delay(random: &mut Random) -> i16 {
+    let any = random.next() as i16;
+    let near = random.between(-1, 1) as i16;
+    random.pick(&[
+        100,
+        100 + near,
+        29_999,
+        30_000,
+        500,
+        i16::MIN,
+        i16::MAX,
+        any,
+    ])
+}
+
+/// Numbers without rule, open or not.
+pub fn any_walk(random: &mut Random) -> Walk {
+    Walk {
+        opened: random.pick(&[0, 0, 1, 255]),
+        link: random.octet(),
+        step: random.octet(),
+        line: random.octet(),
+        id: random.octet(),
+        length: random.next() as u16,
+        count: random.next() as u16,
+        reading: random.next() as i64,
+        delay: random.next() as i16,
+        offset: random.next() as i16,
+    }
+}
+
+/// Takes one field of a walk out of its range, or to its very edge.
+pub fn spoil_walk(random: &mut Random, settings: &Settings, walk: &mut Walk) {
+    let nhosts = settings.layout.nhosts.clamp(1, 255) as u8;
+    let links = settings.link_count.min(8) as u8;
+    match random.below(9) {
+        0 => walk.opened = random.pick(&[0, 1, 2, 128, 255]),
+        1 => walk.link = random.pick(&[0, 1, links, links + 1, 8, 9, 255]),
+        2 => walk.step = random.pick(&[0, 1, 2, 3, 4, 5, 6, 7, 255]),
+        3 => walk.line = random.pick(&[0, 1, 2, 3, 4, 5, 6, 255]),
+        4 => walk.id = random.pick(&[0, nhosts - 1, nhosts, nhosts.saturating_add(1), 254, 255]),
+        5 => {
+            let off = random.between(-4, 4) as u16;
+            walk.length =
+                random.pick(&[0, 31, 1_052, 1_053, u16::MAX, walk.length.wrapping_add(off)]);
+        }
+        6 => walk.count = random.next() as u16,
+        7 => walk.reading = random.pick(&[-1, 0, DAY_MS, DAY_MS + 1, 1 << 32, i64::MIN, i64::MAX]),
+        _ => walk.delay = held_delay(random),
+    }
 }
 
 /// Breaks one rule of the settings, or goes to its very edge.

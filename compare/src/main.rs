@@ -1,10 +1,10 @@
 //! Gives the proved library and the reference the same random calls, and
-//! compares after each call the answer, the values, all clocks and links, the
-//! whole run and the whole buffer.
+//! compares after each call the answer, the values, all clocks, links and walks
+//! with the copies of their packets, the whole run and the whole buffer.
 //!
 //! `compare [--seed N] [--calls N]` makes at least N calls. It ends with 1 at
 //! the first difference, and with 2 where an answer that can occur was never
-//! given, or something that readings do never occurred.
+//! given, or something that readings or walks do never occurred.
 
 mod call;
 mod capture;
@@ -22,8 +22,8 @@ mod trials;
 mod vectors;
 
 use call::{Call, Trial, Value};
-use counts::{Counts, Readings};
-use hello::{Clock, Entry, Links, PLACES};
+use counts::{Counts, Readings, Walks};
+use hello::{Clock, Entry, Links, Walk, PLACES};
 use random::Random;
 use room::{Difference, Room};
 use std::process::ExitCode;
@@ -60,6 +60,7 @@ struct Comparison {
     messages: Messages,
     counts: Counts,
     readings: Readings,
+    walks: Walks,
     calls: u64,
     /// The host's entries before the call, for the report of a difference.
     table: Vec<Entry>,
@@ -74,8 +75,9 @@ impl Comparison {
         }
         let calls = (100 + self.random.below(400) as u64).min(most_calls);
         for _ in 0..calls {
-            let trial = trials::next(&mut self.random, room, &self.messages);
-            let spoiled = trials::spoil_lent(&mut self.random, room, &trial);
+            let mut trial = trials::next(&mut self.random, room, &self.messages);
+            let spoiled = trials::spoil_lent(&mut self.random, room, &trial, &self.messages);
+            trials::settle(&mut self.random, room, &mut trial);
             let answer = self.perform(room, &trial)?;
             if let (Some(before), 1 | 12) = (spoiled, answer) {
                 before.put_back(room);
@@ -95,14 +97,19 @@ impl Comparison {
             let after = &room.library.clocks[trial.host];
             self.readings.add(counter, &lent.0, after);
         }
+        if lent.2.is_open() {
+            let after = &room.library.walks[trial.host];
+            let is_step = matches!(trial.call, Call::Step { .. });
+            self.walks.add(&lent.2, after, is_step, outcome.answer);
+        }
         if let (Call::Send { .. }, Value::Length(length @ 1..)) = (&trial.call, &outcome.value) {
             self.messages.keep(&outcome.buffer.0[..*length]);
         }
         Ok(outcome.answer)
     }
 
-    /// The clock, links and used entries that a call is lent.
-    fn lent(&mut self, room: &Room, trial: &Trial) -> (Clock, Links) {
+    /// The clock, links, walk and used entries that a call is lent.
+    fn lent(&mut self, room: &Room, trial: &Trial) -> (Clock, Links, Walk) {
         let start = PLACES * trial.host;
         let nhosts = room.settings[trial.host].layout.nhosts;
         self.table.clear();
@@ -111,10 +118,16 @@ impl Comparison {
         (
             room.library.clocks[trial.host],
             room.library.links[trial.host],
+            room.library.walks[trial.host],
         )
     }
 
-    fn report(&self, trial: &Trial, lent: &(Clock, Links), difference: &Difference) -> String {
+    fn report(
+        &self,
+        trial: &Trial,
+        lent: &(Clock, Links, Walk),
+        difference: &Difference,
+    ) -> String {
         format!(
             "{trial:?}\nlent: {lent:?}\nentries: {:?}\n\
              difference at call {} in {}\n  library:   {}\n  reference: {}",
@@ -123,12 +136,13 @@ impl Comparison {
     }
 }
 
-fn compare(options: &Options) -> Result<(Counts, Readings), String> {
+fn compare(options: &Options) -> Result<(Counts, Readings, Walks), String> {
     let mut comparison = Comparison {
         random: Random::new(options.seed),
         messages: Messages::default(),
         counts: Counts::default(),
         readings: Readings::default(),
+        walks: Walks::default(),
         calls: 0,
         table: Vec::new(),
     };
@@ -143,7 +157,7 @@ fn compare(options: &Options) -> Result<(Counts, Readings), String> {
     capture::run(options.seed)?;
     text::run(options.seed, options.calls.min(20_000))?;
     ntp::run(&mut comparison.random)?;
-    Ok((comparison.counts, comparison.readings))
+    Ok((comparison.counts, comparison.readings, comparison.walks))
 }
 
 fn main() -> ExitCode {
@@ -151,7 +165,7 @@ fn main() -> ExitCode {
         eprintln!("usage: compare [--seed N] [--calls N]");
         return ExitCode::from(2);
     };
-    let (counts, readings) = match compare(&options) {
+    let (counts, readings, walks) = match compare(&options) {
         Ok(counted) => counted,
         Err(difference) => {
             println!("seed {}\n{difference}", options.seed);
@@ -160,8 +174,10 @@ fn main() -> ExitCode {
     };
     counts.print();
     readings.print();
+    walks.print();
     let mut complaints = counts.complaints();
     complaints.extend(readings.complaints());
+    complaints.extend(walks.complaints());
     complaints
         .iter()
         .for_each(|complaint| println!("{complaint}"));

@@ -28,14 +28,27 @@ impl Room {
         crystals: Vec<bool>,
         clocks: Vec<hello::Clock>,
         links: Vec<hello::Links>,
+        walks: Vec<hello::Walk>,
+        copies: Vec<Vec<u8>>,
         run: Vec<hello::Entry>,
     ) -> Room {
         let reference = Reference {
             clocks: clocks.iter().map(convert::clock).collect(),
             links: links.iter().map(convert::links).collect(),
+            walks: walks
+                .iter()
+                .zip(&copies)
+                .map(|(walk, copy)| convert::walk(walk, copy))
+                .collect(),
             run: run.iter().map(convert::entry).collect(),
         };
-        let library = Library { clocks, links, run };
+        let library = Library {
+            clocks,
+            links,
+            walks,
+            copies,
+            run,
+        };
         Room {
             settings,
             crystals,
@@ -54,14 +67,20 @@ impl Room {
         self.reference.links[host] = convert::links(&links);
     }
 
+    pub fn lend_walk(&mut self, host: usize, walk: hello::Walk, copy: Vec<u8>) {
+        self.reference.walks[host] = convert::walk(&walk, &copy);
+        self.library.walks[host] = walk;
+        self.library.copies[host] = copy;
+    }
+
     pub fn lend_entry(&mut self, place: usize, entry: hello::Entry) {
         self.library.run[place] = entry;
         self.reference.run[place] = convert::entry(&entry);
     }
 
     /// Gives both programs the same call, and compares all that they leave: the
-    /// answer, the values, the whole buffer, all clocks and links and the whole
-    /// run. What both agree on comes back.
+    /// answer, the values, the whole buffer, all clocks, links, walks and copies of
+    /// their packets and the whole run. What both agree on comes back.
     pub fn perform(&mut self, trial: &Trial) -> Result<Outcome, Difference> {
         let library = self.library.perform(trial);
         let reference = self.reference.perform(trial);
@@ -84,6 +103,11 @@ impl Room {
             if links != self.reference.links[host] {
                 let place = format!("the links of host {host}");
                 return Err(difference(place, &links, &self.reference.links[host]));
+            }
+            let walk = convert::walk(&self.library.walks[host], &self.library.copies[host]);
+            if walk != self.reference.walks[host] {
+                let place = format!("the walk of host {host}");
+                return Err(difference(place, &walk, &self.reference.walks[host]));
             }
         }
         Ok(())

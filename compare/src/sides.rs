@@ -2,12 +2,16 @@
 
 use crate::call::{Call, Octets, Outcome, Trial, Value};
 use crate::convert;
-use reference::{answer, host, program, Refusal};
+use reference::walk::FIRST_STEP;
+use reference::{answer, host, program, Place, Refusal};
 
-/// What the library is lent: the clock and links of each host, and the run.
+/// What the library is lent: the clock, links and walk of each host with the copy of
+/// its packet, and the run.
 pub struct Library {
     pub clocks: Vec<hello::Clock>,
     pub links: Vec<hello::Links>,
+    pub walks: Vec<hello::Walk>,
+    pub copies: Vec<Vec<u8>>,
     pub run: Vec<hello::Entry>,
 }
 
@@ -17,29 +21,35 @@ impl Library {
         let number = trial.number;
         let clock = &mut self.clocks[trial.host];
         let links = &mut self.links[trial.host];
+        let walk = &mut self.walks[trial.host];
+        let copy = &mut self.copies[trial.host][..trial.copy_length];
         let run = &mut self.run[..trial.run_length];
         match &trial.call {
-            Call::Initialize => Outcome::of(hello::initialize(settings, number, clock, links, run)),
-            Call::Tick { count } => {
-                Outcome::of(hello::tick(settings, number, clock, links, run, *count))
-            }
-            Call::Adjust { count } => {
-                Outcome::of(hello::adjust(settings, number, clock, links, run, *count))
-            }
-            Call::Set { ms, count } => {
-                Outcome::of(hello::set(settings, number, clock, links, run, *ms, *count))
-            }
+            Call::Initialize => Outcome::of(hello::initialize(
+                settings, number, clock, links, walk, copy, run,
+            )),
+            Call::Tick { count } => Outcome::of(hello::tick(
+                settings, number, clock, links, walk, copy, run, *count,
+            )),
+            Call::Adjust { count } => Outcome::of(hello::adjust(
+                settings, number, clock, links, walk, copy, run, *count,
+            )),
+            Call::Set { ms, count } => Outcome::of(hello::set(
+                settings, number, clock, links, walk, copy, run, *ms, *count,
+            )),
             Call::Read { counter } => {
-                let read = hello::read(settings, number, clock, links, run, *counter);
+                let read = hello::read(settings, number, clock, links, walk, copy, run, *counter);
                 let value = Value::Time {
                     time: read.time,
                     date: read.date,
                 };
                 Outcome::new(read.answer, value)
             }
-            Call::Second => Outcome::of(hello::second(settings, number, clock, links, run)),
+            Call::Second => Outcome::of(hello::second(
+                settings, number, clock, links, walk, copy, run,
+            )),
             Call::SelfReport { counter } => Outcome::of(hello::self_report(
-                settings, number, clock, links, run, *counter,
+                settings, number, clock, links, walk, copy, run, *counter,
             )),
             Call::Send {
                 link,
@@ -52,6 +62,8 @@ impl Library {
                     number,
                     clock,
                     links,
+                    walk,
+                    copy,
                     run,
                     *link,
                     *counter,
@@ -64,7 +76,9 @@ impl Library {
                 }
             }
             Call::Inspect { link, packet } => {
-                let told = hello::inspect(settings, number, clock, links, run, *link, &packet.0);
+                let told = hello::inspect(
+                    settings, number, clock, links, walk, copy, run, *link, &packet.0,
+                );
                 let value = Value::Inspected {
                     source: convert::address(told.source),
                     time: told.time,
@@ -78,17 +92,27 @@ impl Library {
                 counter,
                 packet,
             } => Outcome::of(hello::act(
-                settings, number, clock, links, run, *link, *counter, &packet.0,
+                settings, number, clock, links, walk, copy, run, *link, *counter, &packet.0,
             )),
             Call::Receive {
                 link,
                 counter,
                 packet,
             } => Outcome::of(hello::receive(
-                settings, number, clock, links, run, *link, *counter, &packet.0,
+                settings, number, clock, links, walk, copy, run, *link, *counter, &packet.0,
+            )),
+            Call::OpenWalk { link, packet } => {
+                let packet = &packet.0;
+                next(hello::open_walk(
+                    settings, number, clock, links, walk, copy, run, *link, packet,
+                ))
+            }
+            Call::Step { counter } => next(hello::step(
+                settings, number, clock, links, walk, copy, run, *counter,
             )),
             Call::Lookup { address } => {
-                let route = hello::lookup(settings, number, clock, links, run, *address);
+                let route =
+                    hello::lookup(settings, number, clock, links, walk, copy, run, *address);
                 let value = Value::Route {
                     host: route.id,
                     pid: route.pid,
@@ -103,10 +127,21 @@ impl Library {
     }
 }
 
+/// The next place, with all that is told of it.
+fn next(stepped: hello::Stepped) -> Outcome {
+    let id = u8::try_from(stepped.id).expect("an id is an octet");
+    let next = match (stepped.step, stepped.line, id) {
+        (0, 0, 0) => None,
+        (step, line, id) => Some(convert::place(step, line, id)),
+    };
+    Outcome::new(stepped.answer, Value::Next(next))
+}
+
 /// What the reference is lent.
 pub struct Reference {
     pub clocks: Vec<reference::Clock>,
     pub links: Vec<reference::Links>,
+    pub walks: Vec<reference::Walk>,
     pub run: Vec<reference::Entry>,
 }
 
@@ -116,27 +151,30 @@ impl Reference {
         let number = trial.number;
         let clock = &mut self.clocks[trial.host];
         let links = &mut self.links[trial.host];
+        let walk = &mut self.walks[trial.host];
         let run = &mut self.run[..trial.run_length];
         match &trial.call {
-            Call::Initialize => done(host::set_afresh(settings, number, clock, links, run)),
-            Call::Tick { count } => done(host::tick(settings, number, clock, links, run, *count)),
-            Call::Adjust { count } => {
-                done(host::adjust(settings, number, clock, links, run, *count))
-            }
-            Call::Set { ms, count } => {
-                done(host::set(settings, number, clock, links, run, *ms, *count))
-            }
+            Call::Initialize => done(host::set_afresh(settings, number, clock, links, walk, run)),
+            Call::Tick { count } => done(host::tick(
+                settings, number, clock, links, walk, run, *count,
+            )),
+            Call::Adjust { count } => done(host::adjust(
+                settings, number, clock, links, walk, run, *count,
+            )),
+            Call::Set { ms, count } => done(host::set(
+                settings, number, clock, links, walk, run, *ms, *count,
+            )),
             Call::Read { counter } => {
                 let counter = convert::counter(*counter);
-                let read = host::read(settings, number, clock, links, run, counter);
+                let read = host::read(settings, number, clock, links, walk, run, counter);
                 let (time, date) = read.map_or((0, 0), |reading| (reading.time, reading.date.0));
                 Outcome::new(answer(&read), Value::Time { time, date })
             }
-            Call::Second => done(host::second(settings, number, clock, links, run)),
+            Call::Second => done(host::second(settings, number, clock, links, walk, run)),
             Call::SelfReport { counter } => {
                 let counter = convert::counter(*counter);
                 done(host::self_report(
-                    settings, number, clock, links, run, counter,
+                    settings, number, clock, links, walk, run, counter,
                 ))
             }
             Call::Send {
@@ -150,6 +188,7 @@ impl Reference {
                     number,
                     clock,
                     links,
+                    walk,
                     run,
                     *link,
                     convert::counter(*counter),
@@ -162,7 +201,8 @@ impl Reference {
                 }
             }
             Call::Inspect { link, packet } => {
-                let said = host::inspect(settings, number, clock, links, run, *link, &packet.0);
+                let said =
+                    host::inspect(settings, number, clock, links, walk, run, *link, &packet.0);
                 let told = said.unwrap_or_default();
                 let value = Value::Inspected {
                     source: told.source,
@@ -179,7 +219,7 @@ impl Reference {
             } => {
                 let counter = convert::counter(*counter);
                 done(host::act(
-                    settings, number, clock, links, run, *link, counter, &packet.0,
+                    settings, number, clock, links, walk, run, *link, counter, &packet.0,
                 ))
             }
             Call::Receive {
@@ -189,12 +229,24 @@ impl Reference {
             } => {
                 let counter = convert::counter(*counter);
                 done(host::arrival(
-                    settings, number, clock, links, run, *link, counter, &packet.0,
+                    settings, number, clock, links, walk, run, *link, counter, &packet.0,
                 ))
+            }
+            Call::OpenWalk { link, packet } => {
+                let packet = &packet.0;
+                let opened =
+                    host::open_walk(settings, number, clock, links, walk, run, *link, packet);
+                let first = opened.map(|()| Place::at_step(FIRST_STEP));
+                Outcome::new(answer(&opened), Value::Next(first.ok()))
+            }
+            Call::Step { counter } => {
+                let counter = convert::counter(*counter);
+                let stepped = host::step(settings, number, clock, links, walk, run, counter);
+                Outcome::new(answer(&stepped), Value::Next(stepped.unwrap_or(None)))
             }
             Call::Lookup { address } => {
                 let address = convert::address(*address);
-                let route = host::lookup(settings, number, clock, links, run, address);
+                let route = host::lookup(settings, number, clock, links, walk, run, address);
                 let (host, pid) = route.map_or((0, 0), |route| (route.host, route.pid));
                 Outcome::new(answer(&route), Value::Route { host, pid })
             }

@@ -5,7 +5,8 @@ use crate::generate;
 use crate::packets::{self, Receiver};
 use crate::random::Random;
 use crate::room::Room;
-use hello::{Address, Clock, Counter, Entry, Layout, Links, Settings, HOSTS, PLACES};
+use hello::{Address, Clock, Counter, Entry, Layout, Links, Settings, Walk};
+use hello::{HOSTS, LONGEST_MESSAGE, PLACES};
 
 /// The messages that were sent last; they arrive at other hosts.
 #[derive(Default)]
@@ -36,6 +37,8 @@ pub struct Lent {
     host: usize,
     clock: Clock,
     links: Links,
+    walk: Walk,
+    copy: Vec<u8>,
     entry: Option<(usize, Entry)>,
 }
 
@@ -43,6 +46,7 @@ impl Lent {
     pub fn put_back(&self, room: &mut Room) {
         room.lend_clock(self.host, self.clock);
         room.lend_links(self.host, self.links);
+        room.lend_walk(self.host, self.walk, self.copy.clone());
         if let Some((place, entry)) = self.entry {
             room.lend_entry(place, entry);
         }
@@ -55,6 +59,7 @@ pub fn first(room: &Room, host: usize) -> Trial {
         host,
         settings: room.settings[host],
         number: host,
+        copy_length: LONGEST_MESSAGE,
         run_length: room.library.run.len(),
         call: Call::Initialize,
     }
@@ -74,7 +79,13 @@ pub fn next(random: &mut Random, room: &mut Room, messages: &Messages) -> Trial 
     if random.one_in(30) {
         trial.run_length = run_length(random, trial.run_length, host);
     }
-    trial.call = call(random, room, &trial, messages);
+    trial.call = if room.library.walks[host].is_open() && !random.one_in(4) {
+        Call::Step {
+            counter: counter(random, room, &trial),
+        }
+    } else {
+        call(random, room, &trial, messages)
+    };
     trial
 }
 
@@ -88,12 +99,50 @@ fn stir(random: &mut Random, room: &mut Room, host: usize) {
         let links = generate::links(random, &room.settings[host]);
         room.lend_links(host, links);
     }
+    if random.one_in(25) {
+        stir_walk(random, room, host);
+    }
     if random.one_in(5) {
         for id in 0..room.settings[host].layout.nhosts {
             if random.one_in(2) {
                 room.lend_entry(PLACES * host + id, generate::entry(random));
             }
         }
+    }
+}
+
+/// A walk of the host is taken elsewhere, or dropped; or one is closed with any
+/// numbers in it.
+fn stir_walk(random: &mut Random, room: &mut Room, host: usize) {
+    let mut walk = room.library.walks[host];
+    let copy = room.library.copies[host].clone();
+    if !walk.is_open() || random.one_in(3) {
+        walk = generate::any_walk(random);
+        walk.opened = 0;
+    } else {
+        walk.id = random.below(room.settings[host].layout.nhosts) as u8;
+    }
+    room.lend_walk(host, walk, copy);
+}
+
+/// What a call is lent at last. Now and then the copy has no more octets than the
+/// walk needs, unless one is opened. And the link of an open walk has a switch
+/// that is 0 or 1: at any other the rules do not say whether a packet of our own
+/// address is held on a point-to-point link, which 12 would ask before 1.
+pub fn settle(random: &mut Random, room: &Room, trial: &mut Trial) {
+    let walk = &room.library.walks[trial.host];
+    let needed = if walk.is_open() {
+        usize::from(walk.length).min(LONGEST_MESSAGE)
+    } else {
+        0
+    };
+    if random.one_in(8) && !matches!(trial.call, Call::OpenWalk { .. }) {
+        let more = (needed + random.below(5)).min(LONGEST_MESSAGE);
+        trial.copy_length = random.pick(&[needed, more]);
+    }
+    if let (true, 1..=8) = (walk.is_open(), walk.link) {
+        let switch = &mut trial.settings.links[usize::from(walk.link) - 1].broadcast;
+        *switch = (*switch).min(1);
     }
 }
 
@@ -121,7 +170,10 @@ fn call(random: &mut Random, room: &Room, trial: &Trial, messages: &Messages) ->
         32..=35 => Call::Read {
             counter: counter(random, room, trial),
         },
-        36..=46 => Call::Second,
+        36..=44 => Call::Second,
+        45 | 46 => Call::Step {
+            counter: counter(random, room, trial),
+        },
         47..=51 => Call::SelfReport {
             counter: counter(random, room, trial),
         },
@@ -134,9 +186,10 @@ fn call(random: &mut Random, room: &Room, trial: &Trial, messages: &Messages) ->
             let link = link(random, trial.settings.link_count);
             let counter = counter(random, room, trial);
             let packet = arriving(random, room, trial, link, counter, messages);
-            match random.below(3) {
-                0 => Call::Inspect { link, packet },
-                1 => Call::Act {
+            match random.below(4) {
+                0 => Call::OpenWalk { link, packet },
+                1 => Call::Inspect { link, packet },
+                2 => Call::Act {
                     link,
                     counter,
                     packet,
@@ -270,7 +323,12 @@ fn for_program(random: &mut Random, messages: &Messages) -> Octets {
 }
 
 /// Now and then takes something lent out of its range; what stood there before.
-pub fn spoil_lent(random: &mut Random, room: &mut Room, trial: &Trial) -> Option<Lent> {
+pub fn spoil_lent(
+    random: &mut Random,
+    room: &mut Room,
+    trial: &Trial,
+    messages: &Messages,
+) -> Option<Lent> {
     if !random.one_in(12) {
         return None;
     }
@@ -279,9 +337,11 @@ pub fn spoil_lent(random: &mut Random, room: &mut Room, trial: &Trial) -> Option
         host,
         clock: room.library.clocks[host],
         links: room.library.links[host],
+        walk: room.library.walks[host],
+        copy: room.library.copies[host].clone(),
         entry: None,
     };
-    match random.below(3) {
+    match random.below(6) {
         0 => {
             let mut clock = before.clock;
             generate::spoil_clock(random, &mut clock);
@@ -291,6 +351,28 @@ pub fn spoil_lent(random: &mut Random, room: &mut Room, trial: &Trial) -> Option
             let mut links = before.links;
             generate::spoil_links(random, &mut links);
             room.lend_links(host, links);
+        }
+        2 => {
+            let link = link(random, trial.settings.link_count);
+            let counter = counter(random, room, trial);
+            let packet = arriving(random, room, trial, link, counter, messages).0;
+            if packet.len() <= LONGEST_MESSAGE {
+                let walk = generate::walk(random, &trial.settings, link, packet.len());
+                let mut copy = before.copy.clone();
+                copy[..packet.len()].copy_from_slice(&packet);
+                room.lend_walk(host, walk, copy);
+            }
+        }
+        3 => {
+            let mut walk = before.walk;
+            generate::spoil_walk(random, &trial.settings, &mut walk);
+            room.lend_walk(host, walk, before.copy.clone());
+        }
+        4 => {
+            let mut copy = before.copy.clone();
+            let length = usize::from(before.walk.length).clamp(1, LONGEST_MESSAGE);
+            copy[random.below(length)] ^= 1 << random.below(8);
+            room.lend_walk(host, before.walk, copy);
         }
         _ => {
             let ids = trial.settings.layout.nhosts.clamp(1, PLACES);

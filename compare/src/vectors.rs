@@ -3,7 +3,8 @@
 use crate::call::{Call, Octets, Outcome, Trial, Value};
 use crate::generate::DAY_UNITS;
 use crate::room::Room;
-use hello::{Address, Clock, Counter, Entry, Layout, Links, Settings, PLACES, UNITS_PER_MS};
+use hello::{Address, Clock, Counter, Entry, Layout, Links, Settings, Walk};
+use hello::{LONGEST_MESSAGE, PLACES, UNITS_PER_MS};
 use std::fmt::Debug;
 
 const DOWN: Entry = Entry {
@@ -21,6 +22,7 @@ pub fn run() -> Result<(), String> {
     routes()?;
     halves()?;
     round_trip()?;
+    walked_round_trip()?;
     midnight()?;
     crystal()?;
     program()?;
@@ -47,6 +49,8 @@ impl Pair {
             vec![false; 2],
             vec![Clock::default(); 2],
             vec![Links::default(); 2],
+            vec![Walk::CLOSED; 2],
+            vec![vec![0; LONGEST_MESSAGE]; 2],
             vec![DOWN; 2 * PLACES],
         );
         let mut pair = Pair(room);
@@ -62,6 +66,7 @@ impl Pair {
             host,
             settings: self.0.settings[host],
             number: host,
+            copy_length: LONGEST_MESSAGE,
             run_length: self.0.library.run.len(),
             call,
         };
@@ -256,6 +261,41 @@ fn halves() -> Result<(), String> {
 
 /// The second host's clock is 500 ms ahead.
 fn round_trip() -> Result<(), String> {
+    let (mut pair, answer) = answered()?;
+    expect("the answer", pair.take(0, answer)?, 0)?;
+    expect("the entry", pair.0.library.run[1], LEARNED)
+}
+
+/// The same, box by box: steps 1 to 5, three lines of the neighbor and one of each
+/// other host, of which nothing is known.
+fn walked_round_trip() -> Result<(), String> {
+    let (mut pair, answer) = answered()?;
+    let (link, packet) = (1, Octets(answer));
+    let mut next = pair.call(0, Call::OpenWalk { link, packet })?;
+    let mut places = Vec::new();
+    while let Value::Next(Some(place)) = next.value {
+        places.push((place.step, place.line, place.id));
+        let counter = Counter::LINE_CLOCK;
+        next = pair.call(0, Call::Step { counter })?;
+    }
+    expect("the last box", next.answer, 0)?;
+    let steps = (1..=5).map(|step| (step, 0, 0));
+    let lines = [(0, 0), (0, 1), (1, 1), (2, 1), (0, 2), (0, 3)].map(|(line, id)| (6, line, id));
+    expect("the places", places, steps.chain(lines).collect())?;
+    expect("the entry", pair.0.library.run[1], LEARNED)
+}
+
+/// What the first host then holds of the second.
+const LEARNED: Entry = Entry {
+    delay: 100,
+    offset: 489,
+    ttl: 120,
+    pid: 1,
+    time: 45_081,
+};
+
+/// Two hosts, and the second's answer to the first's question, which arrives now.
+fn answered() -> Result<(Pair, Vec<u8>), String> {
     let mut pair = Pair::fresh()?;
     pair.set_neighbor(0, 2);
     pair.set_neighbor(1, 1);
@@ -269,15 +309,7 @@ fn round_trip() -> Result<(), String> {
     let answer = pair.send(1)?;
     expect("TSP", &answer[28..30], &45_000_u16.to_be_bytes())?;
     pair.set_reading(0, 45_081);
-    expect("the answer", pair.take(0, answer)?, 0)?;
-    let learned = Entry {
-        delay: 100,
-        offset: 489,
-        ttl: 120,
-        pid: 1,
-        time: 45_081,
-    };
-    expect("the entry", pair.0.library.run[1], learned)
+    Ok((pair, answer))
 }
 
 /// 86,400,000 ms stay; one unit more leaves one unit on the next day.

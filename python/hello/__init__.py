@@ -1,7 +1,7 @@
 """A HELLO host of RFC 891: safe calls of the proved library, by ctypes.
 
 A Room owns the run of entries in which its hosts, 16 at most, have their host tables. A Host of it
-has settings, a clock and links, and the calls as methods.
+has settings, a clock, links and a walk, and the calls as methods.
 
     room = hello.Room(hosts=1)
     host = room.host(0, hello.Settings(address=(192, 0, 2, 1), address_offset=1, nhosts=4))
@@ -15,6 +15,12 @@ counter, as it stands then, to each call that reads, and its count to tick, adju
     host.read(counter=hello.Counter(count=1234))
     host.tick(count=0)
 
+A packet that arrives is taken in one piece by receive, or in two by inspect and act, or one box at
+a time:
+
+    host.open_walk(1, packet)  # Stepped(answer=Answer.DONE, place=Place(step=1, ..))
+    host.step()  # Stepped(answer=Answer.DONE, place=Place(step=2, ..)), and so on
+
 Every call ends with an Answer, whatever the host holds; docs/answers.txt says what each means and
 changes. A Python number that does not fit its field raises OverflowError, a wrong type TypeError
 and a wrong count of parts ValueError: nothing is cut off.
@@ -24,11 +30,11 @@ in hello.library.
 """
 
 from .answer import Answer
-from .lent import Clock, Links, Run, Settings, date_word
+from .lent import Clock, Links, Run, Settings, Walk, date_word
 from .library import checksum, checksum_plain
 from .room import Host, Room
 from .values import Address, Counter, Entry, Inspected, Link, LinkSetting
-from .values import Net, Route, Row, Sent, Time
+from .values import Net, Place, Route, Row, Sent, Stepped, Time
 from .values import HOSTS, LINE_CLOCK, LINKS, LONGEST_MESSAGE
 from .values import NO_CLOCK_HOST, PLACES, ROWS, UNITS_PER_MS
 from . import library as _library

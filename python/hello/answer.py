@@ -4,7 +4,7 @@ import enum
 
 
 class Answer(enum.IntEnum):
-    """What a call answers. OUT_OF_RANGE is tested first in all calls, then upwards in number."""
+    """What a call answers. In all calls OUT_OF_RANGE is tested first, then IN_WALK, then upwards."""
 
     DONE = 0
     SETTING = 1
@@ -20,3 +20,5 @@ class Answer(enum.IntEnum):
     NO_HOST = 11
     OUT_OF_RANGE = 12
     HOST_DOWN = 13
+    IN_WALK = 16
+    NO_WALK = 17

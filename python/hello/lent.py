@@ -1,11 +1,11 @@
-"""What is lent to the calls: settings, clock, links and the run of entries."""
+"""What is lent to the calls: settings, clock, links, walk and the run of entries."""
 
 import operator
-from ctypes import c_size_t
+from ctypes import c_size_t, c_uint8
 
-from .structures import CAddress, CClock, CEntry, CLink, CLinks, CSettings
+from .structures import CAddress, CClock, CEntry, CLink, CLinks, CSettings, CWalk
 from .structures import fitting, into, into_slots, number, part
-from .values import LINKS, NO_CLOCK_HOST, UNITS_PER_MS
+from .values import LINKS, LONGEST_MESSAGE, NO_CLOCK_HOST, UNITS_PER_MS
 from .values import Address, Entry, Link, LinkSetting, Net, Row
 
 
@@ -150,6 +150,55 @@ class Links:
 
     def __setitem__(self, index, value):
         self._state.all[operator.index(index)] = into(CLink, "link", value)
+
+
+class Walk:
+    """A walk, at first closed: what is held of an arrival between two of its boxes, and the copy of
+    its packet. Only a walk that is open is looked at, and of it only what is held at its place.
+
+    opened   any number but 0: a walk is open
+    link     the link on which the packet arrived, from 1
+    step     the next place: step 1 to 5
+    line     in step 5, behind its own box, line 1 to 4 for (a) to (d); else 0
+    id       the host id of a line, below NHOSTS
+    length   the octets of the packet, at the front of the copy
+    count    from step 1 on: the count that was used, ms
+    reading  from step 1 on: our reading, 0 to 86,400,000 ms
+    delay    from step 3 on: DELAY, ms; line (c) is to store one of 100 to 29,999
+    offset   from step 3 on: OFFSET, ms
+    copy     the octets of the copy, LONGEST_MESSAGE unless told otherwise
+    """
+
+    __slots__ = ("_state", "_copy", "_room")
+
+    def __init__(self, room=LONGEST_MESSAGE):
+        self._state = CWalk()
+        self._room = number(c_size_t, "room", room)
+        # One octet more than the room says, so that an empty copy has an address too.
+        self._copy = (c_uint8 * (self._room + 1))()
+
+    opened = part("opened")
+    link = part("link")
+    step = part("step")
+    line = part("line")
+    id = part("id")
+    length = part("length")
+    count = part("count")
+    reading = part("reading")
+    delay = part("delay")
+    offset = part("offset")
+
+    @property
+    def copy(self):
+        """The octets of the copy."""
+        return bytes(self._copy)[: self._room]
+
+    @copy.setter
+    def copy(self, octets):
+        octets = bytes(memoryview(octets))
+        if len(octets) != self._room:
+            raise ValueError(f"copy has {len(octets)} octets, and must have {self._room}")
+        self._copy[: self._room] = octets
 
 
 class Run:

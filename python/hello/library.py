@@ -1,4 +1,4 @@
-"""The plain calls of the library, by ctypes: each is lent settings, number, clock, links and run.
+"""The plain calls of the library, by ctypes: each is lent settings, number, clock, links, walk, run.
 
 They answer the number of an Answer. The library is target/lib/libhello.so, which
 python/make_library makes; the variable HELLO_SO names another file.
@@ -8,10 +8,10 @@ import ctypes
 import os
 from ctypes import POINTER, c_char_p, c_int32, c_size_t, c_uint8, c_uint16
 
-from .lent import Clock, Links, Run, Settings, address_of
+from .lent import Clock, Links, Run, Settings, Walk, address_of
 from .structures import CAddress, CClock, CCounter, CEntry, CInspected, CLinks, CRoute, CSent
-from .structures import CSettings, CTime, into, number as fitting_number
-from .values import LINE_CLOCK
+from .structures import CSettings, CStepped, CTime, CWalk, into, number as fitting_number
+from .values import LINE_CLOCK, Place
 
 _HERE = os.path.dirname(os.path.abspath(__file__))
 _BUILT = os.path.join(_HERE, "..", "..", "target", "lib", "libhello.so")
@@ -23,6 +23,9 @@ _HOST = (
     c_size_t,
     POINTER(CClock),
     POINTER(CLinks),
+    POINTER(CWalk),
+    POINTER(c_uint8),
+    c_size_t,
     POINTER(CEntry),
     c_size_t,
 )
@@ -48,18 +51,21 @@ _INSPECT = function("hello_inspect", CInspected, *_HOST, c_size_t, c_char_p, c_s
 _ARRIVING = (c_size_t, CCounter, c_char_p, c_size_t)
 _ACT = function("hello_act", c_uint8, *_HOST, *_ARRIVING)
 _RECEIVE = function("hello_receive", c_uint8, *_HOST, *_ARRIVING)
+_OPEN_WALK = function("hello_open_walk", CStepped, *_HOST, c_size_t, c_char_p, c_size_t)
+_STEP = function("hello_step", CStepped, *_HOST, CCounter)
 _LOOKUP = function("hello_lookup", CRoute, *_HOST, CAddress)
 _PACKET = function("hello_packet", c_uint8, c_char_p, c_size_t)
 _CHECKSUM = function("hello_checksum", c_uint16, c_char_p, c_size_t)
 _CHECKSUM_PLAIN = function("hello_checksum_plain", c_uint16, c_char_p, c_size_t)
 
 
-def _lent(settings, number, clock, links, run):
+def _lent(settings, number, clock, links, walk, run):
     """The arguments that all calls on a host share."""
     for name, value, kind in (
         ("settings", settings, Settings),
         ("clock", clock, Clock),
         ("links", links, Links),
+        ("walk", walk, Walk),
         ("run", run, Run),
     ):
         if not isinstance(value, kind):
@@ -69,6 +75,9 @@ def _lent(settings, number, clock, links, run):
         fitting_number(c_size_t, "number", number),
         ctypes.byref(clock._state),
         ctypes.byref(links._state),
+        ctypes.byref(walk._state),
+        walk._copy,
+        walk._room,
         run._state,
         len(run),
     )
@@ -100,66 +109,69 @@ def buffer_of(buffer):
     return (c_uint8 * length).from_buffer(buffer), length
 
 
-def initialize(settings, number, clock, links, run):
-    """Sets host `number` afresh by its settings: the clock, all links, the first NHOSTS entries."""
-    return _INITIALIZE(*_lent(settings, number, clock, links, run))
+def initialize(settings, number, clock, links, walk, run):
+    """Sets host `number` afresh by its settings: the clock, all links, the first NHOSTS entries.
+
+    A walk is dropped.
+    """
+    return _INITIALIZE(*_lent(settings, number, clock, links, walk, run))
 
 
-def tick(settings, number, clock, links, run, count=0):
+def tick(settings, number, clock, links, walk, run, count=0):
     """Adds CLOCK-TICK to the clock.
 
     Midnight is tested on CLOCK plus the crystal's count; so also in adjust and set.
     """
-    return _TICK(*_lent(settings, number, clock, links, run), _count(count))
+    return _TICK(*_lent(settings, number, clock, links, walk, run), _count(count))
 
 
-def adjust(settings, number, clock, links, run, count=0):
+def adjust(settings, number, clock, links, walk, run, count=0):
     """Moves the clock by DELTA / 128, rounded down, which DELTA loses."""
-    return _ADJUST(*_lent(settings, number, clock, links, run), _count(count))
+    return _ADJUST(*_lent(settings, number, clock, links, walk, run), _count(count))
 
 
-def set(settings, number, clock, links, run, ms, count=0):
+def set(settings, number, clock, links, walk, run, ms, count=0):
     """Corrects the clock by `ms`, signed 32 bits: -128 to +127 becomes DELTA, else at once."""
-    lent = _lent(settings, number, clock, links, run)
+    lent = _lent(settings, number, clock, links, walk, run)
     return _SET(*lent, fitting_number(c_int32, "ms", ms), _count(count))
 
 
-def read(settings, number, clock, links, run, counter=LINE_CLOCK):
+def read(settings, number, clock, links, walk, run, counter=LINE_CLOCK):
     """The whole milliseconds of CLOCK plus the count, and the DATE word: answer, time, date.
 
     What a mark adds to the clock stays, and midnight is tested on the sum; so at every reading.
     """
-    time = _READ(*_lent(settings, number, clock, links, run), _counter(counter))
+    time = _READ(*_lent(settings, number, clock, links, walk, run), _counter(counter))
     return time.answer, time.time, time.date
 
 
-def second(settings, number, clock, links, run):
+def second(settings, number, clock, links, walk, run):
     """A second has passed: HOLD and each TTL fall by one; an entry whose TTL ends goes down."""
-    return _SECOND(*_lent(settings, number, clock, links, run))
+    return _SECOND(*_lent(settings, number, clock, links, walk, run))
 
 
-def self_report(settings, number, clock, links, run, counter=LINE_CLOCK):
+def self_report(settings, number, clock, links, walk, run, counter=LINE_CLOCK):
     """Updates the host's own entry with PID 0, DELAY 0 and OFFSET 0, at the time of a reading."""
-    return _SELF_REPORT(*_lent(settings, number, clock, links, run), _counter(counter))
+    return _SELF_REPORT(*_lent(settings, number, clock, links, walk, run), _counter(counter))
 
 
-def send(settings, number, clock, links, run, link, buffer, counter=LINE_CLOCK):
+def send(settings, number, clock, links, walk, run, link, buffer, counter=LINE_CLOCK):
     """Writes the next message of link `link`, from 1, to the front of a buffer: answer, length.
 
     A message has 32 octets, or with the host table 32 + 4 NHOSTS. Octets behind it stay. The clock
-    is read once, as by read, unless it answers 1, 2 or 12.
+    is read once, as by read, unless it answers 1, 2, 12 or 16.
     """
-    lent = _lent(settings, number, clock, links, run)
+    lent = _lent(settings, number, clock, links, walk, run)
     octets, length = buffer_of(buffer)
     sent = _SEND(*lent, _link(link), _counter(counter), octets, length)
     return sent.answer, sent.length
 
 
-def inspect(settings, number, clock, links, run, link, packet):
+def inspect(settings, number, clock, links, walk, run, link, packet):
     """Looks at a packet, IP header first, that arrived on link `link`, from 1: would it be taken,
     and what does it say? Nothing is changed: answer, source, time, tsp, nhosts.
     """
-    lent = _lent(settings, number, clock, links, run)
+    lent = _lent(settings, number, clock, links, walk, run)
     told = _INSPECT(*lent, _link(link), *octets_of(packet))
     return told.answer, address_of(told.source), told.time, told.tsp, told.nhosts
 
@@ -169,24 +181,49 @@ def _arriving(link, counter, packet):
     return _link(link), _counter(counter), *octets_of(packet)
 
 
-def act(settings, number, clock, links, run, link, packet, counter=LINE_CLOCK):
+def act(settings, number, clock, links, walk, run, link, packet, counter=LINE_CLOCK):
     """Acts on a packet, IP header first, that arrived on link `link`, from 1.
 
-    Any calls may have come since inspect, so it tests the packet again. Unless it answers 1 to 9
-    or 12, it reads the clock, and what the reading did stays, also at 10 and 11.
+    Any calls may have come since inspect, so it tests the packet again. Unless it answers 1 to 9,
+    12 or 16, it reads the clock, and what the reading did stays, also at 10 and 11.
     """
-    return _ACT(*_lent(settings, number, clock, links, run), *_arriving(link, counter, packet))
+    return _ACT(*_lent(settings, number, clock, links, walk, run), *_arriving(link, counter, packet))
 
 
-def receive(settings, number, clock, links, run, link, packet, counter=LINE_CLOCK):
+def receive(settings, number, clock, links, walk, run, link, packet, counter=LINE_CLOCK):
     """An arrival in one piece: inspect and, where that answers 0, act."""
-    lent = _lent(settings, number, clock, links, run)
+    lent = _lent(settings, number, clock, links, walk, run)
     return _RECEIVE(*lent, *_arriving(link, counter, packet))
 
 
-def lookup(settings, number, clock, links, run, address):
+def _place(told):
+    """The place that a walk is told to be at next, or None."""
+    if told.step == 0:
+        return None
+    return Place(told.step, "abcd"[told.line - 1] if told.line else "", told.id)
+
+
+def open_walk(settings, number, clock, links, walk, run, link, packet):
+    """Opens a walk for a packet, IP header first, that arrived on link `link`, from 1: the packet is
+    copied, and step 1 is next. Nothing else is changed: answer, place.
+    """
+    lent = _lent(settings, number, clock, links, walk, run)
+    told = _OPEN_WALK(*lent, _link(link), *octets_of(packet))
+    return told.answer, _place(told)
+
+
+def step(settings, number, clock, links, walk, run, counter=LINE_CLOCK):
+    """Makes the changes of the place at which the walk stands: answer, next place.
+
+    Step 1 reads the clock, as by read; at the other places the counter is not looked at.
+    """
+    told = _STEP(*_lent(settings, number, clock, links, walk, run), _counter(counter))
+    return told.answer, _place(told)
+
+
+def lookup(settings, number, clock, links, walk, run, address):
     """The id of `address`, and the link by which it is reached: answer, id, pid."""
-    lent = _lent(settings, number, clock, links, run)
+    lent = _lent(settings, number, clock, links, walk, run)
     route = _LOOKUP(*lent, into(CAddress, "address", address))
     return route.answer, route.id, route.pid
 

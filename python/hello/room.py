@@ -2,9 +2,10 @@
 
 from . import library
 from .answer import Answer
-from .lent import Clock, Links, Run
+from .lent import Clock, Links, Run, Walk
 from .structures import fitting
-from .values import HOSTS, LINE_CLOCK, LONGEST_MESSAGE, PLACES, Inspected, Route, Sent, Time
+from .values import HOSTS, LINE_CLOCK, LONGEST_MESSAGE, PLACES
+from .values import Inspected, Route, Sent, Stepped, Time
 
 
 class Room:
@@ -19,11 +20,13 @@ class Room:
 
 
 class Host:
-    """A host of a room: its number, settings, clock and links. Each call gives an Answer.
+    """A host of a room: its number, settings, clock, links and walk. Each call gives an Answer.
 
     A host with a crystal clock hands the Counter to each call that reads the clock, and its count
     to tick, adjust and set; without them the clock is a line clock. What a reading does to the
     clock stays, also at DELAY_NOT_VALID and NO_HOST.
+
+    While a walk is open, all calls but step and initialize answer IN_WALK.
     """
 
     def __init__(self, room, number, settings):
@@ -32,9 +35,10 @@ class Host:
         self.settings = settings
         self.clock = Clock()
         self.links = Links()
+        self.walk = Walk()
 
     def _lent(self):
-        return self.settings, self.number, self.clock, self.links, self.room.run
+        return self.settings, self.number, self.clock, self.links, self.walk, self.room.run
 
     @property
     def table(self):
@@ -43,7 +47,7 @@ class Host:
         return [self.room.run[start + id] for id in range(min(self.settings.nhosts, PLACES))]
 
     def initialize(self):
-        """Sets the host afresh by its settings: clock, links and table."""
+        """Sets the host afresh by its settings: clock, links and table. A walk is dropped."""
         return Answer(library.initialize(*self._lent()))
 
     def tick(self, count=0):
@@ -100,6 +104,23 @@ class Host:
     def receive(self, link, packet, counter=LINE_CLOCK):
         """An arrival in one piece: inspect and, where that is DONE, act."""
         return Answer(library.receive(*self._lent(), link, packet, counter))
+
+    def open_walk(self, link, packet):
+        """Opens a walk for a packet, IP header first, that arrived on link `link`, from 1: a Stepped.
+
+        The packet is copied, and step 1 is next. Nothing else is changed.
+        """
+        answer, place = library.open_walk(*self._lent(), link, packet)
+        return Stepped(Answer(answer), place)
+
+    def step(self, counter=LINE_CLOCK):
+        """Makes the changes of the place at which the walk stands: the next, as a Stepped.
+
+        No place is left at the end, which leaves what act with the counter of step 1 leaves; at the
+        later places the counter is not looked at. DELAY_NOT_VALID and NO_HOST end a walk too.
+        """
+        answer, place = library.step(*self._lent(), counter)
+        return Stepped(Answer(answer), place)
 
     def lookup(self, address):
         """The id of `address`, and the link by which it is reached, as a Route."""

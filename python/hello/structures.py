@@ -68,6 +68,21 @@ class CLinks(ctypes.Structure):
     _fields_ = [("all", CLink * LINKS)]
 
 
+class CWalk(ctypes.Structure):
+    _fields_ = [
+        ("opened", c_uint8),
+        ("link", c_uint8),
+        ("step", c_uint8),
+        ("line", c_uint8),
+        ("id", c_uint8),
+        ("length", c_uint16),
+        ("count", c_uint16),
+        ("reading", c_int64),
+        ("delay", c_int16),
+        ("offset", c_int16),
+    ]
+
+
 class CEntry(ctypes.Structure):
     _fields_ = [
         ("delay", c_int64),
@@ -98,6 +113,10 @@ class CInspected(ctypes.Structure):
         ("tsp", c_uint16),
         ("nhosts", c_uint8),
     ]
+
+
+class CStepped(ctypes.Structure):
+    _fields_ = [("answer", c_uint8), ("step", c_uint8), ("line", c_uint8), ("id", c_size_t)]
 
 
 def fitting(name, value, low, high):

@@ -1,6 +1,6 @@
 """Plain values: what is set, what is lent and what is answered, as named tuples."""
 
-from typing import NamedTuple
+from typing import NamedTuple, Optional
 
 from .answer import Answer
 
@@ -119,3 +119,23 @@ class Inspected(NamedTuple):
     time: int
     tsp: int
     nhosts: int
+
+
+class Place(NamedTuple):
+    """A place in a walk: a step of the arrival, 1 to 5; in step 5, behind its own box, the line of
+    a host's update, "a" to "d", and the host's id. Its str is "step 4" or "host 3, line b"."""
+
+    step: int
+    line: str = ""
+    host: int = 0
+
+    def __str__(self):
+        return f"host {self.host}, line {self.line}" if self.line else f"step {self.step}"
+
+
+class Stepped(NamedTuple):
+    """What the opening of a walk and a step of it answer: the answer, and the next place (None when
+    refused, and where no place is left)."""
+
+    answer: Answer
+    place: Optional[Place]

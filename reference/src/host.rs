@@ -1,7 +1,9 @@
 //! The calls of a host.
 //!
-//! Each is lent the host's settings, clock and links and the run of entries
-//! that all hosts share. Answer 12 is tested first, then 1, then the others.
+//! Each is lent the host's settings, clock, links and walk and the run of
+//! entries that all hosts share. Answer 12 is tested first, then 16 while a
+//! walk is open, then 1, then the others. Setting afresh and the step of a
+//! walk do not give 16.
 //!
 //! "Every call that reads or alters CLOCK takes the count, tick, adjust and
 //! set without a mark". Calls refused with 1 to 9 or 12 do not read; the
@@ -14,6 +16,7 @@
 use std::ops::Range;
 
 use crate::address::Address;
+use crate::checklist;
 use crate::clock::{Clock, Counter, Sample};
 use crate::date::Date;
 use crate::link::{Link, LinkKind, Links, KEEP_ALIVE_INTERVAL};
@@ -21,6 +24,7 @@ use crate::packet::{self, Heading, Message};
 use crate::route;
 use crate::settings::Settings;
 use crate::table::{Entry, Report, MAX_DELAY, MIN_DELAY};
+use crate::walk::{Place, Walk};
 use crate::{Refusal, HOSTS, PLACES};
 
 /// What a read answers.
@@ -54,14 +58,14 @@ pub fn set_afresh(
     number: usize,
     clock: &mut Clock,
     links: &mut Links,
+    walk: &mut Walk,
     run: &mut [Entry],
 ) -> Result<(), Refusal> {
     let start = first_place(number, run.len())?;
-    if !settings.are_sound() {
-        return Err(Refusal::Settings);
-    }
+    test_settings(settings)?;
     *clock = Clock::fresh(settings.time, settings.date);
     *links = settings.links.map(Link::fresh);
+    walk.close();
     run[start..start + settings.nhosts].fill(Entry::FRESH);
     Ok(())
 }
@@ -71,10 +75,11 @@ pub fn tick(
     number: usize,
     clock: &mut Clock,
     links: &Links,
+    walk: &mut Walk,
     run: &[Entry],
     count: u16,
 ) -> Result<(), Refusal> {
-    admit(settings, number, clock, links, run)?;
+    admit(settings, number, clock, links, walk, run)?;
     clock.tick(count, settings.clock_tick, settings.hold_interval);
     Ok(())
 }
@@ -84,10 +89,11 @@ pub fn adjust(
     number: usize,
     clock: &mut Clock,
     links: &Links,
+    walk: &mut Walk,
     run: &[Entry],
     count: u16,
 ) -> Result<(), Refusal> {
-    admit(settings, number, clock, links, run)?;
+    admit(settings, number, clock, links, walk, run)?;
     clock.adjust(count, settings.hold_interval);
     Ok(())
 }
@@ -97,11 +103,12 @@ pub fn set(
     number: usize,
     clock: &mut Clock,
     links: &Links,
+    walk: &mut Walk,
     run: &[Entry],
     ms: i32,
     count: u16,
 ) -> Result<(), Refusal> {
-    admit(settings, number, clock, links, run)?;
+    admit(settings, number, clock, links, walk, run)?;
     clock.set(ms, count, settings.hold_interval);
     Ok(())
 }
@@ -111,10 +118,11 @@ pub fn read(
     number: usize,
     clock: &mut Clock,
     links: &Links,
+    walk: &mut Walk,
     run: &[Entry],
     counter: Counter,
 ) -> Result<Reading, Refusal> {
-    admit(settings, number, clock, links, run)?;
+    admit(settings, number, clock, links, walk, run)?;
     let time = take_reading(settings, clock, counter).time;
     Ok(Reading {
         time,
@@ -127,9 +135,10 @@ pub fn second(
     number: usize,
     clock: &mut Clock,
     links: &Links,
+    walk: &mut Walk,
     run: &mut [Entry],
 ) -> Result<(), Refusal> {
-    let places = admit(settings, number, clock, links, run)?;
+    let places = admit(settings, number, clock, links, walk, run)?;
     clock.second();
     run[places].iter_mut().for_each(Entry::second);
     Ok(())
@@ -140,10 +149,11 @@ pub fn self_report(
     number: usize,
     clock: &mut Clock,
     links: &Links,
+    walk: &mut Walk,
     run: &mut [Entry],
     counter: Counter,
 ) -> Result<(), Refusal> {
-    let places = admit(settings, number, clock, links, run)?;
+    let places = admit(settings, number, clock, links, walk, run)?;
     let own_id = route::own_id(settings).ok_or(Refusal::Settings)?;
     run[places][own_id].update(&Report {
         delay: 0,
@@ -160,13 +170,14 @@ pub fn send(
     number: usize,
     clock: &mut Clock,
     links: &mut Links,
+    walk: &mut Walk,
     run: &[Entry],
     link: usize,
     counter: Counter,
     buffer: &mut [u8],
 ) -> Result<usize, Refusal> {
     admit_link(settings, link)?;
-    let places = admit(settings, number, clock, links, run)?;
+    let places = admit(settings, number, clock, links, walk, run)?;
     let sender = &mut links[link - 1];
     let neighbor = sender.neighbor;
     let table = if neighbor != Address::ZERO && neighbor.same_net(settings.address) {
@@ -198,13 +209,14 @@ pub fn inspect(
     number: usize,
     clock: &Clock,
     links: &Links,
+    walk: &mut Walk,
     run: &[Entry],
     link: usize,
     packet: &[u8],
 ) -> Result<Inspected, Refusal> {
     admit_link(settings, link)?;
-    admit(settings, number, clock, links, run)?;
-    let message = message_on(settings, link, packet)?;
+    admit(settings, number, clock, links, walk, run)?;
+    let message = Message::on_link(packet, settings, link)?;
     Ok(Inspected {
         source: message.source,
         time: message.time() as u32,
@@ -220,14 +232,15 @@ pub fn act(
     number: usize,
     clock: &mut Clock,
     links: &mut Links,
+    walk: &mut Walk,
     run: &mut [Entry],
     link: usize,
     counter: Counter,
     packet: &[u8],
 ) -> Result<(), Refusal> {
     admit_link(settings, link)?;
-    let places = admit(settings, number, clock, links, run)?;
-    let message = message_on(settings, link, packet)?;
+    let places = admit(settings, number, clock, links, walk, run)?;
+    let message = Message::on_link(packet, settings, link)?;
     let kind = settings.links[link - 1];
     let receiver = &mut links[link - 1];
     let sample = take_reading(settings, clock, counter);
@@ -271,13 +284,55 @@ pub fn arrival(
     number: usize,
     clock: &mut Clock,
     links: &mut Links,
+    walk: &mut Walk,
     run: &mut [Entry],
     link: usize,
     counter: Counter,
     packet: &[u8],
 ) -> Result<(), Refusal> {
-    inspect(settings, number, clock, links, run, link, packet)?;
-    act(settings, number, clock, links, run, link, counter, packet)
+    inspect(settings, number, clock, links, walk, run, link, packet)?;
+    act(
+        settings, number, clock, links, walk, run, link, counter, packet,
+    )
+}
+
+/// Opens a walk for a packet that arrived on a link: the packet is copied, and
+/// the next box is step 1. Nothing else changes and the clock is not read.
+pub fn open_walk(
+    settings: &Settings,
+    number: usize,
+    clock: &Clock,
+    links: &Links,
+    walk: &mut Walk,
+    run: &[Entry],
+    link: usize,
+    packet: &[u8],
+) -> Result<(), Refusal> {
+    admit_link(settings, link)?;
+    admit(settings, number, clock, links, walk, run)?;
+    Message::on_link(packet, settings, link)?;
+    walk.open(link as u8, packet);
+    Ok(())
+}
+
+/// Advances a walk by one box; the next place, none at the end. The counter
+/// is used at the first box alone.
+pub fn step(
+    settings: &Settings,
+    number: usize,
+    clock: &mut Clock,
+    links: &mut Links,
+    walk: &mut Walk,
+    run: &mut [Entry],
+    counter: Counter,
+) -> Result<Option<Place>, Refusal> {
+    let places = admit_lent(settings, number, clock, links, walk, run)?;
+    test_settings(settings)?;
+    if !walk.is_open() {
+        return Err(Refusal::NoWalk);
+    }
+    let table = &mut run[places];
+    checklist::carry_out(settings, clock, links, walk, table, counter)
 }
 
 pub fn lookup(
@@ -285,10 +340,11 @@ pub fn lookup(
     number: usize,
     clock: &Clock,
     links: &Links,
+    walk: &mut Walk,
     run: &[Entry],
     address: Address,
 ) -> Result<Route, Refusal> {
-    let places = admit(settings, number, clock, links, run)?;
+    let places = admit(settings, number, clock, links, walk, run)?;
     let host = route::find(settings, address).ok_or(Refusal::NoHost)?;
     let entry = &run[places][host];
     if !entry.is_up() {
@@ -309,26 +365,50 @@ fn first_place(number: usize, run_length: usize) -> Result<usize, Refusal> {
     }
 }
 
-/// The places of the host's entries, if all that is lent is in range and the
-/// settings are sound.
+/// The places of the host's entries, unless 12, 16 or 1 refuse the call.
 fn admit(
     settings: &Settings,
     number: usize,
     clock: &Clock,
     links: &Links,
+    walk: &Walk,
+    run: &[Entry],
+) -> Result<Range<usize>, Refusal> {
+    let places = admit_lent(settings, number, clock, links, walk, run)?;
+    if walk.is_open() {
+        return Err(Refusal::WalkOpen);
+    }
+    test_settings(settings)?;
+    Ok(places)
+}
+
+/// The places of the host's entries, if all that is lent is in range.
+fn admit_lent(
+    settings: &Settings,
+    number: usize,
+    clock: &Clock,
+    links: &Links,
+    walk: &Walk,
     run: &[Entry],
 ) -> Result<Range<usize>, Refusal> {
     let start = first_place(number, run.len())?;
     let places = start..start + settings.usable_hosts();
     let in_range = clock.in_range()
         && links[..settings.usable_links()].iter().all(Link::in_range)
+        && walk.in_range(settings)
         && run[places.clone()].iter().all(Entry::in_range);
-    if !in_range {
-        Err(Refusal::Lent)
-    } else if !settings.are_sound() {
-        Err(Refusal::Settings)
-    } else {
+    if in_range {
         Ok(places)
+    } else {
+        Err(Refusal::Lent)
+    }
+}
+
+fn test_settings(settings: &Settings) -> Result<(), Refusal> {
+    if settings.are_sound() {
+        Ok(())
+    } else {
+        Err(Refusal::Settings)
     }
 }
 
@@ -343,21 +423,6 @@ fn admit_link(settings: &Settings, link: usize) -> Result<(), Refusal> {
 /// The one reading of a call.
 fn take_reading(settings: &Settings, clock: &mut Clock, counter: Counter) -> Sample {
     clock.read(counter, settings.clock_tick, settings.hold_interval)
-}
-
-/// The message of a packet on a link of the host, unless 3 to 9 refuse it.
-fn message_on<'a>(
-    settings: &Settings,
-    link: usize,
-    packet: &'a [u8],
-) -> Result<Message<'a>, Refusal> {
-    let message = Message::parse(packet, settings)?;
-    // Step 1 of an arrival.
-    let point_to_point = settings.links[link - 1] == LinkKind::PointToPoint;
-    if point_to_point && message.source == settings.address {
-        return Err(Refusal::LoopedLine);
-    }
-    Ok(message)
 }
 
 /// The measured DELAY and OFFSET to the neighbour.

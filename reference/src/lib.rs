@@ -2,10 +2,12 @@
 //!
 //! It shares no code with the proved library and is compared with it call by
 //! call. Up to sixteen hosts share one run of table entries, which the caller
-//! lends to each call together with the host's own settings, clock and links.
+//! lends to each call together with the host's own settings, clock, links and
+//! walk.
 
 pub mod address;
 pub mod capture;
+pub mod checklist;
 pub mod checksum;
 pub mod clock;
 pub mod date;
@@ -18,6 +20,7 @@ pub mod route;
 pub mod settings;
 pub mod table;
 pub mod text;
+pub mod walk;
 
 #[cfg(test)]
 mod tests;
@@ -28,6 +31,7 @@ pub use date::Date;
 pub use link::{Link, LinkKind, Links, LINKS};
 pub use settings::{NetRow, Settings, NET_ROWS};
 pub use table::Entry;
+pub use walk::{Place, Walk};
 
 /// The hosts that can share one run.
 pub const HOSTS: usize = 16;
@@ -53,6 +57,8 @@ pub enum Refusal {
     HostDown = 13,
     TextForm = 14,
     TextNumber = 15,
+    WalkOpen = 16,
+    NoWalk = 17,
     LongInput = 27,
     NtpLength = 23,
     NtpVersion = 24,

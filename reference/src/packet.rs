@@ -3,6 +3,7 @@
 use crate::address::Address;
 use crate::checksum::{checksum, is_good};
 use crate::date::Date;
+use crate::link::LinkKind;
 use crate::settings::Settings;
 use crate::Refusal;
 
@@ -12,6 +13,8 @@ pub const HEADER: usize = 20;
 pub const HELLO: usize = 12;
 /// The octets of one host in the table.
 pub const HOST: usize = 4;
+/// The octets of the longest good packet, whose table has 255 hosts.
+pub const MOST_OCTETS: usize = HEADER + hello_length(255);
 
 const VERSION_AND_HEADER_LENGTH: u8 = 0x45;
 const MORE_FRAGMENTS_AND_OFFSET: u16 = 0x3FFF;
@@ -34,6 +37,21 @@ impl<'a> Message<'a> {
         }
         let source = Address([header[12], header[13], header[14], header[15]]);
         Ok(Message { source, hello })
+    }
+
+    /// Tests a packet on a link of the host for 3 to 9.
+    pub fn on_link(
+        packet: &'a [u8],
+        settings: &Settings,
+        link: usize,
+    ) -> Result<Message<'a>, Refusal> {
+        let message = Message::parse(packet, settings)?;
+        // Step 1 of an arrival.
+        let point_to_point = settings.links[link - 1] == LinkKind::PointToPoint;
+        if point_to_point && message.source == settings.address {
+            return Err(Refusal::LoopedLine);
+        }
+        Ok(message)
     }
 
     pub fn date(&self) -> Date {
@@ -92,7 +110,7 @@ fn split_ip(packet: &[u8]) -> Option<(&[u8], &[u8])> {
         .then_some((header, rest))
 }
 
-pub fn hello_length(nhosts: usize) -> usize {
+pub const fn hello_length(nhosts: usize) -> usize {
     HELLO + HOST * nhosts
 }
 

@@ -8,6 +8,7 @@ use crate::host;
 use crate::link::{Link, LinkKind, LINKS};
 use crate::settings::{NetRow, Settings, CLOCK_SETTING_OFF, NET_ROWS};
 use crate::table::Entry;
+use crate::walk::Walk;
 use crate::PLACES;
 
 /// The settings of the program's host, 192.0.2.1.
@@ -33,15 +34,17 @@ pub const SETTINGS: Settings = Settings {
 pub fn packet(octets: &[u8]) -> u8 {
     let mut clock = Clock::default();
     let mut links = [Link::default(); LINKS];
+    let mut walk = Walk::CLOSED;
     let mut run = [Entry::FRESH; PLACES];
-    let outcome = host::set_afresh(&SETTINGS, 0, &mut clock, &mut links, &mut run)
-        .and_then(|()| host::inspect(&SETTINGS, 0, &clock, &links, &run, 1, octets))
+    let outcome = host::set_afresh(&SETTINGS, 0, &mut clock, &mut links, &mut walk, &mut run)
+        .and_then(|()| host::inspect(&SETTINGS, 0, &clock, &links, &mut walk, &run, 1, octets))
         .and_then(|_| {
             host::act(
                 &SETTINGS,
                 0,
                 &mut clock,
                 &mut links,
+                &mut walk,
                 &mut run,
                 1,
                 Counter::LINE_CLOCK,

@@ -13,6 +13,7 @@ mod inspect;
 mod ntp;
 mod random;
 mod text;
+mod walk;
 
 const ROUTER: Address = Address([192, 0, 2, 2]);
 const UNITS_OF_DAY: i64 = DAY_MS * 65_536;
@@ -24,6 +25,7 @@ struct Host {
     number: usize,
     clock: Clock,
     links: Links,
+    walk: Walk,
     run: Vec<Entry>,
     /// What its calls are handed of the counter.
     counter: Counter,
@@ -38,6 +40,7 @@ impl Host {
             number: 0,
             clock: Clock::default(),
             links: [Link::default(); LINKS],
+            walk: Walk::CLOSED,
             run: vec![Entry::FRESH; PLACES],
             counter: Counter::LINE_CLOCK,
         };
@@ -51,6 +54,7 @@ impl Host {
             self.number,
             &mut self.clock,
             &mut self.links,
+            &mut self.walk,
             &mut self.run,
         )
     }
@@ -61,6 +65,7 @@ impl Host {
             self.number,
             &mut self.clock,
             &self.links,
+            &mut self.walk,
             &self.run,
             self.counter.count,
         )
@@ -72,6 +77,7 @@ impl Host {
             self.number,
             &mut self.clock,
             &self.links,
+            &mut self.walk,
             &self.run,
             self.counter.count,
         )
@@ -83,6 +89,7 @@ impl Host {
             self.number,
             &mut self.clock,
             &self.links,
+            &mut self.walk,
             &self.run,
             ms,
             self.counter.count,
@@ -95,6 +102,7 @@ impl Host {
             self.number,
             &mut self.clock,
             &self.links,
+            &mut self.walk,
             &self.run,
             self.counter,
         )
@@ -106,6 +114,7 @@ impl Host {
             self.number,
             &mut self.clock,
             &self.links,
+            &mut self.walk,
             &mut self.run,
         )
     }
@@ -116,6 +125,7 @@ impl Host {
             self.number,
             &mut self.clock,
             &self.links,
+            &mut self.walk,
             &mut self.run,
             self.counter,
         )
@@ -127,6 +137,7 @@ impl Host {
             self.number,
             &mut self.clock,
             &mut self.links,
+            &mut self.walk,
             &self.run,
             link,
             self.counter,
@@ -141,12 +152,13 @@ impl Host {
         buffer
     }
 
-    fn inspect(&self, link: usize, packet: &[u8]) -> Result<Inspected, Refusal> {
+    fn inspect(&mut self, link: usize, packet: &[u8]) -> Result<Inspected, Refusal> {
         host::inspect(
             &self.settings,
             self.number,
             &self.clock,
             &self.links,
+            &mut self.walk,
             &self.run,
             link,
             packet,
@@ -159,6 +171,7 @@ impl Host {
             self.number,
             &mut self.clock,
             &mut self.links,
+            &mut self.walk,
             &mut self.run,
             link,
             self.counter,
@@ -172,6 +185,7 @@ impl Host {
             self.number,
             &mut self.clock,
             &mut self.links,
+            &mut self.walk,
             &mut self.run,
             link,
             self.counter,
@@ -179,14 +193,40 @@ impl Host {
         )
     }
 
-    fn lookup(&self, address: Address) -> Result<Route, Refusal> {
+    fn lookup(&mut self, address: Address) -> Result<Route, Refusal> {
         host::lookup(
             &self.settings,
             self.number,
             &self.clock,
             &self.links,
+            &mut self.walk,
             &self.run,
             address,
+        )
+    }
+
+    fn open_walk(&mut self, link: usize, packet: &[u8]) -> Done {
+        host::open_walk(
+            &self.settings,
+            self.number,
+            &self.clock,
+            &self.links,
+            &mut self.walk,
+            &self.run,
+            link,
+            packet,
+        )
+    }
+
+    fn step(&mut self) -> Result<Option<Place>, Refusal> {
+        host::step(
+            &self.settings,
+            self.number,
+            &mut self.clock,
+            &mut self.links,
+            &mut self.walk,
+            &mut self.run,
+            self.counter,
         )
     }
 

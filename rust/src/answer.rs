@@ -3,7 +3,8 @@
 use std::error::Error;
 use std::fmt;
 
-/// What a call answers. Every call tests [`Answer::OutOfRange`] first, then upwards in number.
+/// What a call answers. Every call tests [`Answer::OutOfRange`] first, then [`Answer::InWalk`],
+/// then upwards in number.
 /// What a refusal changes stands with it; where nothing stands, nothing is changed.
 #[must_use]
 #[repr(u8)]
@@ -30,21 +31,26 @@ pub enum Answer {
     /// The source is our own LOCAL-ADDRESS, on a point-to-point link.
     LoopedLine = 9,
     /// The delay is not valid: the packet's TSP is 0, or HOLD is not. The clock is changed, by its
-    /// reading, and the link's KEEP-ALIVE and TSP are.
+    /// reading, and the link's KEEP-ALIVE and TSP are; a walk ends.
     DelayNotValid = 10,
     /// The address has no id. A lookup changes nothing; `act` and `receive` change the clock, by
-    /// its reading, and the link's KEEP-ALIVE, TSP and NEIGHBOR-ADDRESS.
+    /// its reading, and the link's KEEP-ALIVE, TSP and NEIGHBOR-ADDRESS; a walk ends.
     NoHost = 11,
     /// The host's number is over 15; the link is not from 1 to the host's count (8 at most); the
-    /// host's 255 places are not all in the run; or something lent is out of range.
+    /// host's 255 places are not all in the run; where a walk is opened, its copy has no room for
+    /// 1,052 octets; or something lent is out of range.
     OutOfRange = 12,
     /// The host looked up is down: its DELAY is 30,000.
     HostDown = 13,
+    /// The host is in the middle of a walk: it refuses all calls but `initialize` and `step`.
+    InWalk = 16,
+    /// A step was asked, and no walk is open.
+    NoWalk = 17,
 }
 
 impl Answer {
     /// All answers, rising in number.
-    pub const ALL: [Answer; 14] = [
+    pub const ALL: [Answer; 16] = [
         Answer::Done,
         Answer::Setting,
         Answer::ShortBuffer,
@@ -59,6 +65,8 @@ impl Answer {
         Answer::NoHost,
         Answer::OutOfRange,
         Answer::HostDown,
+        Answer::InWalk,
+        Answer::NoWalk,
     ];
 
     /// The answer of that number.

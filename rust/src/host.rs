@@ -1,8 +1,10 @@
 //! A host of a room, with the calls as methods.
 
-use crate::{Address, Answer, Clock, Counter, Entry, Links, Settings, LONGEST_MESSAGE, PLACES};
+use crate::{Address, Answer, Clock, Counter, Entry, Links, Place, Settings, Walk};
+use crate::{LONGEST_MESSAGE, PLACES};
 
-/// A host of a [`Room`](crate::Room): its settings, clock and links, and the run that it shares.
+/// A host of a [`Room`](crate::Room): its settings, clock, links and walk, and the run that it
+/// shares.
 /// Whatever is written to them, each call ends with an [`Answer`].
 ///
 /// A call that reads the clock is handed the crystal's [`Counter`] as it stands then, and `tick`,
@@ -17,6 +19,10 @@ pub struct Host<'a> {
     pub clock: &'a mut Clock,
     /// The links, as the last call left them.
     pub links: &'a mut Links,
+    /// The walk, as the last call left it; closed unless one is open.
+    pub walk: &'a mut Walk,
+    /// The copy of its packet, with the longest one's room.
+    pub copy: &'a mut [u8; LONGEST_MESSAGE],
     pub(crate) run: &'a mut [Entry],
 }
 
@@ -67,14 +73,16 @@ impl Host<'_> {
         &mut self.run[self.number * PLACES..][..self.settings.layout.nhosts.min(PLACES)]
     }
 
-    /// Sets the host afresh by these settings: clock, links and table. Refused, it keeps those
-    /// that it had.
+    /// Sets the host afresh by these settings: clock, links and table. A walk is dropped. Refused,
+    /// it keeps those that it had.
     pub fn initialize(&mut self, settings: Settings) -> Answer {
         let answer = answer(crate::initialize(
             &settings,
             self.number,
             self.clock,
             self.links,
+            self.walk,
+            self.copy,
             self.run,
         ));
         if answer.is_done() {
@@ -91,6 +99,8 @@ impl Host<'_> {
             self.number,
             self.clock,
             self.links,
+            self.walk,
+            self.copy,
             self.run,
             count,
         ))
@@ -103,6 +113,8 @@ impl Host<'_> {
             self.number,
             self.clock,
             self.links,
+            self.walk,
+            self.copy,
             self.run,
             count,
         ))
@@ -116,6 +128,8 @@ impl Host<'_> {
             self.number,
             self.clock,
             self.links,
+            self.walk,
+            self.copy,
             self.run,
             ms,
             count,
@@ -129,6 +143,8 @@ impl Host<'_> {
             self.number,
             self.clock,
             self.links,
+            self.walk,
+            self.copy,
             self.run,
             counter,
         );
@@ -146,6 +162,8 @@ impl Host<'_> {
             self.number,
             self.clock,
             self.links,
+            self.walk,
+            self.copy,
             self.run,
         ))
     }
@@ -157,6 +175,8 @@ impl Host<'_> {
             self.number,
             self.clock,
             self.links,
+            self.walk,
+            self.copy,
             self.run,
             counter,
         ))
@@ -183,6 +203,8 @@ impl Host<'_> {
             self.number,
             self.clock,
             self.links,
+            self.walk,
+            self.copy,
             self.run,
             link,
             counter,
@@ -200,6 +222,8 @@ impl Host<'_> {
             self.number,
             self.clock,
             self.links,
+            self.walk,
+            self.copy,
             self.run,
             link,
             packet,
@@ -221,6 +245,8 @@ impl Host<'_> {
             self.number,
             self.clock,
             self.links,
+            self.walk,
+            self.copy,
             self.run,
             link,
             counter,
@@ -236,11 +262,52 @@ impl Host<'_> {
             self.number,
             self.clock,
             self.links,
+            self.walk,
+            self.copy,
             self.run,
             link,
             counter,
             packet,
         ))
+    }
+
+    /// Opens a walk for a packet, IP header first, that arrived on link `link`, from 1: the packet is
+    /// copied, and its first place, step 1, is next. Nothing else is changed.
+    ///
+    /// While a walk is open, all calls but [`step`](Host::step) and [`initialize`](Host::initialize)
+    /// answer [`Answer::InWalk`].
+    pub fn open_walk(&mut self, link: usize, packet: &[u8]) -> Result<Place, Answer> {
+        let opened = crate::open_walk(
+            self.settings,
+            self.number,
+            self.clock,
+            self.links,
+            self.walk,
+            self.copy,
+            self.run,
+            link,
+            packet,
+        );
+        answer(opened.answer).ok()?;
+        Ok(opened.place().expect("a walk that is opened has a place"))
+    }
+
+    /// Makes the changes of the place at which the walk stands, and answers the next; none where the
+    /// walk is at its end. It leaves then what [`act`](Host::act) with the counter of step 1 leaves;
+    /// at the later places the counter is not looked at. 10 and 11 end the walk too.
+    pub fn step(&mut self, counter: Counter) -> Result<Option<Place>, Answer> {
+        let stepped = crate::step(
+            self.settings,
+            self.number,
+            self.clock,
+            self.links,
+            self.walk,
+            self.copy,
+            self.run,
+            counter,
+        );
+        answer(stepped.answer).ok()?;
+        Ok(stepped.place())
     }
 
     /// The id of `address`, and the link by which it is reached.
@@ -250,6 +317,8 @@ impl Host<'_> {
             self.number,
             self.clock,
             self.links,
+            self.walk,
+            self.copy,
             self.run,
             address,
         );

@@ -65,6 +65,18 @@ const _: () = {
     assert!(size_of::<Links>() == 64 && align_of::<Links>() == 2);
     assert!(offset_of!(Links, all) == 0);
 
+    assert!(size_of::<Walk>() == 32 && align_of::<Walk>() == 8);
+    assert!(offset_of!(Walk, opened) == 0);
+    assert!(offset_of!(Walk, link) == 1);
+    assert!(offset_of!(Walk, step) == 2);
+    assert!(offset_of!(Walk, line) == 3);
+    assert!(offset_of!(Walk, id) == 4);
+    assert!(offset_of!(Walk, length) == 6);
+    assert!(offset_of!(Walk, count) == 8);
+    assert!(offset_of!(Walk, reading) == 16);
+    assert!(offset_of!(Walk, delay) == 24);
+    assert!(offset_of!(Walk, offset) == 26);
+
     assert!(size_of::<Entry>() == 24 && align_of::<Entry>() == 8);
     assert!(offset_of!(Entry, delay) == 0);
     assert!(offset_of!(Entry, offset) == 8);
@@ -92,4 +104,10 @@ const _: () = {
     assert!(offset_of!(Inspected, time) == 8);
     assert!(offset_of!(Inspected, tsp) == 16);
     assert!(offset_of!(Inspected, nhosts) == 18);
+
+    assert!(size_of::<Stepped>() == 16 && align_of::<Stepped>() == 8);
+    assert!(offset_of!(Stepped, answer) == 0);
+    assert!(offset_of!(Stepped, step) == 1);
+    assert!(offset_of!(Stepped, line) == 2);
+    assert!(offset_of!(Stepped, id) == 8);
 };

@@ -4,11 +4,16 @@
 //! A [`Host`] of it has settings, a clock and links, and the calls as methods. Every call ends
 //! with an [`Answer`], whatever the host holds, and asks nothing beforehand.
 //!
+//! A packet that arrives is taken in one piece by [`Host::receive`], or in two by [`Host::inspect`]
+//! and [`Host::act`], or one box at a time: [`Host::open_walk`] opens a walk, and [`Host::step`]
+//! makes one step of the arrival, or one line of a host's update. Meanwhile the host refuses its
+//! other calls with [`Answer::InWalk`], but for [`Host::initialize`], which drops the walk.
+//!
 //! The plain functions of this page are the calls below the methods, for whoever keeps settings,
-//! clocks, links and entries in another way. The caller lends them to each call. Host k, from 0 to
-//! 15, owns the 255 places of the run from 255 k, and only the first NHOSTS of them are ever
-//! changed; so a run holds host k when it is at least 255 k + 255 entries long. They answer the
-//! number of an [`Answer`].
+//! clocks, links, walks with the copies of their packets, and entries in another way. The caller
+//! lends them to each call. Host k, from 0 to 15, owns the 255 places of the run from 255 k, and
+//! only the first NHOSTS of them are ever changed; so a run holds host k when it is at least 255 k +
+//! 255 entries long. They answer the number of an [`Answer`].
 
 #![deny(missing_docs)]
 
@@ -29,17 +34,30 @@ pub use room::Room;
 pub use sums::checksum_plain;
 pub use types::*;
 
-/// Sets host `number` afresh: the clock, all links and the first NHOSTS entries, by the settings.
+/// Sets host `number` afresh: the clock, all links and the first NHOSTS entries, by the settings. A
+/// walk is dropped.
 pub fn initialize(
     settings: &Settings,
     number: usize,
     clock: &mut Clock,
     links: &mut Links,
+    walk: &mut Walk,
+    copy: &[u8],
     run: &mut [Entry],
 ) -> u8 {
     // SAFETY: references and slices are valid, aligned and do not overlap; the same in each call below.
     unsafe {
-        library::hello_initialize(settings, number, clock, links, run.as_mut_ptr(), run.len())
+        library::hello_initialize(
+            settings,
+            number,
+            clock,
+            links,
+            walk,
+            copy.as_ptr(),
+            copy.len(),
+            run.as_mut_ptr(),
+            run.len(),
+        )
     }
 }
 
@@ -50,6 +68,8 @@ pub fn tick(
     number: usize,
     clock: &mut Clock,
     links: &mut Links,
+    walk: &mut Walk,
+    copy: &[u8],
     run: &mut [Entry],
     count: u16,
 ) -> u8 {
@@ -59,6 +79,9 @@ pub fn tick(
             number,
             clock,
             links,
+            walk,
+            copy.as_ptr(),
+            copy.len(),
             run.as_mut_ptr(),
             run.len(),
             count,
@@ -72,6 +95,8 @@ pub fn adjust(
     number: usize,
     clock: &mut Clock,
     links: &mut Links,
+    walk: &mut Walk,
+    copy: &[u8],
     run: &mut [Entry],
     count: u16,
 ) -> u8 {
@@ -81,6 +106,9 @@ pub fn adjust(
             number,
             clock,
             links,
+            walk,
+            copy.as_ptr(),
+            copy.len(),
             run.as_mut_ptr(),
             run.len(),
             count,
@@ -95,6 +123,8 @@ pub fn set(
     number: usize,
     clock: &mut Clock,
     links: &mut Links,
+    walk: &mut Walk,
+    copy: &[u8],
     run: &mut [Entry],
     ms: i32,
     count: u16,
@@ -105,6 +135,9 @@ pub fn set(
             number,
             clock,
             links,
+            walk,
+            copy.as_ptr(),
+            copy.len(),
             run.as_mut_ptr(),
             run.len(),
             ms,
@@ -120,6 +153,8 @@ pub fn read(
     number: usize,
     clock: &mut Clock,
     links: &mut Links,
+    walk: &mut Walk,
+    copy: &[u8],
     run: &mut [Entry],
     counter: Counter,
 ) -> Time {
@@ -129,6 +164,9 @@ pub fn read(
             number,
             clock,
             links,
+            walk,
+            copy.as_ptr(),
+            copy.len(),
             run.as_mut_ptr(),
             run.len(),
             counter,
@@ -142,9 +180,23 @@ pub fn second(
     number: usize,
     clock: &mut Clock,
     links: &mut Links,
+    walk: &mut Walk,
+    copy: &[u8],
     run: &mut [Entry],
 ) -> u8 {
-    unsafe { library::hello_second(settings, number, clock, links, run.as_mut_ptr(), run.len()) }
+    unsafe {
+        library::hello_second(
+            settings,
+            number,
+            clock,
+            links,
+            walk,
+            copy.as_ptr(),
+            copy.len(),
+            run.as_mut_ptr(),
+            run.len(),
+        )
+    }
 }
 
 /// Updates the host's own entry with PID 0, DELAY 0 and OFFSET 0, at the time of a reading.
@@ -153,6 +205,8 @@ pub fn self_report(
     number: usize,
     clock: &mut Clock,
     links: &mut Links,
+    walk: &mut Walk,
+    copy: &[u8],
     run: &mut [Entry],
     counter: Counter,
 ) -> u8 {
@@ -162,6 +216,9 @@ pub fn self_report(
             number,
             clock,
             links,
+            walk,
+            copy.as_ptr(),
+            copy.len(),
             run.as_mut_ptr(),
             run.len(),
             counter,
@@ -171,12 +228,14 @@ pub fn self_report(
 
 /// Writes the next message of link `link`, from 1, to the front of `buffer`; a message has 32
 /// octets, or with the host table 32 + 4 NHOSTS. Octets behind it stay. The clock is read once, as
-/// by `read`, unless it answers 1, 2 or 12.
+/// by `read`, unless it answers 1, 2, 12 or 16.
 pub fn send(
     settings: &Settings,
     number: usize,
     clock: &mut Clock,
     links: &mut Links,
+    walk: &Walk,
+    copy: &[u8],
     run: &mut [Entry],
     link: usize,
     counter: Counter,
@@ -188,6 +247,9 @@ pub fn send(
             number,
             clock,
             links,
+            walk,
+            copy.as_ptr(),
+            copy.len(),
             run.as_mut_ptr(),
             run.len(),
             link,
@@ -205,6 +267,8 @@ pub fn inspect(
     number: usize,
     clock: &mut Clock,
     links: &mut Links,
+    walk: &Walk,
+    copy: &[u8],
     run: &mut [Entry],
     link: usize,
     packet: &[u8],
@@ -215,6 +279,9 @@ pub fn inspect(
             number,
             clock,
             links,
+            walk,
+            copy.as_ptr(),
+            copy.len(),
             run.as_mut_ptr(),
             run.len(),
             link,
@@ -226,12 +293,14 @@ pub fn inspect(
 
 /// Acts on a packet, IP header first, that arrived on link `link`, from 1. Any calls may have come
 /// since `inspect`, so it tests the packet again. The clock is read once, as by `read`, unless it
-/// answers 1 to 9 or 12.
+/// answers 1 to 9, 12 or 16.
 pub fn act(
     settings: &Settings,
     number: usize,
     clock: &mut Clock,
     links: &mut Links,
+    walk: &Walk,
+    copy: &[u8],
     run: &mut [Entry],
     link: usize,
     counter: Counter,
@@ -243,6 +312,9 @@ pub fn act(
             number,
             clock,
             links,
+            walk,
+            copy.as_ptr(),
+            copy.len(),
             run.as_mut_ptr(),
             run.len(),
             link,
@@ -259,6 +331,8 @@ pub fn receive(
     number: usize,
     clock: &mut Clock,
     links: &mut Links,
+    walk: &Walk,
+    copy: &[u8],
     run: &mut [Entry],
     link: usize,
     counter: Counter,
@@ -270,6 +344,9 @@ pub fn receive(
             number,
             clock,
             links,
+            walk,
+            copy.as_ptr(),
+            copy.len(),
             run.as_mut_ptr(),
             run.len(),
             link,
@@ -280,12 +357,74 @@ pub fn receive(
     }
 }
 
+/// Opens a walk for a packet, IP header first, that arrived on link `link`, from 1: the packet is
+/// copied to the front of `copy`, which must have room for [`LONGEST_MESSAGE`] octets, and step 1 is
+/// next. Nothing else is changed, and the clock is not read.
+pub fn open_walk(
+    settings: &Settings,
+    number: usize,
+    clock: &Clock,
+    links: &Links,
+    walk: &mut Walk,
+    copy: &mut [u8],
+    run: &[Entry],
+    link: usize,
+    packet: &[u8],
+) -> Stepped {
+    unsafe {
+        library::hello_open_walk(
+            settings,
+            number,
+            clock,
+            links,
+            walk,
+            copy.as_mut_ptr(),
+            copy.len(),
+            run.as_ptr(),
+            run.len(),
+            link,
+            packet.as_ptr(),
+            packet.len(),
+        )
+    }
+}
+
+/// Makes the changes of the place at which the walk stands, and answers the next. The clock is read
+/// once, as by `read`, at step 1; at the others the counter is not looked at.
+pub fn step(
+    settings: &Settings,
+    number: usize,
+    clock: &mut Clock,
+    links: &mut Links,
+    walk: &mut Walk,
+    copy: &[u8],
+    run: &mut [Entry],
+    counter: Counter,
+) -> Stepped {
+    unsafe {
+        library::hello_step(
+            settings,
+            number,
+            clock,
+            links,
+            walk,
+            copy.as_ptr(),
+            copy.len(),
+            run.as_mut_ptr(),
+            run.len(),
+            counter,
+        )
+    }
+}
+
 /// The host id and the link by which `address` is reached. Nothing is changed.
 pub fn lookup(
     settings: &Settings,
     number: usize,
     clock: &mut Clock,
     links: &mut Links,
+    walk: &mut Walk,
+    copy: &[u8],
     run: &mut [Entry],
     address: Address,
 ) -> Route {
@@ -295,6 +434,9 @@ pub fn lookup(
             number,
             clock,
             links,
+            walk,
+            copy.as_ptr(),
+            copy.len(),
             run.as_mut_ptr(),
             run.len(),
             address,

@@ -1,6 +1,7 @@
 //! The C interface of `libhello.a`. Nothing but the plain calls uses it.
 
-use crate::{Address, Clock, Counter, Entry, Inspected, Links, Route, Sent, Settings, Time};
+use crate::{Address, Clock, Counter, Entry, Inspected, Links, Route, Sent, Settings, Stepped};
+use crate::{Time, Walk};
 
 extern "C" {
     pub fn hello_initialize(
@@ -8,6 +9,9 @@ extern "C" {
         number: usize,
         clock: *mut Clock,
         links: *mut Links,
+        walk: *mut Walk,
+        copy: *const u8,
+        copy_length: usize,
         run: *mut Entry,
         run_length: usize,
     ) -> u8;
@@ -17,6 +21,9 @@ extern "C" {
         number: usize,
         clock: *mut Clock,
         links: *mut Links,
+        walk: *mut Walk,
+        copy: *const u8,
+        copy_length: usize,
         run: *mut Entry,
         run_length: usize,
         count: u16,
@@ -27,6 +34,9 @@ extern "C" {
         number: usize,
         clock: *mut Clock,
         links: *mut Links,
+        walk: *mut Walk,
+        copy: *const u8,
+        copy_length: usize,
         run: *mut Entry,
         run_length: usize,
         count: u16,
@@ -37,6 +47,9 @@ extern "C" {
         number: usize,
         clock: *mut Clock,
         links: *mut Links,
+        walk: *mut Walk,
+        copy: *const u8,
+        copy_length: usize,
         run: *mut Entry,
         run_length: usize,
         ms: i32,
@@ -48,6 +61,9 @@ extern "C" {
         number: usize,
         clock: *mut Clock,
         links: *mut Links,
+        walk: *mut Walk,
+        copy: *const u8,
+        copy_length: usize,
         run: *mut Entry,
         run_length: usize,
         counter: Counter,
@@ -58,6 +74,9 @@ extern "C" {
         number: usize,
         clock: *mut Clock,
         links: *mut Links,
+        walk: *mut Walk,
+        copy: *const u8,
+        copy_length: usize,
         run: *mut Entry,
         run_length: usize,
     ) -> u8;
@@ -67,6 +86,9 @@ extern "C" {
         number: usize,
         clock: *mut Clock,
         links: *mut Links,
+        walk: *mut Walk,
+        copy: *const u8,
+        copy_length: usize,
         run: *mut Entry,
         run_length: usize,
         counter: Counter,
@@ -77,6 +99,9 @@ extern "C" {
         number: usize,
         clock: *mut Clock,
         links: *mut Links,
+        walk: *const Walk,
+        copy: *const u8,
+        copy_length: usize,
         run: *mut Entry,
         run_length: usize,
         link: usize,
@@ -90,6 +115,9 @@ extern "C" {
         number: usize,
         clock: *mut Clock,
         links: *mut Links,
+        walk: *const Walk,
+        copy: *const u8,
+        copy_length: usize,
         run: *mut Entry,
         run_length: usize,
         link: usize,
@@ -102,6 +130,9 @@ extern "C" {
         number: usize,
         clock: *mut Clock,
         links: *mut Links,
+        walk: *const Walk,
+        copy: *const u8,
+        copy_length: usize,
         run: *mut Entry,
         run_length: usize,
         link: usize,
@@ -115,6 +146,9 @@ extern "C" {
         number: usize,
         clock: *mut Clock,
         links: *mut Links,
+        walk: *const Walk,
+        copy: *const u8,
+        copy_length: usize,
         run: *mut Entry,
         run_length: usize,
         link: usize,
@@ -123,11 +157,42 @@ extern "C" {
         packet_length: usize,
     ) -> u8;
 
+    pub fn hello_open_walk(
+        settings: *const Settings,
+        number: usize,
+        clock: *const Clock,
+        links: *const Links,
+        walk: *mut Walk,
+        copy: *mut u8,
+        copy_length: usize,
+        run: *const Entry,
+        run_length: usize,
+        link: usize,
+        packet: *const u8,
+        packet_length: usize,
+    ) -> Stepped;
+
+    pub fn hello_step(
+        settings: *const Settings,
+        number: usize,
+        clock: *mut Clock,
+        links: *mut Links,
+        walk: *mut Walk,
+        copy: *const u8,
+        copy_length: usize,
+        run: *mut Entry,
+        run_length: usize,
+        counter: Counter,
+    ) -> Stepped;
+
     pub fn hello_lookup(
         settings: *const Settings,
         number: usize,
         clock: *mut Clock,
         links: *mut Links,
+        walk: *mut Walk,
+        copy: *const u8,
+        copy_length: usize,
         run: *mut Entry,
         run_length: usize,
         address: Address,

@@ -1,6 +1,6 @@
 //! A room: hosts, and the run of entries that they share.
 
-use crate::{Clock, Entry, Host, Links, Settings, HOSTS, PLACES};
+use crate::{Clock, Entry, Host, Links, Settings, Walk, HOSTS, LONGEST_MESSAGE, PLACES};
 
 /// Up to sixteen hosts and their host tables.
 ///
@@ -23,11 +23,26 @@ pub struct Room {
 }
 
 /// What a room keeps of a host beside its entries.
-#[derive(Clone, Debug, Default)]
+#[derive(Clone, Debug)]
 struct Kept {
     settings: Settings,
     clock: Clock,
     links: Links,
+    walk: Walk,
+    copy: [u8; LONGEST_MESSAGE],
+}
+
+impl Kept {
+    /// Of a host that is still to be set.
+    fn unset() -> Kept {
+        Kept {
+            settings: Settings::default(),
+            clock: Clock::default(),
+            links: Links::default(),
+            walk: Walk::CLOSED,
+            copy: [0; LONGEST_MESSAGE],
+        }
+    }
 }
 
 impl Room {
@@ -38,7 +53,7 @@ impl Room {
     pub fn new(hosts: usize) -> Room {
         assert!(hosts <= HOSTS, "a room has at most {HOSTS} hosts");
         Room {
-            hosts: vec![Kept::default(); hosts],
+            hosts: vec![Kept::unset(); hosts],
             run: vec![Entry::default(); hosts * PLACES],
         }
     }
@@ -59,6 +74,8 @@ impl Room {
             settings: &mut kept.settings,
             clock: &mut kept.clock,
             links: &mut kept.links,
+            walk: &mut kept.walk,
+            copy: &mut kept.copy,
             run: &mut self.run,
         }
     }

@@ -253,6 +253,78 @@ pub struct Links {
     pub all: [Link; LINKS],
 }
 
+/// A walk: what is held of an arrival between two of its boxes. Its packet stands in a copy beside
+/// it. Only a walk that is open is looked at, and of it only what is held at its place.
+#[repr(C)]
+#[derive(Clone, Copy, Debug, PartialEq, Eq, Default)]
+pub struct Walk {
+    /// Any number but 0: a walk is open.
+    pub opened: u8,
+    /// The link on which the packet arrived, from 1.
+    pub link: u8,
+    /// The next place: step 1 to 5.
+    pub step: u8,
+    /// In step 5, behind its own box, line 1 to 4 for (a) to (d); else 0.
+    pub line: u8,
+    /// The host id of a line, below NHOSTS.
+    pub id: u8,
+    /// The octets of the packet, at the front of the copy.
+    pub length: u16,
+    /// From step 1 on: the count that was used, in ms.
+    pub count: u16,
+    /// From step 1 on: our reading, 0 to 86,400,000 ms.
+    pub reading: i64,
+    /// From step 3 on: DELAY in ms; line (c) is to store one of 100 to 29,999.
+    pub delay: i16,
+    /// From step 3 on: OFFSET in ms.
+    pub offset: i16,
+}
+
+impl Walk {
+    /// No walk: zeros.
+    pub const CLOSED: Walk = Walk {
+        opened: 0,
+        link: 0,
+        step: 0,
+        line: 0,
+        id: 0,
+        length: 0,
+        count: 0,
+        reading: 0,
+        delay: 0,
+        offset: 0,
+    };
+
+    /// Whether a walk is open.
+    pub const fn is_open(&self) -> bool {
+        self.opened != 0
+    }
+}
+
+/// A place in a walk: a step of the arrival, or a line of the update of a host, behind step 5.
+/// Shown, it is `step 4` or `host 3, line b`.
+#[derive(Clone, Copy, Debug, PartialEq, Eq, Hash)]
+pub enum Place {
+    /// A step, 1 to 5.
+    Step(u8),
+    /// A line of a host's update.
+    Line {
+        /// The host's id.
+        host: usize,
+        /// The line, `a` to `d`.
+        line: char,
+    },
+}
+
+impl fmt::Display for Place {
+    fn fmt(&self, out: &mut fmt::Formatter) -> fmt::Result {
+        match self {
+            Place::Step(step) => out.pad(&format!("step {step}")),
+            Place::Line { host, line } => out.pad(&format!("host {host}, line {line}")),
+        }
+    }
+}
+
 /// An entry of a host table.
 #[repr(C)]
 #[derive(Clone, Copy, Debug, PartialEq, Eq, Default)]
@@ -317,4 +389,32 @@ pub struct Inspected {
     pub tsp: u16,
     /// The packet's NHOSTS: how many hosts its table has; 0 when refused.
     pub nhosts: u8,
+}
+
+/// What the opening of a walk and a step of it answer: the next place.
+#[repr(C)]
+#[derive(Clone, Copy, Debug, PartialEq, Eq, Default)]
+pub struct Stepped {
+    /// The answer number.
+    pub answer: u8,
+    /// The step, 1 to 5; 0 when refused, and where no place is left.
+    pub step: u8,
+    /// In step 5, behind its own box, the line, 1 to 4 for (a) to (d); else 0.
+    pub line: u8,
+    /// The host id of a line; else 0.
+    pub id: usize,
+}
+
+impl Stepped {
+    /// The next place, if one is left.
+    pub fn place(&self) -> Option<Place> {
+        match (self.step, self.line) {
+            (0, _) => None,
+            (step, 0) => Some(Place::Step(step)),
+            (_, line) => Some(Place::Line {
+                host: self.id,
+                line: char::from(b'a' + line - 1),
+            }),
+        }
+    }
 }

@@ -1,7 +1,7 @@
 //! The ends of what the safe calls take: empty slices, numbers far out of range.
 
 use hello::{Address, Answer, Clock, Counter, Entry, Layout, LinkSetting, Links, Room, Settings};
-use hello::{HOSTS, LONGEST_MESSAGE, PLACES, UNITS_PER_MS};
+use hello::{Walk, HOSTS, LONGEST_MESSAGE, PLACES, UNITS_PER_MS};
 
 const LINE_CLOCK: Counter = Counter::LINE_CLOCK;
 
@@ -37,9 +37,11 @@ fn empty_slices_are_answered() {
     assert_eq!(host.inspect(1, &[]), Err(Answer::IpForm));
     assert_eq!(host.act(1, LINE_CLOCK, &[]), Answer::IpForm);
     assert_eq!(host.receive(1, LINE_CLOCK, &[]), Answer::IpForm);
+    assert_eq!(host.open_walk(1, &[]), Err(Answer::IpForm));
 
     let (clock, links) = (&mut Clock::default(), &mut Links::default());
-    let tick = hello::tick(&settings(), 0, clock, links, &mut [], 0);
+    let walk = &mut Walk::default();
+    let tick = hello::tick(&settings(), 0, clock, links, walk, &[], &mut [], 0);
     assert_eq!(tick, Answer::OutOfRange.number());
 }
 
@@ -48,7 +50,8 @@ fn numbers_far_out_of_range_are_answered() {
     let mut run = vec![Entry::default(); HOSTS * PLACES];
     for number in [HOSTS, usize::MAX] {
         let (clock, links) = (&mut Clock::default(), &mut Links::default());
-        let answer = hello::initialize(&settings(), number, clock, links, &mut run);
+        let walk = &mut Walk::default();
+        let answer = hello::initialize(&settings(), number, clock, links, walk, &[], &mut run);
         assert_eq!(answer, Answer::OutOfRange.number());
     }
     let mut room = room(HOSTS);
@@ -58,6 +61,7 @@ fn numbers_far_out_of_range_are_answered() {
         assert_eq!(host.inspect(link, &[]), Err(Answer::OutOfRange));
         assert_eq!(host.act(link, LINE_CLOCK, &[]), Answer::OutOfRange);
         assert_eq!(host.receive(link, LINE_CLOCK, &[]), Answer::OutOfRange);
+        assert_eq!(host.open_walk(link, &[]), Err(Answer::OutOfRange));
     }
 }
 

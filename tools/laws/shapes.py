@@ -37,13 +37,14 @@ class Param:
 
 
 class WholeParam:
-    """a parameter of a call by value. kind: word, passed on by value; struct or list, held in a local that is lent by `&mut`; shared, held in a local that is lent by `&`; octets, a slice that is passed on"""
+    """a parameter of a call by value. kind: word, passed on by value; struct or list, held in a local that is lent; octets, a slice that is passed on. mut: it is lent by `&mut`; back: the local is handed back"""
 
     def __init__(self, name, text, homes):
         self.name = name
-        self.type = re.search(r"\w+", text).group(0)
-        held = "word" if name not in homes else "struct" if homes[name].startswith("&mut") else "shared"
-        self.kind = "octets" if text.startswith("&") else "list" if text.startswith("[") else held
+        self.type = re.search(r"\w+(?=[\];]|$)", text).group(0)
+        self.mut = homes.get(name, text).startswith("&mut ")
+        self.kind = "octets" if text.startswith("&") else "list" if text.startswith("[") else "struct" if name in homes else "word"
+        self.back = self.mut and name in homes
 
 
 class Arg:
@@ -267,23 +268,27 @@ class Whole(Shape):
         if self.result != "O" or self.requires:
             raise Wrong(self.line, "a call by value ends in `-> O {`")
         for name, text in self.heads:
-            if not re.fullmatch(r"\w+|\[\w+; n\]|&\[u8\]", text):
-                raise Wrong(self.line, "not a type of a parameter: `%s` (T, [T; n] or &[u8])" % text)
-            self.name_type(self.line, re.search(r"\w+", text).group(0), WHOLE_TYPES, ("u8",) if text.startswith("&") else ())
+            if not re.fullmatch(r"\w+|\[\w+; n\]|&(mut )?\[u8\]", text):
+                raise Wrong(self.line, "not a type of a parameter: `%s` (T, [T; n], &[u8] or &mut [u8])" % text)
+            if not text.startswith("&"):
+                self.name_type(self.line, re.search(r"\w+", text).group(0), WHOLE_TYPES)
         homes = self.homes()
         self.params = [WholeParam(name, text, homes) for name, text in self.heads]
         lists = [p for p in self.params if p.kind == "list"]
-        if len(lists) != 1 or len([p for p in self.params if p.kind == "octets"]) > 1:
-            raise Wrong(self.line, "a call by value has one array, and at most one `&[u8]`")
-        held = [p.name for p in self.params if p.kind in ("shared", "struct", "list")]
+        if len(lists) != 1 or len([p for p in self.params if p.kind == "octets" and p.mut]) > 1:
+            raise Wrong(self.line, "a call by value has one array, and at most one `&mut [u8]`")
+        held = [p.name for p in self.params if p.kind in ("struct", "list")]
         if list(homes) != held:
             raise Wrong(self.line, "the locals hold %s, in this order" % ", ".join(held))
         rest = self.lines[len(homes) :]
         args = ", ".join(homes.get(p.name, p.name) for p in self.params)
         self.expect(rest, 0, r"let a: K = \w+\(%s\);" % re.escape(args), "let a: K = call(%s);" % args)
-        left = [p.name for p in self.params if p.kind in ("struct", "list")]
-        made = "O { answer: a, %s }" % ", ".join("%s: %s" % (name, homes[name].split()[-1]) for name in left)
-        self.expect(rest, 1, re.escape(made), made)
+        fields = {name: "%s: %s" % (name, homes[name].split()[-1].lstrip("&")) for name in held}
+        by_name = {p.name: p for p in self.params}
+        made = "".join(", " + fields[name] if by_name[name].mut else "(, %s)?" % fields[name] for name in held)
+        self.expect(rest, 1, r"O \{ answer: a%s \}" % made, "O { answer: a%s }" % "".join(", " + fields[name] for name in held if by_name[name].mut))
+        for name in held:
+            by_name[name].back = fields[name] in re.findall(r"\w+: \w+", rest[1][1])
         if len(rest) > 2:
             raise Wrong(rest[2][0], "nothing comes after what is handed back")
 
@@ -299,8 +304,6 @@ class Whole(Shape):
                 raise Wrong(line, "unknown name: `%s` is no parameter" % name)
             if dict(self.heads)[name].startswith("&"):
                 raise Wrong(line, "`%s` is lent: it is passed on as it is" % name)
-            if dict(self.heads)[name].startswith("[") and not mut:
-                raise Wrong(line, "an array is held in a `let mut`")
             self.name_value(line, local)
             homes[name] = ("&mut " if mut else "&") + local
         return homes

@@ -9,7 +9,7 @@
         O { answer: a, clock: c, links: l, run: e }
     }
 
-There is one array, and at most one `&[u8]`, which is passed on. The call takes the parameters in their order.
+There is one array. Slices of octets are passed on, of which at most one is `&mut`. The call takes the parameters in their order.
 The checker checks what is written: nothing here is trusted."""
 from script import Law, Script, digits, items, nest, product, proj, uses
 from text import allocates, arrows, assign, at_local, cell, copy, frees, function, load, on_entry, opens, operands, plain, put, sequence, signature, slice_typed, slot, stayed
@@ -19,8 +19,7 @@ FIELD = {"struct": "declared.field (%s .S)", "list": "list-field %s n"}
 LAWS = {"struct": "LL.field-laws (%s .S) (%s .L) (%s .low)", "list": "list-laws %s n"}
 PLAIN = {"struct": "LL.field-plain (%s .S) (%s .P)", "list": "list-plain %s n"}
 INTO = {"struct": "%s .S .to ", "list": "map (%s .S .to) "}
-OCTETS = "sliceTy (tyRef (named 0) imm (tyInt w8))"
-OCTETS_SLOT = "(shrSliceOf (0 ∷ []) tt (plain (λ _. u8)))"
+LENT = {"struct": "Ref", "list": "SliceRef", "octets": "SliceRef"}
 
 
 class Whole(Law):
@@ -34,7 +33,7 @@ class Whole(Law):
 
     def seen(self, p):
         """what a parameter is in a contract"""
-        return {"word": "%s .row .Denot", "shared": "%s .S .D", "struct": "%s .S .D", "list": "List (%s .S .D)", "octets": "List ℕ"}[p.kind].replace("%s", p.type)
+        return {"word": "%s .row .Denot", "struct": "%s .S .D", "list": "List (%s .S .D)", "octets": "List ℕ"}[p.kind].replace("%s", p.type)
 
     def bind(self, ps, prime=""):
         return " ".join("(%s%s : %s)" % (p.name, prime, self.seen(p)) for p in ps)
@@ -43,16 +42,20 @@ class Whole(Law):
         """the parameters, and what the call is lent of them"""
         self.params = self.shape.params
         self.words = [p for p in self.params if p.kind == "word"]
-        self.held = [p for p in self.params if p.kind in ("struct", "list")]
-        self.shared = [p for p in self.params if p.kind == "shared"]
-        self.homed = [p for p in self.params if p in self.held or p in self.shared]
+        self.homed = [p for p in self.params if p.kind in ("struct", "list")]
+        self.changed = [p for p in self.params if p.mut]
+        self.held = [p for p in self.homed if p.back]  # what is handed back
         self.run = [p for p in self.params if p.kind == "list"][0]
         self.octets = [p for p in self.params if p.kind == "octets"]
+        self.given = [p for p in self.octets if p.mut]
         self.refs = [p for p in self.params if p.kind != "word"]  # what the call is lent
         for j, p in enumerate(self.refs):
             p.j, p.lft, p.ghost = j, "(α%s ∷ [])" % digits(j), "γ" + digits(j)
-        for p in self.octets:
-            p.lft, p.share = "κ", "q"
+        for k, p in enumerate(self.octets):
+            p.k, p.d = k, digits(k)
+            p.lft, p.share, p.ghost = "κ" + p.d, "q" + p.d, "δ" + p.d
+            p.ref = "slice" + p.d
+            p.vals = "slice-vals " + p.ref
 
         self.everything = " ".join(p.name for p in self.params)
         self.emit(
@@ -148,11 +151,14 @@ class Whole(Law):
     def by_value_slot(self, p):
         return plain(self.word(p) + " .row")
 
+    def lent_as(self, p):
+        return LENT[p.kind] + ("Mut" if p.mut else "") + "Of"
+
     def lent_slot(self, p):
-        return self.by_value_slot(p) if p.kind == "word" else slot({"shared": "RefOf", "struct": "RefMutOf", "list": "SliceRefMutOf", "octets": "SliceRefOf"}[p.kind], p.j, self.row(p))
+        return self.by_value_slot(p) if p.kind == "word" else slot(self.lent_as(p), p.j, self.row(p))
 
     def own_slot(self, p):
-        return slot("SliceRefOf", 0, "u8") if p.kind == "octets" else self.by_value_slot(p)
+        return slot(self.lent_as(p), p.k, "u8") if p.kind == "octets" else self.by_value_slot(p)
 
     def signatures(self):
         """signatures: that of the call, where the locals are lent, and that of the function"""
@@ -163,12 +169,24 @@ class Whole(Law):
         self.local.append(ty)
         return len(self.local) - 1
 
+    def octets_slot(self, p):
+        return "(%d ∷ []) tt (plain (λ _. u8))" % p.k
+
     def dropped_slot(self, p):
-        return OCTETS_SLOT if p.kind == "octets" else "(%s)" % self.by_value_slot(p)
+        return "(shrSliceOf %s)" % self.octets_slot(p) if p.kind == "octets" else "(%s)" % self.by_value_slot(p)
+
+    def stay(self, p):
+        return "gave-slice " + self.octets_slot(p) if p in self.given else "stay-dropped %s yes" % self.dropped_slot(p)
 
     def goes(self, p):
+        h = "𝓤 H (𝓖 .A) W %d " % len(self.octets)
+        if p in self.given:
+            return "goes-gave-slice " + h + "%d tt (plain (λ _. u8))" % p.k
         silent = "(λ κs x f. refl)" if p.kind == "octets" else "(λ κs. %s .silent)" % self.word(p)
-        return "goes-dropped 𝓤 H (𝓖 .A) W %d %s yes %s" % (len(self.octets), self.dropped_slot(p), silent)
+        return "goes-dropped " + h + "%s yes %s" % (self.dropped_slot(p), silent)
+
+    def lent_by(self, p):
+        return "mut" if p.mut else "imm"
 
     def mir(self):
         """the MIR: the result, the parameters, the locals that are lent, the answer, then what the lowering adds"""
@@ -176,18 +194,24 @@ class Whole(Law):
         self.at = {}
 
         for p in self.params:
-            self.at[p.name] = self.new(OCTETS if p.kind == "octets" else self.word(p) + " .ty")
+            self.at[p.name] = self.new("sliceTy (tyRef (named %d) %s (tyInt w8))" % (p.k, self.lent_by(p)) if p.kind == "octets" else self.word(p) + " .ty")
         for p in self.homed:
             p.home = self.new(self.word(p) + " .ty")
         self.answer_at = self.new("K .word .ty")
         statements = [assign(p.home, "rvOpd (%s)" % copy(self.at[p.name])) for p in self.homed]
         passed_at = dict(self.at)
-        for p in self.homed:
-            written = "Array R%s n .written" % p.type if p.kind == "list" else "R%s .written" % p.type
-            p.ptr = passed_at[p.name] = self.new("tyRef erased %s (pointee (%s))" % ("imm" if p.kind == "shared" else "mut", written))
-            statements.append(assign(p.ptr, "addrOf (place %d [])" % p.home))
+        for p in self.params:
+            if p in self.given:
+                p.ptr = self.new("tyRef erased mut (tyInt w8)")
+                p.whole = passed_at[p.name] = self.new("sliceTy (tyRef erased mut (tyInt w8))")
+                statements.append(assign(p.ptr, "addrOf (place %d (field 0 ∷ deref (tyInt w8) ∷ []))" % self.at[p.name]))
+                statements.append(assign(p.whole, "aggregate (%s ∷ %s ∷ [])" % (copy(p.ptr), copy(self.at[p.name], "field 1 ∷ []"))))
+            if p in self.homed:
+                written = "Array R%s n .written" % p.type if p.kind == "list" else "R%s .written" % p.type
+                p.ptr = passed_at[p.name] = self.new("tyRef erased %s (pointee (%s))" % (self.lent_by(p), written))
+                statements.append(assign(p.ptr, "addrOf (place %d [])" % p.home))
             if p.kind == "list":
-                p.whole = passed_at[p.name] = self.new("sliceTy (tyRef erased mut (pointee (R%s .written)))" % p.type)
+                p.whole = passed_at[p.name] = self.new("sliceTy (tyRef erased %s (pointee (R%s .written)))" % (self.lent_by(p), p.type))
                 statements.append(assign(p.whole, "aggregate (%s ∷ int w64 n ∷ [])" % copy(p.ptr)))
         self.operands_at = [passed_at[p.name] for p in self.params]
         statements.append("call g (%s) (place %d [])" % (items(map(copy, self.operands_at)), self.answer_at))
@@ -198,25 +222,32 @@ class Whole(Law):
         statements.append(assign(0, "aggregate (%s)" % items(map(copy, self.parts_at))))
         self.emit(function(["g"], len(self.octets), len(self.params), self.local, sequence(statements), {p.home for p in self.homed}))
 
-        self.emit(stayed("stay-dropped %s yes" % self.dropped_slot(p) for p in self.params))
+        self.emit(stayed(map(self.stay, self.params)))
 
     def given_by(self, refs):
         return " ".join("(%s%s)" % (proj("a", i), " .now" if p in refs else "") for i, p in enumerate(self.params))
 
+    def lefts_of(self, ps):
+        return " ".join("(%s .now)" % proj("e", self.params.index(p)) for p in ps)
+
     def entry(self, p):
-        return "slice" if p.kind == "octets" else p.name
+        return p.ref if p.kind == "octets" else p.name
 
     def machine(self, p):
-        return "sliceVal (b, o) (length %s)" % p.name if p.kind == "octets" else "%s .val %s" % (self.word(p), p.name)
+        return "sliceVal (b%s, o%s) (length %s)" % (p.d, p.d, p.name) if p.kind == "octets" else "%s .val %s" % (self.word(p), p.name)
 
     def vals(self, p):
-        return "slice-vals slice" if p.kind == "octets" else self.machine(p) + " ∷ []"
+        return p.vals if p.kind == "octets" else self.machine(p) + " ∷ []"
+
+    def with_given(self, prime):
+        """all parameters, and what is left of a `&mut [u8]`"""
+        return " ".join([self.everything] + [p.name + prime for p in self.given])
 
     def said(self):
         """the contracts"""
         self.contracts = "(gives : %s) (Says : %s)" % (
-            arrows([self.seen(p) for p in self.params + self.held] + ["K .word .row .Denot", "Type 0"]),
-            arrows([self.seen(p) for p in self.params] + ["D", "Type 0"]),
+            arrows([self.seen(p) for p in self.params + self.changed] + ["K .word .row .Denot", "Type 0"]),
+            arrows([self.seen(p) for p in self.params + self.given] + ["D", "Type 0"]),
         )
 
         self.emit(
@@ -231,20 +262,22 @@ class Whole(Law):
     abbrev clauses : Clauses 𝓤 ended
     clauses = λ κs a. record { ghost = Unit {0}; requires = λ _. emp 𝓤; ensures = λ _ r e. fact 𝓤 (Says %s r) }
 """
-            % (self.contracts, self.given_by(self.refs), " ".join("(%s .now)" % proj("e", self.params.index(p)) for p in self.held), self.given_by(self.octets))
+            % (self.contracts, self.given_by(self.refs), self.lefts_of(self.changed), " ".join([self.given_by(self.octets), self.lefts_of(self.given)]).strip())
         )
-        lefts = " ".join(p.name + "′" for p in self.held)
-        self.then = "(then : %s %s (r : K .word .row .Denot) → gives %s %s r → Says %s (make (back r) %s))" % (self.bind(self.params), self.bind(self.held, "′"), self.everything, lefts, self.everything, lefts)
+        lefts = " ".join(p.name + "′" for p in self.changed)
+        held = " ".join(p.name + "′" if p.mut else p.name for p in self.held)
+        self.then = "(then : %s %s (r : K .word .row .Denot) → gives %s %s r → Says %s (make (back r) %s))" % (self.bind(self.params), self.bind(self.changed, "′"), self.everything, lefts, self.with_given("′"), held)
         self.fits = "(few : T (ltb n (2 ^ 64))) (small : T (ltb (n * mem R%s .size) (2 ^ 63)))" % self.E
         self.emit("    module _ (W : Given 𝓤 H A)\n        %s %s" % (self.then, self.fits))
-        self.emit("        %s%s" % ("(κ : Lft) (q : Share) (b o : ℕ) (γ : GName) " if self.octets else "", self.bind(self.params)))
+        lent = [" ".join(x + p.d for p in self.octets for x in xs) for xs in ("κ", "q", "bo", "δ")]
+        self.emit("        %s%s" % ("(%s : Lft) (%s : Share) (%s : ℕ) (%s : GName) " % tuple(lent) if self.octets else "", self.bind(self.params)))
         known = ["(is-%s : %s)" % (p.name, self.is_at(p)) for p in self.params if p.kind != "octets"] + ["(room-%s : Room u8 (length %s))" % (p.name, p.name) for p in self.octets]
         self.emit("        %s where" % " ".join(known))
         self.I = "      "
         for p in self.octets:
-            self.emit(self.I + "abbrev slice : RefT (List ℕ)\n" + self.I + "slice = record { ptr = (b, o); name = γ; now = %s }\n" % p.name)
+            self.emit(self.I + "abbrev %s : RefT (List ℕ)\n" % p.ref + self.I + "%s = record { ptr = (b%s, o%s); name = %s; now = %s }\n" % (p.ref, p.d, p.d, p.ghost, p.name))
 
-        self.κ, self.q = nest("κ" for _ in self.octets), nest("q" for _ in self.octets)
+        self.κ, self.q = nest(p.lft for p in self.octets), nest(p.share for p in self.octets)
         room = """
       room : Room R%s n
       room = (ltb→lt n (2 ^ 64) few, ltb→lt (n * mem R%s .size) (2 ^ 63) small)
@@ -262,33 +295,40 @@ class Whole(Law):
 
     def exit(self):
         """the exit"""
-        self.tokens = ["token" for _ in self.octets]
-        end_items = items(["‵ (flft κ q)" for _ in self.octets] + ["‵ (RO .own w (v ∷ []))"])
-        self.s = Script(self.tokens + ["own"])
+        self.tokens = ["token-" + p.name for p in self.octets]
+        self.end_names = ["last-" + p.name for p in self.given] + self.tokens + ["own"]
+        end_items = ["‵ (finally u8 %s %s′)" % (p.ghost, p.name) for p in self.given]
+        end_items = items(end_items + ["‵ (flft %s %s)" % (p.lft, p.share) for p in self.octets] + ["‵ (RO .own w (v ∷ []))"])
+        self.s = Script(self.end_names)
         self.s.nothing("true")
-        for t in self.tokens:
+        for t in reversed(self.tokens):
             self.s.join(t, "true", "true")
         self.s.head("frame ! $", 1, [])
         self.s.nothing("had")
-        for _ in self.params:
-            self.s.nothing("true")
-            self.s.join("true", "had", "had", "fjoin")
+        for p in reversed(self.params):
+            if p not in self.given:
+                self.s.nothing("last-" + p.name)
+            self.s.join("last-" + p.name, "had", "had", "fjoin")
         self.s.put("frame ! $ done !")
         self.emit(
-            """      exits : (w : D) (v : Val) → Says %s w → ent 𝓤 (⋆ 𝓤 H A (%s)) (Post v)
-      exits w v φ =
+            """      exits :%s (w : D) (v : Val) → %sSays %s w → ent 𝓤 (⋆ 𝓤 H A (%s)) (Post v)
+      exits%s w v%s φ =
           qed W (%s) ∵
           suffices ! _ (ends-at 𝓤 H A ended stayed clauses W ((%s, %s, tt, x, at), tt) v w %s %s) $ says ! φ $
 %s
 """
             % (
-                self.everything,
+                "".join(" (%s′ : List ℕ)" % p.name for p in self.given),
+                "".join("length %s′ ≡ length %s → " % (p.name, p.name) for p in self.given),
+                self.with_given("′"),
                 end_items,
+                "".join(" %s′" % p.name for p in self.given),
+                "".join(" len-%s" % p.name for p in self.given),
                 end_items,
                 self.κ,
                 self.q,
-                nest("tt" if p.kind == "octets" else "%s .last %s" % (self.word(p), p.name) for p in self.params),
-                nest("tt" for _ in self.params),
+                nest(p.name + "′" if p in self.given else "tt" if p.kind == "octets" else "%s .last %s" % (self.word(p), p.name) for p in self.params),
+                nest("len-" + p.name if p in self.given else "tt" for p in self.params),
                 self.s.lines(self.I + "    "),
             )
         )
@@ -310,8 +350,8 @@ class Whole(Law):
         self.emit(J + "walk : ent 𝓤 (sep 𝓤 (onEntry 𝓤 H A signature %s %s x at) (emp 𝓤)) (WpFn 𝓤 H T₁ Λ (function g) (%s) Post)" % (self.κ, self.q, machines))
         self.emit(J + "walk =")
         self.s = Script(["entry", "asks"])
-        rows = items("ShrSlice (named 0) κ u8" if p.kind == "octets" else self.word(p) + " .row" for p in self.params)
-        self.s.put("qed W (((%s) ⊛ ‵ (owns (%s) x at)) ∷ raw (emp 𝓤) ∷ []) ∵" % (" ⊛ ".join(["‵ (flft κ q)" for _ in self.octets] + ["‵ ftrue"]), rows))
+        rows = items("%sSlice (named %d) %s u8" % ("Mut" if p.mut else "Shr", p.k, p.lft) if p.kind == "octets" else self.word(p) + " .row" for p in self.params)
+        self.s.put("qed W (((%s) ⊛ ‵ (owns (%s) x at)) ∷ raw (emp 𝓤) ∷ []) ∵" % (" ⊛ ".join(["‵ (flft %s %s)" % (p.lft, p.share) for p in self.octets] + ["‵ ftrue"]), rows))
         self.s.split("entry", "tokens", "owns")
         self.s.drop("asks")
         opens(self.s, self.tokens, ["own-" + p.name for p in self.params], ["own-" + p.name for p in self.octets])
@@ -323,8 +363,15 @@ class Whole(Law):
         self.s.put("pass0 ! $")
         for p in self.homed:
             put(self.s, p.home, "of-opd ! " + load(self.s, self.at[p.name]), self.typed(p, p.name, "is-" + p.name))
-        for p in self.homed:
-            put(self.s, p.ptr, "addr ! (from ! (stop !))", "(tt, tt)")
+        for p in self.params:
+            if p in self.given:
+                self.s.put(
+                    "assigns ! (addr ! (from ! (fld ! refl (hop ! (look-in ! %d (sub ! 0 refl (whole-part !))) (stop !))))) (from ! (stop !)) (init ! %d refl (tt, tt)) $"
+                    % (self.L(self.at[p.name]), self.L(p.ptr))
+                )
+                put(self.s, p.whole, "agg ! (and-then ! %s (and-then ! %s (no-more !)))" % (load(self.s, p.ptr), load(self.s, self.at[p.name], 1)), slice_typed("room-" + p.name))
+            if p in self.homed:
+                put(self.s, p.ptr, "addr ! (from ! (stop !))", "(tt, tt)")
             if p.kind == "list":
                 put(self.s, p.whole, "agg ! (and-then ! %s (and-then ! (lit ! few) (no-more !)))" % load(self.s, p.ptr), slice_typed("room"))
                 long = self.held_at(p.whole, "sliceVal (z%s, 0) j" % digits(p.home))
@@ -335,26 +382,22 @@ class Whole(Law):
             z = "z" + digits(p.home)
             p.share = "fullShare"
             p.ref = "record { ptr = (%s, 0); name = %s; now = %s }" % (z, p.ghost, p.name)
-            if p.kind == "shared":
-                p.vals, owner = "vptr %s 0 ∷ []" % z, "ShrRef (named %d) %s %s" % (p.j, p.lft, self.row(p))
-                kept = "flent %s (partAt %s fullShare %s %s 0)" % (p.lft, self.row(p), p.name, z)
-                lends = "shares-local 𝓤 H A W %s (named %d) %s %s %s is-%s" % (p.type, p.j, p.lft, p.name, z, p.name)
-            elif p.kind == "struct":
-                p.vals, owner = "vptr %s 0 ∷ []" % z, "MutRef (named %d) %s %s" % (p.j, p.lft, self.row(p))
-                kept = "flent %s (Referent (mem %s) %s 0 %s)" % (p.lft, self.row(p), z, p.ghost)
-                lends = "lends-local 𝓤 H A W %s (named %d) %s %s %s is-%s" % (p.type, p.j, p.lft, p.name, z, p.name)
+            owner = "%s%s (named %d) %s %s" % ("Mut" if p.mut else "Shr", "Slice" if p.kind == "list" else "Ref", p.j, p.lft, self.row(p))
+            lent = "(named %d) %s %s %s is-%s" % (p.j, p.lft, p.name, z, p.name)
+            if p.kind == "struct":
+                p.vals = "vptr %s 0 ∷ []" % z
+                p.kept = "Referent (mem %s) %s 0 %s" % (self.row(p), z, p.ghost) if p.mut else "partAt %s fullShare %s %s 0" % (self.row(p), p.name, z)
+                lends = "%s 𝓤 H A W %s %s" % ("lends-local" if p.mut else "shares-local", p.type, lent)
             else:
-                p.vals, owner = "sliceVal (%s, 0) (length %s) ∷ []" % (z, self.R), "MutSlice (named %d) %s %s" % (p.j, p.lft, self.row(p))
-                kept = "flent %s (Held %s (length %s) %s 0 %s)" % (p.lft, self.row(p), self.R, z, p.ghost)
-                lends = "lends-array 𝓤 H A W %s n room (named %d) %s %s %s is-%s" % (self.E, p.j, p.lft, self.R, z, self.R)
+                p.vals = "sliceVal (%s, 0) (length %s) ∷ []" % (z, self.R)
+                p.kept = "Held %s (length %s) %s 0 %s" % (self.row(p), self.R, z, p.ghost) if p.mut else "arr-parts (shares %s) (length %s) .part fullShare %s %s 0" % (self.row(p), self.R, self.R, z)
+                lends = "%s 𝓤 H A W %s n room %s" % ("lends-array" if p.mut else "shares-array", self.E, lent)
+            kept = "flent %s (%s)" % (p.lft, p.kept)
             self.s.binder("lft-new ! tt (λ α%s." % digits(p.j), 0, ["token-" + p.name])
             self.s.move("l%d" % p.home)
             self.s.head("use1 W (later (some (λ (%s : GName). ‵ (%s .own (%s) (%s)) ⊛ ‵ (%s)))) (%s) $ await ! tt $" % (p.ghost, owner, p.ref, p.vals, kept, lends), 1, ["w"])
             self.s.binder("pick ! (λ %s." % p.ghost, 0, [])
             self.s.split("w", "own-" + p.name, "kept-" + p.name)
-        for p in self.octets:
-            p.ref, p.vals = "slice", "slice-vals slice"
-            self.s.ctx[self.s.at("token")] = "token-" + p.name
 
         self.s.note("the call")
         self.s.nothing("tokens")
@@ -384,10 +427,10 @@ class Whole(Law):
         for p in self.refs:
             self.s.split("tokens", "token-" + p.name, "tokens")
         self.s.drop("tokens")
-        for p in self.held:
-            p.end = "(%s)" % proj("ends", self.params.index(p))
-        ends = " ".join(p.end for p in self.held)
-        said = "gives %s %s r" % (self.everything, ends)
+        for p in self.homed + self.given:
+            p.end, p.left = ("(%s)" % proj("ends", self.params.index(p)), "left-" + p.name) if p.mut else (p.name, "is-" + p.name)
+        lefts, ends = (" ".join(p.end for p in ps) for ps in (self.changed, self.held))
+        said = "gives %s %s r" % (self.everything, lefts)
         self.s.move("said")
         self.s.put("use1 W (some (λ (ends : Lasts ended₁ %s %s). ‵ (lasts ended₁ %s %s ends) ⊛ raw (fact 𝓤 (%s)))) (id⊢ 𝓤 _) $" % (lfts, args, lfts, args, said))
         self.s.binder("pick ! (λ ends.", 0, [])
@@ -396,34 +439,40 @@ class Whole(Law):
         self.s.binder("heard ! (%s) (λ φ." % said, 1, [])
         for p in self.params:
             self.s.split("lasts", "last-" + p.name, "lasts", "fsplit")
-            if p not in self.held:
+            if p not in self.changed:
                 self.s.drop("last-" + p.name)
-            if p.kind == "list":
+            elif p.kind != "struct":
                 self.s.split("last-" + p.name, "last-" + p.name, "len", "fsplit")
-                self.s.drop("len")
+                if p.kind == "list":
+                    self.s.drop("len")
+                else:
+                    self.s.move("len")
+                    self.s.binder("feqL ! (λ len-%s." % p.name, 1, [])
         self.s.drop("lasts")
         self.s.move("result")
         self.s.binder("peeks ! (K .word .row) (Is (K .word .row)) (shows 𝓤 H A (K .word .row)) r (v ∷ []) (λ said-r.", 0, [])
         self.s.drop("result")
 
         self.s.note("the lifetimes end, and the locals are back")
-        for p in self.shared:
-            self.s.move("token-" + p.name)
-            self.s.head("lft-end ! tt $", 1, ["dead"])
-            self.s.move("dead", "kept-" + p.name)
-            holds = self.held_at(p.home, "%s .val %s" % (self.word(p), p.name))
-            self.s.head("use2 W (later (‵ (%s))) (shared-local-back 𝓤 H A W %s %s %s z%s) $ await ! tt $" % (holds, p.type, p.lft, p.name, digits(p.home)), 2, ["l%d" % p.home])
-        for p in self.held:
+        for p in self.homed:
             z = "z" + digits(p.home)
             self.s.move("token-" + p.name)
             self.s.head("lft-end ! tt $", 1, ["dead"])
+            holds = self.held_at(p.home, "%s .val %s" % (self.word(p), p.end))
+            counts = "(counted %s n %s _ is-%s)" % (self.E, self.R, self.R)
+            if not p.mut:
+                self.s.move("dead", "kept-" + p.name)
+                back = "shared-local-back 𝓤 H A W %s %s %s %s" % (p.type, p.lft, p.name, z)
+                if p.kind == "list":
+                    back = "shared-array-back 𝓤 H A W %s n %s %s %s %s" % (self.E, p.lft, self.R, z, counts)
+                self.s.head("use2 W (later (‵ (%s))) (%s) $ await ! tt $" % (holds, back), 2, ["l%d" % p.home])
+                continue
             self.s.move("dead", "kept-" + p.name, "last-" + p.name)
             back = "local-back 𝓤 H A W %s %s %s %s %s" % (p.type, p.lft, p.ghost, p.end, z)
             if p.kind == "list":
-                back = "array-back 𝓤 H A W %s n %s %s %s %s %s (counted %s n %s _ is-%s)" % (self.E, p.lft, p.ghost, self.R, p.end, z, self.E, self.R, self.R)
-            holds = self.held_at(p.home, "%s .val %s" % (self.word(p), p.end))
+                back = "array-back 𝓤 H A W %s n %s %s %s %s %s %s" % (self.E, p.lft, p.ghost, self.R, p.end, z, counts)
             self.s.head("use3 W (later (given (%s) (‵ (%s)))) (%s) $ await ! tt $" % (self.is_at(p, p.end), holds, back), 3, ["l%d" % p.home])
-            self.s.binder("learn ! (λ left-%s." % p.name, 0, [])
+            self.s.binder("learn ! (λ %s." % p.left, 0, [])
         answer = "(K .K .into (back r))"
         self.s.put("land ! (from ! (stop !)) (init ! %d refl (K .laws .lawful 𝓤 H A W .typed %s _ (shown r (v ∷ []) said-r) .0)) $" % (self.L(self.answer_at), answer))
         tells = "K .laws .tells %s (v ∷ []) (shown r (v ∷ []) said-r)" % answer
@@ -431,23 +480,25 @@ class Whole(Law):
 
         self.s.note("what is handed back is made of them")
         for p in self.held:
-            put(self.s, p.out, "of-opd ! " + load(self.s, p.home), self.typed(p, p.end, "left-" + p.name))
+            put(self.s, p.out, "of-opd ! " + load(self.s, p.home), self.typed(p, p.end, p.left))
             if p.kind == "list":
-                self.s.put("rewrite ! %d (λ (u : Val). ‵ (%s)) (same-val %s left-%s) refl $" % (self.L(p.out), self.held_at(p.out, "u"), p.end, p.name))
+                self.s.put("rewrite ! %d (λ (u : Val). ‵ (%s)) (same-val %s %s) refl $" % (self.L(p.out), self.held_at(p.out, "u"), p.end, p.left))
         is_answer = "(subst (λ (us : List Val). Is (K .K .row) %s us) (%s) (shown r (v ∷ []) said-r))" % (answer, tells)
-        is_whole = "(whole-is (back r) %s %s %s)" % (ends, is_answer, " ".join("left-" + p.name for p in self.held))
+        is_whole = "(whole-is (back r) %s %s %s)" % (ends, is_answer, " ".join(p.left for p in self.held))
         whole, whole_val = "(make (back r) %s)" % ends, "(whole-val (back r) %s)" % ends
         put(self.s, 0, "agg ! " + operands(self.s, [(i, None) for i in self.parts_at]), "(LL.lawful O LO 𝓤 H A W .typed %s _ %s .0)" % (whole, is_whole))
         frees(self.s, N, range(N))
         self.s.head("owned ! RO (Is RO) (LL.makes O PO 𝓤 H A) %s (%s ∷ []) %s $" % (whole, whole_val, is_whole), 0, ["own"])
-        self.s.keep(*["token-" + p.name for p in self.octets], "own")
-        self.s.end("by ! (exits %s %s (then %s %s r φ))" % (whole, whole_val, self.everything, ends))
+        self.s.keep(*self.end_names)
+        exits = [p.end for p in self.given] + [whole, whole_val] + ["len-" + p.name for p in self.given]
+        self.s.end("by ! (exits %s (then %s %s r φ))" % (" ".join(exits), self.everything, lefts))
         self.emit(self.s.lines(J + "    "))
 
     def theorem(self):
         """from the walk to the theorem"""
-        given = ["(κs .0) (qs .0)" for _ in self.octets]
-        given += ["(%s .ptr .0) (%s .ptr .1) (%s .name)" % ((proj("a", self.params.index(p)),) * 3) for p in self.octets]
+        given = ["(%s)" % proj(b, p.k) for b in ("κs", "qs") for p in self.octets]
+        given += ["(%s .ptr .%d)" % (proj("a", self.params.index(p)), z) for p in self.octets for z in (0, 1)]
+        given += ["(%s .name)" % proj("a", self.params.index(p)) for p in self.octets]
         given += [self.given_by(self.octets)]
         given += ["(%s)" % proj("are", i) for i, p in enumerate(self.params) if p.kind != "octets"]
         given += ["(%s .0 .1)" % proj("are", self.params.index(p)) for p in self.octets]
@@ -483,7 +534,7 @@ class Whole(Law):
                 self.fits,
                 nest(map(self.goes, self.params)),
                 nest("slice-vals" if p.kind == "octets" else "(λ m. %s .val m ∷ [])" % self.word(p) for p in self.params),
-                nest("shr-slice-tells (named 0) (κs .0) u8" if p.kind == "octets" else "%s .tells" % self.word(p) for p in self.params),
+                nest("%s-slice-tells (named %d) (%s) u8" % ("mut" if p.mut else "shr", p.k, proj("κs", p.k)) if p.kind == "octets" else "%s .tells" % self.word(p) for p in self.params),
                 " ".join(given),
             )
         )
@@ -505,7 +556,8 @@ class Whole(Law):
                 ("denote.Struct.Field", ["rows"]),
                 ("denote.Struct.Declared", ["Declared", "fields"]),
                 (".Words", ["Word", "Data", "Part", "by-value", "at-type", "passed"]),
-                (HERE + ".Lists", ["listed", "list-field", "list-laws", "list-plain", "in-field", "counted", "lends-local", "local-back", "shares-local", "shared-local-back", "lends-array", "array-back"]),
-                ("denote.Memory", ["partAt"]),
+                (HERE + ".Lists", ["listed", "list-field", "list-laws", "list-plain", "in-field", "counted", "lends-local", "local-back", "shares-local", "shared-local-back", "lends-array", "array-back", "shares-array", "shared-array-back"]),
+                ("denote.Memory", ["partAt", "shares"]),
+                ("types.Share", ["arr-parts"]),
             ],
         ) + "use denote.Struct.Declared as declared\n"

@@ -1,7 +1,7 @@
 -- "Answer numbers": the number of each answer in the published table.
 use Prim.Native.Nat.{ℕ}
 use Rattle.answer.specs.declared.Answer.{Answer}
-use Rattle.answer.specs.declared.Answer.the-variants.{Done, Setting, ShortBuffer, IpForm, IpChecksum, Protocol, HelloForm, HelloChecksum, OtherLayout, LoopedLine, DelayNotValid, NoHost, OutOfRange, HostDown}
+use Rattle.answer.specs.declared.Answer.the-variants.{Done, Setting, ShortBuffer, IpForm, IpChecksum, Protocol, HelloForm, HelloChecksum, OtherLayout, LoopedLine, DelayNotValid, NoHost, OutOfRange, HostDown, InWalk, NoWalk}
 
 abbrev pub number : Answer → ℕ
 number Done = 0  -- done
@@ -18,3 +18,5 @@ number DelayNotValid = 10  -- delay not valid (step 4)
 number NoHost = 11  -- no host or net for the address
 number OutOfRange = 12  -- seat, link or places not there, or something lent out of range
 number HostDown = 13  -- lookup: host is down
+number InWalk = 16  -- seat is in the middle of a walk
+number NoWalk = 17  -- step asked with no walk open

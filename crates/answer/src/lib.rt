@@ -18,6 +18,8 @@ pub enum Answer {
     NoHost,
     OutOfRange,
     HostDown,
+    InWalk,
+    NoWalk,
 }
 
 // The number of an answer in the table.
@@ -39,6 +41,8 @@ pub fn number(a: Answer) -> u8
         Answer::NoHost => 11,
         Answer::OutOfRange => 12,
         Answer::HostDown => 13,
+        Answer::InWalk => 16,
+        Answer::NoWalk => 17,
     }
 }
 

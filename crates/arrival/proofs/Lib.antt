@@ -1,3 +1,3 @@
 pub mod Flights
-pub mod Inspected
+pub mod Stages
 pub mod Pair

@@ -10,7 +10,7 @@ use Rattle.wire.specs.declared.Parsed.the-variants.{Good, Bad}
 use Rattle.host.specs.Lent.{Host}
 use Rattle.host.specs.Guard.{done}
 use Rattle.arrival.specs.declared.Arrived.{Arrived}
-use Rattle.arrival.specs.Inspection.{inspect, tells}
+use Rattle.host.specs.Inspection.{inspect, tells}
 use Rattle.arrival.specs.Arrival.{quiet, ends, inspected, act, arrival}
 
 pub one-piece : (i : ℕ) (k : Counter) (octets : List ℕ) (h : Host) → arrival i k octets h ≡ act i k octets h

@@ -31,7 +31,7 @@ use Rattle.arrival.specs.declared.Flight.{Flight}
 use Rattle.arrival.specs.declared.Arrived.{Arrived}
 use Rattle.arrival.specs.declared.Delivery.{Delivery}
 use Rattle.arrival.specs.declared.Delivery.the-variants.{Inspect, Act, Receive}
-use Rattle.arrival.specs.Inspection.{inspect, tells}
+use Rattle.host.specs.Inspection.{inspect, tells}
 use Rattle.arrival.specs.Steps.{steps2to4, neighborUpdate}
 
 -- no updates: the clock stays

@@ -1,4 +1,3 @@
-pub mod Inspection
 pub mod Steps
 pub mod Arrival
 pub mod code

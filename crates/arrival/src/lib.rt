@@ -33,6 +33,7 @@ use host::Links;
 use host::Reply;
 use host::Settings;
 use host::host_count;
+use host::inspection;
 use host::link_state::broadcast;
 use host::link_state::link_of;
 use host::link_state::with_link;
@@ -47,8 +48,7 @@ use table::run::Updates;
 use wire::Packet;
 use wire::Parsed;
 
-mod inspection;
-mod steps;
+pub mod steps;
 
 // An arrival between its steps: our reading, the link as the steps leave it, DELAY and OFFSET.
 pub struct Flight {
@@ -114,7 +114,7 @@ fn ends(a: Answer, s: Settings, c: Clock, l: Links) -> Arrived
 }
 
 // "DELAY under 100 becomes 100."
-fn at_least_min(delay: Millis) -> Millis
+pub fn at_least_min(delay: Millis) -> Millis
     ensures { λ r. ⌜ r ≡ atLeastMin delay ⌝ }
 {
     if delay.less(table::MIN_DELAY) {

@@ -17,7 +17,7 @@ use quantity::Seconds;
 use quantity::Word;
 use wire::Packet;
 
-fn tsp_of(time: Millis, reading: Millis) -> Word
+pub fn tsp_of(time: Millis, reading: Millis) -> Word
     requires { ⌜ Four (time .0) ⌝ }
     requires { ⌜ upTo dayMillis reading ≡ true ⌝ }
     ensures { λ r. ⌜ r ≡ tspOf time reading ⌝ }
@@ -26,7 +26,7 @@ fn tsp_of(time: Millis, reading: Millis) -> Word
 }
 
 // DELAY: none on a broadcast link.
-fn delay_of(broadcast: bool, reading: Millis, tsp: Word) -> Millis
+pub fn delay_of(broadcast: bool, reading: Millis, tsp: Word) -> Millis
     requires { ⌜ upTo dayMillis reading ≡ true ⌝ }
     ensures { λ r. ⌜ (r ≡ cond broadcast (millis (pos 0)) (delayOf reading tsp)) × SignedTwo (r .0) ⌝ }
 {
@@ -36,7 +36,7 @@ fn delay_of(broadcast: bool, reading: Millis, tsp: Word) -> Millis
     Millis::of_word(Word::of_millis(reading.minus(Millis::of_word(tsp))))
 }
 
-fn offset_of(tsp: Word, delay: Millis) -> Word
+pub fn offset_of(tsp: Word, delay: Millis) -> Word
     requires { ⌜ SignedTwo (delay .0) ⌝ }
     ensures { λ r. ⌜ r ≡ offsetOf tsp delay ⌝ }
 {
@@ -87,7 +87,7 @@ fn new_neighbor(p: Packet, f: Flight) -> Flight
     }
 }
 
-fn step4(broadcast: bool, hold: Seconds, p: Packet, f: Flight) -> Step
+pub fn step4(broadcast: bool, hold: Seconds, p: Packet, f: Flight) -> Step
     ensures { λ r. ⌜ r ≡ stepOf (step4 broadcast hold p f) ⌝ }
 {
     if broadcast {

@@ -18,7 +18,7 @@ use Rattle.table.specs.code.Loops.{InRun}
 use Rattle.host.specs.declared.Settings.{Settings}
 use Rattle.host.specs.State.{firstPlace, hostCount, entries, withEntries}
 use Rattle.host.proofs.Places.{Holds}
-use Rattle.calls.specs.Effects.{nothing}
+use Rattle.host.specs.Effect.{nothing}
 use Rattle.calls.specs.code.Places.{placed}
 
 -- some ids of a host

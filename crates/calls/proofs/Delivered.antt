@@ -45,13 +45,13 @@ use Rattle.arrival.specs.declared.Flight.{Flight}
 use Rattle.arrival.specs.declared.Arrived.{Arrived}
 use Rattle.arrival.specs.declared.Delivery.{Delivery}
 use Rattle.arrival.specs.declared.Delivery.the-variants.{Inspect, Act, Receive}
-use Rattle.arrival.specs.Inspection.{inspect}
+use Rattle.host.specs.Inspection.{inspect}
 use Rattle.arrival.specs.Steps.{measured}
 use Rattle.arrival.specs.Arrival.{noUpdates, ends, noTable, withTable, step5, concluded, inspected, onLink}
 use Rattle.arrival.specs.Arrival as definition
 use Rattle.arrival.specs.code.Plan.{planned}
 use Rattle.arrival.proofs.Flights.{Short, steps-cases, measured-short, new-short}
-use Rattle.arrival.proofs.Inspected.{Fits, inspected-fits}
+use Rattle.host.proofs.Inspected.{Fits, inspected-fits}
 use Rattle.arrival.proofs.Pair.{one-piece}
 use Rattle.calls.specs.Perform.{Outcome, Leaves, deliver, refused, updatedBy, perform}
 use Rattle.calls.specs.code.Places.{Placeable, placedUpdates, updatesAt}
@@ -161,7 +161,7 @@ module _ (s : Settings) (good : Sound s) (i : ℕ) (octets : List ℕ) where
     still-ok = reading-in-range (s .«hold_interval») (good .hold-to) c ok (s .«clock_tick») k
 
     fifth-step : (p : Packet) → Fits s octets (Good p) → (f : Flight) → Short f → Fine (step5 (host s (r .clock) (withLink i (f .link) l)) i (countUsed k) p f)
-    fifth-step p fits f short = fifth (r .clock) (withLink i (f .link) l) (countUsed k) still-ok p f short (fits .0) (fits .1)
+    fifth-step p fits f short = fifth (r .clock) (withLink i (f .link) l) (countUsed k) still-ok p f short (omega (arith, fits .whole)) (fits .ours)
 
     fine : (q : Parsed) → Fits s octets q → Fine (inspected k (host s c l) i q)
     fine (Bad a) fits = ended a (host s c l)
@@ -189,7 +189,7 @@ pub record Delivered (x : Lent) (octets : List ℕ) (p : Arrived) (o : Outcome) 
   pub ids : Placeable (x .number) (p .work .first) (p .work .end) × (p .work .base ≤ p .work .first)
   pub there : UpdatesFit (updatesAt (x .number) (p .work)) (x .run) octets
   pub left :
-      Leaves o (p .reply) (updates (updatesAt (x .number) (p .work)) octets (x .run) .clock) (p .links)
+      Leaves o (p .reply) (updates (updatesAt (x .number) (p .work)) octets (x .run) .clock) (p .links) (x .walk) (x .copy)
       (updates (updatesAt (x .number) (p .work)) octets (x .run) .entries)
 
 module _ (x : Lent) (d : Delivery) (octets : List ℕ) where
@@ -202,7 +202,7 @@ module _ (x : Lent) (d : Delivery) (octets : List ℕ) where
       record {
         ids = (record { number = λ h. absurd (omega (arith, h)); ids = λ h. absurd (omega (arith, h)) }, omega arith);
         there = record { places = record { rising = omega arith; inside = omega arith }; sound = λ h. absurd (omega (arith, h)) };
-        left = record { reply = refl; clock = refl; links = refl; run = over-nothing 0 (x .run) };
+        left = record { reply = refl; clock = refl; links = refl; walk = refl; copy = refl; run = over-nothing 0 (x .run) };
       }
 
   goes-on : done g ≡ true → definition.delivered d octets (x .host) .work .count .0 < 2 ^ 16
@@ -217,7 +217,7 @@ module _ (x : Lent) (d : Delivery) (octets : List ℕ) where
       record {
         ids = (record { number = λ _. k-in; ids = λ _. omega (arith, a .below) }, omega (arith, a .base));
         there = fits s (x .number) (x .run) h octets (p .work) a;
-        left = rw (carried s (x .number) (x .run) h octets (p .work) a) record { reply = refl; clock = refl; links = refl; run = refl };
+        left = rw (carried s (x .number) (x .run) h octets (p .work) a) record { reply = refl; clock = refl; links = refl; walk = refl; copy = refl; run = refl };
       }
 
   pub delivered : planned g d octets (x .host) .work .count .0 < 2 ^ 16 → Delivered x octets (planned g d octets (x .host)) (perform (deliver d octets) x)

@@ -24,16 +24,22 @@ use Rattle.host.specs.Guard.{guard, done}
 use Rattle.host.specs.Reply.{plainly}
 use Rattle.host.proofs.Places.{Holds}
 use Rattle.host.proofs.Sound.{sound}
-use Rattle.host.proofs.Guarded.{Passed, passed, holds, number-lent}
-use Rattle.calls.specs.declared.Effect.{Effect}
+use Rattle.host.proofs.Guarded.{Passed, passed, holds, number-lent, walk-lent}
+use Rattle.host.specs.declared.walk.Walk.{Walk}
+use Rattle.host.specs.declared.Effect.{Effect}
+use Rattle.host.specs.Walk.{walkInRange}
+use Rattle.host.specs.Effect.{answers}
+use Rattle.host.specs.code.Told.{afresh}
+use Rattle.walk.proofs.Work.{step-work}
+use borrow.Author.Tests.{ltb-true}
 use Rattle.calls.specs.declared.Request.{Request}
-use Rattle.calls.specs.declared.Request.the-variants.{Initialize, Tick, Adjust, Set, Read, Second, SelfReport, Lookup}
+use Rattle.calls.specs.declared.Request.the-variants.{Initialize, Tick, Adjust, Set, Read, Second, SelfReport, Lookup, Step}
 use Rattle.calls.specs.Effects.{ownWork, scopeOf, effect, wanted}
 use Rattle.calls.specs.Effects as definition
 use Rattle.calls.specs.Perform.{Outcome, Leaves, ask, refused, carriedOut, entryAt, perform}
-use Rattle.calls.specs.code.Planned.{planned}
-use Rattle.calls.specs.code.Places.{Placeable, noEntry, seekAt, soughtAt, placed}
-use Rattle.calls.proofs.Wanted.{wanted-below}
+use Rattle.calls.specs.code.Planned.{planned, WalkTold}
+use Rattle.calls.specs.code.Places.{Placeable, noEntry, seekAt, soughtAt, placed, Seekable}
+use Rattle.calls.proofs.Wanted.{wanted-below, wanted-has-place}
 use Rattle.calls.proofs.Carried.{Ids, one-part, nothing-placed, placed-in, carried}
 
 -- ---- the ids that each effect changes
@@ -42,18 +48,24 @@ own-ids : (s : Settings) (f : Found) → ((id : ℕ) → f ≡ Id id → id < ho
 own-ids s Nothing below time = record { rising = omega arith; below = omega arith }
 own-ids s (Id id) below time = let i = below id refl in record { rising = omega arith; below = omega arith }
 
-pub effect-ids : (q : Request) (h : Host) (e : Entry) → settingsGood (h .settings) ≡ true → Ids (h .settings) (effect q h e .work)
+pub effect-ids : (q : Request) (h : Host) (w : Walk) (copy : List ℕ) (e : Entry) → settingsGood (h .settings) ≡ true
+    → (afresh (scopeOf q) ≡ false → walkInRange (h .settings) w copy ≡ true) → Ids (h .settings) (effect q h w copy e .work)
 unfolding definition.initialize definition.tick definition.adjust definition.setBy definition.read definition.second definition.selfReport definition.lookup
-effect-ids Initialize h e good = record { rising = omega arith; below = omega arith }
-effect-ids (Tick n) h e good = record { rising = omega arith; below = omega arith }
-effect-ids (Adjust n) h e good = record { rising = omega arith; below = omega arith }
-effect-ids (Set ms n) h e good = record { rising = omega arith; below = omega arith }
-effect-ids (Read k) h e good = record { rising = omega arith; below = omega arith }
-effect-ids Second h e good = record { rising = omega arith; below = omega arith }
-effect-ids (SelfReport k) h e good =
+effect-ids Initialize h w copy e good r = record { rising = omega arith; below = omega arith }
+effect-ids (Tick n) h w copy e good r = record { rising = omega arith; below = omega arith }
+effect-ids (Adjust n) h w copy e good r = record { rising = omega arith; below = omega arith }
+effect-ids (Set ms n) h w copy e good r = record { rising = omega arith; below = omega arith }
+effect-ids (Read k) h w copy e good r = record { rising = omega arith; below = omega arith }
+effect-ids Second h w copy e good r = record { rising = omega arith; below = omega arith }
+effect-ids (SelfReport k) h w copy e good r =
     let s : Settings = h .settings in
     own-ids s (ownId s) (λ id q. omega (arith, local-id-below (s .layout) (s .address) id q, sound s good .hosts-to)) (ourReading k h .time)
-effect-ids (Lookup a) h e good = record { rising = omega arith; below = omega arith }
+effect-ids (Lookup a) h w copy e good r = record { rising = omega arith; below = omega arith }
+effect-ids (Step k) h w copy e good r =
+    step-work (h .settings) w copy (r refl) (Ids (h .settings)) k h e refl record { rising = omega arith; below = omega arith }
+    (λ id x. (let i = ltb-true (w .id) (h .settings .layout .nhosts) id in
+    let most = sound (h .settings) good .hosts-to in
+    record { rising = omega arith; below = omega (arith, i, most) }))
 
 module _ (x : Lent) (q : Request) where
   abbrev s : Settings
@@ -67,6 +79,12 @@ module _ (x : Lent) (q : Request) where
 
   abbrev l : Links
   l = x .host .links
+
+  abbrev v : Walk
+  v = x .walk
+
+  abbrev o : List ℕ
+  o = x .copy
 
   abbrev run : List Entry
   run = x .run
@@ -88,46 +106,55 @@ module _ (x : Lent) (q : Request) where
       let one : firstPlace k + id + 1 - (firstPlace k + id) ≡ 1 = omega arith in
       record { there = record { rising = omega arith; inside = omega arith }; is = rw (one, one-part s k run h id i) refl }
 
-  sought-for : done g ≡ true → Sought (wanted q s)
+  sought-for : done g ≡ true → Sought (wanted q s v)
   sought-for d =
       let p = passed (scopeOf q) x d in
-      sought-at (wanted q s) (wanted-below s q (p .settings)) (holds k run (p .places))
+      sought-at (wanted q s v) (wanted-below s v o (p .settings) q (λ f. walk-lent x (p .lent f))) (holds k run (p .places))
 
-  pub sought-in : InRun (soughtAt g q s k .first) (soughtAt g q s k .end) run
+  pub seekable : Seekable g q s v k
+  seekable = record {
+    number = λ d. number-lent k run (passed (scopeOf q) x d .places);
+    place = λ d. (let p = passed (scopeOf q) x d in wanted-has-place s v o (p .settings) q (λ f. walk-lent x (p .lent f)));
+  }
+
+  pub walk-told : WalkTold g q s v o
+  walk-told = record { walk = λ d f. walk-lent x (passed (scopeOf q) x d .lent f) }
+
+  pub sought-in : InRun (soughtAt g q s v k .first) (soughtAt g q s v k .end) run
   sought-in =
       either (λ (z : Seek). InRun (z .first) (z .end) run) (not (done g)) _ _ (λ _. record { rising = omega arith; inside = omega arith })
       (λ e. sought-for (is-so _ e) .there)
 
   -- ---- the call
 
-  pub record Performed (p : Effect) (o : Outcome) : Type 0 where
+  pub record Performed (p : Effect) (y : Outcome) : Type 0 where
     pub ids : Placeable k (p .work .first) (p .work .end)
     pub places : InRun (placed k (p .work) .first) (placed k (p .work) .end) run
-    pub left : Leaves o (p .reply) (p .clock) (p .links) (changes (placed k (p .work)) run)
+    pub left : Leaves y (p .reply) (p .clock) (p .links) (p .walk) o (changes (placed k (p .work)) run)
 
-  pub performed : Performed (planned g q (x .host) (entryOf (soughtAt g q s k) run)) (perform (ask q) x)
+  pub performed : Performed (planned g q (x .host) v o (entryOf (soughtAt g q s v k) run)) (perform (ask q) x)
   unfolding perform
   performed = go (not (done g)) refl
     where
       go : (b : Bool) → not (done g) ≡ b
-          → Performed (cond b (definition.answers (plainly g) c l) (effect q (x .host) (entryOf (cond b noEntry (seekAt k (wanted q s))) run)))
-          (cond b (refused g (ask q) x) (carriedOut (effect q (x .host) (entryAt (wanted q s) x)) x))
+          → Performed (cond b (answers (plainly g) c l v) (effect q (x .host) v o (entryOf (cond b noEntry (seekAt k (wanted q s v))) run)))
+          (cond b (refused g (ask q) x) (carriedOut (effect q (x .host) v o (entryAt (wanted q s v) x)) x))
       go true e =
           record {
             ids = record { number = λ h. absurd (omega (arith, h)); ids = λ h. absurd (omega (arith, h)) };
             places = record { rising = omega arith; inside = omega arith };
-            left = record { reply = refl; clock = refl; links = refl; run = nothing-placed k run };
+            left = record { reply = refl; clock = refl; links = refl; walk = refl; copy = refl; run = nothing-placed k run };
           }
       go false e =
           let p = passed (scopeOf q) x (is-so _ e) in
           let h = holds k run (p .places) in
           let k-in = number-lent k run (p .places) in
-          let e′ = entryAt (wanted q s) x in
-          let w = effect q (x .host) e′ .work in
-          let i = effect-ids q (x .host) e′ (p .settings) in
+          let e′ = entryAt (wanted q s v) x in
+          let w = effect q (x .host) v o e′ .work in
+          let i = effect-ids q (x .host) v o e′ (p .settings) (λ f. walk-lent x (p .lent f)) in
           rw (sought-for (is-so _ e) .is)
           record {
             ids = record { number = λ _. k-in; ids = λ _. omega (arith, i .below) };
             places = placed-in s k run h w i;
-            left = record { reply = refl; clock = refl; links = refl; run = carried s k run h w i };
+            left = record { reply = refl; clock = refl; links = refl; walk = refl; copy = refl; run = carried s k run h w i };
           }

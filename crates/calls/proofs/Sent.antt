@@ -51,7 +51,7 @@ pub record Sent (x : Lent) (buffer : List ℕ) (p : Sending) (o : Outcome) : Typ
   pub ids : Placeable (x .number) (p .work .first) (p .work .end)
   pub fits : ReportsFit (reportsAt (x .number) (p .work)) (x .run) buffer
   pub ready : Finishable p (readOut (reportsAt (x .number) (p .work)) (x .run) buffer)
-  pub left : Leaves o (p .reply) (p .clock) (p .links) (x .run)
+  pub left : Leaves o (p .reply) (p .clock) (p .links) (x .walk) (x .copy) (x .run)
   pub octets : finished p (readOut (reportsAt (x .number) (p .work)) (x .run) buffer) ≡ o .buffer
 
 -- a time of the day fits its four octets
@@ -78,7 +78,7 @@ module _ (x : Lent) (i : ℕ) (counter : Counter) (buffer : List ℕ) where
         ids = record { number = λ h. absurd (omega (arith, h)); ids = λ h. absurd (omega (arith, h)) };
         fits = record { places = record { rising = omega arith; inside = omega arith }; room = λ h. absurd (omega (arith, h)) };
         ready = record { room = λ e. absurd (false≢true e); time = λ e. absurd (false≢true e) };
-        left = record { reply = refl; clock = refl; links = refl; run = refl };
+        left = record { reply = refl; clock = refl; links = refl; walk = refl; copy = refl; run = refl };
         octets = refl;
       }
 
@@ -153,7 +153,7 @@ module _ (x : Lent) (i : ℕ) (counter : Counter) (buffer : List ℕ) where
           room = λ _. rw (put n few h room, put-length n few h room) room;
           time = λ _. four (ourReading counter (x .host) .time) (reading-in (s .«clock_tick») (s .«hold_interval») counter (x .host .clock));
         };
-        left = record { reply = refl; clock = refl; links = refl; run = refl };
+        left = record { reply = refl; clock = refl; links = refl; walk = refl; copy = refl; run = refl };
         octets = rw (put n few h room, z) (sealed-is n few h room (y .neighbor) (p .packet) refl);
       }
 

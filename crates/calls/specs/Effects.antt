@@ -1,11 +1,11 @@
--- What each call comes to: the reply, the clock and the links afterwards, and what becomes of the entries of which ids.
+-- What each call comes to: its effect.
 use mathlib.Core.Bool.{cond, not}
-use Prim.Native.Nat.{ℕ, _+_}
+use mathlib.Core.List.{List}
+use Prim.Native.Nat.{ℕ}
 use Rattle.quantity.specs.declared.Millis.{Millis}
 use Rattle.quantity.specs.declared.Count.{Count}
 use Rattle.quantity.specs.Quantity.{millis}
 use Rattle.answer.specs.declared.Answer.the-variants.{Done, NoHost, HostDown}
-use Rattle.clock.specs.declared.Clock.{Clock}
 use Rattle.clock.specs.declared.Counter.{Counter}
 use Rattle.clock.specs.declared.Reading.{Reading}
 use Rattle.clock.specs.Clock.{freshClock, holdSecond}
@@ -19,86 +19,76 @@ use Rattle.table.specs.declared.run.Change.the-variants.{Fresh, Aged, Reported}
 use Rattle.table.specs.declared.run.Changes.{Changes}
 use Rattle.table.specs.Entry.{up}
 use Rattle.host.specs.declared.Settings.{Settings}
-use Rattle.host.specs.declared.Links.{Links}
+use Rattle.host.specs.declared.walk.Walk.{Walk}
 use Rattle.host.specs.declared.Reply.{Reply}
+use Rattle.host.specs.declared.Effect.{Effect}
 use Rattle.host.specs.declared.guard.Scope.{Scope}
-use Rattle.host.specs.declared.guard.Scope.the-variants.{Places, All}
+use Rattle.host.specs.declared.guard.Scope.the-variants.{Places, All, Walking}
 use Rattle.host.specs.Settings.{ownId, foundFor}
-use Rattle.host.specs.State.{freshLinks, hostCount}
+use Rattle.host.specs.State.{freshLinks}
+use Rattle.host.specs.Walk.{noWalk}
+use Rattle.host.specs.Effect.{nothing, each, one, answers}
 use Rattle.host.specs.Lent.{Host, ourReading}
 use Rattle.host.specs.Reply.{plainly, tellsRoute, tellsTime}
-use Rattle.calls.specs.declared.Effect.{Effect}
+use Rattle.walk.specs.Boxes.{atHand, step}
 use Rattle.calls.specs.declared.Request.{Request}
-use Rattle.calls.specs.declared.Request.the-variants.{Initialize, Tick, Adjust, Set, Read, Second, SelfReport, Lookup}
-
--- ---- what becomes of the entries: nothing, or a change to each id or to one
-
-abbrev pub nothing : Changes
-nothing = record { first = 0; end = 0; change = Fresh }
-
-abbrev pub each : Settings → Change → Changes
-each s change = record { first = 0; end = hostCount s; change = change }
-
-abbrev pub one : (id : ℕ) → Change → Changes
-one id change = record { first = id; end = id + 1; change = change }
-
--- a reply, and this clock and these links; the entries stay
-abbrev pub answers : Reply → Clock → Links → Effect
-answers r c l = record { reply = r; clock = c; links = l; work = nothing }
+use Rattle.calls.specs.declared.Request.the-variants.{Initialize, Tick, Adjust, Set, Read, Second, SelfReport, Lookup, Step}
 
 -- ---- the calls
 
--- setting afresh
+-- setting afresh, "which drops the walk"
 unfoldable pub initialize : Settings → Effect
 initialize s =
-    record { reply = plainly Done; clock = freshClock (s .time) (s .date); links = freshLinks s; work = each s Fresh }
+    record { reply = plainly Done; clock = freshClock (s .time) (s .date); links = freshLinks s; walk = noWalk; work = each s Fresh }
 
-unfoldable pub tick : Count → Host → Effect
-tick n h = answers (plainly Done) (clock.tick (h .settings .«clock_tick») (h .settings .«hold_interval») n (h .clock)) (h .links)
+unfoldable pub tick : Count → Host → Walk → Effect
+tick n h w = answers (plainly Done) (clock.tick (h .settings .«clock_tick») (h .settings .«hold_interval») n (h .clock)) (h .links) w
 
-unfoldable pub adjust : Count → Host → Effect
-adjust n h = answers (plainly Done) (clock.adjust (h .settings .«hold_interval») n (h .clock)) (h .links)
+unfoldable pub adjust : Count → Host → Walk → Effect
+adjust n h w = answers (plainly Done) (clock.adjust (h .settings .«hold_interval») n (h .clock)) (h .links) w
 
 -- by a signed count of ms
-unfoldable pub setBy : Millis → Count → Host → Effect
-setBy ms n h = answers (plainly Done) (clock.setBy (h .settings .«hold_interval») n ms (h .clock)) (h .links)
+unfoldable pub setBy : Millis → Count → Host → Walk → Effect
+setBy ms n h w = answers (plainly Done) (clock.setBy (h .settings .«hold_interval») n ms (h .clock)) (h .links) w
 
-unfoldable pub read : Counter → Host → Effect
-read k h =
+unfoldable pub read : Counter → Host → Walk → Effect
+read k h w =
     let r : Reading = ourReading k h in
-    answers (tellsTime (r .time) (r .clock .date)) (r .clock) (h .links)
+    answers (tellsTime (r .time) (r .clock .date)) (r .clock) (h .links) w
 
-unfoldable pub second : Host → Effect
-second h = record { reply = plainly Done; clock = holdSecond (h .clock); links = h .links; work = each (h .settings) Aged }
+unfoldable pub second : Host → Walk → Effect
+second h w =
+    record { reply = plainly Done; clock = holdSecond (h .clock); links = h .links; walk = w; work = each (h .settings) Aged }
 
 -- "Self-report: update of the seat's own id with PID 0, DELAY 0, OFFSET 0, without (d)."
 abbrev pub ownWork : Millis → Found → Changes
 ownWork time Nothing = nothing
 ownWork time (Id id) = one id (Reported time)
 
-unfoldable pub selfReport : Counter → Host → Effect
-selfReport k h =
+unfoldable pub selfReport : Counter → Host → Walk → Effect
+selfReport k h w =
     let r : Reading = ourReading k h in
-    record { reply = plainly Done; clock = r .clock; links = h .links; work = ownWork (r .time) (ownId (h .settings)) }
+    record { reply = plainly Done; clock = r .clock; links = h .links; walk = w; work = ownWork (r .time) (ownId (h .settings)) }
 
 -- 11 where no id is found, 13 where its host is down
 abbrev pub looked : Found → Entry → Reply
 looked Nothing e = plainly NoHost
 looked (Id id) e = cond (not (up e)) (plainly HostDown) (tellsRoute id (e .pid))
 
-unfoldable pub lookup : Address → Host → Entry → Effect
-lookup a h e = answers (looked (foundFor (h .settings) a) e) (h .clock) (h .links)
+unfoldable pub lookup : Address → Host → Walk → Entry → Effect
+lookup a h w e = answers (looked (foundFor (h .settings) a) e) (h .clock) (h .links) w
 
--- by what is asked; a lookup has the entry of the id that it finds
-abbrev pub effect : Request → Host → Entry → Effect
-effect Initialize h e = initialize (h .settings)
-effect (Tick n) h e = tick n h
-effect (Adjust n) h e = adjust n h
-effect (Set ms n) h e = setBy (millis ms) n h
-effect (Read k) h e = read k h
-effect Second h e = second h
-effect (SelfReport k) h e = selfReport k h
-effect (Lookup a) h e = lookup a h e
+-- by what is asked; a lookup has the entry of the id that it finds, a step that of the id at hand
+abbrev pub effect : Request → Host → Walk → (copy : List ℕ) → Entry → Effect
+effect Initialize h w copy e = initialize (h .settings)
+effect (Tick n) h w copy e = tick n h w
+effect (Adjust n) h w copy e = adjust n h w
+effect (Set ms n) h w copy e = setBy (millis ms) n h w
+effect (Read k) h w copy e = read k h w
+effect Second h w copy e = second h w
+effect (SelfReport k) h w copy e = selfReport k h w
+effect (Lookup a) h w copy e = lookup a h w e
+effect (Step k) h w copy e = step k h w copy e
 
 -- ---- what a call asks for beside
 
@@ -112,14 +102,16 @@ scopeOf (Read k) = All
 scopeOf Second = All
 scopeOf (SelfReport k) = All
 scopeOf (Lookup a) = All
+scopeOf (Step k) = Walking
 
 -- the id whose entry is looked at
-abbrev pub wanted : Request → Settings → Found
-wanted Initialize s = Nothing
-wanted (Tick n) s = Nothing
-wanted (Adjust n) s = Nothing
-wanted (Set ms n) s = Nothing
-wanted (Read k) s = Nothing
-wanted Second s = Nothing
-wanted (SelfReport k) s = Nothing
-wanted (Lookup a) s = foundFor s a
+abbrev pub wanted : Request → Settings → Walk → Found
+wanted Initialize s w = Nothing
+wanted (Tick n) s w = Nothing
+wanted (Adjust n) s w = Nothing
+wanted (Set ms n) s w = Nothing
+wanted (Read k) s w = Nothing
+wanted Second s w = Nothing
+wanted (SelfReport k) s w = Nothing
+wanted (Lookup a) s w = foundFor s a
+wanted (Step k) s w = atHand w

@@ -1,16 +1,14 @@
 // What each request comes to, by value.
 ghost use mathlib.Core.Path.{_≡_};
-ghost use mathlib.Core.Bool.{true};
+ghost use mathlib.Core.Bool.{true, false};
 ghost use Rattle.quantity.specs.Quantity.{millis};
 ghost use Rattle.clock.specs.Clock.{clockInRange};
 ghost use Rattle.host.specs.Settings.{settingsGood};
 ghost use Rattle.host.specs.State.{hasPlace};
 ghost use Rattle.host.specs.Lent.{host};
-ghost use Rattle.host.specs.code.Told.{Ready, Told};
+ghost use Rattle.host.specs.Walk.{walkInRange};
+ghost use Rattle.host.specs.code.Told.{afresh, Ready, Told};
 ghost use Rattle.calls.specs.Effects.{
-  nothing,
-  each,
-  answers,
   ownWork,
   looked,
   initialize,
@@ -23,20 +21,24 @@ ghost use Rattle.calls.specs.Effects.{
   scopeOf,
   effect,
 };
-ghost use Rattle.calls.specs.code.Planned.{planned};
-use super::Effect;
+ghost use Rattle.calls.specs.code.Planned.{planned, WalkTold};
 use super::Request;
 use answer::Answer;
 use clock::Clock;
 use clock::Counter;
+use host::Effect;
 use host::Links;
 use host::Reply;
 use host::Settings;
+use host::effects::answers;
+use host::effects::each;
+use host::effects::nothing;
+use host::effects::one;
 use host::guard::Scope;
-use host::host_count;
 use host::replies::plainly;
 use host::replies::tells_route;
 use host::replies::tells_time;
+use host::walk::Walk;
 use quantity::Count;
 use quantity::Millis;
 use route::Found;
@@ -57,38 +59,7 @@ pub fn scope_of(q: Request) -> Scope
         Request::Second => Scope::All,
         Request::SelfReport(_) => Scope::All,
         Request::Lookup(_) => Scope::All,
-    }
-}
-
-fn nothing() -> Changes
-    ensures { λ w. ⌜ w ≡ nothing ⌝ }
-{
-    Changes {
-        first: 0,
-        end: 0,
-        change: Change::Fresh,
-    }
-}
-
-fn each(s: Settings, change: Change) -> Changes
-    ensures { λ w. ⌜ w ≡ each s change ⌝ }
-{
-    Changes {
-        first: 0,
-        end: host_count(s),
-        change: change,
-    }
-}
-
-// The entries stay.
-fn answers(c: Clock, l: Links, r: Reply) -> Effect
-    ensures { λ p. ⌜ p ≡ answers r c l ⌝ }
-{
-    Effect {
-        reply: r,
-        clock: c,
-        links: l,
-        work: nothing(),
+        Request::Step(_) => Scope::Walking,
     }
 }
 
@@ -100,56 +71,60 @@ fn initialize(s: Settings) -> Effect
         reply: plainly(Answer::Done),
         clock: Clock::fresh(s.time, s.date),
         links: host::link_state::fresh(s),
+        walk: host::walk::none(),
         work: each(s, Change::Fresh),
     }
 }
 
-fn tick(s: Settings, c: Clock, l: Links, n: Count) -> Effect
+fn tick(s: Settings, c: Clock, l: Links, w: Walk, n: Count) -> Effect
     requires { ⌜ (settingsGood s ≡ true) × (clockInRange c ≡ true) ⌝ }
-    ensures { λ p. ⌜ p ≡ tick n (host s c l) ⌝ }
+    ensures { λ p. ⌜ p ≡ tick n (host s c l) w ⌝ }
 {
     answers(
         c.ticked(s.clock_tick, s.hold_interval, n),
         l,
+        w,
         plainly(Answer::Done),
     )
 }
 
-fn adjust(s: Settings, c: Clock, l: Links, n: Count) -> Effect
+fn adjust(s: Settings, c: Clock, l: Links, w: Walk, n: Count) -> Effect
     requires { ⌜ (settingsGood s ≡ true) × (clockInRange c ≡ true) ⌝ }
-    ensures { λ p. ⌜ p ≡ adjust n (host s c l) ⌝ }
+    ensures { λ p. ⌜ p ≡ adjust n (host s c l) w ⌝ }
 {
-    answers(c.adjusted(s.hold_interval, n), l, plainly(Answer::Done))
+    answers(c.adjusted(s.hold_interval, n), l, w, plainly(Answer::Done))
 }
 
-fn set(s: Settings, c: Clock, l: Links, ms: i32, n: Count) -> Effect
+fn set(s: Settings, c: Clock, l: Links, w: Walk, ms: i32, n: Count) -> Effect
     requires { ⌜ (settingsGood s ≡ true) × (clockInRange c ≡ true) ⌝ }
-    ensures { λ p. ⌜ p ≡ setBy (millis ms) n (host s c l) ⌝ }
+    ensures { λ p. ⌜ p ≡ setBy (millis ms) n (host s c l) w ⌝ }
 {
     answers(
         c.set_by(s.hold_interval, n, Millis::of_count(ms)),
         l,
+        w,
         plainly(Answer::Done),
     )
 }
 
-fn read(s: Settings, c: Clock, l: Links, k: Counter) -> Effect
+fn read(s: Settings, c: Clock, l: Links, w: Walk, k: Counter) -> Effect
     requires { ⌜ (settingsGood s ≡ true) × (clockInRange c ≡ true) ⌝ }
-    ensures { λ p. ⌜ p ≡ read k (host s c l) ⌝ }
+    ensures { λ p. ⌜ p ≡ read k (host s c l) w ⌝ }
 {
     let r = host::our_reading(s, c, k);
     let clock = r.clock;
     let date = clock.date;
-    answers(clock, l, tells_time(r.time, date))
+    answers(clock, l, w, tells_time(r.time, date))
 }
 
-fn second(s: Settings, c: Clock, l: Links) -> Effect
-    ensures { λ p. ⌜ p ≡ second (host s c l) ⌝ }
+fn second(s: Settings, c: Clock, l: Links, w: Walk) -> Effect
+    ensures { λ p. ⌜ p ≡ second (host s c l) w ⌝ }
 {
     Effect {
         reply: plainly(Answer::Done),
         clock: c.second(),
         links: l,
+        walk: w,
         work: each(s, Change::Aged),
     }
 }
@@ -160,17 +135,13 @@ fn own_work(time: Millis, own: Found) -> Changes
 {
     match own {
         Found::Nothing => nothing(),
-        Found::Id(id) => Changes {
-            first: id,
-            end: id + 1,
-            change: Change::Reported(time),
-        },
+        Found::Id(id) => one(id, Change::Reported(time)),
     }
 }
 
-fn self_report(s: Settings, c: Clock, l: Links, k: Counter) -> Effect
+fn self_report(s: Settings, c: Clock, l: Links, w: Walk, k: Counter) -> Effect
     requires { ⌜ (settingsGood s ≡ true) × (clockInRange c ≡ true) ⌝ }
-    ensures { λ p. ⌜ p ≡ selfReport k (host s c l) ⌝ }
+    ensures { λ p. ⌜ p ≡ selfReport k (host s c l) w ⌝ }
 {
     let r = host::our_reading(s, c, k);
     let clock = r.clock;
@@ -178,6 +149,7 @@ fn self_report(s: Settings, c: Clock, l: Links, k: Counter) -> Effect
         reply: plainly(Answer::Done),
         clock: clock,
         links: l,
+        walk: w,
         work: own_work(r.time, host::own_id(s)),
     }
 }
@@ -196,29 +168,47 @@ fn looked(found: Found, e: Entry) -> Reply
     }
 }
 
-fn effect(s: Settings, c: Clock, l: Links, e: Entry, q: Request) -> Effect
+fn effect(s: Settings, c: Clock, l: Links, w: Walk, copy: &[u8], e: Entry, q: Request) -> Effect
     requires { ⌜ Ready (scopeOf q) s c ⌝ }
-    ensures { λ p. ⌜ p ≡ effect q (host s c l) e ⌝ }
+    requires { ⌜ (afresh (scopeOf q) ≡ false → walkInRange s w (now copy) ≡ true) ⌝ }
+    ensures { λ p. ⌜ p ≡ effect q (host s c l) w (now (copy .entry)) e ⌝ }
 {
     match q {
         Request::Initialize => initialize(s),
-        Request::Tick(n) => tick(s, c, l, n),
-        Request::Adjust(n) => adjust(s, c, l, n),
-        Request::Set(ms, n) => set(s, c, l, ms, n),
-        Request::Read(k) => read(s, c, l, k),
-        Request::Second => second(s, c, l),
-        Request::SelfReport(k) => self_report(s, c, l, k),
-        Request::Lookup(a) => answers(c, l, looked(route::find(s.address, s.layout, s.net, a), e)),
+        Request::Tick(n) => tick(s, c, l, w, n),
+        Request::Adjust(n) => adjust(s, c, l, w, n),
+        Request::Set(ms, n) => set(s, c, l, w, ms, n),
+        Request::Read(k) => read(s, c, l, w, k),
+        Request::Second => second(s, c, l, w),
+        Request::SelfReport(k) => self_report(s, c, l, w, k),
+        Request::Lookup(a) => {
+            answers(
+                c,
+                l,
+                w,
+                looked(route::find(s.address, s.layout, s.net, a), e),
+            )
+        }
+        Request::Step(k) => walk::step(s, c, l, w, copy, e, k),
     }
 }
 
 // A refusal of the guard's, or the effect.
-pub fn plan(g: Answer, s: Settings, c: Clock, l: Links, e: Entry, q: Request) -> Effect
-    requires { ⌜ Told g (scopeOf q) s c ⌝ }
-    ensures { λ p. ⌜ p ≡ planned g q (host s c l) e ⌝ }
+pub fn plan(
+    g: Answer,
+    s: Settings,
+    c: Clock,
+    l: Links,
+    w: Walk,
+    copy: &[u8],
+    e: Entry,
+    q: Request,
+) -> Effect
+    requires { ⌜ Told g (scopeOf q) s c × WalkTold g q s w (now copy) ⌝ }
+    ensures { λ p. ⌜ p ≡ planned g q (host s c l) w (now (copy .entry)) e ⌝ }
 {
     if !answer::is_done(g) {
-        return answers(c, l, plainly(g));
+        return answers(c, l, w, plainly(g));
     }
-    effect(s, c, l, e, q)
+    effect(s, c, l, w, copy, e, q)
 }

@@ -1,8 +1,8 @@
-// The calls of a HELLO host. Each is lent all of a host, its clock, its links and the run with its places; settings, number and what is lent are answered for first, with 12 or 1.
+// The calls of a HELLO host. Each is lent all of a host, its clock, its links, its walk with the copy of a packet, and the run with its places; settings, number and what is lent are answered for first, with 12, 16 or 1.
 ghost use mathlib.Core.Path.{_≡_};
-ghost use Rattle.host.specs.declared.guard.Scope.the-variants.{OnLink};
+ghost use Rattle.host.specs.declared.guard.Scope.the-variants.{OnLink, Opening};
 ghost use Rattle.host.specs.Lent.{lent};
-ghost use Rattle.calls.specs.Perform.{perform, Leaves, ask, send, deliver};
+ghost use Rattle.calls.specs.Perform.{perform, Leaves, ask, send, deliver, openWalk};
 ghost use Rattle.arrival.specs.Arrival.{onLink};
 use arrival::Delivery;
 use clock::Clock;
@@ -12,9 +12,9 @@ use host::Reply;
 use host::Settings;
 use host::guard::Scope;
 use host::guard::guard;
+use host::walk::Walk;
 use quantity::Count;
 use table::Entry;
-use table::run::Changes;
 use table::run::change_all;
 use table::run::entry_of;
 use table::run::read_out;
@@ -35,39 +35,69 @@ pub enum Request {
     Second,
     SelfReport(Counter),
     Lookup(wire::Address),
+    // one box of a walk
+    Step(Counter),
 }
 
-// What a request comes to: the reply, the clock and the links afterwards, and what becomes of the entries of which ids.
-pub struct Effect {
-    pub reply: Reply,
-    pub clock: Clock,
-    pub links: Links,
-    pub work: Changes,
-}
-
-// A request: the calls that are lent no octets.
+// A request: the calls that are lent no octets but the copy of a walk's packet.
 pub fn call(
     settings: &Settings,
     number: usize,
     clock: &mut Clock,
     links: &mut Links,
+    walk: &mut Walk,
+    copy: &[u8],
     run: &mut [Entry],
     request: Request,
 ) -> Reply
-    ensures { λ r. ⌜ Leaves (perform (ask request) (lent (now (settings .entry)) number (now (clock .entry)) (now (links .entry)) (now (run .entry)))) r (now (clock .exit)) (now (links .exit)) (now (run .exit)) ⌝ }
+    ensures { λ r. ⌜ Leaves (perform (ask request) (lent (now (settings .entry)) number (now (clock .entry)) (now (links .entry)) (now (walk .entry)) (now (copy .entry)) (now (run .entry)))) r (now (clock .exit)) (now (links .exit)) (now (walk .exit)) (now (copy .entry)) (now (run .exit)) ⌝ }
 {
     let s = *settings;
     let c = *clock;
     let l = *links;
+    let v = *walk;
     let a = effects::scope_of(request);
-    let g = guard(settings, number, c, l, a, run);
-    let z = places::sought(g, s, number, request);
+    let g = guard(settings, number, c, l, v, copy, a, run);
+    let z = places::sought(g, s, v, number, request);
     let e = entry_of(run, z);
-    let p = effects::plan(g, s, c, l, e, request);
+    let p = effects::plan(g, s, c, l, v, copy, e, request);
     let w = places::placed(number, p.work);
     change_all(run, w);
     *clock = p.clock;
     *links = p.links;
+    *walk = p.walk;
+    p.reply
+}
+
+fn opening(link: usize) -> Scope
+    ensures { λ r. ⌜ r ≡ Opening link ⌝ }
+{
+    Scope::Opening(link)
+}
+
+// A walk is opened for a packet on a link: the packet is copied, and the first box is next.
+pub fn open_walk(
+    settings: &Settings,
+    number: usize,
+    clock: &Clock,
+    links: &Links,
+    walk: &mut Walk,
+    copy: &mut [u8],
+    run: &[Entry],
+    link: usize,
+    packet: &[u8],
+) -> Reply
+    ensures { λ r. ⌜ Leaves (perform (openWalk link (now (packet .entry))) (lent (now (settings .entry)) number (now (clock .entry)) (now (links .entry)) (now (walk .entry)) (now (copy .entry)) (now (run .entry)))) r (now (clock .entry)) (now (links .entry)) (now (walk .exit)) (now (copy .exit)) (now (run .entry)) ⌝ }
+{
+    let s = *settings;
+    let c = *clock;
+    let l = *links;
+    let v = *walk;
+    let a = opening(link);
+    let g = guard(settings, number, c, l, v, copy, a, run);
+    let p = walk::plan(g, s, v, link, packet);
+    walk::keep(copy, packet, p.octets);
+    *walk = p.walk;
     p.reply
 }
 
@@ -83,20 +113,23 @@ pub fn send(
     number: usize,
     clock: &mut Clock,
     links: &mut Links,
+    walk: &Walk,
+    copy: &[u8],
     run: &[Entry],
     link: usize,
     counter: Counter,
     buffer: &mut [u8],
 ) -> Reply
-    ensures { λ r. ⌜ Leaves (perform (send link counter (now (buffer .entry))) (lent (now (settings .entry)) number (now (clock .entry)) (now (links .entry)) (now (run .entry)))) r (now (clock .exit)) (now (links .exit)) (now (run .entry))
-        × (now (buffer .exit) ≡ perform (send link counter (now (buffer .entry))) (lent (now (settings .entry)) number (now (clock .entry)) (now (links .entry)) (now (run .entry))) .buffer) ⌝ }
+    ensures { λ r. ⌜ Leaves (perform (send link counter (now (buffer .entry))) (lent (now (settings .entry)) number (now (clock .entry)) (now (links .entry)) (now (walk .entry)) (now (copy .entry)) (now (run .entry)))) r (now (clock .exit)) (now (links .exit)) (now (walk .entry)) (now (copy .entry)) (now (run .entry))
+        × (now (buffer .exit) ≡ perform (send link counter (now (buffer .entry))) (lent (now (settings .entry)) number (now (clock .entry)) (now (links .entry)) (now (walk .entry)) (now (copy .entry)) (now (run .entry))) .buffer) ⌝ }
 {
     let s = *settings;
     let c = *clock;
     let l = *links;
+    let v = *walk;
     let n = buffer.len();
     let a = on_link(link);
-    let g = guard(settings, number, c, l, a, run);
+    let g = guard(settings, number, c, l, v, copy, a, run);
     let p = sending::plan(g, s, c, l, link, counter, n);
     let w = places::reports_at(number, p.work);
     read_out(buffer, run, w);
@@ -118,17 +151,20 @@ pub fn deliver(
     number: usize,
     clock: &mut Clock,
     links: &mut Links,
+    walk: &Walk,
+    copy: &[u8],
     run: &mut [Entry],
     delivery: Delivery,
     packet: &[u8],
 ) -> Reply
-    ensures { λ r. ⌜ Leaves (perform (deliver delivery (now (packet .entry))) (lent (now (settings .entry)) number (now (clock .entry)) (now (links .entry)) (now (run .entry)))) r (now (clock .exit)) (now (links .exit)) (now (run .exit)) ⌝ }
+    ensures { λ r. ⌜ Leaves (perform (deliver delivery (now (packet .entry))) (lent (now (settings .entry)) number (now (clock .entry)) (now (links .entry)) (now (walk .entry)) (now (copy .entry)) (now (run .entry)))) r (now (clock .exit)) (now (links .exit)) (now (walk .entry)) (now (copy .entry)) (now (run .exit)) ⌝ }
 {
     let s = *settings;
     let c = *clock;
     let l = *links;
+    let v = *walk;
     let a = on_its_link(delivery);
-    let g = guard(settings, number, c, l, a, run);
+    let g = guard(settings, number, c, l, v, copy, a, run);
     let p = arrival::plan(g, s, c, l, delivery, packet);
     let w = places::updates_at(number, p.work);
     let k = update_all(run, w, packet);

@@ -3,10 +3,10 @@ ghost use mathlib.Core.Path.{_≡_};
 ghost use mathlib.Core.Bool.{true};
 ghost use Prim.Native.Nat.{_≤_, _<_};
 ghost use Rattle.host.specs.State.{hasPlace};
-ghost use Rattle.host.specs.code.Told.{NumberTold};
 ghost use Rattle.calls.specs.Effects.{wanted};
 ghost use Rattle.calls.specs.code.Places.{
   Placeable,
+  Seekable,
   noEntry,
   seekAt,
   soughtAt,
@@ -19,6 +19,7 @@ use super::Request;
 use answer::Answer;
 use host::Settings;
 use host::first_place;
+use host::walk::Walk;
 use route::Found;
 use table::run::Change;
 use table::run::Changes;
@@ -27,8 +28,8 @@ use table::run::Seek;
 use table::run::Updates;
 
 // The id whose entry is looked at.
-fn wanted(s: Settings, q: Request) -> Found
-    ensures { λ r. ⌜ r ≡ wanted q s ⌝ }
+fn wanted(s: Settings, w: Walk, q: Request) -> Found
+    ensures { λ r. ⌜ r ≡ wanted q s w ⌝ }
 {
     match q {
         Request::Initialize => Found::Nothing,
@@ -39,6 +40,7 @@ fn wanted(s: Settings, q: Request) -> Found
         Request::Second => Found::Nothing,
         Request::SelfReport(_) => Found::Nothing,
         Request::Lookup(a) => route::find(s.address, s.layout, s.net, a),
+        Request::Step(_) => walk::at_hand(w),
     }
 }
 
@@ -70,14 +72,14 @@ fn seek_at(number: usize, found: Found) -> Seek
 }
 
 // The entry that is looked at.
-pub fn sought(g: Answer, s: Settings, number: usize, q: Request) -> Seek
-    requires { ⌜ NumberTold g s number ⌝ }
-    ensures { λ w. ⌜ w ≡ soughtAt g q s number ⌝ }
+pub fn sought(g: Answer, s: Settings, w: Walk, number: usize, q: Request) -> Seek
+    requires { ⌜ Seekable g q s w number ⌝ }
+    ensures { λ r. ⌜ r ≡ soughtAt g q s w number ⌝ }
 {
     if !answer::is_done(g) {
         return no_entry();
     }
-    seek_at(number, wanted(s, q))
+    seek_at(number, wanted(s, w, q))
 }
 
 // The places of ids that are changed.

@@ -11,18 +11,6 @@ use super::NUMBER;
 use super::octets::put_four;
 use super::search::next;
 
-// Octets copied to a place.
-fn copy(to: &mut [u8], place: usize, from: &[u8])
-    requires { ⌜ place + length (now from) ≤ length (now to) ⌝ }
-    ensures { λ _. ⌜ now (to .exit) ≡ over (now (to .entry)) place (now (from .entry)) ⌝ }
-{
-    let mut i: usize = 0;
-    while i < from.len() {
-        to[place + i] = from[i];
-        i += 1;
-    }
-}
-
 // The stretch from one octet to another put at a place of the list, where it has octets; the place behind it.
 fn put_stretch(list: &mut [u8], place: usize, from: usize, to: usize) -> usize
     requires { ⌜ place + length (spanOctets (gap from to)) ≤ length (now list) ⌝ }
@@ -57,7 +45,7 @@ pub fn write(input: &[u8], capture: &mut [u8], stretches: &mut [u8], hits: usize
         }
         at = start + size;
         put_four(&mut *capture, place, to);
-        copy(&mut *capture, to, &input[start..at]);
+        wire::copy(&mut *capture, to, &input[start..at]);
         place += NUMBER;
         to += size;
     }

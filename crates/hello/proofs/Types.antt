@@ -10,6 +10,8 @@ use Rattle.hello.proofs.Time as Time
 use Rattle.hello.proofs.Time.Laws as Time′
 use Rattle.hello.proofs.Inspected as Inspected
 use Rattle.hello.proofs.Inspected.Laws as Inspected′
+use Rattle.hello.proofs.Stepped as Stepped
+use Rattle.hello.proofs.Stepped.Laws as Stepped′
 
 abbrev pub address : Data
 address = record { S = Address.the-type; L = Address′.the-laws; P = Address′.the-plain; low = Address′.lowers; copies = Address′.the-copy }
@@ -25,3 +27,6 @@ time = record { S = Time.the-type; L = Time′.the-laws; P = Time′.the-plain; 
 
 abbrev pub inspected : Data
 inspected = record { S = Inspected.the-type; L = Inspected′.the-laws; P = Inspected′.the-plain; low = Inspected′.lowers; copies = Inspected′.the-copy }
+
+abbrev pub stepped : Data
+stepped = record { S = Stepped.the-type; L = Stepped′.the-laws; P = Stepped′.the-plain; low = Stepped′.lowers; copies = Stepped′.the-copy }

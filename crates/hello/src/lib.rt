@@ -11,9 +11,10 @@ ghost use Rattle.calls.specs.declared.Request.the-variants.{
   Second,
   SelfReport,
   Lookup,
+  Step,
 };
 ghost use Rattle.arrival.specs.declared.Delivery.the-variants.{Inspect, Act, Receive};
-ghost use Rattle.calls.specs.Perform.{perform, ask, send, inspect, act, receive};
+ghost use Rattle.calls.specs.Perform.{perform, ask, send, inspect, act, receive, openWalk};
 ghost use Rattle.program.specs.Program.{programAnswer};
 ghost use Rattle.hello.specs.Told.{
   numbered,
@@ -21,6 +22,7 @@ ghost use Rattle.hello.specs.Told.{
   sentTold,
   routeTold,
   inspectedTold,
+  steppedTold,
   Returns,
 };
 use arrival::Delivery;
@@ -30,6 +32,7 @@ use clock::Counter;
 use host::Links;
 use host::Reply;
 use host::Settings;
+use host::walk::Walk;
 use quantity::Count;
 use table::Entry;
 use wire::Address;
@@ -70,6 +73,15 @@ pub struct Inspected {
     pub time: quantity::Millis,
     pub tsp: u16,
     pub nhosts: u8,
+}
+
+// What the opening of a walk and a step of it answer: the number of the answer, and the next place: the step, in step 5 the line, 1 to 4 for (a) to (d), of a host id; zeros where none is left.
+#[repr(C)]
+pub struct Stepped {
+    pub answer: u8,
+    pub step: u8,
+    pub line: u8,
+    pub id: usize,
 }
 
 // ---- what a reply tells
@@ -130,6 +142,18 @@ fn inspected_told(t: Reply) -> Inspected
     }
 }
 
+fn stepped_told(t: Reply) -> Stepped
+    ensures { λ r. ⌜ r ≡ steppedTold t ⌝ }
+{
+    let a = t.answer;
+    Stepped {
+        answer: answer::number(a),
+        step: t.step,
+        line: t.line,
+        id: t.id,
+    }
+}
+
 // ---- what is asked
 
 fn asks_initialize() -> Request
@@ -180,6 +204,12 @@ fn asks_lookup(address: Address) -> Request
     Request::Lookup(address)
 }
 
+fn asks_step(counter: Counter) -> Request
+    ensures { λ q. ⌜ q ≡ Step counter ⌝ }
+{
+    Request::Step(counter)
+}
+
 fn inspects(link: usize) -> Delivery
     ensures { λ d. ⌜ d ≡ Inspect link ⌝ }
 {
@@ -223,12 +253,14 @@ pub extern "C" fn hello_initialize(
     number: usize,
     clock: &mut Clock,
     links: &mut Links,
+    walk: &mut Walk,
+    copy: &[u8],
     run: &mut [Entry],
 ) -> u8
-    ensures { λ r. ⌜ Returns numbered (perform (ask Initialize) (lent (now (settings .entry)) number (now (clock .entry)) (now (links .entry)) (now (run .entry)))) r (now (clock .exit)) (now (links .exit)) (now (run .exit)) ⌝ }
+    ensures { λ r. ⌜ Returns numbered (perform (ask Initialize) (lent (now (settings .entry)) number (now (clock .entry)) (now (links .entry)) (now (walk .entry)) (now (copy .entry)) (now (run .entry)))) r (now (clock .exit)) (now (links .exit)) (now (walk .exit)) (now (copy .entry)) (now (run .exit)) ⌝ }
 {
     let q = asks_initialize();
-    let a = calls::call(settings, number, clock, links, run, q);
+    let a = calls::call(settings, number, clock, links, walk, copy, run, q);
     numbered(a)
 }
 
@@ -239,13 +271,15 @@ pub extern "C" fn hello_tick(
     number: usize,
     clock: &mut Clock,
     links: &mut Links,
+    walk: &mut Walk,
+    copy: &[u8],
     run: &mut [Entry],
     count: Count,
 ) -> u8
-    ensures { λ r. ⌜ Returns numbered (perform (ask (Tick count)) (lent (now (settings .entry)) number (now (clock .entry)) (now (links .entry)) (now (run .entry)))) r (now (clock .exit)) (now (links .exit)) (now (run .exit)) ⌝ }
+    ensures { λ r. ⌜ Returns numbered (perform (ask (Tick count)) (lent (now (settings .entry)) number (now (clock .entry)) (now (links .entry)) (now (walk .entry)) (now (copy .entry)) (now (run .entry)))) r (now (clock .exit)) (now (links .exit)) (now (walk .exit)) (now (copy .entry)) (now (run .exit)) ⌝ }
 {
     let q = asks_tick(count);
-    let a = calls::call(settings, number, clock, links, run, q);
+    let a = calls::call(settings, number, clock, links, walk, copy, run, q);
     numbered(a)
 }
 
@@ -256,13 +290,15 @@ pub extern "C" fn hello_adjust(
     number: usize,
     clock: &mut Clock,
     links: &mut Links,
+    walk: &mut Walk,
+    copy: &[u8],
     run: &mut [Entry],
     count: Count,
 ) -> u8
-    ensures { λ r. ⌜ Returns numbered (perform (ask (Adjust count)) (lent (now (settings .entry)) number (now (clock .entry)) (now (links .entry)) (now (run .entry)))) r (now (clock .exit)) (now (links .exit)) (now (run .exit)) ⌝ }
+    ensures { λ r. ⌜ Returns numbered (perform (ask (Adjust count)) (lent (now (settings .entry)) number (now (clock .entry)) (now (links .entry)) (now (walk .entry)) (now (copy .entry)) (now (run .entry)))) r (now (clock .exit)) (now (links .exit)) (now (walk .exit)) (now (copy .entry)) (now (run .exit)) ⌝ }
 {
     let q = asks_adjust(count);
-    let a = calls::call(settings, number, clock, links, run, q);
+    let a = calls::call(settings, number, clock, links, walk, copy, run, q);
     numbered(a)
 }
 
@@ -273,14 +309,16 @@ pub extern "C" fn hello_set(
     number: usize,
     clock: &mut Clock,
     links: &mut Links,
+    walk: &mut Walk,
+    copy: &[u8],
     run: &mut [Entry],
     ms: i32,
     count: Count,
 ) -> u8
-    ensures { λ r. ⌜ Returns numbered (perform (ask (Set ms count)) (lent (now (settings .entry)) number (now (clock .entry)) (now (links .entry)) (now (run .entry)))) r (now (clock .exit)) (now (links .exit)) (now (run .exit)) ⌝ }
+    ensures { λ r. ⌜ Returns numbered (perform (ask (Set ms count)) (lent (now (settings .entry)) number (now (clock .entry)) (now (links .entry)) (now (walk .entry)) (now (copy .entry)) (now (run .entry)))) r (now (clock .exit)) (now (links .exit)) (now (walk .exit)) (now (copy .entry)) (now (run .exit)) ⌝ }
 {
     let q = asks_set(ms, count);
-    let a = calls::call(settings, number, clock, links, run, q);
+    let a = calls::call(settings, number, clock, links, walk, copy, run, q);
     numbered(a)
 }
 
@@ -291,13 +329,15 @@ pub extern "C" fn hello_read(
     number: usize,
     clock: &mut Clock,
     links: &mut Links,
+    walk: &mut Walk,
+    copy: &[u8],
     run: &mut [Entry],
     counter: Counter,
 ) -> Time
-    ensures { λ r. ⌜ Returns timeTold (perform (ask (Read counter)) (lent (now (settings .entry)) number (now (clock .entry)) (now (links .entry)) (now (run .entry)))) r (now (clock .exit)) (now (links .exit)) (now (run .exit)) ⌝ }
+    ensures { λ r. ⌜ Returns timeTold (perform (ask (Read counter)) (lent (now (settings .entry)) number (now (clock .entry)) (now (links .entry)) (now (walk .entry)) (now (copy .entry)) (now (run .entry)))) r (now (clock .exit)) (now (links .exit)) (now (walk .exit)) (now (copy .entry)) (now (run .exit)) ⌝ }
 {
     let q = asks_read(counter);
-    let a = calls::call(settings, number, clock, links, run, q);
+    let a = calls::call(settings, number, clock, links, walk, copy, run, q);
     time_told(a)
 }
 
@@ -308,12 +348,14 @@ pub extern "C" fn hello_second(
     number: usize,
     clock: &mut Clock,
     links: &mut Links,
+    walk: &mut Walk,
+    copy: &[u8],
     run: &mut [Entry],
 ) -> u8
-    ensures { λ r. ⌜ Returns numbered (perform (ask Second) (lent (now (settings .entry)) number (now (clock .entry)) (now (links .entry)) (now (run .entry)))) r (now (clock .exit)) (now (links .exit)) (now (run .exit)) ⌝ }
+    ensures { λ r. ⌜ Returns numbered (perform (ask Second) (lent (now (settings .entry)) number (now (clock .entry)) (now (links .entry)) (now (walk .entry)) (now (copy .entry)) (now (run .entry)))) r (now (clock .exit)) (now (links .exit)) (now (walk .exit)) (now (copy .entry)) (now (run .exit)) ⌝ }
 {
     let q = asks_second();
-    let a = calls::call(settings, number, clock, links, run, q);
+    let a = calls::call(settings, number, clock, links, walk, copy, run, q);
     numbered(a)
 }
 
@@ -324,13 +366,15 @@ pub extern "C" fn hello_self_report(
     number: usize,
     clock: &mut Clock,
     links: &mut Links,
+    walk: &mut Walk,
+    copy: &[u8],
     run: &mut [Entry],
     counter: Counter,
 ) -> u8
-    ensures { λ r. ⌜ Returns numbered (perform (ask (SelfReport counter)) (lent (now (settings .entry)) number (now (clock .entry)) (now (links .entry)) (now (run .entry)))) r (now (clock .exit)) (now (links .exit)) (now (run .exit)) ⌝ }
+    ensures { λ r. ⌜ Returns numbered (perform (ask (SelfReport counter)) (lent (now (settings .entry)) number (now (clock .entry)) (now (links .entry)) (now (walk .entry)) (now (copy .entry)) (now (run .entry)))) r (now (clock .exit)) (now (links .exit)) (now (walk .exit)) (now (copy .entry)) (now (run .exit)) ⌝ }
 {
     let q = asks_self_report(counter);
-    let a = calls::call(settings, number, clock, links, run, q);
+    let a = calls::call(settings, number, clock, links, walk, copy, run, q);
     numbered(a)
 }
 
@@ -341,15 +385,28 @@ pub extern "C" fn hello_send(
     number: usize,
     clock: &mut Clock,
     links: &mut Links,
+    walk: &Walk,
+    copy: &[u8],
     run: &[Entry],
     link: usize,
     counter: Counter,
     buffer: &mut [u8],
 ) -> Sent
-    ensures { λ r. ⌜ Returns sentTold (perform (send link counter (now (buffer .entry))) (lent (now (settings .entry)) number (now (clock .entry)) (now (links .entry)) (now (run .entry)))) r (now (clock .exit)) (now (links .exit)) (now (run .entry))
-        × (now (buffer .exit) ≡ perform (send link counter (now (buffer .entry))) (lent (now (settings .entry)) number (now (clock .entry)) (now (links .entry)) (now (run .entry))) .buffer) ⌝ }
+    ensures { λ r. ⌜ Returns sentTold (perform (send link counter (now (buffer .entry))) (lent (now (settings .entry)) number (now (clock .entry)) (now (links .entry)) (now (walk .entry)) (now (copy .entry)) (now (run .entry)))) r (now (clock .exit)) (now (links .exit)) (now (walk .entry)) (now (copy .entry)) (now (run .entry))
+        × (now (buffer .exit) ≡ perform (send link counter (now (buffer .entry))) (lent (now (settings .entry)) number (now (clock .entry)) (now (links .entry)) (now (walk .entry)) (now (copy .entry)) (now (run .entry))) .buffer) ⌝ }
 {
-    let a = calls::send(settings, number, clock, links, run, link, counter, buffer);
+    let a = calls::send(
+        settings,
+        number,
+        clock,
+        links,
+        walk,
+        copy,
+        run,
+        link,
+        counter,
+        buffer,
+    );
     sent_told(a)
 }
 
@@ -360,14 +417,16 @@ pub extern "C" fn hello_inspect(
     number: usize,
     clock: &mut Clock,
     links: &mut Links,
+    walk: &Walk,
+    copy: &[u8],
     run: &mut [Entry],
     link: usize,
     packet: &[u8],
 ) -> Inspected
-    ensures { λ r. ⌜ Returns inspectedTold (perform (inspect link (now (packet .entry))) (lent (now (settings .entry)) number (now (clock .entry)) (now (links .entry)) (now (run .entry)))) r (now (clock .exit)) (now (links .exit)) (now (run .exit)) ⌝ }
+    ensures { λ r. ⌜ Returns inspectedTold (perform (inspect link (now (packet .entry))) (lent (now (settings .entry)) number (now (clock .entry)) (now (links .entry)) (now (walk .entry)) (now (copy .entry)) (now (run .entry)))) r (now (clock .exit)) (now (links .exit)) (now (walk .entry)) (now (copy .entry)) (now (run .exit)) ⌝ }
 {
     let d = inspects(link);
-    let a = calls::deliver(settings, number, clock, links, run, d, packet);
+    let a = calls::deliver(settings, number, clock, links, walk, copy, run, d, packet);
     inspected_told(a)
 }
 
@@ -378,15 +437,17 @@ pub extern "C" fn hello_act(
     number: usize,
     clock: &mut Clock,
     links: &mut Links,
+    walk: &Walk,
+    copy: &[u8],
     run: &mut [Entry],
     link: usize,
     counter: Counter,
     packet: &[u8],
 ) -> u8
-    ensures { λ r. ⌜ Returns numbered (perform (act link counter (now (packet .entry))) (lent (now (settings .entry)) number (now (clock .entry)) (now (links .entry)) (now (run .entry)))) r (now (clock .exit)) (now (links .exit)) (now (run .exit)) ⌝ }
+    ensures { λ r. ⌜ Returns numbered (perform (act link counter (now (packet .entry))) (lent (now (settings .entry)) number (now (clock .entry)) (now (links .entry)) (now (walk .entry)) (now (copy .entry)) (now (run .entry)))) r (now (clock .exit)) (now (links .exit)) (now (walk .entry)) (now (copy .entry)) (now (run .exit)) ⌝ }
 {
     let d = acts(link, counter);
-    let a = calls::deliver(settings, number, clock, links, run, d, packet);
+    let a = calls::deliver(settings, number, clock, links, walk, copy, run, d, packet);
     numbered(a)
 }
 
@@ -397,15 +458,17 @@ pub extern "C" fn hello_receive(
     number: usize,
     clock: &mut Clock,
     links: &mut Links,
+    walk: &Walk,
+    copy: &[u8],
     run: &mut [Entry],
     link: usize,
     counter: Counter,
     packet: &[u8],
 ) -> u8
-    ensures { λ r. ⌜ Returns numbered (perform (receive link counter (now (packet .entry))) (lent (now (settings .entry)) number (now (clock .entry)) (now (links .entry)) (now (run .entry)))) r (now (clock .exit)) (now (links .exit)) (now (run .exit)) ⌝ }
+    ensures { λ r. ⌜ Returns numbered (perform (receive link counter (now (packet .entry))) (lent (now (settings .entry)) number (now (clock .entry)) (now (links .entry)) (now (walk .entry)) (now (copy .entry)) (now (run .entry)))) r (now (clock .exit)) (now (links .exit)) (now (walk .entry)) (now (copy .entry)) (now (run .exit)) ⌝ }
 {
     let d = receives(link, counter);
-    let a = calls::deliver(settings, number, clock, links, run, d, packet);
+    let a = calls::deliver(settings, number, clock, links, walk, copy, run, d, packet);
     numbered(a)
 }
 
@@ -416,12 +479,62 @@ pub extern "C" fn hello_lookup(
     number: usize,
     clock: &mut Clock,
     links: &mut Links,
+    walk: &mut Walk,
+    copy: &[u8],
     run: &mut [Entry],
     address: Address,
 ) -> Route
-    ensures { λ r. ⌜ Returns routeTold (perform (ask (Lookup address)) (lent (now (settings .entry)) number (now (clock .entry)) (now (links .entry)) (now (run .entry)))) r (now (clock .exit)) (now (links .exit)) (now (run .exit)) ⌝ }
+    ensures { λ r. ⌜ Returns routeTold (perform (ask (Lookup address)) (lent (now (settings .entry)) number (now (clock .entry)) (now (links .entry)) (now (walk .entry)) (now (copy .entry)) (now (run .entry)))) r (now (clock .exit)) (now (links .exit)) (now (walk .exit)) (now (copy .entry)) (now (run .exit)) ⌝ }
 {
     let q = asks_lookup(address);
-    let a = calls::call(settings, number, clock, links, run, q);
+    let a = calls::call(settings, number, clock, links, walk, copy, run, q);
     route_told(a)
+}
+
+// A walk is opened for a packet on a link: the packet is copied, and the first box is next.
+#[no_mangle]
+pub extern "C" fn hello_open_walk(
+    settings: &Settings,
+    number: usize,
+    clock: &Clock,
+    links: &Links,
+    walk: &mut Walk,
+    copy: &mut [u8],
+    run: &[Entry],
+    link: usize,
+    packet: &[u8],
+) -> Stepped
+    ensures { λ r. ⌜ Returns steppedTold (perform (openWalk link (now (packet .entry))) (lent (now (settings .entry)) number (now (clock .entry)) (now (links .entry)) (now (walk .entry)) (now (copy .entry)) (now (run .entry)))) r (now (clock .entry)) (now (links .entry)) (now (walk .exit)) (now (copy .exit)) (now (run .entry)) ⌝ }
+{
+    let a = calls::open_walk(
+        settings,
+        number,
+        clock,
+        links,
+        walk,
+        copy,
+        run,
+        link,
+        packet,
+    );
+    stepped_told(a)
+}
+
+// One box of a walk.
+#[no_mangle]
+pub extern "C" fn hello_step(
+    settings: &Settings,
+    number: usize,
+    clock: &mut Clock,
+    links: &mut Links,
+    walk: &mut Walk,
+    copy: &[u8],
+    run: &mut [Entry],
+    counter: Counter,
+) -> Stepped
+    ensures { λ r. ⌜ Returns steppedTold (perform (ask (Step counter)) (lent (now (settings .entry)) number (now (clock .entry)) (now (links .entry)) (now (walk .entry)) (now (copy .entry)) (now (run .entry)))) r (now (clock .exit)) (now (links .exit)) (now (walk .exit)) (now (copy .entry)) (now (run .exit)) ⌝ }
+{
+    let q = asks_step(counter);
+    let a = calls::call(settings, number, clock, links, walk, copy, run, q);
+    stepped_told(a)
 }

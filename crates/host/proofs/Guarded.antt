@@ -10,18 +10,18 @@ use lib.ListN.{length}
 use Rattle.lists.proofs.Tests.{both, neither, is-not, is-so}
 use Rattle.lists.proofs.Tests as tests
 use Rattle.answer.specs.declared.Answer.{Answer}
-use Rattle.answer.specs.declared.Answer.the-variants.{Done, Setting, OutOfRange}
+use Rattle.answer.specs.declared.Answer.the-variants.{Done, Setting, OutOfRange, InWalk}
 use Rattle.clock.specs.Clock.{clockInRange}
 use Rattle.table.specs.declared.Entry.{Entry}
 use Rattle.table.specs.Forms.{every}
 use Rattle.table.specs.Entry.{entryInRange}
 use Rattle.host.specs.declared.Settings.{Settings}
 use Rattle.host.specs.declared.guard.Scope.{Scope}
-use Rattle.host.specs.declared.guard.Scope.the-variants.{Places, All, OnLink}
+use Rattle.host.specs.declared.guard.Scope.the-variants.{Places, All, OnLink, Opening, Walking}
 use Rattle.host.specs.Settings.{linkCount, settingsGood}
-use Rattle.host.specs.State.{placesPerHost, firstPlace}
-use Rattle.host.specs.Lent.{Lent, entriesOf, hostInRange, lentInRange}
-use Rattle.host.specs.Guard.{noPlaces, noLink, outOfRange, guard, done}
+use Rattle.host.specs.State.{placesPerHost, firstPlace, noLink}
+use Rattle.host.specs.Lent.{Lent, entriesOf, hostInRange, ownWalkInRange, lentInRange}
+use Rattle.host.specs.Guard.{noPlaces, longest, outOfRange, inWalk, guard, done}
 use Rattle.host.specs.code.Told.{afresh, Ready, Told, NumberTold}
 use Rattle.host.proofs.Places.{Holds}
 
@@ -38,33 +38,48 @@ pub record Passed (a : Scope) (x : Lent) : Type 0 where
   pub settings : settingsGood (x .host .settings) ≡ true
   pub lent : afresh a ≡ false → lentInRange x ≡ true
   pub link : (i : ℕ) → a ≡ OnLink i → noLink (x .host .settings) i ≡ false
+  pub opening : (i : ℕ) → a ≡ Opening i → (noLink (x .host .settings) i ≡ false) × (longest ≤ length (x .copy))
+  pub closed : inWalk a (x .walk) ≡ false
 
 -- the tests as they stand in the guard
-past : (a b : Bool) → done (cond a OutOfRange (cond (not b) Setting Done)) ≡ true → (a ≡ false) × (b ≡ true)
-past true b e = absurd (false≢true e)
-past false true e = (refl, refl)
-past false false e = absurd (false≢true e)
+past : (a w b : Bool) → done (cond a OutOfRange (cond w InWalk (cond (not b) Setting Done))) ≡ true → (a ≡ false) × (w ≡ false) × (b ≡ true)
+past true w b e = absurd (false≢true e)
+past false true b e = absurd (false≢true e)
+past false false true e = (refl, refl, refl)
+past false false false e = absurd (false≢true e)
+
+-- an equation of two scopes that differ
+unlike : {A : Type 0} → _≡_ {A = ℕ} 0 1 → A
+unlike z = absurd (omega arith)
 
 module _ (x : Lent) where
   abbrev missing : Bool
   missing = noPlaces (x .number) (x .run)
 
-  within : (a : Scope) → outOfRange a x ≡ false → settingsGood (x .host .settings) ≡ true → Passed a x
-  within Places e good =
-      record { places = e; settings = good; lent = λ f. absurd (false≢true (sym f)); link = λ i f. (let z : _≡_ {A = ℕ} 0 1 = cc in absurd (omega arith)) }
-  within All e good =
+  within : (a : Scope) → outOfRange a x ≡ false → inWalk a (x .walk) ≡ false → settingsGood (x .host .settings) ≡ true → Passed a x
+  within Places e shut good =
+      record { places = e; settings = good; lent = λ f. absurd (false≢true (sym f)); link = λ i f. unlike cc; opening = λ i f. unlike cc; closed = shut }
+  within All e shut good =
       let n = neither missing (not (lentInRange x)) e in
-      record { places = n .0; settings = good; lent = λ _. is-so _ (n .1); link = λ i f. (let z : _≡_ {A = ℕ} 0 1 = cc in absurd (omega arith)) }
-  within (OnLink i) e good =
+      record { places = n .0; settings = good; lent = λ _. is-so _ (n .1); link = λ i f. unlike cc; opening = λ i f. unlike cc; closed = shut }
+  within Walking e shut good =
+      let n = neither missing (not (lentInRange x)) e in
+      record { places = n .0; settings = good; lent = λ _. is-so _ (n .1); link = λ i f. unlike cc; opening = λ i f. unlike cc; closed = shut }
+  within (OnLink i) e shut good =
       let o = neither (noLink (x .host .settings) i) (missing || not (lentInRange x)) e in
       let n = neither missing (not (lentInRange x)) (o .1) in
-      record { places = n .0; settings = good; lent = λ _. is-so _ (n .1); link = λ j f. (let same : i ≡ j = cc in rw (sym same) (o .0)) }
+      record { places = n .0; settings = good; lent = λ _. is-so _ (n .1); link = λ j f. (let same : i ≡ j = cc in rw (sym same) (o .0)); opening = λ j f. unlike cc; closed = shut }
+  within (Opening i) e shut good =
+      let r = neither (ltb (length (x .copy)) longest) (noLink (x .host .settings) i || (missing || not (lentInRange x))) e in
+      let o = neither (noLink (x .host .settings) i) (missing || not (lentInRange x)) (r .1) in
+      let n = neither missing (not (lentInRange x)) (o .1) in
+      record { places = n .0; settings = good; lent = λ _. is-so _ (n .1); link = λ j f. unlike cc; opening = λ j f. (let same : i ≡ j = cc in (rw (sym same) (o .0), ltb-false _ _ (r .0))); closed = shut }
 
 pub passed : (a : Scope) (x : Lent) → done (guard a x) ≡ true → Passed a x
 unfolding guard
 passed a x e =
-    let p = past (outOfRange a x) (settingsGood (x .host .settings)) e in
-    within x a (p .0) (p .1)
+    let p = past (outOfRange a x) (inWalk a (x .walk)) (settingsGood (x .host .settings)) e in
+    within x a (p .0) (p .1) (p .2)
 
 -- ---- what the tests say in numbers
 
@@ -93,11 +108,15 @@ counted s i e =
 module _ (x : Lent) (in-range : lentInRange x ≡ true) where
   pub clock-lent : clockInRange (x .host .clock) ≡ true
   unfolding lentInRange
-  clock-lent = both (clockInRange (x .host .clock)) _ (both (hostInRange (x .host)) _ in-range .0) .0
+  clock-lent = both (clockInRange (x .host .clock)) _ (both (hostInRange (x .host)) _ (both (hostInRange (x .host) && ownWalkInRange x) _ in-range .0) .0) .0
+
+  pub walk-lent : ownWalkInRange x ≡ true
+  unfolding lentInRange
+  walk-lent = both (hostInRange (x .host)) _ (both (hostInRange (x .host) && ownWalkInRange x) _ in-range .0) .1
 
   pub entries-lent : every entryInRange (entriesOf x) ≡ true
   unfolding lentInRange
-  entries-lent = both (hostInRange (x .host)) _ in-range .1
+  entries-lent = both (hostInRange (x .host) && ownWalkInRange x) _ in-range .1
 
 -- what its answer tells the work behind it
 module _ (a : Scope) (x : Lent) where

@@ -4,11 +4,11 @@ use mathlib.Core.Bool.{Bool, true, false, cond, not, _&&_, _||_}
 use mathlib.Core.List.{List}
 use Prim.Native.Nat.{ℕ, _+_, _-_, _≤_}
 use native.Mathlib.Omega.{arith}
-use borrow.Author.Tests.{ltb-false}
-use lib.Dec.{ltb}
+use borrow.Author.Tests.{ltb-true, ltb-false, lt-leb, le-leb}
+use lib.Dec.{ltb, leb}
 use lib.ListN.{length, take}
 use Rattle.lists.proofs.Tests.{either, neither}
-use Rattle.answer.specs.declared.Answer.the-variants.{Done, Setting, OutOfRange}
+use Rattle.answer.specs.declared.Answer.the-variants.{Done, Setting, OutOfRange, InWalk}
 use Rattle.clock.specs.Clock.{clockInRange}
 use Rattle.table.specs.declared.Entry.{Entry}
 use Rattle.table.specs.declared.run.Scan.{Scan}
@@ -17,11 +17,11 @@ use Rattle.table.specs.Entry.{entryInRange}
 use Rattle.table.specs.code.Loops.{InRun, allInRange}
 use Rattle.host.specs.declared.Settings.{Settings}
 use Rattle.host.specs.declared.guard.Scope.{Scope}
-use Rattle.host.specs.declared.guard.Scope.the-variants.{Places, All, OnLink}
+use Rattle.host.specs.declared.guard.Scope.the-variants.{Places, All, OnLink, Opening, Walking}
 use Rattle.host.specs.Settings.{linkCount, settingsGood}
-use Rattle.host.specs.State.{placesPerHost, firstPlace, hostCount, entries, linkInRange}
-use Rattle.host.specs.Lent.{Host, Lent, entriesOf, lentInRange}
-use Rattle.host.specs.Guard.{noPlaces, noLink, outOfRange, guard}
+use Rattle.host.specs.State.{placesPerHost, firstPlace, hostCount, entries, linkInRange, noLink}
+use Rattle.host.specs.Lent.{Host, Lent, entriesOf, ownWalkInRange, lentInRange}
+use Rattle.host.specs.Guard.{noPlaces, longest, outOfRange, inWalk, guard}
 use Rattle.host.specs.code.Told.{afresh}
 use Rattle.host.specs.code.Held.{placesMissing, settled, isLink, namesLink, wholeScan, held, judged}
 
@@ -53,34 +53,40 @@ module _ (x : Lent) where
   n = linkCount s
 
   abbrev rest : Scan
-  rest = wholeScan k (hostCount s) (h .clock) (h .links) n
+  rest = wholeScan k (hostCount s) (h .clock) (h .links) n (ownWalkInRange x)
+
+  abbrev m : ℕ
+  m = length (x .copy)
 
   whole-in : placesMissing k (length run) ≡ false → There rest
   whole-in there =
-      let m : firstPlace k + placesPerHost ≤ length run = ltb-false _ _ (neither (ltb 15 k) (ltb (length run) (firstPlace k + placesPerHost)) there .1) in
+      let room : firstPlace k + placesPerHost ≤ length run = ltb-false _ _ (neither (ltb 15 k) (ltb (length run) (firstPlace k + placesPerHost)) there .1) in
       either There (not (clockInRange (h .clock))) (settled false) _ (λ _. nowhere)
-      (λ _. either There (not (every linkInRange (take n (h .links .all)))) (settled false) all (λ _. nowhere) (λ _. record { rising = omega arith; inside = omega arith }))
+      (λ _. either There (not (every linkInRange (take n (h .links .all)))) (settled false) _ (λ _. nowhere)
+      (λ _. either There (not (ownWalkInRange x)) (settled false) all (λ _. nowhere) (λ _. record { rising = omega arith; inside = omega arith })))
 
-  pub held-in : (a : Scope) → There (held a k h (length run))
+  pub held-in : (a : Scope) → There (held a k h (x .walk) (x .copy) (length run))
   held-in a =
       either There (placesMissing k (length run)) (settled false) _ (λ _. nowhere)
       (λ there. either There (afresh a) (settled true) _ (λ _. nowhere)
-      (λ _. either There (not (namesLink n a)) (settled false) rest (λ _. nowhere) (λ _. whole-in there)))
+      (λ _. either There (not (namesLink n m a)) (settled false) rest (λ _. nowhere) (λ _. whole-in there)))
 
   -- ---- 12 where a place is missing or something lent is out of range
 
-  whole : (clock links : Bool)
-      → allInRange (cond (not clock) (settled false) (cond (not links) (settled false) all)) run ≡ ((clock && links) && every entryInRange (entriesOf x))
+  whole : (clock links walk : Bool)
+      → allInRange (cond (not clock) (settled false) (cond (not links) (settled false) (cond (not walk) (settled false) all))) run
+      ≡ (((clock && links) && walk) && every entryInRange (entriesOf x))
   unfolding allInRange entries
-  whole false links = refl
-  whole true false = refl
-  whole true true =
-      let m : firstPlace k + hostCount s - firstPlace k ≡ hostCount s = omega arith in
-      rw m refl
+  whole false links walk = refl
+  whole true false walk = refl
+  whole true true false = refl
+  whole true true true =
+      let some : firstPlace k + hostCount s - firstPlace k ≡ hostCount s = omega arith in
+      rw some refl
 
   whole-scanned : allInRange rest run ≡ lentInRange x
   unfolding lentInRange
-  whole-scanned = whole (clockInRange (h .clock)) (every linkInRange (take n (h .links .all)))
+  whole-scanned = whole (clockInRange (h .clock)) (every linkInRange (take n (h .links .all))) (ownWalkInRange x)
 
   known : (good : Bool) → allInRange (settled good) run ≡ good
   unfolding allInRange
@@ -88,27 +94,37 @@ module _ (x : Lent) where
   known false = refl
 
   abbrev looked : Scope → Scan
-  looked a = cond (afresh a) (settled true) (cond (not (namesLink n a)) (settled false) rest)
+  looked a = cond (afresh a) (settled true) (cond (not (namesLink n m a)) (settled false) rest)
 
   linked : (i : ℕ) (b : Bool) → noLink s i ≡ b → not (allInRange (cond (not (isLink n i)) (settled false) rest) run) ≡ (b || (false || not (lentInRange x)))
   unfolding noLink
   linked i true f = rw (f, known false)
   linked i false f = rw (f, whole-scanned)
 
+  either-true : (b : Bool) → true ≡ (b || true)
+  either-true true = refl
+  either-true false = refl
+
+  -- the room for a packet
+  roomy : (i : ℕ) (b : Bool) → ltb m longest ≡ b
+      → not (allInRange (cond (not (leb longest m && isLink n i)) (settled false) rest) run) ≡ (b || (noLink s i || (false || not (lentInRange x))))
+  roomy i true f = rw (lt-leb _ _ (ltb-true _ _ f), known false)
+  roomy i false f = rw (le-leb _ _ (ltb-false _ _ f)) (linked i (noLink s i) refl)
+
   tested : (a : Scope) (missing : Bool) → noPlaces k run ≡ missing → not (allInRange (cond missing (settled false) (looked a)) run) ≡ outOfRange a x
   tested Places true e = rw (known false, e)
   tested Places false e = rw (known true, e)
   tested All true e = rw (known false, e)
   tested All false e = rw (whole-scanned, e)
-  tested (OnLink i) true e = rw (known false, e) (go (noLink s i))
-    where
-      go : (b : Bool) → true ≡ (b || true)
-      go true = refl
-      go false = refl
+  tested Walking true e = rw (known false, e)
+  tested Walking false e = rw (whole-scanned, e)
+  tested (OnLink i) true e = rw (known false, e) (either-true (noLink s i))
   tested (OnLink i) false e = rw e (linked i (noLink s i) refl)
+  tested (Opening i) true e = rw (known false, e, ← either-true (noLink s i)) (either-true (ltb m longest))
+  tested (Opening i) false e = rw e (roomy i (ltb m longest) refl)
 
-  pub guarded : (a : Scope) → judged s (allInRange (held a k h (length run)) run) ≡ guard a x
+  pub guarded : (a : Scope) → judged s (x .walk) a (allInRange (held a k h (x .walk) (x .copy) (length run)) run) ≡ guard a x
   unfolding guard noPlaces
   guarded a =
-      ap (λ (b : Bool). cond b OutOfRange (cond (not (settingsGood s)) Setting Done))
+      ap (λ (b : Bool). cond b OutOfRange (cond (inWalk a (x .walk)) InWalk (cond (not (settingsGood s)) Setting Done)))
       (tested a (placesMissing k (length run)) refl)

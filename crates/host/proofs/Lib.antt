@@ -6,3 +6,5 @@ pub mod Slots
 pub mod Found
 pub mod Types
 pub mod Judged
+pub mod Inspected
+pub mod Walks

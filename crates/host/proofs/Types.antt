@@ -7,6 +7,8 @@ use Rattle.host.proofs.Settings as Settings
 use Rattle.host.proofs.Settings.Laws as Settings′
 use Rattle.host.proofs.Links as Links
 use Rattle.host.proofs.Links.Laws as Links′
+use Rattle.host.proofs.walk.Walk as Walk
+use Rattle.host.proofs.walk.Walk.Laws as Walk′
 use Rattle.host.proofs.Reply as Reply
 use Rattle.host.proofs.Reply.Laws as Reply′
 use Rattle.host.proofs.guard.Scope as Scope
@@ -20,6 +22,9 @@ settings = record { S = Settings.the-type; L = Settings′.the-laws; P = Setting
 
 abbrev pub links : Data
 links = record { S = Links.the-type; L = Links′.the-laws; P = Links′.the-plain; low = Links′.lowers; copies = Links′.the-copy }
+
+abbrev pub walk : Data
+walk = record { S = Walk.the-type; L = Walk′.the-laws; P = Walk′.the-plain; low = Walk′.lowers; copies = Walk′.the-copy }
 
 abbrev pub reply : Data
 reply = record { S = Reply.the-type; L = Reply′.the-laws; P = Reply′.the-plain; low = Reply′.lowers; copies = Reply′.the-copy }

@@ -1,4 +1,4 @@
--- What a call is lent: a host by itself, which document 01 calls a seat, its number, and the host table that all hosts share, its run.
+-- What a call is lent: a host by itself, which document 01 calls a seat, its number, its walk with the copy of a packet, and the host table that all hosts share, its run.
 use mathlib.Core.Bool.{Bool, _&&_}
 use mathlib.Core.List.{List}
 use Prim.Native.Nat.{ℕ}
@@ -12,8 +12,10 @@ use Rattle.table.specs.Forms.{every}
 use Rattle.table.specs.Entry.{entryInRange}
 use Rattle.host.specs.declared.Settings.{Settings}
 use Rattle.host.specs.declared.Links.{Links}
+use Rattle.host.specs.declared.walk.Walk.{Walk}
 use Rattle.host.specs.Settings.{linkCount}
 use Rattle.host.specs.State.{linkInRange, entries}
+use Rattle.host.specs.Walk.{walkInRange}
 
 pub record Host : Type 0 where
   pub settings : Settings
@@ -30,18 +32,23 @@ ourReading k h = reading (h .settings .«clock_tick») (h .settings .«hold_inte
 pub record Lent : Type 0 where
   pub host : Host
   pub number : ℕ
+  pub walk : Walk
+  pub copy : List ℕ
   pub run : List Entry
 
-abbrev pub lent : Settings → (number : ℕ) → Clock → Links → List Entry → Lent
-lent s k c l run = record { host = host s c l; number = k; run = run }
+abbrev pub lent : Settings → (number : ℕ) → Clock → Links → Walk → (copy : List ℕ) → List Entry → Lent
+lent s k c l w copy run = record { host = host s c l; number = k; walk = w; copy = copy; run = run }
 
 -- the host's own entries
 abbrev pub entriesOf : Lent → List Entry
 entriesOf x = entries (x .host .settings) (x .number) (x .run)
 
--- "Ranges of what is lent": the clock, the links up to the count, the first NHOSTS entries
+-- "Ranges of what is lent": the clock, the links up to the count, a walk, the first NHOSTS entries
 abbrev pub hostInRange : Host → Bool
 hostInRange h = clockInRange (h .clock) && every linkInRange (take (linkCount (h .settings)) (h .links .all))
 
+abbrev pub ownWalkInRange : Lent → Bool
+ownWalkInRange x = walkInRange (x .host .settings) (x .walk) (x .copy)
+
 unfoldable pub lentInRange : Lent → Bool
-lentInRange x = hostInRange (x .host) && every entryInRange (entriesOf x)
+lentInRange x = hostInRange (x .host) && ownWalkInRange x && every entryInRange (entriesOf x)

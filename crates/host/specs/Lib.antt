@@ -1,6 +1,9 @@
 pub mod Settings
 pub mod State
+pub mod Reply
+pub mod Inspection
+pub mod Walk
+pub mod Effect
 pub mod Lent
 pub mod Guard
-pub mod Reply
 pub mod code

@@ -1,4 +1,4 @@
--- What a call answers: "A send answers its length, a lookup its host id and PID, a read its time and DATE; every refusal answers zero for them." An inspection "tells source, time, TSP and host count (zeros if refused)".
+-- What a call answers: "A send answers its length, a lookup its host id and PID, a read its time and DATE; every refusal answers zero for them." An inspection "tells source, time, TSP and host count (zeros if refused)". "A box answers the next place, none at the end".
 use Prim.Native.Nat.{ℕ}
 use lib.IntN.{pos}
 use Rattle.quantity.specs.declared.Millis.{Millis}
@@ -22,6 +22,8 @@ plainly a =
       source = zeroAddress;
       tsp = 0;
       nhosts = 0;
+      step = 0;
+      line = 0;
     }
 
 abbrev pub tellsLength : ℕ → Reply
@@ -36,6 +38,8 @@ tellsLength n =
       source = zeroAddress;
       tsp = 0;
       nhosts = 0;
+      step = 0;
+      line = 0;
     }
 
 abbrev pub tellsRoute : (id pid : ℕ) → Reply
@@ -50,6 +54,8 @@ tellsRoute i p =
       source = zeroAddress;
       tsp = 0;
       nhosts = 0;
+      step = 0;
+      line = 0;
     }
 
 abbrev pub tellsTime : Millis → Date → Reply
@@ -64,6 +70,8 @@ tellsTime t d =
       source = zeroAddress;
       tsp = 0;
       nhosts = 0;
+      step = 0;
+      line = 0;
     }
 
 -- TSP as the unsigned 16-bit word
@@ -79,4 +87,23 @@ tellsPacket a t v n =
       source = a;
       tsp = v;
       nhosts = n;
+      step = 0;
+      line = 0;
+    }
+
+-- step 1 to 5, in step 5 also line 1 to 4 for (a) to (d), and the host id; zeros where there is no place
+abbrev pub tellsPlace : (step line id : ℕ) → Reply
+tellsPlace n m i =
+    record {
+      answer = Done;
+      length = 0;
+      id = i;
+      pid = 0;
+      time = millis (pos 0);
+      date = record { 0 = 0 };
+      source = zeroAddress;
+      tsp = 0;
+      nhosts = 0;
+      step = n;
+      line = m;
     }

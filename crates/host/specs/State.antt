@@ -1,5 +1,5 @@
 -- "What a seat has": its links by number, and its places in the run that all hosts share; and what is fresh.
-use mathlib.Core.Bool.{Bool, true, cond}
+use mathlib.Core.Bool.{Bool, true, cond, _||_}
 use mathlib.Core.List.{List, map}
 use Prim.Native.Nat.{ℕ, _-_, _*_, min}
 use lib.Dec.{ltb, leb, eqb}
@@ -15,6 +15,7 @@ use Rattle.host.specs.declared.Settings.{Settings}
 use Rattle.host.specs.declared.LinkSetting.{LinkSetting}
 use Rattle.host.specs.declared.Link.{Link}
 use Rattle.host.specs.declared.Links.{Links}
+use Rattle.host.specs.Settings.{linkCount}
 
 -- ---- links: "1 to 8 links, numbered from 1; that number is the PID"
 
@@ -40,6 +41,10 @@ linkOf l i = getD (l .all) (i - 1) (freshLink unset)
 
 abbrev pub withLink : ℕ → Link → Links → Links
 withLink i x l = record { all = set (l .all) (i - 1) x }
+
+-- "link not from 1 to the seat's count (8 at most)"
+unfoldable pub noLink : Settings → (link : ℕ) → Bool
+noLink s i = eqb i 0 || ltb (linkCount s) i
 
 -- "KEEP-ALIVE-INTERVAL 4"
 abbrev pub keepAliveInterval : ℕ

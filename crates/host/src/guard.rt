@@ -1,8 +1,8 @@
-// The guard: answers 12 and 1, before anything else in every call.
+// The guard: answers 12, 16 and 1, before anything else in every call.
 ghost use mathlib.Core.Path.{_≡_};
 ghost use Prim.Native.Nat.{_≤_};
 ghost use Rattle.host.specs.Lent.{host, lent};
-ghost use Rattle.host.specs.Guard.{guard};
+ghost use Rattle.host.specs.Guard.{inWalk, guard};
 ghost use Rattle.host.specs.code.Told.{afresh};
 ghost use Rattle.host.specs.code.Held.{placesMissing, settled, wholeScan, namesLink, held, judged};
 use super::HOSTS;
@@ -11,6 +11,8 @@ use super::PLACES;
 use super::Settings;
 use super::first_place;
 use super::host_count;
+use super::walk::Walk;
+use super::walk::is_open;
 use answer::Answer;
 use clock::Clock;
 use table::Entry;
@@ -24,7 +26,14 @@ pub enum Scope {
     All,
     // all, and that this is a link of the host
     OnLink(usize),
+    // opening a walk on this link: the same, and the room for its packet
+    Opening(usize),
+    // a step of a walk: all
+    Walking,
 }
+
+// The octets of the longest packet.
+const LONGEST: usize = 1052;
 
 // Are the host's places not all in a run of n entries?
 fn places_missing(number: usize, n: usize) -> bool
@@ -46,15 +55,18 @@ fn settled(good: bool) -> Scan
     }
 }
 
-// So many entries, where the clock and so many links are within their ranges.
-fn whole_scan(number: usize, entries: usize, c: Clock, l: Links, links: usize) -> Scan
+// So many entries, where the clock, so many links and the walk are within their ranges.
+fn whole_scan(number: usize, entries: usize, c: Clock, l: Links, links: usize, walk: bool) -> Scan
     requires { ⌜ (number ≤ 15) × (entries ≤ 255) × (links ≤ 8) ⌝ }
-    ensures { λ w. ⌜ w ≡ wholeScan number entries c l links ⌝ }
+    ensures { λ w. ⌜ w ≡ wholeScan number entries c l links walk ⌝ }
 {
     if !c.in_range() {
         return settled(false);
     }
     if !super::link_state::in_range(links, l) {
+        return settled(false);
+    }
+    if !walk {
         return settled(false);
     }
     let first = first_place(number);
@@ -74,23 +86,49 @@ fn afresh(scope: Scope) -> bool
         Scope::Places => true,
         Scope::All => false,
         Scope::OnLink(_) => false,
+        Scope::Opening(_) => false,
+        Scope::Walking => false,
     }
 }
 
-// Is the link that the scope names, if it names one, a link of a host with so many?
-fn names_link(links: usize, scope: Scope) -> bool
-    ensures { λ r. ⌜ r ≡ namesLink links scope ⌝ }
+// Is the link that the scope names, if it names one, a link of a host with so many, and has a copy of so many octets room where a walk is opened?
+fn names_link(links: usize, octets: usize, scope: Scope) -> bool
+    ensures { λ r. ⌜ r ≡ namesLink links octets scope ⌝ }
 {
     match scope {
         Scope::Places => true,
         Scope::All => true,
         Scope::OnLink(i) => super::link_state::is_link(links, i),
+        Scope::Opening(i) => (octets >= LONGEST) & super::link_state::is_link(links, i),
+        Scope::Walking => true,
+    }
+}
+
+// Does an open walk refuse the call?
+fn in_walk(w: Walk, scope: Scope) -> bool
+    ensures { λ r. ⌜ r ≡ inWalk scope w ⌝ }
+{
+    match scope {
+        Scope::Places => false,
+        Scope::All => is_open(w),
+        Scope::OnLink(_) => is_open(w),
+        Scope::Opening(_) => is_open(w),
+        Scope::Walking => false,
     }
 }
 
 // What is known before the entries are looked at, and which of them to look at.
-fn held(s: Settings, number: usize, c: Clock, l: Links, scope: Scope, n: usize) -> Scan
-    ensures { λ w. ⌜ w ≡ held scope number (host s c l) n ⌝ }
+fn held(
+    s: Settings,
+    number: usize,
+    c: Clock,
+    l: Links,
+    w: Walk,
+    copy: &[u8],
+    scope: Scope,
+    n: usize,
+) -> Scan
+    ensures { λ r. ⌜ r ≡ held scope number (host s c l) w (now (copy .entry)) n ⌝ }
 {
     if places_missing(number, n) {
         return settled(false);
@@ -99,18 +137,28 @@ fn held(s: Settings, number: usize, c: Clock, l: Links, scope: Scope, n: usize) 
         return settled(true);
     }
     let links = super::link_state::count(s);
-    if !names_link(links, scope) {
+    if !names_link(links, copy.len(), scope) {
         return settled(false);
     }
-    whole_scan(number, host_count(s), c, l, links)
+    whole_scan(
+        number,
+        host_count(s),
+        c,
+        l,
+        links,
+        super::walk::in_range(s, w, copy),
+    )
 }
 
-// 12 where something lent is out of range, then 1.
-fn judged(s: Settings, good: bool) -> Answer
-    ensures { λ r. ⌜ r ≡ judged s good ⌝ }
+// 12 where something lent is out of range, 16 in a walk, then 1.
+fn judged(s: Settings, w: Walk, scope: Scope, good: bool) -> Answer
+    ensures { λ r. ⌜ r ≡ judged s w scope good ⌝ }
 {
     if !good {
         return Answer::OutOfRange;
+    }
+    if in_walk(w, scope) {
+        return Answer::InWalk;
     }
     if !super::good(s) {
         return Answer::Setting;
@@ -124,14 +172,16 @@ pub fn guard(
     number: usize,
     clock: Clock,
     links: Links,
+    walk: Walk,
+    copy: &[u8],
     scope: Scope,
     run: &[Entry],
 ) -> Answer
-    ensures { λ r. ⌜ r ≡ guard scope (lent (now (settings .entry)) number clock links (now (run .entry))) ⌝ }
+    ensures { λ r. ⌜ r ≡ guard scope (lent (now (settings .entry)) number clock links walk (now (copy .entry)) (now (run .entry))) ⌝ }
 {
     let s = *settings;
     let n = run.len();
-    let w = held(s, number, clock, links, scope, n);
+    let w = held(s, number, clock, links, walk, copy, scope, n);
     let good = all_in_range(run, w);
-    judged(s, good)
+    judged(s, walk, scope, good)
 }

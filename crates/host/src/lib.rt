@@ -11,9 +11,12 @@ ghost use Rattle.host.specs.Settings.{fromTo, clockSettingOff, ownId, sw
 ghost use Rattle.host.specs.State.{firstPlace, hostCount};
 use link_state::MAX_LINKS;
 
+pub mod effects;
 pub mod guard;
+pub mod inspection;
 pub mod link_state;
 pub mod replies;
+pub mod walk;
 
 // A link as it is set: its switch (0 point-to-point, 1 broadcast), and for a broadcast link its NEIGHBOR-ADDRESS.
 #[repr(C)]
@@ -58,7 +61,7 @@ pub struct Links {
     pub all: [Link; 8],
 }
 
-// The answer of a call and its values: a send tells the length of its message, a lookup the host id and PID of the route, a read the time and DATE, an inspection the packet's source, time, TSP and NHOSTS.
+// The answer of a call and its values: a send tells the length of its message, a lookup the host id and PID of the route, a read the time and DATE, an inspection the packet's source, time, TSP and NHOSTS, a step the next place of its walk: step, line and host id.
 pub struct Reply {
     pub answer: answer::Answer,
     pub length: usize,
@@ -69,6 +72,17 @@ pub struct Reply {
     pub source: wire::Address,
     pub tsp: u16,
     pub nhosts: u8,
+    pub step: u8,
+    pub line: u8,
+}
+
+// What a call comes to: the reply, the clock, the links and the walk afterwards, and what becomes of the entries of which ids.
+pub struct Effect {
+    pub reply: Reply,
+    pub clock: clock::Clock,
+    pub links: Links,
+    pub walk: walk::Walk,
+    pub work: table::run::Changes,
 }
 
 // The most hosts, and the most seconds of HOLD-INTERVAL.

@@ -1,6 +1,6 @@
 // The replies of calls.
 ghost use mathlib.Core.Path.{_≡_};
-ghost use Rattle.host.specs.Reply.{plainly, tellsLength, tellsRoute, tellsTime, tellsPacket};
+ghost use Rattle.host.specs.Reply.{plainly, tellsLength, tellsRoute, tellsTime, tellsPacket, tellsPlace};
 use super::Reply;
 use answer::Answer;
 use calendar::Date;
@@ -21,6 +21,8 @@ pub fn plainly(a: Answer) -> Reply
         source: Address::ZERO,
         tsp: 0,
         nhosts: 0,
+        step: 0,
+        line: 0,
     }
 }
 
@@ -38,6 +40,8 @@ pub fn tells_length(n: usize) -> Reply
         source: Address::ZERO,
         tsp: 0,
         nhosts: 0,
+        step: 0,
+        line: 0,
     }
 }
 
@@ -55,6 +59,8 @@ pub fn tells_route(id: usize, pid: u8) -> Reply
         source: Address::ZERO,
         tsp: 0,
         nhosts: 0,
+        step: 0,
+        line: 0,
     }
 }
 
@@ -72,6 +78,8 @@ pub fn tells_time(time: Millis, date: Date) -> Reply
         source: Address::ZERO,
         tsp: 0,
         nhosts: 0,
+        step: 0,
+        line: 0,
     }
 }
 
@@ -89,5 +97,26 @@ pub fn tells_packet(source: Address, time: Millis, tsp: u16, nhosts: u8) -> Repl
         source: source,
         tsp: tsp,
         nhosts: nhosts,
+        step: 0,
+        line: 0,
+    }
+}
+
+// The next place of a walk: step, line and host id.
+pub fn tells_place(step: u8, line: u8, id: u8) -> Reply
+    ensures { λ r. ⌜ r ≡ tellsPlace step line id ⌝ }
+{
+    Reply {
+        answer: Answer::Done,
+        length: 0,
+        id: id as usize,
+        pid: 0,
+        time: Millis(0),
+        date: Date(0),
+        source: Address::ZERO,
+        tsp: 0,
+        nhosts: 0,
+        step: step,
+        line: line,
     }
 }

@@ -32,11 +32,11 @@ use Rattle.arrival.specs.declared.Flight.{Flight}
 use Rattle.arrival.specs.declared.Arrived.{Arrived}
 use Rattle.arrival.specs.declared.Delivery.{Delivery}
 use Rattle.arrival.specs.declared.Delivery.the-variants.{Inspect, Act, Receive}
-use Rattle.arrival.specs.Inspection.{inspect, tells}
+use Rattle.host.specs.Inspection.{inspect, tells}
 use Rattle.arrival.specs.Steps.{step2, step3, measured, newNeighbor, neighborUpdate}
 use Rattle.arrival.specs.Arrival.{quiet, ends, updated, noTable, withTable, step5, concluded, actionAt, inspected, act, onLink, delivered}
 use Rattle.arrival.proofs.Flights.{steps-cases}
-use Rattle.arrival.proofs.Inspected.{Fits, inspected-fits}
+use Rattle.host.proofs.Inspected.{Fits, inspected-fits}
 use Rattle.arrival.proofs.Pair.{one-piece}
 use Rattle.network.specs.Range.{countBy}
 

@@ -41,7 +41,7 @@ use Rattle.host.proofs.Guarded.{Passed, passed, holds, entries-lent}
 use Rattle.sending.specs.declared.Sending.{Sending}
 use Rattle.sending.specs.Message.{tableGoes, sentTsp, packetSent}
 use Rattle.sending.specs.Send.{reportCount, sends}
-use Rattle.arrival.specs.Inspection.{otherLayout, looped, inspected, inspect}
+use Rattle.host.specs.Inspection.{otherLayout, looped, inspected, inspect}
 use Rattle.calls.specs.Perform.{Call, Outcome, sentBy}
 use Rattle.network.specs.Left.{messageOf}
 use Rattle.network.specs.Heard.{Typed, Heard}

@@ -3,7 +3,9 @@ pub mod Invariant
 pub mod Outcomes
 pub mod Seats
 pub mod Sending
+pub mod Measured
 pub mod Arrival
+pub mod Walks
 pub mod Histories
 pub mod Shared
 pub mod TwoSeats

@@ -3,6 +3,8 @@ pub mod Swept
 pub mod Performs
 pub mod Arrivals
 pub mod Written
+pub mod Walking
+pub mod Openings
 pub mod Sends
 pub mod Ranges
 pub mod HostPlaces
@@ -12,3 +14,4 @@ pub mod Opened
 pub mod Demand3
 pub mod Pair
 pub mod LineCalls
+pub mod WalkEnds

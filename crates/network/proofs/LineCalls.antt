@@ -16,8 +16,7 @@ use Rattle.quantity.specs.declared.Seconds.{Seconds}
 use Rattle.quantity.specs.Quantity.{millis, unitsPerMilli, lessMillis}
 use Rattle.quantity.specs.Words.{ofWord}
 use Rattle.quantity.proofs.Ints.{to-≤ℤ, times, lt-yes, lt-no}
-use Rattle.answer.specs.declared.Answer.{Answer}
-use Rattle.answer.specs.declared.Answer.the-variants.{Done, ShortBuffer}
+use Rattle.answer.specs.declared.Answer.the-variants.{Done, ShortBuffer, NoWalk}
 use Rattle.clock.specs.declared.Clock.{Clock}
 use Rattle.clock.specs.declared.Counter.{Counter}
 use Rattle.clock.specs.declared.Reading.{Reading}
@@ -27,6 +26,7 @@ use Rattle.clock.specs.Clock as clock
 use Rattle.clock.specs.LineClock.{noCount, noCounter, lineReading}
 use Rattle.clock.proofs.Readings.{plus-none, line-clock-holds}
 use Rattle.clock.proofs.Range.{midnight-within}
+use Rattle.wire.specs.declared.Packet.{Packet}
 use Rattle.wire.specs.declared.Parsed.{Parsed}
 use Rattle.wire.specs.declared.Parsed.the-variants.{Good, Bad}
 use Rattle.wire.specs.Packet.{packetLength}
@@ -37,32 +37,43 @@ use Rattle.table.specs.declared.run.Updates.{Updates}
 use Rattle.table.specs.Forms.{Stage, on, end}
 use Rattle.table.specs.Update.{lines, dateTaken, lineD, settled, update}
 use Rattle.table.specs.Sweep.{Swept, sweep}
-use Rattle.table.specs.Runs.{updateAt, updatedAt, updates}
+use Rattle.table.specs.Runs.{updateAt, updates}
 use Rattle.table.proofs.Cases.{clock-keeps}
-use Rattle.host.specs.Settings.{settingsGood, ownId}
+use Rattle.host.specs.declared.Effect.{Effect}
+use Rattle.host.specs.declared.walk.Walk.{Walk}
+use Rattle.host.specs.declared.walk.Place.{Place}
+use Rattle.host.specs.declared.walk.Place.the-variants.{Nowhere, Step1, Step2, Step3, Step4, Step5, LineA, LineB, LineC, LineD}
+use Rattle.host.specs.declared.guard.Scope.the-variants.{Places, Walking}
+use Rattle.host.specs.Settings.{ownId}
+use Rattle.host.specs.Walk.{isOpen, placeOf, packetOf, lineUpdate}
 use Rattle.host.specs.State.{linkOf, withEntries}
-use Rattle.host.specs.Lent.{Host, Lent, entriesOf, ourReading}
+use Rattle.host.specs.Effect.{nothing, answers}
+use Rattle.host.specs.Lent.{Host, Lent, host, entriesOf, ourReading, ownWalkInRange}
 use Rattle.host.specs.Guard.{guard, done}
 use Rattle.host.specs.Reply.{plainly, tellsTime}
-use Rattle.host.proofs.Guarded.{passed}
+use Rattle.host.proofs.Guarded.{passed, walk-lent}
 use Rattle.host.proofs.Sound.{sound}
 use Rattle.sending.specs.declared.Sending.{Sending}
 use Rattle.sending.specs.Send.{reportCount, unsent, sentAt, sendIn}
 use Rattle.arrival.specs.declared.Arrived.{Arrived}
 use Rattle.arrival.specs.declared.Delivery.{Delivery}
 use Rattle.arrival.specs.declared.Delivery.the-variants.{Inspect, Act, Receive}
-use Rattle.arrival.specs.Inspection.{inspect}
+use Rattle.host.specs.Inspection.{inspect}
 use Rattle.arrival.specs.Arrival.{actionAt, inspected, act, delivered}
 use Rattle.arrival.proofs.Pair.{one-piece}
+use Rattle.walk.specs.declared.Opening.{Opening}
+use Rattle.walk.specs.Boxes.{holdingReading, atStep, onward, nextId, isClockHost, clockSet, box1, boxD, boxAt, boxOf, step}
 use Rattle.calls.specs.declared.Request.{Request}
-use Rattle.calls.specs.declared.Request.the-variants.{Initialize, Tick, Adjust, Set, Read, Second, SelfReport, Lookup}
-use Rattle.calls.specs.Effects.{answers, ownWork, initialize, tick, adjust, setBy, read, second, selfReport, lookup, effect, wanted}
-use Rattle.calls.specs.Perform.{Call, ask, send, deliver, Outcome, scopeOfCall, refused, entryAt, carriedOut, sentBy, updatedBy, work, perform}
+use Rattle.calls.specs.declared.Request.the-variants.{Initialize, Tick, Adjust, Set, Read, Second, SelfReport, Lookup, Step}
+use Rattle.calls.specs.Effects.{ownWork, initialize, tick, adjust, setBy, read, second, selfReport, lookup, effect, wanted}
+use Rattle.calls.specs.Perform.{Call, ask, send, deliver, openWalk, scopeOfCall, refused, entryAt, carriedOut, sentBy, updatedBy, openedBy, work, perform}
 use Rattle.network.specs.Range.{countBy}
-use Rattle.network.specs.LineCalls.{lineEffect, lineSend, lineInspected, lineDelivered, lineSettled, lineUpdatedAt, lineUpdates, lineUpdatedBy, lineWork, linePerform, NoCount, LineTime, LineCalls}
+use Rattle.network.specs.LineCalls.{lineClockSet, lineBoxAt, lineBoxOf, lineStep, lineEffect, lineSend, lineInspected, lineDelivered, lineSettled, lineUpdates, lineUpdatedBy, lineWork, linePerform, NoCount, LineTime, LineCalls}
 use Rattle.network.proofs.Performs.{guardOf, performs}
 use Rattle.network.proofs.Arrivals.{readBy, delivery-ways}
 use Rattle.network.proofs.Swept.{updates-clock}
+use Rattle.network.proofs.Walking.{Timed, as-was, set-by, step-ways}
+use Rattle.network.proofs.Openings.{opening-ways}
 
 -- ---- the updates
 
@@ -94,26 +105,66 @@ module _ (x : Lent) (t : LineTime (x .host .clock)) where
   reading-same : ourReading noCounter h ≡ lineReading (h .clock)
   reading-same = line-clock-holds .reads (h .settings .«clock_tick») (h .settings .«hold_interval») (h .clock) (t .from-0) (t .to-day)
 
-  effect-same : (q : Request) (e : Entry) → NoCount (ask q) → effect q h e ≡ lineEffect q h e
+  -- ---- a step
+
+  abbrev w : Walk
+  w = x .walk
+
+  module _ (p : Packet) (octets : List ℕ) (e : Entry) (no-count : w .count ≡ noCount) where
+    clock-same : clockSet p octets h w ≡ lineClockSet p octets h w
+    unfolding lineD
+    clock-same =
+        ap (λ (c : Clock). cond (isClockHost h w) c (h .clock))
+        (ap (λ (n : Count). clock.setBy (h .settings .«hold_interval») n (ofWord (lineUpdate w p octets .offset)) (dateTaken (p .date) (h .clock))) no-count
+        ∙ line-clock-holds .sets (h .settings .«hold_interval») (ofWord (lineUpdate w p octets .offset)) (dateTaken (p .date) (h .clock)))
+
+    box-same : (q : Place) → boxAt q noCounter p octets h w e ≡ lineBoxAt q noCounter p octets h w e
+    unfolding box1 boxD
+    box-same Nowhere = refl
+    box-same Step1 = ap (λ (r : Reading). onward (atStep 2 (holdingReading noCount (r .time) w)) (r .clock) (h .links) nothing) reading-same
+    box-same Step2 = refl
+    box-same Step3 = refl
+    box-same Step4 = refl
+    box-same Step5 = refl
+    box-same LineA = refl
+    box-same LineB = refl
+    box-same LineC = refl
+    box-same LineD = ap (λ (c : Clock). nextId p (host (h .settings) c (h .links)) w nothing) clock-same
+
+  step-same : (k : Counter) (copy : List ℕ) (e : Entry) → k ≡ noCounter → w .count ≡ noCount → step k h w copy e ≡ lineStep k h w copy e
+  unfolding step
+  step-same k copy e is held = subst (λ (m : Counter). step m h w copy e ≡ lineStep m h w copy e) (sym is) here
+    where
+      go : (q : Parsed) → boxOf noCounter (packetOf w copy) h w e q ≡ lineBoxOf noCounter (packetOf w copy) h w e q
+      go (Bad a) = refl
+      go (Good p) = box-same p (packetOf w copy) e held (placeOf w)
+
+      here : step noCounter h w copy e ≡ lineStep noCounter h w copy e
+      here = ap (λ (y : Effect). cond (not (isOpen w)) (answers (plainly NoWalk) (h .clock) (h .links) w) y) (go (inspect (h .settings) (w .link) (packetOf w copy)))
+
+  -- ---- requests
+
+  effect-same : (q : Request) (e : Entry) → NoCount (ask q) (x .walk) → effect q h w (x .copy) e ≡ lineEffect q h w (x .copy) e
   unfolding tick adjust setBy read selfReport
   effect-same Initialize e is = refl
   effect-same (Tick n) e is =
-      ap (λ (m : Count). tick m h) is
-      ∙ ap (λ (c : Clock). answers (plainly Done) c (h .links)) (line-clock-holds .ticks (h .settings .«clock_tick») (h .settings .«hold_interval») (h .clock))
+      ap (λ (m : Count). tick m h w) is
+      ∙ ap (λ (c : Clock). answers (plainly Done) c (h .links) w) (line-clock-holds .ticks (h .settings .«clock_tick») (h .settings .«hold_interval») (h .clock))
   effect-same (Adjust n) e is =
-      ap (λ (m : Count). adjust m h) is
-      ∙ ap (λ (c : Clock). answers (plainly Done) c (h .links)) (line-clock-holds .adjusts (h .settings .«hold_interval») (h .clock))
+      ap (λ (m : Count). adjust m h w) is
+      ∙ ap (λ (c : Clock). answers (plainly Done) c (h .links) w) (line-clock-holds .adjusts (h .settings .«hold_interval») (h .clock))
   effect-same (Set ms n) e is =
-      ap (λ (m : Count). setBy (millis ms) m h) is
-      ∙ ap (λ (c : Clock). answers (plainly Done) c (h .links)) (line-clock-holds .sets (h .settings .«hold_interval») (millis ms) (h .clock))
+      ap (λ (m : Count). setBy (millis ms) m h w) is
+      ∙ ap (λ (c : Clock). answers (plainly Done) c (h .links) w) (line-clock-holds .sets (h .settings .«hold_interval») (millis ms) (h .clock))
   effect-same (Read k) e is =
-      ap (λ (m : Counter). read m h) is
-      ∙ ap (λ (r : Reading). answers (tellsTime (r .time) (r .clock .date)) (r .clock) (h .links)) reading-same
+      ap (λ (m : Counter). read m h w) is
+      ∙ ap (λ (r : Reading). answers (tellsTime (r .time) (r .clock .date)) (r .clock) (h .links) w) reading-same
   effect-same Second e is = refl
   effect-same (SelfReport k) e is =
-      ap (λ (m : Counter). selfReport m h) is
-      ∙ ap (λ (r : Reading). record { reply = plainly Done; clock = r .clock; links = h .links; work = ownWork (r .time) (ownId (h .settings)) }) reading-same
+      ap (λ (m : Counter). selfReport m h w) is
+      ∙ ap (λ (r : Reading). record { reply = plainly Done; clock = r .clock; links = h .links; walk = w; work = ownWork (r .time) (ownId (h .settings)) }) reading-same
   effect-same (Lookup a) e is = refl
+  effect-same (Step k) e is = step-same k (x .copy) e (is .0) (is .1)
 
   send-same : (i : ℕ) (k : Counter) (room : ℕ) → k ≡ noCounter → sendIn i k room h ≡ lineSend i room h
   send-same i k room is =
@@ -127,17 +178,17 @@ module _ (x : Lent) (t : LineTime (x .host .clock)) where
       go (Bad a) = refl
       go (Good p) = ap (λ (r : Reading). actionAt r noCount h i p) reading-same
 
-  delivered-same : (d : Delivery) (octets : List ℕ) → NoCount (deliver d octets) → delivered d octets h ≡ lineDelivered d octets h
+  delivered-same : (d : Delivery) (octets : List ℕ) → NoCount (deliver d octets) (x .walk) → delivered d octets h ≡ lineDelivered d octets h
   delivered-same (Inspect i) octets is = refl
   delivered-same (Act i k) octets is = act-same i k octets is
   delivered-same (Receive i k) octets is = one-piece i k octets h ∙ act-same i k octets is
 
-  none : (d : Delivery) (octets : List ℕ) → NoCount (deliver d octets) → countBy d ≡ noCount
+  none : (d : Delivery) (octets : List ℕ) → NoCount (deliver d octets) (x .walk) → countBy d ≡ noCount
   none (Inspect i) octets is = refl
   none (Act i k) octets is = ap countUsed is
   none (Receive i k) octets is = ap countUsed is
 
-  count-none : (d : Delivery) (octets : List ℕ) → NoCount (deliver d octets) → delivered d octets h .work .count ≡ noCount
+  count-none : (d : Delivery) (octets : List ℕ) → NoCount (deliver d octets) (x .walk) → delivered d octets h .work .count ≡ noCount
   count-none d octets is =
       delivery-ways d h (λ (a : Arrived). a .work .count ≡ noCount)
       record {
@@ -150,15 +201,16 @@ module _ (x : Lent) (t : LineTime (x .host .clock)) where
       }
       octets
 
-  work-same : (c : Call) → NoCount c → work c x ≡ lineWork c x
-  work-same (ask q) is = ap (λ e. carriedOut e x) (effect-same q (entryAt (wanted q (h .settings)) x) is)
+  work-same : (c : Call) → NoCount c (x .walk) → work c x ≡ lineWork c x
+  work-same (ask q) is = ap (λ e. carriedOut e x) (effect-same q (entryAt (wanted q (h .settings) w) x) is)
   work-same (send i k buffer) is = ap (λ p. sentBy p buffer x) (send-same i k (length buffer) is)
   work-same (deliver d octets) is =
-      ap (λ (w : Swept). record { reply = delivered d octets h .reply; clock = w .clock; links = delivered d octets h .links; run = withEntries (x .number) (w .entries) (x .run); buffer = [] })
+      ap (λ (w : Swept). record { reply = delivered d octets h .reply; clock = w .clock; links = delivered d octets h .links; walk = x .walk; copy = x .copy; run = withEntries (x .number) (w .entries) (x .run); buffer = [] })
       (updates-same (delivered d octets h .work) (count-none d octets is) octets (entriesOf x))
       ∙ ap (λ (a : Arrived). lineUpdatedBy a octets x) (delivered-same d octets is)
+  work-same (openWalk i packet) is = refl
 
-  same : (c : Call) → NoCount c → perform c x ≡ linePerform c x
+  same : (c : Call) → NoCount c (x .walk) → perform c x ≡ linePerform c x
   unfolding perform linePerform
   same c is = ap (λ o. cond (not (done (guard (scopeOfCall c) x))) (refused (guard (scopeOfCall c) x) c x) o) (work-same c is)
 
@@ -184,22 +236,42 @@ module _ (x : Lent) (t : LineTime (x .host .clock)) where
   unfolding reading
   read-line k is = midnight-line s (countUsed k) _ is
 
-  asked : (q : Request) (e : Entry) → NoCount (ask q) → settingsGood (x .host .settings) ≡ true → LineTime (effect q (x .host) e .clock)
+  -- a step
+  timed : x .walk .count ≡ noCount → (c : Clock) → Timed (x .host) (x .walk) c → LineTime c
+  unfolding lineD clock.setBy
+  timed held c as-was = t
+  timed held c (set-by date offset) = midnight-line s (x .walk .count) _ held
+
+  stepped : (k : Counter) (e : Entry) → k ≡ noCounter → x .walk .count ≡ noCount → ownWalkInRange x ≡ true → LineTime (step k (x .host) (x .walk) (x .copy) e .clock)
+  stepped k e is held in-range =
+      step-ways k (x .host) (x .walk) (x .copy) e (λ (y : Effect). LineTime (y .clock))
+      record {
+        none = t;
+        reads = λ v c. read-line k (ap countUsed is);
+        delays = λ has. t;
+        unknown = t;
+        goes = λ r z v h c d l g work m. timed held c d;
+      }
+      in-range
+
+  asked : (q : Request) (e : Entry) → NoCount (ask q) (x .walk) → done (guardOf (ask q) x) ≡ true → LineTime (effect q (x .host) (x .walk) (x .copy) e .clock)
   unfolding initialize freshClock tick clock.tick adjust clock.adjust setBy clock.setBy read second holdSecond selfReport lookup
-  asked Initialize e is good =
+  asked Initialize e is ok =
+      let good = passed Places x ok .settings in
       let time = x .host .settings .time in
       let b = both (not (lessMillis time (millis (pos 0)))) (lessMillis time dayMillis) (sound (x .host .settings) good .time) in
       let low = lt-no (time .0) (pos 0) (is-not _ (b .0)) in
       let high = lt-yes (time .0) (dayMillis .0) (b .1) in
       let u = times (time .0) unitsPerMilli in
       record { from-0 = to-≤ℤ (pos 0) _ (omega arith); to-day = to-≤ℤ _ (day .0) (omega arith) }
-  asked (Tick n) e is good = midnight-line s n _ is
-  asked (Adjust n) e is good = midnight-line s n _ is
-  asked (Set ms n) e is good = midnight-line s n _ is
-  asked (Read k) e is good = read-line k (ap countUsed is)
-  asked Second e is good = record { from-0 = t .from-0; to-day = t .to-day }
-  asked (SelfReport k) e is good = read-line k (ap countUsed is)
-  asked (Lookup a) e is good = t
+  asked (Tick n) e is ok = midnight-line s n _ is
+  asked (Adjust n) e is ok = midnight-line s n _ is
+  asked (Set ms n) e is ok = midnight-line s n _ is
+  asked (Read k) e is ok = read-line k (ap countUsed is)
+  asked Second e is ok = record { from-0 = t .from-0; to-day = t .to-day }
+  asked (SelfReport k) e is ok = read-line k (ap countUsed is)
+  asked (Lookup a) e is ok = t
+  asked (Step k) e is ok = stepped k e (is .0) (is .1) (walk-lent x (passed Walking x ok .lent refl))
 
   swept : (w : Updates) (octets : List ℕ) → w .count ≡ noCount → LineTime (w .clock) → LineTime (updates w octets (entriesOf x) .clock)
   unfolding lineD clock.setBy
@@ -207,7 +279,7 @@ module _ (x : Lent) (t : LineTime (x .host .clock)) where
       updates-clock w octets (entriesOf x) LineTime
       (λ id c e h. clock-keeps LineTime _ (w .«hold_interval») (w .count) (w .date) _ c e h (midnight-line (w .«hold_interval») (w .count) _ none)) from
 
-  arrived : (d : Delivery) (octets : List ℕ) → NoCount (deliver d octets) → LineTime (updatedBy (delivered d octets (x .host)) octets x .clock)
+  arrived : (d : Delivery) (octets : List ℕ) → NoCount (deliver d octets) (x .walk) → LineTime (updatedBy (delivered d octets (x .host)) octets x .clock)
   arrived d octets is =
       delivery-ways d (x .host) (λ (a : Arrived). LineTime (updatedBy a octets x .clock))
       record {
@@ -220,21 +292,57 @@ module _ (x : Lent) (t : LineTime (x .host .clock)) where
       }
       octets
     where
-      now : (d : Delivery) → NoCount (deliver d octets) → LineTime (readBy d (x .host) .clock)
+      now : (d : Delivery) → NoCount (deliver d octets) (x .walk) → LineTime (readBy d (x .host) .clock)
       now (Inspect i) is = t
       now (Act i k) is = read-line k (ap countUsed is)
       now (Receive i k) is = read-line k (ap countUsed is)
 
-  works : (c : Call) → NoCount c → done (guardOf c x) ≡ true → LineTime (work c x .clock)
-  works (ask q) is e = asked q (entryAt (wanted q (x .host .settings)) x) is (passed (scopeOfCall (ask q)) x e .settings)
+  works : (c : Call) → NoCount c (x .walk) → done (guardOf c x) ≡ true → LineTime (work c x .clock)
+  works (ask q) is e = asked q (entryAt (wanted q (x .host .settings) (x .walk)) x) is e
   works (send i k buffer) is e =
       either (λ (p : Sending). LineTime (sentBy p buffer x .clock))
       (ltb (length buffer) (packetLength (reportCount (x .host .settings) (linkOf (x .host .links) i)))) _ _ (λ _. t) (λ _. read-line k (ap countUsed is))
   works (deliver d octets) is e = arrived d octets is
+  works (openWalk i packet) is e = t
+
+-- ---- a walk holds no count
+
+module _ (x : Lent) (held : x .walk .count ≡ noCount) where
+  abbrev None : Walk → Type 0
+  None v = v .count ≡ noCount
+
+  counts : (q : Request) (e : Entry) → NoCount (ask q) (x .walk) → done (guardOf (ask q) x) ≡ true → None (effect q (x .host) (x .walk) (x .copy) e .walk)
+  unfolding initialize tick adjust setBy read second selfReport lookup
+  counts Initialize e is ok = refl
+  counts (Tick n) e is ok = held
+  counts (Adjust n) e is ok = held
+  counts (Set ms n) e is ok = held
+  counts (Read k) e is ok = held
+  counts Second e is ok = held
+  counts (SelfReport k) e is ok = held
+  counts (Lookup a) e is ok = held
+  counts (Step k) e is ok =
+      step-ways k (x .host) (x .walk) (x .copy) e (λ (y : Effect). None (y .walk))
+      record {
+        none = held;
+        reads = λ v c. c ∙ ap countUsed (is .0);
+        delays = λ has. refl;
+        unknown = refl;
+        goes = λ r z v h c d l g work m. h held;
+      }
+      (walk-lent x (passed Walking x ok .lent refl))
+
+  holds-none : (c : Call) → NoCount c (x .walk) → done (guardOf c x) ≡ true → None (work c x .walk)
+  holds-none (ask q) is ok = counts q (entryAt (wanted q (x .host .settings) (x .walk)) x) is ok
+  holds-none (send i k buffer) is ok = held
+  holds-none (deliver d octets) is ok = held
+  holds-none (openWalk i packet) is ok =
+      opening-ways i packet (x .host .settings) (x .walk) (λ (o : Opening). None (openedBy o packet x .walk)) (λ a few. held) (λ p is fits. refl)
 
 pub line-calls-hold : LineCalls
 line-calls-hold =
     record {
       same = λ c x is t. same x t c is;
       stays = λ c x is t. performs c x (λ o. LineTime (o .clock)) (λ _. t) (works x t c is);
+      holds-none = λ c x is held. performs c x (λ o. o .walk .count ≡ noCount) (λ _. held) (holds-none x held c is);
     }

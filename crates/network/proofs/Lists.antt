@@ -12,6 +12,12 @@ use Rattle.lists.specs.Lists.{part, over}
 use Rattle.lists.proofs.Tests.{both}
 use Rattle.table.specs.Forms.{every}
 
+-- what stands at a place, stored there
+pub set-same : {A : Type 0} (d : A) (l : List A) (i : ℕ) → set l i (getD l i d) ≡ l
+set-same d [] i = refl
+set-same d (a ∷ l) zero = refl
+set-same d (a ∷ l) (suc i) = ap (λ (m : List _). a ∷ m) (set-same d l i)
+
 -- P holds of each element and its place, from 0
 abbrev pub All : {A : Type 0} → (ℕ → A → Type 0) → List A → Type 0
 All P [] = Unit {0}
@@ -28,6 +34,19 @@ pub all-map : {A B : Type 0} (P : ℕ → A → Type 0) (Q : ℕ → B → Type 
 all-map P Q f [] h t = tt
 all-map P Q f (a ∷ l) h t =
     (h 0 a (omega arith) (t .0), all-map (λ i. P (suc i)) (λ i. Q (suc i)) f l (λ i b g. h (suc i) b (omega arith)) (t .1))
+
+pub all-weaken : {A : Type 0} (P Q : ℕ → A → Type 0) → ((i : ℕ) (a : A) → P i a → Q i a) → (l : List A) → All P l → All Q l
+all-weaken P Q h [] t = tt
+all-weaken P Q h (a ∷ l) t = (h 0 a (t .0), all-weaken (λ i. P (suc i)) (λ i. Q (suc i)) (λ i. h (suc i)) l (t .1))
+
+-- with one element stored, where P holds of all the others
+pub all-put : {A : Type 0} (P : ℕ → A → Type 0) (i : ℕ) (a : A) → P i a → (l : List A) → All (λ (j : ℕ) (b : A). (j ≡ i → ⊥) → P j b) l → All P (set l i a)
+all-put P i a p [] t = tt
+all-put P zero a p (b ∷ l) t = (p, all-weaken (λ j c. (suc j ≡ 0 → ⊥) → P (suc j) c) (λ j. P (suc j)) (λ j c f. f (λ e. omega arith)) l (t .1))
+all-put P (suc i) a p (b ∷ l) t = (
+  t .0 (λ e. omega arith),
+  all-put (λ j. P (suc j)) i a p l (all-weaken (λ j c. (suc j ≡ suc i → ⊥) → P (suc j) c) (λ j c. (j ≡ i → ⊥) → P (suc j) c) (λ j c f not. f (λ e. not (omega arith))) l (t .1)),
+)
 
 pub all-set : {A : Type 0} (P : ℕ → A → Type 0) (i : ℕ) (a : A) → P i a → (l : List A) → All P l → All P (set l i a)
 all-set P i a p [] t = tt

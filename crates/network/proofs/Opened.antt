@@ -14,14 +14,15 @@ use Rattle.table.specs.Update.{lineA, lineB, lineC, lines, lineD, update, selfR
 use Rattle.table.specs.Sweep.{sweep}
 use Rattle.table.specs.Runs.{changes, updates}
 use Rattle.host.specs.Settings.{settingsGood}
-use Rattle.host.specs.State.{freshLinks, entries, withEntries}
+use Rattle.host.specs.State.{freshLinks, entries, withEntries, noLink}
+use Rattle.host.specs.Walk.{walkInRange}
 use Rattle.host.specs.Lent.{lentInRange}
-use Rattle.host.specs.Guard.{noPlaces, noLink, guard}
-use Rattle.arrival.specs.Inspection.{otherLayout, looped, inspect}
+use Rattle.host.specs.Guard.{noPlaces, guard}
+use Rattle.host.specs.Inspection.{otherLayout, looped, inspect}
 use Rattle.arrival.specs.Steps.{step2, step3, step4, steps2to4}
 use Rattle.calls.specs.Effects.{initialize, tick, selfReport}
 use Rattle.calls.specs.Perform.{perform}
 
 unfoldable pub opened : Unit {0}
-unfolding lastDay real next previous fold folded checksumGood checksumOf turns while dayOn dayBack daysOn daysBack midnight freshClock reading setBy tickInRange clockInRange clock.tick ipForm ipChecksum protocol header helloForm helloChecksum reportAt hello fields parse message sameNet localId search find freshEntry advertised entryInRange lineA lineB lineC lines lineD update selfReported sweep changes updates settingsGood freshLinks entries withEntries lentInRange noPlaces noLink guard otherLayout looped inspect step2 step3 step4 steps2to4 initialize tick selfReport perform
+unfolding lastDay real next previous fold folded checksumGood checksumOf turns while dayOn dayBack daysOn daysBack midnight freshClock reading setBy tickInRange clockInRange clock.tick ipForm ipChecksum protocol header helloForm helloChecksum reportAt hello fields parse message sameNet localId search find freshEntry advertised entryInRange lineA lineB lineC lines lineD update selfReported sweep changes updates settingsGood freshLinks entries withEntries walkInRange lentInRange noPlaces noLink guard otherLayout looped inspect step2 step3 step4 steps2to4 initialize tick selfReport perform
 opened = tt

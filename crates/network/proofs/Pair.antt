@@ -1,5 +1,5 @@
 -- An inspection and the action behind it go one way until the packet passes, and the action tests what the inspection tests. So the two in turn are the action, and that is the arrival in one piece.
-use mathlib.Core.Path.{_≡_, refl, sym, ap, subst, fun-ext, _∙_}
+use mathlib.Core.Path.{_≡_, refl, sym, ap, fun-ext, _∙_}
 use mathlib.Core.Bool.{Bool, true, false, cond, not, _||_, true≢false}
 use mathlib.Core.List.{List, [], _∷_, _++_}
 use mathlib.Core.Logic.{_↔_}
@@ -15,14 +15,13 @@ use Rattle.clock.specs.declared.Counter.{Counter}
 use Rattle.wire.specs.declared.Packet.{Packet}
 use Rattle.wire.specs.declared.Parsed.{Parsed}
 use Rattle.wire.specs.declared.Parsed.the-variants.{Good, Bad}
-use Rattle.table.specs.declared.Entry.{Entry}
 use Rattle.host.specs.declared.guard.Scope.the-variants.{OnLink}
 use Rattle.host.specs.State.{placesPerHost, firstPlace}
 use Rattle.host.specs.Lent.{Host, Lent}
 use Rattle.host.specs.Guard.{guard, done}
 use Rattle.arrival.specs.declared.Arrived.{Arrived}
-use Rattle.arrival.specs.Inspection.{tells}
-use Rattle.arrival.specs.Inspection as inspecting
+use Rattle.host.specs.Inspection.{tells}
+use Rattle.host.specs.Inspection as inspecting
 use Rattle.arrival.specs.Arrival.{quiet, action, inspected, inspection}
 use Rattle.arrival.specs.Arrival as arrivals
 use Rattle.arrival.proofs.Pair as pieces
@@ -37,9 +36,9 @@ use Rattle.network.proofs.Demand3.Arrival.{action-timed}
 -- ---- an inspection changes nothing
 
 module _ (i : ℕ) (octets : List ℕ) (x : Lent) where
-  leaves : perform (inspect i octets) x ≡ record { reply = perform (inspect i octets) x .reply; clock = x .host .clock; links = x .host .links; run = x .run; buffer = [] }
+  leaves : perform (inspect i octets) x ≡ record { reply = perform (inspect i octets) x .reply; clock = x .host .clock; links = x .host .links; walk = x .walk; copy = x .copy; run = x .run; buffer = [] }
   leaves =
-      performs (inspect i octets) x (λ o. o ≡ record { reply = o .reply; clock = x .host .clock; links = x .host .links; run = x .run; buffer = [] }) (λ _. refl)
+      performs (inspect i octets) x (λ o. o ≡ record { reply = o .reply; clock = x .host .clock; links = x .host .links; walk = x .walk; copy = x .copy; run = x .run; buffer = [] }) (λ _. refl)
       (λ e. quieted x (there (inspect i octets) x e) (tells (inspecting.inspect (x .host .settings) i octets)) (x .host) octets)
 
   looks : left x (perform (inspect i octets) x) ≡ x
@@ -112,12 +111,12 @@ kept-left : (w : State) (e : Event) (i : ℕ) (octets : List ℕ) → e .call �
 kept-left w e i octets is lends =
     let k = numberOf e in
     let x = e .lent in
-    let o : outcome e ≡ record { reply = outcome e .reply; clock = x .host .clock; links = x .host .links; run = x .run; buffer = [] } =
-    ap (λ c. perform c x) is ∙ leaves i octets x ∙ ap (λ r. record { reply = r; clock = x .host .clock; links = x .host .links; run = x .run; buffer = [] }) (ap (λ c. perform c x .reply) (sym is)) in
+    let o : outcome e ≡ record { reply = outcome e .reply; clock = x .host .clock; links = x .host .links; walk = x .walk; copy = x .copy; run = x .run; buffer = [] } =
+    ap (λ c. perform c x) is ∙ leaves i octets x ∙ ap (λ r. record { reply = r; clock = x .host .clock; links = x .host .links; walk = x .walk; copy = x .copy; run = x .run; buffer = [] }) (ap (λ c. perform c x .reply) (sym is)) in
     let there : (b : Bool) → ltb (length (x .run)) (firstPlace k + placesPerHost) ≡ b → cond b (w k .places) (places k (x .run)) ≡ w k .places =
     λ b. elim b [ true ↦ λ _. refl | false ↦ λ z. lends .all-places (ltb-false (length (x .run)) (firstPlace k + placesPerHost) z) ] in
     ap (leftBy k (w k .places)) o
-    ∙ (λ j. record { clock = lends .own-clock j; links = lends .all-links j; places = there (ltb (length (x .run)) (firstPlace k + placesPerHost)) refl j })
+    ∙ (λ j. record { clock = lends .own-clock j; links = lends .all-links j; walk = lends .own-walk j; copy = lends .all-copy j; places = there (ltb (length (x .run)) (firstPlace k + placesPerHost)) refl j })
 
 stays : (w : State) (e : Event) (i : ℕ) (octets : List ℕ) → e .call ≡ inspect i octets → LendsWhole (w (numberOf e)) (e .lent) → after w e ≡ w
 unfolding after

@@ -1,12 +1,15 @@
 -- Every call is its guard and then its work: what is so of a refusal by the guard and of the work is so of the call.
 use mathlib.Core.Path.{_≡_}
 use mathlib.Core.Bool.{true, false, or-true}
+use lib.Dec.{ltb}
+use lib.ListN.{length}
 use Rattle.answer.specs.declared.Answer.{Answer}
 use Rattle.answer.specs.declared.Answer.the-variants.{OutOfRange}
 use Rattle.host.specs.declared.guard.Scope.{Scope}
-use Rattle.host.specs.declared.guard.Scope.the-variants.{Places, All, OnLink}
+use Rattle.host.specs.declared.guard.Scope.the-variants.{Places, All, OnLink, Opening, Walking}
+use Rattle.host.specs.State.{noLink}
 use Rattle.host.specs.Lent.{Lent}
-use Rattle.host.specs.Guard.{noPlaces, noLink, outOfRange, guard, done}
+use Rattle.host.specs.Guard.{noPlaces, longest, outOfRange, guard, done}
 use Rattle.host.proofs.Places.{Holds}
 use Rattle.host.proofs.Guarded.{passed, holds}
 use Rattle.host.proofs.Guarded as guarded
@@ -29,7 +32,9 @@ module _ (c : Call) (x : Lent) where
   missing : noPlaces (x .number) (x .run) ≡ true → (a : Scope) → outOfRange a x ≡ true
   missing e Places = e
   missing e All = rw e
+  missing e Walking = rw e
   missing e (OnLink i) = rw e (or-true (noLink (x .host .settings) i))
+  missing e (Opening i) = rw (e, or-true (noLink (x .host .settings) i)) (or-true (ltb (length (x .copy)) longest))
 
   pub perform-short : noPlaces (x .number) (x .run) ≡ true → perform c x ≡ refused OutOfRange c x
   unfolding perform guard

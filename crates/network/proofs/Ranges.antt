@@ -37,7 +37,7 @@ use Rattle.network.proofs.Lists.{all-at, all-set, all-made, all-take, e
 -- ---- links
 
 module _ (s : Settings) (l : Links) (i : ℕ) (has : Counted s i) (links : every linkInRange (take (linkCount s) (l .all)) ≡ true) where
-  link-in : linkInRange (linkOf l i) ≡ true
+  pub link-in : linkInRange (linkOf l i) ≡ true
   link-in =
       subst (λ x. linkInRange x ≡ true) (getD-take (linkCount s) (l .all) (i - 1) (freshLink unset) (has .at-place))
       (all-at (λ _ x. linkInRange x ≡ true) (freshLink unset) (λ _. refl) (take (linkCount s) (l .all))

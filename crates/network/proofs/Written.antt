@@ -13,13 +13,14 @@ use Rattle.table.specs.declared.Entry.{Entry}
 use Rattle.table.specs.Sweep.{sweep}
 use Rattle.table.specs.Runs.{changes, updates}
 use Rattle.host.specs.declared.Links.{Links}
+use Rattle.host.specs.declared.walk.Walk.{Walk}
 use Rattle.host.specs.declared.Reply.{Reply}
 use Rattle.host.specs.State.{firstPlace, hostCount, entries, withEntries}
+use Rattle.host.specs.Effect.{answers}
 use Rattle.host.specs.Lent.{Host, Lent, entriesOf}
 use Rattle.host.specs.Reply.{plainly}
 use Rattle.host.proofs.Places.{Holds, entries-length, withEntries-length, withEntries-front, withEntries-behind, entries-withEntries}
 use Rattle.arrival.specs.Arrival.{quiet, ends}
-use Rattle.calls.specs.Effects.{answers}
 use Rattle.calls.specs.Perform.{Outcome, carriedOut, updatedBy}
 use Rattle.network.specs.Frame.{Kept}
 
@@ -57,18 +58,18 @@ unwritten x there = over-part (firstPlace (x .number)) (hostCount (x .host .sett
 -- ---- a call that does nothing to the entries
 
 module _ (x : Lent) (there : Holds (x .number) (x .run)) where
-  -- what is left, with this reply, this clock and these links
-  abbrev pub leaving : Reply → Clock → Links → Outcome
-  leaving r c l = record { reply = r; clock = c; links = l; run = x .run; buffer = [] }
+  -- what is left, with this reply, this clock, these links and this walk
+  abbrev pub leaving : Reply → Clock → Links → Walk → Outcome
+  leaving r c l w = record { reply = r; clock = c; links = l; walk = w; copy = x .copy; run = x .run; buffer = [] }
 
-  pub answered : (r : Reply) (c : Clock) (l : Links) → carriedOut (answers r c l) x ≡ leaving r c l
+  pub answered : (r : Reply) (c : Clock) (l : Links) (w : Walk) → carriedOut (answers r c l w) x ≡ leaving r c l w
   unfolding changes
-  answered r c l = ap (λ run. record { reply = r; clock = c; links = l; run = run; buffer = [] }) (rw (over-nothing 0 (entriesOf x)) (unwritten x there))
+  answered r c l w = ap (λ run. record { reply = r; clock = c; links = l; walk = w; copy = x .copy; run = run; buffer = [] }) (rw (over-nothing 0 (entriesOf x)) (unwritten x there))
 
-  pub quieted : (r : Reply) (h : Host) (octets : List ℕ) → updatedBy (quiet r h) octets x ≡ leaving r (h .clock) (h .links)
+  pub quieted : (r : Reply) (h : Host) (octets : List ℕ) → updatedBy (quiet r h) octets x ≡ leaving r (h .clock) (h .links) (x .walk)
   unfolding updates sweep
   quieted r h octets =
-      ap (λ run. record { reply = r; clock = h .clock; links = h .links; run = run; buffer = [] }) (rw (over-nothing 0 (entriesOf x)) (unwritten x there))
+      ap (λ run. record { reply = r; clock = h .clock; links = h .links; walk = x .walk; copy = x .copy; run = run; buffer = [] }) (rw (over-nothing 0 (entriesOf x)) (unwritten x there))
 
-  pub ended : (a : Answer) (h : Host) (octets : List ℕ) → updatedBy (ends a h) octets x ≡ leaving (plainly a) (h .clock) (h .links)
+  pub ended : (a : Answer) (h : Host) (octets : List ℕ) → updatedBy (ends a h) octets x ≡ leaving (plainly a) (h .clock) (h .links) (x .walk)
   ended a h octets = quieted (plainly a) h octets

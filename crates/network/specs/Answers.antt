@@ -1,4 +1,4 @@
--- Demand 1, answers: "Each is given exactly on its condition; 12 is tested first in all calls, then upwards in number".
+-- Demand 1, answers: "Each is given exactly on its condition; 12 is tested first in all calls, then upwards in number"; 16 right after 12.
 -- For each call, its answers with their conditions, in that order; the call gives the first whose condition holds, and 0 where none does.
 use mathlib.Core.Path.{_≡_}
 use mathlib.Core.Bool.{Bool, false, cond, not, _&&_, _||_}
@@ -6,9 +6,10 @@ use mathlib.Core.List.{List, [], _∷_, _++_}
 use Prim.Native.Nat.{ℕ}
 use lib.Dec.{ltb, eqb}
 use lib.ListN.{length, getD}
+use Rattle.quantity.specs.declared.Seconds.{Seconds}
 use Rattle.quantity.specs.Words.{zeroWord}
 use Rattle.answer.specs.declared.Answer.{Answer}
-use Rattle.answer.specs.declared.Answer.the-variants.{Done, Setting, ShortBuffer, IpForm, IpChecksum, Protocol, HelloForm, HelloChecksum, OtherLayout, LoopedLine, DelayNotValid, NoHost, OutOfRange, HostDown}
+use Rattle.answer.specs.declared.Answer.the-variants.{Done, Setting, ShortBuffer, IpForm, IpChecksum, Protocol, HelloForm, HelloChecksum, OtherLayout, LoopedLine, DelayNotValid, NoHost, OutOfRange, HostDown, InWalk, NoWalk}
 use Rattle.clock.specs.declared.Counter.{Counter}
 use Rattle.wire.specs.declared.Address.{Address}
 use Rattle.wire.specs.declared.Packet.{Packet}
@@ -21,17 +22,19 @@ use Rattle.route.specs.declared.Found.the-variants.{Id, Nothing}
 use Rattle.route.specs.Find.{isFound}
 use Rattle.table.specs.declared.Entry.{Entry}
 use Rattle.table.specs.Entry.{freshEntry, up}
+use Rattle.host.specs.declared.walk.Walk.{Walk}
 use Rattle.host.specs.Settings.{settingsGood, foundFor}
 use Rattle.host.specs.State.{broadcast, linkOf}
 use Rattle.host.specs.Lent.{Host, Lent, entriesOf, ourReading}
-use Rattle.host.specs.Guard.{outOfRange}
+use Rattle.host.specs.Guard.{outOfRange, inWalk}
+use Rattle.host.specs.Walk.{isOpen, packetOf}
 use Rattle.sending.specs.Send.{reportCount}
 use Rattle.arrival.specs.declared.Delivery.{Delivery}
 use Rattle.arrival.specs.declared.Delivery.the-variants.{Inspect, Act, Receive}
-use Rattle.arrival.specs.Inspection.{otherLayout, looped}
+use Rattle.host.specs.Inspection.{otherLayout, looped}
 use Rattle.calls.specs.declared.Request.{Request}
-use Rattle.calls.specs.declared.Request.the-variants.{Initialize, Tick, Adjust, Set, Read, Second, SelfReport, Lookup}
-use Rattle.calls.specs.Perform.{Call, ask, send, deliver, scopeOfCall, perform}
+use Rattle.calls.specs.declared.Request.the-variants.{Initialize, Tick, Adjust, Set, Read, Second, SelfReport, Lookup, Step}
+use Rattle.calls.specs.Perform.{Call, ask, send, deliver, openWalk, scopeOfCall, perform}
 
 -- an answer and its condition
 pub record Test : Type 0 where
@@ -47,11 +50,14 @@ firstOf (t ∷ ts) = cond (t .holds) (t .answer) (firstOf ts)
 
 -- ---- conditions
 
--- 10: on a point-to-point link, a known neighbour, and a packet TSP of 0 or HOLD not 0 behind the reading
+-- 10: on a point-to-point link, a known neighbour, and a packet TSP of 0 or HOLD not 0
+abbrev pub delayInvalidIn : (hold : Seconds) → Host → (link : ℕ) → Packet → Bool
+delayInvalidIn hold h i p =
+    not (broadcast (h .settings) i) && sameAddress (p .source) (linkOf (h .links) i .neighbor) && (zeroWord (p .tsp) || not (eqb (hold .0) 0))
+
+-- behind the reading
 abbrev pub delayInvalid : Counter → Host → (link : ℕ) → Packet → Bool
-delayInvalid k h i p =
-    not (broadcast (h .settings) i) && sameAddress (p .source) (linkOf (h .links) i .neighbor)
-    && (zeroWord (p .tsp) || not (eqb (ourReading k h .clock .hold .0) 0))
+delayInvalid k h i p = delayInvalidIn (ourReading k h .clock .hold) h i p
 
 -- the neighbour after step 4
 abbrev pub neighborNow : Host → (link : ℕ) → Packet → Address
@@ -61,12 +67,30 @@ neighborNow h i p = cond (broadcast (h .settings) i) (linkOf (h .links) i .neigh
 abbrev pub neighborUnknown : Host → (link : ℕ) → Packet → Bool
 neighborUnknown h i p = eqb (p .nhosts) 0 && not (isFound (foundFor (h .settings) (neighborNow h i p)))
 
+-- a walk is open, and stands before this step
+abbrev pub beforeStep : ℕ → Walk → Bool
+beforeStep n w = isOpen w && eqb (w .line) 0 && eqb (w .step) n
+
+-- the fields of the packet that a walk holds
+abbrev pub held : Lent → Packet
+held x = fields (packetOf (x .walk) (x .copy))
+
+-- 10 at step 4 of a walk, with HOLD as it is by then
+abbrev pub walkDelayInvalid : Lent → Bool
+walkDelayInvalid x = beforeStep 4 (x .walk) && delayInvalidIn (x .host .clock .hold) (x .host) (x .walk .link) (held x)
+
+-- 11 at step 5 of a walk, with the neighbour as it is by then
+abbrev pub walkNeighborUnknown : Lent → Bool
+walkNeighborUnknown x =
+    beforeStep 5 (x .walk)
+    && (eqb (held x .nhosts) 0 && not (isFound (foundFor (x .host .settings) (linkOf (x .host .links) (x .walk .link) .neighbor))))
+
 -- 13: an id is found, and its entry is down
 abbrev pub hostDown : List Entry → Found → Bool
 hostDown es Nothing = false
 hostDown es (Id id) = not (up (getD es id freshEntry))
 
--- ---- the tests of each call, behind 12 and 1
+-- ---- the tests of each call, behind 12, 16 and 1
 
 abbrev pub requestTests : Request → Lent → List Test
 requestTests Initialize x = []
@@ -80,6 +104,8 @@ requestTests (Lookup a) x =
     on NoHost (not (isFound (foundFor (x .host .settings) a)))
     ∷ on HostDown (hostDown (entriesOf x) (foundFor (x .host .settings) a))
     ∷ []
+requestTests (Step k) x =
+    on DelayNotValid (walkDelayInvalid x) ∷ on NoHost (walkNeighborUnknown x) ∷ on NoWalk (not (isOpen (x .walk))) ∷ []
 
 abbrev pub sendTests : (link : ℕ) (buffer : List ℕ) → Host → List Test
 sendTests i buffer h =
@@ -113,11 +139,15 @@ abbrev pub ownTests : Call → Lent → List Test
 ownTests (ask q) x = requestTests q x
 ownTests (send i k buffer) x = sendTests i buffer (x .host)
 ownTests (deliver d packet) x = deliveryTests d packet (x .host)
+ownTests (openWalk i packet) x = inspectionTests i packet (x .host)
 
--- 12, by how much the call tests, and 1
+-- 12, by how much the call tests, 16, which setting afresh and a step don't give, and 1
 abbrev pub tests : Call → Lent → List Test
 tests c x =
-    on OutOfRange (outOfRange (scopeOfCall c) x) ∷ on Setting (not (settingsGood (x .host .settings))) ∷ ownTests c x
+    on OutOfRange (outOfRange (scopeOfCall c) x)
+    ∷ on InWalk (inWalk (scopeOfCall c) (x .walk))
+    ∷ on Setting (not (settingsGood (x .host .settings)))
+    ∷ ownTests c x
 
 unfoldable pub Answers : Type 0
 Answers = (c : Call) (x : Lent) → perform c x .reply .answer ≡ firstOf (tests c x)

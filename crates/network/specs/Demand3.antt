@@ -19,16 +19,20 @@ use Rattle.clock.specs.Clock.{reading}
 use Rattle.table.specs.declared.Entry.{Entry}
 use Rattle.table.specs.Entry.{freshEntry, up}
 use Rattle.host.specs.declared.Links.{Links}
+use Rattle.host.specs.declared.walk.Walk.{Walk}
+use Rattle.host.specs.declared.walk.Place.the-variants.{Step1}
 use Rattle.host.specs.Guard.{done}
+use Rattle.host.specs.Walk.{isOpen, placeOf, packetOf}
 use Rattle.calls.specs.declared.Request.the-variants.{Tick, Second, SelfReport}
-use Rattle.calls.specs.Perform.{Call, ask, send, inspect, act, receive, Outcome}
+use Rattle.calls.specs.Perform.{Call, ask, send, inspect, act, receive, openWalk, Outcome}
+use Rattle.calls.specs.Perform as calls
 use Rattle.network.specs.Left.{messageOf}
 use Rattle.network.specs.History.{Event, State, Left, leftBy, Lends, outcome, after}
 use Rattle.network.specs.Room.{longestWay, errorParts, delayParts, Room, at, lentAt, afresh, HostAt, Proper}
 
 -- ---- the calls of the list
 
--- "ticks, sends, arrivals, self-reports and seconds"; a send and an arrival have the room's millisecond. An action is an arrival; an inspection may be given any packet.
+-- "ticks, sends, arrivals, self-reports and seconds"; a send and an arrival have the room's millisecond. An action is an arrival; an inspection may be given any packet. A walk is an arrival, with the millisecond of its box 1: it may be opened for any packet, and the packet that box 1 finds must be a message in time.
 pub data RoomCall : Type 0 where
   ticks : Count → RoomCall
   seconds : RoomCall
@@ -37,6 +41,8 @@ pub data RoomCall : Type 0 where
   arrives : (link : ℕ) → Counter → (packet : List ℕ) (ms : ℤ) → RoomCall
   acts : (link : ℕ) → Counter → (packet : List ℕ) (ms : ℤ) → RoomCall
   inspects : (link : ℕ) (packet : List ℕ) → RoomCall
+  opens : (link : ℕ) (packet : List ℕ) → RoomCall
+  steps : Counter → (ms : ℤ) → RoomCall
 
 abbrev pub callOf : RoomCall → Call
 callOf (ticks n) = ask (Tick n)
@@ -46,6 +52,8 @@ callOf (sends i k buffer t) = send i k buffer
 callOf (arrives i k packet t) = receive i k packet
 callOf (acts i k packet t) = act i k packet
 callOf (inspects i packet) = inspect i packet
+callOf (opens i packet) = openWalk i packet
+callOf (steps k t) = calls.step k
 
 -- a call at a seat, with the links and the run that it is lent
 pub record Step : Type 0 where
@@ -75,7 +83,8 @@ leftAt r w a = w .state (r .number a)
 -- "Each call gets its seat's settings, and the clock .. as that seat's last call left" it, and is lent these links and this run.
 abbrev pub eventOf : Room → World → Step → Event
 eventOf r w x =
-    record { call = callOf (x .call); lent = lentAt r (x .seat) (leftAt r w (x .seat) .clock) (x .links) (x .run) }
+    let was : Left = leftAt r w (x .seat) in
+    record { call = callOf (x .call); lent = lentAt r (x .seat) (was .clock) (x .links) (was .walk) (was .copy) (x .run) }
 
 abbrev pub result : Room → World → Step → Outcome
 result r w x = outcome (eventOf r w x)
@@ -90,6 +99,8 @@ mailAfter a o (sends i k buffer t) mail =
 mailAfter a o (arrives i k packet t) mail = mail
 mailAfter a o (acts i k packet t) mail = mail
 mailAfter a o (inspects i packet) mail = mail
+mailAfter a o (opens i packet) mail = mail
+mailAfter a o (steps k t) mail = mail
 
 unfoldable pub step : Room → World → Step → World
 step r w x =
@@ -138,6 +149,10 @@ Timely r w a o (sends i k buffer t) = o .reply .answer ≡ Done → Reads r w a 
 Timely r w a o (arrives i k packet t) = Delivered r w a i k packet t (o .reply .answer)
 Timely r w a o (acts i k packet t) = Delivered r w a i k packet t (o .reply .answer)
 Timely r w a o (inspects i packet) = Unit {0}
+Timely r w a o (opens i packet) = Unit {0}
+Timely r w a o (steps k t) =
+    let v : Walk = leftAt r w a .walk in
+    isOpen v ≡ true → placeOf v ≡ Step1 → Delivered r w a (v .link) k (packetOf v (leftAt r w a .copy)) t (o .reply .answer)
 
 pub record Allowed (r : Room) (w : World) (x : Step) : Type 0 where
   pub seat-in : x .seat < r .seats

@@ -1,5 +1,5 @@
 -- Demand 1, frame: "No call for one seat alters another seat's clock, links or entries."
--- A call is lent one clock and one set of links and yields no other; of the run it keeps the length, and every place but the host's first NHOSTS. Of the links it keeps the slots past the count; only setting afresh sets all eight.
+-- A call is lent one clock and one set of links and yields no other; of the run it keeps the length, and every place but the host's first NHOSTS. Of the links it keeps the slots past the count; only setting afresh sets all eight. Only opening a walk changes the copy of a packet, and keeps its length; only that, a step and setting afresh change the walk.
 use mathlib.Core.Path.{_≡_}
 use mathlib.Core.List.{List}
 use Prim.Native.Nat.{ℕ, _+_, _≤_, _<_}
@@ -11,8 +11,9 @@ use Rattle.host.specs.declared.Links.{Links}
 use Rattle.host.specs.Settings.{linkCount}
 use Rattle.host.specs.State.{firstPlace, hostCount}
 use Rattle.host.specs.Lent.{Lent}
-use Rattle.calls.specs.declared.Request.the-variants.{Initialize}
-use Rattle.calls.specs.Perform.{Call, ask, Outcome, perform}
+use Rattle.calls.specs.declared.Request.the-variants.{Initialize, Step}
+use Rattle.clock.specs.declared.Counter.{Counter}
+use Rattle.calls.specs.Perform.{Call, ask, openWalk, Outcome, perform}
 
 pub record Kept (s : Settings) (k : ℕ) (before after : List Entry) : Type 0 where
   pub same-length : length after ≡ length before
@@ -23,8 +24,17 @@ pub record Kept (s : Settings) (k : ℕ) (before after : List Entry) : Type 0 wh
 abbrev pub spareLinks : Settings → Links → List Link
 spareLinks s l = drop (linkCount s) (l .all)
 
+-- no setting afresh, no opening, no step
+pub record Elsewhere (c : Call) : Type 0 where
+  pub not-afresh : c ≡ ask Initialize → ⊥
+  pub not-opening : (i : ℕ) (packet : List ℕ) → c ≡ openWalk i packet → ⊥
+  pub not-step : (k : Counter) → c ≡ ask (Step k) → ⊥
+
 pub record Framed (c : Call) (x : Lent) (o : Outcome) : Type 0 where
   pub places : Kept (x .host .settings) (x .number) (x .run) (o .run)
+  pub copy : ((i : ℕ) (packet : List ℕ) → c ≡ openWalk i packet → ⊥) → o .copy ≡ x .copy
+  pub copy-length : length (o .copy) ≡ length (x .copy)
+  pub walk : Elsewhere c → o .walk ≡ x .walk
   pub spare : (c ≡ ask Initialize → ⊥) → spareLinks (x .host .settings) (o .links) ≡ spareLinks (x .host .settings) (x .host .links)
 
 unfoldable pub Frame : Type 0

@@ -12,7 +12,7 @@ use Rattle.table.specs.Entry.{freshEntry}
 use Rattle.host.specs.declared.Settings.{Settings}
 use Rattle.host.specs.State.{linkOf}
 use Rattle.host.specs.Lent.{Lent, entriesOf, ourReading}
-use Rattle.arrival.specs.Inspection.{inspect}
+use Rattle.host.specs.Inspection.{inspect}
 use Rattle.calls.specs.Perform.{send, perform}
 use Rattle.network.specs.Left.{messageOf}
 

@@ -8,10 +8,11 @@ use lib.ListN.{length, take, drop}
 use Rattle.clock.specs.declared.Clock.{Clock}
 use Rattle.table.specs.declared.Entry.{Entry}
 use Rattle.host.specs.declared.Links.{Links}
+use Rattle.host.specs.declared.walk.Walk.{Walk}
 use Rattle.host.specs.State.{placesPerHost, firstPlace, hostCount}
 use Rattle.host.specs.Lent.{Lent, entriesOf}
 use Rattle.calls.specs.Perform.{Call, Outcome, perform}
-use Rattle.network.specs.Locality.{ownLinks}
+use Rattle.network.specs.Locality.{ownLinks, heldPacket}
 
 -- a call, with what it is lent
 pub record Event : Type 0 where
@@ -24,10 +25,12 @@ numberOf e = e .lent .number
 abbrev pub outcome : Event → Outcome
 outcome e = perform (e .call) (e .lent)
 
--- what a host's last call left: its clock, the eight slots of its links and its 255 places
+-- what a host's last call left: its clock, the eight slots of its links, its walk with the copy of a packet, and its 255 places
 pub record Left : Type 0 where
   pub clock : Clock
   pub links : Links
+  pub walk : Walk
+  pub copy : List ℕ
   pub places : List Entry
 
 -- what was left at each number
@@ -41,16 +44,20 @@ places k run = take placesPerHost (drop (firstPlace k) run)
 abbrev pub Holds : (number : ℕ) → List Entry → Type 0
 Holds k run = firstPlace k + placesPerHost ≤ length run
 
--- A call is lent the clock that was left; the links up to the count as they were left; and a run in which the host's first NHOSTS places are as they were left, if it holds all 255. The slots past the count, the places past NHOSTS and what else the run holds are free.
+-- A call is lent the clock and the walk that were left; the links up to the count as they were left; of the copy the packet that an open walk holds; and a run in which the host's first NHOSTS places are as they were left, if it holds all 255. The slots past the count, the octets past the packet, the places past NHOSTS and what else the run holds are free.
 pub record Lends (was : Left) (x : Lent) : Type 0 where
   pub own-clock : x .host .clock ≡ was .clock
   pub own-links : ownLinks (x .host .settings) (x .host .links) ≡ ownLinks (x .host .settings) (was .links)
+  pub own-walk : x .walk ≡ was .walk
+  pub own-packet : heldPacket (x .walk) (x .copy) ≡ heldPacket (was .walk) (was .copy)
   pub own-entries : Holds (x .number) (x .run) → entriesOf x ≡ take (hostCount (x .host .settings)) (was .places)
 
--- the same of all eight slots and all 255 places
+-- the same of all eight slots, the whole copy and all 255 places
 pub record LendsWhole (was : Left) (x : Lent) : Type 0 where
   pub own-clock : x .host .clock ≡ was .clock
   pub all-links : x .host .links ≡ was .links
+  pub own-walk : x .walk ≡ was .walk
+  pub all-copy : x .copy ≡ was .copy
   pub all-places : Holds (x .number) (x .run) → places (x .number) (x .run) ≡ was .places
 
 -- what an outcome leaves; a run without all the places leaves them as they were
@@ -59,6 +66,8 @@ leftBy k were o =
     record {
       clock = o .clock;
       links = o .links;
+      walk = o .walk;
+      copy = o .copy;
       places = cond (ltb (length (o .run)) (firstPlace k + placesPerHost)) were (places k (o .run));
     }
 

@@ -10,12 +10,13 @@ use Rattle.clock.specs.declared.Clock.{Clock}
 use Rattle.table.specs.declared.Entry.{Entry}
 use Rattle.host.specs.declared.Settings.{Settings}
 use Rattle.host.specs.declared.Links.{Links}
+use Rattle.host.specs.declared.walk.Walk.{Walk}
 use Rattle.host.specs.State.{hostCount}
 use Rattle.host.specs.Lent.{Lent, lent}
 use Rattle.calls.specs.declared.Request.the-variants.{Initialize}
 use Rattle.calls.specs.Perform.{Call, ask, Outcome, perform}
 use Rattle.network.specs.Left.{Told, told}
-use Rattle.network.specs.Locality.{SameInput, ownLinks}
+use Rattle.network.specs.Locality.{SameInput, ownLinks, heldPacket}
 use Rattle.network.specs.History.{Event, State, Left, numberOf, Lends, LendsWhole, outcome, places, put, afterAll, LendsAll}
 
 -- ---- a host's own calls
@@ -37,6 +38,7 @@ pub record Agree (e f : Event) : Type 0 where
   pub settings-same : settingsOf e ≡ settingsOf f
   pub input-same : SameInput (e .call) (f .call)
   pub length-same : length (e .lent .run) ≡ length (f .lent .run)
+  pub room-same : length (e .lent .copy) ≡ length (f .lent .copy)
 
 unfoldable pub Pairwise : List Event → List Event → Type 0
 Pairwise [] [] = Unit {0}
@@ -69,10 +71,12 @@ pub data Steady : Settings → List Event → Settings → Type 0 where
 pub data FromAfresh : List Event → Settings → Type 0 where
   begins : {t : Settings} {e : Event} {es : List Event} → SetsAfresh e → Steady (settingsOf e) es t → FromAfresh (e ∷ es) t
 
--- what is left agrees, in the links and the places that the settings count
+-- what is left agrees, in the links and the places that the settings count, and in the packet that an open walk holds
 pub record LeftAlike (s : Settings) (x y : Left) : Type 0 where
   pub clock-same : x .clock ≡ y .clock
   pub links-same : ownLinks s (x .links) ≡ ownLinks s (y .links)
+  pub walk-same : x .walk ≡ y .walk
+  pub packet-same : heldPacket (x .walk) (x .copy) ≡ heldPacket (y .walk) (y .copy)
   pub entries-same : take (hostCount s) (x .places) ≡ take (hostCount s) (y .places)
 
 unfoldable pub IsolationFromAfresh : Type 0
@@ -89,14 +93,16 @@ pub record SharedEvent : Type 0 where
   pub settings : Settings
   pub call : Call
 
--- each host's clock and links, and the one run
+-- each host's clock, links and walk with its copy, and the one run
 pub record Shared : Type 0 where
   pub clock : ℕ → Clock
   pub links : ℕ → Links
+  pub walk : ℕ → Walk
+  pub copy : ℕ → List ℕ
   pub run : List Entry
 
 abbrev pub sharedLent : Shared → SharedEvent → Lent
-sharedLent w e = lent (e .settings) (e .number) (w .clock (e .number)) (w .links (e .number)) (w .run)
+sharedLent w e = lent (e .settings) (e .number) (w .clock (e .number)) (w .links (e .number)) (w .walk (e .number)) (w .copy (e .number)) (w .run)
 
 abbrev pub sharedOutcome : Shared → SharedEvent → Outcome
 sharedOutcome w e = perform (e .call) (sharedLent w e)
@@ -106,6 +112,8 @@ sharedAfter w e =
     record {
       clock = put (e .number) (sharedOutcome w e .clock) (w .clock);
       links = put (e .number) (sharedOutcome w e .links) (w .links);
+      walk = put (e .number) (sharedOutcome w e .walk) (w .walk);
+      copy = put (e .number) (sharedOutcome w e .copy) (w .copy);
       run = sharedOutcome w e .run;
     }
 
@@ -127,6 +135,8 @@ alone k (e ∷ es) = cond (eqb (e .number) k) (e ∷ alone k es) (alone k es)
 pub record SharedAlike (k : ℕ) (w v : Shared) : Type 0 where
   pub clock-same : w .clock k ≡ v .clock k
   pub links-same : w .links k ≡ v .links k
+  pub walk-same : w .walk k ≡ v .walk k
+  pub copy-same : w .copy k ≡ v .copy k
   pub places-same : places k (w .run) ≡ places k (v .run)
 
 -- Deleting every other host's calls changes nothing at k.

@@ -16,3 +16,4 @@ pub mod SharedRun
 pub mod TwoSeats
 pub mod Example
 pub mod Sharp
+pub mod WalkEnds

@@ -11,12 +11,14 @@ use Rattle.lists.specs.Lists.{part, over}
 use Rattle.quantity.specs.declared.Seconds.{Seconds}
 use Rattle.quantity.specs.Quantity.{millis}
 use Rattle.quantity.specs.Words.{ofWord}
-use Rattle.answer.specs.declared.Answer.the-variants.{Done, ShortBuffer}
+use Rattle.answer.specs.declared.Answer.the-variants.{Done, ShortBuffer, OutOfRange, NoWalk}
 use Rattle.calendar.specs.declared.Date.{Date}
 use Rattle.clock.specs.declared.Clock.{Clock}
+use Rattle.clock.specs.declared.Counter.{Counter}
 use Rattle.clock.specs.declared.Reading.{Reading}
 use Rattle.clock.specs.Midnight.{day}
 use Rattle.clock.specs.LineClock.{noCount, noCounter, lineTick, lineAdjust, lineSet, lineReading}
+use Rattle.wire.specs.declared.Packet.{Packet}
 use Rattle.wire.specs.declared.Parsed.{Parsed}
 use Rattle.wire.specs.declared.Parsed.the-variants.{Good, Bad}
 use Rattle.wire.specs.Packet.{packetLength}
@@ -28,39 +30,82 @@ use Rattle.table.specs.Forms.{Stage, on, end}
 use Rattle.table.specs.Update.{lines, dateTaken}
 use Rattle.table.specs.Sweep.{Swept, sweep}
 use Rattle.table.specs.Runs.{updateAt}
+use Rattle.host.specs.declared.Effect.{Effect}
+use Rattle.host.specs.declared.walk.Walk.{Walk}
+use Rattle.host.specs.declared.walk.Place.{Place}
+use Rattle.host.specs.declared.walk.Place.the-variants.{Nowhere, Step1, Step2, Step3, Step4, Step5, LineA, LineB, LineC, LineD}
 use Rattle.host.specs.Settings.{ownId}
 use Rattle.host.specs.State.{linkOf, withEntries}
-use Rattle.host.specs.Lent.{Host, Lent, entriesOf}
+use Rattle.host.specs.Lent.{Host, Lent, host, entriesOf}
 use Rattle.host.specs.Guard.{guard, done}
+use Rattle.host.specs.Walk.{isOpen, placeOf, packetOf, lineUpdate}
+use Rattle.host.specs.Effect.{nothing, answers}
 use Rattle.host.specs.Reply.{plainly, tellsTime}
 use Rattle.sending.specs.declared.Sending.{Sending}
 use Rattle.sending.specs.Send.{reportCount, unsent, sentAt}
 use Rattle.arrival.specs.declared.Arrived.{Arrived}
 use Rattle.arrival.specs.declared.Delivery.{Delivery}
 use Rattle.arrival.specs.declared.Delivery.the-variants.{Inspect, Act, Receive}
-use Rattle.arrival.specs.Inspection.{inspect}
+use Rattle.host.specs.Inspection.{inspect}
 use Rattle.arrival.specs.Arrival.{ends, actionAt, inspection}
-use Rattle.calls.specs.declared.Effect.{Effect}
 use Rattle.calls.specs.declared.Request.{Request}
-use Rattle.calls.specs.declared.Request.the-variants.{Initialize, Tick, Adjust, Set, Read, Second, SelfReport, Lookup}
-use Rattle.calls.specs.Effects.{answers, ownWork, effect, wanted}
-use Rattle.calls.specs.Perform.{Call, ask, send, deliver, Outcome, scopeOfCall, refused, entryAt, carriedOut, sentBy, perform}
+use Rattle.calls.specs.declared.Request.the-variants.{Initialize, Tick, Adjust, Set, Read, Second, SelfReport, Lookup, Step}
+use Rattle.calls.specs.Effects.{ownWork, effect, wanted}
+use Rattle.calls.specs.Perform.{Call, ask, send, deliver, openWalk, Outcome, scopeOfCall, refused, entryAt, carriedOut, sentBy, openedBy, perform}
+use Rattle.walk.specs.Opening.{opening}
+use Rattle.walk.specs.Boxes.{holdingReading, atStep, onward, nextId, isClockHost, boxAt}
+
+-- ---- the boxes of a walk: step 1 reads the line clock, and line (d) sets it
+
+abbrev pub lineBox1 : Host → Walk → Effect
+lineBox1 h w =
+    let r : Reading = lineReading (h .clock) in
+    onward (atStep 2 (holdingReading noCount (r .time) w)) (r .clock) (h .links) nothing
+
+abbrev pub lineClockSet : Packet → (packet : List ℕ) → Host → Walk → Clock
+lineClockSet p octets h w =
+    cond (isClockHost h w) (lineSet (h .settings .«hold_interval») (ofWord (lineUpdate w p octets .offset)) (dateTaken (p .date) (h .clock))) (h .clock)
+
+abbrev pub lineBoxD : Packet → (packet : List ℕ) → Host → Walk → Effect
+lineBoxD p octets h w = nextId p (host (h .settings) (lineClockSet p octets h w) (h .links)) w nothing
+
+abbrev pub lineBoxAt : Place → Counter → Packet → (packet : List ℕ) → Host → Walk → Entry → Effect
+lineBoxAt Nowhere k p octets h w e = boxAt Nowhere k p octets h w e
+lineBoxAt Step1 k p octets h w e = lineBox1 h w
+lineBoxAt Step2 k p octets h w e = boxAt Step2 k p octets h w e
+lineBoxAt Step3 k p octets h w e = boxAt Step3 k p octets h w e
+lineBoxAt Step4 k p octets h w e = boxAt Step4 k p octets h w e
+lineBoxAt Step5 k p octets h w e = boxAt Step5 k p octets h w e
+lineBoxAt LineA k p octets h w e = boxAt LineA k p octets h w e
+lineBoxAt LineB k p octets h w e = boxAt LineB k p octets h w e
+lineBoxAt LineC k p octets h w e = boxAt LineC k p octets h w e
+lineBoxAt LineD k p octets h w e = lineBoxD p octets h w
+
+abbrev pub lineBoxOf : Counter → (packet : List ℕ) → Host → Walk → Entry → Parsed → Effect
+lineBoxOf k octets h w e (Bad a) = answers (plainly OutOfRange) (h .clock) (h .links) w
+lineBoxOf k octets h w e (Good p) = lineBoxAt (placeOf w) k p octets h w e
+
+abbrev pub lineStep : Counter → Host → Walk → (copy : List ℕ) → Entry → Effect
+lineStep k h w copy e =
+    cond (not (isOpen w)) (answers (plainly NoWalk) (h .clock) (h .links) w)
+    (lineBoxOf k (packetOf w copy) h w e (inspect (h .settings) (w .link) (packetOf w copy)))
 
 -- ---- requests
 
-abbrev pub lineEffect : Request → Host → Entry → Effect
-lineEffect Initialize h e = effect Initialize h e
-lineEffect (Tick n) h e = answers (plainly Done) (lineTick (h .settings .«clock_tick») (h .settings .«hold_interval») (h .clock)) (h .links)
-lineEffect (Adjust n) h e = answers (plainly Done) (lineAdjust (h .settings .«hold_interval») (h .clock)) (h .links)
-lineEffect (Set ms n) h e = answers (plainly Done) (lineSet (h .settings .«hold_interval») (millis ms) (h .clock)) (h .links)
-lineEffect (Read k) h e =
+abbrev pub lineEffect : Request → Host → Walk → (copy : List ℕ) → Entry → Effect
+lineEffect Initialize h w copy e = effect Initialize h w copy e
+lineEffect (Tick n) h w copy e = answers (plainly Done) (lineTick (h .settings .«clock_tick») (h .settings .«hold_interval») (h .clock)) (h .links) w
+lineEffect (Adjust n) h w copy e = answers (plainly Done) (lineAdjust (h .settings .«hold_interval») (h .clock)) (h .links) w
+lineEffect (Set ms n) h w copy e = answers (plainly Done) (lineSet (h .settings .«hold_interval») (millis ms) (h .clock)) (h .links) w
+lineEffect (Read k) h w copy e =
     let r : Reading = lineReading (h .clock) in
-    answers (tellsTime (r .time) (r .clock .date)) (r .clock) (h .links)
-lineEffect Second h e = effect Second h e
-lineEffect (SelfReport k) h e =
+    answers (tellsTime (r .time) (r .clock .date)) (r .clock) (h .links) w
+lineEffect Second h w copy e = effect Second h w copy e
+lineEffect (SelfReport k) h w copy e =
     let r : Reading = lineReading (h .clock) in
-    record { reply = plainly Done; clock = r .clock; links = h .links; work = ownWork (r .time) (ownId (h .settings)) }
-lineEffect (Lookup a) h e = effect (Lookup a) h e
+    record { reply = plainly Done; clock = r .clock; links = h .links; walk = w; work = ownWork (r .time) (ownId (h .settings)) }
+lineEffect (Lookup a) h w copy e = effect (Lookup a) h w copy e
+lineEffect (Step k) h w copy e = lineStep k h w copy e
 
 -- ---- sends
 
@@ -99,12 +144,13 @@ lineUpdates w packet run =
 abbrev pub lineUpdatedBy : Arrived → (packet : List ℕ) → Lent → Outcome
 lineUpdatedBy e octets x =
     let w : Swept = lineUpdates (e .work) octets (entriesOf x) in
-    record { reply = e .reply; clock = w .clock; links = e .links; run = withEntries (x .number) (w .entries) (x .run); buffer = List.[] }
+    record { reply = e .reply; clock = w .clock; links = e .links; walk = x .walk; copy = x .copy; run = withEntries (x .number) (w .entries) (x .run); buffer = List.[] }
 
 abbrev pub lineWork : Call → Lent → Outcome
-lineWork (ask q) x = carriedOut (lineEffect q (x .host) (entryAt (wanted q (x .host .settings)) x)) x
+lineWork (ask q) x = carriedOut (lineEffect q (x .host) (x .walk) (x .copy) (entryAt (wanted q (x .host .settings) (x .walk)) x)) x
 lineWork (send i k buffer) x = sentBy (lineSend i (length buffer) (x .host)) buffer x
 lineWork (deliver d packet) x = lineUpdatedBy (lineDelivered d packet (x .host)) packet x
+lineWork (openWalk i packet) x = openedBy (opening i packet (x .host .settings) (x .walk)) packet x
 
 unfoldable pub linePerform : Call → Lent → Outcome
 linePerform call x =
@@ -112,20 +158,22 @@ linePerform call x =
 
 -- ---- the law
 
--- the call is handed no count
-abbrev pub NoCount : Call → Type 0
-NoCount (ask Initialize) = Unit {0}
-NoCount (ask (Tick n)) = n ≡ noCount
-NoCount (ask (Adjust n)) = n ≡ noCount
-NoCount (ask (Set ms n)) = n ≡ noCount
-NoCount (ask (Read k)) = k ≡ noCounter
-NoCount (ask Second) = Unit {0}
-NoCount (ask (SelfReport k)) = k ≡ noCounter
-NoCount (ask (Lookup a)) = Unit {0}
-NoCount (send i k buffer) = k ≡ noCounter
-NoCount (deliver (Inspect i) packet) = Unit {0}
-NoCount (deliver (Act i k) packet) = k ≡ noCounter
-NoCount (deliver (Receive i k) packet) = k ≡ noCounter
+-- the call is handed no count; nor does a step find one that its walk holds
+abbrev pub NoCount : Call → Walk → Type 0
+NoCount (ask Initialize) w = Unit {0}
+NoCount (ask (Tick n)) w = n ≡ noCount
+NoCount (ask (Adjust n)) w = n ≡ noCount
+NoCount (ask (Set ms n)) w = n ≡ noCount
+NoCount (ask (Read k)) w = k ≡ noCounter
+NoCount (ask Second) w = Unit {0}
+NoCount (ask (SelfReport k)) w = k ≡ noCounter
+NoCount (ask (Lookup a)) w = Unit {0}
+NoCount (ask (Step k)) w = (k ≡ noCounter) × (w .count ≡ noCount)
+NoCount (send i k buffer) w = k ≡ noCounter
+NoCount (deliver (Inspect i) packet) w = Unit {0}
+NoCount (deliver (Act i k) packet) w = k ≡ noCounter
+NoCount (deliver (Receive i k) packet) w = k ≡ noCounter
+NoCount (openWalk i packet) w = Unit {0}
 
 -- CLOCK lies within its day, from 0 on
 pub record LineTime (c : Clock) : Type 0 where
@@ -133,6 +181,7 @@ pub record LineTime (c : Clock) : Type 0 where
   pub to-day : (c .clock .0) ≤ℤ (day .0)
 
 pub record LineCalls : Type 0 where
-  pub same : (c : Call) (x : Lent) → NoCount c → LineTime (x .host .clock) → perform c x ≡ linePerform c x
+  pub same : (c : Call) (x : Lent) → NoCount c (x .walk) → LineTime (x .host .clock) → perform c x ≡ linePerform c x
   -- so it is for a whole list of such calls
-  pub stays : (c : Call) (x : Lent) → NoCount c → LineTime (x .host .clock) → LineTime (perform c x .clock)
+  pub stays : (c : Call) (x : Lent) → NoCount c (x .walk) → LineTime (x .host .clock) → LineTime (perform c x .clock)
+  pub holds-none : (c : Call) (x : Lent) → NoCount c (x .walk) → x .walk .count ≡ noCount → perform c x .walk .count ≡ noCount

@@ -1,7 +1,9 @@
--- Demand 1, range: setting afresh leaves a host that 12 does not refuse, and no call under the same settings leaves another.
+-- Demand 1, range: setting afresh leaves a host that 12 does not refuse, and no call but a step leaves another under the same settings. A step leaves one whose clock, links and entries 12 does not refuse, and its walk neither, if it was opened.
 use mathlib.Core.Path.{_≡_}
-use Prim.Native.Nat.{_<_, _^_}
+use mathlib.Core.List.{List}
+use Prim.Native.Nat.{ℕ, _<_, _^_}
 use Rattle.quantity.specs.declared.Count.{Count}
+use Rattle.clock.specs.declared.Counter.{Counter}
 use Rattle.clock.specs.Clock.{countUsed}
 use Rattle.clock.specs.LineClock.{noCount}
 use Rattle.answer.specs.declared.Answer.the-variants.{Done, OutOfRange}
@@ -10,8 +12,9 @@ use Rattle.host.specs.Lent.{Lent}
 use Rattle.host.specs.Guard.{guard}
 use Rattle.arrival.specs.declared.Delivery.{Delivery}
 use Rattle.arrival.specs.declared.Delivery.the-variants.{Inspect, Act, Receive}
-use Rattle.calls.specs.declared.Request.the-variants.{Initialize, Tick, Adjust, Set, Read, Second, SelfReport, Lookup}
-use Rattle.calls.specs.Perform.{Call, ask, send, deliver, perform, left}
+use Rattle.calls.specs.declared.Request.the-variants.{Initialize, Tick, Adjust, Set, Read, Second, SelfReport, Lookup, Step}
+use Rattle.calls.specs.Perform.{Call, ask, send, deliver, openWalk, step, perform, left}
+use Rattle.network.specs.Refusals.{closed}
 
 -- 12 does not refuse the host
 abbrev pub Accepted : Lent → Type 0
@@ -32,11 +35,23 @@ countOf (ask (Read k)) = countUsed k
 countOf (ask Second) = noCount
 countOf (ask (SelfReport k)) = countUsed k
 countOf (ask (Lookup a)) = noCount
+countOf (ask (Step k)) = countUsed k
 countOf (send i k buffer) = countUsed k
 countOf (deliver d packet) = countBy d
+countOf (openWalk i packet) = noCount
+
+-- what is lent once a walk was opened, and stepped since, under the same settings; a count has 16 bits
+pub data Walked : Lent → Type 0 where
+  begins : (i : ℕ) (packet : List ℕ) (x : Lent) → x .walk .count .0 < 2 ^ 16 → Accepted x → perform (openWalk i packet) x .reply .answer ≡ Done
+      → Walked (left x (perform (openWalk i packet) x))
+  goes-on : (k : Counter) (x : Lent) → countUsed k .0 < 2 ^ 16 → Walked x → Walked (left x (perform (step k) x))
 
 pub record Range : Type 0 where
   pub fresh :
       (x : Lent) → perform (ask Initialize) x .reply .answer ≡ Done → Accepted (left x (perform (ask Initialize) x))
   -- a count has 16 bits
-  pub stays : (c : Call) (x : Lent) → countOf c .0 < 2 ^ 16 → Accepted x → Accepted (left x (perform c x))
+  pub stays : (c : Call) (x : Lent) → ((k : Counter) → c ≡ step k → ⊥) → countOf c .0 < 2 ^ 16 → Accepted x → Accepted (left x (perform c x))
+  -- also the one that a walk holds; 12 may refuse a walk that was not opened itself a box later
+  pub steps : (k : Counter) (x : Lent) → countUsed k .0 < 2 ^ 16 → x .walk .count .0 < 2 ^ 16 → Accepted x → Accepted (closed (left x (perform (step k) x)))
+  -- a walk that was opened is never refused with 12
+  pub walks : (x : Lent) → Walked x → Accepted x

@@ -5,17 +5,25 @@ use Prim.Native.Nat.{ℕ}
 use Rattle.answer.specs.declared.Answer.{Answer}
 use Rattle.answer.specs.declared.Answer.the-variants.{Done, DelayNotValid, NoHost}
 use Rattle.clock.specs.declared.Clock.{Clock}
+use Rattle.clock.specs.declared.Counter.{Counter}
 use Rattle.host.specs.declared.Link.{Link}
 use Rattle.host.specs.State.{linkOf, withLink}
+use Rattle.host.specs.Walk.{noWalk}
 use Rattle.host.specs.Lent.{Host, Lent, lent, ourReading}
 use Rattle.arrival.specs.declared.Delivery.{Delivery}
 use Rattle.arrival.specs.declared.Delivery.the-variants.{Inspect, Act, Receive}
 use Rattle.arrival.specs.Arrival.{onLink}
-use Rattle.calls.specs.Perform.{Call, deliver, refused, perform}
+use Rattle.calls.specs.Perform.{Call, deliver, step, refused, perform}
 
--- an answer that refuses with no change: any but 0, and at an arrival 10 and 11
-abbrev pub Refuses : Call → Answer → Type 0
-Refuses c a = (a ≡ Done → ⊥) × ((d : Delivery) (octets : List ℕ) → c ≡ deliver d octets → (a ≡ DelayNotValid → ⊥) × (a ≡ NoHost → ⊥))
+-- neither 10 nor 11
+abbrev pub Early : Answer → Type 0
+Early a = (a ≡ DelayNotValid → ⊥) × (a ≡ NoHost → ⊥)
+
+-- an answer that refuses with no change: any but 0, and at an arrival and at a step 10 and 11
+pub record Refuses (c : Call) (a : Answer) : Type 0 where
+  pub not-done : a ≡ Done → ⊥
+  pub early : (d : Delivery) (octets : List ℕ) → c ≡ deliver d octets → Early a
+  pub early-step : (k : Counter) → c ≡ step k → Early a
 
 -- the clock as the delivery's reading left it; an inspection doesn't read
 abbrev pub clockRead : Delivery → Host → Clock
@@ -25,7 +33,11 @@ clockRead (Receive i k) h = ourReading k h .clock
 
 -- what was lent, with that clock, and another link
 abbrev pub relinked : Delivery → Link → Lent → Lent
-relinked d l x = lent (x .host .settings) (x .number) (clockRead d (x .host)) (withLink (onLink d) l (x .host .links)) (x .run)
+relinked d l x = lent (x .host .settings) (x .number) (clockRead d (x .host)) (withLink (onLink d) l (x .host .links)) (x .walk) (x .copy) (x .run)
+
+-- what was lent, with no walk open
+abbrev pub closed : Lent → Lent
+closed x = lent (x .host .settings) (x .number) (x .host .clock) (x .host .links) noWalk (x .copy) (x .run)
 
 pub record Refusals : Type 0 where
   -- nothing is changed, and the values are zero
@@ -40,3 +52,8 @@ pub record Refusals : Type 0 where
   pub unknown :
       (d : Delivery) (octets : List ℕ) (x : Lent) → perform (deliver d octets) x .reply .answer ≡ NoHost
       → (l : Link) × (perform (deliver d octets) x ≡ refused NoHost (deliver d octets) (relinked d l x))
+  -- 10 and 11 at a step: "10 or 11 ends it"; what earlier boxes changed stays, and this one changes nothing else
+  pub walk-delay :
+      (k : Counter) (x : Lent) → perform (step k) x .reply .answer ≡ DelayNotValid → perform (step k) x ≡ refused DelayNotValid (step k) (closed x)
+  pub walk-unknown :
+      (k : Counter) (x : Lent) → perform (step k) x .reply .answer ≡ NoHost → perform (step k) x ≡ refused NoHost (step k) (closed x)

@@ -12,9 +12,9 @@ use Rattle.table.specs.declared.Entry.{Entry}
 use Rattle.host.specs.declared.Settings.{Settings}
 use Rattle.host.specs.declared.Links.{Links}
 use Rattle.host.specs.Settings.{clockSettingOff, ownId}
-use Rattle.host.specs.State.{broadcast}
+use Rattle.host.specs.declared.walk.Walk.{Walk}
+use Rattle.host.specs.State.{broadcast, noLink}
 use Rattle.host.specs.Lent.{Lent, lent}
-use Rattle.host.specs.Guard.{noLink}
 use Rattle.calls.specs.declared.Request.the-variants.{Initialize}
 use Rattle.calls.specs.Perform.{ask, Outcome, perform}
 
@@ -54,15 +54,17 @@ pub record Room : Type 0 where
   -- what was lent to the setting afresh of each seat
   pub clock : ℕ → Clock
   pub links : ℕ → Links
+  pub walk : ℕ → Walk
+  pub copy : ℕ → List ℕ
   pub run : ℕ → List Entry
 
 -- what a call at seat a is lent: its settings and number, and this
-abbrev pub lentAt : Room → (seat : ℕ) → Clock → Links → List Entry → Lent
-lentAt r a c l run = lent (r .settings a) (r .number a) c l run
+abbrev pub lentAt : Room → (seat : ℕ) → Clock → Links → Walk → (copy : List ℕ) → List Entry → Lent
+lentAt r a c l walk copy run = lent (r .settings a) (r .number a) c l walk copy run
 
 -- the setting afresh of seat a
 abbrev pub afresh : Room → ℕ → Outcome
-afresh r a = perform (ask Initialize) (lentAt r a (r .clock a) (r .links a) (r .run a))
+afresh r a = perform (ask Initialize) (lentAt r a (r .clock a) (r .links a) (r .walk a) (r .copy a) (r .run a))
 
 -- "An id's host is at the seat whose LOCAL-ADDRESS gives it."
 abbrev pub HostAt : Room → (id seat : ℕ) → Type 0

@@ -15,6 +15,7 @@ use Rattle.table.specs.declared.Entry.{Entry}
 use Rattle.table.specs.Entry.{freshEntry}
 use Rattle.host.specs.declared.Settings.{Settings}
 use Rattle.host.specs.Settings.{clockSettingOff}
+use Rattle.host.specs.Walk.{noWalk}
 use Rattle.host.specs.State.{unset, freshLinks, placesPerHost}
 use Rattle.network.specs.History.{leftBy}
 use Rattle.network.specs.Room.{Room, End, loose, at, afresh}
@@ -58,6 +59,8 @@ pair p =
       longest = p .longest;
       clock = λ a. freshClock (millis (pos 0)) firstDate;
       links = λ a. freshLinks (settingsFor p a);
+      walk = λ a. noWalk;
+      copy = λ a. [];
       run = λ a. replicate (2 * placesPerHost) freshEntry;
     }
 

@@ -8,33 +8,34 @@ ghost use Rattle.network.specs.Range.{Range};
 ghost use Rattle.network.specs.Isolation.{Isolation, IsolationFromAfresh, Alone};
 ghost use Rattle.network.specs.Pair.{Pair};
 ghost use Rattle.network.specs.LineCalls.{LineCalls};
+ghost use Rattle.network.specs.WalkEnds.{WalkEnds};
 ghost use Rattle.network.specs.HalfDelay.{HelloHalfDelay};
 ghost use Rattle.network.specs.Demand3.{Demand3};
 ghost use Rattle.network.specs.SharedRun.{SharedDemand3};
 ghost use Rattle.network.specs.Example.{Example};
 ghost use Rattle.network.specs.Sharp.{Sharp};
 
-// Each call gives the first answer whose condition holds: 12, then upwards; and 0 where none does.
+// Each call gives the first answer whose condition holds: 12, 16, then upwards; and 0 where none does.
 pub fn answers()
     ensures { λ _. ⌜ Answers ⌝ }
 {}
 
-// A refusal changes nothing, but for 10 and 11 at an arrival, which change its link and keep what the reading did.
+// A refusal changes nothing, but for 10 and 11: at an arrival they change its link and keep what the reading did, and at a step they close the walk.
 pub fn refusals()
     ensures { λ _. ⌜ Refusals ⌝ }
 {}
 
-// A call keeps the run's length and every place in it but its host's first NHOSTS.
+// A call keeps the run's length and every place in it but its host's first NHOSTS; only opening a walk changes the copy of a packet.
 pub fn frame()
     ensures { λ _. ⌜ Frame ⌝ }
 {}
 
-// What a call answers and leaves depends only on its number, settings, clock, links and entries, its input, and the lengths of what it is lent.
+// What a call answers and leaves depends only on its number, settings, clock, links, walk with its packet, and entries, its input, and the lengths of what it is lent.
 pub fn locality()
     ensures { λ _. ⌜ Locality ⌝ }
 {}
 
-// Setting afresh leaves a host that 12 does not refuse, and so does every call of such a host under the same settings.
+// Setting afresh leaves a host that 12 does not refuse, and so does every call but a step of such a host under the same settings; a step leaves its clock, links and entries so, and a walk that was opened is never refused with 12.
 pub fn range()
     ensures { λ _. ⌜ Range ⌝ }
 {}
@@ -64,9 +65,14 @@ pub fn inspect_then_act()
     ensures { λ _. ⌜ Pair ⌝ }
 {}
 
-// A call that is handed no count is the line clock's call of document 01, and keeps CLOCK within its day.
+// A call that is handed no count, and a step whose walk holds none, is the line clock's call of document 01, and keeps CLOCK within its day.
 pub fn line_calls()
     ensures { λ _. ⌜ LineCalls ⌝ }
+{}
+
+// A walk that is opened and run to its end leaves what the arrival with the first box's counts leaves, in at most 5 + 4 x 255 boxes.
+pub fn walk_ends()
+    ensures { λ _. ⌜ WalkEnds ⌝ }
 {}
 
 // The half-delay law of step 3: DELAY is the sum of the two ways, and twice the error of OFFSET is at most DELAY plus one.

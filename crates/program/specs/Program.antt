@@ -14,6 +14,7 @@ use Rattle.host.specs.declared.Settings.{Settings}
 use Rattle.host.specs.Settings.{clockSettingOff}
 use Rattle.host.specs.State.{unset, freshLinks, placesPerHost}
 use Rattle.host.specs.declared.Reply.{Reply}
+use Rattle.host.specs.Walk.{noWalk}
 use Rattle.host.specs.Lent.{Lent, lent}
 use Rattle.calls.specs.declared.Request.the-variants.{Initialize}
 use Rattle.calls.specs.Perform.{Outcome, ask, inspect, perform, inTurn}
@@ -34,19 +35,21 @@ programSettings =
       net = record { count = 0; rows = replicate 32 record { net = zeroNet; host = 0 } };
     }
 
--- the host of number 0, set afresh
-unfoldable pub programHost : Outcome
-programHost =
+-- the host of number 0, set afresh; no walk is opened on it, and the packet stands for the copy of one
+unfoldable pub programHost : (packet : List ℕ) → Outcome
+programHost octets =
     perform (ask Initialize)
-    (lent programSettings 0 (freshClock (millis (pos 0)) firstDate) (freshLinks programSettings) (replicate placesPerHost freshEntry))
+    (lent programSettings 0 (freshClock (millis (pos 0)) firstDate) (freshLinks programSettings) noWalk octets (replicate placesPerHost freshEntry))
 
-abbrev pub programLent : Lent
-programLent = lent programSettings 0 (programHost .clock) (programHost .links) (programHost .run)
+abbrev pub programLent : (packet : List ℕ) → Lent
+programLent octets =
+    let o : Outcome = programHost octets in
+    lent programSettings 0 (o .clock) (o .links) (o .walk) octets (o .run)
 
 -- the number of its answer to a packet on link 1, which is inspected and then acted on; its clock is a line clock
 unfoldable pub programAnswer : (packet : List ℕ) → ℕ
-programAnswer octets = number (inTurn 1 noCounter octets programLent .reply .answer)
+programAnswer octets = number (inTurn 1 noCounter octets (programLent octets) .reply .answer)
 
 -- what it tells of a packet on link 1 that it only looks at
 unfoldable pub programInspection : (packet : List ℕ) → Reply
-programInspection octets = perform (inspect 1 octets) programLent .reply
+programInspection octets = perform (inspect 1 octets) (programLent octets) .reply

@@ -1,7 +1,7 @@
-// A host that its holder keeps by value: its requests and arrivals. And what the host of the packet program answers.
+// A host that its holder keeps by value: its requests, walks and arrivals. And what the host of the packet program answers.
 ghost use mathlib.Core.Path.{_≡_};
 ghost use Rattle.host.specs.Lent.{lent};
-ghost use Rattle.calls.specs.Perform.{perform, ask, deliver, inTurn};
+ghost use Rattle.calls.specs.Perform.{perform, ask, deliver, openWalk, inTurn};
 ghost use Rattle.program.specs.Held.{wholeOf};
 ghost use Rattle.program.specs.Program.{
   programSettings,
@@ -16,6 +16,7 @@ use clock::Clock;
 use clock::Counter;
 use host::LinkSetting;
 use host::Links;
+use host::walk::Walk;
 use quantity::Millis;
 use quantity::Seconds;
 use quantity::Units;
@@ -31,6 +32,7 @@ pub struct Whole {
     pub reply: host::Reply,
     pub clock: Clock,
     pub links: Links,
+    pub walk: Walk,
     pub run: [Entry; 255],
 }
 
@@ -40,20 +42,54 @@ pub fn call(
     number: usize,
     clock: Clock,
     links: Links,
+    walk: Walk,
+    copy: &[u8],
     run: [Entry; 255],
     request: Request,
 ) -> Whole
-    ensures { λ r. ⌜ r ≡ wholeOf (perform (ask request) (lent settings number clock links run)) ⌝ }
+    ensures { λ r. ⌜ r ≡ wholeOf (perform (ask request) (lent settings number clock links walk (now (copy .entry)) run)) ⌝ }
 {
     let s = settings;
     let mut c = clock;
     let mut l = links;
+    let mut v = walk;
     let mut e = run;
-    let a = calls::call(&s, number, &mut c, &mut l, &mut e, request);
+    let a = calls::call(&s, number, &mut c, &mut l, &mut v, copy, &mut e, request);
     Whole {
         reply: a,
         clock: c,
         links: l,
+        walk: v,
+        run: e,
+    }
+}
+
+// A walk is opened for a packet on a link.
+pub fn open_walk(
+    settings: host::Settings,
+    number: usize,
+    clock: Clock,
+    links: Links,
+    walk: Walk,
+    copy: &mut [u8],
+    run: [Entry; 255],
+    link: usize,
+    packet: &[u8],
+) -> Whole
+    ensures { λ r. ⌜ (r ≡ wholeOf (perform (openWalk link (now (packet .entry))) (lent settings number clock links walk (now (copy .entry)) run)))
+        × (now (copy .exit) ≡ perform (openWalk link (now (packet .entry))) (lent settings number clock links walk (now (copy .entry)) run) .copy) ⌝ }
+{
+    let s = settings;
+    let c = clock;
+    let l = links;
+    let mut v = walk;
+    let e = run;
+    let a = calls::open_walk(&s, number, &c, &l, &mut v, copy, &e, link, packet);
+    Whole {
+        reply: a,
+        clock: c,
+        links: l,
+        walk: v,
         run: e,
     }
 }
@@ -64,21 +100,35 @@ pub fn deliver(
     number: usize,
     clock: Clock,
     links: Links,
+    walk: Walk,
+    copy: &[u8],
     run: [Entry; 255],
     delivery: Delivery,
     packet: &[u8],
 ) -> Whole
-    ensures { λ r. ⌜ r ≡ wholeOf (perform (deliver delivery (now (packet .entry))) (lent settings number clock links run)) ⌝ }
+    ensures { λ r. ⌜ r ≡ wholeOf (perform (deliver delivery (now (packet .entry))) (lent settings number clock links walk (now (copy .entry)) run)) ⌝ }
 {
     let s = settings;
     let mut c = clock;
     let mut l = links;
+    let v = walk;
     let mut e = run;
-    let a = calls::deliver(&s, number, &mut c, &mut l, &mut e, delivery, packet);
+    let a = calls::deliver(
+        &s,
+        number,
+        &mut c,
+        &mut l,
+        &v,
+        copy,
+        &mut e,
+        delivery,
+        packet,
+    );
     Whole {
         reply: a,
         clock: c,
         links: l,
+        walk: v,
         run: e,
     }
 }
@@ -89,18 +139,22 @@ pub fn take(
     number: usize,
     clock: Clock,
     links: Links,
+    walk: Walk,
+    copy: &[u8],
     run: [Entry; 255],
     link: usize,
     counter: Counter,
     packet: &[u8],
 ) -> Whole
-    ensures { λ r. ⌜ r ≡ wholeOf (inTurn link counter (now (packet .entry)) (lent settings number clock links run)) ⌝ }
+    ensures { λ r. ⌜ r ≡ wholeOf (inTurn link counter (now (packet .entry)) (lent settings number clock links walk (now (copy .entry)) run)) ⌝ }
 {
     let looked = deliver(
         settings,
         number,
         clock,
         links,
+        walk,
+        copy,
         run,
         Delivery::Inspect(link),
         packet,
@@ -116,6 +170,8 @@ pub fn take(
         number,
         looked.clock,
         looked.links,
+        looked.walk,
+        copy,
         entries,
         Delivery::Act(link, counter),
         packet,
@@ -170,17 +226,18 @@ pub fn settings() -> host::Settings
     }
 }
 
-// That host, set afresh.
-fn fresh_host() -> Whole
-    ensures { λ r. ⌜ r ≡ wholeOf programHost ⌝ }
+// That host, set afresh. No walk is open on it, so any octets stand for a copy.
+pub fn fresh_host(copy: &[u8]) -> Whole
+    ensures { λ r. ⌜ r ≡ wholeOf (programHost (now (copy .entry))) ⌝ }
 {
     let s = settings();
     let time = s.time;
     let date = s.date;
     let c = Clock::fresh(time, date);
     let l = host::link_state::fresh(s);
+    let v = host::walk::none();
     let e = table::fresh();
-    call(s, 0, c, l, [e; 255], Request::Initialize)
+    call(s, 0, c, l, v, copy, [e; 255], Request::Initialize)
 }
 
 // The number of its answer to a packet on link 1.
@@ -188,9 +245,10 @@ pub fn answer(packet: &[u8]) -> u8
     ensures { λ r. ⌜ r ≡ programAnswer (now (packet .entry)) ⌝ }
 {
     let s = settings();
-    let h = fresh_host();
+    let h = fresh_host(packet);
     let run = h.run;
-    let taken = take(s, 0, h.clock, h.links, run, 1, Counter::zero(), packet);
+    let k = Counter::zero();
+    let taken = take(s, 0, h.clock, h.links, h.walk, packet, run, 1, k, packet);
     let r = taken.reply;
     let a = r.answer;
     answer::number(a)
@@ -201,8 +259,9 @@ pub fn inspection(packet: &[u8]) -> host::Reply
     ensures { λ r. ⌜ r ≡ programInspection (now (packet .entry)) ⌝ }
 {
     let s = settings();
-    let h = fresh_host();
+    let h = fresh_host(packet);
     let run = h.run;
-    let looked = deliver(s, 0, h.clock, h.links, run, Delivery::Inspect(1), packet);
+    let d = Delivery::Inspect(1);
+    let looked = deliver(s, 0, h.clock, h.links, h.walk, packet, run, d, packet);
     looked.reply
 }

@@ -6,6 +6,8 @@
 --     shared-local-back  [†κ] ∗ the lender's part  ⊢ ⇛ the local holds x
 --     lends-array      the local that holds the array ys  ⊢ ⇛ ∃ γ. own (the `&κ mut [S]` ((b, 0), γ, ys)) ∗ the lender's part
 --     array-back       [†κ] ∗ the lender's part ∗ finally γ zs  ⊢ ⇛ the local holds the array zs
+--     shares-array     the local that holds the array ys  ⊢ ⇛ ∃ γ. own (the `&κ [S]` ((b, 0), γ, ys)) ∗ the lender's part
+--     shared-array-back  [†κ] ∗ the lender's part  ⊢ ⇛ the local holds the array ys
 -- Assumes `Given`.
 use mathlib.Core.Path.{_≡_, refl, sym, ap, subst, _∙_}
 use Prim.Native.Nat.{ℕ}
@@ -30,8 +32,8 @@ use denote.Memory.{mem, cellAt, partAt, partOf, shares}
 use denote.Array.{Array, each, arrayVal, array-tells, array-typed, array-makes}
 use denote.ArrayMemory.{array-apart, array-whole}
 use denote.Ref.{RefT, MutRef, ShrRef}
-use denote.Slice.{sliceVal, MutSlice, Room, finally}
-use denote.Lend.{Held, lends-ref, ref-back, lends-shr, lends-slice, slice-back}
+use denote.Slice.{sliceVal, MutSlice, ShrSlice, Room, finally}
+use denote.Lend.{Held, lends-ref, ref-back, lends-shr, lends-slice, slice-back, lends-shr-slice}
 use denote.Steps.{owned, peeks}
 use denote.Struct.Steps.{spelt}
 use denote.Struct.Struct.{layout, Struct}
@@ -159,3 +161,18 @@ module _ {M : Type 1} (𝓤 : URA M) (H : Heap 𝓤) (A : Atoms 𝓤) (W : Given
         rewrite ! 0 (λ (G : Fml). ‵ G) (sym (parts-cells R fullShare zs b 0)) refl $ feqI ! ℕ (length zs) n (l ∙ len) $ fjoin ! $
         use1 W (‵ (partAt (Array R n) fullShare zs b 0)) (array-whole 𝓤 H A W R fullShare n zs b 0) $
         use1 W (given (Is (Array R n) zs (vals zs ∷ [])) (‵ (fat fullShare (tyArray τ n) b 0 (vals zs)))) (lies-out (Array R n) (tyArray τ n) vals (array-tells R (LL.vals (d .S) (d .L)) (LL.tells (d .S) (d .L)) n) zs b) $ learn ! (λ is. at-once ! $ check ! is $ done !)))
+
+    pub shares-array : (n : ℕ) → Room R n → (ℓ : Lifetime) (κ : Lft) (ys : List (d .S .D)) (b : ℕ) → Is (Array R n) ys (vals ys ∷ []) → ent 𝓤 (sem 𝓤 H A (fat fullShare (tyArray τ n) b 0 (vals ys)))
+        (H .⇛ (ex 𝓤 (λ (γ : GName). sep 𝓤 (sem 𝓤 H A (ShrSlice ℓ κ R .own (at-list b ys γ) (sliceVal (b, 0) (length ys) ∷ []))) (sem 𝓤 H A (flent κ (arr-parts (shares R) (length ys) .part fullShare ys b 0))))))
+    shares-array n room ℓ κ ys b is =
+        qed W (‵ (fat fullShare (tyArray τ n) b 0 (vals ys)) ∷ []) ∵ use1 W (‵ (partAt (Array R n) fullShare ys b 0)) (lies-in (Array R n) (tyArray τ n) vals (array-makes 𝓤 H A W R (LL.makes (d .S) (d .P) 𝓤 H A) n) ys b is) $
+        use1 W (‵ (arr-parts (shares R) n .part fullShare ys b 0)) (array-apart 𝓤 H A W R fullShare tt n ys b 0) $
+        rewrite ! 0 (λ (m : ℕ). ‵ (arr-parts (shares R) m .part fullShare ys b 0)) (sym (counted d n ys _ is)) refl $
+        by ! (lends-shr-slice 𝓤 H A W R ℓ κ fullShare ys b 0 (subst (Room R) (sym (counted d n ys _ is)) room))
+
+    pub shared-array-back : (n : ℕ) (κ : Lft) (ys : List (d .S .D)) (b : ℕ) → length ys ≡ n → ent 𝓤 (sep 𝓤 (A .dead κ) (A .lent κ (arr-parts (shares R) (length ys) .part fullShare ys b 0))) (H .⇛ (sem 𝓤 H A (fat fullShare (tyArray τ n) b 0 (vals ys))))
+    shared-array-back n κ ys b len =
+        qed W (‵ (fdead κ) ∷ ‵ (flent κ (arr-parts (shares R) (length ys) .part fullShare ys b 0)) ∷ []) ∵ updating ! $ lent-back ! tt $
+        rewrite ! 0 (λ (m : ℕ). ‵ (arr-parts (shares R) m .part fullShare ys b 0)) len refl $
+        use1 W (‵ (partAt (Array R n) fullShare ys b 0)) (array-whole 𝓤 H A W R fullShare n ys b 0) $
+        use1 W (given (Is (Array R n) ys (vals ys ∷ [])) (‵ (fat fullShare (tyArray τ n) b 0 (vals ys)))) (lies-out (Array R n) (tyArray τ n) vals (array-tells R (LL.vals (d .S) (d .L)) (LL.tells (d .S) (d .L)) n) ys b) $ learn ! (λ is. at-once ! $ done !)

@@ -4,9 +4,12 @@ pub mod ExportAsksWith
 pub mod ExportAsksWithTwo
 pub mod ExportDelivers
 pub mod ExportDeliversWith
+pub mod ExportOpens
 pub mod ExportSends
 pub mod Guards
+pub mod Opens
 pub mod Performs
 pub mod Sends
 pub mod WholeAsks
 pub mod WholeDelivers
+pub mod WholeOpens

@@ -1,12 +1,14 @@
 -- Each work alters the clock by the clock's own procedures alone, and line (d) does so for the clock host; so the clock afterwards is that of the moves in turn.
 use mathlib.Core.Path.{_≡_, refl, sym, ap, _∙_}
-use mathlib.Core.Bool.{Bool, true, false, cond, not, true≢false}
+use mathlib.Core.Bool.{Bool, true, false, cond, not, true≢false, _||_}
 use mathlib.Core.List.{List, [], _∷_, _++_}
-use Prim.Native.Nat.{ℕ, suc, _-_}
+use Prim.Native.Nat.{ℕ, suc, _+_, _-_}
 use lib.Dec.{ltb, eqb}
 use lib.ListN.{length}
 use Rattle.lists.specs.Lists.{part}
-use Rattle.answer.specs.declared.Answer.the-variants.{Done, ShortBuffer}
+use Rattle.lists.proofs.Tests.{either}
+use Rattle.quantity.specs.Words.{ofWord}
+use Rattle.answer.specs.declared.Answer.the-variants.{Done, ShortBuffer, NoWalk}
 use Rattle.clock.specs.declared.Clock.{Clock}
 use Rattle.clock.specs.declared.Counter.{Counter}
 use Rattle.clock.specs.Clock.{countUsed}
@@ -19,31 +21,40 @@ use Rattle.route.specs.declared.Found.{Found}
 use Rattle.route.specs.declared.Found.the-variants.{Id, Nothing}
 use Rattle.table.specs.declared.Entry.{Entry}
 use Rattle.table.specs.declared.Update.{Update}
+use Rattle.table.specs.declared.run.Changes.{Changes}
 use Rattle.table.specs.declared.run.Updates.{Updates}
 use Rattle.table.specs.Forms.{Stage, on, end}
-use Rattle.table.specs.Update.{lines, lineD, settled, update}
+use Rattle.table.specs.Update.{lineA, lineB, lineC, lines, lineD, settled, update}
 use Rattle.table.specs.Sweep.{sweep}
 use Rattle.table.specs.Runs.{updateAt, updatedAt, updates}
 use Rattle.host.specs.declared.Settings.{Settings}
 use Rattle.host.specs.declared.Links.{Links}
+use Rattle.host.specs.declared.walk.Walk.{Walk}
+use Rattle.host.specs.declared.walk.Place.{Place}
+use Rattle.host.specs.declared.walk.Place.the-variants.{Nowhere, Step1, Step2, Step3, Step4, Step5, LineA, LineB, LineC, LineD}
+use Rattle.host.specs.declared.Effect.{Effect}
 use Rattle.host.specs.Settings.{foundFor}
-use Rattle.host.specs.State.{broadcast, linkOf, withLink}
+use Rattle.host.specs.State.{hostCount, broadcast, linkOf, withLink}
 use Rattle.host.specs.Lent.{Lent, host, entriesOf, ourReading}
 use Rattle.host.specs.Guard.{done}
+use Rattle.host.specs.Reply.{plainly}
+use Rattle.host.specs.Walk.{isOpen, placeOf, packetOf, lineUpdate}
+use Rattle.host.specs.Effect.{nothing, answers}
+use Rattle.walk.specs.Boxes.{inFlight, raised, fourth, toNeighbor, nextId, put, onward, atLine, isClockHost, clockSet, behindA, behindB, behindC, box1, box2, box3, box4, box5, boxA, boxB, boxC, boxD, boxAt, boxOf, step}
 use Rattle.sending.specs.Send.{reportCount, unsent, sends}
 use Rattle.arrival.specs.declared.Arrived.{Arrived}
 use Rattle.arrival.specs.declared.Delivery.the-variants.{Inspect, Act, Receive}
 use Rattle.arrival.specs.declared.Flight.{Flight}
-use Rattle.arrival.specs.Inspection.{inspect}
-use Rattle.arrival.specs.Steps.{steps2to4}
+use Rattle.host.specs.Inspection.{inspect}
+use Rattle.arrival.specs.Steps.{step4, steps2to4}
 use Rattle.arrival.specs.Arrival.{noTable, withTable, concluded, inspected}
 use Rattle.arrival.proofs.Pair.{one-piece}
 use Rattle.calls.specs.declared.Request.{Request}
-use Rattle.calls.specs.declared.Request.the-variants.{Initialize, Tick, Adjust, Set, Read, Second, SelfReport, Lookup}
+use Rattle.calls.specs.declared.Request.the-variants.{Initialize, Tick, Adjust, Set, Read, Second, SelfReport, Lookup, Step}
 use Rattle.calls.specs.Effects.{initialize, tick, adjust, setBy, read, second, selfReport, lookup, effect}
-use Rattle.calls.specs.Perform.{Call, ask, send, deliver, Outcome, refused, work, perform}
+use Rattle.calls.specs.Perform.{Call, ask, send, deliver, openWalk, Outcome, refused, work, perform}
 use Rattle.network.proofs.Performs.{guardOf, performs}
-use Rattle.steady.specs.Moves.{Move, reads, movedBy, lineDMoves, sweepMoves, updateMoves, actionMoves, workMoves, moves, ClockMoves}
+use Rattle.steady.specs.Moves.{Move, reads, sets, dates, movedBy, lineDMoves, sweepMoves, updateMoves, actionMoves, boxMoves, heldMoves, stepMoves, workMoves, moves, ClockMoves}
 use Rattle.steady.specs.Turns.{Turn, lentTo, clockAfter, clockAfterAll, movesOf, movesOfAll}
 
 pub moved-on : (s : Settings) (ms ns : List Move) (c : Clock) → movedBy s (ms ++ ns) c ≡ movedBy s ns (movedBy s ms c)
@@ -101,7 +112,70 @@ module _ (x : Lent) where
   abbrev Moved : Outcome → List Move → Type 0
   Moved o ms = o .clock ≡ movedBy s ms (x .host .clock)
 
-  requested : (q : Request) (e : Entry) → effect q (x .host) e .clock ≡ movedBy s (workMoves (ask q) x) (x .host .clock)
+  -- a box
+  module _ (k : Counter) (e : Entry) (p : Packet) (packet : List ℕ) where
+    abbrev w : Walk
+    w = x .walk
+
+    abbrev At : Clock → Effect → Type 0
+    At d y = y .clock ≡ d
+
+    next : (d : Clock) (done : Changes) → At d (nextId p (host s d (x .host .links)) w done)
+    next d done = either (At d) (eqb (p .nhosts) 0 || not (ltb (w .id + 1) (hostCount s))) _ _ (λ _. refl) (λ _. refl)
+
+    four : (q : Stage Flight) → At (x .host .clock) (fourth (x .host) w q)
+    four (end f) = refl
+    four (on f) = refl
+
+    found : (f : Found) → At (x .host .clock) (toNeighbor (x .host) (raised w) f)
+    found Nothing = refl
+    found (Id id) = refl
+
+    a-moved : (q : Stage Entry) → At (x .host .clock) (behindA p (x .host) w q)
+    a-moved (end y) = next (x .host .clock) nothing
+    a-moved (on y) = refl
+
+    b-moved : (q : Stage Entry) → At (x .host .clock) (behindB p (x .host) w q)
+    b-moved (end y) = next (x .host .clock) (put w y)
+    b-moved (on y) = refl
+
+    c-moved : (q : Stage Entry) → At (x .host .clock) (behindC p (x .host) w q)
+    c-moved (end y) = next (x .host .clock) (put w y)
+    c-moved (on y) = either (At (x .host .clock)) (isClockHost (x .host) w) _ _ (λ _. refl) (λ _. next (x .host .clock) (put w y))
+
+    box-moved : (q : Place) → boxAt q k p packet (x .host) w e .clock ≡ movedBy s (boxMoves q k p packet (x .host) w) (x .host .clock)
+    unfolding box1 box2 box3 box4 box5 boxA boxB boxC boxD lineD
+    box-moved Nowhere = refl
+    box-moved Step1 = refl
+    box-moved Step2 = refl
+    box-moved Step3 = refl
+    box-moved Step4 = four (step4 (broadcast s (w .link)) (x .host .clock .hold) p (inFlight (x .host .links) w))
+    box-moved Step5 =
+        either (At (x .host .clock)) (eqb (p .nhosts) 0) (toNeighbor (x .host) (raised w) (foundFor s (linkOf (x .host .links) (w .link) .neighbor))) (onward (atLine 1 0 (raised w)) (x .host .clock) (x .host .links) nothing)
+        (λ _. found (foundFor s (linkOf (x .host .links) (w .link) .neighbor))) (λ _. refl)
+    box-moved LineA = a-moved (lineA (lineUpdate w p packet) e)
+    box-moved LineB = b-moved (lineB (lineUpdate w p packet) e)
+    box-moved LineC = c-moved (lineC (lineUpdate w p packet) e)
+    box-moved LineD = next (clockSet p packet (x .host) w) nothing ∙ go (isClockHost (x .host) w)
+      where
+        go : (b : Bool)
+            → cond b (lineD (s .«hold_interval») (w .count) (p .date) (lineUpdate w p packet .offset) (x .host .clock)) (x .host .clock)
+            ≡ movedBy s (cond b (dates (p .date) ∷ sets (w .count) (ofWord (lineUpdate w p packet .offset)) ∷ []) []) (x .host .clock)
+        go true = refl
+        go false = refl
+
+  stepped : (k : Counter) (e : Entry) → step k (x .host) (x .walk) (x .copy) e .clock ≡ movedBy s (stepMoves k x) (x .host .clock)
+  unfolding step
+  stepped k e = go (not (isOpen (x .walk))) (inspect s (x .walk .link) (packetOf (x .walk) (x .copy)))
+    where
+      go : (b : Bool) (q : Parsed)
+          → cond b (answers (plainly NoWalk) (x .host .clock) (x .host .links) (x .walk)) (boxOf k (packetOf (x .walk) (x .copy)) (x .host) (x .walk) e q) .clock
+          ≡ movedBy s (cond b [] (heldMoves k x q)) (x .host .clock)
+      go true q = refl
+      go false (Bad a) = refl
+      go false (Good p) = box-moved k e p (packetOf (x .walk) (x .copy)) (placeOf (x .walk))
+
+  requested : (q : Request) (e : Entry) → effect q (x .host) (x .walk) (x .copy) e .clock ≡ movedBy s (workMoves (ask q) x) (x .host .clock)
   unfolding initialize tick adjust setBy read second selfReport lookup
   requested Initialize e = refl
   requested (Tick n) e = refl
@@ -111,6 +185,7 @@ module _ (x : Lent) where
   requested Second e = refl
   requested (SelfReport k) e = refl
   requested (Lookup a) e = refl
+  requested (Step k) e = stepped k e
 
   acted : (i : ℕ) (k : Counter) (packet : List ℕ) (q : Parsed)
       → updates (inspected k (x .host) i q .work) packet (entriesOf x) .clock ≡ movedBy s (actionMoves i k packet x q) (x .host .clock)
@@ -128,6 +203,7 @@ module _ (x : Lent) where
       sent : (b : Bool) → cond b (unsent ShortBuffer (x .host)) (sends i k (x .host)) .clock ≡ movedBy s (cond b [] (reads k ∷ [])) (x .host .clock)
       sent true = refl
       sent false = refl
+  worked (openWalk i packet) = refl
   worked (deliver (Inspect i) packet) = refl
   worked (deliver (Act i k) packet) = acted i k packet (inspect s i packet)
   worked (deliver (Receive i k) packet) =

@@ -25,8 +25,8 @@ use Rattle.host.specs.Guard.{done}
 use Rattle.host.specs.code.Told as told
 use Rattle.host.proofs.Guarded.{passed, clock-lent}
 use Rattle.host.proofs.Sound.{sound}
-use Rattle.calls.specs.declared.Request.the-variants.{Initialize, Tick, Adjust, Set, Read, Second, SelfReport, Lookup}
-use Rattle.calls.specs.Perform.{Call, ask, send, deliver, scopeOfCall}
+use Rattle.calls.specs.declared.Request.the-variants.{Initialize, Tick, Adjust, Set, Read, Second, SelfReport, Lookup, Step}
+use Rattle.calls.specs.Perform.{Call, ask, send, deliver, openWalk, scopeOfCall}
 use Rattle.network.proofs.Performs.{guardOf}
 use Rattle.steady.specs.Moves.{Move, reads, movedBy, workMoves, moves}
 use Rattle.steady.specs.Kinds.{kind, adjustsIn, ticksIn}
@@ -51,8 +51,10 @@ module _ (x : Lent) (k : Counter) where
   scoped (ask Second) e = refl
   scoped (ask (SelfReport j)) e = refl
   scoped (ask (Lookup a)) e = refl
+  scoped (ask (Step j)) e = refl
   scoped (send i j buffer) e = refl
   scoped (deliver d packet) e = refl
+  scoped (openWalk i packet) e = refl
 
   reader : (c : Call) → take 1 (moves c x) ≡ reads k ∷ [] → Sane x
   unfolding moves

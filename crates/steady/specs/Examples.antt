@@ -15,6 +15,7 @@ use Rattle.wire.specs.Packet.{message}
 use Rattle.route.specs.Find.{zeroNet}
 use Rattle.table.specs.Entry.{minDelay, freshEntry}
 use Rattle.host.specs.declared.Settings.{Settings}
+use Rattle.host.specs.Walk.{noWalk}
 use Rattle.host.specs.State.{unset, freshLinks, withLink, placesPerHost}
 use Rattle.calls.specs.declared.Request.{Request}
 use Rattle.calls.specs.declared.Request.the-variants.{Adjust, Set, Read}
@@ -50,6 +51,8 @@ turn c =
       call = c;
       number = 0;
       links = withLink 1 record { neighbor = hostAt 2; «keep_alive» = 0; tsp = word (pos 0) } (freshLinks seat);
+      walk = noWalk;
+      copy = [];
       run = replicate placesPerHost freshEntry;
     }
 
@@ -64,7 +67,7 @@ adjustOnce = asks (Adjust noCount)
 
 -- 12: no host has the number 16
 abbrev pub refusedAdjust : Turn
-refusedAdjust = record { call = ask (Adjust noCount); number = 16; links = adjustOnce .links; run = adjustOnce .run }
+refusedAdjust = record { call = ask (Adjust noCount); number = 16; links = adjustOnce .links; walk = adjustOnce .walk; copy = adjustOnce .copy; run = adjustOnce .run }
 
 -- the clock host's packet, that arrives at the starting time with a DELAY of 100 ms and this OFFSET: its time, 50 ms later, is that much ahead
 abbrev pub packetOf : (offset : Millis) → List ℕ

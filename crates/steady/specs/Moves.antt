@@ -15,6 +15,7 @@ use Rattle.answer.specs.declared.Answer.the-variants.{Done}
 use Rattle.clock.specs.declared.Clock.{Clock}
 use Rattle.clock.specs.declared.Counter.{Counter}
 use Rattle.clock.specs.Clock.{freshClock, tick, adjust, setBy, reading, holdSecond}
+use Rattle.wire.specs.declared.Packet.{Packet}
 use Rattle.wire.specs.declared.Parsed.{Parsed}
 use Rattle.wire.specs.declared.Parsed.the-variants.{Good, Bad}
 use Rattle.wire.specs.Packet.{packetLength}
@@ -25,17 +26,22 @@ use Rattle.table.specs.Forms.{Stage, on, end}
 use Rattle.table.specs.Update.{lines, dateTaken}
 use Rattle.table.specs.Runs.{updateAt}
 use Rattle.host.specs.declared.Settings.{Settings}
+use Rattle.host.specs.declared.walk.Walk.{Walk}
+use Rattle.host.specs.declared.walk.Place.{Place}
+use Rattle.host.specs.declared.walk.Place.the-variants.{Nowhere, Step1, Step2, Step3, Step4, Step5, LineA, LineB, LineC, LineD}
 use Rattle.host.specs.State.{linkOf}
-use Rattle.host.specs.Lent.{Lent, entriesOf, ourReading}
+use Rattle.host.specs.Walk.{isOpen, placeOf, packetOf, lineUpdate}
+use Rattle.host.specs.Lent.{Host, Lent, entriesOf, ourReading}
+use Rattle.walk.specs.Boxes.{isClockHost}
 use Rattle.host.specs.Guard.{guard, done}
 use Rattle.sending.specs.Send.{reportCount}
 use Rattle.arrival.specs.declared.Delivery.{Delivery}
 use Rattle.arrival.specs.declared.Delivery.the-variants.{Inspect, Act, Receive}
-use Rattle.arrival.specs.Inspection.{inspect}
+use Rattle.host.specs.Inspection.{inspect}
 use Rattle.arrival.specs.Arrival.{action}
 use Rattle.calls.specs.declared.Request.{Request}
-use Rattle.calls.specs.declared.Request.the-variants.{Initialize, Tick, Adjust, Set, Read, Second, SelfReport, Lookup}
-use Rattle.calls.specs.Perform.{Call, ask, send, deliver, scopeOfCall, perform}
+use Rattle.calls.specs.declared.Request.the-variants.{Initialize, Tick, Adjust, Set, Read, Second, SelfReport, Lookup, Step}
+use Rattle.calls.specs.Perform.{Call, ask, send, deliver, openWalk, scopeOfCall, perform}
 
 -- ---- moves
 
@@ -89,23 +95,47 @@ deliveryMoves (Inspect i) packet x = []
 deliveryMoves (Act i k) packet x = actionMoves i k packet x (inspect (x .host .settings) i packet)
 deliveryMoves (Receive i k) packet x = actionMoves i k packet x (inspect (x .host .settings) i packet)
 
+-- ---- the moves of a box: the first reads, and line (d) sets, for the clock host
+
+abbrev pub boxMoves : Place → Counter → Packet → (packet : List ℕ) → Host → Walk → List Move
+boxMoves Nowhere k p packet h w = []
+boxMoves Step1 k p packet h w = reads k ∷ []
+boxMoves Step2 k p packet h w = []
+boxMoves Step3 k p packet h w = []
+boxMoves Step4 k p packet h w = []
+boxMoves Step5 k p packet h w = []
+boxMoves LineA k p packet h w = []
+boxMoves LineB k p packet h w = []
+boxMoves LineC k p packet h w = []
+boxMoves LineD k p packet h w =
+    cond (isClockHost h w) (dates (p .date) ∷ sets (w .count) (ofWord (lineUpdate w p packet .offset)) ∷ []) []
+
+abbrev pub heldMoves : Counter → Lent → Parsed → List Move
+heldMoves k x (Bad a) = []
+heldMoves k x (Good p) = boxMoves (placeOf (x .walk)) k p (packetOf (x .walk) (x .copy)) (x .host) (x .walk)
+
+abbrev pub stepMoves : Counter → Lent → List Move
+stepMoves k x = cond (not (isOpen (x .walk))) [] (heldMoves k x (inspect (x .host .settings) (x .walk .link) (packetOf (x .walk) (x .copy))))
+
 -- ---- the moves of a call
 
-abbrev pub requestMoves : Request → List Move
-requestMoves Initialize = afresh ∷ []
-requestMoves (Tick n) = ticks n ∷ []
-requestMoves (Adjust n) = adjusts n ∷ []
-requestMoves (Set ms n) = sets n (millis ms) ∷ []
-requestMoves (Read k) = reads k ∷ []
-requestMoves Second = second ∷ []
-requestMoves (SelfReport k) = reads k ∷ []
-requestMoves (Lookup a) = []
+abbrev pub requestMoves : Request → Lent → List Move
+requestMoves Initialize x = afresh ∷ []
+requestMoves (Tick n) x = ticks n ∷ []
+requestMoves (Adjust n) x = adjusts n ∷ []
+requestMoves (Set ms n) x = sets n (millis ms) ∷ []
+requestMoves (Read k) x = reads k ∷ []
+requestMoves Second x = second ∷ []
+requestMoves (SelfReport k) x = reads k ∷ []
+requestMoves (Lookup a) x = []
+requestMoves (Step k) x = stepMoves k x
 
 abbrev pub workMoves : Call → Lent → List Move
-workMoves (ask q) x = requestMoves q
+workMoves (ask q) x = requestMoves q x
 workMoves (send i k buffer) x =
     cond (ltb (length buffer) (packetLength (reportCount (x .host .settings) (linkOf (x .host .links) i)))) [] (reads k ∷ [])
 workMoves (deliver d packet) x = deliveryMoves d packet x
+workMoves (openWalk i packet) x = []
 
 unfoldable pub moves : Call → Lent → List Move
 moves c x = cond (not (done (guard (scopeOfCall c) x))) [] (workMoves c x)

@@ -5,6 +5,7 @@ use Rattle.clock.specs.declared.Clock.{Clock}
 use Rattle.table.specs.declared.Entry.{Entry}
 use Rattle.host.specs.declared.Settings.{Settings}
 use Rattle.host.specs.declared.Links.{Links}
+use Rattle.host.specs.declared.walk.Walk.{Walk}
 use Rattle.host.specs.Lent.{Lent, lent}
 use Rattle.calls.specs.Perform.{Call, perform}
 use Rattle.steady.specs.Moves.{Move, moves}
@@ -14,10 +15,12 @@ pub record Turn : Type 0 where
   pub call : Call
   pub number : ℕ
   pub links : Links
+  pub walk : Walk
+  pub copy : List ℕ
   pub run : List Entry
 
 abbrev pub lentTo : Settings → Clock → Turn → Lent
-lentTo s c t = lent s (t .number) c (t .links) (t .run)
+lentTo s c t = lent s (t .number) c (t .links) (t .walk) (t .copy) (t .run)
 
 abbrev pub clockAfter : Settings → Clock → Turn → Clock
 clockAfter s c t = perform (t .call) (lentTo s c t) .clock

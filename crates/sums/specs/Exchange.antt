@@ -1,5 +1,5 @@
 -- The exchange of the blackboard, over the octets that a send writes and an arrival reads: A has the id 0, at 192.0.2.1; B has the id 1, at 192.0.2.2, and is 500 ms ahead.
-use mathlib.Core.List.{List}
+use mathlib.Core.List.{List, []}
 use Prim.Native.Nat.{ℕ}
 use lib.IntN.{pos}
 use lib.ListN.{getD, replicate}
@@ -14,6 +14,7 @@ use Rattle.table.specs.Entry.{freshEntry}
 use Rattle.host.specs.declared.Settings.{Settings}
 use Rattle.host.specs.declared.Links.{Links}
 use Rattle.host.specs.State.{freshLinks, withLink, placesPerHost}
+use Rattle.host.specs.Walk.{noWalk}
 use Rattle.host.specs.Lent.{Lent, lent}
 use Rattle.calls.specs.declared.Request.the-variants.{SelfReport}
 use Rattle.calls.specs.Perform.{ask, send, receive, Outcome, perform}
@@ -27,9 +28,9 @@ settingsOf = settingsFor record { tick = units (pos 1); start = λ a. 0; longest
 abbrev pub clockAt : ℕ → Clock
 clockAt ms = freshClock (millis (pos ms)) firstDate
 
--- each in a run of its own
+-- each in a run of its own, with no walk
 abbrev pub lentAt : (seat ms : ℕ) → Links → List Entry → Lent
-lentAt a ms l run = lent (settingsOf a) 0 (clockAt ms) l run
+lentAt a ms l run = lent (settingsOf a) 0 (clockAt ms) l noWalk [] run
 
 abbrev pub freshRun : List Entry
 freshRun = replicate placesPerHost freshEntry

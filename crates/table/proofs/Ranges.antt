@@ -2,11 +2,11 @@
 use mathlib.Core.Path.{_≡_}
 use mathlib.Core.Bool.{true, not}
 use mathlib.Core.List.{[], _∷_}
-use Prim.Native.Nat.{ℕ, _≤_}
+use Prim.Native.Nat.{ℕ, suc, _≤_}
 use native.Mathlib.Omega.{arith}
 use borrow.Author.Tests.{not-true, leb-true, le-leb}
 use lib.Dec.{leb}
-use lib.IntN.{ℤ, pos, _+ℤ_}
+use lib.IntN.{ℤ, pos, negsuc, _+ℤ_}
 use lib.Signed.{ltZ}
 use mir.Syntax.{w64}
 use mir.Val.{SFits}
@@ -25,7 +25,7 @@ use Rattle.wire.specs.code.Ranges.{Two}
 use Rattle.table.specs.declared.Entry.{Entry}
 use Rattle.table.specs.declared.Update.{Update}
 use Rattle.table.specs.Entry.{maxDelay, holdDown, upTo, entryInRange}
-use Rattle.table.specs.Update.{ownMost, plusReport, delayInRange}
+use Rattle.table.specs.Update.{ownMost, plusReport, between, ownInRange, delayInRange}
 
 pub within : (n : ℕ) (z : ℤ) → upTo (millis (pos n)) (millis z) ≡ true → Within 0 n z
 within n z e =
@@ -60,16 +60,25 @@ in-range e r =
 
 -- ---- an update's DELAY
 
-pub own-in-range : (u : Update) → upTo ownMost (u .delay) ≡ true → delayInRange u ≡ true
-own-in-range u h =
-    let w = within 32767 (u .delay .0) h in
-    up-to 98302 (u .delay .0) (omega arith)
+pub between-says : (l n : ℕ) (z : ℤ) → between (millis (negsuc l)) (millis (pos n)) (millis z) ≡ true → Within (suc l) n z
+between-says l n z e =
+    let ends = both (not (ltZ z (negsuc l))) (not (ltZ (pos n) z)) e in
+    omega (arith, lt-no z (negsuc l) (not-true _ (ends .0)), lt-no (pos n) z (not-true _ (ends .1)))
+
+pub between-is : (l n : ℕ) (z : ℤ) → Within (suc l) n z → between (millis (negsuc l)) (millis (pos n)) (millis z) ≡ true
+between-is l n z w = rw (not-lt z (negsuc l) (omega (arith, w)), not-lt (pos n) z (omega (arith, w)))
+
+pub own-in-range : (u : Update) → upTo ownMost (u .delay) ≡ true → ownInRange u ≡ true
+own-in-range u h = let w = within 32767 (u .delay .0) h in between-is 32767 32767 (u .delay .0) (omega arith)
+
+pub delay-in-range : (u : Update) → ownInRange u ≡ true → delayInRange u ≡ true
+delay-in-range u h = let w = between-says 32767 32767 (u .delay .0) h in between-is 32767 98302 (u .delay .0) (omega arith)
 
 -- a DELAY of our own with a packet's added
-module _ (u : Update) (r : Report) (own : upTo ownMost (u .delay) ≡ true) (reported : Two (r .delay .0)) where
-  within-sum : Within 0 98302 (u .delay .0 +ℤ r .delay .0)
+module _ (u : Update) (r : Report) (own : ownInRange u ≡ true) (reported : Two (r .delay .0)) where
+  within-sum : Within 32768 98302 (u .delay .0 +ℤ r .delay .0)
   within-sum =
-      let w = within 32767 (u .delay .0) own in
+      let w = between-says 32767 32767 (u .delay .0) own in
       let low = of-≤ℤ (reported .not-below) in
       let high = of-<ℤ (reported .below) in
       let s = sum (u .delay .0) (r .delay .0) in
@@ -79,7 +88,7 @@ module _ (u : Update) (r : Report) (own : upTo ownMost (u .delay) ≡ true) (rep
   sum-fits = let w = within-sum in fits w64 (u .delay .0 +ℤ r .delay .0) (omega arith)
 
   pub sum-in-range : delayInRange (plusReport u r) ≡ true
-  sum-in-range = up-to 98302 (u .delay .0 +ℤ r .delay .0) within-sum
+  sum-in-range = between-is 32767 98302 (u .delay .0 +ℤ r .delay .0) within-sum
 
 -- our reading of a clock
 pub reading-in : (t : Units) (h : Seconds) (k : Counter) (c : Clock) → upTo dayMillis (reading t h k c .time) ≡ true

@@ -13,11 +13,11 @@ use Rattle.table.specs.declared.Line.the-variants.{On, End}
 use Rattle.table.specs.Forms.{Stage, on, end}
 use Rattle.table.specs.Update.{lineOf, lineA, lineB, lineC, lines, lineD, update, left}
 
-goes-on : (s : Stage Entry) (x : Entry) → On x ≡ lineOf s → s ≡ on x
+pub goes-on : (s : Stage Entry) (x : Entry) → On x ≡ lineOf s → s ≡ on x
 goes-on (on e) x q = cc
 goes-on (end e) x q = let z : _≡_ {A = ℕ} 0 1 = cc in absurd (omega arith)
 
-ends : (s : Stage Entry) (x : Entry) → End x ≡ lineOf s → s ≡ end x
+pub ends : (s : Stage Entry) (x : Entry) → End x ≡ lineOf s → s ≡ end x
 ends (on e) x q = let z : _≡_ {A = ℕ} 0 1 = cc in absurd (omega arith)
 ends (end e) x q = cc
 

@@ -11,7 +11,7 @@ use Rattle.table.specs.declared.Entry.{Entry}
 use Rattle.table.specs.declared.Update.{Update}
 use Rattle.table.specs.declared.Updated.{Updated}
 use Rattle.table.specs.declared.run.Change.{Change}
-use Rattle.table.specs.declared.run.Change.the-variants.{Fresh, Aged, Reported}
+use Rattle.table.specs.declared.run.Change.the-variants.{Fresh, Aged, Reported, Put}
 use Rattle.table.specs.declared.run.Changes.{Changes}
 use Rattle.table.specs.declared.run.Updates.{Updates}
 use Rattle.table.specs.Entry.{freshEntry, aged}
@@ -24,6 +24,7 @@ abbrev pub changed : Change → Entry → Entry
 changed Fresh e = freshEntry
 changed Aged e = aged e
 changed (Reported reading) e = selfReported reading e
+changed (Put x) e = x
 
 unfoldable pub changes : Changes → List Entry → List Entry
 changes w run = over run (w .first) (map (changed (w .change)) (part (w .first) (w .end - w .first) run))

@@ -2,7 +2,7 @@
 use mathlib.Core.Bool.{Bool, cond, not, _&&_}
 use Prim.Native.Nat.{_+_}
 use lib.Dec.{eqb}
-use lib.IntN.{pos}
+use lib.IntN.{pos, negsuc}
 use Rattle.quantity.specs.declared.Millis.{Millis}
 use Rattle.quantity.specs.declared.Seconds.{Seconds}
 use Rattle.quantity.specs.declared.Count.{Count}
@@ -20,7 +20,7 @@ use Rattle.table.specs.declared.Updated.{Updated}
 use Rattle.table.specs.declared.Line.{Line}
 use Rattle.table.specs.declared.Line.the-variants.{On, End}
 use Rattle.table.specs.Forms.{Stage, on, end, _then_}
-use Rattle.table.specs.Entry.{maxDelay, minDelay, holdDown, up, takenDown, upTo}
+use Rattle.table.specs.Entry.{maxDelay, minDelay, holdDown, up, takenDown}
 
 -- how a line came out, as the code has it
 abbrev pub lineOf : Stage Entry → Line
@@ -37,16 +37,25 @@ plusReport u r =
       reading = u .reading;
     }
 
--- The most that a DELAY of our own comes to, a signed 16-bit word; and the most with a packet's added, an unsigned one.
+-- The least and the most that a DELAY of our own comes to, a signed 16-bit word; and the most with a packet's added, an unsigned one.
+abbrev pub ownLeast : Millis
+ownLeast = millis (negsuc 32767)
+
 abbrev pub ownMost : Millis
 ownMost = millis (pos 32767)
 
 abbrev pub mostDelay : Millis
 mostDelay = millis (pos (32767 + 65535))
 
+abbrev pub between : (least most : Millis) → Millis → Bool
+between least most m = not (lessMillis m least) && not (lessMillis most m)
+
+abbrev pub ownInRange : Update → Bool
+ownInRange u = between ownLeast ownMost (u .delay)
+
 -- what each update's DELAY keeps
 abbrev pub delayInRange : Update → Bool
-delayInRange u = upTo mostDelay (u .delay)
+delayInRange u = between ownLeast mostDelay (u .delay)
 
 -- "(a) other PID and DELAY + 100 over the entry's: nothing."
 unfoldable pub lineA : Update → Entry → Stage Entry

@@ -134,7 +134,7 @@ pub fn advertised(pid: u8, e: Entry) -> Report
 }
 
 // Is m from 0 to the most?
-fn up_to(most: Millis, m: Millis) -> bool
+pub fn up_to(most: Millis, m: Millis) -> bool
     ensures { λ r. ⌜ r ≡ upTo most m ⌝ }
 {
     if m.less(Millis(0)) {
@@ -251,7 +251,7 @@ fn date_taken(date: Date, c: Clock) -> Clock
 }
 
 // Line (d), for the clock host: the packet's date is taken, and the clock is set by OFFSET.
-fn line_d(hold_interval: Seconds, n: Count, date: Date, offset: Word, c: Clock) -> Clock
+pub fn line_d(hold_interval: Seconds, n: Count, date: Date, offset: Word, c: Clock) -> Clock
     requires { ⌜ clockInRange c ≡ true ⌝ }
     ensures { λ r. ⌜ r ≡ lineD «hold_interval» n date offset c ⌝ }
 {

@@ -4,8 +4,7 @@ ghost use mathlib.Core.Bool.{true};
 ghost use Prim.Native.Nat.{_-_, _≤_};
 ghost use Rattle.clock.specs.Clock.{clockInRange};
 ghost use Rattle.wire.specs.code.Ranges.{Two};
-ghost use Rattle.table.specs.Entry.{upTo};
-ghost use Rattle.table.specs.Update.{plusReport, ownMost, delayInRange};
+ghost use Rattle.table.specs.Update.{plusReport, ownInRange, delayInRange};
 ghost use Rattle.table.specs.Runs.{changed, changes, updateAt, updatedAt, updates};
 ghost use Rattle.table.specs.code.Loops.{InRun, stillGood, allInRange, entryOf, Updatable, UpdatesFit, reported, ReportFits, ReportsFit, readOut};
 use super::Entry;
@@ -33,11 +32,12 @@ pub struct Seek {
     pub entry: Entry,
 }
 
-// What becomes of an entry: it is set afresh, it ages by a second, or its host, our own, reports itself at a reading.
+// What becomes of an entry: it is set afresh, it ages by a second, its host, our own, reports itself at a reading, or another is put in its place.
 pub enum Change {
     Fresh,
     Aged,
     Reported(Millis),
+    Put(Entry),
 }
 
 pub struct Changes {
@@ -120,6 +120,7 @@ fn changed(e: Entry, w: Changes) -> Entry
         Change::Fresh => super::fresh(),
         Change::Aged => super::aged(e),
         Change::Reported(reading) => super::self_reported(reading, e),
+        Change::Put(x) => x,
     }
 }
 
@@ -137,8 +138,8 @@ pub fn change_all(run: &mut [Entry], w: Changes)
 }
 
 // An update with what a packet reports added.
-fn plus_report(u: Update, r: Report) -> Update
-    requires { ⌜ upTo ownMost (u .delay) ≡ true ⌝ }
+pub fn plus_report(u: Update, r: Report) -> Update
+    requires { ⌜ ownInRange u ≡ true ⌝ }
     requires { ⌜ Two (r .delay .0) ⌝ }
     ensures { λ x. ⌜ (x ≡ plusReport u r) × (delayInRange x ≡ true) ⌝ }
 {

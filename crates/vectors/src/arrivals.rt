@@ -64,7 +64,9 @@ fn arrival(host: Address, neighbor: Address, c: Clock, e: Entry, octets: &[u8]) 
         tsp: Word(0),
     };
     let links = host::link_state::with_link(host::link_state::fresh(s), 1, link);
-    program::take(s, 0, c, links, [e; 255], 1, Counter::zero(), octets)
+    let v = host::walk::none();
+    let k = Counter::zero();
+    program::take(s, 0, c, links, v, octets, [e; 255], 1, k, octets)
 }
 
 // The entry of an id.

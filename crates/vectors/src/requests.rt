@@ -51,7 +51,9 @@ pub fn split_horizon() {
 fn asked(e: Entry, q: Request) -> Whole {
     let s = program::settings();
     let c = Clock::fresh(Millis(0), Date::FIRST);
-    program::call(s, 0, c, host::link_state::fresh(s), [e; 255], q)
+    let l = host::link_state::fresh(s);
+    let v = host::walk::none();
+    program::call(s, 0, c, l, v, b"", [e; 255], q)
 }
 
 // A line of an entry a second later.

@@ -2,6 +2,7 @@
 ghost use mathlib.Core.Path.{_≡_};
 ghost use Prim.Native.Nat.{_+_, _≤_};
 ghost use lib.ListN.{length};
+ghost use Rattle.lists.specs.Lists.{over};
 ghost use Rattle.wire.specs.Octets.{zeroAddress, sameAddress};
 ghost use Rattle.wire.specs.Ip.{headerLength};
 ghost use Rattle.wire.specs.Hello.{reportLength, reportPlace, reportAt};
@@ -160,3 +161,15 @@ pub fn read_back()
 pub fn reports_back()
     ensures { λ _. ⌜ ReportsBack ⌝ }
 {}
+
+// Octets copied to a place.
+pub fn copy(to: &mut [u8], place: usize, from: &[u8])
+    requires { ⌜ place + length (now from) ≤ length (now to) ⌝ }
+    ensures { λ _. ⌜ now (to .exit) ≡ over (now (to .entry)) place (now (from .entry)) ⌝ }
+{
+    let mut i: usize = 0;
+    while i < from.len() {
+        to[place + i] = from[i];
+        i += 1;
+    }
+}

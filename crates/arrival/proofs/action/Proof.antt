@@ -1,25 +1,11 @@
 -- By how steps 2 to 4 come out.
-use mathlib.Core.Path.{_≡_, _∙_, sym}
-use Prim.Native.Nat.{ℕ}
-use native.Mathlib.Omega.{arith}
-use Rattle.table.specs.Forms.{Stage, on, end}
+use mathlib.Core.Path.{_∙_, sym}
 use Rattle.table.proofs.Ranges.{reading-in}
-use Rattle.arrival.specs.declared.Flight.{Flight}
-use Rattle.arrival.specs.declared.Step.the-variants.{On, End}
 use Rattle.arrival.specs.Steps.{steps2to4}
-use Rattle.arrival.specs.code.Plan.{stepOf}
+use Rattle.arrival.proofs.Stages.{goes-on, ends}
 use borrow.Author.Needs.{needs}
 use Rattle.arrival.proofs.action.Statement.{statement}
 use Rattle.arrival.proofs.action.Tie as tie
-
--- how the steps came out in the definition, by how they did in the code
-goes-on : (s : Stage Flight) (f : Flight) → On f ≡ stepOf s → s ≡ on f
-goes-on (on g) f e = cc
-goes-on (end g) f e = let z : _≡_ {A = ℕ} 0 1 = cc in absurd (omega arith)
-
-ends : (s : Stage Flight) (f : Flight) → End f ≡ stepOf s → s ≡ end f
-ends (on g) f e = let z : _≡_ {A = ℕ} 0 1 = cc in absurd (omega arith)
-ends (end g) f e = cc
 
 our-reading-requires : tie.Need-our-reading-requires
 our-reading-requires c κs = search needs

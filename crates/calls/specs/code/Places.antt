@@ -1,6 +1,7 @@
 -- Where the ids of a host stand in the run. Where there is no id, there is no place: a refused call may have any number.
 use Prim.Native.Nat.{ℕ, _+_, _≤_, _<_}
-use mathlib.Core.Bool.{cond, not}
+use mathlib.Core.Path.{_≡_}
+use mathlib.Core.Bool.{true, cond, not}
 use lib.Dec.{ltb}
 use Rattle.answer.specs.declared.Answer.{Answer}
 use Rattle.route.specs.declared.Found.{Found}
@@ -11,11 +12,13 @@ use Rattle.table.specs.declared.run.Updates.{Updates}
 use Rattle.table.specs.declared.run.Reports.{Reports}
 use Rattle.table.specs.Entry.{freshEntry}
 use Rattle.host.specs.declared.Settings.{Settings}
-use Rattle.host.specs.State.{firstPlace}
+use Rattle.host.specs.declared.walk.Walk.{Walk}
+use Rattle.host.specs.State.{firstPlace, hasPlace}
+use Rattle.host.specs.Effect.{nothing}
 use Rattle.host.specs.Guard.{done}
 use Rattle.arrival.specs.Arrival.{noUpdates}
 use Rattle.calls.specs.declared.Request.{Request}
-use Rattle.calls.specs.Effects.{nothing, wanted}
+use Rattle.calls.specs.Effects.{wanted}
 
 -- ids up to 255 of a number up to 15
 pub record Placeable (k first end : ℕ) : Type 0 where
@@ -31,8 +34,13 @@ abbrev pub seekAt : (number : ℕ) → Found → Seek
 seekAt k Nothing = noEntry
 seekAt k (Id id) = record { first = firstPlace k + id; end = firstPlace k + id + 1; entry = freshEntry }
 
-abbrev pub soughtAt : Answer → Request → Settings → (number : ℕ) → Seek
-soughtAt g q s k = cond (not (done g)) noEntry (seekAt k (wanted q s))
+abbrev pub soughtAt : Answer → Request → Settings → Walk → (number : ℕ) → Seek
+soughtAt g q s w k = cond (not (done g)) noEntry (seekAt k (wanted q s w))
+
+-- the guard has let the call pass, so that an id that is looked at has its place
+pub record Seekable (g : Answer) (q : Request) (s : Settings) (w : Walk) (k : ℕ) : Type 0 where
+  pub number : done g ≡ true → k ≤ 15
+  pub place : done g ≡ true → hasPlace (wanted q s w) ≡ true
 
 -- ---- the entries that are changed, updated, or reported
 

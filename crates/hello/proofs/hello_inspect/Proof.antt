@@ -6,7 +6,7 @@ use Rattle.shapes.proofs.made.ExportDelivers.{proof}
 use Rattle.clock.proofs.Types.{clock}
 use Rattle.table.proofs.Types.{entry}
 use Rattle.host.specs.Lent.{lent}
-use Rattle.host.proofs.Types.{number, settings, links, reply}
+use Rattle.host.proofs.Types.{number, settings, links, walk, reply}
 use Rattle.arrival.specs.declared.Delivery.the-variants.{Inspect}
 use Rattle.calls.specs.Perform.{perform, Leaves, deliver}
 use Rattle.calls.proofs.Types.{delivery}
@@ -26,13 +26,13 @@ use Rattle.hello.proofs.hello_inspect.Code as code
 pub hello-inspect-spec : {M : Type 1} → stated.statement M
 unfolding code.routine
 hello-inspect-spec 𝓤 H 𝓜 𝓖 𝓡 =
-    proof number number (chosen-by-value delivery) (by-value reply) (by-value inspected) settings clock links entry 𝓤 H 𝓜 𝓖 𝓡
+    proof number number (chosen-by-value delivery) (by-value reply) (by-value inspected) settings clock links walk entry 𝓤 H 𝓜 𝓖 𝓡
     (λ i. emp 𝓤) (λ i d. d ≡ Inspect i)
-    (λ s k c l run d o. emp 𝓤) (λ s k c l run d o a c′ l′ run′. Leaves (perform (deliver d o) (lent s k c l run)) a c′ l′ run′)
+    (λ s k c l v o run d b. emp 𝓤) (λ s k c l v o run d b a c′ l′ run′. Leaves (perform (deliver d b) (lent s k c l v o run)) a c′ l′ v o run′)
     (λ a. emp 𝓤) (λ a r. r ≡ inspectedTold a)
-    (λ s k c l run i o c′ l′ run′ r. Returns inspectedTold (perform (deliver (Inspect i) o) (lent s k c l run)) r c′ l′ run′)
-    (λ s k c l run i o. id⊢ 𝓤 _) (λ s k c l run i o d d-is. id⊢ 𝓤 _) (λ s k c l run i o d a c′ l′ run′ d-is left. id⊢ 𝓤 _)
-    (λ s k c l run i o d a c′ l′ run′ r d-is left r-is. rw (sym d-is) (returned inspectedTold (perform (deliver d o) (lent s k c l run)) a c′ l′ run′ r left r-is))
+    (λ s k c l v o run i b c′ l′ run′ r. Returns inspectedTold (perform (deliver (Inspect i) b) (lent s k c l v o run)) r c′ l′ v o run′)
+    (λ s k c l v o run i b. id⊢ 𝓤 _) (λ s k c l v o run i b d d-is. id⊢ 𝓤 _) (λ s k c l v o run i b d a c′ l′ run′ d-is left. id⊢ 𝓤 _)
+    (λ s k c l v o run i b d a c′ l′ run′ r d-is left r-is. rw (sym d-is) (returned inspectedTold (perform (deliver d b) (lent s k c l v o run)) a c′ l′ v o run′ r left r-is))
     code.env #hello-inspect makes.name calls.name tells.name makes.routine calls.routine tells.routine
     code.calls-hello·inspects code.calls-calls·deliver code.calls-hello·inspected-told
     (code.unfolded 𝓤 H 𝓜 𝓡) (makes-known.met 𝓤 H 𝓜 𝓖 𝓡) (calls-known.met 𝓤 H 𝓜 𝓖 𝓡) (tells-known.met 𝓤 H 𝓜 𝓖 𝓡)

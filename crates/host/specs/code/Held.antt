@@ -1,10 +1,11 @@
 -- The guard as the code has it: what is tested before the entries, which places are then looked at, and what is judged behind.
-use mathlib.Core.Bool.{Bool, true, false, cond, not, _||_}
+use mathlib.Core.Bool.{Bool, true, false, cond, not, _&&_, _||_}
+use mathlib.Core.List.{List}
 use Prim.Native.Nat.{ℕ, _+_}
-use lib.Dec.{ltb, eqb}
-use lib.ListN.{take}
+use lib.Dec.{ltb, leb, eqb}
+use lib.ListN.{length, take}
 use Rattle.answer.specs.declared.Answer.{Answer}
-use Rattle.answer.specs.declared.Answer.the-variants.{Done, Setting, OutOfRange}
+use Rattle.answer.specs.declared.Answer.the-variants.{Done, Setting, OutOfRange, InWalk}
 use Rattle.clock.specs.declared.Clock.{Clock}
 use Rattle.clock.specs.Clock.{clockInRange}
 use Rattle.table.specs.declared.run.Scan.{Scan}
@@ -12,10 +13,13 @@ use Rattle.table.specs.Forms.{every}
 use Rattle.host.specs.declared.Settings.{Settings}
 use Rattle.host.specs.Lent.{Host}
 use Rattle.host.specs.declared.guard.Scope.{Scope}
-use Rattle.host.specs.declared.guard.Scope.the-variants.{Places, All, OnLink}
+use Rattle.host.specs.declared.guard.Scope.the-variants.{Places, All, OnLink, Opening, Walking}
 use Rattle.host.specs.declared.Links.{Links}
+use Rattle.host.specs.declared.walk.Walk.{Walk}
 use Rattle.host.specs.Settings.{linkCount, settingsGood}
 use Rattle.host.specs.State.{placesPerHost, firstPlace, hostCount, linkInRange}
+use Rattle.host.specs.Walk.{walkInRange}
+use Rattle.host.specs.Guard.{longest, inWalk}
 use Rattle.host.specs.code.Told.{afresh}
 
 -- the places of a number in a run of n entries
@@ -30,25 +34,28 @@ settled good = record { first = 0; end = 0; good = good }
 abbrev pub isLink : (count link : ℕ) → Bool
 isLink n i = not (eqb i 0 || ltb n i)
 
--- the link that a call names, if it names one, is there
-abbrev pub namesLink : (count : ℕ) → Scope → Bool
-namesLink n Places = true
-namesLink n All = true
-namesLink n (OnLink i) = isLink n i
+-- the link that a call names, if it names one, is there, and room for a packet of so many octets where a walk is opened
+abbrev pub namesLink : (count octets : ℕ) → Scope → Bool
+namesLink n m Places = true
+namesLink n m All = true
+namesLink n m (OnLink i) = isLink n i
+namesLink n m (Opening i) = leb longest m && isLink n i
+namesLink n m Walking = true
 
--- so many entries, where the clock and so many links are within their ranges
-abbrev pub wholeScan : (number entries : ℕ) → Clock → Links → (links : ℕ) → Scan
-wholeScan k m c l n =
+-- so many entries, where the clock, so many links and the walk are within their ranges
+abbrev pub wholeScan : (number entries : ℕ) → Clock → Links → (links : ℕ) → (walk : Bool) → Scan
+wholeScan k m c l n walk =
     cond (not (clockInRange c)) (settled false)
     (cond (not (every linkInRange (take n (l .all)))) (settled false)
-    record { first = firstPlace k; end = firstPlace k + m; good = true })
+    (cond (not walk) (settled false)
+    record { first = firstPlace k; end = firstPlace k + m; good = true }))
 
-abbrev pub held : Scope → (number : ℕ) → Host → (n : ℕ) → Scan
-held a k h n =
+abbrev pub held : Scope → (number : ℕ) → Host → Walk → (copy : List ℕ) → (n : ℕ) → Scan
+held a k h w copy n =
     cond (placesMissing k n) (settled false)
     (cond (afresh a) (settled true)
-    (cond (not (namesLink (linkCount (h .settings)) a)) (settled false)
-    (wholeScan k (hostCount (h .settings)) (h .clock) (h .links) (linkCount (h .settings)))))
+    (cond (not (namesLink (linkCount (h .settings)) (length copy) a)) (settled false)
+    (wholeScan k (hostCount (h .settings)) (h .clock) (h .links) (linkCount (h .settings)) (walkInRange (h .settings) w copy))))
 
-abbrev pub judged : Settings → (good : Bool) → Answer
-judged s good = cond (not good) OutOfRange (cond (not (settingsGood s)) Setting Done)
+abbrev pub judged : Settings → Walk → Scope → (good : Bool) → Answer
+judged s w a good = cond (not good) OutOfRange (cond (inWalk a w) InWalk (cond (not (settingsGood s)) Setting Done))

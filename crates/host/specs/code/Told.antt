@@ -7,15 +7,18 @@ use Rattle.clock.specs.Clock.{clockInRange}
 use Rattle.clock.specs.declared.Clock.{Clock}
 use Rattle.host.specs.declared.Settings.{Settings}
 use Rattle.host.specs.declared.guard.Scope.{Scope}
-use Rattle.host.specs.declared.guard.Scope.the-variants.{Places, All, OnLink}
+use Rattle.host.specs.declared.guard.Scope.the-variants.{Places, All, OnLink, Opening, Walking}
 use Rattle.host.specs.Settings.{settingsGood}
-use Rattle.host.specs.Guard.{noLink, done}
+use Rattle.host.specs.State.{noLink}
+use Rattle.host.specs.Guard.{done}
 
 -- whether a call tests no more than numbers and places
 abbrev pub afresh : Scope → Bool
 afresh Places = true
 afresh All = false
 afresh (OnLink i) = false
+afresh (Opening i) = false
+afresh Walking = false
 
 -- a host that a call may work on
 pub record Ready (a : Scope) (s : Settings) (c : Clock) : Type 0 where

@@ -1,4 +1,4 @@
--- A setting afresh fixes the clock, the links and the entries by the settings alone; from there on, isolation needs no more.
+-- A setting afresh fixes the clock, the links and the entries by the settings alone, and closes a walk; from there on, isolation needs no more.
 use mathlib.Core.Path.{_≡_, refl, sym, ap, subst, _∙_}
 use mathlib.Core.Bool.{true, false≢true}
 use mathlib.Core.List.{List, [], _∷_, map}
@@ -15,6 +15,7 @@ use Rattle.table.specs.Runs.{changed}
 use Rattle.host.specs.declared.Settings.{Settings}
 use Rattle.host.specs.declared.guard.Scope.the-variants.{Places}
 use Rattle.host.specs.State.{hostCount, freshLinks, entries}
+use Rattle.host.specs.Walk.{noWalk}
 use Rattle.host.specs.Lent.{entriesOf}
 use Rattle.host.specs.Guard.{noPlaces, guard, done}
 use Rattle.host.proofs.Places.{entries-length}
@@ -22,7 +23,7 @@ use Rattle.calls.specs.declared.Request.the-variants.{Initialize}
 use Rattle.calls.specs.Effects.{initialize}
 use Rattle.calls.specs.Perform.{Call, ask, work, perform}
 use Rattle.network.specs.Left.{told}
-use Rattle.network.specs.Locality.{SameInput, same, same-send, ownLinks}
+use Rattle.network.specs.Locality.{SameInput, same, same-send, ownLinks, heldPacket}
 use Rattle.network.specs.History.{Event, Left, Holds, Lends, numberOf, outcome}
 use Rattle.network.specs.Isolation.{own, settingsOf, Agree, Pairwise, SetsAfresh, Steady, stays, goes-on, begins-anew, FromAfresh, begins, LeftAlike, IsolationFromAfresh}
 use Rattle.network.proofs.Performs.{performs, there}
@@ -74,6 +75,7 @@ module _ (k : ℕ) where
   pub record Begun (s : Settings) (x : Left) : Type 0 where
     pub clock-is : x .clock ≡ freshClock (s .time) (s .date)
     pub links-is : x .links ≡ freshLinks s
+    pub walk-is : x .walk ≡ noWalk
     pub entries-is : take (hostCount s) (x .places) ≡ replicate (hostCount s) freshEntry
 
   begun : (was : Left) (e : Event) → numberOf e ≡ k → Begins e → Begun (settingsOf e) (leftFrom k was e)
@@ -82,6 +84,7 @@ module _ (k : ℕ) where
       record {
         clock-is = ap (λ o. o .clock) (outcome-is e b);
         links-is = ap (λ o. o .links) (outcome-is e b);
+        walk-is = ap (λ o. o .walk) (outcome-is e b);
         entries-is =
             first-left k was e here (le-ltb _ _ (rw here at held))
             ∙ ap (λ o. entries (settingsOf e) (numberOf e) (o .run)) (outcome-is e b)
@@ -113,6 +116,9 @@ module _ (k : ℕ) where
         record {
           clock-same = p .clock-is ∙ sym (q .clock-is);
           links-same = ap (ownLinks (settingsOf e)) (p .links-is ∙ sym (q .links-is));
+          walk-same = p .walk-is ∙ sym (q .walk-is);
+          packet-same =
+              ap (λ v. heldPacket v (leftFrom k was e .copy)) (p .walk-is) ∙ ap (λ v. heldPacket v (leftFrom k was′ f .copy)) (sym (q .walk-is));
           entries-same = p .entries-is ∙ sym (q .entries-is);
         }
 

@@ -8,7 +8,7 @@ use lib.Dec.{eqb}
 use lib.ListN.{length, take}
 use Rattle.host.specs.State.{hostCount}
 use Rattle.network.specs.Frame.{Kept}
-use Rattle.network.specs.Locality.{same, ownLinks, Alike, Local, Locality}
+use Rattle.network.specs.Locality.{same, ownLinks, heldPacket, Alike, Local, Locality}
 use Rattle.network.specs.History.{put}
 use Rattle.network.specs.Isolation.{SharedEvent, Shared, sharedLent, sharedOutcome, sharedAfter, sharedAfterAll, sharedTold, alone, SharedAlike, Alone}
 use Rattle.network.proofs.HostPlaces.{entries-first, elsewhere, places-kept-same}
@@ -36,6 +36,8 @@ other k w v e apart t =
           record {
             clock-same = put-other (e .number) k _ (w .clock) apart ∙ t .alike .clock-same;
             links-same = put-other (e .number) k _ (w .links) apart ∙ t .alike .links-same;
+            walk-same = put-other (e .number) k _ (w .walk) apart ∙ t .alike .walk-same;
+            copy-same = put-other (e .number) k _ (w .copy) apart ∙ t .alike .copy-same;
             places-same = elsewhere (e .settings) (e .number) k apart (w .run) _ (kept w e) ∙ t .alike .places-same;
           };
       lengths = kept w e .same-length ∙ t .lengths;
@@ -54,6 +56,9 @@ module _ (w v : Shared) (e : SharedEvent) (t : Twin (e .number) w v) where
         number-same = refl;
         clock-same = t .alike .clock-same;
         links-same = ap (ownLinks (e .settings)) (t .alike .links-same);
+        walk-same = t .alike .walk-same;
+        room-same = ap length (t .alike .copy-same);
+        packet-same = λ j. heldPacket (t .alike .walk-same j) (t .alike .copy-same j);
         length-same = t .lengths;
         entries-same =
             entries-first (e .settings) (e .number) (w .run)
@@ -75,6 +80,10 @@ module _ (w v : Shared) (e : SharedEvent) (t : Twin (e .number) w v) where
                   put-here (e .number) _ (w .clock) ∙ local .left-alike .clock-same ∙ sym (put-here (e .number) _ (v .clock));
               links-same =
                   put-here (e .number) _ (w .links) ∙ local .all-links (t .alike .links-same) ∙ sym (put-here (e .number) _ (v .links));
+              walk-same =
+                  put-here (e .number) _ (w .walk) ∙ local .left-alike .walk-same ∙ sym (put-here (e .number) _ (v .walk));
+              copy-same =
+                  put-here (e .number) _ (w .copy) ∙ local .all-copy (t .alike .copy-same) ∙ sym (put-here (e .number) _ (v .copy));
               places-same = places-kept-same (e .call) (e .call) (sharedLent w e) (sharedLent v e) same lent-alike (t .alike .places-same);
             };
         lengths = local .left-alike .length-same;
@@ -109,5 +118,5 @@ deleted k w v (e ∷ es) t = go (λ v′. deleted k (sharedAfter w e) v′ es) (
 pub alone-holds : Alone
 unfolding Alone
 alone-holds k w es =
-    let d = deleted k w w es record { alike = record { clock-same = refl; links-same = refl; places-same = refl }; lengths = refl } in
+    let d = deleted k w w es record { alike = record { clock-same = refl; links-same = refl; walk-same = refl; copy-same = refl; places-same = refl }; lengths = refl } in
     (d .told-same, d .left-same)

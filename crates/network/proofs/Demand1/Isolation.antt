@@ -9,7 +9,7 @@ use lib.ListN.{length, take}
 use Rattle.host.specs.State.{placesPerHost, firstPlace, hostCount, entries}
 use Rattle.host.specs.Guard.{noPlaces}
 use Rattle.network.specs.Left.{Told, told}
-use Rattle.network.specs.Locality.{ownLinks, Alike, Local, Locality}
+use Rattle.network.specs.Locality.{ownLinks, heldPacket, Alike, Local, Locality}
 use Rattle.network.specs.History.{Event, Left, Holds, numberOf, Lends, LendsWhole, outcome, places}
 use Rattle.network.specs.Isolation.{own, settingsOf, Agree, Pairwise, Isolation, LeftAlike}
 use Rattle.network.proofs.Performs.{perform-short}
@@ -39,7 +39,7 @@ module _ (k : ℕ) where
 
     -- then the call is refused, and leaves what it was lent
     left-short : short e ≡ true
-        → leftFrom k was e ≡ record { clock = e .lent .host .clock; links = e .lent .host .links; places = was .places }
+        → leftFrom k was e ≡ record { clock = e .lent .host .clock; links = e .lent .host .links; walk = e .lent .walk; copy = e .lent .copy; places = was .places }
     left-short h = rw (perform-short (e .call) (e .lent) (no-places h), h)
 
     -- otherwise it leaves the places of the run
@@ -66,6 +66,12 @@ module _ (k : ℕ) where
     links-lent =
         lends .own-links ∙ alike .links-same ∙ ap (λ s. ownLinks s (was′ .links)) (agree .settings-same) ∙ sym (lends′ .own-links)
 
+    walk-lent : e .lent .walk ≡ f .lent .walk
+    walk-lent = lends .own-walk ∙ alike .walk-same ∙ sym (lends′ .own-walk)
+
+    packet-lent : heldPacket (e .lent .walk) (e .lent .copy) ≡ heldPacket (f .lent .walk) (f .lent .copy)
+    packet-lent = lends .own-packet ∙ alike .packet-same ∙ sym (lends′ .own-packet)
+
     pub lent-alike : short e ≡ false → Alike (e .lent) (f .lent)
     lent-alike h =
         record {
@@ -73,6 +79,9 @@ module _ (k : ℕ) where
           number-same = here ∙ sym here′;
           clock-same = clock-lent;
           links-same = links-lent;
+          walk-same = walk-lent;
+          room-same = agree .room-same;
+          packet-same = packet-lent;
           length-same = agree .length-same;
           entries-same =
               lends .own-entries (holds was e here h)
@@ -98,6 +107,8 @@ module _ (k : ℕ) where
         record {
           clock-same = clock-lent;
           links-same = links-lent ∙ ap (λ s. ownLinks s (f .lent .host .links)) (sym (agree .settings-same));
+          walk-same = walk-lent;
+          packet-same = packet-lent;
           entries-same = alike .entries-same;
         })
     left-alike false h =
@@ -105,6 +116,8 @@ module _ (k : ℕ) where
         record {
           clock-same = a .clock-same;
           links-same = a .links-same ∙ ap (λ s. ownLinks s (outcome f .links)) (sym (agree .settings-same));
+          walk-same = a .walk-same;
+          packet-same = a .packet-same;
           entries-same =
               first-left was e here h
               ∙ a .entries-same
@@ -119,6 +132,8 @@ module _ (k : ℕ) where
       record {
         own-clock = w .own-clock;
         own-links = ap (ownLinks (settingsOf e)) (w .all-links);
+        own-walk = w .own-walk;
+        own-packet = λ j. heldPacket (w .own-walk j) (w .all-copy j);
         own-entries =
             λ h. entries-first (settingsOf e) (numberOf e) (e .lent .run) ∙ ap (take (hostCount (settingsOf e))) (w .all-places h);
       }
@@ -132,7 +147,7 @@ module _ (k : ℕ) where
     lent′ = lends-whole was f here′ whole′
 
     alike : LeftAlike (settingsOf e) was was
-    alike = record { clock-same = refl; links-same = refl; entries-same = refl }
+    alike = record { clock-same = refl; links-same = refl; walk-same = refl; packet-same = refl; entries-same = refl }
 
     whole-told : told (outcome e) ≡ told (outcome f)
     whole-told = told-alike was was e f here here′ lent lent′ agree alike (short e) refl
@@ -147,6 +162,14 @@ module _ (k : ℕ) where
     left-links true h =
         ap (λ z. z .links) (left-short was e here h) ∙ links-same ∙ ap (λ z. z .links) (sym (left-short was f here′ (short-f h)))
     left-links false h = local was was e f here here′ lent lent′ agree alike h .all-links links-same
+
+    copy-same : e .lent .copy ≡ f .lent .copy
+    copy-same = whole .all-copy ∙ sym (whole′ .all-copy)
+
+    left-copy : (b : Bool) → short e ≡ b → leftFrom k was e .copy ≡ leftFrom k was f .copy
+    left-copy true h =
+        ap (λ z. z .copy) (left-short was e here h) ∙ copy-same ∙ ap (λ z. z .copy) (sym (left-short was f here′ (short-f h)))
+    left-copy false h = local was was e f here here′ lent lent′ agree alike h .all-copy copy-same
 
     left-places : (b : Bool) → short e ≡ b → leftFrom k was e .places ≡ leftFrom k was f .places
     left-places true h =
@@ -163,7 +186,7 @@ module _ (k : ℕ) where
     whole-left : leftFrom k was e ≡ leftFrom k was f
     whole-left =
         let a = left-alike was was e f here here′ lent lent′ agree alike (short e) refl in
-        λ j. record { clock = a .clock-same j; links = left-links (short e) refl j; places = left-places (short e) refl j }
+        λ j. record { clock = a .clock-same j; links = left-links (short e) refl j; walk = a .walk-same j; copy = left-copy (short e) refl j; places = left-places (short e) refl j }
 
   -- ---- lists of calls at k
 

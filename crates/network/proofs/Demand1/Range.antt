@@ -1,15 +1,18 @@
--- Each call leaves a clock, links and entries in range: fresh ones are, and each rule keeps them so.
+-- Each call leaves a clock, links and entries in range: fresh ones are, and each rule keeps them so. Each but a step leaves a walk in range, too.
 use mathlib.Core.Path.{_≡_, refl, sym, ap, _∙_}
-use mathlib.Core.Bool.{Bool, true, false, false≢true, cond, not, _||_}
+use mathlib.Core.Bool.{Bool, true, false, false≢true, cond, not, _&&_, _||_}
 use mathlib.Core.List.{List, map}
 use Prim.Native.Nat.{ℕ, _-_, _≤_, _<_, _^_}
 use native.Mathlib.Omega.{arith}
+use borrow.Author.Tests.{le-leb}
 use lib.Dec.{ltb}
 use lib.IntN.{pos}
 use lib.ListN.{length, take}
 use Rattle.lists.proofs.Tests.{either, both, neither, is-not, is-so}
 use Rattle.quantity.specs.Quantity.{millis, lessMillis}
-use Rattle.answer.specs.declared.Answer.the-variants.{Done, Setting, DelayNotValid, NoHost, OutOfRange}
+use Rattle.quantity.specs.Words.{ofWord}
+use Rattle.quantity.proofs.Ints.{lt-yes, lt-no}
+use Rattle.answer.specs.declared.Answer.the-variants.{Done, Setting, DelayNotValid, NoHost, OutOfRange, InWalk}
 use Rattle.answer.specs.Answer.{number}
 use Rattle.clock.specs.declared.Clock.{Clock}
 use Rattle.clock.specs.declared.Counter.{Counter}
@@ -17,6 +20,7 @@ use Rattle.clock.specs.declared.Reading.{Reading}
 use Rattle.clock.specs.Midnight.{dayMillis}
 use Rattle.clock.specs.Clock.{countUsed, clockInRange}
 use Rattle.clock.proofs.Range.{reading-in-range, tick-in-range, adjust-in-range, set-in-range, second-in-range, fresh-in-range}
+use Rattle.wire.specs.declared.Packet.{Packet}
 use Rattle.wire.specs.declared.Parsed.the-variants.{Good}
 use Rattle.wire.specs.Packet.{helloOf, packetLength}
 use Rattle.route.specs.declared.Found.{Found}
@@ -25,19 +29,26 @@ use Rattle.table.specs.declared.Entry.{Entry}
 use Rattle.table.specs.declared.run.Change.the-variants.{Fresh}
 use Rattle.table.specs.declared.run.Changes.{Changes}
 use Rattle.table.specs.Forms.{every}
-use Rattle.table.specs.Entry.{upTo, entryInRange}
+use Rattle.table.specs.Entry.{maxDelay, minDelay, freshEntry, takenDown, upTo, entryInRange}
+use Rattle.table.specs.Update.{dateTaken, lineD}
 use Rattle.table.specs.Runs.{changed, changes, updatedAt, updates}
-use Rattle.table.proofs.Kept.{aged-in-range, self-in-range}
+use Rattle.table.proofs.Cases.{stored}
+use Rattle.table.proofs.Kept.{aged-in-range, self-in-range, date-in-range}
 use Rattle.table.proofs.Kept as kept
-use Rattle.table.proofs.Ranges.{reading-in}
+use Rattle.table.proofs.Ranges.{within, range-says, in-range, reading-in}
+use Rattle.host.specs.declared.Settings.{Settings}
+use Rattle.host.specs.declared.Link.{Link}
 use Rattle.host.specs.declared.Links.{Links}
-use Rattle.host.specs.declared.guard.Scope.the-variants.{Places}
+use Rattle.host.specs.declared.walk.Walk.{Walk}
+use Rattle.host.specs.declared.guard.Scope.the-variants.{Places, Opening, Walking}
 use Rattle.host.specs.Settings.{linkCount, settingsGood, ownId}
-use Rattle.host.specs.State.{hostCount, freshLinks, linkOf, withLink, linkInRange, withEntries}
-use Rattle.host.specs.Lent.{Lent, lent, entriesOf, ourReading, lentInRange, hostInRange}
-use Rattle.host.specs.Guard.{noPlaces, guard, done}
+use Rattle.host.specs.State.{hostCount, freshLinks, linkOf, withLink, linkInRange, noLink, withEntries}
+use Rattle.host.specs.Walk.{isOpen, noWalk, placeOf, walkInRange}
+use Rattle.host.specs.declared.Effect.{Effect}
+use Rattle.host.specs.Lent.{Lent, lent, entriesOf, ourReading, lentInRange, hostInRange, ownWalkInRange}
+use Rattle.host.specs.Guard.{noPlaces, longest, guard, done}
 use Rattle.host.proofs.Places.{entries-length}
-use Rattle.host.proofs.Guarded.{Counted, counted, passed, holds}
+use Rattle.host.proofs.Guarded.{Counted, counted, Passed, passed, holds}
 use Rattle.host.proofs.Sound.{Sound, sound}
 use Rattle.sending.specs.declared.Sending.{Sending}
 use Rattle.sending.specs.Send.{reportCount}
@@ -45,22 +56,28 @@ use Rattle.arrival.specs.declared.Flight.{Flight}
 use Rattle.arrival.specs.declared.Arrived.{Arrived}
 use Rattle.arrival.specs.declared.Delivery.{Delivery}
 use Rattle.arrival.specs.declared.Delivery.the-variants.{Inspect, Act, Receive}
-use Rattle.arrival.specs.Inspection.{tells}
+use Rattle.host.specs.Inspection.{inspect, tells}
 use Rattle.arrival.specs.Steps.{neighborUpdate}
 use Rattle.arrival.specs.Arrival.{quiet, ends, updated, onLink}
-use Rattle.calls.specs.declared.Effect.{Effect}
+use Rattle.walk.specs.declared.Opening as declared
+use Rattle.walk.specs.Opening.{openedOn, copied}
+use Rattle.walk.specs.Boxes.{atHand, step}
 use Rattle.calls.specs.declared.Request.{Request}
-use Rattle.calls.specs.declared.Request.the-variants.{Initialize, Tick, Adjust, Set, Read, Second, SelfReport, Lookup}
+use Rattle.calls.specs.declared.Request.the-variants.{Initialize, Tick, Adjust, Set, Read, Second, SelfReport, Lookup, Step}
 use Rattle.calls.specs.Effects.{initialize, tick, adjust, setBy, read, second, selfReport, lookup, ownWork, wanted, effect}
-use Rattle.calls.specs.Perform.{Call, ask, send, deliver, scopeOfCall, entryAt, carriedOut, sentBy, updatedBy, work, perform, left}
-use Rattle.network.specs.Range.{Accepted, countBy, countOf, Range}
+use Rattle.calls.specs.Perform.{Call, ask, send, deliver, openWalk, scopeOfCall, entryAt, carriedOut, sentBy, updatedBy, openedBy, work, perform, left}
+use Rattle.network.specs.Refusals.{closed}
+use Rattle.network.specs.Range.{Accepted, countBy, countOf, Walked, begins, goes-on, Range}
 use Rattle.network.proofs.Performs.{guardOf, performs}
 use Rattle.network.proofs.Arrivals.{Flown, storing, readBy, delivery-ways}
-use Rattle.network.proofs.Lists.{all-made, every-all, all-every}
+use Rattle.network.proofs.Lists.{all-at, all-made, every-all, all-every}
 use Rattle.network.proofs.Lists as lists
 use Rattle.network.proofs.Swept.{changes-length, changes-keep, changes-each, updates-length, updates-keep, updates-clock}
-use Rattle.network.proofs.Ranges.{withLink-in, sent-in, fresh-links-in, neighbor-sane, report-sane, entry-in, clock-in}
+use Rattle.network.proofs.Ranges.{link-in, withLink-in, sent-in, fresh-links-in, neighbor-sane, report-sane, entry-in, clock-in}
 use Rattle.network.proofs.Written.{written-kept, written-back}
+use Rattle.network.proofs.Walking.{Timed, as-was, set-by, Touched, as-were, stored-in, Makes, stays, down, stores, Works, no-work, puts, step-ways}
+use Rattle.network.proofs.Demand1.Walked.{Fine, step-fine}
+use Rattle.network.proofs.Openings.{opening-ways, packet-short, nothing-copied, copied-back, copied-length}
 
 -- ---- what 12 tests, each by itself
 
@@ -68,32 +85,40 @@ pub record InRange (x : Lent) : Type 0 where
   pub places-there : noPlaces (x .number) (x .run) ≡ false
   pub clock-in : clockInRange (x .host .clock) ≡ true
   pub links-in : every linkInRange (take (linkCount (x .host .settings)) (x .host .links .all)) ≡ true
+  pub walk-in : ownWalkInRange x ≡ true
   pub entries-in : every entryInRange (entriesOf x) ≡ true
 
 module _ (x : Lent) where
-  parts : noPlaces (x .number) (x .run) ≡ false → lentInRange x ≡ true → InRange x
+  pub parts : noPlaces (x .number) (x .run) ≡ false → lentInRange x ≡ true → InRange x
   unfolding lentInRange
   parts p e =
-      let two = both (hostInRange (x .host)) (every entryInRange (entriesOf x)) e in
+      let three = both (hostInRange (x .host) && ownWalkInRange x) (every entryInRange (entriesOf x)) e in
+      let two = both (hostInRange (x .host)) (ownWalkInRange x) (three .0) in
       let one = both (clockInRange (x .host .clock)) _ (two .0) in
-      record { places-there = p; clock-in = one .0; links-in = one .1; entries-in = two .1 }
+      record { places-there = p; clock-in = one .0; links-in = one .1; walk-in = two .1; entries-in = three .1 }
 
   accepted : Accepted x → InRange x
   unfolding guard
   accepted a = go (noPlaces (x .number) (x .run) || not (lentInRange x)) refl a
     where
       go : (b : Bool) → noPlaces (x .number) (x .run) || not (lentInRange x) ≡ b
-          → (cond b OutOfRange (cond (not (settingsGood (x .host .settings))) Setting Done) ≡ OutOfRange → ⊥) → InRange x
+          → (cond b OutOfRange (cond (isOpen (x .walk)) InWalk (cond (not (settingsGood (x .host .settings))) Setting Done)) ≡ OutOfRange → ⊥) → InRange x
       go true e h = absurd (h refl)
       go false e h = let n = neither (noPlaces (x .number) (x .run)) (not (lentInRange x)) e in parts (n .0) (is-so _ (n .1))
 
   accepts : InRange x → Accepted x
   unfolding guard lentInRange
-  accepts r e = other (settingsGood (x .host .settings)) (rw (r .places-there, r .clock-in, r .links-in, r .entries-in) at e)
+  accepts r e = other (isOpen (x .walk)) (settingsGood (x .host .settings)) (rw (r .places-there, r .clock-in, r .links-in, r .walk-in, r .entries-in) at e)
     where
-      other : (b : Bool) → cond (not b) Setting Done ≡ OutOfRange → ⊥
-      other true h = omega (arith, ap number h)
-      other false h = omega (arith, ap number h)
+      other : (v b : Bool) → cond v InWalk (cond (not b) Setting Done) ≡ OutOfRange → ⊥
+      other true b h = omega (arith, ap number h)
+      other false true h = omega (arith, ap number h)
+      other false false h = omega (arith, ap number h)
+
+-- no walk, whatever the copy
+no-walk-in : (s : Settings) (copy : List ℕ) → walkInRange s noWalk copy ≡ true
+unfolding walkInRange
+no-walk-in s copy = refl
 
 -- ---- the calls
 
@@ -106,16 +131,17 @@ module _ (x : Lent) where
   linksIn l = every linkInRange (take (linkCount (x .host .settings)) (l .all)) ≡ true
 
   -- entries that are in range, written to the host's first places
-  written : (c : Clock) (l : Links) (es : List Entry) → noPlaces (x .number) (x .run) ≡ false → clockInRange c ≡ true → linksIn l
-      → length es ≡ length (entriesOf x) → every entryInRange es ≡ true
-      → InRange (lent (x .host .settings) (x .number) c l (withEntries (x .number) es (x .run)))
+  written : (c : Clock) (l : Links) (w : Walk) (es : List Entry) → noPlaces (x .number) (x .run) ≡ false → clockInRange c ≡ true → linksIn l
+      → walkInRange (x .host .settings) w (x .copy) ≡ true → length es ≡ length (entriesOf x) → every entryInRange es ≡ true
+      → InRange (lent (x .host .settings) (x .number) c l w (x .copy) (withEntries (x .number) es (x .run)))
   unfolding noPlaces
-  written c l es p clock links n range =
+  written c l w es p clock links walk n range =
       let h = holds (x .number) (x .run) p in
       record {
         places-there = rw (written-kept x es h n .same-length) p;
         clock-in = clock;
         links-in = links;
+        walk-in = walk;
         entries-in = rw (written-back x es h n) range;
       }
 
@@ -127,8 +153,9 @@ module _ (x : Lent) where
       let good = sound (x .host .settings) (p .settings) in
       let h = holds (x .number) (x .run) (p .places) in
       let time = both (not (lessMillis (x .host .settings .time) (millis (pos 0)))) (lessMillis (x .host .settings .time) dayMillis) (good .time) in
-      written _ (freshLinks (x .host .settings)) _ (p .places)
+      written _ (freshLinks (x .host .settings)) noWalk _ (p .places)
       (fresh-in-range (x .host .settings .time) (x .host .settings .date) (is-not _ (time .0)) (time .1) (good .date)) (fresh-links-in (x .host .settings))
+      (no-walk-in (x .host .settings) (x .copy))
       (changes-length record { first = 0; end = hostCount (x .host .settings); change = Fresh } (entriesOf x))
       (rw (changes-each (hostCount (x .host .settings)) Fresh (entriesOf x) (omega (arith, entries-length (x .host .settings) (x .number) (x .run) h)))
       (all-every entryInRange (map (changed Fresh) (entriesOf x)) (all-made (λ _ e. entryInRange e ≡ true) (changed Fresh) (λ _ _. kept.fresh-in-range) (entriesOf x))))
@@ -139,10 +166,16 @@ module _ (x : Lent) where
 
     -- ---- requests
 
-    carried : (e : Effect) → clockInRange (e .clock) ≡ true → linksIn (e .links) → Keeps (e .work) → InRange (left x (carriedOut e x))
-    carried e clock links keeps =
-        written (e .clock) (e .links) (changes (e .work) (entriesOf x)) (r .places-there) clock links (changes-length (e .work) (entriesOf x))
-        (all-every entryInRange (changes (e .work) (entriesOf x)) (changes-keep (e .work) (entriesOf x) (λ _ e. entryInRange e ≡ true) keeps all-in))
+    -- work that is carried out, with this clock, these links and this walk
+    carried-with : (c : Clock) (l : Links) (w : Walk) (now : Changes) → clockInRange c ≡ true → linksIn l → walkInRange (x .host .settings) w (x .copy) ≡ true → Keeps now
+        → InRange (lent (x .host .settings) (x .number) c l w (x .copy) (withEntries (x .number) (changes now (entriesOf x)) (x .run)))
+    carried-with c l w now clock links walk keeps =
+        written c l w (changes now (entriesOf x)) (r .places-there) clock links walk (changes-length now (entriesOf x))
+        (all-every entryInRange (changes now (entriesOf x)) (changes-keep now (entriesOf x) (λ _ e. entryInRange e ≡ true) keeps all-in))
+
+    -- one that keeps the walk
+    carried : (e : Effect) → clockInRange (e .clock) ≡ true → linksIn (e .links) → e .walk ≡ x .walk → Keeps (e .work) → InRange (left x (carriedOut e x))
+    carried e clock links same keeps = carried-with (e .clock) (e .links) (e .walk) (e .work) clock links (rw same (r .walk-in)) keeps
 
     -- a reading
     read-in : Sound (x .host .settings) → (k : Counter) → countUsed k .0 < 2 ^ 16 → clockInRange (ourReading k (x .host) .clock) ≡ true
@@ -160,21 +193,22 @@ module _ (x : Lent) where
     own k (Id i) = λ id e low high h. self-in-range (ourReading k (x .host) .time) (time-in k) e h
 
     abbrev does : Request → Effect
-    does q = effect q (x .host) (entryAt (wanted q (x .host .settings)) x)
+    does q = effect q (x .host) (x .walk) (x .copy) (entryAt (wanted q (x .host .settings) (x .walk)) x)
 
-    asked : (q : Request) → countOf (ask q) .0 < 2 ^ 16 → Sound (x .host .settings) → done (guardOf (ask q) x) ≡ true → InRange (left x (work (ask q) x))
+    asked : (q : Request) → ((k : Counter) → ask q ≡ ask (Step k) → ⊥) → countOf (ask q) .0 < 2 ^ 16 → Sound (x .host .settings) → done (guardOf (ask q) x) ≡ true → InRange (left x (work (ask q) x))
     unfolding tick adjust setBy read second selfReport lookup
-    asked Initialize few good e = begun e
-    asked (Tick n) few good e =
-        carried (does (Tick n)) (tick-in-range (x .host .settings .«hold_interval») (good .hold-to) (x .host .clock) (r .clock-in) n few (x .host .settings .«clock_tick»)) (r .links-in) none
-    asked (Adjust n) few good e =
-        carried (does (Adjust n)) (adjust-in-range (x .host .settings .«hold_interval») (good .hold-to) (x .host .clock) (r .clock-in) n few) (r .links-in) none
-    asked (Set ms n) few good e =
-        carried (does (Set ms n)) (set-in-range (x .host .settings .«hold_interval») (good .hold-to) (x .host .clock) (r .clock-in) n few (millis ms)) (r .links-in) none
-    asked (Read k) few good e = carried (does (Read k)) (read-in good k few) (r .links-in) none
-    asked Second few good e = carried (does Second) (second-in-range (x .host .clock) (r .clock-in)) (r .links-in) (λ id e low high h. aged-in-range e h)
-    asked (SelfReport k) few good e = carried (does (SelfReport k)) (read-in good k few) (r .links-in) (own k (ownId (x .host .settings)))
-    asked (Lookup a) few good e = carried (does (Lookup a)) (r .clock-in) (r .links-in) none
+    asked Initialize not few good e = begun e
+    asked (Tick n) not few good e =
+        carried (does (Tick n)) (tick-in-range (x .host .settings .«hold_interval») (good .hold-to) (x .host .clock) (r .clock-in) n few (x .host .settings .«clock_tick»)) (r .links-in) refl none
+    asked (Adjust n) not few good e =
+        carried (does (Adjust n)) (adjust-in-range (x .host .settings .«hold_interval») (good .hold-to) (x .host .clock) (r .clock-in) n few) (r .links-in) refl none
+    asked (Set ms n) not few good e =
+        carried (does (Set ms n)) (set-in-range (x .host .settings .«hold_interval») (good .hold-to) (x .host .clock) (r .clock-in) n few (millis ms)) (r .links-in) refl none
+    asked (Read k) not few good e = carried (does (Read k)) (read-in good k few) (r .links-in) refl none
+    asked Second not few good e = carried (does Second) (second-in-range (x .host .clock) (r .clock-in)) (r .links-in) refl (λ id e low high h. aged-in-range e h)
+    asked (SelfReport k) not few good e = carried (does (SelfReport k)) (read-in good k few) (r .links-in) refl (own k (ownId (x .host .settings)))
+    asked (Lookup a) not few good e = carried (does (Lookup a)) (r .clock-in) (r .links-in) refl none
+    asked (Step k) not few good e = absurd (not k refl)
 
     -- ---- a send
 
@@ -188,6 +222,7 @@ module _ (x : Lent) where
           places-there = r .places-there;
           clock-in = read-in good k few;
           links-in = sent-in (x .host .settings) (x .host .links) i has (r .links-in);
+          walk-in = r .walk-in;
           entries-in = r .entries-in;
         })
 
@@ -199,9 +234,9 @@ module _ (x : Lent) where
           → entryInRange (updatedAt (a .work) octets id c e .entry) ≡ true)
           → InRange (left x (updatedBy a octets x))
       swept a clock links hold few ranges =
-          written _ (a .links) _ (r .places-there)
+          written _ (a .links) (x .walk) _ (r .places-there)
           (updates-clock (a .work) octets (entriesOf x) (λ c. clockInRange c ≡ true) (λ id c e h. clock-in (a .work) octets id c e hold few h) clock)
-          links (updates-length (a .work) octets (entriesOf x))
+          links (r .walk-in) (updates-length (a .work) octets (entriesOf x))
           (all-every entryInRange (updates (a .work) octets (entriesOf x) .entries)
           (updates-keep (a .work) octets (entriesOf x) (λ _ e. entryInRange e ≡ true) (λ id c e low high _ h. ranges id c e low high h) all-in))
 
@@ -251,12 +286,94 @@ module _ (x : Lent) where
             }
             octets
 
-    works : (c : Call) → countOf c .0 < 2 ^ 16 → done (guardOf c x) ≡ true → InRange (left x (work c x))
-    works (ask q) few e = asked q few (sound (x .host .settings) (passed (scopeOfCall (ask q)) x e .settings)) e
-    works (send i k buffer) few e =
+    -- ---- a walk that is opened
+
+    opened : (i : ℕ) (packet : List ℕ) → Passed (Opening i) x → InRange (left x (work (openWalk i packet) x))
+    unfolding walkInRange placeOf
+    opened i packet ok =
+        opening-ways i packet s (x .walk) (λ (o : declared.Opening). InRange (left x (openedBy o packet x)))
+        (λ a few. behind (x .walk) (copied 0 packet (x .copy)) (rw (nothing-copied packet (x .copy)) (r .walk-in)))
+        (λ p is fits. behind (openedOn i (length packet)) (copied (length packet) packet (x .copy)) (first p is (packet-short s p packet (ok .settings) fits)))
+      where
+        s : Settings
+        s = x .host .settings
+
+        behind : (w : Walk) (copy : List ℕ) → walkInRange s w copy ≡ true → InRange (lent s (x .number) (x .host .clock) (x .host .links) w copy (x .run))
+        behind w copy e = record { places-there = r .places-there; clock-in = r .clock-in; links-in = r .links-in; walk-in = e; entries-in = r .entries-in }
+
+        first : (p : Packet) → inspect s i packet ≡ Good p → length packet ≤ longest → walkInRange s (openedOn i (length packet)) (copied (length packet) packet (x .copy)) ≡ true
+        first p is short =
+            let room = ok .opening i refl in
+            let whole : length packet ≤ length (x .copy) = omega (arith, room .1) in
+            rw (room .0, copied-length packet (x .copy) whole, le-leb _ _ whole, copied-back packet (x .copy), is)
+
+    -- ---- a step
+
+    module _ (k : Counter) (few : countUsed k .0 < 2 ^ 16) (held : x .walk .count .0 < 2 ^ 16) (good : Sound (x .host .settings)) where
+      abbrev w : Walk
+      w = x .walk
+
+      shut : (c : Clock) (l : Links) (work : Changes) → clockInRange c ≡ true → linksIn l → Keeps work
+          → InRange (lent (x .host .settings) (x .number) c l noWalk (x .copy) (withEntries (x .number) (changes work (entriesOf x)) (x .run)))
+      shut c l work clock links keeps = carried-with c l noWalk work clock links (no-walk-in (x .host .settings) (x .copy)) keeps
+
+      timed-in : (c : Clock) → Timed (x .host) w c → clockInRange c ≡ true
+      unfolding lineD
+      timed-in c as-was = r .clock-in
+      timed-in c (set-by date offset) =
+          set-in-range (x .host .settings .«hold_interval») (good .hold-to) (dateTaken date (x .host .clock)) (date-in-range date (x .host .clock) (r .clock-in)) (w .count) held (ofWord offset)
+
+      linked-in : (z : Link) → noLink (x .host .settings) (w .link) ≡ false → (linkInRange (linkOf (x .host .links) (w .link)) ≡ true → linkInRange z ≡ true)
+          → linksIn (withLink (w .link) z (x .host .links))
+      linked-in z has keeps =
+          let c = counted (x .host .settings) (w .link) has in
+          withLink-in (x .host .settings) (x .host .links) (w .link) c (r .links-in) z (keeps (link-in (x .host .settings) (x .host .links) (w .link) c (r .links-in)))
+
+      touched-in : (l : Links) → Touched (x .host) w l → linksIn l
+      touched-in l as-were = r .links-in
+      touched-in l (stored-in z has keeps) = linked-in z has keeps
+
+      module _ (e : Entry) (e-in : entryInRange e ≡ true) where
+        makes-in : (y : Entry) → Makes w e y → entryInRange y ≡ true
+        makes-in y stays = e-in
+        makes-in y down =
+            let t = range-says e e-in in
+            in-range (takenDown e) record { delay = omega arith; ttl = omega arith; pid = t .pid; time = t .time }
+        makes-in y (stores u fits read pid most reading) =
+            let b = both (not (lessMillis (u .delay) minDelay)) _ fits in
+            let low = lt-no (u .delay .0) (minDelay .0) (is-not _ (b .0)) in
+            let high = lt-yes (u .delay .0) (maxDelay .0) (b .1) in
+            in-range (stored u) record { delay = omega arith; ttl = omega arith; pid = omega (arith, pid, most); time = within 86400000 (u .reading .0) (rw reading read) }
+
+        works-in : (work : Changes) → Works w e work → Keeps work
+        works-in work no-work = none
+        works-in work (puts y m) = λ id z low high h. makes-in y m
+
+        stepped : InRange (closed (left x (carriedOut (step k (x .host) w (x .copy) e) x)))
+        stepped =
+            step-ways k (x .host) w (x .copy) e (λ (y : Effect). InRange (closed (left x (carriedOut y x))))
+            record {
+              none = shut _ _ _ (r .clock-in) (r .links-in) none;
+              reads = λ v c. shut _ _ _ (read-in good k few) (r .links-in) none;
+              delays = λ has. shut _ _ _ (r .clock-in) (linked-in _ has (λ z. z)) none;
+              unknown = shut _ _ _ (r .clock-in) (r .links-in) none;
+              goes = λ a is v h c t l s work d. shut c l work (timed-in c t) (touched-in l s) (works-in work d);
+            }
+            (r .walk-in)
+
+    found-in : (f : Found) → entryInRange (entryAt f x) ≡ true
+    found-in Nothing = kept.fresh-in-range
+    found-in (Id id) = all-at (λ _ e. entryInRange e ≡ true) freshEntry (λ _. kept.fresh-in-range) (entriesOf x) all-in id
+
+    -- ---- every call
+
+    works : (c : Call) → ((k : Counter) → c ≡ ask (Step k) → ⊥) → countOf c .0 < 2 ^ 16 → done (guardOf c x) ≡ true → InRange (left x (work c x))
+    works (openWalk i packet) not few e = opened i packet (passed (Opening i) x e)
+    works (ask q) not few e = asked q not few (sound (x .host .settings) (passed (scopeOfCall (ask q)) x e .settings)) e
+    works (send i k buffer) not few e =
         let p = passed (scopeOfCall (send i k buffer)) x e in
         sent i k buffer few (sound (x .host .settings) (p .settings)) (counted (x .host .settings) i (p .link i refl))
-    works (deliver d octets) few e =
+    works (deliver d octets) not few e =
         let p = passed (scopeOfCall (deliver d octets)) x e in
         arrived octets d (counted (x .host .settings) (onLink d) (p .link (onLink d) refl)) (sound (x .host .settings) (p .settings)) few
 
@@ -265,8 +382,67 @@ module _ (x : Lent) where
       performs (ask Initialize) x (λ o. o .reply .answer ≡ Done → InRange (left x o))
       (λ e a. absurd (false≢true (sym e ∙ ap (λ y. done y) a))) (λ e _. begun e)
 
-  stay : InRange x → (c : Call) → countOf c .0 < 2 ^ 16 → InRange (left x (perform c x))
-  stay r c few = performs c x (λ o. InRange (left x o)) (λ _. r) (works r c few)
+  pub stay : InRange x → (c : Call) → ((k : Counter) → c ≡ ask (Step k) → ⊥) → countOf c .0 < 2 ^ 16 → InRange (left x (perform c x))
+  stay r c not few = performs c x (λ o. InRange (left x o)) (λ _. r) (works r c not few)
+
+  pub go-on : InRange x → (k : Counter) → countUsed k .0 < 2 ^ 16 → x .walk .count .0 < 2 ^ 16 → InRange (closed (left x (perform (ask (Step k)) x)))
+  go-on r k few held =
+      performs (ask (Step k)) x (λ o. InRange (closed (left x o)))
+      (λ _.
+      record {
+        places-there = r .places-there;
+        clock-in = r .clock-in;
+        links-in = r .links-in;
+        walk-in = no-walk-in (x .host .settings) (x .copy);
+        entries-in = r .entries-in;
+      })
+      (λ e. stepped r k few held (sound (x .host .settings) (passed Walking x e .settings)) (entryAt (atHand (x .walk)) x) (found-in r (atHand (x .walk))))
+
+-- ---- a walk that was opened
+
+record Whole (x : Lent) : Type 0 where
+  range : InRange x
+  good : settingsGood (x .host .settings) ≡ true
+  fine : Fine (x .host .settings) good (x .copy) (x .walk)
+
+module _ (x : Lent) where
+  opens-whole : InRange x → x .walk .count .0 < 2 ^ 16 → (i : ℕ) (packet : List ℕ) → Passed (Opening i) x → Whole (left x (work (openWalk i packet) x))
+  unfolding placeOf
+  opens-whole r few i packet ok =
+      opening-ways i packet (x .host .settings) (x .walk) (λ (o : declared.Opening). InRange (left x (openedBy o packet x)) → Whole (left x (openedBy o packet x)))
+      (λ a _ now. record { range = now; good = ok .settings; fine = record { in-range = now .walk-in; few = few; fine = λ f. absurd (false≢true (sym (ok .closed) ∙ f)) } })
+      (λ p is fits now. record { range = now; good = ok .settings; fine = record { in-range = now .walk-in; few = omega arith; fine = λ _. tt } }) (opened x r i packet ok)
+
+  steps-whole : Whole x → (k : Counter) → countUsed k .0 < 2 ^ 16 → Whole (left x (perform (ask (Step k)) x))
+  steps-whole h k few =
+      performs (ask (Step k)) x (λ o. Whole (left x o))
+      (λ _.
+      record {
+        range = record { places-there = h .range .places-there; clock-in = h .range .clock-in; links-in = h .range .links-in; walk-in = h .range .walk-in; entries-in = h .range .entries-in };
+        good = h .good;
+        fine = record { in-range = h .fine .in-range; few = h .fine .few; fine = h .fine .fine };
+      })
+      (λ e.
+      let entry = entryAt (atHand (x .walk)) x in
+      let now = stepped x (h .range) k few (h .fine .few) (sound (x .host .settings) (h .good)) entry (found-in x (h .range) (atHand (x .walk))) in
+      let walk = step-fine (x .host .settings) (h .good) (x .copy) k (x .host) refl (x .walk) entry few (h .fine) in
+      record {
+        range = record { places-there = now .places-there; clock-in = now .clock-in; links-in = now .links-in; walk-in = walk .in-range; entries-in = now .entries-in };
+        good = h .good;
+        fine = walk;
+      })
+
+walked : (x : Lent) → Walked x → Whole x
+walked x (begins i packet y few accept done-is) =
+    performs (openWalk i packet) y (λ o. o .reply .answer ≡ Done → Whole (left y o)) (λ no is. absurd (false≢true (sym no ∙ ap (λ z. done z) is)))
+    (λ e _. opens-whole y (accepted y accept) few i packet (passed (Opening i) y e)) done-is
+walked x (goes-on k y few before) = steps-whole y (walked y before) k few
 
 pub range-holds : Range
-range-holds = record { fresh = λ x e. accepts _ (afresh x e); stays = λ c x few a. accepts _ (stay x (accepted x a) c few) }
+range-holds =
+    record {
+      fresh = λ x e. accepts _ (afresh x e);
+      stays = λ c x not few a. accepts _ (stay x (accepted x a) c not few);
+      steps = λ k x few held a. accepts _ (go-on x (accepted x a) k few held);
+      walks = λ x w. accepts x (walked x w .range);
+    }

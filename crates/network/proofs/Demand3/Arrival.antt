@@ -1,20 +1,17 @@
 -- An arrival keeps a seat right. What is stored has passed steps 2 to 4: then DELAY is the sum of the two ways, OFFSET is near, and what a report adds keeps it near.
-use mathlib.Core.Path.{_≡_, refl, sym, ap, subst₂, _∙_}
-use mathlib.Core.Bool.{Bool, true, false, true≢false, false≢true, not, cond, _&&_, _||_}
+use mathlib.Core.Path.{_≡_, refl, sym, ap, _∙_}
+use mathlib.Core.Bool.{true, false, not, _||_}
 use mathlib.Core.List.{List}
-use Prim.Native.Nat.{ℕ, suc, _+_, _-_, _≤_, _<_}
+use Prim.Native.Nat.{ℕ, suc, _-_, _≤_, _<_}
 use native.Mathlib.Omega.{arith}
-use borrow.Author.Tests.{eqb-true}
 use lib.Dec.{T, eqb}
-use lib.IntN.{pos, _+ℤ_, _-ℤ_}
-use lib.ListN.{length, getD}
-use lib.Signed.{shrZ}
+use lib.IntN.{pos, _+ℤ_}
 use Rattle.lists.proofs.Tests.{either, is-so, neither}
 use Rattle.quantity.specs.declared.Millis.{Millis}
 use Rattle.quantity.specs.declared.Word.{Word}
-use Rattle.quantity.specs.Quantity.{millis, addMillis, lessMillis}
-use Rattle.quantity.specs.Words.{word, wrap, zeroWord}
-use Rattle.quantity.proofs.Ints.{up, dn, sum, diff, one, lt-yes, lt-no, is-lt}
+use Rattle.quantity.specs.Quantity.{addMillis, lessMillis}
+use Rattle.quantity.specs.Words.{wrap, zeroWord}
+use Rattle.quantity.proofs.Ints.{sum, lt-yes, is-lt}
 use Rattle.quantity.proofs.Wrap.{wrap-range}
 use Rattle.answer.specs.declared.Answer.{Answer}
 use Rattle.answer.specs.declared.Answer.the-variants.{DelayNotValid, NoHost}
@@ -31,20 +28,20 @@ use Rattle.wire.specs.Octets.{sameAddress}
 use Rattle.wire.specs.Ip.{ipForm, ipChecksum, protocol}
 use Rattle.wire.specs.Hello.{helloForm, helloChecksum, reportAt}
 use Rattle.wire.specs.Packet.{helloOf, fields, parse}
-use Rattle.wire.proofs.ReadBack.{source-back, nhosts-back, time-back, tsp-back, delay-back, offset-back}
 use Rattle.route.specs.declared.Layout.{Layout}
 use Rattle.route.specs.declared.Found.{Found}
 use Rattle.route.specs.declared.Found.the-variants.{Id, Nothing}
-use Rattle.route.specs.Find.{aboveC, sameNet, localId, find, netOf, search, rowsOf}
+use Rattle.route.specs.Find.{localId}
 use Rattle.table.specs.declared.Entry.{Entry}
 use Rattle.table.specs.declared.run.Updates.{Updates}
 use Rattle.table.specs.Forms.{Stage, on, end}
-use Rattle.table.specs.Entry.{maxDelay, minDelay}
+use Rattle.table.specs.Entry.{maxDelay}
 use Rattle.table.specs.Runs.{updateAt, updatedAt}
 use Rattle.table.proofs.Cases.{stored, update-keeps}
 use Rattle.host.specs.declared.Settings.{Settings}
 use Rattle.host.specs.declared.Link.{Link}
 use Rattle.host.specs.declared.Links.{Links}
+use Rattle.host.specs.declared.walk.Walk.{Walk}
 use Rattle.host.specs.declared.guard.Scope.the-variants.{OnLink}
 use Rattle.host.specs.Settings.{foundFor}
 use Rattle.host.specs.State.{broadcast, linkOf, withLink, hostCount}
@@ -53,20 +50,21 @@ use Rattle.host.proofs.Places.{Holds, entries-length}
 use Rattle.host.proofs.Guarded.{passed, holds}
 use Rattle.arrival.specs.declared.Flight.{Flight}
 use Rattle.arrival.specs.declared.Arrived.{Arrived}
-use Rattle.arrival.specs.Inspection.{otherLayout, looped, inspect}
-use Rattle.arrival.specs.Inspection as inspection
-use Rattle.arrival.specs.Steps.{step2, step3, step4, steps2to4, tspOf, delayOf, offsetOf, atLeastMin, neighborUpdate, reportUpdate}
+use Rattle.host.specs.Inspection.{otherLayout, looped, inspect}
+use Rattle.host.specs.Inspection as inspection
+use Rattle.arrival.specs.Steps.{step2, step3, step4, steps2to4, tspOf, delayOf, atLeastMin, neighborUpdate, reportUpdate}
 use Rattle.arrival.specs.Arrival.{ends, updated, noTable, withTable, step5, concluded, action, inspected}
 use Rattle.calls.specs.Perform.{act, Outcome, updatedBy, perform}
 use Rattle.network.specs.Room.{longestWay, Room, at, lentAt, HostAt, Proper}
 use Rattle.network.specs.Demand3.{Message, readingAt, timed}
 use Rattle.network.proofs.Performs.{performs}
 use Rattle.network.proofs.Arrivals.{same-address}
-use Rattle.exchange.proofs.Steps.{tsp-same, tsp-exact, delay-exact}
-use Rattle.network.proofs.Lists.{all-at, all-set}
+use Rattle.network.proofs.Lists.{all-set}
 use Rattle.network.proofs.Ranges.{raised-low}
-use Rattle.network.proofs.Demand3.Near.{Fits16, Near, Apart, apart, offset-exact, offset-near, relay-near, relay-exact}
-use Rattle.network.proofs.Demand3.Invariant.{Known, RightEntry, RightReport, RightLink, RightLinks, Carries, RightMessage}
+use Rattle.network.proofs.Demand3.Near.{apart, relay-near, relay-exact}
+use Rattle.network.proofs.Demand3.Invariant.{Known, RightEntry, RightReport, RightLink, RightLinks, RightMessage, Direct}
+use Rattle.network.proofs.Demand3.Measured.{found-own}
+use Rattle.network.proofs.Demand3.Measured as measured
 use Rattle.network.proofs.Demand3.Outcomes.{RightOutcome, RightLent, same-right, updated-right}
 use Rattle.network.proofs.Demand3.Seats.{down-right}
 use Rattle.network.proofs.Demand3.Sending.{link-from-1}
@@ -85,7 +83,7 @@ parse-cases P octets bad good =
     either P (not (helloForm (helloOf octets))) _ _ (λ _. bad _)
     (λ _. either P (not (helloChecksum (helloOf octets))) _ _ (λ _. bad _) (λ _. good)))))
 
-inspect-cases : (P : Parsed → Type 0) (s : Settings) (i : ℕ) (octets : List ℕ) → ((x : Answer) → P (Bad x))
+pub inspect-cases : (P : Parsed → Type 0) (s : Settings) (i : ℕ) (octets : List ℕ) → ((x : Answer) → P (Bad x))
     → (otherLayout s (fields octets) ≡ false → P (Good (fields octets))) → P (inspect s i octets)
 unfolding inspect
 inspect-cases P s i octets bad good =
@@ -93,35 +91,9 @@ inspect-cases P s i octets bad good =
     (either P (otherLayout s (fields octets)) _ _ (λ _. bad _)
     (λ ours. either P (looped s i (fields octets)) _ _ (λ _. bad _) (λ _. good ours)))
 
--- a packet with a table is in our layout
-same-count : (s : Settings) (p : Packet) → eqb (p .nhosts) 0 ≡ false → otherLayout s p ≡ false → p .nhosts ≡ s .layout .nhosts
-unfolding otherLayout
-same-count s p n e =
-    go (eqb (p .nhosts) 0) (eqb (p .nhosts) (s .layout .nhosts)) (not (eqb (p .«address_offset») (s .layout .«address_offset»))) n refl e
-  where
-    go : (a b c : Bool) → a ≡ false → eqb (p .nhosts) (s .layout .nhosts) ≡ b → (not a && (not b || c)) ≡ false → p .nhosts ≡ s .layout .nhosts
-    go true b c n t e = absurd (true≢false n)
-    go false true c n t e = eqb-true (p .nhosts) (s .layout .nhosts) t
-    go false false c n t e = absurd (true≢false e)
-
--- an id that is found for an address of our net is the one that the address gives
-found-own : (ours a : Address) (s : Settings) (id : ℕ) → sameNet ours a ≡ true → find ours (s .layout) (s .net) a ≡ Id id → localId (s .layout) a ≡ Id id
-unfolding find
-found-own ours a s id net e = go (aboveC a) (sameNet ours a) net e
-  where
-    go : (x n : Bool) → n ≡ true → cond x Nothing (cond n (localId (s .layout) a) (search (netOf a) (rowsOf (s .net)))) ≡ Id id → localId (s .layout) a ≡ Id id
-    go true n t e = cc
-    go false true t e = e
-    go false false t e = absurd (false≢true t)
-
 -- ---- step 5, at seat b, of a message of seat a, with a DELAY and an OFFSET that are right for a
 
 module _ (r : Room) (proper : Proper r) (b a : ℕ) (hb : b < r .seats) (ha : a < r .seats) where
-  -- what is known of a flight: its OFFSET fits, and is near while DELAY is under 30,000
-  pub record Direct (f : Flight) : Type 0 where
-    pub fits : Fits16 (f .offset .0)
-    pub near : lessMillis (atLeastMin (f .delay)) maxDelay ≡ true → Near (f .offset .0) (r .fixed a) (r .fixed b) (atLeastMin (f .delay) .0)
-
   -- an entry that an update may store
   entry-keeps : (id : ℕ) (w : Updates) (octets : List ℕ) (c : Clock) (e : Entry) → RightEntry r b id e
       → (lessMillis (updateAt w (id - w .base) octets .delay) maxDelay ≡ true → RightEntry r b id (stored (updateAt w (id - w .base) octets)))
@@ -131,13 +103,13 @@ module _ (r : Room) (proper : Proper r) (b a : ℕ) (hb : b < r .seats) (ha : a 
       (down-right r b id e right) stores
 
   -- no table: the entry of a itself
-  neighbor-right : (i id : ℕ) (f : Flight) → Direct f → HostAt r id a
+  pub neighbor-right : (i id : ℕ) (f : Flight) → Direct r b a (f .delay) (f .offset) → HostAt r id a
       → lessMillis (neighborUpdate i f .delay) maxDelay ≡ true → RightEntry r b id (stored (neighborUpdate i f))
   neighbor-right i id f d host low =
       record { fits = d .fits; known = λ _. record { seat = a; seat-in = ha; host-there = host; near = d .near low } }
 
   -- a table: a report that a passes on
-  report-right : (i id : ℕ) (f : Flight) → Direct f → (q : Report) → RightReport r a id q
+  pub report-right : (i id : ℕ) (f : Flight) → Direct r b a (f .delay) (f .offset) → (q : Report) → RightReport r a id q
       → lessMillis (reportUpdate i f q .delay) maxDelay ≡ true → RightEntry r b id (stored (reportUpdate i f q))
   report-right i id f d q good low =
       let w = wrap-range 16 (omega arith) (f .offset .0 +ℤ q .offset .0) in
@@ -161,18 +133,18 @@ module _ (r : Room) (proper : Proper r) (b a : ℕ) (hb : b < r .seats) (ha : a 
                 (relay-near (r .fixed a) (r .fixed b) (r .fixed (k .seat)) (f .offset .0) (q .offset .0) (atLeastMin (f .delay) .0) (q .delay .0) near-enough direct (k .near));
           }
 
-  module _ (i : ℕ) (c : Clock) (l : Links) (run : List Entry) (lent : RightLent r b l run) (there : Holds (r .number b) run) (octets : List ℕ)
-      (h : Host) (ours : h .settings ≡ r .settings b) (links : RightLinks r b (h .links .all)) (n : Count) (p : Packet) (f : Flight) (direct : Direct f) where
+  module _ (i : ℕ) (c : Clock) (l : Links) (walk : Walk) (copy : List ℕ) (run : List Entry) (lent : RightLent r b l run) (there : Holds (r .number b) run) (octets : List ℕ)
+      (h : Host) (ours : h .settings ≡ r .settings b) (links : RightLinks r b (h .links .all)) (n : Count) (p : Packet) (f : Flight) (direct : Direct r b a (f .delay) (f .offset)) where
     -- what an arrival comes to keeps the seat right
     abbrev Right : Arrived → Type 0
-    Right e = RightOutcome r b run (updatedBy e octets (lentAt r b c l run))
+    Right e = RightOutcome r b run (updatedBy e octets (lentAt r b c l walk copy run))
 
     no-table-right : (x : Found) → foundFor (r .settings b) (r .settings a .address) ≡ x → Right (noTable h i n p f x)
-    no-table-right Nothing e = updated-right r b c l run lent there (ends NoHost h) octets links (λ id d y low high inside right. absurd (omega arith))
+    no-table-right Nothing e = updated-right r b c l walk copy run lent there (ends NoHost h) octets links (λ id d y low high inside right. absurd (omega arith))
     no-table-right (Id own) e =
         let host : HostAt r own a = ap (λ (y : Layout). localId y (r .settings a .address)) (proper .one-layout a b ha hb) ∙ found-own (r .settings b .address) (r .settings a .address) (r .settings b) own (proper .one-net b a hb ha) e in
         let w = updated h n p (neighborUpdate i f) own 1 false in
-        updated-right r b c l run lent there w octets links
+        updated-right r b c l walk copy run lent there w octets links
         (λ id d y low high inside right.
         let same : own ≡ id = omega arith in
         entry-keeps id (w .work) octets d y right (neighbor-right i id f direct (rw same at host)))
@@ -180,7 +152,7 @@ module _ (r : Room) (proper : Proper r) (b a : ℕ) (hb : b < r .seats) (ha : a 
     table-right : ((id : ℕ) → id < hostCount (r .settings b) → RightReport r a id (reportAt (helloOf octets) id)) → Right (withTable h i n p f)
     table-right good =
         let w = updated h n p (neighborUpdate i f) 0 (hostCount (h .settings)) true in
-        updated-right r b c l run lent there w octets links
+        updated-right r b c l walk copy run lent there w octets links
         (λ id d y low high inside right.
         let same : id - 0 ≡ id = omega arith in
         let bound : id < hostCount (r .settings b) = omega (arith, entries-length (r .settings b) (r .number b) run there) in
@@ -197,18 +169,8 @@ module _ (r : Room) (proper : Proper r) (b a : ℕ) (hb : b < r .seats) (ha : a 
 
 -- ---- steps 2 to 5, at link i of seat b, of a message that took `way` ms
 
--- a report of a host that is down, which stands for what is not there
-abbrev noReport : Report
-noReport = record { delay = maxDelay; offset = word (pos 0) }
-
-raised : (n : ℕ) → (n + dn (atLeastMin (millis (pos n)) .0) ≤ up (atLeastMin (millis (pos n)) .0)) × (100 + dn (atLeastMin (millis (pos n)) .0) ≤ up (atLeastMin (millis (pos n)) .0))
-raised n =
-    either (λ (m : Millis). (n + dn (m .0) ≤ up (m .0)) × (100 + dn (m .0) ≤ up (m .0))) (lessMillis (millis (pos n)) minDelay) _ _
-    (λ t. let l = lt-yes (pos n) (pos 100) t in (omega arith, omega arith))
-    (λ t. let l = lt-no (pos n) (pos 100) t in (omega arith, omega arith))
-
 module _ (r : Room) (proper : Proper r) (ways : r .longest ≤ longestWay) (b i : ℕ) (hb : b < r .seats) (m : Message) (cable : r .cable b i ≡ at (m .seat) (m .link)) (right : RightMessage r m)
-    (c : Clock) (l : Links) (run : List Entry) (lent : RightLent r b l run) (there : Holds (r .number b) run) (numbered : suc (i - 1) ≡ i)
+    (c : Clock) (l : Links) (walk : Walk) (copy : List ℕ) (run : List Entry) (lent : RightLent r b l run) (there : Holds (r .number b) run) (numbered : suc (i - 1) ≡ i)
     (k : Counter) (way : ℕ) (short : way ≤ r .longest) (clock : readingAt r b c k .time .0 ≡ (m .ms +ℤ pos way) +ℤ r .fixed b) where
   abbrev a : ℕ
   a = m .seat
@@ -223,36 +185,8 @@ module _ (r : Room) (proper : Proper r) (ways : r .longest ≤ longestWay) (b i 
   abbrev carried-on : Clock
   carried-on = readingAt r b c k .clock
 
-  -- what is read is what was written
   source-is : p .source ≡ r .settings a .address
-  source-is = ap (λ (o : List ℕ). fields o .source) (right .octets-are) ∙ source-back (right .destination) (right .packet) (right .reports) ∙ right .source
-
-  time-is : p .time .0 ≡ m .ms +ℤ r .fixed a
-  time-is =
-      ap (λ (o : List ℕ). fields o .time .0) (right .octets-are)
-      ∙ ap (λ (t : Millis). t .0) (time-back (right .destination) (right .packet) (right .reports) (right .time-low) (omega (arith, right .time-high)))
-      ∙ right .time
-
-  tsp-read : p .tsp ≡ right .packet .tsp
-  tsp-read = ap (λ (o : List ℕ). fields o .tsp) (right .octets-are) ∙ tsp-back (right .destination) (right .packet) (right .reports) (right .tsp-fits .high) (right .tsp-fits .low)
-
-  count-read : p .nhosts ≡ length (right .reports)
-  count-read = ap (λ (o : List ℕ). fields o .nhosts) (right .octets-are) ∙ nhosts-back (right .destination) (right .packet) (right .reports) ∙ right .count
-
-  report-read : (id : ℕ) → id < length (right .reports) → RightReport r a id (reportAt (helloOf (m .octets)) id)
-  report-read id inside =
-      let here : RightReport r a id (getD (right .reports) id noReport) =
-      all-at (RightReport r a) noReport
-      (λ n. record { not-negative = omega arith; delay-fits = omega arith; fits = omega arith; known = λ low. absurd (false≢true low) })
-      (right .reports) (right .right) id in
-      rw (right .octets-are)
-      (rw (
-        delay-back (right .destination) (right .packet) (right .reports) id noReport inside (here .not-negative) (here .delay-fits),
-        offset-back (right .destination) (right .packet) (right .reports) id noReport inside (here .fits .high) (here .fits .low),
-      ) here)
-
-  near-clocks : Apart (r .fixed a) (r .fixed b)
-  near-clocks = apart (r .fixed a) (r .fixed b) (proper .fixed-near a b (right .seat-in) hb)
+  source-is = measured.source-is r proper ways b i hb m cable right now way short clock
 
   -- the link after steps 2 and 3, of a neighbour, and the flight
   abbrev touched : Address → Link
@@ -261,97 +195,45 @@ module _ (r : Room) (proper : Proper r) (ways : r .longest ≤ longestWay) (b i 
   abbrev flight : Address → Millis → Word → Flight
   flight n d o = record { reading = now; link = touched n; delay = d; offset = o }
 
-  -- 2 and 3: the link's TSP has the bits of the true difference less this way
-  touched-right : (n : Address) → RightLink r b i (touched n)
-  touched-right n b′ j e alive =
-      let same : b′ ≡ a = cc in
-      record {
-        way = way;
-        short = short;
-        bits =
-            rw same
-            (tsp-same 16 (omega arith) (r .fixed a) (r .fixed b) (m .ms) (p .time .0) (now .0) way time-is clock);
-      }
-
   links-right : (n : Address) → RightLinks r b (withLink i (touched n) l .all)
   links-right n =
       all-set (λ (j : ℕ). RightLink r b (suc j)) (i - 1) _
-      (rw numbered (touched-right n)) (l .all) (lent .links)
-
-  -- 3, of a packet whose TSP is not 0: DELAY is the sum of the ways, and OFFSET is near
-  direct-right : zeroWord (p .tsp) ≡ false → (n : Address)
-      → Direct r proper b a hb (right .seat-in) (flight n (delayOf now (p .tsp)) (offsetOf (tspOf (p .time) now) (delayOf now (p .tsp))))
-  direct-right z n = record { fits = record { high = w .0; low = w .1 }; near = λ _. near }
-    where
-      w : (up (wrap 16 (tspOf (p .time) now .0 +ℤ shrZ (delayOf now (p .tsp) .0) 2)) < 32768) × (dn (wrap 16 (tspOf (p .time) now .0 +ℤ shrZ (delayOf now (p .tsp) .0) 2)) ≤ 32768)
-      w = wrap-range 16 (omega arith) (tspOf (p .time) now .0 +ℤ shrZ (delayOf now (p .tsp) .0) 2)
-
-      carried : Carries r b (m .ms) (p .tsp .0)
-      carried = rw tsp-read (right .tsp b i (proper .cables b i a (m .link) cable .other-end) (rw tsp-read at z))
-
-      delay-is : delayOf now (p .tsp) ≡ millis (pos (carried .way + way))
-      delay-is = ap millis (delay-exact 16 (omega arith) (r .fixed b) (m .ms) (p .tsp .0) (now .0) (carried .way) way (carried .bits) clock (omega (arith, carried .short)))
-
-      tsp-is : tspOf (p .time) now ≡ word ((r .fixed a -ℤ r .fixed b) -ℤ pos way)
-      tsp-is =
-          let range = diff (r .fixed a -ℤ r .fixed b) (pos way) in
-          ap word
-          (tsp-exact 16 (omega arith) (r .fixed a) (r .fixed b) (m .ms) (p .time .0) (now .0) way time-is clock
-          (omega (arith, near-clocks, one ((r .fixed a -ℤ r .fixed b) -ℤ pos way))) (omega (arith, near-clocks, one ((r .fixed a -ℤ r .fixed b) -ℤ pos way))))
-
-      near : Near (wrap 16 (tspOf (p .time) now .0 +ℤ shrZ (delayOf now (p .tsp) .0) 2)) (r .fixed a) (r .fixed b) (atLeastMin (delayOf now (p .tsp)) .0)
-      near =
-          subst₂ (λ (v : Word) (d : Millis). Near (wrap 16 (v .0 +ℤ shrZ (d .0) 2)) (r .fixed a) (r .fixed b) (atLeastMin d .0)) (sym tsp-is) (sym delay-is)
-          (rw (offset-exact (r .fixed a) (r .fixed b) (carried .way) way near-clocks (omega (arith, carried .short)) (omega arith))
-          (offset-near (r .fixed a) (r .fixed b) (carried .way) way near-clocks (omega (arith, carried .short)) (omega arith) (atLeastMin (millis (pos (carried .way + way))) .0)
-          (raised (carried .way + way) .0) (raised (carried .way + way) .1)))
-
-  -- 4, a new neighbour: DELAY is 30,000, and nothing is stored
-  new-right : (n : Address) (d : Millis) → Direct r proper b a hb (right .seat-in) (flight n maxDelay (offsetOf (tspOf (p .time) now) d))
-  new-right n d =
-      let w = wrap-range 16 (omega arith) (tspOf (p .time) now .0 +ℤ shrZ (d .0) 2) in
-      record { fits = record { high = w .0; low = w .1 }; near = λ low. absurd (false≢true low) }
-
-  -- each id of our table has a report
-  reports-read : otherLayout (r .settings b) p ≡ false → eqb (p .nhosts) 0 ≡ false
-      → (id : ℕ) → id < hostCount (r .settings b) → RightReport r a id (reportAt (helloOf (m .octets)) id)
-  reports-read ours some id inside =
-      report-read id (omega (arith, same-count (r .settings b) p some ours, count-read))
+      (rw numbered (λ b′ j e alive. measured.tied r proper ways b i hb m cable right now way short clock b′ j e)) (l .all) (lent .links)
 
   -- what it comes to keeps the seat right
   abbrev Keeps : Arrived → Type 0
-  Keeps e = RightOutcome r b run (updatedBy e (m .octets) (lentAt r b c l run))
+  Keeps e = RightOutcome r b run (updatedBy e (m .octets) (lentAt r b c l walk copy run))
 
   -- our host, which has read its clock
   abbrev seat : Host
-  seat = host (lentAt r b c l run .host .settings) carried-on l
+  seat = host (lentAt r b c l walk copy run .host .settings) carried-on l
 
   -- 5, with the link of that neighbour
   goes-on : (n : Address) → n ≡ r .settings a .address → otherLayout (r .settings b) p ≡ false → (d : Millis) (o : Word)
-      → Direct r proper b a hb (right .seat-in) (flight n d o) → Keeps (concluded seat i (countUsed k) p (on (flight n d o)))
+      → Direct r b a d o → Keeps (concluded seat i (countUsed k) p (on (flight n d o)))
   goes-on n neighbor ours d o direct =
-      step5-right r proper b a hb (right .seat-in) i c l run lent there (m .octets) (host (seat .settings) carried-on (withLink i (touched n) l)) refl (links-right n) (countUsed k) p
-      (flight n d o) direct neighbor (reports-read ours)
+      step5-right r proper b a hb (right .seat-in) i c l walk copy run lent there (m .octets) (host (seat .settings) carried-on (withLink i (touched n) l)) refl (links-right n) (countUsed k) p
+      (flight n d o) direct neighbor (measured.reports-read r proper ways b i hb m cable right now way short clock ours)
 
   -- 4
   concluded-right : otherLayout (r .settings b) p ≡ false → Keeps (concluded seat i (countUsed k) p (steps2to4 false (carried-on .hold) p now (linkOf l i)))
   unfolding steps2to4 step2 step3 step4
   concluded-right ours =
       either Kept (not (sameAddress (p .source) (linkOf l i .neighbor))) _ _
-      (λ _. goes-on (p .source) source-is ours maxDelay _ (new-right (p .source) (delayOf now (p .tsp))))
+      (λ _. goes-on (p .source) source-is ours maxDelay _ (measured.new-right r proper ways b i hb m cable right now way short clock (delayOf now (p .tsp))))
       (λ t.
       either Kept (zeroWord (p .tsp) || not (eqb (carried-on .hold .0) 0)) _ _
       (λ _.
-      updated-right r b c l run lent there (ends DelayNotValid (host (seat .settings) carried-on (withLink i (touched (linkOf l i .neighbor)) l))) (m .octets)
+      updated-right r b c l walk copy run lent there (ends DelayNotValid (host (seat .settings) carried-on (withLink i (touched (linkOf l i .neighbor)) l))) (m .octets)
       (links-right (linkOf l i .neighbor)) (λ id e y low high inside h. absurd (omega arith)))
       (λ u.
       goes-on (linkOf l i .neighbor) (sym (same-address (p .source) (linkOf l i .neighbor) (is-so _ t)) ∙ source-is) ours (delayOf now (p .tsp)) _
-      (direct-right (neither (zeroWord (p .tsp)) _ u .0) (linkOf l i .neighbor))))
+      (measured.direct-right r proper ways b i hb m cable right now way short clock (neither (zeroWord (p .tsp)) _ u .0))))
     where
       Kept : Stage Flight → Type 0
       Kept x = Keeps (concluded seat i (countUsed k) p x)
 
-  action-right : broadcast (r .settings b) i ≡ false → otherLayout (r .settings b) p ≡ false → Keeps (action k (lentAt r b c l run .host) i p)
+  action-right : broadcast (r .settings b) i ≡ false → otherLayout (r .settings b) p ≡ false → Keeps (action k (lentAt r b c l walk copy run .host) i p)
   action-right point ours = rw point (concluded-right ours)
 
 -- ---- the whole call. A refusal changes nothing; whatever goes on to step 2 has a millisecond
@@ -377,23 +259,23 @@ pub record Came (r : Room) (b : ℕ) (c : Clock) (k : Counter) (m : Message) : T
   pub clock : readingAt r b c k .time .0 ≡ (m .ms +ℤ pos way) +ℤ r .fixed b
 
 pub act-right : (r : Room) → Proper r → r .longest ≤ longestWay → (b i : ℕ) → b < r .seats → (m : Message) → r .cable b i ≡ at (m .seat) (m .link) → RightMessage r m
-    → (c : Clock) (l : Links) (run : List Entry) → RightLent r b l run → (k : Counter)
-    → (T (timed (perform (act i k (m .octets)) (lentAt r b c l run) .reply .answer)) → Came r b c k m)
-    → RightOutcome r b run (perform (act i k (m .octets)) (lentAt r b c l run))
-act-right r proper ways b i hb m cable right c l run lent k =
+    → (c : Clock) (l : Links) (walk : Walk) (copy : List ℕ) (run : List Entry) → RightLent r b l run → (k : Counter)
+    → (T (timed (perform (act i k (m .octets)) (lentAt r b c l walk copy run) .reply .answer)) → Came r b c k m)
+    → RightOutcome r b run (perform (act i k (m .octets)) (lentAt r b c l walk copy run))
+act-right r proper ways b i hb m cable right c l walk copy run lent k =
     performs (act i k (m .octets)) x Kept (λ _ _. same-right r b l run lent)
     (λ d.
     let ok = passed (OnLink i) x d in
     let there = holds (r .number b) run (ok .places) in
     inspect-cases (λ (q : Parsed). Kept (updatedBy (inspected k (x .host) i q) (m .octets) x)) (r .settings b) i (m .octets)
-    (λ a _. updated-right r b c l run lent there (ends a (x .host)) (m .octets) (lent .links) (λ id e y low high inside h. absurd (omega arith)))
+    (λ a _. updated-right r b c l walk copy run lent there (ends a (x .host)) (m .octets) (lent .links) (λ id e y low high inside h. absurd (omega arith)))
     (λ ours time.
     let came = time (action-timed k (x .host) i (fields (m .octets))) in
-    action-right r proper ways b i hb m cable right c l run lent there (link-from-1 (r .settings b) i (ok .link i refl))
+    action-right r proper ways b i hb m cable right c l walk copy run lent there (link-from-1 (r .settings b) i (ok .link i refl))
     k (came .way) (came .short) (came .clock) (proper .cables b i (m .seat) (m .link) cable .point-to-point) ours))
   where
     x : Lent
-    x = lentAt r b c l run
+    x = lentAt r b c l walk copy run
 
     Kept : Outcome → Type 0
     Kept o = (T (timed (o .reply .answer)) → Came r b c k m) → RightOutcome r b run o

@@ -1,6 +1,6 @@
 -- Every call keeps the world right, so every list does, and the claim is a part of that.
 use mathlib.Core.Path.{_≡_, refl, sym, ap, subst, _∙_}
-use mathlib.Core.Bool.{Bool, true, false, cond, false≢true}
+use mathlib.Core.Bool.{Bool, true, false, cond, true≢false, false≢true}
 use mathlib.Core.List.{List, [], _∷_, List·Memᴰ, List·Memᴰ·cases-cons, List·Memᴰ·not-nil}
 use mathlib.Core.Logic.{_⊎_, inl, inr}
 use Prim.Native.Nat.{ℕ, _≤_, _<_}
@@ -16,35 +16,50 @@ use Rattle.clock.specs.declared.Counter.{Counter}
 use Rattle.table.specs.declared.Entry.{Entry}
 use Rattle.table.specs.Entry.{freshEntry}
 use Rattle.host.specs.declared.Links.{Links}
-use Rattle.host.specs.declared.guard.Scope.the-variants.{Places}
+use Rattle.host.specs.declared.guard.Scope.the-variants.{Places, OnLink}
+use Rattle.host.specs.declared.walk.Walk.{Walk}
+use Rattle.host.specs.declared.walk.Place.the-variants.{Step1}
 use Rattle.host.specs.Settings.{settingsGood}
 use Rattle.host.specs.State.{hostCount}
+use Rattle.host.specs.Walk.{isOpen, noWalk, placeOf, packetOf}
 use Rattle.host.specs.Lent.{Lent}
-use Rattle.host.specs.Guard.{done}
+use Rattle.host.specs.Guard.{inWalk, done}
 use Rattle.host.proofs.Guarded.{passed}
 use Rattle.host.proofs.Sound.{Sound, sound}
 use Rattle.arrival.specs.Arrival.{inspection}
-use Rattle.calls.specs.declared.Request.the-variants.{Initialize}
-use Rattle.calls.specs.Perform.{ask, inspect, Outcome, perform}
+use Rattle.arrival.specs.declared.Delivery.{Delivery}
+use Rattle.arrival.specs.declared.Delivery.the-variants.{Inspect, Act, Receive}
+use Rattle.calls.specs.declared.Request.{Request}
+use Rattle.calls.specs.declared.Request.the-variants as variants
+use Rattle.calls.specs.declared.Request.the-variants.{Initialize, Tick, Second, SelfReport}
+use Rattle.calls.specs.Effects.{initialize}
+use Rattle.calls.specs.Perform.{ask, send, deliver, inspect, Outcome, scopeOfCall, perform}
+use Rattle.network.specs.Left.{messageOf}
+use Rattle.network.specs.Frame.{Elsewhere}
 use Rattle.network.specs.History.{Left, leftBy, after}
 use Rattle.network.specs.Room.{longestWay, Room, lentAt, afresh, Proper}
 use Rattle.network.proofs.Performs.{performs, there}
-use Rattle.network.specs.Demand3.{RoomCall, ticks, seconds, reports, sends, arrives, acts, inspects, Step, Message, World, result, mailAfter, step, history, timed, Later, Delivered, Allowed, Allows, Starts, Claim, Demand3Within, Demand3}
+use Rattle.network.specs.Demand3.{RoomCall, ticks, seconds, reports, sends, arrives, acts, inspects, opens, steps, callOf, Step, Message, World, readingAt, result, mailAfter, step, history, timed, Later, Delivered, Allowed, Allows, Starts, Claim, Demand3Within, Demand3}
 use Rattle.network.proofs.Lists.{All, all-at}
 use Rattle.network.proofs.Demand3.Near.{near-close}
-use Rattle.network.proofs.Demand3.Invariant.{RightEntry, RightMessage, RightSeat, RightWorld}
-use Rattle.network.proofs.Demand3.Outcomes.{RightOutcome, RightLent, same-right, updated-right, lent-right, left-right}
+use Rattle.network.proofs.Demand3.Invariant.{RightEntry, RightMessage, Taken, RightWalk, RightSeat, RightWorld}
+use Rattle.network.proofs.Demand3.Outcomes.{RightOutcome, RightLent, SeatLent, SeatLeft, same-right, updated-right, lent-right, left-right, any-walk, no-walk, plain-right}
 use Rattle.network.proofs.Demand3.Seats.{fresh-right, afresh-right, tick-right, second-right, self-right}
 use Rattle.network.proofs.Demand3.Sending.{send-right}
 use Rattle.network.proofs.Demand3.Arrival.{act-right}
+use Rattle.network.proofs.Demand3.Walks.{open-right, step-right}
 use Rattle.network.proofs.Pair.{receive-acts}
+
+-- an equation of two calls that differ
+unlike : {A : Type 0} → _≡_ {A = ℕ} 0 1 → A
+unlike z = absurd (omega arith)
 
 module _ (r : Room) (proper : Proper r) (ways : r .longest ≤ longestWay) where
   -- ---- one call
 
   -- what it leaves: the seat right, and the mail
   pub record StepRight (w : World) (x : Step) : Type 0 where
-    pub seat : RightOutcome r (x .seat) (x .run) (result r w x)
+    pub seat : SeatLeft r (x .seat) (x .run) (result r w x)
     pub mail : (m : Message) → List·Memᴰ m (mailAfter (x .seat) (result r w x) (x .call) (w .mail)) → RightMessage r m
 
   -- the mail with one message more, if it was sent
@@ -64,54 +79,119 @@ module _ (r : Room) (proper : Proper r) (ways : r .longest ≤ longestWay) where
     abbrev at-seat : RoomCall → Step
     at-seat call = record { seat = a; links = links; run = run; call = call }
 
-    lent : (call : RoomCall) → Allowed r w (at-seat call) → RightLent r a links run
+    lent : (call : RoomCall) → Allowed r w (at-seat call) → SeatLent r a (now .walk) (now .copy) links run
     lent call ok = lent-right r a proper now (now .clock) links run (ok .lends) (right .seats a inside)
 
-    acts-right : (i : ℕ) (k : Counter) (packet : List ℕ) (t : ℤ) → Allowed r w (at-seat (acts i k packet t)) → RightOutcome r a run (result r w (at-seat (acts i k packet t)))
-    acts-right i k packet t ok =
+    -- a call that changes no walk
+    plain : (call : RoomCall) → Allowed r w (at-seat call) → Elsewhere (callOf call) → ((v : Walk) → inWalk (scopeOfCall (callOf call)) v ≡ isOpen v)
+        → (RightLent r a links run → RightOutcome r a run (result r w (at-seat call))) → SeatLeft r a run (result r w (at-seat call))
+    plain call ok else refuses by-itself = plain-right r a (now .clock) links (now .walk) (now .copy) run (lent call ok) (callOf call) else refuses by-itself
+
+    acts-right : (i : ℕ) (k : Counter) (packet : List ℕ) (t : ℤ) → Allowed r w (at-seat (acts i k packet t)) → RightLent r a links run
+        → RightOutcome r a run (result r w (at-seat (acts i k packet t)))
+    acts-right i k packet t ok lent =
         let d = ok .timely in
         subst (λ (o : List ℕ). RightOutcome r a run (result r w (at-seat (acts i k o t)))) (sym (d .a-copy))
-        (act-right r proper ways a i inside (d .message) (d .other-end) (right .mail (d .message) (d .earlier)) (now .clock) links run
-        (lent (acts i k packet t) ok) k
+        (act-right r proper ways a i inside (d .message) (d .other-end) (right .mail (d .message) (d .earlier)) (now .clock) links (now .walk) (now .copy) run
+        lent k
         (λ e.
         let later = subst (λ (o : List ℕ). T (timed (result r w (at-seat (acts i k o t)) .reply .answer)) → Later r w a k t (d .message)) (d .a-copy) (d .in-time) e in
         record { way = later .way; short = later .short; clock = later .reads .clock ∙ ap (λ (z : ℤ). z +ℤ r .fixed a) (later .later) }))
 
-    arrives-right : (i : ℕ) (k : Counter) (packet : List ℕ) (t : ℤ) → Allowed r w (at-seat (arrives i k packet t))
+    arrives-right : (i : ℕ) (k : Counter) (packet : List ℕ) (t : ℤ) → Allowed r w (at-seat (arrives i k packet t)) → RightLent r a links run
         → RightOutcome r a run (result r w (at-seat (arrives i k packet t)))
-    arrives-right i k packet t ok =
-        let same = receive-acts i k packet (lentAt r a (now .clock) links run) in
+    arrives-right i k packet t ok lent =
+        let same = receive-acts i k packet (lentAt r a (now .clock) links (now .walk) (now .copy) run) in
         subst (RightOutcome r a run) (sym same)
         (acts-right i k packet t
         record {
           seat-in = ok .seat-in;
           lends = ok .lends;
           timely = subst (λ (o : Outcome). Delivered r w a i k packet t (o .reply .answer)) same (ok .timely);
-        })
+        }
+        lent)
 
-    inspects-right : (i : ℕ) (packet : List ℕ) → Allowed r w (at-seat (inspects i packet)) → RightOutcome r a run (result r w (at-seat (inspects i packet)))
-    inspects-right i packet ok =
-        let x = lentAt r a (now .clock) links run in
-        let right = lent (inspects i packet) ok in
+    inspects-right : (i : ℕ) (packet : List ℕ) → RightLent r a links run → RightOutcome r a run (result r w (at-seat (inspects i packet)))
+    inspects-right i packet right =
+        let x = lentAt r a (now .clock) links (now .walk) (now .copy) run in
         performs (inspect i packet) x (RightOutcome r a run) (λ _. same-right r a links run right)
         (λ e.
-        updated-right r a (now .clock) links run right (there (inspect i packet) x e) (inspection i packet (x .host)) packet (right .links)
+        updated-right r a (now .clock) links (now .walk) (now .copy) run right (there (inspect i packet) x e) (inspection i packet (x .host)) packet (right .links)
         (λ id d y low high inside h. absurd (omega arith)))
 
-    call-right : (call : RoomCall) → Allowed r w (at-seat call) → StepRight w (at-seat call)
-    call-right (ticks n) ok = record { seat = tick-right r a (now .clock) links run (lent (ticks n) ok) n; mail = right .mail }
-    call-right seconds ok = record { seat = second-right r a (now .clock) links run (lent seconds ok); mail = right .mail }
-    call-right (reports k) ok = record { seat = self-right r a (now .clock) links run (lent (reports k) ok) inside k; mail = right .mail }
-    call-right (sends i k buffer t) ok =
-        let s = send-right r a i inside (now .clock) links run (lent (sends i k buffer t) ok) k buffer t (λ e. let q = ok .timely e in (q .clock, q .no-midnight)) in
-        record { seat = s .seat; mail = post _ (w .mail) _ (s .message) (right .mail) }
-    call-right (arrives i k packet t) ok = record { seat = arrives-right i k packet t ok; mail = right .mail }
-    call-right (acts i k packet t) ok = record { seat = acts-right i k packet t ok; mail = right .mail }
-    call-right (inspects i packet) ok = record { seat = inspects-right i packet ok; mail = right .mail }
+    -- no setting afresh, no opening and no step
+    a-request : (q : Request) → (q ≡ Initialize → ⊥) → ((k : Counter) → q ≡ variants.Step k → ⊥) → Elsewhere (ask q)
+    a-request q fresh stepping = record { not-afresh = λ e. fresh cc; not-opening = λ i packet e. unlike cc; not-step = λ k e. stepping k cc }
 
-  step-right : (w : World) (x : Step) → Allowed r w x → RightWorld r w → RightWorld r (step r w x)
+    a-send : (i : ℕ) (k : Counter) (buffer : List ℕ) → Elsewhere (send i k buffer)
+    a-send i k buffer = record { not-afresh = λ e. unlike cc; not-opening = λ j packet e. unlike cc; not-step = λ j e. unlike cc }
+
+    a-delivery : (d : Delivery) (packet : List ℕ) → Elsewhere (deliver d packet)
+    a-delivery d packet = record { not-afresh = λ e. unlike cc; not-opening = λ j p e. unlike cc; not-step = λ j e. unlike cc }
+
+    -- box 1 is taken as an arrival
+    in-time : (k : Counter) (t : ℤ) (ok : Allowed r w (at-seat (steps k t))) → T (timed (result r w (at-seat (steps k t)) .reply .answer)) → isOpen (now .walk) ≡ true → placeOf (now .walk) ≡ Step1
+        → Taken r a (now .walk .link) (readingAt r a (now .clock) k .time) (packetOf (now .walk) (now .copy))
+    in-time k t ok timed-answer opened first =
+        let d = ok .timely opened first in
+        let later = d .in-time timed-answer in
+        record {
+          message = d .message;
+          right = right .mail (d .message) (d .earlier);
+          cable = d .other-end;
+          octets-are = d .a-copy;
+          way = later .way;
+          short = later .short;
+          clock = later .reads .clock ∙ ap (λ (z : ℤ). z +ℤ r .fixed a) (later .later);
+        }
+
+    call-right : (call : RoomCall) → Allowed r w (at-seat call) → StepRight w (at-seat call)
+    call-right (ticks n) ok =
+        record {
+          seat = plain (ticks n) ok (a-request (Tick n) (λ e. unlike cc) (λ k e. unlike cc)) (λ v. refl) (λ lent. tick-right r a (now .clock) links (now .walk) (now .copy) run lent n);
+          mail = right .mail;
+        }
+    call-right seconds ok =
+        record {
+          seat = plain seconds ok (a-request Second (λ e. unlike cc) (λ k e. unlike cc)) (λ v. refl) (λ lent. second-right r a (now .clock) links (now .walk) (now .copy) run lent);
+          mail = right .mail;
+        }
+    call-right (reports k) ok =
+        record {
+          seat = plain (reports k) ok (a-request (SelfReport k) (λ e. unlike cc) (λ j e. unlike cc)) (λ v. refl) (λ lent. self-right r a (now .clock) links (now .walk) (now .copy) run lent inside k);
+          mail = right .mail;
+        }
+    call-right (sends i k buffer t) ok =
+        record {
+          seat = plain (sends i k buffer t) ok (a-send i k buffer) (λ v. refl) (λ lent. send-right r a i inside (now .clock) links (now .walk) (now .copy) run lent k buffer t (λ e. (let q = ok .timely e in (q .clock, q .no-midnight))) .seat);
+          mail = post _ (w .mail) _ (sent i k buffer t ok (isOpen (now .walk)) refl) (right .mail);
+        }
+      where
+        sent : (i : ℕ) (k : Counter) (buffer : List ℕ) (t : ℤ) (ok : Allowed r w (at-seat (sends i k buffer t))) (b : Bool) → isOpen (now .walk) ≡ b
+            → done (result r w (at-seat (sends i k buffer t)) .reply .answer) ≡ true
+            → RightMessage r record { seat = a; link = i; ms = t; octets = messageOf (result r w (at-seat (sends i k buffer t))) }
+        sent i k buffer t ok false e =
+            let l = lent (sends i k buffer t) ok in
+            send-right r a i inside (now .clock) links (now .walk) (now .copy) run record { links = no-walk r a (now .walk) (links .all) e (l .links); table = l .table } k buffer t
+            (λ z. (let q = ok .timely z in (q .clock, q .no-midnight))) .message
+        sent i k buffer t ok true e =
+            performs (send i k buffer) (lentAt r a (now .clock) links (now .walk) (now .copy) run)
+            (λ o. done (o .reply .answer) ≡ true → RightMessage r record { seat = a; link = i; ms = t; octets = messageOf o })
+            (λ no is. absurd (false≢true (sym no ∙ is))) (λ yes. absurd (true≢false (sym e ∙ passed (OnLink i) (lentAt r a (now .clock) links (now .walk) (now .copy) run) yes .closed)))
+    call-right (arrives i k packet t) ok =
+        record { seat = plain (arrives i k packet t) ok (a-delivery (Receive i k) packet) (λ v. refl) (arrives-right i k packet t ok); mail = right .mail }
+    call-right (acts i k packet t) ok =
+        record { seat = plain (acts i k packet t) ok (a-delivery (Act i k) packet) (λ v. refl) (acts-right i k packet t ok); mail = right .mail }
+    call-right (inspects i packet) ok =
+        record { seat = plain (inspects i packet) ok (a-delivery (Inspect i) packet) (λ v. refl) (inspects-right i packet); mail = right .mail }
+    call-right (opens i packet) ok =
+        record { seat = open-right r proper ways a inside (now .clock) links (now .walk) (now .copy) run (lent (opens i packet) ok) i packet; mail = right .mail }
+    call-right (steps k t) ok =
+        record { seat = step-right r proper ways a inside (now .clock) links (now .walk) (now .copy) run (lent (steps k t) ok) k (in-time k t ok); mail = right .mail }
+
+  world-right : (w : World) (x : Step) → Allowed r w x → RightWorld r w → RightWorld r (step r w x)
   unfolding step after
-  step-right w x ok right =
+  world-right w x ok right =
       let s = call-right w right (x .seat) (ok .seat-in) (x .links) (x .run) (x .call) ok in
       record {
         seats =
@@ -130,21 +210,32 @@ module _ (r : Room) (proper : Proper r) (ways : r .longest ≤ longestWay) where
   history-right : (w : World) (xs : List Step) → Allows r w xs → RightWorld r w → RightWorld r (history r w xs)
   unfolding Allows history
   history-right w [] ok right = right
-  history-right w (x ∷ xs) ok right = history-right (step r w x) xs (ok .1) (step-right w x (ok .0) right)
+  history-right w (x ∷ xs) ok right = history-right (step r w x) xs (ok .1) (world-right w x (ok .0) right)
 
   -- the beginning
   starts-right : (w : World) → Starts r w → RightWorld r w
+  unfolding initialize
   starts-right w start =
       record {
         seats = λ a inside. subst (RightSeat r a) (sym (start .set-afresh a inside)) (afresh-seat a (proper .set-afresh a inside));
         mail = λ m x. absurd (List·Memᴰ·not-nil (subst (List·Memᴰ m) (start .no-mail) x));
       }
     where
+      -- no walk is open
+      afresh-walk : (a : ℕ) → afresh r a .reply .answer ≡ Done → afresh r a .walk ≡ noWalk
+      afresh-walk a =
+          performs (ask Initialize) (lentAt r a (r .clock a) (r .links a) (r .walk a) (r .copy a) (r .run a))
+          (λ (o : Outcome). o .reply .answer ≡ Done → o .walk ≡ noWalk) (λ no is. absurd (false≢true (sym no ∙ ap done is))) (λ _ _. refl)
+
       afresh-seat : (a : ℕ) → afresh r a .reply .answer ≡ Done → RightSeat r a (leftBy (r .number a) [] (afresh r a))
       afresh-seat a done =
           let o = afresh-right r a done in
-          left-right r a record { clock = afresh r a .clock; links = afresh r a .links; places = [] } (r .run a) (afresh r a)
-          record { links = o .links; table = subst (All (RightEntry r a)) (sym (take-nil (hostCount (r .settings a)))) tt } o
+          let shut : isOpen (afresh r a .walk) ≡ false = ap isOpen (afresh-walk a done) in
+          let links = any-walk r a (afresh r a .walk) (afresh r a .links .all) (o .links) in
+          let walk : RightWalk r a (afresh r a .walk) (afresh r a .copy) (afresh r a .links) = λ opened. absurd (true≢false (sym opened ∙ shut)) in
+          left-right r a record { clock = afresh r a .clock; links = afresh r a .links; walk = afresh r a .walk; copy = afresh r a .copy; places = [] } (r .run a) (afresh r a)
+          record { links = links; walk = walk; table = subst (All (RightEntry r a)) (sym (take-nil (hostCount (r .settings a)))) tt }
+          record { links = links; walk = walk; table = o .table; same-length = o .same-length }
 
   -- ---- the claim
 
@@ -166,7 +257,7 @@ module _ (r : Room) (proper : Proper r) (ways : r .longest ≤ longestWay) where
       places a = w .state (r .number a) .places
 
       good : (a : ℕ) → a < r .seats → Sound (r .settings a)
-      good a inside = sound (r .settings a) (set-good (lentAt r a (r .clock a) (r .links a) (r .run a)) (proper .set-afresh a inside))
+      good a inside = sound (r .settings a) (set-good (lentAt r a (r .clock a) (r .links a) (r .walk a) (r .copy a) (r .run a)) (proper .set-afresh a inside))
 
 pub demand-3 : Demand3
 unfolding Demand3Within

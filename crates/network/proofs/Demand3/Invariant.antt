@@ -1,24 +1,32 @@
 -- What every call of a room keeps: tables, links and messages.
 use mathlib.Core.Path.{_≡_}
-use mathlib.Core.Bool.{true, false}
+use mathlib.Core.Bool.{Bool, true, false, _&&_}
 use mathlib.Core.List.{List, List·Memᴰ}
 use Prim.Native.Nat.{ℕ, suc, _≤_, _<_}
 use lib.Dec.{eqb}
 use lib.IntN.{ℤ, pos, _+ℤ_, _-ℤ_}
 use lib.ListN.{length, take}
+use Rattle.quantity.specs.declared.Millis.{Millis}
+use Rattle.quantity.specs.declared.Word.{Word}
 use Rattle.quantity.specs.Quantity.{lessMillis}
-use Rattle.quantity.specs.Words.{zeroWord}
+use Rattle.quantity.specs.Words.{ofWord, zeroWord}
 use Rattle.quantity.proofs.Ints.{up, dn}
 use Rattle.quantity.proofs.Wrap.{Same}
 use Rattle.wire.specs.declared.Address.{Address}
 use Rattle.wire.specs.declared.Packet.{Packet}
 use Rattle.wire.specs.declared.Report.{Report}
-use Rattle.wire.specs.Packet.{message}
+use Rattle.wire.specs.Packet.{fields, message}
 use Rattle.table.specs.declared.Entry.{Entry}
 use Rattle.table.specs.Entry.{maxDelay}
 use Rattle.table.specs.Entry as entry
 use Rattle.host.specs.declared.Link.{Link}
-use Rattle.host.specs.State.{hostCount}
+use Rattle.host.specs.declared.Links.{Links}
+use Rattle.host.specs.declared.walk.Walk.{Walk}
+use Rattle.host.specs.declared.walk.Place.{Place}
+use Rattle.host.specs.declared.walk.Place.the-variants.{Nowhere, Step1, Step2, Step3, Step4, Step5, LineA, LineB, LineC, LineD}
+use Rattle.host.specs.State.{hostCount, linkOf}
+use Rattle.host.specs.Walk.{isOpen, placeOf, packetOf}
+use Rattle.arrival.specs.Steps.{tspOf, delayOf, offsetOf, atLeastMin}
 use Rattle.network.specs.History.{Left}
 use Rattle.network.specs.Room.{Room, at, HostAt}
 use Rattle.network.specs.Demand3.{Message, World}
@@ -83,10 +91,84 @@ RightLink r a i x = (b j : ℕ) → r .cable a i ≡ at b j → eqb (x .«keep_a
 abbrev pub RightLinks : (r : Room) (a : ℕ) → List Link → Type 0
 RightLinks r a l = All (λ (j : ℕ). RightLink r a (suc j)) l
 
+-- ---- walks
+
+-- a DELAY and an OFFSET of seat a's clock at seat b, as step 4 leaves them: the OFFSET fits, and is near while DELAY is under 30,000
+pub record Direct (r : Room) (b a : ℕ) (delay : Millis) (offset : Word) : Type 0 where
+  pub fits : Fits16 (offset .0)
+  pub near : lessMillis (atLeastMin delay) maxDelay ≡ true → Near (offset .0) (r .fixed a) (r .fixed b) (atLeastMin delay .0)
+
+-- a walk's packet, link and reading, from box 1 on: a message of the cable's other end, that took `way` ms
+pub record Taken (r : Room) (b link : ℕ) (reading : Millis) (octets : List ℕ) : Type 0 where
+  pub message : Message
+  pub right : RightMessage r message
+  pub cable : r .cable b link ≡ at (message .seat) (message .link)
+  pub octets-are : octets ≡ message .octets
+  pub way : ℕ
+  pub short : way ≤ r .longest
+  pub clock : reading .0 ≡ (message .ms +ℤ pos way) +ℤ r .fixed b
+
+-- from box 3 on: DELAY and OFFSET are those of step 3
+pub record Timed (r : Room) (b : ℕ) (w : Walk) (octets : List ℕ) : Type 0 where
+  pub taken : Taken r b (w .link) (w .reading) octets
+  pub delay : ofWord (w .delay) ≡ delayOf (w .reading) (fields octets .tsp)
+  pub offset : w .offset ≡ offsetOf (tspOf (fields octets .time) (w .reading)) (delayOf (w .reading) (fields octets .tsp))
+
+-- from box 4 on: they are right, and the link's neighbour is the sender while DELAY is under 30,000
+pub record Aimed (r : Room) (b : ℕ) (w : Walk) (octets : List ℕ) (l : Links) : Type 0 where
+  pub taken : Taken r b (w .link) (w .reading) octets
+  pub fits : Fits16 (w .delay .0)
+  pub direct : Direct r b (taken .message .seat) (ofWord (w .delay)) (w .offset)
+  pub neighbor : lessMillis (atLeastMin (ofWord (w .delay))) maxDelay ≡ true → linkOf l (w .link) .neighbor ≡ r .settings (taken .message .seat) .address
+
+-- from box 5 on: DELAY is raised, and the id of a packet without a table is the sender's
+pub record Lined (r : Room) (b : ℕ) (w : Walk) (octets : List ℕ) : Type 0 where
+  pub taken : Taken r b (w .link) (w .reading) octets
+  pub direct : Direct r b (taken .message .seat) (ofWord (w .delay)) (w .offset)
+  pub raised : atLeastMin (ofWord (w .delay)) ≡ ofWord (w .delay)
+  pub host-there : lessMillis (ofWord (w .delay)) maxDelay ≡ true → eqb (fields octets .nhosts) 0 ≡ true → HostAt r (w .id) (taken .message .seat)
+
+-- by the place of the next box
+abbrev pub RightAt : (r : Room) (b : ℕ) → Walk → (packet : List ℕ) → Links → Place → Type 0
+RightAt r b w octets l Nowhere = Unit {0}
+RightAt r b w octets l Step1 = Unit {0}
+RightAt r b w octets l Step2 = Taken r b (w .link) (w .reading) octets
+RightAt r b w octets l Step3 = Taken r b (w .link) (w .reading) octets
+RightAt r b w octets l Step4 = Timed r b w octets
+RightAt r b w octets l Step5 = Aimed r b w octets l
+RightAt r b w octets l LineA = Lined r b w octets
+RightAt r b w octets l LineB = Lined r b w octets
+RightAt r b w octets l LineC = Lined r b w octets
+RightAt r b w octets l LineD = Lined r b w octets
+
+abbrev pub RightWalk : (r : Room) (b : ℕ) → Walk → (copy : List ℕ) → Links → Type 0
+RightWalk r b w copy l = isOpen w ≡ true → RightAt r b w (packetOf w copy) l (placeOf w)
+
+-- behind box 2 the link's KEEP-ALIVE is set, and its TSP is not yet
+abbrev pub atThird : Place → Bool
+atThird Nowhere = false
+atThird Step1 = false
+atThird Step2 = false
+atThird Step3 = true
+atThird Step4 = false
+atThird Step5 = false
+atThird LineA = false
+atThird LineB = false
+atThird LineC = false
+atThird LineD = false
+
+abbrev pub between : Walk → (link : ℕ) → Bool
+between w i = isOpen w && atThird (placeOf w) && eqb (w .link) i
+
+-- the links of a seat with this walk
+abbrev pub LinksIn : (r : Room) (b : ℕ) → Walk → List Link → Type 0
+LinksIn r b w l = All (λ (j : ℕ) (x : Link). between w (suc j) ≡ false → RightLink r b (suc j) x) l
+
 -- ---- seats and the world
 
 pub record RightSeat (r : Room) (a : ℕ) (x : Left) : Type 0 where
-  pub links : RightLinks r a (x .links .all)
+  pub links : LinksIn r a (x .walk) (x .links .all)
+  pub walk : RightWalk r a (x .walk) (x .copy) (x .links)
   pub table : All (RightEntry r a) (take (hostCount (r .settings a)) (x .places))
 
 pub record RightWorld (r : Room) (w : World) : Type 0 where

@@ -1,33 +1,43 @@
 -- What a call of seat a has to show of its outcome, so that the seat is right afterwards.
-use mathlib.Core.Path.{_≡_, refl, _∙_, sym, subst}
-use mathlib.Core.Bool.{true≢false}
+use mathlib.Core.Path.{_≡_, refl, ap, _∙_, sym, subst}
+use mathlib.Core.Bool.{Bool, true, false, true≢false}
 use mathlib.Core.List.{List}
-use Prim.Native.Nat.{ℕ, suc, _+_, _≤_, _<_}
+use Prim.Native.Nat.{ℕ, suc, _+_, _-_, _≤_, _<_}
 use native.Mathlib.Omega.{arith}
 use borrow.Author.Tests.{ltb-false, lt-ltb}
 use lib.Dec.{ltb, eqb}
-use lib.ListN.{length, take}
+use lib.ListN.{length, getD, take}
+use lib.Seq.{getD-take}
 use Rattle.lists.proofs.Tests.{either, neither}
+use Rattle.answer.specs.declared.Answer.{Answer}
 use Rattle.clock.specs.declared.Clock.{Clock}
 use Rattle.table.specs.declared.Entry.{Entry}
 use Rattle.table.specs.Runs.{changed, updatedAt}
 use Rattle.host.specs.declared.Link.{Link}
 use Rattle.host.specs.declared.Links.{Links}
+use Rattle.host.specs.declared.walk.Walk.{Walk}
+use Rattle.host.specs.declared.walk.Place.{Place}
+use Rattle.host.specs.declared.walk.Place.the-variants.{Nowhere, Step1, Step2, Step3, Step4, Step5, LineA, LineB, LineC, LineD}
 use Rattle.host.specs.Settings.{linkCount}
-use Rattle.host.specs.State.{placesPerHost, firstPlace, hostCount, entries, withEntries}
+use Rattle.host.specs.Walk.{isOpen, placeOf, packetOf}
+use Rattle.host.specs.Guard.{inWalk}
+use Rattle.host.proofs.Guarded.{passed, counted}
+use Rattle.host.specs.State.{placesPerHost, firstPlace, hostCount, unset, freshLink, linkOf, entries, withEntries, noLink}
+use Rattle.host.specs.declared.Effect.{Effect}
 use Rattle.host.specs.Lent.{Lent, entriesOf}
-use Rattle.host.specs.Guard.{noLink}
 use Rattle.host.proofs.Places.{Holds}
 use Rattle.arrival.specs.declared.Arrived.{Arrived}
-use Rattle.calls.specs.declared.Effect.{Effect}
-use Rattle.calls.specs.Perform.{Outcome, carriedOut, updatedBy}
+use Rattle.calls.specs.Perform.{Call, Outcome, scopeOfCall, refused, carriedOut, updatedBy, perform}
+use Rattle.network.specs.Frame.{Elsewhere, Frame}
 use Rattle.network.specs.History.{Left, Lends, leftBy, places}
 use Rattle.network.specs.Room.{Room, lentAt, Proper}
-use Rattle.network.proofs.Lists.{All, all-first}
+use Rattle.network.proofs.Lists.{All, all-first, all-weaken}
+use Rattle.network.proofs.Performs.{guardOf, performs}
+use Rattle.network.proofs.Demand1.Frame.{frame-holds}
 use Rattle.network.proofs.Swept.{changes-length, changes-keep, updates-length, updates-keep}
 use Rattle.network.proofs.Written.{written-kept, written-back}
 use Rattle.network.proofs.HostPlaces.{entries-first}
-use Rattle.network.proofs.Demand3.Invariant.{RightEntry, RightLink, RightLinks, RightSeat}
+use Rattle.network.proofs.Demand3.Invariant.{RightEntry, RightLink, RightLinks, RightAt, RightWalk, between, LinksIn, RightSeat}
 
 -- these links and this run, left by a call that was lent another run
 pub record RightLeft (r : Room) (a : ℕ) (before : List Entry) (l : Links) (run : List Entry) : Type 0 where
@@ -43,6 +53,18 @@ pub record RightLent (r : Room) (a : ℕ) (l : Links) (run : List Entry) : Type 
   pub links : RightLinks r a (l .all)
   pub table : Holds (r .number a) run → All (RightEntry r a) (entries (r .settings a) (r .number a) run)
 
+-- the same of a seat that may have a walk
+pub record SeatLent (r : Room) (a : ℕ) (w : Walk) (copy : List ℕ) (l : Links) (run : List Entry) : Type 0 where
+  pub links : LinksIn r a w (l .all)
+  pub walk : RightWalk r a w copy l
+  pub table : Holds (r .number a) run → All (RightEntry r a) (entries (r .settings a) (r .number a) run)
+
+pub record SeatLeft (r : Room) (a : ℕ) (before : List Entry) (o : Outcome) : Type 0 where
+  pub links : LinksIn r a (o .walk) (o .links .all)
+  pub walk : RightWalk r a (o .walk) (o .copy) (o .links)
+  pub table : Holds (r .number a) before → All (RightEntry r a) (entries (r .settings a) (r .number a) (o .run))
+  pub same-length : length (o .run) ≡ length before
+
 module _ (r : Room) (a : ℕ) where
   -- the first NHOSTS places of a run are those of its 255
   first-places : (run : List Entry) → take (hostCount (r .settings a)) (places (r .number a) run) ≡ entries (r .settings a) (r .number a) run
@@ -55,21 +77,45 @@ module _ (r : Room) (a : ℕ) where
       let there = neither (eqb (suc j) 0) (ltb (linkCount (r .settings a)) (suc j)) (proper .cables a (suc j) b i cable .link-in) .1 in
       absurd (true≢false (sym (lt-ltb (linkCount (r .settings a)) (suc j) (omega arith)) ∙ there))
 
-  pub lent-right : Proper r → (x : Left) (c : Clock) (l : Links) (run : List Entry) → Lends x (lentAt r a c l run) → RightSeat r a x
-      → RightLent r a l run
+  pub lent-right : Proper r → (x : Left) (c : Clock) (l : Links) (run : List Entry) → Lends x (lentAt r a c l (x .walk) (x .copy) run) → RightSeat r a x
+      → SeatLent r a (x .walk) (x .copy) l run
   lent-right proper x c l run lends right =
       record {
         links =
-            all-first (λ (j : ℕ). RightLink r a (suc j)) (linkCount (r .settings a)) (spare-right proper) (x .links .all) (l .all)
+            all-first (λ (j : ℕ) (y : Link). between (x .walk) (suc j) ≡ false → RightLink r a (suc j) y) (linkCount (r .settings a)) (λ j y past _. spare-right proper j y past) (x .links .all) (l .all)
             (sym (lends .own-links)) (right .links);
+        walk = λ opened. moved (placeOf (x .walk)) (right .walk opened);
         table = λ holds. subst (All (RightEntry r a)) (sym (lends .own-entries holds)) (right .table);
       }
+    where
+      -- the walk's link is as it was
+      same-link : (i : ℕ) → noLink (r .settings a) i ≡ false → linkOf l i ≡ linkOf (x .links) i
+      same-link i has =
+          let h = counted (r .settings a) i has .at-place in
+          sym (getD-take (linkCount (r .settings a)) (l .all) (i - 1) (freshLink unset) h)
+          ∙ ap (λ ys. getD ys (i - 1) (freshLink unset)) (lends .own-links)
+          ∙ getD-take (linkCount (r .settings a)) (x .links .all) (i - 1) (freshLink unset) h
 
-  pub left-right : (x : Left) (run : List Entry) (o : Outcome) → RightSeat r a x → RightOutcome r a run o
+      moved : (q : Place) → RightAt r a (x .walk) (packetOf (x .walk) (x .copy)) (x .links) q → RightAt r a (x .walk) (packetOf (x .walk) (x .copy)) l q
+      moved Nowhere h = h
+      moved Step1 h = h
+      moved Step2 h = h
+      moved Step3 h = h
+      moved Step4 h = h
+      moved Step5 h =
+          let has = proper .cables a (x .walk .link) (h .taken .message .seat) (h .taken .message .link) (h .taken .cable) .link-in in
+          record { taken = h .taken; fits = h .fits; direct = h .direct; neighbor = λ low. ap (λ y. y .neighbor) (same-link (x .walk .link) has) ∙ h .neighbor low }
+      moved LineA h = h
+      moved LineB h = h
+      moved LineC h = h
+      moved LineD h = h
+
+  pub left-right : (x : Left) (run : List Entry) (o : Outcome) → RightSeat r a x → SeatLeft r a run o
       → RightSeat r a (leftBy (r .number a) (x .places) o)
   left-right x run o right now =
       record {
         links = now .links;
+        walk = now .walk;
         table =
             either (λ (l : List Entry). All (RightEntry r a) (take (hostCount (r .settings a)) l))
             (ltb (length (o .run)) (firstPlace (r .number a) + placesPerHost)) _ _ (λ t. right .table)
@@ -79,14 +125,47 @@ module _ (r : Room) (a : ℕ) where
             subst (All (RightEntry r a)) (sym (first-places (o .run))) (now .table holds));
       }
 
+  -- links that are right are so whatever walk there is; those of a seat without a walk are all right
+  pub any-walk : (w : Walk) (l : List Link) → RightLinks r a l → LinksIn r a w l
+  any-walk w l t = all-weaken (λ (j : ℕ). RightLink r a (suc j)) (λ (j : ℕ) (y : Link). between w (suc j) ≡ false → RightLink r a (suc j) y) (λ j y f _. f) l t
+
+  pub no-walk : (w : Walk) (l : List Link) → isOpen w ≡ false → LinksIn r a w l → RightLinks r a l
+  no-walk w l shut t = all-weaken (λ (j : ℕ) (y : Link). between w (suc j) ≡ false → RightLink r a (suc j) y) (λ (j : ℕ). RightLink r a (suc j)) (λ j y f. f (rw shut)) l t
+
+  module _ (c : Clock) (l : Links) (walk : Walk) (copy : List ℕ) (run : List Entry) (lent : SeatLent r a walk copy l run) (call : Call) where
+    -- a refusal leaves all as it was lent
+    pub refused-right : (answer : Answer) → SeatLeft r a run (refused answer call (lentAt r a c l walk copy run))
+    refused-right answer = record { links = lent .links; walk = lent .walk; table = lent .table; same-length = refl }
+
+    -- a call that changes no walk: refused while one is open, and else as the call by itself shows
+    pub plain-right : Elsewhere call → ((w : Walk) → inWalk (scopeOfCall call) w ≡ isOpen w)
+        → (RightLent r a l run → RightOutcome r a run (perform call (lentAt r a c l walk copy run))) → SeatLeft r a run (perform call (lentAt r a c l walk copy run))
+    unfolding Frame
+    plain-right else refuses right = go (isOpen walk) refl
+      where
+        x : Lent
+        x = lentAt r a c l walk copy run
+
+        go : (b : Bool) → isOpen walk ≡ b → SeatLeft r a run (perform call x)
+        go true e = performs call x (SeatLeft r a run) (λ _. refused-right (guardOf call x)) (λ d. absurd (true≢false (sym (refuses walk ∙ e) ∙ passed (scopeOfCall call) x d .closed)))
+        go false e =
+            let o = right record { links = no-walk walk (l .all) e (lent .links); table = lent .table } in
+            let same = frame-holds call x .walk else in
+            record {
+              links = any-walk (perform call x .walk) (perform call x .links .all) (o .links);
+              walk = λ opened. absurd (true≢false (sym opened ∙ ap isOpen same ∙ e));
+              table = o .table;
+              same-length = o .same-length;
+            }
+
   -- a refusal leaves all as it was lent
   pub same-right : (l : Links) (run : List Entry) → RightLent r a l run → RightLeft r a run l run
   same-right l run lent = record { links = lent .links; table = lent .table; same-length = refl }
 
   -- what a call that passed its guard makes of the seat's entries
-  module _ (c : Clock) (l : Links) (run : List Entry) (there : Holds (r .number a) run) where
+  module _ (c : Clock) (l : Links) (walk : Walk) (copy : List ℕ) (run : List Entry) (there : Holds (r .number a) run) where
     abbrev x : Lent
-    x = lentAt r a c l run
+    x = lentAt r a c l walk copy run
 
     pub written-right : (m : Links) (es : List Entry) → RightLinks r a (m .all) → length es ≡ length (entriesOf x) → All (RightEntry r a) es
         → RightLeft r a run m (withEntries (r .number a) es run)
@@ -97,18 +176,18 @@ module _ (r : Room) (a : ℕ) where
           same-length = written-kept x es there same .same-length;
         }
 
-  module _ (c : Clock) (l : Links) (run : List Entry) (lent : RightLent r a l run) (there : Holds (r .number a) run) where
+  module _ (c : Clock) (l : Links) (walk : Walk) (copy : List ℕ) (run : List Entry) (lent : RightLent r a l run) (there : Holds (r .number a) run) where
     pub carried-right : (e : Effect) → RightLinks r a (e .links .all)
         → ((id : ℕ) (y : Entry) → e .work .first ≤ id → id < e .work .end → RightEntry r a id y → RightEntry r a id (changed (e .work .change) y))
-        → RightOutcome r a run (carriedOut e (x c l run there))
+        → RightOutcome r a run (carriedOut e (x c l walk copy run there))
     carried-right e links keeps =
-        written-right c l run there (e .links) _ links (changes-length (e .work) (entriesOf (x c l run there)))
-        (changes-keep (e .work) (entriesOf (x c l run there)) (RightEntry r a) keeps (lent .table there))
+        written-right c l walk copy run there (e .links) _ links (changes-length (e .work) (entriesOf (x c l walk copy run there)))
+        (changes-keep (e .work) (entriesOf (x c l walk copy run there)) (RightEntry r a) keeps (lent .table there))
 
     pub updated-right : (e : Arrived) (octets : List ℕ) → RightLinks r a (e .links .all)
-        → ((id : ℕ) (d : Clock) (y : Entry) → e .work .first ≤ id → id < e .work .end → id < length (entriesOf (x c l run there)) → RightEntry r a id y
+        → ((id : ℕ) (d : Clock) (y : Entry) → e .work .first ≤ id → id < e .work .end → id < length (entriesOf (x c l walk copy run there)) → RightEntry r a id y
         → RightEntry r a id (updatedAt (e .work) octets id d y .entry))
-        → RightOutcome r a run (updatedBy e octets (x c l run there))
+        → RightOutcome r a run (updatedBy e octets (x c l walk copy run there))
     updated-right e octets links keeps =
-        written-right c l run there (e .links) _ links (updates-length (e .work) octets (entriesOf (x c l run there)))
-        (updates-keep (e .work) octets (entriesOf (x c l run there)) (RightEntry r a) keeps (lent .table there))
+        written-right c l walk copy run there (e .links) _ links (updates-length (e .work) octets (entriesOf (x c l walk copy run there)))
+        (updates-keep (e .work) octets (entriesOf (x c l walk copy run there)) (RightEntry r a) keeps (lent .table there))

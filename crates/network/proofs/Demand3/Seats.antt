@@ -20,6 +20,7 @@ use Rattle.table.specs.Update.{ownUpdate}
 use Rattle.table.specs.Runs.{changed}
 use Rattle.table.proofs.Cases.{stored, self-keeps, aged-keeps}
 use Rattle.host.specs.declared.Links.{Links}
+use Rattle.host.specs.declared.walk.Walk.{Walk}
 use Rattle.host.specs.Settings.{ownId}
 use Rattle.host.specs.State.{freshLink, freshLinks, hostCount}
 use Rattle.host.specs.Lent.{Lent, entriesOf}
@@ -63,31 +64,31 @@ module _ (r : Room) (a : ℕ) where
       (λ no is. absurd (false≢true (sym no ∙ ap done is)))
       (λ e _.
       let held = there (ask Initialize) x e in
-      written-right r a (r .clock a) (r .links a) (r .run a) held (freshLinks (r .settings a)) _
+      written-right r a (r .clock a) (r .links a) (r .walk a) (r .copy a) (r .run a) held (freshLinks (r .settings a)) _
       (all-made (λ (j : ℕ). RightLink r a (suc j)) freshLink (λ j y b i cable alive. absurd (true≢false alive)) (r .settings a .links))
       (changes-length record { first = 0; end = hostCount (r .settings a); change = Fresh } (entriesOf x))
       (rw (changes-each (hostCount (r .settings a)) Fresh (entriesOf x) (omega (arith, entries-length (r .settings a) (r .number a) (r .run a) held)))
       (all-made (RightEntry r a) (changed Fresh) (λ i _. fresh-right i) (entriesOf x))))
     where
       x : Lent
-      x = lentAt r a (r .clock a) (r .links a) (r .run a)
+      x = lentAt r a (r .clock a) (r .links a) (r .walk a) (r .copy a) (r .run a)
 
-  module _ (c : Clock) (l : Links) (run : List Entry) (lent : RightLent r a l run) where
+  module _ (c : Clock) (l : Links) (walk : Walk) (copy : List ℕ) (run : List Entry) (lent : RightLent r a l run) where
     abbrev x : Lent
-    x = lentAt r a c l run
+    x = lentAt r a c l walk copy run
 
     pub tick-right : (n : Count) → RightOutcome r a run (perform (ask (Tick n)) x)
     unfolding tick
     tick-right n =
         performs (ask (Tick n)) x (RightOutcome r a run) (λ _. same-right r a l run lent)
-        (λ e. carried-right r a c l run lent (there (ask (Tick n)) x e) (tick n (x .host)) (lent .links) (λ id y low high right. absurd (omega arith)))
+        (λ e. carried-right r a c l walk copy run lent (there (ask (Tick n)) x e) (tick n (x .host) (x .walk)) (lent .links) (λ id y low high right. absurd (omega arith)))
 
     pub second-right : RightOutcome r a run (perform (ask Second) x)
     unfolding second
     second-right =
         performs (ask Second) x (RightOutcome r a run) (λ _. same-right r a l run lent)
         (λ e.
-        carried-right r a c l run lent (there (ask Second) x e) (second (x .host)) (lent .links)
+        carried-right r a c l walk copy run lent (there (ask Second) x e) (second (x .host) (x .walk)) (lent .links)
         (λ id y low high right.
         aged-keeps (RightEntry r a id) y right (down-right id y right) (ttl-right id y (fallSeconds (y .ttl)) right)))
 
@@ -96,7 +97,7 @@ module _ (r : Room) (a : ℕ) where
     self-right inside k =
         performs (ask (SelfReport k)) x (RightOutcome r a run) (λ _. same-right r a l run lent)
         (λ e.
-        carried-right r a c l run lent (there (ask (SelfReport k)) x e) (selfReport k (x .host)) (lent .links) (go (ownId (r .settings a)) refl))
+        carried-right r a c l walk copy run lent (there (ask (SelfReport k)) x e) (selfReport k (x .host) (x .walk)) (lent .links) (go (ownId (r .settings a)) refl))
       where
         t : Millis
         t = readingAt r a c k .time

@@ -91,6 +91,8 @@ module _ (r : Room) (proper : Proper r) where
               record {
                 own-clock = refl;
                 own-links = now .own-links;
+                own-walk = refl;
+                own-packet = refl;
                 own-entries =
                     λ _.
                     entries-first (r .settings (x .seat)) (r .number (x .seat)) (w .run)
@@ -110,7 +112,7 @@ module _ (r : Room) (proper : Proper r) where
 
   -- what the setting afresh of a seat is lent
   abbrev first : ℕ → Lent
-  first c = lentAt r c (r .clock c) (r .links c) (r .run c)
+  first c = lentAt r c (r .clock c) (r .links c) (r .walk c) (r .copy c) (r .run c)
 
   afresh-kept : (c : ℕ) → Kept (r .settings c) (r .number c) (r .run c) (afresh r c .run)
   afresh-kept c = kept-places (ask Initialize) (first c)

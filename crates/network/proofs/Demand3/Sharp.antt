@@ -31,6 +31,7 @@ use Rattle.host.specs.declared.Links.{Links}
 use Rattle.host.specs.declared.guard.Scope.the-variants.{All}
 use Rattle.host.specs.Settings.{linkCount, settingsGood}
 use Rattle.host.specs.State.{freshLinks, placesPerHost, linkInRange, entries}
+use Rattle.host.specs.Walk.{noWalk, walkInRange}
 use Rattle.host.specs.Lent.{Lent, lent, lentInRange}
 use Rattle.host.specs.Guard.{noPlaces, guard}
 use Rattle.host.specs.Reply.{plainly}
@@ -89,12 +90,12 @@ abbrev table0 : List Entry
 table0 = replicate placesPerHost freshEntry
 
 -- all that the guard tests but the clock
-else-good : cond (noPlaces 0 table0 || not (true && every linkInRange (take (linkCount settings0) (links0 .all)) && every entryInRange (entries settings0 0 table0))) OutOfRange (cond (not (settingsGood settings0)) Setting Done) ≡ Done
+else-good : cond (noPlaces 0 table0 || not (true && every linkInRange (take (linkCount settings0) (links0 .all)) && walkInRange settings0 noWalk [] && every entryInRange (entries settings0 0 table0))) OutOfRange (cond (not (settingsGood settings0)) Setting Done) ≡ Done
 unfolding opened
 else-good = refl
 
 abbrev lent0 : Clock → Lent
-lent0 c = lent settings0 0 c links0 table0
+lent0 c = lent settings0 0 c links0 noWalk [] table0
 
 guard-done : (c : Clock) → clockInRange c ≡ true → guard All (lent0 c) ≡ Done
 unfolding guard lentInRange
@@ -106,16 +107,16 @@ places-there = refl
 
 performed : (n : ℕ) → n < 33
     → perform (ask (Tick noCount)) (lent0 (clockOf (unitsAfter n)))
-    ≡ record { reply = plainly Done; clock = clockOf (unitsAfter (suc n)); links = links0; run = table0; buffer = [] }
+    ≡ record { reply = plainly Done; clock = clockOf (unitsAfter (suc n)); links = links0; walk = noWalk; copy = []; run = table0; buffer = [] }
 unfolding perform tick
 performed n h =
     rw (guard-done (clockOf (unitsAfter n)) (in-range n (omega arith)))
-    (answered (lent0 (clockOf (unitsAfter n))) (holds 0 table0 places-there) _ _ _ ∙ rw (ticked n h))
+    (answered (lent0 (clockOf (unitsAfter n))) (holds 0 table0 places-there) _ _ _ _ ∙ rw (ticked n h))
 
 -- ---- the world while seat 0 waits
 
 abbrev seat0 : ℕ → Left
-seat0 n = record { clock = clockOf (unitsAfter n); links = links0; places = table0 }
+seat0 n = record { clock = clockOf (unitsAfter n); links = links0; walk = noWalk; copy = []; places = table0 }
 
 abbrev waited : ℕ → World
 waited n = record { state = put 0 (seat0 n) (w₄ .state); mail = w₄ .mail }
@@ -153,7 +154,7 @@ unfolding Allows entries
 waits-allowed zero n h = tt
 waits-allowed (suc m) n h =
     let next : step late (waited n) (early (ticks noCount)) ≡ waited (suc n) = waits-on n (omega arith) in (
-      record { seat-in = omega arith; lends = record { own-clock = refl; own-links = refl; own-entries = λ _. refl }; timely = tt },
+      record { seat-in = omega arith; lends = record { own-clock = refl; own-links = refl; own-walk = refl; own-packet = refl; own-entries = λ _. refl }; timely = tt },
       rw next (waits-allowed m (suc n) (omega arith)),
     )
 
@@ -190,7 +191,7 @@ waits-all = ap (λ w. history late w wait) waits-from ∙ waits 33 0 refl
 last-allowed : Allows late (waited 33) (x₆ ∷ x₇ (step late (waited 33) x₆) ∷ [])
 unfolding opened after step Allows w₀ x₁ w₁ x₂ w₂ x₃ w₃ x₄ w₄ x₆ x₇
 last-allowed = (
-  record { seat-in = omega arith; lends = record { own-clock = refl; own-links = refl; own-entries = λ _. refl }; timely = delivered lateness (waited 33) 0 noCounter (pos 72768) _ second 16384 (List·Memᴰ·head refl) refl (reads lateness (waited 33) 0 noCounter (pos 72768) refl record { lt = tt }) (omega arith) refl },
+  record { seat-in = omega arith; lends = record { own-clock = refl; own-links = refl; own-walk = refl; own-packet = refl; own-entries = λ _. refl }; timely = delivered lateness (waited 33) 0 noCounter (pos 72768) _ second 16384 (List·Memᴰ·head refl) refl (reads lateness (waited 33) 0 noCounter (pos 72768) refl record { lt = tt }) (omega arith) refl },
   (
     record { seat-in = omega arith; lends = as-left lateness (step late (waited 33) x₆) 0 (x₇ (step late (waited 33) x₆) .call); timely = delivered lateness (step late (waited 33) x₆) 0 noCounter (pos 72768) _ second 16384 (List·Memᴰ·head refl) refl (reads lateness (step late (waited 33) x₆) 0 noCounter (pos 72768) refl record { lt = tt }) (omega arith) refl },
     tt,
@@ -207,7 +208,7 @@ wait-allowed =
 allowed : Allows late w₀ story
 unfolding opened after step Allows w₀ x₁ w₁ x₂ w₂ x₃ w₃ x₄ w₄
 allowed = (
-  record { seat-in = omega arith; lends = record { own-clock = refl; own-links = refl; own-entries = λ _. refl }; timely = λ _. reads lateness w₀ 0 noCounter (pos 40000) refl record { lt = tt } },
+  record { seat-in = omega arith; lends = record { own-clock = refl; own-links = refl; own-walk = refl; own-packet = refl; own-entries = λ _. refl }; timely = λ _. reads lateness w₀ 0 noCounter (pos 40000) refl record { lt = tt } },
   (
     record { seat-in = omega arith; lends = as-left lateness w₁ 1 (x₂ .call); timely = tt },
     (

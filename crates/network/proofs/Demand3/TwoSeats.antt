@@ -78,6 +78,8 @@ module _ (p : Pair) where
       record {
         own-clock = refl;
         own-links = refl;
+        own-walk = refl;
+        own-packet = refl;
         own-entries =
             λ _.
             ap (take (hostCount (settingsFor p a)))

@@ -16,9 +16,9 @@ use Rattle.program.proofs.answer.Statement.{statement}
 use Rattle.program.proofs.answer.Tie as tie
 
 abbrev taken : Settings → Whole → Counter → (packet : List ℕ) → Whole
-taken s h k octets = wholeOf (inTurn 1 k octets (lent s 0 (h .clock) (h .links) (h .run)))
+taken s h k octets = wholeOf (inTurn 1 k octets (lent s 0 (h .clock) (h .links) (h .walk) octets (h .run)))
 
-chain : (s : Settings) (h w : Whole) (k : Counter) (octets : List ℕ) (r : ℕ) → s ≡ programSettings → h ≡ wholeOf programHost → k ≡ noCounter
+chain : (s : Settings) (h w : Whole) (k : Counter) (octets : List ℕ) (r : ℕ) → s ≡ programSettings → h ≡ wholeOf (programHost octets) → k ≡ noCounter
     → w ≡ taken s h k octets
     → r ≡ number (w .reply .answer) → r ≡ programAnswer octets
 unfolding programAnswer

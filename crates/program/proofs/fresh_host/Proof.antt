@@ -1,5 +1,7 @@
 -- What the functions that are called say, put together.
 use mathlib.Core.Path.{_≡_, ap, _∙_}
+use mathlib.Core.List.{List}
+use Prim.Native.Nat.{ℕ}
 use lib.IntN.{pos}
 use lib.ListN.{replicate}
 use Rattle.quantity.specs.Quantity.{millis, lessMillis}
@@ -11,6 +13,8 @@ use Rattle.table.specs.Entry.{freshEntry}
 use Rattle.host.specs.declared.Settings.{Settings}
 use Rattle.host.specs.declared.Links.{Links}
 use Rattle.host.specs.State.{freshLinks}
+use Rattle.host.specs.declared.walk.Walk.{Walk}
+use Rattle.host.specs.Walk.{noWalk}
 use Rattle.host.specs.Lent.{lent}
 use Rattle.calls.specs.declared.Request.the-variants.{Initialize}
 use Rattle.calls.specs.Perform.{perform, ask}
@@ -21,16 +25,16 @@ use borrow.Author.Needs.{needs}
 use Rattle.program.proofs.fresh_host.Statement.{statement}
 use Rattle.program.proofs.fresh_host.Tie as tie
 
-abbrev afresh : Settings → Clock → Links → Entry → Whole
-afresh s c l e = wholeOf (perform (ask Initialize) (lent s 0 c l (replicate 255 e)))
+abbrev afresh : Settings → Clock → Links → Walk → (copy : List ℕ) → Entry → Whole
+afresh s c l v octets e = wholeOf (perform (ask Initialize) (lent s 0 c l v octets (replicate 255 e)))
 
-chain : (s : Settings) (c : Clock) (l : Links) (e : Entry) (h : Whole) → s ≡ programSettings → c ≡ freshClock (s .time) (s .date) → l ≡ freshLinks s
-    → e ≡ freshEntry → h ≡ afresh s c l e → h ≡ wholeOf programHost
+chain : (s : Settings) (c : Clock) (l : Links) (v : Walk) (octets : List ℕ) (e : Entry) (h : Whole) → s ≡ programSettings → c ≡ freshClock (s .time) (s .date) → l ≡ freshLinks s
+    → v ≡ noWalk → e ≡ freshEntry → h ≡ afresh s c l v octets e → h ≡ wholeOf (programHost octets)
 unfolding programHost
-chain s c l e h s-is c-is l-is e-is h-is =
+chain s c l v octets e h s-is c-is l-is v-is e-is h-is =
     let c-fresh = c-is ∙ ap (λ (t : Settings). freshClock (t .time) (t .date)) s-is in
     let l-fresh = l-is ∙ ap freshLinks s-is in
-    h-is ∙ (λ i. afresh (s-is i) (c-fresh i) (l-fresh i) (e-is i))
+    h-is ∙ (λ i. afresh (s-is i) (c-fresh i) (l-fresh i) (v-is i) octets (e-is i))
 
 settings-requires : tie.Need-settings-requires
 settings-requires c κs = search needs
@@ -43,6 +47,9 @@ fresh-requires c κs =
 fresh-requires-2 : tie.Need-fresh-requires-2
 fresh-requires-2 c κs = search needs
 
+none-requires : tie.Need-none-requires
+none-requires c κs = search needs
+
 fresh-requires-3 : tie.Need-fresh-requires-3
 fresh-requires-3 c κs = search needs
 
@@ -52,10 +59,11 @@ call-requires c κs = search needs
 returns : tie.Need-returns
 returns c =
     let entry-at = c .before in
-    let links-at = entry-at .before in
+    let walk-at = entry-at .before in
+    let links-at = walk-at .before in
     let clock-at = links-at .before in
     let settings-at = clock-at .before .before .before in
-    chain _ _ _ _ _ (settings-at .settings .ensures) (clock-at .fresh .ensures) (links-at .fresh2 .ensures) (entry-at .fresh3 .ensures) (c .call .ensures)
+    chain _ _ _ _ (settings-at .before .before .args .copy .now) _ _ (settings-at .settings .ensures) (clock-at .fresh .ensures) (links-at .fresh2 .ensures) (walk-at .none .ensures) (entry-at .fresh3 .ensures) (c .call .ensures)
 
 pub fresh-host-spec : {M : Type 1} → statement M
 fresh-host-spec =
@@ -64,6 +72,7 @@ fresh-host-spec =
     settings-requires
     fresh-requires
     fresh-requires-2
+    none-requires
     fresh-requires-3
     call-requires
     returns)

@@ -14,9 +14,9 @@ use Rattle.program.proofs.inspection.Statement.{statement}
 use Rattle.program.proofs.inspection.Tie as tie
 
 abbrev looked : Settings → Whole → (packet : List ℕ) → Whole
-looked s h octets = wholeOf (perform (inspect 1 octets) (lent s 0 (h .clock) (h .links) (h .run)))
+looked s h octets = wholeOf (perform (inspect 1 octets) (lent s 0 (h .clock) (h .links) (h .walk) octets (h .run)))
 
-chain : (s : Settings) (h w : Whole) (octets : List ℕ) → s ≡ programSettings → h ≡ wholeOf programHost → w ≡ looked s h octets
+chain : (s : Settings) (h w : Whole) (octets : List ℕ) → s ≡ programSettings → h ≡ wholeOf (programHost octets) → w ≡ looked s h octets
     → w .reply ≡ programInspection octets
 unfolding programInspection
 chain s h w octets s-is h-is w-is = ap (λ (x : Whole). x .reply) w-is ∙ (λ i. looked (s-is i) (h-is i) octets .reply)

@@ -6,7 +6,7 @@ use mir.Syntax.{w64}
 use Rattle.quantity.specs.Quantity.{lessMillis}
 use Rattle.quantity.proofs.Ints.{sum, fits}
 use Rattle.table.specs.Update.{lineA}
-use Rattle.table.proofs.Ranges.{within}
+use Rattle.table.proofs.Ranges.{between-says}
 use borrow.Author.Needs.{needs}
 use Rattle.table.proofs.line_a.Statement.{statement}
 use Rattle.table.proofs.line_a.Tie as tie
@@ -18,7 +18,7 @@ returns c = rw (eq-eqb _ _ (c .if1 .taken))
 plus-requires : tie.Need-plus-requires
 plus-requires c κs =
     let z = c .before .before .before .before .before .args .u .delay .0 in
-    fits w64 (z +ℤ pos 100) (omega (arith, sum z (pos 100), within 98302 z (c .before .before .before .before .before .pre)))
+    fits w64 (z +ℤ pos 100) (omega (arith, sum z (pos 100), between-says 32767 98302 z (c .before .before .before .before .before .pre)))
 
 less-requires : tie.Need-less-requires
 less-requires c κs = search needs

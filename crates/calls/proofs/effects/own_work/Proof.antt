@@ -13,15 +13,15 @@ nothing-requires c κs = search needs
 enum-known-own : tie.Need-enum-known-own
 enum-known-own c = search needs
 
-add-t5 : tie.Need-add-t5
-add-t5 c = omega (arith, placed _ _ (c .before .own .given .1) (c .before .before .before .pre))
+one-requires : tie.Need-one-requires
+one-requires c κs = omega (arith, placed _ _ (c .before .own .given .1) (c .before .before .before .pre))
 
 returns : tie.Need-returns
 returns c = search needs
 
 returns-2 : tie.Need-returns-2
-returns-2 c = rw (c .before .own .given .1)
+returns-2 c = rw (c .before .before .own .given .1, c .one .ensures)
 
 pub own-work-spec : {M : Type 1} → statement M
 own-work-spec =
-    tie.close (tie.spec enum-told nothing-requires enum-known-own add-t5 returns returns-2)
+    tie.close (tie.spec enum-told nothing-requires enum-known-own one-requires returns returns-2)

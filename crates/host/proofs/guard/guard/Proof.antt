@@ -14,7 +14,7 @@ use Rattle.table.proofs.run.all_in_range.Met as scans-known
 use Rattle.host.specs.Lent.{host, lent}
 use Rattle.host.specs.Guard.{guard}
 use Rattle.host.specs.code.Held.{held, judged}
-use Rattle.host.proofs.Types.{number, settings, links, scope, answer}
+use Rattle.host.proofs.Types.{number, settings, links, walk, scope, answer}
 use Rattle.host.proofs.Judged.{held-in, guarded}
 use Rattle.host.proofs.guard.held.Symbol as holds
 use Rattle.host.proofs.guard.held.Met as holds-known
@@ -27,16 +27,16 @@ use Rattle.host.proofs.guard.guard.Code as code
 pub guard-spec : {M : Type 1} → stated.statement M
 unfolding code.routine
 guard-spec 𝓤 H 𝓜 𝓖 𝓡 =
-    proof number (by-value clock) (by-value links) (chosen-by-value scope) (by-value (whole scan)) boolean (chosen-by-value answer) settings entry 𝓤 H 𝓜 𝓖 𝓡
-    (λ s k c l a n. emp 𝓤) (λ s k c l a n w. w ≡ held a k (host s c l) n)
+    proof number (by-value clock) (by-value links) (by-value walk) (chosen-by-value scope) (by-value (whole scan)) boolean (chosen-by-value answer) settings entry 𝓤 H 𝓜 𝓖 𝓡
+    (λ s k c l v o a n. emp 𝓤) (λ s k c l v o a n w. w ≡ held a k (host s c l) v o n)
     (λ run w. fact 𝓤 (InRun (w .first) (w .end) run)) (λ run w good. good ≡ allInRange w run)
-    (λ s good. emp 𝓤) (λ s good r. r ≡ judged s good)
-    (λ s k c l a run r. r ≡ guard a (lent s k c l run))
-    (λ s k c l a run. id⊢ 𝓤 _)
-    (λ s k c l a run w w-is. factI 𝓤 _ _ (subst (λ (x : Scan). InRun (x .first) (x .end) run) (sym w-is) (held-in (lent s k c l run) a)))
-    (λ s k c l a run w good w-is good-is. id⊢ 𝓤 _)
-    (λ s k c l a run w good r w-is good-is r-is.
-    r-is ∙ ap (judged s) (good-is ∙ ap (λ (x : Scan). allInRange x run) w-is) ∙ guarded (lent s k c l run) a)
+    (λ s v a good. emp 𝓤) (λ s v a good r. r ≡ judged s v a good)
+    (λ s k c l v o a run r. r ≡ guard a (lent s k c l v o run))
+    (λ s k c l v o a run. id⊢ 𝓤 _)
+    (λ s k c l v o a run w w-is. factI 𝓤 _ _ (subst (λ (x : Scan). InRun (x .first) (x .end) run) (sym w-is) (held-in (lent s k c l v o run) a)))
+    (λ s k c l v o a run w good w-is good-is. id⊢ 𝓤 _)
+    (λ s k c l v o a run w good r w-is good-is r-is.
+    r-is ∙ ap (judged s v a) (good-is ∙ ap (λ (x : Scan). allInRange x run) w-is) ∙ guarded (lent s k c l v o run) a)
     code.env #guard holds.name scans.name judges.name holds.routine scans.routine judges.routine
     code.calls-host·guard·held code.calls-table·run·all-in-range code.calls-host·guard·judged (code.unfolded 𝓤 H 𝓜 𝓡)
     (holds-known.met 𝓤 H 𝓜 𝓖 𝓡) (scans-known.met 𝓤 H 𝓜 𝓖 𝓡) (judges-known.met 𝓤 H 𝓜 𝓖 𝓡)

@@ -43,15 +43,17 @@ returns-3 c =
 host-count-requires : tie.Need-host-count-requires
 host-count-requires c κs = search needs
 
+in-range-requires : tie.Need-in-range-requires
+in-range-requires c κs = search needs
+
 whole-scan-requires : tie.Need-whole-scan-requires
 whole-scan-requires c κs =
-    let k = number-in _ _ (sym (c .before .before .before .before .before .before .before .places-missing .ensures) ∙ c .before .before .before .before .before .before .if1 .left) in
-    (k, omega (arith, c .host-count .ensures), omega (arith, c .before .before .before .count .ensures))
+    let k = number-in _ _ (sym (c .before .before .before .before .before .before .before .before .places-missing .ensures) ∙ c .before .before .before .before .before .before .before .if1 .left) in
+    (k, omega (arith, c .before .host-count .ensures), omega (arith, c .before .before .before .before .count .ensures))
 
 returns-4 : tie.Need-returns-4
 returns-4 c =
-    let links = c .before .before .before .before .count .ensures in
-    rw (sym (c .before .before .before .before .before .before .before .before .places-missing .ensures) ∙ c .before .before .before .before .before .before .before .if1 .left, sym (c .before .before .before .before .before .before .afresh .ensures) ∙ c .before .before .before .before .before .if2 .left, ← links, sym (c .before .before .before .names-link .ensures) ∙ is-so _ (c .before .before .if3 .left), ← c .before .host-count .ensures)
+    rw (sym (c .before .before .before .before .before .before .before .before .before .places-missing .ensures) ∙ c .before .before .before .before .before .before .before .before .if1 .left, sym (c .before .before .before .before .before .before .before .afresh .ensures) ∙ c .before .before .before .before .before .before .if2 .left, ← c .before .before .before .before .before .count .ensures, sym (c .before .before .before .before .names-link .ensures) ∙ is-so _ (c .before .before .before .if3 .left), ← c .before .before .host-count .ensures, ← c .before .in-range .ensures)
     (c .whole-scan .ensures)
 
 pub held-spec : {M : Type 1} → statement M
@@ -69,5 +71,6 @@ held-spec =
     settled-requires-3
     returns-3
     host-count-requires
+    in-range-requires
     whole-scan-requires
     returns-4)

@@ -1,4 +1,4 @@
--- The clock first, then the links; all places of the host where both are in range.
+-- The clock first, then the links, then the walk; all places of the host where both are in range.
 use mathlib.Core.Path.{_∙_, sym}
 use Rattle.lists.proofs.Tests.{is-not, is-so}
 use borrow.Author.Needs.{needs}
@@ -23,14 +23,20 @@ settled-requires-2 c κs = search needs
 returns-2 : tie.Need-returns-2
 returns-2 c = rw (sym (c .before .before .before .before .in-range .ensures) ∙ is-so _ (c .before .before .before .if1 .left), sym (c .before .before .in-range2 .ensures) ∙ is-not _ (c .before .if2 .taken)) (c .settled2 .ensures)
 
+settled-requires-3 : tie.Need-settled-requires-3
+settled-requires-3 c κs = search needs
+
+returns-3 : tie.Need-returns-3
+returns-3 c = rw (sym (c .before .before .before .before .before .in-range .ensures) ∙ is-so _ (c .before .before .before .before .if1 .left), sym (c .before .before .before .in-range2 .ensures) ∙ is-so _ (c .before .before .if2 .left), is-not (c .before .before .before .before .before .before .args .walk) (c .before .if3 .taken)) (c .settled3 .ensures)
+
 first-place-requires : tie.Need-first-place-requires
 first-place-requires c κs = search needs
 
 add-end : tie.Need-add-end
 add-end c = search needs
 
-returns-3 : tie.Need-returns-3
-returns-3 c = rw (sym (c .before .before .before .before .in-range .ensures) ∙ is-so _ (c .before .before .before .if1 .left), sym (c .before .before .in-range2 .ensures) ∙ is-so _ (c .before .if2 .left), ← c .first-place .ensures)
+returns-4 : tie.Need-returns-4
+returns-4 c = rw (sym (c .before .before .before .before .before .in-range .ensures) ∙ is-so _ (c .before .before .before .before .if1 .left), sym (c .before .before .before .in-range2 .ensures) ∙ is-so _ (c .before .before .if2 .left), is-so (c .before .before .before .before .before .before .args .walk) (c .before .if3 .left), ← c .first-place .ensures)
 
 pub whole-scan-spec : {M : Type 1} → statement M
 whole-scan-spec =
@@ -42,6 +48,8 @@ whole-scan-spec =
     in-range-requires-2
     settled-requires-2
     returns-2
+    settled-requires-3
+    returns-3
     first-place-requires
     add-end
-    returns-3)
+    returns-4)

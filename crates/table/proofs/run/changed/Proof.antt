@@ -1,3 +1,4 @@
+-- By the change.
 use borrow.Author.Needs.{needs}
 use Rattle.table.proofs.run.changed.Statement.{statement}
 use Rattle.table.proofs.run.changed.Tie as tie
@@ -20,6 +21,9 @@ enum-known-change c = search needs
 self-reported-requires : tie.Need-self-reported-requires
 self-reported-requires c κs = search needs
 
+enum-known-change-2 : tie.Need-enum-known-change-2
+enum-known-change-2 c = search needs
+
 returns : tie.Need-returns
 returns c = search needs
 
@@ -31,6 +35,9 @@ returns-3 : tie.Need-returns-3
 returns-3 c =
     rw (c .before .before .change .given .1) (c .self-reported .ensures)
 
+returns-4 : tie.Need-returns-4
+returns-4 c = rw (c .before .change2 .given .1)
+
 pub changed-spec : {M : Type 1} → statement M
 changed-spec =
     tie.close
@@ -41,6 +48,8 @@ changed-spec =
     aged-requires
     enum-known-change
     self-reported-requires
+    enum-known-change-2
     returns
     returns-2
-    returns-3)
+    returns-3
+    returns-4)

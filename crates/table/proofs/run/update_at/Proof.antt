@@ -1,7 +1,7 @@
 use mathlib.Core.Path.{_≡_}
 use mathlib.Core.Bool.{true, false}
 use borrow.Author.Tests.{not-true, not-false}
-use Rattle.table.proofs.Ranges.{own-in-range}
+use Rattle.table.proofs.Ranges.{own-in-range, delay-in-range}
 use mathlib.Core.Path.{refl}
 use borrow.Author.Needs.{needs}
 use Rattle.table.proofs.run.update_at.Statement.{statement}
@@ -11,13 +11,13 @@ returns : tie.Need-returns
 returns c =
     let w = c .before .before .before .before .args .w in
     let none : w .table ≡ false = not-true _ (c .if1 .taken) in
-    (rw (none) refl, own-in-range (w .update) (c .before .before .before .before .pre .delay))
+    (rw (none) refl, delay-in-range (w .update) (own-in-range (w .update) (c .before .before .before .before .pre .delay)))
 
 report-at-requires : tie.Need-report-at-requires
 report-at-requires c κs = c .before .before .before .before .pre .report (not-false _ (c .if1 .left))
 
 plus-report-requires : tie.Need-plus-report-requires
-plus-report-requires c κs = search needs
+plus-report-requires c κs = (own-in-range (c .before .before .before .before .before .args .w .update) (c .before .before .before .before .before .pre .delay), c .report-at .ensures .1)
 
 returns-2 : tie.Need-returns-2
 returns-2 c =

@@ -5,7 +5,7 @@ use mathlib.Core.Bool.{true, false}
 use borrow.Author.Tests.{le-ltb}
 use Rattle.host.specs.declared.Settings.{Settings}
 use Rattle.host.specs.Settings.{linkCount, settingsGood}
-use Rattle.host.specs.Guard.{noLink}
+use Rattle.host.specs.State.{noLink}
 use Rattle.host.proofs.Sound.{sound}
 use borrow.Author.Needs.{needs}
 use Rattle.vectors.proofs.requests.sent_at.Statement.{statement}

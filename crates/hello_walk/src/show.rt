@@ -1,0 +1,158 @@
+// The line of a box: its place, and each field that it changed, with the value before and after.
+use host::Link;
+use host::walk::Place;
+use host::walk::Walk;
+use quantity::Millis;
+use quantity::Word;
+use table::Entry;
+use wire::Address;
+
+fn text(s: &[u8]) {
+    io::write_all(1, s);
+}
+
+// A signed number.
+fn signed(n: i64) {
+    if n >= 0 {
+        io::print_decimal(1, n as u64);
+        return;
+    }
+    text(b"-");
+    io::print_decimal(1, std::num::wrapping_add_u64((!n) as u64, 1));
+}
+
+// A name and a number.
+fn number(name: &[u8], n: i64) {
+    text(name);
+    signed(n);
+}
+
+fn step(name: &[u8]) {
+    text(b"step ");
+    text(name);
+    text(b":");
+}
+
+// A line of a host id.
+fn line(id: u8, name: &[u8]) {
+    number(b"host ", id as i64);
+    text(b", line ");
+    text(name);
+    text(b":");
+}
+
+// Where a walk stands.
+pub fn place(w: Walk) {
+    match host::walk::place_of(w) {
+        Place::Nowhere => text(b"nowhere:"),
+        Place::Step1 => step(b"1"),
+        Place::Step2 => step(b"2"),
+        Place::Step3 => step(b"3"),
+        Place::Step4 => step(b"4"),
+        Place::Step5 => step(b"5"),
+        Place::LineA => line(w.id, b"a"),
+        Place::LineB => line(w.id, b"b"),
+        Place::LineC => line(w.id, b"c"),
+        Place::LineD => line(w.id, b"d"),
+    }
+}
+
+// The name of a field, behind what the line has already, if anything.
+fn field(empty: bool, name: &[u8]) {
+    if !empty {
+        text(b",");
+    }
+    text(b" ");
+    text(name);
+}
+
+// A number, if it changed. This and each of the rest answer whether the line has no field yet.
+fn change(empty: bool, name: &[u8], before: i64, after: i64) -> bool {
+    if before == after {
+        return empty;
+    }
+    field(empty, name);
+    number(b" ", before);
+    number(b" -> ", after);
+    false
+}
+
+fn millis(empty: bool, name: &[u8], before: Millis, after: Millis) -> bool {
+    change(empty, name, before.0, after.0)
+}
+
+fn word(empty: bool, name: &[u8], before: Word, after: Word) -> bool {
+    millis(empty, name, Millis::of_word(before), Millis::of_word(after))
+}
+
+fn address(a: Address) {
+    number(b"", a.first as i64);
+    number(b".", a.second as i64);
+    number(b".", a.third as i64);
+    number(b".", a.fourth as i64);
+}
+
+fn same(a: Address, b: Address) -> bool {
+    (a.first == b.first) & (a.second == b.second) & (a.third == b.third) & (a.fourth == b.fourth)
+}
+
+fn neighbor(empty: bool, before: Address, after: Address) -> bool {
+    if same(before, after) {
+        return empty;
+    }
+    field(empty, b"NEIGHBOR-ADDRESS ");
+    address(before);
+    text(b" -> ");
+    address(after);
+    false
+}
+
+// Step 1 tells our reading.
+pub fn reading(before: Walk, after: Walk) -> bool {
+    if before.step != 1 {
+        return true;
+    }
+    let time = after.reading;
+    number(b" reading ", time.0);
+    text(b" ms");
+    false
+}
+
+pub fn link(empty: bool, before: Link, after: Link) -> bool {
+    let a = change(
+        empty,
+        b"KEEP-ALIVE",
+        before.keep_alive as i64,
+        after.keep_alive as i64,
+    );
+    let b = neighbor(a, before.neighbor, after.neighbor);
+    word(b, b"TSP", before.tsp, after.tsp)
+}
+
+// What a walk holds, unless the box ended it.
+pub fn held(empty: bool, before: Walk, after: Walk) -> bool {
+    if !host::walk::is_open(after) {
+        return empty;
+    }
+    let a = word(empty, b"DELAY", before.delay, after.delay);
+    word(a, b"OFFSET", before.offset, after.offset)
+}
+
+// The entry of a host id.
+pub fn entry(empty: bool, before: Entry, after: Entry) -> bool {
+    let ttl = before.ttl;
+    let left = after.ttl;
+    let a = millis(empty, b"DELAY", before.delay, after.delay);
+    let b = word(a, b"OFFSET", before.offset, after.offset);
+    let c = change(b, b"TTL", ttl.0 as i64, left.0 as i64);
+    let d = change(c, b"PID", before.pid as i64, after.pid as i64);
+    millis(d, b"time", before.time, after.time)
+}
+
+// The line's end.
+pub fn end(empty: bool) {
+    if empty {
+        text(b" nothing");
+    }
+    text(b"\n");
+}

@@ -1,0 +1,27 @@
+-- What a call comes to: the reply, the clock, the links and the walk afterwards, and what becomes of the entries of which ids.
+use Prim.Native.Nat.{ℕ, _+_}
+use Rattle.clock.specs.declared.Clock.{Clock}
+use Rattle.table.specs.declared.run.Change.{Change}
+use Rattle.table.specs.declared.run.Change.the-variants.{Fresh}
+use Rattle.table.specs.declared.run.Changes.{Changes}
+use Rattle.host.specs.declared.Settings.{Settings}
+use Rattle.host.specs.declared.Links.{Links}
+use Rattle.host.specs.declared.walk.Walk.{Walk}
+use Rattle.host.specs.declared.Reply.{Reply}
+use Rattle.host.specs.declared.Effect.{Effect}
+use Rattle.host.specs.State.{hostCount}
+
+-- ---- what becomes of the entries: nothing, or a change to each id or to one
+
+abbrev pub nothing : Changes
+nothing = record { first = 0; end = 0; change = Fresh }
+
+abbrev pub each : Settings → Change → Changes
+each s change = record { first = 0; end = hostCount s; change = change }
+
+abbrev pub one : (id : ℕ) → Change → Changes
+one id change = record { first = id; end = id + 1; change = change }
+
+-- a reply, and this clock, these links and this walk; the entries stay
+abbrev pub answers : Reply → Clock → Links → Walk → Effect
+answers r c l w = record { reply = r; clock = c; links = l; walk = w; work = nothing }
