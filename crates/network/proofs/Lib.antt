@@ -15,3 +15,4 @@ pub mod Demand3
 pub mod Pair
 pub mod LineCalls
 pub mod WalkEnds
+pub mod EachBox

@@ -17,3 +17,4 @@ pub mod TwoSeats
 pub mod Example
 pub mod Sharp
 pub mod WalkEnds
+pub mod EachBox

@@ -9,6 +9,7 @@ ghost use Rattle.network.specs.Isolation.{Isolation, IsolationFromAfresh
 ghost use Rattle.network.specs.Pair.{Pair};
 ghost use Rattle.network.specs.LineCalls.{LineCalls};
 ghost use Rattle.network.specs.WalkEnds.{WalkEnds};
+ghost use Rattle.network.specs.EachBox.{EachBox};
 ghost use Rattle.network.specs.HalfDelay.{HelloHalfDelay};
 ghost use Rattle.network.specs.Demand3.{Demand3};
 ghost use Rattle.network.specs.SharedRun.{SharedDemand3};
@@ -68,6 +69,11 @@ pub fn inspect_then_act()
 // A call that is handed no count, and a step whose walk holds none, is the line clock's call of document 01, and keeps CLOCK within its day.
 pub fn line_calls()
     ensures { λ _. ⌜ LineCalls ⌝ }
+{}
+
+// Each box of a walk changes what its step or line names, of the clock, of one link or of one entry, and nothing else.
+pub fn each_box()
+    ensures { λ _. ⌜ EachBox ⌝ }
 {}
 
 // A walk that is opened and run to its end leaves what the arrival with the first box's counts leaves, in at most 5 + 4 x 255 boxes.
