@@ -225,6 +225,30 @@ class Answers(unittest.TestCase):
         self.assertEqual(library.tick(*lent[:5], hello.Run(0)), 12)
 
 
+class ManyTicks(unittest.TestCase):
+    """Many ticks in a row are that many calls of tick."""
+
+    def test_same_clock(self):
+        many, one = fresh(time=86_399_990), fresh(time=86_399_990)
+        self.assertEqual(many.ticks(25), Answer.DONE)
+        for _ in range(25):
+            self.assertEqual(one.tick(), Answer.DONE)
+        self.assertEqual(many.read(), one.read())
+        self.assertEqual(many.read().time, 15)
+        self.assertEqual(many.clock.hold, one.clock.hold)
+
+    def test_refused(self):
+        host = fresh()
+        host.settings.nhosts = 0
+        self.assertEqual(host.ticks(3), Answer.SETTING)
+        self.assertEqual(host.clock.clock, 0)
+        for times in (0, -1):
+            with self.assertRaises(OverflowError):
+                host.ticks(times)
+        with self.assertRaises(TypeError):
+            host.ticks(1.5)
+
+
 class CrystalClock(unittest.TestCase):
     """A reading is CLOCK plus the count of a counter of 1,000 Hz, which overflows each TICK ms."""
 

@@ -10,7 +10,8 @@ from ctypes import POINTER, c_char_p, c_int32, c_size_t, c_uint8, c_uint16
 
 from .lent import Clock, Links, Run, Settings, Walk, address_of
 from .structures import CAddress, CClock, CCounter, CEntry, CInspected, CLinks, CRoute, CSent
-from .structures import CSettings, CStepped, CTime, CWalk, into, number as fitting_number
+from .structures import CSettings, CStepped, CTime, CWalk, fitting, into
+from .structures import number as fitting_number
 from .values import LINE_CLOCK, Place
 
 _HERE = os.path.dirname(os.path.abspath(__file__))
@@ -123,6 +124,15 @@ def tick(settings, number, clock, links, walk, run, count=0):
     Midnight is tested on CLOCK plus the crystal's count; so also in adjust and set.
     """
     return _TICK(*_lent(settings, number, clock, links, walk, run), _count(count))
+
+
+def ticks(settings, number, clock, links, walk, run, times, count=0):
+    """So many ticks in a row, at least one: the answer of the last, which is that of each."""
+    lent = _lent(settings, number, clock, links, walk, run)
+    count = _count(count)
+    for _ in range(fitting("times", times, 1, 1 << 32)):
+        answer = _TICK(*lent, count)
+    return answer
 
 
 def adjust(settings, number, clock, links, walk, run, count=0):

@@ -54,6 +54,10 @@ class Host:
         """Adds CLOCK-TICK to the clock. Midnight is tested on CLOCK plus the count."""
         return Answer(library.tick(*self._lent(), count))
 
+    def ticks(self, times, count=0):
+        """So many ticks in a row, at least one: the Answer of the last, which is that of each."""
+        return Answer(library.ticks(*self._lent(), times, count))
+
     def adjust(self, count=0):
         """Moves the clock by DELTA / 128, rounded down, which DELTA loses."""
         return Answer(library.adjust(*self._lent(), count))

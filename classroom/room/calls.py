@@ -1,0 +1,94 @@
+"""The calls of the library: each by its name and the numbers that it is given.
+
+What is given stands so in the list of calls, a packet as hex; so a replay makes the same call.
+"""
+
+import hello_text
+
+import hello
+
+def _counter(counter):
+    count, overflow, again = counter
+    return hello.Counter(count, overflow, again)
+
+
+def _place(place):
+    """A place of a walk as it is told, or None."""
+    if place is None:
+        return None
+    told = {"step": place.step, "line": place.line or None}
+    return {**told, "id": place.host if place.line else None, "name": str(place)}
+
+
+def _read(host, counter):
+    answer, time, date = host.read(_counter(counter))
+    return answer, {"time": time, "date": date}
+
+
+def _lookup(host, address):
+    answer, id, pid = host.lookup([int(octet) for octet in address.split(".")])
+    return answer, {"id": id, "pid": pid}
+
+
+def _send(host, link, counter):
+    answer, message = host.send(link, _counter(counter))
+    return answer, {"length": len(message), "octets": message.hex(" ")}
+
+
+def _inspect(host, link, packet):
+    answer, source, time, tsp, nhosts = host.inspect(link, bytes.fromhex(packet))
+    told = {"source": ".".join(map(str, source)), "time": time, "tsp": tsp, "nhosts": nhosts}
+    return answer, told
+
+
+def _receive(host, link, packet, counter):
+    return host.receive(link, bytes.fromhex(packet), _counter(counter)), {}
+
+
+def _open_walk(host, link, packet):
+    answer, place = host.open_walk(link, bytes.fromhex(packet))
+    return answer, {"next": _place(place)}
+
+
+def _step(host, counter):
+    answer, place = host.step(_counter(counter))
+    return answer, {"next": _place(place)}
+
+
+def _write(host, text):
+    """Not a call on the host: the reader of texts."""
+    try:
+        return 0, {"octets": hello_text.from_text(text).hex(" ")}
+    except hello_text.Refused as refused:
+        return refused.answer, {}
+
+
+_CALLS = {
+    "initialize": lambda host: (host.initialize(), {}),
+    "tick": lambda host, count: (host.tick(count), {}),
+    "adjust": lambda host, count: (host.adjust(count), {}),
+    "set": lambda host, ms, count: (host.set(ms, count), {}),
+    "read": _read,
+    "second": lambda host: (host.second(), {}),
+    "self_report": lambda host, counter: (host.self_report(_counter(counter)), {}),
+    "lookup": _lookup,
+    "send": _send,
+    "inspect": _inspect,
+    "receive": _receive,
+    "open_walk": _open_walk,
+    "step": _step,
+    "write": _write,
+}
+COUNTED = ("tick", "adjust", "set")
+"""The calls that are handed the crystal's count."""
+READING = ("read", "self_report", "send", "receive", "step")
+"""The calls that are handed the counter: count, mark of an overflow, count again."""
+
+
+def make(host, call, given, times=1):
+    """Makes a call, so many times: the number of the last answer, and what it told."""
+    if call == "tick":
+        return int(host.ticks(times, **given)), {}
+    for _ in range(times):
+        answer, told = _CALLS[call](host, **given)
+    return int(answer), told

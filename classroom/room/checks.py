@@ -1,0 +1,74 @@
+"""The form of what a page sends. Each part is checked; Refused says in words what is wrong."""
+
+import math
+
+
+class Refused(Exception):
+    """A message of another form, or one that the room cannot follow now. Nothing was changed."""
+
+
+def whole(what, value, low, high):
+    """A whole number from low to high."""
+    if type(value) is not int or not low <= value <= high:
+        raise Refused(f"{what} must be a whole number from {low:,} to {high:,}")
+    return value
+
+
+def real(what, value, low, high):
+    """A number from low to high."""
+    if type(value) not in (int, float) or not math.isfinite(value) or not low <= value <= high:
+        raise Refused(f"{what} must be a number from {low:,} to {high:,}")
+    return value
+
+
+def switch(what, value):
+    """True or false."""
+    if type(value) is not bool:
+        raise Refused(f"{what} must be true or false")
+    return value
+
+
+def words(what, value, longest):
+    """A text of at most so many characters, none of them half of a pair."""
+    if type(value) is not str or len(value) > longest:
+        raise Refused(f"{what} must be a text of at most {longest:,} characters")
+    if any("\ud800" <= character <= "\udfff" for character in value):
+        raise Refused(f"{what} has a character that is none")
+    return value
+
+
+def one_of(what, value, choices):
+    """One of the words that may stand there."""
+    if type(value) is not str or value not in choices:
+        raise Refused(f"{what} must be one of: {', '.join(choices)}")
+    return value
+
+
+def members(what, value, least, most):
+    """A list of so many members."""
+    if type(value) is not list or not least <= len(value) <= most:
+        count = f"{least}" if least == most else f"{least} to {most}"
+        raise Refused(f"{what} must be a list of {count}")
+    return value
+
+
+def keys(what, value, needed, also=()):
+    """An object with all of the needed keys, and none but those and the others."""
+    if type(value) is not dict:
+        raise Refused(f"{what} must be an object")
+    for key in needed:
+        if key not in value:
+            raise Refused(f"{what} has no {key}")
+    for key in value:
+        if key not in needed and key not in also:
+            raise Refused(f"{what} has an unknown key")
+    return value
+
+
+def address(what, value):
+    """An internet address in four decimal numbers with dots, as its octets."""
+    octets = words(what, value, 15).split(".")
+    good = all(o.isascii() and o.isdigit() and str(int(o)) == o and int(o) < 256 for o in octets)
+    if len(octets) != 4 or not good:
+        raise Refused(f"{what} must be four numbers from 0 to 255 with dots between them")
+    return tuple(int(o) for o in octets)

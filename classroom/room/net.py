@@ -1,0 +1,116 @@
+"""The hosts and their cables. Every change of a seat is a call that is made, and logged, here."""
+
+from collections import deque
+
+from . import calls
+from .answers import in_words
+from .cables import Cables
+from .log import Log
+from .seat import READ, Message, Seat
+from .setup import DAY, hosts
+from .state import changes, state_of, stored, ticked
+
+MOST_POINTS = 20_000
+STORING = ("receive", "step", "self_report")
+"""The calls that may store an entry."""
+
+
+class Net:
+    """Seats, cables and the list of calls, at one millisecond, `now`."""
+
+    def begin(self, set_up):
+        """Hosts freshly set by a checked set-up; the list of calls begins anew."""
+        self.set_up = set_up
+        self.now = 0
+        self.messages = 0
+        self.log = Log(set_up)
+        self.points = deque(maxlen=MOST_POINTS)
+        self.pointed = 0
+        self.cables = Cables([dict(cable) for cable in set_up["cables"]], set_up["seed"])
+        plans = enumerate(zip(set_up["seats"], hosts(set_up)))
+        self.seats = [Seat(number, plan, host) for number, (plan, host) in plans]
+        for seat in self.seats:
+            self.make(seat, "initialize")
+            seat.last = None
+
+    def make(self, seat, call, given=None, times=1):
+        """Makes a call of a seat, after the ticks that are due: the reply, with what changed."""
+        self.catch_up(seat, leave=1 if call in calls.READING else 0)
+        given = {**(given or {}), **seat.handed(call, self.now)}
+        before, reads = seat.state, seat.reads(call)
+        answer, told = calls.make(seat.host, call, given, times)
+        self.log.add(self.now, seat.number, call, given, answer, told, times)
+        seat.state = state_of(seat.host)
+        if reads and answer in READ:
+            seat.given += seat.marks(self.now)
+        if call == "initialize" and answer == 0:
+            seat.given += seat.due(self.now)
+        if call in STORING:
+            self._point(seat, stored(before, seat.state))
+        if not seat.in_walk and call != "step":
+            seat.walk = None
+        moved = changes(before, seat.state)
+        seat.last = {"call": call, **in_words(answer), "changes": moved, "told": told}
+        return seat.last
+
+    def catch_up(self, seat, leave=0):
+        """Gives a seat the ticks that are due; a crystal's last one may be left to a reading."""
+        due = seat.due(self.now) - (leave if seat.crystal else 0)
+        if due <= 0 or seat.in_walk:
+            return
+        given = {"count": seat.count(self.now)}
+        answer, _ = calls.make(seat.host, "tick", given, due)
+        self.log.ticks(self.now, seat.number, given, answer, due)
+        seat.given += due
+        seat.state = ticked(seat.state, seat.host)
+
+    def true(self, seat, id):
+        """The clock of the seat with that id less this seat's, in ms; None without such a seat."""
+        if id >= len(self.seats):
+            return None
+        apart = self.seats[id].reading(self.now) - seat.reading(self.now)
+        return (apart + DAY // 2) % DAY - DAY // 2
+
+    def _point(self, seat, ids):
+        for id in ids:
+            entry, true = seat.state.table[id], self.true(seat, id)
+            if true is not None:
+                self.points.append([self.now, seat.number, id, entry.offset - true, entry.delay])
+                self.pointed += 1
+
+    def send(self, seat, link, way=None):
+        """A send of a seat; the message goes on its cable, and may be there at once."""
+        reply = self.make(seat, "send", {"link": link})
+        if reply["answer"] == 0:
+            octets = bytes.fromhex(reply["told"]["octets"])
+            self.cables.send(self.now, seat.number, link, self.new_message(), octets, way)
+            self.arrivals()
+        return reply
+
+    def new_message(self):
+        """The number of a new message."""
+        self.messages += 1
+        return self.messages
+
+    def arrivals(self):
+        """The messages that have arrived wait at their links; a seat that works by itself takes
+        them. Tells whether there were any."""
+        some = False
+        while way := self.cables.arrived(self.now):
+            number, link = way.to
+            seat, some = self.seats[number], True
+            seat.arrive(Message(way.message, link, way.octets, self.now))
+            self.take_all(seat)
+        return some
+
+    def take_all(self, seat):
+        """A seat that works by itself takes all that waits."""
+        while seat.waiting and not seat.by_hand and not seat.in_walk:
+            self.receive(seat, next(iter(seat.waiting.values())))
+
+    def receive(self, seat, message):
+        """A seat takes a message that waits."""
+        reply = self.make(seat, "receive", message.given)
+        if reply["answer"] not in (1, 12, 16):
+            del seat.waiting[message.number]
+        return reply

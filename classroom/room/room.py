@@ -1,0 +1,66 @@
+"""The room as the pages meet it: what they ask for, and what they are shown."""
+
+from . import views
+from .checks import Refused, keys
+from .setup import checked, ring
+from .state import shown
+from .student import STUDENT
+from .teacher import TEACHER
+from .timed import Timed
+
+
+class Room(Timed):
+    """A room of up to sixteen seats. What a page asks for that cannot be done raises Refused."""
+
+    def __init__(self, set_up):
+        self.number = 0
+        self.speed = 1
+        self.show = "picture"
+        self.begin(checked(set_up))
+
+    @classmethod
+    def fresh(cls, seats=4):
+        """A first room: so many hosts in a ring, which work by themselves."""
+        return cls(ring(seats))
+
+    def begin(self, set_up, exercise=None):
+        """A new room by a checked set-up, paused."""
+        super().begin(set_up)
+        self.number += 1
+        self.running = False
+        self.exercise = exercise
+
+    def teacher(self, message):
+        """Does what the teacher's page asks for, and replies."""
+        return self._asked(TEACHER, message, self)
+
+    def seat(self, number, message):
+        """Does what a student's page asks for, and replies."""
+        return self._asked(STUDENT, message, self, self.at(number))
+
+    def _asked(self, commands, message, *of):
+        asked = message.get("do") if type(message) is dict else None
+        command = commands.get(asked) if type(asked) is str else None
+        if command is None:
+            raise Refused("there is no such thing to do")
+        do, needed, also = command
+        keys("the message", message, ("do", *needed), ("n", *also))
+        return do(*of, message)
+
+    def at(self, number):
+        """The seat of that number."""
+        if type(number) is not int or not 0 <= number < len(self.seats):
+            raise Refused("there is no such seat in this room")
+        return self.seats[number]
+
+    def teacher_view(self, since=None):
+        """What the teacher's page shows; `since` is the mark of the view before, or None."""
+        return views.teacher_view(self, since)
+
+    def seat_view(self, number, first=False):
+        """What a student's page shows."""
+        return views.seat_view(self, number, first)
+
+    def lines(self):
+        """The list of calls as a file, line by line."""
+        return self.log.lines([shown(seat.state) for seat in self.seats])

@@ -1,0 +1,129 @@
+"""What a room is to be: the checks of a set-up, and the settings that follow from it."""
+
+import hello
+
+from .checks import Refused, keys, members, switch, whole, words
+
+SEATS = hello.HOSTS
+CABLES = 32
+DAY = 86_400_000
+LONGEST_WAY = 60_000
+OVERFLOW = 65_536
+"""The ms after which a crystal's counter overflows."""
+HOLD_INTERVAL = 10
+DATE = hello.date_word(1984, 1, 31)
+
+
+def checked(given):
+    """The set-up in full, each part of it checked."""
+    keys("the set-up", given, ("seats", "cables"), ("interval", "seed", "time", "nhosts"))
+    seats = members("seats", given["seats"], 1, SEATS)
+    time = whole("time", given.get("time", 43_200_000), 0, DAY - 1)
+    nhosts = whole("nhosts", given.get("nhosts", len(seats)), len(seats), 32)
+    seats = [_seat(number, seat, time, nhosts) for number, seat in enumerate(seats)]
+    cables = [_cable(cable, len(seats)) for cable in members("cables", given["cables"], 0, CABLES)]
+    ends = [tuple(end) for cable in cables for end in cable["ends"]]
+    if len(set(ends)) != len(ends):
+        raise Refused("two cables end at the same link")
+    return {
+        "seats": seats,
+        "cables": cables,
+        "interval": whole("interval", given.get("interval", 5), 1, 60),
+        "seed": whole("seed", given.get("seed", 1), 0, 2**32 - 1),
+        "time": time,
+        "nhosts": nhosts,
+    }
+
+
+def _seat(number, given, time, nhosts):
+    keys("a seat", given, (), ("name", "difference", "crystal", "by_hand", "clock_host"))
+    clock_host = given.get("clock_host")
+    seat = {
+        "name": words("name", given.get("name", f"seat {number}"), 24),
+        "difference": whole("difference", given.get("difference", 0), -DAY, DAY),
+        "crystal": switch("crystal", given.get("crystal", False)),
+        "by_hand": switch("by_hand", given.get("by_hand", False)),
+        "clock_host": clock_host
+        if clock_host is None
+        else whole("clock_host", clock_host, 0, nhosts - 1),
+    }
+    if not 0 <= time + seat["difference"] < DAY:
+        raise Refused(f"the clock of seat {number} would start outside the day")
+    return seat
+
+
+def _cable(given, seats):
+    keys("a cable", given, ("ends", "ways"), ("loss",))
+    ends = [_end(end, seats) for end in members("ends", given["ends"], 2, 2)]
+    if ends[0][0] == ends[1][0]:
+        raise Refused("a cable joins two different seats")
+    return {"ends": ends, **conditions(given["ways"], given.get("loss", [0, 0]))}
+
+
+def _end(given, seats):
+    seat, link = members("an end", given, 2, 2)
+    return [whole("seat", seat, 0, seats - 1), whole("link", link, 1, hello.LINKS)]
+
+
+def conditions(ways, loss):
+    """A cable's times and losses, from the first end to the second and back."""
+    ways = [_way(way) for way in members("ways", ways, 2, 2)]
+    loss = [whole("loss", percent, 0, 100) for percent in members("loss", loss, 2, 2)]
+    return {"ways": ways, "loss": loss}
+
+
+def _way(given):
+    least, most = members("a way", given, 2, 2)
+    least = whole("the least time", least, 0, LONGEST_WAY)
+    return [least, whole("the most time", most, least, LONGEST_WAY)]
+
+
+def links_of(set_up, seat):
+    """How many links the seat has: up to the last one with a cable, and one at least."""
+    ends = [end for cable in set_up["cables"] for end in cable["ends"]]
+    return max([1] + [link for at, link in ends if at == seat])
+
+
+def hosts(set_up):
+    """The hosts of a set-up, one for each seat, still to be initialized."""
+    room = hello.Room(len(set_up["seats"]))
+    return [room.host(number, _settings(set_up, number)) for number in range(len(set_up["seats"]))]
+
+
+def _settings(set_up, number):
+    seat = set_up["seats"][number]
+    clock_host = seat["clock_host"]
+    return hello.Settings(
+        address=address_of(number),
+        address_offset=1,
+        nhosts=set_up["nhosts"],
+        clock_host=hello.NO_CLOCK_HOST if clock_host is None else clock_host,
+        hold_interval=HOLD_INTERVAL,
+        clock_tick=(OVERFLOW if seat["crystal"] else 1) * hello.UNITS_PER_MS,
+        time=set_up["time"] + seat["difference"],
+        date=DATE,
+        links=links_of(set_up, number) * (hello.LinkSetting(),),
+    )
+
+
+def address_of(number):
+    """The address of the seat of that number."""
+    return hello.Address(192, 0, 2, number + 1)
+
+
+def ring(seats):
+    """A first room: so many hosts in a ring, with clocks that differ, working by themselves."""
+    names = ["Ada", "Ben", "Cleo", "Dan", "Eva", "Finn", "Gita", "Hugo"]
+    names += ["Ines", "Jan", "Kira", "Leo", "Mara", "Nils", "Olga", "Paul"]
+    differences = [0, 500, -1_200, 3_000]
+    back = 2 if seats > 2 else 1
+    return {
+        "seats": [
+            {"name": names[k], "difference": differences[k % 4], "crystal": k % 4 == 3}
+            for k in range(seats)
+        ],
+        "cables": [
+            {"ends": [[k, 1], [(k + 1) % seats, back]], "ways": [[10, 40], [10, 40]]}
+            for k in range(seats if seats > 2 else seats - 1)
+        ],
+    }

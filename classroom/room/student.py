@@ -1,0 +1,140 @@
+"""What a student's page asks for: the calls of one seat, each checked, then made."""
+
+from .cables import MOST
+from .checks import Refused, address, keys, one_of, switch, whole, words
+from .fields import dotted
+from .packet import packet
+from .seat import READ, Message
+from .setup import address_of
+from .sums import Box, sum_of
+
+LONGEST_TEXT = 4_000
+
+
+def call(room, seat, message):
+    """A call by its name."""
+    if room.log.full:
+        raise Refused("the list of calls is full: the room has to be set up anew")
+    name = one_of("call", message["call"], CALLS)
+    make, needed, also = CALLS[name]
+    keys(f"a {name}", message, ("do", "call", *needed), ("n", "seat", *also))
+    return make(room, seat, message)
+
+
+def by_hand(room, seat, message):
+    """The seat works by hand, or by itself."""
+    on = switch("on", message["on"])
+    if seat.in_walk and not on:
+        raise Refused("a walk is open: it has to be ended first")
+    seat.by_hand = on
+    room.take_all(seat)
+    return {"by_hand": on}
+
+
+def _plain(name):
+    return lambda room, seat, message: room.make(seat, name)
+
+
+def _set(room, seat, message):
+    return room.make(seat, "set", {"ms": whole("ms", message["ms"], -(2**31), 2**31 - 1)})
+
+
+def _lookup(room, seat, message):
+    return room.make(seat, "lookup", {"address": dotted(address("address", message["address"]))})
+
+
+def _link(seat, message):
+    return whole("link", message["link"], 1, seat.host.settings.link_count)
+
+
+def _send(room, seat, message):
+    link = _link(seat, message)
+    if room.cables.full(seat.number, link):
+        raise Refused(f"{MOST} messages are on their way on this cable: it holds no more")
+    return room.send(seat, link)
+
+
+def _waiting(seat, message):
+    number = message["message"]
+    if type(number) is not int or number not in seat.waiting:
+        raise Refused("there is no such message at this seat")
+    return seat.waiting[number]
+
+
+def _inspect(room, seat, message):
+    return room.make(seat, "inspect", _waiting(seat, message).given)
+
+
+def _receive(room, seat, message):
+    return room.receive(seat, _waiting(seat, message))
+
+
+def _open_walk(room, seat, message):
+    if not seat.by_hand:
+        raise Refused("this seat works by itself: a walk needs one that works by hand")
+    walked = _waiting(seat, message)
+    reply = room.make(seat, "open_walk", walked.given)
+    if reply["answer"] == 0:
+        del seat.waiting[walked.number]
+        first = reply["told"]["next"]
+        seat.walk = {"message": walked, "next": first, "boxes": [], "ended": False}
+    return reply
+
+
+def _step(room, seat, message):
+    walk = seat.walk if seat.in_walk else None
+    before, reply = seat.state, room.make(seat, "step")
+    if walk is None:
+        seat.walk = None
+        return reply
+    place, walked = walk["next"], walk["message"]
+    if reply["answer"] in READ:
+        own = dotted(address_of(seat.number))
+        box = Box(place, own, walked.link, walked.octets, before, seat.state)
+        made = {**place, "sum": sum_of(box), "changes": reply["changes"]}
+        walk["boxes"].append(made)
+        walk["next"] = reply["told"]["next"]
+        walk["ended"] = not seat.in_walk
+        reply["told"].update(box=place["name"], sum=made["sum"])
+    return reply
+
+
+def _write(room, seat, message):
+    link, text = _link(seat, message), words("text", message["text"], LONGEST_TEXT)
+    far = room.cables.far(seat.number, link)
+    source = address_of(far.seat if far else seat.number)
+    if "source" in message:
+        source = address("source", message["source"])
+    reply = room.make(seat, "write", {"text": text})
+    if reply["answer"] == 0:
+        octets = packet(bytes.fromhex(reply["told"]["octets"]), source, address_of(seat.number))
+        written = Message(room.new_message(), link, octets, room.now)
+        seat.arrive(written)
+        reply["told"]["message"] = written.number
+    return reply
+
+
+def _drop(room, seat, message):
+    del seat.waiting[_waiting(seat, message).number]
+    return {"dropped": message["message"]}
+
+
+CALLS = {
+    **{
+        name: (_plain(name), (), ())
+        for name in ("initialize", "tick", "adjust", "read", "second", "self_report")
+    },
+    "set": (_set, ("ms",), ()),
+    "lookup": (_lookup, ("address",), ()),
+    "send": (_send, ("link",), ()),
+    "inspect": (_inspect, ("message",), ()),
+    "receive": (_receive, ("message",), ()),
+    "open_walk": (_open_walk, ("message",), ()),
+    "step": (_step, (), ()),
+    "write": (_write, ("link", "text"), ("source",)),
+    "drop": (_drop, ("message",), ()),
+}
+"""By its name: what makes the call, the keys that it needs, the keys that it may have."""
+_KEYS = {key for _, needed, also in CALLS.values() for key in (*needed, *also)}
+
+STUDENT = {"call": (call, ("call",), tuple(_KEYS)), "by_hand": (by_hand, ("on",), ())}

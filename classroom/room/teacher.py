@@ -1,0 +1,130 @@
+"""What the teacher's page asks for."""
+
+from . import exercises, student
+from .checks import Refused, one_of, real, switch, whole
+from .setup import checked, conditions
+from .timed import SECOND
+
+MINUTE = 60 * SECOND
+MOST_CALLS = 50_000
+"""An exercise is run to its end at once unless it takes more calls than these, as one of seats
+that work by themselves may."""
+
+
+def _set_up(room, message):
+    room.begin(checked({key: value for key, value in message.items() if key not in ("do", "n")}))
+    return {"room": room.number}
+
+
+def _run(room, message):
+    room.running = True
+    return {"running": True}
+
+
+def _pause(room, message):
+    room.running = False
+    return {"running": False}
+
+
+def _speed(room, message):
+    room.speed = real("factor", message["factor"], 0.01, 100)
+    return {"speed": room.speed}
+
+
+def _may_go_on(room):
+    if room.log.full:
+        raise Refused("the list of calls is full: the room has to be set up anew")
+    if waiting := room.waiting_for():
+        names = ", ".join(room.seats[number].name for number in waiting)
+        raise Refused(f"time stands: the room waits for {names}")
+
+
+def _one_second(room, message):
+    _may_go_on(room)
+    room.go_on(room.now + SECOND)
+    return {"time": room.now}
+
+
+def _one_message(room, message):
+    _may_go_on(room)
+    if not room.cables.on_their_way and all(seat.by_hand for seat in room.seats):
+        raise Refused("no message is on its way, and no seat works by itself")
+    room.to_arrival(MINUTE)
+    return {"time": room.now}
+
+
+def _waits(room, message):
+    room.waits = switch("on", message["on"])
+    return {"waits": room.waits}
+
+
+def _by_hand(room, message):
+    return student.by_hand(room, room.at(message["seat"]), message)
+
+
+def _cable(room, message):
+    cables = room.cables.cables
+    if not cables:
+        raise Refused("this room has no cable")
+    number = whole("cable", message["cable"], 0, len(cables) - 1)
+    loss = message.get("loss", cables[number]["loss"])
+    room.cables.change(number, conditions(message["ways"], loss))
+    return {"cable": number}
+
+
+def _show(room, message):
+    room.show = one_of("what", message["what"], ("nothing", "picture", "tables"))
+    return {"show": room.show}
+
+
+def _exercise(room, message):
+    found = exercises.EXERCISES[whole("number", message["number"], 1, len(exercises.EXERCISES)) - 1]
+    room.begin(checked(found.set_up), exercises.Course(found))
+    return {"exercise": found.number}
+
+
+def _course(room):
+    if room.exercise is None:
+        raise Refused("no exercise is set up")
+    if room.exercise.ended:
+        raise Refused("the exercise has come to its end")
+    if room.log.full:
+        raise Refused("the list of calls is full: the room has to be set up anew")
+    return room.exercise
+
+
+def _next(room, message):
+    return _course(room).next(room)
+
+
+def _to_the_end(room, message):
+    course, most = _course(room), room.log.count + MOST_CALLS
+    reply = course.next(room)
+    while not course.ended and room.log.count < most:
+        reply = course.next(room)
+    return reply
+
+
+def _call(room, message):
+    return student.call(room, room.at(message["seat"]), message)
+
+
+_needed, _keys_of_calls = student.STUDENT["call"][1:]
+
+TEACHER = {
+    "set_up": (_set_up, ("seats", "cables"), ("interval", "seed", "time", "nhosts")),
+    "run": (_run, (), ()),
+    "pause": (_pause, (), ()),
+    "speed": (_speed, ("factor",), ()),
+    "one_second": (_one_second, (), ()),
+    "one_message": (_one_message, (), ()),
+    "waits": (_waits, ("on",), ()),
+    "by_hand": (_by_hand, ("seat", "on"), ()),
+    "cable": (_cable, ("cable", "ways"), ("loss",)),
+    "show": (_show, ("what",), ()),
+    "exercise": (_exercise, ("number",), ()),
+    "next": (_next, (), ()),
+    "to_the_end": (_to_the_end, (), ()),
+    "call": (_call, ("seat", *_needed), _keys_of_calls),
+}
+"""By its name: what does it, the keys that the message needs, the keys that it may have."""

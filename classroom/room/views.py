@@ -1,0 +1,151 @@
+"""What the pages show."""
+
+from . import exercises
+from .answers import ANSWERS
+from .checklist import CHECKLIST
+from .fields import clock_words, day, dotted
+from .setup import address_of
+from .state import DOWN, ms
+
+
+def teacher_view(room, since):
+    """The teacher's view; `since` is the mark of the view before, or None."""
+    first = since is None or since[0] != room.number
+    _, line, point = [room.number, 0, 0] if first else since
+    view = {
+        "room": _room(room),
+        "seats": [seat_of(room, seat, teacher=True) for seat in room.seats],
+        "cables": _cables(room),
+        "on_their_way": room.cables.shown(room.now),
+        "exercise": room.exercise.shown() if room.exercise else None,
+        "calls": room.log.since(line),
+        "points": _points(room, point),
+        "mark": [room.number, room.log.count, room.pointed],
+    }
+    return {**view, **_once(), "exercises": exercises.listed()} if since is None else view
+
+
+def seat_view(room, number, first):
+    """A student's view; its seat is None where the room has no such one."""
+    seat = room.seats[number] if 0 <= number < len(room.seats) else None
+    view = {
+        "seat": seat and seat_of(room, seat),
+        "room": _room(room),
+        "others": None if room.show == "nothing" else _others(room),
+    }
+    return {**view, **_once()} if first else view
+
+
+def _once():
+    """What does not change."""
+    return {"checklist": CHECKLIST, "answers": list(ANSWERS.values())}
+
+
+def _points(room, since):
+    kept = list(room.points)
+    return kept[max(len(kept) - (room.pointed - since), 0) :]
+
+
+def _room(room):
+    return {
+        "number": room.number,
+        "time": room.now,
+        "running": room.running,
+        "speed": room.speed,
+        "waits": room.waits,
+        "waiting_for": room.waiting_for(),
+        "full": room.log.full,
+        "show": room.show,
+        "interval": room.set_up["interval"],
+    }
+
+
+def _cables(room):
+    return [{"cable": number, **cable} for number, cable in enumerate(room.cables.cables)]
+
+
+def _others(room):
+    """What a student sees of the others."""
+    tables = room.show == "tables"
+    return {
+        "seats": [
+            {
+                "number": seat.number,
+                "name": seat.name,
+                **({"clock": _clock(room, seat), "table": _table(room, seat)} if tables else {}),
+            }
+            for seat in room.seats
+        ],
+        "cables": _cables(room),
+        "on_their_way": room.cables.shown(room.now),
+    }
+
+
+def seat_of(room, seat, teacher=False):
+    """A seat; the true differences are for the teacher."""
+    return {
+        "number": seat.number,
+        "name": seat.name,
+        "id": seat.number,
+        "address": dotted(address_of(seat.number)),
+        "nhosts": room.set_up["nhosts"],
+        "by_hand": seat.by_hand,
+        "crystal": seat.crystal,
+        "difference": seat.difference,
+        "clock": _clock(room, seat),
+        "links": [_link(room, seat, link) for link in range(1, len(seat.state.links) + 1)],
+        "table": _table(room, seat, teacher),
+        "waiting": [message.shown(room.now) for message in seat.waiting.values()],
+        "walk": seat.walk and _walk(room, seat.walk),
+        "last": seat.last,
+    }
+
+
+def _clock(room, seat):
+    _, delta, hold, date = seat.state.clock
+    time = seat.reading(room.now, due=False)
+    return {
+        "time": time,
+        "words": clock_words(time),
+        "date": date,
+        "day": day(date),
+        "delta": ms(delta),
+        "hold": hold,
+    }
+
+
+def _link(room, seat, number):
+    neighbor, keep_alive, tsp = seat.state.links[number - 1]
+    far = room.cables.far(seat.number, number)
+    return {
+        "link": number,
+        "neighbor": dotted(neighbor),
+        "keep_alive": keep_alive,
+        "tsp": tsp,
+        "cable": far and far.cable,
+        "to": far and far.seat,
+    }
+
+
+def _table(room, seat, teacher=False):
+    entries = enumerate(seat.state.table)
+    return [_entry(room, seat, id, entry, teacher) for id, entry in entries]
+
+
+def _entry(room, seat, id, entry, teacher):
+    live = entry.delay < DOWN
+    shown = {"id": id, "name": room.seats[id].name if id < len(room.seats) else f"host {id}"}
+    shown.update(entry._asdict(), live=live, bound=101 * entry.delay / 200 if live else None)
+    if teacher:
+        true = room.true(seat, id)
+        error = None if true is None or not live else entry.offset - true
+        shown.update(true=true, error=error)
+        shown["within"] = None if error is None else 200 * abs(error) <= 101 * entry.delay
+    return shown
+
+
+def _walk(room, walk):
+    message = walk["message"]
+    told = {part: walk[part] for part in ("next", "boxes", "ended")}
+    packet = message.shown(room.now)
+    return {"message": message.number, "link": message.link, **told, "packet": packet}
