@@ -1,0 +1,80 @@
+// One WebSocket beside the page. Messages are numbered, each gets a promise of its reply.
+// A lost connection is opened again, with a notice that stays until it is back.
+
+import { say, byId } from "./dom.js";
+
+const LOST = "The connection is lost. Trying again by itself; nothing you see is new until it is back.";
+const LONG = "Still no connection. If the class was started anew, open the address that it has printed now. "
+  + "A seat can be open in four pages at most.";
+
+function notice(words) {
+  const node = byId("notice");
+  say(node, words);
+  node.hidden = words === "";
+}
+
+// onView(view, first): first is true for the first view of each connection.
+export function connect(onView) {
+  const asked = new Map();
+  let socket = null;
+  let number = 0;
+  let pause = 500;
+  let failed = 0;
+  let first = true;
+
+  function take(message) {
+    if (message.view) {
+      onView(message.view, first);
+      first = false;
+    }
+    const waiter = asked.get(message.n);
+    if (!waiter) return;
+    asked.delete(message.n);
+    if (message.refused !== undefined) waiter.reject(new Error(message.refused));
+    else waiter.resolve(message.reply ?? {});
+  }
+
+  function closed() {
+    for (const waiter of asked.values()) waiter.reject(new Error("the connection is lost"));
+    asked.clear();
+    failed += 1;
+    notice(failed > 4 ? LONG : LOST);
+    setTimeout(open, pause);
+    pause = Math.min(pause * 2, 5000);
+  }
+
+  function open() {
+    const scheme = location.protocol === "https:" ? "wss:" : "ws:";
+    socket = new WebSocket(`${scheme}//${location.host}${location.pathname.replace(/\/$/, "")}/socket`);
+    first = true;
+    socket.addEventListener("open", () => {
+      pause = 500;
+      failed = 0;
+      notice("");
+    });
+    socket.addEventListener("message", (event) => take(JSON.parse(event.data)));
+    socket.addEventListener("close", closed);
+  }
+
+  open();
+  return function ask(message) {
+    if (socket.readyState !== WebSocket.OPEN) return Promise.reject(new Error("the connection is lost"));
+    number += 1;
+    const n = number;
+    socket.send(JSON.stringify({ n, ...message }));
+    return new Promise((resolve, reject) => asked.set(n, { resolve, reject }));
+  };
+}
+
+// Shows views at the pace of the screen, and only the last one where several came.
+export function paced(show) {
+  let last = null;
+  return (view) => {
+    if (last === null) requestAnimationFrame(() => {
+      const view = last;
+      last = null;
+      show(view);
+    });
+    last = view;
+  };
+}

@@ -1,0 +1,137 @@
+// The teacher's page.
+
+import { byId, el, options, say } from "./dom.js";
+import { connect, paced } from "./socket.js";
+import { makeControls } from "./controls.js";
+import { makePicture } from "./picture.js";
+import { makeTraffic } from "./traffic.js";
+import { makeTables } from "./table.js";
+import { makePlot } from "./plot.js";
+import { makeCalls } from "./calls.js";
+import { makeExercises } from "./exercises.js";
+import { makeSetup } from "./setup.js";
+import { makeStart } from "./start.js";
+import { makeSeat } from "./seat.js";
+import { makeTabs } from "./tabs.js";
+import { answersTable } from "./answer.js";
+import { listen } from "./keys.js";
+
+let view = null;
+let room = null;
+
+// Sends a message. Gives its reply; where it is refused, that is shown in words, and it gives false.
+async function send(message) {
+  try {
+    const reply = await ask(message);
+    say(byId("refused"), "");
+    return reply;
+  } catch (error) {
+    say(byId("refused"), `Not done: ${error.message}`);
+    return false;
+  }
+}
+
+const chosen = byId("seat-choice");
+const seatNumber = () => Number(chosen.value);
+const controls = makeControls(send);
+const tables = makeTables(byId("tables"), { teacher: true });
+const plot = makePlot();
+const calls = makeCalls();
+const traffic = makeTraffic();
+const exercises = makeExercises(send, () => choose("tables", true));
+const setup = makeSetup(send);
+const seat = makeSeat(byId("seat"), {
+  ask: (message) => ask({ ...message, seat: seatNumber() }),
+  byHand: (on) => ask({ do: "by_hand", seat: seatNumber(), on }),
+});
+const choose = makeTabs(byId("tabs"), () => view && show(view));
+const picture = makePicture(byId("picture"), atSeat);
+
+function atSeat(number) {
+  chosen.value = String(number);
+  choose("seat");
+}
+
+const start = makeStart({
+  run: controls.actions.run,
+  exercises: () => choose("exercises", true),
+  byHand: async (number) => {
+    await send({ do: "waits", on: true });
+    await send({ do: "by_hand", seat: number, on: true });
+    atSeat(number);
+  },
+  walk: (number) => {
+    atSeat(number);
+    const waiting = view.seats.find((s) => s.number === number).waiting[0];
+    if (waiting) seat.openWalk(waiting.message);
+  },
+});
+
+// What each tab shows is updated only while it is seen.
+const panels = {
+  tables: () => {
+    options(byId("tables-seat"), [["", "all"], ...view.seats.map((s) => [s.number, s.name])]);
+    const wanted = byId("tables-seat").value;
+    tables(view.seats.filter((s) => wanted === "" || String(s.number) === wanted));
+  },
+  plot: () => plot.update(view),
+  calls: () => calls.update(view),
+  setup: () => setup.update(view),
+  seat: () => {
+    const now = view.seats.find((s) => s.number === seatNumber()) ?? view.seats[0];
+    say(byId("seat-title"), `At seat ${now.name}`);
+    seat.update(now, view.room.number);
+  },
+};
+
+function show(next) {
+  view = next;
+  const names = Object.fromEntries(view.seats.map((s) => [s.number, s.name]));
+  options(chosen, view.seats.map((s) => [s.number, s.name]));
+  controls.update(view.room, names);
+  picture(view, traffic.busy);
+  start.update(view);
+  exercises.update(view.exercise);
+  panels[document.body.dataset.tab]?.();
+}
+
+const paint = paced(show);
+
+const ask = connect((next, first) => {
+  if (first || next.room.number !== room) {
+    calls.clear();
+    plot.clear();
+    traffic.clear();
+  }
+  room = next.room.number;
+  calls.add(next.calls ?? []);
+  traffic.add(next);
+  plot.add(next.points ?? []);
+  if (next.checklist) seat.setChecklist(next.checklist);
+  if (next.exercises) exercises.list(next.exercises);
+  if (next.answers) byId("answers").replaceChildren(el("summary", {}, "All answers"), answersTable(next.answers));
+  if (next.addresses) start.setAddresses(next.addresses);
+  paint(next);
+});
+
+// What is chosen within a tab counts at once, also while the room stands.
+for (const field of document.querySelectorAll("[role=tabpanel] > .row select, [role=tabpanel] > .row input")) {
+  field.addEventListener("change", () => view && show(view));
+}
+choose("tables");
+
+// What sticks below the header has to know how high that is.
+new ResizeObserver(([entry]) => {
+  const sticks = getComputedStyle(entry.target).position === "sticky";
+  document.documentElement.style.setProperty("--head", `${sticks ? Math.round(entry.target.offsetHeight) : 0}px`);
+}).observe(document.querySelector("header"));
+
+listen({
+  r: controls.actions.turn,
+  s: controls.actions.second,
+  m: controls.actions.message,
+  "-": controls.actions.slower,
+  "+": controls.actions.faster,
+  b: () => seat.step(),
+  n: exercises.next,
+});
