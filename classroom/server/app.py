@@ -1,0 +1,119 @@
+"""The addresses of the class."""
+
+import asyncio
+import contextlib
+
+from aiohttp import web
+
+from . import clock, files, sockets
+from .guard import guard, refused, say
+
+# A page that does nothing but come back without the key. The cookie is for requests from this
+# server's own pages alone; a redirect would still count as a request from where the link was.
+COME_BACK = (
+    '<!doctype html><html lang="en"><meta charset="utf-8"><title>HELLO class</title>'
+    '<link rel="icon" href="/web/icon.svg"><meta http-equiv="refresh" content="0; url={place}"></html>\n'
+)
+
+
+class Addresses:
+    """The handlers, over a hall, its keys and the pages' files."""
+
+    def __init__(self, hall, keys, pages):
+        self._hall = hall
+        self._keys = keys
+        self._files = pages
+
+    def routes(self):
+        """Every address there is, each for GET alone."""
+        return [
+            web.get(path, handler, allow_head=False)
+            for path, handler in (
+                ("/teacher", self.page),
+                ("/teacher/socket", self.socket),
+                ("/teacher/calls.jsonl", self.calls),
+                (r"/seat/{seat:0|[1-9][0-9]?}", self.page),
+                (r"/seat/{seat:0|[1-9][0-9]?}/socket", self.socket),
+                (r"/web/{name:[a-z0-9_.-]+}", self.file),
+            )
+        ]
+
+    async def page(self, request):
+        """A page; with a right key, the cookie and the way back without the key."""
+        place = _place(request)
+        if "key" in request.query:
+            if not self._keys.right(place, request.query["key"]):
+                return _no_key()
+            response = web.Response(text=COME_BACK.format(place=place), content_type="text/html")
+            self._keys.give(place, response)
+            return response
+        if not self._keys.holds(place, request):
+            return _no_key()
+        return self._sent("teacher.html" if place == "/teacher" else "student.html")
+
+    async def socket(self, request):
+        """The socket of a page. A browser always says from which origin it opens one."""
+        place = _place(request)
+        if not self._keys.holds(place, request):
+            return _no_key()
+        if "Origin" not in request.headers:
+            return refused(403, "A socket is opened by a page of the class.")
+        if not self._hall.has_room_for(place):
+            return refused(429, "This place is open in too many pages.")
+        return await sockets.serve(request, self._hall, place)
+
+    async def calls(self, request):
+        """The list of calls as a file."""
+        if not self._keys.holds("/teacher", request):
+            return _no_key()
+        response = web.StreamResponse()
+        response.content_type = "application/jsonl"
+        response.headers["Content-Disposition"] = 'attachment; filename="calls.jsonl"'
+        await response.prepare(request)
+        for part in self._hall.file():
+            await response.write(part.encode())
+            await asyncio.sleep(0)
+        await response.write_eof()
+        return response
+
+    async def file(self, request):
+        """One of the pages' files. They hold nothing of the room, and need no key."""
+        return self._sent(request.match_info["name"])
+
+    def _sent(self, name):
+        if name not in self._files:
+            return refused(404, "There is no such file.")
+        sort, octets = self._files[name]
+        return web.Response(body=octets, headers={"Content-Type": sort})
+
+
+def _place(request):
+    """The place of an address, "/teacher" or "/seat/3"."""
+    seat = request.match_info.get("seat")
+    return "/teacher" if seat is None else f"/seat/{seat}"
+
+
+def _no_key():
+    return refused(403, "The key is missing or wrong: open the address as the teacher gave it.")
+
+
+def application(hall, keys, hosts, pages=None):
+    """The class as an aiohttp application, for requests to these host names."""
+    addresses = Addresses(hall, keys, files.read_all() if pages is None else pages)
+    app = web.Application(middlewares=[guard(hosts)])
+    app.add_routes(addresses.routes())
+    app.on_response_prepare.append(say)
+
+    async def time_goes_on(_app):
+        keeping = asyncio.create_task(clock.keep(hall))
+        yield
+        keeping.cancel()
+        with contextlib.suppress(asyncio.CancelledError):
+            await keeping
+
+    async def over(_app):
+        await sockets.close_all(hall)
+
+    app.cleanup_ctx.append(time_goes_on)
+    app.on_shutdown.append(over)
+    return app

@@ -1,0 +1,98 @@
+"""What ./class is asked for. Run as a program it only tells: see STATUS."""
+
+import argparse
+import os
+import sys
+
+PORT = 8891
+SEATS = 4
+MOST_SEATS = 16
+
+# How the program ends: the class is to be served, a file is to be run again, the help was
+# printed, an argument is wrong.
+SERVE, HELP, WRONG, REPLAY = 0, 1, 2, 3
+
+
+def whole(least, most):
+    """Reads a whole number of that range."""
+
+    def read(text):
+        if not (text.isascii() and text.isdigit() and len(text) < 10 and least <= int(text) <= most):
+            raise argparse.ArgumentTypeError(f"must be a whole number from {least} to {most}")
+        return int(text)
+
+    return read
+
+
+def file_to_read(text):
+    """The whole path of a file that can be read."""
+    if not os.path.isfile(text) or not os.access(text, os.R_OK):
+        raise argparse.ArgumentTypeError(f"names no file that can be read: {text}")
+    return os.path.abspath(text)
+
+
+class _Parser(argparse.ArgumentParser):
+    def error(self, message):
+        if message.startswith("argument "):
+            message = message.removeprefix("argument ").replace(": ", " ", 1)
+        message = message.replace("expected one argument", "lacks its value")
+        message = message.replace("unrecognized arguments:", "there is no option")
+        self.exit(WRONG, f"{message}\n./class --help tells more.\n")
+
+
+def parser():
+    """The arguments of ./class."""
+    made = _Parser(
+        prog="./class",
+        allow_abbrev=False,
+        add_help=False,
+        usage="./class [--port N] [--seats N] [--open-to-the-net]\n       ./class --replay FILE",
+        description="A class of HELLO hosts in browsers: prints the teacher's address and one for "
+        "each seat, and serves until it is stopped (Ctrl-C).",
+    )
+    made.add_argument("--help", action="store_true", help="prints this")
+    made.add_argument(
+        "--port",
+        type=whole(0, 65535),
+        default=PORT,
+        metavar="N",
+        help=f"the port of the server; 0 takes a free one ({PORT} if not said)",
+    )
+    made.add_argument(
+        "--seats",
+        type=whole(1, MOST_SEATS),
+        default=SEATS,
+        metavar="N",
+        help=f"how many students, 1 to {MOST_SEATS} ({SEATS} if not said)",
+    )
+    made.add_argument(
+        "--open-to-the-net",
+        action="store_true",
+        help="other machines may come too; without it, this machine alone. The keys go over the "
+        "net as they are: use it in a net that you trust",
+    )
+    made.add_argument(
+        "--replay",
+        type=file_to_read,
+        metavar="FILE",
+        help="makes the calls of a file again, and says whether all ends equal",
+    )
+    return made
+
+
+def read(arguments):
+    """The arguments as an object with port, seats, open_to_the_net, replay, help."""
+    return parser().parse_args(arguments)
+
+
+def main():
+    """Ends with one of the numbers above."""
+    asked = read(sys.argv[1:])
+    if asked.help:
+        parser().print_help()
+        return HELP
+    return REPLAY if asked.replay else SERVE
+
+
+if __name__ == "__main__":
+    sys.exit(main())

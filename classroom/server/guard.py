@@ -1,0 +1,64 @@
+"""What is refused before anything looks at a request, and what every response says to a browser."""
+
+import logging
+
+from aiohttp import web
+
+LOG = logging.getLogger("class")
+
+
+def refused(status, why):
+    """A response in words."""
+    return web.Response(status=status, text=why + "\n")
+
+
+def _from_here(request):
+    """Whether the request has no origin, or this server's own."""
+    origins = request.headers.getall("Origin", [])
+    return origins in ([], [f"http://{request.headers['Host']}"])
+
+
+def guard(hosts):
+    """Lets through what is a GET to one of these host names, from no other origin.
+
+    The host names keep away a page elsewhere that has its own name point at this machine.
+    """
+
+    @web.middleware
+    async def look(request, handler):
+        if request.method != "GET":
+            response = refused(405, "Only GET is answered here.")
+            response.headers["Allow"] = "GET"
+            return response
+        named = request.headers.getall("Host", [])
+        if len(named) != 1 or named[0].lower() not in hosts:
+            return refused(403, "The class is not here under this name.")
+        if not _from_here(request):
+            return refused(403, "Pages from elsewhere are not answered.")
+        request["host"] = named[0]
+        try:
+            return await handler(request)
+        except web.HTTPException as said:
+            return refused(said.status, said.reason)
+        except Exception as slip:
+            LOG.error("%s: %s", type(slip).__name__, slip)
+            return refused(500, "The server could not do this.")
+
+    return look
+
+
+async def say(request, response):
+    """Puts the headers on a response that keep a browser from more than the class needs."""
+    headers = response.headers
+    # 'self' does not mean the socket in every browser.
+    socket = f"ws://{request['host']}" if "host" in request else ""
+    headers["Content-Security-Policy"] = (
+        f"default-src 'self'; connect-src 'self' {socket}; object-src 'none'; base-uri 'none'; "
+        "form-action 'none'; frame-ancestors 'none'"
+    )
+    headers["X-Content-Type-Options"] = "nosniff"
+    headers["Referrer-Policy"] = "no-referrer"
+    headers["Cache-Control"] = "no-store"
+    headers["Cross-Origin-Opener-Policy"] = "same-origin"
+    headers["Cross-Origin-Resource-Policy"] = "same-origin"
+    headers["Server"] = "HELLO class"

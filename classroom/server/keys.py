@@ -1,0 +1,39 @@
+"""The keys of the teacher and the seats, and the cookies that hold them."""
+
+import hmac
+import secrets
+
+
+def _octets(text):
+    return text.encode("utf-8", "surrogatepass")
+
+
+class Keys:
+    """A random key for each place: "/teacher" and "/seat/0" and so on."""
+
+    def __init__(self, seats, port):
+        places = ["/teacher", *(f"/seat/{seat}" for seat in range(seats))]
+        self._keys = {place: secrets.token_urlsafe(24) for place in places}
+        # Cookies know no port: with one name, two servers on a machine would overwrite each other's.
+        self._cookie = f"hello-{port}"
+
+    def addresses(self, host):
+        """The places in order, each with its whole address under a host name."""
+        return {place: f"http://{host}{place}?key={key}" for place, key in self._keys.items()}
+
+    def right(self, place, key):
+        """Whether this is the key of the place. No place and no key are wrong."""
+        wanted = self._keys.get(place)
+        if wanted is None or key is None:
+            return False
+        return hmac.compare_digest(_octets(wanted), _octets(key))
+
+    def holds(self, place, request):
+        """Whether the request has the place's cookie."""
+        return self.right(place, request.cookies.get(self._cookie))
+
+    def give(self, place, response):
+        """Puts the place's key into a cookie of that path alone, until the browser ends."""
+        response.set_cookie(
+            self._cookie, self._keys[place], path=place, httponly=True, samesite="Strict"
+        )

@@ -1,0 +1,118 @@
+"""Serves the class: python3 -m classroom.server; ./class calls it."""
+
+import asyncio
+import logging
+import signal
+import socket
+import subprocess
+import sys
+
+from aiohttp import web
+from aiohttp.http_exceptions import HttpProcessingError
+
+from .app import application
+from .hall import Hall
+from .keys import Keys
+
+LOOPBACK = "127.0.0.1"
+
+
+class OneLine(logging.Formatter):
+    """What went wrong, in one line and without what led to it."""
+
+    def format(self, record):
+        words = record.getMessage()
+        if record.exc_info and record.exc_info[1] is not None:
+            words += f": {type(record.exc_info[1]).__name__}"
+        return "class: " + ascii(words)[1:-1]
+
+
+def _is_news(record):
+    """Not that someone sent what is no HTTP: it is refused, and needs no word."""
+    return not (record.exc_info and isinstance(record.exc_info[1], HttpProcessingError))
+
+
+def log_to_stderr():
+    """All that is logged goes to standard error, a line each."""
+    handler = logging.StreamHandler()
+    handler.setFormatter(OneLine())
+    handler.addFilter(_is_news)
+    logging.basicConfig(level=logging.WARNING, handlers=[handler])
+
+
+def own_addresses():
+    """The machine's addresses in its nets."""
+    try:
+        told = subprocess.run(["hostname", "-I"], capture_output=True, text=True, check=True).stdout
+    except (OSError, subprocess.CalledProcessError):
+        return []
+    return told.split()
+
+
+def listening(port, to_the_net):
+    """The sockets that listen: on the loopback, or on every address of either sort."""
+    if not to_the_net:
+        return [socket.create_server((LOOPBACK, port))]
+    four = socket.create_server(("0.0.0.0", port))
+    try:
+        six = socket.create_server(("::", four.getsockname()[1]), family=socket.AF_INET6)
+    except OSError:
+        return [four]
+    return [four, six]
+
+
+def with_port(name, port):
+    """A host name as a browser names it: an IPv6 address in brackets, port 80 left out."""
+    name = f"[{name}]" if ":" in name else name
+    return name if port == 80 else f"{name}:{port}"
+
+
+def names_of(to_the_net):
+    """The host names that are told, and others under which the class may be asked for."""
+    here = ["localhost", "::1"]
+    if not to_the_net:
+        return [LOOPBACK], here
+    name = socket.gethostname()
+    return [*own_addresses(), name], [f"{name}.local", socket.getfqdn(), LOOPBACK, *here]
+
+
+def tell(addresses, others):
+    """Prints the addresses, and under which names the same is had."""
+    for place, address in addresses.items():
+        print(f"{place[1:].replace('/', ' '):8} {address}")
+    if others:
+        print("The same is at", ", ".join(others))
+    print("Stop with Ctrl-C.", flush=True)
+
+
+async def serve(asked):
+    """Serves until the process is told to stop."""
+    try:
+        sockets = listening(asked.port, asked.open_to_the_net)
+    except OSError as why:
+        print(f"Port {asked.port} cannot be had: {why.strerror}.", file=sys.stderr)
+        return 1
+    port = sockets[0].getsockname()[1]
+    told, also = ([with_port(name, port) for name in names] for names in names_of(asked.open_to_the_net))
+    keys = Keys(asked.seats, port)
+    addresses = keys.addresses(told[0])
+    hall = Hall(asked.seats, list(addresses.values())[1:])
+    app = application(hall, keys, {host.lower() for host in told + also})
+
+    stop = asyncio.Event()
+    for number in (signal.SIGINT, signal.SIGTERM):
+        asyncio.get_running_loop().add_signal_handler(number, stop.set)
+    runner = web.AppRunner(app, access_log=None)
+    await runner.setup()
+    for each in sockets:
+        await web.SockSite(runner, each, shutdown_timeout=2).start()
+    tell(addresses, told[1:])
+    await stop.wait()
+    await runner.cleanup()
+    return 0
+
+
+def run(asked):
+    """Serves; the number with which the process ends."""
+    log_to_stderr()
+    return asyncio.run(serve(asked))

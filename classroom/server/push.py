@@ -1,0 +1,82 @@
+"""What a page is shown, and when: after its own change at once, after others' soon.
+
+A page has one view on its way at most. One that is slow to take it is given the newest next, and
+none of those between.
+"""
+
+import asyncio
+import contextlib
+import json
+import time
+
+from .guard import LOG
+from .pace import Window
+
+MOST_A_SECOND = 20
+# Of those, so many after what others or the room's time changed: the rest are for the page's own.
+AFTER_OTHERS = 10
+# A page that does not take a view in so many seconds is gone.
+LONGEST_WAIT = 60
+# The part of the server's time that views after others' changes may take, all pages together.
+PART_FOR_VIEWS = 0.25
+
+
+class Page:
+    """A page at a place, with its socket, and what gives the page up."""
+
+    def __init__(self, hall, place, socket, give_up):
+        self._hall = hall
+        self._socket = socket
+        self.give_up = give_up
+        self.place = place
+        self.seen = None
+        self.cost = 0.0
+        self._changed = asyncio.Event()
+        self._own = asyncio.Event()
+        self._window = Window(MOST_A_SECOND)
+
+    def changed(self, own=False):
+        """Something that the page shows has changed, by a message of its own or not."""
+        self._changed.set()
+        if own:
+            self._own.set()
+
+    async def show(self):
+        """Pushes views for as long as the page takes them."""
+        shown_at = 0.0
+        while True:
+            await self._changed.wait()
+            if not self._own.is_set():
+                rest = shown_at + self._hall.between_views() - time.monotonic()
+                if rest > 0:
+                    with after(rest, self._own.set):
+                        await self._own.wait()
+            await self._window.take()
+            shown_at = time.monotonic()
+            self._changed.clear()
+            self._own.clear()
+            text = self._view()
+            if text is not None:
+                with after(LONGEST_WAIT, self.give_up):
+                    await self._socket.send_str(text)
+
+    def _view(self):
+        """The view as text; None where it could not be made."""
+        began = time.monotonic()
+        try:
+            return json.dumps({"view": self._hall.view(self)}, separators=(",", ":"))
+        except Exception as slip:
+            LOG.error("a view of %s: %s: %s", self.place, type(slip).__name__, slip)
+            return None
+        finally:
+            self.cost = 0.8 * self.cost + 0.2 * (time.monotonic() - began)
+
+
+@contextlib.contextmanager
+def after(seconds, do):
+    """Does something after so many seconds, unless what stands within has ended before."""
+    timer = asyncio.get_running_loop().call_later(seconds, do)
+    try:
+        yield
+    finally:
+        timer.cancel()

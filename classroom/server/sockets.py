@@ -1,0 +1,122 @@
+"""A page's socket: one JSON object to a message, each with a reply."""
+
+import asyncio
+import json
+
+from aiohttp import WSCloseCode, WSMsgType, web
+
+from ..room import Refused
+from .guard import LOG
+from .push import Page
+
+LONGEST = 16 * 1024
+# A page that does not answer within so many seconds is gone.
+HEARTBEAT = 20
+# For so many seconds a page may answer that the socket closes.
+GOODBYE = 2
+GREATEST_N = 2**53
+# A message weighs one, and one more for so many octets.
+WEIGHED = 512
+
+
+async def serve(request, hall, place):
+    """Talks with the page until it goes."""
+    socket = web.WebSocketResponse(
+        timeout=GOODBYE, heartbeat=HEARTBEAT, max_msg_size=LONGEST, compress=False
+    )
+    page = Page(hall, place, socket, give_up=lambda: request.transport and request.transport.abort())
+    hall.enter(page, socket)
+    try:
+        await socket.prepare(request)
+        await _talk(socket, hall, page)
+    except ConnectionError:
+        pass
+    finally:
+        hall.leave(page)
+    if hall.over:
+        await _say_goodbye(socket)
+    return socket
+
+
+async def _talk(socket, hall, page):
+    """Answers messages and shows views for as long as the socket is open."""
+    showing = asyncio.create_task(_show(page))
+    try:
+        page.changed(own=True)
+        async for message in socket:
+            if message.type is WSMsgType.ERROR:
+                break
+            await hall.pace(page.place).take(1 + len(message.data) // WEIGHED)
+            await socket.send_str(answer(hall, page.place, message))
+            page.changed(own=True)
+    finally:
+        showing.cancel()
+        await asyncio.wait([showing])
+
+
+async def _show(page):
+    """Shows views. Where that ends before the socket does, the page is gone: so is its socket."""
+    try:
+        await page.show()
+    except ConnectionError:
+        pass
+    except Exception as slip:
+        LOG.error("the views of %s: %s: %s", page.place, type(slip).__name__, slip)
+    page.give_up()
+
+
+async def _say_goodbye(socket):
+    if socket.prepared:
+        await socket.close(code=WSCloseCode.GOING_AWAY, message=b"the class is over")
+
+
+def answer(hall, place, message):
+    """The text of the reply to a message, whatever it holds."""
+    n = None
+    try:
+        told = read(message)
+        n = told.pop("n", None)
+        if not _is_number(n):
+            n = None
+            raise Refused("a message has a number n of the page's choice")
+        said = {"n": n, "reply": hall.take(place, told)}
+        return json.dumps(said, separators=(",", ":"), allow_nan=False)
+    except Refused as why:
+        return json.dumps({"n": n, "refused": str(why)})
+    except Exception as slip:
+        LOG.error("a message of %s: %s: %s", place, type(slip).__name__, ascii(str(slip))[:200])
+        return json.dumps({"n": n, "refused": "the server could not do this"})
+
+
+def _is_number(n):
+    return type(n) in (int, float) and -GREATEST_N <= n <= GREATEST_N
+
+
+def read(message):
+    """The object of a message, or Refused."""
+    if message.type is not WSMsgType.TEXT:
+        raise Refused("a message is text")
+    try:
+        told = json.loads(message.data, parse_constant=_no_constant, parse_float=_float)
+    except (ValueError, RecursionError):
+        raise Refused("a message is one JSON object") from None
+    if type(told) is not dict:
+        raise Refused("a message is one JSON object")
+    return told
+
+
+def _no_constant(name):
+    raise ValueError(f"{name} is no JSON")
+
+
+def _float(text):
+    number = float(text)
+    if number in (float("inf"), float("-inf")):
+        raise ValueError("a number is too great")
+    return number
+
+
+async def close_all(hall):
+    """Tells every page that the server goes."""
+    hall.over = True
+    await asyncio.gather(*map(_say_goodbye, hall.sockets()), return_exceptions=True)
