@@ -5,7 +5,7 @@
         let mut i = w.first;                                let mut i = w.first;
         let mut x = w.start;                                let mut x = w.start;
         while i < end {                                     while i < end {
-            x = turn(x, run[i]);                                let t = turn(x, run[i], i, w, packet);
+            x = turn(x, run[i], i, w);                          let t = turn(x, run[i], i, w, packet);
             i = i + 1;                                          run[i] = t.1;
         }                                                       x = t.0;
         x                                                       i = i + 1;
@@ -15,7 +15,7 @@
         let end = w.end;
         let mut i = w.first;                            fn Writes(buffer: &mut [u8], run: &[E], w: J) {
         while i < end {                                     let end = w.end;
-            let t = turn(run[i], w);                        let mut i = w.first;
+            let t = turn(run[i], i, w);                     let mut i = w.first;
             run[i] = t;                                     while i < end {
             i = i + 1;                                          turn(buffer, run[i], i, w);
         }                                                       i = i + 1;
@@ -27,10 +27,10 @@ from script import Law, Script, digits, items, nest, product, proj, uses
 from text import allocates, assign, at_local, copy, frees, function, load, on_entry, opens, plain, put, signature, slice_typed, slot, stayed
 
 # the arguments of a turn
-NAMED = {"Folds": "x, run[i]", "Maps": "run[i], w", "Applies": "x, run[i], i, w, packet", "Writes": "buffer, run[i], i, w"}
+NAMED = {"Folds": "x, run[i], i, w", "Maps": "run[i], i, w", "Applies": "x, run[i], i, w, packet", "Writes": "buffer, run[i], i, w"}
 TEXT = {
-    "Folds": "fn f(run: &[E], w: J) -> B { let end = w.end; let mut i = w.first; let mut x = w.start; while i < end { x = turn(x, run[i]); i = i + 1; } x }",
-    "Maps": "fn f(run: &mut [E], w: J) { let end = w.end; let mut i = w.first; while i < end { let t = turn(run[i], w); run[i] = t; i = i + 1; } }",
+    "Folds": "fn f(run: &[E], w: J) -> B { let end = w.end; let mut i = w.first; let mut x = w.start; while i < end { x = turn(x, run[i], i, w); i = i + 1; } x }",
+    "Maps": "fn f(run: &mut [E], w: J) { let end = w.end; let mut i = w.first; while i < end { let t = turn(run[i], i, w); run[i] = t; i = i + 1; } }",
     "Applies": "fn f(run: &mut [E], w: J, packet: &[u8]) -> B { let end = w.end; let mut i = w.first; let mut x = w.start; while i < end { let t = turn(x, run[i], i, w, packet); run[i] = t.1; x = t.0; i = i + 1; } x }",
     "Writes": "fn f(buffer: &mut [u8], run: &[E], w: J) { let end = w.end; let mut i = w.first; while i < end { turn(buffer, run[i], i, w); i = i + 1; } }",
 }

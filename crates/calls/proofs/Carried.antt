@@ -1,20 +1,22 @@
 -- Ids and places: a change to some ids of a host, made at their places in the run, is the same change made to the host's entries.
 use mathlib.Core.Path.{_≡_, refl, sym, ap, _∙_}
 use mathlib.Core.Bool.{Bool, true, false, cond}
-use mathlib.Core.List.{List, [], _∷_, map}
+use mathlib.Core.List.{List, [], _∷_}
 use Prim.Native.Nat.{ℕ, _+_, _-_, _≤_, _<_}
 use native.Mathlib.Omega.{arith}
 use borrow.Author.Tests.{ltb-true, ltb-false}
 use lib.Dec.{ltb}
-use lib.ListN.{length, getD, take, drop, length-map}
+use lib.ListN.{length, getD, take, drop}
 use lib.Seq.{take-add, take-take, drop-at, drop-drop, length-take-le, getD-take, getD-drop}
 use Rattle.lists.specs.Lists.{part, over}
 use Rattle.lists.proofs.Parts.{part-length, part-more, over-nothing, over-part}
 use Rattle.table.specs.declared.Entry.{Entry}
 use Rattle.table.specs.declared.run.Changes.{Changes}
+use Rattle.table.specs.Forms.{mapFrom}
 use Rattle.table.specs.Entry.{freshEntry}
 use Rattle.table.specs.Runs.{changed, changes}
 use Rattle.table.specs.code.Loops.{InRun}
+use Rattle.table.proofs.Loops.{map-length}
 use Rattle.host.specs.declared.Settings.{Settings}
 use Rattle.host.specs.State.{firstPlace, hostCount, entries, withEntries}
 use Rattle.host.proofs.Places.{Holds}
@@ -45,7 +47,7 @@ nothing-placed k run = over-nothing 0 run
 
 module _ (s : Settings) (k : ℕ) (run : List Entry) (h : Holds k run) (w : Changes) (ids : Ids s w) where
   abbrev spot : Bool → Changes
-  spot b = cond b record { first = firstPlace k + w .first; end = firstPlace k + w .end; change = w .change } nothing
+  spot b = cond b record { first = firstPlace k + w .first; end = firstPlace k + w .end; change = w .change; marks = w .marks } nothing
 
   pub placed-in : InRun (placed k w .first) (placed k w .end) run
   placed-in = go (ltb (w .first) (w .end))
@@ -61,7 +63,7 @@ module _ (s : Settings) (k : ℕ) (run : List Entry) (h : Holds k run) (w : Chan
   n = w .end - w .first
 
   abbrev xs : ℕ → List Entry
-  xs m = map (changed (w .change)) (part (F + w .first) m run)
+  xs m = mapFrom 0 (changed (w .marks) (w .change)) (part (F + w .first) m run)
 
   on-entries : withEntries k (changes w (entries s k run)) run ≡ over run (F + w .first) (xs n)
   unfolding changes entries withEntries
@@ -69,7 +71,7 @@ module _ (s : Settings) (k : ℕ) (run : List Entry) (h : Holds k run) (w : Chan
       let r = ids .rising in
       let e = ids .below in
       let inner : part (w .first) n (part F (hostCount s) run) ≡ part (F + w .first) n run = part-part F (hostCount s) (w .first) n run (omega arith) (omega arith) in
-      let long : length (xs n) ≡ n = length-map (part (F + w .first) n run) (changed (w .change)) ∙ part-length (F + w .first) n run (omega arith) in
+      let long : length (xs n) ≡ n = map-length 0 (changed (w .marks) (w .change)) (part (F + w .first) n run) ∙ part-length (F + w .first) n run (omega arith) in
       rw inner (over-part run F (hostCount s) (w .first) (xs n) (omega arith) (omega arith))
 
   at-places : changes (placed k w) run ≡ over run (F + w .first) (xs n)
@@ -77,7 +79,7 @@ module _ (s : Settings) (k : ℕ) (run : List Entry) (h : Holds k run) (w : Chan
   at-places = go (ltb (w .first) (w .end)) refl
     where
       put : Changes → List Entry
-      put v = over run (v .first) (map (changed (v .change)) (part (v .first) (v .end - v .first) run))
+      put v = over run (v .first) (mapFrom 0 (changed (v .marks) (v .change)) (part (v .first) (v .end - v .first) run))
 
       go : (b : Bool) → ltb (w .first) (w .end) ≡ b → put (spot b) ≡ over run (F + w .first) (xs n)
       go true e =

@@ -5,21 +5,19 @@ use mathlib.Core.List.{List}
 use Prim.Native.Nat.{ℕ, _+_, _-_, _≤_, _<_}
 use native.Mathlib.Omega.{arith}
 use Rattle.lists.proofs.Tests.{either, is-so}
-use Rattle.quantity.specs.declared.Millis.{Millis}
 use Rattle.answer.specs.declared.Answer.{Answer}
 use Rattle.clock.specs.declared.Clock.{Clock}
 use Rattle.route.specs.declared.Found.{Found}
 use Rattle.route.specs.declared.Found.the-variants.{Id, Nothing}
-use Rattle.route.proofs.Ids.{local-id-below}
 use Rattle.table.specs.declared.Entry.{Entry}
 use Rattle.table.specs.declared.run.Seek.{Seek}
 use Rattle.table.specs.Runs.{changes}
 use Rattle.table.specs.code.Loops.{InRun, entryOf}
 use Rattle.host.specs.declared.Settings.{Settings}
 use Rattle.host.specs.declared.Links.{Links}
-use Rattle.host.specs.Settings.{settingsGood, ownId}
+use Rattle.host.specs.Settings.{settingsGood}
 use Rattle.host.specs.State.{firstPlace, hostCount}
-use Rattle.host.specs.Lent.{Host, Lent, ourReading}
+use Rattle.host.specs.Lent.{Host, Lent}
 use Rattle.host.specs.Guard.{guard, done}
 use Rattle.host.specs.Reply.{plainly}
 use Rattle.host.proofs.Places.{Holds}
@@ -34,7 +32,7 @@ use Rattle.walk.proofs.Work.{step-work}
 use borrow.Author.Tests.{ltb-true}
 use Rattle.calls.specs.declared.Request.{Request}
 use Rattle.calls.specs.declared.Request.the-variants.{Initialize, Tick, Adjust, Set, Read, Second, SelfReport, Lookup, Step}
-use Rattle.calls.specs.Effects.{ownWork, scopeOf, effect, wanted}
+use Rattle.calls.specs.Effects.{scopeOf, effect, wanted}
 use Rattle.calls.specs.Effects as definition
 use Rattle.calls.specs.Perform.{Outcome, Leaves, ask, refused, carriedOut, entryAt, perform}
 use Rattle.calls.specs.code.Planned.{planned, WalkTold}
@@ -43,10 +41,6 @@ use Rattle.calls.proofs.Wanted.{wanted-below, wanted-has-place}
 use Rattle.calls.proofs.Carried.{Ids, one-part, nothing-placed, placed-in, carried}
 
 -- ---- the ids that each effect changes
-
-own-ids : (s : Settings) (f : Found) → ((id : ℕ) → f ≡ Id id → id < hostCount s) → (time : Millis) → Ids s (ownWork time f)
-own-ids s Nothing below time = record { rising = omega arith; below = omega arith }
-own-ids s (Id id) below time = let i = below id refl in record { rising = omega arith; below = omega arith }
 
 pub effect-ids : (q : Request) (h : Host) (w : Walk) (copy : List ℕ) (e : Entry) → settingsGood (h .settings) ≡ true
     → (afresh (scopeOf q) ≡ false → walkInRange (h .settings) w copy ≡ true) → Ids (h .settings) (effect q h w copy e .work)
@@ -57,9 +51,7 @@ effect-ids (Adjust n) h w copy e good r = record { rising = omega arith; below =
 effect-ids (Set ms n) h w copy e good r = record { rising = omega arith; below = omega arith }
 effect-ids (Read k) h w copy e good r = record { rising = omega arith; below = omega arith }
 effect-ids Second h w copy e good r = record { rising = omega arith; below = omega arith }
-effect-ids (SelfReport k) h w copy e good r =
-    let s : Settings = h .settings in
-    own-ids s (ownId s) (λ id q. omega (arith, local-id-below (s .layout) (s .address) id q, sound s good .hosts-to)) (ourReading k h .time)
+effect-ids (SelfReport k) h w copy e good r = record { rising = omega arith; below = omega arith }
 effect-ids (Lookup a) h w copy e good r = record { rising = omega arith; below = omega arith }
 effect-ids (Step k) h w copy e good r =
     step-work (h .settings) w copy (r refl) (Ids (h .settings)) k h e refl record { rising = omega arith; below = omega arith }

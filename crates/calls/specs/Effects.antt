@@ -14,9 +14,7 @@ use Rattle.wire.specs.declared.Address.{Address}
 use Rattle.route.specs.declared.Found.{Found}
 use Rattle.route.specs.declared.Found.the-variants.{Id, Nothing}
 use Rattle.table.specs.declared.Entry.{Entry}
-use Rattle.table.specs.declared.run.Change.{Change}
 use Rattle.table.specs.declared.run.Change.the-variants.{Fresh, Aged, Reported}
-use Rattle.table.specs.declared.run.Changes.{Changes}
 use Rattle.table.specs.Entry.{up}
 use Rattle.host.specs.declared.Settings.{Settings}
 use Rattle.host.specs.declared.walk.Walk.{Walk}
@@ -24,10 +22,10 @@ use Rattle.host.specs.declared.Reply.{Reply}
 use Rattle.host.specs.declared.Effect.{Effect}
 use Rattle.host.specs.declared.guard.Scope.{Scope}
 use Rattle.host.specs.declared.guard.Scope.the-variants.{Places, All, Walking}
-use Rattle.host.specs.Settings.{ownId, foundFor}
+use Rattle.host.specs.Settings.{foundFor}
 use Rattle.host.specs.State.{freshLinks}
 use Rattle.host.specs.Walk.{noWalk}
-use Rattle.host.specs.Effect.{nothing, each, one, answers}
+use Rattle.host.specs.Effect.{each, answers}
 use Rattle.host.specs.Lent.{Host, ourReading}
 use Rattle.host.specs.Reply.{plainly, tellsRoute, tellsTime}
 use Rattle.walk.specs.Boxes.{atHand, step}
@@ -60,15 +58,11 @@ unfoldable pub second : Host → Walk → Effect
 second h w =
     record { reply = plainly Done; clock = holdSecond (h .clock); links = h .links; walk = w; work = each (h .settings) Aged }
 
--- "Self-report: update of the seat's own id with PID 0, DELAY 0, OFFSET 0, without (d)."
-abbrev pub ownWork : Millis → Found → Changes
-ownWork time Nothing = nothing
-ownWork time (Id id) = one id (Reported time)
-
+-- "a self-report covers every marked id in rising order", each with this one reading
 unfoldable pub selfReport : Counter → Host → Walk → Effect
 selfReport k h w =
     let r : Reading = ourReading k h in
-    record { reply = plainly Done; clock = r .clock; links = h .links; walk = w; work = ownWork (r .time) (ownId (h .settings)) }
+    record { reply = plainly Done; clock = r .clock; links = h .links; walk = w; work = each (h .settings) (Reported (r .time)) }
 
 -- 11 where no id is found, 13 where its host is down
 abbrev pub looked : Found → Entry → Reply

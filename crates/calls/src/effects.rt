@@ -4,12 +4,10 @@ ghost use mathlib.Core.Bool.{true, false};
 ghost use Rattle.quantity.specs.Quantity.{millis};
 ghost use Rattle.clock.specs.Clock.{clockInRange};
 ghost use Rattle.host.specs.Settings.{settingsGood};
-ghost use Rattle.host.specs.State.{hasPlace};
 ghost use Rattle.host.specs.Lent.{host};
 ghost use Rattle.host.specs.Walk.{walkInRange};
 ghost use Rattle.host.specs.code.Told.{afresh, Ready, Told};
 ghost use Rattle.calls.specs.Effects.{
-  ownWork,
   looked,
   initialize,
   tick,
@@ -32,8 +30,6 @@ use host::Reply;
 use host::Settings;
 use host::effects::answers;
 use host::effects::each;
-use host::effects::nothing;
-use host::effects::one;
 use host::guard::Scope;
 use host::replies::plainly;
 use host::replies::tells_route;
@@ -44,7 +40,6 @@ use quantity::Millis;
 use route::Found;
 use table::Entry;
 use table::run::Change;
-use table::run::Changes;
 
 // How much of what is lent is tested.
 pub fn scope_of(q: Request) -> Scope
@@ -129,28 +124,19 @@ fn second(s: Settings, c: Clock, l: Links, w: Walk) -> Effect
     }
 }
 
-fn own_work(time: Millis, own: Found) -> Changes
-    requires { ⌜ hasPlace own ≡ true ⌝ }
-    ensures { λ w. ⌜ w ≡ ownWork time own ⌝ }
-{
-    match own {
-        Found::Nothing => nothing(),
-        Found::Id(id) => one(id, Change::Reported(time)),
-    }
-}
-
 fn self_report(s: Settings, c: Clock, l: Links, w: Walk, k: Counter) -> Effect
     requires { ⌜ (settingsGood s ≡ true) × (clockInRange c ≡ true) ⌝ }
     ensures { λ p. ⌜ p ≡ selfReport k (host s c l) w ⌝ }
 {
     let r = host::our_reading(s, c, k);
     let clock = r.clock;
+    let time = r.time;
     Effect {
         reply: plainly(Answer::Done),
         clock: clock,
         links: l,
         walk: w,
-        work: own_work(r.time, host::own_id(s)),
+        work: each(s, Change::Reported(time)),
     }
 }
 

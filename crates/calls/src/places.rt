@@ -88,6 +88,7 @@ pub fn placed(number: usize, w: Changes) -> Changes
     ensures { λ r. ⌜ r ≡ placed number w ⌝ }
 {
     let change = w.change;
+    let marks = w.marks;
     if w.first < w.end {
         let base = first_place(number);
         let first = base + w.first;
@@ -96,12 +97,14 @@ pub fn placed(number: usize, w: Changes) -> Changes
             first: first,
             end: end,
             change: change,
+            marks: marks,
         };
     }
     Changes {
         first: 0,
         end: 0,
         change: Change::Fresh,
+        marks: table::marks::none(),
     }
 }
 

@@ -1,4 +1,4 @@
--- An id that a host of good settings finds, or its own, has a place: it is below NHOSTS, and that is 255 at most.
+-- An id that a host of good settings finds has a place: it is below NHOSTS, and that is 255 at most.
 use mathlib.Core.Path.{_≡_, refl}
 use mathlib.Core.Bool.{true}
 use Prim.Native.Nat.{ℕ, _<_}
@@ -8,9 +8,9 @@ use Rattle.wire.specs.declared.Address.{Address}
 use Rattle.route.specs.declared.Found.{Found}
 use Rattle.route.specs.declared.Found.the-variants.{Id, Nothing}
 use Rattle.route.specs.Find.{find}
-use Rattle.route.proofs.Ids.{found-below, local-id-below}
+use Rattle.route.proofs.Ids.{found-below}
 use Rattle.host.specs.declared.Settings.{Settings}
-use Rattle.host.specs.Settings.{ownId, settingsGood}
+use Rattle.host.specs.Settings.{settingsGood}
 use Rattle.host.specs.State.{placesPerHost, hasPlace}
 use Rattle.host.proofs.Sound.{sound}
 
@@ -24,7 +24,3 @@ find-has-place s a good =
     let g = sound s good in
     has-place (find (s .address) (s .layout) (s .net) a)
     (λ (i : ℕ) (e : find (s .address) (s .layout) (s .net) a ≡ Id i). omega (arith, found-below (s .address) (s .layout) (s .net) a i (g .row-ids) e, g .hosts-to))
-
-pub own-has-place : (s : Settings) → settingsGood s ≡ true → hasPlace (ownId s) ≡ true
-own-has-place s good =
-    has-place (ownId s) (λ (i : ℕ) (e : ownId s ≡ Id i). omega (arith, local-id-below (s .layout) (s .address) i e, sound s good .hosts-to))

@@ -20,7 +20,7 @@ use Rattle.host.specs.declared.guard.Scope.{Scope}
 use Rattle.host.specs.declared.guard.Scope.the-variants.{Places, All, OnLink, Opening, Walking}
 use Rattle.host.specs.Settings.{linkCount, settingsGood}
 use Rattle.host.specs.State.{placesPerHost, firstPlace, noLink}
-use Rattle.host.specs.Lent.{Lent, entriesOf, hostInRange, ownWalkInRange, lentInRange}
+use Rattle.host.specs.Lent.{Lent, entriesOf, hostInRange, ownWalkInRange, marksAsSet, lentInRange}
 use Rattle.host.specs.Guard.{noPlaces, longest, outOfRange, inWalk, guard, done}
 use Rattle.host.specs.code.Told.{afresh, Ready, Told, NumberTold}
 use Rattle.host.proofs.Places.{Holds}
@@ -108,15 +108,19 @@ counted s i e =
 module _ (x : Lent) (in-range : lentInRange x ≡ true) where
   pub clock-lent : clockInRange (x .host .clock) ≡ true
   unfolding lentInRange
-  clock-lent = both (clockInRange (x .host .clock)) _ (both (hostInRange (x .host)) _ (both (hostInRange (x .host) && ownWalkInRange x) _ in-range .0) .0) .0
+  clock-lent = both (clockInRange (x .host .clock)) _ (both (hostInRange (x .host)) _ (both (hostInRange (x .host) && ownWalkInRange x) _ (both (hostInRange (x .host) && ownWalkInRange x && every entryInRange (entriesOf x)) _ in-range .0) .0) .0) .0
 
   pub walk-lent : ownWalkInRange x ≡ true
   unfolding lentInRange
-  walk-lent = both (hostInRange (x .host)) _ (both (hostInRange (x .host) && ownWalkInRange x) _ in-range .0) .1
+  walk-lent = both (hostInRange (x .host)) _ (both (hostInRange (x .host) && ownWalkInRange x) _ (both (hostInRange (x .host) && ownWalkInRange x && every entryInRange (entriesOf x)) _ in-range .0) .0) .1
 
   pub entries-lent : every entryInRange (entriesOf x) ≡ true
   unfolding lentInRange
-  entries-lent = both (hostInRange (x .host) && ownWalkInRange x) _ in-range .1
+  entries-lent = both (hostInRange (x .host) && ownWalkInRange x) _ (both (hostInRange (x .host) && ownWalkInRange x && every entryInRange (entriesOf x)) _ in-range .0) .1
+
+  pub marks-lent : marksAsSet x ≡ true
+  unfolding lentInRange
+  marks-lent = both (hostInRange (x .host) && ownWalkInRange x && every entryInRange (entriesOf x)) _ in-range .1
 
 -- what its answer tells the work behind it
 module _ (a : Scope) (x : Lent) where

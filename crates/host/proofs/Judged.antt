@@ -20,7 +20,7 @@ use Rattle.host.specs.declared.guard.Scope.{Scope}
 use Rattle.host.specs.declared.guard.Scope.the-variants.{Places, All, OnLink, Opening, Walking}
 use Rattle.host.specs.Settings.{linkCount, settingsGood}
 use Rattle.host.specs.State.{placesPerHost, firstPlace, hostCount, entries, linkInRange, noLink}
-use Rattle.host.specs.Lent.{Host, Lent, entriesOf, ownWalkInRange, lentInRange}
+use Rattle.host.specs.Lent.{Host, Lent, entriesOf, ownWalkInRange, marksAsSet, lentInRange}
 use Rattle.host.specs.Guard.{noPlaces, longest, outOfRange, inWalk, guard}
 use Rattle.host.specs.code.Told.{afresh}
 use Rattle.host.specs.code.Held.{placesMissing, settled, isLink, namesLink, wholeScan, held, judged}
@@ -39,7 +39,7 @@ module _ (x : Lent) where
   s = x .host .settings
 
   abbrev all : Scan
-  all = record { first = firstPlace k; end = firstPlace k + hostCount s; good = true }
+  all = record { first = firstPlace k; end = firstPlace k + hostCount s; good = true; marks = s .marks }
 
   abbrev There : Scan → Type 0
   There w = InRun (w .first) (w .end) run
@@ -53,7 +53,7 @@ module _ (x : Lent) where
   n = linkCount s
 
   abbrev rest : Scan
-  rest = wholeScan k (hostCount s) (h .clock) (h .links) n (ownWalkInRange x)
+  rest = wholeScan k (hostCount s) (h .clock) (h .links) n (ownWalkInRange x) (s .marks)
 
   abbrev m : ℕ
   m = length (x .copy)
@@ -75,7 +75,7 @@ module _ (x : Lent) where
 
   whole : (clock links walk : Bool)
       → allInRange (cond (not clock) (settled false) (cond (not links) (settled false) (cond (not walk) (settled false) all))) run
-      ≡ (((clock && links) && walk) && every entryInRange (entriesOf x))
+      ≡ ((((clock && links) && walk) && every entryInRange (entriesOf x)) && marksAsSet x)
   unfolding allInRange entries
   whole false links walk = refl
   whole true false walk = refl

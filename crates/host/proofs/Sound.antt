@@ -12,8 +12,9 @@ use Rattle.calendar.specs.Date.{real}
 use Rattle.clock.specs.Midnight.{dayMillis}
 use Rattle.clock.specs.Clock.{tickInRange}
 use Rattle.route.specs.Find.{isFound, rowsOf, idsBelow}
+use Rattle.table.specs.Marks.{noneFrom}
 use Rattle.host.specs.declared.Settings.{Settings}
-use Rattle.host.specs.Settings.{fromTo, clockSettingOff, ownId, switchesGood, settingsGood}
+use Rattle.host.specs.Settings.{fromTo, clockSettingOff, ownId, foundMarked, switchesGood, settingsGood}
 
 pub record Sound (s : Settings) : Type 0 where
   pub links-from : 1 ≤ s .«link_count»
@@ -32,6 +33,8 @@ pub record Sound (s : Settings) : Type 0 where
   pub date : real (s .date) ≡ true
   pub row-ids : idsBelow (s .layout .nhosts) (rowsOf (s .net)) ≡ true
   pub own-id : isFound (ownId s) ≡ true
+  pub own-marked : foundMarked (s .marks) (ownId s) ≡ true
+  pub marks-below : noneFrom (s .marks) (s .layout .nhosts) ≡ true
 
 pub sound : (s : Settings) → settingsGood s ≡ true → Sound s
 unfolding settingsGood
@@ -49,6 +52,8 @@ sound s e =
     ∷ real (s .date)
     ∷ idsBelow (s .layout .nhosts) (rowsOf (s .net))
     ∷ isFound (ownId s)
+    ∷ foundMarked (s .marks) (ownId s)
+    ∷ noneFrom (s .marks) (s .layout .nhosts)
     ∷ []) e in
     let links = both (leb 1 (s .«link_count»)) (leb (s .«link_count») 8) (t .0) in
     let hosts = both (leb 1 (s .layout .nhosts)) (leb (s .layout .nhosts) 255) (t .1 .1 .0) in
@@ -71,4 +76,6 @@ sound s e =
       date = t .1 .1 .1 .1 .1 .1 .1 .1 .1 .0;
       row-ids = t .1 .1 .1 .1 .1 .1 .1 .1 .1 .1 .0;
       own-id = t .1 .1 .1 .1 .1 .1 .1 .1 .1 .1 .1 .0;
+      own-marked = t .1 .1 .1 .1 .1 .1 .1 .1 .1 .1 .1 .1 .0;
+      marks-below = t .1 .1 .1 .1 .1 .1 .1 .1 .1 .1 .1 .1 .1 .0;
     }

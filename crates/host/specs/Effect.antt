@@ -4,6 +4,7 @@ use Rattle.clock.specs.declared.Clock.{Clock}
 use Rattle.table.specs.declared.run.Change.{Change}
 use Rattle.table.specs.declared.run.Change.the-variants.{Fresh}
 use Rattle.table.specs.declared.run.Changes.{Changes}
+use Rattle.table.specs.Marks.{noMarks}
 use Rattle.host.specs.declared.Settings.{Settings}
 use Rattle.host.specs.declared.Links.{Links}
 use Rattle.host.specs.declared.walk.Walk.{Walk}
@@ -14,13 +15,13 @@ use Rattle.host.specs.State.{hostCount}
 -- ---- what becomes of the entries: nothing, or a change to each id or to one
 
 abbrev pub nothing : Changes
-nothing = record { first = 0; end = 0; change = Fresh }
+nothing = record { first = 0; end = 0; change = Fresh; marks = noMarks }
 
 abbrev pub each : Settings → Change → Changes
-each s change = record { first = 0; end = hostCount s; change = change }
+each s change = record { first = 0; end = hostCount s; change = change; marks = s .marks }
 
 abbrev pub one : (id : ℕ) → Change → Changes
-one id change = record { first = id; end = id + 1; change = change }
+one id change = record { first = id; end = id + 1; change = change; marks = noMarks }
 
 -- a reply, and this clock, these links and this walk; the entries stay
 abbrev pub answers : Reply → Clock → Links → Walk → Effect

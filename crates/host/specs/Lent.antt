@@ -8,8 +8,8 @@ use Rattle.clock.specs.declared.Counter.{Counter}
 use Rattle.clock.specs.declared.Reading.{Reading}
 use Rattle.clock.specs.Clock.{reading, clockInRange}
 use Rattle.table.specs.declared.Entry.{Entry}
-use Rattle.table.specs.Forms.{every}
-use Rattle.table.specs.Entry.{entryInRange}
+use Rattle.table.specs.Forms.{every, everyFrom}
+use Rattle.table.specs.Entry.{asMarked, entryInRange}
 use Rattle.host.specs.declared.Settings.{Settings}
 use Rattle.host.specs.declared.Links.{Links}
 use Rattle.host.specs.declared.walk.Walk.{Walk}
@@ -50,5 +50,9 @@ hostInRange h = clockInRange (h .clock) && every linkInRange (take (linkCount (h
 abbrev pub ownWalkInRange : Lent → Bool
 ownWalkInRange x = walkInRange (x .host .settings) (x .walk) (x .copy)
 
+-- "12 also where an entry's mark isn't the settings'"
+abbrev pub marksAsSet : Lent → Bool
+marksAsSet x = everyFrom 0 (asMarked (x .host .settings .marks)) (entriesOf x)
+
 unfoldable pub lentInRange : Lent → Bool
-lentInRange x = hostInRange (x .host) && ownWalkInRange x && every entryInRange (entriesOf x)
+lentInRange x = hostInRange (x .host) && ownWalkInRange x && every entryInRange (entriesOf x) && marksAsSet x

@@ -1,5 +1,5 @@
 -- "Settings": the test of answer 1, "a setting outside the above".
-use mathlib.Core.Bool.{Bool, not, _&&_, _||_}
+use mathlib.Core.Bool.{Bool, false, not, _&&_, _||_}
 use Prim.Native.Nat.{ℕ, min}
 use lib.Dec.{ltb, leb, eqb}
 use lib.IntN.{pos}
@@ -8,9 +8,12 @@ use Rattle.quantity.specs.Quantity.{millis, lessMillis}
 use Rattle.calendar.specs.Date.{real}
 use Rattle.clock.specs.Midnight.{dayMillis}
 use Rattle.clock.specs.Clock.{tickInRange}
+use Rattle.table.specs.declared.marks.Marks.{Marks}
 use Rattle.table.specs.Forms.{every}
+use Rattle.table.specs.Marks.{marked, noneFrom}
 use Rattle.wire.specs.declared.Address.{Address}
 use Rattle.route.specs.declared.Found.{Found}
+use Rattle.route.specs.declared.Found.the-variants.{Id, Nothing}
 use Rattle.route.specs.Find.{isFound, localId, find, rowsOf, idsBelow}
 use Rattle.host.specs.declared.LinkSetting.{LinkSetting}
 use Rattle.host.specs.declared.Settings.{Settings}
@@ -41,7 +44,12 @@ switchGood x = leb (x .broadcast) 1
 abbrev pub switchesGood : Settings → Bool
 switchesGood s = every switchGood (take (linkCount s) (s .links))
 
--- the rules of the settings, in the paper's order
+-- an id that is marked: its host lives here
+abbrev pub foundMarked : Marks → Found → Bool
+foundMarked m Nothing = false
+foundMarked m (Id id) = marked m id
+
+-- the rules of the settings, in the papers' order; the last two: "1 also where the own id is unmarked or a mark lies at NHOSTS or above"
 unfoldable pub settingsGood : Settings → Bool
 settingsGood s =
     fromTo 1 8 (s .«link_count»)
@@ -56,3 +64,5 @@ settingsGood s =
     && real (s .date)
     && idsBelow (s .layout .nhosts) (rowsOf (s .net))
     && isFound (ownId s)
+    && foundMarked (s .marks) (ownId s)
+    && noneFrom (s .marks) (s .layout .nhosts)

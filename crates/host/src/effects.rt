@@ -19,16 +19,19 @@ pub fn nothing() -> Changes
         first: 0,
         end: 0,
         change: Change::Fresh,
+        marks: table::marks::none(),
     }
 }
 
 pub fn each(s: Settings, change: Change) -> Changes
     ensures { λ w. ⌜ w ≡ each s change ⌝ }
 {
+    let marks = s.marks;
     Changes {
         first: 0,
         end: host_count(s),
         change: change,
+        marks: marks,
     }
 }
 
@@ -41,6 +44,7 @@ pub fn one(id: usize, change: Change) -> Changes
         first: id,
         end: end,
         change: change,
+        marks: table::marks::none(),
     }
 }
 

@@ -16,6 +16,7 @@ use super::walk::is_open;
 use answer::Answer;
 use clock::Clock;
 use table::Entry;
+use table::marks::Marks;
 use table::run::Scan;
 use table::run::all_in_range;
 
@@ -52,13 +53,22 @@ fn settled(good: bool) -> Scan
         first: 0,
         end: 0,
         good: good,
+        marks: table::marks::none(),
     }
 }
 
-// So many entries, where the clock, so many links and the walk are within their ranges.
-fn whole_scan(number: usize, entries: usize, c: Clock, l: Links, links: usize, walk: bool) -> Scan
+// So many entries and their marks, where the clock, so many links and the walk are within their ranges.
+fn whole_scan(
+    number: usize,
+    entries: usize,
+    c: Clock,
+    l: Links,
+    links: usize,
+    walk: bool,
+    marks: Marks,
+) -> Scan
     requires { ⌜ (number ≤ 15) × (entries ≤ 255) × (links ≤ 8) ⌝ }
-    ensures { λ w. ⌜ w ≡ wholeScan number entries c l links walk ⌝ }
+    ensures { λ w. ⌜ w ≡ wholeScan number entries c l links walk marks ⌝ }
 {
     if !c.in_range() {
         return settled(false);
@@ -75,6 +85,7 @@ fn whole_scan(number: usize, entries: usize, c: Clock, l: Links, links: usize, w
         first: first,
         end: end,
         good: true,
+        marks: marks,
     }
 }
 
@@ -147,6 +158,7 @@ fn held(
         l,
         links,
         super::walk::in_range(s, w, copy),
+        s.marks,
     )
 }
 

@@ -7,7 +7,7 @@ ghost use Rattle.quantity.specs.Quantity.{millis, lessMillis};
 ghost use Rattle.clock.specs.Midnight.{dayMillis};
 ghost use Rattle.clock.specs.Clock.{reading, clockInRange};
 ghost use Prim.Native.Nat.{_≤_};
-ghost use Rattle.host.specs.Settings.{fromTo, clockSettingOff, ownId, switchesGood, settingsGood};
+ghost use Rattle.host.specs.Settings.{fromTo, clockSettingOff, ownId, foundMarked, switchesGood, settingsGood};
 ghost use Rattle.host.specs.State.{firstPlace, hostCount};
 use link_state::MAX_LINKS;
 
@@ -45,6 +45,8 @@ pub struct Settings {
     pub link_count: usize,
     pub links: [LinkSetting; 8],
     pub net: route::NetTable,
+    // the ids whose hosts live here, our own among them
+    pub marks: table::marks::Marks,
 }
 
 // The state of a link: NEIGHBOR-ADDRESS, KEEP-ALIVE and TSP.
@@ -138,6 +140,16 @@ pub fn own_id(s: Settings) -> route::Found
     route::local_id(layout, address)
 }
 
+// Is there an id, and is it marked?
+fn found_marked(m: table::marks::Marks, found: route::Found) -> bool
+    ensures { λ r. ⌜ r ≡ foundMarked m found ⌝ }
+{
+    match found {
+        route::Found::Nothing => false,
+        route::Found::Id(id) => table::marks::mark(m, id) == 1,
+    }
+}
+
 // Our reading of the clock, and the clock to carry on with.
 pub fn our_reading(s: Settings, c: clock::Clock, k: clock::Counter) -> clock::Reading
     requires { ⌜ (settingsGood s ≡ true) × (clockInRange c ≡ true) ⌝ }
@@ -157,7 +169,9 @@ pub fn good(s: Settings) -> bool
     let time = s.time;
     let date = s.date;
     let net = s.net;
+    let marks = s.marks;
     let nhosts = layout.nhosts;
+    let own = own_id(s);
     from_to(1, MAX_LINKS, s.link_count)
         & link_state::switches_good(s)
         & from_to(1, MAX_HOSTS, nhosts)
@@ -169,7 +183,9 @@ pub fn good(s: Settings) -> bool
         & time_good(time)
         & date.is_real()
         & route::ids_below(net, nhosts)
-        & route::is_found(own_id(s))
+        & route::is_found(own)
+        & found_marked(marks, own)
+        & table::marks::none_from(marks, nhosts)
 }
 
 // The hosts of one net, and the places of each in the run.

@@ -7,6 +7,7 @@ pub mod Measured
 pub mod Arrival
 pub mod Walks
 pub mod Histories
+pub mod NeverAlive
 pub mod Shared
 pub mod TwoSeats
 pub mod Alive

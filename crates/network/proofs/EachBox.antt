@@ -132,7 +132,7 @@ module _ (k : Counter) (x : Lent) where
       put-kept true e =
           let all : All P (x .run) = all-of P d (x .run) (λ j g n. refl) in
           let own = all-part P d (firstPlace (x .number)) (hostCount (h .settings)) (x .run) all in
-          let made = changes-keep (put w y) (entriesOf x) (λ j. P (j + firstPlace (x .number))) (λ id a low high z n. absurd (n (omega arith))) own in
+          let made = changes-keep (put w y) (entriesOf x) (λ j. P (j + firstPlace (x .number))) (λ id a low high inside z n. absurd (n (omega arith))) own in
           let long = changes-length (put w y) (entriesOf x) in
           let whole = all-over (firstPlace (x .number)) (hostCount (h .settings)) (x .run) (runs.changes (put w y) (entriesOf x)) long P d all made in
           let size = written-kept x (runs.changes (put w y) (entriesOf x)) held long .same-length in
@@ -223,7 +223,7 @@ module _ (k : Counter) (x : Lent) where
 
       line-c : Is LineC (boxC p octets h w e)
       unfolding boxC lineC
-      line-c = either (Is LineC) (isClockHost h w) _ _ (λ _. (refl, refl, puts (stored u))) (λ _. put-next LineC (λ r a b z. (a, b, z)) (stored u))
+      line-c = either (Is LineC) (isClockHost h w) _ _ (λ _. (refl, refl, puts (stored u e))) (λ _. put-next LineC (λ r a b z. (a, b, z)) (stored u e))
 
       line-d : Is LineD (boxD p octets h w)
       unfolding boxD

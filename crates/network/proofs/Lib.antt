@@ -14,5 +14,6 @@ pub mod Opened
 pub mod Demand3
 pub mod Pair
 pub mod LineCalls
+pub mod OwnAlone
 pub mod WalkEnds
 pub mod EachBox

@@ -30,6 +30,7 @@ use Rattle.wire.specs.declared.Packet.{Packet}
 use Rattle.wire.specs.declared.Parsed.{Parsed}
 use Rattle.wire.specs.declared.Parsed.the-variants.{Good, Bad}
 use Rattle.wire.specs.Packet.{packetLength}
+use Rattle.table.specs.declared.run.Change.the-variants.{Reported}
 use Rattle.table.specs.declared.Entry.{Entry}
 use Rattle.table.specs.declared.Update.{Update}
 use Rattle.table.specs.declared.Updated.{Updated}
@@ -44,10 +45,9 @@ use Rattle.host.specs.declared.walk.Walk.{Walk}
 use Rattle.host.specs.declared.walk.Place.{Place}
 use Rattle.host.specs.declared.walk.Place.the-variants.{Nowhere, Step1, Step2, Step3, Step4, Step5, LineA, LineB, LineC, LineD}
 use Rattle.host.specs.declared.guard.Scope.the-variants.{Places, Walking}
-use Rattle.host.specs.Settings.{ownId}
 use Rattle.host.specs.Walk.{isOpen, placeOf, packetOf, lineUpdate}
 use Rattle.host.specs.State.{linkOf, withEntries}
-use Rattle.host.specs.Effect.{nothing, answers}
+use Rattle.host.specs.Effect.{nothing, each, answers}
 use Rattle.host.specs.Lent.{Host, Lent, host, entriesOf, ourReading, ownWalkInRange}
 use Rattle.host.specs.Guard.{guard, done}
 use Rattle.host.specs.Reply.{plainly, tellsTime}
@@ -65,7 +65,7 @@ use Rattle.walk.specs.declared.Opening.{Opening}
 use Rattle.walk.specs.Boxes.{holdingReading, atStep, onward, nextId, isClockHost, clockSet, box1, boxD, boxAt, boxOf, step}
 use Rattle.calls.specs.declared.Request.{Request}
 use Rattle.calls.specs.declared.Request.the-variants.{Initialize, Tick, Adjust, Set, Read, Second, SelfReport, Lookup, Step}
-use Rattle.calls.specs.Effects.{ownWork, initialize, tick, adjust, setBy, read, second, selfReport, lookup, effect, wanted}
+use Rattle.calls.specs.Effects.{initialize, tick, adjust, setBy, read, second, selfReport, lookup, effect, wanted}
 use Rattle.calls.specs.Perform.{Call, ask, send, deliver, openWalk, scopeOfCall, refused, entryAt, carriedOut, sentBy, updatedBy, openedBy, work, perform}
 use Rattle.network.specs.Range.{countBy}
 use Rattle.network.specs.LineCalls.{lineClockSet, lineBoxAt, lineBoxOf, lineStep, lineEffect, lineSend, lineInspected, lineDelivered, lineSettled, lineUpdates, lineUpdatedBy, lineWork, linePerform, NoCount, LineTime, LineCalls}
@@ -162,7 +162,7 @@ module _ (x : Lent) (t : LineTime (x .host .clock)) where
   effect-same Second e is = refl
   effect-same (SelfReport k) e is =
       ap (λ (m : Counter). selfReport m h w) is
-      ∙ ap (λ (r : Reading). record { reply = plainly Done; clock = r .clock; links = h .links; walk = w; work = ownWork (r .time) (ownId (h .settings)) }) reading-same
+      ∙ ap (λ (r : Reading). record { reply = plainly Done; clock = r .clock; links = h .links; walk = w; work = each (h .settings) (Reported (r .time)) }) reading-same
   effect-same (Lookup a) e is = refl
   effect-same (Step k) e is = step-same k (x .copy) e (is .0) (is .1)
 

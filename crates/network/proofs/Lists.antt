@@ -3,6 +3,7 @@ use mathlib.Core.Path.{_≡_, refl, sym, ap, subst, _∙_}
 use mathlib.Core.Bool.{Bool, true, false}
 use mathlib.Core.List.{List, [], _∷_, _++_, map}
 use Prim.Native.Nat.{ℕ, zero, suc, _+_, _-_, _≤_, _<_, min}
+use native.Mathlib.Nat.{zero-add}
 use native.Mathlib.Omega.{arith}
 use borrow.Author.Tests.{ltb-true, ltb-false}
 use lib.Dec.{ltb}
@@ -10,7 +11,7 @@ use lib.ListN.{length, getD, take, drop, set, length-append, length-take, length
 use lib.Seq.{getD-take, getD-drop, getD-append-add}
 use Rattle.lists.specs.Lists.{part, over}
 use Rattle.lists.proofs.Tests.{both}
-use Rattle.table.specs.Forms.{every}
+use Rattle.table.specs.Forms.{every, everyFrom, mapFrom}
 
 -- what stands at a place, stored there
 pub set-same : {A : Type 0} (d : A) (l : List A) (i : ℕ) → set l i (getD l i d) ≡ l
@@ -35,9 +36,55 @@ all-map P Q f [] h t = tt
 all-map P Q f (a ∷ l) h t =
     (h 0 a (omega arith) (t .0), all-map (λ i. P (suc i)) (λ i. Q (suc i)) f l (λ i b g. h (suc i) b (omega arith)) (t .1))
 
+-- of elements that are made anew with their counts, from k on
+pub all-counted : {A B : Type 0} (P : ℕ → A → Type 0) (Q : ℕ → B → Type 0) (k : ℕ) (f : ℕ → A → B) (l : List A)
+    → ((i : ℕ) (a : A) → i < length l → P i a → Q i (f (k + i) a)) → All P l → All Q (mapFrom k f l)
+all-counted P Q k f [] h t = tt
+all-counted P Q k f (a ∷ l) h t =
+    let z : k + 0 ≡ k = omega arith in (
+      rw z at (h 0 a (omega arith) (t .0)),
+      all-counted (λ i. P (suc i)) (λ i. Q (suc i)) (suc k) f l
+          (λ i b g p. let s : k + suc i ≡ suc k + i = omega arith in rw s at (h (suc i) b (omega arith) p)) (t .1),
+    )
+
+-- of any elements
+pub all-any : {A : Type 0} (P : ℕ → A → Type 0) → ((i : ℕ) (a : A) → P i a) → (l : List A) → All P l
+all-any P h [] = tt
+all-any P h (a ∷ l) = (h 0 a, all-any (λ i. P (suc i)) (λ i. h (suc i)) l)
+
 pub all-weaken : {A : Type 0} (P Q : ℕ → A → Type 0) → ((i : ℕ) (a : A) → P i a → Q i a) → (l : List A) → All P l → All Q l
 all-weaken P Q h [] t = tt
 all-weaken P Q h (a ∷ l) t = (h 0 a (t .0), all-weaken (λ i. P (suc i)) (λ i. Q (suc i)) (λ i. h (suc i)) l (t .1))
+
+-- a test of every element with its count, as a predicate and back
+from-all : {A : Type 0} (k : ℕ) (test : ℕ → A → Bool) (l : List A) → everyFrom k test l ≡ true → All (λ (i : ℕ) (a : A). test (k + i) a ≡ true) l
+from-all k test [] e = tt
+from-all k test (a ∷ l) e =
+    let b = both (test k a) (everyFrom (suc k) test l) e in
+    let z : k + 0 ≡ k = omega arith in (
+      rw z (b .0),
+      all-weaken (λ i c. test (suc k + i) c ≡ true) (λ i c. test (k + suc i) c ≡ true)
+          (λ i c p. let s : k + suc i ≡ suc k + i = omega arith in rw s p) l (from-all (suc k) test l (b .1)),
+    )
+
+all-from : {A : Type 0} (k : ℕ) (test : ℕ → A → Bool) (l : List A) → All (λ (i : ℕ) (a : A). test (k + i) a ≡ true) l → everyFrom k test l ≡ true
+all-from k test [] t = refl
+all-from k test (a ∷ l) t =
+    let z : k + 0 ≡ k = omega arith in
+    let rest = all-weaken (λ i c. test (k + suc i) c ≡ true) (λ i c. test (suc k + i) c ≡ true)
+    (λ i c p. let s : k + suc i ≡ suc k + i = omega arith in rw s at p) l (t .1) in
+    rw (rw z at (t .0), all-from (suc k) test l rest) refl
+
+pub each-all : {A : Type 0} (test : ℕ → A → Bool) (l : List A) → everyFrom 0 test l ≡ true → All (λ (i : ℕ) (a : A). test i a ≡ true) l
+each-all test l e = all-weaken (λ i a. test (0 + i) a ≡ true) (λ i a. test i a ≡ true) (λ i a p. rw (zero-add i) at p) l (from-all 0 test l e)
+
+pub all-each : {A : Type 0} (test : ℕ → A → Bool) (l : List A) → All (λ (i : ℕ) (a : A). test i a ≡ true) l → everyFrom 0 test l ≡ true
+all-each test l t = all-from 0 test l (all-weaken (λ i a. test i a ≡ true) (λ i a. test (0 + i) a ≡ true) (λ i a p. rw (zero-add i) p) l t)
+
+-- what stands at each place
+pub all-getD : {A : Type 0} (d : A) (l : List A) → All (λ (i : ℕ) (a : A). a ≡ getD l i d) l
+all-getD d [] = tt
+all-getD d (a ∷ l) = (refl, all-getD d l)
 
 -- with one element stored, where P holds of all the others
 pub all-put : {A : Type 0} (P : ℕ → A → Type 0) (i : ℕ) (a : A) → P i a → (l : List A) → All (λ (j : ℕ) (b : A). (j ≡ i → ⊥) → P j b) l → All P (set l i a)

@@ -9,8 +9,9 @@ use Rattle.wire.specs.Ip.{ipForm, ipChecksum, protocol, header}
 use Rattle.wire.specs.Hello.{helloForm, helloChecksum, reportAt, hello}
 use Rattle.wire.specs.Packet.{fields, parse, message}
 use Rattle.route.specs.Find.{sameNet, localId, search, find}
+use Rattle.table.specs.Marks.{mark, noneFrom}
 use Rattle.table.specs.Entry.{freshEntry, advertised, entryInRange}
-use Rattle.table.specs.Update.{lineA, lineB, lineC, lines, lineD, update, selfReported}
+use Rattle.table.specs.Update.{lineA, lineB, lineC, lines, lineD, update, selfReported, reportedHere}
 use Rattle.table.specs.Sweep.{sweep}
 use Rattle.table.specs.Runs.{changes, updates}
 use Rattle.host.specs.Settings.{settingsGood}
@@ -24,5 +25,5 @@ use Rattle.calls.specs.Effects.{initialize, tick, selfReport}
 use Rattle.calls.specs.Perform.{perform}
 
 unfoldable pub opened : Unit {0}
-unfolding lastDay real next previous fold folded checksumGood checksumOf turns while dayOn dayBack daysOn daysBack midnight freshClock reading setBy tickInRange clockInRange clock.tick ipForm ipChecksum protocol header helloForm helloChecksum reportAt hello fields parse message sameNet localId search find freshEntry advertised entryInRange lineA lineB lineC lines lineD update selfReported sweep changes updates settingsGood freshLinks entries withEntries walkInRange lentInRange noPlaces noLink guard otherLayout looped inspect step2 step3 step4 steps2to4 initialize tick selfReport perform
+unfolding lastDay real next previous fold folded checksumGood checksumOf turns while dayOn dayBack daysOn daysBack midnight freshClock reading setBy tickInRange clockInRange clock.tick ipForm ipChecksum protocol header helloForm helloChecksum reportAt hello fields parse message sameNet localId search find mark noneFrom freshEntry advertised entryInRange lineA lineB lineC lines lineD update selfReported reportedHere sweep changes updates settingsGood freshLinks entries withEntries walkInRange lentInRange noPlaces noLink guard otherLayout looped inspect step2 step3 step4 steps2to4 initialize tick selfReport perform
 opened = tt

@@ -1,22 +1,25 @@
 -- What a call makes of the host's entries: as many as there were, each kept as it was or changed by its rule; so it keeps what each rule keeps.
 use mathlib.Core.Path.{_≡_, ap, _∙_}
-use mathlib.Core.List.{List, [], _∷_, _++_, map, append-nil}
+use mathlib.Core.List.{List, [], _∷_, _++_, append-nil}
 use Prim.Native.Nat.{ℕ, suc, _+_, _-_, _≤_, _<_, min}
 use native.Mathlib.Omega.{arith}
-use lib.ListN.{length, take, drop, length-map, length-take, length-drop, drop-of-length-le}
+use lib.ListN.{length, getD, take, drop, length-take, length-drop, drop-of-length-le}
 use lib.Seq.{take-all}
 use Rattle.lists.specs.Lists.{part}
 use Rattle.clock.specs.declared.Clock.{Clock}
 use Rattle.table.specs.declared.Entry.{Entry}
 use Rattle.table.specs.declared.Updated.{Updated}
+use Rattle.table.specs.declared.marks.Marks.{Marks}
 use Rattle.table.specs.declared.run.Change.{Change}
 use Rattle.table.specs.declared.run.Changes.{Changes}
 use Rattle.table.specs.declared.run.Updates.{Updates}
+use Rattle.table.specs.Forms.{mapFrom}
 use Rattle.table.specs.Entry.{freshEntry}
 use Rattle.table.specs.Sweep.{sweep}
 use Rattle.table.specs.Runs.{changed, changes, updatedAt, updates}
 use Rattle.table.proofs.Sweeps.{sweep-length, sweep-clock}
-use Rattle.network.proofs.Lists.{All, all-map, all-part, over-size, all-over}
+use Rattle.table.proofs.Loops.{map-length}
+use Rattle.network.proofs.Lists.{All, all-both, all-counted, all-getD, all-part, over-size, all-over}
 
 -- a sweep, over any predicate of good entries
 sweep-keeps : (P : ℕ → Entry → Type 0) (n : ℕ) (f : ℕ → Clock → Entry → Updated) (c : Clock) (es : List Entry)
@@ -40,28 +43,33 @@ module _ (w : Changes) (es : List Entry) where
 
   pub changes-length : length (changes w es) ≡ length es
   unfolding changes
-  changes-length = over-size (w .first) (w .end - w .first) es _ (length-map touched (changed (w .change)))
+  changes-length = over-size (w .first) (w .end - w .first) es _ (map-length 0 (changed (w .marks) (w .change)) touched)
 
   pub changes-keep : (P : ℕ → Entry → Type 0)
-      → ((id : ℕ) (e : Entry) → w .first ≤ id → id < w .end → P id e → P id (changed (w .change) e))
+      → ((id : ℕ) (e : Entry) → w .first ≤ id → id < w .end → e ≡ getD es id freshEntry → P id e → P id (changed (w .marks) (w .change) (id - w .first) e))
       → All P es → All P (changes w es)
   unfolding changes
   changes-keep P h t =
-      all-over (w .first) (w .end - w .first) es _ (length-map touched (changed (w .change))) P freshEntry t
-      (all-map (λ i. P (i + w .first)) (λ i. P (i + w .first)) (changed (w .change)) touched
-      (λ i e g p. h (i + w .first) e (omega arith) (omega (arith, part-short (w .first) (w .end - w .first) es)) p)
-      (all-part P freshEntry (w .first) (w .end - w .first) es t))
+      all-over (w .first) (w .end - w .first) es _ (map-length 0 (changed (w .marks) (w .change)) touched) P freshEntry t
+      (all-counted (λ i. Now (i + w .first)) (λ i. P (i + w .first)) 0 (changed (w .marks) (w .change)) touched
+      (λ i e g p.
+      let n : i + w .first - w .first ≡ 0 + i = omega arith in
+      rw n at (h (i + w .first) e (omega arith) (omega (arith, part-short (w .first) (w .end - w .first) es)) (p .0) (p .1)))
+      (all-part Now freshEntry (w .first) (w .end - w .first) es (all-both (λ id e. e ≡ getD es id freshEntry) P es (all-getD freshEntry es) t)))
+    where
+      Now : ℕ → Entry → Type 0
+      Now id e = (e ≡ getD es id freshEntry) × P id e
 
 -- a change of every entry
-pub changes-each : (n : ℕ) (change : Change) (es : List Entry) → length es ≤ n
-    → changes record { first = 0; end = n; change = change } es ≡ map (changed change) es
+pub changes-each : (n : ℕ) (change : Change) (m : Marks) (es : List Entry) → length es ≤ n
+    → changes record { first = 0; end = n; change = change; marks = m } es ≡ mapFrom 0 (changed m change) es
 unfolding changes
-changes-each n change es h =
+changes-each n change m es h =
     let all : take (n - 0) es ≡ es = take-all (n - 0) es (omega arith) in
-    let past : length es ≤ 0 + length (map (changed change) es) = omega (arith, length-map es (changed change)) in
-    ap (λ l. map (changed change) l ++ drop (0 + length (map (changed change) l)) es) all
-    ∙ ap (λ l. map (changed change) es ++ l) (drop-of-length-le es past)
-    ∙ append-nil (map (changed change) es)
+    let past : length es ≤ 0 + length (mapFrom 0 (changed m change) es) = omega (arith, map-length 0 (changed m change) es) in
+    ap (λ l. mapFrom 0 (changed m change) l ++ drop (0 + length (mapFrom 0 (changed m change) l)) es) all
+    ∙ ap (λ l. mapFrom 0 (changed m change) es ++ l) (drop-of-length-le es past)
+    ∙ append-nil (mapFrom 0 (changed m change) es)
 
 module _ (w : Updates) (packet : List ℕ) (es : List Entry) where
   abbrev updated : List Entry

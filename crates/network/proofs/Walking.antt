@@ -1,6 +1,6 @@
 -- The ways that a step can go: no walk is open; the clock is read; 10 or 11 ends the walk; or it goes on, or ends behind the last id, with a clock, links and an entry that its box made.
-use mathlib.Core.Path.{_≡_, refl}
-use mathlib.Core.Bool.{true, false, false≢true, not, _&&_, _||_}
+use mathlib.Core.Path.{_≡_, refl, ap}
+use mathlib.Core.Bool.{Bool, true, false, false≢true, cond, not, _&&_, _||_}
 use mathlib.Core.List.{List}
 use Prim.Native.Nat.{ℕ, _+_, _≤_}
 use lib.Dec.{ltb, eqb}
@@ -44,13 +44,13 @@ use Rattle.host.specs.State.{hostCount, broadcast, linkOf, withLink, linkInRang
 use Rattle.host.specs.Lent.{Host, host, ourReading}
 use Rattle.host.specs.Reply.{plainly}
 use Rattle.host.specs.Inspection.{otherLayout, looped, inspected, inspect}
-use Rattle.host.specs.Walk.{isOpen, noWalk, placeOf, packetOf, heldUpdate, lineUpdate, readingInRange, idInRange, storable, heldAt, packetHeld, walkInRange}
+use Rattle.host.specs.Walk.{isOpen, noWalk, stepPlace, linePlace, placeOf, packetOf, heldUpdate, lineUpdate, readingInRange, idInRange, storable, heldAt, packetHeld, walkInRange}
 use Rattle.host.specs.Effect.{nothing, answers}
 use Rattle.host.proofs.Guarded.{counted}
 use Rattle.host.proofs.Walks.{opened-says}
 use Rattle.arrival.specs.declared.Flight.{Flight}
 use Rattle.arrival.specs.Steps.{step2, step3, step4, newNeighbor}
-use Rattle.walk.specs.Boxes.{inFlight, holding, raised, atStep, atLine, onward, ended, fourth, toNeighbor, nextId, put, isClockHost, clockSet, behindA, behindB, box1, box2, box3, box4, box5, boxA, boxB, boxC, boxD, boxAt, boxOf, step}
+use Rattle.walk.specs.Boxes.{inFlight, holding, raised, atStep, atLine, onward, ended, fourth, toNeighbor, nextId, put, isClockHost, clockSet, behindA, behindB, box1, box2, box3, box4, box5, boxA, boxB, boxC, boxD, atHand, boxAt, boxOf, step}
 
 -- ---- inspection: a refusal, or the fields of the octets
 
@@ -85,11 +85,51 @@ pub data Touched (h : Host) (w : Walk) : Links → Type 0 where
 pub data Makes (w : Walk) (e : Entry) : Entry → Type 0 where
   stays : Makes w e e
   down : Makes w e (takenDown e)
-  stores : (u : Update) → storable u ≡ true → readingInRange w ≡ true → u .pid ≡ w .link → w .link ≤ 8 → u .reading ≡ w .reading → Makes w e (stored u)
+  stores : (u : Update) → storable u ≡ true → readingInRange w ≡ true → u .pid ≡ w .link → w .link ≤ 8 → u .reading ≡ w .reading → Makes w e (stored u e)
 
 pub data Works (w : Walk) (e : Entry) : Changes → Type 0 where
   no-work : Works w e nothing
-  puts : (y : Entry) → Makes w e y → Works w e (put w y)
+  puts : (y : Entry) → Makes w e y → atHand w ≡ Id (w .id) → Works w e (put w y)
+
+-- the mark stays
+pub makes-mark : (w : Walk) (e y : Entry) → Makes w e y → y .here ≡ e .here
+makes-mark w e y stays = refl
+makes-mark w e y down = refl
+makes-mark w e y (stores u fits read pid most reading) = refl
+
+-- ---- at a line the entry of the id is at hand
+
+abbrev isLine : Place → Bool
+isLine Nowhere = false
+isLine Step1 = false
+isLine Step2 = false
+isLine Step3 = false
+isLine Step4 = false
+isLine Step5 = false
+isLine LineA = true
+isLine LineB = true
+isLine LineC = true
+isLine LineD = true
+
+no-line : (n : ℕ) → isLine (stepPlace n) ≡ true → ⊥
+no-line n =
+    either Not (eqb n 1) _ _ (λ _. false≢true)
+    (λ _. either Not (eqb n 2) _ _ (λ _. false≢true)
+    (λ _. either Not (eqb n 3) _ _ (λ _. false≢true)
+    (λ _. either Not (eqb n 4) _ _ (λ _. false≢true)
+    (λ _. either Not (eqb n 5) _ _ (λ _. false≢true) (λ _. false≢true)))))
+  where
+    Not : Place → Type 0
+    Not q = isLine q ≡ true → ⊥
+
+at-line : (w : Walk) → isOpen w ≡ true → isLine (placeOf w) ≡ true → atHand w ≡ Id (w .id)
+unfolding placeOf
+at-line w opened line = go (eqb (w .line) 0) line
+  where
+    go : (b : Bool) → isLine (cond b (stepPlace (w .step)) (cond (eqb (w .step) 5) (linePlace (w .line)) Nowhere)) ≡ true
+        → cond (isOpen w && not b) (Id (w .id)) Nothing ≡ Id (w .id)
+    go true l = absurd (no-line (w .step) l)
+    go false l = rw opened refl
 
 -- a walk behind the box holds no count where this one holds none
 abbrev pub Holding : (w v : Walk) → Type 0
@@ -106,7 +146,7 @@ module _ (k : Counter) (h : Host) (w : Walk) (copy : List ℕ) (e : Entry) (P : 
     pub goes : (r : Reply) → r .answer ≡ Done → (v : Walk) → Holding w v → (c : Clock) → Timed h w c → (l : Links) → Touched h w l
         → (work : Changes) → Works w e work → P record { reply = r; clock = c; links = l; walk = v; work = work }
 
-  module _ (ways : Ways) (has : noLink (h .settings) (w .link) ≡ false) (p : Packet) (octets : List ℕ) where
+  module _ (ways : Ways) (opened : isOpen w ≡ true) (has : noLink (h .settings) (w .link) ≡ false) (p : Packet) (octets : List ℕ) where
     on-with : (v : Walk) → Holding w v → (work : Changes) → Works w e work → P (onward v (h .clock) (h .links) work)
     on-with v kept work d = ways .goes _ refl v kept (h .clock) as-was (h .links) as-were work d
 
@@ -149,12 +189,12 @@ module _ (k : Counter) (h : Host) (w : Walk) (copy : List ℕ) (e : Entry) (P : 
         either (λ (s : Stage Entry). P (behindA p h w s)) (not (eqb (u .pid) (e .pid)) && lessMillis (e .delay) (addMillis (u .delay) minDelay)) _ _
         (λ _. next (h .clock) as-was nothing no-work) (λ _. on-with (atLine 2 (w .id) w) (λ z. z) nothing no-work)
 
-    behind-b : P (boxB p octets h w e)
+    behind-b : atHand w ≡ Id (w .id) → P (boxB p octets h w e)
     unfolding boxB lineB
-    behind-b =
+    behind-b here =
         either Q (up e) _ _
-        (λ _. either Q (lessMillis (u .delay) maxDelay) _ _ (λ _. goes-on) (λ _. next (h .clock) as-was _ (puts (takenDown e) down)))
-        (λ _. either Q (lessMillis (u .delay) maxDelay && eqb (e .ttl .0) 0) _ _ (λ _. goes-on) (λ _. next (h .clock) as-was _ (puts e stays)))
+        (λ _. either Q (lessMillis (u .delay) maxDelay) _ _ (λ _. goes-on) (λ _. next (h .clock) as-was _ (puts (takenDown e) down here)))
+        (λ _. either Q (lessMillis (u .delay) maxDelay && eqb (e .ttl .0) 0) _ _ (λ _. goes-on) (λ _. next (h .clock) as-was _ (puts e stays here)))
       where
         Q : Stage Entry → Type 0
         Q s = P (behindB p h w s)
@@ -168,10 +208,10 @@ module _ (k : Counter) (h : Host) (w : Walk) (copy : List ℕ) (e : Entry) (P : 
     same-reading : u .reading ≡ w .reading
     same-reading = either (λ (v : Update). v .reading ≡ w .reading) (eqb (p .nhosts) 0) (heldUpdate w) (plusReport (heldUpdate w) (reportAt (helloOf octets) (w .id))) (λ _. refl) (λ _. refl)
 
-    behind-c : storable u ≡ true → readingInRange w ≡ true → P (boxC p octets h w e)
+    behind-c : atHand w ≡ Id (w .id) → storable u ≡ true → readingInRange w ≡ true → P (boxC p octets h w e)
     unfolding boxC lineC
-    behind-c good read =
-        let d : Works w e (put w (stored u)) = puts (stored u) (stores u good read same-pid (counted (h .settings) (w .link) has .to-eight) same-reading) in
+    behind-c here good read =
+        let d : Works w e (put w (stored u e)) = puts (stored u e) (stores u good read same-pid (counted (h .settings) (w .link) has .to-eight) same-reading) here in
         either P (isClockHost h w) _ _ (λ _. on-with (atLine 4 (w .id) w) (λ z. z) _ d) (λ _. next (h .clock) as-was _ d)
 
     behind-d : P (boxD p octets h w)
@@ -181,22 +221,22 @@ module _ (k : Counter) (h : Host) (w : Walk) (copy : List ℕ) (e : Entry) (P : 
         set : Timed h w (clockSet p octets h w)
         set = either (Timed h w) (isClockHost h w) _ _ (λ _. set-by (p .date) (u .offset)) (λ _. as-was)
 
-    box-ways : (q : Place) → heldAt q (h .settings) w p octets ≡ true → P (boxAt q k p octets h w e)
+    box-ways : (q : Place) → placeOf w ≡ q → heldAt q (h .settings) w p octets ≡ true → P (boxAt q k p octets h w e)
     unfolding box1 box2 box3 box5 step2 step3
-    box-ways Nowhere held = absurd (false≢true held)
-    box-ways Step1 held = ways .reads _ refl
-    box-ways Step2 held = storing (atStep 3 w) (λ z. z) _ (λ _. refl)
-    box-ways Step3 held = storing _ (λ z. z) _ (λ z. z)
-    box-ways Step4 held = fourth-ways
-    box-ways Step5 held =
+    box-ways Nowhere is held = absurd (false≢true held)
+    box-ways Step1 is held = ways .reads _ refl
+    box-ways Step2 is held = storing (atStep 3 w) (λ z. z) _ (λ _. refl)
+    box-ways Step3 is held = storing _ (λ z. z) _ (λ z. z)
+    box-ways Step4 is held = fourth-ways
+    box-ways Step5 is held =
         either P (eqb (p .nhosts) 0) _ _ (λ _. found (foundFor (h .settings) (linkOf (h .links) (w .link) .neighbor)))
         (λ _. on-with (atLine 1 0 (raised w)) (λ z. z) nothing no-work)
-    box-ways LineA held = behind-a
-    box-ways LineB held = behind-b
-    box-ways LineC held =
+    box-ways LineA is held = behind-a
+    box-ways LineB is held = behind-b (at-line w opened (ap isLine is))
+    box-ways LineC is held =
         let t = both (readingInRange w && idInRange (h .settings) w) _ held in
-        behind-c (t .1) (both (readingInRange w) _ (t .0) .0)
-    box-ways LineD held = behind-d
+        behind-c (at-line w opened (ap isLine is)) (t .1) (both (readingInRange w) _ (t .0) .0)
+    box-ways LineD is held = behind-d
 
   pub step-ways : Ways → walkInRange (h .settings) w copy ≡ true → P (step k h w copy e)
   unfolding step
@@ -204,8 +244,8 @@ module _ (k : Counter) (h : Host) (w : Walk) (copy : List ℕ) (e : Entry) (P : 
       either P (not (isOpen w)) _ _ (λ _. ways .none)
       (λ f.
       (let o = opened-says (h .settings) w copy in-range (is-so _ f) in
-      go (o .link) (inspect (h .settings) (w .link) (packetOf w copy)) (o .held)))
+      go (is-so _ f) (o .link) (inspect (h .settings) (w .link) (packetOf w copy)) (o .held)))
     where
-      go : noLink (h .settings) (w .link) ≡ false → (q : Parsed) → packetHeld (h .settings) w (packetOf w copy) q ≡ true → P (boxOf k (packetOf w copy) h w e q)
-      go has (Bad a) held = absurd (false≢true held)
-      go has (Good p) held = box-ways ways has p (packetOf w copy) (placeOf w) held
+      go : isOpen w ≡ true → noLink (h .settings) (w .link) ≡ false → (q : Parsed) → packetHeld (h .settings) w (packetOf w copy) q ≡ true → P (boxOf k (packetOf w copy) h w e q)
+      go opened has (Bad a) held = absurd (false≢true held)
+      go opened has (Good p) held = box-ways ways opened has p (packetOf w copy) (placeOf w) refl held

@@ -1,8 +1,10 @@
--- Demand 3 is not empty: a history of two seats that meets every condition, and ends with an entry of DELAY 101 and an error of -51 ms, 10,200 against 10,201.
--- Seat 1 is 500 ms ahead. A message of seat 0 reaches it at once; the answer is 101 ms under way to seat 0, and arrives there twice: the first time its neighbour is new.
+-- Demand 3 is not empty: a history of two seats that meets every condition, and ends with two entries of DELAY 101 and an error of -51 ms, 10,200 against 10,201.
+-- Seat 1 is 500 ms ahead, and carries two hosts, ids 1 and 2. A message of seat 0 reaches it at once; the answer is 101 ms under way to seat 0, and arrives there twice: the first time its neighbour is new.
 use mathlib.Core.Path.{_≡_}
+use mathlib.Core.Bool.{cond}
 use mathlib.Core.List.{List, [], _∷_}
-use Prim.Native.Nat.{_*_, _≤_, _<_}
+use Prim.Native.Nat.{ℕ, _*_, _≤_, _<_}
+use lib.Dec.{eqb}
 use lib.IntN.{pos, negsuc, _-ℤ_}
 use lib.ListN.{replicate}
 use Rattle.quantity.specs.Quantity.{millis, counts, toUnits}
@@ -10,21 +12,35 @@ use Rattle.quantity.specs.Words.{word}
 use Rattle.clock.specs.Crystal.{counting}
 use Rattle.clock.specs.LineClock.{noCounter}
 use Rattle.table.specs.declared.Entry.{Entry}
+use Rattle.table.specs.declared.marks.Marks.{Marks}
+use Rattle.table.specs.Marks.{onlyMark}
 use Rattle.network.specs.Left.{messageOf}
 use Rattle.network.specs.Room.{longestWay, Room, Proper}
 use Rattle.network.specs.Demand3.{reports, sends, arrives, Step, World, result, step, history, Allows, Starts, entryOf}
 use Rattle.network.specs.TwoSeats.{pair, begun, call}
 
+-- ids 1 and 2
+abbrev pub oneAndTwo : Marks
+oneAndTwo = record { words = 6 ∷ 0 ∷ 0 ∷ 0 ∷ [] }
+
 -- Seat 0 has a crystal, whose counter stands at 65,500 as the history begins, with CLOCK at 0; CLOCK-TICK is 65,536 ms. Seat 1 has a line clock.
 abbrev pub near : Room
-near = pair record { tick = toUnits (millis (pos 65536)); start = λ a. 65500 * a; longest = longestWay }
+near =
+    pair
+    record {
+      tick = toUnits (millis (pos 65536));
+      start = λ a. 65500 * a;
+      longest = longestWay;
+      hosts = 3;
+      marks = λ a. cond (eqb a 0) (onlyMark 0) oneAndTwo;
+    }
 
 -- ---- the history
 
 unfoldable pub w₀ : World
 w₀ = begun near
 
--- seat 1 reports itself
+-- seat 1 reports its two hosts
 unfoldable pub x₁ : Step
 x₁ = call w₀ 1 (reports noCounter)
 
@@ -47,7 +63,7 @@ w₃ = step near w₂ x₃
 
 -- and answers
 unfoldable pub x₄ : Step
-x₄ = call w₃ 1 (sends 1 noCounter (replicate 40 0) (pos 65500))
+x₄ = call w₃ 1 (sends 1 noCounter (replicate 44 0) (pos 65500))
 
 unfoldable pub w₄ : World
 w₄ = step near w₃ x₄
@@ -66,17 +82,19 @@ x₆ = call w₅ 0 (arrives 1 (counting (counts 65)) (messageOf (result near w�
 abbrev pub story : List Step
 story = x₁ ∷ x₂ ∷ x₃ ∷ x₄ ∷ x₅ ∷ x₆ ∷ []
 
--- what seat 0 has of seat 1 at the end
-abbrev pub learnt : Entry
-learnt = entryOf near (history near w₀ story) 0 1
+-- what seat 0 has of the two hosts at seat 1 at the end
+abbrev pub learnt : (id : ℕ) → Entry
+learnt id = entryOf near (history near w₀ story) 0 id
 
 pub record Example : Type 0 where
   pub proper : Proper near
   pub ways : near .longest ≤ longestWay
   pub starts : Starts near w₀
   pub allowed : Allows near w₀ story
-  pub delay : learnt .delay ≡ millis (pos 101)
-  pub offset : learnt .offset ≡ word (pos 449)
+  pub delay : learnt 1 .delay ≡ millis (pos 101)
+  pub offset : learnt 1 .offset ≡ word (pos 449)
+  pub other-delay : learnt 2 .delay ≡ millis (pos 101)
+  pub other-offset : learnt 2 .offset ≡ word (pos 449)
   -- the error is -51, more than half of the delay
-  pub error : learnt .offset .0 -ℤ (near .fixed 1 -ℤ near .fixed 0) ≡ negsuc 50
+  pub error : learnt 1 .offset .0 -ℤ (near .fixed 1 -ℤ near .fixed 0) ≡ negsuc 50
   pub more-than-half : 101 < 2 * 51

@@ -9,9 +9,11 @@ pub mod History
 pub mod Isolation
 pub mod Pair
 pub mod LineCalls
+pub mod OwnAlone
 pub mod HalfDelay
 pub mod Room
 pub mod Demand3
+pub mod NeverAlive
 pub mod SharedRun
 pub mod TwoSeats
 pub mod Example

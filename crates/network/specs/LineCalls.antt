@@ -25,6 +25,7 @@ use Rattle.wire.specs.Packet.{packetLength}
 use Rattle.table.specs.declared.Entry.{Entry}
 use Rattle.table.specs.declared.Update.{Update}
 use Rattle.table.specs.declared.Updated.{Updated}
+use Rattle.table.specs.declared.run.Change.the-variants.{Reported}
 use Rattle.table.specs.declared.run.Updates.{Updates}
 use Rattle.table.specs.Forms.{Stage, on, end}
 use Rattle.table.specs.Update.{lines, dateTaken}
@@ -34,12 +35,11 @@ use Rattle.host.specs.declared.Effect.{Effect}
 use Rattle.host.specs.declared.walk.Walk.{Walk}
 use Rattle.host.specs.declared.walk.Place.{Place}
 use Rattle.host.specs.declared.walk.Place.the-variants.{Nowhere, Step1, Step2, Step3, Step4, Step5, LineA, LineB, LineC, LineD}
-use Rattle.host.specs.Settings.{ownId}
 use Rattle.host.specs.State.{linkOf, withEntries}
 use Rattle.host.specs.Lent.{Host, Lent, host, entriesOf}
 use Rattle.host.specs.Guard.{guard, done}
 use Rattle.host.specs.Walk.{isOpen, placeOf, packetOf, lineUpdate}
-use Rattle.host.specs.Effect.{nothing, answers}
+use Rattle.host.specs.Effect.{nothing, each, answers}
 use Rattle.host.specs.Reply.{plainly, tellsTime}
 use Rattle.sending.specs.declared.Sending.{Sending}
 use Rattle.sending.specs.Send.{reportCount, unsent, sentAt}
@@ -50,7 +50,7 @@ use Rattle.host.specs.Inspection.{inspect}
 use Rattle.arrival.specs.Arrival.{ends, actionAt, inspection}
 use Rattle.calls.specs.declared.Request.{Request}
 use Rattle.calls.specs.declared.Request.the-variants.{Initialize, Tick, Adjust, Set, Read, Second, SelfReport, Lookup, Step}
-use Rattle.calls.specs.Effects.{ownWork, effect, wanted}
+use Rattle.calls.specs.Effects.{effect, wanted}
 use Rattle.calls.specs.Perform.{Call, ask, send, deliver, openWalk, Outcome, scopeOfCall, refused, entryAt, carriedOut, sentBy, openedBy, perform}
 use Rattle.walk.specs.Opening.{opening}
 use Rattle.walk.specs.Boxes.{holdingReading, atStep, onward, nextId, isClockHost, boxAt}
@@ -103,7 +103,7 @@ lineEffect (Read k) h w copy e =
 lineEffect Second h w copy e = effect Second h w copy e
 lineEffect (SelfReport k) h w copy e =
     let r : Reading = lineReading (h .clock) in
-    record { reply = plainly Done; clock = r .clock; links = h .links; walk = w; work = ownWork (r .time) (ownId (h .settings)) }
+    record { reply = plainly Done; clock = r .clock; links = h .links; walk = w; work = each (h .settings) (Reported (r .time)) }
 lineEffect (Lookup a) h w copy e = effect (Lookup a) h w copy e
 lineEffect (Step k) h w copy e = lineStep k h w copy e
 

@@ -6,12 +6,12 @@ use Prim.Native.Nat.{ℕ, _≤_, _<_}
 use lib.IntN.{ℤ, _-ℤ_, natAbs}
 use Rattle.answer.specs.declared.Answer.the-variants.{Done}
 use Rattle.clock.specs.declared.Clock.{Clock}
-use Rattle.route.specs.declared.Found.the-variants.{Id}
 use Rattle.route.specs.Find.{sameNet}
 use Rattle.table.specs.declared.Entry.{Entry}
+use Rattle.table.specs.Marks.{marked}
 use Rattle.host.specs.declared.Settings.{Settings}
 use Rattle.host.specs.declared.Links.{Links}
-use Rattle.host.specs.Settings.{clockSettingOff, ownId}
+use Rattle.host.specs.Settings.{clockSettingOff}
 use Rattle.host.specs.declared.walk.Walk.{Walk}
 use Rattle.host.specs.State.{broadcast, noLink}
 use Rattle.host.specs.Lent.{Lent, lent}
@@ -66,9 +66,9 @@ lentAt r a c l walk copy run = lent (r .settings a) (r .number a) c l walk copy 
 abbrev pub afresh : Room → ℕ → Outcome
 afresh r a = perform (ask Initialize) (lentAt r a (r .clock a) (r .links a) (r .walk a) (r .copy a) (r .run a))
 
--- "An id's host is at the seat whose LOCAL-ADDRESS gives it."
+-- "the id's host is at that seat": the one that marks it
 abbrev pub HostAt : Room → (id seat : ℕ) → Type 0
-HostAt r i a = ownId (r .settings a) ≡ Id i
+HostAt r i a = marked (r .settings a .marks) i ≡ true
 
 -- "Each cable joins, for good, point-to-point links of two different seats."
 pub record Cabled (r : Room) (a i b j : ℕ) : Type 0 where
@@ -83,9 +83,10 @@ pub record Proper (r : Room) : Type 0 where
   pub sixteen : r .seats ≤ 16
   pub numbers-differ : (a b : ℕ) → a < r .seats → b < r .seats → r .number a ≡ r .number b → a ≡ b
   pub set-afresh : (a : ℕ) → a < r .seats → afresh r a .reply .answer ≡ Done
-  -- "on one net": "Their LOCAL-ADDRESSes agree in the octets compared when an id is found, and give different ids"
+  -- "on one net": "Their LOCAL-ADDRESSes agree in the octets compared when an id is found"
   pub one-net : (a b : ℕ) → a < r .seats → b < r .seats → sameNet (r .settings a .address) (r .settings b .address) ≡ true
-  pub ids-differ : (a b : ℕ) → a < r .seats → b < r .seats → ownId (r .settings a) ≡ ownId (r .settings b) → a ≡ b
+  -- "each id marked at no more than one seat": the own ids differ with them
+  pub marked-once : (a b id : ℕ) → a < r .seats → b < r .seats → HostAt r id a → HostAt r id b → a ≡ b
   -- "with one shared layout of host ids": "ADDRESS-OFFSET and NHOSTS are the same at all"
   pub one-layout : (a b : ℕ) → a < r .seats → b < r .seats → r .settings a .layout ≡ r .settings b .layout
   -- "clock setting off"

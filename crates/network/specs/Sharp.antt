@@ -8,19 +8,19 @@ use lib.ListN.{replicate}
 use Rattle.quantity.specs.Quantity.{units, millis}
 use Rattle.clock.specs.LineClock.{noCount, noCounter}
 use Rattle.table.specs.declared.Entry.{Entry}
-use Rattle.table.specs.Entry.{freshEntry}
-use Rattle.host.specs.State.{freshLinks, placesPerHost}
+use Rattle.table.specs.Marks.{onlyMark}
+use Rattle.host.specs.State.{freshLinks}
 use Rattle.network.specs.Left.{messageOf}
 use Rattle.network.specs.Room.{Room, Proper}
 use Rattle.network.specs.Demand3.{RoomCall, ticks, reports, sends, arrives, Step, World, result, step, history, Allows, Starts, entryOf, Demand3Within}
-use Rattle.network.specs.TwoSeats.{Pair, settingsFor, pair, begun, call}
+use Rattle.network.specs.TwoSeats.{Pair, settingsFor, placesOf, pair, begun, call}
 
 abbrev pub tooLong : ℕ
 tooLong = 16384
 
 -- 33 ticks come to 32,768 ms, and some units; seat 1 starts as the first message comes
 abbrev pub lateness : Pair
-lateness = record { tick = units (pos 65075263); start = λ a. 40000 + tooLong * a; longest = tooLong }
+lateness = record { tick = units (pos 65075263); start = λ a. 40000 + tooLong * a; longest = tooLong; hosts = 2; marks = onlyMark }
 
 abbrev pub late : Room
 late = pair lateness
@@ -29,7 +29,7 @@ late = pair lateness
 
 -- a call of seat 0 while its links and its table are fresh
 abbrev pub early : RoomCall → Step
-early x = record { seat = 0; links = freshLinks (settingsFor lateness 0); run = replicate placesPerHost freshEntry; call = x }
+early x = record { seat = 0; links = freshLinks (settingsFor lateness 0); run = placesOf 0; call = x }
 
 unfoldable pub w₀ : World
 w₀ = begun late

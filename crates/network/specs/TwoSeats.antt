@@ -4,7 +4,7 @@ use mathlib.Core.List.{List, [], _++_}
 use Prim.Native.Nat.{ℕ, _+_, _*_}
 use lib.Dec.{eqb}
 use lib.IntN.{pos}
-use lib.ListN.{replicate}
+use lib.ListN.{set, replicate}
 use Rattle.quantity.specs.declared.Units.{Units}
 use Rattle.quantity.specs.Quantity.{millis, seconds}
 use Rattle.calendar.specs.Date.{firstDate}
@@ -12,7 +12,8 @@ use Rattle.clock.specs.Clock.{freshClock}
 use Rattle.wire.specs.declared.Address.{Address}
 use Rattle.route.specs.Find.{zeroNet}
 use Rattle.table.specs.declared.Entry.{Entry}
-use Rattle.table.specs.Entry.{freshEntry}
+use Rattle.table.specs.declared.marks.Marks.{Marks}
+use Rattle.table.specs.Entry.{freshEntry, withMark}
 use Rattle.host.specs.declared.Settings.{Settings}
 use Rattle.host.specs.Settings.{clockSettingOff}
 use Rattle.host.specs.Walk.{noWalk}
@@ -21,11 +22,13 @@ use Rattle.network.specs.History.{leftBy}
 use Rattle.network.specs.Room.{Room, End, loose, at, afresh}
 use Rattle.network.specs.Demand3.{RoomCall, Step, World}
 
--- what the two rooms differ in: how much a tick adds, at which millisecond of the room each seat starts, and how long a message may be under way
+-- what the two rooms differ in: how much a tick adds, at which millisecond of the room each seat starts, how long a message may be under way, NHOSTS, and which ids each seat marks
 pub record Pair : Type 0 where
   pub tick : Units
   pub start : ℕ → ℕ
   pub longest : ℕ
+  pub hosts : ℕ
+  pub marks : ℕ → Marks
 
 abbrev pub hostAt : (octet : ℕ) → Address
 hostAt n = record { first = 192; second = 0; third = 2; fourth = n }
@@ -34,7 +37,7 @@ abbrev pub settingsFor : Pair → (seat : ℕ) → Settings
 settingsFor p a =
     record {
       address = hostAt (a + 1);
-      layout = record { «address_offset» = 1; nhosts = 2 };
+      layout = record { «address_offset» = 1; nhosts = p .hosts };
       «clock_host» = clockSettingOff;
       «hold_interval» = seconds 1;
       «clock_tick» = p .tick;
@@ -43,7 +46,12 @@ settingsFor p a =
       «link_count» = 1;
       links = replicate 8 unset;
       net = record { count = 0; rows = replicate 32 record { net = zeroNet; host = 0 } };
+      marks = p .marks a;
     }
+
+-- the places of a host that marks its own id alone, as setting afresh leaves them
+abbrev pub placesOf : (own : ℕ) → List Entry
+placesOf own = set (replicate placesPerHost freshEntry) own (withMark 1 freshEntry)
 
 abbrev pub wire : (seat link : ℕ) → End
 wire a i = cond (eqb i 1) (cond (eqb a 0) (at 1 1) (cond (eqb a 1) (at 0 1) loose)) loose

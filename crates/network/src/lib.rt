@@ -8,10 +8,12 @@ ghost use Rattle.network.specs.Range.{Range};
 ghost use Rattle.network.specs.Isolation.{Isolation, IsolationFromAfresh, Alone};
 ghost use Rattle.network.specs.Pair.{Pair};
 ghost use Rattle.network.specs.LineCalls.{LineCalls};
+ghost use Rattle.network.specs.OwnAlone.{OwnAlone};
 ghost use Rattle.network.specs.WalkEnds.{WalkEnds};
 ghost use Rattle.network.specs.EachBox.{EachBox};
 ghost use Rattle.network.specs.HalfDelay.{HelloHalfDelay};
 ghost use Rattle.network.specs.Demand3.{Demand3};
+ghost use Rattle.network.specs.NeverAlive.{NeverAlive};
 ghost use Rattle.network.specs.SharedRun.{SharedDemand3};
 ghost use Rattle.network.specs.Example.{Example};
 ghost use Rattle.network.specs.Sharp.{Sharp};
@@ -76,6 +78,11 @@ pub fn each_box()
     ensures { λ _. ⌜ EachBox ⌝ }
 {}
 
+// The calls of a host that marks its own id alone are those of a host without marks.
+pub fn own_alone()
+    ensures { λ _. ⌜ OwnAlone ⌝ }
+{}
+
 // A walk that is opened and run to its end leaves what the arrival with the first box's counts leaves, in at most 5 + 4 x 255 boxes.
 pub fn walk_ends()
     ensures { λ _. ⌜ WalkEnds ⌝ }
@@ -89,6 +96,11 @@ pub fn hello_half_delay()
 // Demand 3: after every list of calls in a room, every live entry is for a host of the room, and its OFFSET is right to within 101/200 of its DELAY.
 pub fn demand_3()
     ensures { λ _. ⌜ Demand3 ⌝ }
+{}
+
+// An id that no seat of the room marks is down in every table.
+pub fn never_alive()
+    ensures { λ _. ⌜ NeverAlive ⌝ }
 {}
 
 // The same for one run that all seats share.

@@ -9,6 +9,7 @@ use Rattle.answer.specs.Answer.{number}
 use Rattle.clock.specs.Clock.{freshClock}
 use Rattle.clock.specs.LineClock.{noCounter}
 use Rattle.route.specs.Find.{zeroNet}
+use Rattle.table.specs.Marks.{onlyMark}
 use Rattle.table.specs.Entry.{freshEntry}
 use Rattle.host.specs.declared.Settings.{Settings}
 use Rattle.host.specs.Settings.{clockSettingOff}
@@ -19,7 +20,7 @@ use Rattle.host.specs.Lent.{Lent, lent}
 use Rattle.calls.specs.declared.Request.the-variants.{Initialize}
 use Rattle.calls.specs.Perform.{Outcome, ask, inspect, perform, inTurn}
 
--- "192.0.2.1, ADDRESS-OFFSET 1, NHOSTS 4, no net rows, clock setting off, time 0, 1 January 1972, the rest at their least"
+-- "192.0.2.1, ADDRESS-OFFSET 1, NHOSTS 4, no net rows, clock setting off, time 0, 1 January 1972, the rest at their least"; of the ids its own, 0, alone is marked
 abbrev pub programSettings : Settings
 programSettings =
     record {
@@ -33,6 +34,7 @@ programSettings =
       «link_count» = 1;
       links = replicate 8 unset;
       net = record { count = 0; rows = replicate 32 record { net = zeroNet; host = 0 } };
+      marks = onlyMark 0;
     }
 
 -- the host of number 0, set afresh; no walk is opened on it, and the packet stands for the copy of one

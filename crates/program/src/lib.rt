@@ -25,6 +25,7 @@ use route::Net;
 use route::NetTable;
 use route::Row;
 use table::Entry;
+use table::marks::Marks;
 use wire::Address;
 
 // A call's reply, and all of the host as the call leaves it.
@@ -201,6 +202,7 @@ pub fn settings() -> host::Settings
     };
     let links = [unset; 8];
     let rows = [no_row; 32];
+    let words = [1, 0, 0, 0];
     host::Settings {
         address: Address {
             first: 192,
@@ -223,6 +225,7 @@ pub fn settings() -> host::Settings
             count: 0,
             rows: rows,
         },
+        marks: Marks { words: words },
     }
 }
 

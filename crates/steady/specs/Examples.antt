@@ -13,14 +13,15 @@ use Rattle.clock.specs.Clock.{freshClock}
 use Rattle.clock.specs.LineClock.{noCount, noCounter}
 use Rattle.wire.specs.Packet.{message}
 use Rattle.route.specs.Find.{zeroNet}
-use Rattle.table.specs.Entry.{minDelay, freshEntry}
+use Rattle.table.specs.Marks.{onlyMark}
+use Rattle.table.specs.Entry.{minDelay}
 use Rattle.host.specs.declared.Settings.{Settings}
 use Rattle.host.specs.Walk.{noWalk}
-use Rattle.host.specs.State.{unset, freshLinks, withLink, placesPerHost}
+use Rattle.host.specs.State.{unset, freshLinks, withLink}
 use Rattle.calls.specs.declared.Request.{Request}
 use Rattle.calls.specs.declared.Request.the-variants.{Adjust, Set, Read}
 use Rattle.calls.specs.Perform.{Call, ask, receive}
-use Rattle.network.specs.TwoSeats.{hostAt}
+use Rattle.network.specs.TwoSeats.{hostAt, placesOf}
 use Rattle.steady.specs.Turns.{Turn}
 use Rattle.steady.specs.NeverBack.{setMost, Readings}
 use Rattle.steady.specs.Slewed.{Slew}
@@ -41,6 +42,7 @@ seat =
       «link_count» = 1;
       links = replicate 8 unset;
       net = record { count = 0; rows = replicate 32 record { net = zeroNet; host = 0 } };
+      marks = onlyMark 0;
     }
 
 -- ---- calls
@@ -53,7 +55,7 @@ turn c =
       links = withLink 1 record { neighbor = hostAt 2; «keep_alive» = 0; tsp = word (pos 0) } (freshLinks seat);
       walk = noWalk;
       copy = [];
-      run = replicate placesPerHost freshEntry;
+      run = placesOf 0;
     }
 
 abbrev pub asks : Request → Turn

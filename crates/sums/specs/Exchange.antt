@@ -10,19 +10,20 @@ use Rattle.clock.specs.declared.Clock.{Clock}
 use Rattle.clock.specs.Clock.{freshClock}
 use Rattle.clock.specs.LineClock.{noCounter}
 use Rattle.table.specs.declared.Entry.{Entry}
+use Rattle.table.specs.Marks.{onlyMark}
 use Rattle.table.specs.Entry.{freshEntry}
 use Rattle.host.specs.declared.Settings.{Settings}
 use Rattle.host.specs.declared.Links.{Links}
-use Rattle.host.specs.State.{freshLinks, withLink, placesPerHost}
+use Rattle.host.specs.State.{freshLinks, withLink}
 use Rattle.host.specs.Walk.{noWalk}
 use Rattle.host.specs.Lent.{Lent, lent}
 use Rattle.calls.specs.declared.Request.the-variants.{SelfReport}
 use Rattle.calls.specs.Perform.{ask, send, receive, Outcome, perform}
-use Rattle.network.specs.TwoSeats.{hostAt, settingsFor}
+use Rattle.network.specs.TwoSeats.{hostAt, settingsFor, placesOf}
 
 -- seat 0 is A, and seat 1 is B
 abbrev pub settingsOf : (seat : ℕ) → Settings
-settingsOf = settingsFor record { tick = units (pos 1); start = λ a. 0; longest = 0 }
+settingsOf = settingsFor record { tick = units (pos 1); start = λ a. 0; longest = 0; hosts = 2; marks = onlyMark }
 
 -- a clock that reads so many milliseconds
 abbrev pub clockAt : ℕ → Clock
@@ -31,9 +32,6 @@ clockAt ms = freshClock (millis (pos ms)) firstDate
 -- each in a run of its own, with no walk
 abbrev pub lentAt : (seat ms : ℕ) → Links → List Entry → Lent
 lentAt a ms l run = lent (settingsOf a) 0 (clockAt ms) l noWalk [] run
-
-abbrev pub freshRun : List Entry
-freshRun = replicate placesPerHost freshEntry
 
 abbrev pub room : List ℕ
 room = replicate 40 0
@@ -44,11 +42,11 @@ linksA = withLink 1 record { neighbor = hostAt 2; «keep_alive» = 0; tsp = word
 
 -- B reports itself
 abbrev pub runB : List Entry
-runB = perform (ask (SelfReport noCounter)) (lentAt 1 40500 (freshLinks (settingsOf 1)) freshRun) .run
+runB = perform (ask (SelfReport noCounter)) (lentAt 1 40500 (freshLinks (settingsOf 1)) (placesOf 1)) .run
 
 -- "A sends at 40,000"
 unfoldable pub aSends : Outcome
-aSends = perform (send 1 noCounter room) (lentAt 0 40000 linksA freshRun)
+aSends = perform (send 1 noCounter room) (lentAt 0 40000 linksA (placesOf 0))
 
 -- "B, 500 ahead, gets it at 40,530"
 unfoldable pub bGets : Outcome

@@ -41,14 +41,14 @@ date w = record { 0 = w }
 
 -- a route by that PID, updated by a DELAY that link 1 reports
 abbrev pub routeBy : (pid delay : ℕ) → Entry
-routeBy p d = record { delay = millis (pos d); offset = word (pos 0); ttl = seconds 0; pid = p; time = millis (pos 0) }
+routeBy p d = record { delay = millis (pos d); offset = word (pos 0); ttl = seconds 0; pid = p; here = 0; time = millis (pos 0) }
 
 abbrev pub reportedBy1 : (delay : ℕ) → Update
 reportedBy1 d = record { pid = 1; delay = millis (pos d); offset = word (pos 0); reading = millis (pos 0) }
 
 -- the entry where the report is taken
 abbrev pub taken : (delay : ℕ) → Stage Entry
-taken d = on record { delay = millis (pos d); offset = word (pos 0); ttl = holdDown; pid = 1; time = millis (pos 0) }
+taken d = on record { delay = millis (pos d); offset = word (pos 0); ttl = holdDown; pid = 1; here = 0; time = millis (pos 0) }
 
 -- a clock of so many units, on 1 January 1972
 abbrev pub clockOf : ℤ → Clock

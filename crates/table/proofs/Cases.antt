@@ -13,15 +13,15 @@ use Rattle.clock.specs.declared.Clock.{Clock}
 use Rattle.table.specs.declared.Entry.{Entry}
 use Rattle.table.specs.declared.Update.{Update}
 use Rattle.table.specs.Forms.{Stage, on, end, _then_}
-use Rattle.table.specs.Entry.{maxDelay, minDelay, holdDown, up, takenDown, withTtl, aged}
-use Rattle.table.specs.Update.{lineA, lineB, lineC, lines, lineD, settled, update, left, ownUpdate, selfReported}
+use Rattle.table.specs.Entry.{maxDelay, minDelay, holdDown, livesHere, up, takenDown, withTtl, aged}
+use Rattle.table.specs.Update.{lineA, lineB, lineC, lines, lineD, settled, update, left, ownUpdate, selfReported, reportedHere}
 
 -- what is stored
-abbrev pub stored : Update → Entry
-stored u = record { delay = u .delay; offset = u .offset; ttl = holdDown; pid = u .pid; time = u .reading }
+abbrev pub stored : Update → Entry → Entry
+stored u e = record { delay = u .delay; offset = u .offset; ttl = holdDown; pid = u .pid; here = e .here; time = u .reading }
 
 pub lines-keep : (P : Entry → Type 0) (u : Update) (e : Entry) → P e → P (takenDown e)
-    → (lessMillis (u .delay) maxDelay ≡ true → P (stored u)) → P (left (lines u e))
+    → (lessMillis (u .delay) maxDelay ≡ true → P (stored u e)) → P (left (lines u e))
 unfolding lines lineA lineB lineC
 lines-keep P u e stays down stores =
     either (λ (x : Stage Entry). P (left (x then lineB u then lineC u)))
@@ -34,10 +34,17 @@ lines-keep P u e stays down stores =
     either (λ (x : Stage Entry). P (left (x then lineC u))) (lessMillis (u .delay) maxDelay && eqb (e .ttl .0) 0) _ _
     (λ v. stores (both (lessMillis (u .delay) maxDelay) (eqb (e .ttl .0) 0) v .0)) (λ v. stays)))
 
-pub self-keeps : (P : Entry → Type 0) (reading : Millis) (e : Entry) → P e → P (takenDown e) → P (stored (ownUpdate reading))
+pub self-keeps : (P : Entry → Type 0) (reading : Millis) (e : Entry) → P e → P (takenDown e) → P (stored (ownUpdate reading) e)
     → P (selfReported reading e)
 unfolding selfReported
 self-keeps P reading e stays down stores = lines-keep P (ownUpdate reading) e stays down (λ _. stores)
+
+-- a self-report, which is of a host that lives here
+pub reported-keeps : (P : Entry → Type 0) (reading : Millis) (e : Entry) → P e → P (takenDown e)
+    → (livesHere e ≡ true → P (stored (ownUpdate reading) e)) → P (reportedHere reading e)
+unfolding reportedHere
+reported-keeps P reading e stays down stores =
+    either P (livesHere e) _ _ (λ t. self-keeps P reading e stays down (stores t)) (λ t. stays)
 
 settled-entry : (clockHost : Bool) (h : Seconds) (n : Count) (date : Date) (u : Update) (c : Clock) (x : Stage Entry)
     → settled clockHost h n date u c x .entry ≡ left x
@@ -45,7 +52,7 @@ settled-entry clockHost h n date u c (on e) = refl
 settled-entry clockHost h n date u c (end e) = refl
 
 pub update-keeps : (P : Entry → Type 0) (clockHost : Bool) (h : Seconds) (n : Count) (date : Date) (u : Update) (c : Clock) (e : Entry)
-    → P e → P (takenDown e) → (lessMillis (u .delay) maxDelay ≡ true → P (stored u)) → P (update clockHost h n date u c e .entry)
+    → P e → P (takenDown e) → (lessMillis (u .delay) maxDelay ≡ true → P (stored u e)) → P (update clockHost h n date u c e .entry)
 unfolding update
 update-keeps P clockHost h n date u c e stays down stores =
     subst P (sym (settled-entry clockHost h n date u c (lines u e))) (lines-keep P u e stays down stores)

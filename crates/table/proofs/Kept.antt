@@ -1,5 +1,5 @@
 -- Entries stay within their ranges: what is stored has a DELAY under 30,000, what is taken down has 30,000, and a TTL only falls or becomes 120.
--- The clock does too: a date that is taken is real, and a set keeps its ranges.
+-- Their marks stay as they are. The clock stays within its ranges too: a date that is taken is real, and a set keeps its ranges.
 use mathlib.Core.Path.{_≡_, refl}
 use mathlib.Core.Bool.{Bool, true, not, _&&_}
 use Prim.Native.Nat.{_≤_, _<_, _^_}
@@ -20,10 +20,10 @@ use Rattle.clock.proofs.Range.{set-in-range}
 use Rattle.clock.proofs.Bounds as clock
 use Rattle.table.specs.declared.Entry.{Entry}
 use Rattle.table.specs.declared.Update.{Update}
-use Rattle.table.specs.Entry.{maxDelay, freshEntry, takenDown, aged, upTo, entryInRange}
-use Rattle.table.specs.Update.{lines, dateTaken, lineD, update, left, ownUpdate, selfReported}
+use Rattle.table.specs.Entry.{maxDelay, freshEntry, livesHere, takenDown, aged, upTo, entryInRange}
+use Rattle.table.specs.Update.{lines, dateTaken, lineD, update, left, ownUpdate, selfReported, reportedHere}
 use Rattle.table.proofs.Ranges.{Ranged, range-says, in-range, within}
-use Rattle.table.proofs.Cases.{stored, lines-keep, update-keeps, aged-keeps, clock-keeps}
+use Rattle.table.proofs.Cases.{stored, lines-keep, update-keeps, aged-keeps, reported-keeps, clock-keeps}
 
 pub fresh-in-range : entryInRange freshEntry ≡ true
 unfolding entryInRange freshEntry
@@ -40,27 +40,45 @@ aged-in-range e h =
 
 -- an update whose DELAY is not negative, and whose PID and reading are in range
 module _ (u : Update) (delay : dn (u .delay .0) ≤ 0) (pid : u .pid ≤ 8) (reading : upTo dayMillis (u .reading) ≡ true) where
-  stored-ranged : lessMillis (u .delay) maxDelay ≡ true → Ranged (stored u)
-  stored-ranged h =
+  stored-ranged : lessMillis (u .delay) maxDelay ≡ true → (e : Entry) → Ranged (stored u e)
+  stored-ranged h e =
       let l = lt-yes (u .delay .0) (maxDelay .0) h in
       record { delay = omega arith; ttl = omega arith; pid = pid; time = within 86400000 (u .reading .0) reading }
 
   pub lines-in-range : (e : Entry) → entryInRange e ≡ true → entryInRange (left (lines u e)) ≡ true
   lines-in-range e h =
       let r = range-says e h in
-      in-range (left (lines u e)) (lines-keep Ranged u e r (down-ranged e r) stored-ranged)
+      in-range (left (lines u e)) (lines-keep Ranged u e r (down-ranged e r) (λ h. stored-ranged h e))
 
   pub update-in-range : (clockHost : Bool) (h : Seconds) (n : Count) (date : Date) (c : Clock) (e : Entry) → entryInRange e ≡ true
       → entryInRange (update clockHost h n date u c e .entry) ≡ true
   update-in-range clockHost h n date c e i =
       let r = range-says e i in
       in-range (update clockHost h n date u c e .entry)
-      (update-keeps Ranged clockHost h n date u c e r (down-ranged e r) stored-ranged)
+      (update-keeps Ranged clockHost h n date u c e r (down-ranged e r) (λ h. stored-ranged h e))
 
 pub self-in-range : (reading : Millis) → upTo dayMillis reading ≡ true → (e : Entry) → entryInRange e ≡ true
     → entryInRange (selfReported reading e) ≡ true
 unfolding selfReported
 self-in-range reading h e i = lines-in-range (ownUpdate reading) (omega arith) (omega arith) h e i
+
+pub reported-in-range : (reading : Millis) → upTo dayMillis reading ≡ true → (e : Entry) → entryInRange e ≡ true
+    → entryInRange (reportedHere reading e) ≡ true
+unfolding reportedHere
+reported-in-range reading h e i =
+    either (λ (x : Entry). entryInRange x ≡ true) (livesHere e) _ _ (λ t. self-in-range reading h e i) (λ t. i)
+
+-- ---- the mark stays
+
+pub update-mark : (clockHost : Bool) (h : Seconds) (n : Count) (date : Date) (u : Update) (c : Clock) (e : Entry)
+    → update clockHost h n date u c e .entry .here ≡ e .here
+update-mark clockHost h n date u c e = update-keeps (λ (x : Entry). x .here ≡ e .here) clockHost h n date u c e refl refl (λ _. refl)
+
+pub aged-mark : (e : Entry) → aged e .here ≡ e .here
+aged-mark e = aged-keeps (λ (x : Entry). x .here ≡ e .here) e refl refl refl
+
+pub reported-mark : (reading : Millis) (e : Entry) → reportedHere reading e .here ≡ e .here
+reported-mark reading e = reported-keeps (λ (x : Entry). x .here ≡ e .here) reading e refl refl (λ _. refl)
 
 -- ---- the clock
 

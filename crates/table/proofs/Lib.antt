@@ -1,4 +1,5 @@
 pub mod Types
+pub mod Bits
 pub mod LineA
 pub mod Stages
 pub mod Ranges

@@ -1,8 +1,9 @@
 -- What a loop over the run has made after n turns: what its definition makes of the first n places.
 use mathlib.Core.Path.{_≡_, refl, sym, ap, _∙_}
-use mathlib.Core.Bool.{Bool, _&&_, and-true, and-assoc}
+use mathlib.Core.Bool.{Bool, true, false, _&&_, and-true, and-assoc}
 use mathlib.Core.List.{List, [], _∷_, _++_, map, map-append}
 use Prim.Native.Nat.{ℕ, suc, _+_, _-_, _<_}
+use native.Mathlib.Nat.{add-zero}
 use native.Mathlib.Omega.{arith}
 use lib.ListN.{length, getD, set, length-map}
 use Rattle.lists.specs.Lists.{part, over}
@@ -12,7 +13,7 @@ use Rattle.wire.specs.declared.Report.{Report}
 use Rattle.wire.specs.code.Sealing.{withReport, withReports}
 use Rattle.table.specs.declared.Entry.{Entry}
 use Rattle.table.specs.declared.Updated.{Updated}
-use Rattle.table.specs.Forms.{every}
+use Rattle.table.specs.Forms.{every, everyFrom, mapFrom}
 use Rattle.table.specs.Sweep.{Swept, sweep}
 use Rattle.table.specs.code.Loops.{latest}
 use Rattle.table.proofs.Sweeps.{sweep-length, sweep-more}
@@ -23,6 +24,24 @@ every-more : {A : Type 0} (test : A → Bool) (xs : List A) (a : A) → every te
 every-more test [] a = and-true (test a)
 every-more test (x ∷ xs) a = rw (every-more test xs a) (sym (and-assoc (test x) (every test xs) (test a)))
 
+from-more : {A : Type 0} (i : ℕ) (test : ℕ → A → Bool) (xs : List A) (a : A)
+    → everyFrom i test (xs ++ (a ∷ [])) ≡ (everyFrom i test xs && test (i + length xs) a)
+from-more i test [] a = rw (add-zero i) (and-true (test i a))
+from-more i test (x ∷ xs) a =
+    let s : i + suc (length xs) ≡ suc i + length xs = omega arith in
+    rw (s, from-more (suc i) test xs a) (sym (and-assoc (test i x) (everyFrom (suc i) test xs) (test (suc i + length xs) a)))
+
+pub map-length : {A B : Type 0} (i : ℕ) (f : ℕ → A → B) (xs : List A) → length (mapFrom i f xs) ≡ length xs
+map-length i f [] = refl
+map-length i f (x ∷ xs) = ap suc (map-length (suc i) f xs)
+
+map-more : {A B : Type 0} (i : ℕ) (f : ℕ → A → B) (xs : List A) (a : A)
+    → mapFrom i f (xs ++ (a ∷ [])) ≡ mapFrom i f xs ++ (f (i + length xs) a ∷ [])
+map-more i f [] a = rw (add-zero i) refl
+map-more i f (x ∷ xs) a =
+    let s : i + suc (length xs) ≡ suc i + length xs = omega arith in
+    rw (s, map-more (suc i) f xs a) refl
+
 latest-more : (known : Entry) (xs : List Entry) (e : Entry) → latest known (xs ++ (e ∷ [])) ≡ e
 latest-more known [] e = refl
 latest-more known (x ∷ xs) e = latest-more x xs e
@@ -31,6 +50,14 @@ reports-more : (i : ℕ) (rs : List Report) (r : Report) (b : List ℕ) → with
 unfolding withReports
 reports-more i [] r b = let z : i + 0 ≡ i = omega arith in rw (z) refl
 reports-more i (x ∷ rs) r b = let s : i + suc (length rs) ≡ suc i + length rs = omega arith in rw (s) (reports-more (suc i) rs r (withReport i x b))
+
+-- what two tests say so far, and of one more
+shuffled : (g x y a b : Bool) → (g && x && y && (a && b)) ≡ (g && (x && a) && (y && b))
+shuffled false x y a b = refl
+shuffled true false y a b = refl
+shuffled true true false true b = refl
+shuffled true true false false b = refl
+shuffled true true true a b = refl
 
 -- ---- one turn more, at the place first + n
 
@@ -41,27 +68,34 @@ module _ (run : List Entry) (first n : ℕ) (none : Entry) (inside : first + n <
   abbrev done : List Entry
   done = part first n run
 
-  pub scan-turn : (test : Entry → Bool) (good : Bool) → (good && every test done && test e) ≡ (good && every test (part first (suc n) run))
-  scan-turn test good =
-      rw (part-more first n run none inside, every-more test done e) (and-assoc good (every test done) (test e))
+  done-length : length done ≡ n
+  done-length = part-length first n run (omega arith)
+
+  pub scan-turn : (test : Entry → Bool) (counted : ℕ → Entry → Bool) (good : Bool)
+      → (good && every test done && everyFrom 0 counted done && (test e && counted (first + n - first) e))
+      ≡ (good && every test (part first (suc n) run) && everyFrom 0 counted (part first (suc n) run))
+  scan-turn test counted good =
+      let id : first + n - first ≡ n = omega arith in
+      let at : 0 + length done ≡ n = omega (arith, done-length) in
+      rw (part-more first n run none inside, every-more test done e, from-more 0 counted done e, at, id)
+      (shuffled good (every test done) (everyFrom 0 counted done) (test e) (counted n e))
 
   pub seek-turn : (known : Entry) → e ≡ latest known (part first (suc n) run)
   seek-turn known = rw (part-more first n run none inside) (sym (latest-more known done e))
-
-  done-length : length done ≡ n
-  done-length = part-length first n run (omega arith)
 
   -- an entry put in its place behind those that were made
   pub put-turn : (es : List Entry) → length es ≡ n → (f : Entry → Entry)
       → set (over run first es) (first + n) (f (getD (over run first es) (first + n) none)) ≡ over run first (es ++ (f e ∷ []))
   put-turn es l f = rw (over-next first n run es l inside none) (over-more first n run es l inside (f e))
 
-  pub map-turn : (f : Entry → Entry)
-      → set (over run first (map f done)) (first + n) (f (getD (over run first (map f done)) (first + n) none))
-      ≡ over run first (map f (part first (suc n) run))
+  pub map-turn : (f : ℕ → Entry → Entry)
+      → set (over run first (mapFrom 0 f done)) (first + n) (f (first + n - first) (getD (over run first (mapFrom 0 f done)) (first + n) none))
+      ≡ over run first (mapFrom 0 f (part first (suc n) run))
   map-turn f =
-      put-turn (map f done) (length-map done f ∙ done-length) f
-      ∙ ap (over run first) (sym (rw (part-more first n run none inside) (map-append f done (e ∷ []))))
+      let id : first + n - first ≡ n = omega arith in
+      let at : 0 + length done ≡ n = omega (arith, done-length) in
+      let more = ap (mapFrom 0 f) (part-more first n run none inside) ∙ map-more 0 f done e ∙ ap (λ m. mapFrom 0 f done ++ (f m e ∷ [])) at in
+      rw (id) (put-turn (mapFrom 0 f done) (map-length 0 f done ∙ done-length) (f n) ∙ ap (over run first) (sym more))
 
   pub report-turn : (f : Entry → Report) (b : List ℕ)
       → withReport (first + n - first) (f e) (withReports 0 (map f done) b) ≡ withReports 0 (map f (part first (suc n) run)) b

@@ -29,12 +29,12 @@ scan = record {
     name = Scan.the-type .name;
     D = Scan.the-type .D;
     read = λ w. (w .first, (w .end, (w .good, tt)));
-    behind = [];
-    rest = λ w. tt;
+    behind = behind (Scan.the-type .parts) 3;
+    rest = λ w. Scan.the-type .to w .1 .1 .1;
     one = Scan.the-type .to-one;
   };
-  behind-laws = tt;
-  behind-plain = tt;
+  behind-laws = Scan′.the-laws .1 .1 .1;
+  behind-plain = Scan′.the-plain .1 .1 .1;
   low = Scan′.lowers;
   copies = Scan′.the-copy;
 }

@@ -1,4 +1,4 @@
--- One entry of the host table: fresh, in range, as a second ages it, and as a send advertises it.
+-- One entry of the host table: fresh, in range, as a second ages it, and as a send advertises it; and its mark "lives here".
 use mathlib.Core.Bool.{Bool, cond, not, _&&_}
 use Prim.Native.Nat.{ℕ}
 use lib.Dec.{leb, eqb}
@@ -10,6 +10,8 @@ use Rattle.quantity.specs.Words.{word}
 use Rattle.clock.specs.Midnight.{dayMillis}
 use Rattle.wire.specs.declared.Report.{Report}
 use Rattle.table.specs.declared.Entry.{Entry}
+use Rattle.table.specs.declared.marks.Marks.{Marks}
+use Rattle.table.specs.Marks.{mark}
 
 -- "MAXDELAY 30,000 ms, MINDELAY 100 ms, hold-down 120 s"
 abbrev pub maxDelay : Millis
@@ -21,9 +23,20 @@ minDelay = millis (pos 100)
 abbrev pub holdDown : Seconds
 holdDown = seconds 120
 
--- "Fresh: every entry 30,000 / 0 / 0 / PID 0 / 0"
+-- "Fresh: every entry 30,000 / 0 / 0 / PID 0 / 0"; without a mark
 unfoldable pub freshEntry : Entry
-freshEntry = record { delay = maxDelay; offset = word (pos 0); ttl = seconds 0; pid = 0; time = millis (pos 0) }
+freshEntry = record { delay = maxDelay; offset = word (pos 0); ttl = seconds 0; pid = 0; here = 0; time = millis (pos 0) }
+
+-- a mark "lives here" is 1, and 0 is none
+abbrev pub livesHere : Entry → Bool
+livesHere e = eqb (e .here) 1
+
+abbrev pub withMark : (here : ℕ) → Entry → Entry
+withMark n e = record { delay = e .delay; offset = e .offset; ttl = e .ttl; pid = e .pid; here = n; time = e .time }
+
+-- the entry of an id has the mark that the settings have for it
+abbrev pub asMarked : Marks → (id : ℕ) → Entry → Bool
+asMarked m id e = eqb (e .here) (mark m id)
 
 -- an entry that is up: DELAY under 30,000
 abbrev pub up : Entry → Bool
@@ -31,10 +44,10 @@ up e = lessMillis (e .delay) maxDelay
 
 -- an entry with another TTL, and one taken down: DELAY 30,000 and TTL 120
 abbrev pub withTtl : Seconds → Entry → Entry
-withTtl t e = record { delay = e .delay; offset = e .offset; ttl = t; pid = e .pid; time = e .time }
+withTtl t e = record { delay = e .delay; offset = e .offset; ttl = t; pid = e .pid; here = e .here; time = e .time }
 
 abbrev pub takenDown : Entry → Entry
-takenDown e = record { delay = maxDelay; offset = e .offset; ttl = holdDown; pid = e .pid; time = e .time }
+takenDown e = record { delay = maxDelay; offset = e .offset; ttl = holdDown; pid = e .pid; here = e .here; time = e .time }
 
 -- Second: "Each TTL that isn't zero falls by one; if it thereby reaches zero and DELAY is under 30,000, DELAY becomes 30,000 and TTL 120."
 unfoldable pub aged : Entry → Entry

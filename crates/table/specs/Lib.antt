@@ -1,4 +1,5 @@
 pub mod Forms
+pub mod Marks
 pub mod Entry
 pub mod Update
 pub mod Sweep

@@ -1,6 +1,6 @@
 -- What becomes of the entries at the places from `first` on, up to `end`. "All seats use one run of entries lent by the caller."
 use mathlib.Core.Bool.{Bool, cond}
-use mathlib.Core.List.{List, map}
+use mathlib.Core.List.{List}
 use Prim.Native.Nat.{ℕ, _-_}
 use lib.Dec.{eqb}
 use Rattle.lists.specs.Lists.{part, over}
@@ -10,24 +10,28 @@ use Rattle.wire.specs.Packet.{helloOf}
 use Rattle.table.specs.declared.Entry.{Entry}
 use Rattle.table.specs.declared.Update.{Update}
 use Rattle.table.specs.declared.Updated.{Updated}
+use Rattle.table.specs.declared.marks.Marks.{Marks}
 use Rattle.table.specs.declared.run.Change.{Change}
 use Rattle.table.specs.declared.run.Change.the-variants.{Fresh, Aged, Reported, Put}
 use Rattle.table.specs.declared.run.Changes.{Changes}
 use Rattle.table.specs.declared.run.Updates.{Updates}
-use Rattle.table.specs.Entry.{freshEntry, aged}
-use Rattle.table.specs.Update.{plusReport, update, selfReported}
+use Rattle.table.specs.Forms.{mapFrom}
+use Rattle.table.specs.Marks.{mark}
+use Rattle.table.specs.Entry.{freshEntry, withMark, aged}
+use Rattle.table.specs.Update.{plusReport, update, reportedHere}
 use Rattle.table.specs.Sweep.{Swept, sweep}
 
 -- ---- changing each entry
 
-abbrev pub changed : Change → Entry → Entry
-changed Fresh e = freshEntry
-changed Aged e = aged e
-changed (Reported reading) e = selfReported reading e
-changed (Put x) e = x
+-- the n-th entry from `first` on: where entries are set afresh, that is the one of id n
+abbrev pub changed : Marks → Change → (n : ℕ) → Entry → Entry
+changed m Fresh n e = withMark (mark m n) freshEntry
+changed m Aged n e = aged e
+changed m (Reported reading) n e = reportedHere reading e
+changed m (Put x) n e = x
 
 unfoldable pub changes : Changes → List Entry → List Entry
-changes w run = over run (w .first) (map (changed (w .change)) (part (w .first) (w .end - w .first) run))
+changes w run = over run (w .first) (mapFrom 0 (changed (w .marks) (w .change)) (part (w .first) (w .end - w .first) run))
 
 -- ---- the updates of an arrival
 

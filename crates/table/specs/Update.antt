@@ -20,7 +20,7 @@ use Rattle.table.specs.declared.Updated.{Updated}
 use Rattle.table.specs.declared.Line.{Line}
 use Rattle.table.specs.declared.Line.the-variants.{On, End}
 use Rattle.table.specs.Forms.{Stage, on, end, _then_}
-use Rattle.table.specs.Entry.{maxDelay, minDelay, holdDown, up, takenDown}
+use Rattle.table.specs.Entry.{maxDelay, minDelay, holdDown, livesHere, up, takenDown}
 
 -- how a line came out, as the code has it
 abbrev pub lineOf : Stage Entry → Line
@@ -71,7 +71,7 @@ lineB u e =
 -- "(c) Store DELAY, OFFSET, TTL 120, PID and our reading."
 unfoldable pub lineC : Update → Entry → Stage Entry
 lineC u e =
-    on record { delay = u .delay; offset = u .offset; ttl = holdDown; pid = u .pid; time = u .reading }
+    on record { delay = u .delay; offset = u .offset; ttl = holdDown; pid = u .pid; here = e .here; time = u .reading }
 
 -- lines (a) to (c): the entry is stored where they go on, and is left as it is, or taken down, where they end
 unfoldable pub lines : Update → Entry → Stage Entry
@@ -106,3 +106,7 @@ left (end e) = e
 
 unfoldable pub selfReported : (reading : Millis) → Entry → Entry
 selfReported reading e = left (lines (ownUpdate reading) e)
+
+-- "a self-report covers every marked id"
+unfoldable pub reportedHere : (reading : Millis) → Entry → Entry
+reportedHere reading e = cond (livesHere e) (selfReported reading e) e

@@ -2,8 +2,8 @@
 ghost use mathlib.Core.Path.{_≡_};
 ghost use mathlib.Core.Bool.{true};
 ghost use Rattle.clock.specs.Clock.{clockInRange};
-ghost use Rattle.table.specs.Entry.{freshEntry, up, withTtl, takenDown, aged, advertised, upTo, entryInRange};
-ghost use Rattle.table.specs.Update.{lineOf, delayInRange, lineA, lineB, lineC, lines, dateTaken, lineD, update, selfReported};
+ghost use Rattle.table.specs.Entry.{freshEntry, up, withMark, withTtl, takenDown, aged, advertised, upTo, entryInRange, livesHere};
+ghost use Rattle.table.specs.Update.{lineOf, delayInRange, lineA, lineB, lineC, lines, dateTaken, lineD, update, selfReported, reportedHere};
 ghost use Rattle.table.specs.Switching.{Switching};
 use calendar::Date;
 use clock::Clock;
@@ -13,6 +13,7 @@ use quantity::Seconds;
 use quantity::Word;
 use wire::Report;
 
+pub mod marks;
 pub mod run;
 
 // MAXDELAY, MINDELAY and the time of hold-down.
@@ -22,13 +23,14 @@ pub const MIN_DELAY: Millis = Millis(100);
 
 pub const HOLD_DOWN: Seconds = Seconds(120);
 
-// An entry of the host table: DELAY, OFFSET, TTL, PID, and the time of its last update.
+// An entry of the host table: DELAY, OFFSET, TTL, PID, the mark (1: the host lives here, 0: elsewhere), and the time of its last update.
 #[repr(C)]
 pub struct Entry {
     pub delay: Millis,
     pub offset: Word,
     pub ttl: Seconds,
     pub pid: u8,
+    pub here: u8,
     pub time: Millis,
 }
 
@@ -66,6 +68,7 @@ pub fn fresh() -> Entry
         offset: Word(0),
         ttl: Seconds(0),
         pid: 0,
+        here: 0,
         time: Millis(0),
     }
 }
@@ -76,6 +79,22 @@ pub fn up(e: Entry) -> bool
 {
     let known = e.delay;
     known.less(MAX_DELAY)
+}
+
+// Does the host live here?
+fn lives_here(e: Entry) -> bool
+    ensures { λ r. ⌜ r ≡ livesHere e ⌝ }
+{
+    e.here == 1
+}
+
+// The entry with another mark.
+fn with_mark(e: Entry, here: u8) -> Entry
+    ensures { λ r. ⌜ r ≡ withMark here e ⌝ }
+{
+    let mut x = e;
+    x.here = here;
+    x
 }
 
 // The entry with another TTL.
@@ -208,13 +227,12 @@ pub fn line_c(u: Update, e: Entry) -> Line
     let delay = u.delay;
     let offset = u.offset;
     let reading = u.reading;
-    Line::On(Entry {
-        delay: delay,
-        offset: offset,
-        ttl: HOLD_DOWN,
-        pid: u.pid,
-        time: reading,
-    })
+    let mut x = with_ttl(e, HOLD_DOWN);
+    x.delay = delay;
+    x.offset = offset;
+    x.pid = u.pid;
+    x.time = reading;
+    Line::On(x)
 }
 
 // Lines (a) to (c).
@@ -285,8 +303,8 @@ pub fn update_entry(
     }
 }
 
-// Self-report: the entry of the host's own id, with our reading.
-pub fn self_reported(reading: Millis, e: Entry) -> Entry
+// Self-report: the entry of a host that lives here, with our reading.
+fn self_reported(reading: Millis, e: Entry) -> Entry
     ensures { λ r. ⌜ r ≡ selfReported reading e ⌝ }
 {
     let u = Update {
@@ -299,4 +317,14 @@ pub fn self_reported(reading: Millis, e: Entry) -> Entry
         Line::On(x) => x,
         Line::End(x) => x,
     }
+}
+
+// The entry after a self-report, which covers the hosts that live here.
+pub fn reported_here(reading: Millis, e: Entry) -> Entry
+    ensures { λ r. ⌜ r ≡ reportedHere reading e ⌝ }
+{
+    if lives_here(e) {
+        return self_reported(reading, e);
+    }
+    e
 }

@@ -10,6 +10,8 @@ ghost use Rattle.table.specs.code.Loops.{InRun, stillGood, allInRange, e
 use super::Entry;
 use super::Update;
 use super::Updated;
+use super::marks::Marks;
+use super::marks::mark;
 use calendar::Date;
 use clock::Clock;
 use quantity::Count;
@@ -18,11 +20,12 @@ use quantity::Seconds;
 use quantity::Word;
 use wire::Report;
 
-// Are the entries within their ranges? `good` is the answer where there are none.
+// Are the entries within their ranges, and marked as they should be? `first` is the place of id 0, and `good` the answer where there are none.
 pub struct Scan {
     pub first: usize,
     pub end: usize,
     pub good: bool,
+    pub marks: Marks,
 }
 
 // The entry of a place, or `entry` where there is no place.
@@ -32,7 +35,7 @@ pub struct Seek {
     pub entry: Entry,
 }
 
-// What becomes of an entry: it is set afresh, it ages by a second, its host, our own, reports itself at a reading, or another is put in its place.
+// What becomes of an entry: it is set afresh, it ages by a second, its host, where that lives here, reports itself at a reading, or another is put in its place.
 pub enum Change {
     Fresh,
     Aged,
@@ -40,10 +43,12 @@ pub enum Change {
     Put(Entry),
 }
 
+// Entries that are set afresh get these marks; `first` is then the place of id 0.
 pub struct Changes {
     pub first: usize,
     pub end: usize,
     pub change: Change,
+    pub marks: Marks,
 }
 
 // An arrival's updates, from the clock on: `base` is the place of id 0, `count` that of the reading, and `update` what the neighbor itself is updated with, to which a packet's table adds its reports.
@@ -68,14 +73,13 @@ pub struct Reports {
 }
 
 // Each entry is tested, also behind one that is out of range: a loop without a branch is quicker.
-fn still_good(good: bool, e: Entry) -> bool
-    ensures { λ r. ⌜ r ≡ stillGood good e ⌝ }
+fn still_good(good: bool, e: Entry, i: usize, w: Scan) -> bool
+    requires { ⌜ w .first ≤ i ⌝ }
+    ensures { λ r. ⌜ r ≡ stillGood good e i w ⌝ }
 {
-    let r = super::in_range(e);
-    if good {
-        return r;
-    }
-    false
+    let marks = w.marks;
+    let n = i - w.first;
+    good & (super::in_range(e) & (e.here == mark(marks, n)))
 }
 
 pub fn all_in_range(run: &[Entry], w: Scan) -> bool
@@ -86,13 +90,13 @@ pub fn all_in_range(run: &[Entry], w: Scan) -> bool
     let mut i = w.first;
     let mut good = w.good;
     while i < end {
-        good = still_good(good, run[i]);
+        good = still_good(good, run[i], i, w);
         i = i + 1;
     }
     good
 }
 
-fn latest(known: Entry, e: Entry) -> Entry
+fn latest(known: Entry, e: Entry, i: usize, w: Seek) -> Entry
     ensures { λ r. ⌜ r ≡ e ⌝ }
 {
     e
@@ -106,20 +110,21 @@ pub fn entry_of(run: &[Entry], w: Seek) -> Entry
     let mut i = w.first;
     let mut e = w.entry;
     while i < end {
-        e = latest(e, run[i]);
+        e = latest(e, run[i], i, w);
         i = i + 1;
     }
     e
 }
 
-fn changed(e: Entry, w: Changes) -> Entry
-    ensures { λ r. ⌜ r ≡ changed (w .change) e ⌝ }
+fn changed(e: Entry, i: usize, w: Changes) -> Entry
+    requires { ⌜ w .first ≤ i ⌝ }
+    ensures { λ r. ⌜ r ≡ changed (w .marks) (w .change) (i - w .first) e ⌝ }
 {
     let change = w.change;
     match change {
-        Change::Fresh => super::fresh(),
+        Change::Fresh => super::with_mark(super::fresh(), mark(w.marks, i - w.first)),
         Change::Aged => super::aged(e),
-        Change::Reported(reading) => super::self_reported(reading, e),
+        Change::Reported(reading) => super::reported_here(reading, e),
         Change::Put(x) => x,
     }
 }
@@ -131,7 +136,7 @@ pub fn change_all(run: &mut [Entry], w: Changes)
     let end = w.end;
     let mut i = w.first;
     while i < end {
-        let e = changed(run[i], w);
+        let e = changed(run[i], i, w);
         run[i] = e;
         i = i + 1;
     }

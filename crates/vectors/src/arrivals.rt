@@ -11,6 +11,7 @@ use quantity::Millis;
 use quantity::Seconds;
 use quantity::Word;
 use table::Entry;
+use table::marks::Marks;
 use wire::Address;
 
 // The octets of a record: the name (64), the host's state (16), the packet (48).
@@ -54,10 +55,39 @@ fn clock_at(time: Millis, hold: Seconds) -> Clock {
     start
 }
 
+// The entries of a host whose own id alone is marked, otherwise all the same.
+pub fn entries(own: usize, e: Entry) -> [Entry; 255] {
+    let mut x = e;
+    x.here = 1;
+    let mut run = [e; 255];
+    if own < 255 {
+        run[own] = x;
+    }
+    run
+}
+
+// One id below 64 alone is marked.
+fn only(id: usize) -> Marks {
+    let word = 1 << (id % 64);
+    let words = [word, 0, 0, 0];
+    Marks { words: words }
+}
+
+// The id of the host of that address, by the settings of the packet program.
+fn own_id(host: Address) -> usize {
+    if host.fourth == 0 {
+        return 0;
+    }
+    (host.fourth - 1) as usize
+}
+
 // The packet arrives at the host of that address, whose neighbor is so, and all whose entries are the same.
 fn arrival(host: Address, neighbor: Address, c: Clock, e: Entry, octets: &[u8]) -> Whole {
     let mut s = program::settings();
     s.address = host;
+    let own = own_id(host);
+    let marks = only(own);
+    s.marks = marks;
     let link = Link {
         neighbor: neighbor,
         keep_alive: 0,
@@ -66,7 +96,7 @@ fn arrival(host: Address, neighbor: Address, c: Clock, e: Entry, octets: &[u8]) 
     let links = host::link_state::with_link(host::link_state::fresh(s), 1, link);
     let v = host::walk::none();
     let k = Counter::zero();
-    program::take(s, 0, c, links, v, octets, [e; 255], 1, k, octets)
+    program::take(s, 0, c, links, v, octets, entries(own, e), 1, k, octets)
 }
 
 // The entry of an id.
@@ -115,6 +145,7 @@ fn entry_before(r: [u8; 128]) -> Entry {
         offset: Word(0),
         ttl: Seconds(r[72] as u16),
         pid: r[73],
+        here: 0,
         time: Millis(0),
     }
 }

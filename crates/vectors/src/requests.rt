@@ -1,4 +1,5 @@
 // What a send, a second and a lookup do with an entry and a link.
+use super::arrivals::entries;
 use super::show;
 use answer::Answer;
 use calendar::Date;
@@ -20,6 +21,7 @@ fn route_by(pid: u8, delay: Millis, ttl: Seconds) -> Entry {
         offset: Word(7),
         ttl: ttl,
         pid: pid,
+        here: 0,
         time: Millis(0),
     }
 }
@@ -53,7 +55,7 @@ fn asked(e: Entry, q: Request) -> Whole {
     let c = Clock::fresh(Millis(0), Date::FIRST);
     let l = host::link_state::fresh(s);
     let v = host::walk::none();
-    program::call(s, 0, c, l, v, b"", [e; 255], q)
+    program::call(s, 0, c, l, v, b"", entries(0, e), q)
 }
 
 // A line of an entry a second later.

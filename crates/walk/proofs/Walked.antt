@@ -1,6 +1,6 @@
 -- The lines of a walk, run box by box to the last id, leave what the sweep of an arrival leaves.
 use mathlib.Core.Path.{_≡_, refl, sym, ap, _∙_, subst}
-use mathlib.Core.Bool.{Bool, true, false, cond, not, _&&_, _||_}
+use mathlib.Core.Bool.{Bool, true, false, false≢true, cond, not, _&&_, _||_}
 use mathlib.Core.List.{List, [], _∷_, _++_, map, append-nil, append-assoc}
 use Prim.Native.Nat.{ℕ, zero, suc, _+_, _*_, _-_, _≤_, _<_}
 use native.Mathlib.Omega.{arith}
@@ -21,8 +21,8 @@ use Rattle.table.specs.declared.run.Change.the-variants.{Put}
 use Rattle.table.specs.declared.run.Changes.{Changes}
 use Rattle.table.specs.Forms.{Stage, on, end, _then_}
 use Rattle.quantity.specs.Quantity.{addMillis, lessMillis}
-use Rattle.table.specs.Entry.{minDelay, freshEntry}
-use Rattle.table.specs.Update.{lineA, lineB, lineC, lines, lineD, settled, update}
+use Rattle.table.specs.Entry.{minDelay, maxDelay, freshEntry, up, takenDown}
+use Rattle.table.specs.Update.{lineA, lineB, lineC, lines, lineD, settled, update, left}
 use Rattle.table.specs.Runs.{changed, changes}
 use Rattle.table.specs.Sweep.{Swept, sweep}
 use Rattle.host.specs.declared.Effect.{Effect}
@@ -88,6 +88,28 @@ unfolding changes
 put-changes pre e rest x =
     let n : length pre + 1 - length pre ≡ 1 = omega arith in
     rw (n, drop-front pre (e ∷ rest), take-front pre (e ∷ rest), drop-front-one pre e rest) (append-assoc pre (x ∷ []) rest)
+
+-- ---- line (b) that goes on has changed nothing
+
+abbrev goes-on : Stage Entry → Bool
+goes-on (on e) = true
+goes-on (end e) = false
+
+b-keeps : (u : Update) (e x : Entry) → lineB u e ≡ on x → x ≡ e
+unfolding lineB
+b-keeps u e x =
+    either Keeps (up e) _ _
+    (λ _. either Keeps (lessMillis (u .delay) maxDelay) _ _ (λ _. stays) (λ _. ended (takenDown e)))
+    (λ _. either Keeps (lessMillis (u .delay) maxDelay && eqb (e .ttl .0) 0) _ _ (λ _. stays) (λ _. ended e))
+  where
+    Keeps : Stage Entry → Type 0
+    Keeps q = q ≡ on x → x ≡ e
+
+    stays : Keeps (on e)
+    stays is = ap left (sym is)
+
+    ended : (y : Entry) → Keeps (end y)
+    ended y is = absurd (false≢true (ap goes-on is))
 
 -- ---- a walk through an arrival of this packet
 
@@ -175,7 +197,8 @@ module _ (s : Settings) (p : Packet) (octets : List ℕ) where
           (rw (at-hand, is) (k (suc (suc r)) (omega arith) (later ks) 2 (one j (Put x)) es (putting x)))
       b-box ks (on x) is k =
           subst P (sym (box-is (suc (suc r)) ks (seat c l (atLine 2 j w) es)))
-          (rw (at-hand, is) (onto (walkFrom (suc (suc r)) (later ks)) 3 nothing es es (nothing-changes es) (c-box (later ks) _ refl k)))
+          (rw (at-hand, is) (onto (walkFrom (suc (suc r)) (later ks)) 3 nothing es es (nothing-changes es)
+          (c-box (later ks) _ refl (subst (λ (y : Entry). Left (lineC u y)) (b-keeps u e x is) k))))
 
       -- line (a), and so all of them
       pub id-boxes : (ks : ℕ → Counter) → Behind P r (updated c e .clock) (pre ++ updated c e .entry ∷ rest)

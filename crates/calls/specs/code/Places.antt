@@ -47,7 +47,7 @@ pub record Seekable (g : Answer) (q : Request) (s : Settings) (w : Walk) (k : �
 abbrev pub placed : (number : ℕ) → Changes → Changes
 placed k w =
     cond (ltb (w .first) (w .end))
-    record { first = firstPlace k + w .first; end = firstPlace k + w .end; change = w .change } nothing
+    record { first = firstPlace k + w .first; end = firstPlace k + w .end; change = w .change; marks = w .marks } nothing
 
 abbrev pub placedUpdates : (number : ℕ) → Updates → Updates
 placedUpdates k w =

@@ -4,6 +4,9 @@ use Rattle.host.specs.Settings.{settingsGood}
 use Rattle.host.proofs.good.Statement.{statement}
 use Rattle.host.proofs.good.Tie as tie
 
+own-id-requires : tie.Need-own-id-requires
+own-id-requires c κs = search needs
+
 from-to-requires : tie.Need-from-to-requires
 from-to-requires c κs = search needs
 
@@ -40,34 +43,40 @@ is-real-requires c κs = search needs
 ids-below-requires : tie.Need-ids-below-requires
 ids-below-requires c κs = search needs
 
-own-id-requires : tie.Need-own-id-requires
-own-id-requires c κs = search needs
-
 is-found-requires : tie.Need-is-found-requires
 is-found-requires c κs = search needs
+
+found-marked-requires : tie.Need-found-marked-requires
+found-marked-requires c κs = search needs
+
+none-from-requires : tie.Need-none-from-requires
+none-from-requires c κs = search needs
 
 returns : tie.Need-returns
 unfolding settingsGood
 returns c =
     rw (
-      ← c .before .before .before .before .before .before .before .before .before .before .before .before .before .before .from-to .ensures,
-      ← c .before .before .before .before .before .before .before .before .before .before .before .before .before .switches-good .ensures,
-      ← c .before .before .before .before .before .before .before .before .before .before .before .before .from-to2 .ensures,
-      ← c .before .before .before .before .before .before .before .before .before .from-to3 .ensures,
-      ← c .before .before .before .before .before .before .before .before .clock-host-good .ensures,
-      ← c .before .before .before .before .before .before .from-to4 .ensures,
-      ← c .before .before .before .before .before .tick-in-range .ensures,
-      ← c .before .before .before .before .time-good .ensures,
-      ← c .before .before .before .is-real .ensures,
-      ← c .before .before .ids-below .ensures,
-      ← c .before .own-id .ensures,
-      ← c .is-found .ensures,
+      ← c .before .before .before .before .before .before .before .before .before .before .before .before .before .before .before .from-to .ensures,
+      ← c .before .before .before .before .before .before .before .before .before .before .before .before .before .before .switches-good .ensures,
+      ← c .before .before .before .before .before .before .before .before .before .before .before .before .before .from-to2 .ensures,
+      ← c .before .before .before .before .before .before .before .before .before .before .from-to3 .ensures,
+      ← c .before .before .before .before .before .before .before .before .before .clock-host-good .ensures,
+      ← c .before .before .before .before .before .before .before .from-to4 .ensures,
+      ← c .before .before .before .before .before .before .tick-in-range .ensures,
+      ← c .before .before .before .before .before .time-good .ensures,
+      ← c .before .before .before .before .is-real .ensures,
+      ← c .before .before .before .ids-below .ensures,
+      ← c .before .before .before .before .before .before .before .before .before .before .before .before .before .before .before .before .own-id .ensures,
+      ← c .before .before .is-found .ensures,
+      ← c .before .found-marked .ensures,
+      ← c .none-from .ensures,
     )
 
 pub good-spec : {M : Type 1} → statement M
 good-spec =
     tie.close
     (tie.spec
+    own-id-requires
     from-to-requires
     switches-good-requires
     from-to-requires-2
@@ -80,6 +89,7 @@ good-spec =
     time-good-requires
     is-real-requires
     ids-below-requires
-    own-id-requires
     is-found-requires
+    found-marked-requires
+    none-from-requires
     returns)

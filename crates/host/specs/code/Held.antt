@@ -8,8 +8,10 @@ use Rattle.answer.specs.declared.Answer.{Answer}
 use Rattle.answer.specs.declared.Answer.the-variants.{Done, Setting, OutOfRange, InWalk}
 use Rattle.clock.specs.declared.Clock.{Clock}
 use Rattle.clock.specs.Clock.{clockInRange}
+use Rattle.table.specs.declared.marks.Marks.{Marks}
 use Rattle.table.specs.declared.run.Scan.{Scan}
 use Rattle.table.specs.Forms.{every}
+use Rattle.table.specs.Marks.{noMarks}
 use Rattle.host.specs.declared.Settings.{Settings}
 use Rattle.host.specs.Lent.{Host}
 use Rattle.host.specs.declared.guard.Scope.{Scope}
@@ -28,7 +30,7 @@ placesMissing k n = ltb 15 k || ltb n (firstPlace k + placesPerHost)
 
 -- no place to look at: the answer is known
 abbrev pub settled : (good : Bool) → Scan
-settled good = record { first = 0; end = 0; good = good }
+settled good = record { first = 0; end = 0; good = good; marks = noMarks }
 
 -- a link of a host with so many
 abbrev pub isLink : (count link : ℕ) → Bool
@@ -42,20 +44,20 @@ namesLink n m (OnLink i) = isLink n i
 namesLink n m (Opening i) = leb longest m && isLink n i
 namesLink n m Walking = true
 
--- so many entries, where the clock, so many links and the walk are within their ranges
-abbrev pub wholeScan : (number entries : ℕ) → Clock → Links → (links : ℕ) → (walk : Bool) → Scan
-wholeScan k m c l n walk =
+-- so many entries and their marks, where the clock, so many links and the walk are within their ranges
+abbrev pub wholeScan : (number entries : ℕ) → Clock → Links → (links : ℕ) → (walk : Bool) → Marks → Scan
+wholeScan k m c l n walk marks =
     cond (not (clockInRange c)) (settled false)
     (cond (not (every linkInRange (take n (l .all)))) (settled false)
     (cond (not walk) (settled false)
-    record { first = firstPlace k; end = firstPlace k + m; good = true }))
+    record { first = firstPlace k; end = firstPlace k + m; good = true; marks = marks }))
 
 abbrev pub held : Scope → (number : ℕ) → Host → Walk → (copy : List ℕ) → (n : ℕ) → Scan
 held a k h w copy n =
     cond (placesMissing k n) (settled false)
     (cond (afresh a) (settled true)
     (cond (not (namesLink (linkCount (h .settings)) (length copy) a)) (settled false)
-    (wholeScan k (hostCount (h .settings)) (h .clock) (h .links) (linkCount (h .settings)) (walkInRange (h .settings) w copy))))
+    (wholeScan k (hostCount (h .settings)) (h .clock) (h .links) (linkCount (h .settings)) (walkInRange (h .settings) w copy) (h .settings .marks))))
 
 abbrev pub judged : Settings → Walk → Scope → (good : Bool) → Answer
 judged s w a good = cond (not good) OutOfRange (cond (inWalk a w) InWalk (cond (not (settingsGood s)) Setting Done))

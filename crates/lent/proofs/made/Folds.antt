@@ -1,10 +1,10 @@
--- The law of a loop over a run of entries: `fn f(run: &[E], w: J) -> B { let end = w.end; let mut i = w.first; let mut x = w.start; while i < end { x = turn(x, run[i]); i = i + 1; } x }`.
+-- The law of a loop over a run of entries: `fn f(run: &[E], w: J) -> B { let end = w.end; let mut i = w.first; let mut x = w.start; while i < end { x = turn(x, run[i], i, w); i = i + 1; } x }`.
 -- It is one walk of that MIR, for any types and any contract of the function that does a turn. J is a struct that begins with first, end and start. `After` is what there is after n turns. The author shows that the places lie in the run (`fits`), that each turn is asked for no more than what is known (`ok`), and that what there is after the last turn is what the loop says (`then`).
 -- Made by tools/laws/make. Assumes nothing.
 use Rattle.lent.proofs.Walk.{_≡_, refl, sym, ap, subst, ℕ, zero, suc, _+_, _-_, _*_, _≤_, _<_, _^_, mul-le-mul-right, lt-of-le-of-lt, arith, not, List, [], _∷_, length, getD, T, ltb, ltb→lt, nltb→le, URA, fullShare, Name, Fn, Body, named, imm, tyRef, tyInt, tyBool, tyPtr, w64, local, valueLocal, place, deref, field, copy, int, rvOpd, op2, lt, mul, add, offset, no-sign, assign, call, seq, block, loop, cond, skip, exit, return, Val, vint, vptr, SProp, ent, emp, id⊢, GName, Lft, Share, ftrue, fat, froom, fdies, flft, fobor, Model, Routine, Env, Heap, Out, afterSeq, afterBlock, Locals, Wp, atReturn, WpFn, Tables, Closed, Atoms, fact, GhostRules, Running, givenOf, tables, afterTurn, Given, Item, ‵, raw, _⊛_, ⋆, some, later, anyQ, atRet, _$_, _∵_, !, qed, by, move, drop, use0, use1, use3, split, join, pick, rewrite, fsplit, fjoin, suffices, frame, await, done, look, look-raw, init, store, forget, stop, hop, fld, from, load, lit, of-opd, bin, and-then, no-more, assigns, assigns-last, land, returns, enter, alloc1, alloc0, params1, pass1, pass0, free1, free0, exec, whole-part, sub, look-in, arr-parts, FmC, fmOf, WpFn-mono, RattleType, owns, Is, shows, mem, pointee, shares, SliceRefOf, RefT, sliceVal, sliceTy, slice-vals, ShrSlice, Room, shr-slice-tells, cells-of, place-is, elem-out, elem-back, looks-slice, shuts-slice, Signature, plain, shrSliceOf, only, owned, peeks, heard, nothing, layout, row, shape, onEntry, Meets, tripleOf, Contract, Triple, calls-at, entered, cited, Ended, Clauses, Lasts, closing, ensured, lasts, Stays, stay-dropped, says, needs, walkOf, goes-dropped, ends-at, walked, walk-meets, yes}
 use Rattle.lent.proofs.Walk.{tablesOf}
 use denote.Struct.Laws as LL
-use Rattle.lent.proofs.Words.{Word, Data, Part, by-value, usize-part, settled, passed}
+use Rattle.lent.proofs.Words.{Word, Data, Part, by-value, unsigned, usize-part, settled, passed}
 use Rattle.lent.proofs.Outcomes.{Outcome, whole}
 use Rattle.lent.proofs.Loop.{tests, repeats}
 
@@ -34,10 +34,10 @@ module _ (E : Data) (B : Part) (J : Outcome (usize-part ∷ usize-part ∷ B ∷
   start w = B .res (J .form .read w .1 .1 .0)
 
   abbrev signature₁ : Signature
-  signature₁ = record { lifetimes = 0; outlives = []; params = plain (λ _. XB .row) ∷ plain (λ _. XE .row) ∷ []; result = plain (λ _. XB .row) }
+  signature₁ = record { lifetimes = 0; outlives = []; params = plain (λ _. XB .row) ∷ plain (λ _. XE .row) ∷ plain (λ _. (unsigned w64) .row) ∷ plain (λ _. XJ .row) ∷ []; result = plain (λ _. XB .row) }
 
   abbrev ended₁ : Ended
-  ended₁ = record { signature = signature₁; kept = (yes, (yes, tt)) }
+  ended₁ = record { signature = signature₁; kept = (yes, (yes, (yes, (yes, tt)))) }
 
   abbrev signature : Signature
   signature = record { lifetimes = 1; outlives = []; params = SliceRefOf (0 ∷ []) tt (plain (λ _. RE)) (λ _. tt) ∷ plain (λ _. XJ .row) ∷ []; result = plain (λ _. XB .row) }
@@ -51,7 +51,7 @@ module _ (E : Data) (B : Part) (J : Outcome (usize-part ∷ usize-part ∷ B ∷
       (seq (assign (place 7 []) (op2 (mul no-sign) (copy (place 4 [])) (int w64 size)))
       (seq (assign (place 8 []) (op2 offset (copy (place 1 (field 0 ∷ []))) (copy (place 7 []))))
       (seq (assign (place 9 []) (rvOpd (copy (place 8 (deref (layout (shape (E .S))) ∷ [])))))
-      (seq (call g (copy (place 5 []) ∷ copy (place 9 []) ∷ []) (place 5 []))
+      (seq (call g (copy (place 5 []) ∷ copy (place 9 []) ∷ copy (place 4 []) ∷ copy (place 2 []) ∷ []) (place 5 []))
       (assign (place 4 []) (op2 (add no-sign) (copy (place 4 [])) (int w64 1))))))))
 
   abbrev rest : Body
@@ -70,15 +70,15 @@ module _ (E : Data) (B : Part) (J : Outcome (usize-part ∷ usize-part ∷ B ∷
   stayed = (stay-dropped (shrSliceOf (0 ∷ []) tt (plain (λ _. RE))) yes, (stay-dropped (plain (λ _. XJ .row)) yes, tt))
 
   -- a turn as a function, and what stands for an entry that is not there
-  module _ (step : XB .row .Denot → E .S .D → XB .row .Denot) (none : E .S .D) (run : List (E .S .D)) (w : J .form .D) where
+  module _ (step : XB .row .Denot → E .S .D → ℕ → J .form .D → XB .row .Denot) (none : E .S .D) (run : List (E .S .D)) (w : J .form .D) where
     abbrev pub After : ℕ → (XB .row .Denot)
     After zero = start w
-    After (suc n) = step (After n) (getD run (first w + n) none)
+    After (suc n) = step (After n) (getD run (first w + n) none) (first w + n) w
 
   -- what a turn asks and says, and what the loop asks and says
-  module _ {M : Type 1} (𝓤 : URA M) (H : Heap 𝓤) (A : Atoms 𝓤) (step : XB .row .Denot → E .S .D → XB .row .Denot) (none : E .S .D) (asks : XB .row .Denot → E .S .D → SProp 𝓤) (gives : XB .row .Denot → E .S .D → XB .row .Denot → Type 0) (Asks : List (E .S .D) → J .form .D → Type 0) (Says : List (E .S .D) → J .form .D → XB .row .Denot → Type 0) where
+  module _ {M : Type 1} (𝓤 : URA M) (H : Heap 𝓤) (A : Atoms 𝓤) (step : XB .row .Denot → E .S .D → ℕ → J .form .D → XB .row .Denot) (none : E .S .D) (asks : XB .row .Denot → E .S .D → ℕ → J .form .D → SProp 𝓤) (gives : XB .row .Denot → E .S .D → ℕ → J .form .D → XB .row .Denot → Type 0) (Asks : List (E .S .D) → J .form .D → Type 0) (Says : List (E .S .D) → J .form .D → XB .row .Denot → Type 0) where
     abbrev clauses₁ : Clauses 𝓤 ended₁
-    clauses₁ = λ κs a. record { ghost = Unit {0}; requires = λ _. asks (a .0) (a .1 .0); ensures = λ _ r e. fact 𝓤 (gives (a .0) (a .1 .0) r) }
+    clauses₁ = λ κs a. record { ghost = Unit {0}; requires = λ _. asks (a .0) (a .1 .0) (a .1 .1 .0) (a .1 .1 .1 .0); ensures = λ _ r e. fact 𝓤 (gives (a .0) (a .1 .0) (a .1 .1 .0) (a .1 .1 .1 .0) r) }
 
     abbrev clauses : Clauses 𝓤 ended
     clauses = λ κs a. record { ghost = Unit {0}; requires = λ _. fact 𝓤 (Asks (a .0 .now) (a .1 .0)); ensures = λ _ r e. fact 𝓤 (Says (a .0 .now) (a .1 .0) r) }
@@ -87,9 +87,9 @@ module _ (E : Data) (B : Part) (J : Outcome (usize-part ∷ usize-part ∷ B ∷
     Turn = tripleOf 𝓤 H A signature₁ (closing 𝓤 H A ended₁ clauses₁)
 
     module _ (W : Given 𝓤 H A)
-        (steps : (x : XB .row .Denot) (e : E .S .D) (r : XB .row .Denot) → gives x e r → r ≡ step x e)
+        (steps : (x : XB .row .Denot) (e : E .S .D) (i : ℕ) (w : J .form .D) (r : XB .row .Denot) → gives x e i w r → r ≡ step x e i w)
         (fits : (run : List (E .S .D)) (w : J .form .D) → Asks run w → (first w ≤ end w) × (end w ≤ length run))
-        (ok : (run : List (E .S .D)) (w : J .form .D) → Asks run w → (n : ℕ) → first w + n < end w → ent 𝓤 (emp 𝓤) (asks (After step none run w n) (getD run (first w + n) none)))
+        (ok : (run : List (E .S .D)) (w : J .form .D) → Asks run w → (n : ℕ) → first w + n < end w → ent 𝓤 (emp 𝓤) (asks (After step none run w n) (getD run (first w + n) none) (first w + n) w))
         (then : (run : List (E .S .D)) (w : J .form .D) → Asks run w → Says run w (After step none run w (end w - first w)))
         (small : T (ltb size (2 ^ 64)))
         (κ₀ : Lft) (q₀ : Share) (b₀ o₀ : ℕ) (γ₀ : GName) (run : List (E .S .D)) (w : J .form .D)
@@ -152,19 +152,22 @@ module _ (E : Data) (B : Part) (J : Outcome (usize-part ∷ usize-part ∷ B ∷
               assigns ! (of-opd ! (load ! (from ! (hop ! (look ! 6 refl) (stop !))) (look-raw ! 0 refl))) (from ! (stop !)) (init ! 4 refl (XE .typed M 𝓤 H A W e _ e-is)) $
               elem-back ! RE sh run (place-of k) none (XE .val e ∷ []) b₀ o₀ (inside h) $
               -- the turn
-              nothing ! $ nothing ! $ owned ! (XE .row) (Is (XE .row)) (XE .makes M 𝓤 H A W) e (XE .val e ∷ []) e-is $ fjoin ! $
-              owned ! (XB .row) (Is (XB .row)) (XB .makes M 𝓤 H A W) (x-at k) (XB .val (x-at k) ∷ []) (good .1) $ fjoin ! $ use0 W (raw (asks (x-at k) e)) (may h) $ move ! (2 ∷ 1 ∷ 0 ∷ []) $
-              use3 W (raw (Turn .pre ((tt, tt, tt, (x-at k, (e, tt)), (XB .val (x-at k) ∷ [], (XE .val e ∷ [], tt))), tt))) (passed 𝓤 H A signature₁ tt tt (x-at k, (e, tt)) (XB .val (x-at k) ∷ [], (XE .val e ∷ [], tt)) (asks (x-at k) e)) $
-              calls-at ! fm Turn known ((tt, tt, tt, (x-at k, (e, tt)), (XB .val (x-at k) ∷ [], (XE .val e ∷ [], tt))), tt) (and-then ! (load ! (from ! (stop !)) (look ! 11 refl)) (and-then ! (load ! (from ! (stop !)) (look ! 3 refl)) (no-more !))) (λ v.
-              use1 W (later (some (λ (r : XB .row .Denot). (‵ ftrue ⊛ ‵ (XB .row .own r (v ∷ []))) ⊛ raw (ensured 𝓤 H A ended₁ clauses₁ tt (x-at k, (e, tt)) tt r)))) (id⊢ 𝓤 _) $ await ! tt $ pick ! (λ r. split ! $
-              split ! $ drop ! $ move ! (1 ∷ []) $ use1 W (some (λ (ends : Lasts ended₁ tt (x-at k, (e, tt))). ‵ (lasts ended₁ tt (x-at k, (e, tt)) ends) ⊛ raw (fact 𝓤 (gives (x-at k) e r)))) (id⊢ 𝓤 _) $
-              pick ! (λ ends. split ! $ move ! (1 ∷ []) $ heard ! (gives (x-at k) e r) (λ φ. drop ! $ peeks ! (XB .row) (Is (XB .row)) (shows 𝓤 H A (XB .row)) r (v ∷ []) (λ r-is. drop ! $
+              nothing ! $ nothing ! $ owned ! (XJ .row) (Is (XJ .row)) (XJ .makes M 𝓤 H A W) w (XJ .val w ∷ []) w-is $ fjoin ! $
+              owned ! ((unsigned w64) .row) (Is ((unsigned w64) .row)) ((unsigned w64) .makes M 𝓤 H A W) (place-of k) (vint w64 (place-of k) ∷ []) (refl, place-fits h) $ fjoin ! $
+              owned ! (XE .row) (Is (XE .row)) (XE .makes M 𝓤 H A W) e (XE .val e ∷ []) e-is $ fjoin ! $ owned ! (XB .row) (Is (XB .row)) (XB .makes M 𝓤 H A W) (x-at k) (XB .val (x-at k) ∷ []) (good .1) $ fjoin ! $
+              use0 W (raw (asks (x-at k) e (place-of k) w)) (may h) $ move ! (2 ∷ 1 ∷ 0 ∷ []) $
+              use3 W (raw (Turn .pre ((tt, tt, tt, (x-at k, (e, (place-of k, (w, tt)))), (XB .val (x-at k) ∷ [], (XE .val e ∷ [], (vint w64 (place-of k) ∷ [], (XJ .val w ∷ [], tt))))), tt))) (passed 𝓤 H A signature₁ tt tt (x-at k, (e, (place-of k, (w, tt)))) (XB .val (x-at k) ∷ [], (XE .val e ∷ [], (vint w64 (place-of k) ∷ [], (XJ .val w ∷ [], tt)))) (asks (x-at k) e (place-of k) w)) $
+              calls-at ! fm Turn known ((tt, tt, tt, (x-at k, (e, (place-of k, (w, tt)))), (XB .val (x-at k) ∷ [], (XE .val e ∷ [], (vint w64 (place-of k) ∷ [], (XJ .val w ∷ [], tt))))), tt) (and-then ! (load ! (from ! (stop !)) (look ! 11 refl)) (and-then ! (load ! (from ! (stop !)) (look ! 3 refl)) (and-then ! (load ! (from ! (stop !)) (look ! 13 refl)) (and-then ! (load ! (from ! (stop !)) (look ! 17 refl)) (no-more !))))) (λ v.
+              use1 W (later (some (λ (r : XB .row .Denot). (‵ ftrue ⊛ ‵ (XB .row .own r (v ∷ []))) ⊛ raw (ensured 𝓤 H A ended₁ clauses₁ tt (x-at k, (e, (place-of k, (w, tt)))) tt r)))) (id⊢ 𝓤 _) $ await ! tt $
+              pick ! (λ r. split ! $ split ! $ drop ! $ move ! (1 ∷ []) $
+              use1 W (some (λ (ends : Lasts ended₁ tt (x-at k, (e, (place-of k, (w, tt))))). ‵ (lasts ended₁ tt (x-at k, (e, (place-of k, (w, tt)))) ends) ⊛ raw (fact 𝓤 (gives (x-at k) e (place-of k) w r)))) (id⊢ 𝓤 _) $
+              pick ! (λ ends. split ! $ move ! (1 ∷ []) $ heard ! (gives (x-at k) e (place-of k) w r) (λ φ. drop ! $ peeks ! (XB .row) (Is (XB .row)) (shows 𝓤 H A (XB .row)) r (v ∷ []) (λ r-is. drop ! $
               land ! (from ! (stop !)) (store ! 10 refl (XB .typed M 𝓤 H A W r _ r-is)) $ rewrite ! 10 (λ (u : Val). ‵ (fat fullShare (XB .ty) z₅ 0 u)) (ap only (XB .tells r (v ∷ []) r-is)) refl $
-              rewrite ! 10 (λ (c : XB .row .Denot). ‵ (fat fullShare (XB .ty) z₅ 0 (XB .val c))) (steps (x-at k) e r φ) refl $
+              rewrite ! 10 (λ (c : XB .row .Denot). ‵ (fat fullShare (XB .ty) z₅ 0 (XB .val c))) (steps (x-at k) e (place-of k) w r φ) refl $
               -- the turn is over
               assigns-last ! (bin ! (load ! (from ! (stop !)) (look ! 12 refl)) (lit ! tt) (record { fits = next-fits h })) (from ! (stop !)) (store ! 12 refl (tt, record { fits = next-fits h })) $
               forget ! 8 refl $ forget ! 6 refl $ forget ! 4 refl $ forget ! 2 refl $ rewrite ! 12 (λ (j : ℕ). ‵ (fat fullShare (tyInt w64) z₄ 0 (vint w64 j))) next-is refl $
-              by ! (again (suc k) (more h, subst (λ (c : XB .row .Denot). Is (XB .row) c (XB .val c ∷ [])) (steps (x-at k) e r φ) (settled XB r v r-is)) (less h)))))))))
+              by ! (again (suc k) (more h, subst (λ (c : XB .row .Denot). Is (XB .row) c (XB .val c ∷ [])) (steps (x-at k) e (place-of k) w r φ) (settled XB r v r-is)) (less h)))))))))
               (λ h. rewrite ! 10 (λ (m : ℕ). ‵ (fat fullShare (XB .ty) z₅ 0 (XB .val (x-at m)))) (all h) refl $ exec ! (𝓣 .C) (𝓣 .Λ) En rest (atRet En Post) $ shuts-slice ! tt RE sh run b₀ o₀ $
               assigns ! (of-opd ! (load ! (from ! (stop !)) (look ! 9 refl))) (from ! (stop !)) (init ! 19 refl (XB .typed M 𝓤 H A W (x-at n) _ (subst (λ (m : ℕ). Is (XB .row) (x-at m) (XB .val (x-at m) ∷ [])) (all h) (good .1)))) $
               returns ! (look ! 19 refl) $ forget ! 7 refl $ forget ! 9 refl $ forget ! 11 refl $ forget ! 13 refl $ forget ! 15 refl $ forget ! 17 refl $ forget ! 19 refl $ move ! (19 ∷ 20 ∷ []) $ free1 ! $
@@ -178,7 +181,7 @@ module _ (E : Data) (B : Part) (J : Outcome (usize-part ∷ usize-part ∷ B ∷
               inside : T (ltb (place-of k) (end w)) → place-of k < length run
               inside h = omega (arith, ltb→lt (place-of k) (end w) h, fits run w asked .1)
 
-              may : T (ltb (place-of k) (end w)) → ent 𝓤 (emp 𝓤) (asks (x-at k) e)
+              may : T (ltb (place-of k) (end w)) → ent 𝓤 (emp 𝓤) (asks (x-at k) e (place-of k) w)
               may h = ok run w asked k (ltb→lt (place-of k) (end w) h)
 
               place-fits : T (ltb (place-of k) (end w)) → place-of k < 2 ^ 64
@@ -222,10 +225,10 @@ module _ (E : Data) (B : Part) (J : Outcome (usize-part ∷ usize-part ∷ B ∷
             from-first : first w ≡ place-of 0
             from-first = omega arith
 
-  module _ {M : Type 1} (𝓤 : URA M) (H : Heap 𝓤) (𝓜 : Model 𝓤 H) (𝓖 : GhostRules 𝓤 H) (𝓡 : Running 𝓤 H 𝓜) (step : XB .row .Denot → E .S .D → XB .row .Denot) (none : E .S .D) (asks : XB .row .Denot → E .S .D → SProp 𝓤) (gives : XB .row .Denot → E .S .D → XB .row .Denot → Type 0) (Asks : List (E .S .D) → J .form .D → Type 0) (Says : List (E .S .D) → J .form .D → XB .row .Denot → Type 0)
-      (steps : (x : XB .row .Denot) (e : E .S .D) (r : XB .row .Denot) → gives x e r → r ≡ step x e)
+  module _ {M : Type 1} (𝓤 : URA M) (H : Heap 𝓤) (𝓜 : Model 𝓤 H) (𝓖 : GhostRules 𝓤 H) (𝓡 : Running 𝓤 H 𝓜) (step : XB .row .Denot → E .S .D → ℕ → J .form .D → XB .row .Denot) (none : E .S .D) (asks : XB .row .Denot → E .S .D → ℕ → J .form .D → SProp 𝓤) (gives : XB .row .Denot → E .S .D → ℕ → J .form .D → XB .row .Denot → Type 0) (Asks : List (E .S .D) → J .form .D → Type 0) (Says : List (E .S .D) → J .form .D → XB .row .Denot → Type 0)
+      (steps : (x : XB .row .Denot) (e : E .S .D) (i : ℕ) (w : J .form .D) (r : XB .row .Denot) → gives x e i w r → r ≡ step x e i w)
       (fits : (run : List (E .S .D)) (w : J .form .D) → Asks run w → (first w ≤ end w) × (end w ≤ length run))
-      (ok : (run : List (E .S .D)) (w : J .form .D) → Asks run w → (n : ℕ) → first w + n < end w → ent 𝓤 (emp 𝓤) (asks (After step none run w n) (getD run (first w + n) none)))
+      (ok : (run : List (E .S .D)) (w : J .form .D) → Asks run w → (n : ℕ) → first w + n < end w → ent 𝓤 (emp 𝓤) (asks (After step none run w n) (getD run (first w + n) none) (first w + n) w))
       (then : (run : List (E .S .D)) (w : J .form .D) → Asks run w → Says run w (After step none run w (end w - first w)))
       (small : T (ltb size (2 ^ 64)))
       (γ : Env) (f g : Name) (r : Routine) where

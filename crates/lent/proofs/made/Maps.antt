@@ -1,10 +1,10 @@
--- The law of a loop over a run of entries: `fn f(run: &mut [E], w: J) { let end = w.end; let mut i = w.first; while i < end { let t = turn(run[i], w); run[i] = t; i = i + 1; } }`.
+-- The law of a loop over a run of entries: `fn f(run: &mut [E], w: J) { let end = w.end; let mut i = w.first; while i < end { let t = turn(run[i], i, w); run[i] = t; i = i + 1; } }`.
 -- It is one walk of that MIR, for any types and any contract of the function that does a turn. J is a struct that begins with first, end. `After` is what there is after n turns. The author shows that the places lie in the run (`fits`), that each turn is asked for no more than what is known (`ok`), and that what there is after the last turn is what the loop says (`then`).
 -- Made by tools/laws/make. Assumes nothing.
 use Rattle.lent.proofs.Walk.{_≡_, refl, sym, ap, subst, _∙_, ℕ, zero, suc, _+_, _-_, _*_, _≤_, _<_, _^_, mul-le-mul-right, lt-of-le-of-lt, arith, not, List, [], _∷_, length, getD, set, length-set, T, ltb, ltb→lt, nltb→le, URA, fullShare, Name, Fn, Body, named, mut, tyRef, tyInt, tyBool, tyPtr, tyUnit, w64, local, valueLocal, place, deref, field, copy, int, opdUnit, rvOpd, op2, lt, mul, add, offset, no-sign, assign, call, seq, block, loop, cond, skip, exit, return, Val, vint, vptr, vunit, SProp, ent, emp, id⊢, GName, Lft, Share, ftrue, fat, froom, fdies, flft, fobs, fauth, fbor, fobor, Model, Routine, Env, Heap, Out, afterSeq, afterBlock, Locals, Wp, atReturn, WpFn, Tables, Closed, Atoms, fact, GhostRules, Running, givenOf, tables, afterTurn, Given, Item, ‵, raw, _⊛_, ⋆, some, later, anyQ, atRet, _$_, _∵_, !, qed, by, move, drop, use0, use1, use3, split, join, pick, rewrite, fsplit, fjoin, suffices, frame, await, done, look, look-raw, init, store, store-raw, forget, stop, hop, fld, from, load, lit, unit-lit, of-opd, bin, and-then, no-more, assigns, assigns-last, land, returns, enter, alloc1, alloc0, params1, pass1, pass0, free1, free0, exec, whole-part, sub, look-in, FmC, fmOf, WpFn-mono, RattleType, owns, Is, shows, pureI, mem, pointee, SliceRefMutOf, RefT, sliceVal, sliceTy, slice-vals, MutSlice, Room, heres, codedHoleys, at-slice, mut-slice-tells, Held, cells-of, place-is, elem-out, elem-put, opens-slice, closes-slice, Signature, plain, only, owned, peeks, heard, nothing, layout, row, shape, onEntry, Meets, tripleOf, Contract, Triple, calls-at, entered, cited, Ended, Clauses, Lasts, closing, ensured, lasts, Stays, stay-slice, stay-dropped, says, needs, walkOf, goes-slice, goes-dropped, ends-at, walked, walk-meets, yes}
 use Rattle.lent.proofs.Walk.{tablesOf}
 use denote.Struct.Laws as LL
-use Rattle.lent.proofs.Words.{Word, Data, by-value, void, usize-part, settled, passed}
+use Rattle.lent.proofs.Words.{Word, Data, by-value, unsigned, void, usize-part, settled, passed}
 use Rattle.lent.proofs.Outcomes.{Outcome, whole}
 use Rattle.lent.proofs.Loop.{tests, repeats}
 
@@ -28,10 +28,10 @@ module _ (E : Data) (J : Outcome (usize-part ∷ usize-part ∷ [])) where
   end w = J .form .read w .1 .0
 
   abbrev signature₁ : Signature
-  signature₁ = record { lifetimes = 0; outlives = []; params = plain (λ _. XE .row) ∷ plain (λ _. XJ .row) ∷ []; result = plain (λ _. XE .row) }
+  signature₁ = record { lifetimes = 0; outlives = []; params = plain (λ _. XE .row) ∷ plain (λ _. (unsigned w64) .row) ∷ plain (λ _. XJ .row) ∷ []; result = plain (λ _. XE .row) }
 
   abbrev ended₁ : Ended
-  ended₁ = record { signature = signature₁; kept = (yes, (yes, tt)) }
+  ended₁ = record { signature = signature₁; kept = (yes, (yes, (yes, tt))) }
 
   abbrev signature : Signature
   signature = record { lifetimes = 1; outlives = []; params = SliceRefMutOf (0 ∷ []) tt (plain (λ _. RE)) (λ _. tt) ∷ plain (λ _. XJ .row) ∷ []; result = plain (λ _. void .row) }
@@ -45,7 +45,7 @@ module _ (E : Data) (J : Outcome (usize-part ∷ usize-part ∷ [])) where
       (seq (assign (place 7 []) (op2 (mul no-sign) (copy (place 4 [])) (int w64 size)))
       (seq (assign (place 8 []) (op2 offset (copy (place 1 (field 0 ∷ []))) (copy (place 7 []))))
       (seq (assign (place 9 []) (rvOpd (copy (place 8 (deref (layout (shape (E .S))) ∷ [])))))
-      (seq (call g (copy (place 9 []) ∷ copy (place 2 []) ∷ []) (place 5 []))
+      (seq (call g (copy (place 9 []) ∷ copy (place 4 []) ∷ copy (place 2 []) ∷ []) (place 5 []))
       (seq (assign (place 7 []) (op2 (mul no-sign) (copy (place 4 [])) (int w64 size)))
       (seq (assign (place 10 []) (op2 offset (copy (place 1 (field 0 ∷ []))) (copy (place 7 []))))
       (seq (assign (place 10 (deref (layout (shape (E .S))) ∷ [])) (rvOpd (copy (place 5 []))))
@@ -67,19 +67,19 @@ module _ (E : Data) (J : Outcome (usize-part ∷ usize-part ∷ [])) where
   stayed = (stay-slice (0 ∷ []) tt (plain (λ _. RE)), (stay-dropped (plain (λ _. XJ .row)) yes, tt))
 
   -- a turn as a function, and what stands for an entry that is not there
-  module _ (stepE : E .S .D → J .form .D → E .S .D) (none : E .S .D) (run : List (E .S .D)) (w : J .form .D) where
+  module _ (stepE : E .S .D → ℕ → J .form .D → E .S .D) (none : E .S .D) (run : List (E .S .D)) (w : J .form .D) where
     abbrev pub After : ℕ → (List (E .S .D))
     After zero = run
-    After (suc n) = set (After n) (first w + n) (stepE (getD (After n) (first w + n) none) w)
+    After (suc n) = set (After n) (first w + n) (stepE (getD (After n) (first w + n) none) (first w + n) w)
 
     after-length : (n : ℕ) → length (After n) ≡ length run
     after-length zero = refl
     after-length (suc n) = length-set (After n) (first w + n) _ ∙ after-length n
 
   -- what a turn asks and says, and what the loop asks and says
-  module _ {M : Type 1} (𝓤 : URA M) (H : Heap 𝓤) (A : Atoms 𝓤) (stepE : E .S .D → J .form .D → E .S .D) (none : E .S .D) (asks : E .S .D → J .form .D → SProp 𝓤) (gives : E .S .D → J .form .D → E .S .D → Type 0) (Asks : List (E .S .D) → J .form .D → Type 0) (Says : List (E .S .D) → J .form .D → List (E .S .D) → Type 0) where
+  module _ {M : Type 1} (𝓤 : URA M) (H : Heap 𝓤) (A : Atoms 𝓤) (stepE : E .S .D → ℕ → J .form .D → E .S .D) (none : E .S .D) (asks : E .S .D → ℕ → J .form .D → SProp 𝓤) (gives : E .S .D → ℕ → J .form .D → E .S .D → Type 0) (Asks : List (E .S .D) → J .form .D → Type 0) (Says : List (E .S .D) → J .form .D → List (E .S .D) → Type 0) where
     abbrev clauses₁ : Clauses 𝓤 ended₁
-    clauses₁ = λ κs a. record { ghost = Unit {0}; requires = λ _. asks (a .0) (a .1 .0); ensures = λ _ r e. fact 𝓤 (gives (a .0) (a .1 .0) r) }
+    clauses₁ = λ κs a. record { ghost = Unit {0}; requires = λ _. asks (a .0) (a .1 .0) (a .1 .1 .0); ensures = λ _ r e. fact 𝓤 (gives (a .0) (a .1 .0) (a .1 .1 .0) r) }
 
     abbrev clauses : Clauses 𝓤 ended
     clauses = λ κs a. record { ghost = Unit {0}; requires = λ _. fact 𝓤 (Asks (a .0 .now) (a .1 .0)); ensures = λ _ r e. fact 𝓤 (Says (a .0 .now) (a .1 .0) (e .0 .now)) }
@@ -88,9 +88,9 @@ module _ (E : Data) (J : Outcome (usize-part ∷ usize-part ∷ [])) where
     Turn = tripleOf 𝓤 H A signature₁ (closing 𝓤 H A ended₁ clauses₁)
 
     module _ (W : Given 𝓤 H A)
-        (steps : (e : E .S .D) (w : J .form .D) (r : E .S .D) → gives e w r → r ≡ stepE e w)
+        (steps : (e : E .S .D) (i : ℕ) (w : J .form .D) (r : E .S .D) → gives e i w r → r ≡ stepE e i w)
         (fits : (run : List (E .S .D)) (w : J .form .D) → Asks run w → (first w ≤ end w) × (end w ≤ length run))
-        (ok : (run : List (E .S .D)) (w : J .form .D) → Asks run w → (n : ℕ) → first w + n < end w → ent 𝓤 (emp 𝓤) (asks (getD (After stepE none run w n) (first w + n) none) w))
+        (ok : (run : List (E .S .D)) (w : J .form .D) → Asks run w → (n : ℕ) → first w + n < end w → ent 𝓤 (emp 𝓤) (asks (getD (After stepE none run w n) (first w + n) none) (first w + n) w))
         (then : (run : List (E .S .D)) (w : J .form .D) → Asks run w → Says run w (After stepE none run w (end w - first w)))
         (small : T (ltb size (2 ^ 64)))
         (κ₀ : Lft) (q₀ : Share) (b₀ o₀ : ℕ) (γ₀ : GName) (run : List (E .S .D)) (w : J .form .D)
@@ -154,13 +154,15 @@ module _ (E : Data) (J : Outcome (usize-part ∷ usize-part ∷ [])) where
               elem-out ! RE (Is RE) (shows 𝓤 H A RE) (λ z. XE .val z ∷ []) (XE .tells) fullShare (run-at k) (place-of k) none b₀ o₀ (in-now h) (λ e-is.
               assigns ! (of-opd ! (load ! (from ! (hop ! (look ! 10 refl) (stop !))) (look-raw ! 0 refl))) (from ! (stop !)) (init ! 8 refl (XE .typed M 𝓤 H A W e _ e-is)) $ move ! (1 ∷ []) $ drop ! $
               -- the turn
-              nothing ! $ nothing ! $ owned ! (XJ .row) (Is (XJ .row)) (XJ .makes M 𝓤 H A W) w (XJ .val w ∷ []) w-is $ fjoin ! $ owned ! (XE .row) (Is (XE .row)) (XE .makes M 𝓤 H A W) e (XE .val e ∷ []) e-is $
-              fjoin ! $ use0 W (raw (asks e w)) (may h) $ move ! (2 ∷ 1 ∷ 0 ∷ []) $
-              use3 W (raw (Turn .pre ((tt, tt, tt, (e, (w, tt)), (XE .val e ∷ [], (XJ .val w ∷ [], tt))), tt))) (passed 𝓤 H A signature₁ tt tt (e, (w, tt)) (XE .val e ∷ [], (XJ .val w ∷ [], tt)) (asks e w)) $
-              calls-at ! fm Turn known ((tt, tt, tt, (e, (w, tt)), (XE .val e ∷ [], (XJ .val w ∷ [], tt))), tt) (and-then ! (load ! (from ! (stop !)) (look ! 8 refl)) (and-then ! (load ! (from ! (stop !)) (look ! 22 refl)) (no-more !))) (λ v.
-              use1 W (later (some (λ (r : XE .row .Denot). (‵ ftrue ⊛ ‵ (XE .row .own r (v ∷ []))) ⊛ raw (ensured 𝓤 H A ended₁ clauses₁ tt (e, (w, tt)) tt r)))) (id⊢ 𝓤 _) $ await ! tt $ pick ! (λ r. split ! $
-              split ! $ drop ! $ move ! (1 ∷ []) $ use1 W (some (λ (ends : Lasts ended₁ tt (e, (w, tt))). ‵ (lasts ended₁ tt (e, (w, tt)) ends) ⊛ raw (fact 𝓤 (gives e w r)))) (id⊢ 𝓤 _) $ pick ! (λ ends. split ! $
-              move ! (1 ∷ []) $ heard ! (gives e w r) (λ φ. drop ! $ peeks ! (XE .row) (Is (XE .row)) (shows 𝓤 H A (XE .row)) r (v ∷ []) (λ r-is. drop ! $
+              nothing ! $ nothing ! $ owned ! (XJ .row) (Is (XJ .row)) (XJ .makes M 𝓤 H A W) w (XJ .val w ∷ []) w-is $ fjoin ! $
+              owned ! ((unsigned w64) .row) (Is ((unsigned w64) .row)) ((unsigned w64) .makes M 𝓤 H A W) (place-of k) (vint w64 (place-of k) ∷ []) (refl, place-fits h) $ fjoin ! $
+              owned ! (XE .row) (Is (XE .row)) (XE .makes M 𝓤 H A W) e (XE .val e ∷ []) e-is $ fjoin ! $ use0 W (raw (asks e (place-of k) w)) (may h) $ move ! (2 ∷ 1 ∷ 0 ∷ []) $
+              use3 W (raw (Turn .pre ((tt, tt, tt, (e, (place-of k, (w, tt))), (XE .val e ∷ [], (vint w64 (place-of k) ∷ [], (XJ .val w ∷ [], tt)))), tt))) (passed 𝓤 H A signature₁ tt tt (e, (place-of k, (w, tt))) (XE .val e ∷ [], (vint w64 (place-of k) ∷ [], (XJ .val w ∷ [], tt))) (asks e (place-of k) w)) $
+              calls-at ! fm Turn known ((tt, tt, tt, (e, (place-of k, (w, tt))), (XE .val e ∷ [], (vint w64 (place-of k) ∷ [], (XJ .val w ∷ [], tt)))), tt) (and-then ! (load ! (from ! (stop !)) (look ! 8 refl)) (and-then ! (load ! (from ! (stop !)) (look ! 18 refl)) (and-then ! (load ! (from ! (stop !)) (look ! 22 refl)) (no-more !)))) (λ v.
+              use1 W (later (some (λ (r : XE .row .Denot). (‵ ftrue ⊛ ‵ (XE .row .own r (v ∷ []))) ⊛ raw (ensured 𝓤 H A ended₁ clauses₁ tt (e, (place-of k, (w, tt))) tt r)))) (id⊢ 𝓤 _) $ await ! tt $ pick ! (λ r.
+              split ! $ split ! $ drop ! $ move ! (1 ∷ []) $
+              use1 W (some (λ (ends : Lasts ended₁ tt (e, (place-of k, (w, tt)))). ‵ (lasts ended₁ tt (e, (place-of k, (w, tt))) ends) ⊛ raw (fact 𝓤 (gives e (place-of k) w r)))) (id⊢ 𝓤 _) $ pick ! (λ ends.
+              split ! $ move ! (1 ∷ []) $ heard ! (gives e (place-of k) w r) (λ φ. drop ! $ peeks ! (XE .row) (Is (XE .row)) (shows 𝓤 H A (XE .row)) r (v ∷ []) (λ r-is. drop ! $
               land ! (from ! (stop !)) (init ! 15 refl (XE .typed M 𝓤 H A W r _ r-is)) $ rewrite ! 15 (λ (u : Val). ‵ (fat fullShare (XE .ty) z₅ 0 u)) (ap only (XE .tells r (v ∷ []) r-is)) refl $
               -- the entry is stored
               assigns ! (bin ! (load ! (from ! (stop !)) (look ! 17 refl)) (lit ! small) (record { fits = byte-fits h })) (from ! (stop !)) (store ! 11 refl (tt, record { fits = byte-fits h })) $
@@ -171,7 +173,7 @@ module _ (E : Data) (J : Outcome (usize-part ∷ usize-part ∷ [])) where
               -- the turn is over
               assigns-last ! (bin ! (load ! (from ! (stop !)) (look ! 16 refl)) (lit ! tt) (record { fits = next-fits h })) (from ! (stop !)) (store ! 16 refl (tt, record { fits = next-fits h })) $
               forget ! 14 refl $ forget ! 12 refl $ forget ! 10 refl $ forget ! 8 refl $ forget ! 6 refl $ forget ! 4 refl $ rewrite ! 16 (λ (j : ℕ). ‵ (fat fullShare (tyInt w64) z₄ 0 (vint w64 j))) next-is refl $
-              rewrite ! 0 (λ (y : E .S .D). ‵ (cells-of RE fullShare (set (run-at k) (place-of k) y) b₀ o₀)) (steps e w r φ) refl $ by ! (again (suc k) (more h) (less h)))))))))
+              rewrite ! 0 (λ (y : E .S .D). ‵ (cells-of RE fullShare (set (run-at k) (place-of k) y) b₀ o₀)) (steps e (place-of k) w r φ) refl $ by ! (again (suc k) (more h) (less h)))))))))
               (λ h. rewrite ! 0 (λ (m : ℕ). ‵ (cells-of RE fullShare (run-at m) b₀ o₀)) (all h) refl $ exec ! (𝓣 .C) (𝓣 .Λ) En rest (atRet En Post) $
               closes-slice ! tt RE run (run-at n) (after-length stepE none run w n) b₀ o₀ $ assigns ! (of-opd ! (unit-lit !)) (from ! (stop !)) (init ! 23 refl (tt, tt)) $ returns ! (look ! 23 refl) $
               forget ! 11 refl $ forget ! 15 refl $ forget ! 17 refl $ forget ! 19 refl $ forget ! 21 refl $ forget ! 23 refl $ move ! (23 ∷ 24 ∷ []) $ free1 ! $ move ! (21 ∷ 22 ∷ []) $ free1 ! $
@@ -187,7 +189,7 @@ module _ (E : Data) (J : Outcome (usize-part ∷ usize-part ∷ [])) where
               in-now : T (ltb (place-of k) (end w)) → place-of k < length (run-at k)
               in-now h = subst (λ (m : ℕ). place-of k < m) (sym (after-length stepE none run w k)) (inside h)
 
-              may : T (ltb (place-of k) (end w)) → ent 𝓤 (emp 𝓤) (asks e w)
+              may : T (ltb (place-of k) (end w)) → ent 𝓤 (emp 𝓤) (asks e (place-of k) w)
               may h = ok run w asked k (ltb→lt (place-of k) (end w) h)
 
               place-fits : T (ltb (place-of k) (end w)) → place-of k < 2 ^ 64
@@ -228,10 +230,10 @@ module _ (E : Data) (J : Outcome (usize-part ∷ usize-part ∷ [])) where
             from-first : first w ≡ place-of 0
             from-first = omega arith
 
-  module _ {M : Type 1} (𝓤 : URA M) (H : Heap 𝓤) (𝓜 : Model 𝓤 H) (𝓖 : GhostRules 𝓤 H) (𝓡 : Running 𝓤 H 𝓜) (stepE : E .S .D → J .form .D → E .S .D) (none : E .S .D) (asks : E .S .D → J .form .D → SProp 𝓤) (gives : E .S .D → J .form .D → E .S .D → Type 0) (Asks : List (E .S .D) → J .form .D → Type 0) (Says : List (E .S .D) → J .form .D → List (E .S .D) → Type 0)
-      (steps : (e : E .S .D) (w : J .form .D) (r : E .S .D) → gives e w r → r ≡ stepE e w)
+  module _ {M : Type 1} (𝓤 : URA M) (H : Heap 𝓤) (𝓜 : Model 𝓤 H) (𝓖 : GhostRules 𝓤 H) (𝓡 : Running 𝓤 H 𝓜) (stepE : E .S .D → ℕ → J .form .D → E .S .D) (none : E .S .D) (asks : E .S .D → ℕ → J .form .D → SProp 𝓤) (gives : E .S .D → ℕ → J .form .D → E .S .D → Type 0) (Asks : List (E .S .D) → J .form .D → Type 0) (Says : List (E .S .D) → J .form .D → List (E .S .D) → Type 0)
+      (steps : (e : E .S .D) (i : ℕ) (w : J .form .D) (r : E .S .D) → gives e i w r → r ≡ stepE e i w)
       (fits : (run : List (E .S .D)) (w : J .form .D) → Asks run w → (first w ≤ end w) × (end w ≤ length run))
-      (ok : (run : List (E .S .D)) (w : J .form .D) → Asks run w → (n : ℕ) → first w + n < end w → ent 𝓤 (emp 𝓤) (asks (getD (After stepE none run w n) (first w + n) none) w))
+      (ok : (run : List (E .S .D)) (w : J .form .D) → Asks run w → (n : ℕ) → first w + n < end w → ent 𝓤 (emp 𝓤) (asks (getD (After stepE none run w n) (first w + n) none) (first w + n) w))
       (then : (run : List (E .S .D)) (w : J .form .D) → Asks run w → Says run w (After stepE none run w (end w - first w)))
       (small : T (ltb size (2 ^ 64)))
       (γ : Env) (f g : Name) (r : Routine) where

@@ -1,21 +1,25 @@
 -- A setting afresh fixes the clock, the links and the entries by the settings alone, and closes a walk; from there on, isolation needs no more.
 use mathlib.Core.Path.{_≡_, refl, sym, ap, subst, _∙_}
 use mathlib.Core.Bool.{true, false≢true}
-use mathlib.Core.List.{List, [], _∷_, map}
-use Prim.Native.Nat.{ℕ}
+use mathlib.Core.List.{List, [], _∷_}
+use Prim.Native.Nat.{ℕ, zero, suc}
 use native.Mathlib.Omega.{arith}
 use borrow.Author.Tests.{le-ltb}
-use lib.ListN.{length, take, replicate}
+use lib.ListN.{length, take}
 use Rattle.answer.specs.declared.Answer.the-variants.{Done}
 use Rattle.clock.specs.Clock.{freshClock}
 use Rattle.table.specs.declared.Entry.{Entry}
 use Rattle.table.specs.declared.run.Change.the-variants.{Fresh}
-use Rattle.table.specs.Entry.{freshEntry}
+use Rattle.table.specs.declared.marks.Marks.{Marks}
+use Rattle.table.specs.Forms.{mapFrom}
+use Rattle.table.specs.Marks.{mark}
+use Rattle.table.specs.Entry.{freshEntry, withMark}
 use Rattle.table.specs.Runs.{changed}
 use Rattle.host.specs.declared.Settings.{Settings}
 use Rattle.host.specs.declared.guard.Scope.the-variants.{Places}
 use Rattle.host.specs.State.{hostCount, freshLinks, entries}
 use Rattle.host.specs.Walk.{noWalk}
+use Rattle.host.specs.Effect.{each}
 use Rattle.host.specs.Lent.{entriesOf}
 use Rattle.host.specs.Guard.{noPlaces, guard, done}
 use Rattle.host.proofs.Places.{entries-length}
@@ -37,9 +41,14 @@ afresh-too : {c d : Call} → SameInput c d → c ≡ ask Initialize → d ≡ a
 afresh-too same e = e
 afresh-too (same-send n) e = absurd (let z : _≡_ {A = ℕ} 0 1 = cc in omega arith)
 
-all-fresh : (es : List Entry) → map (changed Fresh) es ≡ replicate (length es) freshEntry
-all-fresh [] = refl
-all-fresh (e ∷ es) = ap (λ l. freshEntry ∷ l) (all-fresh es)
+-- the fresh entries of so many ids, from n on
+abbrev pub freshFrom : Marks → (n count : ℕ) → List Entry
+freshFrom m n zero = []
+freshFrom m n (suc k) = withMark (mark m n) freshEntry ∷ freshFrom m (suc n) k
+
+all-fresh : (m : Marks) (n : ℕ) (es : List Entry) → mapFrom n (changed m Fresh) es ≡ freshFrom m n (length es)
+all-fresh m n [] = refl
+all-fresh m n (e ∷ es) = ap (λ l. withMark (mark m n) freshEntry ∷ l) (all-fresh m (suc n) es)
 
 -- ---- a setting afresh
 
@@ -76,7 +85,7 @@ module _ (k : ℕ) where
     pub clock-is : x .clock ≡ freshClock (s .time) (s .date)
     pub links-is : x .links ≡ freshLinks s
     pub walk-is : x .walk ≡ noWalk
-    pub entries-is : take (hostCount s) (x .places) ≡ replicate (hostCount s) freshEntry
+    pub entries-is : take (hostCount s) (x .places) ≡ freshFrom (s .marks) 0 (hostCount s)
 
   begun : (was : Left) (e : Event) → numberOf e ≡ k → Begins e → Begun (settingsOf e) (leftFrom k was e)
   unfolding initialize
@@ -88,10 +97,10 @@ module _ (k : ℕ) where
         entries-is =
             first-left k was e here (le-ltb _ _ (rw here at held))
             ∙ ap (λ o. entries (settingsOf e) (numberOf e) (o .run)) (outcome-is e b)
-            ∙ written-back (e .lent) _ held (changes-length record { first = 0; end = hostCount (settingsOf e); change = Fresh } (entriesOf (e .lent)))
-            ∙ changes-each (hostCount (settingsOf e)) Fresh (entriesOf (e .lent)) (omega (arith, count))
-            ∙ all-fresh (entriesOf (e .lent))
-            ∙ ap (λ n. replicate n freshEntry) count;
+            ∙ written-back (e .lent) _ held (changes-length (each (settingsOf e) Fresh) (entriesOf (e .lent)))
+            ∙ changes-each (hostCount (settingsOf e)) Fresh (settingsOf e .marks) (entriesOf (e .lent)) (omega (arith, count))
+            ∙ all-fresh (settingsOf e .marks) 0 (entriesOf (e .lent))
+            ∙ ap (freshFrom (settingsOf e .marks) 0) count;
       }
     where
       held : Holds (numberOf e) (e .lent .run)

@@ -1,13 +1,14 @@
 -- Each call leaves a clock, links and entries in range: fresh ones are, and each rule keeps them so. Each but a step leaves a walk in range, too.
 use mathlib.Core.Path.{_≡_, refl, sym, ap, _∙_}
 use mathlib.Core.Bool.{Bool, true, false, false≢true, cond, not, _&&_, _||_}
-use mathlib.Core.List.{List, map}
-use Prim.Native.Nat.{ℕ, _-_, _≤_, _<_, _^_}
+use mathlib.Core.List.{List}
+use Prim.Native.Nat.{ℕ, _+_, _-_, _≤_, _<_, _^_}
+use native.Mathlib.Nat.{zero-add}
 use native.Mathlib.Omega.{arith}
-use borrow.Author.Tests.{le-leb}
-use lib.Dec.{ltb}
+use borrow.Author.Tests.{le-leb, eq-eqb}
+use lib.Dec.{ltb, eqb}
 use lib.IntN.{pos}
-use lib.ListN.{length, take}
+use lib.ListN.{length, getD, take}
 use Rattle.lists.proofs.Tests.{either, both, neither, is-not, is-so}
 use Rattle.quantity.specs.Quantity.{millis, lessMillis}
 use Rattle.quantity.specs.Words.{ofWord}
@@ -26,14 +27,16 @@ use Rattle.wire.specs.Packet.{helloOf, packetLength}
 use Rattle.route.specs.declared.Found.{Found}
 use Rattle.route.specs.declared.Found.the-variants.{Id, Nothing}
 use Rattle.table.specs.declared.Entry.{Entry}
+use Rattle.table.specs.declared.marks.Marks.{Marks}
 use Rattle.table.specs.declared.run.Change.the-variants.{Fresh}
 use Rattle.table.specs.declared.run.Changes.{Changes}
 use Rattle.table.specs.Forms.{every}
-use Rattle.table.specs.Entry.{maxDelay, minDelay, freshEntry, takenDown, upTo, entryInRange}
-use Rattle.table.specs.Update.{dateTaken, lineD}
-use Rattle.table.specs.Runs.{changed, changes, updatedAt, updates}
+use Rattle.table.specs.Marks.{mark}
+use Rattle.table.specs.Entry.{maxDelay, minDelay, freshEntry, asMarked, takenDown, aged, upTo, entryInRange}
+use Rattle.table.specs.Update.{dateTaken, lineD, reportedHere}
+use Rattle.table.specs.Runs.{changed, changes, updateAt, updatedAt}
 use Rattle.table.proofs.Cases.{stored}
-use Rattle.table.proofs.Kept.{aged-in-range, self-in-range, date-in-range}
+use Rattle.table.proofs.Kept.{aged-in-range, reported-in-range, update-mark, aged-mark, reported-mark, date-in-range}
 use Rattle.table.proofs.Kept as kept
 use Rattle.table.proofs.Ranges.{within, range-says, in-range, reading-in}
 use Rattle.host.specs.declared.Settings.{Settings}
@@ -41,11 +44,12 @@ use Rattle.host.specs.declared.Link.{Link}
 use Rattle.host.specs.declared.Links.{Links}
 use Rattle.host.specs.declared.walk.Walk.{Walk}
 use Rattle.host.specs.declared.guard.Scope.the-variants.{Places, Opening, Walking}
-use Rattle.host.specs.Settings.{linkCount, settingsGood, ownId}
+use Rattle.host.specs.Settings.{linkCount, settingsGood}
 use Rattle.host.specs.State.{hostCount, freshLinks, linkOf, withLink, linkInRange, noLink, withEntries}
 use Rattle.host.specs.Walk.{isOpen, noWalk, placeOf, walkInRange}
 use Rattle.host.specs.declared.Effect.{Effect}
-use Rattle.host.specs.Lent.{Lent, lent, entriesOf, ourReading, lentInRange, hostInRange, ownWalkInRange}
+use Rattle.host.specs.Effect.{nothing, each}
+use Rattle.host.specs.Lent.{Lent, lent, entriesOf, ourReading, lentInRange, hostInRange, ownWalkInRange, marksAsSet}
 use Rattle.host.specs.Guard.{noPlaces, longest, guard, done}
 use Rattle.host.proofs.Places.{entries-length}
 use Rattle.host.proofs.Guarded.{Counted, counted, Passed, passed, holds}
@@ -64,18 +68,18 @@ use Rattle.walk.specs.Opening.{openedOn, copied}
 use Rattle.walk.specs.Boxes.{atHand, step}
 use Rattle.calls.specs.declared.Request.{Request}
 use Rattle.calls.specs.declared.Request.the-variants.{Initialize, Tick, Adjust, Set, Read, Second, SelfReport, Lookup, Step}
-use Rattle.calls.specs.Effects.{initialize, tick, adjust, setBy, read, second, selfReport, lookup, ownWork, wanted, effect}
+use Rattle.calls.specs.Effects.{initialize, tick, adjust, setBy, read, second, selfReport, lookup, wanted, effect}
 use Rattle.calls.specs.Perform.{Call, ask, send, deliver, openWalk, scopeOfCall, entryAt, carriedOut, sentBy, updatedBy, openedBy, work, perform, left}
 use Rattle.network.specs.Refusals.{closed}
 use Rattle.network.specs.Range.{Accepted, countBy, countOf, Walked, begins, goes-on, Range}
 use Rattle.network.proofs.Performs.{guardOf, performs}
 use Rattle.network.proofs.Arrivals.{Flown, storing, readBy, delivery-ways}
-use Rattle.network.proofs.Lists.{all-at, all-made, every-all, all-every}
+use Rattle.network.proofs.Lists.{all-at, all-any, all-both, all-counted, all-weaken, every-all, all-every, each-all, all-each}
 use Rattle.network.proofs.Lists as lists
 use Rattle.network.proofs.Swept.{changes-length, changes-keep, changes-each, updates-length, updates-keep, updates-clock}
 use Rattle.network.proofs.Ranges.{link-in, withLink-in, sent-in, fresh-links-in, neighbor-sane, report-sane, entry-in, clock-in}
 use Rattle.network.proofs.Written.{written-kept, written-back}
-use Rattle.network.proofs.Walking.{Timed, as-was, set-by, Touched, as-were, stored-in, Makes, stays, down, stores, Works, no-work, puts, step-ways}
+use Rattle.network.proofs.Walking.{Timed, as-was, set-by, Touched, as-were, stored-in, Makes, stays, down, stores, makes-mark, Works, no-work, puts, step-ways}
 use Rattle.network.proofs.Demand1.Walked.{Fine, step-fine}
 use Rattle.network.proofs.Openings.{opening-ways, packet-short, nothing-copied, copied-back, copied-length}
 
@@ -87,15 +91,17 @@ pub record InRange (x : Lent) : Type 0 where
   pub links-in : every linkInRange (take (linkCount (x .host .settings)) (x .host .links .all)) ≡ true
   pub walk-in : ownWalkInRange x ≡ true
   pub entries-in : every entryInRange (entriesOf x) ≡ true
+  pub marks-in : marksAsSet x ≡ true
 
 module _ (x : Lent) where
   pub parts : noPlaces (x .number) (x .run) ≡ false → lentInRange x ≡ true → InRange x
   unfolding lentInRange
   parts p e =
-      let three = both (hostInRange (x .host) && ownWalkInRange x) (every entryInRange (entriesOf x)) e in
+      let four = both (hostInRange (x .host) && ownWalkInRange x && every entryInRange (entriesOf x)) (marksAsSet x) e in
+      let three = both (hostInRange (x .host) && ownWalkInRange x) (every entryInRange (entriesOf x)) (four .0) in
       let two = both (hostInRange (x .host)) (ownWalkInRange x) (three .0) in
       let one = both (clockInRange (x .host .clock)) _ (two .0) in
-      record { places-there = p; clock-in = one .0; links-in = one .1; walk-in = two .1; entries-in = three .1 }
+      record { places-there = p; clock-in = one .0; links-in = one .1; walk-in = two .1; entries-in = three .1; marks-in = four .1 }
 
   accepted : Accepted x → InRange x
   unfolding guard
@@ -108,7 +114,7 @@ module _ (x : Lent) where
 
   accepts : InRange x → Accepted x
   unfolding guard lentInRange
-  accepts r e = other (isOpen (x .walk)) (settingsGood (x .host .settings)) (rw (r .places-there, r .clock-in, r .links-in, r .walk-in, r .entries-in) at e)
+  accepts r e = other (isOpen (x .walk)) (settingsGood (x .host .settings)) (rw (r .places-there, r .clock-in, r .links-in, r .walk-in, r .entries-in, r .marks-in) at e)
     where
       other : (v b : Bool) → cond v InWalk (cond (not b) Setting Done) ≡ OutOfRange → ⊥
       other true b h = omega (arith, ap number h)
@@ -122,17 +128,29 @@ no-walk-in s copy = refl
 
 -- ---- the calls
 
--- what each change asks to keep an entry in range
-abbrev Keeps : Changes → Type 0
-Keeps w = (id : ℕ) (e : Entry) → w .first ≤ id → id < w .end → entryInRange e ≡ true → entryInRange (changed (w .change) e) ≡ true
+-- an entry in range, with the mark of its id
+abbrev Fit : Marks → ℕ → Entry → Type 0
+Fit m id e = (entryInRange e ≡ true) × (asMarked m id e ≡ true)
+
+same-mark : (m : Marks) (id : ℕ) (e y : Entry) → y .here ≡ e .here → asMarked m id e ≡ true → asMarked m id y ≡ true
+same-mark m id e y same is = ap (λ (n : ℕ). eqb n (mark m id)) same ∙ is
 
 module _ (x : Lent) where
+  abbrev m : Marks
+  m = x .host .settings .marks
+
+  -- what each change asks to keep an entry so
+  abbrev Keeps : Changes → Type 0
+  Keeps w =
+      (id : ℕ) (e : Entry) → w .first ≤ id → id < w .end → e ≡ getD (entriesOf x) id freshEntry → Fit m id e
+      → Fit m id (changed (w .marks) (w .change) (id - w .first) e)
+
   abbrev linksIn : Links → Type 0
   linksIn l = every linkInRange (take (linkCount (x .host .settings)) (l .all)) ≡ true
 
   -- entries that are in range, written to the host's first places
   written : (c : Clock) (l : Links) (w : Walk) (es : List Entry) → noPlaces (x .number) (x .run) ≡ false → clockInRange c ≡ true → linksIn l
-      → walkInRange (x .host .settings) w (x .copy) ≡ true → length es ≡ length (entriesOf x) → every entryInRange es ≡ true
+      → walkInRange (x .host .settings) w (x .copy) ≡ true → length es ≡ length (entriesOf x) → lists.All (Fit m) es
       → InRange (lent (x .host .settings) (x .number) c l w (x .copy) (withEntries (x .number) es (x .run)))
   unfolding noPlaces
   written c l w es p clock links walk n range =
@@ -142,8 +160,17 @@ module _ (x : Lent) where
         clock-in = clock;
         links-in = links;
         walk-in = walk;
-        entries-in = rw (written-back x es h n) range;
+        entries-in =
+            rw (written-back x es h n)
+            (all-every entryInRange es (all-weaken (Fit m) (λ _ e. entryInRange e ≡ true) (λ _ _ f. f .0) es range));
+        marks-in =
+            rw (written-back x es h n)
+            (all-each (asMarked m) es (all-weaken (Fit m) (λ id e. asMarked m id e ≡ true) (λ _ _ f. f .1) es range));
       }
+
+  fresh-fit : (id : ℕ) → Fit m id (changed m Fresh (0 + id) freshEntry)
+  unfolding entryInRange freshEntry
+  fresh-fit id = (refl, rw (zero-add id) (eq-eqb (mark m id) (mark m id) refl))
 
   -- setting afresh
   begun : done (guard Places x) ≡ true → InRange (left x (work (ask Initialize) x))
@@ -156,13 +183,15 @@ module _ (x : Lent) where
       written _ (freshLinks (x .host .settings)) noWalk _ (p .places)
       (fresh-in-range (x .host .settings .time) (x .host .settings .date) (is-not _ (time .0)) (time .1) (good .date)) (fresh-links-in (x .host .settings))
       (no-walk-in (x .host .settings) (x .copy))
-      (changes-length record { first = 0; end = hostCount (x .host .settings); change = Fresh } (entriesOf x))
-      (rw (changes-each (hostCount (x .host .settings)) Fresh (entriesOf x) (omega (arith, entries-length (x .host .settings) (x .number) (x .run) h)))
-      (all-every entryInRange (map (changed Fresh) (entriesOf x)) (all-made (λ _ e. entryInRange e ≡ true) (changed Fresh) (λ _ _. kept.fresh-in-range) (entriesOf x))))
+      (changes-length (each (x .host .settings) Fresh) (entriesOf x))
+      (rw (changes-each (hostCount (x .host .settings)) Fresh m (entriesOf x) (omega (arith, entries-length (x .host .settings) (x .number) (x .run) h)))
+      (all-counted (λ _ _. Unit {0}) (Fit m) 0 (changed m Fresh) (entriesOf x) (λ id e _ _. fresh-fit id) (all-any (λ _ _. Unit {0}) (λ _ _. tt) (entriesOf x))))
 
   module _ (r : InRange x) where
-    all-in : lists.All (λ _ e. entryInRange e ≡ true) (entriesOf x)
-    all-in = every-all entryInRange (entriesOf x) (r .entries-in)
+    all-in : lists.All (Fit m) (entriesOf x)
+    all-in =
+        all-both (λ _ e. entryInRange e ≡ true) (λ id e. asMarked m id e ≡ true) (entriesOf x) (every-all entryInRange (entriesOf x) (r .entries-in))
+        (each-all (asMarked m) (entriesOf x) (r .marks-in))
 
     -- ---- requests
 
@@ -171,7 +200,7 @@ module _ (x : Lent) where
         → InRange (lent (x .host .settings) (x .number) c l w (x .copy) (withEntries (x .number) (changes now (entriesOf x)) (x .run)))
     carried-with c l w now clock links walk keeps =
         written c l w (changes now (entriesOf x)) (r .places-there) clock links walk (changes-length now (entriesOf x))
-        (all-every entryInRange (changes now (entriesOf x)) (changes-keep now (entriesOf x) (λ _ e. entryInRange e ≡ true) keeps all-in))
+        (changes-keep now (entriesOf x) (Fit m) keeps all-in)
 
     -- one that keeps the walk
     carried : (e : Effect) → clockInRange (e .clock) ≡ true → linksIn (e .links) → e .walk ≡ x .walk → Keeps (e .work) → InRange (left x (carriedOut e x))
@@ -185,12 +214,8 @@ module _ (x : Lent) where
     time-in k = reading-in (x .host .settings .«clock_tick») (x .host .settings .«hold_interval») k (x .host .clock)
 
     -- the entries stay
-    none : Keeps record { first = 0; end = 0; change = Fresh }
-    none id e low high h = absurd (omega arith)
-
-    own : (k : Counter) (f : Found) → Keeps (ownWork (ourReading k (x .host) .time) f)
-    own k Nothing = none
-    own k (Id i) = λ id e low high h. self-in-range (ourReading k (x .host) .time) (time-in k) e h
+    none : Keeps nothing
+    none id e low high is h = absurd (omega arith)
 
     abbrev does : Request → Effect
     does q = effect q (x .host) (x .walk) (x .copy) (entryAt (wanted q (x .host .settings) (x .walk)) x)
@@ -205,8 +230,11 @@ module _ (x : Lent) where
     asked (Set ms n) not few good e =
         carried (does (Set ms n)) (set-in-range (x .host .settings .«hold_interval») (good .hold-to) (x .host .clock) (r .clock-in) n few (millis ms)) (r .links-in) refl none
     asked (Read k) not few good e = carried (does (Read k)) (read-in good k few) (r .links-in) refl none
-    asked Second not few good e = carried (does Second) (second-in-range (x .host .clock) (r .clock-in)) (r .links-in) refl (λ id e low high h. aged-in-range e h)
-    asked (SelfReport k) not few good e = carried (does (SelfReport k)) (read-in good k few) (r .links-in) refl (own k (ownId (x .host .settings)))
+    asked Second not few good e = carried (does Second) (second-in-range (x .host .clock) (r .clock-in)) (r .links-in) refl (λ id e low high is h. (aged-in-range e (h .0), same-mark m id e (aged e) (aged-mark e) (h .1)))
+    asked (SelfReport k) not few good e = carried (does (SelfReport k)) (read-in good k few) (r .links-in) refl
+        (λ id e low high is h.
+        let t = ourReading k (x .host) .time in
+        (reported-in-range t (time-in k) e (h .0), same-mark m id e (reportedHere t e) (reported-mark t e) (h .1)))
     asked (Lookup a) not few good e = carried (does (Lookup a)) (r .clock-in) (r .links-in) refl none
     asked (Step k) not few good e = absurd (not k refl)
 
@@ -224,6 +252,7 @@ module _ (x : Lent) where
           links-in = sent-in (x .host .settings) (x .host .links) i has (r .links-in);
           walk-in = r .walk-in;
           entries-in = r .entries-in;
+          marks-in = r .marks-in;
         })
 
     -- ---- a packet that arrives
@@ -237,8 +266,11 @@ module _ (x : Lent) where
           written _ (a .links) (x .walk) _ (r .places-there)
           (updates-clock (a .work) octets (entriesOf x) (λ c. clockInRange c ≡ true) (λ id c e h. clock-in (a .work) octets id c e hold few h) clock)
           links (r .walk-in) (updates-length (a .work) octets (entriesOf x))
-          (all-every entryInRange (updates (a .work) octets (entriesOf x) .entries)
-          (updates-keep (a .work) octets (entriesOf x) (λ _ e. entryInRange e ≡ true) (λ id c e low high _ h. ranges id c e low high h) all-in))
+          (updates-keep (a .work) octets (entriesOf x) (Fit m)
+          (λ id c e low high _ h. (
+            ranges id c e low high (h .0),
+            same-mark m id e (updatedAt (a .work) octets id c e .entry) (update-mark _ _ _ _ (updateAt (a .work) (id - a .work .base) octets) c e) (h .1),
+          )) all-in)
 
       module _ (d : Delivery) (has : Counted (x .host .settings) (onLink d)) (good : Sound (x .host .settings)) (few : countBy d .0 < 2 ^ 16) where
         abbrev i : ℕ
@@ -299,7 +331,7 @@ module _ (x : Lent) where
         s = x .host .settings
 
         behind : (w : Walk) (copy : List ℕ) → walkInRange s w copy ≡ true → InRange (lent s (x .number) (x .host .clock) (x .host .links) w copy (x .run))
-        behind w copy e = record { places-there = r .places-there; clock-in = r .clock-in; links-in = r .links-in; walk-in = e; entries-in = r .entries-in }
+        behind w copy e = record { places-there = r .places-there; clock-in = r .clock-in; links-in = r .links-in; walk-in = e; entries-in = r .entries-in; marks-in = r .marks-in }
 
         first : (p : Packet) → inspect s i packet ≡ Good p → length packet ≤ longest → walkInRange s (openedOn i (length packet)) (copied (length packet) packet (x .copy)) ≡ true
         first p is short =
@@ -333,7 +365,7 @@ module _ (x : Lent) where
       touched-in l as-were = r .links-in
       touched-in l (stored-in z has keeps) = linked-in z has keeps
 
-      module _ (e : Entry) (e-in : entryInRange e ≡ true) where
+      module _ (e : Entry) (e-is : e ≡ entryAt (atHand w) x) (e-in : entryInRange e ≡ true) where
         makes-in : (y : Entry) → Makes w e y → entryInRange y ≡ true
         makes-in y stays = e-in
         makes-in y down =
@@ -343,11 +375,14 @@ module _ (x : Lent) where
             let b = both (not (lessMillis (u .delay) minDelay)) _ fits in
             let low = lt-no (u .delay .0) (minDelay .0) (is-not _ (b .0)) in
             let high = lt-yes (u .delay .0) (maxDelay .0) (b .1) in
-            in-range (stored u) record { delay = omega arith; ttl = omega arith; pid = omega (arith, pid, most); time = within 86400000 (u .reading .0) (rw reading read) }
+            in-range (stored u e) record { delay = omega arith; ttl = omega arith; pid = omega (arith, pid, most); time = within 86400000 (u .reading .0) (rw reading read) }
 
         works-in : (work : Changes) → Works w e work → Keeps work
         works-in work no-work = none
-        works-in work (puts y m) = λ id z low high h. makes-in y m
+        works-in work (puts y made here) = λ id z low high is h.
+            let same : w .id ≡ id = omega arith in
+            let at : e ≡ z = e-is ∙ ap (λ (f : Found). entryAt f x) here ∙ ap (λ (i : ℕ). getD (entriesOf x) i freshEntry) same ∙ sym is in
+            (makes-in y made, same-mark m id z y (makes-mark w e y made ∙ ap (λ (z : Entry). z .here) at) (h .1))
 
         stepped : InRange (closed (left x (carriedOut (step k (x .host) w (x .copy) e) x)))
         stepped =
@@ -363,7 +398,8 @@ module _ (x : Lent) where
 
     found-in : (f : Found) → entryInRange (entryAt f x) ≡ true
     found-in Nothing = kept.fresh-in-range
-    found-in (Id id) = all-at (λ _ e. entryInRange e ≡ true) freshEntry (λ _. kept.fresh-in-range) (entriesOf x) all-in id
+    found-in (Id id) =
+        all-at (λ _ e. entryInRange e ≡ true) freshEntry (λ _. kept.fresh-in-range) (entriesOf x) (every-all entryInRange (entriesOf x) (r .entries-in)) id
 
     -- ---- every call
 
@@ -395,8 +431,9 @@ module _ (x : Lent) where
         links-in = r .links-in;
         walk-in = no-walk-in (x .host .settings) (x .copy);
         entries-in = r .entries-in;
+        marks-in = r .marks-in;
       })
-      (λ e. stepped r k few held (sound (x .host .settings) (passed Walking x e .settings)) (entryAt (atHand (x .walk)) x) (found-in r (atHand (x .walk))))
+      (λ e. stepped r k few held (sound (x .host .settings) (passed Walking x e .settings)) (entryAt (atHand (x .walk)) x) refl (found-in r (atHand (x .walk))))
 
 -- ---- a walk that was opened
 
@@ -418,16 +455,16 @@ module _ (x : Lent) where
       performs (ask (Step k)) x (λ o. Whole (left x o))
       (λ _.
       record {
-        range = record { places-there = h .range .places-there; clock-in = h .range .clock-in; links-in = h .range .links-in; walk-in = h .range .walk-in; entries-in = h .range .entries-in };
+        range = record { places-there = h .range .places-there; clock-in = h .range .clock-in; links-in = h .range .links-in; walk-in = h .range .walk-in; entries-in = h .range .entries-in; marks-in = h .range .marks-in };
         good = h .good;
         fine = record { in-range = h .fine .in-range; few = h .fine .few; fine = h .fine .fine };
       })
       (λ e.
       let entry = entryAt (atHand (x .walk)) x in
-      let now = stepped x (h .range) k few (h .fine .few) (sound (x .host .settings) (h .good)) entry (found-in x (h .range) (atHand (x .walk))) in
+      let now = stepped x (h .range) k few (h .fine .few) (sound (x .host .settings) (h .good)) entry refl (found-in x (h .range) (atHand (x .walk))) in
       let walk = step-fine (x .host .settings) (h .good) (x .copy) k (x .host) refl (x .walk) entry few (h .fine) in
       record {
-        range = record { places-there = now .places-there; clock-in = now .clock-in; links-in = now .links-in; walk-in = walk .in-range; entries-in = now .entries-in };
+        range = record { places-there = now .places-there; clock-in = now .clock-in; links-in = now .links-in; walk-in = walk .in-range; entries-in = now .entries-in; marks-in = now .marks-in };
         good = h .good;
         fine = walk;
       })

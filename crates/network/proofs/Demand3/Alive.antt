@@ -1,8 +1,10 @@
 -- The history of specs/Example.antt, by computing.
 use mathlib.Core.Path.{_≡_, refl, ap}
+use mathlib.Core.Bool.{cond}
 use mathlib.Core.List.{List·Memᴰ·head}
 use Prim.Native.Nat.{ℕ, _*_}
 use native.Mathlib.Omega.{arith}
+use lib.Dec.{eqb}
 use lib.IntN.{ℤ, pos, _-ℤ_}
 use Rattle.quantity.specs.Quantity.{millis, toUnits}
 use Rattle.quantity.specs.Words.{word}
@@ -12,16 +14,24 @@ use Rattle.network.specs.History.{after}
 use Rattle.network.specs.Room.{longestWay, afresh, Proper}
 use Rattle.network.specs.Demand3.{Message, result, step, history, Allows, Starts}
 use Rattle.network.specs.TwoSeats.{Pair}
-use Rattle.network.specs.Example.{near, w₀, x₁, w₁, x₂, w₂, x₃, w₃, x₄, w₄, x₅, w₅, x₆, story, learnt, Example}
+use Rattle.table.specs.Marks.{onlyMark}
+use Rattle.network.specs.Example.{oneAndTwo, near, w₀, x₁, w₁, x₂, w₂, x₃, w₃, x₄, w₄, x₅, w₅, x₆, story, learnt, Example}
 use Rattle.network.proofs.Opened.{opened}
-use Rattle.network.proofs.Demand3.TwoSeats.{below-2, pair-proper, starts, as-left, reads, delivered}
+use Rattle.network.proofs.Demand3.TwoSeats.{below-2, apart, pair-proper, starts, as-left, reads, delivered}
 
 abbrev p : Pair
-p = record { tick = toUnits (millis (pos 65536)); start = λ a. 65500 * a; longest = longestWay }
+p =
+    record {
+      tick = toUnits (millis (pos 65536));
+      start = λ a. 65500 * a;
+      longest = longestWay;
+      hosts = 3;
+      marks = λ a. cond (eqb a 0) (onlyMark 0) oneAndTwo;
+    }
 
-entry-is : (learnt .delay .0 ≡ pos 101) × (learnt .offset .0 ≡ pos 449)
+entry-is : (learnt 1 .delay .0 ≡ pos 101) × (learnt 1 .offset .0 ≡ pos 449) × (learnt 2 .delay .0 ≡ pos 101) × (learnt 2 .offset .0 ≡ pos 449)
 unfolding opened after step history w₀ x₁ w₁ x₂ w₂ x₃ w₃ x₄ w₄ x₅ w₅ x₆
-entry-is = (refl, refl)
+entry-is = (refl, refl, refl, refl)
 
 -- what was sent
 abbrev first : Message
@@ -54,7 +64,7 @@ allowed = (
 
 proper : Proper near
 unfolding opened
-proper = pair-proper p (below-2 (λ (a : ℕ). afresh near a .reply .answer ≡ Answer.Done) refl refl)
+proper = pair-proper p (apart (onlyMark 0) oneAndTwo refl refl) (below-2 (λ (a : ℕ). afresh near a .reply .answer ≡ Answer.Done) refl refl)
 
 start : Starts near w₀
 unfolding w₀
@@ -69,6 +79,8 @@ alive =
       allowed = allowed;
       delay = ap millis (entry-is .0);
       offset = ap word (entry-is .1);
+      other-delay = ap millis (entry-is .2);
+      other-offset = ap word (entry-is .3);
       error = ap (λ (z : ℤ). z -ℤ (near .fixed 1 -ℤ near .fixed 0)) (entry-is .1);
       more-than-half = omega arith;
     }

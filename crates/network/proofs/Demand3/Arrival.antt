@@ -66,7 +66,7 @@ use Rattle.network.proofs.Demand3.Invariant.{Known, RightEntry, RightRe
 use Rattle.network.proofs.Demand3.Measured.{found-own}
 use Rattle.network.proofs.Demand3.Measured as measured
 use Rattle.network.proofs.Demand3.Outcomes.{RightOutcome, RightLent, same-right, updated-right}
-use Rattle.network.proofs.Demand3.Seats.{down-right}
+use Rattle.network.proofs.Demand3.Seats.{down-right, own-host}
 use Rattle.network.proofs.Demand3.Sending.{link-from-1}
 
 -- ---- inspection: a refusal, or the fields of the octets in our layout
@@ -96,7 +96,7 @@ inspect-cases P s i octets bad good =
 module _ (r : Room) (proper : Proper r) (b a : ℕ) (hb : b < r .seats) (ha : a < r .seats) where
   -- an entry that an update may store
   entry-keeps : (id : ℕ) (w : Updates) (octets : List ℕ) (c : Clock) (e : Entry) → RightEntry r b id e
-      → (lessMillis (updateAt w (id - w .base) octets .delay) maxDelay ≡ true → RightEntry r b id (stored (updateAt w (id - w .base) octets)))
+      → (lessMillis (updateAt w (id - w .base) octets .delay) maxDelay ≡ true → RightEntry r b id (stored (updateAt w (id - w .base) octets) e))
       → RightEntry r b id (updatedAt w octets id c e .entry)
   entry-keeps id w octets c e right stores =
       update-keeps (RightEntry r b id) (eqb (id - w .base) (w .«clock_host»)) (w .«hold_interval») (w .count) (w .date) (updateAt w (id - w .base) octets) c e right
@@ -104,14 +104,14 @@ module _ (r : Room) (proper : Proper r) (b a : ℕ) (hb : b < r .seats) (ha : a 
 
   -- no table: the entry of a itself
   pub neighbor-right : (i id : ℕ) (f : Flight) → Direct r b a (f .delay) (f .offset) → HostAt r id a
-      → lessMillis (neighborUpdate i f .delay) maxDelay ≡ true → RightEntry r b id (stored (neighborUpdate i f))
-  neighbor-right i id f d host low =
+      → lessMillis (neighborUpdate i f .delay) maxDelay ≡ true → (e : Entry) → RightEntry r b id (stored (neighborUpdate i f) e)
+  neighbor-right i id f d host low e =
       record { fits = d .fits; known = λ _. record { seat = a; seat-in = ha; host-there = host; near = d .near low } }
 
   -- a table: a report that a passes on
   pub report-right : (i id : ℕ) (f : Flight) → Direct r b a (f .delay) (f .offset) → (q : Report) → RightReport r a id q
-      → lessMillis (reportUpdate i f q .delay) maxDelay ≡ true → RightEntry r b id (stored (reportUpdate i f q))
-  report-right i id f d q good low =
+      → lessMillis (reportUpdate i f q .delay) maxDelay ≡ true → (e : Entry) → RightEntry r b id (stored (reportUpdate i f q) e)
+  report-right i id f d q good low e =
       let w = wrap-range 16 (omega arith) (f .offset .0 +ℤ q .offset .0) in
       record { fits = record { high = w .0; low = w .1 }; known = λ _. passed-on }
     where
@@ -142,12 +142,13 @@ module _ (r : Room) (proper : Proper r) (b a : ℕ) (hb : b < r .seats) (ha : a 
     no-table-right : (x : Found) → foundFor (r .settings b) (r .settings a .address) ≡ x → Right (noTable h i n p f x)
     no-table-right Nothing e = updated-right r b c l walk copy run lent there (ends NoHost h) octets links (λ id d y low high inside right. absurd (omega arith))
     no-table-right (Id own) e =
-        let host : HostAt r own a = ap (λ (y : Layout). localId y (r .settings a .address)) (proper .one-layout a b ha hb) ∙ found-own (r .settings b .address) (r .settings a .address) (r .settings b) own (proper .one-net b a hb ha) e in
+        let is = ap (λ (y : Layout). localId y (r .settings a .address)) (proper .one-layout a b ha hb) ∙ found-own (r .settings b .address) (r .settings a .address) (r .settings b) own (proper .one-net b a hb ha) e in
+        let host : HostAt r own a = own-host r a proper ha own is in
         let w = updated h n p (neighborUpdate i f) own 1 false in
         updated-right r b c l walk copy run lent there w octets links
         (λ id d y low high inside right.
         let same : own ≡ id = omega arith in
-        entry-keeps id (w .work) octets d y right (neighbor-right i id f direct (rw same at host)))
+        entry-keeps id (w .work) octets d y right (λ low. neighbor-right i id f direct (rw same at host) low y))
 
     table-right : ((id : ℕ) → id < hostCount (r .settings b) → RightReport r a id (reportAt (helloOf octets) id)) → Right (withTable h i n p f)
     table-right good =
@@ -157,7 +158,7 @@ module _ (r : Room) (proper : Proper r) (b a : ℕ) (hb : b < r .seats) (ha : a 
         let same : id - 0 ≡ id = omega arith in
         let bound : id < hostCount (r .settings b) = omega (arith, entries-length (r .settings b) (r .number b) run there) in
         entry-keeps id (w .work) octets d y right
-        (rw same (report-right i id f direct (reportAt (helloOf octets) id) (good id bound))))
+        (λ low. rw same (report-right i id f direct (reportAt (helloOf octets) id) (good id bound) (rw same at low) y)))
 
     step5-right : f .link .neighbor ≡ r .settings a .address
         → (eqb (p .nhosts) 0 ≡ false → (id : ℕ) → id < hostCount (r .settings b) → RightReport r a id (reportAt (helloOf octets) id))

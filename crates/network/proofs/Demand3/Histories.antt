@@ -16,13 +16,11 @@ use Rattle.clock.specs.declared.Counter.{Counter}
 use Rattle.table.specs.declared.Entry.{Entry}
 use Rattle.table.specs.Entry.{freshEntry}
 use Rattle.host.specs.declared.Links.{Links}
-use Rattle.host.specs.declared.guard.Scope.the-variants.{Places, OnLink}
+use Rattle.host.specs.declared.guard.Scope.the-variants.{OnLink}
 use Rattle.host.specs.declared.walk.Walk.{Walk}
 use Rattle.host.specs.declared.walk.Place.the-variants.{Step1}
-use Rattle.host.specs.Settings.{settingsGood}
 use Rattle.host.specs.State.{hostCount}
 use Rattle.host.specs.Walk.{isOpen, noWalk, placeOf, packetOf}
-use Rattle.host.specs.Lent.{Lent}
 use Rattle.host.specs.Guard.{inWalk, done}
 use Rattle.host.proofs.Guarded.{passed}
 use Rattle.host.proofs.Sound.{Sound, sound}
@@ -33,7 +31,7 @@ use Rattle.calls.specs.declared.Request.{Request}
 use Rattle.calls.specs.declared.Request.the-variants as variants
 use Rattle.calls.specs.declared.Request.the-variants.{Initialize, Tick, Second, SelfReport}
 use Rattle.calls.specs.Effects.{initialize}
-use Rattle.calls.specs.Perform.{ask, send, deliver, inspect, Outcome, scopeOfCall, perform}
+use Rattle.calls.specs.Perform.{ask, send, deliver, inspect, Outcome, scopeOfCall}
 use Rattle.network.specs.Left.{messageOf}
 use Rattle.network.specs.Frame.{Elsewhere}
 use Rattle.network.specs.History.{Left, leftBy, after}
@@ -44,7 +42,7 @@ use Rattle.network.proofs.Lists.{All, all-at}
 use Rattle.network.proofs.Demand3.Near.{near-close}
 use Rattle.network.proofs.Demand3.Invariant.{RightEntry, RightMessage, Taken, RightWalk, RightSeat, RightWorld}
 use Rattle.network.proofs.Demand3.Outcomes.{RightOutcome, RightLent, SeatLent, SeatLeft, same-right, updated-right, lent-right, left-right, any-walk, no-walk, plain-right}
-use Rattle.network.proofs.Demand3.Seats.{fresh-right, afresh-right, tick-right, second-right, self-right}
+use Rattle.network.proofs.Demand3.Seats.{fresh-right, afresh-right, tick-right, second-right, self-right, set-good}
 use Rattle.network.proofs.Demand3.Sending.{send-right}
 use Rattle.network.proofs.Demand3.Arrival.{act-right}
 use Rattle.network.proofs.Demand3.Walks.{open-right, step-right}
@@ -239,11 +237,6 @@ module _ (r : Room) (proper : Proper r) (ways : r .longest ≤ longestWay) where
 
   -- ---- the claim
 
-  set-good : (x : Lent) → perform (ask Initialize) x .reply .answer ≡ Done → settingsGood (x .host .settings) ≡ true
-  set-good x =
-      performs (ask Initialize) x (λ (o : Outcome). o .reply .answer ≡ Done → settingsGood (x .host .settings) ≡ true)
-      (λ d e. absurd (false≢true (sym d ∙ ap done e))) (λ d _. passed Places x d .settings)
-
   right-claim : (w : World) → RightWorld r w → Claim r w
   unfolding Claim
   right-claim w right b i hb hi up =
@@ -257,7 +250,7 @@ module _ (r : Room) (proper : Proper r) (ways : r .longest ≤ longestWay) where
       places a = w .state (r .number a) .places
 
       good : (a : ℕ) → a < r .seats → Sound (r .settings a)
-      good a inside = sound (r .settings a) (set-good (lentAt r a (r .clock a) (r .links a) (r .walk a) (r .copy a) (r .run a)) (proper .set-afresh a inside))
+      good a inside = sound (r .settings a) (set-good r a (proper .set-afresh a inside))
 
 pub demand-3 : Demand3
 unfolding Demand3Within

@@ -12,6 +12,7 @@ use Rattle.lists.proofs.Tests.{either, neither}
 use Rattle.answer.specs.declared.Answer.{Answer}
 use Rattle.clock.specs.declared.Clock.{Clock}
 use Rattle.table.specs.declared.Entry.{Entry}
+use Rattle.table.specs.Entry.{freshEntry}
 use Rattle.table.specs.Runs.{changed, updatedAt}
 use Rattle.host.specs.declared.Link.{Link}
 use Rattle.host.specs.declared.Links.{Links}
@@ -178,7 +179,8 @@ module _ (r : Room) (a : ℕ) where
 
   module _ (c : Clock) (l : Links) (walk : Walk) (copy : List ℕ) (run : List Entry) (lent : RightLent r a l run) (there : Holds (r .number a) run) where
     pub carried-right : (e : Effect) → RightLinks r a (e .links .all)
-        → ((id : ℕ) (y : Entry) → e .work .first ≤ id → id < e .work .end → RightEntry r a id y → RightEntry r a id (changed (e .work .change) y))
+        → ((id : ℕ) (y : Entry) → e .work .first ≤ id → id < e .work .end → y ≡ getD (entriesOf (x c l walk copy run there)) id freshEntry → RightEntry r a id y
+        → RightEntry r a id (changed (e .work .marks) (e .work .change) (id - e .work .first) y))
         → RightOutcome r a run (carriedOut e (x c l walk copy run there))
     carried-right e links keeps =
         written-right c l walk copy run there (e .links) _ links (changes-length (e .work) (entriesOf (x c l walk copy run there)))

@@ -1,9 +1,12 @@
--- Setting afresh, a tick, a second and a self-report keep a seat right: entries are fresh, are left, age, or are the seat's own.
+-- Setting afresh, a tick, a second and a self-report keep a seat right: entries are fresh, are left, age, or are of hosts that live at the seat.
 use mathlib.Core.Path.{_≡_, refl, sym, _∙_, ap}
-use mathlib.Core.Bool.{false≢true, true≢false}
+use mathlib.Core.Bool.{true, false≢true, true≢false}
 use mathlib.Core.List.{List}
-use Prim.Native.Nat.{ℕ, suc, _≤_, _<_}
+use Prim.Native.Nat.{ℕ, suc, _<_}
 use native.Mathlib.Omega.{arith}
+use borrow.Author.Tests.{eqb-true}
+use lib.Dec.{eqb}
+use lib.ListN.{length, getD}
 use Rattle.quantity.specs.declared.Millis.{Millis}
 use Rattle.quantity.specs.declared.Seconds.{Seconds}
 use Rattle.quantity.specs.Quantity.{fallSeconds}
@@ -11,28 +14,33 @@ use Rattle.answer.specs.declared.Answer.the-variants.{Done}
 use Rattle.quantity.specs.declared.Count.{Count}
 use Rattle.clock.specs.declared.Clock.{Clock}
 use Rattle.clock.specs.declared.Counter.{Counter}
-use Rattle.route.specs.declared.Found.{Found}
-use Rattle.route.specs.declared.Found.the-variants.{Id, Nothing}
+use Rattle.route.specs.declared.Found.the-variants.{Id}
 use Rattle.table.specs.declared.Entry.{Entry}
 use Rattle.table.specs.declared.run.Change.the-variants.{Fresh}
-use Rattle.table.specs.Entry.{freshEntry, takenDown, withTtl}
+use Rattle.table.specs.declared.marks.Marks.{Marks}
+use Rattle.table.specs.Marks.{mark}
+use Rattle.table.specs.Entry.{freshEntry, livesHere, withMark, asMarked, takenDown, withTtl}
 use Rattle.table.specs.Update.{ownUpdate}
 use Rattle.table.specs.Runs.{changed}
-use Rattle.table.proofs.Cases.{stored, self-keeps, aged-keeps}
+use Rattle.table.proofs.Cases.{stored, reported-keeps, aged-keeps}
 use Rattle.host.specs.declared.Links.{Links}
 use Rattle.host.specs.declared.walk.Walk.{Walk}
-use Rattle.host.specs.Settings.{ownId}
+use Rattle.host.specs.declared.guard.Scope.the-variants.{Places, All}
+use Rattle.host.specs.Settings.{ownId, foundMarked, settingsGood}
 use Rattle.host.specs.State.{freshLink, freshLinks, hostCount}
-use Rattle.host.specs.Lent.{Lent, entriesOf}
+use Rattle.host.specs.Lent.{Lent, entriesOf, marksAsSet}
+use Rattle.host.specs.Effect.{each}
 use Rattle.host.specs.Guard.{done}
 use Rattle.host.proofs.Places.{entries-length}
+use Rattle.host.proofs.Sound.{sound}
+use Rattle.host.proofs.Guarded.{passed, marks-lent}
 use Rattle.calls.specs.declared.Request.the-variants.{Initialize, Tick, Second, SelfReport}
-use Rattle.calls.specs.Effects.{initialize, tick, second, selfReport, ownWork}
+use Rattle.calls.specs.Effects.{initialize, tick, second, selfReport}
 use Rattle.calls.specs.Perform.{ask, Outcome, perform}
-use Rattle.network.specs.Room.{Room, lentAt, afresh}
+use Rattle.network.specs.Room.{Room, lentAt, afresh, HostAt, Proper}
 use Rattle.network.specs.Demand3.{readingAt}
-use Rattle.network.proofs.Lists.{all-made}
-use Rattle.network.proofs.Performs.{performs, there}
+use Rattle.network.proofs.Lists.{all-any, all-made, all-counted, all-there, each-all}
+use Rattle.network.proofs.Performs.{guardOf, performs, there}
 use Rattle.network.proofs.Swept.{changes-length, changes-each}
 use Rattle.network.proofs.Demand3.Invariant.{RightEntry, RightLink}
 use Rattle.network.proofs.Demand3.Outcomes.{RightOutcome, RightLent, same-right, written-right, carried-right}
@@ -44,16 +52,31 @@ module _ (r : Room) (a : ℕ) where
   unfolding freshEntry
   fresh-right i = record { fits = omega arith; known = λ t. absurd (false≢true t) }
 
+  marked-right : (i : ℕ) (e : Entry) (n : ℕ) → RightEntry r a i e → RightEntry r a i (withMark n e)
+  marked-right i e n right = record { fits = right .fits; known = right .known }
+
   pub down-right : (i : ℕ) (e : Entry) → RightEntry r a i e → RightEntry r a i (takenDown e)
   down-right i e right = record { fits = right .fits; known = λ t. absurd (false≢true t) }
 
   ttl-right : (i : ℕ) (e : Entry) (t : Seconds) → RightEntry r a i e → RightEntry r a i (withTtl t e)
   ttl-right i e t right = record { fits = right .fits; known = right .known }
 
-  -- the seat's own entry: no delay and no offset
-  own-right : a < r .seats → (i : ℕ) → ownId (r .settings a) ≡ Id i → (t : Millis) → RightEntry r a i (stored (ownUpdate t))
-  own-right inside i e t =
-      record { fits = omega arith; known = λ _. record { seat = a; seat-in = inside; host-there = e; near = omega arith } }
+  -- the entry of a host at the seat: no delay and no offset
+  own-right : a < r .seats → (i : ℕ) → HostAt r i a → (t : Millis) (e : Entry) → RightEntry r a i (stored (ownUpdate t) e)
+  own-right inside i here t e =
+      record { fits = omega arith; known = λ _. record { seat = a; seat-in = inside; host-there = here; near = omega arith } }
+
+  -- ---- hosts
+
+  pub set-good : afresh r a .reply .answer ≡ Done → settingsGood (r .settings a) ≡ true
+  set-good =
+      performs (ask Initialize) (lentAt r a (r .clock a) (r .links a) (r .walk a) (r .copy a) (r .run a)) (λ (o : Outcome). o .reply .answer ≡ Done → settingsGood (r .settings a) ≡ true)
+      (λ no is. absurd (false≢true (sym no ∙ ap done is))) (λ yes _. passed Places (lentAt r a (r .clock a) (r .links a) (r .walk a) (r .copy a) (r .run a)) yes .settings)
+
+  -- the host of a seat's own id is there
+  pub own-host : Proper r → a < r .seats → (i : ℕ) → ownId (r .settings a) ≡ Id i → HostAt r i a
+  own-host proper inside i is =
+      ap (foundMarked (r .settings a .marks)) (sym is) ∙ sound (r .settings a) (set-good (proper .set-afresh a inside)) .own-marked
 
   -- ---- the calls
 
@@ -66,9 +89,10 @@ module _ (r : Room) (a : ℕ) where
       let held = there (ask Initialize) x e in
       written-right r a (r .clock a) (r .links a) (r .walk a) (r .copy a) (r .run a) held (freshLinks (r .settings a)) _
       (all-made (λ (j : ℕ). RightLink r a (suc j)) freshLink (λ j y b i cable alive. absurd (true≢false alive)) (r .settings a .links))
-      (changes-length record { first = 0; end = hostCount (r .settings a); change = Fresh } (entriesOf x))
-      (rw (changes-each (hostCount (r .settings a)) Fresh (entriesOf x) (omega (arith, entries-length (r .settings a) (r .number a) (r .run a) held)))
-      (all-made (RightEntry r a) (changed Fresh) (λ i _. fresh-right i) (entriesOf x))))
+      (changes-length (each (r .settings a) Fresh) (entriesOf x))
+      (rw (changes-each (hostCount (r .settings a)) Fresh (r .settings a .marks) (entriesOf x) (omega (arith, entries-length (r .settings a) (r .number a) (r .run a) held)))
+      (all-counted (λ _ _. Unit {0}) (RightEntry r a) 0 (changed (r .settings a .marks) Fresh) (entriesOf x) (λ i _ _ _. marked-right i freshEntry _ (fresh-right i))
+      (all-any (λ _ _. Unit {0}) (λ _ _. tt) (entriesOf x)))))
     where
       x : Lent
       x = lentAt r a (r .clock a) (r .links a) (r .walk a) (r .copy a) (r .run a)
@@ -81,7 +105,7 @@ module _ (r : Room) (a : ℕ) where
     unfolding tick
     tick-right n =
         performs (ask (Tick n)) x (RightOutcome r a run) (λ _. same-right r a l run lent)
-        (λ e. carried-right r a c l walk copy run lent (there (ask (Tick n)) x e) (tick n (x .host) (x .walk)) (lent .links) (λ id y low high right. absurd (omega arith)))
+        (λ e. carried-right r a c l walk copy run lent (there (ask (Tick n)) x e) (tick n (x .host) (x .walk)) (lent .links) (λ id y low high is right. absurd (omega arith)))
 
     pub second-right : RightOutcome r a run (perform (ask Second) x)
     unfolding second
@@ -89,7 +113,7 @@ module _ (r : Room) (a : ℕ) where
         performs (ask Second) x (RightOutcome r a run) (λ _. same-right r a l run lent)
         (λ e.
         carried-right r a c l walk copy run lent (there (ask Second) x e) (second (x .host) (x .walk)) (lent .links)
-        (λ id y low high right.
+        (λ id y low high is right.
         aged-keeps (RightEntry r a id) y right (down-right id y right) (ttl-right id y (fallSeconds (y .ttl)) right)))
 
     pub self-right : a < r .seats → (k : Counter) → RightOutcome r a run (perform (ask (SelfReport k)) x)
@@ -97,14 +121,24 @@ module _ (r : Room) (a : ℕ) where
     self-right inside k =
         performs (ask (SelfReport k)) x (RightOutcome r a run) (λ _. same-right r a l run lent)
         (λ e.
-        carried-right r a c l walk copy run lent (there (ask (SelfReport k)) x e) (selfReport k (x .host) (x .walk)) (lent .links) (go (ownId (r .settings a)) refl))
+        carried-right r a c l walk copy run lent (there (ask (SelfReport k)) x e) (selfReport k (x .host) (x .walk)) (lent .links)
+        (λ id y low high is right.
+        let held = there (ask (SelfReport k)) x e in
+        reported-keeps (RightEntry r a id) t y right (down-right id y right)
+        (λ here. own-right inside id (lives (lent-marked e) id (omega (arith, high, entries-length (r .settings a) (r .number a) run held)) y is here) t y)))
       where
         t : Millis
         t = readingAt r a c k .time
 
-        go : (f : Found) → ownId (r .settings a) ≡ f → (id : ℕ) (y : Entry) → ownWork t f .first ≤ id → id < ownWork t f .end → RightEntry r a id y
-            → RightEntry r a id (changed (ownWork t f .change) y)
-        go Nothing e id y low high right = absurd (omega arith)
-        go (Id own) e id y low high right =
-            let same : own ≡ id = omega arith in
-            self-keeps (RightEntry r a id) t y right (down-right id y right) (own-right inside id (rw same at e) t)
+        m : Marks
+        m = r .settings a .marks
+
+        lent-marked : done (guardOf (ask (SelfReport k)) x) ≡ true → marksAsSet x ≡ true
+        lent-marked e = marks-lent x (passed All x e .lent refl)
+
+        -- an entry that has the mark is of an id that the settings mark
+        lives : marksAsSet x ≡ true → (id : ℕ) → id < length (entriesOf x) → (y : Entry) → y ≡ getD (entriesOf x) id freshEntry → livesHere y ≡ true → HostAt r id a
+        lives set id in-table y is here =
+            let same = all-there (λ (i : ℕ) (e : Entry). asMarked m i e ≡ true) freshEntry (entriesOf x) (each-all (asMarked m) (entriesOf x) set) id in-table in
+            let mark-is = eqb-true (y .here) (mark m id) (rw (← is) at same) in
+            ap (λ (n : ℕ). eqb n 1) (sym mark-is) ∙ here

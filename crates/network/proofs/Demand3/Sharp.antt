@@ -24,13 +24,14 @@ use Rattle.clock.proofs.Midnight.{rests-hold}
 use Rattle.clock.proofs.Readings.{plus-none}
 use Rattle.clock.proofs.Bounds as bounds
 use Rattle.table.specs.declared.Entry.{Entry}
-use Rattle.table.specs.Entry.{freshEntry, up, entryInRange}
-use Rattle.table.specs.Forms.{every}
+use Rattle.table.specs.Forms.{every, everyFrom}
+use Rattle.table.specs.Marks.{onlyMark}
+use Rattle.table.specs.Entry.{up, asMarked, entryInRange}
 use Rattle.host.specs.declared.Settings.{Settings}
 use Rattle.host.specs.declared.Links.{Links}
 use Rattle.host.specs.declared.guard.Scope.the-variants.{All}
 use Rattle.host.specs.Settings.{linkCount, settingsGood}
-use Rattle.host.specs.State.{freshLinks, placesPerHost, linkInRange, entries}
+use Rattle.host.specs.State.{freshLinks, linkInRange, entries}
 use Rattle.host.specs.Walk.{noWalk, walkInRange}
 use Rattle.host.specs.Lent.{Lent, lent, lentInRange}
 use Rattle.host.specs.Guard.{noPlaces, guard}
@@ -43,11 +44,11 @@ use Rattle.network.specs.Left.{messageOf}
 use Rattle.network.specs.History.{Left, leftBy, put, after}
 use Rattle.network.specs.Room.{errorParts, delayParts, Room, afresh, HostAt, Proper}
 use Rattle.network.specs.Demand3.{ticks, Message, World, Step, result, step, history, Allows, Starts, entryOf, Claim, Demand3Within}
-use Rattle.network.specs.TwoSeats.{settingsFor}
+use Rattle.network.specs.TwoSeats.{settingsFor, placesOf}
 use Rattle.network.specs.Sharp.{lateness, late, early, w₀, x₁, w₁, x₂, w₂, x₃, w₃, x₄, w₄, wait, w₅, x₆, x₇, story, learnt, Sharp}
 use Rattle.network.proofs.Opened.{opened}
 use Rattle.network.proofs.Written.{answered}
-use Rattle.network.proofs.Demand3.TwoSeats.{below-2, pair-proper, starts, as-left, reads, delivered}
+use Rattle.network.proofs.Demand3.TwoSeats.{below-2, apart, pair-proper, starts, as-left, reads, delivered}
 
 -- ---- the clock of seat 0 after n ticks
 
@@ -87,10 +88,10 @@ abbrev links0 : Links
 links0 = freshLinks settings0
 
 abbrev table0 : List Entry
-table0 = replicate placesPerHost freshEntry
+table0 = placesOf 0
 
 -- all that the guard tests but the clock
-else-good : cond (noPlaces 0 table0 || not (true && every linkInRange (take (linkCount settings0) (links0 .all)) && walkInRange settings0 noWalk [] && every entryInRange (entries settings0 0 table0))) OutOfRange (cond (not (settingsGood settings0)) Setting Done) ≡ Done
+else-good : cond (noPlaces 0 table0 || not (true && every linkInRange (take (linkCount settings0) (links0 .all)) && walkInRange settings0 noWalk [] && every entryInRange (entries settings0 0 table0) && everyFrom 0 (asMarked (settings0 .marks)) (entries settings0 0 table0))) OutOfRange (cond (not (settingsGood settings0)) Setting Done) ≡ Done
 unfolding opened
 else-good = refl
 
@@ -244,7 +245,7 @@ learnt-is = ap (λ w. entryOf late w 0 1) last-is
 
 proper : Proper late
 unfolding opened
-proper = pair-proper lateness (below-2 (λ (a : ℕ). afresh late a .reply .answer ≡ Answer.Done) refl refl)
+proper = pair-proper lateness (apart (onlyMark 0) (onlyMark 1) refl refl) (below-2 (λ (a : ℕ). afresh late a .reply .answer ≡ Answer.Done) refl refl)
 
 start : Starts late w₀
 unfolding w₀

@@ -1,24 +1,28 @@
 -- The room of two seats is proper, by cases; and its calls are lent what was left.
-use mathlib.Core.Path.{_≡_, refl, ap}
-use mathlib.Core.Bool.{Bool, true, false, cond}
+use mathlib.Core.Path.{_≡_, refl, ap, _∙_}
+use mathlib.Core.Bool.{Bool, true, false, false≢true, cond, not, _&&_}
 use mathlib.Core.List.{List·Memᴰ}
-use Prim.Native.Nat.{ℕ, zero, suc, _*_, _≤_, _<_}
+use Prim.Native.Nat.{ℕ, zero, suc, _+_, _*_, _≤_, _<_}
 use native.Mathlib.Omega.{arith}
-use borrow.Author.Tests.{eqb-true}
-use lib.Dec.{eqb}
+use borrow.Author.Tests.{eqb-true, eqb-false, ltb-true, ltb-false}
+use lib.Dec.{eqb, ltb}
 use lib.IntN.{ℤ, pos, _+ℤ_, _-ℤ_, natAbs}
-use lib.ListN.{take, replicate, length-replicate}
+use lib.ListN.{length, take, replicate, length-replicate}
 use lib.Seq.{drop-at}
 use lib.Signed.{_<ℤ_}
 use Rattle.answer.specs.declared.Answer.{Answer}
 use Rattle.clock.specs.declared.Counter.{Counter}
 use Rattle.clock.specs.Midnight.{dayMillis}
 use Rattle.route.specs.Find.{sameNet}
+use Rattle.lists.proofs.Tests.{both}
+use Rattle.table.specs.declared.marks.Marks.{Marks}
+use Rattle.table.specs.Forms.{every, upFrom}
+use Rattle.table.specs.Marks.{marked, idsFrom}
 use Rattle.table.specs.Entry.{freshEntry}
-use Rattle.host.specs.Settings.{ownId}
+use Rattle.table.proofs.Bits.{no-mark}
 use Rattle.host.specs.State.{placesPerHost, firstPlace, hostCount, entries}
 use Rattle.network.specs.History.{Lends}
-use Rattle.network.specs.Room.{clockSpread, loose, at, afresh, Cabled, Proper}
+use Rattle.network.specs.Room.{clockSpread, loose, at, afresh, HostAt, Cabled, Proper}
 use Rattle.network.specs.Demand3.{RoomCall, Message, World, eventOf, readingAt, Reads, Delivered, Starts}
 use Rattle.network.proofs.Opened.{opened}
 use Rattle.network.specs.TwoSeats.{Pair, settingsFor, wire, pair, begun, call}
@@ -31,6 +35,26 @@ below-2 P x y (suc (suc a)) l = absurd (omega arith)
 
 pairs : (P : ℕ → ℕ → Type 0) → P 0 0 → P 0 1 → P 1 0 → P 1 1 → (a b : ℕ) → a < 2 → b < 2 → P a b
 pairs P p q s t a b l m = below-2 (λ (x : ℕ). P x b) (below-2 (P 0) p q b m) (below-2 (P 1) s t b m) a l
+
+-- marks that have no id in common, by trying all ids
+every-id : (test : ℕ → Bool) (first n : ℕ) → every test (upFrom first n) ≡ true → (id : ℕ) → first ≤ id → id < first + n → test id ≡ true
+every-id test first zero e id l h = absurd (omega (arith, l, h))
+every-id test first (suc n) e id l h =
+    go (every-id test (suc first) n (both (test first) (every test (upFrom (suc first) n)) e .1) id) (eqb id first) refl
+  where
+    go : (suc first ≤ id → id < suc first + n → test id ≡ true) → (b : Bool) → eqb id first ≡ b → test id ≡ true
+    go rest true is = rw (eqb-true id first is) (both (test first) (every test (upFrom (suc first) n)) e .0)
+    go rest false is = let other = eqb-false id first is in rest (omega (arith, l, other)) (omega (arith, h))
+
+pub apart : (m n : Marks) → length (m .words) ≡ 4 → every (λ (id : ℕ). not (marked m id && marked n id)) (idsFrom 0) ≡ true
+    → (id : ℕ) → marked m id ≡ true → marked n id ≡ true → ⊥
+apart m n four e id here there = go (ltb id 256) refl
+  where
+    go : (b : Bool) → ltb id 256 ≡ b → ⊥
+    go true is =
+        let not-both = every-id (λ (id : ℕ). not (marked m id && marked n id)) 0 256 e id (omega arith) (omega (arith, ltb-true id 256 is)) in
+        false≢true (rw (here, there) at not-both)
+    go false is = let none = no-mark m id four (ltb-false id 256 is) in false≢true (ap (λ (x : ℕ). eqb x 1) none ∙ here)
 
 module _ (p : Pair) where
   -- the one cable, from both ends
@@ -53,15 +77,16 @@ module _ (p : Pair) where
       go true false false t u w e = absurd (let z : _≡_ {A = ℕ} 0 1 = cc in omega arith)
       go false u v t x w e = absurd (let z : _≡_ {A = ℕ} 0 1 = cc in omega arith)
 
-  pub pair-proper : ((a : ℕ) → a < 2 → afresh (pair p) a .reply .answer ≡ Answer.Done) → Proper (pair p)
+  pub pair-proper : ((id : ℕ) → marked (p .marks 0) id ≡ true → marked (p .marks 1) id ≡ true → ⊥) → ((a : ℕ) → a < 2 → afresh (pair p) a .reply .answer ≡ Answer.Done) → Proper (pair p)
   unfolding opened
-  pair-proper fresh =
+  pair-proper once fresh =
       record {
         sixteen = omega arith;
         numbers-differ = λ a b l m e. e;
         set-afresh = fresh;
         one-net = pairs (λ (a b : ℕ). sameNet (settingsFor p a .address) (settingsFor p b .address) ≡ true) refl refl refl refl;
-        ids-differ = pairs (λ (a b : ℕ). ownId (settingsFor p a) ≡ ownId (settingsFor p b) → a ≡ b) (λ e. refl) (λ e. cc) (λ e. cc) (λ e. refl);
+        marked-once = λ a b id l m.
+            pairs (λ (a b : ℕ). HostAt (pair p) id a → HostAt (pair p) id b → a ≡ b) (λ _ _. refl) (λ e f. absurd (once id e f)) (λ e f. absurd (once id f e)) (λ _ _. refl) a b l m;
         one-layout = λ a b l m. refl;
         setting-off = λ a l. refl;
         fixed-near = pairs (λ (a b : ℕ). natAbs (pos (500 * a) -ℤ pos (500 * b)) ≤ clockSpread) (omega arith) (omega arith) (omega arith) (omega arith);

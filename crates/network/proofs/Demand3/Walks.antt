@@ -78,7 +78,7 @@ use Rattle.network.proofs.Openings.{opening-ways}
 use Rattle.network.proofs.Demand3.Near.{Fits16, Near}
 use Rattle.network.proofs.Demand3.Invariant.{RightEntry, RightReport, RightLink, RightLinks, Direct, Taken, Timed, Aimed, Lined, RightAt, RightWalk, atThird, between, LinksIn}
 use Rattle.network.proofs.Demand3.Outcomes.{SeatLent, SeatLeft, any-walk, no-walk, refused-right}
-use Rattle.network.proofs.Demand3.Seats.{fresh-right, down-right}
+use Rattle.network.proofs.Demand3.Seats.{fresh-right, down-right, own-host}
 use Rattle.network.proofs.Demand3.Sending.{link-from-1}
 use Rattle.network.proofs.Demand3.Measured.{found-own}
 use Rattle.network.proofs.Demand3.Measured as measured
@@ -144,7 +144,8 @@ module _ (r : Room) (proper : Proper r) (ways : r .longest ≤ longestWay) (a : 
 
     module _ (held : Holds (r .number a) run) (opened : isOpen w ≡ true) (has : noLink s (w .link) ≡ false) (e : Entry) (right : RightEntry r a (w .id) e) where
       carried : (y : Effect) → LinksIn r a (y .walk) (y .links .all) → RightWalk r a (y .walk) copy (y .links)
-          → ((id : ℕ) (z : Entry) → y .work .first ≤ id → id < y .work .end → RightEntry r a id z → RightEntry r a id (changed (y .work .change) z)) → Good y
+          → ((id : ℕ) (z : Entry) → y .work .first ≤ id → id < y .work .end → z ≡ getD (entriesOf x) id freshEntry → RightEntry r a id z
+          → RightEntry r a id (changed (y .work .marks) (y .work .change) (id - y .work .first) z)) → Good y
       unfolding Good
       carried y links walk keeps =
           let n = changes-length (y .work) (entriesOf x) in
@@ -156,7 +157,9 @@ module _ (r : Room) (proper : Proper r) (ways : r .longest ≤ longestWay) (a : 
           }
 
       abbrev Keeps : Changes → Type 0
-      Keeps now = (id : ℕ) (z : Entry) → now .first ≤ id → id < now .end → RightEntry r a id z → RightEntry r a id (changed (now .change) z)
+      Keeps now =
+          (id : ℕ) (z : Entry) → now .first ≤ id → id < now .end → z ≡ getD (entriesOf x) id freshEntry → RightEntry r a id z
+          → RightEntry r a id (changed (now .marks) (now .change) (id - now .first) z)
 
       -- a box that goes on, and one that ends the walk
       goes : (v : Walk) (d : Clock) (m : Links) (now : Changes) → LinksIn r a v (m .all) → RightWalk r a v copy m → Keeps now → Good (onward v d m now)
@@ -169,7 +172,7 @@ module _ (r : Room) (proper : Proper r) (ways : r .longest ≤ longestWay) (a : 
       numbered = link-from-1 s (w .link) has
 
       none : Keeps nothing
-      none id z low high h = absurd (omega arith)
+      none id z low high is h = absurd (omega arith)
 
       -- the link, stored as it is
       there-still : linkOf (withLink (w .link) (linkOf l (w .link)) l) (w .link) ≡ linkOf l (w .link)
@@ -356,8 +359,9 @@ module _ (r : Room) (proper : Proper r) (ways : r .longest ≤ longestWay) (a : 
             let there = t .taken .right .seat-in in
             let host : lessMillis (atLeastMin (ofWord (w .delay))) maxDelay ≡ true → HostAt r id from =
             λ low.
-            ap (λ (y : Layout). localId y (r .settings from .address)) (proper .one-layout from a there inside)
-            ∙ found-own (s .address) (r .settings from .address) s id (proper .one-net a from inside there) (ap (λ (y : Address). foundFor s y) (sym (t .neighbor low)) ∙ same) in
+            own-host r from proper there id
+            (ap (λ (y : Layout). localId y (r .settings from .address)) (proper .one-layout from a there inside)
+            ∙ found-own (s .address) (r .settings from .address) s id (proper .one-net a from inside there) (ap (λ (y : Address). foundFor s y) (sym (t .neighbor low)) ∙ same)) in
             goes (atLine 1 id (raised w)) c l nothing (any-walk r a (atLine 1 id (raised w)) (l .all) fine) (λ _. lined id (λ low _. host low)) none
 
         fifth : Good (box5 p h w)
@@ -375,8 +379,8 @@ module _ (r : Room) (proper : Proper r) (ways : r .longest ≤ longestWay) (a : 
         good-links : (v : Walk) → LinksIn r a v (l .all)
         good-links v = any-walk r a v (l .all) (all-right off)
 
-        puts : (y : Entry) → RightEntry r a (w .id) y → (id : ℕ) (z : Entry) → w .id ≤ id → id < w .id + 1 → RightEntry r a id z → RightEntry r a id y
-        puts y good id z low high _ = let same : w .id ≡ id = omega arith in rw (← same) good
+        puts : (y : Entry) → RightEntry r a (w .id) y → (id : ℕ) (z : Entry) → w .id ≤ id → id < w .id + 1 → z ≡ getD (entriesOf x) id freshEntry → RightEntry r a id z → RightEntry r a id y
+        puts y good id z low high _ _ = let same : w .id ≡ id = omega arith in rw (← same) good
 
         -- at another line of the same id
         same-id : Lined r a w octets → (n : ℕ) → Lined r a (atLine n (w .id) w) octets
@@ -413,7 +417,7 @@ module _ (r : Room) (proper : Proper r) (ways : r .longest ≤ longestWay) (a : 
         abbrev flight : Flight
         flight = record { reading = w .reading; link = linkOf l (w .link); delay = ofWord (w .delay); offset = w .offset }
 
-        stores : otherLayout s p ≡ false → idInRange s w ≡ true → (s .layout .nhosts ≤ 255) → storable (lineUpdate w p octets) ≡ true → RightEntry r a (w .id) (stored (lineUpdate w p octets))
+        stores : otherLayout s p ≡ false → idInRange s w ≡ true → (s .layout .nhosts ≤ 255) → storable (lineUpdate w p octets) ≡ true → RightEntry r a (w .id) (stored (lineUpdate w p octets) e)
         stores ours id few fits = go (eqb (p .nhosts) 0) refl (both (not (lessMillis (lineUpdate w p octets .delay) minDelay)) _ fits .1)
           where
             there : sender < r .seats
@@ -421,14 +425,14 @@ module _ (r : Room) (proper : Proper r) (ways : r .longest ≤ longestWay) (a : 
 
             go : (b : Bool) → eqb (p .nhosts) 0 ≡ b
                 → lessMillis (cond b (heldUpdate w) (plusReport (heldUpdate w) (reportAt (helloOf octets) (w .id))) .delay) maxDelay ≡ true
-                → RightEntry r a (w .id) (stored (cond b (heldUpdate w) (plusReport (heldUpdate w) (reportAt (helloOf octets) (w .id)))))
+                → RightEntry r a (w .id) (stored (cond b (heldUpdate w) (plusReport (heldUpdate w) (reportAt (helloOf octets) (w .id)))) e)
             go true z small =
-                subst (λ (d : Millis). lessMillis d maxDelay ≡ true → RightEntry r a (w .id) record { delay = d; offset = w .offset; ttl = entry.holdDown; pid = w .link; time = w .reading }) (t .raised)
-                (neighbor-right r proper a sender inside there (w .link) (w .id) flight (t .direct) (t .host-there small z)) small
+                subst (λ (d : Millis). lessMillis d maxDelay ≡ true → RightEntry r a (w .id) record { delay = d; offset = w .offset; ttl = entry.holdDown; pid = w .link; here = e .here; time = w .reading }) (t .raised)
+                (λ low. neighbor-right r proper a sender inside there (w .link) (w .id) flight (t .direct) (t .host-there small z) low e) small
             go false z low =
                 subst (λ (d : Millis). lessMillis (addMillis d (report .delay)) maxDelay ≡ true
-                → RightEntry r a (w .id) (stored (plusReport record { pid = w .link; delay = d; offset = w .offset; reading = w .reading } report))) (t .raised)
-                (report-right r proper a sender inside there (w .link) (w .id) flight (t .direct) report good) low
+                → RightEntry r a (w .id) (stored (plusReport record { pid = w .link; delay = d; offset = w .offset; reading = w .reading } report) e)) (t .raised)
+                (λ low. report-right r proper a sender inside there (w .link) (w .id) flight (t .direct) report good low e) low
               where
                 report : Report
                 report = reportAt (helloOf octets) (w .id)
@@ -444,7 +448,7 @@ module _ (r : Room) (proper : Proper r) (ways : r .longest ≤ longestWay) (a : 
         line-c ours id few fits =
             let u : Update = lineUpdate w p octets in
             let y = stores ours id few fits in
-            either Good (isClockHost h w) _ _ (λ _. goes (atLine 4 (w .id) w) c l (put w (stored u)) (good-links (atLine 4 (w .id) w)) (λ _. same-id t 4) (puts (stored u) y)) (λ _. next c (put w (stored u)) (puts (stored u) y))
+            either Good (isClockHost h w) _ _ (λ _. goes (atLine 4 (w .id) w) c l (put w (stored u e)) (good-links (atLine 4 (w .id) w)) (λ _. same-id t 4) (puts (stored u e) y)) (λ _. next c (put w (stored u e)) (puts (stored u e) y))
 
       -- ---- the box of a place
 

@@ -15,8 +15,8 @@ use Rattle.table.specs.declared.run.Scan.{Scan}
 use Rattle.table.specs.declared.run.Seek.{Seek}
 use Rattle.table.specs.declared.run.Updates.{Updates}
 use Rattle.table.specs.declared.run.Reports.{Reports}
-use Rattle.table.specs.Forms.{every}
-use Rattle.table.specs.Entry.{advertised, upTo, entryInRange}
+use Rattle.table.specs.Forms.{every, everyFrom}
+use Rattle.table.specs.Entry.{asMarked, advertised, upTo, entryInRange}
 use Rattle.table.specs.Update.{ownMost}
 
 -- ---- places
@@ -27,11 +27,14 @@ pub record InRun (first end : ℕ) (run : List Entry) : Type 0 where
 
 -- ---- looking
 
+-- the entries are in range, and marked as the ids from 0 on
 unfoldable pub allInRange : Scan → List Entry → Bool
-allInRange w run = w .good && every entryInRange (part (w .first) (w .end - w .first) run)
+allInRange w run =
+    w .good && every entryInRange (part (w .first) (w .end - w .first) run)
+    && everyFrom 0 (asMarked (w .marks)) (part (w .first) (w .end - w .first) run)
 
-abbrev pub stillGood : Bool → Entry → Bool
-stillGood good e = good && entryInRange e
+abbrev pub stillGood : Bool → Entry → (place : ℕ) → Scan → Bool
+stillGood good e i w = good && (entryInRange e && asMarked (w .marks) (i - w .first) e)
 
 -- the last of some entries
 abbrev pub latest : Entry → List Entry → Entry

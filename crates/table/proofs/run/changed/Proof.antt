@@ -9,6 +9,15 @@ enum-told c = search needs
 fresh-requires : tie.Need-fresh-requires
 fresh-requires c κs = search needs
 
+sub-mark : tie.Need-sub-mark
+sub-mark c = search needs
+
+mark-requires : tie.Need-mark-requires
+mark-requires c κs = search needs
+
+with-mark-requires : tie.Need-with-mark-requires
+with-mark-requires c κs = search needs
+
 enum-told-2 : tie.Need-enum-told-2
 enum-told-2 c = search needs
 
@@ -18,22 +27,21 @@ aged-requires c κs = search needs
 enum-known-change : tie.Need-enum-known-change
 enum-known-change c = search needs
 
-self-reported-requires : tie.Need-self-reported-requires
-self-reported-requires c κs = search needs
+reported-here-requires : tie.Need-reported-here-requires
+reported-here-requires c κs = search needs
 
 enum-known-change-2 : tie.Need-enum-known-change-2
 enum-known-change-2 c = search needs
 
 returns : tie.Need-returns
-returns c = search needs
+returns c =
+    rw (c .before .before .before .before .enum-told .given .1, ← c .before .before .before .fresh .ensures, ← c .before .mark .ensures) (c .with-mark .ensures)
 
 returns-2 : tie.Need-returns-2
-returns-2 c =
-    rw (c .before .enum-told2 .given .1) (c .aged .ensures)
+returns-2 c = rw (c .before .enum-told2 .given .1) (c .aged .ensures)
 
 returns-3 : tie.Need-returns-3
-returns-3 c =
-    rw (c .before .before .change .given .1) (c .self-reported .ensures)
+returns-3 c = rw (c .before .before .change .given .1) (c .reported-here .ensures)
 
 returns-4 : tie.Need-returns-4
 returns-4 c = rw (c .before .change2 .given .1)
@@ -44,10 +52,13 @@ changed-spec =
     (tie.spec
     enum-told
     fresh-requires
+    sub-mark
+    mark-requires
+    with-mark-requires
     enum-told-2
     aged-requires
     enum-known-change
-    self-reported-requires
+    reported-here-requires
     enum-known-change-2
     returns
     returns-2

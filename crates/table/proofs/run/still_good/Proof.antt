@@ -1,16 +1,19 @@
--- The entry is in range and all before it were, or some entry before it was not.
+-- The entry is in range and has its mark, and so had all before it, or some entry before it had not.
 use borrow.Author.Needs.{needs}
 use Rattle.table.proofs.run.still_good.Statement.{statement}
 use Rattle.table.proofs.run.still_good.Tie as tie
 
+sub-n : tie.Need-sub-n
+sub-n c = search needs
+
 in-range-requires : tie.Need-in-range-requires
 in-range-requires c κs = search needs
 
-returns : tie.Need-returns
-returns c = rw (c .if1 .taken) (c .before .in-range .ensures)
+mark-requires : tie.Need-mark-requires
+mark-requires c κs = search needs
 
-returns-2 : tie.Need-returns-2
-returns-2 c = search needs
+returns : tie.Need-returns
+returns c = rw (c .before .before .in-range .ensures, c .before .mark .ensures)
 
 pub still-good-spec : {M : Type 1} → statement M
-still-good-spec = tie.close (tie.spec in-range-requires returns returns-2)
+still-good-spec = tie.close (tie.spec sub-n in-range-requires mark-requires returns)

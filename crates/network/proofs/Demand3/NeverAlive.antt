@@ -1,0 +1,17 @@
+-- An entry that is up names a host of the room, and so an id that some seat marks.
+use mathlib.Core.Path.{_≡_, refl}
+use mathlib.Core.Bool.{Bool, true, false}
+use Rattle.table.specs.Entry.{up}
+use Rattle.network.specs.Demand3.{entryOf, history, Demand3Within, Claim}
+use Rattle.network.specs.NeverAlive.{NeverAlive}
+use Rattle.network.proofs.Demand3.Histories.{demand-3}
+
+pub never-alive-holds : NeverAlive
+unfolding NeverAlive Demand3Within Claim
+never-alive-holds r proper short w starts xs allows i nowhere b inside below = go (up (entryOf r (history r w xs) b i)) refl
+  where
+    go : (t : Bool) → up (entryOf r (history r w xs) b i) ≡ t → t ≡ false
+    go false e = refl
+    go true e =
+        let known = demand-3 r proper short w starts xs allows b i inside below e in
+        absurd (nowhere (known .seat) (known .seat-in) (known .host-there))

@@ -1,0 +1,14 @@
+-- "In its room an id marked nowhere never comes alive": where no seat marks an id, every entry of it stays down.
+use mathlib.Core.Path.{_≡_}
+use mathlib.Core.Bool.{false}
+use mathlib.Core.List.{List}
+use Prim.Native.Nat.{ℕ, _≤_, _<_}
+use Rattle.table.specs.Entry.{up}
+use Rattle.network.specs.Room.{longestWay, Room, HostAt, Proper}
+use Rattle.network.specs.Demand3.{Step, World, history, Allows, Starts, entryOf}
+
+unfoldable pub NeverAlive : Type 0
+NeverAlive =
+    (r : Room) → Proper r → r .longest ≤ longestWay → (w : World) → Starts r w → (xs : List Step) → Allows r w xs
+    → (i : ℕ) → ((a : ℕ) → a < r .seats → HostAt r i a → ⊥)
+    → (b : ℕ) → b < r .seats → i < r .settings b .layout .nhosts → up (entryOf r (history r w xs) b i) ≡ false

@@ -1,0 +1,119 @@
+-- Request 8 leaves a host that carries no virtual ones as it was: where the own id alone is marked, the calls are those without marks. Nothing but the guard and a self-report looks at a mark; setting afresh writes the marks, and what else changes an entry keeps its own.
+use mathlib.Core.Path.{_≡_}
+use mathlib.Core.Bool.{Bool, true, false, cond, not, _&&_, _||_}
+use Prim.Native.Nat.{ℕ, _<_}
+use lib.Dec.{ltb, leb, eqb}
+use lib.IntN.{pos}
+use lib.ListN.{length}
+use Rattle.quantity.specs.declared.Millis.{Millis}
+use Rattle.quantity.specs.Quantity.{millis, lessMillis}
+use Rattle.calendar.specs.Date.{real}
+use Rattle.answer.specs.declared.Answer.{Answer}
+use Rattle.answer.specs.declared.Answer.the-variants.{Done, Setting, OutOfRange, InWalk}
+use Rattle.clock.specs.declared.Counter.{Counter}
+use Rattle.clock.specs.declared.Reading.{Reading}
+use Rattle.clock.specs.Midnight.{dayMillis}
+use Rattle.clock.specs.Clock.{tickInRange}
+use Rattle.route.specs.declared.Found.{Found}
+use Rattle.route.specs.declared.Found.the-variants.{Id, Nothing}
+use Rattle.route.specs.Find.{isFound, rowsOf, idsBelow}
+use Rattle.table.specs.declared.run.Change.the-variants.{Put}
+use Rattle.table.specs.declared.run.Changes.{Changes}
+use Rattle.table.specs.Forms.{every}
+use Rattle.table.specs.Marks.{onlyMark, marked}
+use Rattle.table.specs.Entry.{entryInRange}
+use Rattle.table.specs.Update.{selfReported}
+use Rattle.host.specs.declared.Settings.{Settings}
+use Rattle.host.specs.declared.Effect.{Effect}
+use Rattle.host.specs.declared.guard.Scope.{Scope}
+use Rattle.host.specs.declared.guard.Scope.the-variants.{Places, All, OnLink, Opening, Walking}
+use Rattle.host.specs.Settings.{fromTo, clockSettingOff, ownId, switchesGood}
+use Rattle.host.specs.State.{noLink}
+use Rattle.host.specs.Lent.{Lent, ourReading, entriesOf, hostInRange, ownWalkInRange, marksAsSet}
+use Rattle.host.specs.Guard.{noPlaces, longest, inWalk, done}
+use Rattle.host.specs.Effect.{nothing, one}
+use Rattle.host.specs.Reply.{plainly}
+use Rattle.host.specs.code.Told.{afresh}
+use Rattle.calls.specs.declared.Request.the-variants.{Initialize, Tick, Adjust, Set, Read, Second, SelfReport, Lookup, Step}
+use Rattle.calls.specs.Perform.{Call, ask, send, deliver, openWalk, Outcome, scopeOfCall, refused, entryAt, carriedOut, work, perform}
+
+-- the own id alone is marked
+abbrev pub isOwn : Found → (id : ℕ) → Bool
+isOwn Nothing id = false
+isOwn (Id own) id = eqb id own
+
+abbrev pub MarksOwn : Settings → Type 0
+MarksOwn s = (id : ℕ) → marked (s .marks) id ≡ isOwn (ownId s) id
+
+-- ---- the guard without marks
+
+abbrev pub settingsUnmarked : Settings → Bool
+settingsUnmarked s =
+    fromTo 1 8 (s .«link_count»)
+    && switchesGood s
+    && fromTo 1 255 (s .layout .nhosts)
+    && leb (s .net .count) 32
+    && fromTo 1 223 (s .address .first)
+    && (eqb (s .«clock_host») clockSettingOff || ltb (s .«clock_host») (s .layout .nhosts))
+    && fromTo 1 255 (s .«hold_interval» .0)
+    && tickInRange (s .«clock_tick»)
+    && (not (lessMillis (s .time) (millis (pos 0))) && lessMillis (s .time) dayMillis)
+    && real (s .date)
+    && idsBelow (s .layout .nhosts) (rowsOf (s .net))
+    && isFound (ownId s)
+
+abbrev pub lentUnmarked : Lent → Bool
+lentUnmarked x = hostInRange (x .host) && ownWalkInRange x && every entryInRange (entriesOf x)
+
+abbrev pub outUnmarked : Scope → Lent → Bool
+outUnmarked Places x = noPlaces (x .number) (x .run)
+outUnmarked All x = noPlaces (x .number) (x .run) || not (lentUnmarked x)
+outUnmarked Walking x = noPlaces (x .number) (x .run) || not (lentUnmarked x)
+outUnmarked (OnLink i) x = noLink (x .host .settings) i || (noPlaces (x .number) (x .run) || not (lentUnmarked x))
+outUnmarked (Opening i) x =
+    ltb (length (x .copy)) longest
+    || (noLink (x .host .settings) i || (noPlaces (x .number) (x .run) || not (lentUnmarked x)))
+
+abbrev pub guardUnmarked : Scope → Lent → Answer
+guardUnmarked a x =
+    cond (outUnmarked a x) OutOfRange
+    (cond (inWalk a (x .walk)) InWalk
+    (cond (not (settingsUnmarked (x .host .settings))) Setting Done))
+
+-- ---- "Self-report: update of the seat's own id with PID 0, DELAY 0, OFFSET 0, without (d)."
+
+abbrev pub ownWork : Millis → Found → Lent → Changes
+ownWork time Nothing x = nothing
+ownWork time (Id id) x = one id (Put (selfReported time (entryAt (Id id) x)))
+
+abbrev pub ownReport : Counter → Lent → Effect
+ownReport k x =
+    let r : Reading = ourReading k (x .host) in
+    record { reply = plainly Done; clock = r .clock; links = x .host .links; walk = x .walk; work = ownWork (r .time) (ownId (x .host .settings)) x }
+
+-- ---- the calls
+
+abbrev pub workUnmarked : Call → Lent → Outcome
+workUnmarked (ask Initialize) x = work (ask Initialize) x
+workUnmarked (ask (Tick n)) x = work (ask (Tick n)) x
+workUnmarked (ask (Adjust n)) x = work (ask (Adjust n)) x
+workUnmarked (ask (Set ms n)) x = work (ask (Set ms n)) x
+workUnmarked (ask (Read k)) x = work (ask (Read k)) x
+workUnmarked (ask Second) x = work (ask Second) x
+workUnmarked (ask (SelfReport k)) x = carriedOut (ownReport k x) x
+workUnmarked (ask (Lookup a)) x = work (ask (Lookup a)) x
+workUnmarked (ask (Step k)) x = work (ask (Step k)) x
+workUnmarked (send i k buffer) x = work (send i k buffer) x
+workUnmarked (deliver d packet) x = work (deliver d packet) x
+workUnmarked (openWalk i packet) x = work (openWalk i packet) x
+
+abbrev pub performUnmarked : Call → Lent → Outcome
+performUnmarked c x =
+    cond (not (done (guardUnmarked (scopeOfCall c) x))) (refused (guardUnmarked (scopeOfCall c) x) c x) (workUnmarked c x)
+
+pub record OwnAlone : Type 0 where
+  -- the entries are marked as set, which setting afresh does not ask
+  pub calls : (c : Call) (x : Lent) → MarksOwn (x .host .settings) → (afresh (scopeOfCall c) ≡ false → marksAsSet x ≡ true)
+      → perform c x ≡ performUnmarked c x
+  -- such marks
+  pub only : (own id : ℕ) → own < 256 → marked (onlyMark own) id ≡ eqb id own

@@ -1,0 +1,60 @@
+// The marks of host ids: which hosts live here.
+ghost use mathlib.Core.Path.{_≡_};
+ghost use Prim.Native.Nat.{_-_};
+ghost use Rattle.table.specs.Marks.{noMarks, mark, noneFrom};
+ghost use Rattle.table.specs.code.Words.{zeroFrom};
+
+// The marks of the ids from 0 to 255: that of an id is bit id % 64 of word id / 64, the lowest bit first.
+#[repr(C)]
+pub struct Marks {
+    pub words: [u64; 4],
+}
+
+pub fn none() -> Marks
+    ensures { λ r. ⌜ r ≡ noMarks ⌝ }
+{
+    Marks { words: [0; 4] }
+}
+
+// The mark of an id, 1 or 0.
+pub fn mark(m: Marks, id: usize) -> u8
+    ensures { λ r. ⌜ r ≡ mark m id ⌝ }
+{
+    if id >= 256 {
+        return 0;
+    }
+    let words = m.words;
+    let word = words[id / 64];
+    ((word >> (id % 64)) % 2) as u8
+}
+
+// Are the bits of a word from the n-th on zero?
+fn zero_from(word: u64, n: usize) -> bool
+    ensures { λ r. ⌜ r ≡ zeroFrom word n ⌝ }
+{
+    if n >= 64 {
+        return true;
+    }
+    (word >> n) == 0
+}
+
+// n less k, and 0 where k is more.
+fn less(n: usize, k: usize) -> usize
+    ensures { λ r. ⌜ r ≡ n - k ⌝ }
+{
+    if n < k {
+        return 0;
+    }
+    n - k
+}
+
+// Is no id from n on marked?
+pub fn none_from(m: Marks, n: usize) -> bool
+    ensures { λ r. ⌜ r ≡ noneFrom m n ⌝ }
+{
+    let words = m.words;
+    zero_from(words[0], n)
+        & zero_from(words[1], less(n, 64))
+        & zero_from(words[2], less(n, 128))
+        & zero_from(words[3], less(n, 192))
+}
