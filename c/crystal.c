@@ -37,6 +37,7 @@ static void set_up(void)
     settings.time = 86340000;
     settings.date = FIRST;
     settings.link_count = 1;
+    hello_mark_own(&settings);
     assert(hello_initialize(&settings, NUMBER, &clock, &links, &walk, copy, 0, run,
                             HELLO_PLACES) == HELLO_DONE);
 }

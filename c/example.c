@@ -54,6 +54,7 @@ static void set_up(host *h, size_t number, int64_t time)
     h->settings.time = time;
     h->settings.date = 1 << 10 | 1 << 5; /* 1 January 1972 */
     h->settings.link_count = 1;
+    hello_mark_own(&h->settings);
     uint8_t answer = hello_initialize(&h->settings, number, &h->clock, &h->links, &h->walk, copy, 0,
                                       run, RUN);
     assert(answer == HELLO_DONE);

@@ -52,6 +52,7 @@ static void set_up(host *h, size_t number, int64_t time)
     h->settings.time = time;
     h->settings.date = 1 << 10 | 1 << 5; /* 1 January 1972 */
     h->settings.link_count = 1;
+    hello_mark_own(&h->settings);
     uint8_t answer = hello_initialize(&h->settings, number, &h->clock, &h->links, &h->walk, h->copy,
                                       sizeof h->copy, run, RUN);
     assert(answer == HELLO_DONE);
@@ -109,7 +110,7 @@ static int walk_through(host *a, const uint8_t *message, size_t length)
 static int same_entry(hello_entry x, hello_entry y)
 {
     return x.delay == y.delay && x.offset == y.offset && x.ttl == y.ttl && x.pid == y.pid &&
-           x.time == y.time;
+           x.here == y.here && x.time == y.time;
 }
 
 int main(void)

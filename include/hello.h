@@ -16,7 +16,8 @@
  *
  *   no.  meaning                                        changes
  *   0    done                                           as the call's rule says
- *   1    a setting is out of its range                  nothing
+ *   1    a setting is out of its range, the own id is   nothing
+ *        not marked, or a mark lies at NHOSTS or above
  *   2    the buffer is shorter than the message         nothing
  *   3    the IP header is not in form                   nothing
  *   4    the IP checksum is not good                    nothing
@@ -38,8 +39,9 @@
  *        from 1 to the host's count (8 at most); the
  *        host's 255 places are not all in the run;
  *        where a walk is opened, its copy has no room
- *        for 1,052 octets; or something lent is out of
- *        range
+ *        for 1,052 octets; something lent is out of
+ *        range; or the mark of one of the host's first
+ *        NHOSTS entries is not that of the settings
  *   13   the host looked up is down: its DELAY is       nothing
  *        30,000
  *   16   the host is in the middle of a walk            nothing
@@ -52,7 +54,11 @@
  * 12 is tested first in all calls, then 16, then upwards in number. hello_initialize tests, for 12,
  * the host's number and the length of the run only; every other call tests the ranges of all that
  * it is lent: the clock, the host's links, which are the first link_count (8 at most), a walk that is
- * open, with its packet, and the host's first NHOSTS entries (255 at most).
+ * open, with its packet, and the host's first NHOSTS entries (255 at most) with their marks.
+ *
+ * A host may carry further ones, each with an id of its own: several hosts live at one. The settings
+ * mark their ids beside its own, hello_initialize writes each entry's mark, and hello_self_report
+ * reports them all. No call changes a mark, and a link may still update a marked entry.
  *
  * A walk is an arrival one box at a time: hello_open_walk tests and copies the packet, and each
  * hello_step makes the changes of one step of the arrival, or of one line of a host's update, and
@@ -97,6 +103,7 @@ extern "C" {
 #define HELLO_HOSTS 16             /* hosts that one run can hold */
 #define HELLO_LINKS 8              /* links that a host can have */
 #define HELLO_ROWS 32              /* rows that a net table can have */
+#define HELLO_MARKS 256            /* ids that can be marked, from 0 */
 #define HELLO_NO_CLOCK_HOST 255    /* clock_host where clock setting is off */
 #define HELLO_UNITS_PER_MS 65536   /* clock units to a millisecond */
 #define HELLO_LONGEST_MESSAGE 1052 /* octets of a message with the table of 255 hosts */
@@ -159,6 +166,14 @@ typedef struct hello_net_table {
     hello_row rows[HELLO_ROWS]; /* searched from the first; those behind the count not looked at */
 } hello_net_table;
 
+/*
+ * Which of the ids from 0 to 255 are marked: the hosts that live here. The mark of an id is bit
+ * id % 64 of word id / 64, the lowest bit first. hello_mark and hello_mark_own, below, set them.
+ */
+typedef struct hello_marks {
+    uint64_t words[HELLO_MARKS / 64];
+} hello_marks;
+
 /* The settings of a host. Outside these ranges every call on the host answers 1, unless 12. */
 typedef struct hello_settings {
     hello_address address;  /* LOCAL-ADDRESS: first octet 1 to 223; gives an id below NHOSTS */
@@ -173,7 +188,22 @@ typedef struct hello_settings {
     size_t link_count;      /* 1 to 8: the host's links are the first link_count */
     hello_link_setting links[HELLO_LINKS]; /* link 1 comes first */
     hello_net_table net;                   /* all ids below NHOSTS */
+    hello_marks marks; /* the ids whose hosts live here: the own one and any others below NHOSTS */
 } hello_settings;
+
+/* Marks an id: its host lives here. */
+static inline void hello_mark(hello_settings *settings, uint8_t id)
+{
+    settings->marks.words[id / 64] |= (uint64_t)1 << (id % 64);
+}
+
+/* Marks the own id, which the address and ADDRESS-OFFSET, set before, give. */
+static inline void hello_mark_own(hello_settings *settings)
+{
+    hello_address own = settings->address;
+    uint8_t octet = own.first < 128 ? own.third : own.fourth;
+    hello_mark(settings, (uint8_t)(octet - settings->layout.address_offset));
+}
 
 /*
  * A host's clock. The DATE word: bits 0-4 year less 1972, 5-9 day, 10-13 month, 14 zero, 15 one
@@ -234,7 +264,8 @@ typedef struct hello_entry {
     int64_t delay;  /* DELAY, 0 to 30,000 ms; 30,000 is down */
     int16_t offset; /* OFFSET, any, ms: that host's clock less ours */
     uint16_t ttl;   /* TTL, 0 to 120 s */
-    uint8_t pid;    /* PID, 0 to 8: the link of the route; 0: the host itself, or none */
+    uint8_t pid;    /* PID, 0 to 8: the link of the route; 0: a host that lives here, or none */
+    uint8_t here;   /* the mark of the id, as the settings have it: 1 lives here, 0 does not */
     int64_t time;   /* time of update, 0 to 86,400,000 ms */
 } hello_entry;
 
@@ -248,7 +279,7 @@ typedef struct hello_sent {
 typedef struct hello_route {
     uint8_t answer;
     size_t id;   /* the id that the address has; 0 when refused */
-    uint8_t pid; /* PID, the link of the route; 0 for the host itself, or when refused */
+    uint8_t pid; /* PID, the link of the route; 0 for a host that lives here, or when refused */
 } hello_route;
 
 /* What a reading answers. */
@@ -277,8 +308,8 @@ typedef struct hello_stepped {
 
 /*
  * Sets host `number` afresh by its settings: the clock, all eight links, each by its own of the
- * eight link settings, and the first NHOSTS entries; a walk is dropped. What stood there does not
- * matter, but something must. Answers 0, 1, 12.
+ * eight link settings, and the first NHOSTS entries, each with the mark of its id; a walk is
+ * dropped. What stood there does not matter, but something must. Answers 0, 1, 12.
  */
 uint8_t hello_initialize(const hello_settings *settings, size_t number, hello_clock *clock,
                          hello_links *links, hello_walk *walk, const uint8_t *copy,
@@ -325,8 +356,8 @@ uint8_t hello_second(const hello_settings *settings, size_t number, hello_clock 
                      hello_entry *run, size_t run_length);
 
 /*
- * Reads the clock as hello_read does, and updates the host's own entry with PID 0, DELAY 0 and
- * OFFSET 0. Answers 0, 1, 12, 16.
+ * Reads the clock as hello_read does, and updates the entry of each marked id, in rising order, with
+ * PID 0, DELAY 0 and OFFSET 0, all by that one reading. Answers 0, 1, 12, 16.
  */
 uint8_t hello_self_report(const hello_settings *settings, size_t number, hello_clock *clock,
                           hello_links *links, hello_walk *walk, const uint8_t *copy,

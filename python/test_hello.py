@@ -73,6 +73,7 @@ class Fields(unittest.TestCase):
             hello.Entry(offset=-(1 << 15) - 1),
             hello.Entry(ttl=1 << 16),
             hello.Entry(pid=-1),
+            hello.Entry(here=256),
             hello.Entry(time=-(1 << 63) - 1),
         ):
             with self.assertRaises(OverflowError, msg=entry):
@@ -187,7 +188,8 @@ class Answers(unittest.TestCase):
         self.assertEqual((kept.links[:1], kept.link_count), (tuple(links), 1))
         self.assertEqual(host.clock.clock, 1234 * hello.UNITS_PER_MS)
         self.assertEqual(host.links[0], hello.Link(hello.Address(192, 0, 2, 2)))
-        self.assertEqual(host.table, 4 * [hello.Entry(delay=30_000)])
+        fresh_entry = hello.Entry(delay=30_000)
+        self.assertEqual(host.table, [fresh_entry._replace(here=1), *3 * [fresh_entry]])
         self.assertEqual(host.room.run[4], hello.Entry())
 
     def test_octets_behind_a_message_stay(self):
@@ -317,6 +319,86 @@ class CrystalClock(unittest.TestCase):
             self.assertEqual(self.state(host), (1000 + self.TICK, 2))
             self.assertIs(getattr(host, call)(1, b"", counter=marked), Answer.IP_FORM)
             self.assertEqual(self.state(host), (1000 + self.TICK, 2))
+
+
+class Marks(unittest.TestCase):
+    """Several hosts at one."""
+
+    FRESH = hello.Entry(delay=30_000)
+
+    def marks(self, host):
+        return [entry.here for entry in host.table]
+
+    def test_settings(self):
+        self.assertEqual(settings().marks, {0})
+        self.assertEqual(settings(address=(10, 0, 7, 1)).marks, {6})
+        self.assertEqual(settings(address_offset=2).marks, frozenset())
+        self.assertEqual(settings(marks={0, 3}).marks, {0, 3})
+        every = settings(marks=range(256))
+        self.assertEqual(every.marks, set(range(256)))
+        every.marks = [63, 64, 255]
+        self.assertEqual(every.marks, {63, 64, 255})
+        for id in (-1, 256):
+            with self.assertRaises(OverflowError):
+                settings(marks={id})
+            with self.assertRaises(OverflowError):
+                every.marks = [1, id]
+        self.assertEqual(every.marks, {63, 64, 255})
+        for value in ({"0"}, {1.0}, 3):
+            with self.assertRaises(TypeError):
+                settings(marks=value)
+
+    def test_refused_with_1(self):
+        for marks in ((), {1}, {0, 4}, {0, 63}, {0, 64}, {0, 255}):
+            host = hello.Room(1).host(0, settings(marks=marks))
+            self.assertIs(host.initialize(), Answer.SETTING, msg=marks)
+        host = fresh(nhosts=255, marks=range(255))
+        self.assertEqual(self.marks(host), 255 * [1])
+        host.settings.marks = range(256)
+        self.assertIs(host.tick(), Answer.SETTING)
+
+    def test_refused_with_12(self):
+        host = fresh(marks={0, 2})
+        for id, here in ((0, 0), (1, 1), (2, 0), (2, 2), (3, 255)):
+            kept = host.room.run[id]
+            host.room.run[id] = kept._replace(here=here)
+            self.assertIs(host.second(), Answer.OUT_OF_RANGE)
+            self.assertIs(host.self_report(), Answer.OUT_OF_RANGE)
+            host.room.run[id] = kept
+            self.assertIs(host.second(), Answer.DONE)
+        host.room.run[4] = hello.Entry(here=1)
+        self.assertIs(host.second(), Answer.DONE)
+        host.settings.marks = {0, 1, 2}
+        self.assertIs(host.second(), Answer.OUT_OF_RANGE)
+        self.assertIs(host.initialize(), Answer.DONE)
+        self.assertEqual(self.marks(host), [1, 1, 1, 0])
+        self.assertEqual(host.room.run[4], hello.Entry(here=1))
+
+    def test_reported(self):
+        host = fresh(marks={0, 2, 3}, time=5)
+        host.room.run[3] = self.FRESH._replace(ttl=9, here=1)
+        self.assertIs(host.self_report(hello.Counter(2)), Answer.DONE)
+        reported = hello.Entry(ttl=120, here=1, time=7)
+        held = self.FRESH._replace(ttl=9, here=1)
+        self.assertEqual(host.table, [reported, self.FRESH, reported, held])
+
+    def test_stay(self):
+        neighbor = fresh(address=(192, 0, 2, 2), marks={1, 3})
+        self.assertIs(neighbor.self_report(), Answer.DONE)
+        neighbor.links[0] = hello.Link((192, 0, 2, 1), keep_alive=1, tsp=-300)
+        message = neighbor.send(1).message
+        host = fresh(marks={0, 3})
+        host.links[0] = hello.Link((192, 0, 2, 2))
+        self.assertIs(host.receive(1, message), Answer.DONE)
+        # Host 3 lives at both by their marks, and the link may update its entry.
+        self.assertEqual([host.table[id].delay for id in (1, 3)], [300, 300])
+        self.assertIs(host.open_walk(1, message).answer, Answer.DONE)
+        while host.step().place is not None:
+            self.assertEqual(self.marks(host), [1, 0, 0, 1])
+        for call in (host.second, host.self_report, host.tick, host.adjust):
+            self.assertIs(call(), Answer.DONE)
+        self.assertIs(host.send(1).answer, Answer.DONE)
+        self.assertEqual(self.marks(host), [1, 0, 0, 1])
 
 
 class Walking(unittest.TestCase):

@@ -56,6 +56,7 @@ impl Ours {
             offset: 0,
             ttl: 120,
             pid,
+            here: 0,
             time: READING,
         };
         let mut run = vec![entry; PLACES];
@@ -64,7 +65,12 @@ impl Ours {
             &settings, 0, &mut clock, &mut links, &mut walk, NO_COPY, &mut run,
         );
         assert_eq!(answer, Answer::Done.number());
-        run.fill(entry);
+        for place in &mut run {
+            *place = Entry {
+                here: place.here,
+                ..entry
+            };
+        }
         let link = &mut links.all[LINK - 1];
         link.neighbor = neighbor;
         link.keep_alive = 4;

@@ -15,6 +15,10 @@ counter, as it stands then, to each call that reads, and its count to tick, adju
     host.read(counter=hello.Counter(count=1234))
     host.tick(count=0)
 
+Several hosts can live at one; the settings mark their ids, and a self-report covers them all:
+
+    hello.Settings(address=(192, 0, 2, 1), address_offset=1, nhosts=8, marks={0, 3, 4})
+
 A packet that arrives is taken in one piece by receive, or in two by inspect and act, or one box at
 a time:
 
@@ -35,7 +39,7 @@ from .library import checksum, checksum_plain
 from .room import Host, Room
 from .values import Address, Counter, Entry, Inspected, Link, LinkSetting
 from .values import Net, Place, Route, Row, Sent, Stepped, Time
-from .values import HOSTS, LINE_CLOCK, LINKS, LONGEST_MESSAGE
+from .values import HOSTS, LINE_CLOCK, LINKS, LONGEST_MESSAGE, MARKS
 from .values import NO_CLOCK_HOST, PLACES, ROWS, UNITS_PER_MS
 from . import library as _library
 

@@ -5,7 +5,7 @@ from ctypes import c_size_t, c_uint8
 
 from .structures import CAddress, CClock, CEntry, CLink, CLinks, CSettings, CWalk
 from .structures import fitting, into, into_slots, number, part
-from .values import LINKS, LONGEST_MESSAGE, NO_CLOCK_HOST, UNITS_PER_MS
+from .values import LINKS, LONGEST_MESSAGE, MARKS, NO_CLOCK_HOST, UNITS_PER_MS
 from .values import Address, Entry, Link, LinkSetting, Net, Row
 
 
@@ -33,6 +33,8 @@ class Settings:
     date            starting date, a real one; see date_word
     links           LinkSettings, link 1 first; link_count, 1 to 8, becomes their count
     net             Rows of the net table; net_count, 0 to 32, becomes their count
+    marks           the ids, 0 to 255, whose hosts live here: the own one and any others below
+                    NHOSTS; at first the own one alone
     """
 
     __slots__ = ("_state",)
@@ -49,6 +51,7 @@ class Settings:
         date=date_word(1972, 1, 1),
         links=(LinkSetting(),),
         net=(),
+        marks=None,
     ):
         self._state = CSettings()
         self.address = address
@@ -61,6 +64,7 @@ class Settings:
         self.date = date
         self.links = links
         self.net = net
+        self.marks = self._own_id() if marks is None else marks
 
     address_offset = part("layout", "address_offset")
     nhosts = part("layout", "nhosts")
@@ -105,6 +109,25 @@ class Settings:
         values = tuple(values)
         into_slots(self._state.net.rows, "net", values)
         self.net_count = len(values)
+
+    @property
+    def marks(self):
+        """The marked ids, as a frozenset."""
+        words = self._state.marks.words
+        return frozenset(id for id in range(MARKS) if words[id // 64] >> id % 64 & 1)
+
+    @marks.setter
+    def marks(self, ids):
+        new = [0] * (MARKS // 64)
+        for id in ids:
+            id = fitting("a mark's id", id, 0, MARKS - 1)
+            new[id // 64] |= 1 << id % 64
+        self._state.marks.words[:] = new
+
+    def _own_id(self):
+        """The id that the address gives, alone, or nothing where it gives none."""
+        octet = self.address.third if self.address.first < 128 else self.address.fourth
+        return {octet - self.address_offset} if octet >= self.address_offset else ()
 
 
 class Clock:
@@ -215,7 +238,7 @@ class Run:
 
     def __getitem__(self, index):
         c = self._state[self._place(index)]
-        return Entry(c.delay, c.offset, c.ttl, c.pid, c.time)
+        return Entry(c.delay, c.offset, c.ttl, c.pid, c.here, c.time)
 
     def __setitem__(self, index, value):
         self._state[self._place(index)] = into(CEntry, "entry", value)

@@ -113,7 +113,7 @@ def buffer_of(buffer):
 def initialize(settings, number, clock, links, walk, run):
     """Sets host `number` afresh by its settings: the clock, all links, the first NHOSTS entries.
 
-    A walk is dropped.
+    Each entry gets the mark of its id. A walk is dropped.
     """
     return _INITIALIZE(*_lent(settings, number, clock, links, walk, run))
 
@@ -161,7 +161,7 @@ def second(settings, number, clock, links, walk, run):
 
 
 def self_report(settings, number, clock, links, walk, run, counter=LINE_CLOCK):
-    """Updates the host's own entry with PID 0, DELAY 0 and OFFSET 0, at the time of a reading."""
+    """Updates the entry of each marked id with PID 0, DELAY 0 and OFFSET 0, at the time of one reading."""
     return _SELF_REPORT(*_lent(settings, number, clock, links, walk, run), _counter(counter))
 
 

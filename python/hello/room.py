@@ -76,7 +76,7 @@ class Host:
         return Answer(library.second(*self._lent()))
 
     def self_report(self, counter=LINE_CLOCK):
-        """Updates the host's own entry with PID 0, DELAY 0 and OFFSET 0."""
+        """Updates the entries of the hosts that live here, the marked ids: PID 0, DELAY 0, OFFSET 0."""
         return Answer(library.self_report(*self._lent(), counter))
 
     def send(self, link, counter=LINE_CLOCK):

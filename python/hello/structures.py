@@ -2,9 +2,9 @@
 
 import ctypes
 import operator
-from ctypes import c_int16, c_int32, c_int64, c_size_t, c_uint8, c_uint16
+from ctypes import c_int16, c_int32, c_int64, c_size_t, c_uint8, c_uint16, c_uint64
 
-from .values import LINKS, ROWS
+from .values import LINKS, MARKS, ROWS
 
 _SIGNED = (c_int16, c_int32, c_int64)
 
@@ -37,6 +37,10 @@ class CNetTable(ctypes.Structure):
     _fields_ = [("count", c_size_t), ("rows", CRow * ROWS)]
 
 
+class CMarks(ctypes.Structure):
+    _fields_ = [("words", c_uint64 * (MARKS // 64))]
+
+
 class CSettings(ctypes.Structure):
     _fields_ = [
         ("address", CAddress),
@@ -49,6 +53,7 @@ class CSettings(ctypes.Structure):
         ("link_count", c_size_t),
         ("links", CLinkSetting * LINKS),
         ("net", CNetTable),
+        ("marks", CMarks),
     ]
 
 
@@ -89,6 +94,7 @@ class CEntry(ctypes.Structure):
         ("offset", c_int16),
         ("ttl", c_uint16),
         ("pid", c_uint8),
+        ("here", c_uint8),
         ("time", c_int64),
     ]
 

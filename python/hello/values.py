@@ -12,6 +12,8 @@ LINKS = 8
 """The links that a host can have."""
 ROWS = 32
 """The rows that a net table can have."""
+MARKS = 256
+"""The ids that can be marked, from 0."""
 NO_CLOCK_HOST = 255
 """The clock host's id where clock setting is off."""
 UNITS_PER_MS = 65_536
@@ -78,12 +80,14 @@ class Link(NamedTuple):
 
 
 class Entry(NamedTuple):
-    """An entry: DELAY (ms), OFFSET (ms), TTL (s), PID (link), time of update (ms)."""
+    """An entry: DELAY (ms), OFFSET (ms), TTL (s), PID (link), the mark of the id as the settings have
+    it (1 lives here, 0 does not), time of update (ms)."""
 
     delay: int = 0
     offset: int = 0
     ttl: int = 0
     pid: int = 0
+    here: int = 0
     time: int = 0
 
 

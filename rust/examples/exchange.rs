@@ -89,6 +89,7 @@ fn main() -> Result<(), Answer> {
         offset: 489,
         ttl: 120,
         pid: LINK as u8,
+        here: 0,
         time: 45_081,
     };
     assert_eq!(learned, expected);

@@ -12,7 +12,7 @@ use std::fmt;
 pub enum Answer {
     /// The call changed what its rule says.
     Done = 0,
-    /// A setting is out of its range.
+    /// A setting is out of its range, the own id is not marked, or a mark lies at NHOSTS or above.
     Setting = 1,
     /// The send's buffer is shorter than the message.
     ShortBuffer = 2,
@@ -38,7 +38,8 @@ pub enum Answer {
     NoHost = 11,
     /// The host's number is over 15; the link is not from 1 to the host's count (8 at most); the
     /// host's 255 places are not all in the run; where a walk is opened, its copy has no room for
-    /// 1,052 octets; or something lent is out of range.
+    /// 1,052 octets; something lent is out of range; or the mark of one of the host's first NHOSTS
+    /// entries is not that of the settings.
     OutOfRange = 12,
     /// The host looked up is down: its DELAY is 30,000.
     HostDown = 13,

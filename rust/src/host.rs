@@ -53,7 +53,7 @@ pub struct Seen {
 pub struct Found {
     /// The id that the address has.
     pub id: usize,
-    /// PID, the link of the route; 0 for the host itself.
+    /// PID, the link of the route; 0 for a host that lives here.
     pub pid: u8,
 }
 
@@ -168,7 +168,8 @@ impl Host<'_> {
         ))
     }
 
-    /// Updates the host's own entry with PID 0, DELAY 0 and OFFSET 0.
+    /// Updates the entries of the hosts that live here, which are the marked ids in rising order, with
+    /// PID 0, DELAY 0 and OFFSET 0.
     pub fn self_report(&mut self, counter: Counter) -> Answer {
         answer(crate::self_report(
             self.settings,

@@ -34,7 +34,10 @@ const _: () = {
     assert!(offset_of!(NetTable, count) == 0);
     assert!(offset_of!(NetTable, rows) == 8);
 
-    assert!(size_of::<Settings>() == 240 && align_of::<Settings>() == 8);
+    assert!(size_of::<Marks>() == 32 && align_of::<Marks>() == 8);
+    assert!(offset_of!(Marks, words) == 0);
+
+    assert!(size_of::<Settings>() == 272 && align_of::<Settings>() == 8);
     assert!(offset_of!(Settings, address) == 0);
     assert!(offset_of!(Settings, layout) == 8);
     assert!(offset_of!(Settings, clock_host) == 24);
@@ -45,6 +48,7 @@ const _: () = {
     assert!(offset_of!(Settings, link_count) == 56);
     assert!(offset_of!(Settings, links) == 64);
     assert!(offset_of!(Settings, net) == 104);
+    assert!(offset_of!(Settings, marks) == 240);
 
     assert!(size_of::<Clock>() == 24 && align_of::<Clock>() == 8);
     assert!(offset_of!(Clock, clock) == 0);
@@ -82,6 +86,7 @@ const _: () = {
     assert!(offset_of!(Entry, offset) == 8);
     assert!(offset_of!(Entry, ttl) == 10);
     assert!(offset_of!(Entry, pid) == 12);
+    assert!(offset_of!(Entry, here) == 13);
     assert!(offset_of!(Entry, time) == 16);
 
     assert!(size_of::<Sent>() == 16 && align_of::<Sent>() == 8);

@@ -34,8 +34,8 @@ pub use room::Room;
 pub use sums::checksum_plain;
 pub use types::*;
 
-/// Sets host `number` afresh: the clock, all links and the first NHOSTS entries, by the settings. A
-/// walk is dropped.
+/// Sets host `number` afresh: the clock, all links and the first NHOSTS entries, each with the mark
+/// of its id, by the settings. A walk is dropped.
 pub fn initialize(
     settings: &Settings,
     number: usize,
@@ -199,7 +199,8 @@ pub fn second(
     }
 }
 
-/// Updates the host's own entry with PID 0, DELAY 0 and OFFSET 0, at the time of a reading.
+/// Updates the entry of each marked id, in rising order, with PID 0, DELAY 0 and OFFSET 0, all at the
+/// time of one reading.
 pub fn self_report(
     settings: &Settings,
     number: usize,

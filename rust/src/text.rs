@@ -30,14 +30,17 @@ fn told(written: Written) -> Result<usize, u8> {
 pub fn to_text(message: &[u8], buffer: &mut [u8]) -> Result<usize, u8> {
     // SAFETY: slices are valid and do not overlap.
     told(unsafe {
-        hello_to_text(message.as_ptr(), message.len(), buffer.as_mut_ptr(), buffer.len())
+        hello_to_text(
+            message.as_ptr(),
+            message.len(),
+            buffer.as_mut_ptr(),
+            buffer.len(),
+        )
     })
 }
 
 /// Reads `text` as a message into the front of `buffer`: its length, or the answer that refuses it.
 pub fn from_text(text: &[u8], buffer: &mut [u8]) -> Result<usize, u8> {
     // SAFETY: slices are valid and do not overlap.
-    told(unsafe {
-        hello_from_text(text.as_ptr(), text.len(), buffer.as_mut_ptr(), buffer.len())
-    })
+    told(unsafe { hello_from_text(text.as_ptr(), text.len(), buffer.as_mut_ptr(), buffer.len()) })
 }

@@ -14,6 +14,9 @@ pub const LINKS: usize = 8;
 /// The rows that a net table can have.
 pub const ROWS: usize = 32;
 
+/// The ids that can be marked, from 0.
+pub const MARKS: usize = 256;
+
 /// The clock host's id where clock setting is off.
 pub const NO_CLOCK_HOST: u8 = 255;
 
@@ -137,6 +140,44 @@ pub struct NetTable {
     pub rows: [Row; ROWS],
 }
 
+/// Which of the ids from 0 to 255 are marked: the hosts that live here. The mark of an id is bit
+/// id % 64 of word id / 64, the lowest bit first.
+#[repr(C)]
+#[derive(Clone, Copy, Debug, PartialEq, Eq, Default)]
+pub struct Marks {
+    /// 64 marks to a word.
+    pub words: [u64; MARKS / 64],
+}
+
+impl Marks {
+    /// The marks of these ids alone.
+    pub fn of(ids: impl IntoIterator<Item = u8>) -> Marks {
+        let mut marks = Marks::default();
+        ids.into_iter().for_each(|id| marks.mark(id));
+        marks
+    }
+
+    /// Marks an id.
+    pub fn mark(&mut self, id: u8) {
+        self.words[usize::from(id) / 64] |= 1 << (id % 64);
+    }
+
+    /// Takes the mark of an id away.
+    pub fn unmark(&mut self, id: u8) {
+        self.words[usize::from(id) / 64] &= !(1 << (id % 64));
+    }
+
+    /// Whether an id is marked.
+    pub const fn has(&self, id: u8) -> bool {
+        self.words[id as usize / 64] >> (id % 64) & 1 == 1
+    }
+
+    /// The marked ids, in rising order.
+    pub fn ids(self) -> impl Iterator<Item = u8> {
+        (0..=u8::MAX).filter(move |id| self.has(*id))
+    }
+}
+
 /// The settings of a host. Calls on a host with a setting outside its range answer 1.
 #[repr(C)]
 #[derive(Clone, Copy, Debug, PartialEq, Eq, Default)]
@@ -161,11 +202,14 @@ pub struct Settings {
     pub links: [LinkSetting; LINKS],
     /// The net table; all its ids are below NHOSTS.
     pub net: NetTable,
+    /// The ids whose hosts live here: the own one, and any others below NHOSTS.
+    pub marks: Marks,
 }
 
 impl Settings {
     /// The settings of a host at an address: one point-to-point link, no net rows, clock setting
-    /// off, HOLD-INTERVAL 1 s, CLOCK-TICK 1 ms, time 0, 1 January 1972.
+    /// off, HOLD-INTERVAL 1 s, CLOCK-TICK 1 ms, time 0, 1 January 1972. Of the ids its own alone is
+    /// marked.
     pub fn new(address: Address, layout: Layout) -> Settings {
         Settings {
             address,
@@ -175,9 +219,27 @@ impl Settings {
             clock_tick: UNITS_PER_MS,
             date: date_word(1972, 1, 1),
             link_count: 1,
+            marks: Marks::of(own_id(address, layout)),
             ..Settings::default()
         }
     }
+
+    /// The same, with these ids marked too: their hosts live here beside the host itself.
+    pub fn with_marks(mut self, ids: impl IntoIterator<Item = u8>) -> Settings {
+        ids.into_iter().for_each(|id| self.marks.mark(id));
+        self
+    }
+}
+
+/// The id that an address of its own gives a host: the host octet, which is the third of class A and
+/// the fourth of the others, less ADDRESS-OFFSET; none below 0.
+fn own_id(address: Address, layout: Layout) -> Option<u8> {
+    let octet = if address.first < 128 {
+        address.third
+    } else {
+        address.fourth
+    };
+    octet.checked_sub(layout.address_offset)
 }
 
 /// A host's clock.
@@ -335,8 +397,10 @@ pub struct Entry {
     pub offset: i16,
     /// TTL, up to 120 s.
     pub ttl: u16,
-    /// PID, the link of the route, up to 8; 0 is the host itself or none.
+    /// PID, the link of the route, up to 8; 0 is a host that lives here, or none.
     pub pid: u8,
+    /// The mark of the id, as the settings have it: 1 lives here, 0 does not.
+    pub here: u8,
     /// The time of update, 0 to 86,400,000 ms.
     pub time: i64,
 }

@@ -14,6 +14,7 @@ fn route(delay: i64, ttl: u16, pid: u8) -> Entry {
         offset: 7,
         ttl,
         pid,
+        here: 0,
         time: 0,
     }
 }
@@ -125,6 +126,8 @@ fn an_inspection_tells_and_changes_nothing() {
 fn calls_may_come_between_inspection_and_action() {
     let (mut room, message) = room_and_message();
     let mut a = room.host(A);
+    let carries_both = a.settings.with_marks([B as u8]);
+    assert_eq!(a.initialize(carries_both), Answer::Done);
     assert!(a.inspect(1, &message).is_ok());
     assert_eq!(a.set(200, 0), Answer::Done);
     assert_eq!(a.act(1, LINE_CLOCK, &message), Answer::Done);

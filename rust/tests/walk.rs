@@ -44,6 +44,7 @@ fn message(known: bool, heard: bool) -> Vec<u8> {
         offset: -5,
         ttl: 9,
         pid: 0,
+        here: 0,
         time: 0,
     };
     host.links.all[0] = Link {

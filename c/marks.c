@@ -1,0 +1,150 @@
+/*
+ * Several hosts at one: A, of id 0, carries the hosts of ids 2 and 3 too, and B learns all three.
+ *
+ * B's clock is 500 ms behind A's, and the messages take no time. So B has the same DELAY and OFFSET
+ * for each of the three.
+ */
+#undef NDEBUG
+#include <assert.h>
+#include <stdio.h>
+#include <string.h>
+
+#include "hello.h"
+
+enum {
+    A = 0, /* numbers of the hosts, and their own ids */
+    B = 1,
+    LINK = 1, /* both have one link */
+    RUN = 2 * HELLO_PLACES,
+    NHOSTS = 5,
+    AHEAD = 500
+};
+
+/* A host: its settings, its number, and what it lends to each call beside the run. */
+typedef struct host {
+    hello_settings settings;
+    size_t number;
+    hello_clock clock;
+    hello_links links;
+    hello_walk walk; /* closed: neither host walks, and the copy is empty */
+} host;
+
+/* The run of both hosts' entries, and the copy of a walk's packet, of length 0 here. */
+static hello_entry run[RUN];
+static uint8_t copy[1];
+
+/* Sets the host afresh; answers the number. */
+static uint8_t initialize(host *h)
+{
+    return hello_initialize(&h->settings, h->number, &h->clock, &h->links, &h->walk, copy, 0, run,
+                            RUN);
+}
+
+/* The settings of host `number`, with its own id marked and its clock at `time` ms. */
+static void set_up(host *h, size_t number, int64_t time)
+{
+    hello_address address = {192, 0, 2, (uint8_t)(1 + number)};
+    memset(h, 0, sizeof *h);
+    h->number = number;
+    h->settings.address = address;
+    h->settings.layout.address_offset = 1;
+    h->settings.layout.nhosts = NHOSTS;
+    h->settings.clock_host = HELLO_NO_CLOCK_HOST;
+    h->settings.hold_interval = 1;
+    h->settings.clock_tick = HELLO_UNITS_PER_MS;
+    h->settings.time = time;
+    h->settings.date = 1 << 10 | 1 << 5; /* 1 January 1972 */
+    h->settings.link_count = 1;
+    hello_mark_own(&h->settings);
+}
+
+static uint8_t second(host *h)
+{
+    return hello_second(&h->settings, h->number, &h->clock, &h->links, &h->walk, copy, 0, run, RUN);
+}
+
+/* Reports the hosts that live at the host, in its own table. */
+static void self_report(host *h)
+{
+    assert(hello_self_report(&h->settings, h->number, &h->clock, &h->links, &h->walk, copy, 0, run,
+                             RUN, HELLO_LINE_CLOCK) == HELLO_DONE);
+}
+
+/* One host sends, and the other takes the message at once; what the action answers. */
+static uint8_t tells(host *from, host *to)
+{
+    uint8_t message[HELLO_LONGEST_MESSAGE];
+    hello_sent sent = hello_send(&from->settings, from->number, &from->clock, &from->links,
+                                 &from->walk, copy, 0, run, RUN, LINK, HELLO_LINE_CLOCK, message,
+                                 sizeof message);
+    assert(sent.answer == HELLO_DONE);
+    return hello_act(&to->settings, to->number, &to->clock, &to->links, &to->walk, copy, 0, run,
+                     RUN, LINK, HELLO_LINE_CLOCK, message, sent.length);
+}
+
+/* The entry of an id in the host's table. */
+static hello_entry *entry_of(const host *h, size_t id)
+{
+    return &run[HELLO_PLACES * h->number + id];
+}
+
+int main(void)
+{
+    host a, b;
+    set_up(&a, A, 40000 + AHEAD);
+    set_up(&b, B, 40000);
+
+    /* No id at NHOSTS or above can live here, 255 never, and the own id must. */
+    hello_settings good = a.settings;
+    hello_mark(&a.settings, NHOSTS);
+    assert(initialize(&a) == HELLO_SETTING);
+    a.settings = good;
+    hello_mark(&a.settings, HELLO_MARKS - 1);
+    assert(initialize(&a) == HELLO_SETTING);
+    memset(&a.settings.marks, 0, sizeof a.settings.marks);
+    hello_mark(&a.settings, 2);
+    assert(initialize(&a) == HELLO_SETTING);
+
+    a.settings = good;
+    hello_mark(&a.settings, 2);
+    hello_mark(&a.settings, 3);
+    assert(initialize(&a) == HELLO_DONE);
+    assert(initialize(&b) == HELLO_DONE);
+    for (size_t id = 0; id < NHOSTS; id++) {
+        assert(entry_of(&a, id)->here == (id == 0 || id == 2 || id == 3));
+        assert(entry_of(&b, id)->here == (id == 1));
+    }
+
+    /* A self-report covers all three: from now on they are up in A's own table. */
+    self_report(&a);
+    self_report(&b);
+    for (size_t id = 0; id < NHOSTS; id++)
+        assert(entry_of(&a, id)->delay == (entry_of(&a, id)->here ? 0 : 30000));
+
+    /* Both hear the other, then each other's times, then A's table. */
+    assert(tells(&a, &b) == HELLO_DONE);
+    assert(tells(&b, &a) == HELLO_DONE);
+    assert(tells(&a, &b) == HELLO_DONE);
+    for (size_t id = 0; id < NHOSTS; id++) {
+        hello_entry e = *entry_of(&b, id);
+        assert(e.here == (id == B));
+        if (entry_of(&a, id)->here)
+            assert(e.delay == 100 && e.offset == AHEAD && e.pid == LINK);
+    }
+
+    /* An entry whose mark is not that of the settings is refused; past NHOSTS it does not matter. */
+    assert(second(&a) == HELLO_DONE);
+    entry_of(&a, NHOSTS)->here = 1;
+    assert(second(&a) == HELLO_DONE);
+    entry_of(&a, 1)->here = 1;
+    assert(second(&a) == HELLO_OUT_OF_RANGE);
+    entry_of(&a, 1)->here = 0;
+    entry_of(&a, 2)->here = 2;
+    assert(second(&a) == HELLO_OUT_OF_RANGE);
+    entry_of(&a, 2)->here = 1;
+    assert(second(&a) == HELLO_DONE);
+
+    printf("B has for hosts 0, 2 and 3, which live at A: DELAY %d ms, OFFSET %d ms.\n",
+           (int)entry_of(&b, 3)->delay, (int)entry_of(&b, 3)->offset);
+    return 0;
+}
