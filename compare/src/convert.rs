@@ -9,6 +9,7 @@ pub fn settings(from: &hello::Settings) -> reference::Settings {
         address: address(from.address),
         address_offset: from.layout.address_offset,
         nhosts: from.layout.nhosts,
+        marks: std::array::from_fn(|id| from.marks.has(id as u8)),
         clock_host: from.clock_host,
         hold_interval: from.hold_interval,
         clock_tick: reference::Units(from.clock_tick),
@@ -100,5 +101,6 @@ pub fn entry(from: &hello::Entry) -> reference::Entry {
         ttl: from.ttl,
         pid: from.pid,
         updated: from.time,
+        here: from.here,
     }
 }

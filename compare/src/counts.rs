@@ -1,9 +1,11 @@
 //! How often each call gave each answer, and which pairs can occur; and what
-//! readings and walks did.
+//! readings, walks and marks did.
 
-use crate::call::NAMES;
+use crate::call::{Call, Trial, NAMES};
+use crate::convert;
 use crate::generate::DAY_UNITS;
-use hello::{Clock, Counter, Walk};
+use hello::{Clock, Counter, Entry, Walk};
+use reference::route;
 
 const ANSWERS: usize = 18;
 
@@ -167,4 +169,78 @@ impl Walks {
             .map(|(name, _)| format!("no {name}"))
             .collect()
     }
+}
+
+/// What marks did, and how often.
+#[derive(Default)]
+pub struct Marks {
+    own_reported: u64,
+    some_reported: u64,
+    all_reported: u64,
+    updated_by_a_link: u64,
+    refused_with_1: u64,
+    refused_with_12: u64,
+}
+
+impl Marks {
+    /// Adds a call, by the host's entries before and after it.
+    pub fn add(&mut self, trial: &Trial, before: &[Entry], after: &[Entry], answer: u8) {
+        let settings = &trial.settings;
+        let nhosts = settings.layout.nhosts;
+        match (&trial.call, answer) {
+            (Call::SelfReport { .. }, 0) => match settings.marks.ids().count() {
+                1 => self.own_reported += 1,
+                count if count == nhosts => self.all_reported += 1,
+                _ => self.some_reported += 1,
+            },
+            (Call::Act { .. } | Call::Receive { .. } | Call::Step { .. }, 0) => {
+                let updated = |(was, is): (&Entry, &Entry)| was != is && is.here == 1;
+                self.updated_by_a_link += u64::from(before.iter().zip(after).any(updated));
+            }
+            (_, 1) => self.refused_with_1 += u64::from(unsound_by_marks(trial)),
+            (_, 12) => {
+                let ids = before.iter().take(nhosts).enumerate();
+                let mut others =
+                    ids.filter(|(id, e)| e.here != u8::from(settings.marks.has(*id as u8)));
+                self.refused_with_12 += u64::from(others.next().is_some());
+            }
+            _ => {}
+        }
+    }
+
+    fn named(&self) -> [(&'static str, u64); 6] {
+        [
+            ("self-reports of the own id", self.own_reported),
+            ("of some ids", self.some_reported),
+            ("of all ids", self.all_reported),
+            ("marked entries updated by a link", self.updated_by_a_link),
+            ("1 by the marks alone", self.refused_with_1),
+            ("12 with another mark", self.refused_with_12),
+        ]
+    }
+
+    pub fn print(&self) {
+        let named = self.named();
+        let told: Vec<String> = named.map(|(name, count)| format!("{name} {count}")).into();
+        println!("{}", told.join(", "));
+    }
+
+    /// What never occurred.
+    pub fn complaints(&self) -> Vec<String> {
+        let named = self.named().into_iter();
+        named
+            .filter(|(_, count)| *count == 0)
+            .map(|(name, _)| format!("no {name}"))
+            .collect()
+    }
+}
+
+/// Whether the settings would be sound with the mark of the own id alone.
+fn unsound_by_marks(trial: &Trial) -> bool {
+    let mut settings = convert::settings(&trial.settings);
+    settings.marks.fill(false);
+    if let Some(id) = route::own_id(&settings) {
+        settings.marks[id] = true;
+    }
+    settings.are_sound()
 }

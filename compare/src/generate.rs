@@ -2,8 +2,8 @@
 
 use crate::random::Random;
 use crate::room::Room;
-use hello::{Address, Clock, Counter, Entry, Layout, Link, LinkSetting, Links, Net, Row, Settings};
-use hello::{Walk, HOSTS, LONGEST_MESSAGE, PLACES, UNITS_PER_MS};
+use hello::{Address, Clock, Counter, Entry, Layout, Link, LinkSetting, Links, Marks, Net, Row};
+use hello::{Settings, Walk, HOSTS, LONGEST_MESSAGE, PLACES, UNITS_PER_MS};
 
 pub const DAY_MS: i64 = 86_400_000;
 pub const DAY_UNITS: i64 = DAY_MS * UNITS_PER_MS;
@@ -78,6 +78,7 @@ fn settings(random: &mut Random, net: Address, layout: Layout) -> Settings {
         time: random.pick(&[0, 1, 3_600_000, DAY_MS - 1]),
         date: real_date(random),
         link_count: 1 + random.below(8),
+        marks: marks(random, layout.nhosts, id),
         ..Settings::default()
     };
     settings.net.count = random.pick(&[0, 1, 2, 3, 5, 31, 32]);
@@ -91,6 +92,19 @@ fn settings(random: &mut Random, net: Address, layout: Layout) -> Settings {
         };
     }
     settings
+}
+
+/// Sound marks: of the own id alone, of some others too, or of every id below NHOSTS.
+fn marks(random: &mut Random, nhosts: usize, own: u8) -> Marks {
+    let mut marks = Marks::of([own]);
+    match random.below(6) {
+        0..=2 => {}
+        3 => (0..3).for_each(|_| marks.mark(random.below(nhosts) as u8)),
+        kind => (0..nhosts)
+            .filter(|_| kind == 5 || random.one_in(2))
+            .for_each(|id| marks.mark(id as u8)),
+    }
+    marks
 }
 
 fn clock_tick(random: &mut Random) -> i64 {
@@ -301,8 +315,8 @@ pub fn links(random: &mut Random, settings: &Settings) -> Links {
     links
 }
 
-/// An entry in range, often close to a limit of the rules.
-pub fn entry(random: &mut Random) -> Entry {
+/// An entry in range with its mark, often close to a limit of the rules.
+pub fn entry(random: &mut Random, here: u8) -> Entry {
     let any = random.between(0, 30_000);
     let near_down = random.between(29_890, 30_000);
     Entry {
@@ -310,13 +324,15 @@ pub fn entry(random: &mut Random) -> Entry {
         offset: random.next() as i16,
         ttl: random.pick(&[0, 0, 1, 2, 60, 119, 120]),
         pid: random.below(9) as u8,
+        here,
         time: random.pick(&[0, 1_000, DAY_MS]),
     }
 }
 
 /// An entry in range or not.
 fn any_entry(random: &mut Random) -> Entry {
-    let mut entry = entry(random);
+    let here = random.pick(&[0, 0, 1, 1, 2, 255]);
+    let mut entry = entry(random, here);
     if random.one_in(4) {
         spoil_entry(random, &mut entry);
     }
@@ -406,7 +422,7 @@ pub fn spoil_walk(random: &mut Random, settings: &Settings, walk: &mut Walk) {
 /// Breaks one rule of the settings, or goes to its very edge.
 pub fn spoil_settings(random: &mut Random, settings: &mut Settings) {
     let nhosts = settings.layout.nhosts;
-    match random.below(15) {
+    match random.below(18) {
         0 => settings.address.first = random.pick(&[0, 224, 255]),
         1 => settings.address = with_host_octet(settings.address, random.octet()),
         2 => settings.layout.address_offset = random.octet(),
@@ -426,10 +442,31 @@ pub fn spoil_settings(random: &mut Random, settings: &mut Settings) {
             settings.net.rows[random.below(32)].id =
                 random.pick(&[nhosts.min(255) as u8, (nhosts - 1) as u8, 255]);
         }
+        14..=16 => spoil_marks(random, settings),
         _ => {
             let row = settings.net.count.clamp(1, 32) - 1;
             settings.net.rows[row].id = nhosts.min(255) as u8;
         }
+    }
+}
+
+/// Marks an id at NHOSTS or above, the last below it, or any other, or takes a mark away, that of the
+/// own id, another or all.
+fn spoil_marks(random: &mut Random, settings: &mut Settings) {
+    let nhosts = settings.layout.nhosts.clamp(1, 255);
+    let past = random.between(nhosts as i64, 255) as u8;
+    let below = random.below(nhosts) as u8;
+    let marked: Vec<u8> = settings.marks.ids().collect();
+    let marks = &mut settings.marks;
+    match random.below(8) {
+        0 => marks.mark(nhosts as u8),
+        1 => marks.mark(past),
+        2 => marks.mark(255),
+        3 => marks.mark(nhosts as u8 - 1),
+        4 => marks.mark(below),
+        5 => *marks = Marks::default(),
+        // Its own id is marked, and often it alone.
+        _ => marks.unmark(random.pick(&marked)),
     }
 }
 
@@ -467,12 +504,13 @@ pub fn spoil_links(random: &mut Random, links: &mut Links) {
     links.all[random.below(8)].keep_alive = random.pick(&[4, 5, 6, 255]);
 }
 
-/// Takes one field of an entry out of its range, or to its very edge.
+/// Takes one field of an entry out of its range, or to its very edge, or gives it another mark.
 pub fn spoil_entry(random: &mut Random, entry: &mut Entry) {
-    match random.below(4) {
+    match random.below(5) {
         0 => entry.delay = random.pick(&[-1, 30_000, 30_001, i64::MIN, i64::MAX]),
         1 => entry.ttl = random.pick(&[120, 121, u16::MAX]),
         2 => entry.pid = random.pick(&[8, 9, 255]),
+        3 => entry.here = random.pick(&[0, 1, entry.here ^ 1, 2, 255]),
         _ => entry.time = random.pick(&[-1, DAY_MS, DAY_MS + 1, i64::MIN, i64::MAX]),
     }
 }

@@ -4,7 +4,7 @@
 //!
 //! `compare [--seed N] [--calls N]` makes at least N calls. It ends with 1 at
 //! the first difference, and with 2 where an answer that can occur was never
-//! given, or something that readings or walks do never occurred.
+//! given, or something that readings, walks or marks do never occurred.
 
 mod call;
 mod capture;
@@ -22,7 +22,7 @@ mod trials;
 mod vectors;
 
 use call::{Call, Trial, Value};
-use counts::{Counts, Readings, Walks};
+use counts::{Counts, Marks, Readings, Walks};
 use hello::{Clock, Entry, Links, Walk, PLACES};
 use random::Random;
 use room::{Difference, Room};
@@ -61,6 +61,7 @@ struct Comparison {
     counts: Counts,
     readings: Readings,
     walks: Walks,
+    marks: Marks,
     calls: u64,
     /// The host's entries before the call, for the report of a difference.
     table: Vec<Entry>,
@@ -102,6 +103,8 @@ impl Comparison {
             let is_step = matches!(trial.call, Call::Step { .. });
             self.walks.add(&lent.2, after, is_step, outcome.answer);
         }
+        let after = &room.library.run[PLACES * trial.host..];
+        self.marks.add(trial, &self.table, after, outcome.answer);
         if let (Call::Send { .. }, Value::Length(length @ 1..)) = (&trial.call, &outcome.value) {
             self.messages.keep(&outcome.buffer.0[..*length]);
         }
@@ -136,13 +139,14 @@ impl Comparison {
     }
 }
 
-fn compare(options: &Options) -> Result<(Counts, Readings, Walks), String> {
+fn compare(options: &Options) -> Result<Comparison, String> {
     let mut comparison = Comparison {
         random: Random::new(options.seed),
         messages: Messages::default(),
         counts: Counts::default(),
         readings: Readings::default(),
         walks: Walks::default(),
+        marks: Marks::default(),
         calls: 0,
         table: Vec::new(),
     };
@@ -157,7 +161,7 @@ fn compare(options: &Options) -> Result<(Counts, Readings, Walks), String> {
     capture::run(options.seed)?;
     text::run(options.seed, options.calls.min(20_000))?;
     ntp::run(&mut comparison.random)?;
-    Ok((comparison.counts, comparison.readings, comparison.walks))
+    Ok(comparison)
 }
 
 fn main() -> ExitCode {
@@ -165,8 +169,14 @@ fn main() -> ExitCode {
         eprintln!("usage: compare [--seed N] [--calls N]");
         return ExitCode::from(2);
     };
-    let (counts, readings, walks) = match compare(&options) {
-        Ok(counted) => counted,
+    let Comparison {
+        counts,
+        readings,
+        walks,
+        marks,
+        ..
+    } = match compare(&options) {
+        Ok(comparison) => comparison,
         Err(difference) => {
             println!("seed {}\n{difference}", options.seed);
             return ExitCode::from(1);
@@ -175,9 +185,11 @@ fn main() -> ExitCode {
     counts.print();
     readings.print();
     walks.print();
+    marks.print();
     let mut complaints = counts.complaints();
     complaints.extend(readings.complaints());
     complaints.extend(walks.complaints());
+    complaints.extend(marks.complaints());
     complaints
         .iter()
         .for_each(|complaint| println!("{complaint}"));

@@ -3,6 +3,7 @@
 use crate::call::{Outcome, Trial};
 use crate::convert;
 use crate::sides::{Library, Reference};
+use hello::PLACES;
 
 pub struct Room {
     /// The settings of each host.
@@ -76,6 +77,18 @@ impl Room {
     pub fn lend_entry(&mut self, place: usize, entry: hello::Entry) {
         self.library.run[place] = entry;
         self.reference.run[place] = convert::entry(&entry);
+    }
+
+    /// Gives the entries of a host the marks that these settings have for its ids.
+    pub fn lend_marks(&mut self, host: usize, settings: &hello::Settings) {
+        for id in 0..settings.layout.nhosts.min(PLACES) {
+            let place = PLACES * host + id;
+            let here = u8::from(settings.marks.has(id as u8));
+            let entry = self.library.run[place];
+            if entry.here != here {
+                self.lend_entry(place, hello::Entry { here, ..entry });
+            }
+        }
     }
 
     /// Gives both programs the same call, and compares all that they leave: the

@@ -72,6 +72,10 @@ pub fn next(random: &mut Random, room: &mut Room, messages: &Messages) -> Trial 
     let mut trial = first(room, host);
     if random.one_in(12) {
         generate::spoil_settings(random, &mut trial.settings);
+        // Else the marks of the settings alone are others, and 12 comes before 1.
+        if random.one_in(2) {
+            room.lend_marks(host, &trial.settings);
+        }
     }
     if random.one_in(40) {
         trial.number = random.pick(&[0, 1, 15, HOSTS, HOSTS + 1, usize::MAX]);
@@ -105,9 +109,15 @@ fn stir(random: &mut Random, room: &mut Room, host: usize) {
     if random.one_in(5) {
         for id in 0..room.settings[host].layout.nhosts {
             if random.one_in(2) {
-                room.lend_entry(PLACES * host + id, generate::entry(random));
+                let place = PLACES * host + id;
+                let here = room.library.run[place].here;
+                room.lend_entry(place, generate::entry(random, here));
             }
         }
+    }
+    if random.one_in(2) {
+        let settings = room.settings[host];
+        room.lend_marks(host, &settings);
     }
 }
 

@@ -3,7 +3,7 @@
 use crate::call::{Call, Octets, Outcome, Trial, Value};
 use crate::generate::DAY_UNITS;
 use crate::room::Room;
-use hello::{Address, Clock, Counter, Entry, Layout, Links, Settings, Walk};
+use hello::{Address, Clock, Counter, Entry, Layout, Links, Marks, Settings, Walk};
 use hello::{LONGEST_MESSAGE, PLACES, UNITS_PER_MS};
 use std::fmt::Debug;
 
@@ -12,6 +12,7 @@ const DOWN: Entry = Entry {
     offset: 0,
     ttl: 0,
     pid: 0,
+    here: 0,
     time: 0,
 };
 
@@ -23,6 +24,7 @@ pub fn run() -> Result<(), String> {
     halves()?;
     round_trip()?;
     walked_round_trip()?;
+    several_hosts()?;
     midnight()?;
     crystal()?;
     program()?;
@@ -43,7 +45,10 @@ struct Pair(Room);
 
 impl Pair {
     fn fresh() -> Result<Pair, String> {
-        let settings = vec![settings(1), settings(2)];
+        Pair::of(vec![settings(1), settings(2)])
+    }
+
+    fn of(settings: Vec<Settings>) -> Result<Pair, String> {
         let room = Room::new(
             settings,
             vec![false; 2],
@@ -141,6 +146,7 @@ fn settings(octet: u8) -> Settings {
         clock_tick: 1,
         date: 1056,
         link_count: 2,
+        marks: Marks::of([octet - 1]),
         ..Settings::default()
     }
 }
@@ -213,6 +219,7 @@ fn takes(entry: Entry, delay: u16) -> Result<bool, String> {
     pair.0.lend_entry(1, entry);
     let report = Entry {
         delay: i64::from(delay) - 100,
+        here: 1,
         ..DOWN
     };
     pair.0.lend_entry(PLACES + 1, report);
@@ -285,18 +292,61 @@ fn walked_round_trip() -> Result<(), String> {
     expect("the entry", pair.0.library.run[1], LEARNED)
 }
 
+/// The same where the hosts of ids 2 and 3 live at the second host too: the first learns all three
+/// alike, and wrong marks are refused.
+fn several_hosts() -> Result<(), String> {
+    let hosts = vec![settings(1), settings(2).with_marks([2, 3])];
+    let (mut pair, answer) = answered_by(Pair::of(hosts)?)?;
+    let own = |id: usize| pair.0.library.run[PLACES + id];
+    let told = [0, 1, 2, 3].map(|id| (own(id).delay, own(id).here));
+    expect("the report", told, [(30_000, 0), (0, 1), (0, 1), (0, 1)])?;
+    expect("the answer", pair.take(0, answer)?, 0)?;
+    let learned = [1, 2, 3].map(|id| pair.0.library.run[id]);
+    expect("the entries", learned, [LEARNED; 3])?;
+
+    let good = pair.0.settings[1].marks;
+    for (marks, here, answer) in [
+        (good, 1, 0),
+        (good, 0, 12),
+        (good, 2, 12),
+        (Marks::of([1, 3]), 1, 12),
+        (Marks::of([1, 3]), 0, 0),
+        (Marks::of([2, 3]), 1, 12),
+        (Marks::of([1, 2, 3, 4]), 1, 1),
+        (Marks::of([1, 2, 3, 255]), 1, 1),
+    ] {
+        pair.0.settings[1].marks = marks;
+        let entry = Entry {
+            here,
+            ..own_entry(&pair)
+        };
+        pair.0.lend_entry(PLACES + 2, entry);
+        expect("marks", pair.call(1, Call::Second)?.answer, answer)?;
+    }
+    Ok(())
+}
+
+/// The second host's entry of id 2.
+fn own_entry(pair: &Pair) -> Entry {
+    pair.0.library.run[PLACES + 2]
+}
+
 /// What the first host then holds of the second.
 const LEARNED: Entry = Entry {
     delay: 100,
     offset: 489,
     ttl: 120,
     pid: 1,
+    here: 0,
     time: 45_081,
 };
 
 /// Two hosts, and the second's answer to the first's question, which arrives now.
 fn answered() -> Result<(Pair, Vec<u8>), String> {
-    let mut pair = Pair::fresh()?;
+    answered_by(Pair::fresh()?)
+}
+
+fn answered_by(mut pair: Pair) -> Result<(Pair, Vec<u8>), String> {
     pair.set_neighbor(0, 2);
     pair.set_neighbor(1, 1);
     pair.set_reading(0, 40_000);

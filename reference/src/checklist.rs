@@ -161,15 +161,17 @@ impl Checklist<'_> {
         self.at_line(LINE_C)
     }
 
-    /// "Store DELAY, OFFSET, TTL 120, PID and our reading."
+    /// "Store DELAY, OFFSET, TTL 120, PID and our reading." The mark stays.
     fn line_c(&mut self) -> Option<Place> {
         let (delay, offset) = self.walk.report(&self.message);
+        let here = self.entry().here;
         *self.entry() = Entry {
             delay,
             offset,
             ttl: HOLD_DOWN,
             pid: self.walk.link,
             updated: self.walk.reading.into(),
+            here,
         };
         if self.is_clock_host() {
             self.at_line(LINE_D)

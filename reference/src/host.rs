@@ -66,7 +66,10 @@ pub fn set_afresh(
     *clock = Clock::fresh(settings.time, settings.date);
     *links = settings.links.map(Link::fresh);
     walk.close();
-    run[start..start + settings.nhosts].fill(Entry::FRESH);
+    let places = &mut run[start..start + settings.nhosts];
+    for (entry, mark) in places.iter_mut().zip(settings.marks) {
+        *entry = Entry::fresh(mark);
+    }
     Ok(())
 }
 
@@ -144,6 +147,8 @@ pub fn second(
     Ok(())
 }
 
+/// "A self-report covers every marked id in rising order", all with the one
+/// reading.
 pub fn self_report(
     settings: &Settings,
     number: usize,
@@ -154,13 +159,16 @@ pub fn self_report(
     counter: Counter,
 ) -> Result<(), Refusal> {
     let places = admit(settings, number, clock, links, walk, run)?;
-    let own_id = route::own_id(settings).ok_or(Refusal::Settings)?;
-    run[places][own_id].update(&Report {
+    let report = Report {
         delay: 0,
         offset: 0,
         pid: 0,
         reading: take_reading(settings, clock, counter).time,
-    });
+    };
+    let table = &mut run[places];
+    for id in settings.marked_ids() {
+        table[id].update(&report);
+    }
     Ok(())
 }
 
@@ -393,15 +401,25 @@ fn admit_lent(
 ) -> Result<Range<usize>, Refusal> {
     let start = first_place(number, run.len())?;
     let places = start..start + settings.usable_hosts();
+    let table = &run[places.clone()];
     let in_range = clock.in_range()
         && links[..settings.usable_links()].iter().all(Link::in_range)
         && walk.in_range(settings)
-        && run[places.clone()].iter().all(Entry::in_range);
+        && table.iter().all(Entry::in_range)
+        && has_marks(table, settings);
     if in_range {
         Ok(places)
     } else {
         Err(Refusal::Lent)
     }
+}
+
+/// Whether each entry has the settings' mark.
+fn has_marks(table: &[Entry], settings: &Settings) -> bool {
+    table
+        .iter()
+        .zip(settings.marks)
+        .all(|(entry, mark)| entry.is_marked(mark))
 }
 
 fn test_settings(settings: &Settings) -> Result<(), Refusal> {

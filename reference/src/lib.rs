@@ -29,7 +29,7 @@ pub use address::Address;
 pub use clock::{Clock, Counter, Units};
 pub use date::Date;
 pub use link::{Link, LinkKind, Links, LINKS};
-pub use settings::{NetRow, Settings, NET_ROWS};
+pub use settings::{Marks, NetRow, Settings, MARKS, NET_ROWS};
 pub use table::Entry;
 pub use walk::{Place, Walk};
 

@@ -6,7 +6,7 @@ use crate::clock::{Clock, Counter, Units};
 use crate::date::Date;
 use crate::host;
 use crate::link::{Link, LinkKind, LINKS};
-use crate::settings::{NetRow, Settings, CLOCK_SETTING_OFF, NET_ROWS};
+use crate::settings::{marks_of, NetRow, Settings, CLOCK_SETTING_OFF, NET_ROWS};
 use crate::table::Entry;
 use crate::walk::Walk;
 use crate::PLACES;
@@ -16,6 +16,7 @@ pub const SETTINGS: Settings = Settings {
     address: Address([192, 0, 2, 1]),
     address_offset: 1,
     nhosts: 4,
+    marks: marks_of([0]),
     clock_host: CLOCK_SETTING_OFF,
     hold_interval: 1,
     clock_tick: Units(1),

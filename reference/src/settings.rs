@@ -11,8 +11,25 @@ use crate::PLACES;
 pub const NET_ROWS: usize = 32;
 /// The clock host id that switches clock setting off.
 pub const CLOCK_SETTING_OFF: u8 = 255;
+/// The ids that can have a mark: one more than a table can have entries, so
+/// that a mark at 255 is always "at NHOSTS or above".
+pub const MARKS: usize = 256;
 /// The longest CLOCK-TICK, between two overflows of a 16-bit counter.
 const MOST_TICK: Units = Units::from_ms(65_536);
+
+/// The mark "lives here" of each id.
+pub type Marks = [bool; MARKS];
+
+/// The marks of some ids.
+pub const fn marks_of<const COUNT: usize>(ids: [u8; COUNT]) -> Marks {
+    let mut marks = [false; MARKS];
+    let mut place = 0;
+    while place < COUNT {
+        marks[ids[place] as usize] = true;
+        place += 1;
+    }
+    marks
+}
 
 #[derive(Clone, Copy, Debug, PartialEq, Eq)]
 pub struct NetRow {
@@ -25,6 +42,8 @@ pub struct Settings {
     pub address: Address,
     pub address_offset: u8,
     pub nhosts: usize,
+    /// Which ids live here, the own id among them.
+    pub marks: Marks,
     pub clock_host: u8,
     /// In seconds.
     pub hold_interval: u16,
@@ -68,6 +87,12 @@ impl Settings {
             && !self.links[..self.usable_links()].contains(&LinkKind::Neither)
             && self.net_count <= NET_ROWS
             && self.net_table().iter().all(|row| id_is_sound(row.host))
-            && route::own_id(self).is_some()
+            && route::own_id(self).is_some_and(|id| self.marks[id])
+            && !self.marks[self.usable_hosts()..].contains(&true)
+    }
+
+    /// The marked ids in rising order.
+    pub fn marked_ids(&self) -> impl Iterator<Item = usize> + '_ {
+        (0..MARKS).filter(|id| self.marks[*id])
     }
 }

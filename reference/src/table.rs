@@ -21,6 +21,8 @@ pub struct Entry {
     pub pid: u8,
     /// The reading, in milliseconds, at the last store.
     pub updated: i64,
+    /// The mark "lives here", 1 or 0; only setting afresh writes it.
+    pub here: u8,
 }
 
 /// What is reported of a host: by a neighbour, or by the host itself as PID 0.
@@ -39,13 +41,27 @@ impl Entry {
         ttl: 0,
         pid: 0,
         updated: 0,
+        here: 0,
     };
+
+    /// A fresh entry with its mark.
+    pub fn fresh(lives_here: bool) -> Entry {
+        Entry {
+            here: lives_here.into(),
+            ..Entry::FRESH
+        }
+    }
 
     pub fn in_range(&self) -> bool {
         (0..=MAX_DELAY).contains(&self.delay)
             && self.ttl <= HOLD_DOWN
             && usize::from(self.pid) <= LINKS
             && (0..=DAY_MS).contains(&self.updated)
+    }
+
+    /// Whether the mark is that of the settings.
+    pub fn is_marked(&self, lives_here: bool) -> bool {
+        self.here == u8::from(lives_here)
     }
 
     pub fn is_up(&self) -> bool {
@@ -72,6 +88,7 @@ impl Entry {
             ttl: HOLD_DOWN,
             pid: report.pid,
             updated: report.reading,
+            here: self.here,
         };
         true
     }

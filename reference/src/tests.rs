@@ -4,12 +4,14 @@ use crate::clock::DAY_MS;
 use crate::host::{self, Inspected, Reading, Route};
 use crate::packet::{self, Heading};
 use crate::program;
+use crate::settings::marks_of;
 use crate::table::{Report, HOLD_DOWN, MAX_DELAY};
 use crate::*;
 
 mod capture;
 mod crystal;
 mod inspect;
+mod marks;
 mod ntp;
 mod random;
 mod text;
@@ -237,8 +239,10 @@ impl Host {
 
 /// The settings of the program's host at another address.
 fn settings_at(address: Address) -> Settings {
+    let own_id = address.host_octet() - program::SETTINGS.address_offset;
     Settings {
         address,
+        marks: marks_of([own_id]),
         ..program::SETTINGS
     }
 }
@@ -281,6 +285,16 @@ fn entry(delay: i64, ttl: u16, pid: u8) -> Entry {
         pid,
         ..Entry::FRESH
     }
+}
+
+/// The entry of an id that lives here.
+fn living_here(entry: Entry) -> Entry {
+    Entry { here: 1, ..entry }
+}
+
+/// The fresh entries of the program's host, whose own id is 0.
+fn fresh_table() -> [Entry; 4] {
+    [0, 1, 2, 3].map(|id| Entry::fresh(id == 0))
 }
 
 fn report(delay: i64, pid: u8) -> Report {
@@ -408,6 +422,7 @@ fn round_trip_between_two_hosts() {
         ttl: 120,
         pid: 1,
         updated: 45_081,
+        here: 0,
     };
     assert_eq!(a.run[1], learned);
     assert_eq!(a.lookup(ROUTER), Ok(Route { host: 1, pid: 1 }));
@@ -471,7 +486,7 @@ fn a_sum_of_delays_does_not_wrap() {
     let hosts = [(65_400, 0); 4];
     host.arrival(1, &router_message(heading(1_000, 800), &hosts))
         .unwrap();
-    assert_eq!(host.run[..4], [Entry::FRESH; 4]);
+    assert_eq!(host.run[..4], fresh_table());
 }
 
 #[test]
@@ -595,14 +610,14 @@ fn set_passes_midnight_often() {
 fn a_second_takes_entries_down() {
     let mut host = Host::fresh(program::SETTINGS);
     host.clock.hold = 1;
-    host.run[0] = entry(200, 1, 1);
+    host.run[0] = living_here(entry(200, 1, 1));
     host.run[1] = entry(200, 2, 1);
     host.run[2] = entry(MAX_DELAY, 1, 1);
     host.run[4] = entry(200, 1, 1);
     host.second().unwrap();
     host.second().unwrap();
     assert_eq!(host.clock.hold, 0);
-    assert_eq!(host.run[0], entry(MAX_DELAY, 119, 1));
+    assert_eq!(host.run[0], living_here(entry(MAX_DELAY, 119, 1)));
     assert_eq!(host.run[1], entry(MAX_DELAY, 120, 1));
     assert_eq!(host.run[2], entry(MAX_DELAY, 0, 1));
     assert_eq!(host.run[4], entry(200, 1, 1));
@@ -616,7 +631,7 @@ fn a_send_advertises_own_routes_as_down() {
     host.settings.link_count = 2;
     host.run[0] = Entry {
         offset: -7,
-        ..entry(300, 120, 1)
+        ..living_here(entry(300, 120, 1))
     };
     host.run[1] = entry(400, 120, 2);
     let mut buffer = [0xEE; 60];
@@ -749,7 +764,7 @@ fn a_broadcast_link_keeps_its_neighbour() {
         updated: 1_000,
         ..entry(100, 120, 1)
     };
-    assert_eq!((host.run[2], host.run[0]), (learned, Entry::FRESH));
+    assert_eq!((host.run[2], host.run[0]), (learned, Entry::fresh(true)));
     assert_eq!(host.links[0].neighbor, Address([192, 0, 2, 3]));
 }
 
@@ -797,7 +812,7 @@ fn self_report_stores_no_delay() {
     host.self_report().unwrap();
     let learned = Entry {
         updated: 77,
-        ..entry(0, 120, 0)
+        ..living_here(entry(0, 120, 0))
     };
     assert_eq!(host.run[0], learned);
     assert_eq!(host.clock.clock, Units::from_ms(77));
@@ -953,7 +968,7 @@ fn setting_afresh_leaves_the_other_places() {
     host.number = 1;
     host.clock.clock = Units(i64::MIN);
     host.set_afresh().unwrap();
-    assert_eq!(host.run[PLACES..PLACES + 4], [Entry::FRESH; 4]);
+    assert_eq!(host.run[PLACES..PLACES + 4], fresh_table());
     assert!(host.run[..PLACES].iter().all(|entry| *entry == used));
     assert!(host.run[PLACES + 4..].iter().all(|entry| *entry == used));
     assert_eq!(host.clock.date, Date::FIRST.awaited());

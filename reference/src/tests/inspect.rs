@@ -59,6 +59,8 @@ fn the_action_adds_10_and_11() {
 #[test]
 fn calls_may_come_between() {
     let mut host = host_with_router();
+    host.settings.marks = marks_of([0, 1]);
+    host.run[1].here = 1;
     let message = router_message(heading(1_000, 1_000), &[]);
     assert!(host.inspect(1, &message).is_ok());
     host.set(1_200).unwrap();

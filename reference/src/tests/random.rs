@@ -3,7 +3,7 @@
 use super::{message_from, sum_header, Host};
 use crate::clock::{DAY_MS, SLEW_MS};
 use crate::packet::Heading;
-use crate::settings::CLOCK_SETTING_OFF;
+use crate::settings::{marks_of, CLOCK_SETTING_OFF};
 use crate::table::MAX_DELAY;
 use crate::*;
 
@@ -48,7 +48,10 @@ pub fn host(random: &mut Random) -> Host {
         link.tsp = random.next() as i16;
     }
     for entry in &mut host.run[..host.settings.nhosts] {
-        *entry = self::entry(random);
+        *entry = Entry {
+            here: entry.here,
+            ..self::entry(random)
+        };
     }
     host
 }
@@ -67,6 +70,7 @@ fn settings(random: &mut Random) -> Settings {
         ]),
         address_offset,
         nhosts,
+        marks: marks(random, id, nhosts),
         clock_host: random.pick(&[CLOCK_SETTING_OFF, id, any_id, any_id]),
         hold_interval: random.pick(&[1, 30, 255]),
         clock_tick: random.pick(&[Units(1), Units(65_536_000), Units(1 << 32)]),
@@ -84,6 +88,16 @@ fn settings(random: &mut Random) -> Settings {
         row.host = random.below(nhosts) as u8;
     }
     settings
+}
+
+/// The own id's mark, and those of any others.
+fn marks(random: &mut Random, own_id: u8, nhosts: usize) -> Marks {
+    let mut marks = marks_of([own_id]);
+    let times = random.pick(&[2, 5, 1_000]);
+    for mark in &mut marks[..nhosts] {
+        *mark |= random.one_in(times);
+    }
+    marks
 }
 
 fn clock(random: &mut Random) -> Clock {
@@ -118,6 +132,7 @@ fn entry(random: &mut Random) -> Entry {
         ttl: random.pick(&[0, 0, 1, 120]),
         pid: random.pick(&[0, 1, 1, 2, 8]),
         updated: random.between(0, DAY_MS),
+        here: 0,
     }
 }
 

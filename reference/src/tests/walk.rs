@@ -64,7 +64,7 @@ fn go_to(host: &mut Host, place: Place) {
 }
 
 /// Every call but the step and setting afresh, with its answer's number.
-fn other_calls(host: &mut Host, packet: &[u8]) -> [u8; 12] {
+pub fn other_calls(host: &mut Host, packet: &[u8]) -> [u8; 12] {
     let address = host.settings.address;
     [
         answer(&host.tick()),
@@ -156,6 +156,7 @@ fn each_box_makes_its_own_changes() {
         ttl: 120,
         pid: 1,
         updated: 61_000,
+        here: 0,
     };
     expected.walk.line = 3;
     assert_eq!(host, expected);
@@ -173,7 +174,7 @@ fn each_box_makes_its_own_changes() {
 fn lines_lead_to_the_next_id() {
     let mut host = host_with_router();
     host.settings.clock_host = 3;
-    host.run[0] = entry(200, 120, 2);
+    host.run[0] = living_here(entry(200, 120, 2));
     host.run[1] = entry(500, 120, 1);
     host.run[2] = entry(MAX_DELAY, 5, 1);
     let hosts = [(1, 0), (29_900, 0), (0, 0), (0, 0)];
@@ -194,7 +195,7 @@ fn lines_lead_to_the_next_id() {
     for place in places {
         assert_eq!(host.step(), place);
     }
-    assert_eq!(host.run[0], entry(200, 120, 2));
+    assert_eq!(host.run[0], living_here(entry(200, 120, 2)));
     assert_eq!(host.run[1], entry(MAX_DELAY, 120, 1));
     assert_eq!(host.run[2], entry(MAX_DELAY, 5, 1));
     assert_eq!((host.run[3].delay, host.run[3].pid), (100, 1));
@@ -427,6 +428,8 @@ fn a_held_packet_is_a_good_one() {
     assert_eq!(refused(|host| host.settings.address = ROUTER), (12, 12));
     let on_broadcast = |host: &mut Host| {
         host.settings.address = ROUTER;
+        host.settings.marks = marks_of([0, 1]);
+        host.run[1].here = 1;
         host.settings.links[0] = LinkKind::Broadcast(ROUTER);
     };
     assert_eq!(refused(on_broadcast), (16, 0));
