@@ -8,12 +8,16 @@ use std::str::FromStr;
 pub const HELP: &str = "\
 Runs a room of HELLO hosts (RFC 891) on cables, and shows what each host has learned.
 
-  ./run [--hosts N] [--crystal N] [--shape line|ring] [--delay LIST] [--clocks LIST]
-        [--minutes N] [--loss PERCENT] [--seed N] [--help]
+  ./run [--hosts N] [--virtual N] [--crystal N] [--shape line|ring] [--delay LIST]
+        [--clocks LIST] [--minutes N] [--loss PERCENT] [--seed N] [--help]
 
 Without arguments: four hosts in a line, all with line clocks, ten minutes, no losses.
 
   --hosts N        how many hosts, 2 to 16 (default 4). Their addresses are 192.0.2.1 and on
+  --virtual N      so many further hosts, 0 to 64, live at these (default 0): the first at the first,
+                   the next at the next, and so on in turn. Each has an id and an address of its
+                   own, behind those of the hosts, and the clock and the links of the host it lives
+                   at, which reports it with itself
   --crystal N      so many hosts, from the first, have a crystal clock, whose counter of 1000 Hz
                    overflows each 65536 ms; the others have a line clock (default 0)
   --shape line     a cable from each host to the next (default)
@@ -35,7 +39,8 @@ that is handed the mark, and makes the tick.
 
 An OFFSET is promised to be off the true difference of two clocks by at most 101/200 of the DELAY
 beside it, if clocks differ by at most 16384 ms, each message takes 0 to 16383 ms and no clock
-reaches midnight. Where the arguments break a condition, the program says so, and runs.
+reaches midnight. The clock of a further host is that of the one host at which it lives. Where the
+arguments break a condition, the program says so, and runs.
 ";
 
 /// What the command line asks for.
@@ -73,6 +78,7 @@ const DELAYS: [Delay; 16] = [
 /// The request of the words, or what is wrong with them.
 pub fn parse(mut words: impl Iterator<Item = String>) -> Result<Request, String> {
     let mut hosts = 4;
+    let mut further = 0;
     let mut crystals = 0;
     let mut shape = Shape::Line;
     let mut delays = None;
@@ -87,6 +93,7 @@ pub fn parse(mut words: impl Iterator<Item = String>) -> Result<Request, String>
         let mut value = || words.next().ok_or(format!("{option} lacks its value"));
         match option.as_str() {
             "--hosts" => hosts = number(&option, &value()?, 2..=16)?,
+            "--virtual" => further = number(&option, &value()?, 0..=64)?,
             "--crystal" => crystals = number(&option, &value()?, 0..=16)?,
             "--shape" => shape = shape_named(&value()?)?,
             "--delay" => delays = Some(list(&value()?, delay)?),
@@ -100,6 +107,7 @@ pub fn parse(mut words: impl Iterator<Item = String>) -> Result<Request, String>
     Ok(Request::Run(Plan {
         clocks: clocks_of(hosts, clocks)?,
         crystals: crystals_of(hosts, crystals)?,
+        further,
         shape,
         cables: cables_of(hosts, shape, delays)?,
         minutes,

@@ -5,22 +5,24 @@ use hello::{date_word, Address, Layout, Settings, UNITS_PER_MS};
 /// What sets a host of the room apart, or is the same at all.
 pub struct Place {
     pub number: usize,
-    pub hosts: usize,
+    /// NHOSTS, and the ids of the further hosts that live here.
+    pub ids: usize,
+    pub guests: Vec<u8>,
     pub link_count: usize,
     /// The ms of one tick, and the time at the start.
     pub tick: i64,
     pub time: i64,
 }
 
-/// The address of the host with that number; its id is the number.
-pub fn address(number: usize) -> Address {
-    Address::new(192, 0, 2, 1 + number as u8)
+/// The address of the host of that id, which is its number in the room unless it is a further one.
+pub fn address(id: usize) -> Address {
+    Address::new(192, 0, 2, 1 + id as u8)
 }
 
 pub fn settings(place: Place) -> Settings {
     let layout = Layout {
         address_offset: 1,
-        nhosts: place.hosts,
+        nhosts: place.ids,
     };
     Settings {
         hold_interval: 10,
@@ -28,6 +30,6 @@ pub fn settings(place: Place) -> Settings {
         time: place.time,
         date: date_word(1983, 12, 1),
         link_count: place.link_count,
-        ..Settings::new(address(place.number), layout)
+        ..Settings::new(address(place.number), layout).with_marks(place.guests)
     }
 }

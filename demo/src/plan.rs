@@ -14,12 +14,32 @@ pub struct Plan {
     pub clocks: Vec<i64>,
     /// So many hosts, from the first, have a crystal clock; the others have a line clock.
     pub crystals: usize,
+    /// So many further hosts, without clocks and links of their own, live at these.
+    pub further: usize,
     pub shape: Shape,
     pub cables: Vec<Cable>,
     pub minutes: i64,
     /// Messages lost of a hundred.
     pub loss: u64,
     pub seed: u64,
+}
+
+impl Plan {
+    /// NHOSTS: the ids of the hosts, then those of the further ones.
+    pub fn ids(&self) -> usize {
+        self.clocks.len() + self.further
+    }
+
+    /// The number of the host at which an id's host lives: itself, or for the further ones one after
+    /// the other in turn.
+    pub fn home(&self, id: usize) -> usize {
+        id % self.clocks.len()
+    }
+
+    /// The ids of the further hosts that live at a host.
+    pub fn guests(&self, number: usize) -> impl Iterator<Item = usize> + '_ {
+        (self.clocks.len()..self.ids()).filter(move |id| self.home(*id) == number)
+    }
 }
 
 #[derive(Clone, Copy)]

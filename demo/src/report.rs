@@ -20,7 +20,8 @@ How to read the tables:
   true        what it is ahead in truth
   error       OFFSET less true
   bound       101/200 of DELAY: the most that the error may be, either way
-  link        the link by which the other host is reached; 0 for this host itself
+  link        the link by which the other host is reached; 0 for this host itself, and for each
+              that lives here
 ";
 
 /// The room that is going to run, and whether the bound is promised in it.
@@ -41,6 +42,12 @@ pub fn plan(out: &mut impl Write, plan: &Plan) -> Result<()> {
     for (number, clock) in plan.clocks.iter().enumerate() {
         let kind = clock_kind(plan, number);
         writeln!(out, "  {:<12} {clock:>+10} ms  {kind}", address(number))?;
+    }
+    if plan.further > 0 {
+        writeln!(out, "Further hosts, and the host at which each lives:")?;
+    }
+    for id in plan.clocks.len()..plan.ids() {
+        writeln!(out, "  {:<12} at {}", address(id), address(plan.home(id)))?;
     }
     writeln!(out, "Cables, with the time a message takes there and back:")?;
     for cable in &plan.cables {
@@ -82,7 +89,7 @@ pub fn result(out: &mut impl Write, plan: &Plan, room: &mut Room) -> Result<()> 
     for number in 0..room.hosts.count() {
         let clock = date_and_time(room.read(number));
         let host = room.hosts.host(number);
-        let rows = live_rows(&plan.clocks, &host);
+        let rows = live_rows(plan, &host);
         live += rows.len();
         beyond += rows.iter().filter(|row| !row.within_bound()).count();
         writeln!(out, "Host {} (id {number})", address(number))?;
@@ -99,9 +106,11 @@ pub fn result(out: &mut impl Write, plan: &Plan, room: &mut Room) -> Result<()> 
     }
 }
 
-/// A live entry of a host table, beside the truth.
+/// A live entry of a host table, beside the truth: the clock of the host at which the id's host lives,
+/// less that of the table's host.
 struct Row {
     id: usize,
+    home: usize,
     entry: Entry,
     truth: i64,
 }
@@ -122,15 +131,16 @@ impl Row {
 }
 
 /// The live entries of a host's table.
-fn live_rows(clocks: &[i64], host: &Host) -> Vec<Row> {
+fn live_rows(plan: &Plan, host: &Host) -> Vec<Row> {
     host.table()
         .iter()
         .enumerate()
         .filter(|(_, entry)| entry.delay < DOWN)
         .map(|(id, entry)| Row {
             id,
+            home: plan.home(id),
             entry: *entry,
-            truth: clocks[id] - clocks[host.number()],
+            truth: plan.clocks[plan.home(id)] - plan.clocks[host.number()],
         })
         .collect()
 }
@@ -166,9 +176,13 @@ fn print_host(out: &mut impl Write, host: &Host, rows: &[Row]) -> Result<()> {
 }
 
 fn print_row(out: &mut impl Write, row: &Row) -> Result<()> {
+    let lives = match row.home {
+        home if home == row.id => String::new(),
+        home => format!("  lives at {}", address(home)),
+    };
     writeln!(
         out,
-        "    {:>2}  {:<12}  {:>4}  {:>10}  {:>+11}  {:>+9}  {:>+10}  {:>10.3}{}",
+        "    {:>2}  {:<12}  {:>4}  {:>10}  {:>+11}  {:>+9}  {:>+10}  {:>10.3}{lives}{}",
         row.id,
         address(row.id),
         row.entry.pid,

@@ -58,7 +58,8 @@ impl Room {
             };
             let settings = settings(Place {
                 number,
-                hosts: hosts.count(),
+                ids: plan.ids(),
+                guests: plan.guests(number).map(|id| id as u8).collect(),
                 link_count: links_of(&plan.cables, number),
                 tick,
                 time: START + clock,
