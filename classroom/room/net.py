@@ -64,11 +64,16 @@ class Net:
         seat.given += due
         seat.state = ticked(seat.state, seat.host)
 
+    def home(self, id):
+        """The seat at which the host of that id lives, or None."""
+        return next((seat for seat in self.seats if id == seat.number or id in seat.also), None)
+
     def true(self, seat, id):
-        """The clock of the seat with that id less this seat's, in ms; None without such a seat."""
-        if id >= len(self.seats):
+        """The clock of the seat at which that host lives less this seat's, in ms, or None."""
+        home = self.home(id)
+        if home is None:
             return None
-        apart = self.seats[id].reading(self.now) - seat.reading(self.now)
+        apart = home.reading(self.now) - seat.reading(self.now)
         return (apart + DAY // 2) % DAY - DAY // 2
 
     def _point(self, seat, ids):

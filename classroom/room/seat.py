@@ -57,6 +57,7 @@ class Seat:
         self.difference = plan["difference"]
         self.crystal = plan["crystal"]
         self.by_hand = plan["by_hand"]
+        self.also = plan["also"]
         self.host = host
         self.given = 0
         self.waiting = {}

@@ -6,6 +6,8 @@ from .checks import Refused, keys, members, switch, whole, words
 
 SEATS = hello.HOSTS
 CABLES = 32
+HOSTS = 32
+"""So many hosts a room's tables have at most."""
 DAY = 86_400_000
 LONGEST_WAY = 60_000
 OVERFLOW = 65_536
@@ -19,12 +21,16 @@ def checked(given):
     keys("the set-up", given, ("seats", "cables"), ("interval", "seed", "time", "nhosts"))
     seats = members("seats", given["seats"], 1, SEATS)
     time = whole("time", given.get("time", 43_200_000), 0, DAY - 1)
-    nhosts = whole("nhosts", given.get("nhosts", len(seats)), len(seats), 32)
+    least = 1 + max([len(seats) - 1] + _further(seats))
+    nhosts = whole("nhosts", given.get("nhosts", least), least, HOSTS)
     seats = [_seat(number, seat, time, nhosts) for number, seat in enumerate(seats)]
     cables = [_cable(cable, len(seats)) for cable in members("cables", given["cables"], 0, CABLES)]
     ends = [tuple(end) for cable in cables for end in cable["ends"]]
     if len(set(ends)) != len(ends):
         raise Refused("two cables end at the same link")
+    further = [id for seat in seats for id in seat["also"]]
+    if len(set(further)) != len(further):
+        raise Refused("a host lives at one seat alone")
     return {
         "seats": seats,
         "cables": cables,
@@ -35,14 +41,22 @@ def checked(given):
     }
 
 
+def _further(seats):
+    """The ids of the hosts that live at a seat beside its own."""
+    also = [seat.get("also", []) if type(seat) is dict else [] for seat in seats]
+    ids = [id for of in also for id in members("also", of, 0, HOSTS)]
+    return [whole("a further host's id", id, len(seats), HOSTS - 1) for id in ids]
+
+
 def _seat(number, given, time, nhosts):
-    keys("a seat", given, (), ("name", "difference", "crystal", "by_hand", "clock_host"))
+    keys("a seat", given, (), ("name", "difference", "crystal", "by_hand", "clock_host", "also"))
     clock_host = given.get("clock_host")
     seat = {
         "name": words("name", given.get("name", f"seat {number}"), 24),
         "difference": whole("difference", given.get("difference", 0), -DAY, DAY),
         "crystal": switch("crystal", given.get("crystal", False)),
         "by_hand": switch("by_hand", given.get("by_hand", False)),
+        "also": given.get("also", []),
         "clock_host": clock_host
         if clock_host is None
         else whole("clock_host", clock_host, 0, nhosts - 1),
@@ -97,6 +111,7 @@ def _settings(set_up, number):
         address=address_of(number),
         address_offset=1,
         nhosts=set_up["nhosts"],
+        marks={number, *seat["also"]},
         clock_host=hello.NO_CLOCK_HOST if clock_host is None else clock_host,
         hold_interval=HOLD_INTERVAL,
         clock_tick=(OVERFLOW if seat["crystal"] else 1) * hello.UNITS_PER_MS,

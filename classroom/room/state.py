@@ -62,8 +62,8 @@ def _link(link):
 
 
 def _entry(entry):
-    delay, offset, ttl, pid, time = entry
-    return {"DELAY": delay, "OFFSET": offset, "TTL": ttl, "PID": pid, "time": time}
+    delay, offset, ttl, pid, here, time = entry
+    return {"DELAY": delay, "OFFSET": offset, "TTL": ttl, "PID": pid, "lives here": here, "time": time}
 
 
 def _held(walk):

@@ -92,6 +92,8 @@ def seat_of(room, seat, teacher=False):
         "by_hand": seat.by_hand,
         "crystal": seat.crystal,
         "difference": seat.difference,
+        "also": seat.also,
+        "clock_host": room.set_up["seats"][seat.number]["clock_host"],
         "clock": _clock(room, seat),
         "links": [_link(room, seat, link) for link in range(1, len(seat.state.links) + 1)],
         "table": _table(room, seat, teacher),
@@ -134,7 +136,7 @@ def _table(room, seat, teacher=False):
 
 def _entry(room, seat, id, entry, teacher):
     live = entry.delay < DOWN
-    shown = {"id": id, "name": room.seats[id].name if id < len(room.seats) else f"host {id}"}
+    shown = {"id": id, "name": _name(room, id)}
     shown.update(entry._asdict(), live=live, bound=101 * entry.delay / 200 if live else None)
     if teacher:
         true = room.true(seat, id)
@@ -142,6 +144,13 @@ def _entry(room, seat, id, entry, teacher):
         shown.update(true=true, error=error)
         shown["within"] = None if error is None else 200 * abs(error) <= 101 * entry.delay
     return shown
+
+
+def _name(room, id):
+    home = room.home(id)
+    if home is None:
+        return f"host {id}"
+    return home.name if id == home.number else f"at {home.name}"
 
 
 def _walk(room, walk):

@@ -16,6 +16,7 @@ const remover = (remove) => button("Remove", remove, { class: "quiet remove" });
 
 export const value = (row, name) => row.querySelector(`[data-name="${name}"]`);
 export const numeric = (row, name) => Number(value(row, name).value);
+const numbers = (row, name) => value(row, name).value.split(" ").filter(Boolean).map(Number);
 
 export function seatRow(seat, renumber, remove) {
   const node = row({}, [
@@ -24,6 +25,8 @@ export function seatRow(seat, renumber, remove) {
     field("crystal", "checkbox", seat.crystal, "crystal"),
     field("by_hand", "checkbox", seat.by_hand, "by hand"),
     choice("clock_host", "clock host"),
+    field("also", "text", (seat.also ?? []).join(" "), "ids of further hosts that live here",
+      { size: 5, pattern: "[0-9 ]*", placeholder: "none" }),
     remover(() => remove(node)),
   ]);
   node.prepend(el("th", { scope: "row" }));
@@ -37,6 +40,7 @@ export function seatOf(row, i) {
     crystal: value(row, "crystal").checked,
     by_hand: value(row, "by_hand").checked,
     clock_host: value(row, "clock_host").value === "" ? null : numeric(row, "clock_host"),
+    also: numbers(row, "also"),
   };
 }
 

@@ -15,7 +15,7 @@ const teachers = new Set(["true", "error", "within"]);
 
 function stateWords(entry, own) {
   if (!entry.live) return entry.ttl > 0 ? "down, held" : "down";
-  return own ? "itself" : "up";
+  return own ? "itself" : entry.here ? "lives here" : "up";
 }
 
 const words = {
