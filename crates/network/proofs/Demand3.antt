@@ -8,6 +8,7 @@ pub mod Arrival
 pub mod Walks
 pub mod Histories
 pub mod NeverAlive
+pub mod MarkedOnce
 pub mod Shared
 pub mod TwoSeats
 pub mod Alive

@@ -132,7 +132,7 @@ module _ (k : Counter) (x : Lent) where
       put-kept true e =
           let all : All P (x .run) = all-of P d (x .run) (λ j g n. refl) in
           let own = all-part P d (firstPlace (x .number)) (hostCount (h .settings)) (x .run) all in
-          let made = changes-keep (put w y) (entriesOf x) (λ j. P (j + firstPlace (x .number))) (λ id a low high inside z n. absurd (n (omega arith))) own in
+          let made = changes-keep (put w y) (entriesOf x) (λ j. P (j + firstPlace (x .number))) (λ id a low high is z n. absurd (n (omega arith))) own in
           let long = changes-length (put w y) (entriesOf x) in
           let whole = all-over (firstPlace (x .number)) (hostCount (h .settings)) (x .run) (runs.changes (put w y) (entriesOf x)) long P d all made in
           let size = written-kept x (runs.changes (put w y) (entriesOf x)) held long .same-length in

@@ -14,6 +14,8 @@ pub mod Opened
 pub mod Demand3
 pub mod Pair
 pub mod LineCalls
+pub mod Bare
+pub mod MarksStay
 pub mod OwnAlone
 pub mod WalkEnds
 pub mod EachBox

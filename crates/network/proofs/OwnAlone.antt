@@ -1,24 +1,24 @@
 -- Where the own id alone is marked, and entries have the settings' marks, the mark tests pass and the one entry with a mark is the own.
-use mathlib.Core.Path.{_≡_, refl, sym, ap, _∙_}
+use mathlib.Core.Path.{_≡_, refl, sym, ap, subst, _∙_}
 use mathlib.Core.Bool.{Bool, true, false, false≢true, cond, not, _&&_, _||_, and-true}
-use mathlib.Core.List.{List, [], _∷_}
+use mathlib.Core.List.{List, [], _∷_, _++_, append-assoc}
 use Prim.Native.Nat.{ℕ, zero, suc, _+_, _-_, _*_, _/_, _%_, _≤_, _<_, _^_}
-use native.Mathlib.Nat.{pow-suc, pow-succ', zero-div, div-eq-of-lt, div-div-eq-div-mul}
+use native.Mathlib.Nat.{zero-add, pow-suc, pow-succ', zero-div, div-eq-of-lt, div-div-eq-div-mul}
 use native.Mathlib.Omega.{arith}
-use borrow.Author.Tests.{eqb-true, eqb-false, eq-eqb, ne-eqb}
+use borrow.Author.Tests.{eqb-true, eqb-false, eq-eqb, ne-eqb, ltb-true}
 use lib.Dec.{ltb, leb, eqb}
 use lib.IntN.{pos}
 use lib.Pow.{pow-pos}
-use lib.ListN.{length, getD, set, replicate, length-set}
+use lib.ListN.{length, getD, set, replicate, length-set, length-replicate}
 use lib.Seq.{ext-getD, getD-set-same, getD-set-other}
-use Rattle.lists.specs.Lists.{over}
+use Rattle.lists.specs.Lists.{part, over}
 use Rattle.lists.proofs.Tests as tests
 use Rattle.lists.proofs.Parts.{part-more}
 use Rattle.quantity.specs.declared.Millis.{Millis}
 use Rattle.quantity.specs.Quantity.{millis, lessMillis}
 use Rattle.calendar.specs.Date.{real}
 use Rattle.answer.specs.declared.Answer.{Answer}
-use Rattle.answer.specs.declared.Answer.the-variants.{Done}
+use Rattle.answer.specs.declared.Answer.the-variants.{Done, Setting, OutOfRange, InWalk}
 use Rattle.clock.specs.declared.Counter.{Counter}
 use Rattle.clock.specs.Midnight.{dayMillis}
 use Rattle.clock.specs.Clock.{tickInRange}
@@ -27,12 +27,13 @@ use Rattle.route.specs.declared.Found.the-variants.{Id, Nothing}
 use Rattle.route.specs.Find.{isFound, rowsOf, idsBelow}
 use Rattle.route.proofs.Ids.{local-id-below}
 use Rattle.table.specs.declared.Entry.{Entry}
-use Rattle.table.specs.declared.run.Change.the-variants.{Reported}
-use Rattle.table.specs.Forms.{every, upFrom, mapFrom}
-use Rattle.table.specs.Marks.{onlyMark, bit, mark, marked, noneFrom}
+use Rattle.table.specs.declared.marks.Marks.{Marks}
+use Rattle.table.specs.declared.run.Change.the-variants.{Reported, Put}
+use Rattle.table.specs.Forms.{every, upFrom, everyFrom, mapFrom}
+use Rattle.table.specs.Marks.{onlyMark, bit, mark, marked, idsFrom, noneFrom}
 use Rattle.table.specs.Entry.{freshEntry, livesHere, asMarked}
 use Rattle.table.specs.Update.{selfReported, reportedHere}
-use Rattle.table.specs.Runs.{changes}
+use Rattle.table.specs.Runs.{changed, changes}
 use Rattle.table.proofs.Loops.{map-length}
 use Rattle.host.specs.declared.Settings.{Settings}
 use Rattle.host.specs.declared.guard.Scope.{Scope}
@@ -40,20 +41,24 @@ use Rattle.host.specs.declared.guard.Scope.the-variants.{Places, All, OnLink, O
 use Rattle.host.specs.Settings.{fromTo, clockSettingOff, ownId, switchesGood, foundMarked, settingsGood}
 use Rattle.host.specs.State.{hostCount, withEntries}
 use Rattle.host.specs.Lent.{Lent, ourReading, entriesOf, marksAsSet, lentInRange}
-use Rattle.host.specs.Guard.{guard, done}
+use Rattle.host.specs.Guard.{guard, inWalk, done}
 use Rattle.host.specs.Effect.{each, one}
 use Rattle.host.specs.Reply.{plainly}
 use Rattle.host.specs.code.Told.{afresh}
 use Rattle.host.proofs.Places.{entries-length}
 use Rattle.host.proofs.Sound.{sound}
 use Rattle.host.proofs.Guarded.{passed}
+use Rattle.calls.specs.declared.Request.{Request}
 use Rattle.calls.specs.declared.Request.the-variants.{Initialize, Tick, Adjust, Set, Read, Second, SelfReport, Lookup, Step}
 use Rattle.calls.specs.Effects.{selfReport}
 use Rattle.calls.specs.Perform.{Call, ask, send, deliver, openWalk, Outcome, scopeOfCall, refused, carriedOut, work, perform}
-use Rattle.network.specs.OwnAlone.{isOwn, MarksOwn, settingsUnmarked, lentUnmarked, guardUnmarked, ownWork, ownReport, workUnmarked, performUnmarked, OwnAlone}
+use Rattle.network.specs.OwnAlone.{isOwn, MarksOwn, settingsUnmarked, lentUnmarked, outUnmarked, guardUnmarked, ownWork, ownReport, workUnmarked, performUnmarked, OwnAlone}
 use Rattle.network.proofs.Lists.{all-there, each-all}
 use Rattle.network.proofs.Performs.{guardOf, performs, there}
 use Rattle.network.proofs.Swept.{changes-each}
+use Rattle.network.proofs.Bare.{calls-bare}
+use Rattle.network.proofs.MarksStay.{marks-stay}
+use Rattle.network.proofs.Demand1.Range.{afresh-in}
 
 -- ---- the settings
 
@@ -278,4 +283,11 @@ only-marked own id small = go (eqb (id / 64) (own / 64)) refl
         (sym (ne-eqb id own (λ q. other (ap (λ (m : ℕ). m / 64) q))))
 
 pub own-alone-holds : OwnAlone
-own-alone-holds = record { calls = λ c x own set. calls-same x own c set; only = only-marked }
+own-alone-holds =
+    record {
+      calls = λ c x own set. calls-same x own c set;
+      blind = calls-bare;
+      begins = λ x e. afresh-in x e .marks-in;
+      stays = λ c x marks. marks-stay x marks c;
+      only = only-marked;
+    }

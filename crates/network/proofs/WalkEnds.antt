@@ -1,13 +1,13 @@
 -- A walk that was opened passes the guard at each box, and so is run to its end as its boxes are, which is as the action is.
 use mathlib.Core.Path.{_≡_, refl, sym, ap, _∙_, subst}
-use mathlib.Core.Bool.{Bool, true, false, false≢true, cond, not}
+use mathlib.Core.Bool.{Bool, true, false, false≢true, cond, not, _&&_, _||_}
 use mathlib.Core.List.{List, _++_, append-assoc}
 use mathlib.Core.Logic.{_⊎_, inl, inr, ⊎-elim}
-use Prim.Native.Nat.{ℕ, zero, suc, _+_, _-_, _≤_, _<_, _^_}
+use Prim.Native.Nat.{ℕ, zero, suc, _+_, _-_, _*_, _≤_, _<_, _^_}
 use native.Mathlib.Omega.{arith}
 use borrow.Author.Tests.{le-leb, lt-ltb, le-ltb}
-use lib.Dec.{eqb}
-use lib.ListN.{length, take, drop, length-append}
+use lib.Dec.{ltb, leb, eqb}
+use lib.ListN.{length, getD, take, drop, length-append}
 use lib.Seq.{take-at, drop-at, length-take-le}
 use Rattle.lists.specs.Lists.{over}
 use Rattle.lists.proofs.Tests.{either}
@@ -30,6 +30,7 @@ use Rattle.route.specs.declared.Found.the-variants.{Id, Nothing}
 use Rattle.route.proofs.Ids.{found-below}
 use Rattle.table.specs.declared.Entry.{Entry}
 use Rattle.table.specs.Forms.{Stage, on, end}
+use Rattle.table.specs.Entry.{freshEntry}
 use Rattle.table.specs.Runs.{changes, updates}
 use Rattle.table.specs.Sweep.{sweep}
 use Rattle.host.specs.declared.Reply.{Reply}
@@ -47,14 +48,14 @@ use Rattle.host.specs.Inspection.{otherLayout, looped, inspected, inspect}
 use Rattle.host.specs.code.Walks.{Reported}
 use Rattle.host.proofs.Inspected.{Fits, inspected-fits}
 use Rattle.host.specs.Guard.{longest, guard, done}
-use Rattle.host.specs.Walk.{isOpen, placeOf, stepPlace, packetOf, walkInRange}
+use Rattle.host.specs.Walk.{isOpen, placeOf, stepPlace, packetOf, packetHeld, walkInRange}
 use Rattle.host.specs.Reply.{plainly, tellsPlace}
 use Rattle.host.proofs.Sound.{sound}
 use Rattle.host.proofs.Places.{entries-length, entries-withEntries}
 use Rattle.host.proofs.Places.{Holds as Holds₁}
 use Rattle.host.proofs.Guarded.{Passed, passed, counted, holds}
 use Rattle.calls.proofs.Carried.{entries-put}
-use Rattle.walk.specs.Boxes.{atHand, boxAt, step}
+use Rattle.walk.specs.Boxes.{atHand, box1, box2, box3, box4, box5, boxAt, step}
 use Rattle.walk.specs.declared.Opening.{Opening}
 use Rattle.walk.specs.Opening.{openedOn, opening}
 use Rattle.walk.specs.Opening.{openedBy as as-inspected}
@@ -65,9 +66,9 @@ use Rattle.arrival.specs.Steps.{steps2to4}
 use Rattle.arrival.specs.Arrival.{noUpdates, noTable, concluded, action}
 use Rattle.arrival.specs.Arrival.{inspected as inspected₁}
 use Rattle.arrival.proofs.Pair.{one-piece}
-use Rattle.walk.proofs.Walked.{Seat, Final, seat, final, boxHere, walkFrom}
+use Rattle.walk.proofs.Walked.{Seat, Final, seat, final, boxHere, walkFrom, box-is}
 use Rattle.walk.proofs.Holding.{Holds, passes, Goes, box-goes}
-use Rattle.calls.specs.Perform.{Outcome, openWalk, receive, entryAt, carriedOut, updatedBy, openedBy, refused, perform, left}
+use Rattle.calls.specs.Perform.{Outcome, ask, openWalk, receive, entryAt, carriedOut, updatedBy, openedBy, refused, perform, left}
 use Rattle.calls.specs.Perform as calls
 use Rattle.network.specs.Refusals.{closed}
 use Rattle.network.specs.WalkEnds.{walkOn, mostBoxes, Ends, WalkEnds}

@@ -14,6 +14,7 @@ pub mod HalfDelay
 pub mod Room
 pub mod Demand3
 pub mod NeverAlive
+pub mod MarkedOnce
 pub mod SharedRun
 pub mod TwoSeats
 pub mod Example

@@ -1,6 +1,7 @@
 -- Request 8 leaves a host that carries no virtual ones as it was: where the own id alone is marked, the calls are those without marks. Nothing but the guard and a self-report looks at a mark; setting afresh writes the marks, and what else changes an entry keeps its own.
 use mathlib.Core.Path.{_≡_}
 use mathlib.Core.Bool.{Bool, true, false, cond, not, _&&_, _||_}
+use mathlib.Core.List.{map}
 use Prim.Native.Nat.{ℕ, _<_}
 use lib.Dec.{ltb, leb, eqb}
 use lib.IntN.{pos}
@@ -17,11 +18,12 @@ use Rattle.clock.specs.Clock.{tickInRange}
 use Rattle.route.specs.declared.Found.{Found}
 use Rattle.route.specs.declared.Found.the-variants.{Id, Nothing}
 use Rattle.route.specs.Find.{isFound, rowsOf, idsBelow}
+use Rattle.table.specs.declared.Entry.{Entry}
 use Rattle.table.specs.declared.run.Change.the-variants.{Put}
 use Rattle.table.specs.declared.run.Changes.{Changes}
 use Rattle.table.specs.Forms.{every}
 use Rattle.table.specs.Marks.{onlyMark, marked}
-use Rattle.table.specs.Entry.{entryInRange}
+use Rattle.table.specs.Entry.{withMark, entryInRange}
 use Rattle.table.specs.Update.{selfReported}
 use Rattle.host.specs.declared.Settings.{Settings}
 use Rattle.host.specs.declared.Effect.{Effect}
@@ -29,13 +31,13 @@ use Rattle.host.specs.declared.guard.Scope.{Scope}
 use Rattle.host.specs.declared.guard.Scope.the-variants.{Places, All, OnLink, Opening, Walking}
 use Rattle.host.specs.Settings.{fromTo, clockSettingOff, ownId, switchesGood}
 use Rattle.host.specs.State.{noLink}
-use Rattle.host.specs.Lent.{Lent, ourReading, entriesOf, hostInRange, ownWalkInRange, marksAsSet}
+use Rattle.host.specs.Lent.{Lent, lent, ourReading, entriesOf, hostInRange, ownWalkInRange, marksAsSet}
 use Rattle.host.specs.Guard.{noPlaces, longest, inWalk, done}
 use Rattle.host.specs.Effect.{nothing, one}
 use Rattle.host.specs.Reply.{plainly}
 use Rattle.host.specs.code.Told.{afresh}
 use Rattle.calls.specs.declared.Request.the-variants.{Initialize, Tick, Adjust, Set, Read, Second, SelfReport, Lookup, Step}
-use Rattle.calls.specs.Perform.{Call, ask, send, deliver, openWalk, Outcome, scopeOfCall, refused, entryAt, carriedOut, work, perform}
+use Rattle.calls.specs.Perform.{Call, ask, send, deliver, openWalk, Outcome, scopeOfCall, refused, entryAt, carriedOut, work, perform, left}
 
 -- the own id alone is marked
 abbrev pub isOwn : Found → (id : ℕ) → Bool
@@ -111,9 +113,28 @@ abbrev pub performUnmarked : Call → Lent → Outcome
 performUnmarked c x =
     cond (not (done (guardUnmarked (scopeOfCall c) x))) (refused (guardUnmarked (scopeOfCall c) x) c x) (workUnmarked c x)
 
+-- ---- what is lent, and what is left, without the marks
+
+abbrev pub bare : Entry → Entry
+bare e = withMark 0 e
+
+abbrev pub bareLent : Lent → Lent
+bareLent x = lent (x .host .settings) (x .number) (x .host .clock) (x .host .links) (x .walk) (x .copy) (map bare (x .run))
+
+abbrev pub bareOutcome : Outcome → Outcome
+bareOutcome o =
+    record { reply = o .reply; clock = o .clock; links = o .links; walk = o .walk; copy = o .copy; run = map bare (o .run); buffer = o .buffer }
+
+-- ---- the law
+
 pub record OwnAlone : Type 0 where
   -- the entries are marked as set, which setting afresh does not ask
   pub calls : (c : Call) (x : Lent) → MarksOwn (x .host .settings) → (afresh (scopeOfCall c) ≡ false → marksAsSet x ≡ true)
       → perform c x ≡ performUnmarked c x
+  -- and these look at no mark: what they answer, tell and leave is, but for the marks, what they do of entries without marks
+  pub blind : (c : Call) (x : Lent) → bareOutcome (performUnmarked c x) ≡ bareOutcome (performUnmarked c (bareLent x))
+  -- the entries are marked as set from a setting afresh on, whatever the marks are
+  pub begins : (x : Lent) → perform (ask Initialize) x .reply .answer ≡ Done → marksAsSet (left x (perform (ask Initialize) x)) ≡ true
+  pub stays : (c : Call) (x : Lent) → marksAsSet x ≡ true → marksAsSet (left x (perform c x)) ≡ true
   -- such marks
   pub only : (own id : ℕ) → own < 256 → marked (onlyMark own) id ≡ eqb id own

@@ -14,6 +14,7 @@ ghost use Rattle.network.specs.EachBox.{EachBox};
 ghost use Rattle.network.specs.HalfDelay.{HelloHalfDelay};
 ghost use Rattle.network.specs.Demand3.{Demand3};
 ghost use Rattle.network.specs.NeverAlive.{NeverAlive};
+ghost use Rattle.network.specs.MarkedOnce.{MarkedOnce};
 ghost use Rattle.network.specs.SharedRun.{SharedDemand3};
 ghost use Rattle.network.specs.Example.{Example};
 ghost use Rattle.network.specs.Sharp.{Sharp};
@@ -73,14 +74,14 @@ pub fn line_calls()
     ensures { λ _. ⌜ LineCalls ⌝ }
 {}
 
+// The calls of a host that marks its own id alone are those of a host without marks, whose entries' marks make no difference; and entries stay marked as set.
+pub fn own_alone()
+    ensures { λ _. ⌜ OwnAlone ⌝ }
+{}
+
 // Each box of a walk changes what its step or line names, of the clock, of one link or of one entry, and nothing else.
 pub fn each_box()
     ensures { λ _. ⌜ EachBox ⌝ }
-{}
-
-// The calls of a host that marks its own id alone are those of a host without marks.
-pub fn own_alone()
-    ensures { λ _. ⌜ OwnAlone ⌝ }
 {}
 
 // A walk that is opened and run to its end leaves what the arrival with the first box's counts leaves, in at most 5 + 4 x 255 boxes.
@@ -103,7 +104,12 @@ pub fn never_alive()
     ensures { λ _. ⌜ NeverAlive ⌝ }
 {}
 
-// The same for one run that all seats share.
+// Each id is marked at one seat at most: the own ids differ, and a live entry is right by the seat that marks its id.
+pub fn marked_once()
+    ensures { λ _. ⌜ MarkedOnce ⌝ }
+{}
+
+// Demand 3 for one run that all seats share.
 pub fn shared_demand_3()
     ensures { λ _. ⌜ SharedDemand3 ⌝ }
 {}

@@ -34,7 +34,7 @@ use Rattle.table.specs.Forms.{every}
 use Rattle.table.specs.Marks.{mark}
 use Rattle.table.specs.Entry.{maxDelay, minDelay, freshEntry, asMarked, takenDown, aged, upTo, entryInRange}
 use Rattle.table.specs.Update.{dateTaken, lineD, reportedHere}
-use Rattle.table.specs.Runs.{changed, changes, updateAt, updatedAt}
+use Rattle.table.specs.Runs.{changed, changes, updateAt, updatedAt, updates}
 use Rattle.table.proofs.Cases.{stored}
 use Rattle.table.proofs.Kept.{aged-in-range, reported-in-range, update-mark, aged-mark, reported-mark, date-in-range}
 use Rattle.table.proofs.Kept as kept
@@ -173,7 +173,7 @@ module _ (x : Lent) where
   fresh-fit id = (refl, rw (zero-add id) (eq-eqb (mark m id) (mark m id) refl))
 
   -- setting afresh
-  begun : done (guard Places x) ≡ true → InRange (left x (work (ask Initialize) x))
+  pub begun : done (guard Places x) ≡ true → InRange (left x (work (ask Initialize) x))
   unfolding initialize
   begun e =
       let p = passed Places x e in
@@ -413,8 +413,8 @@ module _ (x : Lent) where
         let p = passed (scopeOfCall (deliver d octets)) x e in
         arrived octets d (counted (x .host .settings) (onLink d) (p .link (onLink d) refl)) (sound (x .host .settings) (p .settings)) few
 
-  afresh : perform (ask Initialize) x .reply .answer ≡ Done → InRange (left x (perform (ask Initialize) x))
-  afresh =
+  pub afresh-in : perform (ask Initialize) x .reply .answer ≡ Done → InRange (left x (perform (ask Initialize) x))
+  afresh-in =
       performs (ask Initialize) x (λ o. o .reply .answer ≡ Done → InRange (left x o))
       (λ e a. absurd (false≢true (sym e ∙ ap (λ y. done y) a))) (λ e _. begun e)
 
@@ -478,7 +478,7 @@ walked x (goes-on k y few before) = steps-whole y (walked y before) k few
 pub range-holds : Range
 range-holds =
     record {
-      fresh = λ x e. accepts _ (afresh x e);
+      fresh = λ x e. accepts _ (afresh-in x e);
       stays = λ c x not few a. accepts _ (stay x (accepted x a) c not few);
       steps = λ k x few held a. accepts _ (go-on x (accepted x a) k few held);
       walks = λ x w. accepts x (walked x w .range);

@@ -16,11 +16,13 @@ use Rattle.clock.specs.declared.Counter.{Counter}
 use Rattle.table.specs.declared.Entry.{Entry}
 use Rattle.table.specs.Entry.{freshEntry}
 use Rattle.host.specs.declared.Links.{Links}
-use Rattle.host.specs.declared.guard.Scope.the-variants.{OnLink}
+use Rattle.host.specs.declared.guard.Scope.the-variants.{Places, OnLink}
 use Rattle.host.specs.declared.walk.Walk.{Walk}
 use Rattle.host.specs.declared.walk.Place.the-variants.{Step1}
+use Rattle.host.specs.Settings.{settingsGood}
 use Rattle.host.specs.State.{hostCount}
 use Rattle.host.specs.Walk.{isOpen, noWalk, placeOf, packetOf}
+use Rattle.host.specs.Lent.{Lent}
 use Rattle.host.specs.Guard.{inWalk, done}
 use Rattle.host.proofs.Guarded.{passed}
 use Rattle.host.proofs.Sound.{Sound, sound}
@@ -31,7 +33,7 @@ use Rattle.calls.specs.declared.Request.{Request}
 use Rattle.calls.specs.declared.Request.the-variants as variants
 use Rattle.calls.specs.declared.Request.the-variants.{Initialize, Tick, Second, SelfReport}
 use Rattle.calls.specs.Effects.{initialize}
-use Rattle.calls.specs.Perform.{ask, send, deliver, inspect, Outcome, scopeOfCall}
+use Rattle.calls.specs.Perform.{ask, send, deliver, inspect, Outcome, scopeOfCall, perform}
 use Rattle.network.specs.Left.{messageOf}
 use Rattle.network.specs.Frame.{Elsewhere}
 use Rattle.network.specs.History.{Left, leftBy, after}

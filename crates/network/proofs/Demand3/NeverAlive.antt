@@ -2,7 +2,8 @@
 use mathlib.Core.Path.{_≡_, refl}
 use mathlib.Core.Bool.{Bool, true, false}
 use Rattle.table.specs.Entry.{up}
-use Rattle.network.specs.Demand3.{entryOf, history, Demand3Within, Claim}
+use Rattle.network.specs.Room.{Room}
+use Rattle.network.specs.Demand3.{World, entryOf, history, Demand3Within, Claim}
 use Rattle.network.specs.NeverAlive.{NeverAlive}
 use Rattle.network.proofs.Demand3.Histories.{demand-3}
 
