@@ -140,7 +140,7 @@ fn self_report(s: Settings, c: Clock, l: Links, w: Walk, k: Counter) -> Effect
     }
 }
 
-fn looked(found: Found, e: Entry) -> Reply
+pub fn looked(found: Found, e: Entry) -> Reply
     ensures { λ r. ⌜ r ≡ looked found e ⌝ }
 {
     match found {

@@ -1,8 +1,9 @@
 // The calls of a HELLO host. Each is lent all of a host, its clock, its links, its walk with the copy of a packet, and the run with its places; settings, number and what is lent are answered for first, with 12, 16 or 1.
 ghost use mathlib.Core.Path.{_≡_};
-ghost use Rattle.host.specs.declared.guard.Scope.the-variants.{OnLink, Opening};
+ghost use Rattle.host.specs.declared.guard.Scope.the-variants.{All, OnLink, Opening};
 ghost use Rattle.host.specs.Lent.{lent};
-ghost use Rattle.calls.specs.Perform.{perform, Leaves, ask, send, deliver, openWalk};
+ghost use Rattle.calls.specs.declared.Request.the-variants.{Tick, Adjust, Read, SelfReport, Lookup};
+ghost use Rattle.calls.specs.Perform.{perform, Leaves, ask, send, deliver, inspect, openWalk};
 ghost use Rattle.arrival.specs.Arrival.{onLink};
 use arrival::Delivery;
 use clock::Clock;
@@ -22,6 +23,7 @@ use table::run::update_all;
 
 mod effects;
 mod places;
+mod plans;
 
 // What is asked of a host, with its input.
 pub enum Request {
@@ -67,6 +69,135 @@ pub fn call(
     *links = p.links;
     *walk = p.walk;
     p.reply
+}
+
+fn all() -> Scope
+    ensures { λ r. ⌜ r ≡ All ⌝ }
+{
+    Scope::All
+}
+
+// CLOCK-TICK is added to the clock.
+pub fn tick(
+    settings: &Settings,
+    number: usize,
+    clock: &mut Clock,
+    links: &Links,
+    walk: &Walk,
+    copy: &[u8],
+    run: &[Entry],
+    count: Count,
+) -> Reply
+    ensures { λ r. ⌜ Leaves (perform (ask (Tick count)) (lent (now (settings .entry)) number (now (clock .entry)) (now (links .entry)) (now (walk .entry)) (now (copy .entry)) (now (run .entry)))) r (now (clock .exit)) (now (links .entry)) (now (walk .entry)) (now (copy .entry)) (now (run .entry)) ⌝ }
+{
+    let s = *settings;
+    let c = *clock;
+    let l = *links;
+    let v = *walk;
+    let a = all();
+    let g = guard(settings, number, c, l, v, copy, a, run);
+    let p = plans::tick(g, s, c, count);
+    *clock = p.clock;
+    p.reply
+}
+
+// A share of DELTA goes into the clock.
+pub fn adjust(
+    settings: &Settings,
+    number: usize,
+    clock: &mut Clock,
+    links: &Links,
+    walk: &Walk,
+    copy: &[u8],
+    run: &[Entry],
+    count: Count,
+) -> Reply
+    ensures { λ r. ⌜ Leaves (perform (ask (Adjust count)) (lent (now (settings .entry)) number (now (clock .entry)) (now (links .entry)) (now (walk .entry)) (now (copy .entry)) (now (run .entry)))) r (now (clock .exit)) (now (links .entry)) (now (walk .entry)) (now (copy .entry)) (now (run .entry)) ⌝ }
+{
+    let s = *settings;
+    let c = *clock;
+    let l = *links;
+    let v = *walk;
+    let a = all();
+    let g = guard(settings, number, c, l, v, copy, a, run);
+    let p = plans::adjust(g, s, c, count);
+    *clock = p.clock;
+    p.reply
+}
+
+// The time and DATE.
+pub fn read(
+    settings: &Settings,
+    number: usize,
+    clock: &mut Clock,
+    links: &Links,
+    walk: &Walk,
+    copy: &[u8],
+    run: &[Entry],
+    counter: Counter,
+) -> Reply
+    ensures { λ r. ⌜ Leaves (perform (ask (Read counter)) (lent (now (settings .entry)) number (now (clock .entry)) (now (links .entry)) (now (walk .entry)) (now (copy .entry)) (now (run .entry)))) r (now (clock .exit)) (now (links .entry)) (now (walk .entry)) (now (copy .entry)) (now (run .entry)) ⌝ }
+{
+    let s = *settings;
+    let c = *clock;
+    let l = *links;
+    let v = *walk;
+    let a = all();
+    let g = guard(settings, number, c, l, v, copy, a, run);
+    let p = plans::read(g, s, c, counter);
+    *clock = p.clock;
+    p.reply
+}
+
+// Each host that lives here reports itself.
+pub fn self_report(
+    settings: &Settings,
+    number: usize,
+    clock: &mut Clock,
+    links: &Links,
+    walk: &Walk,
+    copy: &[u8],
+    run: &mut [Entry],
+    counter: Counter,
+) -> Reply
+    ensures { λ r. ⌜ Leaves (perform (ask (SelfReport counter)) (lent (now (settings .entry)) number (now (clock .entry)) (now (links .entry)) (now (walk .entry)) (now (copy .entry)) (now (run .entry)))) r (now (clock .exit)) (now (links .entry)) (now (walk .entry)) (now (copy .entry)) (now (run .exit)) ⌝ }
+{
+    let s = *settings;
+    let c = *clock;
+    let l = *links;
+    let v = *walk;
+    let a = all();
+    let g = guard(settings, number, c, l, v, copy, a, run);
+    let p = plans::self_report(g, s, c, counter);
+    let w = places::placed(number, p.work);
+    change_all(run, w);
+    *clock = p.clock;
+    p.reply
+}
+
+// The host id of an address, and the link of its route.
+pub fn lookup(
+    settings: &Settings,
+    number: usize,
+    clock: &Clock,
+    links: &Links,
+    walk: &Walk,
+    copy: &[u8],
+    run: &[Entry],
+    address: wire::Address,
+) -> Reply
+    ensures { λ r. ⌜ Leaves (perform (ask (Lookup address)) (lent (now (settings .entry)) number (now (clock .entry)) (now (links .entry)) (now (walk .entry)) (now (copy .entry)) (now (run .entry)))) r (now (clock .entry)) (now (links .entry)) (now (walk .entry)) (now (copy .entry)) (now (run .entry)) ⌝ }
+{
+    let s = *settings;
+    let c = *clock;
+    let l = *links;
+    let v = *walk;
+    let a = all();
+    let g = guard(settings, number, c, l, v, copy, a, run);
+    let f = plans::found(g, s, address);
+    let z = places::seek_at(number, f);
+    let e = entry_of(run, z);
+    plans::route_of(g, f, e)
 }
 
 fn opening(link: usize) -> Scope
@@ -137,6 +268,29 @@ pub fn send(
     *clock = p.clock;
     *links = p.links;
     p.reply
+}
+
+// A packet is inspected; nothing changes.
+pub fn inspect(
+    settings: &Settings,
+    number: usize,
+    clock: &Clock,
+    links: &Links,
+    walk: &Walk,
+    copy: &[u8],
+    run: &[Entry],
+    link: usize,
+    packet: &[u8],
+) -> Reply
+    ensures { λ r. ⌜ Leaves (perform (inspect link (now (packet .entry))) (lent (now (settings .entry)) number (now (clock .entry)) (now (links .entry)) (now (walk .entry)) (now (copy .entry)) (now (run .entry)))) r (now (clock .entry)) (now (links .entry)) (now (walk .entry)) (now (copy .entry)) (now (run .entry)) ⌝ }
+{
+    let s = *settings;
+    let c = *clock;
+    let l = *links;
+    let v = *walk;
+    let a = on_link(link);
+    let g = guard(settings, number, c, l, v, copy, a, run);
+    plans::inspect(g, s, link, packet)
 }
 
 fn on_its_link(delivery: Delivery) -> Scope

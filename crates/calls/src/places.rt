@@ -2,6 +2,7 @@
 ghost use mathlib.Core.Path.{_≡_};
 ghost use mathlib.Core.Bool.{true};
 ghost use Prim.Native.Nat.{_≤_, _<_};
+ghost use Rattle.route.specs.Find.{isFound};
 ghost use Rattle.host.specs.State.{hasPlace};
 ghost use Rattle.calls.specs.Effects.{wanted};
 ghost use Rattle.calls.specs.code.Places.{
@@ -54,8 +55,8 @@ fn no_entry() -> Seek
     }
 }
 
-fn seek_at(number: usize, found: Found) -> Seek
-    requires { ⌜ (number ≤ 15) × (hasPlace found ≡ true) ⌝ }
+pub fn seek_at(number: usize, found: Found) -> Seek
+    requires { ⌜ (isFound found ≡ true → number ≤ 15) × (hasPlace found ≡ true) ⌝ }
     ensures { λ w. ⌜ w ≡ seekAt number found ⌝ }
 {
     match found {

@@ -359,12 +359,28 @@ impl Clock {
         c
     }
 
-    // The clock so that CLOCK plus the count lies within its day: each midnight passed moves DATE and loads HOLD.
-    fn midnight(self, hold_interval: Seconds, n: Count) -> Clock
+    // The midnights that were passed.
+    fn past_midnight(self, hold_interval: Seconds, n: Count) -> Clock
         requires { ⌜ Near self ⌝ }
         ensures { λ r. ⌜ (r ≡ midnight «hold_interval» n self) × Near r ⌝ }
     {
         self.days_on(hold_interval, n).days_back(hold_interval, n)
+    }
+
+    // The clock so that CLOCK plus the count lies within its day: each midnight passed moves DATE and loads HOLD. The usual case, none, is quick: the two calls are apart, so that it alone is compiled into the callers.
+    fn midnight(self, hold_interval: Seconds, n: Count) -> Clock
+        requires { ⌜ Near self ⌝ }
+        ensures { λ r. ⌜ (r ≡ midnight «hold_interval» n self) × Near r ⌝ }
+    {
+        if self.exceeds_day(n) {
+            let c = self;
+            return c.past_midnight(hold_interval, n);
+        }
+        if self.below_zero(n) {
+            let c = self;
+            return c.past_midnight(hold_interval, n);
+        }
+        self
     }
 }
 

@@ -13,7 +13,7 @@ ghost use Rattle.calls.specs.declared.Request.the-variants.{
   Lookup,
   Step,
 };
-ghost use Rattle.arrival.specs.declared.Delivery.the-variants.{Inspect, Act, Receive};
+ghost use Rattle.arrival.specs.declared.Delivery.the-variants.{Act, Receive};
 ghost use Rattle.calls.specs.Perform.{perform, ask, send, inspect, act, receive, openWalk};
 ghost use Rattle.program.specs.Program.{programAnswer};
 ghost use Rattle.hello.specs.Told.{
@@ -162,28 +162,10 @@ fn asks_initialize() -> Request
     Request::Initialize
 }
 
-fn asks_tick(count: Count) -> Request
-    ensures { λ q. ⌜ q ≡ Tick count ⌝ }
-{
-    Request::Tick(count)
-}
-
-fn asks_adjust(count: Count) -> Request
-    ensures { λ q. ⌜ q ≡ Adjust count ⌝ }
-{
-    Request::Adjust(count)
-}
-
 fn asks_set(ms: i32, count: Count) -> Request
     ensures { λ q. ⌜ q ≡ Set ms count ⌝ }
 {
     Request::Set(ms, count)
-}
-
-fn asks_read(counter: Counter) -> Request
-    ensures { λ q. ⌜ q ≡ Read counter ⌝ }
-{
-    Request::Read(counter)
 }
 
 fn asks_second() -> Request
@@ -192,28 +174,10 @@ fn asks_second() -> Request
     Request::Second
 }
 
-fn asks_self_report(counter: Counter) -> Request
-    ensures { λ q. ⌜ q ≡ SelfReport counter ⌝ }
-{
-    Request::SelfReport(counter)
-}
-
-fn asks_lookup(address: Address) -> Request
-    ensures { λ q. ⌜ q ≡ Lookup address ⌝ }
-{
-    Request::Lookup(address)
-}
-
 fn asks_step(counter: Counter) -> Request
     ensures { λ q. ⌜ q ≡ Step counter ⌝ }
 {
     Request::Step(counter)
-}
-
-fn inspects(link: usize) -> Delivery
-    ensures { λ d. ⌜ d ≡ Inspect link ⌝ }
-{
-    Delivery::Inspect(link)
 }
 
 fn acts(link: usize, counter: Counter) -> Delivery
@@ -270,16 +234,15 @@ pub extern "C" fn hello_tick(
     settings: &Settings,
     number: usize,
     clock: &mut Clock,
-    links: &mut Links,
-    walk: &mut Walk,
+    links: &Links,
+    walk: &Walk,
     copy: &[u8],
-    run: &mut [Entry],
+    run: &[Entry],
     count: Count,
 ) -> u8
-    ensures { λ r. ⌜ Returns numbered (perform (ask (Tick count)) (lent (now (settings .entry)) number (now (clock .entry)) (now (links .entry)) (now (walk .entry)) (now (copy .entry)) (now (run .entry)))) r (now (clock .exit)) (now (links .exit)) (now (walk .exit)) (now (copy .entry)) (now (run .exit)) ⌝ }
+    ensures { λ r. ⌜ Returns numbered (perform (ask (Tick count)) (lent (now (settings .entry)) number (now (clock .entry)) (now (links .entry)) (now (walk .entry)) (now (copy .entry)) (now (run .entry)))) r (now (clock .exit)) (now (links .entry)) (now (walk .entry)) (now (copy .entry)) (now (run .entry)) ⌝ }
 {
-    let q = asks_tick(count);
-    let a = calls::call(settings, number, clock, links, walk, copy, run, q);
+    let a = calls::tick(settings, number, clock, links, walk, copy, run, count);
     numbered(a)
 }
 
@@ -289,16 +252,15 @@ pub extern "C" fn hello_adjust(
     settings: &Settings,
     number: usize,
     clock: &mut Clock,
-    links: &mut Links,
-    walk: &mut Walk,
+    links: &Links,
+    walk: &Walk,
     copy: &[u8],
-    run: &mut [Entry],
+    run: &[Entry],
     count: Count,
 ) -> u8
-    ensures { λ r. ⌜ Returns numbered (perform (ask (Adjust count)) (lent (now (settings .entry)) number (now (clock .entry)) (now (links .entry)) (now (walk .entry)) (now (copy .entry)) (now (run .entry)))) r (now (clock .exit)) (now (links .exit)) (now (walk .exit)) (now (copy .entry)) (now (run .exit)) ⌝ }
+    ensures { λ r. ⌜ Returns numbered (perform (ask (Adjust count)) (lent (now (settings .entry)) number (now (clock .entry)) (now (links .entry)) (now (walk .entry)) (now (copy .entry)) (now (run .entry)))) r (now (clock .exit)) (now (links .entry)) (now (walk .entry)) (now (copy .entry)) (now (run .entry)) ⌝ }
 {
-    let q = asks_adjust(count);
-    let a = calls::call(settings, number, clock, links, walk, copy, run, q);
+    let a = calls::adjust(settings, number, clock, links, walk, copy, run, count);
     numbered(a)
 }
 
@@ -328,16 +290,15 @@ pub extern "C" fn hello_read(
     settings: &Settings,
     number: usize,
     clock: &mut Clock,
-    links: &mut Links,
-    walk: &mut Walk,
+    links: &Links,
+    walk: &Walk,
     copy: &[u8],
-    run: &mut [Entry],
+    run: &[Entry],
     counter: Counter,
 ) -> Time
-    ensures { λ r. ⌜ Returns timeTold (perform (ask (Read counter)) (lent (now (settings .entry)) number (now (clock .entry)) (now (links .entry)) (now (walk .entry)) (now (copy .entry)) (now (run .entry)))) r (now (clock .exit)) (now (links .exit)) (now (walk .exit)) (now (copy .entry)) (now (run .exit)) ⌝ }
+    ensures { λ r. ⌜ Returns timeTold (perform (ask (Read counter)) (lent (now (settings .entry)) number (now (clock .entry)) (now (links .entry)) (now (walk .entry)) (now (copy .entry)) (now (run .entry)))) r (now (clock .exit)) (now (links .entry)) (now (walk .entry)) (now (copy .entry)) (now (run .entry)) ⌝ }
 {
-    let q = asks_read(counter);
-    let a = calls::call(settings, number, clock, links, walk, copy, run, q);
+    let a = calls::read(settings, number, clock, links, walk, copy, run, counter);
     time_told(a)
 }
 
@@ -365,16 +326,15 @@ pub extern "C" fn hello_self_report(
     settings: &Settings,
     number: usize,
     clock: &mut Clock,
-    links: &mut Links,
-    walk: &mut Walk,
+    links: &Links,
+    walk: &Walk,
     copy: &[u8],
     run: &mut [Entry],
     counter: Counter,
 ) -> u8
-    ensures { λ r. ⌜ Returns numbered (perform (ask (SelfReport counter)) (lent (now (settings .entry)) number (now (clock .entry)) (now (links .entry)) (now (walk .entry)) (now (copy .entry)) (now (run .entry)))) r (now (clock .exit)) (now (links .exit)) (now (walk .exit)) (now (copy .entry)) (now (run .exit)) ⌝ }
+    ensures { λ r. ⌜ Returns numbered (perform (ask (SelfReport counter)) (lent (now (settings .entry)) number (now (clock .entry)) (now (links .entry)) (now (walk .entry)) (now (copy .entry)) (now (run .entry)))) r (now (clock .exit)) (now (links .entry)) (now (walk .entry)) (now (copy .entry)) (now (run .exit)) ⌝ }
 {
-    let q = asks_self_report(counter);
-    let a = calls::call(settings, number, clock, links, walk, copy, run, q);
+    let a = calls::self_report(settings, number, clock, links, walk, copy, run, counter);
     numbered(a)
 }
 
@@ -415,18 +375,27 @@ pub extern "C" fn hello_send(
 pub extern "C" fn hello_inspect(
     settings: &Settings,
     number: usize,
-    clock: &mut Clock,
-    links: &mut Links,
+    clock: &Clock,
+    links: &Links,
     walk: &Walk,
     copy: &[u8],
-    run: &mut [Entry],
+    run: &[Entry],
     link: usize,
     packet: &[u8],
 ) -> Inspected
-    ensures { λ r. ⌜ Returns inspectedTold (perform (inspect link (now (packet .entry))) (lent (now (settings .entry)) number (now (clock .entry)) (now (links .entry)) (now (walk .entry)) (now (copy .entry)) (now (run .entry)))) r (now (clock .exit)) (now (links .exit)) (now (walk .entry)) (now (copy .entry)) (now (run .exit)) ⌝ }
+    ensures { λ r. ⌜ Returns inspectedTold (perform (inspect link (now (packet .entry))) (lent (now (settings .entry)) number (now (clock .entry)) (now (links .entry)) (now (walk .entry)) (now (copy .entry)) (now (run .entry)))) r (now (clock .entry)) (now (links .entry)) (now (walk .entry)) (now (copy .entry)) (now (run .entry)) ⌝ }
 {
-    let d = inspects(link);
-    let a = calls::deliver(settings, number, clock, links, walk, copy, run, d, packet);
+    let a = calls::inspect(
+        settings,
+        number,
+        clock,
+        links,
+        walk,
+        copy,
+        run,
+        link,
+        packet,
+    );
     inspected_told(a)
 }
 
@@ -477,17 +446,16 @@ pub extern "C" fn hello_receive(
 pub extern "C" fn hello_lookup(
     settings: &Settings,
     number: usize,
-    clock: &mut Clock,
-    links: &mut Links,
-    walk: &mut Walk,
+    clock: &Clock,
+    links: &Links,
+    walk: &Walk,
     copy: &[u8],
-    run: &mut [Entry],
+    run: &[Entry],
     address: Address,
 ) -> Route
-    ensures { λ r. ⌜ Returns routeTold (perform (ask (Lookup address)) (lent (now (settings .entry)) number (now (clock .entry)) (now (links .entry)) (now (walk .entry)) (now (copy .entry)) (now (run .entry)))) r (now (clock .exit)) (now (links .exit)) (now (walk .exit)) (now (copy .entry)) (now (run .exit)) ⌝ }
+    ensures { λ r. ⌜ Returns routeTold (perform (ask (Lookup address)) (lent (now (settings .entry)) number (now (clock .entry)) (now (links .entry)) (now (walk .entry)) (now (copy .entry)) (now (run .entry)))) r (now (clock .entry)) (now (links .entry)) (now (walk .entry)) (now (copy .entry)) (now (run .entry)) ⌝ }
 {
-    let q = asks_lookup(address);
-    let a = calls::call(settings, number, clock, links, walk, copy, run, q);
+    let a = calls::lookup(settings, number, clock, links, walk, copy, run, address);
     route_told(a)
 }
 

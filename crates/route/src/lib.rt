@@ -224,6 +224,15 @@ pub fn find(ours: Address, layout: Layout, t: NetTable, a: Address) -> Found
 pub fn ids_below(t: NetTable, n: usize) -> bool
     ensures { λ r. ⌜ r ≡ idsBelow n (rowsOf t) ⌝ }
 {
+    if t.count == 0 {
+        return true;
+    }
+    rows_below(t, n)
+}
+
+fn rows_below(t: NetTable, n: usize) -> bool
+    ensures { λ r. ⌜ r ≡ idsBelow n (rowsOf t) ⌝ }
+{
     let count = row_count(t);
     let rows = t.rows;
     let mut i: usize = 0;

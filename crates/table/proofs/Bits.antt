@@ -152,3 +152,23 @@ pub four-words : (m : Marks) (n : ℕ) → length (m .words) ≡ 4
 unfolding noneFrom mark
 four-words m n four =
     four-zeros (m .words) n four ∙ sym (in-words (m .words) n) ∙ ap (λ (k : ℕ). every (unmarked (m .words)) (upFrom n (64 * k - n))) four
+
+-- a word of zero has no bits
+zero-word : (places : List ℕ) → every (λ (i : ℕ). eqb (bit 0 i) 0) places ≡ true
+zero-word [] = refl
+zero-word (i ∷ places) = rw (ap (λ (x : ℕ). x % 2) (zero-div (2 ^ i))) (zero-word places)
+
+pub first-word-alone : (m : Marks) (n : ℕ) → length (m .words) ≡ 4 → getD (m .words) 1 0 ≡ 0 → getD (m .words) 2 0 ≡ 0 → getD (m .words) 3 0 ≡ 0
+    → zeroFrom (getD (m .words) 0 0) n ≡ noneFrom m n
+first-word-alone m n four one two three =
+    sym
+    (rw (one, two, three, zero-word (upFrom (n - 64) (64 - (n - 64))), zero-word (upFrom (n - 128) (64 - (n - 128))), zero-word (upFrom (n - 192) (64 - (n - 192))), and-true (zeroFrom (getD (m .words) 0 0) n), and-true (zeroFrom (getD (m .words) 0 0) n), and-true (zeroFrom (getD (m .words) 0 0) n)) at
+    (sym (four-words m n four)))
+
+-- an id of the first word
+pub first-mark : (m : Marks) (id : ℕ) → id < 64 → getD (m .words) 0 0 / 2 ^ id % 2 ≡ mark m id
+unfolding mark
+first-mark m id h =
+    let z : id / 64 ≡ 0 = omega (arith, h) in
+    let k : id % 64 ≡ id = omega (arith, h) in
+    rw (z, k) refl

@@ -16,10 +16,14 @@ pub fn none() -> Marks
     Marks { words: [0; 4] }
 }
 
-// The mark of an id, 1 or 0.
+// The mark of an id, 1 or 0. The ids of the first word are apart: a word that is taken by its number has all words copied first.
 pub fn mark(m: Marks, id: usize) -> u8
     ensures { λ r. ⌜ r ≡ mark m id ⌝ }
 {
+    if id < 64 {
+        let words = m.words;
+        return ((words[0] >> id) % 2) as u8;
+    }
     if id >= 256 {
         return 0;
     }
@@ -48,8 +52,8 @@ fn less(n: usize, k: usize) -> usize
     n - k
 }
 
-// Is no id from n on marked?
-pub fn none_from(m: Marks, n: usize) -> bool
+// Is no id from n on marked, by all words?
+fn none_in_words(m: Marks, n: usize) -> bool
     ensures { λ r. ⌜ r ≡ noneFrom m n ⌝ }
 {
     let words = m.words;
@@ -57,4 +61,21 @@ pub fn none_from(m: Marks, n: usize) -> bool
         & zero_from(words[1], less(n, 64))
         & zero_from(words[2], less(n, 128))
         & zero_from(words[3], less(n, 192))
+}
+
+// Is no id from n on marked? Where only the first word has marks, that one is looked at.
+pub fn none_from(m: Marks, n: usize) -> bool
+    ensures { λ r. ⌜ r ≡ noneFrom m n ⌝ }
+{
+    let words = m.words;
+    if words[1] != 0 {
+        return none_in_words(m, n);
+    }
+    if words[2] != 0 {
+        return none_in_words(m, n);
+    }
+    if words[3] != 0 {
+        return none_in_words(m, n);
+    }
+    zero_from(words[0], n)
 }

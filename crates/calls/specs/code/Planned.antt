@@ -2,19 +2,25 @@
 use mathlib.Core.Path.{_≡_}
 use mathlib.Core.Bool.{true, false, cond, not}
 use mathlib.Core.List.{List}
-use Prim.Native.Nat.{ℕ}
+use Prim.Native.Nat.{ℕ, _≤_}
 use Rattle.answer.specs.declared.Answer.{Answer}
+use Rattle.clock.specs.declared.Clock.{Clock}
 use Rattle.table.specs.declared.Entry.{Entry}
 use Rattle.host.specs.declared.Settings.{Settings}
+use Rattle.host.specs.declared.Links.{Links}
 use Rattle.host.specs.declared.walk.Walk.{Walk}
+use Rattle.host.specs.declared.Reply.{Reply}
 use Rattle.host.specs.declared.Effect.{Effect}
 use Rattle.host.specs.Walk.{walkInRange}
 use Rattle.host.specs.Effect.{answers}
-use Rattle.host.specs.Lent.{Host}
+use Rattle.host.specs.Lent.{Host, host}
 use Rattle.host.specs.Guard.{done}
 use Rattle.host.specs.Reply.{plainly}
+use Rattle.host.specs.Inspection.{inspect, tells}
 use Rattle.host.specs.code.Told.{afresh}
 use Rattle.calls.specs.declared.Request.{Request}
+use Rattle.calls.specs.declared.plans.Timed.{Timed}
+use Rattle.calls.specs.declared.plans.Aged.{Aged}
 use Rattle.calls.specs.Effects.{scopeOf, effect}
 
 abbrev pub planned : Answer → Request → Host → Walk → (copy : List ℕ) → Entry → Effect
@@ -23,3 +29,28 @@ planned g q h w copy e = cond (not (done g)) (answers (plainly g) (h .clock) (h 
 -- what the guard tells a step of its walk
 pub record WalkTold (g : Answer) (q : Request) (s : Settings) (w : Walk) (copy : List ℕ) : Type 0 where
   pub walk : done g ≡ true → afresh (scopeOf q) ≡ false → walkInRange s w copy ≡ true
+
+-- ---- the calls that leave links and walk alone, whatever these are
+
+abbrev pub Timely : Timed → Answer → Request → Settings → Clock → Type 0
+Timely p g q s c =
+    (l : Links) (w : Walk) (o : List ℕ) (e : Entry)
+    → p ≡ record { reply = planned g q (host s c l) w o e .reply; clock = planned g q (host s c l) w o e .clock }
+
+abbrev pub Aging : Aged → Answer → Request → Settings → Clock → Type 0
+Aging p g q s c =
+    (l : Links) (w : Walk) (o : List ℕ) (e : Entry)
+    → p
+    ≡ record {
+      reply = planned g q (host s c l) w o e .reply;
+      clock = planned g q (host s c l) w o e .clock;
+      work = planned g q (host s c l) w o e .work;
+    }
+
+abbrev pub inspects : Answer → Settings → (link : ℕ) → (packet : List ℕ) → Reply
+inspects g s i octets = cond (not (done g)) (plainly g) (tells (inspect s i octets))
+
+-- what the guard tells an inspection of its link
+pub record LinkTold (g : Answer) (s : Settings) (i : ℕ) : Type 0 where
+  pub from-one : done g ≡ true → 1 ≤ i
+  pub to-eight : done g ≡ true → i ≤ 8

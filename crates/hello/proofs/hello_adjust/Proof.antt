@@ -1,22 +1,19 @@
--- The request, the call, and what is told of its reply.
-use mathlib.Core.Path.{_≡_, sym}
+-- The call, and what is told of its reply.
+use mathlib.Core.Path.{_≡_}
 use mir.Syntax.{w8}
 use base.Logic.{emp, id⊢}
-use Rattle.lent.proofs.Words.{by-value, chosen-by-value, unsigned}
-use Rattle.shapes.proofs.made.ExportAsksWith.{proof}
+use Rattle.lent.proofs.Words.{by-value, unsigned}
+use Rattle.shapes.proofs.made.ExportTimes.{proof}
 use Rattle.clock.proofs.Types.{clock, count}
 use Rattle.table.proofs.Types.{entry}
 use Rattle.host.specs.Lent.{lent}
 use Rattle.host.proofs.Types.{number, settings, links, walk, reply}
 use Rattle.calls.specs.declared.Request.the-variants.{Adjust}
 use Rattle.calls.specs.Perform.{perform, Leaves, ask}
-use Rattle.calls.proofs.Types.{request}
-use Rattle.calls.proofs.call.Symbol as calls
-use Rattle.calls.proofs.call.Met as calls-known
+use Rattle.calls.proofs.adjust.Symbol as calls
+use Rattle.calls.proofs.adjust.Met as calls-known
 use Rattle.hello.specs.Told.{numbered, Returns}
 use Rattle.hello.proofs.Returned.{returned}
-use Rattle.hello.proofs.asks_adjust.Symbol as asks
-use Rattle.hello.proofs.asks_adjust.Met as asks-known
 use Rattle.hello.proofs.numbered.Symbol as tells
 use Rattle.hello.proofs.numbered.Met as tells-known
 use Rattle.hello.proofs.hello_adjust.Key.{name as #hello-adjust}
@@ -26,13 +23,11 @@ use Rattle.hello.proofs.hello_adjust.Code as code
 pub hello-adjust-spec : {M : Type 1} → stated.statement M
 unfolding code.routine
 hello-adjust-spec 𝓤 H 𝓜 𝓖 𝓡 =
-    proof number (by-value count) (chosen-by-value request) (by-value reply) (unsigned w8) settings clock links walk entry 𝓤 H 𝓜 𝓖 𝓡
-    (λ i. emp 𝓤) (λ i q. q ≡ Adjust i)
-    (λ s k c l v o run q. emp 𝓤) (λ s k c l v o run q a c′ l′ v′ run′. Leaves (perform (ask q) (lent s k c l v o run)) a c′ l′ v′ o run′)
+    proof number (by-value count) (by-value reply) (unsigned w8) settings clock links walk entry 𝓤 H 𝓜 𝓖 𝓡
+    (λ s k c l v o run i. emp 𝓤) (λ s k c l v o run i a c′. Leaves (perform (ask (Adjust i)) (lent s k c l v o run)) a c′ l v o run)
     (λ a. emp 𝓤) (λ a r. r ≡ numbered a)
-    (λ s k c l v o run i c′ l′ v′ run′ r. Returns numbered (perform (ask (Adjust i)) (lent s k c l v o run)) r c′ l′ v′ o run′)
-    (λ s k c l v o run i. id⊢ 𝓤 _) (λ s k c l v o run i q q-is. id⊢ 𝓤 _) (λ s k c l v o run i q a c′ l′ v′ run′ q-is left. id⊢ 𝓤 _)
-    (λ s k c l v o run i q a c′ l′ v′ run′ r q-is left r-is. rw (sym q-is) (returned numbered (perform (ask q) (lent s k c l v o run)) a c′ l′ v′ o run′ r left r-is))
-    code.env #hello-adjust asks.name calls.name tells.name asks.routine calls.routine tells.routine
-    code.calls-hello·asks-adjust code.calls-calls·call code.calls-hello·numbered
-    (code.unfolded 𝓤 H 𝓜 𝓡) (asks-known.met 𝓤 H 𝓜 𝓖 𝓡) (calls-known.met 𝓤 H 𝓜 𝓖 𝓡) (tells-known.met 𝓤 H 𝓜 𝓖 𝓡)
+    (λ s k c l v o run i c′ r. Returns numbered (perform (ask (Adjust i)) (lent s k c l v o run)) r c′ l v o run)
+    (λ s k c l v o run i. id⊢ 𝓤 _) (λ s k c l v o run i a c′ left. id⊢ 𝓤 _)
+    (λ s k c l v o run i a c′ r left r-is. returned numbered (perform (ask (Adjust i)) (lent s k c l v o run)) a c′ l v o run r left r-is)
+    code.env #hello-adjust calls.name tells.name calls.routine tells.routine code.calls-calls·adjust code.calls-hello·numbered
+    (code.unfolded 𝓤 H 𝓜 𝓡) (calls-known.met 𝓤 H 𝓜 𝓖 𝓡) (tells-known.met 𝓤 H 𝓜 𝓖 𝓡)

@@ -1,4 +1,6 @@
+use mathlib.Core.Path.{ap}
 use native.Mathlib.Omega.{arith}
+use Rattle.route.specs.Find.{isFound}
 use Rattle.host.proofs.Places.{placed}
 use borrow.Author.Needs.{needs}
 use Rattle.calls.proofs.places.seek_at.Statement.{statement}
@@ -14,13 +16,13 @@ enum-known-found : tie.Need-enum-known-found
 enum-known-found c = search needs
 
 first-place-requires : tie.Need-first-place-requires
-first-place-requires c κs = search needs
+first-place-requires c κs = c .before .before .before .pre .0 (ap isFound (c .before .found .given .1))
 
 add-first : tie.Need-add-first
-add-first c = let p = c .before .before .before .before .pre in omega (arith, p .0, placed _ _ (c .before .before .found .given .1) (p .1), c .first-place .ensures)
+add-first c = let p = c .before .before .before .before .pre in omega (arith, p .0 (ap isFound (c .before .before .found .given .1)), placed _ _ (c .before .before .found .given .1) (p .1), c .first-place .ensures)
 
 add-t6 : tie.Need-add-t6
-add-t6 c = let p = c .before .before .before .before .pre in omega (arith, p .0, placed _ _ (c .before .before .found .given .1) (p .1), c .first-place .ensures)
+add-t6 c = let p = c .before .before .before .before .pre in omega (arith, p .0 (ap isFound (c .before .before .found .given .1)), placed _ _ (c .before .before .found .given .1) (p .1), c .first-place .ensures)
 
 fresh-requires : tie.Need-fresh-requires
 fresh-requires c κs = search needs

@@ -1,23 +1,34 @@
--- The first loop leaves CLOCK near its day, as the second asks.
-use native.Mathlib.Omega.{arith}
+-- A CLOCK within its day rests.
+use mathlib.Core.Path.{_∙_, sym}
 use borrow.Author.Needs.{needs}
-use Rattle.clock.specs.Midnight.{midnight}
-use Rattle.clock.proofs.Turns.{near-days-on, near-midnight}
+use Rattle.clock.proofs.Midnight.{at-rest}
 use Rattle.clock.proofs.Clock.midnight.Statement.{statement}
 use Rattle.clock.proofs.Clock.midnight.Tie as tie
 
-days-on-requires : tie.Need-days-on-requires
-days-on-requires c κs = search needs
+exceeds-day-requires : tie.Need-exceeds-day-requires
+exceeds-day-requires c κs = search needs
 
-days-back-requires : tie.Need-days-back-requires
-days-back-requires c κs = rw (c .days-on .ensures) (near-days-on (c .before .args .hold-interval) (c .before .args .n) (omega arith) (c .before .args .self) (c .before .pre))
+past-midnight-requires : tie.Need-past-midnight-requires
+past-midnight-requires c κs = search needs
 
 returns : tie.Need-returns
-unfolding midnight
-returns c =
-    let s = c .before .before in
-    let is = rw (c .before .days-on .ensures) at (c .days-back .ensures) in
-    (is, rw is (near-midnight (s .args .hold-interval) (s .args .n) (omega arith) (s .args .self) (s .pre)))
+returns c = c .past-midnight .ensures
+
+below-zero-requires : tie.Need-below-zero-requires
+below-zero-requires c κs = search needs
+
+past-midnight-requires-2 : tie.Need-past-midnight-requires-2
+past-midnight-requires-2 c κs = search needs
+
+returns-2 : tie.Need-returns-2
+returns-2 c = c .past-midnight2 .ensures
+
+returns-3 : tie.Need-returns-3
+returns-3 c =
+    let s = c .before .before .before .before in
+    let not-over = sym (c .before .before .before .exceeds-day .ensures) ∙ c .before .before .if1 .left in
+    let not-under = sym (c .before .below-zero .ensures) ∙ c .if2 .left in
+    (sym (at-rest (s .args .hold-interval) (s .args .n) (s .args .self) not-over not-under), s .pre)
 
 pub midnight-spec : {M : Type 1} → statement M
-midnight-spec = tie.close (tie.spec days-on-requires days-back-requires returns)
+midnight-spec = tie.close (tie.spec exceeds-day-requires past-midnight-requires returns below-zero-requires past-midnight-requires-2 returns-2 returns-3)

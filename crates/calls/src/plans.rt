@@ -1,0 +1,144 @@
+// What the calls that leave links and walk alone come to, by value: a refusal of the guard's, or their work.
+ghost use mathlib.Core.Path.{_≡_};
+ghost use mathlib.Core.Bool.{cond, not};
+ghost use Rattle.route.specs.declared.Found.the-variants.{Nothing};
+ghost use Rattle.host.specs.declared.guard.Scope.the-variants.{All};
+ghost use Rattle.host.specs.Settings.{foundFor};
+ghost use Rattle.host.specs.Guard.{done};
+ghost use Rattle.host.specs.Reply.{plainly};
+ghost use Rattle.host.specs.code.Told.{Told};
+ghost use Rattle.calls.specs.declared.Request.the-variants.{Tick, Adjust, Read, SelfReport};
+ghost use Rattle.calls.specs.Effects.{looked};
+ghost use Rattle.calls.specs.code.Planned.{Timely, Aging, LinkTold, inspects};
+use super::effects::looked;
+use answer::Answer;
+use clock::Clock;
+use clock::Counter;
+use host::Reply;
+use host::Settings;
+use host::effects::each;
+use host::effects::nothing;
+use host::inspection;
+use host::replies::plainly;
+use host::replies::tells_time;
+use quantity::Count;
+use route::Found;
+use table::Entry;
+use table::run::Change;
+use table::run::Changes;
+use wire::Address;
+
+// The reply and the clock; the entries stay.
+pub struct Timed {
+    pub reply: Reply,
+    pub clock: Clock,
+}
+
+// The reply, the clock, and what becomes of the entries.
+pub struct Aged {
+    pub reply: Reply,
+    pub clock: Clock,
+    pub work: Changes,
+}
+
+pub fn tick(g: Answer, s: Settings, c: Clock, n: Count) -> Timed
+    requires { ⌜ Told g All s c ⌝ }
+    ensures { λ p. ⌜ Timely p g (Tick n) s c ⌝ }
+{
+    if !answer::is_done(g) {
+        return Timed {
+            reply: plainly(g),
+            clock: c,
+        };
+    }
+    Timed {
+        reply: plainly(Answer::Done),
+        clock: c.ticked(s.clock_tick, s.hold_interval, n),
+    }
+}
+
+pub fn adjust(g: Answer, s: Settings, c: Clock, n: Count) -> Timed
+    requires { ⌜ Told g All s c ⌝ }
+    ensures { λ p. ⌜ Timely p g (Adjust n) s c ⌝ }
+{
+    if !answer::is_done(g) {
+        return Timed {
+            reply: plainly(g),
+            clock: c,
+        };
+    }
+    Timed {
+        reply: plainly(Answer::Done),
+        clock: c.adjusted(s.hold_interval, n),
+    }
+}
+
+pub fn read(g: Answer, s: Settings, c: Clock, k: Counter) -> Timed
+    requires { ⌜ Told g All s c ⌝ }
+    ensures { λ p. ⌜ Timely p g (Read k) s c ⌝ }
+{
+    if !answer::is_done(g) {
+        return Timed {
+            reply: plainly(g),
+            clock: c,
+        };
+    }
+    let r = host::our_reading(s, c, k);
+    let clock = r.clock;
+    let date = clock.date;
+    Timed {
+        reply: tells_time(r.time, date),
+        clock: clock,
+    }
+}
+
+pub fn self_report(g: Answer, s: Settings, c: Clock, k: Counter) -> Aged
+    requires { ⌜ Told g All s c ⌝ }
+    ensures { λ p. ⌜ Aging p g (SelfReport k) s c ⌝ }
+{
+    if !answer::is_done(g) {
+        return Aged {
+            reply: plainly(g),
+            clock: c,
+            work: nothing(),
+        };
+    }
+    let r = host::our_reading(s, c, k);
+    let clock = r.clock;
+    let time = r.time;
+    Aged {
+        reply: plainly(Answer::Done),
+        clock: clock,
+        work: each(s, Change::Reported(time)),
+    }
+}
+
+// The id that a lookup finds.
+pub fn found(g: Answer, s: Settings, a: Address) -> Found
+    ensures { λ r. ⌜ r ≡ cond (not (done g)) Nothing (foundFor s a) ⌝ }
+{
+    if !answer::is_done(g) {
+        return Found::Nothing;
+    }
+    route::find(s.address, s.layout, s.net, a)
+}
+
+// What a lookup tells of the id that it found, and of its entry.
+pub fn route_of(g: Answer, found: Found, e: Entry) -> Reply
+    ensures { λ r. ⌜ r ≡ cond (not (done g)) (plainly g) (looked found e) ⌝ }
+{
+    if !answer::is_done(g) {
+        return plainly(g);
+    }
+    looked(found, e)
+}
+
+pub fn inspect(g: Answer, s: Settings, link: usize, packet: &[u8]) -> Reply
+    requires { ⌜ LinkTold g s link ⌝ }
+    ensures { λ r. ⌜ r ≡ inspects g s link (now (packet .entry)) ⌝ }
+{
+    if !answer::is_done(g) {
+        return plainly(g);
+    }
+    inspection::tells(inspection::inspect(s, link, packet))
+}
