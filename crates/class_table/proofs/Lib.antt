@@ -1,0 +1,6 @@
+pub mod Laws
+pub mod Padded
+pub mod Rebuilt
+pub mod Tables
+pub mod Types
+pub mod made

@@ -1,0 +1,53 @@
+-- What the tutor's calls leave: which rows stand, that no bad table is left where there was none, and that a refusal leaves what was lent.
+use mathlib.Core.Path.{_≡_}
+use mathlib.Core.Bool.{true, false}
+use mathlib.Core.List.{List, [], _∷_, _++_, map}
+use Prim.Native.Nat.{ℕ, _+_, _-_, _<_}
+use lib.ListN.{length, take, drop, set, getD, replicate}
+use Rattle.route.specs.declared.Net.{Net}
+use Rattle.route.specs.declared.Row.{Row}
+use Rattle.class_table.specs.declared.ClassTable.{ClassTable}
+use Rattle.class_table.specs.declared.Answer.{Answer}
+use Rattle.class_table.specs.declared.Answer.the-variants.{Done, Setting, OutOfRange, TableFull, NoRow}
+use Rattle.class_table.specs.Table.{mostRows, standing, tableBad, zeroRow}
+use Rattle.class_table.specs.Tutor.{setAfresh, add, remove, change, rowAt}
+
+-- "Rows keep their order and are numbered from 1 without gaps; additions go at the end": the rows that stand after a call that was done
+pub record RowsAfter : Type 0 where
+  pub afresh : (n : ℕ) (t : ClassTable) → setAfresh n t .answer ≡ Done → standing (setAfresh n t .table) ≡ []
+  pub added :
+      (m : Net) (id : ℕ) (t : ClassTable) → add m id t .added .answer ≡ Done
+      → standing (add m id t .table) ≡ standing t ++ (record { net = m; host = id } ∷ [])
+  -- by the number that is answered the new row is found
+  pub number :
+      (m : Net) (id : ℕ) (t : ClassTable) → add m id t .added .answer ≡ Done
+      → rowAt (add m id t .added .row) (standing (add m id t .table)) ≡ record { net = m; host = id }
+  pub removed :
+      (k : ℕ) (t : ClassTable) → remove k t .answer ≡ Done
+      → standing (remove k t .table) ≡ take (k - 1) (standing t) ++ drop k (standing t)
+  pub changed :
+      (k id : ℕ) (t : ClassTable) → change k id t .answer ≡ Done
+      → standing (change k id t .table) ≡ set (standing t) (k - 1) record { net = rowAt k (standing t) .net; host = id }
+  -- changing a row's host id leaves the nets of all rows
+  pub nets :
+      (k id : ℕ) (t : ClassTable) → change k id t .answer ≡ Done
+      → map (λ (r : Row). r .net) (standing (change k id t .table)) ≡ map (λ (r : Row). r .net) (standing t)
+
+-- the table that a call leaves that was done is not one that 12 refuses, whatever was lent
+pub record NeverBad : Type 0 where
+  pub afresh : (n : ℕ) (t : ClassTable) → setAfresh n t .answer ≡ Done → tableBad (setAfresh n t .table) ≡ false
+  pub added : (m : Net) (id : ℕ) (t : ClassTable) → add m id t .added .answer ≡ Done → tableBad (add m id t .table) ≡ false
+  pub removed : (k : ℕ) (t : ClassTable) → remove k t .answer ≡ Done → tableBad (remove k t .table) ≡ false
+  pub changed : (k id : ℕ) (t : ClassTable) → change k id t .answer ≡ Done → tableBad (change k id t .table) ≡ false
+
+-- a refusal changes nothing, and the number of a row that was not added is 0
+pub record Refused : Type 0 where
+  pub afresh : (n : ℕ) (t : ClassTable) → (setAfresh n t .answer ≡ Done → ⊥) → setAfresh n t .table ≡ t
+  pub added : (m : Net) (id : ℕ) (t : ClassTable) → (add m id t .added .answer ≡ Done → ⊥) → (add m id t .table ≡ t) × (add m id t .added .row ≡ 0)
+  pub removed : (k : ℕ) (t : ClassTable) → (remove k t .answer ≡ Done → ⊥) → remove k t .table ≡ t
+  pub changed : (k id : ℕ) (t : ClassTable) → (change k id t .answer ≡ Done → ⊥) → change k id t .table ≡ t
+
+-- 12 asks the id of every row that stands, one behind a row of net zero among them
+pub record EveryRow : Type 0 where
+  pub below :
+      (t : ClassTable) → tableBad t ≡ false → (i : ℕ) → i < length (standing t) → getD (standing t) i zeroRow .host < t .nhosts
