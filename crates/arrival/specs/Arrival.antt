@@ -21,6 +21,7 @@ use Rattle.route.specs.declared.Found.the-variants.{Id, Nothing}
 use Rattle.table.specs.declared.Update.{Update}
 use Rattle.table.specs.declared.run.Updates.{Updates}
 use Rattle.table.specs.Forms.{Stage, on, end}
+use Rattle.class_table.specs.declared.ClassTable.{ClassTable}
 use Rattle.host.specs.Settings.{foundFor}
 use Rattle.host.specs.State.{hostCount, broadcast, linkOf, withLink}
 use Rattle.host.specs.Lent.{Host, host, ourReading}
@@ -86,22 +87,22 @@ noTable h i n p f (Id id) = updated h n p (neighborUpdate i f) id 1 false
 abbrev pub withTable : Host → (link : ℕ) → Count → Packet → Flight → Arrived
 withTable h i n p f = updated h n p (neighborUpdate i f) 0 (hostCount (h .settings)) true
 
-abbrev pub step5 : Host → (link : ℕ) → Count → Packet → Flight → Arrived
-step5 h i n p f = cond (eqb (p .nhosts) 0) (noTable h i n p f (foundFor (h .settings) (f .link .neighbor))) (withTable h i n p f)
+abbrev pub step5 : ClassTable → Host → (link : ℕ) → Count → Packet → Flight → Arrived
+step5 t h i n p f = cond (eqb (p .nhosts) 0) (noTable h i n p f (foundFor t (h .settings) (f .link .neighbor))) (withTable h i n p f)
 
 -- the link is stored as steps 2 to 4 leave it, whether they end with 10 or go on to step 5
-abbrev pub concluded : Host → (link : ℕ) → Count → Packet → Stage Flight → Arrived
-concluded h i n p (end f) = ends DelayNotValid (host (h .settings) (h .clock) (withLink i (f .link) (h .links)))
-concluded h i n p (on f) = step5 (host (h .settings) (h .clock) (withLink i (f .link) (h .links))) i n p f
+abbrev pub concluded : ClassTable → Host → (link : ℕ) → Count → Packet → Stage Flight → Arrived
+concluded t h i n p (end f) = ends DelayNotValid (host (h .settings) (h .clock) (withLink i (f .link) (h .links)))
+concluded t h i n p (on f) = step5 t (host (h .settings) (h .clock) (withLink i (f .link) (h .links))) i n p f
 
 -- one reading, before HOLD is looked at; its clock is carried on, "10, and 11 at an arrival, keep what the reading did"
-abbrev pub actionAt : Reading → Count → Host → (link : ℕ) → Packet → Arrived
-actionAt r n h i p =
-    concluded (host (h .settings) (r .clock) (h .links)) i n p
+abbrev pub actionAt : Reading → Count → ClassTable → Host → (link : ℕ) → Packet → Arrived
+actionAt r n t h i p =
+    concluded t (host (h .settings) (r .clock) (h .links)) i n p
     (steps2to4 (broadcast (h .settings) i) (r .clock .hold) p (r .time) (linkOf (h .links) i))
 
-abbrev pub action : Counter → Host → (link : ℕ) → Packet → Arrived
-action k h i p = actionAt (ourReading k h) (countUsed k) h i p
+abbrev pub action : Counter → ClassTable → Host → (link : ℕ) → Packet → Arrived
+action k t h i p = actionAt (ourReading k h) (countUsed k) t h i p
 
 -- ---- the three calls
 
@@ -110,21 +111,21 @@ abbrev pub inspection : (link : ℕ) (packet : List ℕ) → Host → Arrived
 inspection i octets h = quiet (tells (inspect (h .settings) i octets)) h
 
 -- "an action, which carries out steps 2 to 5. .. the action inspects again and takes its own reading": answers 3 to 9, then 10, 11 and 0
-abbrev pub inspected : Counter → Host → (link : ℕ) → Parsed → Arrived
-inspected k h i (Bad a) = ends a h
-inspected k h i (Good p) = action k h i p
+abbrev pub inspected : Counter → ClassTable → Host → (link : ℕ) → Parsed → Arrived
+inspected k t h i (Bad a) = ends a h
+inspected k t h i (Good p) = action k t h i p
 
-abbrev pub act : (link : ℕ) → Counter → (packet : List ℕ) → Host → Arrived
-act i k octets h = inspected k h i (inspect (h .settings) i octets)
+abbrev pub act : (link : ℕ) → Counter → (packet : List ℕ) → ClassTable → Host → Arrived
+act i k octets t h = inspected k t h i (inspect (h .settings) i octets)
 
 -- "The one-piece arrival remains and equals the two in direct succession."
-abbrev pub arrival : (link : ℕ) → Counter → (packet : List ℕ) → Host → Arrived
-arrival i k octets h = cond (done (inspection i octets h .reply .answer)) (act i k octets h) (inspection i octets h)
+abbrev pub arrival : (link : ℕ) → Counter → (packet : List ℕ) → ClassTable → Host → Arrived
+arrival i k octets t h = cond (done (inspection i octets h .reply .answer)) (act i k octets t h) (inspection i octets h)
 
-abbrev pub delivered : Delivery → (packet : List ℕ) → Host → Arrived
-delivered (Inspect i) octets h = inspection i octets h
-delivered (Act i k) octets h = act i k octets h
-delivered (Receive i k) octets h = arrival i k octets h
+abbrev pub delivered : Delivery → (packet : List ℕ) → ClassTable → Host → Arrived
+delivered (Inspect i) octets t h = inspection i octets h
+delivered (Act i k) octets t h = act i k octets t h
+delivered (Receive i k) octets t h = arrival i k octets t h
 
 -- the link that a packet arrives on
 abbrev pub onLink : Delivery → ℕ

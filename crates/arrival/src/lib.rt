@@ -9,7 +9,7 @@ ghost use Rattle.host.specs.Settings.{settingsGood};
 ghost use Rattle.host.specs.State.{hasPlace};
 ghost use Rattle.host.specs.declared.guard.Scope.the-variants.{OnLink};
 ghost use Rattle.host.specs.Lent.{host};
-ghost use Rattle.host.specs.code.Told.{Told};
+ghost use Rattle.host.specs.code.Told.{RowsBelow, Told, TableTold};
 ghost use Rattle.clock.specs.Clock.{clockInRange};
 ghost use Rattle.arrival.specs.Steps.{atLeastMin, neighborUpdate};
 ghost use Rattle.arrival.specs.Arrival.{
@@ -27,6 +27,7 @@ ghost use Rattle.arrival.specs.Arrival.{
 ghost use Rattle.arrival.specs.code.Plan.{planned};
 use answer::Answer;
 use calendar::Date;
+use class_table::ClassTable;
 use clock::Clock;
 use clock::Counter;
 use host::Links;
@@ -196,15 +197,24 @@ fn no_table(
     }
 }
 
-fn step5(s: Settings, c: Clock, l: Links, link: usize, n: Count, p: Packet, f: Flight) -> Arrived
+fn step5(
+    s: Settings,
+    t: ClassTable,
+    c: Clock,
+    l: Links,
+    link: usize,
+    n: Count,
+    p: Packet,
+    f: Flight,
+) -> Arrived
     requires { ⌜ (1 ≤ link) × (link ≤ 8) ⌝ }
-    requires { ⌜ settingsGood s ≡ true ⌝ }
-    ensures { λ r. ⌜ r ≡ step5 (host s c l) link n p f ⌝ }
+    requires { ⌜ (settingsGood s ≡ true) × RowsBelow t s ⌝ }
+    ensures { λ r. ⌜ r ≡ step5 t (host s c l) link n p f ⌝ }
 {
     if p.nhosts == 0 {
         let x = f.link;
         let neighbor = x.neighbor;
-        let found = route::find(s.address, s.layout, s.net, neighbor);
+        let found = host::found_for(t, s, neighbor);
         return no_table(s, c, l, link, n, p, f, found);
     }
     updated(
@@ -221,18 +231,26 @@ fn step5(s: Settings, c: Clock, l: Links, link: usize, n: Count, p: Packet, f: F
 }
 
 // Steps 2 to 5, with one reading.
-fn action(s: Settings, c: Clock, l: Links, link: usize, k: Counter, p: Packet) -> Arrived
+fn action(
+    s: Settings,
+    t: ClassTable,
+    c: Clock,
+    l: Links,
+    link: usize,
+    k: Counter,
+    p: Packet,
+) -> Arrived
     requires { ⌜ (1 ≤ link) × (link ≤ 8) ⌝ }
-    requires { ⌜ (settingsGood s ≡ true) × (clockInRange c ≡ true) ⌝ }
+    requires { ⌜ (settingsGood s ≡ true) × RowsBelow t s × (clockInRange c ≡ true) ⌝ }
     requires { ⌜ Four (p .time .0) ⌝ }
-    ensures { λ a. ⌜ a ≡ action k (host s c l) link p ⌝ }
+    ensures { λ a. ⌜ a ≡ action k t (host s c l) link p ⌝ }
 {
     let r = host::our_reading(s, c, k);
     let n = k.used();
     let clock = r.clock;
     match steps::two_to_four(broadcast(s, link), clock.hold, p, r.time, link_of(l, link)) {
         Step::End(f) => ends(Answer::DelayNotValid, s, clock, with_link(l, link, f.link)),
-        Step::On(f) => step5(s, clock, with_link(l, link, f.link), link, n, p, f),
+        Step::On(f) => step5(s, t, clock, with_link(l, link, f.link), link, n, p, f),
     }
 }
 
@@ -250,14 +268,22 @@ fn look(s: Settings, c: Clock, l: Links, link: usize, packet: &[u8]) -> Arrived
 }
 
 // Answers 3 to 9 by the inspection, then the action.
-fn act(s: Settings, c: Clock, l: Links, link: usize, k: Counter, packet: &[u8]) -> Arrived
+fn act(
+    s: Settings,
+    t: ClassTable,
+    c: Clock,
+    l: Links,
+    link: usize,
+    k: Counter,
+    packet: &[u8],
+) -> Arrived
     requires { ⌜ (1 ≤ link) × (link ≤ 8) ⌝ }
-    requires { ⌜ (settingsGood s ≡ true) × (clockInRange c ≡ true) ⌝ }
-    ensures { λ a. ⌜ a ≡ act link k (now (packet .entry)) (host s c l) ⌝ }
+    requires { ⌜ (settingsGood s ≡ true) × RowsBelow t s × (clockInRange c ≡ true) ⌝ }
+    ensures { λ a. ⌜ a ≡ act link k (now (packet .entry)) t (host s c l) ⌝ }
 {
     match inspection::inspect(s, link, packet) {
         Parsed::Bad(a) => ends(a, s, c, l),
-        Parsed::Good(p) => action(s, c, l, link, k, p),
+        Parsed::Good(p) => action(s, t, c, l, link, k, p),
     }
 }
 
@@ -272,25 +298,33 @@ pub fn on_link(d: Delivery) -> usize
 }
 
 // The arrival in one piece is what the action alone comes to, since that inspects too.
-fn deliver(s: Settings, c: Clock, l: Links, d: Delivery, packet: &[u8]) -> Arrived
+fn deliver(s: Settings, t: ClassTable, c: Clock, l: Links, d: Delivery, packet: &[u8]) -> Arrived
     requires { ⌜ (1 ≤ onLink d) × (onLink d ≤ 8) ⌝ }
-    requires { ⌜ (settingsGood s ≡ true) × (clockInRange c ≡ true) ⌝ }
-    ensures { λ a. ⌜ a ≡ delivered d (now (packet .entry)) (host s c l) ⌝ }
+    requires { ⌜ (settingsGood s ≡ true) × RowsBelow t s × (clockInRange c ≡ true) ⌝ }
+    ensures { λ a. ⌜ a ≡ delivered d (now (packet .entry)) t (host s c l) ⌝ }
 {
     match d {
         Delivery::Inspect(i) => look(s, c, l, i, packet),
-        Delivery::Act(i, k) => act(s, c, l, i, k, packet),
-        Delivery::Receive(i, k) => act(s, c, l, i, k, packet),
+        Delivery::Act(i, k) => act(s, t, c, l, i, k, packet),
+        Delivery::Receive(i, k) => act(s, t, c, l, i, k, packet),
     }
 }
 
 // A refusal of the guard's, or what the delivery comes to.
-pub fn plan(g: Answer, s: Settings, c: Clock, l: Links, d: Delivery, packet: &[u8]) -> Arrived
-    requires { ⌜ Told g (OnLink (onLink d)) s c ⌝ }
-    ensures { λ p. ⌜ (p ≡ planned g d (now (packet .entry)) (host s c l)) × (p .work .count .0 < 2 ^ 16) ⌝ }
+pub fn plan(
+    g: Answer,
+    s: Settings,
+    t: ClassTable,
+    c: Clock,
+    l: Links,
+    d: Delivery,
+    packet: &[u8],
+) -> Arrived
+    requires { ⌜ Told g (OnLink (onLink d)) s c × TableTold g t s ⌝ }
+    ensures { λ p. ⌜ (p ≡ planned g d (now (packet .entry)) t (host s c l)) × (p .work .count .0 < 2 ^ 16) ⌝ }
 {
     if !answer::is_done(g) {
         return ends(g, s, c, l);
     }
-    deliver(s, c, l, d, packet)
+    deliver(s, t, c, l, d, packet)
 }

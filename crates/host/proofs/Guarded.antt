@@ -12,18 +12,20 @@ use Rattle.lists.proofs.Tests as tests
 use Rattle.answer.specs.declared.Answer.{Answer}
 use Rattle.answer.specs.declared.Answer.the-variants.{Done, Setting, OutOfRange, InWalk}
 use Rattle.clock.specs.Clock.{clockInRange}
+use Rattle.class_table.specs.Table.{tableBad}
 use Rattle.table.specs.declared.Entry.{Entry}
 use Rattle.table.specs.Forms.{every}
 use Rattle.table.specs.Entry.{entryInRange}
 use Rattle.host.specs.declared.Settings.{Settings}
 use Rattle.host.specs.declared.guard.Scope.{Scope}
 use Rattle.host.specs.declared.guard.Scope.the-variants.{Places, All, OnLink, Opening, Walking}
-use Rattle.host.specs.Settings.{linkCount, settingsGood}
+use Rattle.host.specs.Settings.{linkCount, settingsGood, settingsFit}
 use Rattle.host.specs.State.{placesPerHost, firstPlace, noLink}
 use Rattle.host.specs.Lent.{Lent, entriesOf, hostInRange, ownWalkInRange, marksAsSet, lentInRange}
-use Rattle.host.specs.Guard.{noPlaces, longest, outOfRange, inWalk, guard, done}
-use Rattle.host.specs.code.Told.{afresh, Ready, Told, NumberTold}
+use Rattle.host.specs.Guard.{noPlaces, longest, ownOutOfRange, outOfRange, inWalk, guard, done}
+use Rattle.host.specs.code.Told.{afresh, Ready, Told, RowsBelow, TableTold, NumberTold}
 use Rattle.host.proofs.Places.{Holds}
+use Rattle.host.proofs.Fits.{fits-good, rows-below}
 
 -- what is so of the refusal and of the work is so of the call
 pub either : {O : Type 0} (P : O → Type 0) (a : Answer) {refusal work : O}
@@ -36,6 +38,9 @@ either P a {refusal} {work} refuses goes-on =
 pub record Passed (a : Scope) (x : Lent) : Type 0 where
   pub places : noPlaces (x .number) (x .run) ≡ false
   pub settings : settingsGood (x .host .settings) ≡ true
+  pub table : tableBad (x .nets) ≡ false
+  pub fit : settingsFit (x .nets) (x .host .settings) ≡ true
+  pub rows : RowsBelow (x .nets) (x .host .settings)
   pub lent : afresh a ≡ false → lentInRange x ≡ true
   pub link : (i : ℕ) → a ≡ OnLink i → noLink (x .host .settings) i ≡ false
   pub opening : (i : ℕ) → a ≡ Opening i → (noLink (x .host .settings) i ≡ false) × (longest ≤ length (x .copy))
@@ -52,34 +57,50 @@ past false false false e = absurd (false≢true e)
 unlike : {A : Type 0} → _≡_ {A = ℕ} 0 1 → A
 unlike z = absurd (omega arith)
 
-module _ (x : Lent) where
+module _ (x : Lent) (fair : tableBad (x .nets) ≡ false) (fit : settingsFit (x .nets) (x .host .settings) ≡ true) where
   abbrev missing : Bool
   missing = noPlaces (x .number) (x .run)
 
-  within : (a : Scope) → outOfRange a x ≡ false → inWalk a (x .walk) ≡ false → settingsGood (x .host .settings) ≡ true → Passed a x
-  within Places e shut good =
-      record { places = e; settings = good; lent = λ f. absurd (false≢true (sym f)); link = λ i f. unlike cc; opening = λ i f. unlike cc; closed = shut }
-  within All e shut good =
+  -- with what the table and the settings have
+  and-fits : (a : Scope) → missing ≡ false → (afresh a ≡ false → lentInRange x ≡ true) → ((i : ℕ) → a ≡ OnLink i → noLink (x .host .settings) i ≡ false)
+      → ((i : ℕ) → a ≡ Opening i → (noLink (x .host .settings) i ≡ false) × (longest ≤ length (x .copy))) → inWalk a (x .walk) ≡ false → Passed a x
+  and-fits a there lent link opening shut =
+      record {
+        places = there;
+        settings = fits-good (x .nets) (x .host .settings) fit;
+        table = fair;
+        fit = fit;
+        rows = rows-below (x .nets) (x .host .settings) fair fit;
+        lent = lent;
+        link = link;
+        opening = opening;
+        closed = shut;
+      }
+
+  within : (a : Scope) → ownOutOfRange a x ≡ false → inWalk a (x .walk) ≡ false → Passed a x
+  within Places e shut = and-fits Places e (λ f. absurd (false≢true (sym f))) (λ i f. unlike cc) (λ i f. unlike cc) shut
+  within All e shut =
       let n = neither missing (not (lentInRange x)) e in
-      record { places = n .0; settings = good; lent = λ _. is-so _ (n .1); link = λ i f. unlike cc; opening = λ i f. unlike cc; closed = shut }
-  within Walking e shut good =
+      and-fits All (n .0) (λ _. is-so _ (n .1)) (λ i f. unlike cc) (λ i f. unlike cc) shut
+  within Walking e shut =
       let n = neither missing (not (lentInRange x)) e in
-      record { places = n .0; settings = good; lent = λ _. is-so _ (n .1); link = λ i f. unlike cc; opening = λ i f. unlike cc; closed = shut }
-  within (OnLink i) e shut good =
+      and-fits Walking (n .0) (λ _. is-so _ (n .1)) (λ i f. unlike cc) (λ i f. unlike cc) shut
+  within (OnLink i) e shut =
       let o = neither (noLink (x .host .settings) i) (missing || not (lentInRange x)) e in
       let n = neither missing (not (lentInRange x)) (o .1) in
-      record { places = n .0; settings = good; lent = λ _. is-so _ (n .1); link = λ j f. (let same : i ≡ j = cc in rw (sym same) (o .0)); opening = λ j f. unlike cc; closed = shut }
-  within (Opening i) e shut good =
+      and-fits (OnLink i) (n .0) (λ _. is-so _ (n .1)) (λ j f. (let same : i ≡ j = cc in rw (sym same) (o .0))) (λ j f. unlike cc) shut
+  within (Opening i) e shut =
       let r = neither (ltb (length (x .copy)) longest) (noLink (x .host .settings) i || (missing || not (lentInRange x))) e in
       let o = neither (noLink (x .host .settings) i) (missing || not (lentInRange x)) (r .1) in
       let n = neither missing (not (lentInRange x)) (o .1) in
-      record { places = n .0; settings = good; lent = λ _. is-so _ (n .1); link = λ j f. unlike cc; opening = λ j f. (let same : i ≡ j = cc in (rw (sym same) (o .0), ltb-false _ _ (r .0))); closed = shut }
+      and-fits (Opening i) (n .0) (λ _. is-so _ (n .1)) (λ j f. unlike cc) (λ j f. (let same : i ≡ j = cc in (rw (sym same) (o .0), ltb-false _ _ (r .0)))) shut
 
 pub passed : (a : Scope) (x : Lent) → done (guard a x) ≡ true → Passed a x
 unfolding guard
 passed a x e =
-    let p = past (outOfRange a x) (inWalk a (x .walk)) (settingsGood (x .host .settings)) e in
-    within x a (p .0) (p .1) (p .2)
+    let p = past (outOfRange a x) (inWalk a (x .walk)) (settingsFit (x .nets) (x .host .settings)) e in
+    let n = neither (tableBad (x .nets)) (ownOutOfRange a x) (p .0) in
+    within x (n .0) (p .2) a (n .1) (p .1)
 
 -- ---- what the tests say in numbers
 
@@ -136,3 +157,6 @@ module _ (a : Scope) (x : Lent) where
     settings = λ d. passed a x d .settings;
     number = λ d. number-lent (x .number) (x .run) (passed a x d .places);
   }
+
+  pub table-told : TableTold (guard a x) (x .nets) (x .host .settings)
+  table-told = record { rows = λ d. passed a x d .rows }

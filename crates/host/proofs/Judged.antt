@@ -10,6 +10,8 @@ use lib.ListN.{length, take}
 use Rattle.lists.proofs.Tests.{either, neither}
 use Rattle.answer.specs.declared.Answer.the-variants.{Done, Setting, OutOfRange, InWalk}
 use Rattle.clock.specs.Clock.{clockInRange}
+use Rattle.class_table.specs.declared.ClassTable.{ClassTable}
+use Rattle.class_table.specs.Table.{tableBad}
 use Rattle.table.specs.declared.Entry.{Entry}
 use Rattle.table.specs.declared.run.Scan.{Scan}
 use Rattle.table.specs.Forms.{every}
@@ -18,16 +20,19 @@ use Rattle.table.specs.code.Loops.{InRun, allInRange}
 use Rattle.host.specs.declared.Settings.{Settings}
 use Rattle.host.specs.declared.guard.Scope.{Scope}
 use Rattle.host.specs.declared.guard.Scope.the-variants.{Places, All, OnLink, Opening, Walking}
-use Rattle.host.specs.Settings.{linkCount, settingsGood}
+use Rattle.host.specs.Settings.{linkCount, settingsFit}
 use Rattle.host.specs.State.{placesPerHost, firstPlace, hostCount, entries, linkInRange, noLink}
 use Rattle.host.specs.Lent.{Host, Lent, entriesOf, ownWalkInRange, marksAsSet, lentInRange}
-use Rattle.host.specs.Guard.{noPlaces, longest, outOfRange, inWalk, guard}
+use Rattle.host.specs.Guard.{noPlaces, longest, ownOutOfRange, outOfRange, inWalk, guard}
 use Rattle.host.specs.code.Told.{afresh}
 use Rattle.host.specs.code.Held.{placesMissing, settled, isLink, namesLink, wholeScan, held, judged}
 
 module _ (x : Lent) where
   abbrev h : Host
   h = x .host
+
+  abbrev t : ClassTable
+  t = x .nets
 
   abbrev run : List Entry
   run = x .run
@@ -65,11 +70,12 @@ module _ (x : Lent) where
       (λ _. either There (not (every linkInRange (take n (h .links .all)))) (settled false) _ (λ _. nowhere)
       (λ _. either There (not (ownWalkInRange x)) (settled false) all (λ _. nowhere) (λ _. record { rising = omega arith; inside = omega arith })))
 
-  pub held-in : (a : Scope) → There (held a k h (x .walk) (x .copy) (length run))
+  pub held-in : (a : Scope) → There (held a t k h (x .walk) (x .copy) (length run))
   held-in a =
-      either There (placesMissing k (length run)) (settled false) _ (λ _. nowhere)
+      either There (tableBad t) (settled false) _ (λ _. nowhere)
+      (λ _. either There (placesMissing k (length run)) (settled false) _ (λ _. nowhere)
       (λ there. either There (afresh a) (settled true) _ (λ _. nowhere)
-      (λ _. either There (not (namesLink n m a)) (settled false) rest (λ _. nowhere) (λ _. whole-in there)))
+      (λ _. either There (not (namesLink n m a)) (settled false) rest (λ _. nowhere) (λ _. whole-in there))))
 
   -- ---- 12 where a place is missing or something lent is out of range
 
@@ -111,7 +117,7 @@ module _ (x : Lent) where
   roomy i true f = rw (lt-leb _ _ (ltb-true _ _ f), known false)
   roomy i false f = rw (le-leb _ _ (ltb-false _ _ f)) (linked i (noLink s i) refl)
 
-  tested : (a : Scope) (missing : Bool) → noPlaces k run ≡ missing → not (allInRange (cond missing (settled false) (looked a)) run) ≡ outOfRange a x
+  tested : (a : Scope) (missing : Bool) → noPlaces k run ≡ missing → not (allInRange (cond missing (settled false) (looked a)) run) ≡ ownOutOfRange a x
   tested Places true e = rw (known false, e)
   tested Places false e = rw (known true, e)
   tested All true e = rw (known false, e)
@@ -123,8 +129,13 @@ module _ (x : Lent) where
   tested (Opening i) true e = rw (known false, e, ← either-true (noLink s i)) (either-true (ltb m longest))
   tested (Opening i) false e = rw e (roomy i (ltb m longest) refl)
 
-  pub guarded : (a : Scope) → judged s (x .walk) a (allInRange (held a k h (x .walk) (x .copy) (length run)) run) ≡ guard a x
+  -- the table before all that
+  table-tested : (a : Scope) (bad : Bool) → not (allInRange (cond bad (settled false) (cond (noPlaces k run) (settled false) (looked a))) run) ≡ (bad || ownOutOfRange a x)
+  table-tested a true = rw (known false)
+  table-tested a false = tested a (noPlaces k run) refl
+
+  pub guarded : (a : Scope) → judged s t (x .walk) a (allInRange (held a t k h (x .walk) (x .copy) (length run)) run) ≡ guard a x
   unfolding guard noPlaces
   guarded a =
-      ap (λ (b : Bool). cond b OutOfRange (cond (inWalk a (x .walk)) InWalk (cond (not (settingsGood s)) Setting Done)))
-      (tested a (placesMissing k (length run)) refl)
+      ap (λ (b : Bool). cond b OutOfRange (cond (inWalk a (x .walk)) InWalk (cond (not (settingsFit t s)) Setting Done)))
+      (table-tested a (tableBad t))

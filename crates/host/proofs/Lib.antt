@@ -2,6 +2,7 @@ pub mod Numbers
 pub mod Places
 pub mod Guarded
 pub mod Sound
+pub mod Fits
 pub mod Slots
 pub mod Found
 pub mod Types

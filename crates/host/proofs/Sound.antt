@@ -11,7 +11,7 @@ use Rattle.quantity.specs.Quantity.{millis, lessMillis}
 use Rattle.calendar.specs.Date.{real}
 use Rattle.clock.specs.Midnight.{dayMillis}
 use Rattle.clock.specs.Clock.{tickInRange}
-use Rattle.route.specs.Find.{isFound, rowsOf, idsBelow}
+use Rattle.route.specs.Find.{isFound}
 use Rattle.table.specs.Marks.{noneFrom}
 use Rattle.host.specs.declared.Settings.{Settings}
 use Rattle.host.specs.Settings.{fromTo, clockSettingOff, ownId, foundMarked, switchesGood, settingsGood}
@@ -22,7 +22,6 @@ pub record Sound (s : Settings) : Type 0 where
   pub switches : switchesGood s ≡ true
   pub hosts-from : 1 ≤ s .layout .nhosts
   pub hosts-to : s .layout .nhosts ≤ 255
-  pub rows-to : s .net .count ≤ 32
   pub class-from : 1 ≤ s .address .first
   pub class-to : s .address .first ≤ 223
   pub clock-host : (eqb (s .«clock_host») clockSettingOff || ltb (s .«clock_host») (s .layout .nhosts)) ≡ true
@@ -31,7 +30,6 @@ pub record Sound (s : Settings) : Type 0 where
   pub tick : tickInRange (s .«clock_tick») ≡ true
   pub time : (not (lessMillis (s .time) (millis (pos 0))) && lessMillis (s .time) dayMillis) ≡ true
   pub date : real (s .date) ≡ true
-  pub row-ids : idsBelow (s .layout .nhosts) (rowsOf (s .net)) ≡ true
   pub own-id : isFound (ownId s) ≡ true
   pub own-marked : foundMarked (s .marks) (ownId s) ≡ true
   pub marks-below : noneFrom (s .marks) (s .layout .nhosts) ≡ true
@@ -43,39 +41,35 @@ sound s e =
     each (fromTo 1 8 (s .«link_count»))
     (switchesGood s
     ∷ fromTo 1 255 (s .layout .nhosts)
-    ∷ leb (s .net .count) 32
     ∷ fromTo 1 223 (s .address .first)
     ∷ (eqb (s .«clock_host») clockSettingOff || ltb (s .«clock_host») (s .layout .nhosts))
     ∷ fromTo 1 255 (s .«hold_interval» .0)
     ∷ tickInRange (s .«clock_tick»)
     ∷ (not (lessMillis (s .time) (millis (pos 0))) && lessMillis (s .time) dayMillis)
     ∷ real (s .date)
-    ∷ idsBelow (s .layout .nhosts) (rowsOf (s .net))
     ∷ isFound (ownId s)
     ∷ foundMarked (s .marks) (ownId s)
     ∷ noneFrom (s .marks) (s .layout .nhosts)
     ∷ []) e in
     let links = both (leb 1 (s .«link_count»)) (leb (s .«link_count») 8) (t .0) in
     let hosts = both (leb 1 (s .layout .nhosts)) (leb (s .layout .nhosts) 255) (t .1 .1 .0) in
-    let class = both (leb 1 (s .address .first)) (leb (s .address .first) 223) (t .1 .1 .1 .1 .0) in
-    let hold = both (leb 1 (s .«hold_interval» .0)) (leb (s .«hold_interval» .0) 255) (t .1 .1 .1 .1 .1 .1 .0) in
+    let class = both (leb 1 (s .address .first)) (leb (s .address .first) 223) (t .1 .1 .1 .0) in
+    let hold = both (leb 1 (s .«hold_interval» .0)) (leb (s .«hold_interval» .0) 255) (t .1 .1 .1 .1 .1 .0) in
     record {
       links-from = leb-true _ _ (links .0);
       links-to = leb-true _ _ (links .1);
       hosts-from = leb-true _ _ (hosts .0);
       hosts-to = leb-true _ _ (hosts .1);
       switches = t .1 .0;
-      rows-to = leb-true _ _ (t .1 .1 .1 .0);
       class-from = leb-true _ _ (class .0);
       class-to = leb-true _ _ (class .1);
-      clock-host = t .1 .1 .1 .1 .1 .0;
+      clock-host = t .1 .1 .1 .1 .0;
       hold-from = leb-true _ _ (hold .0);
       hold-to = leb-true _ _ (hold .1);
-      tick = t .1 .1 .1 .1 .1 .1 .1 .0;
-      time = t .1 .1 .1 .1 .1 .1 .1 .1 .0;
-      date = t .1 .1 .1 .1 .1 .1 .1 .1 .1 .0;
-      row-ids = t .1 .1 .1 .1 .1 .1 .1 .1 .1 .1 .0;
-      own-id = t .1 .1 .1 .1 .1 .1 .1 .1 .1 .1 .1 .0;
-      own-marked = t .1 .1 .1 .1 .1 .1 .1 .1 .1 .1 .1 .1 .0;
-      marks-below = t .1 .1 .1 .1 .1 .1 .1 .1 .1 .1 .1 .1 .1 .0;
+      tick = t .1 .1 .1 .1 .1 .1 .0;
+      time = t .1 .1 .1 .1 .1 .1 .1 .0;
+      date = t .1 .1 .1 .1 .1 .1 .1 .1 .0;
+      own-id = t .1 .1 .1 .1 .1 .1 .1 .1 .1 .0;
+      own-marked = t .1 .1 .1 .1 .1 .1 .1 .1 .1 .1 .0;
+      marks-below = t .1 .1 .1 .1 .1 .1 .1 .1 .1 .1 .1 .0;
     }

@@ -8,11 +8,12 @@ use Rattle.answer.specs.declared.Answer.{Answer}
 use Rattle.answer.specs.declared.Answer.the-variants.{Done, Setting, OutOfRange, InWalk}
 use Rattle.answer.specs.Answer.{number}
 use Rattle.wire.specs.Packet.{packetLength}
+use Rattle.class_table.specs.Table.{tableBad}
 use Rattle.table.specs.declared.Entry.{Entry}
 use Rattle.host.specs.declared.walk.Walk.{Walk}
 use Rattle.host.specs.declared.guard.Scope.{Scope}
 use Rattle.host.specs.declared.guard.Scope.the-variants.{Places, All, OnLink, Opening, Walking}
-use Rattle.host.specs.Settings.{settingsGood}
+use Rattle.host.specs.Settings.{settingsFit}
 use Rattle.host.specs.State.{placesPerHost, firstPlace, noLink}
 use Rattle.host.specs.Walk.{isOpen}
 use Rattle.host.specs.Lent.{Lent, lentInRange}
@@ -27,14 +28,18 @@ abbrev pub longest : ℕ
 longest = packetLength 255
 
 -- by how much a call tests: setting afresh "tests numbers and places only", the others all that is lent, and the link that they name; opening a walk also the room for its packet
-abbrev pub outOfRange : Scope → Lent → Bool
-outOfRange Places x = noPlaces (x .number) (x .run)
-outOfRange All x = noPlaces (x .number) (x .run) || not (lentInRange x)
-outOfRange Walking x = noPlaces (x .number) (x .run) || not (lentInRange x)
-outOfRange (OnLink i) x = noLink (x .host .settings) i || (noPlaces (x .number) (x .run) || not (lentInRange x))
-outOfRange (Opening i) x =
+abbrev pub ownOutOfRange : Scope → Lent → Bool
+ownOutOfRange Places x = noPlaces (x .number) (x .run)
+ownOutOfRange All x = noPlaces (x .number) (x .run) || not (lentInRange x)
+ownOutOfRange Walking x = noPlaces (x .number) (x .run) || not (lentInRange x)
+ownOutOfRange (OnLink i) x = noLink (x .host .settings) i || (noPlaces (x .number) (x .run) || not (lentInRange x))
+ownOutOfRange (Opening i) x =
     ltb (length (x .copy)) longest
     || (noLink (x .host .settings) i || (noPlaces (x .number) (x .run) || not (lentInRange x)))
+
+-- "in every call .. 12 for a lent table with over 32 rows or such numbers", in a seat's setting afresh too
+abbrev pub outOfRange : Scope → Lent → Bool
+outOfRange a x = tableBad (x .nets) || ownOutOfRange a x
 
 -- ---- 16: "seat is in the middle of a walk": "the seat refuses its other calls, except setting afresh, which drops the walk"
 abbrev pub inWalk : Scope → Walk → Bool
@@ -49,7 +54,7 @@ unfoldable pub guard : Scope → Lent → Answer
 guard a x =
     cond (outOfRange a x) OutOfRange
     (cond (inWalk a (x .walk)) InWalk
-    (cond (not (settingsGood (x .host .settings))) Setting Done))
+    (cond (not (settingsFit (x .nets) (x .host .settings))) Setting Done))
 
 abbrev pub done : Answer → Bool
 done a = eqb (number a) 0

@@ -1,4 +1,4 @@
--- What a call is lent: a host by itself, which document 01 calls a seat, its number, its walk with the copy of a packet, and the host table that all hosts share, its run.
+-- What a call is lent: a host by itself, which document 01 calls a seat, the class's net table, the host's number, its walk with the copy of a packet, and the host table that all hosts share, its run.
 use mathlib.Core.Bool.{Bool, _&&_}
 use mathlib.Core.List.{List}
 use Prim.Native.Nat.{ℕ}
@@ -7,6 +7,7 @@ use Rattle.clock.specs.declared.Clock.{Clock}
 use Rattle.clock.specs.declared.Counter.{Counter}
 use Rattle.clock.specs.declared.Reading.{Reading}
 use Rattle.clock.specs.Clock.{reading, clockInRange}
+use Rattle.class_table.specs.declared.ClassTable.{ClassTable}
 use Rattle.table.specs.declared.Entry.{Entry}
 use Rattle.table.specs.Forms.{every, everyFrom}
 use Rattle.table.specs.Entry.{asMarked, entryInRange}
@@ -31,13 +32,14 @@ ourReading k h = reading (h .settings .«clock_tick») (h .settings .«hold_inte
 
 pub record Lent : Type 0 where
   pub host : Host
+  pub nets : ClassTable
   pub number : ℕ
   pub walk : Walk
   pub copy : List ℕ
   pub run : List Entry
 
-abbrev pub lent : Settings → (number : ℕ) → Clock → Links → Walk → (copy : List ℕ) → List Entry → Lent
-lent s k c l w copy run = record { host = host s c l; number = k; walk = w; copy = copy; run = run }
+abbrev pub lent : Settings → ClassTable → (number : ℕ) → Clock → Links → Walk → (copy : List ℕ) → List Entry → Lent
+lent s t k c l w copy run = record { host = host s c l; nets = t; number = k; walk = w; copy = copy; run = run }
 
 -- the host's own entries
 abbrev pub entriesOf : Lent → List Entry

@@ -14,7 +14,8 @@ use Rattle.table.specs.Marks.{marked, noneFrom}
 use Rattle.wire.specs.declared.Address.{Address}
 use Rattle.route.specs.declared.Found.{Found}
 use Rattle.route.specs.declared.Found.the-variants.{Id, Nothing}
-use Rattle.route.specs.Find.{isFound, localId, find, rowsOf, idsBelow}
+use Rattle.route.specs.Find.{isFound, localId, find}
+use Rattle.class_table.specs.declared.ClassTable.{ClassTable}
 use Rattle.host.specs.declared.LinkSetting.{LinkSetting}
 use Rattle.host.specs.declared.Settings.{Settings}
 
@@ -29,9 +30,9 @@ clockSettingOff = 255
 abbrev pub ownId : Settings → Found
 ownId s = localId (s .layout) (s .address)
 
--- the id of an address, by the host's own net or its net table
-abbrev pub foundFor : Settings → Address → Found
-foundFor s a = find (s .address) (s .layout) (s .net) a
+-- the id of an address, by the host's own net or the class's net table
+abbrev pub foundFor : ClassTable → Settings → Address → Found
+foundFor t s a = find (s .address) (s .layout) (t .net) a
 
 -- the links of the host: its first count, 8 at most
 abbrev pub linkCount : Settings → ℕ
@@ -55,14 +56,16 @@ settingsGood s =
     fromTo 1 8 (s .«link_count»)
     && switchesGood s
     && fromTo 1 255 (s .layout .nhosts)
-    && leb (s .net .count) 32
     && fromTo 1 223 (s .address .first)
     && (eqb (s .«clock_host») clockSettingOff || ltb (s .«clock_host») (s .layout .nhosts))
     && fromTo 1 255 (s .«hold_interval» .0)
     && tickInRange (s .«clock_tick»)
     && (not (lessMillis (s .time) (millis (pos 0))) && lessMillis (s .time) dayMillis)
     && real (s .date)
-    && idsBelow (s .layout .nhosts) (rowsOf (s .net))
     && isFound (ownId s)
     && foundMarked (s .marks) (ownId s)
     && noneFrom (s .marks) (s .layout .nhosts)
+
+-- "The table holds the class's NHOSTS; a seat set with another gives 1."
+abbrev pub settingsFit : ClassTable → Settings → Bool
+settingsFit t s = settingsGood s && eqb (s .layout .nhosts) (t .nhosts)

@@ -14,6 +14,7 @@ use super::host_count;
 use super::walk::Walk;
 use super::walk::is_open;
 use answer::Answer;
+use class_table::ClassTable;
 use clock::Clock;
 use table::Entry;
 use table::marks::Marks;
@@ -131,6 +132,7 @@ fn in_walk(w: Walk, scope: Scope) -> bool
 // What is known before the entries are looked at, and which of them to look at.
 fn held(
     s: Settings,
+    t: ClassTable,
     number: usize,
     c: Clock,
     l: Links,
@@ -139,8 +141,11 @@ fn held(
     scope: Scope,
     n: usize,
 ) -> Scan
-    ensures { λ r. ⌜ r ≡ held scope number (host s c l) w (now (copy .entry)) n ⌝ }
+    ensures { λ r. ⌜ r ≡ held scope t number (host s c l) w (now (copy .entry)) n ⌝ }
 {
+    if class_table::is_bad(t) {
+        return settled(false);
+    }
     if places_missing(number, n) {
         return settled(false);
     }
@@ -163,8 +168,8 @@ fn held(
 }
 
 // 12 where something lent is out of range, 16 in a walk, then 1.
-fn judged(s: Settings, w: Walk, scope: Scope, good: bool) -> Answer
-    ensures { λ r. ⌜ r ≡ judged s w scope good ⌝ }
+fn judged(s: Settings, t: ClassTable, w: Walk, scope: Scope, good: bool) -> Answer
+    ensures { λ r. ⌜ r ≡ judged s t w scope good ⌝ }
 {
     if !good {
         return Answer::OutOfRange;
@@ -172,7 +177,7 @@ fn judged(s: Settings, w: Walk, scope: Scope, good: bool) -> Answer
     if in_walk(w, scope) {
         return Answer::InWalk;
     }
-    if !super::good(s) {
+    if !super::fit(t, s) {
         return Answer::Setting;
     }
     Answer::Done
@@ -181,6 +186,7 @@ fn judged(s: Settings, w: Walk, scope: Scope, good: bool) -> Answer
 // The answer that refuses the call, or Done.
 pub fn guard(
     settings: &Settings,
+    nets: &ClassTable,
     number: usize,
     clock: Clock,
     links: Links,
@@ -189,11 +195,12 @@ pub fn guard(
     scope: Scope,
     run: &[Entry],
 ) -> Answer
-    ensures { λ r. ⌜ r ≡ guard scope (lent (now (settings .entry)) number clock links walk (now (copy .entry)) (now (run .entry))) ⌝ }
+    ensures { λ r. ⌜ r ≡ guard scope (lent (now (settings .entry)) (now (nets .entry)) number clock links walk (now (copy .entry)) (now (run .entry))) ⌝ }
 {
     let s = *settings;
+    let t = *nets;
     let n = run.len();
-    let w = held(s, number, clock, links, walk, copy, scope, n);
+    let w = held(s, t, number, clock, links, walk, copy, scope, n);
     let good = all_in_range(run, w);
-    judged(s, walk, scope, good)
+    judged(s, t, walk, scope, good)
 }

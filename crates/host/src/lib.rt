@@ -7,8 +7,18 @@ ghost use Rattle.quantity.specs.Quantity.{millis, lessMillis};
 ghost use Rattle.clock.specs.Midnight.{dayMillis};
 ghost use Rattle.clock.specs.Clock.{reading, clockInRange};
 ghost use Prim.Native.Nat.{_≤_};
-ghost use Rattle.host.specs.Settings.{fromTo, clockSettingOff, ownId, foundMarked, switchesGood, settingsGood};
+ghost use Rattle.host.specs.Settings.{
+  fromTo,
+  clockSettingOff,
+  ownId,
+  foundFor,
+  foundMarked,
+  switchesGood,
+  settingsGood,
+  settingsFit,
+};
 ghost use Rattle.host.specs.State.{firstPlace, hostCount};
+use class_table::ClassTable;
 use link_state::MAX_LINKS;
 
 pub mod effects;
@@ -44,7 +54,6 @@ pub struct Settings {
     // the links: the first `link_count`, numbered from 1
     pub link_count: usize,
     pub links: [LinkSetting; 8],
-    pub net: route::NetTable,
     // the ids whose hosts live here, our own among them
     pub marks: table::marks::Marks,
 }
@@ -92,9 +101,6 @@ const MAX_HOSTS: usize = 255;
 
 const MAX_HOLD_INTERVAL: usize = 255;
 
-// The rows that a net table has places for.
-const MAX_ROWS: usize = 32;
-
 // The last first octet of class C.
 const LAST_OCTET: usize = 223;
 
@@ -140,6 +146,13 @@ pub fn own_id(s: Settings) -> route::Found
     route::local_id(layout, address)
 }
 
+// The id of an address, by the host's own net or the class's net table.
+pub fn found_for(t: ClassTable, s: Settings, a: wire::Address) -> route::Found
+    ensures { λ r. ⌜ r ≡ foundFor t s a ⌝ }
+{
+    route::find(s.address, s.layout, t.net, a)
+}
+
 // Is there an id, and is it marked?
 fn found_marked(m: table::marks::Marks, found: route::Found) -> bool
     ensures { λ r. ⌜ r ≡ foundMarked m found ⌝ }
@@ -168,24 +181,32 @@ pub fn good(s: Settings) -> bool
     let clock_tick = s.clock_tick;
     let time = s.time;
     let date = s.date;
-    let net = s.net;
     let marks = s.marks;
     let nhosts = layout.nhosts;
     let own = own_id(s);
     from_to(1, MAX_LINKS, s.link_count)
         & link_state::switches_good(s)
         & from_to(1, MAX_HOSTS, nhosts)
-        & (net.count <= MAX_ROWS)
         & from_to(1, LAST_OCTET, address.first as usize)
         & clock_host_good(s.clock_host, nhosts)
         & from_to(1, MAX_HOLD_INTERVAL, hold_interval.0 as usize)
         & clock::tick_in_range(clock_tick)
         & time_good(time)
         & date.is_real()
-        & route::ids_below(net, nhosts)
         & route::is_found(own)
         & found_marked(marks, own)
         & table::marks::none_from(marks, nhosts)
+}
+
+// Are they, and is the class's NHOSTS theirs?
+pub fn fit(t: ClassTable, s: Settings) -> bool
+    ensures { λ r. ⌜ r ≡ settingsFit t s ⌝ }
+{
+    let layout = s.layout;
+    if !good(s) {
+        return false;
+    }
+    layout.nhosts == t.nhosts
 }
 
 // The hosts of one net, and the places of each in the run.

@@ -22,6 +22,7 @@ use Rattle.wire.specs.Hello.{reportAt}
 use Rattle.wire.specs.Packet.{helloOf}
 use Rattle.route.specs.declared.Found.{Found}
 use Rattle.route.specs.declared.Found.the-variants.{Id, Nothing}
+use Rattle.class_table.specs.declared.ClassTable.{ClassTable}
 use Rattle.table.specs.declared.Entry.{Entry}
 use Rattle.table.specs.declared.Update.{Update}
 use Rattle.table.specs.declared.run.Changes.{Changes}
@@ -164,20 +165,20 @@ module _ (s : Settings) (p : Packet) (octets : List ℕ) where
         stores less = record { still = λ _. (at-id 3 (w .id) g (g .id), less); link = λ _. refl; length = λ _. refl; few = λ _ held used. held }
 
     -- each box
-    pub box-goes : (e : Entry) (q : Place) → Holds q w → 1 ≤ s .layout .nhosts
-        → ((a : Address) (id : ℕ) → foundFor s a ≡ Id id → ltb id (s .layout .nhosts) ≡ true) → Onward (boxAt q k p octets h w e .walk)
+    pub box-goes : (t : ClassTable) (e : Entry) (q : Place) → Holds q w → 1 ≤ s .layout .nhosts
+        → ((a : Address) (id : ℕ) → foundFor t s a ≡ Id id → ltb id (s .layout .nhosts) ≡ true) → Onward (boxAt q k p octets t h w e .walk)
     unfolding placeOf box1 box2 box3 box4 box5 boxA boxB boxC boxD
-    box-goes e Nowhere g some below = absurd g
-    box-goes e Step1 g some below = record { still = λ _. reading-in (s .«clock_tick») (s .«hold_interval») k c; link = λ _. refl; length = λ _. refl; few = λ _ held used. used }
-    box-goes e Step2 g some below = record { still = λ _. g; link = λ _. refl; length = λ _. refl; few = λ _ held used. held }
-    box-goes e Step3 g some below = record { still = λ _. g; link = λ _. refl; length = λ _. refl; few = λ _ held used. held }
-    box-goes e Step4 g some below = four (step4 (broadcast s (w .link)) (c .hold) p (inFlight l w)) g
-    box-goes e Step5 g some below =
+    box-goes t e Nowhere g some below = absurd g
+    box-goes t e Step1 g some below = record { still = λ _. reading-in (s .«clock_tick») (s .«hold_interval») k c; link = λ _. refl; length = λ _. refl; few = λ _ held used. used }
+    box-goes t e Step2 g some below = record { still = λ _. g; link = λ _. refl; length = λ _. refl; few = λ _ held used. held }
+    box-goes t e Step3 g some below = record { still = λ _. g; link = λ _. refl; length = λ _. refl; few = λ _ held used. held }
+    box-goes t e Step4 g some below = four (step4 (broadcast s (w .link)) (c .hold) p (inFlight l w)) g
+    box-goes t e Step5 g some below =
         either (λ (x : Effect). Onward (x .walk)) (eqb (p .nhosts) 0)
-        (toNeighbor h (raised w) (foundFor s (linkOf l (w .link) .neighbor))) (onward (atLine 1 0 (raised w)) c l nothing)
-        (λ _. found (foundFor s (linkOf l (w .link) .neighbor)) (below (linkOf l (w .link) .neighbor)) (g .0) (g .1))
+        (toNeighbor h (raised w) (foundFor t s (linkOf l (w .link) .neighbor))) (onward (atLine 1 0 (raised w)) c l nothing)
+        (λ _. found (foundFor t s (linkOf l (w .link) .neighbor)) (below (linkOf l (w .link) .neighbor)) (g .0) (g .1))
         (λ _. record { still = λ _. record { reading = g .0; id = lt-ltb 0 (s .layout .nhosts) some; delay = raised-held w (g .1) }; link = λ _. refl; length = λ _. refl; few = λ _ held used. held })
-    box-goes e LineA g some below = a-goes (lineA (lineUpdate w p octets) e) g
-    box-goes e LineB g some below = b-goes e g
-    box-goes e LineC g some below = c-goes (lineC (lineUpdate w p octets) e) (g .0)
-    box-goes e LineD g some below = next (clockSet p octets h w) nothing g
+    box-goes t e LineA g some below = a-goes (lineA (lineUpdate w p octets) e) g
+    box-goes t e LineB g some below = b-goes e g
+    box-goes t e LineC g some below = c-goes (lineC (lineUpdate w p octets) e) (g .0)
+    box-goes t e LineD g some below = next (clockSet p octets h w) nothing g

@@ -14,6 +14,7 @@ use Rattle.answer.specs.declared.Answer.the-variants.{Done, InWalk}
 use Rattle.clock.specs.declared.Clock.{Clock}
 use Rattle.clock.specs.declared.Counter.{Counter}
 use Rattle.wire.specs.declared.Packet.{Packet}
+use Rattle.class_table.specs.declared.ClassTable.{ClassTable}
 use Rattle.table.specs.declared.Entry.{Entry}
 use Rattle.table.specs.declared.Update.{Update}
 use Rattle.table.specs.declared.Updated.{Updated}
@@ -36,6 +37,11 @@ use Rattle.host.specs.Reply.{plainly}
 use Rattle.host.specs.Walk.{isOpen, noWalk, placeOf, lineUpdate}
 use Rattle.host.specs.Effect.{nothing, one}
 use Rattle.walk.specs.Boxes.{at, atLine, onward, ended, nextId, put, isClockHost, behindA, behindB, behindC, clockSet, boxA, boxB, boxC, boxD, boxAt}
+
+-- what a box is handed: its counter, and the class's net table as it then is
+pub record Handed : Type 0 where
+  pub counter : Counter
+  pub nets : ClassTable
 
 -- a host between boxes
 pub record Seat : Type 0 where
@@ -114,20 +120,20 @@ b-keeps u e x =
 -- ---- a walk through an arrival of this packet
 
 module _ (s : Settings) (p : Packet) (octets : List ℕ) where
-  abbrev pub boxHere : Counter → Seat → Effect
-  boxHere k x =
-      boxAt (placeOf (x .walk)) k p octets (host s (x .clock) (x .links)) (x .walk) (getD (x .entries) (x .walk .id) freshEntry)
+  abbrev pub boxHere : Handed → Seat → Effect
+  boxHere b x =
+      boxAt (placeOf (x .walk)) (b .counter) p octets (b .nets) (host s (x .clock) (x .links)) (x .walk) (getD (x .entries) (x .walk .id) freshEntry)
 
   abbrev pub goOn : (Seat → Final) → Effect → List Entry → Final
   goOn W e es =
       cond (isOpen (e .walk)) (W (seat (e .clock) (e .links) (e .walk) (changes (e .work) es)))
       (final (e .reply) (e .clock) (e .links) (changes (e .work) es))
 
-  unfoldable pub walkFrom : (boxes : ℕ) → (ℕ → Counter) → Seat → Final
+  unfoldable pub walkFrom : (boxes : ℕ) → (ℕ → Handed) → Seat → Final
   walkFrom zero ks x = final (plainly InWalk) (x .clock) (x .links) (x .entries)
   walkFrom (suc n) ks x = goOn (walkFrom n (λ j. ks (suc j))) (boxHere (ks 0) x) (x .entries)
 
-  pub box-is : (n : ℕ) (ks : ℕ → Counter) (x : Seat) → walkFrom (suc n) ks x ≡ goOn (walkFrom n (λ j. ks (suc j))) (boxHere (ks 0) x) (x .entries)
+  pub box-is : (n : ℕ) (ks : ℕ → Handed) (x : Seat) → walkFrom (suc n) ks x ≡ goOn (walkFrom n (λ j. ks (suc j))) (boxHere (ks 0) x) (x .entries)
   unfolding walkFrom
   box-is n ks x = refl
 
@@ -146,7 +152,7 @@ module _ (s : Settings) (p : Packet) (octets : List ℕ) where
     -- behind the id: its clock and entries, and boxes left
     abbrev pub Behind : (P : Final → Type 0) (r : ℕ) (c : Clock) (es : List Entry) → Type 0
     Behind P r c es =
-        (n : ℕ) → r ≤ n → (ks : ℕ → Counter) (m : ℕ) (work : Changes) (es₀ : List Entry) → changes work es₀ ≡ es
+        (n : ℕ) → r ≤ n → (ks : ℕ → Handed) (m : ℕ) (work : Changes) (es₀ : List Entry) → changes work es₀ ≡ es
         → P (goOn (walkFrom n ks) (nextId p (host s c l) (atLine m j w) work) es₀)
 
     module _ (P : Final → Type 0) (r : ℕ) (c : Clock) (pre : List Entry) (e : Entry) (rest : List Entry) (here : length pre ≡ j) where
@@ -162,7 +168,7 @@ module _ (s : Settings) (p : Packet) (octets : List ℕ) where
       abbrev Left : Stage Entry → Type 0
       Left q = Behind P r (settled clockHost (s .«hold_interval») (w .count) (p .date) u c q .clock) (pre ++ settled clockHost (s .«hold_interval») (w .count) (p .date) u c q .entry ∷ rest)
 
-      abbrev later : (ℕ → Counter) → ℕ → Counter
+      abbrev later : (ℕ → Handed) → ℕ → Handed
       later ks i = ks (suc i)
 
       -- a box that goes on to another line of the id
@@ -171,14 +177,14 @@ module _ (s : Settings) (p : Packet) (octets : List ℕ) where
       onto W m work es₀ es₁ is q = rw (opened, is) q
 
       -- line (d)
-      d-box : (ks : ℕ → Counter) (x : Entry) → Left (on x) → P (walkFrom (suc r) ks (seat c l (atLine 4 j w) (pre ++ x ∷ rest)))
+      d-box : (ks : ℕ → Handed) (x : Entry) → Left (on x) → P (walkFrom (suc r) ks (seat c l (atLine 4 j w) (pre ++ x ∷ rest)))
       unfolding placeOf boxD
       d-box ks x k =
           subst P (sym (box-is r ks (seat c l (atLine 4 j w) (pre ++ x ∷ rest))))
           (k r (omega arith) (later ks) 4 nothing (pre ++ x ∷ rest) (nothing-changes (pre ++ x ∷ rest)))
 
       -- line (c)
-      c-box : (ks : ℕ → Counter) (x : Entry) → lineC u e ≡ on x → Left (on x) → P (walkFrom (suc (suc r)) ks (seat c l (atLine 3 j w) es))
+      c-box : (ks : ℕ → Handed) (x : Entry) → lineC u e ≡ on x → Left (on x) → P (walkFrom (suc (suc r)) ks (seat c l (atLine 3 j w) es))
       unfolding placeOf boxC
       c-box ks x is k =
           subst P (sym (box-is (suc r) ks (seat c l (atLine 3 j w) es)))
@@ -190,7 +196,7 @@ module _ (s : Settings) (p : Packet) (octets : List ℕ) where
           go false own = rw own at (k (suc r) (omega arith) (later ks) 3 (one j (Put x)) es (putting x))
 
       -- line (b)
-      b-box : (ks : ℕ → Counter) (q : Stage Entry) → lineB u e ≡ q → Left (q then lineC u) → P (walkFrom (suc (suc (suc r))) ks (seat c l (atLine 2 j w) es))
+      b-box : (ks : ℕ → Handed) (q : Stage Entry) → lineB u e ≡ q → Left (q then lineC u) → P (walkFrom (suc (suc (suc r))) ks (seat c l (atLine 2 j w) es))
       unfolding placeOf boxB lineC
       b-box ks (end x) is k =
           subst P (sym (box-is (suc (suc r)) ks (seat c l (atLine 2 j w) es)))
@@ -201,7 +207,7 @@ module _ (s : Settings) (p : Packet) (octets : List ℕ) where
           (c-box (later ks) _ refl (subst (λ (y : Entry). Left (lineC u y)) (b-keeps u e x is) k))))
 
       -- line (a), and so all of them
-      pub id-boxes : (ks : ℕ → Counter) → Behind P r (updated c e .clock) (pre ++ updated c e .entry ∷ rest)
+      pub id-boxes : (ks : ℕ → Handed) → Behind P r (updated c e .clock) (pre ++ updated c e .entry ∷ rest)
           → P (walkFrom (suc (suc (suc (suc r)))) ks (seat c l (atLine 1 j w) es))
       unfolding placeOf boxA update lines lineA
       id-boxes ks k =
@@ -231,7 +237,7 @@ module _ (s : Settings) (p : Packet) (octets : List ℕ) where
     abbrev pub swept : ℕ → Clock → List Entry → Swept
     swept j c es = sweep j updating c es
 
-    pub ids-boxes : (rest : List Entry) (pre : List Entry) (e : Entry) (j : ℕ) (c : Clock) (n : ℕ) (ks : ℕ → Counter)
+    pub ids-boxes : (rest : List Entry) (pre : List Entry) (e : Entry) (j : ℕ) (c : Clock) (n : ℕ) (ks : ℕ → Handed)
         → length pre ≡ j → hostCount s ≡ j + 1 + length rest → 4 * (1 + length rest) ≤ n
         → walkFrom n ks (seat c l (atLine 1 j w) (pre ++ e ∷ rest)) ≡ final (plainly Done) (swept j c (e ∷ rest) .clock) l (pre ++ swept j c (e ∷ rest) .entries)
     unfolding sweep

@@ -29,6 +29,7 @@ use Rattle.wire.specs.Hello.{reportAt}
 use Rattle.wire.specs.Packet.{helloOf}
 use Rattle.route.specs.declared.Found.{Found}
 use Rattle.route.specs.declared.Found.the-variants.{Id, Nothing}
+use Rattle.class_table.specs.declared.ClassTable.{ClassTable}
 use Rattle.table.specs.declared.Entry.{Entry}
 use Rattle.table.specs.declared.Update.{Update}
 use Rattle.table.specs.declared.Updated.{Updated}
@@ -58,7 +59,7 @@ use Rattle.arrival.proofs.Flights.{steps-cases}
 use Rattle.walk.specs.Boxes.{inFlight, fourth, raised, atLine, onward, nextId, toNeighbor, box1, box2, box3, box4, box5}
 use Rattle.walk.specs.Opening.{openedOn}
 use Rattle.walk.proofs.Walked as lines
-use Rattle.walk.proofs.Walked.{Seat, Final, seat, final, nothing-changes, goOn, walkFrom, box-is}
+use Rattle.walk.proofs.Walked.{Handed, Seat, Final, seat, final, nothing-changes, goOn, walkFrom, box-is}
 
 -- ---- a DELAY that fits its 16 bits comes back
 
@@ -94,7 +95,7 @@ module _ (i : ℕ) (l : Links) (slot : i - 1 < length (l .all)) where
 
 -- ---- the five steps
 
-module _ (s : Settings) (i : ℕ) (p : Packet) (octets : List ℕ) (m : ℕ) (c : Clock) (l : Links) (slot : i - 1 < length (l .all)) (k : Counter) (es : List Entry) where
+module _ (s : Settings) (i : ℕ) (p : Packet) (octets : List ℕ) (m : ℕ) (c : Clock) (l : Links) (slot : i - 1 < length (l .all)) (k : Counter) (nets : ClassTable) (es : List Entry) where
   abbrev r : Reading
   r = ourReading k (host s c l)
 
@@ -109,13 +110,13 @@ module _ (s : Settings) (i : ℕ) (p : Packet) (octets : List ℕ) (m : ℕ) (c 
   held n d o =
       record { opened = 1; link = i; step = n; line = 0; id = 0; length = m; count = countUsed k; reading = r .time; delay = d; offset = o }
 
-  abbrev walks : ℕ → (ℕ → Counter) → Seat → Final
+  abbrev walks : ℕ → (ℕ → Handed) → Seat → Final
   walks = walkFrom s p octets
 
   abbrev none : Word
   none = word (pos 0)
 
-  first : (n : ℕ) (ks : ℕ → Counter) → ks 0 ≡ k
+  first : (n : ℕ) (ks : ℕ → Handed) → ks 0 .counter ≡ k
       → walks (suc n) ks (seat c l (openedOn i m) es) ≡ walks n (λ j. ks (suc j)) (seat (r .clock) l (held 2 none none) es)
   unfolding placeOf box1
   first n ks is =
@@ -127,14 +128,14 @@ module _ (s : Settings) (i : ℕ) (p : Packet) (octets : List ℕ) (m : ℕ) (c 
   abbrev l₂ : Links
   l₂ = withLink i (alive .link) l
 
-  second : (n : ℕ) (ks : ℕ → Counter)
+  second : (n : ℕ) (ks : ℕ → Handed)
       → walks (suc n) ks (seat (r .clock) l (held 2 none none) es) ≡ walks n (λ j. ks (suc j)) (seat (r .clock) l₂ (held 3 none none) es)
   unfolding placeOf box2
   second n ks =
       box-is s p octets n ks (seat (r .clock) l (held 2 none none) es)
       ∙ ap (λ (x : List Entry). walks n (λ j. ks (suc j)) (seat (r .clock) l₂ (held 3 none none) x)) (nothing-changes es)
 
-  third : (n : ℕ) (ks : ℕ → Counter)
+  third : (n : ℕ) (ks : ℕ → Handed)
       → walks (suc n) ks (seat (r .clock) l₂ (held 3 none none) es)
       ≡ walks n (λ j. ks (suc j)) (seat (r .clock) (withLink i (flight .link) l) (held 4 (toWord (flight .delay)) (flight .offset)) es)
   unfolding placeOf box3 step2
@@ -152,7 +153,7 @@ module _ (s : Settings) (i : ℕ) (p : Packet) (octets : List ℕ) (m : ℕ) (c 
   unfolding step3 step2
   in-flight = rw (link-back i l slot (flight .link), word-back (flight .delay) (measured-fits b p (r .time) (linkOf l i))) refl
 
-  four : (n : ℕ) (ks : ℕ → Counter)
+  four : (n : ℕ) (ks : ℕ → Handed)
       → walks (suc n) ks (seat (r .clock) l₃ w₃ es)
       ≡ goOn s p octets (walks n (λ j. ks (suc j))) (fourth (host s (r .clock) l₃) w₃ (steps2to4 b (r .clock .hold) p (r .time) (linkOf l i))) es
   unfolding placeOf box4 steps2to4
@@ -172,7 +173,7 @@ module _ (s : Settings) (i : ℕ) (p : Packet) (octets : List ℕ) (m : ℕ) (c 
   H f = host s (r .clock) (withLink i (f .link) l)
 
   ends-so : (W : Seat → Final) (f : Flight)
-      → goOn s p octets W (fourth (host s (r .clock) l₃) w₃ (end f)) es ≡ leaves (concluded (host s (r .clock) l) i (countUsed k) p (end f))
+      → goOn s p octets W (fourth (host s (r .clock) l₃) w₃ (end f)) es ≡ leaves (concluded nets (host s (r .clock) l) i (countUsed k) p (end f))
   ends-so W f = rw (link-twice i l slot (flight .link) (f .link), nothing-changes es) (sym (no-updates (ends DelayNotValid (H f)) refl refl))
 
   module _ (f : Flight) (fits : Fits16 (f .delay)) (is : f .reading ≡ r .time) (whole : length es ≡ hostCount s) where
@@ -226,7 +227,7 @@ module _ (s : Settings) (i : ℕ) (p : Packet) (octets : List ℕ) (m : ℕ) (c 
     ends-there W t d m₁ id work₁ es₀ es₁ is₁ = rw (t, is₁) refl
 
     -- no table: the one id
-    neighbor : (n : ℕ) (ks : ℕ → Counter) → 4 ≤ n → eqb (p .nhosts) 0 ≡ true → (g : Found) → ((id : ℕ) → g ≡ Id id → id < hostCount s)
+    neighbor : (n : ℕ) (ks : ℕ → Handed) → 4 ≤ n → eqb (p .nhosts) 0 ≡ true → (g : Found) → ((id : ℕ) → g ≡ Id id → id < hostCount s)
         → goOn s p octets (walks n ks) (toNeighbor (host s (r .clock) l₄) w₅ g) es ≡ leaves (noTable (H f) i (countUsed k) p f g)
     neighbor n ks room t Nothing below = rw (nothing-changes es) (sym (no-updates (ends NoHost (H f)) refl refl))
     neighbor n ks room t (Id id) below =
@@ -253,7 +254,7 @@ module _ (s : Settings) (i : ℕ) (p : Packet) (octets : List ℕ) (m : ℕ) (c 
         ∙ ap (λ (x : List Entry). final (plainly Done) (lines.swept s p octets w₅ refl l₄ t 0 (r .clock) x .clock) l₄ (lines.swept s p octets w₅ refl l₄ t 0 (r .clock) x .entries)) split
 
     -- a table: all ids
-    table : (n : ℕ) (ks : ℕ → Counter) → 4 * hostCount s ≤ n → 1 ≤ hostCount s → eqb (p .nhosts) 0 ≡ false
+    table : (n : ℕ) (ks : ℕ → Handed) → 4 * hostCount s ≤ n → 1 ≤ hostCount s → eqb (p .nhosts) 0 ≡ false
         → walks n ks (seat (r .clock) l₄ (atLine 1 0 w₅) es) ≡ leaves (withTable (H f) i (countUsed k) p f)
     table n ks room some t =
         let h : 0 < length es = omega (arith, some, whole) in
@@ -263,36 +264,36 @@ module _ (s : Settings) (i : ℕ) (p : Packet) (octets : List ℕ) (m : ℕ) (c 
         ∙ lines.ids-boxes s p octets w₅ refl l₄ t (drop 1 es) [] (getD es 0 freshEntry) 0 (r .clock) n ks refl long (omega (arith, room, long))
         ∙ sym (all-updated t (getD es 0 freshEntry ∷ drop 1 es) split)
 
-    fifth : (n : ℕ) (ks : ℕ → Counter) → 1 + 4 * hostCount s ≤ n → 1 ≤ hostCount s → ((id : ℕ) → foundFor s (f .link .neighbor) ≡ Id id → id < hostCount s)
-        → walks n ks (seat (r .clock) l₄ w₄ es) ≡ leaves (step5 (H f) i (countUsed k) p f)
+    fifth : (n : ℕ) (ks : ℕ → Handed) → ks 0 .nets ≡ nets → 1 + 4 * hostCount s ≤ n → 1 ≤ hostCount s → ((id : ℕ) → foundFor nets s (f .link .neighbor) ≡ Id id → id < hostCount s)
+        → walks n ks (seat (r .clock) l₄ w₄ es) ≡ leaves (step5 nets (H f) i (countUsed k) p f)
     unfolding placeOf box5
-    fifth n ks room some below =
+    fifth n ks table-is room some below =
         let more : n ≡ suc (n - 1) = omega arith in
         rw more
         (box-is s p octets (n - 1) ks (seat (r .clock) l₄ w₄ es)
-        ∙ rw (link-back i l slot (f .link)) (go (eqb (p .nhosts) 0) refl))
+        ∙ rw (link-back i l slot (f .link), table-is) (go (eqb (p .nhosts) 0) refl))
       where
-        later : ℕ → Counter
+        later : ℕ → Handed
         later j = ks (suc j)
 
         go : (a : Bool) → eqb (p .nhosts) 0 ≡ a
-            → goOn s p octets (walks (n - 1) later) (cond a (toNeighbor (host s (r .clock) l₄) w₅ (foundFor s (f .link .neighbor))) (onward (atLine 1 0 w₅) (r .clock) l₄ nothing)) es
-            ≡ leaves (cond a (noTable (H f) i (countUsed k) p f (foundFor s (f .link .neighbor))) (withTable (H f) i (countUsed k) p f))
-        go true t = neighbor (n - 1) later (omega arith) t (foundFor s (f .link .neighbor)) below
+            → goOn s p octets (walks (n - 1) later) (cond a (toNeighbor (host s (r .clock) l₄) w₅ (foundFor nets s (f .link .neighbor))) (onward (atLine 1 0 w₅) (r .clock) l₄ nothing)) es
+            ≡ leaves (cond a (noTable (H f) i (countUsed k) p f (foundFor nets s (f .link .neighbor))) (withTable (H f) i (countUsed k) p f))
+        go true t = neighbor (n - 1) later (omega arith) t (foundFor nets s (f .link .neighbor)) below
         go false t = rw (nothing-changes es) (table (n - 1) later (omega arith) some t)
 
-    goes-on : (n : ℕ) (ks : ℕ → Counter) → 1 + 4 * hostCount s ≤ n → 1 ≤ hostCount s → ((id : ℕ) → foundFor s (f .link .neighbor) ≡ Id id → id < hostCount s)
-        → goOn s p octets (walks n ks) (fourth (host s (r .clock) l₃) w₃ (on f)) es ≡ leaves (step5 (H f) i (countUsed k) p f)
-    goes-on n ks room some below = rw (link-twice i l slot (flight .link) (f .link), nothing-changes es) (fifth n ks room some below)
+    goes-on : (n : ℕ) (ks : ℕ → Handed) → ks 0 .nets ≡ nets → 1 + 4 * hostCount s ≤ n → 1 ≤ hostCount s → ((id : ℕ) → foundFor nets s (f .link .neighbor) ≡ Id id → id < hostCount s)
+        → goOn s p octets (walks n ks) (fourth (host s (r .clock) l₃) w₃ (on f)) es ≡ leaves (step5 nets (H f) i (countUsed k) p f)
+    goes-on n ks table-is room some below = rw (link-twice i l slot (flight .link) (f .link), nothing-changes es) (fifth n ks table-is room some below)
 
   same-reading : flight .reading ≡ r .time
   unfolding step3 step2
   same-reading = refl
 
-  pub to-the-end : (n : ℕ) (ks : ℕ → Counter) → ks 0 ≡ k → 5 + 4 * hostCount s ≤ n → length es ≡ hostCount s → 1 ≤ hostCount s
-      → ((a : Address) (id : ℕ) → foundFor s a ≡ Id id → id < hostCount s)
-      → walks n ks (seat c l (openedOn i m) es) ≡ leaves (action k (host s c l) i p)
-  to-the-end n ks is room whole some below =
+  pub to-the-end : (n : ℕ) (ks : ℕ → Handed) → ks 0 .counter ≡ k → ks 4 .nets ≡ nets → 5 + 4 * hostCount s ≤ n → length es ≡ hostCount s → 1 ≤ hostCount s
+      → ((a : Address) (id : ℕ) → foundFor nets s a ≡ Id id → id < hostCount s)
+      → walks n ks (seat c l (openedOn i m) es) ≡ leaves (action k nets (host s c l) i p)
+  to-the-end n ks is table-is room whole some below =
       let four-more : n ≡ suc (suc (suc (suc (n - 4)))) = omega arith in
       rw four-more
       (first (suc (suc (suc (n - 4)))) ks is
@@ -300,15 +301,15 @@ module _ (s : Settings) (i : ℕ) (p : Packet) (octets : List ℕ) (m : ℕ) (c 
       ∙ third (suc (n - 4)) (λ j. ks (suc (suc j)))
       ∙ four (n - 4) (λ j. ks (suc (suc (suc j))))
       ∙ steps-cases
-      (λ (q : Stage Flight). goOn s p octets (walks (n - 4) later) (fourth (host s (r .clock) l₃) w₃ q) es ≡ leaves (concluded (host s (r .clock) l) i (countUsed k) p q))
+      (λ (q : Stage Flight). goOn s p octets (walks (n - 4) later) (fourth (host s (r .clock) l₃) w₃ q) es ≡ leaves (concluded nets (host s (r .clock) l) i (countUsed k) p q))
       b (r .clock .hold) p (r .time) (linkOf l i)
       (λ _. known)
-      (λ _ _. goes-on (newNeighbor p flight) record { above = omega arith; below = omega arith } same-reading whole (n - 4) later (omega arith) some (below _))
+      (λ _ _. goes-on (newNeighbor p flight) record { above = omega arith; below = omega arith } same-reading whole (n - 4) later table-is (omega arith) some (below _))
       (λ _ _ _. ends-so (walks (n - 4) later) flight)
       (λ _ _ _. known))
     where
-      later : ℕ → Counter
+      later : ℕ → Handed
       later j = ks (suc (suc (suc (suc j))))
 
-      known : goOn s p octets (walks (n - 4) later) (fourth (host s (r .clock) l₃) w₃ (on flight)) es ≡ leaves (step5 (H flight) i (countUsed k) p flight)
-      known = goes-on flight (measured-fits b p (r .time) (linkOf l i)) same-reading whole (n - 4) later (omega arith) some (below _)
+      known : goOn s p octets (walks (n - 4) later) (fourth (host s (r .clock) l₃) w₃ (on flight)) es ≡ leaves (step5 nets (H flight) i (countUsed k) p flight)
+      known = goes-on flight (measured-fits b p (r .time) (linkOf l i)) same-reading whole (n - 4) later table-is (omega arith) some (below _)

@@ -14,6 +14,7 @@ use Rattle.wire.specs.declared.Parsed.{Parsed}
 use Rattle.wire.specs.declared.Parsed.the-variants.{Good, Bad}
 use Rattle.route.specs.declared.Found.{Found}
 use Rattle.route.specs.declared.Found.the-variants.{Id, Nothing}
+use Rattle.class_table.specs.declared.ClassTable.{ClassTable}
 use Rattle.table.specs.declared.Entry.{Entry}
 use Rattle.table.specs.declared.run.Changes.{Changes}
 use Rattle.table.specs.Forms.{Stage, on, end}
@@ -35,7 +36,7 @@ use Rattle.arrival.specs.declared.Flight.{Flight}
 use Rattle.arrival.specs.Steps.{step4}
 use Rattle.walk.specs.Boxes.{inFlight, raised, onward, ended, fourth, toNeighbor, nextId, put, atLine, isClockHost, clockSet, behindA, behindB, behindC, box1, box2, box3, box4, box5, boxA, boxB, boxC, boxD, atHand, boxAt, boxOf, step}
 
-module _ (P : Changes → Type 0) (k : Counter) (p : Packet) (octets : List ℕ) (h : Host) (w : Walk) (e : Entry) (none : P nothing) where
+module _ (P : Changes → Type 0) (k : Counter) (p : Packet) (octets : List ℕ) (t : ClassTable) (h : Host) (w : Walk) (e : Entry) (none : P nothing) where
   abbrev Does : Effect → Type 0
   Does x = P (x .work)
 
@@ -65,7 +66,7 @@ module _ (P : Changes → Type 0) (k : Counter) (p : Packet) (octets : List ℕ)
 
   -- an id that is held is one of the host's
   pub box-work : (idInRange (h .settings) w ≡ true → (x : Entry) → P (put w x)) → (q : Place) → heldAt q (h .settings) w p octets ≡ true
-      → Does (boxAt q k p octets h w e)
+      → Does (boxAt q k p octets t h w e)
   unfolding box1 box2 box3 box4 box5 boxA boxB boxC boxD
   box-work puts Nowhere held = none
   box-work puts Step1 held = none
@@ -73,7 +74,7 @@ module _ (P : Changes → Type 0) (k : Counter) (p : Packet) (octets : List ℕ)
   box-work puts Step3 held = none
   box-work puts Step4 held = four (step4 (broadcast (h .settings) (w .link)) (h .clock .hold) p (inFlight (h .links) w))
   box-work puts Step5 held =
-      either Does (eqb (p .nhosts) 0) _ _ (λ _. found (foundFor (h .settings) (linkOf (h .links) (w .link) .neighbor))) (λ _. none)
+      either Does (eqb (p .nhosts) 0) _ _ (λ _. found (foundFor t (h .settings) (linkOf (h .links) (w .link) .neighbor))) (λ _. none)
   box-work puts LineA held =
       let id = both (readingInRange w) (idInRange (h .settings) w) held .1 in
       a (puts id) (lineA (lineUpdate w p octets) e)
@@ -93,17 +94,17 @@ nothing-is-no-id e = let z : _≡_ {A = ℕ} 0 1 = cc in absurd (omega arith)
 
 module _ (s : Settings) (w : Walk) (copy : List ℕ) (in-range : walkInRange s w copy ≡ true) where
   -- the work of a step
-  pub step-work : (P : Changes → Type 0) (k : Counter) (h : Host) (e : Entry) → h .settings ≡ s → P nothing
-      → (idInRange s w ≡ true → (x : Entry) → P (put w x)) → P (step k h w copy e .work)
+  pub step-work : (P : Changes → Type 0) (k : Counter) (t : ClassTable) (h : Host) (e : Entry) → h .settings ≡ s → P nothing
+      → (idInRange s w ≡ true → (x : Entry) → P (put w x)) → P (step k t h w copy e .work)
   unfolding step
-  step-work P k h e same none puts =
+  step-work P k t h e same none puts =
       either (λ (x : Effect). P (x .work)) (not (isOpen w)) _ _ (λ _. none)
       (λ f. (let o = opened-says s w copy in-range (is-so _ f) in
       go (inspect (h .settings) (w .link) (packetOf w copy)) (rw same (o .held))))
     where
-      go : (q : Parsed) → packetHeld (h .settings) w (packetOf w copy) q ≡ true → P (boxOf k (packetOf w copy) h w e q .work)
+      go : (q : Parsed) → packetHeld (h .settings) w (packetOf w copy) q ≡ true → P (boxOf k (packetOf w copy) t h w e q .work)
       go (Bad a) held = absurd (false≢true held)
-      go (Good p) held = box-work P k p (packetOf w copy) h w e none (λ i. puts (rw (← same) i)) (placeOf w) held
+      go (Good p) held = box-work P k p (packetOf w copy) t h w e none (λ i. puts (rw (← same) i)) (placeOf w) held
 
   -- at a line an id is held
   module _ (p : Packet) (octets : List ℕ) where

@@ -27,6 +27,7 @@ use Rattle.host.specs.declared.Effect.{Effect}
 use Rattle.host.specs.declared.walk.Walk.{Walk}
 use Rattle.host.specs.declared.walk.Place.{Place}
 use Rattle.host.specs.declared.walk.Place.the-variants.{Nowhere, Step1, Step2, Step3, Step4, Step5, LineA, LineB, LineC, LineD}
+use Rattle.class_table.specs.declared.ClassTable.{ClassTable}
 use Rattle.host.specs.Settings.{foundFor}
 use Rattle.host.specs.State.{hostCount, broadcast, linkOf, withLink}
 use Rattle.host.specs.Lent.{Host, host, ourReading}
@@ -109,9 +110,9 @@ abbrev pub toNeighbor : Host → Walk → Found → Effect
 toNeighbor h w Nothing = ended NoHost (h .clock) (h .links) nothing
 toNeighbor h w (Id id) = onward (atLine 1 id w) (h .clock) (h .links) nothing
 
-unfoldable pub box5 : Packet → Host → Walk → Effect
-box5 p h w =
-    cond (eqb (p .nhosts) 0) (toNeighbor h (raised w) (foundFor (h .settings) (linkOf (h .links) (w .link) .neighbor)))
+unfoldable pub box5 : Packet → ClassTable → Host → Walk → Effect
+box5 p t h w =
+    cond (eqb (p .nhosts) 0) (toNeighbor h (raised w) (foundFor t (h .settings) (linkOf (h .links) (w .link) .neighbor)))
     (onward (atLine 1 0 (raised w)) (h .clock) (h .links) nothing)
 
 -- ---- lines (a) to (d) of an id
@@ -164,25 +165,25 @@ abbrev pub atHand : Walk → Found
 atHand w = cond (isOpen w && not (eqb (w .line) 0)) (Id (w .id)) Nothing
 
 -- the box of a place; a place that is none is 12 before
-abbrev pub boxAt : Place → Counter → Packet → (packet : List ℕ) → Host → Walk → Entry → Effect
-boxAt Nowhere k p octets h w e = answers (plainly OutOfRange) (h .clock) (h .links) w
-boxAt Step1 k p octets h w e = box1 k h w
-boxAt Step2 k p octets h w e = box2 h w
-boxAt Step3 k p octets h w e = box3 p h w
-boxAt Step4 k p octets h w e = box4 p h w
-boxAt Step5 k p octets h w e = box5 p h w
-boxAt LineA k p octets h w e = boxA p octets h w e
-boxAt LineB k p octets h w e = boxB p octets h w e
-boxAt LineC k p octets h w e = boxC p octets h w e
-boxAt LineD k p octets h w e = boxD p octets h w
+abbrev pub boxAt : Place → Counter → Packet → (packet : List ℕ) → ClassTable → Host → Walk → Entry → Effect
+boxAt Nowhere k p octets t h w e = answers (plainly OutOfRange) (h .clock) (h .links) w
+boxAt Step1 k p octets t h w e = box1 k h w
+boxAt Step2 k p octets t h w e = box2 h w
+boxAt Step3 k p octets t h w e = box3 p h w
+boxAt Step4 k p octets t h w e = box4 p h w
+boxAt Step5 k p octets t h w e = box5 p t h w
+boxAt LineA k p octets t h w e = boxA p octets h w e
+boxAt LineB k p octets t h w e = boxB p octets h w e
+boxAt LineC k p octets t h w e = boxC p octets h w e
+boxAt LineD k p octets t h w e = boxD p octets h w
 
 -- a packet that the inspection refuses is 12 before
-abbrev pub boxOf : Counter → (packet : List ℕ) → Host → Walk → Entry → Parsed → Effect
-boxOf k octets h w e (Bad a) = answers (plainly OutOfRange) (h .clock) (h .links) w
-boxOf k octets h w e (Good p) = boxAt (placeOf w) k p octets h w e
+abbrev pub boxOf : Counter → (packet : List ℕ) → ClassTable → Host → Walk → Entry → Parsed → Effect
+boxOf k octets t h w e (Bad a) = answers (plainly OutOfRange) (h .clock) (h .links) w
+boxOf k octets t h w e (Good p) = boxAt (placeOf w) k p octets t h w e
 
 -- "17 step asked with no walk open"
-unfoldable pub step : Counter → Host → Walk → (copy : List ℕ) → Entry → Effect
-step k h w copy e =
+unfoldable pub step : Counter → ClassTable → Host → Walk → (copy : List ℕ) → Entry → Effect
+step k t h w copy e =
     cond (not (isOpen w)) (answers (plainly NoWalk) (h .clock) (h .links) w)
-    (boxOf k (packetOf w copy) h w e (inspect (h .settings) (w .link) (packetOf w copy)))
+    (boxOf k (packetOf w copy) t h w e (inspect (h .settings) (w .link) (packetOf w copy)))

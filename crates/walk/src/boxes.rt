@@ -12,6 +12,7 @@ ghost use Rattle.host.specs.State.{hasPlace};
 ghost use Rattle.host.specs.Lent.{host};
 ghost use Rattle.host.specs.Walk.{readingInRange, placeOf, heldAt, packetHeld};
 ghost use Rattle.host.specs.Inspection.{inspect};
+ghost use Rattle.host.specs.code.Told.{RowsBelow};
 ghost use Rattle.host.specs.code.Walks.{Reported};
 ghost use Rattle.walk.specs.Boxes.{raised, toNeighbor, box1, box2, box3, box4, box5, boxAt, boxOf};
 use super::held::at;
@@ -32,6 +33,7 @@ use arrival::steps::delay_of;
 use arrival::steps::offset_of;
 use arrival::steps::step4;
 use arrival::steps::tsp_of;
+use class_table::ClassTable;
 use clock::Clock;
 use clock::Counter;
 use host::Effect;
@@ -148,14 +150,14 @@ fn to_neighbor(s: Settings, c: Clock, l: Links, w: Walk, found: Found) -> Effect
     }
 }
 
-fn box5(s: Settings, c: Clock, l: Links, w: Walk, p: Packet) -> Effect
+fn box5(s: Settings, t: ClassTable, c: Clock, l: Links, w: Walk, p: Packet) -> Effect
     requires { ⌜ (1 ≤ w .link) × (w .link ≤ 8) ⌝ }
-    requires { ⌜ settingsGood s ≡ true ⌝ }
-    ensures { λ e. ⌜ e ≡ box5 p (host s c l) w ⌝ }
+    requires { ⌜ (settingsGood s ≡ true) × RowsBelow t s ⌝ }
+    ensures { λ e. ⌜ e ≡ box5 p t (host s c l) w ⌝ }
 {
     if p.nhosts == 0 {
         let x = link_of(l, w.link as usize);
-        let found = route::find(s.address, s.layout, s.net, x.neighbor);
+        let found = host::found_for(t, s, x.neighbor);
         return to_neighbor(s, c, l, raised(w), found);
     }
     onward(at(5, 1, 0, raised(w)), c, l, nothing())
@@ -164,6 +166,7 @@ fn box5(s: Settings, c: Clock, l: Links, w: Walk, p: Packet) -> Effect
 // The box of a place.
 fn box_at(
     s: Settings,
+    t: ClassTable,
     c: Clock,
     l: Links,
     w: Walk,
@@ -173,11 +176,11 @@ fn box_at(
     k: Counter,
 ) -> Effect
     requires { ⌜ (1 ≤ w .link) × (w .link ≤ 8) ⌝ }
-    requires { ⌜ (settingsGood s ≡ true) × (clockInRange c ≡ true) ⌝ }
+    requires { ⌜ (settingsGood s ≡ true) × RowsBelow t s × (clockInRange c ≡ true) ⌝ }
     requires { ⌜ Four (p .time .0) ⌝ }
     requires { ⌜ Reported s p (now packet) ⌝ }
     requires { ⌜ heldAt (placeOf w) s w p (now packet) ≡ true ⌝ }
-    ensures { λ r. ⌜ r ≡ boxAt (placeOf w) k p (now (packet .entry)) (host s c l) w e ⌝ }
+    ensures { λ r. ⌜ r ≡ boxAt (placeOf w) k p (now (packet .entry)) t (host s c l) w e ⌝ }
 {
     match host::walk::place_of(w) {
         Place::Nowhere => answers(c, l, w, plainly(Answer::OutOfRange)),
@@ -185,7 +188,7 @@ fn box_at(
         Place::Step2 => box2(s, c, l, w),
         Place::Step3 => box3(s, c, l, w, p),
         Place::Step4 => box4(s, c, l, w, p),
-        Place::Step5 => box5(s, c, l, w, p),
+        Place::Step5 => box5(s, t, c, l, w, p),
         Place::LineA => box_a(s, c, l, w, p, packet, e),
         Place::LineB => box_b(s, c, l, w, p, packet, e),
         Place::LineC => box_c(s, c, l, w, p, packet, e),
@@ -196,6 +199,7 @@ fn box_at(
 // The packet of the walk, read again.
 pub fn box_of(
     s: Settings,
+    t: ClassTable,
     c: Clock,
     l: Links,
     w: Walk,
@@ -204,12 +208,12 @@ pub fn box_of(
     k: Counter,
 ) -> Effect
     requires { ⌜ (1 ≤ w .link) × (w .link ≤ 8) ⌝ }
-    requires { ⌜ (settingsGood s ≡ true) × (clockInRange c ≡ true) ⌝ }
+    requires { ⌜ (settingsGood s ≡ true) × RowsBelow t s × (clockInRange c ≡ true) ⌝ }
     requires { ⌜ packetHeld s w (now packet) (inspect s (w .link) (now packet)) ≡ true ⌝ }
-    ensures { λ r. ⌜ r ≡ boxOf k (now (packet .entry)) (host s c l) w e (inspect s (w .link) (now (packet .entry))) ⌝ }
+    ensures { λ r. ⌜ r ≡ boxOf k (now (packet .entry)) t (host s c l) w e (inspect s (w .link) (now (packet .entry))) ⌝ }
 {
     match host::inspection::inspect(s, w.link as usize, packet) {
         Parsed::Bad(_) => answers(c, l, w, plainly(Answer::OutOfRange)),
-        Parsed::Good(p) => box_at(s, c, l, w, p, packet, e, k),
+        Parsed::Good(p) => box_at(s, t, c, l, w, p, packet, e, k),
     }
 }

@@ -8,6 +8,7 @@ ghost use Rattle.walk.specs.Boxes.{atHand, step};
 ghost use Rattle.walk.specs.Opening.{openedOn, opening, copied};
 ghost use Rattle.walk.specs.code.Plan.{Steady, Openable, planned};
 use answer::Answer;
+use class_table::ClassTable;
 use clock::Clock;
 use clock::Counter;
 use host::Effect;
@@ -115,13 +116,22 @@ pub fn at_hand(w: Walk) -> Found
 }
 
 // The box of a walk's place; 17 where no walk is open.
-pub fn step(s: Settings, c: Clock, l: Links, w: Walk, copy: &[u8], e: Entry, k: Counter) -> Effect
-    requires { ⌜ Steady s c w (now copy) ⌝ }
-    ensures { λ r. ⌜ r ≡ step k (host s c l) w (now (copy .entry)) e ⌝ }
+pub fn step(
+    s: Settings,
+    t: ClassTable,
+    c: Clock,
+    l: Links,
+    w: Walk,
+    copy: &[u8],
+    e: Entry,
+    k: Counter,
+) -> Effect
+    requires { ⌜ Steady s t c w (now copy) ⌝ }
+    ensures { λ r. ⌜ r ≡ step k t (host s c l) w (now (copy .entry)) e ⌝ }
 {
     if !host::walk::is_open(w) {
         return answers(c, l, w, plainly(Answer::NoWalk));
     }
     let n = w.length as usize;
-    boxes::box_of(s, c, l, w, &copy[..n], e, k)
+    boxes::box_of(s, t, c, l, w, &copy[..n], e, k)
 }

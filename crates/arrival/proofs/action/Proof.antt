@@ -38,7 +38,7 @@ with-link-requires-2 : tie.Need-with-link-requires-2
 with-link-requires-2 c κs = search needs
 
 step5-requires : tie.Need-step5-requires
-step5-requires c κs = let start = c .before .before .before .before .before .before .before .before .before .before in (start .pre .0, start .pre .1 .0 .0)
+step5-requires c κs = let start = c .before .before .before .before .before .before .before .before .before .before in (start .pre .0, (start .pre .1 .0 .0, start .pre .1 .0 .1))
 
 returns : tie.Need-returns
 returns c =

@@ -30,7 +30,7 @@ returns-2 : tie.Need-returns-2
 returns-2 c = rw (c .before .before .d2 .given .1) (c .act .ensures)
 
 returns-3 : tie.Need-returns-3
-returns-3 c = rw (c .before .before .d3 .given .1) (c .act2 .ensures ∙ sym (one-piece _ _ _ _))
+returns-3 c = rw (c .before .before .d3 .given .1) (c .act2 .ensures ∙ sym (one-piece _ _ _ _ _))
 
 pub deliver-spec : {M : Type 1} → statement M
 deliver-spec =

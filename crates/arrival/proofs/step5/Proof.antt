@@ -5,14 +5,14 @@ use borrow.Author.Needs.{needs}
 use Rattle.arrival.proofs.step5.Statement.{statement}
 use Rattle.arrival.proofs.step5.Tie as tie
 
-find-requires : tie.Need-find-requires
-find-requires c κs = search needs
+found-for-requires : tie.Need-found-for-requires
+found-for-requires c κs = search needs
 
 no-table-requires : tie.Need-no-table-requires
-no-table-requires c κs = let start = c .before .before .before .before .before in (start .pre .0, rw (c .find .ensures) (find-has-place (start .args .s) _ (start .pre .1)))
+no-table-requires c κs = let start = c .before .before .before .before .before in (start .pre .0, rw (c .found-for .ensures) (find-has-place (start .args .t) (start .args .s) _ (start .pre .1 .0) (start .pre .1 .1)))
 
 returns : tie.Need-returns
-returns c = rw (eq-eqb _ _ (c .before .before .before .before .if1 .taken), ← c .before .find .ensures) (c .no-table .ensures)
+returns c = rw (eq-eqb _ _ (c .before .before .before .before .if1 .taken), ← c .before .found-for .ensures) (c .no-table .ensures)
 
 neighbor-update-requires : tie.Need-neighbor-update-requires
 neighbor-update-requires c κs = search needs
@@ -30,7 +30,7 @@ pub step5-spec : {M : Type 1} → statement M
 step5-spec =
     tie.close
     (tie.spec
-    find-requires
+    found-for-requires
     no-table-requires
     returns
     neighbor-update-requires

@@ -3,6 +3,7 @@ use mathlib.Core.Bool.{cond, not}
 use mathlib.Core.List.{List}
 use Prim.Native.Nat.{ℕ}
 use Rattle.answer.specs.declared.Answer.{Answer}
+use Rattle.class_table.specs.declared.ClassTable.{ClassTable}
 use Rattle.table.specs.Forms.{Stage, on, end}
 use Rattle.host.specs.Lent.{Host}
 use Rattle.host.specs.Guard.{done}
@@ -17,5 +18,5 @@ abbrev pub stepOf : Stage Flight → Step
 stepOf (on f) = On f
 stepOf (end f) = End f
 
-abbrev pub planned : Answer → Delivery → (packet : List ℕ) → Host → Arrived
-planned g d octets h = cond (not (done g)) (ends g h) (delivered d octets h)
+abbrev pub planned : Answer → Delivery → (packet : List ℕ) → ClassTable → Host → Arrived
+planned g d octets t h = cond (not (done g)) (ends g h) (delivered d octets t h)

@@ -40,9 +40,6 @@ time-good-requires c κs = search needs
 is-real-requires : tie.Need-is-real-requires
 is-real-requires c κs = search needs
 
-ids-below-requires : tie.Need-ids-below-requires
-ids-below-requires c κs = search needs
-
 is-found-requires : tie.Need-is-found-requires
 is-found-requires c κs = search needs
 
@@ -56,17 +53,16 @@ returns : tie.Need-returns
 unfolding settingsGood
 returns c =
     rw (
-      ← c .before .before .before .before .before .before .before .before .before .before .before .before .before .before .before .from-to .ensures,
-      ← c .before .before .before .before .before .before .before .before .before .before .before .before .before .before .switches-good .ensures,
-      ← c .before .before .before .before .before .before .before .before .before .before .before .before .before .from-to2 .ensures,
-      ← c .before .before .before .before .before .before .before .before .before .before .from-to3 .ensures,
-      ← c .before .before .before .before .before .before .before .before .before .clock-host-good .ensures,
-      ← c .before .before .before .before .before .before .before .from-to4 .ensures,
-      ← c .before .before .before .before .before .before .tick-in-range .ensures,
-      ← c .before .before .before .before .before .time-good .ensures,
-      ← c .before .before .before .before .is-real .ensures,
-      ← c .before .before .before .ids-below .ensures,
-      ← c .before .before .before .before .before .before .before .before .before .before .before .before .before .before .before .before .own-id .ensures,
+      ← c .before .before .before .before .before .before .before .before .before .before .before .before .before .from-to .ensures,
+      ← c .before .before .before .before .before .before .before .before .before .before .before .before .switches-good .ensures,
+      ← c .before .before .before .before .before .before .before .before .before .before .before .from-to2 .ensures,
+      ← c .before .before .before .before .before .before .before .before .before .from-to3 .ensures,
+      ← c .before .before .before .before .before .before .before .before .clock-host-good .ensures,
+      ← c .before .before .before .before .before .before .from-to4 .ensures,
+      ← c .before .before .before .before .before .tick-in-range .ensures,
+      ← c .before .before .before .before .time-good .ensures,
+      ← c .before .before .before .is-real .ensures,
+      ← c .before .before .before .before .before .before .before .before .before .before .before .before .before .before .own-id .ensures,
       ← c .before .before .is-found .ensures,
       ← c .before .found-marked .ensures,
       ← c .none-from .ensures,
@@ -88,7 +84,6 @@ good-spec =
     tick-in-range-requires
     time-good-requires
     is-real-requires
-    ids-below-requires
     is-found-requires
     found-marked-requires
     none-from-requires

@@ -8,6 +8,8 @@ use Rattle.answer.specs.declared.Answer.{Answer}
 use Rattle.answer.specs.declared.Answer.the-variants.{Done, Setting, OutOfRange, InWalk}
 use Rattle.clock.specs.declared.Clock.{Clock}
 use Rattle.clock.specs.Clock.{clockInRange}
+use Rattle.class_table.specs.declared.ClassTable.{ClassTable}
+use Rattle.class_table.specs.Table.{tableBad}
 use Rattle.table.specs.declared.marks.Marks.{Marks}
 use Rattle.table.specs.declared.run.Scan.{Scan}
 use Rattle.table.specs.Forms.{every}
@@ -18,7 +20,7 @@ use Rattle.host.specs.declared.guard.Scope.{Scope}
 use Rattle.host.specs.declared.guard.Scope.the-variants.{Places, All, OnLink, Opening, Walking}
 use Rattle.host.specs.declared.Links.{Links}
 use Rattle.host.specs.declared.walk.Walk.{Walk}
-use Rattle.host.specs.Settings.{linkCount, settingsGood}
+use Rattle.host.specs.Settings.{linkCount, settingsFit}
 use Rattle.host.specs.State.{placesPerHost, firstPlace, hostCount, linkInRange}
 use Rattle.host.specs.Walk.{walkInRange}
 use Rattle.host.specs.Guard.{longest, inWalk}
@@ -52,12 +54,13 @@ wholeScan k m c l n walk marks =
     (cond (not walk) (settled false)
     record { first = firstPlace k; end = firstPlace k + m; good = true; marks = marks }))
 
-abbrev pub held : Scope → (number : ℕ) → Host → Walk → (copy : List ℕ) → (n : ℕ) → Scan
-held a k h w copy n =
-    cond (placesMissing k n) (settled false)
+abbrev pub held : Scope → ClassTable → (number : ℕ) → Host → Walk → (copy : List ℕ) → (n : ℕ) → Scan
+held a t k h w copy n =
+    cond (tableBad t) (settled false)
+    (cond (placesMissing k n) (settled false)
     (cond (afresh a) (settled true)
     (cond (not (namesLink (linkCount (h .settings)) (length copy) a)) (settled false)
-    (wholeScan k (hostCount (h .settings)) (h .clock) (h .links) (linkCount (h .settings)) (walkInRange (h .settings) w copy) (h .settings .marks))))
+    (wholeScan k (hostCount (h .settings)) (h .clock) (h .links) (linkCount (h .settings)) (walkInRange (h .settings) w copy) (h .settings .marks)))))
 
-abbrev pub judged : Settings → Walk → Scope → (good : Bool) → Answer
-judged s w a good = cond (not good) OutOfRange (cond (inWalk a w) InWalk (cond (not (settingsGood s)) Setting Done))
+abbrev pub judged : Settings → ClassTable → Walk → Scope → (good : Bool) → Answer
+judged s t w a good = cond (not good) OutOfRange (cond (inWalk a w) InWalk (cond (not (settingsFit t s)) Setting Done))

@@ -5,6 +5,8 @@ use Prim.Native.Nat.{ℕ, _≤_}
 use Rattle.answer.specs.declared.Answer.{Answer}
 use Rattle.clock.specs.Clock.{clockInRange}
 use Rattle.clock.specs.declared.Clock.{Clock}
+use Rattle.class_table.specs.declared.ClassTable.{ClassTable}
+use Rattle.route.specs.Find.{rowsOf, idsBelow}
 use Rattle.host.specs.declared.Settings.{Settings}
 use Rattle.host.specs.declared.guard.Scope.{Scope}
 use Rattle.host.specs.declared.guard.Scope.the-variants.{Places, All, OnLink, Opening, Walking}
@@ -28,6 +30,13 @@ pub record Ready (a : Scope) (s : Settings) (c : Clock) : Type 0 where
 
 pub record Told (g : Answer) (a : Scope) (s : Settings) (c : Clock) : Type 0 where
   pub ready : done g ≡ true → Ready a s c
+
+-- and one whose net table leads to ids of its own
+abbrev pub RowsBelow : ClassTable → Settings → Type 0
+RowsBelow t s = idsBelow (s .layout .nhosts) (rowsOf (t .net)) ≡ true
+
+pub record TableTold (g : Answer) (t : ClassTable) (s : Settings) : Type 0 where
+  pub rows : done g ≡ true → RowsBelow t s
 
 -- and one whose places are there
 pub record NumberTold (g : Answer) (s : Settings) (k : ℕ) : Type 0 where

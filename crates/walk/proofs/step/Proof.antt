@@ -36,7 +36,7 @@ box-of-requires c κs =
     let a = c .before .before .before .before .before .args in
     let o = opened-says (a .s) (a .w) (a .copy .now) (c .before .before .before .before .before .pre .walk) (sym (c .before .before .before .is-open .ensures) ∙ is-so _ (c .before .before .if1 .left)) in
     let n = counted (a .s) (a .w .link) (o .link) in
-    ((n .from-one, n .to-eight), ((c .before .before .before .before .before .pre .settings, c .before .before .before .before .before .pre .clock), o .held))
+    ((n .from-one, n .to-eight), ((c .before .before .before .before .before .pre .settings, c .before .before .before .before .before .pre .rows, c .before .before .before .before .before .pre .clock), o .held))
 
 returns-2 : tie.Need-returns-2
 unfolding step

@@ -7,18 +7,21 @@ use lib.ListN.{length}
 use Rattle.answer.specs.declared.Answer.{Answer}
 use Rattle.clock.specs.declared.Clock.{Clock}
 use Rattle.clock.specs.Clock.{clockInRange}
+use Rattle.class_table.specs.declared.ClassTable.{ClassTable}
 use Rattle.host.specs.declared.Settings.{Settings}
 use Rattle.host.specs.declared.walk.Walk.{Walk}
 use Rattle.host.specs.Settings.{settingsGood}
 use Rattle.host.specs.Walk.{walkInRange}
 use Rattle.host.specs.Guard.{done}
 use Rattle.host.specs.Reply.{plainly}
+use Rattle.host.specs.code.Told.{RowsBelow}
 use Rattle.walk.specs.declared.Opening.{Opening}
 use Rattle.walk.specs.Opening.{opening}
 
 -- a host whose walk may go on
-pub record Steady (s : Settings) (c : Clock) (w : Walk) (copy : List ℕ) : Type 0 where
+pub record Steady (s : Settings) (t : ClassTable) (c : Clock) (w : Walk) (copy : List ℕ) : Type 0 where
   pub settings : settingsGood s ≡ true
+  pub rows : RowsBelow t s
   pub clock : clockInRange c ≡ true
   pub walk : walkInRange s w copy ≡ true
 

@@ -1,4 +1,4 @@
--- The places, then the scope, then all.
+-- The table, then the places, then the scope, then all.
 use native.Mathlib.Omega.{arith}
 use mathlib.Core.Path.{_∙_, sym}
 use Rattle.lists.proofs.Tests.{is-not, is-so}
@@ -7,23 +7,36 @@ use borrow.Author.Needs.{needs}
 use Rattle.host.proofs.guard.held.Statement.{statement}
 use Rattle.host.proofs.guard.held.Tie as tie
 
-places-missing-requires : tie.Need-places-missing-requires
-places-missing-requires c κs = search needs
+is-bad-requires : tie.Need-is-bad-requires
+is-bad-requires c κs = search needs
 
 settled-requires : tie.Need-settled-requires
 settled-requires c κs = search needs
 
 returns : tie.Need-returns
-returns c = rw (sym (c .before .before .places-missing .ensures) ∙ c .before .if1 .taken) (c .settled .ensures)
+returns c = rw (sym (c .before .before .is-bad .ensures) ∙ c .before .if1 .taken) (c .settled .ensures)
 
-afresh-requires : tie.Need-afresh-requires
-afresh-requires c κs = search needs
+places-missing-requires : tie.Need-places-missing-requires
+places-missing-requires c κs = search needs
 
 settled-requires-2 : tie.Need-settled-requires-2
 settled-requires-2 c κs = search needs
 
 returns-2 : tie.Need-returns-2
-returns-2 c = rw (sym (c .before .before .before .before .places-missing .ensures) ∙ c .before .before .before .if1 .left, sym (c .before .before .afresh .ensures) ∙ c .before .if2 .taken) (c .settled2 .ensures)
+returns-2 c =
+    rw (sym (c .before .before .before .before .is-bad .ensures) ∙ c .before .before .before .if1 .left, sym (c .before .before .places-missing .ensures) ∙ c .before .if2 .taken)
+    (c .settled2 .ensures)
+
+afresh-requires : tie.Need-afresh-requires
+afresh-requires c κs = search needs
+
+settled-requires-3 : tie.Need-settled-requires-3
+settled-requires-3 c κs = search needs
+
+returns-3 : tie.Need-returns-3
+returns-3 c =
+    rw (sym (c .before .before .before .before .before .before .is-bad .ensures) ∙ c .before .before .before .before .before .if1 .left, sym (c .before .before .before .before .places-missing .ensures) ∙ c .before .before .before .if2 .left, sym (c .before .before .afresh .ensures) ∙ c .before .if3 .taken)
+    (c .settled3 .ensures)
 
 count-requires : tie.Need-count-requires
 count-requires c κs = search needs
@@ -31,14 +44,14 @@ count-requires c κs = search needs
 names-link-requires : tie.Need-names-link-requires
 names-link-requires c κs = search needs
 
-settled-requires-3 : tie.Need-settled-requires-3
-settled-requires-3 c κs = search needs
+settled-requires-4 : tie.Need-settled-requires-4
+settled-requires-4 c κs = search needs
 
-returns-3 : tie.Need-returns-3
-returns-3 c =
+returns-4 : tie.Need-returns-4
+returns-4 c =
     let links = c .before .before .before .count .ensures in
-    rw (sym (c .before .before .before .before .before .before .before .places-missing .ensures) ∙ c .before .before .before .before .before .before .if1 .left, sym (c .before .before .before .before .before .afresh .ensures) ∙ c .before .before .before .before .if2 .left, ← links, sym (c .before .before .names-link .ensures) ∙ is-not _ (c .before .if3 .taken))
-    (c .settled3 .ensures)
+    rw (sym (c .before .before .before .before .before .before .before .before .before .is-bad .ensures) ∙ c .before .before .before .before .before .before .before .before .if1 .left, sym (c .before .before .before .before .before .before .before .places-missing .ensures) ∙ c .before .before .before .before .before .before .if2 .left, sym (c .before .before .before .before .before .afresh .ensures) ∙ c .before .before .before .before .if3 .left, ← links, sym (c .before .before .names-link .ensures) ∙ is-not _ (c .before .if4 .taken))
+    (c .settled4 .ensures)
 
 host-count-requires : tie.Need-host-count-requires
 host-count-requires c κs = search needs
@@ -48,29 +61,32 @@ in-range-requires c κs = search needs
 
 whole-scan-requires : tie.Need-whole-scan-requires
 whole-scan-requires c κs =
-    let k = number-in _ _ (sym (c .before .before .before .before .before .before .before .before .places-missing .ensures) ∙ c .before .before .before .before .before .before .before .if1 .left) in
+    let k = number-in _ _ (sym (c .before .before .before .before .before .before .before .before .places-missing .ensures) ∙ c .before .before .before .before .before .before .before .if2 .left) in
     (k, omega (arith, c .before .host-count .ensures), omega (arith, c .before .before .before .before .count .ensures))
 
-returns-4 : tie.Need-returns-4
-returns-4 c =
-    rw (sym (c .before .before .before .before .before .before .before .before .before .places-missing .ensures) ∙ c .before .before .before .before .before .before .before .before .if1 .left, sym (c .before .before .before .before .before .before .before .afresh .ensures) ∙ c .before .before .before .before .before .before .if2 .left, ← c .before .before .before .before .before .count .ensures, sym (c .before .before .before .before .names-link .ensures) ∙ is-so _ (c .before .before .before .if3 .left), ← c .before .before .host-count .ensures, ← c .before .in-range .ensures)
+returns-5 : tie.Need-returns-5
+returns-5 c =
+    rw (sym (c .before .before .before .before .before .before .before .before .before .before .before .is-bad .ensures) ∙ c .before .before .before .before .before .before .before .before .before .before .if1 .left, sym (c .before .before .before .before .before .before .before .before .before .places-missing .ensures) ∙ c .before .before .before .before .before .before .before .before .if2 .left, sym (c .before .before .before .before .before .before .before .afresh .ensures) ∙ c .before .before .before .before .before .before .if3 .left, ← c .before .before .before .before .before .count .ensures, sym (c .before .before .before .before .names-link .ensures) ∙ is-so _ (c .before .before .before .if4 .left), ← c .before .before .host-count .ensures, ← c .before .in-range .ensures)
     (c .whole-scan .ensures)
 
 pub held-spec : {M : Type 1} → statement M
 held-spec =
     tie.close
     (tie.spec
-    places-missing-requires
+    is-bad-requires
     settled-requires
     returns
-    afresh-requires
+    places-missing-requires
     settled-requires-2
     returns-2
-    count-requires
-    names-link-requires
+    afresh-requires
     settled-requires-3
     returns-3
+    count-requires
+    names-link-requires
+    settled-requires-4
+    returns-4
     host-count-requires
     in-range-requires
     whole-scan-requires
-    returns-4)
+    returns-5)

@@ -1,4 +1,4 @@
--- 12 by the test before, 16 by the walk, 1 by the settings.
+-- 12 by the test before, 16 by the walk, 1 by the settings and the table.
 use mathlib.Core.Path.{_∙_, sym}
 use borrow.Author.Needs.{needs}
 use Rattle.lists.proofs.Tests.{is-not, is-so}
@@ -14,14 +14,14 @@ in-walk-requires c κs = search needs
 returns-2 : tie.Need-returns-2
 returns-2 c = rw (is-so (c .before .before .before .args .good) (c .before .before .if1 .left), sym (c .before .in-walk .ensures) ∙ c .if2 .taken)
 
-good-requires : tie.Need-good-requires
-good-requires c κs = search needs
+fit-requires : tie.Need-fit-requires
+fit-requires c κs = search needs
 
 returns-3 : tie.Need-returns-3
-returns-3 c = rw (is-so (c .before .before .before .before .before .args .good) (c .before .before .before .before .if1 .left), sym (c .before .before .before .in-walk .ensures) ∙ c .before .before .if2 .left, sym (c .before .good2 .ensures) ∙ is-not _ (c .if3 .taken))
+returns-3 c = rw (is-so (c .before .before .before .before .before .args .good) (c .before .before .before .before .if1 .left), sym (c .before .before .before .in-walk .ensures) ∙ c .before .before .if2 .left, sym (c .before .fit .ensures) ∙ is-not _ (c .if3 .taken))
 
 returns-4 : tie.Need-returns-4
-returns-4 c = rw (is-so (c .before .before .before .before .before .args .good) (c .before .before .before .before .if1 .left), sym (c .before .before .before .in-walk .ensures) ∙ c .before .before .if2 .left, sym (c .before .good2 .ensures) ∙ is-so _ (c .if3 .left))
+returns-4 c = rw (is-so (c .before .before .before .before .before .args .good) (c .before .before .before .before .if1 .left), sym (c .before .before .before .in-walk .ensures) ∙ c .before .before .if2 .left, sym (c .before .fit .ensures) ∙ is-so _ (c .if3 .left))
 
 pub judged-spec : {M : Type 1} → statement M
-judged-spec = tie.close (tie.spec returns in-walk-requires returns-2 good-requires returns-3 returns-4)
+judged-spec = tie.close (tie.spec returns in-walk-requires returns-2 fit-requires returns-3 returns-4)

@@ -12,18 +12,18 @@ cast-link-of c = search needs
 link-of-requires : tie.Need-link-of-requires
 link-of-requires c κs = search needs
 
-find-requires : tie.Need-find-requires
-find-requires c κs = search needs
+found-for-requires : tie.Need-found-for-requires
+found-for-requires c κs = search needs
 
 raised-requires : tie.Need-raised-requires
 raised-requires c κs = search needs
 
 to-neighbor-requires : tie.Need-to-neighbor-requires
-to-neighbor-requires c κs = rw (c .before .find .ensures) (find-has-place (c .before .before .before .before .before .before .args .s) _ (c .before .before .before .before .before .before .pre .1))
+to-neighbor-requires c κs = rw (c .before .found-for .ensures) (let start = c .before .before .before .before .before .before in find-has-place (start .args .t) (start .args .s) _ (start .pre .1 .0) (start .pre .1 .1))
 
 returns : tie.Need-returns
 unfolding box5
-returns c = rw (eq-eqb _ _ (c .before .before .before .before .before .if1 .taken), c .to-neighbor .ensures, c .before .raised .ensures, c .before .before .find .ensures, c .before .before .before .link-of .ensures)
+returns c = rw (eq-eqb _ _ (c .before .before .before .before .before .if1 .taken), c .to-neighbor .ensures, c .before .raised .ensures, c .before .before .found-for .ensures, c .before .before .before .link-of .ensures)
 
 raised-requires-2 : tie.Need-raised-requires-2
 raised-requires-2 c κs = search needs
@@ -47,7 +47,7 @@ box5-spec =
     (tie.spec
     cast-link-of
     link-of-requires
-    find-requires
+    found-for-requires
     raised-requires
     to-neighbor-requires
     returns

@@ -71,7 +71,7 @@ enum-told-10 : tie.Need-enum-told-10
 enum-told-10 c = search needs
 
 box-d-requires : tie.Need-box-d-requires
-box-d-requires c κs = (c .before .before .before .before .pre .1 .1 .1 .0, (both (readingInRange (c .before .before .before .before .args .w)) (idInRange (c .before .before .before .before .args .s) (c .before .before .before .before .args .w)) (rw (sym (c .before .before .place-of .ensures) ∙ c .enum-told10 .given .1) at (c .before .before .before .before .pre .1 .1 .1 .1)) .1, c .before .before .before .before .pre .1 .0 .1))
+box-d-requires c κs = (c .before .before .before .before .pre .1 .1 .1 .0, (both (readingInRange (c .before .before .before .before .args .w)) (idInRange (c .before .before .before .before .args .s) (c .before .before .before .before .args .w)) (rw (sym (c .before .before .place-of .ensures) ∙ c .enum-told10 .given .1) at (c .before .before .before .before .pre .1 .1 .1 .1)) .1, c .before .before .before .before .pre .1 .0 .2))
 
 returns : tie.Need-returns
 returns c = rw (sym (c .before .before .before .before .place-of .ensures) ∙ c .before .before .enum-told .given .1, ← c .before .plainly .ensures) (c .answers .ensures)
