@@ -2,7 +2,7 @@
 import re
 from script import walk_names
 
-CRATES = ("lent", "shapes")
+CRATES = ("lent", "shapes", "exports", "wholes", "class_table")
 LOOPS = ("Folds", "Maps", "Applies", "Writes")
 
 # What the made text binds or cites itself, beside the names of Walk.antt. A type of the same name would be taken for it, or it for the type. Of a type C the text makes RC and XC besides.

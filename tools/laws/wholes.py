@@ -14,7 +14,7 @@ The checker checks what is written: nothing here is trusted."""
 from script import Law, Script, digits, items, nest, product, proj, uses
 from text import allocates, arrows, assign, at_local, cell, copy, frees, function, load, on_entry, opens, operands, plain, put, sequence, signature, slice_typed, slot, stayed
 
-HERE = "Rattle.shapes.proofs"
+HERE = "Rattle.wholes.proofs"
 FIELD = {"struct": "declared.field (%s .S)", "list": "list-field %s n"}
 LAWS = {"struct": "LL.field-laws (%s .S) (%s .L) (%s .low)", "list": "list-laws %s n"}
 PLAIN = {"struct": "LL.field-plain (%s .S) (%s .P)", "list": "list-plain %s n"}

@@ -31,6 +31,7 @@ use Rattle.table.specs.Update.{ownMost}
 use Rattle.table.specs.Sweep.{Swept, sweep}
 use Rattle.table.specs.Runs.{updates}
 use Rattle.table.specs.code.Loops.{UpdatesFit}
+use Rattle.class_table.specs.declared.ClassTable.{ClassTable}
 use Rattle.host.specs.declared.Settings.{Settings}
 use Rattle.host.specs.declared.Links.{Links}
 use Rattle.host.specs.State.{firstPlace, hostCount, broadcast, linkOf, withLink, entries, withEntries}
@@ -38,6 +39,7 @@ use Rattle.host.specs.declared.guard.Scope.the-variants.{OnLink}
 use Rattle.host.specs.Settings.{foundFor}
 use Rattle.host.specs.Lent.{Host, host, Lent, ourReading}
 use Rattle.host.specs.Guard.{guard, done}
+use Rattle.host.specs.code.Told.{RowsBelow}
 use Rattle.host.proofs.Places.{Holds}
 use Rattle.host.proofs.Sound.{Sound, sound}
 use Rattle.host.proofs.Guarded.{passed, holds, number-lent, clock-lent}
@@ -113,7 +115,7 @@ module _ (s : Settings) (k : ℕ) (run : List Entry) (h : Holds k run) (octets :
 
 -- ---- what an arrival's updates have
 
-module _ (s : Settings) (good : Sound s) (i : ℕ) (octets : List ℕ) where
+module _ (s : Settings) (good : Sound s) (t : ClassTable) (rows : RowsBelow t s) (i : ℕ) (octets : List ℕ) where
   -- a count has 16 bits
   abbrev Fine : Arrived → Type 0
   Fine p = p .work .count .0 < 2 ^ 16 → Asked s octets (p .work)
@@ -136,7 +138,7 @@ module _ (s : Settings) (good : Sound s) (i : ℕ) (octets : List ℕ) where
   ended a h few = quiet (h .clock)
 
   fifth : (c : Clock) (l : Links) (n : Count) → (n .0 < 2 ^ 16 → clockInRange c ≡ true) → (p : Packet) (f : Flight) → Short f → packetLength (p .nhosts) ≤ length octets
-      → (eqb (p .nhosts) 0 ≡ false → p .nhosts ≡ s .layout .nhosts) → Fine (step5 (host s c l) i n p f)
+      → (eqb (p .nhosts) 0 ≡ false → p .nhosts ≡ s .layout .nhosts) → Fine (step5 t (host s c l) i n p f)
   fifth c l n ok p f short long ours = go (eqb (p .nhosts) 0) refl
     where
       neighbor : (x : Found) → ((id : ℕ) → x ≡ Id id → id < hostCount s) → Fine (noTable (host s c l) i n p f x)
@@ -145,12 +147,12 @@ module _ (s : Settings) (good : Sound s) (i : ℕ) (octets : List ℕ) where
           let b = below id refl in
           record { rising = omega arith; below = omega arith; base = refl; clock = λ _. ok few; hold = λ _. good .hold-to; count = λ _. few; delay = λ _. short; reports = λ _ e. absurd (false≢true e) }
 
-      go : (b : Bool) → eqb (p .nhosts) 0 ≡ b → Fine (cond b (noTable (host s c l) i n p f (foundFor s (f .link .neighbor))) (withTable (host s c l) i n p f))
+      go : (b : Bool) → eqb (p .nhosts) 0 ≡ b → Fine (cond b (noTable (host s c l) i n p f (foundFor t s (f .link .neighbor))) (withTable (host s c l) i n p f))
       go true e few =
-          neighbor (foundFor s (f .link .neighbor)) (λ id q. omega (arith, found-below (s .address) (s .layout) (s .net) (f .link .neighbor) id (good .row-ids) q, good .hosts-to)) few
+          neighbor (foundFor t s (f .link .neighbor)) (λ id q. omega (arith, found-below (s .address) (s .layout) (t .net) (f .link .neighbor) id rows q, good .hosts-to)) few
       go false e few =
           let o = ours e in
-          let t = good .hosts-to in
+          let most = good .hosts-to in
           record { rising = omega arith; below = omega arith; base = refl; clock = λ _. ok few; hold = λ _. good .hold-to; count = λ _. few; delay = λ _. short; reports = λ _ _. omega arith }
 
   module _ (c : Clock) (l : Links) (ok : clockInRange c ≡ true) (k : Counter) where
@@ -160,28 +162,28 @@ module _ (s : Settings) (good : Sound s) (i : ℕ) (octets : List ℕ) where
     still-ok : countUsed k .0 < 2 ^ 16 → clockInRange (r .clock) ≡ true
     still-ok = reading-in-range (s .«hold_interval») (good .hold-to) c ok (s .«clock_tick») k
 
-    fifth-step : (p : Packet) → Fits s octets (Good p) → (f : Flight) → Short f → Fine (step5 (host s (r .clock) (withLink i (f .link) l)) i (countUsed k) p f)
+    fifth-step : (p : Packet) → Fits s octets (Good p) → (f : Flight) → Short f → Fine (step5 t (host s (r .clock) (withLink i (f .link) l)) i (countUsed k) p f)
     fifth-step p fits f short = fifth (r .clock) (withLink i (f .link) l) (countUsed k) still-ok p f short (omega (arith, fits .whole)) (fits .ours)
 
-    fine : (q : Parsed) → Fits s octets q → Fine (inspected k (host s c l) i q)
+    fine : (q : Parsed) → Fits s octets q → Fine (inspected k t (host s c l) i q)
     fine (Bad a) fits = ended a (host s c l)
     fine (Good p) fits =
-        steps-cases (λ g. Fine (concluded (host s (r .clock) l) i (countUsed k) p g))
+        steps-cases (λ g. Fine (concluded t (host s (r .clock) l) i (countUsed k) p g))
         (broadcast s i) (r .clock .hold) p (r .time) (linkOf l i)
         (λ b. fifth-step p fits _ (measured-short _ p _ _))
         (λ b n. fifth-step p fits _ (new-short p (measured (broadcast s i) p (r .time) (linkOf l i))))
         (λ b n z. ended DelayNotValid (host s (r .clock) l))
         (λ b n z. fifth-step p fits _ (measured-short _ p _ _))
 
-    acted : Fine (definition.act i k octets (host s c l))
+    acted : Fine (definition.act i k octets t (host s c l))
     acted = fine (inspect s i octets) (inspected-fits s i octets)
 
 -- what each delivery's updates have
-delivered-fine : (s : Settings) (good : Sound s) (d : Delivery) (octets : List ℕ) (c : Clock) (l : Links) → clockInRange c ≡ true
-    → Fine s good (onLink d) octets (definition.delivered d octets (host s c l))
-delivered-fine s good (Inspect i) octets c l ok = λ few. quiet s good i octets c
-delivered-fine s good (Act i k) octets c l ok = acted s good i octets c l ok k
-delivered-fine s good (Receive i k) octets c l ok = rw (one-piece i k octets (host s c l)) (acted s good i octets c l ok k)
+delivered-fine : (s : Settings) (good : Sound s) (t : ClassTable) (rows : RowsBelow t s) (d : Delivery) (octets : List ℕ) (c : Clock) (l : Links) → clockInRange c ≡ true
+    → Fine s good t rows (onLink d) octets (definition.delivered d octets t (host s c l))
+delivered-fine s good t rows (Inspect i) octets c l ok = λ few. quiet s good t rows i octets c
+delivered-fine s good t rows (Act i k) octets c l ok = acted s good t rows i octets c l ok k
+delivered-fine s good t rows (Receive i k) octets c l ok = rw (one-piece i k octets t (host s c l)) (acted s good t rows i octets c l ok k)
 
 -- ---- the call
 
@@ -205,28 +207,28 @@ module _ (x : Lent) (d : Delivery) (octets : List ℕ) where
         left = record { reply = refl; clock = refl; links = refl; walk = refl; copy = refl; run = over-nothing 0 (x .run) };
       }
 
-  goes-on : done g ≡ true → definition.delivered d octets (x .host) .work .count .0 < 2 ^ 16
-      → Delivered x octets (definition.delivered d octets (x .host)) (updatedBy (definition.delivered d octets (x .host)) octets x)
+  goes-on : done g ≡ true → definition.delivered d octets (x .nets) (x .host) .work .count .0 < 2 ^ 16
+      → Delivered x octets (definition.delivered d octets (x .nets) (x .host)) (updatedBy (definition.delivered d octets (x .nets) (x .host)) octets x)
   goes-on e few =
       let s = x .host .settings in
       let q = passed (OnLink (onLink d)) x e in
       let h = holds (x .number) (x .run) (q .places) in
       let k-in = number-lent (x .number) (x .run) (q .places) in
-      let p = definition.delivered d octets (x .host) in
-      let a = delivered-fine s (sound s (q .settings)) d octets (x .host .clock) (x .host .links) (clock-lent x (q .lent refl)) few in
+      let p = definition.delivered d octets (x .nets) (x .host) in
+      let a = delivered-fine s (sound s (q .settings)) (x .nets) (q .rows) d octets (x .host .clock) (x .host .links) (clock-lent x (q .lent refl)) few in
       record {
         ids = (record { number = λ _. k-in; ids = λ _. omega (arith, a .below) }, omega (arith, a .base));
         there = fits s (x .number) (x .run) h octets (p .work) a;
         left = rw (carried s (x .number) (x .run) h octets (p .work) a) record { reply = refl; clock = refl; links = refl; walk = refl; copy = refl; run = refl };
       }
 
-  pub delivered : planned g d octets (x .host) .work .count .0 < 2 ^ 16 → Delivered x octets (planned g d octets (x .host)) (perform (deliver d octets) x)
+  pub delivered : planned g d octets (x .nets) (x .host) .work .count .0 < 2 ^ 16 → Delivered x octets (planned g d octets (x .nets) (x .host)) (perform (deliver d octets) x)
   unfolding perform
   delivered = go (not (done g)) refl
     where
       go : (b : Bool) → not (done g) ≡ b
-          → cond b (ends g (x .host)) (definition.delivered d octets (x .host)) .work .count .0 < 2 ^ 16
-          → Delivered x octets (cond b (ends g (x .host)) (definition.delivered d octets (x .host)))
-          (cond b (refused g (deliver d octets) x) (updatedBy (definition.delivered d octets (x .host)) octets x))
+          → cond b (ends g (x .host)) (definition.delivered d octets (x .nets) (x .host)) .work .count .0 < 2 ^ 16
+          → Delivered x octets (cond b (ends g (x .host)) (definition.delivered d octets (x .nets) (x .host)))
+          (cond b (refused g (deliver d octets) x) (updatedBy (definition.delivered d octets (x .nets) (x .host)) octets x))
       go true e few = refuses
       go false e few = goes-on (is-so _ e) few

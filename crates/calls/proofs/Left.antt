@@ -19,6 +19,7 @@ use Rattle.table.specs.declared.run.Seek.{Seek}
 use Rattle.table.specs.Sweep.{sweep}
 use Rattle.table.specs.Runs.{changes, updates}
 use Rattle.table.specs.code.Loops.{InRun, entryOf}
+use Rattle.class_table.specs.declared.ClassTable.{ClassTable}
 use Rattle.host.specs.declared.Settings.{Settings}
 use Rattle.host.specs.declared.Effect.{Effect}
 use Rattle.host.specs.declared.Reply.{Reply}
@@ -52,71 +53,71 @@ use Rattle.calls.proofs.Delivered.{Delivered, delivered}
 -- ---- the requests that leave links and walk, and those of them that leave the entries too
 
 abbrev pub Still : Request → Type 0
-Still q = (h : Host) (w : Walk) (o : List ℕ) (e : Entry) → (effect q h w o e .links ≡ h .links) × (effect q h w o e .walk ≡ w)
+Still q = (t : ClassTable) (h : Host) (w : Walk) (o : List ℕ) (e : Entry) → (effect q t h w o e .links ≡ h .links) × (effect q t h w o e .walk ≡ w)
 
 abbrev pub Quiet : Request → Type 0
-Quiet q = (h : Host) (w : Walk) (o : List ℕ) (e : Entry) → effect q h w o e .work ≡ nothing
+Quiet q = (t : ClassTable) (h : Host) (w : Walk) (o : List ℕ) (e : Entry) → effect q t h w o e .work ≡ nothing
 
 pub tick-still : (n : Count) → Still (Tick n)
 unfolding definition.tick
-tick-still n h w o e = (refl, refl)
+tick-still n t h w o e = (refl, refl)
 
 pub tick-quiet : (n : Count) → Quiet (Tick n)
 unfolding definition.tick
-tick-quiet n h w o e = refl
+tick-quiet n t h w o e = refl
 
 pub adjust-still : (n : Count) → Still (Adjust n)
 unfolding definition.adjust
-adjust-still n h w o e = (refl, refl)
+adjust-still n t h w o e = (refl, refl)
 
 pub adjust-quiet : (n : Count) → Quiet (Adjust n)
 unfolding definition.adjust
-adjust-quiet n h w o e = refl
+adjust-quiet n t h w o e = refl
 
 pub read-still : (k : Counter) → Still (Read k)
 unfolding definition.read
-read-still k h w o e = (refl, refl)
+read-still k t h w o e = (refl, refl)
 
 pub read-quiet : (k : Counter) → Quiet (Read k)
 unfolding definition.read
-read-quiet k h w o e = refl
+read-quiet k t h w o e = refl
 
 pub self-report-still : (k : Counter) → Still (SelfReport k)
 unfolding definition.selfReport
-self-report-still k h w o e = (refl, refl)
+self-report-still k t h w o e = (refl, refl)
 
 pub lookup-still : (a : Address) → Still (Lookup a)
 unfolding definition.lookup
-lookup-still a h w o e = (refl, refl)
+lookup-still a t h w o e = (refl, refl)
 
 pub lookup-quiet : (a : Address) → Quiet (Lookup a)
 unfolding definition.lookup
-lookup-quiet a h w o e = refl
+lookup-quiet a t h w o e = refl
 
 module _ (x : Lent) (q : Request) where
   abbrev g : Answer
   g = guard (scopeOf q) x
 
   abbrev e : Entry
-  e = entryOf (soughtAt g q (x .host .settings) (x .walk) (x .number)) (x .run)
+  e = entryOf (soughtAt g q (x .nets) (x .host .settings) (x .walk) (x .number)) (x .run)
 
   abbrev p : Effect
-  p = planned g q (x .host) (x .walk) (x .copy) e
+  p = planned g q (x .nets) (x .host) (x .walk) (x .copy) e
 
   still : Still q → (p .links ≡ x .host .links) × (p .walk ≡ x .walk)
   still same = go (not (done g))
     where
-      go : (b : Bool) → (cond b (answers (plainly g) (x .host .clock) (x .host .links) (x .walk)) (effect q (x .host) (x .walk) (x .copy) e) .links ≡ x .host .links)
-          × (cond b (answers (plainly g) (x .host .clock) (x .host .links) (x .walk)) (effect q (x .host) (x .walk) (x .copy) e) .walk ≡ x .walk)
+      go : (b : Bool) → (cond b (answers (plainly g) (x .host .clock) (x .host .links) (x .walk)) (effect q (x .nets) (x .host) (x .walk) (x .copy) e) .links ≡ x .host .links)
+          × (cond b (answers (plainly g) (x .host .clock) (x .host .links) (x .walk)) (effect q (x .nets) (x .host) (x .walk) (x .copy) e) .walk ≡ x .walk)
       go true = (refl, refl)
-      go false = same (x .host) (x .walk) (x .copy) e
+      go false = same (x .nets) (x .host) (x .walk) (x .copy) e
 
   quiet : Quiet q → p .work ≡ nothing
   quiet none = go (not (done g))
     where
-      go : (b : Bool) → cond b (answers (plainly g) (x .host .clock) (x .host .links) (x .walk)) (effect q (x .host) (x .walk) (x .copy) e) .work ≡ nothing
+      go : (b : Bool) → cond b (answers (plainly g) (x .host .clock) (x .host .links) (x .walk)) (effect q (x .nets) (x .host) (x .walk) (x .copy) e) .work ≡ nothing
       go true = refl
-      go false = none (x .host) (x .walk) (x .copy) e
+      go false = none (x .nets) (x .host) (x .walk) (x .copy) e
 
   -- the entries are changed at their places
   pub left-still : Still q
@@ -147,7 +148,7 @@ module _ (x : Lent) (q : Request) where
 
   pub left-timed : Still q → Quiet q → (t : Timed) → Timely t g q (x .host .settings) (x .host .clock)
       → Leaves (perform (ask q) x) (t .reply) (t .clock) (x .host .links) (x .walk) (x .copy) (x .run)
-  left-timed same none t is = rw (is (x .host .links) (x .walk) (x .copy) e) (left-quiet same none)
+  left-timed same none t is = rw (is (x .nets) (x .host .links) (x .walk) (x .copy) e) (left-quiet same none)
 
   pub record AgedWell (t : Aged) : Type 0 where
     pub ids : Placeable (x .number) (t .work .first) (t .work .end)
@@ -156,7 +157,7 @@ module _ (x : Lent) (q : Request) where
 
   pub left-aged : Still q → (t : Aged) → Aging t g q (x .host .settings) (x .host .clock) → AgedWell t
   left-aged same t is =
-      rw (is (x .host .links) (x .walk) (x .copy) e)
+      rw (is (x .nets) (x .host .links) (x .walk) (x .copy) e)
       record { ids = performed x q .ids; places = performed x q .places; left = left-still same }
 
 -- ---- a lookup
@@ -166,7 +167,7 @@ module _ (x : Lent) (a : Address) where
   s = x .host .settings
 
   abbrev f : Found
-  f = foundFor s a
+  f = foundFor (x .nets) s a
 
   abbrev go-on : Bool
   go-on = not (done (guard (scopeOf (Lookup a)) x))
@@ -174,7 +175,7 @@ module _ (x : Lent) (a : Address) where
   abbrev found : Found
   found = cond go-on Nothing f
 
-  sought : seekAt (x .number) found ≡ soughtAt (guard (scopeOf (Lookup a)) x) (Lookup a) s (x .walk) (x .number)
+  sought : seekAt (x .number) found ≡ soughtAt (guard (scopeOf (Lookup a)) x) (Lookup a) (x .nets) s (x .walk) (x .number)
   sought = go go-on
     where
       go : (b : Bool) → seekAt (x .number) (cond b Nothing f) ≡ cond b noEntry (seekAt (x .number) f)
@@ -197,19 +198,19 @@ module _ (x : Lent) (a : Address) where
   abbrev route : Seek → Reply
   route z = cond go-on (plainly looked-g) (looked found (entryOf z (x .run)))
 
-  answered-by : (z : Seek) (b : Bool) → cond b (answers (plainly looked-g) (x .host .clock) (x .host .links) (x .walk)) (effect (Lookup a) (x .host) (x .walk) (x .copy) (entryOf z (x .run)))
+  answered-by : (z : Seek) (b : Bool) → cond b (answers (plainly looked-g) (x .host .clock) (x .host .links) (x .walk)) (effect (Lookup a) (x .nets) (x .host) (x .walk) (x .copy) (entryOf z (x .run)))
       ≡ answers (cond b (plainly looked-g) (looked (cond b Nothing f) (entryOf z (x .run)))) (x .host .clock) (x .host .links) (x .walk)
   unfolding definition.lookup
   answered-by z true = refl
   answered-by z false = refl
 
-  answered : (z : Seek) → planned looked-g (Lookup a) (x .host) (x .walk) (x .copy) (entryOf z (x .run)) ≡ answers (route z) (x .host .clock) (x .host .links) (x .walk)
+  answered : (z : Seek) → planned looked-g (Lookup a) (x .nets) (x .host) (x .walk) (x .copy) (entryOf z (x .run)) ≡ answers (route z) (x .host .clock) (x .host .links) (x .walk)
   answered z = answered-by z go-on
 
   pub left-looked : Leaves (perform (ask (Lookup a)) x) (route (seekAt (x .number) found)) (x .host .clock) (x .host .links) (x .walk) (x .copy) (x .run)
   left-looked =
       let left = left-quiet x (Lookup a) (lookup-still a) (lookup-quiet a) in
-      let is = answered (soughtAt looked-g (Lookup a) s (x .walk) (x .number)) in
+      let is = answered (soughtAt looked-g (Lookup a) (x .nets) s (x .walk) (x .number)) in
       record {
         reply = ap route sought ∙ sym (ap (λ (w : Effect). w .reply) is) ∙ left .reply;
         clock = sym (ap (λ (w : Effect). w .clock) is) ∙ left .clock;
@@ -234,15 +235,15 @@ module _ (x : Lent) (i : ℕ) (octets : List ℕ) where
   abbrev seen : Reply
   seen = inspects inspected-g (x .host .settings) i octets
 
-  quiet-then : arriving-planned.planned inspected-g (Inspect i) octets (x .host) ≡ arriving.quiet seen (x .host)
+  quiet-then : arriving-planned.planned inspected-g (Inspect i) octets (x .nets) (x .host) ≡ arriving.quiet seen (x .host)
   quiet-then = go (not (done inspected-g))
     where
-      go : (b : Bool) → cond b (arriving.ends inspected-g (x .host)) (arriving.delivered (Inspect i) octets (x .host))
+      go : (b : Bool) → cond b (arriving.ends inspected-g (x .host)) (arriving.delivered (Inspect i) octets (x .nets) (x .host))
           ≡ arriving.quiet (cond b (plainly inspected-g) (inspection.tells (inspection.inspect (x .host .settings) i octets))) (x .host)
       go true = refl
       go false = refl
 
-  few : arriving-planned.planned inspected-g (Inspect i) octets (x .host) .work .count .0 < 2 ^ 16
+  few : arriving-planned.planned inspected-g (Inspect i) octets (x .nets) (x .host) .work .count .0 < 2 ^ 16
   few = subst (λ (p : Arrived). p .work .count .0 < 2 ^ 16) (sym quiet-then) (omega arith)
 
   all-quiet : Delivered x octets (arriving.quiet seen (x .host)) (perform (inspect i octets) x)

@@ -13,6 +13,7 @@ use Rattle.table.specs.declared.Entry.{Entry}
 use Rattle.table.specs.declared.run.Seek.{Seek}
 use Rattle.table.specs.Runs.{changes}
 use Rattle.table.specs.code.Loops.{InRun, entryOf}
+use Rattle.class_table.specs.declared.ClassTable.{ClassTable}
 use Rattle.host.specs.declared.Settings.{Settings}
 use Rattle.host.specs.declared.Links.{Links}
 use Rattle.host.specs.Settings.{settingsGood}
@@ -42,19 +43,19 @@ use Rattle.calls.proofs.Carried.{Ids, one-part, nothing-placed, placed-
 
 -- ---- the ids that each effect changes
 
-pub effect-ids : (q : Request) (h : Host) (w : Walk) (copy : List ℕ) (e : Entry) → settingsGood (h .settings) ≡ true
-    → (afresh (scopeOf q) ≡ false → walkInRange (h .settings) w copy ≡ true) → Ids (h .settings) (effect q h w copy e .work)
+pub effect-ids : (q : Request) (t : ClassTable) (h : Host) (w : Walk) (copy : List ℕ) (e : Entry) → settingsGood (h .settings) ≡ true
+    → (afresh (scopeOf q) ≡ false → walkInRange (h .settings) w copy ≡ true) → Ids (h .settings) (effect q t h w copy e .work)
 unfolding definition.initialize definition.tick definition.adjust definition.setBy definition.read definition.second definition.selfReport definition.lookup
-effect-ids Initialize h w copy e good r = record { rising = omega arith; below = omega arith }
-effect-ids (Tick n) h w copy e good r = record { rising = omega arith; below = omega arith }
-effect-ids (Adjust n) h w copy e good r = record { rising = omega arith; below = omega arith }
-effect-ids (Set ms n) h w copy e good r = record { rising = omega arith; below = omega arith }
-effect-ids (Read k) h w copy e good r = record { rising = omega arith; below = omega arith }
-effect-ids Second h w copy e good r = record { rising = omega arith; below = omega arith }
-effect-ids (SelfReport k) h w copy e good r = record { rising = omega arith; below = omega arith }
-effect-ids (Lookup a) h w copy e good r = record { rising = omega arith; below = omega arith }
-effect-ids (Step k) h w copy e good r =
-    step-work (h .settings) w copy (r refl) (Ids (h .settings)) k h e refl record { rising = omega arith; below = omega arith }
+effect-ids Initialize t h w copy e good r = record { rising = omega arith; below = omega arith }
+effect-ids (Tick n) t h w copy e good r = record { rising = omega arith; below = omega arith }
+effect-ids (Adjust n) t h w copy e good r = record { rising = omega arith; below = omega arith }
+effect-ids (Set ms n) t h w copy e good r = record { rising = omega arith; below = omega arith }
+effect-ids (Read k) t h w copy e good r = record { rising = omega arith; below = omega arith }
+effect-ids Second t h w copy e good r = record { rising = omega arith; below = omega arith }
+effect-ids (SelfReport k) t h w copy e good r = record { rising = omega arith; below = omega arith }
+effect-ids (Lookup a) t h w copy e good r = record { rising = omega arith; below = omega arith }
+effect-ids (Step k) t h w copy e good r =
+    step-work (h .settings) w copy (r refl) (Ids (h .settings)) k t h e refl record { rising = omega arith; below = omega arith }
     (λ id x. (let i = ltb-true (w .id) (h .settings .layout .nhosts) id in
     let most = sound (h .settings) good .hosts-to in
     record { rising = omega arith; below = omega (arith, i, most) }))
@@ -62,6 +63,9 @@ effect-ids (Step k) h w copy e good r =
 module _ (x : Lent) (q : Request) where
   abbrev s : Settings
   s = x .host .settings
+
+  abbrev t : ClassTable
+  t = x .nets
 
   abbrev k : ℕ
   k = x .number
@@ -98,21 +102,21 @@ module _ (x : Lent) (q : Request) where
       let one : firstPlace k + id + 1 - (firstPlace k + id) ≡ 1 = omega arith in
       record { there = record { rising = omega arith; inside = omega arith }; is = rw (one, one-part s k run h id i) refl }
 
-  sought-for : done g ≡ true → Sought (wanted q s v)
+  sought-for : done g ≡ true → Sought (wanted q t s v)
   sought-for d =
       let p = passed (scopeOf q) x d in
-      sought-at (wanted q s v) (wanted-below s v o (p .settings) q (λ f. walk-lent x (p .lent f))) (holds k run (p .places))
+      sought-at (wanted q t s v) (wanted-below t s v o (p .settings) (p .rows) q (λ f. walk-lent x (p .lent f))) (holds k run (p .places))
 
-  pub seekable : Seekable g q s v k
+  pub seekable : Seekable g q t s v k
   seekable = record {
     number = λ d. number-lent k run (passed (scopeOf q) x d .places);
-    place = λ d. (let p = passed (scopeOf q) x d in wanted-has-place s v o (p .settings) q (λ f. walk-lent x (p .lent f)));
+    place = λ d. (let p = passed (scopeOf q) x d in wanted-has-place t s v o (p .settings) (p .rows) q (λ f. walk-lent x (p .lent f)));
   }
 
   pub walk-told : WalkTold g q s v o
   walk-told = record { walk = λ d f. walk-lent x (passed (scopeOf q) x d .lent f) }
 
-  pub sought-in : InRun (soughtAt g q s v k .first) (soughtAt g q s v k .end) run
+  pub sought-in : InRun (soughtAt g q t s v k .first) (soughtAt g q t s v k .end) run
   sought-in =
       either (λ (z : Seek). InRun (z .first) (z .end) run) (not (done g)) _ _ (λ _. record { rising = omega arith; inside = omega arith })
       (λ e. sought-for (is-so _ e) .there)
@@ -124,13 +128,13 @@ module _ (x : Lent) (q : Request) where
     pub places : InRun (placed k (p .work) .first) (placed k (p .work) .end) run
     pub left : Leaves y (p .reply) (p .clock) (p .links) (p .walk) o (changes (placed k (p .work)) run)
 
-  pub performed : Performed (planned g q (x .host) v o (entryOf (soughtAt g q s v k) run)) (perform (ask q) x)
+  pub performed : Performed (planned g q t (x .host) v o (entryOf (soughtAt g q t s v k) run)) (perform (ask q) x)
   unfolding perform
   performed = go (not (done g)) refl
     where
       go : (b : Bool) → not (done g) ≡ b
-          → Performed (cond b (answers (plainly g) c l v) (effect q (x .host) v o (entryOf (cond b noEntry (seekAt k (wanted q s v))) run)))
-          (cond b (refused g (ask q) x) (carriedOut (effect q (x .host) v o (entryAt (wanted q s v) x)) x))
+          → Performed (cond b (answers (plainly g) c l v) (effect q t (x .host) v o (entryOf (cond b noEntry (seekAt k (wanted q t s v))) run)))
+          (cond b (refused g (ask q) x) (carriedOut (effect q t (x .host) v o (entryAt (wanted q t s v) x)) x))
       go true e =
           record {
             ids = record { number = λ h. absurd (omega (arith, h)); ids = λ h. absurd (omega (arith, h)) };
@@ -141,9 +145,9 @@ module _ (x : Lent) (q : Request) where
           let p = passed (scopeOf q) x (is-so _ e) in
           let h = holds k run (p .places) in
           let k-in = number-lent k run (p .places) in
-          let e′ = entryAt (wanted q s v) x in
-          let w = effect q (x .host) v o e′ .work in
-          let i = effect-ids q (x .host) v o e′ (p .settings) (λ f. walk-lent x (p .lent f)) in
+          let e′ = entryAt (wanted q t s v) x in
+          let w = effect q t (x .host) v o e′ .work in
+          let i = effect-ids q t (x .host) v o e′ (p .settings) (λ f. walk-lent x (p .lent f)) in
           rw (sought-for (is-so _ e) .is)
           record {
             ids = record { number = λ _. k-in; ids = λ _. omega (arith, i .below) };

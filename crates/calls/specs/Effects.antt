@@ -22,6 +22,7 @@ use Rattle.host.specs.declared.Reply.{Reply}
 use Rattle.host.specs.declared.Effect.{Effect}
 use Rattle.host.specs.declared.guard.Scope.{Scope}
 use Rattle.host.specs.declared.guard.Scope.the-variants.{Places, All, Walking}
+use Rattle.class_table.specs.declared.ClassTable.{ClassTable}
 use Rattle.host.specs.Settings.{foundFor}
 use Rattle.host.specs.State.{freshLinks}
 use Rattle.host.specs.Walk.{noWalk}
@@ -69,20 +70,20 @@ abbrev pub looked : Found → Entry → Reply
 looked Nothing e = plainly NoHost
 looked (Id id) e = cond (not (up e)) (plainly HostDown) (tellsRoute id (e .pid))
 
-unfoldable pub lookup : Address → Host → Walk → Entry → Effect
-lookup a h w e = answers (looked (foundFor (h .settings) a) e) (h .clock) (h .links) w
+unfoldable pub lookup : Address → ClassTable → Host → Walk → Entry → Effect
+lookup a t h w e = answers (looked (foundFor t (h .settings) a) e) (h .clock) (h .links) w
 
 -- by what is asked; a lookup has the entry of the id that it finds, a step that of the id at hand
-abbrev pub effect : Request → Host → Walk → (copy : List ℕ) → Entry → Effect
-effect Initialize h w copy e = initialize (h .settings)
-effect (Tick n) h w copy e = tick n h w
-effect (Adjust n) h w copy e = adjust n h w
-effect (Set ms n) h w copy e = setBy (millis ms) n h w
-effect (Read k) h w copy e = read k h w
-effect Second h w copy e = second h w
-effect (SelfReport k) h w copy e = selfReport k h w
-effect (Lookup a) h w copy e = lookup a h w e
-effect (Step k) h w copy e = step k h w copy e
+abbrev pub effect : Request → ClassTable → Host → Walk → (copy : List ℕ) → Entry → Effect
+effect Initialize t h w copy e = initialize (h .settings)
+effect (Tick n) t h w copy e = tick n h w
+effect (Adjust n) t h w copy e = adjust n h w
+effect (Set ms n) t h w copy e = setBy (millis ms) n h w
+effect (Read k) t h w copy e = read k h w
+effect Second t h w copy e = second h w
+effect (SelfReport k) t h w copy e = selfReport k h w
+effect (Lookup a) t h w copy e = lookup a t h w e
+effect (Step k) t h w copy e = step k t h w copy e
 
 -- ---- what a call asks for beside
 
@@ -99,13 +100,13 @@ scopeOf (Lookup a) = All
 scopeOf (Step k) = Walking
 
 -- the id whose entry is looked at
-abbrev pub wanted : Request → Settings → Walk → Found
-wanted Initialize s w = Nothing
-wanted (Tick n) s w = Nothing
-wanted (Adjust n) s w = Nothing
-wanted (Set ms n) s w = Nothing
-wanted (Read k) s w = Nothing
-wanted Second s w = Nothing
-wanted (SelfReport k) s w = Nothing
-wanted (Lookup a) s w = foundFor s a
-wanted (Step k) s w = atHand w
+abbrev pub wanted : Request → ClassTable → Settings → Walk → Found
+wanted Initialize t s w = Nothing
+wanted (Tick n) t s w = Nothing
+wanted (Adjust n) t s w = Nothing
+wanted (Set ms n) t s w = Nothing
+wanted (Read k) t s w = Nothing
+wanted Second t s w = Nothing
+wanted (SelfReport k) t s w = Nothing
+wanted (Lookup a) t s w = foundFor t s a
+wanted (Step k) t s w = atHand w

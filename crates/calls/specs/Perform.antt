@@ -114,9 +114,9 @@ openedBy o packet x =
     record { reply = o .reply; clock = x .host .clock; links = x .host .links; walk = o .walk; copy = copied (o .octets) packet (x .copy); run = x .run; buffer = [] }
 
 abbrev pub work : Call → Lent → Outcome
-work (ask q) x = carriedOut (effect q (x .host) (x .walk) (x .copy) (entryAt (wanted q (x .host .settings) (x .walk)) x)) x
+work (ask q) x = carriedOut (effect q (x .nets) (x .host) (x .walk) (x .copy) (entryAt (wanted q (x .nets) (x .host .settings) (x .walk)) x)) x
 work (send i k buffer) x = sentBy (sendIn i k (length buffer) (x .host)) buffer x
-work (deliver d packet) x = updatedBy (delivered d packet (x .host)) packet x
+work (deliver d packet) x = updatedBy (delivered d packet (x .nets) (x .host)) packet x
 work (openWalk i packet) x = openedBy (opening i packet (x .host .settings) (x .walk)) packet x
 
 -- ---- the call
@@ -127,7 +127,7 @@ perform call x =
 
 -- what a call leaves, as it may be lent again
 abbrev pub left : Lent → Outcome → Lent
-left x o = lent (x .host .settings) (x .number) (o .clock) (o .links) (o .walk) (o .copy) (o .run)
+left x o = lent (x .host .settings) (x .nets) (x .number) (o .clock) (o .links) (o .walk) (o .copy) (o .run)
 
 -- the inspection and, where it answers 0, the action: how a program takes a packet
 abbrev pub inTurn : (link : ℕ) → Counter → (packet : List ℕ) → Lent → Outcome

@@ -4,26 +4,26 @@ ghost use mathlib.Core.Bool.{true, false};
 ghost use Rattle.quantity.specs.Quantity.{millis};
 ghost use Rattle.clock.specs.Clock.{clockInRange};
 ghost use Rattle.host.specs.Settings.{settingsGood};
+ghost use Rattle.host.specs.Effect.{answers};
 ghost use Rattle.host.specs.Lent.{host};
 ghost use Rattle.host.specs.Walk.{walkInRange};
-ghost use Rattle.host.specs.code.Told.{afresh, Ready, Told};
+ghost use Rattle.host.specs.code.Told.{afresh, Ready, RowsBelow, Told, TableTold};
 ghost use Rattle.calls.specs.Effects.{
   looked,
   initialize,
-  tick,
-  adjust,
   setBy,
-  read,
   second,
-  selfReport,
   scopeOf,
   effect,
 };
 ghost use Rattle.calls.specs.code.Planned.{planned, WalkTold};
 use super::Request;
+use super::plans;
+use super::plans::Aged;
+use super::plans::Timed;
 use answer::Answer;
+use class_table::ClassTable;
 use clock::Clock;
-use clock::Counter;
 use host::Effect;
 use host::Links;
 use host::Reply;
@@ -33,7 +33,6 @@ use host::effects::each;
 use host::guard::Scope;
 use host::replies::plainly;
 use host::replies::tells_route;
-use host::replies::tells_time;
 use host::walk::Walk;
 use quantity::Count;
 use quantity::Millis;
@@ -71,25 +70,6 @@ fn initialize(s: Settings) -> Effect
     }
 }
 
-fn tick(s: Settings, c: Clock, l: Links, w: Walk, n: Count) -> Effect
-    requires { ⌜ (settingsGood s ≡ true) × (clockInRange c ≡ true) ⌝ }
-    ensures { λ p. ⌜ p ≡ tick n (host s c l) w ⌝ }
-{
-    answers(
-        c.ticked(s.clock_tick, s.hold_interval, n),
-        l,
-        w,
-        plainly(Answer::Done),
-    )
-}
-
-fn adjust(s: Settings, c: Clock, l: Links, w: Walk, n: Count) -> Effect
-    requires { ⌜ (settingsGood s ≡ true) × (clockInRange c ≡ true) ⌝ }
-    ensures { λ p. ⌜ p ≡ adjust n (host s c l) w ⌝ }
-{
-    answers(c.adjusted(s.hold_interval, n), l, w, plainly(Answer::Done))
-}
-
 fn set(s: Settings, c: Clock, l: Links, w: Walk, ms: i32, n: Count) -> Effect
     requires { ⌜ (settingsGood s ≡ true) × (clockInRange c ≡ true) ⌝ }
     ensures { λ p. ⌜ p ≡ setBy (millis ms) n (host s c l) w ⌝ }
@@ -100,16 +80,6 @@ fn set(s: Settings, c: Clock, l: Links, w: Walk, ms: i32, n: Count) -> Effect
         w,
         plainly(Answer::Done),
     )
-}
-
-fn read(s: Settings, c: Clock, l: Links, w: Walk, k: Counter) -> Effect
-    requires { ⌜ (settingsGood s ≡ true) × (clockInRange c ≡ true) ⌝ }
-    ensures { λ p. ⌜ p ≡ read k (host s c l) w ⌝ }
-{
-    let r = host::our_reading(s, c, k);
-    let clock = r.clock;
-    let date = clock.date;
-    answers(clock, l, w, tells_time(r.time, date))
 }
 
 fn second(s: Settings, c: Clock, l: Links, w: Walk) -> Effect
@@ -124,19 +94,28 @@ fn second(s: Settings, c: Clock, l: Links, w: Walk) -> Effect
     }
 }
 
-fn self_report(s: Settings, c: Clock, l: Links, w: Walk, k: Counter) -> Effect
-    requires { ⌜ (settingsGood s ≡ true) × (clockInRange c ≡ true) ⌝ }
-    ensures { λ p. ⌜ p ≡ selfReport k (host s c l) w ⌝ }
+// A clock and a reply.
+fn timed(p: Timed, l: Links, w: Walk) -> Effect
+    ensures { λ r. ⌜ r ≡ answers (p .reply) (p .clock) l w ⌝ }
 {
-    let r = host::our_reading(s, c, k);
-    let clock = r.clock;
-    let time = r.time;
+    let reply = p.reply;
+    let clock = p.clock;
+    answers(clock, l, w, reply)
+}
+
+// These, and the entries changed.
+fn aged(p: Aged, l: Links, w: Walk) -> Effect
+    ensures { λ r. ⌜ r ≡ record { reply = p .reply; clock = p .clock; links = l; walk = w; work = p .work } ⌝ }
+{
+    let reply = p.reply;
+    let clock = p.clock;
+    let work = p.work;
     Effect {
-        reply: plainly(Answer::Done),
+        reply: reply,
         clock: clock,
         links: l,
         walk: w,
-        work: each(s, Change::Reported(time)),
+        work: work,
     }
 }
 
@@ -154,35 +133,9 @@ pub fn looked(found: Found, e: Entry) -> Reply
     }
 }
 
-fn effect(s: Settings, c: Clock, l: Links, w: Walk, copy: &[u8], e: Entry, q: Request) -> Effect
-    requires { ⌜ Ready (scopeOf q) s c ⌝ }
-    requires { ⌜ (afresh (scopeOf q) ≡ false → walkInRange s w (now copy) ≡ true) ⌝ }
-    ensures { λ p. ⌜ p ≡ effect q (host s c l) w (now (copy .entry)) e ⌝ }
-{
-    match q {
-        Request::Initialize => initialize(s),
-        Request::Tick(n) => tick(s, c, l, w, n),
-        Request::Adjust(n) => adjust(s, c, l, w, n),
-        Request::Set(ms, n) => set(s, c, l, w, ms, n),
-        Request::Read(k) => read(s, c, l, w, k),
-        Request::Second => second(s, c, l, w),
-        Request::SelfReport(k) => self_report(s, c, l, w, k),
-        Request::Lookup(a) => {
-            answers(
-                c,
-                l,
-                w,
-                looked(route::find(s.address, s.layout, s.net, a), e),
-            )
-        }
-        Request::Step(k) => walk::step(s, c, l, w, copy, e, k),
-    }
-}
-
-// A refusal of the guard's, or the effect.
-pub fn plan(
-    g: Answer,
+fn effect(
     s: Settings,
+    t: ClassTable,
     c: Clock,
     l: Links,
     w: Walk,
@@ -190,11 +143,40 @@ pub fn plan(
     e: Entry,
     q: Request,
 ) -> Effect
-    requires { ⌜ Told g (scopeOf q) s c × WalkTold g q s w (now copy) ⌝ }
-    ensures { λ p. ⌜ p ≡ planned g q (host s c l) w (now (copy .entry)) e ⌝ }
+    requires { ⌜ Ready (scopeOf q) s c × RowsBelow t s ⌝ }
+    requires { ⌜ (afresh (scopeOf q) ≡ false → walkInRange s w (now copy) ≡ true) ⌝ }
+    ensures { λ p. ⌜ p ≡ effect q t (host s c l) w (now (copy .entry)) e ⌝ }
+{
+    match q {
+        Request::Initialize => initialize(s),
+        Request::Tick(n) => timed(plans::tick(Answer::Done, s, c, n), l, w),
+        Request::Adjust(n) => timed(plans::adjust(Answer::Done, s, c, n), l, w),
+        Request::Set(ms, n) => set(s, c, l, w, ms, n),
+        Request::Read(k) => timed(plans::read(Answer::Done, s, c, k), l, w),
+        Request::Second => second(s, c, l, w),
+        Request::SelfReport(k) => aged(plans::self_report(Answer::Done, s, c, k), l, w),
+        Request::Lookup(a) => { answers(c, l, w, looked(host::found_for(t, s, a), e)) }
+        Request::Step(k) => walk::step(s, t, c, l, w, copy, e, k),
+    }
+}
+
+// A refusal of the guard's, or the effect.
+pub fn plan(
+    g: Answer,
+    s: Settings,
+    t: ClassTable,
+    c: Clock,
+    l: Links,
+    w: Walk,
+    copy: &[u8],
+    e: Entry,
+    q: Request,
+) -> Effect
+    requires { ⌜ Told g (scopeOf q) s c × TableTold g t s × WalkTold g q s w (now copy) ⌝ }
+    ensures { λ p. ⌜ p ≡ planned g q t (host s c l) w (now (copy .entry)) e ⌝ }
 {
     if !answer::is_done(g) {
         return answers(c, l, w, plainly(g));
     }
-    effect(s, c, l, w, copy, e, q)
+    effect(s, t, c, l, w, copy, e, q)
 }

@@ -1,4 +1,4 @@
-// The calls of a HELLO host. Each is lent all of a host, its clock, its links, its walk with the copy of a packet, and the run with its places; settings, number and what is lent are answered for first, with 12, 16 or 1.
+// The calls of a HELLO host. Each is lent all of a host, its clock, its links, its walk with the copy of a packet, and the run with its places, and the class's net table, which none changes; settings, number and what is lent are answered for first, with 12, 16 or 1.
 ghost use mathlib.Core.Path.{_≡_};
 ghost use Rattle.host.specs.declared.guard.Scope.the-variants.{All, OnLink, Opening};
 ghost use Rattle.host.specs.Lent.{lent};
@@ -6,6 +6,7 @@ ghost use Rattle.calls.specs.declared.Request.the-variants.{Tick, Adjust
 ghost use Rattle.calls.specs.Perform.{perform, Leaves, ask, send, deliver, inspect, openWalk};
 ghost use Rattle.arrival.specs.Arrival.{onLink};
 use arrival::Delivery;
+use class_table::ClassTable;
 use clock::Clock;
 use clock::Counter;
 use host::Links;
@@ -44,6 +45,7 @@ pub enum Request {
 // A request: the calls that are lent no octets but the copy of a walk's packet.
 pub fn call(
     settings: &Settings,
+    nets: &ClassTable,
     number: usize,
     clock: &mut Clock,
     links: &mut Links,
@@ -52,17 +54,18 @@ pub fn call(
     run: &mut [Entry],
     request: Request,
 ) -> Reply
-    ensures { λ r. ⌜ Leaves (perform (ask request) (lent (now (settings .entry)) number (now (clock .entry)) (now (links .entry)) (now (walk .entry)) (now (copy .entry)) (now (run .entry)))) r (now (clock .exit)) (now (links .exit)) (now (walk .exit)) (now (copy .entry)) (now (run .exit)) ⌝ }
+    ensures { λ r. ⌜ Leaves (perform (ask request) (lent (now (settings .entry)) (now (nets .entry)) number (now (clock .entry)) (now (links .entry)) (now (walk .entry)) (now (copy .entry)) (now (run .entry)))) r (now (clock .exit)) (now (links .exit)) (now (walk .exit)) (now (copy .entry)) (now (run .exit)) ⌝ }
 {
     let s = *settings;
+    let t = *nets;
     let c = *clock;
     let l = *links;
     let v = *walk;
     let a = effects::scope_of(request);
-    let g = guard(settings, number, c, l, v, copy, a, run);
-    let z = places::sought(g, s, v, number, request);
+    let g = guard(settings, nets, number, c, l, v, copy, a, run);
+    let z = places::sought(g, s, t, v, number, request);
     let e = entry_of(run, z);
-    let p = effects::plan(g, s, c, l, v, copy, e, request);
+    let p = effects::plan(g, s, t, c, l, v, copy, e, request);
     let w = places::placed(number, p.work);
     change_all(run, w);
     *clock = p.clock;
@@ -80,6 +83,7 @@ fn all() -> Scope
 // CLOCK-TICK is added to the clock.
 pub fn tick(
     settings: &Settings,
+    nets: &ClassTable,
     number: usize,
     clock: &mut Clock,
     links: &Links,
@@ -88,14 +92,14 @@ pub fn tick(
     run: &[Entry],
     count: Count,
 ) -> Reply
-    ensures { λ r. ⌜ Leaves (perform (ask (Tick count)) (lent (now (settings .entry)) number (now (clock .entry)) (now (links .entry)) (now (walk .entry)) (now (copy .entry)) (now (run .entry)))) r (now (clock .exit)) (now (links .entry)) (now (walk .entry)) (now (copy .entry)) (now (run .entry)) ⌝ }
+    ensures { λ r. ⌜ Leaves (perform (ask (Tick count)) (lent (now (settings .entry)) (now (nets .entry)) number (now (clock .entry)) (now (links .entry)) (now (walk .entry)) (now (copy .entry)) (now (run .entry)))) r (now (clock .exit)) (now (links .entry)) (now (walk .entry)) (now (copy .entry)) (now (run .entry)) ⌝ }
 {
     let s = *settings;
     let c = *clock;
     let l = *links;
     let v = *walk;
     let a = all();
-    let g = guard(settings, number, c, l, v, copy, a, run);
+    let g = guard(settings, nets, number, c, l, v, copy, a, run);
     let p = plans::tick(g, s, c, count);
     *clock = p.clock;
     p.reply
@@ -104,6 +108,7 @@ pub fn tick(
 // A share of DELTA goes into the clock.
 pub fn adjust(
     settings: &Settings,
+    nets: &ClassTable,
     number: usize,
     clock: &mut Clock,
     links: &Links,
@@ -112,14 +117,14 @@ pub fn adjust(
     run: &[Entry],
     count: Count,
 ) -> Reply
-    ensures { λ r. ⌜ Leaves (perform (ask (Adjust count)) (lent (now (settings .entry)) number (now (clock .entry)) (now (links .entry)) (now (walk .entry)) (now (copy .entry)) (now (run .entry)))) r (now (clock .exit)) (now (links .entry)) (now (walk .entry)) (now (copy .entry)) (now (run .entry)) ⌝ }
+    ensures { λ r. ⌜ Leaves (perform (ask (Adjust count)) (lent (now (settings .entry)) (now (nets .entry)) number (now (clock .entry)) (now (links .entry)) (now (walk .entry)) (now (copy .entry)) (now (run .entry)))) r (now (clock .exit)) (now (links .entry)) (now (walk .entry)) (now (copy .entry)) (now (run .entry)) ⌝ }
 {
     let s = *settings;
     let c = *clock;
     let l = *links;
     let v = *walk;
     let a = all();
-    let g = guard(settings, number, c, l, v, copy, a, run);
+    let g = guard(settings, nets, number, c, l, v, copy, a, run);
     let p = plans::adjust(g, s, c, count);
     *clock = p.clock;
     p.reply
@@ -128,6 +133,7 @@ pub fn adjust(
 // The time and DATE.
 pub fn read(
     settings: &Settings,
+    nets: &ClassTable,
     number: usize,
     clock: &mut Clock,
     links: &Links,
@@ -136,14 +142,14 @@ pub fn read(
     run: &[Entry],
     counter: Counter,
 ) -> Reply
-    ensures { λ r. ⌜ Leaves (perform (ask (Read counter)) (lent (now (settings .entry)) number (now (clock .entry)) (now (links .entry)) (now (walk .entry)) (now (copy .entry)) (now (run .entry)))) r (now (clock .exit)) (now (links .entry)) (now (walk .entry)) (now (copy .entry)) (now (run .entry)) ⌝ }
+    ensures { λ r. ⌜ Leaves (perform (ask (Read counter)) (lent (now (settings .entry)) (now (nets .entry)) number (now (clock .entry)) (now (links .entry)) (now (walk .entry)) (now (copy .entry)) (now (run .entry)))) r (now (clock .exit)) (now (links .entry)) (now (walk .entry)) (now (copy .entry)) (now (run .entry)) ⌝ }
 {
     let s = *settings;
     let c = *clock;
     let l = *links;
     let v = *walk;
     let a = all();
-    let g = guard(settings, number, c, l, v, copy, a, run);
+    let g = guard(settings, nets, number, c, l, v, copy, a, run);
     let p = plans::read(g, s, c, counter);
     *clock = p.clock;
     p.reply
@@ -152,6 +158,7 @@ pub fn read(
 // Each host that lives here reports itself.
 pub fn self_report(
     settings: &Settings,
+    nets: &ClassTable,
     number: usize,
     clock: &mut Clock,
     links: &Links,
@@ -160,14 +167,14 @@ pub fn self_report(
     run: &mut [Entry],
     counter: Counter,
 ) -> Reply
-    ensures { λ r. ⌜ Leaves (perform (ask (SelfReport counter)) (lent (now (settings .entry)) number (now (clock .entry)) (now (links .entry)) (now (walk .entry)) (now (copy .entry)) (now (run .entry)))) r (now (clock .exit)) (now (links .entry)) (now (walk .entry)) (now (copy .entry)) (now (run .exit)) ⌝ }
+    ensures { λ r. ⌜ Leaves (perform (ask (SelfReport counter)) (lent (now (settings .entry)) (now (nets .entry)) number (now (clock .entry)) (now (links .entry)) (now (walk .entry)) (now (copy .entry)) (now (run .entry)))) r (now (clock .exit)) (now (links .entry)) (now (walk .entry)) (now (copy .entry)) (now (run .exit)) ⌝ }
 {
     let s = *settings;
     let c = *clock;
     let l = *links;
     let v = *walk;
     let a = all();
-    let g = guard(settings, number, c, l, v, copy, a, run);
+    let g = guard(settings, nets, number, c, l, v, copy, a, run);
     let p = plans::self_report(g, s, c, counter);
     let w = places::placed(number, p.work);
     change_all(run, w);
@@ -178,6 +185,7 @@ pub fn self_report(
 // The host id of an address, and the link of its route.
 pub fn lookup(
     settings: &Settings,
+    nets: &ClassTable,
     number: usize,
     clock: &Clock,
     links: &Links,
@@ -186,15 +194,16 @@ pub fn lookup(
     run: &[Entry],
     address: wire::Address,
 ) -> Reply
-    ensures { λ r. ⌜ Leaves (perform (ask (Lookup address)) (lent (now (settings .entry)) number (now (clock .entry)) (now (links .entry)) (now (walk .entry)) (now (copy .entry)) (now (run .entry)))) r (now (clock .entry)) (now (links .entry)) (now (walk .entry)) (now (copy .entry)) (now (run .entry)) ⌝ }
+    ensures { λ r. ⌜ Leaves (perform (ask (Lookup address)) (lent (now (settings .entry)) (now (nets .entry)) number (now (clock .entry)) (now (links .entry)) (now (walk .entry)) (now (copy .entry)) (now (run .entry)))) r (now (clock .entry)) (now (links .entry)) (now (walk .entry)) (now (copy .entry)) (now (run .entry)) ⌝ }
 {
     let s = *settings;
+    let t = *nets;
     let c = *clock;
     let l = *links;
     let v = *walk;
     let a = all();
-    let g = guard(settings, number, c, l, v, copy, a, run);
-    let f = plans::found(g, s, address);
+    let g = guard(settings, nets, number, c, l, v, copy, a, run);
+    let f = plans::found(g, s, t, address);
     let z = places::seek_at(number, f);
     let e = entry_of(run, z);
     plans::route_of(g, f, e)
@@ -209,6 +218,7 @@ fn opening(link: usize) -> Scope
 // A walk is opened for a packet on a link: the packet is copied, and the first box is next.
 pub fn open_walk(
     settings: &Settings,
+    nets: &ClassTable,
     number: usize,
     clock: &Clock,
     links: &Links,
@@ -218,14 +228,14 @@ pub fn open_walk(
     link: usize,
     packet: &[u8],
 ) -> Reply
-    ensures { λ r. ⌜ Leaves (perform (openWalk link (now (packet .entry))) (lent (now (settings .entry)) number (now (clock .entry)) (now (links .entry)) (now (walk .entry)) (now (copy .entry)) (now (run .entry)))) r (now (clock .entry)) (now (links .entry)) (now (walk .exit)) (now (copy .exit)) (now (run .entry)) ⌝ }
+    ensures { λ r. ⌜ Leaves (perform (openWalk link (now (packet .entry))) (lent (now (settings .entry)) (now (nets .entry)) number (now (clock .entry)) (now (links .entry)) (now (walk .entry)) (now (copy .entry)) (now (run .entry)))) r (now (clock .entry)) (now (links .entry)) (now (walk .exit)) (now (copy .exit)) (now (run .entry)) ⌝ }
 {
     let s = *settings;
     let c = *clock;
     let l = *links;
     let v = *walk;
     let a = opening(link);
-    let g = guard(settings, number, c, l, v, copy, a, run);
+    let g = guard(settings, nets, number, c, l, v, copy, a, run);
     let p = walk::plan(g, s, v, link, packet);
     walk::keep(copy, packet, p.octets);
     *walk = p.walk;
@@ -241,6 +251,7 @@ fn on_link(link: usize) -> Scope
 // A message for the neighbor of a link, written to the front of the buffer.
 pub fn send(
     settings: &Settings,
+    nets: &ClassTable,
     number: usize,
     clock: &mut Clock,
     links: &mut Links,
@@ -251,8 +262,8 @@ pub fn send(
     counter: Counter,
     buffer: &mut [u8],
 ) -> Reply
-    ensures { λ r. ⌜ Leaves (perform (send link counter (now (buffer .entry))) (lent (now (settings .entry)) number (now (clock .entry)) (now (links .entry)) (now (walk .entry)) (now (copy .entry)) (now (run .entry)))) r (now (clock .exit)) (now (links .exit)) (now (walk .entry)) (now (copy .entry)) (now (run .entry))
-        × (now (buffer .exit) ≡ perform (send link counter (now (buffer .entry))) (lent (now (settings .entry)) number (now (clock .entry)) (now (links .entry)) (now (walk .entry)) (now (copy .entry)) (now (run .entry))) .buffer) ⌝ }
+    ensures { λ r. ⌜ Leaves (perform (send link counter (now (buffer .entry))) (lent (now (settings .entry)) (now (nets .entry)) number (now (clock .entry)) (now (links .entry)) (now (walk .entry)) (now (copy .entry)) (now (run .entry)))) r (now (clock .exit)) (now (links .exit)) (now (walk .entry)) (now (copy .entry)) (now (run .entry))
+        × (now (buffer .exit) ≡ perform (send link counter (now (buffer .entry))) (lent (now (settings .entry)) (now (nets .entry)) number (now (clock .entry)) (now (links .entry)) (now (walk .entry)) (now (copy .entry)) (now (run .entry))) .buffer) ⌝ }
 {
     let s = *settings;
     let c = *clock;
@@ -260,7 +271,7 @@ pub fn send(
     let v = *walk;
     let n = buffer.len();
     let a = on_link(link);
-    let g = guard(settings, number, c, l, v, copy, a, run);
+    let g = guard(settings, nets, number, c, l, v, copy, a, run);
     let p = sending::plan(g, s, c, l, link, counter, n);
     let w = places::reports_at(number, p.work);
     read_out(buffer, run, w);
@@ -273,6 +284,7 @@ pub fn send(
 // A packet is inspected; nothing changes.
 pub fn inspect(
     settings: &Settings,
+    nets: &ClassTable,
     number: usize,
     clock: &Clock,
     links: &Links,
@@ -282,14 +294,14 @@ pub fn inspect(
     link: usize,
     packet: &[u8],
 ) -> Reply
-    ensures { λ r. ⌜ Leaves (perform (inspect link (now (packet .entry))) (lent (now (settings .entry)) number (now (clock .entry)) (now (links .entry)) (now (walk .entry)) (now (copy .entry)) (now (run .entry)))) r (now (clock .entry)) (now (links .entry)) (now (walk .entry)) (now (copy .entry)) (now (run .entry)) ⌝ }
+    ensures { λ r. ⌜ Leaves (perform (inspect link (now (packet .entry))) (lent (now (settings .entry)) (now (nets .entry)) number (now (clock .entry)) (now (links .entry)) (now (walk .entry)) (now (copy .entry)) (now (run .entry)))) r (now (clock .entry)) (now (links .entry)) (now (walk .entry)) (now (copy .entry)) (now (run .entry)) ⌝ }
 {
     let s = *settings;
     let c = *clock;
     let l = *links;
     let v = *walk;
     let a = on_link(link);
-    let g = guard(settings, number, c, l, v, copy, a, run);
+    let g = guard(settings, nets, number, c, l, v, copy, a, run);
     plans::inspect(g, s, link, packet)
 }
 
@@ -302,6 +314,7 @@ fn on_its_link(delivery: Delivery) -> Scope
 // A packet that arrives on a link: it is inspected, acted on, or received, which is both in turn.
 pub fn deliver(
     settings: &Settings,
+    nets: &ClassTable,
     number: usize,
     clock: &mut Clock,
     links: &mut Links,
@@ -311,15 +324,16 @@ pub fn deliver(
     delivery: Delivery,
     packet: &[u8],
 ) -> Reply
-    ensures { λ r. ⌜ Leaves (perform (deliver delivery (now (packet .entry))) (lent (now (settings .entry)) number (now (clock .entry)) (now (links .entry)) (now (walk .entry)) (now (copy .entry)) (now (run .entry)))) r (now (clock .exit)) (now (links .exit)) (now (walk .entry)) (now (copy .entry)) (now (run .exit)) ⌝ }
+    ensures { λ r. ⌜ Leaves (perform (deliver delivery (now (packet .entry))) (lent (now (settings .entry)) (now (nets .entry)) number (now (clock .entry)) (now (links .entry)) (now (walk .entry)) (now (copy .entry)) (now (run .entry)))) r (now (clock .exit)) (now (links .exit)) (now (walk .entry)) (now (copy .entry)) (now (run .exit)) ⌝ }
 {
     let s = *settings;
+    let t = *nets;
     let c = *clock;
     let l = *links;
     let v = *walk;
     let a = on_its_link(delivery);
-    let g = guard(settings, number, c, l, v, copy, a, run);
-    let p = arrival::plan(g, s, c, l, delivery, packet);
+    let g = guard(settings, nets, number, c, l, v, copy, a, run);
+    let p = arrival::plan(g, s, t, c, l, delivery, packet);
     let w = places::updates_at(number, p.work);
     let k = update_all(run, w, packet);
     *clock = k;

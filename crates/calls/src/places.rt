@@ -18,6 +18,7 @@ ghost use Rattle.calls.specs.code.Places.{
 };
 use super::Request;
 use answer::Answer;
+use class_table::ClassTable;
 use host::Settings;
 use host::first_place;
 use host::walk::Walk;
@@ -29,8 +30,8 @@ use table::run::Seek;
 use table::run::Updates;
 
 // The id whose entry is looked at.
-fn wanted(s: Settings, w: Walk, q: Request) -> Found
-    ensures { λ r. ⌜ r ≡ wanted q s w ⌝ }
+fn wanted(s: Settings, t: ClassTable, w: Walk, q: Request) -> Found
+    ensures { λ r. ⌜ r ≡ wanted q t s w ⌝ }
 {
     match q {
         Request::Initialize => Found::Nothing,
@@ -40,7 +41,7 @@ fn wanted(s: Settings, w: Walk, q: Request) -> Found
         Request::Read(_) => Found::Nothing,
         Request::Second => Found::Nothing,
         Request::SelfReport(_) => Found::Nothing,
-        Request::Lookup(a) => route::find(s.address, s.layout, s.net, a),
+        Request::Lookup(a) => host::found_for(t, s, a),
         Request::Step(_) => walk::at_hand(w),
     }
 }
@@ -73,14 +74,14 @@ pub fn seek_at(number: usize, found: Found) -> Seek
 }
 
 // The entry that is looked at.
-pub fn sought(g: Answer, s: Settings, w: Walk, number: usize, q: Request) -> Seek
-    requires { ⌜ Seekable g q s w number ⌝ }
-    ensures { λ r. ⌜ r ≡ soughtAt g q s w number ⌝ }
+pub fn sought(g: Answer, s: Settings, t: ClassTable, w: Walk, number: usize, q: Request) -> Seek
+    requires { ⌜ Seekable g q t s w number ⌝ }
+    ensures { λ r. ⌜ r ≡ soughtAt g q t s w number ⌝ }
 {
     if !answer::is_done(g) {
         return no_entry();
     }
-    seek_at(number, wanted(s, w, q))
+    seek_at(number, wanted(s, t, w, q))
 }
 
 // The places of ids that are changed.

@@ -12,6 +12,7 @@ ghost use Rattle.calls.specs.Effects.{looked};
 ghost use Rattle.calls.specs.code.Planned.{Timely, Aging, LinkTold, inspects};
 use super::effects::looked;
 use answer::Answer;
+use class_table::ClassTable;
 use clock::Clock;
 use clock::Counter;
 use host::Reply;
@@ -114,13 +115,13 @@ pub fn self_report(g: Answer, s: Settings, c: Clock, k: Counter) -> Aged
 }
 
 // The id that a lookup finds.
-pub fn found(g: Answer, s: Settings, a: Address) -> Found
-    ensures { λ r. ⌜ r ≡ cond (not (done g)) Nothing (foundFor s a) ⌝ }
+pub fn found(g: Answer, s: Settings, t: ClassTable, a: Address) -> Found
+    ensures { λ r. ⌜ r ≡ cond (not (done g)) Nothing (foundFor t s a) ⌝ }
 {
     if !answer::is_done(g) {
         return Found::Nothing;
     }
-    route::find(s.address, s.layout, s.net, a)
+    host::found_for(t, s, a)
 }
 
 // What a lookup tells of the id that it found, and of its entry.

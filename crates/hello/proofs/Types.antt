@@ -10,6 +10,8 @@ use Rattle.hello.proofs.Inspected as Inspected
 use Rattle.hello.proofs.Inspected.Laws as Inspected′
 use Rattle.hello.proofs.Stepped as Stepped
 use Rattle.hello.proofs.Stepped.Laws as Stepped′
+use Rattle.hello.proofs.nets.NetAdded as NetAdded
+use Rattle.hello.proofs.nets.NetAdded.Laws as NetAdded′
 
 abbrev pub sent : Data
 sent = record { S = Sent.the-type; L = Sent′.the-laws; P = Sent′.the-plain; low = Sent′.lowers; copies = Sent′.the-copy }
@@ -25,3 +27,6 @@ inspected = record { S = Inspected.the-type; L = Inspected′.the-laws; P = Insp
 
 abbrev pub stepped : Data
 stepped = record { S = Stepped.the-type; L = Stepped′.the-laws; P = Stepped′.the-plain; low = Stepped′.lowers; copies = Stepped′.the-copy }
+
+abbrev pub net-added : Data
+net-added = record { S = NetAdded.the-type; L = NetAdded′.the-laws; P = NetAdded′.the-plain; low = NetAdded′.lowers; copies = NetAdded′.the-copy }

@@ -1,3 +1,4 @@
 pub mod Told
 pub mod Mended
 pub mod Ntp
+pub mod Nets

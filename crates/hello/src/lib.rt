@@ -27,6 +27,7 @@ ghost use Rattle.hello.specs.Told.{
 };
 use arrival::Delivery;
 use calls::Request;
+use class_table::ClassTable;
 use clock::Clock;
 use clock::Counter;
 use host::Links;
@@ -38,6 +39,7 @@ use table::Entry;
 use wire::Address;
 
 mod captures;
+mod nets;
 mod ntp_calls;
 mod paper;
 mod sums;
@@ -214,6 +216,7 @@ pub extern "C" fn hello_packet(octets: &[u8]) -> u8
 #[no_mangle]
 pub extern "C" fn hello_initialize(
     settings: &Settings,
+    nets: &ClassTable,
     number: usize,
     clock: &mut Clock,
     links: &mut Links,
@@ -221,10 +224,10 @@ pub extern "C" fn hello_initialize(
     copy: &[u8],
     run: &mut [Entry],
 ) -> u8
-    ensures { λ r. ⌜ Returns numbered (perform (ask Initialize) (lent (now (settings .entry)) number (now (clock .entry)) (now (links .entry)) (now (walk .entry)) (now (copy .entry)) (now (run .entry)))) r (now (clock .exit)) (now (links .exit)) (now (walk .exit)) (now (copy .entry)) (now (run .exit)) ⌝ }
+    ensures { λ r. ⌜ Returns numbered (perform (ask Initialize) (lent (now (settings .entry)) (now (nets .entry)) number (now (clock .entry)) (now (links .entry)) (now (walk .entry)) (now (copy .entry)) (now (run .entry)))) r (now (clock .exit)) (now (links .exit)) (now (walk .exit)) (now (copy .entry)) (now (run .exit)) ⌝ }
 {
     let q = asks_initialize();
-    let a = calls::call(settings, number, clock, links, walk, copy, run, q);
+    let a = calls::call(settings, nets, number, clock, links, walk, copy, run, q);
     numbered(a)
 }
 
@@ -232,6 +235,7 @@ pub extern "C" fn hello_initialize(
 #[no_mangle]
 pub extern "C" fn hello_tick(
     settings: &Settings,
+    nets: &ClassTable,
     number: usize,
     clock: &mut Clock,
     links: &Links,
@@ -240,9 +244,9 @@ pub extern "C" fn hello_tick(
     run: &[Entry],
     count: Count,
 ) -> u8
-    ensures { λ r. ⌜ Returns numbered (perform (ask (Tick count)) (lent (now (settings .entry)) number (now (clock .entry)) (now (links .entry)) (now (walk .entry)) (now (copy .entry)) (now (run .entry)))) r (now (clock .exit)) (now (links .entry)) (now (walk .entry)) (now (copy .entry)) (now (run .entry)) ⌝ }
+    ensures { λ r. ⌜ Returns numbered (perform (ask (Tick count)) (lent (now (settings .entry)) (now (nets .entry)) number (now (clock .entry)) (now (links .entry)) (now (walk .entry)) (now (copy .entry)) (now (run .entry)))) r (now (clock .exit)) (now (links .entry)) (now (walk .entry)) (now (copy .entry)) (now (run .entry)) ⌝ }
 {
-    let a = calls::tick(settings, number, clock, links, walk, copy, run, count);
+    let a = calls::tick(settings, nets, number, clock, links, walk, copy, run, count);
     numbered(a)
 }
 
@@ -250,6 +254,7 @@ pub extern "C" fn hello_tick(
 #[no_mangle]
 pub extern "C" fn hello_adjust(
     settings: &Settings,
+    nets: &ClassTable,
     number: usize,
     clock: &mut Clock,
     links: &Links,
@@ -258,9 +263,9 @@ pub extern "C" fn hello_adjust(
     run: &[Entry],
     count: Count,
 ) -> u8
-    ensures { λ r. ⌜ Returns numbered (perform (ask (Adjust count)) (lent (now (settings .entry)) number (now (clock .entry)) (now (links .entry)) (now (walk .entry)) (now (copy .entry)) (now (run .entry)))) r (now (clock .exit)) (now (links .entry)) (now (walk .entry)) (now (copy .entry)) (now (run .entry)) ⌝ }
+    ensures { λ r. ⌜ Returns numbered (perform (ask (Adjust count)) (lent (now (settings .entry)) (now (nets .entry)) number (now (clock .entry)) (now (links .entry)) (now (walk .entry)) (now (copy .entry)) (now (run .entry)))) r (now (clock .exit)) (now (links .entry)) (now (walk .entry)) (now (copy .entry)) (now (run .entry)) ⌝ }
 {
-    let a = calls::adjust(settings, number, clock, links, walk, copy, run, count);
+    let a = calls::adjust(settings, nets, number, clock, links, walk, copy, run, count);
     numbered(a)
 }
 
@@ -268,6 +273,7 @@ pub extern "C" fn hello_adjust(
 #[no_mangle]
 pub extern "C" fn hello_set(
     settings: &Settings,
+    nets: &ClassTable,
     number: usize,
     clock: &mut Clock,
     links: &mut Links,
@@ -277,10 +283,10 @@ pub extern "C" fn hello_set(
     ms: i32,
     count: Count,
 ) -> u8
-    ensures { λ r. ⌜ Returns numbered (perform (ask (Set ms count)) (lent (now (settings .entry)) number (now (clock .entry)) (now (links .entry)) (now (walk .entry)) (now (copy .entry)) (now (run .entry)))) r (now (clock .exit)) (now (links .exit)) (now (walk .exit)) (now (copy .entry)) (now (run .exit)) ⌝ }
+    ensures { λ r. ⌜ Returns numbered (perform (ask (Set ms count)) (lent (now (settings .entry)) (now (nets .entry)) number (now (clock .entry)) (now (links .entry)) (now (walk .entry)) (now (copy .entry)) (now (run .entry)))) r (now (clock .exit)) (now (links .exit)) (now (walk .exit)) (now (copy .entry)) (now (run .exit)) ⌝ }
 {
     let q = asks_set(ms, count);
-    let a = calls::call(settings, number, clock, links, walk, copy, run, q);
+    let a = calls::call(settings, nets, number, clock, links, walk, copy, run, q);
     numbered(a)
 }
 
@@ -288,6 +294,7 @@ pub extern "C" fn hello_set(
 #[no_mangle]
 pub extern "C" fn hello_read(
     settings: &Settings,
+    nets: &ClassTable,
     number: usize,
     clock: &mut Clock,
     links: &Links,
@@ -296,9 +303,19 @@ pub extern "C" fn hello_read(
     run: &[Entry],
     counter: Counter,
 ) -> Time
-    ensures { λ r. ⌜ Returns timeTold (perform (ask (Read counter)) (lent (now (settings .entry)) number (now (clock .entry)) (now (links .entry)) (now (walk .entry)) (now (copy .entry)) (now (run .entry)))) r (now (clock .exit)) (now (links .entry)) (now (walk .entry)) (now (copy .entry)) (now (run .entry)) ⌝ }
+    ensures { λ r. ⌜ Returns timeTold (perform (ask (Read counter)) (lent (now (settings .entry)) (now (nets .entry)) number (now (clock .entry)) (now (links .entry)) (now (walk .entry)) (now (copy .entry)) (now (run .entry)))) r (now (clock .exit)) (now (links .entry)) (now (walk .entry)) (now (copy .entry)) (now (run .entry)) ⌝ }
 {
-    let a = calls::read(settings, number, clock, links, walk, copy, run, counter);
+    let a = calls::read(
+        settings,
+        nets,
+        number,
+        clock,
+        links,
+        walk,
+        copy,
+        run,
+        counter,
+    );
     time_told(a)
 }
 
@@ -306,6 +323,7 @@ pub extern "C" fn hello_read(
 #[no_mangle]
 pub extern "C" fn hello_second(
     settings: &Settings,
+    nets: &ClassTable,
     number: usize,
     clock: &mut Clock,
     links: &mut Links,
@@ -313,10 +331,10 @@ pub extern "C" fn hello_second(
     copy: &[u8],
     run: &mut [Entry],
 ) -> u8
-    ensures { λ r. ⌜ Returns numbered (perform (ask Second) (lent (now (settings .entry)) number (now (clock .entry)) (now (links .entry)) (now (walk .entry)) (now (copy .entry)) (now (run .entry)))) r (now (clock .exit)) (now (links .exit)) (now (walk .exit)) (now (copy .entry)) (now (run .exit)) ⌝ }
+    ensures { λ r. ⌜ Returns numbered (perform (ask Second) (lent (now (settings .entry)) (now (nets .entry)) number (now (clock .entry)) (now (links .entry)) (now (walk .entry)) (now (copy .entry)) (now (run .entry)))) r (now (clock .exit)) (now (links .exit)) (now (walk .exit)) (now (copy .entry)) (now (run .exit)) ⌝ }
 {
     let q = asks_second();
-    let a = calls::call(settings, number, clock, links, walk, copy, run, q);
+    let a = calls::call(settings, nets, number, clock, links, walk, copy, run, q);
     numbered(a)
 }
 
@@ -324,6 +342,7 @@ pub extern "C" fn hello_second(
 #[no_mangle]
 pub extern "C" fn hello_self_report(
     settings: &Settings,
+    nets: &ClassTable,
     number: usize,
     clock: &mut Clock,
     links: &Links,
@@ -332,9 +351,19 @@ pub extern "C" fn hello_self_report(
     run: &mut [Entry],
     counter: Counter,
 ) -> u8
-    ensures { λ r. ⌜ Returns numbered (perform (ask (SelfReport counter)) (lent (now (settings .entry)) number (now (clock .entry)) (now (links .entry)) (now (walk .entry)) (now (copy .entry)) (now (run .entry)))) r (now (clock .exit)) (now (links .entry)) (now (walk .entry)) (now (copy .entry)) (now (run .exit)) ⌝ }
+    ensures { λ r. ⌜ Returns numbered (perform (ask (SelfReport counter)) (lent (now (settings .entry)) (now (nets .entry)) number (now (clock .entry)) (now (links .entry)) (now (walk .entry)) (now (copy .entry)) (now (run .entry)))) r (now (clock .exit)) (now (links .entry)) (now (walk .entry)) (now (copy .entry)) (now (run .exit)) ⌝ }
 {
-    let a = calls::self_report(settings, number, clock, links, walk, copy, run, counter);
+    let a = calls::self_report(
+        settings,
+        nets,
+        number,
+        clock,
+        links,
+        walk,
+        copy,
+        run,
+        counter,
+    );
     numbered(a)
 }
 
@@ -342,6 +371,7 @@ pub extern "C" fn hello_self_report(
 #[no_mangle]
 pub extern "C" fn hello_send(
     settings: &Settings,
+    nets: &ClassTable,
     number: usize,
     clock: &mut Clock,
     links: &mut Links,
@@ -352,11 +382,12 @@ pub extern "C" fn hello_send(
     counter: Counter,
     buffer: &mut [u8],
 ) -> Sent
-    ensures { λ r. ⌜ Returns sentTold (perform (send link counter (now (buffer .entry))) (lent (now (settings .entry)) number (now (clock .entry)) (now (links .entry)) (now (walk .entry)) (now (copy .entry)) (now (run .entry)))) r (now (clock .exit)) (now (links .exit)) (now (walk .entry)) (now (copy .entry)) (now (run .entry))
-        × (now (buffer .exit) ≡ perform (send link counter (now (buffer .entry))) (lent (now (settings .entry)) number (now (clock .entry)) (now (links .entry)) (now (walk .entry)) (now (copy .entry)) (now (run .entry))) .buffer) ⌝ }
+    ensures { λ r. ⌜ Returns sentTold (perform (send link counter (now (buffer .entry))) (lent (now (settings .entry)) (now (nets .entry)) number (now (clock .entry)) (now (links .entry)) (now (walk .entry)) (now (copy .entry)) (now (run .entry)))) r (now (clock .exit)) (now (links .exit)) (now (walk .entry)) (now (copy .entry)) (now (run .entry))
+        × (now (buffer .exit) ≡ perform (send link counter (now (buffer .entry))) (lent (now (settings .entry)) (now (nets .entry)) number (now (clock .entry)) (now (links .entry)) (now (walk .entry)) (now (copy .entry)) (now (run .entry))) .buffer) ⌝ }
 {
     let a = calls::send(
         settings,
+        nets,
         number,
         clock,
         links,
@@ -374,6 +405,7 @@ pub extern "C" fn hello_send(
 #[no_mangle]
 pub extern "C" fn hello_inspect(
     settings: &Settings,
+    nets: &ClassTable,
     number: usize,
     clock: &Clock,
     links: &Links,
@@ -383,10 +415,11 @@ pub extern "C" fn hello_inspect(
     link: usize,
     packet: &[u8],
 ) -> Inspected
-    ensures { λ r. ⌜ Returns inspectedTold (perform (inspect link (now (packet .entry))) (lent (now (settings .entry)) number (now (clock .entry)) (now (links .entry)) (now (walk .entry)) (now (copy .entry)) (now (run .entry)))) r (now (clock .entry)) (now (links .entry)) (now (walk .entry)) (now (copy .entry)) (now (run .entry)) ⌝ }
+    ensures { λ r. ⌜ Returns inspectedTold (perform (inspect link (now (packet .entry))) (lent (now (settings .entry)) (now (nets .entry)) number (now (clock .entry)) (now (links .entry)) (now (walk .entry)) (now (copy .entry)) (now (run .entry)))) r (now (clock .entry)) (now (links .entry)) (now (walk .entry)) (now (copy .entry)) (now (run .entry)) ⌝ }
 {
     let a = calls::inspect(
         settings,
+        nets,
         number,
         clock,
         links,
@@ -403,6 +436,7 @@ pub extern "C" fn hello_inspect(
 #[no_mangle]
 pub extern "C" fn hello_act(
     settings: &Settings,
+    nets: &ClassTable,
     number: usize,
     clock: &mut Clock,
     links: &mut Links,
@@ -413,10 +447,21 @@ pub extern "C" fn hello_act(
     counter: Counter,
     packet: &[u8],
 ) -> u8
-    ensures { λ r. ⌜ Returns numbered (perform (act link counter (now (packet .entry))) (lent (now (settings .entry)) number (now (clock .entry)) (now (links .entry)) (now (walk .entry)) (now (copy .entry)) (now (run .entry)))) r (now (clock .exit)) (now (links .exit)) (now (walk .entry)) (now (copy .entry)) (now (run .exit)) ⌝ }
+    ensures { λ r. ⌜ Returns numbered (perform (act link counter (now (packet .entry))) (lent (now (settings .entry)) (now (nets .entry)) number (now (clock .entry)) (now (links .entry)) (now (walk .entry)) (now (copy .entry)) (now (run .entry)))) r (now (clock .exit)) (now (links .exit)) (now (walk .entry)) (now (copy .entry)) (now (run .exit)) ⌝ }
 {
     let d = acts(link, counter);
-    let a = calls::deliver(settings, number, clock, links, walk, copy, run, d, packet);
+    let a = calls::deliver(
+        settings,
+        nets,
+        number,
+        clock,
+        links,
+        walk,
+        copy,
+        run,
+        d,
+        packet,
+    );
     numbered(a)
 }
 
@@ -424,6 +469,7 @@ pub extern "C" fn hello_act(
 #[no_mangle]
 pub extern "C" fn hello_receive(
     settings: &Settings,
+    nets: &ClassTable,
     number: usize,
     clock: &mut Clock,
     links: &mut Links,
@@ -434,10 +480,21 @@ pub extern "C" fn hello_receive(
     counter: Counter,
     packet: &[u8],
 ) -> u8
-    ensures { λ r. ⌜ Returns numbered (perform (receive link counter (now (packet .entry))) (lent (now (settings .entry)) number (now (clock .entry)) (now (links .entry)) (now (walk .entry)) (now (copy .entry)) (now (run .entry)))) r (now (clock .exit)) (now (links .exit)) (now (walk .entry)) (now (copy .entry)) (now (run .exit)) ⌝ }
+    ensures { λ r. ⌜ Returns numbered (perform (receive link counter (now (packet .entry))) (lent (now (settings .entry)) (now (nets .entry)) number (now (clock .entry)) (now (links .entry)) (now (walk .entry)) (now (copy .entry)) (now (run .entry)))) r (now (clock .exit)) (now (links .exit)) (now (walk .entry)) (now (copy .entry)) (now (run .exit)) ⌝ }
 {
     let d = receives(link, counter);
-    let a = calls::deliver(settings, number, clock, links, walk, copy, run, d, packet);
+    let a = calls::deliver(
+        settings,
+        nets,
+        number,
+        clock,
+        links,
+        walk,
+        copy,
+        run,
+        d,
+        packet,
+    );
     numbered(a)
 }
 
@@ -445,6 +502,7 @@ pub extern "C" fn hello_receive(
 #[no_mangle]
 pub extern "C" fn hello_lookup(
     settings: &Settings,
+    nets: &ClassTable,
     number: usize,
     clock: &Clock,
     links: &Links,
@@ -453,9 +511,19 @@ pub extern "C" fn hello_lookup(
     run: &[Entry],
     address: Address,
 ) -> Route
-    ensures { λ r. ⌜ Returns routeTold (perform (ask (Lookup address)) (lent (now (settings .entry)) number (now (clock .entry)) (now (links .entry)) (now (walk .entry)) (now (copy .entry)) (now (run .entry)))) r (now (clock .entry)) (now (links .entry)) (now (walk .entry)) (now (copy .entry)) (now (run .entry)) ⌝ }
+    ensures { λ r. ⌜ Returns routeTold (perform (ask (Lookup address)) (lent (now (settings .entry)) (now (nets .entry)) number (now (clock .entry)) (now (links .entry)) (now (walk .entry)) (now (copy .entry)) (now (run .entry)))) r (now (clock .entry)) (now (links .entry)) (now (walk .entry)) (now (copy .entry)) (now (run .entry)) ⌝ }
 {
-    let a = calls::lookup(settings, number, clock, links, walk, copy, run, address);
+    let a = calls::lookup(
+        settings,
+        nets,
+        number,
+        clock,
+        links,
+        walk,
+        copy,
+        run,
+        address,
+    );
     route_told(a)
 }
 
@@ -463,6 +531,7 @@ pub extern "C" fn hello_lookup(
 #[no_mangle]
 pub extern "C" fn hello_open_walk(
     settings: &Settings,
+    nets: &ClassTable,
     number: usize,
     clock: &Clock,
     links: &Links,
@@ -472,10 +541,11 @@ pub extern "C" fn hello_open_walk(
     link: usize,
     packet: &[u8],
 ) -> Stepped
-    ensures { λ r. ⌜ Returns steppedTold (perform (openWalk link (now (packet .entry))) (lent (now (settings .entry)) number (now (clock .entry)) (now (links .entry)) (now (walk .entry)) (now (copy .entry)) (now (run .entry)))) r (now (clock .entry)) (now (links .entry)) (now (walk .exit)) (now (copy .exit)) (now (run .entry)) ⌝ }
+    ensures { λ r. ⌜ Returns steppedTold (perform (openWalk link (now (packet .entry))) (lent (now (settings .entry)) (now (nets .entry)) number (now (clock .entry)) (now (links .entry)) (now (walk .entry)) (now (copy .entry)) (now (run .entry)))) r (now (clock .entry)) (now (links .entry)) (now (walk .exit)) (now (copy .exit)) (now (run .entry)) ⌝ }
 {
     let a = calls::open_walk(
         settings,
+        nets,
         number,
         clock,
         links,
@@ -492,6 +562,7 @@ pub extern "C" fn hello_open_walk(
 #[no_mangle]
 pub extern "C" fn hello_step(
     settings: &Settings,
+    nets: &ClassTable,
     number: usize,
     clock: &mut Clock,
     links: &mut Links,
@@ -500,9 +571,9 @@ pub extern "C" fn hello_step(
     run: &mut [Entry],
     counter: Counter,
 ) -> Stepped
-    ensures { λ r. ⌜ Returns steppedTold (perform (ask (Step counter)) (lent (now (settings .entry)) number (now (clock .entry)) (now (links .entry)) (now (walk .entry)) (now (copy .entry)) (now (run .entry)))) r (now (clock .exit)) (now (links .exit)) (now (walk .exit)) (now (copy .entry)) (now (run .exit)) ⌝ }
+    ensures { λ r. ⌜ Returns steppedTold (perform (ask (Step counter)) (lent (now (settings .entry)) (now (nets .entry)) number (now (clock .entry)) (now (links .entry)) (now (walk .entry)) (now (copy .entry)) (now (run .entry)))) r (now (clock .exit)) (now (links .exit)) (now (walk .exit)) (now (copy .entry)) (now (run .exit)) ⌝ }
 {
     let q = asks_step(counter);
-    let a = calls::call(settings, number, clock, links, walk, copy, run, q);
+    let a = calls::call(settings, nets, number, clock, links, walk, copy, run, q);
     stepped_told(a)
 }

@@ -37,6 +37,7 @@ fn next(h: Whole, copy: &[u8]) -> Whole {
     let q = Request::Step(Counter::zero());
     let after = program::call(
         program::settings(),
+        program::nets(),
         0,
         h.clock,
         h.links,
@@ -68,6 +69,7 @@ fn opened(copy: &mut [u8], packet: &[u8]) -> Whole {
     let run = h.run;
     program::open_walk(
         program::settings(),
+        program::nets(),
         0,
         h.clock,
         h.links,

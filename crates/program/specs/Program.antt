@@ -1,5 +1,5 @@
 -- "A program reads one packet from standard input, gives it to the one point-to-point link of a fresh seat .. and prints the number": its host, and the number.
-use mathlib.Core.List.{List}
+use mathlib.Core.List.{List, []}
 use Prim.Native.Nat.{ℕ}
 use lib.IntN.{pos}
 use lib.ListN.{replicate}
@@ -8,7 +8,8 @@ use Rattle.calendar.specs.Date.{firstDate}
 use Rattle.answer.specs.Answer.{number}
 use Rattle.clock.specs.Clock.{freshClock}
 use Rattle.clock.specs.LineClock.{noCounter}
-use Rattle.route.specs.Find.{zeroNet}
+use Rattle.class_table.specs.declared.ClassTable.{ClassTable}
+use Rattle.class_table.specs.Table.{tableOf}
 use Rattle.table.specs.Marks.{onlyMark}
 use Rattle.table.specs.Entry.{freshEntry}
 use Rattle.host.specs.declared.Settings.{Settings}
@@ -20,7 +21,7 @@ use Rattle.host.specs.Lent.{Lent, lent}
 use Rattle.calls.specs.declared.Request.the-variants.{Initialize}
 use Rattle.calls.specs.Perform.{Outcome, ask, inspect, perform, inTurn}
 
--- "192.0.2.1, ADDRESS-OFFSET 1, NHOSTS 4, no net rows, clock setting off, time 0, 1 January 1972, the rest at their least"; of the ids its own, 0, alone is marked
+-- "192.0.2.1, ADDRESS-OFFSET 1, NHOSTS 4, .. clock setting off, time 0, 1 January 1972, the rest at their least"; of the ids its own, 0, alone is marked
 abbrev pub programSettings : Settings
 programSettings =
     record {
@@ -33,20 +34,23 @@ programSettings =
       date = firstDate;
       «link_count» = 1;
       links = replicate 8 unset;
-      net = record { count = 0; rows = replicate 32 record { net = zeroNet; host = 0 } };
       marks = onlyMark 0;
     }
+
+-- "NHOSTS 4, no net rows": the net table of its class
+abbrev pub programTable : ClassTable
+programTable = tableOf 4 []
 
 -- the host of number 0, set afresh; no walk is opened on it, and the packet stands for the copy of one
 unfoldable pub programHost : (packet : List ℕ) → Outcome
 programHost octets =
     perform (ask Initialize)
-    (lent programSettings 0 (freshClock (millis (pos 0)) firstDate) (freshLinks programSettings) noWalk octets (replicate placesPerHost freshEntry))
+    (lent programSettings programTable 0 (freshClock (millis (pos 0)) firstDate) (freshLinks programSettings) noWalk octets (replicate placesPerHost freshEntry))
 
 abbrev pub programLent : (packet : List ℕ) → Lent
 programLent octets =
     let o : Outcome = programHost octets in
-    lent programSettings 0 (o .clock) (o .links) (o .walk) octets (o .run)
+    lent programSettings programTable 0 (o .clock) (o .links) (o .walk) octets (o .run)
 
 -- the number of its answer to a packet on link 1, which is inspected and then acted on; its clock is a line clock
 unfoldable pub programAnswer : (packet : List ℕ) → ℕ

@@ -5,6 +5,7 @@ ghost use Rattle.calls.specs.Perform.{perform, ask, deliver, openWalk, inTurn};
 ghost use Rattle.program.specs.Held.{wholeOf};
 ghost use Rattle.program.specs.Program.{
   programSettings,
+  programTable,
   programHost,
   programAnswer,
   programInspection,
@@ -12,6 +13,7 @@ ghost use Rattle.program.specs.Program.{
 use arrival::Delivery;
 use calendar::Date;
 use calls::Request;
+use class_table::ClassTable;
 use clock::Clock;
 use clock::Counter;
 use host::LinkSetting;
@@ -21,9 +23,6 @@ use quantity::Millis;
 use quantity::Seconds;
 use quantity::Units;
 use route::Layout;
-use route::Net;
-use route::NetTable;
-use route::Row;
 use table::Entry;
 use table::marks::Marks;
 use wire::Address;
@@ -40,6 +39,7 @@ pub struct Whole {
 // A request.
 pub fn call(
     settings: host::Settings,
+    nets: ClassTable,
     number: usize,
     clock: Clock,
     links: Links,
@@ -48,14 +48,25 @@ pub fn call(
     run: [Entry; 255],
     request: Request,
 ) -> Whole
-    ensures { λ r. ⌜ r ≡ wholeOf (perform (ask request) (lent settings number clock links walk (now (copy .entry)) run)) ⌝ }
+    ensures { λ r. ⌜ r ≡ wholeOf (perform (ask request) (lent settings nets number clock links walk (now (copy .entry)) run)) ⌝ }
 {
     let s = settings;
+    let t = nets;
     let mut c = clock;
     let mut l = links;
     let mut v = walk;
     let mut e = run;
-    let a = calls::call(&s, number, &mut c, &mut l, &mut v, copy, &mut e, request);
+    let a = calls::call(
+        &s,
+        &t,
+        number,
+        &mut c,
+        &mut l,
+        &mut v,
+        copy,
+        &mut e,
+        request,
+    );
     Whole {
         reply: a,
         clock: c,
@@ -68,6 +79,7 @@ pub fn call(
 // A walk is opened for a packet on a link.
 pub fn open_walk(
     settings: host::Settings,
+    nets: ClassTable,
     number: usize,
     clock: Clock,
     links: Links,
@@ -77,15 +89,16 @@ pub fn open_walk(
     link: usize,
     packet: &[u8],
 ) -> Whole
-    ensures { λ r. ⌜ (r ≡ wholeOf (perform (openWalk link (now (packet .entry))) (lent settings number clock links walk (now (copy .entry)) run)))
-        × (now (copy .exit) ≡ perform (openWalk link (now (packet .entry))) (lent settings number clock links walk (now (copy .entry)) run) .copy) ⌝ }
+    ensures { λ r. ⌜ (r ≡ wholeOf (perform (openWalk link (now (packet .entry))) (lent settings nets number clock links walk (now (copy .entry)) run)))
+        × (now (copy .exit) ≡ perform (openWalk link (now (packet .entry))) (lent settings nets number clock links walk (now (copy .entry)) run) .copy) ⌝ }
 {
     let s = settings;
+    let t = nets;
     let c = clock;
     let l = links;
     let mut v = walk;
     let e = run;
-    let a = calls::open_walk(&s, number, &c, &l, &mut v, copy, &e, link, packet);
+    let a = calls::open_walk(&s, &t, number, &c, &l, &mut v, copy, &e, link, packet);
     Whole {
         reply: a,
         clock: c,
@@ -98,6 +111,7 @@ pub fn open_walk(
 // A packet that arrives on a link, and what is done with it.
 pub fn deliver(
     settings: host::Settings,
+    nets: ClassTable,
     number: usize,
     clock: Clock,
     links: Links,
@@ -107,15 +121,17 @@ pub fn deliver(
     delivery: Delivery,
     packet: &[u8],
 ) -> Whole
-    ensures { λ r. ⌜ r ≡ wholeOf (perform (deliver delivery (now (packet .entry))) (lent settings number clock links walk (now (copy .entry)) run)) ⌝ }
+    ensures { λ r. ⌜ r ≡ wholeOf (perform (deliver delivery (now (packet .entry))) (lent settings nets number clock links walk (now (copy .entry)) run)) ⌝ }
 {
     let s = settings;
+    let t = nets;
     let mut c = clock;
     let mut l = links;
     let v = walk;
     let mut e = run;
     let a = calls::deliver(
         &s,
+        &t,
         number,
         &mut c,
         &mut l,
@@ -137,6 +153,7 @@ pub fn deliver(
 // A packet is inspected and, where that is answered 0, acted on.
 pub fn take(
     settings: host::Settings,
+    nets: ClassTable,
     number: usize,
     clock: Clock,
     links: Links,
@@ -147,10 +164,11 @@ pub fn take(
     counter: Counter,
     packet: &[u8],
 ) -> Whole
-    ensures { λ r. ⌜ r ≡ wholeOf (inTurn link counter (now (packet .entry)) (lent settings number clock links walk (now (copy .entry)) run)) ⌝ }
+    ensures { λ r. ⌜ r ≡ wholeOf (inTurn link counter (now (packet .entry)) (lent settings nets number clock links walk (now (copy .entry)) run)) ⌝ }
 {
     let looked = deliver(
         settings,
+        nets,
         number,
         clock,
         links,
@@ -168,6 +186,7 @@ pub fn take(
     let entries = looked.run;
     deliver(
         settings,
+        nets,
         number,
         looked.clock,
         looked.links,
@@ -192,16 +211,7 @@ pub fn settings() -> host::Settings
             fourth: 0,
         },
     };
-    let no_row = Row {
-        net: Net {
-            first: 0,
-            second: 0,
-            third: 0,
-        },
-        host: 0,
-    };
     let links = [unset; 8];
-    let rows = [no_row; 32];
     let words = [1, 0, 0, 0];
     host::Settings {
         address: Address {
@@ -221,12 +231,15 @@ pub fn settings() -> host::Settings
         date: Date(1056),
         link_count: 1,
         links: links,
-        net: NetTable {
-            count: 0,
-            rows: rows,
-        },
         marks: Marks { words: words },
     }
+}
+
+// The net table of its class: no rows.
+pub fn nets() -> ClassTable
+    ensures { λ r. ⌜ r ≡ programTable ⌝ }
+{
+    class_table::without_rows(4)
 }
 
 // That host, set afresh. No walk is open on it, so any octets stand for a copy.
@@ -240,7 +253,8 @@ pub fn fresh_host(copy: &[u8]) -> Whole
     let l = host::link_state::fresh(s);
     let v = host::walk::none();
     let e = table::fresh();
-    call(s, 0, c, l, v, copy, [e; 255], Request::Initialize)
+    let t = nets();
+    call(s, t, 0, c, l, v, copy, [e; 255], Request::Initialize)
 }
 
 // The number of its answer to a packet on link 1.
@@ -248,10 +262,11 @@ pub fn answer(packet: &[u8]) -> u8
     ensures { λ r. ⌜ r ≡ programAnswer (now (packet .entry)) ⌝ }
 {
     let s = settings();
+    let t = nets();
     let h = fresh_host(packet);
     let run = h.run;
     let k = Counter::zero();
-    let taken = take(s, 0, h.clock, h.links, h.walk, packet, run, 1, k, packet);
+    let taken = take(s, t, 0, h.clock, h.links, h.walk, packet, run, 1, k, packet);
     let r = taken.reply;
     let a = r.answer;
     answer::number(a)
@@ -262,9 +277,10 @@ pub fn inspection(packet: &[u8]) -> host::Reply
     ensures { λ r. ⌜ r ≡ programInspection (now (packet .entry)) ⌝ }
 {
     let s = settings();
+    let t = nets();
     let h = fresh_host(packet);
     let run = h.run;
     let d = Delivery::Inspect(1);
-    let looked = deliver(s, 0, h.clock, h.links, h.walk, packet, run, d, packet);
+    let looked = deliver(s, t, 0, h.clock, h.links, h.walk, packet, run, d, packet);
     looked.reply
 }

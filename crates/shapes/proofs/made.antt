@@ -1,15 +1,5 @@
 pub mod Ages
 pub mod Delivers
-pub mod ExportAges
-pub mod ExportAsks
-pub mod ExportAsksWith
-pub mod ExportAsksWithTwo
-pub mod ExportDeliversWith
-pub mod ExportInspects
-pub mod ExportLooks
-pub mod ExportOpens
-pub mod ExportSends
-pub mod ExportTimes
 pub mod Guards
 pub mod Inspects
 pub mod Looks
@@ -17,6 +7,3 @@ pub mod Opens
 pub mod Performs
 pub mod Sends
 pub mod Times
-pub mod WholeAsks
-pub mod WholeDelivers
-pub mod WholeOpens

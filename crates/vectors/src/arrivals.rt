@@ -96,7 +96,19 @@ fn arrival(host: Address, neighbor: Address, c: Clock, e: Entry, octets: &[u8]) 
     let links = host::link_state::with_link(host::link_state::fresh(s), 1, link);
     let v = host::walk::none();
     let k = Counter::zero();
-    program::take(s, 0, c, links, v, octets, entries(own, e), 1, k, octets)
+    program::take(
+        s,
+        program::nets(),
+        0,
+        c,
+        links,
+        v,
+        octets,
+        entries(own, e),
+        1,
+        k,
+        octets,
+    )
 }
 
 // The entry of an id.

@@ -55,7 +55,7 @@ fn asked(e: Entry, q: Request) -> Whole {
     let c = Clock::fresh(Millis(0), Date::FIRST);
     let l = host::link_state::fresh(s);
     let v = host::walk::none();
-    program::call(s, 0, c, l, v, b"", entries(0, e), q)
+    program::call(s, program::nets(), 0, c, l, v, b"", entries(0, e), q)
 }
 
 // A line of an entry a second later.

@@ -5,6 +5,7 @@ use contract.Monad.{fact, factI}
 use Rattle.lent.proofs.Words.{by-value, chosen-by-value}
 use Rattle.shapes.proofs.made.Inspects.{proof}
 use Rattle.clock.proofs.Types.{clock}
+use Rattle.class_table.proofs.Types.{table}
 use Rattle.table.proofs.Types.{entry}
 use Rattle.host.specs.declared.guard.Scope.the-variants.{OnLink}
 use Rattle.host.specs.Lent.{lent}
@@ -28,15 +29,15 @@ pub inspect-spec : {M : Type 1} → stated.statement M
 unfolding code.routine
 inspect-spec 𝓤 H 𝓜 𝓖 𝓡 =
     proof number number (chosen-by-value scope) (chosen-by-value answer) (by-value reply)
-    settings clock links walk entry 𝓤 H 𝓜 𝓖 𝓡
+    settings table clock links walk entry 𝓤 H 𝓜 𝓖 𝓡
     (λ i. emp 𝓤) (λ i a. a ≡ OnLink i)
-    (λ s k c l v o a run. emp 𝓤) (λ s k c l v o a run g. g ≡ guard a (lent s k c l v o run))
+    (λ s t k c l v o a run. emp 𝓤) (λ s t k c l v o a run g. g ≡ guard a (lent s t k c l v o run))
     (λ g s i b. fact 𝓤 (LinkTold g s i)) (λ g s i b r. r ≡ inspects g s i b)
-    (λ s k c l v o run i b r. Leaves (perform (definition.inspect i b) (lent s k c l v o run)) r c l v o run)
-    (λ s k c l v o run i b. id⊢ 𝓤 _)
-    (λ s k c l v o run i b a a-is. id⊢ 𝓤 _)
-    (λ s k c l v o run i b a g a-is g-is. factI 𝓤 _ _ (rw (g-is, a-is) (link-told (lent s k c l v o run) i b)))
-    (λ s k c l v o run i b a g r a-is g-is r-is. rw (r-is, g-is, a-is) (left-inspected (lent s k c l v o run) i b))
+    (λ s t k c l v o run i b r. Leaves (perform (definition.inspect i b) (lent s t k c l v o run)) r c l v o run)
+    (λ s t k c l v o run i b. id⊢ 𝓤 _)
+    (λ s t k c l v o run i b a a-is. id⊢ 𝓤 _)
+    (λ s t k c l v o run i b a g a-is g-is. factI 𝓤 _ _ (rw (g-is, a-is) (link-told (lent s t k c l v o run) i b)))
+    (λ s t k c l v o run i b a g r a-is g-is r-is. rw (r-is, g-is, a-is) (left-inspected (lent s t k c l v o run) i b))
     code.env #inspect scopes.name guards.name plans.name
     scopes.routine guards.routine plans.routine
     code.calls-calls·on-link code.calls-host·guard·guard code.calls-calls·plans·inspect

@@ -11,6 +11,7 @@ use Rattle.clock.proofs.Types.{clock}
 use Rattle.route.specs.declared.Found.the-variants.{Nothing}
 use Rattle.route.specs.Find.{isFound}
 use Rattle.table.specs.code.Loops.{InRun, entryOf}
+use Rattle.class_table.proofs.Types.{table}
 use Rattle.table.proofs.Types.{entry, seek}
 use Rattle.table.proofs.run.entry_of.Symbol as seeks
 use Rattle.table.proofs.run.entry_of.Met as seeks-known
@@ -45,21 +46,21 @@ pub lookup-spec : {M : Type 1} → stated.statement M
 unfolding code.routine
 lookup-spec 𝓤 H 𝓜 𝓖 𝓡 =
     proof number (by-value address) (chosen-by-value scope) (chosen-by-value answer) (chosen-by-value found) (by-value (whole seek)) (by-value entry) (by-value reply)
-    settings clock links walk entry 𝓤 H 𝓜 𝓖 𝓡
+    settings table clock links walk entry 𝓤 H 𝓜 𝓖 𝓡
     (emp 𝓤) (λ a. a ≡ All)
-    (λ s k c l v o a run. emp 𝓤) (λ s k c l v o a run g. g ≡ guard a (lent s k c l v o run))
-    (λ g s i. emp 𝓤) (λ g s i f. f ≡ cond (not (done g)) Nothing (foundFor s i))
+    (λ s t k c l v o a run. emp 𝓤) (λ s t k c l v o a run g. g ≡ guard a (lent s t k c l v o run))
+    (λ g s t i. emp 𝓤) (λ g s t i f. f ≡ cond (not (done g)) Nothing (foundFor t s i))
     (λ k f. fact 𝓤 ((isFound f ≡ true → k ≤ 15) × (hasPlace f ≡ true))) (λ k f z. z ≡ seekAt k f)
     (λ run z. fact 𝓤 (InRun (z .first) (z .end) run)) (λ run z e. e ≡ entryOf z run)
     (λ g f e. emp 𝓤) (λ g f e r. r ≡ cond (not (done g)) (plainly g) (looked f e))
-    (λ s k c l v o run i r. Leaves (perform (ask (Lookup i)) (lent s k c l v o run)) r c l v o run)
-    (λ s k c l v o run i. id⊢ 𝓤 _)
-    (λ s k c l v o run i a a-is. id⊢ 𝓤 _)
-    (λ s k c l v o run i a g a-is g-is. id⊢ 𝓤 _)
-    (λ s k c l v o run i a g f a-is g-is f-is. factI 𝓤 _ _ (rw (f-is, g-is, a-is) (found-placed (lent s k c l v o run) i)))
-    (λ s k c l v o run i a g f z a-is g-is f-is z-is. factI 𝓤 _ _ (rw (z-is, f-is, g-is, a-is) (found-there (lent s k c l v o run) i)))
-    (λ s k c l v o run i a g f z e a-is g-is f-is z-is e-is. id⊢ 𝓤 _)
-    (λ s k c l v o run i a g f z e r a-is g-is f-is z-is e-is r-is. rw (r-is, e-is, z-is, f-is, g-is, a-is) (left-looked (lent s k c l v o run) i))
+    (λ s t k c l v o run i r. Leaves (perform (ask (Lookup i)) (lent s t k c l v o run)) r c l v o run)
+    (λ s t k c l v o run i. id⊢ 𝓤 _)
+    (λ s t k c l v o run i a a-is. id⊢ 𝓤 _)
+    (λ s t k c l v o run i a g a-is g-is. id⊢ 𝓤 _)
+    (λ s t k c l v o run i a g f a-is g-is f-is. factI 𝓤 _ _ (rw (f-is, g-is, a-is) (found-placed (lent s t k c l v o run) i)))
+    (λ s t k c l v o run i a g f z a-is g-is f-is z-is. factI 𝓤 _ _ (rw (z-is, f-is, g-is, a-is) (found-there (lent s t k c l v o run) i)))
+    (λ s t k c l v o run i a g f z e a-is g-is f-is z-is e-is. id⊢ 𝓤 _)
+    (λ s t k c l v o run i a g f z e r a-is g-is f-is z-is e-is r-is. rw (r-is, e-is, z-is, f-is, g-is, a-is) (left-looked (lent s t k c l v o run) i))
     code.env #lookup scopes.name guards.name finds.name places.name seeks.name plans.name
     scopes.routine guards.routine finds.routine places.routine seeks.routine plans.routine
     code.calls-calls·all code.calls-host·guard·guard code.calls-calls·plans·found code.calls-calls·places·seek-at code.calls-table·run·entry-of code.calls-calls·plans·route-of

@@ -8,10 +8,12 @@ use lib.ListN.{length}
 use Rattle.lent.proofs.Words.{by-value, chosen-by-value, struct-part, usize-part}
 use Rattle.shapes.proofs.made.Opens.{proof}
 use Rattle.clock.proofs.Types.{clock}
+use Rattle.class_table.proofs.Types.{table}
 use Rattle.table.proofs.Types.{entry}
 use Rattle.answer.specs.declared.Answer.{Answer}
 use Rattle.clock.specs.declared.Clock.{Clock}
 use Rattle.table.specs.declared.Entry.{Entry}
+use Rattle.class_table.specs.declared.ClassTable.{ClassTable}
 use Rattle.host.specs.declared.Settings.{Settings}
 use Rattle.host.specs.declared.Links.{Links}
 use Rattle.host.specs.declared.walk.Walk.{Walk}
@@ -38,29 +40,29 @@ use Rattle.calls.proofs.open_walk.Key.{name as #open-walk}
 use Rattle.calls.proofs.open_walk.Statement as stated
 use Rattle.calls.proofs.open_walk.Code as code
 
-as-planned : (s : Settings) (k : ℕ) (c : Clock) (l : Links) (v : Walk) (o : List ℕ) (run : List Entry) (i : ℕ) (b : List ℕ) (a : Scope) (g : Answer) (p : declared.Opening)
+as-planned : (s : Settings) (t : ClassTable) (k : ℕ) (c : Clock) (l : Links) (v : Walk) (o : List ℕ) (run : List Entry) (i : ℕ) (b : List ℕ) (a : Scope) (g : Answer) (p : declared.Opening)
     → a ≡ Opening i
-    → g ≡ guard a (lent s k c l v o run)
+    → g ≡ guard a (lent s t k c l v o run)
     → (p ≡ planned g i b s v) × (p .octets ≤ longest)
-    → Opened (lent s k c l v o run) i b p (perform (openWalk i b) (lent s k c l v o run))
-as-planned s k c l v o run i b a g p a-is g-is p-is =
-    let e : p ≡ planned (guard (Opening i) (lent s k c l v o run)) i b s v = rw (← a-is, ← g-is) (p-is .0) in
-    rw e (opened (lent s k c l v o run) i b (rw e at (p-is .1)))
+    → Opened (lent s t k c l v o run) i b p (perform (openWalk i b) (lent s t k c l v o run))
+as-planned s t k c l v o run i b a g p a-is g-is p-is =
+    let e : p ≡ planned (guard (Opening i) (lent s t k c l v o run)) i b s v = rw (← a-is, ← g-is) (p-is .0) in
+    rw e (opened (lent s t k c l v o run) i b (rw e at (p-is .1)))
 
 pub open-walk-spec : {M : Type 1} → stated.statement M
 unfolding code.routine
 open-walk-spec 𝓤 H 𝓜 𝓖 𝓡 =
-    proof number number (chosen-by-value scope) (chosen-by-value answer) settings clock links walk entry (struct-part reply) usize-part types.opening 𝓤 H 𝓜 𝓖 𝓡
+    proof number number (chosen-by-value scope) (chosen-by-value answer) settings table clock links walk entry (struct-part reply) usize-part types.opening 𝓤 H 𝓜 𝓖 𝓡
     (λ i. emp 𝓤) (λ i a. a ≡ Opening i)
-    (λ s k c l v o a run. emp 𝓤) (λ s k c l v o a run g. g ≡ guard a (lent s k c l v o run))
+    (λ s t k c l v o a run. emp 𝓤) (λ s t k c l v o a run g. g ≡ guard a (lent s t k c l v o run))
     (λ g s v i b. fact 𝓤 (Openable g i)) (λ g s v i b p. (p ≡ planned g i b s v) × (p .octets ≤ longest))
     (λ o b n. fact 𝓤 ((n ≤ length b) × (n ≤ length o))) (λ o b n o′. o′ ≡ copied n b o)
-    (λ s k c l v o run i b v′ o′ r. Leaves (perform (openWalk i b) (lent s k c l v o run)) r c l v′ o′ run)
-    (λ s k c l v o run i b. id⊢ 𝓤 _)
-    (λ s k c l v o run i b a a-is. id⊢ 𝓤 _)
-    (λ s k c l v o run i b a g a-is g-is. factI 𝓤 _ _ (rw (g-is, a-is) (openable (lent s k c l v o run) i b)))
-    (λ s k c l v o run i b a g p a-is g-is p-is. factI 𝓤 _ _ (as-planned s k c l v o run i b a g p a-is g-is p-is .room))
-    (λ s k c l v o run i b a g p o′ a-is g-is p-is o′-is. rw o′-is (as-planned s k c l v o run i b a g p a-is g-is p-is .left))
+    (λ s t k c l v o run i b v′ o′ r. Leaves (perform (openWalk i b) (lent s t k c l v o run)) r c l v′ o′ run)
+    (λ s t k c l v o run i b. id⊢ 𝓤 _)
+    (λ s t k c l v o run i b a a-is. id⊢ 𝓤 _)
+    (λ s t k c l v o run i b a g a-is g-is. factI 𝓤 _ _ (rw (g-is, a-is) (openable (lent s t k c l v o run) i b)))
+    (λ s t k c l v o run i b a g p a-is g-is p-is. factI 𝓤 _ _ (as-planned s t k c l v o run i b a g p a-is g-is p-is .room))
+    (λ s t k c l v o run i b a g p o′ a-is g-is p-is o′-is. rw o′-is (as-planned s t k c l v o run i b a g p a-is g-is p-is .left))
     code.env #open-walk scopes.name guards.name plans.name keeps.name
     scopes.routine guards.routine plans.routine keeps.routine
     code.calls-calls·opening code.calls-host·guard·guard code.calls-walk·plan code.calls-walk·keep

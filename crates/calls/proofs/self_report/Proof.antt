@@ -8,6 +8,7 @@ use Rattle.shapes.proofs.made.Ages.{proof}
 use Rattle.clock.proofs.Types.{clock, counter}
 use Rattle.table.specs.code.Loops.{InRun}
 use Rattle.table.specs.Runs as loops
+use Rattle.class_table.proofs.Types.{table}
 use Rattle.table.proofs.Types.{entry, changes}
 use Rattle.table.proofs.run.change_all.Symbol as changes-all
 use Rattle.table.proofs.run.change_all.Met as changes-known
@@ -40,19 +41,19 @@ pub self-report-spec : {M : Type 1} → stated.statement M
 unfolding code.routine
 self-report-spec 𝓤 H 𝓜 𝓖 𝓡 =
     proof number (by-value counter) (chosen-by-value scope) (chosen-by-value answer) (by-value (whole changes))
-    settings clock links walk entry (struct-part reply) (struct-part (whole changes)) aged 𝓤 H 𝓜 𝓖 𝓡
+    settings table clock links walk entry (struct-part reply) (struct-part (whole changes)) aged 𝓤 H 𝓜 𝓖 𝓡
     (emp 𝓤) (λ a. a ≡ All)
-    (λ s k c l v o a run. emp 𝓤) (λ s k c l v o a run g. g ≡ guard a (lent s k c l v o run))
+    (λ s t k c l v o a run. emp 𝓤) (λ s t k c l v o a run g. g ≡ guard a (lent s t k c l v o run))
     (λ g s c i. fact 𝓤 (Told g All s c)) (λ g s c i p. Aging p g (SelfReport i) s c)
     (λ k w. fact 𝓤 (Placeable k (w .first) (w .end))) (λ k w v. v ≡ placing.placed k w)
     (λ run w. fact 𝓤 (InRun (w .first) (w .end) run)) (λ run w run′. run′ ≡ loops.changes w run)
-    (λ s k c l v o run i c′ run′ r. Leaves (perform (ask (SelfReport i)) (lent s k c l v o run)) r c′ l v o run′)
-    (λ s k c l v o run i. id⊢ 𝓤 _)
-    (λ s k c l v o run i a a-is. id⊢ 𝓤 _)
-    (λ s k c l v o run i a g a-is g-is. factI 𝓤 _ _ (rw (g-is, a-is) (told All (lent s k c l v o run))))
-    (λ s k c l v o run i a g p a-is g-is p-is. factI 𝓤 _ _ (left-aged (lent s k c l v o run) (SelfReport i) (self-report-still i) p (rw (g-is, a-is) at p-is) .ids))
-    (λ s k c l v o run i a g p w a-is g-is p-is w-is. factI 𝓤 _ _ (rw w-is (left-aged (lent s k c l v o run) (SelfReport i) (self-report-still i) p (rw (g-is, a-is) at p-is) .places)))
-    (λ s k c l v o run i a g p w run′ a-is g-is p-is w-is run′-is. rw (run′-is, w-is) (left-aged (lent s k c l v o run) (SelfReport i) (self-report-still i) p (rw (g-is, a-is) at p-is) .left))
+    (λ s t k c l v o run i c′ run′ r. Leaves (perform (ask (SelfReport i)) (lent s t k c l v o run)) r c′ l v o run′)
+    (λ s t k c l v o run i. id⊢ 𝓤 _)
+    (λ s t k c l v o run i a a-is. id⊢ 𝓤 _)
+    (λ s t k c l v o run i a g a-is g-is. factI 𝓤 _ _ (rw (g-is, a-is) (told All (lent s t k c l v o run))))
+    (λ s t k c l v o run i a g p a-is g-is p-is. factI 𝓤 _ _ (left-aged (lent s t k c l v o run) (SelfReport i) (self-report-still i) p (rw (g-is, a-is) at p-is) .ids))
+    (λ s t k c l v o run i a g p w a-is g-is p-is w-is. factI 𝓤 _ _ (rw w-is (left-aged (lent s t k c l v o run) (SelfReport i) (self-report-still i) p (rw (g-is, a-is) at p-is) .places)))
+    (λ s t k c l v o run i a g p w run′ a-is g-is p-is w-is run′-is. rw (run′-is, w-is) (left-aged (lent s t k c l v o run) (SelfReport i) (self-report-still i) p (rw (g-is, a-is) at p-is) .left))
     code.env #self-report scopes.name guards.name plans.name places.name changes-all.name
     scopes.routine guards.routine plans.routine places.routine changes-all.routine
     code.calls-calls·all code.calls-host·guard·guard code.calls-calls·plans·self-report code.calls-calls·places·placed code.calls-table·run·change-all

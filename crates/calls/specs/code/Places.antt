@@ -6,6 +6,7 @@ use lib.Dec.{ltb}
 use Rattle.answer.specs.declared.Answer.{Answer}
 use Rattle.route.specs.declared.Found.{Found}
 use Rattle.route.specs.declared.Found.the-variants.{Id, Nothing}
+use Rattle.class_table.specs.declared.ClassTable.{ClassTable}
 use Rattle.table.specs.declared.run.Seek.{Seek}
 use Rattle.table.specs.declared.run.Changes.{Changes}
 use Rattle.table.specs.declared.run.Updates.{Updates}
@@ -34,13 +35,13 @@ abbrev pub seekAt : (number : ℕ) → Found → Seek
 seekAt k Nothing = noEntry
 seekAt k (Id id) = record { first = firstPlace k + id; end = firstPlace k + id + 1; entry = freshEntry }
 
-abbrev pub soughtAt : Answer → Request → Settings → Walk → (number : ℕ) → Seek
-soughtAt g q s w k = cond (not (done g)) noEntry (seekAt k (wanted q s w))
+abbrev pub soughtAt : Answer → Request → ClassTable → Settings → Walk → (number : ℕ) → Seek
+soughtAt g q t s w k = cond (not (done g)) noEntry (seekAt k (wanted q t s w))
 
 -- the guard has let the call pass, so that an id that is looked at has its place
-pub record Seekable (g : Answer) (q : Request) (s : Settings) (w : Walk) (k : ℕ) : Type 0 where
+pub record Seekable (g : Answer) (q : Request) (t : ClassTable) (s : Settings) (w : Walk) (k : ℕ) : Type 0 where
   pub number : done g ≡ true → k ≤ 15
-  pub place : done g ≡ true → hasPlace (wanted q s w) ≡ true
+  pub place : done g ≡ true → hasPlace (wanted q t s w) ≡ true
 
 -- ---- the entries that are changed, updated, or reported
 

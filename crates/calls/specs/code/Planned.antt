@@ -5,6 +5,7 @@ use mathlib.Core.List.{List}
 use Prim.Native.Nat.{ℕ, _≤_}
 use Rattle.answer.specs.declared.Answer.{Answer}
 use Rattle.clock.specs.declared.Clock.{Clock}
+use Rattle.class_table.specs.declared.ClassTable.{ClassTable}
 use Rattle.table.specs.declared.Entry.{Entry}
 use Rattle.host.specs.declared.Settings.{Settings}
 use Rattle.host.specs.declared.Links.{Links}
@@ -23,28 +24,28 @@ use Rattle.calls.specs.declared.plans.Timed.{Timed}
 use Rattle.calls.specs.declared.plans.Aged.{Aged}
 use Rattle.calls.specs.Effects.{scopeOf, effect}
 
-abbrev pub planned : Answer → Request → Host → Walk → (copy : List ℕ) → Entry → Effect
-planned g q h w copy e = cond (not (done g)) (answers (plainly g) (h .clock) (h .links) w) (effect q h w copy e)
+abbrev pub planned : Answer → Request → ClassTable → Host → Walk → (copy : List ℕ) → Entry → Effect
+planned g q t h w copy e = cond (not (done g)) (answers (plainly g) (h .clock) (h .links) w) (effect q t h w copy e)
 
 -- what the guard tells a step of its walk
 pub record WalkTold (g : Answer) (q : Request) (s : Settings) (w : Walk) (copy : List ℕ) : Type 0 where
   pub walk : done g ≡ true → afresh (scopeOf q) ≡ false → walkInRange s w copy ≡ true
 
--- ---- the calls that leave links and walk alone, whatever these are
+-- ---- the calls that leave links and walk alone and look nothing up, whatever these and the net table are
 
 abbrev pub Timely : Timed → Answer → Request → Settings → Clock → Type 0
 Timely p g q s c =
-    (l : Links) (w : Walk) (o : List ℕ) (e : Entry)
-    → p ≡ record { reply = planned g q (host s c l) w o e .reply; clock = planned g q (host s c l) w o e .clock }
+    (t : ClassTable) (l : Links) (w : Walk) (o : List ℕ) (e : Entry)
+    → p ≡ record { reply = planned g q t (host s c l) w o e .reply; clock = planned g q t (host s c l) w o e .clock }
 
 abbrev pub Aging : Aged → Answer → Request → Settings → Clock → Type 0
 Aging p g q s c =
-    (l : Links) (w : Walk) (o : List ℕ) (e : Entry)
+    (t : ClassTable) (l : Links) (w : Walk) (o : List ℕ) (e : Entry)
     → p
     ≡ record {
-      reply = planned g q (host s c l) w o e .reply;
-      clock = planned g q (host s c l) w o e .clock;
-      work = planned g q (host s c l) w o e .work;
+      reply = planned g q t (host s c l) w o e .reply;
+      clock = planned g q t (host s c l) w o e .clock;
+      work = planned g q t (host s c l) w o e .work;
     }
 
 abbrev pub inspects : Answer → Settings → (link : ℕ) → (packet : List ℕ) → Reply

@@ -2,8 +2,9 @@
 use mathlib.Core.Path.{_≡_}
 use base.Logic.{emp, id⊢}
 use Rattle.lent.proofs.Words.{by-value}
-use Rattle.shapes.proofs.made.ExportSends.{proof}
+use Rattle.exports.proofs.made.ExportSends.{proof}
 use Rattle.clock.proofs.Types.{clock, counter}
+use Rattle.class_table.proofs.Types.{table}
 use Rattle.table.proofs.Types.{entry}
 use Rattle.host.specs.Lent.{lent}
 use Rattle.host.proofs.Types.{number, settings, links, walk, reply}
@@ -23,11 +24,11 @@ use Rattle.hello.proofs.hello_send.Code as code
 pub hello-send-spec : {M : Type 1} → stated.statement M
 unfolding code.routine
 hello-send-spec 𝓤 H 𝓜 𝓖 𝓡 =
-    proof number number (by-value counter) (by-value reply) (by-value sent) settings clock links walk entry 𝓤 H 𝓜 𝓖 𝓡
-    (λ s k c l v o run i q b. emp 𝓤) (λ s k c l v o run i q b a c′ l′ b′. Leaves (perform (definition.send i q b) (lent s k c l v o run)) a c′ l′ v o run × (b′ ≡ perform (definition.send i q b) (lent s k c l v o run) .buffer))
+    proof number number (by-value counter) (by-value reply) (by-value sent) settings table clock links walk entry 𝓤 H 𝓜 𝓖 𝓡
+    (λ s t k c l v o run i q b. emp 𝓤) (λ s t k c l v o run i q b a c′ l′ b′. Leaves (perform (definition.send i q b) (lent s t k c l v o run)) a c′ l′ v o run × (b′ ≡ perform (definition.send i q b) (lent s t k c l v o run) .buffer))
     (λ a. emp 𝓤) (λ a r. r ≡ sentTold a)
-    (λ s k c l v o run i q b c′ l′ b′ r. Returns sentTold (perform (definition.send i q b) (lent s k c l v o run)) r c′ l′ v o run × (b′ ≡ perform (definition.send i q b) (lent s k c l v o run) .buffer))
-    (λ s k c l v o run i q b. id⊢ 𝓤 _) (λ s k c l v o run i q b a c′ l′ b′ left. id⊢ 𝓤 _)
-    (λ s k c l v o run i q b a c′ l′ b′ r left r-is. (returned sentTold (perform (definition.send i q b) (lent s k c l v o run)) a c′ l′ v o run r (left .0) r-is, left .1))
+    (λ s t k c l v o run i q b c′ l′ b′ r. Returns sentTold (perform (definition.send i q b) (lent s t k c l v o run)) r c′ l′ v o run × (b′ ≡ perform (definition.send i q b) (lent s t k c l v o run) .buffer))
+    (λ s t k c l v o run i q b. id⊢ 𝓤 _) (λ s t k c l v o run i q b a c′ l′ b′ left. id⊢ 𝓤 _)
+    (λ s t k c l v o run i q b a c′ l′ b′ r left r-is. (returned sentTold (perform (definition.send i q b) (lent s t k c l v o run)) a c′ l′ v o run r (left .0) r-is, left .1))
     code.env #hello-send calls.name tells.name calls.routine tells.routine code.calls-calls·send code.calls-hello·sent-told
     (code.unfolded 𝓤 H 𝓜 𝓡) (calls-known.met 𝓤 H 𝓜 𝓖 𝓡) (tells-known.met 𝓤 H 𝓜 𝓖 𝓡)

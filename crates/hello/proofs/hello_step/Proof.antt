@@ -2,8 +2,9 @@
 use mathlib.Core.Path.{_≡_, sym}
 use base.Logic.{emp, id⊢}
 use Rattle.lent.proofs.Words.{by-value, chosen-by-value}
-use Rattle.shapes.proofs.made.ExportAsksWith.{proof}
+use Rattle.exports.proofs.made.ExportAsksWith.{proof}
 use Rattle.clock.proofs.Types.{clock, counter}
+use Rattle.class_table.proofs.Types.{table}
 use Rattle.table.proofs.Types.{entry}
 use Rattle.host.specs.Lent.{lent}
 use Rattle.host.proofs.Types.{number, settings, links, walk, reply}
@@ -26,13 +27,13 @@ use Rattle.hello.proofs.hello_step.Code as code
 pub hello-step-spec : {M : Type 1} → stated.statement M
 unfolding code.routine
 hello-step-spec 𝓤 H 𝓜 𝓖 𝓡 =
-    proof number (by-value counter) (chosen-by-value request) (by-value reply) (by-value stepped) settings clock links walk entry 𝓤 H 𝓜 𝓖 𝓡
+    proof number (by-value counter) (chosen-by-value request) (by-value reply) (by-value stepped) settings table clock links walk entry 𝓤 H 𝓜 𝓖 𝓡
     (λ i. emp 𝓤) (λ i q. q ≡ Step i)
-    (λ s k c l v o run q. emp 𝓤) (λ s k c l v o run q a c′ l′ v′ run′. Leaves (perform (ask q) (lent s k c l v o run)) a c′ l′ v′ o run′)
+    (λ s t k c l v o run q. emp 𝓤) (λ s t k c l v o run q a c′ l′ v′ run′. Leaves (perform (ask q) (lent s t k c l v o run)) a c′ l′ v′ o run′)
     (λ a. emp 𝓤) (λ a r. r ≡ steppedTold a)
-    (λ s k c l v o run i c′ l′ v′ run′ r. Returns steppedTold (perform (ask (Step i)) (lent s k c l v o run)) r c′ l′ v′ o run′)
-    (λ s k c l v o run i. id⊢ 𝓤 _) (λ s k c l v o run i q q-is. id⊢ 𝓤 _) (λ s k c l v o run i q a c′ l′ v′ run′ q-is left. id⊢ 𝓤 _)
-    (λ s k c l v o run i q a c′ l′ v′ run′ r q-is left r-is. rw (sym q-is) (returned steppedTold (perform (ask q) (lent s k c l v o run)) a c′ l′ v′ o run′ r left r-is))
+    (λ s t k c l v o run i c′ l′ v′ run′ r. Returns steppedTold (perform (ask (Step i)) (lent s t k c l v o run)) r c′ l′ v′ o run′)
+    (λ s t k c l v o run i. id⊢ 𝓤 _) (λ s t k c l v o run i q q-is. id⊢ 𝓤 _) (λ s t k c l v o run i q a c′ l′ v′ run′ q-is left. id⊢ 𝓤 _)
+    (λ s t k c l v o run i q a c′ l′ v′ run′ r q-is left r-is. rw (sym q-is) (returned steppedTold (perform (ask q) (lent s t k c l v o run)) a c′ l′ v′ o run′ r left r-is))
     code.env #hello-step asks.name calls.name tells.name asks.routine calls.routine tells.routine
     code.calls-hello·asks-step code.calls-calls·call code.calls-hello·stepped-told
     (code.unfolded 𝓤 H 𝓜 𝓡) (asks-known.met 𝓤 H 𝓜 𝓖 𝓡) (calls-known.met 𝓤 H 𝓜 𝓖 𝓡) (tells-known.met 𝓤 H 𝓜 𝓖 𝓡)

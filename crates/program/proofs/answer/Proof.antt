@@ -2,6 +2,7 @@
 use mathlib.Core.Path.{_≡_, ap, _∙_}
 use mathlib.Core.List.{List}
 use Prim.Native.Nat.{ℕ}
+use Rattle.class_table.specs.declared.ClassTable.{ClassTable}
 use Rattle.host.specs.declared.Settings.{Settings}
 use Rattle.answer.specs.Answer.{number}
 use Rattle.clock.specs.declared.Counter.{Counter}
@@ -10,23 +11,26 @@ use Rattle.host.specs.Lent.{lent}
 use Rattle.calls.specs.Perform.{inTurn}
 use Rattle.program.specs.declared.Whole.{Whole}
 use Rattle.program.specs.Held.{wholeOf}
-use Rattle.program.specs.Program.{programSettings, programHost, programAnswer}
+use Rattle.program.specs.Program.{programSettings, programTable, programHost, programAnswer}
 use borrow.Author.Needs.{needs}
 use Rattle.program.proofs.answer.Statement.{statement}
 use Rattle.program.proofs.answer.Tie as tie
 
-abbrev taken : Settings → Whole → Counter → (packet : List ℕ) → Whole
-taken s h k octets = wholeOf (inTurn 1 k octets (lent s 0 (h .clock) (h .links) (h .walk) octets (h .run)))
+abbrev taken : Settings → ClassTable → Whole → Counter → (packet : List ℕ) → Whole
+taken s t h k octets = wholeOf (inTurn 1 k octets (lent s t 0 (h .clock) (h .links) (h .walk) octets (h .run)))
 
-chain : (s : Settings) (h w : Whole) (k : Counter) (octets : List ℕ) (r : ℕ) → s ≡ programSettings → h ≡ wholeOf (programHost octets) → k ≡ noCounter
-    → w ≡ taken s h k octets
+chain : (s : Settings) (t : ClassTable) (h w : Whole) (k : Counter) (octets : List ℕ) (r : ℕ) → s ≡ programSettings → t ≡ programTable → h ≡ wholeOf (programHost octets) → k ≡ noCounter
+    → w ≡ taken s t h k octets
     → r ≡ number (w .reply .answer) → r ≡ programAnswer octets
 unfolding programAnswer
-chain s h w k octets r s-is h-is k-is w-is r-is =
-    r-is ∙ ap (λ (x : Whole). number (x .reply .answer)) w-is ∙ (λ i. number (taken (s-is i) (h-is i) (k-is i) octets .reply .answer))
+chain s t h w k octets r s-is t-is h-is k-is w-is r-is =
+    r-is ∙ ap (λ (x : Whole). number (x .reply .answer)) w-is ∙ (λ i. number (taken (s-is i) (t-is i) (h-is i) (k-is i) octets .reply .answer))
 
 settings-requires : tie.Need-settings-requires
 settings-requires c κs = search needs
+
+nets-requires : tie.Need-nets-requires
+nets-requires c κs = search needs
 
 fresh-host-requires : tie.Need-fresh-host-requires
 fresh-host-requires c κs = search needs
@@ -42,11 +46,12 @@ number-requires c κs = search needs
 
 returns : tie.Need-returns
 returns c =
-    let settings-at = c .before .before .before .before .before .before in
-    chain _ _ _ _ (settings-at .before .before .args .packet .now) _ (settings-at .settings .ensures) (c .before .before .before .before .before .fresh-host .ensures) (c .before .before .before .zero .ensures)
+    let nets-at = c .before .before .before .before .before .before in
+    let settings-at = nets-at .before in
+    chain _ _ _ _ _ (settings-at .before .before .args .packet .now) _ (settings-at .settings .ensures) (nets-at .nets .ensures) (c .before .before .before .before .before .fresh-host .ensures) (c .before .before .before .zero .ensures)
     (c .before .before .take .ensures) (c .number .ensures)
 
 pub answer-spec : {M : Type 1} → statement M
 answer-spec =
     tie.close
-    (tie.spec settings-requires fresh-host-requires zero-requires take-requires number-requires returns)
+    (tie.spec settings-requires nets-requires fresh-host-requires zero-requires take-requires number-requires returns)

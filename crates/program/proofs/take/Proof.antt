@@ -28,7 +28,7 @@ copy-stays i octets x =
 
 module _ (x : Lent) (i : ℕ) (k : Counter) (octets : List ℕ) (w : Whole) (looked : w ≡ wholeOf (perform (inspect i octets) x)) where
   abbrev acted : Whole → (copy : List ℕ) → Whole
-  acted h copy = wholeOf (perform (act i k octets) (lent (x .host .settings) (x .number) (h .clock) (h .links) (h .walk) copy (h .run)))
+  acted h copy = wholeOf (perform (act i k octets) (lent (x .host .settings) (x .nets) (x .number) (h .clock) (h .links) (h .walk) copy (h .run)))
 
   refusing : done (w .reply .answer) ≡ false → w ≡ wholeOf (inTurn i k octets x)
   refusing d =
@@ -50,7 +50,7 @@ returns : tie.Need-returns
 returns c =
     let at = c .before .before .before in
     let a = at .before .before .before .args in
-    refusing (lent (a .settings) (a .number) (a .clock) (a .links) (a .walk) (a .copy .now) (a .run)) (a .link) (a .counter) (a .packet .now) _ (at .deliver .ensures)
+    refusing (lent (a .settings) (a .nets) (a .number) (a .clock) (a .links) (a .walk) (a .copy .now) (a .run)) (a .link) (a .counter) (a .packet .now) _ (at .deliver .ensures)
     (sym (c .before .is-done .ensures) ∙ is-not _ (c .if1 .taken))
 
 deliver-requires-2 : tie.Need-deliver-requires-2
@@ -60,7 +60,7 @@ returns-2 : tie.Need-returns-2
 returns-2 c =
     let at = c .before .before .before .before .before in
     let a = at .before .before .before .args in
-    acting (lent (a .settings) (a .number) (a .clock) (a .links) (a .walk) (a .copy .now) (a .run)) (a .link) (a .counter) (a .packet .now) _ (at .deliver .ensures)
+    acting (lent (a .settings) (a .nets) (a .number) (a .clock) (a .links) (a .walk) (a .copy .now) (a .run)) (a .link) (a .counter) (a .packet .now) _ (at .deliver .ensures)
     (sym (c .before .before .before .is-done .ensures) ∙ is-so _ (c .before .before .if1 .left)) _ (c .deliver2 .ensures)
 
 pub take-spec : {M : Type 1} → statement M

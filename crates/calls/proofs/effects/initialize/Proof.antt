@@ -1,3 +1,4 @@
+-- Each field of the effect is fresh, as the definition says.
 use Rattle.calls.specs.Effects as definition
 use Rattle.host.proofs.Sound.{sound}
 use Rattle.lists.proofs.Tests.{is-not, both}

@@ -1,3 +1,4 @@
+-- The same reports, each place as much further on.
 use borrow.Author.Tests.{lt-ltb, le-ltb}
 use native.Mathlib.Omega.{arith}
 use Rattle.calls.proofs.places.reports_at.Statement.{statement}

@@ -1,3 +1,4 @@
+-- The place of an id, which is in range.
 use mathlib.Core.Path.{ap}
 use native.Mathlib.Omega.{arith}
 use Rattle.route.specs.Find.{isFound}

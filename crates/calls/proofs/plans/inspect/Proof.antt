@@ -1,3 +1,4 @@
+-- A refusal, or what the inspection tells.
 use mathlib.Core.Path.{_∙_, sym, refl}
 use Rattle.lists.proofs.Tests.{is-not, is-so}
 use borrow.Author.Needs.{needs}

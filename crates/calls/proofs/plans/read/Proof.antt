@@ -1,3 +1,4 @@
+-- A refusal leaves the clock; else our reading is told, and its clock is left.
 use mathlib.Core.Path.{_∙_, sym, refl}
 use Rattle.lists.proofs.Tests.{is-not, is-so}
 use Rattle.calls.specs.Effects as definition
@@ -12,7 +13,7 @@ plainly-requires : tie.Need-plainly-requires
 plainly-requires c κs = search needs
 
 returns : tie.Need-returns
-returns c l w o e = rw (sym (c .before .before .is-done .ensures) ∙ is-not _ (c .before .if1 .taken), c .plainly .ensures)
+returns c t l w o e = rw (sym (c .before .before .is-done .ensures) ∙ is-not _ (c .before .if1 .taken), c .plainly .ensures)
 
 our-reading-requires : tie.Need-our-reading-requires
 our-reading-requires c κs =
@@ -24,7 +25,7 @@ tells-time-requires c κs = search needs
 
 returns-2 : tie.Need-returns-2
 unfolding definition.read
-returns-2 c l w o e =
+returns-2 c t l w o e =
     rw (sym (c .before .before .before .before .before .is-done .ensures) ∙ is-so _ (c .before .before .before .before .if1 .left), c .tells-time .ensures, ← c .before .before .before .our-reading .ensures)
 
 pub read-spec : {M : Type 1} → statement M

@@ -1,3 +1,4 @@
+-- A refusal, or what is told of the entry.
 use mathlib.Core.Path.{_∙_, sym, refl}
 use Rattle.lists.proofs.Tests.{is-not, is-so}
 use borrow.Author.Needs.{needs}

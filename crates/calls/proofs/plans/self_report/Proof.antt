@@ -1,3 +1,4 @@
+-- A refusal leaves clock and entries; else each id is reported with our reading.
 use mathlib.Core.Path.{_∙_, sym, refl}
 use Rattle.lists.proofs.Tests.{is-not, is-so}
 use Rattle.calls.specs.Effects as definition
@@ -15,7 +16,7 @@ nothing-requires : tie.Need-nothing-requires
 nothing-requires c κs = search needs
 
 returns : tie.Need-returns
-returns c l w o e =
+returns c t l w o e =
     rw (sym (c .before .before .before .is-done .ensures) ∙ is-not _ (c .before .before .if1 .taken), c .before .plainly .ensures, c .nothing .ensures)
 
 our-reading-requires : tie.Need-our-reading-requires
@@ -31,7 +32,7 @@ each-requires c κs = search needs
 
 returns-2 : tie.Need-returns-2
 unfolding definition.selfReport
-returns-2 c l w o e =
+returns-2 c t l w o e =
     rw (sym (c .before .before .before .before .before .before .is-done .ensures) ∙ is-so _ (c .before .before .before .before .before .if1 .left), ← c .before .before .before .before .our-reading .ensures, c .before .plainly2 .ensures, c .each .ensures)
 
 pub self-report-spec : {M : Type 1} → statement M

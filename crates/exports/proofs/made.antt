@@ -1,0 +1,10 @@
+pub mod ExportAges
+pub mod ExportAsks
+pub mod ExportAsksWith
+pub mod ExportAsksWithTwo
+pub mod ExportDeliversWith
+pub mod ExportInspects
+pub mod ExportLooks
+pub mod ExportOpens
+pub mod ExportSends
+pub mod ExportTimes

@@ -1,0 +1,27 @@
+-- The tutor's call, and what is told of its answer.
+use mathlib.Core.Path.{_≡_, _∙_, ap}
+use mir.Syntax.{w8}
+use base.Logic.{emp, id⊢}
+use Rattle.lent.proofs.Words.{by-value, chosen-by-value, unsigned}
+use Rattle.class_table.specs.Answer.{number}
+use Rattle.class_table.specs.Tutor.{setAfresh}
+use Rattle.class_table.proofs.made.ExportTurns.{proof}
+use Rattle.class_table.proofs.Types as types
+use Rattle.class_table.proofs.set_afresh.Symbol as turns
+use Rattle.class_table.proofs.set_afresh.Met as turns-known
+use Rattle.class_table.proofs.number.Symbol as tells
+use Rattle.class_table.proofs.number.Met as tells-known
+use Rattle.hello.proofs.nets.hello_net_afresh.Key.{name as #hello-net-afresh}
+use Rattle.hello.proofs.nets.hello_net_afresh.Statement as stated
+use Rattle.hello.proofs.nets.hello_net_afresh.Code as code
+
+pub hello-net-afresh-spec : {M : Type 1} → stated.statement M
+unfolding code.routine
+hello-net-afresh-spec 𝓤 H 𝓜 𝓖 𝓡 =
+    proof types.number (chosen-by-value types.answer) (unsigned w8) types.table 𝓤 H 𝓜 𝓖 𝓡
+    (λ t n. emp 𝓤) (λ t n o t′. (t′ ≡ setAfresh n t .table) × (o ≡ setAfresh n t .answer))
+    (λ o. emp 𝓤) (λ o r. r ≡ number o)
+    (λ t n t′ r. (t′ ≡ setAfresh n t .table) × (r ≡ number (setAfresh n t .answer)))
+    (λ t n. id⊢ 𝓤 _) (λ t n o t′ e. id⊢ 𝓤 _) (λ t n o t′ r e d. (e .0, d ∙ ap number (e .1)))
+    code.env #hello-net-afresh turns.name tells.name turns.routine tells.routine code.calls-class-table·set-afresh code.calls-class-table·number
+    (code.unfolded 𝓤 H 𝓜 𝓡) (turns-known.met 𝓤 H 𝓜 𝓖 𝓡) (tells-known.met 𝓤 H 𝓜 𝓖 𝓡)

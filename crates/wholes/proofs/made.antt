@@ -1,0 +1,3 @@
+pub mod WholeAsks
+pub mod WholeDelivers
+pub mod WholeOpens
