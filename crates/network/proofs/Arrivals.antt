@@ -24,6 +24,7 @@ use Rattle.wire.specs.declared.Parsed.the-variants.{Good, Bad}
 use Rattle.wire.specs.Octets.{sameAddress}
 use Rattle.route.specs.declared.Found.{Found}
 use Rattle.route.specs.declared.Found.the-variants.{Id, Nothing}
+use Rattle.class_table.specs.declared.ClassTable.{ClassTable}
 use Rattle.host.specs.declared.Link.{Link}
 use Rattle.host.specs.Settings.{foundFor}
 use Rattle.host.specs.State.{keepAliveInterval, hostCount, broadcast, linkOf, withLink}
@@ -86,34 +87,34 @@ module _ (i : ℕ) (r : Reading) (n : Count) (h : Host) where
           → P (updated (storing f) n p (neighborUpdate i f) 0 (hostCount (h .settings)) true)
 
     module _ (ways : Ways) where
-      fifth : (p : Packet) (f : Flight) → Flown (r .time) f → P (step5 (storing f) i n p f)
-      fifth p f g = go (eqb (p .nhosts) 0) (foundFor (h .settings) (f .link .neighbor))
+      fifth : (t : ClassTable) (p : Packet) (f : Flight) → Flown (r .time) f → P (step5 t (storing f) i n p f)
+      fifth t p f g = go (eqb (p .nhosts) 0) (foundFor t (h .settings) (f .link .neighbor))
         where
           go : (b : Bool) (x : Found) → P (cond b (noTable (storing f) i n p f x) (withTable (storing f) i n p f))
           go true Nothing = ways .unknown f g
           go true (Id id) = ways .one p f id g
           go false x = ways .all p f g
 
-      acted : (p : Packet) → P (actionAt r n h i p)
+      acted : (t : ClassTable) (p : Packet) → P (actionAt r n t h i p)
       unfolding step3 step2
-      acted p =
-          steps-cases (λ g. P (concluded (host (h .settings) (r .clock) (h .links)) i n p g))
+      acted t p =
+          steps-cases (λ g. P (concluded t (host (h .settings) (r .clock) (h .links)) i n p g))
           (broadcast (h .settings) i) (r .clock .hold) p (r .time) (linkOf (h .links) i)
-          (λ b. fifth p _ (flown (broadcast (h .settings) i) p (r .time) (linkOf (h .links) i)))
-          (λ b m. fifth p _ (flown-new (broadcast (h .settings) i) p (r .time) (linkOf (h .links) i)))
+          (λ b. fifth t p _ (flown (broadcast (h .settings) i) p (r .time) (linkOf (h .links) i)))
+          (λ b m. fifth t p _ (flown-new (broadcast (h .settings) i) p (r .time) (linkOf (h .links) i)))
           (λ b m z. ways .ended _ (flown (broadcast (h .settings) i) p (r .time) (linkOf (h .links) i)) refl)
-          (λ b m z. fifth p _ (flown (broadcast (h .settings) i) p (r .time) (linkOf (h .links) i)))
+          (λ b m z. fifth t p _ (flown (broadcast (h .settings) i) p (r .time) (linkOf (h .links) i)))
 
       looked : (octets : List ℕ) (q : Parsed) → Fits (h .settings) octets q → P (quiet (tells q) h)
       looked octets (Bad a) fits = ways .refuses a fits
       looked octets (Good p) fits = ways .looks p
 
-act-ways : (i : ℕ) (k : Counter) (h : Host) (P : Arrived → Type 0) → Ways i (ourReading k h) (countUsed k) h P → (octets : List ℕ) → P (act i k octets h)
-act-ways i k h P ways octets = go (inspect (h .settings) i octets) (inspected-fits (h .settings) i octets)
+act-ways : (i : ℕ) (k : Counter) (t : ClassTable) (h : Host) (P : Arrived → Type 0) → Ways i (ourReading k h) (countUsed k) h P → (octets : List ℕ) → P (act i k octets t h)
+act-ways i k t h P ways octets = go (inspect (h .settings) i octets) (inspected-fits (h .settings) i octets)
   where
-    go : (q : Parsed) → Fits (h .settings) octets q → P (inspected k h i q)
+    go : (q : Parsed) → Fits (h .settings) octets q → P (inspected k t h i q)
     go (Bad a) fits = ways .refuses a fits
-    go (Good p) fits = acted i (ourReading k h) (countUsed k) h P ways p
+    go (Good p) fits = acted i (ourReading k h) (countUsed k) h P ways t p
 
 -- the delivery's reading; an inspection has none
 abbrev pub readBy : Delivery → Host → Reading
@@ -121,7 +122,7 @@ readBy (Inspect i) h = record { clock = h .clock; time = millis (pos 0) }
 readBy (Act i k) h = ourReading k h
 readBy (Receive i k) h = ourReading k h
 
-pub delivery-ways : (d : Delivery) (h : Host) (P : Arrived → Type 0) → Ways (onLink d) (readBy d h) (countBy d) h P → (octets : List ℕ) → P (delivered d octets h)
-delivery-ways (Inspect i) h P ways octets = looked i (readBy (Inspect i) h) noCount h P ways octets (inspect (h .settings) i octets) (inspected-fits (h .settings) i octets)
-delivery-ways (Act i k) h P ways octets = act-ways i k h P ways octets
-delivery-ways (Receive i k) h P ways octets = rw (one-piece i k octets h) (act-ways i k h P ways octets)
+pub delivery-ways : (d : Delivery) (t : ClassTable) (h : Host) (P : Arrived → Type 0) → Ways (onLink d) (readBy d h) (countBy d) h P → (octets : List ℕ) → P (delivered d octets t h)
+delivery-ways (Inspect i) t h P ways octets = looked i (readBy (Inspect i) h) noCount h P ways octets (inspect (h .settings) i octets) (inspected-fits (h .settings) i octets)
+delivery-ways (Act i k) t h P ways octets = act-ways i k t h P ways octets
+delivery-ways (Receive i k) t h P ways octets = rw (one-piece i k octets t h) (act-ways i k t h P ways octets)

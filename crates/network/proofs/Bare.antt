@@ -23,6 +23,7 @@ use Rattle.wire.specs.declared.Parsed.the-variants.{Good, Bad}
 use Rattle.wire.specs.Packet.{message}
 use Rattle.route.specs.declared.Found.{Found}
 use Rattle.route.specs.declared.Found.the-variants.{Id, Nothing}
+use Rattle.class_table.specs.declared.ClassTable.{ClassTable}
 use Rattle.table.specs.declared.Entry.{Entry}
 use Rattle.table.specs.declared.Update.{Update}
 use Rattle.table.specs.declared.Updated.{Updated}
@@ -254,7 +255,7 @@ cond-bare : (b : Bool) (x x′ y y′ : Effect) → Twins x x′ → Twins y y�
 cond-bare true x x′ y y′ t u = t
 cond-bare false x x′ y y′ t u = u
 
-module _ (k : Counter) (p : Packet) (octets : List ℕ) (h : Host) (w : Walk) where
+module _ (k : Counter) (p : Packet) (octets : List ℕ) (t : ClassTable) (h : Host) (w : Walk) where
   next-bare : (g : Host) (now : Changes) → NoReport (now .change) → Twins (nextId p g w (bareTask now)) (nextId p g w now)
   next-bare g now plain = cond-bare (eqb (p .nhosts) 0 || not (ltb (w .id + 1) (hostCount (g .settings)))) _ _ _ _ (twins plain) (twins plain)
 
@@ -278,26 +279,26 @@ module _ (k : Counter) (p : Packet) (octets : List ℕ) (h : Host) (w : Walk) wh
   at-5 Nothing = twins tt
   at-5 (Id id) = twins tt
 
-  box-bare : (e : Entry) (q : Place) → Twins (boxAt q k p octets h w (bare e)) (boxAt q k p octets h w e)
+  box-bare : (e : Entry) (q : Place) → Twins (boxAt q k p octets t h w (bare e)) (boxAt q k p octets t h w e)
   unfolding box1 box2 box3 box4 box5 boxA boxB boxC boxD
   box-bare e Nowhere = twins tt
   box-bare e Step1 = twins tt
   box-bare e Step2 = twins tt
   box-bare e Step3 = twins tt
   box-bare e Step4 = at-4 (step4 (broadcast (h .settings) (w .link)) (h .clock .hold) p (inFlight (h .links) w))
-  box-bare e Step5 = cond-bare (eqb (p .nhosts) 0) _ _ _ _ (at-5 (foundFor (h .settings) (linkOf (h .links) (w .link) .neighbor))) (twins tt)
+  box-bare e Step5 = cond-bare (eqb (p .nhosts) 0) _ _ _ _ (at-5 (foundFor t (h .settings) (linkOf (h .links) (w .link) .neighbor))) (twins tt)
   box-bare e LineA = rw (a-bare (lineUpdate w p octets) e) (at-a (lineA (lineUpdate w p octets) e))
   box-bare e LineB = rw (b-bare (lineUpdate w p octets) e) (at-b (lineB (lineUpdate w p octets) e))
   box-bare e LineC = rw (c-bare (lineUpdate w p octets) e) (at-c (lineC (lineUpdate w p octets) e))
   box-bare e LineD = next-bare (host (h .settings) (clockSet p octets h w) (h .links)) nothing tt
 
-step-bare : (k : Counter) (h : Host) (w : Walk) (copy : List ℕ) (e : Entry) → Twins (step k h w copy (bare e)) (step k h w copy e)
+step-bare : (k : Counter) (t : ClassTable) (h : Host) (w : Walk) (copy : List ℕ) (e : Entry) → Twins (step k t h w copy (bare e)) (step k t h w copy e)
 unfolding step
-step-bare k h w copy e = cond-bare (not (isOpen w)) _ _ _ _ (twins tt) (go (inspect (h .settings) (w .link) (packetOf w copy)))
+step-bare k t h w copy e = cond-bare (not (isOpen w)) _ _ _ _ (twins tt) (go (inspect (h .settings) (w .link) (packetOf w copy)))
   where
-    go : (q : Parsed) → Twins (boxOf k (packetOf w copy) h w (bare e) q) (boxOf k (packetOf w copy) h w e q)
+    go : (q : Parsed) → Twins (boxOf k (packetOf w copy) t h w (bare e) q) (boxOf k (packetOf w copy) t h w e q)
     go (Bad a) = twins tt
-    go (Good p) = box-bare k p (packetOf w copy) h w e (placeOf w)
+    go (Good p) = box-bare k p (packetOf w copy) t h w e (placeOf w)
 
 -- ---- a send
 
@@ -401,15 +402,15 @@ module _ (x : Lent) where
       carried-bare (ownReport k x) (own-plain (r .time) (ownId s))
       ∙ ap (λ (w : Changes). bareOutcome (carriedOut record { reply = plainly Done; clock = r .clock; links = x .host .links; walk = x .walk; work = w } (bareLent x))) (own-bare (r .time) (ownId s))
   work-bare (ask (Lookup a)) =
-      let e = entryAt (foundFor s a) x in
-      carried-bare (lookup a (x .host) (x .walk) e) tt
+      let e = entryAt (foundFor (x .nets) s a) x in
+      carried-bare (lookup a (x .nets) (x .host) (x .walk) e) tt
       ∙ ap (λ (r : Reply). bareOutcome (carriedOut (answers r (x .host .clock) (x .host .links) (x .walk)) (bareLent x)))
-      (looked-bare (foundFor s a) e ∙ ap (looked (foundFor s a)) (sym (found-bare (foundFor s a))))
+      (looked-bare (foundFor (x .nets) s a) e ∙ ap (looked (foundFor (x .nets) s a)) (sym (found-bare (foundFor (x .nets) s a))))
   work-bare (ask (Step k)) =
       let e = entryAt (atHand (x .walk)) x in
-      let t = step-bare k (x .host) (x .walk) (x .copy) e in
-      carried-bare (step k (x .host) (x .walk) (x .copy) e) (t .plain)
-      ∙ ap (λ (y : Effect). bareOutcome (carriedOut y (bareLent x))) (sym (t .same) ∙ ap (step k (x .host) (x .walk) (x .copy)) (sym (found-bare (atHand (x .walk)))))
+      let t = step-bare k (x .nets) (x .host) (x .walk) (x .copy) e in
+      carried-bare (step k (x .nets) (x .host) (x .walk) (x .copy) e) (t .plain)
+      ∙ ap (λ (y : Effect). bareOutcome (carriedOut y (bareLent x))) (sym (t .same) ∙ ap (step k (x .nets) (x .host) (x .walk) (x .copy)) (sym (found-bare (atHand (x .walk)))))
   work-bare (send i k buffer) =
       let y = sendIn i k (length buffer) (x .host) in
       (λ j. record {
@@ -421,7 +422,7 @@ module _ (x : Lent) where
         run = sym (bare-twice (x .run)) j;
         buffer = (sym (written-bare y es buffer) ∙ ap (λ (l : List Entry). written y l buffer) (sym entries-bare)) j;
       })
-  work-bare (deliver d packet) = arrived-bare (delivered d packet (x .host)) packet
+  work-bare (deliver d packet) = arrived-bare (delivered d packet (x .nets) (x .host)) packet
   work-bare (openWalk i packet) = λ j. bareRun (work (openWalk i packet) x) (sym (bare-twice (x .run)) j)
 
 -- ---- the call

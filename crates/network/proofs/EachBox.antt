@@ -16,8 +16,8 @@ use Rattle.clock.specs.declared.Clock.{Clock}
 use Rattle.clock.specs.declared.Counter.{Counter}
 use Rattle.wire.specs.declared.Packet.{Packet}
 use Rattle.wire.specs.declared.Parsed.{Parsed}
-use Rattle.wire.specs.declared.Parsed.the-variants.{Good, Bad}
 use Rattle.wire.specs.Octets.{sameAddress}
+use Rattle.wire.specs.Packet.{fields}
 use Rattle.route.specs.declared.Found.{Found}
 use Rattle.route.specs.declared.Found.the-variants.{Id, Nothing}
 use Rattle.table.specs.declared.Entry.{Entry}
@@ -38,7 +38,6 @@ use Rattle.host.specs.Settings.{foundFor}
 use Rattle.host.specs.State.{firstPlace, hostCount, broadcast, unset, freshLink, linkOf, withLink, noLink, entries, withEntries}
 use Rattle.host.specs.Lent.{Host, host, Lent, entriesOf}
 use Rattle.host.specs.Reply.{plainly}
-use Rattle.host.specs.Inspection.{inspect}
 use Rattle.host.specs.Walk.{isOpen, placeOf, packetOf, lineUpdate, walkInRange}
 use Rattle.host.specs.Effect.{nothing}
 use Rattle.host.specs.Guard.{done}
@@ -55,6 +54,7 @@ use Rattle.network.proofs.Lists.{All, all-of, all-there, all-part, all-
 use Rattle.network.proofs.Performs.{performs, there}
 use Rattle.network.proofs.Swept.{changes-length, changes-keep}
 use Rattle.network.proofs.Written.{written-kept, answered}
+use Rattle.network.proofs.Walking.{inspect-cases}
 
 -- ---- one element stored in a list
 
@@ -108,7 +108,7 @@ module _ (k : Counter) (x : Lent) where
   refusal o bad c l r Step2 = (c, linked KeepAlive (λ y. (refl, refl)) o l, r)
   refusal o bad c l r Step3 = (c, linked Tsp (λ y. (refl, refl)) o l, r)
   refusal o bad c l r Step4 = (c, linked Neighbor (λ y. (refl, refl)) o l, r)
-  refusal o bad c l r Step5 = (c, l, r)
+  refusal o bad c l r Step5 = (c, l, r, λ _ yes. absurd (false≢true (sym bad ∙ yes)))
   refusal o bad c l r LineA = (c, l, r)
   refusal o bad c l r LineB = (c, l, λ i d not. ap (λ run. getD run i d) r)
   refusal o bad c l r LineC = (c, l, λ i d not. ap (λ run. getD run i d) r)
@@ -152,7 +152,13 @@ module _ (k : Counter) (x : Lent) where
 
     -- ---- the boxes
 
-    module _ (has : noLink (h .settings) (w .link) ≡ false) (p : Packet) (octets : List ℕ) (e : Entry) where
+    abbrev octets : List ℕ
+    octets = packetOf w (x .copy)
+
+    abbrev p : Packet
+    p = fields octets
+
+    module _ (has : noLink (h .settings) (w .link) ≡ false) (e : Entry) where
       abbrev Is : Place → Effect → Type 0
       Is q f = Changes q k x (carriedOut f x)
 
@@ -192,9 +198,10 @@ module _ (k : Counter) (x : Lent) where
           goes-on : Q (on f)
           goes-on = (refl, neighbor _ refl refl _ refl, same-run)
 
-      found : (g : Found) → Is Step5 (toNeighbor h (raised w) g)
-      found Nothing = (refl, refl, same-run)
-      found (Id id) = (refl, refl, same-run)
+      -- the id by the table that this box is lent
+      found : (g : Found) → foundFor (x .nets) (h .settings) (linkOf (h .links) (w .link) .neighbor) ≡ g → Is Step5 (toNeighbor h (raised w) g)
+      found Nothing is = (refl, refl, same-run, λ _ yes. absurd (false≢true yes))
+      found (Id id) is = (refl, refl, same-run, λ _ _. is)
 
       abbrev u : Update
       u = lineUpdate w p octets
@@ -232,7 +239,7 @@ module _ (k : Counter) (x : Lent) where
           stays : (w .id ≡ h .settings .«clock_host» → ⊥) → clockSet p octets h w ≡ h .clock
           stays not = either (λ (c : Clock). c ≡ h .clock) (isClockHost h w) _ _ (λ t. absurd (not (eqb-true _ _ t))) (λ _. refl)
 
-      boxed : (q : Place) → Is q (boxAt q k p octets h w e)
+      boxed : (q : Place) → Is q (boxAt q k p octets (x .nets) h w e)
       unfolding box1 box5
       boxed Nowhere = (refl, refl, same-run)
       boxed Step1 = ((λ _. refl), refl, same-run)
@@ -240,21 +247,21 @@ module _ (k : Counter) (x : Lent) where
       boxed Step3 = third
       boxed Step4 = fourth-box
       boxed Step5 =
-          either (Is Step5) (eqb (p .nhosts) 0) _ _ (λ _. found (foundFor (h .settings) (linkOf (h .links) (w .link) .neighbor))) (λ _. (refl, refl, same-run))
+          either (Is Step5) (eqb (p .nhosts) 0) _ _ (λ _. found (foundFor (x .nets) (h .settings) (linkOf (h .links) (w .link) .neighbor)) refl)
+          (λ no. (refl, refl, same-run, λ none _. absurd (false≢true (sym no ∙ none))))
       boxed LineA = line-a
       boxed LineB = line-b
       boxed LineC = line-c
       boxed LineD = line-d
 
-    stepped : (e : Entry) → walkInRange (h .settings) w (x .copy) ≡ true → Changes (placeOf w) k x (carriedOut (walk.step k h w (x .copy) e) x)
+    stepped : (e : Entry) → walkInRange (h .settings) w (x .copy) ≡ true → Changes (placeOf w) k x (carriedOut (walk.step k (x .nets) h w (x .copy) e) x)
     unfolding walk.step
     stepped e in-range =
         either (λ (f : Effect). Changes (placeOf w) k x (carriedOut f x)) (not (isOpen w)) _ _ (λ _. refusal _ refl refl refl same-run (placeOf w))
-        (λ f. go (opened-says (h .settings) w (x .copy) in-range (is-so _ f) .link) (inspect (h .settings) (w .link) (packetOf w (x .copy))))
-      where
-        go : noLink (h .settings) (w .link) ≡ false → (q : Parsed) → Changes (placeOf w) k x (carriedOut (boxOf k (packetOf w (x .copy)) h w e q) x)
-        go has (Bad a) = refusal _ refl refl refl same-run (placeOf w)
-        go has (Good p) = boxed has p (packetOf w (x .copy)) e (placeOf w)
+        (λ f.
+        inspect-cases (λ (q : Parsed). Changes (placeOf w) k x (carriedOut (boxOf k octets (x .nets) h w e q) x)) (h .settings) (w .link) octets
+        (λ a. refusal _ refl refl refl same-run (placeOf w))
+        (boxed (opened-says (h .settings) w (x .copy) in-range (is-so _ f) .link) e (placeOf w)))
 
 pub each-box-holds : EachBox
 unfolding EachBox

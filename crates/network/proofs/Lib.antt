@@ -18,4 +18,6 @@ pub mod Bare
 pub mod MarksStay
 pub mod OwnAlone
 pub mod WalkEnds
+pub mod MidWalk
+pub mod TutorSeen
 pub mod EachBox

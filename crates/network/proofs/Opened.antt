@@ -14,6 +14,7 @@ use Rattle.table.specs.Entry.{freshEntry, advertised, entryInRange}
 use Rattle.table.specs.Update.{lineA, lineB, lineC, lines, lineD, update, selfReported, reportedHere}
 use Rattle.table.specs.Sweep.{sweep}
 use Rattle.table.specs.Runs.{changes, updates}
+use Rattle.class_table.specs.Table.{tableBad}
 use Rattle.host.specs.Settings.{settingsGood}
 use Rattle.host.specs.State.{freshLinks, entries, withEntries, noLink}
 use Rattle.host.specs.Walk.{walkInRange}
@@ -25,5 +26,5 @@ use Rattle.calls.specs.Effects.{initialize, tick, selfReport}
 use Rattle.calls.specs.Perform.{perform}
 
 unfoldable pub opened : Unit {0}
-unfolding lastDay real next previous fold folded checksumGood checksumOf turns while dayOn dayBack daysOn daysBack midnight freshClock reading setBy tickInRange clockInRange clock.tick ipForm ipChecksum protocol header helloForm helloChecksum reportAt hello fields parse message sameNet localId search find mark noneFrom freshEntry advertised entryInRange lineA lineB lineC lines lineD update selfReported reportedHere sweep changes updates settingsGood freshLinks entries withEntries walkInRange lentInRange noPlaces noLink guard otherLayout looped inspect step2 step3 step4 steps2to4 initialize tick selfReport perform
+unfolding lastDay real next previous fold folded checksumGood checksumOf turns while dayOn dayBack daysOn daysBack midnight freshClock reading setBy tickInRange clockInRange clock.tick ipForm ipChecksum protocol header helloForm helloChecksum reportAt hello fields parse message sameNet localId search find mark noneFrom freshEntry advertised entryInRange lineA lineB lineC lines lineD update selfReported reportedHere sweep changes updates tableBad settingsGood freshLinks entries withEntries walkInRange lentInRange noPlaces noLink guard otherLayout looped inspect step2 step3 step4 steps2to4 initialize tick selfReport perform
 opened = tt

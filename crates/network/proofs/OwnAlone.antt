@@ -6,7 +6,7 @@ use Prim.Native.Nat.{ℕ, zero, suc, _+_, _-_, _*_, _/_, _%_, _≤_, _<_, _^_}
 use native.Mathlib.Nat.{zero-add, pow-suc, pow-succ', zero-div, div-eq-of-lt, div-div-eq-div-mul}
 use native.Mathlib.Omega.{arith}
 use borrow.Author.Tests.{eqb-true, eqb-false, eq-eqb, ne-eqb, ltb-true}
-use lib.Dec.{ltb, leb, eqb}
+use lib.Dec.{ltb, eqb}
 use lib.IntN.{pos}
 use lib.Pow.{pow-pos}
 use lib.ListN.{length, getD, set, replicate, length-set, length-replicate}
@@ -24,7 +24,7 @@ use Rattle.clock.specs.Midnight.{dayMillis}
 use Rattle.clock.specs.Clock.{tickInRange}
 use Rattle.route.specs.declared.Found.{Found}
 use Rattle.route.specs.declared.Found.the-variants.{Id, Nothing}
-use Rattle.route.specs.Find.{isFound, rowsOf, idsBelow}
+use Rattle.route.specs.Find.{isFound}
 use Rattle.route.proofs.Ids.{local-id-below}
 use Rattle.table.specs.declared.Entry.{Entry}
 use Rattle.table.specs.declared.marks.Marks.{Marks}
@@ -72,17 +72,15 @@ own-found s e =
     tests.each (fromTo 1 8 (s .«link_count»))
     (switchesGood s
     ∷ fromTo 1 255 (s .layout .nhosts)
-    ∷ leb (s .net .count) 32
     ∷ fromTo 1 223 (s .address .first)
     ∷ (eqb (s .«clock_host») clockSettingOff || ltb (s .«clock_host») (s .layout .nhosts))
     ∷ fromTo 1 255 (s .«hold_interval» .0)
     ∷ tickInRange (s .«clock_tick»)
     ∷ (not (lessMillis (s .time) (millis (pos 0))) && lessMillis (s .time) dayMillis)
     ∷ real (s .date)
-    ∷ idsBelow (s .layout .nhosts) (rowsOf (s .net))
     ∷ isFound (ownId s)
     ∷ []) e in
-    t .1 .1 .1 .1 .1 .1 .1 .1 .1 .1 .1 .0
+    t .1 .1 .1 .1 .1 .1 .1 .1 .1 .0
 
 module _ (s : Settings) (own : MarksOwn s) where
   marks-pass : (f : Found) → ownId s ≡ f → isFound f ≡ true → (foundMarked (s .marks) f && noneFrom (s .marks) (s .layout .nhosts)) ≡ true

@@ -54,13 +54,13 @@ module _ (i : ℕ) (k : Counter) (octets : List ℕ) (x : Lent) where
   unfolding perform
   receive-acts =
       ap (λ (a : Arrived). cond (not (done (guard (OnLink i) x))) (refused (guard (OnLink i) x) (act i k octets) x) (updatedBy a octets x))
-      (pieces.one-piece i k octets h)
+      (pieces.one-piece i k octets (x .nets) h)
 
   -- ---- the inspection and the action, side by side
 
   module _ (P : Outcome → Outcome → Type 0) (alike : (o : Outcome) → P o o)
-      (passes : (p : Packet) → P (updatedBy (quiet (tells (Good p)) h) octets x) (updatedBy (action k h i p) octets x)) where
-    by-packet : (q : Parsed) → P (updatedBy (quiet (tells q) h) octets x) (updatedBy (inspected k h i q) octets x)
+      (passes : (p : Packet) → P (updatedBy (quiet (tells (Good p)) h) octets x) (updatedBy (action k (x .nets) h i p) octets x)) where
+    by-packet : (q : Parsed) → P (updatedBy (quiet (tells q) h) octets x) (updatedBy (inspected k (x .nets) h i q) octets x)
     by-packet (Bad a) = alike _
     by-packet (Good p) = passes p
 
@@ -70,7 +70,7 @@ module _ (i : ℕ) (k : Counter) (octets : List ℕ) (x : Lent) where
       where
         go : (b : Bool)
             → P (cond b (refused (guard (OnLink i) x) (inspect i octets) x) (updatedBy (inspection i octets h) octets x))
-            (cond b (refused (guard (OnLink i) x) (act i k octets) x) (updatedBy (arrivals.act i k octets h) octets x))
+            (cond b (refused (guard (OnLink i) x) (act i k octets) x) (updatedBy (arrivals.act i k octets (x .nets) h) octets x))
         go true = alike _
         go false = by-packet (inspecting.inspect (h .settings) i octets)
 
@@ -90,7 +90,7 @@ module _ (i : ℕ) (k : Counter) (octets : List ℕ) (x : Lent) where
   exactly : (n : ℕ) → 3 ≤ n → n ≤ 9 → (number (answerOf (inspect i octets) x) ≡ n) ↔ (number (answerOf (act i k octets) x) ≡ n)
   exactly n low high =
       pair-ways (λ o o′. (number (o .reply .answer) ≡ n) ↔ (number (o′ .reply .answer) ≡ n)) (λ o. (λ e. e, λ e. e))
-      (λ p. (λ e. absurd (omega (arith, e)), λ e. absurd (late (action k h i p .reply .answer) (action-timed k h i p) (omega (arith, e)) (omega (arith, e)))))
+      (λ p. (λ e. absurd (omega (arith, e)), λ e. absurd (late (action k (x .nets) h i p .reply .answer) (action-timed k (x .nets) h i p) (omega (arith, e)) (omega (arith, e)))))
 
   in-turn : perform (act i k octets) x ≡ cond (done (answerOf (inspect i octets) x)) (perform (act i k octets) x) (perform (inspect i octets) x)
   in-turn = pair-ways (λ o o′. o′ ≡ cond (done (o .reply .answer)) o′ o) (λ o. same (done (o .reply .answer)) o) (λ p. refl)

@@ -5,11 +5,12 @@ use lib.Dec.{ltb}
 use lib.ListN.{length}
 use Rattle.answer.specs.declared.Answer.{Answer}
 use Rattle.answer.specs.declared.Answer.the-variants.{OutOfRange}
+use Rattle.class_table.specs.Table.{tableBad}
 use Rattle.host.specs.declared.guard.Scope.{Scope}
 use Rattle.host.specs.declared.guard.Scope.the-variants.{Places, All, OnLink, Opening, Walking}
 use Rattle.host.specs.State.{noLink}
 use Rattle.host.specs.Lent.{Lent}
-use Rattle.host.specs.Guard.{noPlaces, longest, outOfRange, guard, done}
+use Rattle.host.specs.Guard.{noPlaces, longest, ownOutOfRange, guard, done}
 use Rattle.host.proofs.Places.{Holds}
 use Rattle.host.proofs.Guarded.{passed, holds}
 use Rattle.host.proofs.Guarded as guarded
@@ -29,7 +30,7 @@ module _ (c : Call) (x : Lent) where
   there e = holds (x .number) (x .run) (passed (scopeOfCall c) x e .places)
 
   -- a run that does not hold them
-  missing : noPlaces (x .number) (x .run) ≡ true → (a : Scope) → outOfRange a x ≡ true
+  missing : noPlaces (x .number) (x .run) ≡ true → (a : Scope) → ownOutOfRange a x ≡ true
   missing e Places = e
   missing e All = rw e
   missing e Walking = rw e
@@ -38,4 +39,4 @@ module _ (c : Call) (x : Lent) where
 
   pub perform-short : noPlaces (x .number) (x .run) ≡ true → perform c x ≡ refused OutOfRange c x
   unfolding perform guard
-  perform-short e = rw (missing e (scopeOfCall c))
+  perform-short e = rw (missing e (scopeOfCall c), or-true (tableBad (x .nets)))

@@ -31,6 +31,7 @@ use Rattle.table.specs.Forms.{Stage, on}
 use Rattle.table.specs.Entry.{maxDelay, minDelay, up, takenDown}
 use Rattle.table.specs.Update.{plusReport, lineA, lineB, lineC, lineD}
 use Rattle.table.proofs.Cases.{stored}
+use Rattle.class_table.specs.declared.ClassTable.{ClassTable}
 use Rattle.host.specs.declared.Settings.{Settings}
 use Rattle.host.specs.declared.Link.{Link}
 use Rattle.host.specs.declared.Links.{Links}
@@ -137,7 +138,7 @@ Holding w v = w .count ≡ noCount → v .count ≡ noCount
 
 -- ---- the ways
 
-module _ (k : Counter) (h : Host) (w : Walk) (copy : List ℕ) (e : Entry) (P : Effect → Type 0) where
+module _ (k : Counter) (t : ClassTable) (h : Host) (w : Walk) (copy : List ℕ) (e : Entry) (P : Effect → Type 0) where
   pub record Ways : Type 0 where
     pub none : P (answers (plainly NoWalk) (h .clock) (h .links) w)
     pub reads : (v : Walk) → v .count ≡ countUsed k → P (onward v (ourReading k h .clock) (h .links) nothing)
@@ -151,10 +152,10 @@ module _ (k : Counter) (h : Host) (w : Walk) (copy : List ℕ) (e : Entry) (P : 
     on-with v kept work d = ways .goes _ refl v kept (h .clock) as-was (h .links) as-were work d
 
     next : (c : Clock) → Timed h w c → (work : Changes) → Works w e work → P (nextId p (host (h .settings) c (h .links)) w work)
-    next c t work d =
+    next c timed work d =
         either P (eqb (p .nhosts) 0 || not (ltb (w .id + 1) (hostCount (h .settings)))) _ _
-        (λ _. ways .goes _ refl noWalk (λ _. refl) c t (h .links) as-were work d)
-        (λ _. ways .goes _ refl (atLine 1 (w .id + 1) w) (λ z. z) c t (h .links) as-were work d)
+        (λ _. ways .goes _ refl noWalk (λ _. refl) c timed (h .links) as-were work d)
+        (λ _. ways .goes _ refl (atLine 1 (w .id + 1) w) (λ z. z) c timed (h .links) as-were work d)
 
     storing : (v : Walk) → Holding w v → (x : Link) → (linkInRange (linkOf (h .links) (w .link)) ≡ true → linkInRange x ≡ true)
         → P (onward v (h .clock) (withLink (w .link) x (h .links)) nothing)
@@ -221,7 +222,7 @@ module _ (k : Counter) (h : Host) (w : Walk) (copy : List ℕ) (e : Entry) (P : 
         set : Timed h w (clockSet p octets h w)
         set = either (Timed h w) (isClockHost h w) _ _ (λ _. set-by (p .date) (u .offset)) (λ _. as-was)
 
-    box-ways : (q : Place) → placeOf w ≡ q → heldAt q (h .settings) w p octets ≡ true → P (boxAt q k p octets h w e)
+    box-ways : (q : Place) → placeOf w ≡ q → heldAt q (h .settings) w p octets ≡ true → P (boxAt q k p octets t h w e)
     unfolding box1 box2 box3 box5 step2 step3
     box-ways Nowhere is held = absurd (false≢true held)
     box-ways Step1 is held = ways .reads _ refl
@@ -229,16 +230,16 @@ module _ (k : Counter) (h : Host) (w : Walk) (copy : List ℕ) (e : Entry) (P : 
     box-ways Step3 is held = storing _ (λ z. z) _ (λ z. z)
     box-ways Step4 is held = fourth-ways
     box-ways Step5 is held =
-        either P (eqb (p .nhosts) 0) _ _ (λ _. found (foundFor (h .settings) (linkOf (h .links) (w .link) .neighbor)))
+        either P (eqb (p .nhosts) 0) _ _ (λ _. found (foundFor t (h .settings) (linkOf (h .links) (w .link) .neighbor)))
         (λ _. on-with (atLine 1 0 (raised w)) (λ z. z) nothing no-work)
     box-ways LineA is held = behind-a
     box-ways LineB is held = behind-b (at-line w opened (ap isLine is))
     box-ways LineC is held =
-        let t = both (readingInRange w && idInRange (h .settings) w) _ held in
-        behind-c (at-line w opened (ap isLine is)) (t .1) (both (readingInRange w) _ (t .0) .0)
+        let b = both (readingInRange w && idInRange (h .settings) w) _ held in
+        behind-c (at-line w opened (ap isLine is)) (b .1) (both (readingInRange w) _ (b .0) .0)
     box-ways LineD is held = behind-d
 
-  pub step-ways : Ways → walkInRange (h .settings) w copy ≡ true → P (step k h w copy e)
+  pub step-ways : Ways → walkInRange (h .settings) w copy ≡ true → P (step k t h w copy e)
   unfolding step
   step-ways ways in-range =
       either P (not (isOpen w)) _ _ (λ _. ways .none)
@@ -246,6 +247,6 @@ module _ (k : Counter) (h : Host) (w : Walk) (copy : List ℕ) (e : Entry) (P : 
       (let o = opened-says (h .settings) w copy in-range (is-so _ f) in
       go (is-so _ f) (o .link) (inspect (h .settings) (w .link) (packetOf w copy)) (o .held)))
     where
-      go : isOpen w ≡ true → noLink (h .settings) (w .link) ≡ false → (q : Parsed) → packetHeld (h .settings) w (packetOf w copy) q ≡ true → P (boxOf k (packetOf w copy) h w e q)
+      go : isOpen w ≡ true → noLink (h .settings) (w .link) ≡ false → (q : Parsed) → packetHeld (h .settings) w (packetOf w copy) q ≡ true → P (boxOf k (packetOf w copy) t h w e q)
       go opened has (Bad a) held = absurd (false≢true held)
       go opened has (Good p) held = box-ways ways opened has p (packetOf w copy) (placeOf w) refl held

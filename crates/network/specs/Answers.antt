@@ -20,10 +20,11 @@ use Rattle.wire.specs.Packet.{helloOf, fields, packetLength}
 use Rattle.route.specs.declared.Found.{Found}
 use Rattle.route.specs.declared.Found.the-variants.{Id, Nothing}
 use Rattle.route.specs.Find.{isFound}
+use Rattle.class_table.specs.declared.ClassTable.{ClassTable}
 use Rattle.table.specs.declared.Entry.{Entry}
 use Rattle.table.specs.Entry.{freshEntry, up}
 use Rattle.host.specs.declared.walk.Walk.{Walk}
-use Rattle.host.specs.Settings.{settingsGood, foundFor}
+use Rattle.host.specs.Settings.{settingsFit, foundFor}
 use Rattle.host.specs.State.{broadcast, linkOf}
 use Rattle.host.specs.Lent.{Host, Lent, entriesOf, ourReading}
 use Rattle.host.specs.Guard.{outOfRange, inWalk}
@@ -64,8 +65,8 @@ abbrev pub neighborNow : Host → (link : ℕ) → Packet → Address
 neighborNow h i p = cond (broadcast (h .settings) i) (linkOf (h .links) i .neighbor) (p .source)
 
 -- 11 at an arrival: no table, and no id for the neighbour
-abbrev pub neighborUnknown : Host → (link : ℕ) → Packet → Bool
-neighborUnknown h i p = eqb (p .nhosts) 0 && not (isFound (foundFor (h .settings) (neighborNow h i p)))
+abbrev pub neighborUnknown : ClassTable → Host → (link : ℕ) → Packet → Bool
+neighborUnknown t h i p = eqb (p .nhosts) 0 && not (isFound (foundFor t (h .settings) (neighborNow h i p)))
 
 -- a walk is open, and stands before this step
 abbrev pub beforeStep : ℕ → Walk → Bool
@@ -79,11 +80,11 @@ held x = fields (packetOf (x .walk) (x .copy))
 abbrev pub walkDelayInvalid : Lent → Bool
 walkDelayInvalid x = beforeStep 4 (x .walk) && delayInvalidIn (x .host .clock .hold) (x .host) (x .walk .link) (held x)
 
--- 11 at step 5 of a walk, with the neighbour as it is by then
+-- 11 at step 5 of a walk, with the neighbour and the table as they are by then
 abbrev pub walkNeighborUnknown : Lent → Bool
 walkNeighborUnknown x =
     beforeStep 5 (x .walk)
-    && (eqb (held x .nhosts) 0 && not (isFound (foundFor (x .host .settings) (linkOf (x .host .links) (x .walk .link) .neighbor))))
+    && (eqb (held x .nhosts) 0 && not (isFound (foundFor (x .nets) (x .host .settings) (linkOf (x .host .links) (x .walk .link) .neighbor))))
 
 -- 13: an id is found, and its entry is down
 abbrev pub hostDown : List Entry → Found → Bool
@@ -101,8 +102,8 @@ requestTests (Read k) x = []
 requestTests Second x = []
 requestTests (SelfReport k) x = []
 requestTests (Lookup a) x =
-    on NoHost (not (isFound (foundFor (x .host .settings) a)))
-    ∷ on HostDown (hostDown (entriesOf x) (foundFor (x .host .settings) a))
+    on NoHost (not (isFound (foundFor (x .nets) (x .host .settings) a)))
+    ∷ on HostDown (hostDown (entriesOf x) (foundFor (x .nets) (x .host .settings) a))
     ∷ []
 requestTests (Step k) x =
     on DelayNotValid (walkDelayInvalid x) ∷ on NoHost (walkNeighborUnknown x) ∷ on NoWalk (not (isOpen (x .walk))) ∷ []
@@ -123,30 +124,30 @@ inspectionTests i octets h =
     ∷ []
 
 -- "the action adds 10 and 11"
-abbrev pub actionTests : (link : ℕ) → Counter → (octets : List ℕ) → Host → List Test
-actionTests i k octets h =
+abbrev pub actionTests : (link : ℕ) → Counter → (octets : List ℕ) → ClassTable → Host → List Test
+actionTests i k octets t h =
     inspectionTests i octets h
     ++ on DelayNotValid (delayInvalid k h i (fields octets))
-    ∷ on NoHost (neighborUnknown h i (fields octets))
+    ∷ on NoHost (neighborUnknown t h i (fields octets))
     ∷ []
 
-abbrev pub deliveryTests : Delivery → (octets : List ℕ) → Host → List Test
-deliveryTests (Inspect i) octets h = inspectionTests i octets h
-deliveryTests (Act i k) octets h = actionTests i k octets h
-deliveryTests (Receive i k) octets h = actionTests i k octets h
+abbrev pub deliveryTests : Delivery → (octets : List ℕ) → ClassTable → Host → List Test
+deliveryTests (Inspect i) octets t h = inspectionTests i octets h
+deliveryTests (Act i k) octets t h = actionTests i k octets t h
+deliveryTests (Receive i k) octets t h = actionTests i k octets t h
 
 abbrev pub ownTests : Call → Lent → List Test
 ownTests (ask q) x = requestTests q x
 ownTests (send i k buffer) x = sendTests i buffer (x .host)
-ownTests (deliver d packet) x = deliveryTests d packet (x .host)
+ownTests (deliver d packet) x = deliveryTests d packet (x .nets) (x .host)
 ownTests (openWalk i packet) x = inspectionTests i packet (x .host)
 
--- 12, by how much the call tests, 16, which setting afresh and a step don't give, and 1
+-- 12, by the table and by how much the call tests, 16, which setting afresh and a step don't give, and 1, also where NHOSTS is not the table's
 abbrev pub tests : Call → Lent → List Test
 tests c x =
     on OutOfRange (outOfRange (scopeOfCall c) x)
     ∷ on InWalk (inWalk (scopeOfCall c) (x .walk))
-    ∷ on Setting (not (settingsGood (x .host .settings)))
+    ∷ on Setting (not (settingsFit (x .nets) (x .host .settings)))
     ∷ ownTests c x
 
 unfoldable pub Answers : Type 0

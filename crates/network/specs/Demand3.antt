@@ -16,6 +16,7 @@ use Rattle.clock.specs.declared.Counter.{Counter}
 use Rattle.clock.specs.declared.Reading.{Reading}
 use Rattle.clock.specs.Midnight.{dayMillis}
 use Rattle.clock.specs.Clock.{reading}
+use Rattle.class_table.specs.declared.ClassTable.{ClassTable}
 use Rattle.table.specs.declared.Entry.{Entry}
 use Rattle.table.specs.Entry.{freshEntry, up}
 use Rattle.host.specs.declared.Links.{Links}
@@ -55,9 +56,10 @@ callOf (inspects i packet) = inspect i packet
 callOf (opens i packet) = openWalk i packet
 callOf (steps k t) = calls.step k
 
--- a call at a seat, with the links and the run that it is lent
+-- A call at a seat, with the class's net table, the links and the run that it is lent. The tutor may change the table between any two calls, "demand 3 holds whatever they are": nothing is asked of it.
 pub record Step : Type 0 where
   pub seat : ℕ
+  pub nets : ClassTable
   pub links : Links
   pub run : List Entry
   pub call : RoomCall
@@ -80,11 +82,11 @@ pub record World : Type 0 where
 abbrev pub leftAt : Room → World → (seat : ℕ) → Left
 leftAt r w a = w .state (r .number a)
 
--- "Each call gets its seat's settings, and the clock .. as that seat's last call left" it, and is lent these links and this run.
+-- "Each call gets its seat's settings, and the clock .. as that seat's last call left" it, and is lent this table, these links and this run.
 abbrev pub eventOf : Room → World → Step → Event
 eventOf r w x =
     let was : Left = leftAt r w (x .seat) in
-    record { call = callOf (x .call); lent = lentAt r (x .seat) (was .clock) (x .links) (was .walk) (was .copy) (x .run) }
+    record { call = callOf (x .call); lent = lentAt r (x .seat) (x .nets) (was .clock) (x .links) (was .walk) (was .copy) (x .run) }
 
 abbrev pub result : Room → World → Step → Outcome
 result r w x = outcome (eventOf r w x)

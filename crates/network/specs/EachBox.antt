@@ -2,17 +2,21 @@
 use mathlib.Core.Path.{_≡_}
 use mathlib.Core.Bool.{true}
 use Prim.Native.Nat.{ℕ, _+_, _≤_}
+use lib.Dec.{eqb}
 use lib.ListN.{getD}
 use Rattle.clock.specs.declared.Counter.{Counter}
+use Rattle.route.specs.declared.Found.the-variants.{Id}
 use Rattle.table.specs.declared.Entry.{Entry}
 use Rattle.host.specs.declared.Link.{Link}
 use Rattle.host.specs.declared.walk.Place.{Place}
 use Rattle.host.specs.declared.walk.Place.the-variants.{Nowhere, Step1, Step2, Step3, Step4, Step5, LineA, LineB, LineC, LineD}
+use Rattle.host.specs.Settings.{foundFor}
 use Rattle.host.specs.State.{firstPlace, linkOf}
 use Rattle.host.specs.Lent.{Lent, ourReading}
 use Rattle.host.specs.Walk.{placeOf}
 use Rattle.host.specs.Guard.{done}
 use Rattle.calls.specs.Perform.{Outcome, step, perform}
+use Rattle.network.specs.Answers.{held}
 
 -- ---- what stays
 
@@ -53,6 +57,14 @@ Neighbor before after = (after .«keep_alive» ≡ before .«keep_alive») × (a
 abbrev pub ChangesEntry : Lent → Outcome → Type 0
 ChangesEntry x o = (i : ℕ) (d : Entry) → (i ≡ firstPlace (x .number) + x .walk .id → ⊥) → getD (o .run) i d ≡ getD (x .run) i d
 
+-- ---- what is looked up
+
+-- "A walk .. uses the table as it stands at the box that looks it up": of a packet without a table, the id of the neighbour by the table that this box is lent
+abbrev pub LooksUp : Lent → Outcome → Type 0
+LooksUp x o =
+    eqb (held x .nhosts) 0 ≡ true → done (o .reply .answer) ≡ true
+    → foundFor (x .nets) (x .host .settings) (linkOf (x .host .links) (x .walk .link) .neighbor) ≡ Id (o .walk .id)
+
 -- ---- the boxes
 
 abbrev pub Changes : Place → Counter → Lent → Outcome → Type 0
@@ -61,7 +73,7 @@ Changes Step1 k x o = Reads k x o × SameLinks x o × SameRun x o
 Changes Step2 k x o = SameClock x o × ChangesLink KeepAlive x o × SameRun x o
 Changes Step3 k x o = SameClock x o × ChangesLink Tsp x o × SameRun x o
 Changes Step4 k x o = SameClock x o × ChangesLink Neighbor x o × SameRun x o
-Changes Step5 k x o = SameClock x o × SameLinks x o × SameRun x o
+Changes Step5 k x o = SameClock x o × SameLinks x o × SameRun x o × LooksUp x o
 Changes LineA k x o = SameClock x o × SameLinks x o × SameRun x o
 Changes LineB k x o = SameClock x o × SameLinks x o × ChangesEntry x o
 Changes LineC k x o = SameClock x o × SameLinks x o × ChangesEntry x o

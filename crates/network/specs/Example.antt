@@ -42,42 +42,42 @@ w₀ = begun near
 
 -- seat 1 reports its two hosts
 unfoldable pub x₁ : Step
-x₁ = call w₀ 1 (reports noCounter)
+x₁ = call near w₀ 1 (reports noCounter)
 
 unfoldable pub w₁ : World
 w₁ = step near w₀ x₁
 
 -- seat 0 sends at millisecond 65,500
 unfoldable pub x₂ : Step
-x₂ = call w₁ 0 (sends 1 (counting (counts 65500)) (replicate 32 0) (pos 65500))
+x₂ = call near w₁ 0 (sends 1 (counting (counts 65500)) (replicate 32 0) (pos 65500))
 
 unfoldable pub w₂ : World
 w₂ = step near w₁ x₂
 
 -- at once seat 1 has it
 unfoldable pub x₃ : Step
-x₃ = call w₂ 1 (arrives 1 noCounter (messageOf (result near w₁ x₂)) (pos 65500))
+x₃ = call near w₂ 1 (arrives 1 noCounter (messageOf (result near w₁ x₂)) (pos 65500))
 
 unfoldable pub w₃ : World
 w₃ = step near w₂ x₃
 
 -- and answers
 unfoldable pub x₄ : Step
-x₄ = call w₃ 1 (sends 1 noCounter (replicate 44 0) (pos 65500))
+x₄ = call near w₃ 1 (sends 1 noCounter (replicate 44 0) (pos 65500))
 
 unfoldable pub w₄ : World
 w₄ = step near w₃ x₄
 
 -- 101 ms later, as its counter overflows, seat 0 has the answer
 unfoldable pub x₅ : Step
-x₅ = call w₄ 0 (arrives 1 record { count = counts 65535; overflow = 1; again = counts 65 } (messageOf (result near w₃ x₄)) (pos 65601))
+x₅ = call near w₄ 0 (arrives 1 record { count = counts 65535; overflow = 1; again = counts 65 } (messageOf (result near w₃ x₄)) (pos 65601))
 
 unfoldable pub w₅ : World
 w₅ = step near w₄ x₅
 
 -- and has it once more
 unfoldable pub x₆ : Step
-x₆ = call w₅ 0 (arrives 1 (counting (counts 65)) (messageOf (result near w₃ x₄)) (pos 65601))
+x₆ = call near w₅ 0 (arrives 1 (counting (counts 65)) (messageOf (result near w₃ x₄)) (pos 65601))
 
 abbrev pub story : List Step
 story = x₁ ∷ x₂ ∷ x₃ ∷ x₄ ∷ x₅ ∷ x₆ ∷ []

@@ -1,5 +1,5 @@
 -- Demand 1, frame: "No call for one seat alters another seat's clock, links or entries."
--- A call is lent one clock and one set of links and yields no other; of the run it keeps the length, and every place but the host's first NHOSTS. Of the links it keeps the slots past the count; only setting afresh sets all eight. Only opening a walk changes the copy of a packet, and keeps its length; only that, a step and setting afresh change the walk.
+-- A call is lent one clock and one set of links and yields no other; the net table it is lent to read, and yields none; of the run it keeps the length, and every place but the host's first NHOSTS. Of the links it keeps the slots past the count; only setting afresh sets all eight. Only opening a walk changes the copy of a packet, and keeps its length; only that, a step and setting afresh change the walk.
 use mathlib.Core.Path.{_≡_}
 use mathlib.Core.List.{List}
 use Prim.Native.Nat.{ℕ, _+_, _≤_, _<_}

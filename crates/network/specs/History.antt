@@ -44,7 +44,7 @@ places k run = take placesPerHost (drop (firstPlace k) run)
 abbrev pub Holds : (number : ℕ) → List Entry → Type 0
 Holds k run = firstPlace k + placesPerHost ≤ length run
 
--- A call is lent the clock and the walk that were left; the links up to the count as they were left; of the copy the packet that an open walk holds; and a run in which the host's first NHOSTS places are as they were left, if it holds all 255. The slots past the count, the octets past the packet, the places past NHOSTS and what else the run holds are free.
+-- A call is lent the clock and the walk that were left; the links up to the count as they were left; of the copy the packet that an open walk holds; and a run in which the host's first NHOSTS places are as they were left, if it holds all 255. The slots past the count, the octets past the packet, the places past NHOSTS and what else the run holds are free. So is the net table, which is no host's own.
 pub record Lends (was : Left) (x : Lent) : Type 0 where
   pub own-clock : x .host .clock ≡ was .clock
   pub own-links : ownLinks (x .host .settings) (x .host .links) ≡ ownLinks (x .host .settings) (was .links)

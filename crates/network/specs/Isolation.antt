@@ -1,4 +1,4 @@
--- Demand 1, lists: "A seat's answers depend only on its own settings, its own calls, the packets given to it and the lengths of what is lent, provided each call is lent what the seat's last one left."
+-- Demand 1, lists: "A seat's answers depend only on its own settings, its own calls, the packets given to it and the lengths of what is lent, provided each call is lent what the seat's last one left." And on the table that each call is lent, which the tutor alone changes.
 use mathlib.Core.Path.{_≡_}
 use mathlib.Core.Bool.{cond}
 use mathlib.Core.List.{List, [], _∷_, map}
@@ -7,6 +7,7 @@ use lib.Dec.{eqb}
 use lib.ListN.{length, take}
 use Rattle.answer.specs.declared.Answer.the-variants.{Done}
 use Rattle.clock.specs.declared.Clock.{Clock}
+use Rattle.class_table.specs.declared.ClassTable.{ClassTable}
 use Rattle.table.specs.declared.Entry.{Entry}
 use Rattle.host.specs.declared.Settings.{Settings}
 use Rattle.host.specs.declared.Links.{Links}
@@ -33,9 +34,10 @@ toldAt k es = map (λ (e : Event). told (outcome e)) (own k es)
 abbrev pub settingsOf : Event → Settings
 settingsOf e = e .lent .host .settings
 
--- two calls that agree in settings, input and lengths
+-- two calls that agree in settings, table, input and lengths
 pub record Agree (e f : Event) : Type 0 where
   pub settings-same : settingsOf e ≡ settingsOf f
+  pub nets-same : e .lent .nets ≡ f .lent .nets
   pub input-same : SameInput (e .call) (f .call)
   pub length-same : length (e .lent .run) ≡ length (f .lent .run)
   pub room-same : length (e .lent .copy) ≡ length (f .lent .copy)
@@ -87,10 +89,11 @@ IsolationFromAfresh =
 
 -- ---- one run that all hosts share
 
--- a call at a number, with its settings; the run is the shared one
+-- a call at a number, with its settings and the table as it stands; the run is the shared one
 pub record SharedEvent : Type 0 where
   pub number : ℕ
   pub settings : Settings
+  pub nets : ClassTable
   pub call : Call
 
 -- each host's clock, links and walk with its copy, and the one run
@@ -102,7 +105,7 @@ pub record Shared : Type 0 where
   pub run : List Entry
 
 abbrev pub sharedLent : Shared → SharedEvent → Lent
-sharedLent w e = lent (e .settings) (e .number) (w .clock (e .number)) (w .links (e .number)) (w .walk (e .number)) (w .copy (e .number)) (w .run)
+sharedLent w e = lent (e .settings) (e .nets) (e .number) (w .clock (e .number)) (w .links (e .number)) (w .walk (e .number)) (w .copy (e .number)) (w .run)
 
 abbrev pub sharedOutcome : Shared → SharedEvent → Outcome
 sharedOutcome w e = perform (e .call) (sharedLent w e)

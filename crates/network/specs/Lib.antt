@@ -7,6 +7,7 @@ pub mod Range
 pub mod Heard
 pub mod History
 pub mod Isolation
+pub mod Class
 pub mod Pair
 pub mod LineCalls
 pub mod OwnAlone
@@ -20,4 +21,6 @@ pub mod TwoSeats
 pub mod Example
 pub mod Sharp
 pub mod WalkEnds
+pub mod MidWalk
+pub mod TutorSeen
 pub mod EachBox

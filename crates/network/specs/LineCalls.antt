@@ -22,6 +22,7 @@ use Rattle.wire.specs.declared.Packet.{Packet}
 use Rattle.wire.specs.declared.Parsed.{Parsed}
 use Rattle.wire.specs.declared.Parsed.the-variants.{Good, Bad}
 use Rattle.wire.specs.Packet.{packetLength}
+use Rattle.class_table.specs.declared.ClassTable.{ClassTable}
 use Rattle.table.specs.declared.Entry.{Entry}
 use Rattle.table.specs.declared.Update.{Update}
 use Rattle.table.specs.declared.Updated.{Updated}
@@ -69,43 +70,43 @@ lineClockSet p octets h w =
 abbrev pub lineBoxD : Packet → (packet : List ℕ) → Host → Walk → Effect
 lineBoxD p octets h w = nextId p (host (h .settings) (lineClockSet p octets h w) (h .links)) w nothing
 
-abbrev pub lineBoxAt : Place → Counter → Packet → (packet : List ℕ) → Host → Walk → Entry → Effect
-lineBoxAt Nowhere k p octets h w e = boxAt Nowhere k p octets h w e
-lineBoxAt Step1 k p octets h w e = lineBox1 h w
-lineBoxAt Step2 k p octets h w e = boxAt Step2 k p octets h w e
-lineBoxAt Step3 k p octets h w e = boxAt Step3 k p octets h w e
-lineBoxAt Step4 k p octets h w e = boxAt Step4 k p octets h w e
-lineBoxAt Step5 k p octets h w e = boxAt Step5 k p octets h w e
-lineBoxAt LineA k p octets h w e = boxAt LineA k p octets h w e
-lineBoxAt LineB k p octets h w e = boxAt LineB k p octets h w e
-lineBoxAt LineC k p octets h w e = boxAt LineC k p octets h w e
-lineBoxAt LineD k p octets h w e = lineBoxD p octets h w
+abbrev pub lineBoxAt : Place → Counter → Packet → (packet : List ℕ) → ClassTable → Host → Walk → Entry → Effect
+lineBoxAt Nowhere k p octets t h w e = boxAt Nowhere k p octets t h w e
+lineBoxAt Step1 k p octets t h w e = lineBox1 h w
+lineBoxAt Step2 k p octets t h w e = boxAt Step2 k p octets t h w e
+lineBoxAt Step3 k p octets t h w e = boxAt Step3 k p octets t h w e
+lineBoxAt Step4 k p octets t h w e = boxAt Step4 k p octets t h w e
+lineBoxAt Step5 k p octets t h w e = boxAt Step5 k p octets t h w e
+lineBoxAt LineA k p octets t h w e = boxAt LineA k p octets t h w e
+lineBoxAt LineB k p octets t h w e = boxAt LineB k p octets t h w e
+lineBoxAt LineC k p octets t h w e = boxAt LineC k p octets t h w e
+lineBoxAt LineD k p octets t h w e = lineBoxD p octets h w
 
-abbrev pub lineBoxOf : Counter → (packet : List ℕ) → Host → Walk → Entry → Parsed → Effect
-lineBoxOf k octets h w e (Bad a) = answers (plainly OutOfRange) (h .clock) (h .links) w
-lineBoxOf k octets h w e (Good p) = lineBoxAt (placeOf w) k p octets h w e
+abbrev pub lineBoxOf : Counter → (packet : List ℕ) → ClassTable → Host → Walk → Entry → Parsed → Effect
+lineBoxOf k octets t h w e (Bad a) = answers (plainly OutOfRange) (h .clock) (h .links) w
+lineBoxOf k octets t h w e (Good p) = lineBoxAt (placeOf w) k p octets t h w e
 
-abbrev pub lineStep : Counter → Host → Walk → (copy : List ℕ) → Entry → Effect
-lineStep k h w copy e =
+abbrev pub lineStep : Counter → ClassTable → Host → Walk → (copy : List ℕ) → Entry → Effect
+lineStep k t h w copy e =
     cond (not (isOpen w)) (answers (plainly NoWalk) (h .clock) (h .links) w)
-    (lineBoxOf k (packetOf w copy) h w e (inspect (h .settings) (w .link) (packetOf w copy)))
+    (lineBoxOf k (packetOf w copy) t h w e (inspect (h .settings) (w .link) (packetOf w copy)))
 
 -- ---- requests
 
-abbrev pub lineEffect : Request → Host → Walk → (copy : List ℕ) → Entry → Effect
-lineEffect Initialize h w copy e = effect Initialize h w copy e
-lineEffect (Tick n) h w copy e = answers (plainly Done) (lineTick (h .settings .«clock_tick») (h .settings .«hold_interval») (h .clock)) (h .links) w
-lineEffect (Adjust n) h w copy e = answers (plainly Done) (lineAdjust (h .settings .«hold_interval») (h .clock)) (h .links) w
-lineEffect (Set ms n) h w copy e = answers (plainly Done) (lineSet (h .settings .«hold_interval») (millis ms) (h .clock)) (h .links) w
-lineEffect (Read k) h w copy e =
+abbrev pub lineEffect : Request → ClassTable → Host → Walk → (copy : List ℕ) → Entry → Effect
+lineEffect Initialize t h w copy e = effect Initialize t h w copy e
+lineEffect (Tick n) t h w copy e = answers (plainly Done) (lineTick (h .settings .«clock_tick») (h .settings .«hold_interval») (h .clock)) (h .links) w
+lineEffect (Adjust n) t h w copy e = answers (plainly Done) (lineAdjust (h .settings .«hold_interval») (h .clock)) (h .links) w
+lineEffect (Set ms n) t h w copy e = answers (plainly Done) (lineSet (h .settings .«hold_interval») (millis ms) (h .clock)) (h .links) w
+lineEffect (Read k) t h w copy e =
     let r : Reading = lineReading (h .clock) in
     answers (tellsTime (r .time) (r .clock .date)) (r .clock) (h .links) w
-lineEffect Second h w copy e = effect Second h w copy e
-lineEffect (SelfReport k) h w copy e =
+lineEffect Second t h w copy e = effect Second t h w copy e
+lineEffect (SelfReport k) t h w copy e =
     let r : Reading = lineReading (h .clock) in
     record { reply = plainly Done; clock = r .clock; links = h .links; walk = w; work = each (h .settings) (Reported (r .time)) }
-lineEffect (Lookup a) h w copy e = effect (Lookup a) h w copy e
-lineEffect (Step k) h w copy e = lineStep k h w copy e
+lineEffect (Lookup a) t h w copy e = effect (Lookup a) t h w copy e
+lineEffect (Step k) t h w copy e = lineStep k t h w copy e
 
 -- ---- sends
 
@@ -115,14 +116,14 @@ lineSend i room h =
 
 -- ---- arrivals
 
-abbrev pub lineInspected : Host → (link : ℕ) → Parsed → Arrived
-lineInspected h i (Bad a) = ends a h
-lineInspected h i (Good p) = actionAt (lineReading (h .clock)) noCount h i p
+abbrev pub lineInspected : ClassTable → Host → (link : ℕ) → Parsed → Arrived
+lineInspected t h i (Bad a) = ends a h
+lineInspected t h i (Good p) = actionAt (lineReading (h .clock)) noCount t h i p
 
-abbrev pub lineDelivered : Delivery → (packet : List ℕ) → Host → Arrived
-lineDelivered (Inspect i) octets h = inspection i octets h
-lineDelivered (Act i k) octets h = lineInspected h i (inspect (h .settings) i octets)
-lineDelivered (Receive i k) octets h = lineInspected h i (inspect (h .settings) i octets)
+abbrev pub lineDelivered : Delivery → (packet : List ℕ) → ClassTable → Host → Arrived
+lineDelivered (Inspect i) octets t h = inspection i octets h
+lineDelivered (Act i k) octets t h = lineInspected t h i (inspect (h .settings) i octets)
+lineDelivered (Receive i k) octets t h = lineInspected t h i (inspect (h .settings) i octets)
 
 -- line (d)'s Set is that of the line clock
 abbrev pub lineSettled : (clockHost : Bool) → Seconds → Date → Update → Clock → Stage Entry → Updated
@@ -147,9 +148,9 @@ lineUpdatedBy e octets x =
     record { reply = e .reply; clock = w .clock; links = e .links; walk = x .walk; copy = x .copy; run = withEntries (x .number) (w .entries) (x .run); buffer = List.[] }
 
 abbrev pub lineWork : Call → Lent → Outcome
-lineWork (ask q) x = carriedOut (lineEffect q (x .host) (x .walk) (x .copy) (entryAt (wanted q (x .host .settings) (x .walk)) x)) x
+lineWork (ask q) x = carriedOut (lineEffect q (x .nets) (x .host) (x .walk) (x .copy) (entryAt (wanted q (x .nets) (x .host .settings) (x .walk)) x)) x
 lineWork (send i k buffer) x = sentBy (lineSend i (length buffer) (x .host)) buffer x
-lineWork (deliver d packet) x = lineUpdatedBy (lineDelivered d packet (x .host)) packet x
+lineWork (deliver d packet) x = lineUpdatedBy (lineDelivered d packet (x .nets) (x .host)) packet x
 lineWork (openWalk i packet) x = openedBy (opening i packet (x .host .settings) (x .walk)) packet x
 
 unfoldable pub linePerform : Call → Lent → Outcome

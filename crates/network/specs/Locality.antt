@@ -1,4 +1,4 @@
--- Demand 1, locality: a call's answer, values, clock, links, walk, entries and message depend only on the number, the settings, the host's own clock, links, walk and entries, the packet that an open walk holds, the input, and the lengths of what is lent.
+-- Demand 1, locality: a call's answer, values, clock, links, walk, entries and message depend only on the number, the settings, the class's net table, the host's own clock, links, walk and entries, the packet that an open walk holds, the input, and the lengths of what is lent.
 -- Of the links these are the slots up to the count, 8 at most; where the slots past it are the same before, they are the same after. So with the octets of the copy past the packet.
 use mathlib.Core.Path.{_≡_}
 use mathlib.Core.Bool.{cond}
@@ -31,6 +31,7 @@ heldPacket w copy = cond (isOpen w) (packetOf w copy) []
 
 pub record Alike (x y : Lent) : Type 0 where
   pub settings-same : x .host .settings ≡ y .host .settings
+  pub nets-same : x .nets ≡ y .nets
   pub number-same : x .number ≡ y .number
   pub clock-same : x .host .clock ≡ y .host .clock
   pub links-same : ownLinks (x .host .settings) (x .host .links) ≡ ownLinks (y .host .settings) (y .host .links)

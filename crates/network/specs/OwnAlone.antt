@@ -3,7 +3,7 @@ use mathlib.Core.Path.{_≡_}
 use mathlib.Core.Bool.{Bool, true, false, cond, not, _&&_, _||_}
 use mathlib.Core.List.{map}
 use Prim.Native.Nat.{ℕ, _<_}
-use lib.Dec.{ltb, leb, eqb}
+use lib.Dec.{ltb, eqb}
 use lib.IntN.{pos}
 use lib.ListN.{length}
 use Rattle.quantity.specs.declared.Millis.{Millis}
@@ -17,7 +17,8 @@ use Rattle.clock.specs.Midnight.{dayMillis}
 use Rattle.clock.specs.Clock.{tickInRange}
 use Rattle.route.specs.declared.Found.{Found}
 use Rattle.route.specs.declared.Found.the-variants.{Id, Nothing}
-use Rattle.route.specs.Find.{isFound, rowsOf, idsBelow}
+use Rattle.route.specs.Find.{isFound}
+use Rattle.class_table.specs.Table.{tableBad}
 use Rattle.table.specs.declared.Entry.{Entry}
 use Rattle.table.specs.declared.run.Change.the-variants.{Put}
 use Rattle.table.specs.declared.run.Changes.{Changes}
@@ -54,33 +55,34 @@ settingsUnmarked s =
     fromTo 1 8 (s .«link_count»)
     && switchesGood s
     && fromTo 1 255 (s .layout .nhosts)
-    && leb (s .net .count) 32
     && fromTo 1 223 (s .address .first)
     && (eqb (s .«clock_host») clockSettingOff || ltb (s .«clock_host») (s .layout .nhosts))
     && fromTo 1 255 (s .«hold_interval» .0)
     && tickInRange (s .«clock_tick»)
     && (not (lessMillis (s .time) (millis (pos 0))) && lessMillis (s .time) dayMillis)
     && real (s .date)
-    && idsBelow (s .layout .nhosts) (rowsOf (s .net))
     && isFound (ownId s)
 
 abbrev pub lentUnmarked : Lent → Bool
 lentUnmarked x = hostInRange (x .host) && ownWalkInRange x && every entryInRange (entriesOf x)
 
-abbrev pub outUnmarked : Scope → Lent → Bool
-outUnmarked Places x = noPlaces (x .number) (x .run)
-outUnmarked All x = noPlaces (x .number) (x .run) || not (lentUnmarked x)
-outUnmarked Walking x = noPlaces (x .number) (x .run) || not (lentUnmarked x)
-outUnmarked (OnLink i) x = noLink (x .host .settings) i || (noPlaces (x .number) (x .run) || not (lentUnmarked x))
-outUnmarked (Opening i) x =
+abbrev pub ownOutUnmarked : Scope → Lent → Bool
+ownOutUnmarked Places x = noPlaces (x .number) (x .run)
+ownOutUnmarked All x = noPlaces (x .number) (x .run) || not (lentUnmarked x)
+ownOutUnmarked Walking x = noPlaces (x .number) (x .run) || not (lentUnmarked x)
+ownOutUnmarked (OnLink i) x = noLink (x .host .settings) i || (noPlaces (x .number) (x .run) || not (lentUnmarked x))
+ownOutUnmarked (Opening i) x =
     ltb (length (x .copy)) longest
     || (noLink (x .host .settings) i || (noPlaces (x .number) (x .run) || not (lentUnmarked x)))
+
+abbrev pub outUnmarked : Scope → Lent → Bool
+outUnmarked a x = tableBad (x .nets) || ownOutUnmarked a x
 
 abbrev pub guardUnmarked : Scope → Lent → Answer
 guardUnmarked a x =
     cond (outUnmarked a x) OutOfRange
     (cond (inWalk a (x .walk)) InWalk
-    (cond (not (settingsUnmarked (x .host .settings))) Setting Done))
+    (cond (not (settingsUnmarked (x .host .settings) && eqb (x .host .settings .layout .nhosts) (x .nets .nhosts))) Setting Done))
 
 -- ---- "Self-report: update of the seat's own id with PID 0, DELAY 0, OFFSET 0, without (d)."
 
@@ -119,7 +121,7 @@ abbrev pub bare : Entry → Entry
 bare e = withMark 0 e
 
 abbrev pub bareLent : Lent → Lent
-bareLent x = lent (x .host .settings) (x .number) (x .host .clock) (x .host .links) (x .walk) (x .copy) (map bare (x .run))
+bareLent x = lent (x .host .settings) (x .nets) (x .number) (x .host .clock) (x .host .links) (x .walk) (x .copy) (map bare (x .run))
 
 abbrev pub bareOutcome : Outcome → Outcome
 bareOutcome o =

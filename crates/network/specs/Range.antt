@@ -1,5 +1,6 @@
--- Demand 1, range: setting afresh leaves a host that 12 does not refuse, and no call but a step leaves another under the same settings. A step leaves one whose clock, links and entries 12 does not refuse, and its walk neither, if it was opened.
+-- Demand 1, range: setting afresh leaves a host that 12 does not refuse, and no call but a step leaves another under the same settings. A step leaves one whose clock, links and entries 12 does not refuse, and its walk neither, if it was opened. Another table that 12 does not refuse changes nothing of that.
 use mathlib.Core.Path.{_≡_}
+use mathlib.Core.Bool.{false}
 use mathlib.Core.List.{List}
 use Prim.Native.Nat.{ℕ, _<_, _^_}
 use Rattle.quantity.specs.declared.Count.{Count}
@@ -7,8 +8,10 @@ use Rattle.clock.specs.declared.Counter.{Counter}
 use Rattle.clock.specs.Clock.{countUsed}
 use Rattle.clock.specs.LineClock.{noCount}
 use Rattle.answer.specs.declared.Answer.the-variants.{Done, OutOfRange}
+use Rattle.class_table.specs.declared.ClassTable.{ClassTable}
+use Rattle.class_table.specs.Table.{tableBad}
 use Rattle.host.specs.declared.guard.Scope.the-variants.{All}
-use Rattle.host.specs.Lent.{Lent}
+use Rattle.host.specs.Lent.{Lent, lent}
 use Rattle.host.specs.Guard.{guard}
 use Rattle.arrival.specs.declared.Delivery.{Delivery}
 use Rattle.arrival.specs.declared.Delivery.the-variants.{Inspect, Act, Receive}
@@ -19,6 +22,10 @@ use Rattle.network.specs.Refusals.{closed}
 -- 12 does not refuse the host
 abbrev pub Accepted : Lent → Type 0
 Accepted x = guard All x ≡ OutOfRange → ⊥
+
+-- what was lent, with another table
+abbrev pub under : ClassTable → Lent → Lent
+under t x = lent (x .host .settings) t (x .number) (x .host .clock) (x .host .links) (x .walk) (x .copy) (x .run)
 
 -- the count that a delivery, and that a call, is handed and works with
 abbrev pub countBy : Delivery → Count
@@ -40,11 +47,12 @@ countOf (send i k buffer) = countUsed k
 countOf (deliver d packet) = countBy d
 countOf (openWalk i packet) = noCount
 
--- what is lent once a walk was opened, and stepped since, under the same settings; a count has 16 bits
+-- what is lent once a walk was opened, and stepped since, under the same settings, with the table as the tutor leaves it; a count has 16 bits
 pub data Walked : Lent → Type 0 where
   begins : (i : ℕ) (packet : List ℕ) (x : Lent) → x .walk .count .0 < 2 ^ 16 → Accepted x → perform (openWalk i packet) x .reply .answer ≡ Done
       → Walked (left x (perform (openWalk i packet) x))
   goes-on : (k : Counter) (x : Lent) → countUsed k .0 < 2 ^ 16 → Walked x → Walked (left x (perform (step k) x))
+  other-table : (t : ClassTable) (x : Lent) → tableBad t ≡ false → Walked x → Walked (under t x)
 
 pub record Range : Type 0 where
   pub fresh :
@@ -55,3 +63,5 @@ pub record Range : Type 0 where
   pub steps : (k : Counter) (x : Lent) → countUsed k .0 < 2 ^ 16 → x .walk .count .0 < 2 ^ 16 → Accepted x → Accepted (closed (left x (perform (step k) x)))
   -- a walk that was opened is never refused with 12
   pub walks : (x : Lent) → Walked x → Accepted x
+  -- whatever the tutor makes of the table, NHOSTS among it
+  pub tables : (t : ClassTable) (x : Lent) → tableBad t ≡ false → Accepted x → Accepted (under t x)

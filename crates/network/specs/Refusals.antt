@@ -33,11 +33,11 @@ clockRead (Receive i k) h = ourReading k h .clock
 
 -- what was lent, with that clock, and another link
 abbrev pub relinked : Delivery → Link → Lent → Lent
-relinked d l x = lent (x .host .settings) (x .number) (clockRead d (x .host)) (withLink (onLink d) l (x .host .links)) (x .walk) (x .copy) (x .run)
+relinked d l x = lent (x .host .settings) (x .nets) (x .number) (clockRead d (x .host)) (withLink (onLink d) l (x .host .links)) (x .walk) (x .copy) (x .run)
 
 -- what was lent, with no walk open
 abbrev pub closed : Lent → Lent
-closed x = lent (x .host .settings) (x .number) (x .host .clock) (x .host .links) noWalk (x .copy) (x .run)
+closed x = lent (x .host .settings) (x .nets) (x .number) (x .host .clock) (x .host .links) noWalk (x .copy) (x .run)
 
 pub record Refusals : Type 0 where
   -- nothing is changed, and the values are zero

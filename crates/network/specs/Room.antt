@@ -7,6 +7,7 @@ use lib.IntN.{ℤ, _-ℤ_, natAbs}
 use Rattle.answer.specs.declared.Answer.the-variants.{Done}
 use Rattle.clock.specs.declared.Clock.{Clock}
 use Rattle.route.specs.Find.{sameNet}
+use Rattle.class_table.specs.declared.ClassTable.{ClassTable}
 use Rattle.table.specs.declared.Entry.{Entry}
 use Rattle.table.specs.Marks.{marked}
 use Rattle.host.specs.declared.Settings.{Settings}
@@ -51,7 +52,8 @@ pub record Room : Type 0 where
   pub fixed : ℕ → ℤ
   pub cable : (seat link : ℕ) → End
   pub longest : ℕ
-  -- what was lent to the setting afresh of each seat
+  -- what was lent to the setting afresh of each seat, the class's net table as it was then among it
+  pub nets : ℕ → ClassTable
   pub clock : ℕ → Clock
   pub links : ℕ → Links
   pub walk : ℕ → Walk
@@ -59,12 +61,12 @@ pub record Room : Type 0 where
   pub run : ℕ → List Entry
 
 -- what a call at seat a is lent: its settings and number, and this
-abbrev pub lentAt : Room → (seat : ℕ) → Clock → Links → Walk → (copy : List ℕ) → List Entry → Lent
-lentAt r a c l walk copy run = lent (r .settings a) (r .number a) c l walk copy run
+abbrev pub lentAt : Room → (seat : ℕ) → ClassTable → Clock → Links → Walk → (copy : List ℕ) → List Entry → Lent
+lentAt r a nets c l walk copy run = lent (r .settings a) nets (r .number a) c l walk copy run
 
 -- the setting afresh of seat a
 abbrev pub afresh : Room → ℕ → Outcome
-afresh r a = perform (ask Initialize) (lentAt r a (r .clock a) (r .links a) (r .walk a) (r .copy a) (r .run a))
+afresh r a = perform (ask Initialize) (lentAt r a (r .nets a) (r .clock a) (r .links a) (r .walk a) (r .copy a) (r .run a))
 
 -- "the id's host is at that seat": the one that marks it
 abbrev pub HostAt : Room → (id seat : ℕ) → Type 0

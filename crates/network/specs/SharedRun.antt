@@ -4,6 +4,7 @@ use mathlib.Core.Bool.{true}
 use mathlib.Core.List.{List, [], _∷_}
 use Prim.Native.Nat.{ℕ, suc, _≤_, _<_}
 use lib.ListN.{getD}
+use Rattle.class_table.specs.declared.ClassTable.{ClassTable}
 use Rattle.table.specs.declared.Entry.{Entry}
 use Rattle.table.specs.Entry.{freshEntry, up}
 use Rattle.host.specs.declared.Links.{Links}
@@ -12,9 +13,10 @@ use Rattle.network.specs.History.{places}
 use Rattle.network.specs.Room.{longestWay, Room, afresh, Proper}
 use Rattle.network.specs.Demand3.{RoomCall, Step, World, leftAt, result, step, Timely, Starts, Right}
 
--- a call at a seat, with the links that it is lent; the run is the shared one
+-- a call at a seat, with the class's net table, as the tutor left it by then, and the links that it is lent; the run is the shared one
 pub record SharedStep : Type 0 where
   pub seat : ℕ
+  pub nets : ClassTable
   pub links : Links
   pub call : RoomCall
 
@@ -25,7 +27,7 @@ pub record SharedWorld : Type 0 where
 
 -- the call, lent the shared run
 abbrev pub lent : SharedWorld → SharedStep → Step
-lent w x = record { seat = x .seat; links = x .links; run = w .run; call = x .call }
+lent w x = record { seat = x .seat; nets = x .nets; links = x .links; run = w .run; call = x .call }
 
 unfoldable pub sharedStep : Room → SharedWorld → SharedStep → SharedWorld
 sharedStep r w x = record { world = step r (w .world) (lent w x); run = result r (w .world) (lent w x) .run }

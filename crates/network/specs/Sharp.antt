@@ -13,7 +13,7 @@ use Rattle.host.specs.State.{freshLinks}
 use Rattle.network.specs.Left.{messageOf}
 use Rattle.network.specs.Room.{Room, Proper}
 use Rattle.network.specs.Demand3.{RoomCall, ticks, reports, sends, arrives, Step, World, result, step, history, Allows, Starts, entryOf, Demand3Within}
-use Rattle.network.specs.TwoSeats.{Pair, settingsFor, placesOf, pair, begun, call}
+use Rattle.network.specs.TwoSeats.{Pair, settingsFor, netsFor, placesOf, pair, begun, call}
 
 abbrev pub tooLong : ℕ
 tooLong = 16384
@@ -29,7 +29,7 @@ late = pair lateness
 
 -- a call of seat 0 while its links and its table are fresh
 abbrev pub early : RoomCall → Step
-early x = record { seat = 0; links = freshLinks (settingsFor lateness 0); run = placesOf 0; call = x }
+early x = record { seat = 0; nets = netsFor lateness; links = freshLinks (settingsFor lateness 0); run = placesOf 0; call = x }
 
 unfoldable pub w₀ : World
 w₀ = begun late
@@ -43,21 +43,21 @@ w₁ = step late w₀ x₁
 
 -- seat 1 reports itself
 unfoldable pub x₂ : Step
-x₂ = call w₁ 1 (reports noCounter)
+x₂ = call late w₁ 1 (reports noCounter)
 
 unfoldable pub w₂ : World
 w₂ = step late w₁ x₂
 
 -- gets the message, 16,384 ms after it was sent
 unfoldable pub x₃ : Step
-x₃ = call w₂ 1 (arrives 1 noCounter (messageOf (result late w₀ x₁)) (pos 56384))
+x₃ = call late w₂ 1 (arrives 1 noCounter (messageOf (result late w₀ x₁)) (pos 56384))
 
 unfoldable pub w₃ : World
 w₃ = step late w₂ x₃
 
 -- and answers
 unfoldable pub x₄ : Step
-x₄ = call w₃ 1 (sends 1 noCounter (replicate 40 0) (pos 56384))
+x₄ = call late w₃ 1 (sends 1 noCounter (replicate 40 0) (pos 56384))
 
 unfoldable pub w₄ : World
 w₄ = step late w₃ x₄
@@ -74,7 +74,7 @@ unfoldable pub x₆ : Step
 x₆ = early (arrives 1 noCounter (messageOf (result late w₃ x₄)) (pos 72768))
 
 unfoldable pub x₇ : World → Step
-x₇ w = call w 0 (arrives 1 noCounter (messageOf (result late w₃ x₄)) (pos 72768))
+x₇ w = call late w 0 (arrives 1 noCounter (messageOf (result late w₃ x₄)) (pos 72768))
 
 abbrev pub story : List Step
 story = x₁ ∷ x₂ ∷ x₃ ∷ x₄ ∷ (wait ++ x₆ ∷ x₇ (step late w₅ x₆) ∷ [])

@@ -10,7 +10,8 @@ use Rattle.quantity.specs.Quantity.{millis, seconds}
 use Rattle.calendar.specs.Date.{firstDate}
 use Rattle.clock.specs.Clock.{freshClock}
 use Rattle.wire.specs.declared.Address.{Address}
-use Rattle.route.specs.Find.{zeroNet}
+use Rattle.class_table.specs.declared.ClassTable.{ClassTable}
+use Rattle.class_table.specs.Table.{tableOf}
 use Rattle.table.specs.declared.Entry.{Entry}
 use Rattle.table.specs.declared.marks.Marks.{Marks}
 use Rattle.table.specs.Entry.{freshEntry, withMark}
@@ -45,9 +46,12 @@ settingsFor p a =
       date = firstDate;
       «link_count» = 1;
       links = replicate 8 unset;
-      net = record { count = 0; rows = replicate 32 record { net = zeroNet; host = 0 } };
       marks = p .marks a;
     }
+
+-- the class's net table, without rows
+abbrev pub netsFor : Pair → ClassTable
+netsFor p = tableOf (p .hosts) []
 
 -- the places of a host that marks its own id alone, as setting afresh leaves them
 abbrev pub placesOf : (own : ℕ) → List Entry
@@ -65,6 +69,7 @@ pair p =
       fixed = λ a. pos (500 * a);
       cable = wire;
       longest = p .longest;
+      nets = λ a. netsFor p;
       clock = λ a. freshClock (millis (pos 0)) firstDate;
       links = λ a. freshLinks (settingsFor p a);
       walk = λ a. noWalk;
@@ -80,5 +85,5 @@ begun r = record { state = λ n. leftBy n [] (afresh r n); mail = [] }
 abbrev pub runFor : World → ℕ → List Entry
 runFor w a = replicate (placesPerHost * a) freshEntry ++ w .state a .places
 
-abbrev pub call : World → ℕ → RoomCall → Step
-call w a x = record { seat = a; links = w .state a .links; run = runFor w a; call = x }
+abbrev pub call : Room → World → ℕ → RoomCall → Step
+call r w a x = record { seat = a; nets = r .nets a; links = w .state a .links; run = runFor w a; call = x }

@@ -1,28 +1,70 @@
--- Request 5: "Run to its end it leaves the answer, clock, link and entries of the ordinary arrival, for every packet and seat."
+-- Request 5: "Run to its end it leaves the answer, clock, link and entries of the ordinary arrival, for every packet and seat." Request 10: "A walk of Wish 5 uses the table as it stands at the box that looks it up, and equals the arrival made with that table."
 use mathlib.Core.Path.{_≡_}
-use mathlib.Core.Bool.{Bool, true, false, cond}
-use mathlib.Core.List.{List}
-use Prim.Native.Nat.{ℕ, zero, suc, _+_, _*_, _≤_, _<_, _^_}
+use mathlib.Core.Bool.{Bool, true, false, cond, not}
+use mathlib.Core.List.{List, [], _∷_, map}
+use Prim.Native.Nat.{ℕ, _+_, _*_, _≤_, _^_}
+use lib.Dec.{ltb, eqb}
 use lib.ListN.{length}
-use Rattle.answer.specs.declared.Answer.the-variants.{Done, InWalk}
+use Rattle.answer.specs.declared.Answer.{Answer}
+use Rattle.answer.specs.declared.Answer.the-variants.{Done, Setting, OutOfRange, InWalk}
 use Rattle.clock.specs.declared.Counter.{Counter}
 use Rattle.clock.specs.Clock.{countUsed}
+use Rattle.clock.specs.LineClock.{noCounter}
+use Rattle.class_table.specs.declared.ClassTable.{ClassTable}
+use Rattle.class_table.specs.Table.{tableBad}
+use Rattle.table.specs.Forms.{every}
+use Rattle.host.specs.declared.Settings.{Settings}
+use Rattle.host.specs.declared.guard.Scope.the-variants.{Walking}
 use Rattle.host.specs.State.{placesPerHost}
 use Rattle.host.specs.Lent.{Lent}
-use Rattle.host.specs.Guard.{longest, done}
+use Rattle.host.specs.Guard.{longest, guard, done}
 use Rattle.host.specs.Walk.{isOpen}
 use Rattle.calls.specs.Perform.{Outcome, step, openWalk, receive, refused, perform, left}
+use Rattle.network.specs.Range.{under}
 
--- boxes one after another, each lent what the one before it left, until the walk is closed: so many at most, with a counter for each
-unfoldable pub walkOn : (boxes : ℕ) → (ℕ → Counter) → Lent → Outcome
-walkOn zero ks x = refused InWalk (step (ks 0)) x
-walkOn (suc n) ks x =
-    let o : Outcome = perform (step (ks 0)) x in
-    cond (isOpen (o .walk)) (walkOn n (λ j. ks (suc j)) (left x o)) o
+-- ---- boxes
+
+-- what a box is handed: its counter, and the class's net table as it then stands
+pub record Box : Type 0 where
+  pub counter : Counter
+  pub nets : ClassTable
+
+abbrev pub boxed : Box → Lent → Outcome
+boxed b x = perform (step (b .counter)) (under (b .nets) x)
+
+-- one after another, each lent what the one before it left, until the walk is closed
+unfoldable pub walkOn : List Box → Lent → Outcome
+walkOn [] x = refused InWalk (step noCounter) x
+walkOn (b ∷ bs) x = cond (isOpen (boxed b x .walk)) (walkOn bs (left x (boxed b x))) (boxed b x)
+
+-- what they leave, all of them
+unfoldable pub boxesOn : List Box → Lent → Lent
+boxesOn [] x = x
+boxesOn (b ∷ bs) x = boxesOn bs (left x (boxed b x))
 
 -- five steps, and four lines of each id
 abbrev pub mostBoxes : ℕ
 mostBoxes = 5 + 4 * placesPerHost
+
+-- ---- boxes that were not refused
+
+-- what a table has a seat answer: 12 for a bad one, 1 for one of another NHOSTS
+abbrev pub byTable : Settings → ClassTable → Answer
+byTable s t = cond (tableBad t) OutOfRange (cond (not (eqb (s .layout .nhosts) (t .nhosts))) Setting Done)
+
+abbrev pub taken : Settings → List Box → List Box
+taken s [] = []
+taken s (b ∷ bs) = cond (done (byTable s (b .nets))) (b ∷ taken s bs) (taken s bs)
+
+-- a count has 16 bits
+abbrev pub countsFit : List Box → Bool
+countsFit bs = every (λ (b : Box). ltb (countUsed (b .counter) .0) (2 ^ 16)) bs
+
+-- all boxes with one table
+abbrev pub withTable : ClassTable → List Counter → List Box
+withTable t ks = map (λ (k : Counter). record { counter = k; nets = t }) ks
+
+-- ---- the claim
 
 -- what an opened walk ends with, beside what the arrival leaves
 pub record Ends (walked arrived : Outcome) : Type 0 where
@@ -32,12 +74,24 @@ pub record Ends (walked arrived : Outcome) : Type 0 where
   pub run : walked .run ≡ arrived .run
   pub closed : isOpen (walked .walk) ≡ false
 
+abbrev pub opening : (link : ℕ) (packet : List ℕ) → Lent → Outcome
+opening i packet x = perform (openWalk i packet) x
+
+-- A host has eight slots for its links.
 pub record WalkEnds : Type 0 where
-  -- with the first box's counts; the other boxes do not look at theirs. A host has eight slots for its links, and a count 16 bits.
-  pub whole : (i : ℕ) (packet : List ℕ) (ks : ℕ → Counter) (x : Lent) → length (x .host .links .all) ≡ 8 → ((j : ℕ) → countUsed (ks j) .0 < 2 ^ 16)
-      → perform (openWalk i packet) x .reply .answer ≡ Done
-      → Ends (walkOn mostBoxes ks (left x (perform (openWalk i packet) x))) (perform (receive i (ks 0) packet) x)
-  -- where opening refuses, with room for the copy, it is the arrival's refusal, and nothing changes
-  pub refused : (i : ℕ) (packet : List ℕ) (k : Counter) (x : Lent) → longest ≤ length (x .copy) → done (perform (openWalk i packet) x .reply .answer) ≡ false
-      → perform (openWalk i packet) x ≡ perform (receive i k packet) x
-  pub unchanged : (i : ℕ) (packet : List ℕ) (x : Lent) → done (perform (openWalk i packet) x .reply .answer) ≡ false → left x (perform (openWalk i packet) x) ≡ x
+  -- of the boxes that were not refused, with the counts of the first and the table of the fifth; the others do not look at theirs
+  pub whole : (i : ℕ) (packet : List ℕ) (x : Lent) (bs : List Box) (b₁ b₂ b₃ b₄ b₅ : Box) (more : List Box) → length (x .host .links .all) ≡ 8 → countsFit bs ≡ true
+      → opening i packet x .reply .answer ≡ Done → taken (x .host .settings) bs ≡ b₁ ∷ b₂ ∷ b₃ ∷ b₄ ∷ b₅ ∷ more → mostBoxes ≤ length (taken (x .host .settings) bs)
+      → Ends (walkOn bs (left x (opening i packet x))) (perform (receive i (b₁ .counter) packet) (under (b₅ .nets) x))
+  -- with one table from opening to end it is the arrival with that table
+  pub one-table : (i : ℕ) (packet : List ℕ) (x : Lent) (k : Counter) (ks : List Counter) → length (x .host .links .all) ≡ 8 → countsFit (withTable (x .nets) (k ∷ ks)) ≡ true
+      → opening i packet x .reply .answer ≡ Done → mostBoxes ≤ length (k ∷ ks)
+      → Ends (walkOn (withTable (x .nets) (k ∷ ks)) (left x (opening i packet x))) (perform (receive i k packet) x)
+  -- while the walk is open, a box is refused for its table alone, if at all
+  pub by-table : (i : ℕ) (packet : List ℕ) (x : Lent) (bs : List Box) (t : ClassTable) → countsFit bs ≡ true → opening i packet x .reply .answer ≡ Done
+      → isOpen (boxesOn bs (left x (opening i packet x)) .walk) ≡ true
+      → guard Walking (under t (boxesOn bs (left x (opening i packet x)))) ≡ byTable (x .host .settings) t
+  -- where opening refuses, with room for the copy, it is the arrival's refusal with the same table, and nothing changes
+  pub refused : (i : ℕ) (packet : List ℕ) (k : Counter) (x : Lent) → longest ≤ length (x .copy) → done (opening i packet x .reply .answer) ≡ false
+      → opening i packet x ≡ perform (receive i k packet) x
+  pub unchanged : (i : ℕ) (packet : List ℕ) (x : Lent) → done (opening i packet x .reply .answer) ≡ false → left x (opening i packet x) ≡ x

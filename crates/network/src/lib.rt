@@ -6,10 +6,13 @@ ghost use Rattle.network.specs.Frame.{Frame};
 ghost use Rattle.network.specs.Locality.{Locality};
 ghost use Rattle.network.specs.Range.{Range};
 ghost use Rattle.network.specs.Isolation.{Isolation, IsolationFromAfresh, Alone};
+ghost use Rattle.network.specs.Class.{ClassIsolation};
 ghost use Rattle.network.specs.Pair.{Pair};
 ghost use Rattle.network.specs.LineCalls.{LineCalls};
 ghost use Rattle.network.specs.OwnAlone.{OwnAlone};
 ghost use Rattle.network.specs.WalkEnds.{WalkEnds};
+ghost use Rattle.network.specs.TutorSeen.{TutorSeen};
+ghost use Rattle.network.specs.MidWalk.{MidWalk};
 ghost use Rattle.network.specs.EachBox.{EachBox};
 ghost use Rattle.network.specs.HalfDelay.{HelloHalfDelay};
 ghost use Rattle.network.specs.Demand3.{Demand3};
@@ -34,12 +37,12 @@ pub fn frame()
     ensures { λ _. ⌜ Frame ⌝ }
 {}
 
-// What a call answers and leaves depends only on its number, settings, clock, links, walk with its packet, and entries, its input, and the lengths of what it is lent.
+// What a call answers and leaves depends only on its number, settings, the class's net table, clock, links, walk with its packet, and entries, its input, and the lengths of what it is lent.
 pub fn locality()
     ensures { λ _. ⌜ Locality ⌝ }
 {}
 
-// Setting afresh leaves a host that 12 does not refuse, and so does every call but a step of such a host under the same settings; a step leaves its clock, links and entries so, and a walk that was opened is never refused with 12.
+// Setting afresh leaves a host that 12 does not refuse, and so does every call but a step of such a host under the same settings; a step leaves its clock, links and entries so, and a walk that was opened is never refused with 12; all this whatever the tutor makes of the table.
 pub fn range()
     ensures { λ _. ⌜ Range ⌝ }
 {}
@@ -64,6 +67,16 @@ pub fn alone()
     ensures { λ _. ⌜ Alone ⌝ }
 {}
 
+// In a class, what is told and left at a number depends on its own calls and the tutor's, and on no other seat's: deleting these changes nothing there.
+pub fn class_isolation()
+    ensures { λ _. ⌜ ClassIsolation ⌝ }
+{}
+
+// A list of a class in which the tutor's calls change what a seat is told.
+pub fn tutor_seen()
+    ensures { λ _. ⌜ TutorSeen ⌝ }
+{}
+
 // The arrival in one piece is the inspection and then the action, whatever comes between them, and so is the action alone.
 pub fn inspect_then_act()
     ensures { λ _. ⌜ Pair ⌝ }
@@ -84,9 +97,14 @@ pub fn each_box()
     ensures { λ _. ⌜ EachBox ⌝ }
 {}
 
-// A walk that is opened and run to its end leaves what the arrival with the first box's counts leaves, in at most 5 + 4 x 255 boxes.
+// A walk that is opened and run to its end leaves what the arrival leaves with the first box's counts and the table of the fifth, in at most 5 + 4 x 255 boxes that were not refused; and a box is refused for its table alone.
 pub fn walk_ends()
     ensures { λ _. ⌜ WalkEnds ⌝ }
+{}
+
+// A walk in whose middle the tutor changes a row ends as the arrival with the changed table, and not as with the table of its opening.
+pub fn mid_walk()
+    ensures { λ _. ⌜ MidWalk ⌝ }
 {}
 
 // The half-delay law of step 3: DELAY is the sum of the two ways, and twice the error of OFFSET is at most DELAY plus one.

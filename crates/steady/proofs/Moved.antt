@@ -19,6 +19,7 @@ use Rattle.wire.specs.declared.Parsed.the-variants.{Good, Bad}
 use Rattle.wire.specs.Packet.{packetLength}
 use Rattle.route.specs.declared.Found.{Found}
 use Rattle.route.specs.declared.Found.the-variants.{Id, Nothing}
+use Rattle.class_table.specs.declared.ClassTable.{ClassTable}
 use Rattle.table.specs.declared.Entry.{Entry}
 use Rattle.table.specs.declared.Update.{Update}
 use Rattle.table.specs.declared.run.Changes.{Changes}
@@ -100,10 +101,10 @@ module _ (s : Settings) (packet : List ℕ) (es : List Entry) (c : Clock) where
   fifth l i n p f true (Id id) = swept (noTable (host s c l) i n p f (Id id)) refl refl
   fifth l i n p f false x = swept (withTable (host s c l) i n p f) refl refl
 
-  ended : (l : Links) (i : ℕ) (n : Count) (p : Packet) (g : Stage Flight) → Ends (concluded (host s c l) i n p g)
+  ended : (t : ClassTable) (l : Links) (i : ℕ) (n : Count) (p : Packet) (g : Stage Flight) → Ends (concluded t (host s c l) i n p g)
   unfolding updates sweep
-  ended l i n p (end f) = refl
-  ended l i n p (on f) = fifth (withLink i (f .link) l) i n p f (eqb (p .nhosts) 0) (foundFor s (f .link .neighbor))
+  ended t l i n p (end f) = refl
+  ended t l i n p (on f) = fifth (withLink i (f .link) l) i n p f (eqb (p .nhosts) 0) (foundFor t s (f .link .neighbor))
 
 module _ (x : Lent) where
   abbrev s : Settings
@@ -143,7 +144,7 @@ module _ (x : Lent) where
     c-moved (end y) = next (x .host .clock) (put w y)
     c-moved (on y) = either (At (x .host .clock)) (isClockHost (x .host) w) _ _ (λ _. refl) (λ _. next (x .host .clock) (put w y))
 
-    box-moved : (q : Place) → boxAt q k p packet (x .host) w e .clock ≡ movedBy s (boxMoves q k p packet (x .host) w) (x .host .clock)
+    box-moved : (q : Place) → boxAt q k p packet (x .nets) (x .host) w e .clock ≡ movedBy s (boxMoves q k p packet (x .host) w) (x .host .clock)
     unfolding box1 box2 box3 box4 box5 boxA boxB boxC boxD lineD
     box-moved Nowhere = refl
     box-moved Step1 = refl
@@ -151,8 +152,8 @@ module _ (x : Lent) where
     box-moved Step3 = refl
     box-moved Step4 = four (step4 (broadcast s (w .link)) (x .host .clock .hold) p (inFlight (x .host .links) w))
     box-moved Step5 =
-        either (At (x .host .clock)) (eqb (p .nhosts) 0) (toNeighbor (x .host) (raised w) (foundFor s (linkOf (x .host .links) (w .link) .neighbor))) (onward (atLine 1 0 (raised w)) (x .host .clock) (x .host .links) nothing)
-        (λ _. found (foundFor s (linkOf (x .host .links) (w .link) .neighbor))) (λ _. refl)
+        either (At (x .host .clock)) (eqb (p .nhosts) 0) (toNeighbor (x .host) (raised w) (foundFor (x .nets) s (linkOf (x .host .links) (w .link) .neighbor))) (onward (atLine 1 0 (raised w)) (x .host .clock) (x .host .links) nothing)
+        (λ _. found (foundFor (x .nets) s (linkOf (x .host .links) (w .link) .neighbor))) (λ _. refl)
     box-moved LineA = a-moved (lineA (lineUpdate w p packet) e)
     box-moved LineB = b-moved (lineB (lineUpdate w p packet) e)
     box-moved LineC = c-moved (lineC (lineUpdate w p packet) e)
@@ -164,18 +165,18 @@ module _ (x : Lent) where
         go true = refl
         go false = refl
 
-  stepped : (k : Counter) (e : Entry) → step k (x .host) (x .walk) (x .copy) e .clock ≡ movedBy s (stepMoves k x) (x .host .clock)
+  stepped : (k : Counter) (e : Entry) → step k (x .nets) (x .host) (x .walk) (x .copy) e .clock ≡ movedBy s (stepMoves k x) (x .host .clock)
   unfolding step
   stepped k e = go (not (isOpen (x .walk))) (inspect s (x .walk .link) (packetOf (x .walk) (x .copy)))
     where
       go : (b : Bool) (q : Parsed)
-          → cond b (answers (plainly NoWalk) (x .host .clock) (x .host .links) (x .walk)) (boxOf k (packetOf (x .walk) (x .copy)) (x .host) (x .walk) e q) .clock
+          → cond b (answers (plainly NoWalk) (x .host .clock) (x .host .links) (x .walk)) (boxOf k (packetOf (x .walk) (x .copy)) (x .nets) (x .host) (x .walk) e q) .clock
           ≡ movedBy s (cond b [] (heldMoves k x q)) (x .host .clock)
       go true q = refl
       go false (Bad a) = refl
       go false (Good p) = box-moved k e p (packetOf (x .walk) (x .copy)) (placeOf (x .walk))
 
-  requested : (q : Request) (e : Entry) → effect q (x .host) (x .walk) (x .copy) e .clock ≡ movedBy s (workMoves (ask q) x) (x .host .clock)
+  requested : (q : Request) (e : Entry) → effect q (x .nets) (x .host) (x .walk) (x .copy) e .clock ≡ movedBy s (workMoves (ask q) x) (x .host .clock)
   unfolding initialize tick adjust setBy read second selfReport lookup
   requested Initialize e = refl
   requested (Tick n) e = refl
@@ -188,11 +189,11 @@ module _ (x : Lent) where
   requested (Step k) e = stepped k e
 
   acted : (i : ℕ) (k : Counter) (packet : List ℕ) (q : Parsed)
-      → updates (inspected k (x .host) i q .work) packet (entriesOf x) .clock ≡ movedBy s (actionMoves i k packet x q) (x .host .clock)
+      → updates (inspected k (x .nets) (x .host) i q .work) packet (entriesOf x) .clock ≡ movedBy s (actionMoves i k packet x q) (x .host .clock)
   unfolding updates sweep
   acted i k packet (Bad a) = refl
   acted i k packet (Good p) =
-      ended s packet (entriesOf x) (ourReading k (x .host) .clock) (x .host .links) i (countUsed k) p
+      ended s packet (entriesOf x) (ourReading k (x .host) .clock) (x .nets) (x .host .links) i (countUsed k) p
       (steps2to4 (broadcast s i) (ourReading k (x .host) .clock .hold) p (ourReading k (x .host) .time) (linkOf (x .host .links) i))
 
   worked : (c : Call) → Moved (work c x) (workMoves c x)
@@ -207,7 +208,7 @@ module _ (x : Lent) where
   worked (deliver (Inspect i) packet) = refl
   worked (deliver (Act i k) packet) = acted i k packet (inspect s i packet)
   worked (deliver (Receive i k) packet) =
-      ap (λ (a : Arrived). updates (a .work) packet (entriesOf x) .clock) (one-piece i k packet (x .host)) ∙ acted i k packet (inspect s i packet)
+      ap (λ (a : Arrived). updates (a .work) packet (entriesOf x) .clock) (one-piece i k packet (x .nets) (x .host)) ∙ acted i k packet (inspect s i packet)
 
   performed : (c : Call) → Moved (perform c x) (moves c x)
   unfolding perform moves

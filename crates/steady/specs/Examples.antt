@@ -12,7 +12,8 @@ use Rattle.clock.specs.Midnight.{dayMillis}
 use Rattle.clock.specs.Clock.{freshClock}
 use Rattle.clock.specs.LineClock.{noCount, noCounter}
 use Rattle.wire.specs.Packet.{message}
-use Rattle.route.specs.Find.{zeroNet}
+use Rattle.class_table.specs.declared.ClassTable.{ClassTable}
+use Rattle.class_table.specs.Table.{tableOf}
 use Rattle.table.specs.Marks.{onlyMark}
 use Rattle.table.specs.Entry.{minDelay}
 use Rattle.host.specs.declared.Settings.{Settings}
@@ -41,9 +42,12 @@ seat =
       date = firstDate;
       «link_count» = 1;
       links = replicate 8 unset;
-      net = record { count = 0; rows = replicate 32 record { net = zeroNet; host = 0 } };
       marks = onlyMark 0;
     }
+
+-- the class's net table, without rows
+abbrev pub nets : ClassTable
+nets = tableOf 2 []
 
 -- ---- calls
 
@@ -51,6 +55,7 @@ abbrev pub turn : Call → Turn
 turn c =
     record {
       call = c;
+      nets = nets;
       number = 0;
       links = withLink 1 record { neighbor = hostAt 2; «keep_alive» = 0; tsp = word (pos 0) } (freshLinks seat);
       walk = noWalk;
@@ -69,7 +74,7 @@ adjustOnce = asks (Adjust noCount)
 
 -- 12: no host has the number 16
 abbrev pub refusedAdjust : Turn
-refusedAdjust = record { call = ask (Adjust noCount); number = 16; links = adjustOnce .links; walk = adjustOnce .walk; copy = adjustOnce .copy; run = adjustOnce .run }
+refusedAdjust = record { call = ask (Adjust noCount); nets = nets; number = 16; links = adjustOnce .links; walk = adjustOnce .walk; copy = adjustOnce .copy; run = adjustOnce .run }
 
 -- the clock host's packet, that arrives at the starting time with a DELAY of 100 ms and this OFFSET: its time, 50 ms later, is that much ahead
 abbrev pub packetOf : (offset : Millis) → List ℕ

@@ -88,7 +88,7 @@ updateMoves w packet es = sweepMoves (w .first) w packet (part (w .first) (w .en
 -- 3 to 9 don't read
 abbrev pub actionMoves : (link : ℕ) → Counter → (packet : List ℕ) → Lent → Parsed → List Move
 actionMoves i k packet x (Bad a) = []
-actionMoves i k packet x (Good p) = reads k ∷ updateMoves (action k (x .host) i p .work) packet (entriesOf x)
+actionMoves i k packet x (Good p) = reads k ∷ updateMoves (action k (x .nets) (x .host) i p .work) packet (entriesOf x)
 
 abbrev pub deliveryMoves : Delivery → (packet : List ℕ) → Lent → List Move
 deliveryMoves (Inspect i) packet x = []

@@ -1,7 +1,8 @@
--- Lists of calls at one seat: the settings stay, and each call is lent the clock that the one before it left. What else a call is lent may be anything.
+-- Lists of calls at one seat: the settings stay, and each call is lent the clock that the one before it left. What else a call is lent, the class's net table among it, may be anything.
 use mathlib.Core.List.{List, [], _∷_, _++_}
 use Prim.Native.Nat.{ℕ}
 use Rattle.clock.specs.declared.Clock.{Clock}
+use Rattle.class_table.specs.declared.ClassTable.{ClassTable}
 use Rattle.table.specs.declared.Entry.{Entry}
 use Rattle.host.specs.declared.Settings.{Settings}
 use Rattle.host.specs.declared.Links.{Links}
@@ -13,6 +14,7 @@ use Rattle.steady.specs.Moves.{Move, moves}
 -- a call, with what it is lent besides settings and clock
 pub record Turn : Type 0 where
   pub call : Call
+  pub nets : ClassTable
   pub number : ℕ
   pub links : Links
   pub walk : Walk
@@ -20,7 +22,7 @@ pub record Turn : Type 0 where
   pub run : List Entry
 
 abbrev pub lentTo : Settings → Clock → Turn → Lent
-lentTo s c t = lent s (t .number) c (t .links) (t .walk) (t .copy) (t .run)
+lentTo s c t = lent s (t .nets) (t .number) c (t .links) (t .walk) (t .copy) (t .run)
 
 abbrev pub clockAfter : Settings → Clock → Turn → Clock
 clockAfter s c t = perform (t .call) (lentTo s c t) .clock

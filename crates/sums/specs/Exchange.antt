@@ -19,19 +19,22 @@ use Rattle.host.specs.Walk.{noWalk}
 use Rattle.host.specs.Lent.{Lent, lent}
 use Rattle.calls.specs.declared.Request.the-variants.{SelfReport}
 use Rattle.calls.specs.Perform.{ask, send, receive, Outcome, perform}
-use Rattle.network.specs.TwoSeats.{hostAt, settingsFor, placesOf}
+use Rattle.network.specs.TwoSeats.{Pair, hostAt, settingsFor, netsFor, placesOf}
 
 -- seat 0 is A, and seat 1 is B
+abbrev pub seats : Pair
+seats = record { tick = units (pos 1); start = λ a. 0; longest = 0; hosts = 2; marks = onlyMark }
+
 abbrev pub settingsOf : (seat : ℕ) → Settings
-settingsOf = settingsFor record { tick = units (pos 1); start = λ a. 0; longest = 0; hosts = 2; marks = onlyMark }
+settingsOf = settingsFor seats
 
 -- a clock that reads so many milliseconds
 abbrev pub clockAt : ℕ → Clock
 clockAt ms = freshClock (millis (pos ms)) firstDate
 
--- each in a run of its own, with no walk
+-- each in a run of its own, with no walk; the class's net table has no rows
 abbrev pub lentAt : (seat ms : ℕ) → Links → List Entry → Lent
-lentAt a ms l run = lent (settingsOf a) 0 (clockAt ms) l noWalk [] run
+lentAt a ms l run = lent (settingsOf a) (netsFor seats) 0 (clockAt ms) l noWalk [] run
 
 abbrev pub room : List ℕ
 room = replicate 40 0

@@ -72,7 +72,7 @@ unfolding guard noPlaces
 begins-too e f number agree b =
     record {
       call-is = afresh-too (agree .input-same) (b .call-is);
-      passes = rw (← agree .settings-same, ← agree .length-same, ← number) (b .passes);
+      passes = rw (← agree .settings-same, ← agree .nets-same, ← agree .length-same, ← number) (b .passes);
     }
 
 outcome-is : (e : Event) → Begins e → outcome e ≡ work (ask Initialize) (e .lent)

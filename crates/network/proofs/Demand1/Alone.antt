@@ -53,6 +53,7 @@ module _ (w v : Shared) (e : SharedEvent) (t : Twin (e .number) w v) where
   lent-alike =
       record {
         settings-same = refl;
+        nets-same = refl;
         number-same = refl;
         clock-same = t .alike .clock-same;
         links-same = ap (ownLinks (e .settings)) (t .alike .links-same);

@@ -23,6 +23,7 @@ use Rattle.wire.specs.Packet.{helloOf, fields, parse, packetLength}
 use Rattle.route.specs.declared.Found.{Found}
 use Rattle.route.specs.declared.Found.the-variants.{Id, Nothing}
 use Rattle.route.specs.Find.{isFound}
+use Rattle.class_table.specs.declared.ClassTable.{ClassTable}
 use Rattle.table.specs.declared.Entry.{Entry}
 use Rattle.table.specs.declared.run.Changes.{Changes}
 use Rattle.table.specs.Forms.{Stage, on, end}
@@ -33,7 +34,7 @@ use Rattle.host.specs.declared.walk.Walk.{Walk}
 use Rattle.host.specs.declared.walk.Place.{Place}
 use Rattle.host.specs.declared.walk.Place.the-variants.{Nowhere, LineD}
 use Rattle.host.specs.declared.guard.Scope.the-variants.{Walking}
-use Rattle.host.specs.Settings.{settingsGood, foundFor}
+use Rattle.host.specs.Settings.{settingsFit, foundFor}
 use Rattle.host.specs.State.{broadcast, linkOf, hostCount}
 use Rattle.host.specs.Lent.{Host, Lent, entriesOf, host, ourReading, ownWalkInRange}
 use Rattle.host.specs.Guard.{outOfRange, inWalk, guard, done}
@@ -96,9 +97,9 @@ module _ (h : Host) (i : ℕ) where
   -- ---- arrival
 
   -- step 5 gives 11 where the packet has no table and its neighbour has no id
-  step5-answer : (n : Count) (g : Host) (p : Packet) (f : Flight)
-      → step5 g i n p f .reply .answer ≡ cond (eqb (p .nhosts) 0 && not (isFound (foundFor (g .settings) (f .link .neighbor)))) NoHost Done
-  step5-answer n g p f = go (eqb (p .nhosts) 0) (foundFor (g .settings) (f .link .neighbor))
+  step5-answer : (n : Count) (t : ClassTable) (g : Host) (p : Packet) (f : Flight)
+      → step5 t g i n p f .reply .answer ≡ cond (eqb (p .nhosts) 0 && not (isFound (foundFor t (g .settings) (f .link .neighbor)))) NoHost Done
+  step5-answer n t g p f = go (eqb (p .nhosts) 0) (foundFor t (g .settings) (f .link .neighbor))
     where
       go : (b : Bool) (x : Found) → cond b (noTable g i n p f x) (withTable g i n p f) .reply .answer ≡ cond (b && not (isFound x)) NoHost Done
       go true Nothing = refl
@@ -106,19 +107,19 @@ module _ (h : Host) (i : ℕ) where
       go false x = refl
 
   -- the answer of steps 2 to 5
-  abbrev acted : Counter → Packet → Answer
-  acted k p = cond (delayInvalid k h i p) DelayNotValid (cond (neighborUnknown h i p) NoHost Done)
+  abbrev acted : Counter → ClassTable → Packet → Answer
+  acted k t p = cond (delayInvalid k h i p) DelayNotValid (cond (neighborUnknown t h i p) NoHost Done)
 
-  action-answer : (k : Counter) (p : Packet) → action k h i p .reply .answer ≡ acted k p
+  action-answer : (k : Counter) (t : ClassTable) (p : Packet) → action k t h i p .reply .answer ≡ acted k t p
   unfolding step3 step2
-  action-answer k p =
+  action-answer k t p =
       let r = ourReading k h in
-      steps-cases (λ g. concluded (host (h .settings) (r .clock) (h .links)) i (countUsed k) p g .reply .answer ≡ acted k p)
+      steps-cases (λ g. concluded t (host (h .settings) (r .clock) (h .links)) i (countUsed k) p g .reply .answer ≡ acted k t p)
       (broadcast (h .settings) i) (r .clock .hold) p (r .time) (linkOf (h .links) i)
-      (λ b. step5-answer (countUsed k) _ p _ ∙ rw b)
-      (λ b n. step5-answer (countUsed k) _ p _ ∙ rw (b, n))
+      (λ b. step5-answer (countUsed k) t _ p _ ∙ rw b)
+      (λ b n. step5-answer (countUsed k) t _ p _ ∙ rw (b, n))
       (λ b n z. rw (b, n, z))
-      (λ b n z. step5-answer (countUsed k) _ p _ ∙ rw (b, n, z, same-address (p .source) (linkOf (h .links) i .neighbor) n))
+      (λ b n z. step5-answer (countUsed k) t _ p _ ∙ rw (b, n, z, same-address (p .source) (linkOf (h .links) i .neighbor) n))
 
   -- 3 to 9 in turn, and then what comes of a packet that passes
   module _ (answers : Parsed → Answer) (refuses : (a : Answer) → answers (Bad a) ≡ a) (p : Packet) where
@@ -162,8 +163,8 @@ module _ (h : Host) (i : ℕ) where
     looked-at : inspection i octets h .reply .answer ≡ firstOf (inspectionTests i octets h)
     looked-at = answered (λ q. tells q .answer) (λ a. refl)
 
-    acted-on : (k : Counter) → act i k octets h .reply .answer ≡ firstOf (actionTests i k octets h)
-    acted-on k = answered (λ q. inspected k h i q .reply .answer) (λ a. refl) ∙ rw (action-answer k (fields octets))
+    acted-on : (k : Counter) (t : ClassTable) → act i k octets t h .reply .answer ≡ firstOf (actionTests i k octets t h)
+    acted-on k t = answered (λ q. inspected k t h i q .reply .answer) (λ a. refl) ∙ rw (action-answer k t (fields octets))
 
     opened : (w : Walk) → opening i octets (h .settings) w .reply .answer ≡ firstOf (inspectionTests i octets h)
     unfolding opening
@@ -174,6 +175,9 @@ module _ (h : Host) (i : ℕ) where
 module _ (k : Counter) (x : Lent) (e : Entry) where
   abbrev h : Host
   h = x .host
+
+  abbrev t : ClassTable
+  t = x .nets
 
   abbrev w : Walk
   w = x .walk
@@ -189,12 +193,12 @@ module _ (k : Counter) (x : Lent) (e : Entry) where
   invalid = delayInvalidIn (h .clock .hold) h (w .link) p
 
   abbrev unknown : Bool
-  unknown = eqb (p .nhosts) 0 && not (isFound (foundFor (h .settings) (linkOf (h .links) (w .link) .neighbor)))
+  unknown = eqb (p .nhosts) 0 && not (isFound (foundFor t (h .settings) (linkOf (h .links) (w .link) .neighbor)))
 
   abbrev Box : (four five : Bool) → Place → Type 0
   Box four five q =
       heldAt q (h .settings) w p octets ≡ true
-      → boxAt q k p octets h w e .reply .answer ≡ cond (four && invalid) DelayNotValid (cond (five && unknown) NoHost Done)
+      → boxAt q k p octets t h w e .reply .answer ≡ cond (four && invalid) DelayNotValid (cond (five && unknown) NoHost Done)
 
   fourth-answer : box4 p h w .reply .answer ≡ cond invalid DelayNotValid Done
   unfolding box4 step4
@@ -209,9 +213,9 @@ module _ (k : Counter) (x : Lent) (e : Entry) where
       go false true false = refl
       go false false c = refl
 
-  fifth-answer : box5 p h w .reply .answer ≡ cond unknown NoHost Done
+  fifth-answer : box5 p t h w .reply .answer ≡ cond unknown NoHost Done
   unfolding box5
-  fifth-answer = go (eqb (p .nhosts) 0) (foundFor (h .settings) (linkOf (h .links) (w .link) .neighbor))
+  fifth-answer = go (eqb (p .nhosts) 0) (foundFor t (h .settings) (linkOf (h .links) (w .link) .neighbor))
     where
       go : (b : Bool) (f : Found) → cond b (toNeighbor h (raised w) f) (onward (atLine 1 0 (raised w)) (h .clock) (h .links) nothing) .reply .answer ≡ cond (b && not (isFound f)) NoHost Done
       go true Nothing = refl
@@ -221,11 +225,11 @@ module _ (k : Counter) (x : Lent) (e : Entry) where
   step-n : (n : ℕ) → Box (eqb n 4) (eqb n 5) (stepPlace n)
   unfolding box1 box2 box3
   step-n n =
-      either (Box (eqb n 4) (eqb n 5)) (eqb n 1) _ _ (λ t held. rw (eqb-true n 1 t))
-      (λ _. either (Box (eqb n 4) (eqb n 5)) (eqb n 2) _ _ (λ t held. rw (eqb-true n 2 t))
-      (λ _. either (Box (eqb n 4) (eqb n 5)) (eqb n 3) _ _ (λ t held. rw (eqb-true n 3 t))
-      (λ _. either (Box (eqb n 4) (eqb n 5)) (eqb n 4) _ _ (λ t held. rw (eqb-true n 4 t) fourth-answer)
-      (λ _. either (Box (eqb n 4) (eqb n 5)) (eqb n 5) _ _ (λ t held. rw (eqb-true n 5 t) fifth-answer) (λ _ held. absurd (false≢true held))))))
+      either (Box (eqb n 4) (eqb n 5)) (eqb n 1) _ _ (λ is held. rw (eqb-true n 1 is))
+      (λ _. either (Box (eqb n 4) (eqb n 5)) (eqb n 2) _ _ (λ is held. rw (eqb-true n 2 is))
+      (λ _. either (Box (eqb n 4) (eqb n 5)) (eqb n 3) _ _ (λ is held. rw (eqb-true n 3 is))
+      (λ _. either (Box (eqb n 4) (eqb n 5)) (eqb n 4) _ _ (λ is held. rw (eqb-true n 4 is) fourth-answer)
+      (λ _. either (Box (eqb n 4) (eqb n 5)) (eqb n 5) _ _ (λ is held. rw (eqb-true n 5 is) fifth-answer) (λ _ held. absurd (false≢true held))))))
 
   next-answer : (g : Host) (work : Changes) → nextId p g w work .reply .answer ≡ Done
   next-answer g work = either (λ (y : Effect). y .reply .answer ≡ Done) (eqb (p .nhosts) 0 || not (ltb (w .id + 1) (hostCount (g .settings)))) _ _ (λ _. refl) (λ _. refl)
@@ -252,21 +256,21 @@ module _ (k : Counter) (x : Lent) (e : Entry) where
 
   placed : (b : Bool) → eqb (w .line) 0 ≡ b → Box (b && eqb (w .step) 4) (b && eqb (w .step) 5) (placeOf w)
   unfolding placeOf
-  placed true t = rw t (step-n (w .step))
-  placed false t = rw t (either (Box false false) (eqb (w .step) 5) (linePlace (w .line)) Nowhere (λ _. line-m (w .line)) (λ _ held. absurd (false≢true held)))
+  placed true is = rw is (step-n (w .step))
+  placed false is = rw is (either (Box false false) (eqb (w .step) 5) (linePlace (w .line)) Nowhere (λ _. line-m (w .line)) (λ _ held. absurd (false≢true held)))
 
-  step-answer : ownWalkInRange x ≡ true → step k h w (x .copy) e .reply .answer ≡ firstOf (requestTests (Step k) x)
+  step-answer : ownWalkInRange x ≡ true → step k t h w (x .copy) e .reply .answer ≡ firstOf (requestTests (Step k) x)
   unfolding step
   step-answer in-range = go (isOpen w) refl
     where
       go : (b : Bool) → isOpen w ≡ b
-          → cond (not b) (answers (plainly NoWalk) (h .clock) (h .links) w) (boxOf k octets h w e (inspect (h .settings) (w .link) octets)) .reply .answer
+          → cond (not b) (answers (plainly NoWalk) (h .clock) (h .links) w) (boxOf k octets t h w e (inspect (h .settings) (w .link) octets)) .reply .answer
           ≡ cond (b && eqb (w .line) 0 && eqb (w .step) 4 && invalid) DelayNotValid
           (cond (b && eqb (w .line) 0 && eqb (w .step) 5 && unknown) NoHost (cond (not b) NoWalk Done))
       go false f = refl
       go true f =
           inspect-cases
-          (λ (q : Parsed). packetHeld (h .settings) w octets q ≡ true → boxOf k octets h w e q .reply .answer
+          (λ (q : Parsed). packetHeld (h .settings) w octets q ≡ true → boxOf k octets t h w e q .reply .answer
           ≡ cond (eqb (w .line) 0 && eqb (w .step) 4 && invalid) DelayNotValid (cond (eqb (w .line) 0 && eqb (w .step) 5 && unknown) NoHost Done))
           (h .settings) (w .link) octets (λ a held. absurd (false≢true held)) (placed (eqb (w .line) 0) refl)
           (opened-says (h .settings) w (x .copy) in-range f .held)
@@ -283,13 +287,13 @@ module _ (x : Lent) where
   asked-answer (Read k) ok = refl
   asked-answer Second ok = refl
   asked-answer (SelfReport k) ok = refl
-  asked-answer (Lookup a) ok = looked-answer x (foundFor (x .host .settings) a)
+  asked-answer (Lookup a) ok = looked-answer x (foundFor (x .nets) (x .host .settings) a)
   asked-answer (Step k) ok = step-answer k x (entryAt (atHand (x .walk)) x) (walk-lent x (passed Walking x ok .lent refl))
 
-  delivered-answer : (d : Delivery) (octets : List ℕ) → delivered d octets (x .host) .reply .answer ≡ firstOf (deliveryTests d octets (x .host))
+  delivered-answer : (d : Delivery) (octets : List ℕ) → delivered d octets (x .nets) (x .host) .reply .answer ≡ firstOf (deliveryTests d octets (x .nets) (x .host))
   delivered-answer (Inspect i) octets = looked-at (x .host) i octets
-  delivered-answer (Act i k) octets = acted-on (x .host) i octets k
-  delivered-answer (Receive i k) octets = ap (λ (a : Arrived). a .reply .answer) (one-piece i k octets (x .host)) ∙ acted-on (x .host) i octets k
+  delivered-answer (Act i k) octets = acted-on (x .host) i octets k (x .nets)
+  delivered-answer (Receive i k) octets = ap (λ (a : Arrived). a .reply .answer) (one-piece i k octets (x .nets) (x .host)) ∙ acted-on (x .host) i octets k (x .nets)
 
   work-answer : (c : Call) → done (guardOf c x) ≡ true → work c x .reply .answer ≡ firstOf (ownTests c x)
   work-answer (ask q) ok = asked-answer q ok
@@ -303,4 +307,4 @@ module _ (x : Lent) where
 
 pub answers-hold : Answers
 unfolding Answers guard
-answers-hold c x = call-answer x c ∙ guarded (outOfRange (scopeOfCall c) x) (inWalk (scopeOfCall c) (x .walk)) (not (settingsGood (x .host .settings))) (work-answer x c)
+answers-hold c x = call-answer x c ∙ guarded (outOfRange (scopeOfCall c) x) (inWalk (scopeOfCall c) (x .walk)) (not (settingsFit (x .nets) (x .host .settings))) (work-answer x c)

@@ -76,6 +76,7 @@ module _ (k : ℕ) where
     lent-alike h =
         record {
           settings-same = agree .settings-same;
+          nets-same = agree .nets-same;
           number-same = here ∙ sym here′;
           clock-same = clock-lent;
           links-same = links-lent;

@@ -43,11 +43,11 @@ module _ (k : ℕ) where
     pub last-is : afterAll w es k ≡ lastFrom (w k) (own k es)
     pub all-lend : LendsAll L w es → AllLend L (w k) (own k es)
 
-  after-here : (w : State) (e : Event) → numberOf e ≡ k → after w e k ≡ leftFrom (w k) e
+  pub after-here : (w : State) (e : Event) → numberOf e ≡ k → after w e k ≡ leftFrom (w k) e
   unfolding after
   after-here w e here = rw (eq-eqb k (numberOf e) (sym here)) (ap (λ j. leftBy j (w j .places) (outcome e)) here)
 
-  after-other : (w : State) (e : Event) → (numberOf e ≡ k → ⊥) → after w e k ≡ w k
+  pub after-other : (w : State) (e : Event) → (numberOf e ≡ k → ⊥) → after w e k ≡ w k
   unfolding after
   after-other w e apart = rw (ne-eqb k (numberOf e) (λ p. apart (sym p)))
 

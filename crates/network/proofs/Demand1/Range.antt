@@ -1,6 +1,6 @@
 -- Each call leaves a clock, links and entries in range: fresh ones are, and each rule keeps them so. Each but a step leaves a walk in range, too.
 use mathlib.Core.Path.{_≡_, refl, sym, ap, _∙_}
-use mathlib.Core.Bool.{Bool, true, false, false≢true, cond, not, _&&_, _||_}
+use mathlib.Core.Bool.{Bool, true, false, false≢true, cond, not, _&&_}
 use mathlib.Core.List.{List}
 use Prim.Native.Nat.{ℕ, _+_, _-_, _≤_, _<_, _^_}
 use native.Mathlib.Nat.{zero-add}
@@ -39,18 +39,20 @@ use Rattle.table.proofs.Cases.{stored}
 use Rattle.table.proofs.Kept.{aged-in-range, reported-in-range, update-mark, aged-mark, reported-mark, date-in-range}
 use Rattle.table.proofs.Kept as kept
 use Rattle.table.proofs.Ranges.{within, range-says, in-range, reading-in}
+use Rattle.class_table.specs.declared.ClassTable.{ClassTable}
+use Rattle.class_table.specs.Table.{tableBad}
 use Rattle.host.specs.declared.Settings.{Settings}
 use Rattle.host.specs.declared.Link.{Link}
 use Rattle.host.specs.declared.Links.{Links}
 use Rattle.host.specs.declared.walk.Walk.{Walk}
-use Rattle.host.specs.declared.guard.Scope.the-variants.{Places, Opening, Walking}
-use Rattle.host.specs.Settings.{linkCount, settingsGood}
+use Rattle.host.specs.declared.guard.Scope.the-variants.{All, Places, Opening, Walking}
+use Rattle.host.specs.Settings.{linkCount, settingsGood, settingsFit}
 use Rattle.host.specs.State.{hostCount, freshLinks, linkOf, withLink, linkInRange, noLink, withEntries}
 use Rattle.host.specs.Walk.{isOpen, noWalk, placeOf, walkInRange}
 use Rattle.host.specs.declared.Effect.{Effect}
 use Rattle.host.specs.Effect.{nothing, each}
 use Rattle.host.specs.Lent.{Lent, lent, entriesOf, ourReading, lentInRange, hostInRange, ownWalkInRange, marksAsSet}
-use Rattle.host.specs.Guard.{noPlaces, longest, guard, done}
+use Rattle.host.specs.Guard.{noPlaces, longest, ownOutOfRange, outOfRange, guard, done}
 use Rattle.host.proofs.Places.{entries-length}
 use Rattle.host.proofs.Guarded.{Counted, counted, Passed, passed, holds}
 use Rattle.host.proofs.Sound.{Sound, sound}
@@ -71,7 +73,7 @@ use Rattle.calls.specs.declared.Request.the-variants.{Initialize, Tick, Adjust,
 use Rattle.calls.specs.Effects.{initialize, tick, adjust, setBy, read, second, selfReport, lookup, wanted, effect}
 use Rattle.calls.specs.Perform.{Call, ask, send, deliver, openWalk, scopeOfCall, entryAt, carriedOut, sentBy, updatedBy, openedBy, work, perform, left}
 use Rattle.network.specs.Refusals.{closed}
-use Rattle.network.specs.Range.{Accepted, countBy, countOf, Walked, begins, goes-on, Range}
+use Rattle.network.specs.Range.{Accepted, countBy, countOf, under, Walked, begins, goes-on, other-table, Range}
 use Rattle.network.proofs.Performs.{guardOf, performs}
 use Rattle.network.proofs.Arrivals.{Flown, storing, readBy, delivery-ways}
 use Rattle.network.proofs.Lists.{all-at, all-any, all-both, all-counted, all-weaken, every-all, all-every, each-all, all-each}
@@ -86,6 +88,7 @@ use Rattle.network.proofs.Openings.{opening-ways, packet-short, nothing
 -- ---- what 12 tests, each by itself
 
 pub record InRange (x : Lent) : Type 0 where
+  pub table-in : tableBad (x .nets) ≡ false
   pub places-there : noPlaces (x .number) (x .run) ≡ false
   pub clock-in : clockInRange (x .host .clock) ≡ true
   pub links-in : every linkInRange (take (linkCount (x .host .settings)) (x .host .links .all)) ≡ true
@@ -94,32 +97,40 @@ pub record InRange (x : Lent) : Type 0 where
   pub marks-in : marksAsSet x ≡ true
 
 module _ (x : Lent) where
-  pub parts : noPlaces (x .number) (x .run) ≡ false → lentInRange x ≡ true → InRange x
+  pub parts : tableBad (x .nets) ≡ false → noPlaces (x .number) (x .run) ≡ false → lentInRange x ≡ true → InRange x
   unfolding lentInRange
-  parts p e =
+  parts t p e =
       let four = both (hostInRange (x .host) && ownWalkInRange x && every entryInRange (entriesOf x)) (marksAsSet x) e in
       let three = both (hostInRange (x .host) && ownWalkInRange x) (every entryInRange (entriesOf x)) (four .0) in
       let two = both (hostInRange (x .host)) (ownWalkInRange x) (three .0) in
       let one = both (clockInRange (x .host .clock)) _ (two .0) in
-      record { places-there = p; clock-in = one .0; links-in = one .1; walk-in = two .1; entries-in = three .1; marks-in = four .1 }
+      record { table-in = t; places-there = p; clock-in = one .0; links-in = one .1; walk-in = two .1; entries-in = three .1; marks-in = four .1 }
 
   accepted : Accepted x → InRange x
   unfolding guard
-  accepted a = go (noPlaces (x .number) (x .run) || not (lentInRange x)) refl a
+  accepted a = go (outOfRange All x) refl a
     where
-      go : (b : Bool) → noPlaces (x .number) (x .run) || not (lentInRange x) ≡ b
-          → (cond b OutOfRange (cond (isOpen (x .walk)) InWalk (cond (not (settingsGood (x .host .settings))) Setting Done)) ≡ OutOfRange → ⊥) → InRange x
+      go : (b : Bool) → outOfRange All x ≡ b
+          → (cond b OutOfRange (cond (isOpen (x .walk)) InWalk (cond (not (settingsFit (x .nets) (x .host .settings))) Setting Done)) ≡ OutOfRange → ⊥) → InRange x
       go true e h = absurd (h refl)
-      go false e h = let n = neither (noPlaces (x .number) (x .run)) (not (lentInRange x)) e in parts (n .0) (is-so _ (n .1))
+      go false e h =
+          let t = neither (tableBad (x .nets)) (ownOutOfRange All x) e in
+          let n = neither (noPlaces (x .number) (x .run)) (not (lentInRange x)) (t .1) in
+          parts (t .0) (n .0) (is-so _ (n .1))
 
   accepts : InRange x → Accepted x
   unfolding guard lentInRange
-  accepts r e = other (isOpen (x .walk)) (settingsGood (x .host .settings)) (rw (r .places-there, r .clock-in, r .links-in, r .walk-in, r .entries-in, r .marks-in) at e)
+  accepts r e = other (isOpen (x .walk)) (settingsFit (x .nets) (x .host .settings)) (rw (r .table-in, r .places-there, r .clock-in, r .links-in, r .walk-in, r .entries-in, r .marks-in) at e)
     where
       other : (v b : Bool) → cond v InWalk (cond (not b) Setting Done) ≡ OutOfRange → ⊥
       other true b h = omega (arith, ap number h)
       other false true h = omega (arith, ap number h)
       other false false h = omega (arith, ap number h)
+
+-- another table that is not bad
+under-in : (x : Lent) → InRange x → (t : ClassTable) → tableBad t ≡ false → InRange (under t x)
+under-in x r t fair =
+    record { table-in = fair; places-there = r .places-there; clock-in = r .clock-in; links-in = r .links-in; walk-in = r .walk-in; entries-in = r .entries-in; marks-in = r .marks-in }
 
 -- no walk, whatever the copy
 no-walk-in : (s : Settings) (copy : List ℕ) → walkInRange s noWalk copy ≡ true
@@ -149,13 +160,14 @@ module _ (x : Lent) where
   linksIn l = every linkInRange (take (linkCount (x .host .settings)) (l .all)) ≡ true
 
   -- entries that are in range, written to the host's first places
-  written : (c : Clock) (l : Links) (w : Walk) (es : List Entry) → noPlaces (x .number) (x .run) ≡ false → clockInRange c ≡ true → linksIn l
+  written : (c : Clock) (l : Links) (w : Walk) (es : List Entry) → tableBad (x .nets) ≡ false → noPlaces (x .number) (x .run) ≡ false → clockInRange c ≡ true → linksIn l
       → walkInRange (x .host .settings) w (x .copy) ≡ true → length es ≡ length (entriesOf x) → lists.All (Fit m) es
-      → InRange (lent (x .host .settings) (x .number) c l w (x .copy) (withEntries (x .number) es (x .run)))
+      → InRange (lent (x .host .settings) (x .nets) (x .number) c l w (x .copy) (withEntries (x .number) es (x .run)))
   unfolding noPlaces
-  written c l w es p clock links walk n range =
+  written c l w es t p clock links walk n range =
       let h = holds (x .number) (x .run) p in
       record {
+        table-in = t;
         places-there = rw (written-kept x es h n .same-length) p;
         clock-in = clock;
         links-in = links;
@@ -180,7 +192,7 @@ module _ (x : Lent) where
       let good = sound (x .host .settings) (p .settings) in
       let h = holds (x .number) (x .run) (p .places) in
       let time = both (not (lessMillis (x .host .settings .time) (millis (pos 0)))) (lessMillis (x .host .settings .time) dayMillis) (good .time) in
-      written _ (freshLinks (x .host .settings)) noWalk _ (p .places)
+      written _ (freshLinks (x .host .settings)) noWalk _ (p .table) (p .places)
       (fresh-in-range (x .host .settings .time) (x .host .settings .date) (is-not _ (time .0)) (time .1) (good .date)) (fresh-links-in (x .host .settings))
       (no-walk-in (x .host .settings) (x .copy))
       (changes-length (each (x .host .settings) Fresh) (entriesOf x))
@@ -197,9 +209,9 @@ module _ (x : Lent) where
 
     -- work that is carried out, with this clock, these links and this walk
     carried-with : (c : Clock) (l : Links) (w : Walk) (now : Changes) → clockInRange c ≡ true → linksIn l → walkInRange (x .host .settings) w (x .copy) ≡ true → Keeps now
-        → InRange (lent (x .host .settings) (x .number) c l w (x .copy) (withEntries (x .number) (changes now (entriesOf x)) (x .run)))
+        → InRange (lent (x .host .settings) (x .nets) (x .number) c l w (x .copy) (withEntries (x .number) (changes now (entriesOf x)) (x .run)))
     carried-with c l w now clock links walk keeps =
-        written c l w (changes now (entriesOf x)) (r .places-there) clock links walk (changes-length now (entriesOf x))
+        written c l w (changes now (entriesOf x)) (r .table-in) (r .places-there) clock links walk (changes-length now (entriesOf x))
         (changes-keep now (entriesOf x) (Fit m) keeps all-in)
 
     -- one that keeps the walk
@@ -218,7 +230,7 @@ module _ (x : Lent) where
     none id e low high is h = absurd (omega arith)
 
     abbrev does : Request → Effect
-    does q = effect q (x .host) (x .walk) (x .copy) (entryAt (wanted q (x .host .settings) (x .walk)) x)
+    does q = effect q (x .nets) (x .host) (x .walk) (x .copy) (entryAt (wanted q (x .nets) (x .host .settings) (x .walk)) x)
 
     asked : (q : Request) → ((k : Counter) → ask q ≡ ask (Step k) → ⊥) → countOf (ask q) .0 < 2 ^ 16 → Sound (x .host .settings) → done (guardOf (ask q) x) ≡ true → InRange (left x (work (ask q) x))
     unfolding tick adjust setBy read second selfReport lookup
@@ -247,6 +259,7 @@ module _ (x : Lent) where
         (ltb (length buffer) (packetLength (reportCount (x .host .settings) (linkOf (x .host .links) i)))) _ _ (λ _. r)
         (λ _.
         record {
+          table-in = r .table-in;
           places-there = r .places-there;
           clock-in = read-in good k few;
           links-in = sent-in (x .host .settings) (x .host .links) i has (r .links-in);
@@ -263,7 +276,7 @@ module _ (x : Lent) where
           → entryInRange (updatedAt (a .work) octets id c e .entry) ≡ true)
           → InRange (left x (updatedBy a octets x))
       swept a clock links hold few ranges =
-          written _ (a .links) (x .walk) _ (r .places-there)
+          written _ (a .links) (x .walk) _ (r .table-in) (r .places-there)
           (updates-clock (a .work) octets (entriesOf x) (λ c. clockInRange c ≡ true) (λ id c e h. clock-in (a .work) octets id c e hold few h) clock)
           links (r .walk-in) (updates-length (a .work) octets (entriesOf x))
           (updates-keep (a .work) octets (entriesOf x) (Fit m)
@@ -300,7 +313,7 @@ module _ (x : Lent) where
 
         arrived : InRange (left x (work (deliver d octets) x))
         arrived =
-            delivery-ways d (x .host) (λ a. InRange (left x (updatedBy a octets x)))
+            delivery-ways d (x .nets) (x .host) (λ a. InRange (left x (updatedBy a octets x)))
             record {
               refuses = λ a few. swept (ends a (x .host)) (r .clock-in) (r .links-in) (omega arith) (omega arith) (λ id c e low high h. absurd (omega arith));
               looks = λ p. swept (quiet (tells (Good p)) (x .host)) (r .clock-in) (r .links-in) (omega arith) (omega arith) (λ id c e low high h. absurd (omega arith));
@@ -330,8 +343,8 @@ module _ (x : Lent) where
         s : Settings
         s = x .host .settings
 
-        behind : (w : Walk) (copy : List ℕ) → walkInRange s w copy ≡ true → InRange (lent s (x .number) (x .host .clock) (x .host .links) w copy (x .run))
-        behind w copy e = record { places-there = r .places-there; clock-in = r .clock-in; links-in = r .links-in; walk-in = e; entries-in = r .entries-in; marks-in = r .marks-in }
+        behind : (w : Walk) (copy : List ℕ) → walkInRange s w copy ≡ true → InRange (lent s (x .nets) (x .number) (x .host .clock) (x .host .links) w copy (x .run))
+        behind w copy e = record { table-in = r .table-in; places-there = r .places-there; clock-in = r .clock-in; links-in = r .links-in; walk-in = e; entries-in = r .entries-in; marks-in = r .marks-in }
 
         first : (p : Packet) → inspect s i packet ≡ Good p → length packet ≤ longest → walkInRange s (openedOn i (length packet)) (copied (length packet) packet (x .copy)) ≡ true
         first p is short =
@@ -346,7 +359,7 @@ module _ (x : Lent) where
       w = x .walk
 
       shut : (c : Clock) (l : Links) (work : Changes) → clockInRange c ≡ true → linksIn l → Keeps work
-          → InRange (lent (x .host .settings) (x .number) c l noWalk (x .copy) (withEntries (x .number) (changes work (entriesOf x)) (x .run)))
+          → InRange (lent (x .host .settings) (x .nets) (x .number) c l noWalk (x .copy) (withEntries (x .number) (changes work (entriesOf x)) (x .run)))
       shut c l work clock links keeps = carried-with c l noWalk work clock links (no-walk-in (x .host .settings) (x .copy)) keeps
 
       timed-in : (c : Clock) → Timed (x .host) w c → clockInRange c ≡ true
@@ -384,9 +397,9 @@ module _ (x : Lent) where
             let at : e ≡ z = e-is ∙ ap (λ (f : Found). entryAt f x) here ∙ ap (λ (i : ℕ). getD (entriesOf x) i freshEntry) same ∙ sym is in
             (makes-in y made, same-mark m id z y (makes-mark w e y made ∙ ap (λ (z : Entry). z .here) at) (h .1))
 
-        stepped : InRange (closed (left x (carriedOut (step k (x .host) w (x .copy) e) x)))
+        stepped : InRange (closed (left x (carriedOut (step k (x .nets) (x .host) w (x .copy) e) x)))
         stepped =
-            step-ways k (x .host) w (x .copy) e (λ (y : Effect). InRange (closed (left x (carriedOut y x))))
+            step-ways k (x .nets) (x .host) w (x .copy) e (λ (y : Effect). InRange (closed (left x (carriedOut y x))))
             record {
               none = shut _ _ _ (r .clock-in) (r .links-in) none;
               reads = λ v c. shut _ _ _ (read-in good k few) (r .links-in) none;
@@ -426,6 +439,7 @@ module _ (x : Lent) where
       performs (ask (Step k)) x (λ o. InRange (closed (left x o)))
       (λ _.
       record {
+        table-in = r .table-in;
         places-there = r .places-there;
         clock-in = r .clock-in;
         links-in = r .links-in;
@@ -455,16 +469,16 @@ module _ (x : Lent) where
       performs (ask (Step k)) x (λ o. Whole (left x o))
       (λ _.
       record {
-        range = record { places-there = h .range .places-there; clock-in = h .range .clock-in; links-in = h .range .links-in; walk-in = h .range .walk-in; entries-in = h .range .entries-in; marks-in = h .range .marks-in };
+        range = record { table-in = h .range .table-in; places-there = h .range .places-there; clock-in = h .range .clock-in; links-in = h .range .links-in; walk-in = h .range .walk-in; entries-in = h .range .entries-in; marks-in = h .range .marks-in };
         good = h .good;
         fine = record { in-range = h .fine .in-range; few = h .fine .few; fine = h .fine .fine };
       })
       (λ e.
       let entry = entryAt (atHand (x .walk)) x in
       let now = stepped x (h .range) k few (h .fine .few) (sound (x .host .settings) (h .good)) entry refl (found-in x (h .range) (atHand (x .walk))) in
-      let walk = step-fine (x .host .settings) (h .good) (x .copy) k (x .host) refl (x .walk) entry few (h .fine) in
+      let walk = step-fine (x .host .settings) (h .good) (x .copy) k (x .nets) (passed Walking x e .rows) (x .host) refl (x .walk) entry few (h .fine) in
       record {
-        range = record { places-there = now .places-there; clock-in = now .clock-in; links-in = now .links-in; walk-in = walk .in-range; entries-in = now .entries-in; marks-in = now .marks-in };
+        range = record { table-in = now .table-in; places-there = now .places-there; clock-in = now .clock-in; links-in = now .links-in; walk-in = walk .in-range; entries-in = now .entries-in; marks-in = now .marks-in };
         good = h .good;
         fine = walk;
       })
@@ -474,12 +488,16 @@ walked x (begins i packet y few accept done-is) =
     performs (openWalk i packet) y (λ o. o .reply .answer ≡ Done → Whole (left y o)) (λ no is. absurd (false≢true (sym no ∙ ap (λ z. done z) is)))
     (λ e _. opens-whole y (accepted y accept) few i packet (passed (Opening i) y e)) done-is
 walked x (goes-on k y few before) = steps-whole y (walked y before) k few
+walked x (other-table t y fair before) =
+    let h = walked y before in
+    record { range = under-in y (h .range) t fair; good = h .good; fine = h .fine }
 
 pub range-holds : Range
 range-holds =
     record {
       fresh = λ x e. accepts _ (afresh-in x e);
       stays = λ c x not few a. accepts _ (stay x (accepted x a) c not few);
+      tables = λ t x fair a. accepts _ (under-in x (accepted x a) t fair);
       steps = λ k x few held a. accepts _ (go-on x (accepted x a) k few held);
       walks = λ x w. accepts x (walked x w .range);
     }

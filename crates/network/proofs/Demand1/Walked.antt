@@ -34,6 +34,7 @@ use Rattle.table.specs.Entry.{maxDelay, minDelay}
 use Rattle.table.specs.Entry as entry
 use Rattle.table.specs.Update.{plusReport, lineA, lineB, lineC}
 use Rattle.table.proofs.Ranges.{reading-in}
+use Rattle.class_table.specs.declared.ClassTable.{ClassTable}
 use Rattle.host.specs.declared.Settings.{Settings}
 use Rattle.host.specs.declared.Effect.{Effect}
 use Rattle.host.specs.declared.walk.Walk.{Walk}
@@ -44,6 +45,7 @@ use Rattle.host.specs.State.{hostCount, broadcast, linkOf, noLink}
 use Rattle.host.specs.Lent.{Host, host, ourReading}
 use Rattle.host.specs.Inspection.{inspect}
 use Rattle.host.specs.Walk.{isOpen, noWalk, placeOf, packetOf, heldUpdate, lineUpdate, readingInRange, idInRange, storable, heldAt, packetHeld, walkInRange}
+use Rattle.host.specs.code.Told.{RowsBelow}
 use Rattle.host.proofs.Sound.{sound}
 use Rattle.host.proofs.Walks.{opened-says}
 use Rattle.arrival.specs.declared.Flight.{Flight}
@@ -100,7 +102,7 @@ module _ (s : Settings) (good : settingsGood s ≡ true) (copy : List ℕ) where
       go true e = refl
       go false e = e
 
-  module _ (k : Counter) (h : Host) (ours : h .settings ≡ s) (w : Walk) (e : Entry) (short-count : countUsed k .0 < 2 ^ 16) (now : Fine w) where
+  module _ (k : Counter) (t : ClassTable) (rows : RowsBelow t s) (h : Host) (ours : h .settings ≡ s) (w : Walk) (e : Entry) (short-count : countUsed k .0 < 2 ^ 16) (now : Fine w) where
     abbrev octets : List ℕ
     octets = packetOf w copy
 
@@ -161,15 +163,15 @@ module _ (s : Settings) (good : settingsGood s ≡ true) (copy : List ℕ) where
             fine = λ _. raised-enough (w .delay) short;
           }
 
-      found : readingInRange w ≡ true → Short (w .delay) → (f : Found) → foundFor s (linkOf (h .links) (w .link) .neighbor) ≡ f → Keeps (toNeighbor h (raised w) f)
+      found : readingInRange w ≡ true → Short (w .delay) → (f : Found) → foundFor t s (linkOf (h .links) (w .link) .neighbor) ≡ f → Keeps (toNeighbor h (raised w) f)
       found read short Nothing same = none-fine
       found read short (Id id) same =
-          to-line id (found-below (s .address) (s .layout) (s .net) (linkOf (h .links) (w .link) .neighbor) id (sound s good .row-ids) same) read short
+          to-line id (found-below (s .address) (s .layout) (t .net) (linkOf (h .links) (w .link) .neighbor) id rows same) read short
 
-      fifth : readingInRange w ≡ true → Short (w .delay) → Keeps (box5 p h w)
+      fifth : readingInRange w ≡ true → Short (w .delay) → Keeps (box5 p t h w)
       unfolding box5
       fifth read short =
-          either Keeps (eqb (p .nhosts) 0) _ _ (λ _. found read short _ (ap (λ (z : Settings). foundFor z (linkOf (h .links) (w .link) .neighbor)) (sym ours)))
+          either Keeps (eqb (p .nhosts) 0) _ _ (λ _. found read short _ (ap (λ (z : Settings). foundFor t z (linkOf (h .links) (w .link) .neighbor)) (sym ours)))
           (λ _. to-line 0 (sound s good .hosts-from) read short)
 
       abbrev u : Update
@@ -204,7 +206,7 @@ module _ (s : Settings) (good : settingsGood s ≡ true) (copy : List ℕ) where
       unfolding boxC lineC placeOf
       line-c read id low = either Keeps (isClockHost h w) _ _ (λ _. line 4 (rw (read, id)) low) (λ _. next h ours _ read low)
 
-      box-fine : (q : Place) → Held q → FineAt w q → Keeps (boxAt q k p octets h w e)
+      box-fine : (q : Place) → Held q → FineAt w q → Keeps (boxAt q k p octets t h w e)
       unfolding box4 boxA boxD
       box-fine Nowhere held fine = absurd (false≢true held)
       box-fine Step1 held fine = first
@@ -212,21 +214,21 @@ module _ (s : Settings) (good : settingsGood s ≡ true) (copy : List ℕ) where
       box-fine Step3 held fine = third held
       box-fine Step4 held fine = fourth-fine held (step4 (broadcast (h .settings) (w .link)) (h .clock .hold) p (inFlight (h .links) w))
       box-fine Step5 held fine = fifth held fine
-      box-fine LineA held fine = let t = both (readingInRange w) (idInRange s w) held in at-a (t .0) (t .1) fine (lineA u e)
-      box-fine LineB held fine = let t = both (readingInRange w) (idInRange s w) held in line-b (t .0) (t .1) fine
-      box-fine LineC held fine = let t = both (readingInRange w) (idInRange s w) (both (readingInRange w && idInRange s w) _ held .0) in line-c (t .0) (t .1) fine
+      box-fine LineA held fine = let b = both (readingInRange w) (idInRange s w) held in at-a (b .0) (b .1) fine (lineA u e)
+      box-fine LineB held fine = let b = both (readingInRange w) (idInRange s w) held in line-b (b .0) (b .1) fine
+      box-fine LineC held fine = let b = both (readingInRange w) (idInRange s w) (both (readingInRange w && idInRange s w) _ held .0) in line-c (b .0) (b .1) fine
       box-fine LineD held fine = next (host (h .settings) (clockSet p octets h w) (h .links)) ours _ (both (readingInRange w) (idInRange s w) held .0) fine
 
-    pub step-fine : Keeps (step k h w copy e)
+    pub step-fine : Keeps (step k t h w copy e)
     unfolding step
     step-fine =
         either Keeps (not (isOpen w)) _ _ (λ _. now)
         (λ f.
         let opened = is-so _ f in
         let o = opened-says s w copy (now .in-range) opened in
-        subst (λ (z : Settings). Keeps (boxOf k octets h w e (inspect z (w .link) octets))) (sym ours) (go opened (o .link) (le-leb _ _ (o .length)) (inspect s (w .link) octets) refl (o .held)))
+        subst (λ (z : Settings). Keeps (boxOf k octets t h w e (inspect z (w .link) octets))) (sym ours) (go opened (o .link) (le-leb _ _ (o .length)) (inspect s (w .link) octets) refl (o .held)))
       where
         go : isOpen w ≡ true → noLink s (w .link) ≡ false → leb (w .length) (length copy) ≡ true → (q : Parsed) → inspect s (w .link) octets ≡ q → packetHeld s w octets q ≡ true
-            → Keeps (boxOf k octets h w e q)
+            → Keeps (boxOf k octets t h w e q)
         go opened has long (Bad b) is held = absurd (false≢true held)
         go opened has long (Good p) is held = box-fine has long p is (placeOf w) held (now .fine opened)

@@ -15,6 +15,7 @@ use Rattle.answer.specs.declared.Answer.the-variants.{Done}
 use Rattle.clock.specs.declared.Counter.{Counter}
 use Rattle.table.specs.declared.Entry.{Entry}
 use Rattle.table.specs.Entry.{freshEntry}
+use Rattle.class_table.specs.declared.ClassTable.{ClassTable}
 use Rattle.host.specs.declared.Links.{Links}
 use Rattle.host.specs.declared.guard.Scope.the-variants.{Places, OnLink}
 use Rattle.host.specs.declared.walk.Walk.{Walk}
@@ -72,27 +73,27 @@ module _ (r : Room) (proper : Proper r) (ways : r .longest ≤ longestWay) where
       go (inl e) = subst (RightMessage r) (sym e) (here refl)
       go (inr y) = old m y
 
-  module _ (w : World) (right : RightWorld r w) (a : ℕ) (inside : a < r .seats) (links : Links) (run : List Entry) where
+  module _ (w : World) (right : RightWorld r w) (a : ℕ) (inside : a < r .seats) (nets : ClassTable) (links : Links) (run : List Entry) where
     abbrev now : Left
     now = w .state (r .number a)
 
     abbrev at-seat : RoomCall → Step
-    at-seat call = record { seat = a; links = links; run = run; call = call }
+    at-seat call = record { seat = a; nets = nets; links = links; run = run; call = call }
 
     lent : (call : RoomCall) → Allowed r w (at-seat call) → SeatLent r a (now .walk) (now .copy) links run
-    lent call ok = lent-right r a proper now (now .clock) links run (ok .lends) (right .seats a inside)
+    lent call ok = lent-right r a proper now nets (now .clock) links run (ok .lends) (right .seats a inside)
 
     -- a call that changes no walk
     plain : (call : RoomCall) → Allowed r w (at-seat call) → Elsewhere (callOf call) → ((v : Walk) → inWalk (scopeOfCall (callOf call)) v ≡ isOpen v)
         → (RightLent r a links run → RightOutcome r a run (result r w (at-seat call))) → SeatLeft r a run (result r w (at-seat call))
-    plain call ok else refuses by-itself = plain-right r a (now .clock) links (now .walk) (now .copy) run (lent call ok) (callOf call) else refuses by-itself
+    plain call ok else refuses by-itself = plain-right r a nets (now .clock) links (now .walk) (now .copy) run (lent call ok) (callOf call) else refuses by-itself
 
     acts-right : (i : ℕ) (k : Counter) (packet : List ℕ) (t : ℤ) → Allowed r w (at-seat (acts i k packet t)) → RightLent r a links run
         → RightOutcome r a run (result r w (at-seat (acts i k packet t)))
     acts-right i k packet t ok lent =
         let d = ok .timely in
         subst (λ (o : List ℕ). RightOutcome r a run (result r w (at-seat (acts i k o t)))) (sym (d .a-copy))
-        (act-right r proper ways a i inside (d .message) (d .other-end) (right .mail (d .message) (d .earlier)) (now .clock) links (now .walk) (now .copy) run
+        (act-right r proper ways a i inside (d .message) (d .other-end) (right .mail (d .message) (d .earlier)) nets (now .clock) links (now .walk) (now .copy) run
         lent k
         (λ e.
         let later = subst (λ (o : List ℕ). T (timed (result r w (at-seat (acts i k o t)) .reply .answer)) → Later r w a k t (d .message)) (d .a-copy) (d .in-time) e in
@@ -101,7 +102,7 @@ module _ (r : Room) (proper : Proper r) (ways : r .longest ≤ longestWay) where
     arrives-right : (i : ℕ) (k : Counter) (packet : List ℕ) (t : ℤ) → Allowed r w (at-seat (arrives i k packet t)) → RightLent r a links run
         → RightOutcome r a run (result r w (at-seat (arrives i k packet t)))
     arrives-right i k packet t ok lent =
-        let same = receive-acts i k packet (lentAt r a (now .clock) links (now .walk) (now .copy) run) in
+        let same = receive-acts i k packet (lentAt r a nets (now .clock) links (now .walk) (now .copy) run) in
         subst (RightOutcome r a run) (sym same)
         (acts-right i k packet t
         record {
@@ -113,10 +114,10 @@ module _ (r : Room) (proper : Proper r) (ways : r .longest ≤ longestWay) where
 
     inspects-right : (i : ℕ) (packet : List ℕ) → RightLent r a links run → RightOutcome r a run (result r w (at-seat (inspects i packet)))
     inspects-right i packet right =
-        let x = lentAt r a (now .clock) links (now .walk) (now .copy) run in
+        let x = lentAt r a nets (now .clock) links (now .walk) (now .copy) run in
         performs (inspect i packet) x (RightOutcome r a run) (λ _. same-right r a links run right)
         (λ e.
-        updated-right r a (now .clock) links (now .walk) (now .copy) run right (there (inspect i packet) x e) (inspection i packet (x .host)) packet (right .links)
+        updated-right r a nets (now .clock) links (now .walk) (now .copy) run right (there (inspect i packet) x e) (inspection i packet (x .host)) packet (right .links)
         (λ id d y low high inside h. absurd (omega arith)))
 
     -- no setting afresh, no opening and no step
@@ -148,22 +149,22 @@ module _ (r : Room) (proper : Proper r) (ways : r .longest ≤ longestWay) where
     call-right : (call : RoomCall) → Allowed r w (at-seat call) → StepRight w (at-seat call)
     call-right (ticks n) ok =
         record {
-          seat = plain (ticks n) ok (a-request (Tick n) (λ e. unlike cc) (λ k e. unlike cc)) (λ v. refl) (λ lent. tick-right r a (now .clock) links (now .walk) (now .copy) run lent n);
+          seat = plain (ticks n) ok (a-request (Tick n) (λ e. unlike cc) (λ k e. unlike cc)) (λ v. refl) (λ lent. tick-right r a nets (now .clock) links (now .walk) (now .copy) run lent n);
           mail = right .mail;
         }
     call-right seconds ok =
         record {
-          seat = plain seconds ok (a-request Second (λ e. unlike cc) (λ k e. unlike cc)) (λ v. refl) (λ lent. second-right r a (now .clock) links (now .walk) (now .copy) run lent);
+          seat = plain seconds ok (a-request Second (λ e. unlike cc) (λ k e. unlike cc)) (λ v. refl) (λ lent. second-right r a nets (now .clock) links (now .walk) (now .copy) run lent);
           mail = right .mail;
         }
     call-right (reports k) ok =
         record {
-          seat = plain (reports k) ok (a-request (SelfReport k) (λ e. unlike cc) (λ j e. unlike cc)) (λ v. refl) (λ lent. self-right r a (now .clock) links (now .walk) (now .copy) run lent inside k);
+          seat = plain (reports k) ok (a-request (SelfReport k) (λ e. unlike cc) (λ j e. unlike cc)) (λ v. refl) (λ lent. self-right r a nets (now .clock) links (now .walk) (now .copy) run lent inside k);
           mail = right .mail;
         }
     call-right (sends i k buffer t) ok =
         record {
-          seat = plain (sends i k buffer t) ok (a-send i k buffer) (λ v. refl) (λ lent. send-right r a i inside (now .clock) links (now .walk) (now .copy) run lent k buffer t (λ e. (let q = ok .timely e in (q .clock, q .no-midnight))) .seat);
+          seat = plain (sends i k buffer t) ok (a-send i k buffer) (λ v. refl) (λ lent. send-right r a i inside nets (now .clock) links (now .walk) (now .copy) run lent k buffer t (λ e. (let q = ok .timely e in (q .clock, q .no-midnight))) .seat);
           mail = post _ (w .mail) _ (sent i k buffer t ok (isOpen (now .walk)) refl) (right .mail);
         }
       where
@@ -172,12 +173,12 @@ module _ (r : Room) (proper : Proper r) (ways : r .longest ≤ longestWay) where
             → RightMessage r record { seat = a; link = i; ms = t; octets = messageOf (result r w (at-seat (sends i k buffer t))) }
         sent i k buffer t ok false e =
             let l = lent (sends i k buffer t) ok in
-            send-right r a i inside (now .clock) links (now .walk) (now .copy) run record { links = no-walk r a (now .walk) (links .all) e (l .links); table = l .table } k buffer t
+            send-right r a i inside nets (now .clock) links (now .walk) (now .copy) run record { links = no-walk r a (now .walk) (links .all) e (l .links); table = l .table } k buffer t
             (λ z. (let q = ok .timely z in (q .clock, q .no-midnight))) .message
         sent i k buffer t ok true e =
-            performs (send i k buffer) (lentAt r a (now .clock) links (now .walk) (now .copy) run)
+            performs (send i k buffer) (lentAt r a nets (now .clock) links (now .walk) (now .copy) run)
             (λ o. done (o .reply .answer) ≡ true → RightMessage r record { seat = a; link = i; ms = t; octets = messageOf o })
-            (λ no is. absurd (false≢true (sym no ∙ is))) (λ yes. absurd (true≢false (sym e ∙ passed (OnLink i) (lentAt r a (now .clock) links (now .walk) (now .copy) run) yes .closed)))
+            (λ no is. absurd (false≢true (sym no ∙ is))) (λ yes. absurd (true≢false (sym e ∙ passed (OnLink i) (lentAt r a nets (now .clock) links (now .walk) (now .copy) run) yes .closed)))
     call-right (arrives i k packet t) ok =
         record { seat = plain (arrives i k packet t) ok (a-delivery (Receive i k) packet) (λ v. refl) (arrives-right i k packet t ok); mail = right .mail }
     call-right (acts i k packet t) ok =
@@ -185,14 +186,14 @@ module _ (r : Room) (proper : Proper r) (ways : r .longest ≤ longestWay) where
     call-right (inspects i packet) ok =
         record { seat = plain (inspects i packet) ok (a-delivery (Inspect i) packet) (λ v. refl) (inspects-right i packet); mail = right .mail }
     call-right (opens i packet) ok =
-        record { seat = open-right r proper ways a inside (now .clock) links (now .walk) (now .copy) run (lent (opens i packet) ok) i packet; mail = right .mail }
+        record { seat = open-right r proper ways a inside nets (now .clock) links (now .walk) (now .copy) run (lent (opens i packet) ok) i packet; mail = right .mail }
     call-right (steps k t) ok =
-        record { seat = step-right r proper ways a inside (now .clock) links (now .walk) (now .copy) run (lent (steps k t) ok) k (in-time k t ok); mail = right .mail }
+        record { seat = step-right r proper ways a inside nets (now .clock) links (now .walk) (now .copy) run (lent (steps k t) ok) k (in-time k t ok); mail = right .mail }
 
   world-right : (w : World) (x : Step) → Allowed r w x → RightWorld r w → RightWorld r (step r w x)
   unfolding step after
   world-right w x ok right =
-      let s = call-right w right (x .seat) (ok .seat-in) (x .links) (x .run) (x .call) ok in
+      let s = call-right w right (x .seat) (ok .seat-in) (x .nets) (x .links) (x .run) (x .call) ok in
       record {
         seats =
             λ b hb.
@@ -224,7 +225,7 @@ module _ (r : Room) (proper : Proper r) (ways : r .longest ≤ longestWay) where
       -- no walk is open
       afresh-walk : (a : ℕ) → afresh r a .reply .answer ≡ Done → afresh r a .walk ≡ noWalk
       afresh-walk a =
-          performs (ask Initialize) (lentAt r a (r .clock a) (r .links a) (r .walk a) (r .copy a) (r .run a))
+          performs (ask Initialize) (lentAt r a (r .nets a) (r .clock a) (r .links a) (r .walk a) (r .copy a) (r .run a))
           (λ (o : Outcome). o .reply .answer ≡ Done → o .walk ≡ noWalk) (λ no is. absurd (false≢true (sym no ∙ ap done is))) (λ _ _. refl)
 
       afresh-seat : (a : ℕ) → afresh r a .reply .answer ≡ Done → RightSeat r a (leftBy (r .number a) [] (afresh r a))

@@ -25,6 +25,7 @@ use Rattle.wire.proofs.ReadBack.{source-back, nhosts-back, time-back, tsp-back,
 use Rattle.route.specs.declared.Found.the-variants.{Id, Nothing}
 use Rattle.route.specs.Find.{aboveC, sameNet, localId, find, netOf, search, rowsOf}
 use Rattle.table.specs.Entry.{maxDelay, minDelay}
+use Rattle.class_table.specs.declared.ClassTable.{ClassTable}
 use Rattle.host.specs.declared.Settings.{Settings}
 use Rattle.host.specs.State.{hostCount}
 use Rattle.host.specs.Inspection.{otherLayout}
@@ -47,12 +48,12 @@ same-count s p n e =
     go false true c n t e = eqb-true (p .nhosts) (s .layout .nhosts) t
     go false false c n t e = absurd (true≢false e)
 
--- an id that is found for an address of our net is the one that the address gives
-pub found-own : (ours a : Address) (s : Settings) (id : ℕ) → sameNet ours a ≡ true → find ours (s .layout) (s .net) a ≡ Id id → localId (s .layout) a ≡ Id id
+-- an id that is found for an address of our net is the one that the address gives, whatever the table
+pub found-own : (ours a : Address) (s : Settings) (t : ClassTable) (id : ℕ) → sameNet ours a ≡ true → find ours (s .layout) (t .net) a ≡ Id id → localId (s .layout) a ≡ Id id
 unfolding find
-found-own ours a s id net e = go (aboveC a) (sameNet ours a) net e
+found-own ours a s t id net e = go (aboveC a) (sameNet ours a) net e
   where
-    go : (x n : Bool) → n ≡ true → cond x Nothing (cond n (localId (s .layout) a) (search (netOf a) (rowsOf (s .net)))) ≡ Id id → localId (s .layout) a ≡ Id id
+    go : (x n : Bool) → n ≡ true → cond x Nothing (cond n (localId (s .layout) a) (search (netOf a) (rowsOf (t .net)))) ≡ Id id → localId (s .layout) a ≡ Id id
     go true n t e = cc
     go false true t e = e
     go false false t e = absurd (false≢true t)

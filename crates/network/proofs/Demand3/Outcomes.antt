@@ -14,6 +14,7 @@ use Rattle.clock.specs.declared.Clock.{Clock}
 use Rattle.table.specs.declared.Entry.{Entry}
 use Rattle.table.specs.Entry.{freshEntry}
 use Rattle.table.specs.Runs.{changed, updatedAt}
+use Rattle.class_table.specs.declared.ClassTable.{ClassTable}
 use Rattle.host.specs.declared.Link.{Link}
 use Rattle.host.specs.declared.Links.{Links}
 use Rattle.host.specs.declared.walk.Walk.{Walk}
@@ -78,9 +79,9 @@ module _ (r : Room) (a : ℕ) where
       let there = neither (eqb (suc j) 0) (ltb (linkCount (r .settings a)) (suc j)) (proper .cables a (suc j) b i cable .link-in) .1 in
       absurd (true≢false (sym (lt-ltb (linkCount (r .settings a)) (suc j) (omega arith)) ∙ there))
 
-  pub lent-right : Proper r → (x : Left) (c : Clock) (l : Links) (run : List Entry) → Lends x (lentAt r a c l (x .walk) (x .copy) run) → RightSeat r a x
+  pub lent-right : Proper r → (x : Left) (nets : ClassTable) (c : Clock) (l : Links) (run : List Entry) → Lends x (lentAt r a nets c l (x .walk) (x .copy) run) → RightSeat r a x
       → SeatLent r a (x .walk) (x .copy) l run
-  lent-right proper x c l run lends right =
+  lent-right proper x nets c l run lends right =
       record {
         links =
             all-first (λ (j : ℕ) (y : Link). between (x .walk) (suc j) ≡ false → RightLink r a (suc j) y) (linkCount (r .settings a)) (λ j y past _. spare-right proper j y past) (x .links .all) (l .all)
@@ -133,19 +134,19 @@ module _ (r : Room) (a : ℕ) where
   pub no-walk : (w : Walk) (l : List Link) → isOpen w ≡ false → LinksIn r a w l → RightLinks r a l
   no-walk w l shut t = all-weaken (λ (j : ℕ) (y : Link). between w (suc j) ≡ false → RightLink r a (suc j) y) (λ (j : ℕ). RightLink r a (suc j)) (λ j y f. f (rw shut)) l t
 
-  module _ (c : Clock) (l : Links) (walk : Walk) (copy : List ℕ) (run : List Entry) (lent : SeatLent r a walk copy l run) (call : Call) where
+  module _ (nets : ClassTable) (c : Clock) (l : Links) (walk : Walk) (copy : List ℕ) (run : List Entry) (lent : SeatLent r a walk copy l run) (call : Call) where
     -- a refusal leaves all as it was lent
-    pub refused-right : (answer : Answer) → SeatLeft r a run (refused answer call (lentAt r a c l walk copy run))
+    pub refused-right : (answer : Answer) → SeatLeft r a run (refused answer call (lentAt r a nets c l walk copy run))
     refused-right answer = record { links = lent .links; walk = lent .walk; table = lent .table; same-length = refl }
 
     -- a call that changes no walk: refused while one is open, and else as the call by itself shows
     pub plain-right : Elsewhere call → ((w : Walk) → inWalk (scopeOfCall call) w ≡ isOpen w)
-        → (RightLent r a l run → RightOutcome r a run (perform call (lentAt r a c l walk copy run))) → SeatLeft r a run (perform call (lentAt r a c l walk copy run))
+        → (RightLent r a l run → RightOutcome r a run (perform call (lentAt r a nets c l walk copy run))) → SeatLeft r a run (perform call (lentAt r a nets c l walk copy run))
     unfolding Frame
     plain-right else refuses right = go (isOpen walk) refl
       where
         x : Lent
-        x = lentAt r a c l walk copy run
+        x = lentAt r a nets c l walk copy run
 
         go : (b : Bool) → isOpen walk ≡ b → SeatLeft r a run (perform call x)
         go true e = performs call x (SeatLeft r a run) (λ _. refused-right (guardOf call x)) (λ d. absurd (true≢false (sym (refuses walk ∙ e) ∙ passed (scopeOfCall call) x d .closed)))
@@ -164,9 +165,9 @@ module _ (r : Room) (a : ℕ) where
   same-right l run lent = record { links = lent .links; table = lent .table; same-length = refl }
 
   -- what a call that passed its guard makes of the seat's entries
-  module _ (c : Clock) (l : Links) (walk : Walk) (copy : List ℕ) (run : List Entry) (there : Holds (r .number a) run) where
+  module _ (nets : ClassTable) (c : Clock) (l : Links) (walk : Walk) (copy : List ℕ) (run : List Entry) (there : Holds (r .number a) run) where
     abbrev x : Lent
-    x = lentAt r a c l walk copy run
+    x = lentAt r a nets c l walk copy run
 
     pub written-right : (m : Links) (es : List Entry) → RightLinks r a (m .all) → length es ≡ length (entriesOf x) → All (RightEntry r a) es
         → RightLeft r a run m (withEntries (r .number a) es run)
@@ -177,19 +178,19 @@ module _ (r : Room) (a : ℕ) where
           same-length = written-kept x es there same .same-length;
         }
 
-  module _ (c : Clock) (l : Links) (walk : Walk) (copy : List ℕ) (run : List Entry) (lent : RightLent r a l run) (there : Holds (r .number a) run) where
+  module _ (nets : ClassTable) (c : Clock) (l : Links) (walk : Walk) (copy : List ℕ) (run : List Entry) (lent : RightLent r a l run) (there : Holds (r .number a) run) where
     pub carried-right : (e : Effect) → RightLinks r a (e .links .all)
-        → ((id : ℕ) (y : Entry) → e .work .first ≤ id → id < e .work .end → y ≡ getD (entriesOf (x c l walk copy run there)) id freshEntry → RightEntry r a id y
+        → ((id : ℕ) (y : Entry) → e .work .first ≤ id → id < e .work .end → y ≡ getD (entriesOf (x nets c l walk copy run there)) id freshEntry → RightEntry r a id y
         → RightEntry r a id (changed (e .work .marks) (e .work .change) (id - e .work .first) y))
-        → RightOutcome r a run (carriedOut e (x c l walk copy run there))
+        → RightOutcome r a run (carriedOut e (x nets c l walk copy run there))
     carried-right e links keeps =
-        written-right c l walk copy run there (e .links) _ links (changes-length (e .work) (entriesOf (x c l walk copy run there)))
-        (changes-keep (e .work) (entriesOf (x c l walk copy run there)) (RightEntry r a) keeps (lent .table there))
+        written-right nets c l walk copy run there (e .links) _ links (changes-length (e .work) (entriesOf (x nets c l walk copy run there)))
+        (changes-keep (e .work) (entriesOf (x nets c l walk copy run there)) (RightEntry r a) keeps (lent .table there))
 
     pub updated-right : (e : Arrived) (octets : List ℕ) → RightLinks r a (e .links .all)
-        → ((id : ℕ) (d : Clock) (y : Entry) → e .work .first ≤ id → id < e .work .end → id < length (entriesOf (x c l walk copy run there)) → RightEntry r a id y
+        → ((id : ℕ) (d : Clock) (y : Entry) → e .work .first ≤ id → id < e .work .end → id < length (entriesOf (x nets c l walk copy run there)) → RightEntry r a id y
         → RightEntry r a id (updatedAt (e .work) octets id d y .entry))
-        → RightOutcome r a run (updatedBy e octets (x c l walk copy run there))
+        → RightOutcome r a run (updatedBy e octets (x nets c l walk copy run there))
     updated-right e octets links keeps =
-        written-right c l walk copy run there (e .links) _ links (updates-length (e .work) octets (entriesOf (x c l walk copy run there)))
-        (updates-keep (e .work) octets (entriesOf (x c l walk copy run there)) (RightEntry r a) keeps (lent .table there))
+        written-right nets c l walk copy run there (e .links) _ links (updates-length (e .work) octets (entriesOf (x nets c l walk copy run there)))
+        (updates-keep (e .work) octets (entriesOf (x nets c l walk copy run there)) (RightEntry r a) keeps (lent .table there))

@@ -23,6 +23,7 @@ use Rattle.table.specs.Entry.{freshEntry, livesHere, withMark, asMarked, takenD
 use Rattle.table.specs.Update.{ownUpdate}
 use Rattle.table.specs.Runs.{changed}
 use Rattle.table.proofs.Cases.{stored, reported-keeps, aged-keeps}
+use Rattle.class_table.specs.declared.ClassTable.{ClassTable}
 use Rattle.host.specs.declared.Links.{Links}
 use Rattle.host.specs.declared.walk.Walk.{Walk}
 use Rattle.host.specs.declared.guard.Scope.the-variants.{Places, All}
@@ -70,8 +71,8 @@ module _ (r : Room) (a : ℕ) where
 
   pub set-good : afresh r a .reply .answer ≡ Done → settingsGood (r .settings a) ≡ true
   set-good =
-      performs (ask Initialize) (lentAt r a (r .clock a) (r .links a) (r .walk a) (r .copy a) (r .run a)) (λ (o : Outcome). o .reply .answer ≡ Done → settingsGood (r .settings a) ≡ true)
-      (λ no is. absurd (false≢true (sym no ∙ ap done is))) (λ yes _. passed Places (lentAt r a (r .clock a) (r .links a) (r .walk a) (r .copy a) (r .run a)) yes .settings)
+      performs (ask Initialize) (lentAt r a (r .nets a) (r .clock a) (r .links a) (r .walk a) (r .copy a) (r .run a)) (λ (o : Outcome). o .reply .answer ≡ Done → settingsGood (r .settings a) ≡ true)
+      (λ no is. absurd (false≢true (sym no ∙ ap done is))) (λ yes _. passed Places (lentAt r a (r .nets a) (r .clock a) (r .links a) (r .walk a) (r .copy a) (r .run a)) yes .settings)
 
   -- the host of a seat's own id is there
   pub own-host : Proper r → a < r .seats → (i : ℕ) → ownId (r .settings a) ≡ Id i → HostAt r i a
@@ -87,7 +88,7 @@ module _ (r : Room) (a : ℕ) where
       (λ no is. absurd (false≢true (sym no ∙ ap done is)))
       (λ e _.
       let held = there (ask Initialize) x e in
-      written-right r a (r .clock a) (r .links a) (r .walk a) (r .copy a) (r .run a) held (freshLinks (r .settings a)) _
+      written-right r a (r .nets a) (r .clock a) (r .links a) (r .walk a) (r .copy a) (r .run a) held (freshLinks (r .settings a)) _
       (all-made (λ (j : ℕ). RightLink r a (suc j)) freshLink (λ j y b i cable alive. absurd (true≢false alive)) (r .settings a .links))
       (changes-length (each (r .settings a) Fresh) (entriesOf x))
       (rw (changes-each (hostCount (r .settings a)) Fresh (r .settings a .marks) (entriesOf x) (omega (arith, entries-length (r .settings a) (r .number a) (r .run a) held)))
@@ -95,24 +96,24 @@ module _ (r : Room) (a : ℕ) where
       (all-any (λ _ _. Unit {0}) (λ _ _. tt) (entriesOf x)))))
     where
       x : Lent
-      x = lentAt r a (r .clock a) (r .links a) (r .walk a) (r .copy a) (r .run a)
+      x = lentAt r a (r .nets a) (r .clock a) (r .links a) (r .walk a) (r .copy a) (r .run a)
 
-  module _ (c : Clock) (l : Links) (walk : Walk) (copy : List ℕ) (run : List Entry) (lent : RightLent r a l run) where
+  module _ (nets : ClassTable) (c : Clock) (l : Links) (walk : Walk) (copy : List ℕ) (run : List Entry) (lent : RightLent r a l run) where
     abbrev x : Lent
-    x = lentAt r a c l walk copy run
+    x = lentAt r a nets c l walk copy run
 
     pub tick-right : (n : Count) → RightOutcome r a run (perform (ask (Tick n)) x)
     unfolding tick
     tick-right n =
         performs (ask (Tick n)) x (RightOutcome r a run) (λ _. same-right r a l run lent)
-        (λ e. carried-right r a c l walk copy run lent (there (ask (Tick n)) x e) (tick n (x .host) (x .walk)) (lent .links) (λ id y low high is right. absurd (omega arith)))
+        (λ e. carried-right r a nets c l walk copy run lent (there (ask (Tick n)) x e) (tick n (x .host) (x .walk)) (lent .links) (λ id y low high is right. absurd (omega arith)))
 
     pub second-right : RightOutcome r a run (perform (ask Second) x)
     unfolding second
     second-right =
         performs (ask Second) x (RightOutcome r a run) (λ _. same-right r a l run lent)
         (λ e.
-        carried-right r a c l walk copy run lent (there (ask Second) x e) (second (x .host) (x .walk)) (lent .links)
+        carried-right r a nets c l walk copy run lent (there (ask Second) x e) (second (x .host) (x .walk)) (lent .links)
         (λ id y low high is right.
         aged-keeps (RightEntry r a id) y right (down-right id y right) (ttl-right id y (fallSeconds (y .ttl)) right)))
 
@@ -121,7 +122,7 @@ module _ (r : Room) (a : ℕ) where
     self-right inside k =
         performs (ask (SelfReport k)) x (RightOutcome r a run) (λ _. same-right r a l run lent)
         (λ e.
-        carried-right r a c l walk copy run lent (there (ask (SelfReport k)) x e) (selfReport k (x .host) (x .walk)) (lent .links)
+        carried-right r a nets c l walk copy run lent (there (ask (SelfReport k)) x e) (selfReport k (x .host) (x .walk)) (lent .links)
         (λ id y low high is right.
         let held = there (ask (SelfReport k)) x e in
         reported-keeps (RightEntry r a id) t y right (down-right id y right)

@@ -24,6 +24,7 @@ use Rattle.wire.specs.Packet.{packetLength}
 use Rattle.table.specs.declared.Entry.{Entry}
 use Rattle.table.specs.Entry.{advertised, entryInRange}
 use Rattle.table.proofs.Ranges.{within, range-says, reading-in}
+use Rattle.class_table.specs.declared.ClassTable.{ClassTable}
 use Rattle.host.specs.declared.Settings.{Settings}
 use Rattle.host.specs.declared.Link.{Link}
 use Rattle.host.specs.declared.Links.{Links}
@@ -55,12 +56,12 @@ link-from-1 s i e = omega (arith, counted s i e .from-one)
 
 -- ---- the message of a send at seat a on link i, at millisecond t
 
-module _ (r : Room) (a i : ℕ) (inside : a < r .seats) (c : Clock) (l : Links) (walk : Walk) (copy : List ℕ) (run : List Entry) (lent : RightLent r a l run) (there : noLink (r .settings a) i ≡ false) where
+module _ (r : Room) (a i : ℕ) (inside : a < r .seats) (nets : ClassTable) (c : Clock) (l : Links) (walk : Walk) (copy : List ℕ) (run : List Entry) (lent : RightLent r a l run) (there : noLink (r .settings a) i ≡ false) where
   abbrev x : Link
   x = linkOf l i
 
   abbrev whole : Lent
-  whole = lentAt r a c l walk copy run
+  whole = lentAt r a nets c l walk copy run
 
   -- the link as it stands
   link-right : RightLink r a i x
@@ -149,10 +150,10 @@ pub record SendRight (r : Room) (a i : ℕ) (run : List Entry) (t : ℤ) (o : Ou
   pub seat : RightOutcome r a run o
   pub message : done (o .reply .answer) ≡ true → RightMessage r record { seat = a; link = i; ms = t; octets = messageOf o }
 
-pub send-right : (r : Room) (a i : ℕ) → a < r .seats → (c : Clock) (l : Links) (walk : Walk) (copy : List ℕ) (run : List Entry) → RightLent r a l run → (k : Counter) (buffer : List ℕ) (t : ℤ)
-    → (perform (Call.send i k buffer) (lentAt r a c l walk copy run) .reply .answer ≡ Done → Clocked r a c k t)
-    → SendRight r a i run t (perform (Call.send i k buffer) (lentAt r a c l walk copy run))
-send-right r a i inside c l walk copy run lent k buffer t =
+pub send-right : (r : Room) (a i : ℕ) → a < r .seats → (nets : ClassTable) (c : Clock) (l : Links) (walk : Walk) (copy : List ℕ) (run : List Entry) → RightLent r a l run → (k : Counter) (buffer : List ℕ) (t : ℤ)
+    → (perform (Call.send i k buffer) (lentAt r a nets c l walk copy run) .reply .answer ≡ Done → Clocked r a c k t)
+    → SendRight r a i run t (perform (Call.send i k buffer) (lentAt r a nets c l walk copy run))
+send-right r a i inside nets c l walk copy run lent k buffer t =
     performs (Call.send i k buffer) x Kept
     (λ d _. record { seat = same-right r a l run lent; message = λ e. absurd (false≢true (sym d ∙ e)) })
     (λ d.
@@ -164,15 +165,15 @@ send-right r a i inside c l walk copy run lent k buffer t =
     record {
       seat =
           record {
-            links = sent-links r a i inside c l walk copy run lent (p .link i refl);
+            links = sent-links r a i inside nets c l walk copy run lent (p .link i refl);
             table = lent .table;
             same-length = refl;
           };
-      message = λ _. message-right r a i inside c l walk copy run lent (p .link i refl) p k t (now .0) (now .1) buffer;
+      message = λ _. message-right r a i inside nets c l walk copy run lent (p .link i refl) p k t (now .0) (now .1) buffer;
     }))
   where
     x : Lent
-    x = lentAt r a c l walk copy run
+    x = lentAt r a nets c l walk copy run
 
     Kept : Outcome → Type 0
     Kept o = (o .reply .answer ≡ Done → Clocked r a c k t) → SendRight r a i run t o

@@ -112,7 +112,7 @@ module _ (r : Room) (proper : Proper r) where
 
   -- what the setting afresh of a seat is lent
   abbrev first : ℕ → Lent
-  first c = lentAt r c (r .clock c) (r .links c) (r .walk c) (r .copy c) (r .run c)
+  first c = lentAt r c (r .nets c) (r .clock c) (r .links c) (r .walk c) (r .copy c) (r .run c)
 
   afresh-kept : (c : ℕ) → Kept (r .settings c) (r .number c) (r .run c) (afresh r c .run)
   afresh-kept c = kept-places (ask Initialize) (first c)

@@ -23,6 +23,8 @@ use Rattle.clock.specs.Clock as clock
 use Rattle.clock.proofs.Midnight.{rests-hold}
 use Rattle.clock.proofs.Readings.{plus-none}
 use Rattle.clock.proofs.Bounds as bounds
+use Rattle.class_table.specs.declared.ClassTable.{ClassTable}
+use Rattle.class_table.specs.Table.{tableBad}
 use Rattle.table.specs.declared.Entry.{Entry}
 use Rattle.table.specs.Forms.{every, everyFrom}
 use Rattle.table.specs.Marks.{onlyMark}
@@ -30,7 +32,7 @@ use Rattle.table.specs.Entry.{up, asMarked, entryInRange}
 use Rattle.host.specs.declared.Settings.{Settings}
 use Rattle.host.specs.declared.Links.{Links}
 use Rattle.host.specs.declared.guard.Scope.the-variants.{All}
-use Rattle.host.specs.Settings.{linkCount, settingsGood}
+use Rattle.host.specs.Settings.{linkCount, settingsFit}
 use Rattle.host.specs.State.{freshLinks, linkInRange, entries}
 use Rattle.host.specs.Walk.{noWalk, walkInRange}
 use Rattle.host.specs.Lent.{Lent, lent, lentInRange}
@@ -44,7 +46,7 @@ use Rattle.network.specs.Left.{messageOf}
 use Rattle.network.specs.History.{Left, leftBy, put, after}
 use Rattle.network.specs.Room.{errorParts, delayParts, Room, afresh, HostAt, Proper}
 use Rattle.network.specs.Demand3.{ticks, Message, World, Step, result, step, history, Allows, Starts, entryOf, Claim, Demand3Within}
-use Rattle.network.specs.TwoSeats.{settingsFor, placesOf}
+use Rattle.network.specs.TwoSeats.{settingsFor, netsFor, placesOf}
 use Rattle.network.specs.Sharp.{lateness, late, early, w₀, x₁, w₁, x₂, w₂, x₃, w₃, x₄, w₄, wait, w₅, x₆, x₇, story, learnt, Sharp}
 use Rattle.network.proofs.Opened.{opened}
 use Rattle.network.proofs.Written.{answered}
@@ -84,6 +86,9 @@ in-range n h =
 abbrev settings0 : Settings
 settings0 = settingsFor lateness 0
 
+abbrev nets0 : ClassTable
+nets0 = netsFor lateness
+
 abbrev links0 : Links
 links0 = freshLinks settings0
 
@@ -91,12 +96,12 @@ abbrev table0 : List Entry
 table0 = placesOf 0
 
 -- all that the guard tests but the clock
-else-good : cond (noPlaces 0 table0 || not (true && every linkInRange (take (linkCount settings0) (links0 .all)) && walkInRange settings0 noWalk [] && every entryInRange (entries settings0 0 table0) && everyFrom 0 (asMarked (settings0 .marks)) (entries settings0 0 table0))) OutOfRange (cond (not (settingsGood settings0)) Setting Done) ≡ Done
+else-good : cond (tableBad nets0 || (noPlaces 0 table0 || not (true && every linkInRange (take (linkCount settings0) (links0 .all)) && walkInRange settings0 noWalk [] && every entryInRange (entries settings0 0 table0) && everyFrom 0 (asMarked (settings0 .marks)) (entries settings0 0 table0)))) OutOfRange (cond (not (settingsFit nets0 settings0)) Setting Done) ≡ Done
 unfolding opened
 else-good = refl
 
 abbrev lent0 : Clock → Lent
-lent0 c = lent settings0 0 c links0 noWalk [] table0
+lent0 c = lent settings0 nets0 0 c links0 noWalk [] table0
 
 guard-done : (c : Clock) → clockInRange c ≡ true → guard All (lent0 c) ≡ Done
 unfolding guard lentInRange

@@ -97,7 +97,7 @@ module _ (p : Pair) where
   starts = record { set-afresh = λ a l. refl; no-mail = refl }
 
   -- a call with the links as they were left and the places as they were left
-  pub as-left : (w : World) (a : ℕ) (x : RoomCall) → Lends (w .state a) (eventOf (pair p) w (call w a x) .lent)
+  pub as-left : (w : World) (a : ℕ) (x : RoomCall) → Lends (w .state a) (eventOf (pair p) w (call (pair p) w a x) .lent)
   unfolding entries
   as-left w a x =
       record {
