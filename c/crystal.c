@@ -25,6 +25,9 @@ static hello_walk walk; /* closed: the host does not walk, and the copy is empty
 static uint8_t copy[1];
 static hello_entry run[HELLO_PLACES];
 
+/* The table of the class, which the host uses: its NHOSTS, and no rows. */
+static const hello_class_table table = {.nhosts = 1};
+
 static void set_up(void)
 {
     hello_address address = {192, 0, 2, 1};
@@ -38,7 +41,7 @@ static void set_up(void)
     settings.date = FIRST;
     settings.link_count = 1;
     hello_mark_own(&settings);
-    assert(hello_initialize(&settings, NUMBER, &clock, &links, &walk, copy, 0, run,
+    assert(hello_initialize(&settings, &table, NUMBER, &clock, &links, &walk, copy, 0, run,
                             HELLO_PLACES) == HELLO_DONE);
 }
 
@@ -52,7 +55,7 @@ static hello_counter at(uint16_t count)
 /* Reads the clock: it must be that time and date. The ms of CLOCK that the reading leaves. */
 static int64_t reads(hello_counter counter, int64_t time, uint16_t date)
 {
-    hello_time told = hello_read(&settings, NUMBER, &clock, &links, &walk, copy, 0, run,
+    hello_time told = hello_read(&settings, &table, NUMBER, &clock, &links, &walk, copy, 0, run,
                                  HELLO_PLACES, counter);
     assert(told.answer == HELLO_DONE);
     assert(told.time == time);
@@ -69,7 +72,7 @@ int main(void)
     /* The sum is past midnight: CLOCK stands below zero until the tick. */
     assert(reads(at(60001), 1, SECOND) == -60000);
     assert(clock.hold == HOLD_INTERVAL);
-    assert(hello_tick(&settings, NUMBER, &clock, &links, &walk, copy, 0, run, HELLO_PLACES,
+    assert(hello_tick(&settings, &table, NUMBER, &clock, &links, &walk, copy, 0, run, HELLO_PLACES,
                       0) == HELLO_DONE);
     assert(reads(at(0), 5536, SECOND) == 5536);
 
@@ -79,8 +82,8 @@ int main(void)
     assert(reads(at(4), 5536 + 65536 + 4, SECOND) == 5536 + 65536);
 
     /* Set back by 80 s, at a count of 10: the sum is before midnight. */
-    assert(hello_set(&settings, NUMBER, &clock, &links, &walk, copy, 0, run, HELLO_PLACES, -80000,
-                     10) == HELLO_DONE);
+    assert(hello_set(&settings, &table, NUMBER, &clock, &links, &walk, copy, 0, run, HELLO_PLACES,
+                     -80000, 10) == HELLO_DONE);
     assert(reads(at(10), 86400000 - 8918, FIRST) == 86400000 - 8928);
 
     printf("A crystal clock was read over midnight and back.\n");

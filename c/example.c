@@ -30,6 +30,9 @@ typedef struct host {
 /* The run of both hosts' entries. */
 static hello_entry run[RUN];
 
+/* The table of the class, which both hosts use: its NHOSTS, and no rows. */
+static const hello_class_table table = {.nhosts = 2};
+
 /* The copy of a walk's packet, of length 0 here. */
 static uint8_t copy[1];
 
@@ -55,16 +58,16 @@ static void set_up(host *h, size_t number, int64_t time)
     h->settings.date = 1 << 10 | 1 << 5; /* 1 January 1972 */
     h->settings.link_count = 1;
     hello_mark_own(&h->settings);
-    uint8_t answer = hello_initialize(&h->settings, number, &h->clock, &h->links, &h->walk, copy, 0,
-                                      run, RUN);
+    uint8_t answer = hello_initialize(&h->settings, &table, number, &h->clock, &h->links, &h->walk,
+                                      copy, 0, run, RUN);
     assert(answer == HELLO_DONE);
 }
 
 /* The clock's whole milliseconds. */
 static int64_t reading(host *h)
 {
-    hello_time time = hello_read(&h->settings, h->number, &h->clock, &h->links, &h->walk, copy, 0,
-                                 run, RUN, HELLO_LINE_CLOCK);
+    hello_time time = hello_read(&h->settings, &table, h->number, &h->clock, &h->links, &h->walk,
+                                 copy, 0, run, RUN, HELLO_LINE_CLOCK);
     assert(time.answer == HELLO_DONE);
     return time.time;
 }
@@ -73,8 +76,8 @@ static int64_t reading(host *h)
 static void wait_until(host *h, int64_t time)
 {
     while (reading(h) < time) {
-        uint8_t answer = hello_tick(&h->settings, h->number, &h->clock, &h->links, &h->walk, copy,
-                                    0, run, RUN, 0);
+        uint8_t answer = hello_tick(&h->settings, &table, h->number, &h->clock, &h->links, &h->walk,
+                                    copy, 0, run, RUN, 0);
         assert(answer == HELLO_DONE);
     }
     assert(reading(h) == time);
@@ -83,16 +86,16 @@ static void wait_until(host *h, int64_t time)
 /* Reports the host itself in its own table. */
 static void self_report(host *h)
 {
-    uint8_t answer = hello_self_report(&h->settings, h->number, &h->clock, &h->links, &h->walk,
-                                       copy, 0, run, RUN, HELLO_LINE_CLOCK);
+    uint8_t answer = hello_self_report(&h->settings, &table, h->number, &h->clock, &h->links,
+                                       &h->walk, copy, 0, run, RUN, HELLO_LINE_CLOCK);
     assert(answer == HELLO_DONE);
 }
 
 /* Writes the message that the host sends now; answers its length. */
 static size_t send_now(host *h, uint8_t *message)
 {
-    hello_sent sent = hello_send(&h->settings, h->number, &h->clock, &h->links, &h->walk, copy, 0,
-                                 run, RUN, LINK, HELLO_LINE_CLOCK, message, MESSAGE);
+    hello_sent sent = hello_send(&h->settings, &table, h->number, &h->clock, &h->links, &h->walk,
+                                 copy, 0, run, RUN, LINK, HELLO_LINE_CLOCK, message, MESSAGE);
     assert(sent.answer == HELLO_DONE);
     return sent.length;
 }
@@ -100,11 +103,11 @@ static size_t send_now(host *h, uint8_t *message)
 /* Takes a message that arrives now: looks at it, then acts on it. Answers what it says. */
 static hello_inspected take_now(host *h, const uint8_t *message, size_t length)
 {
-    hello_inspected said = hello_inspect(&h->settings, h->number, &h->clock, &h->links, &h->walk,
-                                         copy, 0, run, RUN, LINK, message, length);
+    hello_inspected said = hello_inspect(&h->settings, &table, h->number, &h->clock, &h->links,
+                                         &h->walk, copy, 0, run, RUN, LINK, message, length);
     assert(said.answer == HELLO_DONE);
-    uint8_t answer = hello_act(&h->settings, h->number, &h->clock, &h->links, &h->walk, copy, 0,
-                               run, RUN, LINK, HELLO_LINE_CLOCK, message, length);
+    uint8_t answer = hello_act(&h->settings, &table, h->number, &h->clock, &h->links, &h->walk,
+                               copy, 0, run, RUN, LINK, HELLO_LINE_CLOCK, message, length);
     assert(answer == HELLO_DONE);
     return said;
 }
@@ -155,8 +158,8 @@ int main(void)
     assert(b_at_a.pid == LINK);
     assert(b_at_a.time == 45081);
 
-    hello_route route = hello_lookup(&a.settings, a.number, &a.clock, &a.links, &a.walk, copy, 0,
-                                     run, RUN, address_of(1));
+    hello_route route = hello_lookup(&a.settings, &table, a.number, &a.clock, &a.links, &a.walk,
+                                     copy, 0, run, RUN, address_of(1));
     assert(route.answer == HELLO_DONE && route.id == 1 && route.pid == LINK);
 
     printf("A has for B: DELAY %d ms, OFFSET %d ms.\n", (int)b_at_a.delay, (int)b_at_a.offset);

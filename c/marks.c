@@ -33,11 +33,14 @@ typedef struct host {
 static hello_entry run[RUN];
 static uint8_t copy[1];
 
+/* The table of the class, which both hosts use: its NHOSTS, and no rows. */
+static const hello_class_table table = {.nhosts = NHOSTS};
+
 /* Sets the host afresh; answers the number. */
 static uint8_t initialize(host *h)
 {
-    return hello_initialize(&h->settings, h->number, &h->clock, &h->links, &h->walk, copy, 0, run,
-                            RUN);
+    return hello_initialize(&h->settings, &table, h->number, &h->clock, &h->links, &h->walk, copy,
+                            0, run, RUN);
 }
 
 /* The settings of host `number`, with its own id marked and its clock at `time` ms. */
@@ -60,26 +63,27 @@ static void set_up(host *h, size_t number, int64_t time)
 
 static uint8_t second(host *h)
 {
-    return hello_second(&h->settings, h->number, &h->clock, &h->links, &h->walk, copy, 0, run, RUN);
+    return hello_second(&h->settings, &table, h->number, &h->clock, &h->links, &h->walk, copy, 0,
+                        run, RUN);
 }
 
 /* Reports the hosts that live at the host, in its own table. */
 static void self_report(host *h)
 {
-    assert(hello_self_report(&h->settings, h->number, &h->clock, &h->links, &h->walk, copy, 0, run,
-                             RUN, HELLO_LINE_CLOCK) == HELLO_DONE);
+    assert(hello_self_report(&h->settings, &table, h->number, &h->clock, &h->links, &h->walk, copy,
+                             0, run, RUN, HELLO_LINE_CLOCK) == HELLO_DONE);
 }
 
 /* One host sends, and the other takes the message at once; what the action answers. */
 static uint8_t tells(host *from, host *to)
 {
     uint8_t message[HELLO_LONGEST_MESSAGE];
-    hello_sent sent = hello_send(&from->settings, from->number, &from->clock, &from->links,
-                                 &from->walk, copy, 0, run, RUN, LINK, HELLO_LINE_CLOCK, message,
-                                 sizeof message);
+    hello_sent sent =
+        hello_send(&from->settings, &table, from->number, &from->clock, &from->links, &from->walk,
+                   copy, 0, run, RUN, LINK, HELLO_LINE_CLOCK, message, sizeof message);
     assert(sent.answer == HELLO_DONE);
-    return hello_act(&to->settings, to->number, &to->clock, &to->links, &to->walk, copy, 0, run,
-                     RUN, LINK, HELLO_LINE_CLOCK, message, sent.length);
+    return hello_act(&to->settings, &table, to->number, &to->clock, &to->links, &to->walk, copy, 0,
+                     run, RUN, LINK, HELLO_LINE_CLOCK, message, sent.length);
 }
 
 /* The entry of an id in the host's table. */

@@ -32,6 +32,9 @@ typedef struct host {
 /* The run of both hosts' entries. */
 static hello_entry run[RUN];
 
+/* The table of the class, which both hosts use: its NHOSTS, and no rows. */
+static const hello_class_table table = {.nhosts = NHOSTS};
+
 static hello_address address_of(size_t number)
 {
     hello_address address = {192, 0, 2, (uint8_t)(1 + number)};
@@ -53,8 +56,8 @@ static void set_up(host *h, size_t number, int64_t time)
     h->settings.date = 1 << 10 | 1 << 5; /* 1 January 1972 */
     h->settings.link_count = 1;
     hello_mark_own(&h->settings);
-    uint8_t answer = hello_initialize(&h->settings, number, &h->clock, &h->links, &h->walk, h->copy,
-                                      sizeof h->copy, run, RUN);
+    uint8_t answer = hello_initialize(&h->settings, &table, number, &h->clock, &h->links, &h->walk,
+                                      h->copy, sizeof h->copy, run, RUN);
     assert(answer == HELLO_DONE);
     h->links.all[0].neighbor = address_of(1 - number);
     h->links.all[0].keep_alive = 1;
@@ -64,12 +67,12 @@ static void set_up(host *h, size_t number, int64_t time)
 /* B reports itself and sends; answers the length. */
 static size_t send_now(host *b, uint8_t *message)
 {
-    uint8_t answer = hello_self_report(&b->settings, B, &b->clock, &b->links, &b->walk, b->copy,
-                                       sizeof b->copy, run, RUN, HELLO_LINE_CLOCK);
+    uint8_t answer = hello_self_report(&b->settings, &table, B, &b->clock, &b->links, &b->walk,
+                                       b->copy, sizeof b->copy, run, RUN, HELLO_LINE_CLOCK);
     assert(answer == HELLO_DONE);
-    hello_sent sent = hello_send(&b->settings, B, &b->clock, &b->links, &b->walk, b->copy,
-                                 sizeof b->copy, run, RUN, LINK, HELLO_LINE_CLOCK, message,
-                                 HELLO_LONGEST_MESSAGE);
+    hello_sent sent =
+        hello_send(&b->settings, &table, B, &b->clock, &b->links, &b->walk, b->copy, sizeof b->copy,
+                   run, RUN, LINK, HELLO_LINE_CLOCK, message, HELLO_LONGEST_MESSAGE);
     assert(sent.answer == HELLO_DONE);
     return sent.length;
 }
@@ -86,23 +89,23 @@ static void print_place(hello_stepped place)
 /* Walks through the arrival of a message at A; answers the number of boxes. */
 static int walk_through(host *a, const uint8_t *message, size_t length)
 {
-    hello_stepped next = hello_open_walk(&a->settings, A, &a->clock, &a->links, &a->walk, a->copy,
-                                         sizeof a->copy, run, RUN, LINK, message, length);
+    hello_stepped next = hello_open_walk(&a->settings, &table, A, &a->clock, &a->links, &a->walk,
+                                         a->copy, sizeof a->copy, run, RUN, LINK, message, length);
     int boxes = 0;
     while (next.step != 0) {
         assert(next.answer == HELLO_DONE);
         print_place(next);
         boxes++;
         /* Its other calls are refused meanwhile. */
-        uint8_t answer = hello_tick(&a->settings, A, &a->clock, &a->links, &a->walk, a->copy,
-                                    sizeof a->copy, run, RUN, 0);
+        uint8_t answer = hello_tick(&a->settings, &table, A, &a->clock, &a->links, &a->walk,
+                                    a->copy, sizeof a->copy, run, RUN, 0);
         assert(answer == HELLO_IN_WALK);
-        next = hello_step(&a->settings, A, &a->clock, &a->links, &a->walk, a->copy, sizeof a->copy,
-                          run, RUN, HELLO_LINE_CLOCK);
+        next = hello_step(&a->settings, &table, A, &a->clock, &a->links, &a->walk, a->copy,
+                          sizeof a->copy, run, RUN, HELLO_LINE_CLOCK);
     }
     assert(next.answer == HELLO_DONE);
-    next = hello_step(&a->settings, A, &a->clock, &a->links, &a->walk, a->copy, sizeof a->copy, run,
-                      RUN, HELLO_LINE_CLOCK);
+    next = hello_step(&a->settings, &table, A, &a->clock, &a->links, &a->walk, a->copy,
+                      sizeof a->copy, run, RUN, HELLO_LINE_CLOCK);
     assert(next.answer == HELLO_NO_WALK);
     return boxes;
 }
@@ -126,9 +129,9 @@ int main(void)
     /* The same host acts on the packet at once. */
     other = a;
     memcpy(acted, run, sizeof run);
-    uint8_t answer = hello_act(&other.settings, A, &other.clock, &other.links, &other.walk,
-                               other.copy, sizeof other.copy, acted, RUN, LINK, HELLO_LINE_CLOCK,
-                               message, length);
+    uint8_t answer =
+        hello_act(&other.settings, &table, A, &other.clock, &other.links, &other.walk, other.copy,
+                  sizeof other.copy, acted, RUN, LINK, HELLO_LINE_CLOCK, message, length);
     assert(answer == HELLO_DONE);
 
     int boxes = walk_through(&a, message, length);

@@ -5,6 +5,10 @@
  * caller keeps them and lends them to each call. What its table and its packets speak of are other
  * hosts, each named by an id.
  *
+ * All hosts of a class use one net table, which is lent to each of their calls beside the settings.
+ * It holds the class's NHOSTS, which must be that of each host's settings. No call of a host changes
+ * it; hello_nets.h has those that do, which the tutor makes.
+ *
  * All hosts of a class share one run of entries: host k, from 0 to 15, owns the 255 places from
  * 255 k, and only the first NHOSTS of them, one for each id, are ever changed. So a run holds host
  * k when it is at least 255 k + 255 entries long. A longer run is fine.
@@ -17,7 +21,8 @@
  *   no.  meaning                                        changes
  *   0    done                                           as the call's rule says
  *   1    a setting is out of its range, the own id is   nothing
- *        not marked, or a mark lies at NHOSTS or above
+ *        not marked, a mark lies at NHOSTS or above,
+ *        or NHOSTS is not that of the class's table
  *   2    the buffer is shorter than the message         nothing
  *   3    the IP header is not in form                   nothing
  *   4    the IP checksum is not good                    nothing
@@ -39,7 +44,9 @@
  *        from 1 to the host's count (8 at most); the
  *        host's 255 places are not all in the run;
  *        where a walk is opened, its copy has no room
- *        for 1,052 octets; something lent is out of
+ *        for 1,052 octets; the class's table has over
+ *        32 rows, an NHOSTS not 1 to 255 or a row's id
+ *        not below it; something else lent is out of
  *        range; or the mark of one of the host's first
  *        NHOSTS entries is not that of the settings
  *   13   the host looked up is down: its DELAY is       nothing
@@ -52,9 +59,10 @@
  * hello_step 10 and 11; hello_step 17; hello_lookup 11 and 13.
  *
  * 12 is tested first in all calls, then 16, then upwards in number. hello_initialize tests, for 12,
- * the host's number and the length of the run only; every other call tests the ranges of all that
- * it is lent: the clock, the host's links, which are the first link_count (8 at most), a walk that is
- * open, with its packet, and the host's first NHOSTS entries (255 at most) with their marks.
+ * the host's number, the length of the run and the class's table only; every other call tests the
+ * ranges of all that it is lent: the class's table too, the clock, the host's links, which are the
+ * first link_count (8 at most), a walk that is open, with its packet, and the host's first NHOSTS
+ * entries (255 at most) with their marks.
  *
  * A host may carry further ones, each with an id of its own: several hosts live at one. The settings
  * mark their ids beside its own, hello_initialize writes each entry's mark, and hello_self_report
@@ -63,9 +71,10 @@
  * A walk is an arrival one box at a time: hello_open_walk tests and copies the packet, and each
  * hello_step makes the changes of one step of the arrival, or of one line of a host's update, and
  * answers the next place. Run to its end, it answers and leaves what hello_act with the counter of
- * the first step does. While it is open, the host refuses its other calls with 16, but for
- * hello_initialize, which drops it. The caller keeps the walk, at first HELLO_WALK_CLOSED, and the
- * octets of its copy, HELLO_LONGEST_MESSAGE of them, and lends both to each call.
+ * the first step does, with the class's table as step 5 was lent it. While it is open, the host
+ * refuses its other calls with 16, but for hello_initialize, which drops it. The caller keeps the
+ * walk, at first HELLO_WALK_CLOSED, and the octets of its copy, HELLO_LONGEST_MESSAGE of them, and
+ * lends both to each call.
  *
  * What a caller owes, and the library cannot test:
  *   - each pointer is valid for its type, or for as many elements as the length beside it says,
@@ -144,7 +153,7 @@ typedef struct hello_link_setting {
 /* The layout of host ids, the same at all hosts of a net. */
 typedef struct hello_layout {
     uint8_t address_offset; /* ADDRESS-OFFSET: an id is the host octet less this number */
-    size_t nhosts;          /* NHOSTS, 1 to 255: ids are 0 to NHOSTS - 1 */
+    size_t nhosts;          /* NHOSTS, that of the class's table: ids are 0 to NHOSTS - 1 */
 } hello_layout;
 
 /* The number of a net; class A has two zeros behind its first octet. */
@@ -165,6 +174,12 @@ typedef struct hello_net_table {
     size_t count;               /* 0 to 32 */
     hello_row rows[HELLO_ROWS]; /* searched from the first; those behind the count not looked at */
 } hello_net_table;
+
+/* The table of a class, which all its hosts use: its NHOSTS, and the net table. */
+typedef struct hello_class_table {
+    size_t nhosts; /* NHOSTS, 1 to 255: that of every host's settings */
+    hello_net_table net;
+} hello_class_table;
 
 /*
  * Which of the ids from 0 to 255 are marked: the hosts that live here. The mark of an id is bit
@@ -187,7 +202,6 @@ typedef struct hello_settings {
     uint16_t date;          /* starting date, a real one with bit 14 zero; bit 15 not looked at */
     size_t link_count;      /* 1 to 8: the host's links are the first link_count */
     hello_link_setting links[HELLO_LINKS]; /* link 1 comes first */
-    hello_net_table net;                   /* all ids below NHOSTS */
     hello_marks marks; /* the ids whose hosts live here: the own one and any others below NHOSTS */
 } hello_settings;
 
@@ -311,58 +325,61 @@ typedef struct hello_stepped {
  * eight link settings, and the first NHOSTS entries, each with the mark of its id; a walk is
  * dropped. What stood there does not matter, but something must. Answers 0, 1, 12.
  */
-uint8_t hello_initialize(const hello_settings *settings, size_t number, hello_clock *clock,
-                         hello_links *links, hello_walk *walk, const uint8_t *copy,
-                         size_t copy_length, hello_entry *run, size_t run_length);
+uint8_t hello_initialize(const hello_settings *settings, const hello_class_table *table,
+                         size_t number, hello_clock *clock, hello_links *links, hello_walk *walk,
+                         const uint8_t *copy, size_t copy_length, hello_entry *run,
+                         size_t run_length);
 
 /*
  * Adds CLOCK-TICK to CLOCK. Where CLOCK plus `count` is past 86,400,000 ms, CLOCK loses a day, DATE
  * moves on, its bit 15 is set and HOLD becomes HOLD-INTERVAL; so also after adjust and set, and the
  * other way below 0. Answers 0, 1, 12, 16.
  */
-uint8_t hello_tick(const hello_settings *settings, size_t number, hello_clock *clock,
-                   hello_links *links, hello_walk *walk, const uint8_t *copy, size_t copy_length,
-                   hello_entry *run, size_t run_length, uint16_t count);
+uint8_t hello_tick(const hello_settings *settings, const hello_class_table *table, size_t number,
+                   hello_clock *clock, hello_links *links, hello_walk *walk, const uint8_t *copy,
+                   size_t copy_length, hello_entry *run, size_t run_length, uint16_t count);
 
 /* Moves CLOCK by DELTA / 128, rounded down, which DELTA loses. Answers 0, 1, 12, 16. */
-uint8_t hello_adjust(const hello_settings *settings, size_t number, hello_clock *clock,
-                     hello_links *links, hello_walk *walk, const uint8_t *copy, size_t copy_length,
-                     hello_entry *run, size_t run_length, uint16_t count);
+uint8_t hello_adjust(const hello_settings *settings, const hello_class_table *table, size_t number,
+                     hello_clock *clock, hello_links *links, hello_walk *walk, const uint8_t *copy,
+                     size_t copy_length, hello_entry *run, size_t run_length, uint16_t count);
 
 /*
  * Corrects the clock by `ms`. From -128 to +127 it becomes DELTA, which adjust spends. Otherwise
  * it is added to CLOCK at once, DELTA becomes 0 and HOLD becomes HOLD-INTERVAL. Answers 0, 1, 12,
  * 16.
  */
-uint8_t hello_set(const hello_settings *settings, size_t number, hello_clock *clock,
-                  hello_links *links, hello_walk *walk, const uint8_t *copy, size_t copy_length,
-                  hello_entry *run, size_t run_length, int32_t ms, uint16_t count);
+uint8_t hello_set(const hello_settings *settings, const hello_class_table *table, size_t number,
+                  hello_clock *clock, hello_links *links, hello_walk *walk, const uint8_t *copy,
+                  size_t copy_length, hello_entry *run, size_t run_length, int32_t ms,
+                  uint16_t count);
 
 /*
  * Reads the whole milliseconds of CLOCK plus the count, and DATE. With the mark, CLOCK-TICK is added
  * to CLOCK first, and stays. Midnight is tested on the sum as after a tick, so that a reading may
  * move DATE and load HOLD. Answers 0, 1, 12, 16.
  */
-hello_time hello_read(const hello_settings *settings, size_t number, hello_clock *clock,
-                      hello_links *links, hello_walk *walk, const uint8_t *copy, size_t copy_length,
-                      hello_entry *run, size_t run_length, hello_counter counter);
+hello_time hello_read(const hello_settings *settings, const hello_class_table *table, size_t number,
+                      hello_clock *clock, hello_links *links, hello_walk *walk, const uint8_t *copy,
+                      size_t copy_length, hello_entry *run, size_t run_length,
+                      hello_counter counter);
 
 /*
  * A second has passed: HOLD and each TTL fall by one unless zero. An entry that was up and whose
  * TTL thereby ends goes down: DELAY 30,000, TTL 120. Answers 0, 1, 12, 16.
  */
-uint8_t hello_second(const hello_settings *settings, size_t number, hello_clock *clock,
-                     hello_links *links, hello_walk *walk, const uint8_t *copy, size_t copy_length,
-                     hello_entry *run, size_t run_length);
+uint8_t hello_second(const hello_settings *settings, const hello_class_table *table, size_t number,
+                     hello_clock *clock, hello_links *links, hello_walk *walk, const uint8_t *copy,
+                     size_t copy_length, hello_entry *run, size_t run_length);
 
 /*
  * Reads the clock as hello_read does, and updates the entry of each marked id, in rising order, with
  * PID 0, DELAY 0 and OFFSET 0, all by that one reading. Answers 0, 1, 12, 16.
  */
-uint8_t hello_self_report(const hello_settings *settings, size_t number, hello_clock *clock,
-                          hello_links *links, hello_walk *walk, const uint8_t *copy,
-                          size_t copy_length, hello_entry *run, size_t run_length,
-                          hello_counter counter);
+uint8_t hello_self_report(const hello_settings *settings, const hello_class_table *table,
+                          size_t number, hello_clock *clock, hello_links *links, hello_walk *walk,
+                          const uint8_t *copy, size_t copy_length, hello_entry *run,
+                          size_t run_length, hello_counter counter);
 
 /*
  * Reads the clock as hello_read does, unless it answers 1, 2, 12 or 16. Writes the next message of
@@ -371,19 +388,20 @@ uint8_t hello_self_report(const hello_settings *settings, size_t number, hello_c
  * known and on the host's net. KEEP-ALIVE falls by one unless zero. Octets of the buffer behind the
  * message stay. Answers 0, 1, 2, 12, 16.
  */
-hello_sent hello_send(const hello_settings *settings, size_t number, hello_clock *clock,
-                      hello_links *links, const hello_walk *walk, const uint8_t *copy,
-                      size_t copy_length, hello_entry *run, size_t run_length, size_t link,
-                      hello_counter counter, uint8_t *buffer, size_t buffer_length);
+hello_sent hello_send(const hello_settings *settings, const hello_class_table *table, size_t number,
+                      hello_clock *clock, hello_links *links, const hello_walk *walk,
+                      const uint8_t *copy, size_t copy_length, hello_entry *run, size_t run_length,
+                      size_t link, hello_counter counter, uint8_t *buffer, size_t buffer_length);
 
 /*
  * Looks at a packet, IP header first, that arrived on link `link` (from 1): would it be taken, and
  * what does it say? Changes nothing. Answers 0, 1, 3 to 9, 12, 16; hello_act may still answer 10 or
  * 11 to a packet that is answered 0 here.
  */
-hello_inspected hello_inspect(const hello_settings *settings, size_t number, hello_clock *clock,
-                              hello_links *links, const hello_walk *walk, const uint8_t *copy,
-                              size_t copy_length, hello_entry *run, size_t run_length, size_t link,
+hello_inspected hello_inspect(const hello_settings *settings, const hello_class_table *table,
+                              size_t number, hello_clock *clock, hello_links *links,
+                              const hello_walk *walk, const uint8_t *copy, size_t copy_length,
+                              hello_entry *run, size_t run_length, size_t link,
                               const uint8_t *packet, size_t packet_length);
 
 /*
@@ -393,30 +411,31 @@ hello_inspected hello_inspect(const hello_settings *settings, size_t number, hel
  * packet's report changes and, where the report of the clock host is taken, the clock are as RFC
  * 891 says. Answers 0, 1, 3 to 12, 16.
  */
-uint8_t hello_act(const hello_settings *settings, size_t number, hello_clock *clock,
-                  hello_links *links, const hello_walk *walk, const uint8_t *copy,
-                  size_t copy_length, hello_entry *run, size_t run_length, size_t link,
-                  hello_counter counter, const uint8_t *packet, size_t packet_length);
+uint8_t hello_act(const hello_settings *settings, const hello_class_table *table, size_t number,
+                  hello_clock *clock, hello_links *links, const hello_walk *walk,
+                  const uint8_t *copy, size_t copy_length, hello_entry *run, size_t run_length,
+                  size_t link, hello_counter counter, const uint8_t *packet, size_t packet_length);
 
 /*
  * An arrival in one piece: hello_inspect and, where that answers 0, hello_act. It answers and
  * leaves what hello_act alone does. Answers 0, 1, 3 to 12, 16.
  */
-uint8_t hello_receive(const hello_settings *settings, size_t number, hello_clock *clock,
-                      hello_links *links, const hello_walk *walk, const uint8_t *copy,
-                      size_t copy_length, hello_entry *run, size_t run_length, size_t link,
-                      hello_counter counter, const uint8_t *packet, size_t packet_length);
+uint8_t hello_receive(const hello_settings *settings, const hello_class_table *table, size_t number,
+                      hello_clock *clock, hello_links *links, const hello_walk *walk,
+                      const uint8_t *copy, size_t copy_length, hello_entry *run, size_t run_length,
+                      size_t link, hello_counter counter, const uint8_t *packet,
+                      size_t packet_length);
 
 /*
  * Opens a walk for a packet, IP header first, that arrived on link `link` (from 1): the packet is
  * copied to the front of the copy, which must have room for HELLO_LONGEST_MESSAGE octets, and step 1
  * is next. Nothing else changes, and the clock is not read. Answers 0, 1, 3 to 9, 12, 16.
  */
-hello_stepped hello_open_walk(const hello_settings *settings, size_t number,
-                              const hello_clock *clock, const hello_links *links, hello_walk *walk,
-                              uint8_t *copy, size_t copy_length, const hello_entry *run,
-                              size_t run_length, size_t link, const uint8_t *packet,
-                              size_t packet_length);
+hello_stepped hello_open_walk(const hello_settings *settings, const hello_class_table *table,
+                              size_t number, const hello_clock *clock, const hello_links *links,
+                              hello_walk *walk, uint8_t *copy, size_t copy_length,
+                              const hello_entry *run, size_t run_length, size_t link,
+                              const uint8_t *packet, size_t packet_length);
 
 /*
  * Makes the changes of the place at which the walk stands, and answers the next. Step 1 reads the
@@ -425,19 +444,19 @@ hello_stepped hello_open_walk(const hello_settings *settings, size_t number,
  * (a), (b) and (c) of its update, as far as it goes, and (d) where the clock host's was stored. The
  * walk is closed where no place is left, and at 10 and 11. Answers 0, 1, 10, 11, 12, 17.
  */
-hello_stepped hello_step(const hello_settings *settings, size_t number, hello_clock *clock,
-                         hello_links *links, hello_walk *walk, const uint8_t *copy,
-                         size_t copy_length, hello_entry *run, size_t run_length,
-                         hello_counter counter);
+hello_stepped hello_step(const hello_settings *settings, const hello_class_table *table,
+                         size_t number, hello_clock *clock, hello_links *links, hello_walk *walk,
+                         const uint8_t *copy, size_t copy_length, hello_entry *run,
+                         size_t run_length, hello_counter counter);
 
 /*
- * Answers the id of `address`, by the host's own net or by the net table, and the link by which it
- * is reached. Changes nothing. Answers 0, 1, 11, 12, 13, 16.
+ * Answers the id of `address`, by the host's own net or by the class's net table, and the link by
+ * which it is reached. Changes nothing. Answers 0, 1, 11, 12, 13, 16.
  */
-hello_route hello_lookup(const hello_settings *settings, size_t number, hello_clock *clock,
-                         hello_links *links, hello_walk *walk, const uint8_t *copy,
-                         size_t copy_length, hello_entry *run, size_t run_length,
-                         hello_address address);
+hello_route hello_lookup(const hello_settings *settings, const hello_class_table *table,
+                         size_t number, hello_clock *clock, hello_links *links, hello_walk *walk,
+                         const uint8_t *copy, size_t copy_length, hello_entry *run,
+                         size_t run_length, hello_address address);
 
 /*
  * Gives a packet to the one point-to-point link of a fresh host (192.0.2.1, ADDRESS-OFFSET 1,

@@ -54,7 +54,7 @@ def take(host, message):
 
 
 def main():
-    room = hello.Room(hosts=2)
+    room = hello.Room(hosts=2, nhosts=2)
     a = fresh(room, 0, 39_900)
     b = fresh(room, 1, 40_400)
 

@@ -13,7 +13,8 @@ def settings(**changes):
 
 def fresh(**changes):
     """A host of a room of its own, freshly set."""
-    host = hello.Room(1).host(0, settings(**changes))
+    given = settings(**changes)
+    host = hello.Room(1, given.nhosts).host(0, given)
     if host.initialize() != Answer.DONE:
         raise AssertionError("a fresh host was refused")
     return host
@@ -39,26 +40,29 @@ class Fields(unittest.TestCase):
                     settings(**{field: value})
 
     def test_counts(self):
-        for field in ("link_count", "net_count"):
+        for lent, field in ((settings(), "link_count"), (hello.ClassTable(4), "count")):
             for value in (-1, 1 << 64):
                 with self.assertRaises(OverflowError, msg=field):
-                    setattr(settings(), field, value)
+                    setattr(lent, field, value)
         for hosts in (-1, 17):
             with self.assertRaises(OverflowError):
-                hello.Room(hosts)
+                hello.Room(hosts, 4)
+        for nhosts in (-1, 1 << 64):
+            with self.assertRaises(OverflowError):
+                hello.Room(1, nhosts)
 
     def test_parts(self):
         with self.assertRaises(OverflowError):
             settings(address=(256, 0, 2, 1))
         with self.assertRaises(OverflowError):
-            settings(net=[((1, 2, 300), 0)])
+            hello.ClassTable(4, [((1, 2, 300), 0)])
         for address in ((192, 0, 2), (192, 0, 2, 1, 0)):
             with self.assertRaises(ValueError):
                 settings(address=address)
         with self.assertRaises(ValueError):
             settings(links=9 * [hello.LinkSetting()])
         with self.assertRaises(ValueError):
-            settings(net=33 * [hello.Row()])
+            hello.ClassTable(4, 33 * [hello.Row()])
 
     def test_lent(self):
         for values in ({"clock": 1 << 63}, {"delta": 1 << 63}, {"hold": -1}, {"date": 1 << 16}):
@@ -163,7 +167,7 @@ class Answers(unittest.TestCase):
         self.assertEqual(host.inspect(1, b""), refused)
         self.assertIs(host.act(1, b""), Answer.IP_FORM)
         self.assertIs(host.receive(1, b""), Answer.IP_FORM)
-        self.assertIs(hello.Room(0).host(0, settings()).initialize(), Answer.OUT_OF_RANGE)
+        self.assertIs(hello.Room(0, 4).host(0, settings()).initialize(), Answer.OUT_OF_RANGE)
 
     def test_out_of_range(self):
         host = fresh()
@@ -179,12 +183,10 @@ class Answers(unittest.TestCase):
         self.assertEqual(host.send(1), hello.Sent(Answer.OUT_OF_RANGE, b""))
 
     def test_values_are_kept(self):
-        rows = [hello.Row(hello.Net(10, 0, 0), 3), hello.Row()]
         links = [hello.LinkSetting(True, hello.Address(192, 0, 2, 2))]
-        host = fresh(net=rows, links=links, time=1234)
+        host = fresh(links=links, time=1234)
         kept = host.settings
         self.assertEqual(kept.address, hello.Address(192, 0, 2, 1))
-        self.assertEqual((kept.net[:2], kept.net_count), (tuple(rows), 2))
         self.assertEqual((kept.links[:1], kept.link_count), (tuple(links), 1))
         self.assertEqual(host.clock.clock, 1234 * hello.UNITS_PER_MS)
         self.assertEqual(host.links[0], hello.Link(hello.Address(192, 0, 2, 2)))
@@ -199,7 +201,7 @@ class Answers(unittest.TestCase):
         self.assertEqual(buffer[32:], 8 * b"\xaa")
 
     def test_packets_are_looked_at_and_acted_on(self):
-        neighbor = hello.Room(1).host(0, settings(address=(192, 0, 2, 2), time=5))
+        neighbor = hello.Room(1, 4).host(0, settings(address=(192, 0, 2, 2), time=5))
         self.assertIs(neighbor.initialize(), Answer.DONE)
         neighbor.links[0] = hello.Link(hello.Address(192, 0, 2, 1), keep_alive=1, tsp=-7)
         message = neighbor.send(1).message
@@ -221,10 +223,111 @@ class Answers(unittest.TestCase):
 
     def test_plain_calls(self):
         host = fresh()
-        lent = (host.settings, 0, host.clock, host.links, host.walk, host.room.run)
+        table = hello.ClassTable(4)
+        lent = (host.settings, table, 0, host.clock, host.links, host.walk, host.room.run)
         self.assertEqual(library.tick(*lent), 0)
         self.assertEqual(library.read(*lent), (0, 1, host.clock.date))
-        self.assertEqual(library.tick(*lent[:5], hello.Run(0)), 12)
+        self.assertEqual(library.tick(*lent[:6], hello.Run(0)), 12)
+        self.assertEqual(library.net_add(table, (10, 0, 0), 1), (0, 1))
+        self.assertEqual(library.net_change(table, 1, 4), 1)
+        self.assertEqual(library.net_remove(table, 2), 22)
+        self.assertEqual(library.net_afresh(table, 0), 1)
+
+
+class NetTables(unittest.TestCase):
+    """The net table of the class, which its hosts use and the tutor changes."""
+
+    A, B = hello.Net(10, 0, 0), hello.Net(128, 1, 2)
+
+    def test_rows(self):
+        table = hello.Room(1, 4).net_table
+        self.assertEqual((table.nhosts, table.rows), (4, ()))
+        self.assertEqual(table.add(self.A, 3), hello.Added(Answer.DONE, 1))
+        self.assertEqual(table.add(self.B, 0), hello.Added(Answer.DONE, 2))
+        self.assertEqual(table.add(self.A, 1), hello.Added(Answer.DONE, 3))
+        rows = (hello.Row(self.A, 3), hello.Row(self.B, 0), hello.Row(self.A, 1))
+        self.assertEqual(table.rows, rows)
+        self.assertIs(table.change(2, 2), Answer.DONE)
+        self.assertEqual(table.rows[1], hello.Row(self.B, 2))
+        # Those behind a removed row move up.
+        self.assertIs(table.remove(1), Answer.DONE)
+        self.assertEqual(table.rows, (hello.Row(self.B, 2), rows[2]))
+        self.assertEqual(table.slots[2:], 30 * (hello.Row(),))
+        self.assertIs(table.set_afresh(9), Answer.DONE)
+        self.assertEqual((table.nhosts, table.rows), (9, ()))
+
+    def test_refused(self):
+        table = hello.Room(1, 4).net_table
+        for id in (4, 255, 256, 1 << 32):
+            self.assertEqual(table.add(self.A, id), hello.Added(Answer.SETTING, 0))
+        for row in (0, 1, 1 << 63):
+            self.assertIs(table.remove(row), Answer.NO_ROW)
+            self.assertIs(table.change(row, 9), Answer.NO_ROW)
+        for row in range(1, 33):
+            self.assertEqual(table.add(self.B, 1), hello.Added(Answer.DONE, row))
+        self.assertEqual(table.add(self.B, 9), hello.Added(Answer.TABLE_FULL, 0))
+        self.assertIs(table.change(32, 4), Answer.SETTING)
+        for nhosts in (0, 256):
+            self.assertIs(table.set_afresh(nhosts), Answer.SETTING)
+        self.assertEqual((table.nhosts, table.rows), (4, 32 * (hello.Row(self.B, 1),)))
+
+    def test_bad_tables(self):
+        host = fresh()
+        table = host.room.net_table
+        bad = hello.Row(self.A, 4)
+        for nhosts, rows, count in ((0, (), 0), (256, (), 0), (4, (bad,), 1), (4, (), 33), (4, (hello.Row(), bad), 2)):
+            table.nhosts, table.slots, table.count = nhosts, rows, count
+            self.assertIs(host.tick(), Answer.OUT_OF_RANGE)
+            self.assertIs(host.initialize(), Answer.OUT_OF_RANGE)
+            self.assertEqual(table.add(self.A, 0), hello.Added(Answer.OUT_OF_RANGE, 0))
+            self.assertIs(table.remove(1), Answer.OUT_OF_RANGE)
+            self.assertIs(table.change(1, 0), Answer.OUT_OF_RANGE)
+        # Behind the rows that stand nothing is looked at.
+        table.slots, table.count = (bad,), 0
+        self.assertIs(host.tick(), Answer.DONE)
+        self.assertEqual(table.add(self.B, 0), hello.Added(Answer.DONE, 1))
+        self.assertEqual(table.slots, (hello.Row(self.B, 0), *31 * (hello.Row(),)))
+
+    def test_hosts_use_it(self):
+        room = hello.Room(2, 4)
+        hosts = [room.host(k, settings(address=(192, 0, 2, 1 + k))) for k in range(2)]
+        for host in hosts:
+            self.assertIs(host.initialize(), Answer.DONE)
+            self.assertIs(host.self_report(), Answer.DONE)
+        own, other = hosts
+        there = hello.Address(10, 1, 2, 3)
+        self.assertIs(own.lookup(there).answer, Answer.NO_HOST)
+        self.assertEqual(room.net_table.add(self.A, 0), hello.Added(Answer.DONE, 1))
+        self.assertEqual(own.lookup(there), hello.Route(Answer.DONE, 0, 0))
+        self.assertIs(other.lookup(there).answer, Answer.HOST_DOWN)
+        self.assertIs(room.net_table.change(1, 1), Answer.DONE)
+        self.assertIs(own.lookup(there).answer, Answer.HOST_DOWN)
+        self.assertEqual(other.lookup(there), hello.Route(Answer.DONE, 1, 0))
+        self.assertIs(room.net_table.remove(1), Answer.DONE)
+        self.assertIs(other.lookup(there).answer, Answer.NO_HOST)
+
+    def test_another_nhosts(self):
+        host = fresh()
+        self.assertIs(host.room.net_table.set_afresh(5), Answer.DONE)
+        self.assertIs(host.tick(), Answer.SETTING)
+        self.assertIs(host.initialize(), Answer.SETTING)
+        host.settings.nhosts = 5
+        self.assertIs(host.initialize(), Answer.DONE)
+        self.assertIs(host.tick(), Answer.DONE)
+
+    def test_types(self):
+        host = fresh()
+        with self.assertRaises(TypeError):
+            library.net_remove(host.settings, 1)
+        with self.assertRaises(TypeError):
+            library.tick(host.settings, host.settings, 0, host.clock, host.links, host.walk, host.room.run)
+        for wrong in (-1, 1 << 64):
+            with self.assertRaises(OverflowError):
+                host.room.net_table.remove(wrong)
+            with self.assertRaises(OverflowError):
+                host.room.net_table.add(self.A, wrong)
+        with self.assertRaises(ValueError):
+            host.room.net_table.add((10, 0), 1)
 
 
 class ManyTicks(unittest.TestCase):
@@ -350,7 +453,7 @@ class Marks(unittest.TestCase):
 
     def test_refused_with_1(self):
         for marks in ((), {1}, {0, 4}, {0, 63}, {0, 64}, {0, 255}):
-            host = hello.Room(1).host(0, settings(marks=marks))
+            host = hello.Room(1, 4).host(0, settings(marks=marks))
             self.assertIs(host.initialize(), Answer.SETTING, msg=marks)
         host = fresh(nhosts=255, marks=range(255))
         self.assertEqual(self.marks(host), 255 * [1])

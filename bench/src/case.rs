@@ -33,6 +33,7 @@ pub fn inspect(nhosts: usize) -> Case {
         library: batch(move || {
             let Ours {
                 settings,
+                table,
                 clock,
                 links,
                 walk,
@@ -40,6 +41,7 @@ pub fn inspect(nhosts: usize) -> Case {
             } = black_box(&mut ours);
             hello::inspect(
                 settings,
+                table,
                 0,
                 clock,
                 links,
@@ -54,6 +56,7 @@ pub fn inspect(nhosts: usize) -> Case {
         reference: batch(move || {
             let Theirs {
                 settings,
+                table,
                 clock,
                 links,
                 walk,
@@ -61,7 +64,7 @@ pub fn inspect(nhosts: usize) -> Case {
             } = black_box(&mut theirs);
             let packet = black_box(&same_packet);
             reference::answer(&host::inspect(
-                settings, 0, clock, links, walk, run, LINK, packet,
+                settings, table, 0, clock, links, walk, run, LINK, packet,
             ))
         }),
     }
@@ -77,6 +80,7 @@ pub fn act(nhosts: usize) -> Case {
         library: batch(move || {
             let Ours {
                 settings,
+                table,
                 clock,
                 links,
                 walk,
@@ -84,12 +88,13 @@ pub fn act(nhosts: usize) -> Case {
             } = black_box(&mut ours);
             let (counter, packet) = (black_box(COUNTER), black_box(&packet));
             hello::act(
-                settings, 0, clock, links, walk, NO_COPY, run, LINK, counter, packet,
+                settings, table, 0, clock, links, walk, NO_COPY, run, LINK, counter, packet,
             )
         }),
         reference: batch(move || {
             let Theirs {
                 settings,
+                table,
                 clock,
                 links,
                 walk,
@@ -97,7 +102,7 @@ pub fn act(nhosts: usize) -> Case {
             } = black_box(&mut theirs);
             let (counter, packet) = (black_box(same_counter), black_box(&same_packet));
             reference::answer(&host::act(
-                settings, 0, clock, links, walk, run, LINK, counter, packet,
+                settings, table, 0, clock, links, walk, run, LINK, counter, packet,
             ))
         }),
     }
@@ -113,6 +118,7 @@ pub fn send(nhosts: usize) -> Case {
         library: batch(move || {
             let Ours {
                 settings,
+                table,
                 clock,
                 links,
                 walk,
@@ -120,13 +126,14 @@ pub fn send(nhosts: usize) -> Case {
             } = black_box(&mut ours);
             let (counter, buffer) = (black_box(COUNTER), black_box(&mut buffer));
             hello::send(
-                settings, 0, clock, links, walk, NO_COPY, run, LINK, counter, buffer,
+                settings, table, 0, clock, links, walk, NO_COPY, run, LINK, counter, buffer,
             )
             .answer
         }),
         reference: batch(move || {
             let Theirs {
                 settings,
+                table,
                 clock,
                 links,
                 walk,
@@ -134,7 +141,7 @@ pub fn send(nhosts: usize) -> Case {
             } = black_box(&mut theirs);
             let (counter, buffer) = (black_box(same_counter), black_box(&mut same_buffer));
             reference::answer(&host::send(
-                settings, 0, clock, links, walk, run, LINK, counter, buffer,
+                settings, table, 0, clock, links, walk, run, LINK, counter, buffer,
             ))
         }),
     }
@@ -147,6 +154,7 @@ pub fn tick(nhosts: usize) -> Case {
         library: batch(move || {
             let Ours {
                 settings,
+                table,
                 clock,
                 links,
                 walk,
@@ -154,6 +162,7 @@ pub fn tick(nhosts: usize) -> Case {
             } = black_box(&mut ours);
             hello::tick(
                 settings,
+                table,
                 0,
                 clock,
                 links,
@@ -166,13 +175,16 @@ pub fn tick(nhosts: usize) -> Case {
         reference: batch(move || {
             let Theirs {
                 settings,
+                table,
                 clock,
                 links,
                 walk,
                 run,
             } = black_box(&mut theirs);
             let count = black_box(COUNTER.count);
-            reference::answer(&host::tick(settings, 0, clock, links, walk, run, count))
+            reference::answer(&host::tick(
+                settings, table, 0, clock, links, walk, run, count,
+            ))
         }),
     }
 }
@@ -185,6 +197,7 @@ pub fn lookup(nhosts: usize) -> Case {
         library: batch(move || {
             let Ours {
                 settings,
+                table,
                 clock,
                 links,
                 walk,
@@ -192,6 +205,7 @@ pub fn lookup(nhosts: usize) -> Case {
             } = black_box(&mut ours);
             hello::lookup(
                 settings,
+                table,
                 0,
                 clock,
                 links,
@@ -205,6 +219,7 @@ pub fn lookup(nhosts: usize) -> Case {
         reference: batch(move || {
             let Theirs {
                 settings,
+                table,
                 clock,
                 links,
                 walk,
@@ -212,6 +227,7 @@ pub fn lookup(nhosts: usize) -> Case {
             } = black_box(&mut theirs);
             reference::answer(&host::lookup(
                 settings,
+                table,
                 0,
                 clock,
                 links,

@@ -1,7 +1,8 @@
 //! A host that has heard its neighbor, for either program.
 
 use crate::convert;
-use hello::{Address, Answer, Clock, Counter, Entry, Layout, Links, Settings, Walk, PLACES};
+use hello::PLACES;
+use hello::{Address, Answer, ClassTable, Clock, Counter, Entry, Layout, Links, Settings, Walk};
 
 /// The host's one link.
 pub const LINK: usize = 1;
@@ -22,6 +23,7 @@ pub const NEIGHBOR: Address = Address::new(192, 0, 2, 2);
 /// What the library is lent.
 pub struct Ours {
     pub settings: Settings,
+    pub table: ClassTable,
     pub clock: Clock,
     pub links: Links,
     pub walk: Walk,
@@ -31,6 +33,7 @@ pub struct Ours {
 /// What the reference program is lent.
 pub struct Theirs {
     pub settings: reference::Settings,
+    pub table: reference::NetTable,
     pub clock: reference::Clock,
     pub links: reference::Links,
     pub walk: reference::Walk,
@@ -49,6 +52,7 @@ impl Ours {
             time: READING,
             ..Settings::new(address, layout)
         };
+        let table = ClassTable::new(nhosts);
         let mut clock = Clock::default();
         let mut links = Links::default();
         let entry = Entry {
@@ -62,7 +66,7 @@ impl Ours {
         let mut run = vec![entry; PLACES];
         let mut walk = Walk::CLOSED;
         let answer = hello::initialize(
-            &settings, 0, &mut clock, &mut links, &mut walk, NO_COPY, &mut run,
+            &settings, &table, 0, &mut clock, &mut links, &mut walk, NO_COPY, &mut run,
         );
         assert_eq!(answer, Answer::Done.number());
         for place in &mut run {
@@ -77,6 +81,7 @@ impl Ours {
         link.tsp = -10;
         Ours {
             settings,
+            table,
             clock,
             links,
             walk,
@@ -88,6 +93,7 @@ impl Ours {
     pub fn theirs(&self) -> Theirs {
         Theirs {
             settings: convert::settings(&self.settings),
+            table: convert::table(&self.table),
             clock: convert::clock(&self.clock),
             links: convert::links(&self.links),
             walk: convert::walk(&self.walk, NO_COPY),
@@ -109,6 +115,7 @@ pub fn message(nhosts: usize) -> Vec<u8> {
     let mut buffer = vec![0; 32 + 4 * nhosts];
     let sent = hello::send(
         &neighbor.settings,
+        &neighbor.table,
         0,
         &mut neighbor.clock,
         &mut neighbor.links,

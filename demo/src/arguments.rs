@@ -1,6 +1,6 @@
 //! The words of the command line, and the plan of a room that they ask for.
 
-use crate::plan::{Cable, End, Plan, Shape, DAY, START};
+use crate::plan::{Cable, End, NetRow, Plan, Shape, DAY, START};
 use std::fmt::Display;
 use std::ops::RangeInclusive;
 use std::str::FromStr;
@@ -9,9 +9,9 @@ pub const HELP: &str = "\
 Runs a room of HELLO hosts (RFC 891) on cables, and shows what each host has learned.
 
   ./run [--hosts N] [--virtual N] [--crystal N] [--shape line|ring] [--delay LIST]
-        [--clocks LIST] [--minutes N] [--loss PERCENT] [--seed N] [--help]
+        [--clocks LIST] [--net LIST] [--minutes N] [--loss PERCENT] [--seed N] [--help]
 
-Without arguments: four hosts in a line, all with line clocks, ten minutes, no losses.
+Without arguments: four hosts in a line, all with line clocks, no net rows, ten minutes, no losses.
 
   --hosts N        how many hosts, 2 to 16 (default 4). Their addresses are 192.0.2.1 and on
   --virtual N      so many further hosts, 0 to 64, live at these (default 0): the first at the first,
@@ -27,6 +27,9 @@ Without arguments: four hosts in a line, all with line clocks, ten minutes, no l
   --clocks LIST    what each host's clock is ahead of the room's, in ms, one number for each host,
                    as 0,500,-1250,7000. The room starts at 08:00, and so each is from -28800000
                    to 57599999
+  --net LIST       the rows of the net table that all hosts use, 32 at most, as 10:3,192.0.9:1,0:0:
+                   a net, one octet of class A or three of class B or C, and the id of the host that
+                   leads there, 0 for the first. Net 0 matches all and ends the search
   --minutes N      how long the room runs, 1 to 1440 (default 10)
   --loss PERCENT   how many of a hundred messages the cables lose, 0 to 100 (default 0)
   --seed N         which messages they lose: another number, another choice (default 1)
@@ -51,6 +54,9 @@ pub enum Request {
 
 /// How long a message takes on a cable, either way.
 type Delay = [i64; 2];
+
+/// The rows that a net table can have.
+const ROWS: usize = 32;
 
 /// The clocks and cables of the built-in example; a larger room goes on with the later ones.
 const CLOCKS: [i64; 16] = [
@@ -83,6 +89,7 @@ pub fn parse(mut words: impl Iterator<Item = String>) -> Result<Request, String>
     let mut shape = Shape::Line;
     let mut delays = None;
     let mut clocks = None;
+    let mut rows = Vec::new();
     let mut minutes = 10;
     let mut loss = 0;
     let mut seed = 1;
@@ -98,6 +105,7 @@ pub fn parse(mut words: impl Iterator<Item = String>) -> Result<Request, String>
             "--shape" => shape = shape_named(&value()?)?,
             "--delay" => delays = Some(list(&value()?, delay)?),
             "--clocks" => clocks = Some(list(&value()?, clock)?),
+            "--net" => rows = list(&value()?, net_row)?,
             "--minutes" => minutes = number(&option, &value()?, 1..=1440)?,
             "--loss" => loss = number(&option, &value()?, 0..=100)?,
             "--seed" => seed = number(&option, &value()?, 0..=u64::MAX)?,
@@ -110,6 +118,7 @@ pub fn parse(mut words: impl Iterator<Item = String>) -> Result<Request, String>
         further,
         shape,
         cables: cables_of(hosts, shape, delays)?,
+        rows: rows_of(hosts + further, rows)?,
         minutes,
         loss,
         seed,
@@ -176,6 +185,48 @@ fn crystals_of(hosts: usize, crystals: usize) -> Result<usize, String> {
         Err(format!(
             "--crystal asks for {crystals} hosts, and there are {hosts}"
         ))
+    }
+}
+
+/// A row of --net: its net and its host's id.
+fn net_row(word: &str) -> Result<NetRow, String> {
+    let (net, id) = word.split_once(':').ok_or(format!(
+        "a row of --net must be NET:ID, and '{word}' is not"
+    ))?;
+    Ok(NetRow {
+        net: net_of(net)?,
+        id: number("an id of --net", id, 0..=254)?,
+    })
+}
+
+/// The octets of a net: one of class A, or 0, with zeros behind it, or three of class B or C.
+fn net_of(word: &str) -> Result<[u8; 3], String> {
+    let octets: Result<Vec<u8>, _> = word.split('.').map(str::parse).collect();
+    match octets.as_deref() {
+        Ok([first @ 0..=127]) => Ok([*first, 0, 0]),
+        Ok([first @ 128..=223, second, third]) => Ok([*first, *second, *third]),
+        _ => Err(format!(
+            "a net of --net must be a number from 0 to 127, or three octets with dots, the first \
+             from 128 to 223, and '{word}' is not"
+        )),
+    }
+}
+
+/// The rows, if they fit the table and each names an id that there is.
+fn rows_of(ids: usize, rows: Vec<NetRow>) -> Result<Vec<NetRow>, String> {
+    if rows.len() > ROWS {
+        return Err(format!(
+            "--net has {} rows, and at most {ROWS} fit",
+            rows.len()
+        ));
+    }
+    match rows.iter().find(|row| row.id >= ids) {
+        Some(row) => Err(format!(
+            "--net names id {}, and there are ids 0 to {}",
+            row.id,
+            ids - 1
+        )),
+        None => Ok(rows),
     }
 }
 

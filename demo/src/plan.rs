@@ -18,6 +18,8 @@ pub struct Plan {
     pub further: usize,
     pub shape: Shape,
     pub cables: Vec<Cable>,
+    /// The rows of the class's net table, as the tutor adds them.
+    pub rows: Vec<NetRow>,
     pub minutes: i64,
     /// Messages lost of a hundred.
     pub loss: u64,
@@ -40,6 +42,13 @@ impl Plan {
     pub fn guests(&self, number: usize) -> impl Iterator<Item = usize> + '_ {
         (self.clocks.len()..self.ids()).filter(move |id| self.home(*id) == number)
     }
+}
+
+/// A row of the net table: the octets of a net, and the id of the host that leads there.
+#[derive(Clone, Copy)]
+pub struct NetRow {
+    pub net: [u8; 3],
+    pub id: usize,
 }
 
 #[derive(Clone, Copy)]

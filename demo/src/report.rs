@@ -5,7 +5,7 @@ use crate::drive::Drive;
 use crate::host::address;
 use crate::room::Room;
 use demo::plan::{Plan, Shape, MINUTE, SECOND};
-use hello::{Answer, Entry, Host, Reading};
+use hello::{Address, Answer, Entry, Host, Net, Reading};
 use std::io::{Result, Write};
 
 /// A DELAY of so many ms is down.
@@ -62,8 +62,27 @@ pub fn plan(out: &mut impl Write, plan: &Plan) -> Result<()> {
             to.link,
         )?;
     }
+    print_net_table(out, plan)?;
     writeln!(out)?;
     promise(out, &conditions::broken(plan))
+}
+
+/// The rows of the class's net table.
+fn print_net_table(out: &mut impl Write, plan: &Plan) -> Result<()> {
+    if !plan.rows.is_empty() {
+        writeln!(out, "Net table, which all hosts use:")?;
+    }
+    for (index, row) in plan.rows.iter().enumerate() {
+        let [first, second, third] = row.net;
+        writeln!(
+            out,
+            "  row {:>2}  {:<12} by {}",
+            index + 1,
+            format!("{first}.{second}.{third}"),
+            address(row.id)
+        )?;
+    }
+    Ok(())
 }
 
 /// Whether the bound is promised, or which conditions are not met.
@@ -88,13 +107,15 @@ pub fn result(out: &mut impl Write, plan: &Plan, room: &mut Room) -> Result<()> 
     let mut beyond = 0;
     for number in 0..room.hosts.count() {
         let clock = date_and_time(room.read(number));
-        let host = room.hosts.host(number);
+        let mut host = room.hosts.host(number);
         let rows = live_rows(plan, &host);
         live += rows.len();
         beyond += rows.iter().filter(|row| !row.within_bound()).count();
         writeln!(out, "Host {} (id {number})", address(number))?;
         writeln!(out, "  Clock: {clock}, {}", clock_kind(plan, number))?;
         print_host(out, &host, &rows)?;
+        print_lookups(out, &mut host)?;
+        writeln!(out)?;
     }
     print_tally(out, plan, room)?;
     match beyond {
@@ -172,7 +193,40 @@ fn print_host(out: &mut impl Write, host: &Host, rows: &[Row]) -> Result<()> {
     if down > 0 {
         writeln!(out, "    ({down} more: down, DELAY {DOWN})")?;
     }
-    writeln!(out)
+    Ok(())
+}
+
+/// Where a lookup of an address on the net of each row leads.
+fn print_lookups(out: &mut impl Write, host: &mut Host) -> Result<()> {
+    let nets: Vec<Net> = host.net_table.rows().iter().map(|row| row.net).collect();
+    if !nets.is_empty() {
+        writeln!(out, "  Lookups by the net table")?;
+    }
+    for net in nets {
+        let looked_up = address_on(net);
+        let told = match host.lookup(looked_up) {
+            Ok(found) => format!("by {}, link {}", address(found.id), found.pid),
+            Err(refusal) => format!("answered {} ({})", refusal.number(), meaning(refusal)),
+        };
+        writeln!(out, "    {looked_up:<15}  {told}")?;
+    }
+    Ok(())
+}
+
+/// An address on a net; net zero, which matches all, has one of the last net of class C.
+fn address_on(net: Net) -> Address {
+    match net {
+        Net {
+            first: 0,
+            second: 0,
+            third: 0,
+        } => Address::new(223, 255, 255, 1),
+        Net {
+            first,
+            second,
+            third,
+        } => Address::new(first, second, third, 1),
+    }
 }
 
 fn print_row(out: &mut impl Write, row: &Row) -> Result<()> {
@@ -247,14 +301,15 @@ fn clock_kind(plan: &Plan, number: usize) -> &'static str {
     }
 }
 
-/// What an answer to an arrival means.
+/// What an answer to an arrival or a lookup means.
 fn meaning(answer: Answer) -> &'static str {
     match answer {
         Answer::Done => "done",
         Answer::DelayNotValid => {
             "delay not valid: no message of ours reached the neighbor lately, or HOLD runs"
         }
-        Answer::NoHost => "no host for the neighbor's address",
+        Answer::NoHost => "no host for the address",
+        Answer::HostDown => "that host is down",
         _ => "refused",
     }
 }

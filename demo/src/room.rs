@@ -3,8 +3,8 @@
 use crate::drive::{Crystal, Drive, OVERFLOW};
 use crate::host::{settings, Place};
 use crate::random::Random;
-use demo::plan::{Cable, End, Plan, SECOND, START};
-use hello::{Answer, Counter, Reading};
+use demo::plan::{Cable, End, NetRow, Plan, SECOND, START};
+use hello::{Answer, Counter, Net, Reading};
 use std::collections::BTreeMap;
 
 /// A host sends on each link, and reports itself, every so many seconds.
@@ -48,7 +48,12 @@ impl Room {
     pub fn fresh(plan: &Plan) -> Room {
         let delays = plan.cables.iter().flat_map(|cable| cable.delay);
         let step = delays.fold(SECOND, greatest_common_divisor);
-        let mut hosts = hello::Room::new(plan.clocks.len());
+        let mut hosts = hello::Room::new(plan.clocks.len(), plan.ids());
+        for NetRow { net, id } in &plan.rows {
+            let [first, second, third] = *net;
+            let added = hosts.net_table.add(Net::new(first, second, third), *id);
+            added.expect("the table has room, and the id is below NHOSTS");
+        }
         let mut drives = Vec::new();
         for (number, clock) in plan.clocks.iter().enumerate() {
             let (drive, tick) = if number < plan.crystals {

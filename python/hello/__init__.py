@@ -1,13 +1,20 @@
 """A HELLO host of RFC 891: safe calls of the proved library, by ctypes.
 
-A Room owns the run of entries in which its hosts, 16 at most, have their host tables. A Host of it
-has settings, a clock, links and a walk, and the calls as methods.
+A Room owns the run of entries in which its hosts, 16 at most, have their host tables, and the net
+table of their class. A Host of it has settings, a clock, links and a walk, and the calls as methods.
 
-    room = hello.Room(hosts=1)
+    room = hello.Room(hosts=1, nhosts=4)
     host = room.host(0, hello.Settings(address=(192, 0, 2, 1), address_offset=1, nhosts=4))
     host.initialize()  # Answer.DONE
     host.tick()  # Answer.DONE
     host.send(1)  # Sent(answer=Answer.DONE, message=b"E...")
+
+All hosts of a room use its net table, which the tutor changes:
+
+    room.net_table.add((10, 0, 0), 2)  # Added(answer=Answer.DONE, row=1)
+    room.net_table.change(1, 3)  # Answer.DONE
+    room.net_table.remove(1)  # Answer.DONE
+    room.net_table.set_afresh(8)  # Answer.DONE: another NHOSTS, and no rows
 
 The clock is a line clock unless a call is told otherwise. A host with a crystal clock hands the
 counter, as it stands then, to each call that reads, and its count to tick, adjust and set:
@@ -34,10 +41,11 @@ in hello.library.
 """
 
 from .answer import Answer
-from .lent import Clock, Links, Run, Settings, Walk, date_word
+from .lent import ClassTable, Clock, Links, Run, Settings, Walk, date_word
 from .library import checksum, checksum_plain
+from .net_table import NetTable
 from .room import Host, Room
-from .values import Address, Counter, Entry, Inspected, Link, LinkSetting
+from .values import Added, Address, Counter, Entry, Inspected, Link, LinkSetting
 from .values import Net, Place, Route, Row, Sent, Stepped, Time
 from .values import HOSTS, LINE_CLOCK, LINKS, LONGEST_MESSAGE, MARKS
 from .values import NO_CLOCK_HOST, PLACES, ROWS, UNITS_PER_MS

@@ -4,7 +4,8 @@ import enum
 
 
 class Answer(enum.IntEnum):
-    """What a call answers. In all calls OUT_OF_RANGE is tested first, then IN_WALK, then upwards."""
+    """What a call answers. In the calls of a host OUT_OF_RANGE is tested first, then IN_WALK, then
+    upwards; in the tutor's OUT_OF_RANGE, NO_ROW, TABLE_FULL, SETTING."""
 
     DONE = 0
     SETTING = 1
@@ -22,3 +23,5 @@ class Answer(enum.IntEnum):
     HOST_DOWN = 13
     IN_WALK = 16
     NO_WALK = 17
+    TABLE_FULL = 21
+    NO_ROW = 22

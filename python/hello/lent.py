@@ -1,9 +1,9 @@
-"""What is lent to the calls: settings, clock, links, walk and the run of entries."""
+"""What is lent to the calls: settings, the class's table, clock, links, walk and the run of entries."""
 
 import operator
 from ctypes import c_size_t, c_uint8
 
-from .structures import CAddress, CClock, CEntry, CLink, CLinks, CSettings, CWalk
+from .structures import CAddress, CClassTable, CClock, CEntry, CLink, CLinks, CSettings, CWalk
 from .structures import fitting, into, into_slots, number, part
 from .values import LINKS, LONGEST_MESSAGE, MARKS, NO_CLOCK_HOST, UNITS_PER_MS
 from .values import Address, Entry, Link, LinkSetting, Net, Row
@@ -25,14 +25,13 @@ class Settings:
 
     address         LOCAL-ADDRESS: first octet 1 to 223; gives an id below NHOSTS
     address_offset  ADDRESS-OFFSET, 0 to 255: an id is the host octet less this number
-    nhosts          NHOSTS, 1 to 255: ids are 0 to NHOSTS - 1
+    nhosts          NHOSTS, that of the class's table: ids are 0 to NHOSTS - 1
     clock_host      id of the host that sets the clock, below NHOSTS; 255: clock setting is off
     hold_interval   HOLD-INTERVAL, 1 to 255 s
     clock_tick      CLOCK-TICK, up to 65,536 ms: 1 to 4,294,967,296 units of 1/65,536 ms
     time            starting time, 0 to 86,399,999 ms
     date            starting date, a real one; see date_word
     links           LinkSettings, link 1 first; link_count, 1 to 8, becomes their count
-    net             Rows of the net table; net_count, 0 to 32, becomes their count
     marks           the ids, 0 to 255, whose hosts live here: the own one and any others below
                     NHOSTS; at first the own one alone
     """
@@ -50,7 +49,6 @@ class Settings:
         time=0,
         date=date_word(1972, 1, 1),
         links=(LinkSetting(),),
-        net=(),
         marks=None,
     ):
         self._state = CSettings()
@@ -63,7 +61,6 @@ class Settings:
         self.time = time
         self.date = date
         self.links = links
-        self.net = net
         self.marks = self._own_id() if marks is None else marks
 
     address_offset = part("layout", "address_offset")
@@ -74,7 +71,6 @@ class Settings:
     time = part("time")
     date = part("date")
     link_count = part("link_count")
-    net_count = part("net", "count")
 
     @property
     def address(self):
@@ -98,19 +94,6 @@ class Settings:
         self.link_count = len(values)
 
     @property
-    def net(self):
-        """All 32 slots."""
-        return tuple(
-            Row(Net(c.net.first, c.net.second, c.net.third), c.id) for c in self._state.net.rows
-        )
-
-    @net.setter
-    def net(self, values):
-        values = tuple(values)
-        into_slots(self._state.net.rows, "net", values)
-        self.net_count = len(values)
-
-    @property
     def marks(self):
         """The marked ids, as a frozenset."""
         words = self._state.marks.words
@@ -128,6 +111,43 @@ class Settings:
         """The id that the address gives, alone, or nothing where it gives none."""
         octet = self.address.third if self.address.first < 128 else self.address.fourth
         return {octet - self.address_offset} if octet >= self.address_offset else ()
+
+
+class ClassTable:
+    """The table of a class, which all its hosts use: its NHOSTS, and the rows of the net table.
+
+    nhosts  NHOSTS, 1 to 255: that of every host's settings
+    count   how many rows stand, 0 to 32
+    slots   the 32 Rows, of which the first `count` stand; when it is written, `count` becomes that
+            of the new ones
+    """
+
+    __slots__ = ("_state",)
+
+    def __init__(self, nhosts, rows=()):
+        self._state = CClassTable()
+        self.nhosts = nhosts
+        self.slots = rows
+
+    nhosts = part("nhosts")
+    count = part("net", "count")
+
+    @property
+    def slots(self):
+        return tuple(
+            Row(Net(c.net.first, c.net.second, c.net.third), c.id) for c in self._state.net.rows
+        )
+
+    @slots.setter
+    def slots(self, values):
+        values = tuple(values)
+        into_slots(self._state.net.rows, "rows", values)
+        self.count = len(values)
+
+    @property
+    def rows(self):
+        """The Rows that stand; rows[0] is number 1."""
+        return self.slots[: self.count]
 
 
 class Clock:

@@ -1,18 +1,24 @@
-"""A room of hosts that share one run of entries, with the calls as methods of a host."""
+"""A room of hosts that share one run of entries and one net table, with the calls as methods of a host."""
 
 from . import library
 from .answer import Answer
 from .lent import Clock, Links, Run, Walk
+from .net_table import NetTable
 from .structures import fitting
 from .values import HOSTS, LINE_CLOCK, LONGEST_MESSAGE, PLACES
 from .values import Inspected, Route, Sent, Stepped, Time
 
 
 class Room:
-    """A room of so many hosts, 16 at most. It owns the run of their entries, room.run."""
+    """A room of so many hosts, 16 at most, in a class of that NHOSTS.
 
-    def __init__(self, hosts):
+    run        the run of their entries
+    net_table  the net table of the class, which all of them use: a NetTable, at first without rows
+    """
+
+    def __init__(self, hosts, nhosts):
         self.run = Run(fitting("hosts", hosts, 0, HOSTS) * PLACES)
+        self.net_table = NetTable(nhosts)
 
     def host(self, number, settings):
         """The host of that number, from 0, with these settings; still to be initialized."""
@@ -38,7 +44,8 @@ class Host:
         self.walk = Walk()
 
     def _lent(self):
-        return self.settings, self.number, self.clock, self.links, self.walk, self.room.run
+        room = self.room
+        return self.settings, room.net_table, self.number, self.clock, self.links, self.walk, room.run
 
     @property
     def table(self):

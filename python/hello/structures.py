@@ -37,6 +37,10 @@ class CNetTable(ctypes.Structure):
     _fields_ = [("count", c_size_t), ("rows", CRow * ROWS)]
 
 
+class CClassTable(ctypes.Structure):
+    _fields_ = [("nhosts", c_size_t), ("net", CNetTable)]
+
+
 class CMarks(ctypes.Structure):
     _fields_ = [("words", c_uint64 * (MARKS // 64))]
 
@@ -52,7 +56,6 @@ class CSettings(ctypes.Structure):
         ("date", c_uint16),
         ("link_count", c_size_t),
         ("links", CLinkSetting * LINKS),
-        ("net", CNetTable),
         ("marks", CMarks),
     ]
 
@@ -97,6 +100,10 @@ class CEntry(ctypes.Structure):
         ("here", c_uint8),
         ("time", c_int64),
     ]
+
+
+class CNetAdded(ctypes.Structure):
+    _fields_ = [("answer", c_uint8), ("row", c_size_t)]
 
 
 class CSent(ctypes.Structure):

@@ -91,6 +91,14 @@ class Entry(NamedTuple):
     time: int = 0
 
 
+class Added(NamedTuple):
+    """What adding a row to the net table answers: the answer, and the row's number, from 1 (0 when
+    refused)."""
+
+    answer: Answer
+    row: int
+
+
 class Sent(NamedTuple):
     """What a send answers: the answer, and the message (empty when refused)."""
 

@@ -23,15 +23,17 @@ fn address(number: usize) -> Address {
     Address::new(192, 0, 2, 1 + number as u8)
 }
 
+/// The class has two hosts; host 192.0.2.1 has id 0.
+const LAYOUT: Layout = Layout {
+    address_offset: 1,
+    nhosts: 2,
+};
+
 /// The settings of host `number`, its clock starting at `time` ms.
 fn settings(number: usize, time: i64) -> Settings {
-    let layout = Layout {
-        address_offset: 1,
-        nhosts: 2,
-    };
     Settings {
         time,
-        ..Settings::new(address(number), layout)
+        ..Settings::new(address(number), LAYOUT)
     }
 }
 
@@ -52,7 +54,7 @@ fn take(mut host: Host, message: &[u8]) -> Result<Seen, Answer> {
 }
 
 fn main() -> Result<(), Answer> {
-    let mut room = Room::new(2);
+    let mut room = Room::new(2, LAYOUT.nhosts);
     room.host(A).initialize(settings(A, 39_900)).ok()?;
     room.host(B).initialize(settings(B, 40_400)).ok()?;
 

@@ -3,8 +3,9 @@
 use std::error::Error;
 use std::fmt;
 
-/// What a call answers. Every call tests [`Answer::OutOfRange`] first, then [`Answer::InWalk`],
-/// then upwards in number.
+/// What a call answers. Every call of a host tests [`Answer::OutOfRange`] first, then
+/// [`Answer::InWalk`], then upwards in number; the tutor's test [`Answer::OutOfRange`],
+/// [`Answer::NoRow`], [`Answer::TableFull`], [`Answer::Setting`], in this order.
 /// What a refusal changes stands with it; where nothing stands, nothing is changed.
 #[must_use]
 #[repr(u8)]
@@ -12,7 +13,9 @@ use std::fmt;
 pub enum Answer {
     /// The call changed what its rule says.
     Done = 0,
-    /// A setting is out of its range, the own id is not marked, or a mark lies at NHOSTS or above.
+    /// A setting is out of its range, the own id is not marked, a mark lies at NHOSTS or above, or
+    /// NHOSTS is not that of the class's table. Of the tutor: NHOSTS is not 1 to 255, or the id not
+    /// below it.
     Setting = 1,
     /// The send's buffer is shorter than the message.
     ShortBuffer = 2,
@@ -38,7 +41,8 @@ pub enum Answer {
     NoHost = 11,
     /// The host's number is over 15; the link is not from 1 to the host's count (8 at most); the
     /// host's 255 places are not all in the run; where a walk is opened, its copy has no room for
-    /// 1,052 octets; something lent is out of range; or the mark of one of the host's first NHOSTS
+    /// 1,052 octets; the class's table has over 32 rows, an NHOSTS not 1 to 255 or a row's id not
+    /// below it; something else lent is out of range; or the mark of one of the host's first NHOSTS
     /// entries is not that of the settings.
     OutOfRange = 12,
     /// The host looked up is down: its DELAY is 30,000.
@@ -47,11 +51,15 @@ pub enum Answer {
     InWalk = 16,
     /// A step was asked, and no walk is open.
     NoWalk = 17,
+    /// 32 rows stand in the class's table.
+    TableFull = 21,
+    /// There is no row of that number; none is number 0.
+    NoRow = 22,
 }
 
 impl Answer {
     /// All answers, rising in number.
-    pub const ALL: [Answer; 16] = [
+    pub const ALL: [Answer; 18] = [
         Answer::Done,
         Answer::Setting,
         Answer::ShortBuffer,
@@ -68,6 +76,8 @@ impl Answer {
         Answer::HostDown,
         Answer::InWalk,
         Answer::NoWalk,
+        Answer::TableFull,
+        Answer::NoRow,
     ];
 
     /// The answer of that number.
@@ -94,6 +104,11 @@ impl Answer {
             refusal => Err(refusal),
         }
     }
+}
+
+/// The answer of a number that a call gave.
+pub(crate) fn given(number: u8) -> Answer {
+    Answer::of(number).expect("a call gives a number of the table")
 }
 
 impl fmt::Display for Answer {

@@ -1,10 +1,11 @@
 //! A host of a room, with the calls as methods.
 
-use crate::{Address, Answer, Clock, Counter, Entry, Links, Place, Settings, Walk};
+use crate::answer::given;
+use crate::{Address, Answer, ClassTable, Clock, Counter, Entry, Links, Place, Settings, Walk};
 use crate::{LONGEST_MESSAGE, PLACES};
 
-/// A host of a [`Room`](crate::Room): its settings, clock, links and walk, and the run that it
-/// shares.
+/// A host of a [`Room`](crate::Room): its settings, clock, links and walk, and the net table and
+/// the run that it shares.
 /// Whatever is written to them, each call ends with an [`Answer`].
 ///
 /// A call that reads the clock is handed the crystal's [`Counter`] as it stands then, and `tick`,
@@ -15,6 +16,8 @@ pub struct Host<'a> {
     pub(crate) number: usize,
     /// The settings; every call is lent them.
     pub settings: &'a mut Settings,
+    /// The net table of the class, which only the tutor changes.
+    pub net_table: &'a ClassTable,
     /// The clock, as the last call left it.
     pub clock: &'a mut Clock,
     /// The links, as the last call left them.
@@ -76,8 +79,9 @@ impl Host<'_> {
     /// Sets the host afresh by these settings: clock, links and table. A walk is dropped. Refused,
     /// it keeps those that it had.
     pub fn initialize(&mut self, settings: Settings) -> Answer {
-        let answer = answer(crate::initialize(
+        let answer = given(crate::initialize(
             &settings,
+            self.net_table,
             self.number,
             self.clock,
             self.links,
@@ -94,8 +98,9 @@ impl Host<'_> {
     /// Adds CLOCK-TICK to the clock. Midnight is tested on CLOCK plus `count`; so also in `adjust`
     /// and `set`.
     pub fn tick(&mut self, count: u16) -> Answer {
-        answer(crate::tick(
+        given(crate::tick(
             self.settings,
+            self.net_table,
             self.number,
             self.clock,
             self.links,
@@ -108,8 +113,9 @@ impl Host<'_> {
 
     /// Moves the clock by DELTA / 128, rounded down, which DELTA loses.
     pub fn adjust(&mut self, count: u16) -> Answer {
-        answer(crate::adjust(
+        given(crate::adjust(
             self.settings,
+            self.net_table,
             self.number,
             self.clock,
             self.links,
@@ -123,8 +129,9 @@ impl Host<'_> {
     /// Corrects the clock by `ms`: from -128 to +127 it becomes DELTA, which `adjust` spends;
     /// otherwise the clock is moved at once and HOLD is loaded.
     pub fn set(&mut self, ms: i32, count: u16) -> Answer {
-        answer(crate::set(
+        given(crate::set(
             self.settings,
+            self.net_table,
             self.number,
             self.clock,
             self.links,
@@ -140,6 +147,7 @@ impl Host<'_> {
     pub fn read(&mut self, counter: Counter) -> Result<Reading, Answer> {
         let read = crate::read(
             self.settings,
+            self.net_table,
             self.number,
             self.clock,
             self.links,
@@ -148,7 +156,7 @@ impl Host<'_> {
             self.run,
             counter,
         );
-        answer(read.answer).ok()?;
+        given(read.answer).ok()?;
         Ok(Reading {
             time: read.time,
             date: read.date,
@@ -157,8 +165,9 @@ impl Host<'_> {
 
     /// A second has passed: HOLD and each TTL fall by one, and an entry whose TTL ends goes down.
     pub fn second(&mut self) -> Answer {
-        answer(crate::second(
+        given(crate::second(
             self.settings,
+            self.net_table,
             self.number,
             self.clock,
             self.links,
@@ -171,8 +180,9 @@ impl Host<'_> {
     /// Updates the entries of the hosts that live here, which are the marked ids in rising order, with
     /// PID 0, DELAY 0 and OFFSET 0.
     pub fn self_report(&mut self, counter: Counter) -> Answer {
-        answer(crate::self_report(
+        given(crate::self_report(
             self.settings,
+            self.net_table,
             self.number,
             self.clock,
             self.links,
@@ -201,6 +211,7 @@ impl Host<'_> {
     ) -> Result<usize, Answer> {
         let sent = crate::send(
             self.settings,
+            self.net_table,
             self.number,
             self.clock,
             self.links,
@@ -211,7 +222,7 @@ impl Host<'_> {
             counter,
             buffer,
         );
-        answer(sent.answer).ok()?;
+        given(sent.answer).ok()?;
         Ok(sent.length)
     }
 
@@ -220,6 +231,7 @@ impl Host<'_> {
     pub fn inspect(&mut self, link: usize, packet: &[u8]) -> Result<Seen, Answer> {
         let inspected = crate::inspect(
             self.settings,
+            self.net_table,
             self.number,
             self.clock,
             self.links,
@@ -229,7 +241,7 @@ impl Host<'_> {
             link,
             packet,
         );
-        answer(inspected.answer).ok()?;
+        given(inspected.answer).ok()?;
         Ok(Seen {
             source: inspected.source,
             time: inspected.time,
@@ -241,8 +253,9 @@ impl Host<'_> {
     /// Acts on a packet, IP header first, that arrived on link `link`, from 1. Any calls may have
     /// come since [`inspect`](Host::inspect), so it tests the packet again.
     pub fn act(&mut self, link: usize, counter: Counter, packet: &[u8]) -> Answer {
-        answer(crate::act(
+        given(crate::act(
             self.settings,
+            self.net_table,
             self.number,
             self.clock,
             self.links,
@@ -258,8 +271,9 @@ impl Host<'_> {
     /// An arrival in one piece: [`inspect`](Host::inspect) and, where that refuses nothing,
     /// [`act`](Host::act).
     pub fn receive(&mut self, link: usize, counter: Counter, packet: &[u8]) -> Answer {
-        answer(crate::receive(
+        given(crate::receive(
             self.settings,
+            self.net_table,
             self.number,
             self.clock,
             self.links,
@@ -280,6 +294,7 @@ impl Host<'_> {
     pub fn open_walk(&mut self, link: usize, packet: &[u8]) -> Result<Place, Answer> {
         let opened = crate::open_walk(
             self.settings,
+            self.net_table,
             self.number,
             self.clock,
             self.links,
@@ -289,7 +304,7 @@ impl Host<'_> {
             link,
             packet,
         );
-        answer(opened.answer).ok()?;
+        given(opened.answer).ok()?;
         Ok(opened.place().expect("a walk that is opened has a place"))
     }
 
@@ -299,6 +314,7 @@ impl Host<'_> {
     pub fn step(&mut self, counter: Counter) -> Result<Option<Place>, Answer> {
         let stepped = crate::step(
             self.settings,
+            self.net_table,
             self.number,
             self.clock,
             self.links,
@@ -307,7 +323,7 @@ impl Host<'_> {
             self.run,
             counter,
         );
-        answer(stepped.answer).ok()?;
+        given(stepped.answer).ok()?;
         Ok(stepped.place())
     }
 
@@ -315,6 +331,7 @@ impl Host<'_> {
     pub fn lookup(&mut self, address: Address) -> Result<Found, Answer> {
         let route = crate::lookup(
             self.settings,
+            self.net_table,
             self.number,
             self.clock,
             self.links,
@@ -323,15 +340,10 @@ impl Host<'_> {
             self.run,
             address,
         );
-        answer(route.answer).ok()?;
+        given(route.answer).ok()?;
         Ok(Found {
             id: route.id,
             pid: route.pid,
         })
     }
-}
-
-/// The answer of a number that a call gave.
-fn answer(number: u8) -> Answer {
-    Answer::of(number).expect("a call gives a number of the table")
 }

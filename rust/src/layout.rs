@@ -34,10 +34,14 @@ const _: () = {
     assert!(offset_of!(NetTable, count) == 0);
     assert!(offset_of!(NetTable, rows) == 8);
 
+    assert!(size_of::<ClassTable>() == 144 && align_of::<ClassTable>() == 8);
+    assert!(offset_of!(ClassTable, nhosts) == 0);
+    assert!(offset_of!(ClassTable, net) == 8);
+
     assert!(size_of::<Marks>() == 32 && align_of::<Marks>() == 8);
     assert!(offset_of!(Marks, words) == 0);
 
-    assert!(size_of::<Settings>() == 272 && align_of::<Settings>() == 8);
+    assert!(size_of::<Settings>() == 136 && align_of::<Settings>() == 8);
     assert!(offset_of!(Settings, address) == 0);
     assert!(offset_of!(Settings, layout) == 8);
     assert!(offset_of!(Settings, clock_host) == 24);
@@ -47,8 +51,7 @@ const _: () = {
     assert!(offset_of!(Settings, date) == 48);
     assert!(offset_of!(Settings, link_count) == 56);
     assert!(offset_of!(Settings, links) == 64);
-    assert!(offset_of!(Settings, net) == 104);
-    assert!(offset_of!(Settings, marks) == 240);
+    assert!(offset_of!(Settings, marks) == 104);
 
     assert!(size_of::<Clock>() == 24 && align_of::<Clock>() == 8);
     assert!(offset_of!(Clock, clock) == 0);

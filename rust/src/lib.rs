@@ -1,6 +1,7 @@
 //! A HELLO host of RFC 891: safe calls of the proved library `libhello.a`.
 //!
-//! A [`Room`] keeps up to sixteen hosts and the run of entries in which all have their host tables.
+//! A [`Room`] keeps up to sixteen hosts, the run of entries in which all have their host tables, and
+//! the net table of their class, which all use and the tutor changes by the calls of [`ClassTable`].
 //! A [`Host`] of it has settings, a clock and links, and the calls as methods. Every call ends
 //! with an [`Answer`], whatever the host holds, and asks nothing beforehand.
 //!
@@ -10,8 +11,8 @@
 //! other calls with [`Answer::InWalk`], but for [`Host::initialize`], which drops the walk.
 //!
 //! The plain functions of this page are the calls below the methods, for whoever keeps settings,
-//! clocks, links, walks with the copies of their packets, and entries in another way. The caller
-//! lends them to each call. Host k, from 0 to 15, owns the 255 places of the run from 255 k, and
+//! clocks, links, walks with the copies of their packets, entries and the class's table in another
+//! way. The caller lends them to each call. Host k, from 0 to 15, owns the 255 places of the run from 255 k, and
 //! only the first NHOSTS of them are ever changed; so a run holds host k when it is at least 255 k +
 //! 255 entries long. They answer the number of an [`Answer`].
 
@@ -22,6 +23,7 @@ pub mod capture;
 mod host;
 mod layout;
 mod library;
+pub mod nets;
 pub mod ntp;
 mod room;
 mod sums;
@@ -38,6 +40,7 @@ pub use types::*;
 /// of its id, by the settings. A walk is dropped.
 pub fn initialize(
     settings: &Settings,
+    table: &ClassTable,
     number: usize,
     clock: &mut Clock,
     links: &mut Links,
@@ -49,6 +52,7 @@ pub fn initialize(
     unsafe {
         library::hello_initialize(
             settings,
+            table,
             number,
             clock,
             links,
@@ -65,6 +69,7 @@ pub fn initialize(
 /// for a line clock); so also in `adjust` and `set`.
 pub fn tick(
     settings: &Settings,
+    table: &ClassTable,
     number: usize,
     clock: &mut Clock,
     links: &mut Links,
@@ -76,6 +81,7 @@ pub fn tick(
     unsafe {
         library::hello_tick(
             settings,
+            table,
             number,
             clock,
             links,
@@ -92,6 +98,7 @@ pub fn tick(
 /// Moves the clock by DELTA / 128, rounded down, which DELTA loses.
 pub fn adjust(
     settings: &Settings,
+    table: &ClassTable,
     number: usize,
     clock: &mut Clock,
     links: &mut Links,
@@ -103,6 +110,7 @@ pub fn adjust(
     unsafe {
         library::hello_adjust(
             settings,
+            table,
             number,
             clock,
             links,
@@ -120,6 +128,7 @@ pub fn adjust(
 /// otherwise the clock is moved at once and HOLD is loaded.
 pub fn set(
     settings: &Settings,
+    table: &ClassTable,
     number: usize,
     clock: &mut Clock,
     links: &mut Links,
@@ -132,6 +141,7 @@ pub fn set(
     unsafe {
         library::hello_set(
             settings,
+            table,
             number,
             clock,
             links,
@@ -150,6 +160,7 @@ pub fn set(
 /// stays, and midnight is tested on the sum; so at every reading.
 pub fn read(
     settings: &Settings,
+    table: &ClassTable,
     number: usize,
     clock: &mut Clock,
     links: &mut Links,
@@ -161,6 +172,7 @@ pub fn read(
     unsafe {
         library::hello_read(
             settings,
+            table,
             number,
             clock,
             links,
@@ -177,6 +189,7 @@ pub fn read(
 /// A second has passed: HOLD and each TTL fall by one, and an entry whose TTL ends goes down.
 pub fn second(
     settings: &Settings,
+    table: &ClassTable,
     number: usize,
     clock: &mut Clock,
     links: &mut Links,
@@ -187,6 +200,7 @@ pub fn second(
     unsafe {
         library::hello_second(
             settings,
+            table,
             number,
             clock,
             links,
@@ -203,6 +217,7 @@ pub fn second(
 /// time of one reading.
 pub fn self_report(
     settings: &Settings,
+    table: &ClassTable,
     number: usize,
     clock: &mut Clock,
     links: &mut Links,
@@ -214,6 +229,7 @@ pub fn self_report(
     unsafe {
         library::hello_self_report(
             settings,
+            table,
             number,
             clock,
             links,
@@ -232,6 +248,7 @@ pub fn self_report(
 /// by `read`, unless it answers 1, 2, 12 or 16.
 pub fn send(
     settings: &Settings,
+    table: &ClassTable,
     number: usize,
     clock: &mut Clock,
     links: &mut Links,
@@ -245,6 +262,7 @@ pub fn send(
     unsafe {
         library::hello_send(
             settings,
+            table,
             number,
             clock,
             links,
@@ -265,6 +283,7 @@ pub fn send(
 /// what does it say? Nothing is changed.
 pub fn inspect(
     settings: &Settings,
+    table: &ClassTable,
     number: usize,
     clock: &mut Clock,
     links: &mut Links,
@@ -277,6 +296,7 @@ pub fn inspect(
     unsafe {
         library::hello_inspect(
             settings,
+            table,
             number,
             clock,
             links,
@@ -297,6 +317,7 @@ pub fn inspect(
 /// answers 1 to 9, 12 or 16.
 pub fn act(
     settings: &Settings,
+    table: &ClassTable,
     number: usize,
     clock: &mut Clock,
     links: &mut Links,
@@ -310,6 +331,7 @@ pub fn act(
     unsafe {
         library::hello_act(
             settings,
+            table,
             number,
             clock,
             links,
@@ -329,6 +351,7 @@ pub fn act(
 /// An arrival in one piece: `inspect` and, where that answers 0, `act`.
 pub fn receive(
     settings: &Settings,
+    table: &ClassTable,
     number: usize,
     clock: &mut Clock,
     links: &mut Links,
@@ -342,6 +365,7 @@ pub fn receive(
     unsafe {
         library::hello_receive(
             settings,
+            table,
             number,
             clock,
             links,
@@ -363,6 +387,7 @@ pub fn receive(
 /// next. Nothing else is changed, and the clock is not read.
 pub fn open_walk(
     settings: &Settings,
+    table: &ClassTable,
     number: usize,
     clock: &Clock,
     links: &Links,
@@ -375,6 +400,7 @@ pub fn open_walk(
     unsafe {
         library::hello_open_walk(
             settings,
+            table,
             number,
             clock,
             links,
@@ -394,6 +420,7 @@ pub fn open_walk(
 /// once, as by `read`, at step 1; at the others the counter is not looked at.
 pub fn step(
     settings: &Settings,
+    table: &ClassTable,
     number: usize,
     clock: &mut Clock,
     links: &mut Links,
@@ -405,6 +432,7 @@ pub fn step(
     unsafe {
         library::hello_step(
             settings,
+            table,
             number,
             clock,
             links,
@@ -421,6 +449,7 @@ pub fn step(
 /// The host id and the link by which `address` is reached. Nothing is changed.
 pub fn lookup(
     settings: &Settings,
+    table: &ClassTable,
     number: usize,
     clock: &mut Clock,
     links: &mut Links,
@@ -432,6 +461,7 @@ pub fn lookup(
     unsafe {
         library::hello_lookup(
             settings,
+            table,
             number,
             clock,
             links,

@@ -1,11 +1,12 @@
 //! The C interface of `libhello.a`. Nothing but the plain calls uses it.
 
-use crate::{Address, Clock, Counter, Entry, Inspected, Links, Route, Sent, Settings, Stepped};
-use crate::{Time, Walk};
+use crate::{Address, ClassTable, Clock, Counter, Entry, Inspected, Links, Route, Sent, Settings};
+use crate::{Stepped, Time, Walk};
 
 extern "C" {
     pub fn hello_initialize(
         settings: *const Settings,
+        table: *const ClassTable,
         number: usize,
         clock: *mut Clock,
         links: *mut Links,
@@ -18,6 +19,7 @@ extern "C" {
 
     pub fn hello_tick(
         settings: *const Settings,
+        table: *const ClassTable,
         number: usize,
         clock: *mut Clock,
         links: *mut Links,
@@ -31,6 +33,7 @@ extern "C" {
 
     pub fn hello_adjust(
         settings: *const Settings,
+        table: *const ClassTable,
         number: usize,
         clock: *mut Clock,
         links: *mut Links,
@@ -44,6 +47,7 @@ extern "C" {
 
     pub fn hello_set(
         settings: *const Settings,
+        table: *const ClassTable,
         number: usize,
         clock: *mut Clock,
         links: *mut Links,
@@ -58,6 +62,7 @@ extern "C" {
 
     pub fn hello_read(
         settings: *const Settings,
+        table: *const ClassTable,
         number: usize,
         clock: *mut Clock,
         links: *mut Links,
@@ -71,6 +76,7 @@ extern "C" {
 
     pub fn hello_second(
         settings: *const Settings,
+        table: *const ClassTable,
         number: usize,
         clock: *mut Clock,
         links: *mut Links,
@@ -83,6 +89,7 @@ extern "C" {
 
     pub fn hello_self_report(
         settings: *const Settings,
+        table: *const ClassTable,
         number: usize,
         clock: *mut Clock,
         links: *mut Links,
@@ -96,6 +103,7 @@ extern "C" {
 
     pub fn hello_send(
         settings: *const Settings,
+        table: *const ClassTable,
         number: usize,
         clock: *mut Clock,
         links: *mut Links,
@@ -112,6 +120,7 @@ extern "C" {
 
     pub fn hello_inspect(
         settings: *const Settings,
+        table: *const ClassTable,
         number: usize,
         clock: *mut Clock,
         links: *mut Links,
@@ -127,6 +136,7 @@ extern "C" {
 
     pub fn hello_act(
         settings: *const Settings,
+        table: *const ClassTable,
         number: usize,
         clock: *mut Clock,
         links: *mut Links,
@@ -143,6 +153,7 @@ extern "C" {
 
     pub fn hello_receive(
         settings: *const Settings,
+        table: *const ClassTable,
         number: usize,
         clock: *mut Clock,
         links: *mut Links,
@@ -159,6 +170,7 @@ extern "C" {
 
     pub fn hello_open_walk(
         settings: *const Settings,
+        table: *const ClassTable,
         number: usize,
         clock: *const Clock,
         links: *const Links,
@@ -174,6 +186,7 @@ extern "C" {
 
     pub fn hello_step(
         settings: *const Settings,
+        table: *const ClassTable,
         number: usize,
         clock: *mut Clock,
         links: *mut Links,
@@ -187,6 +200,7 @@ extern "C" {
 
     pub fn hello_lookup(
         settings: *const Settings,
+        table: *const ClassTable,
         number: usize,
         clock: *mut Clock,
         links: *mut Links,

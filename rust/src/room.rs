@@ -1,14 +1,16 @@
-//! A room: hosts, and the run of entries that they share.
+//! A room: hosts, and the run of entries and the net table that they share.
 
-use crate::{Clock, Entry, Host, Links, Settings, Walk, HOSTS, LONGEST_MESSAGE, PLACES};
+use crate::{ClassTable, Clock, Entry, Host, Links, Settings, Walk};
+use crate::{HOSTS, LONGEST_MESSAGE, PLACES};
 
-/// Up to sixteen hosts and their host tables.
+/// Up to sixteen hosts and their host tables, and the net table of their class.
 ///
 /// ```
-/// use hello::{Address, Answer, Counter, Layout, Room, Settings};
+/// use hello::{Address, Answer, Counter, Layout, Net, Room, Settings};
 ///
 /// let layout = Layout { address_offset: 1, nhosts: 4 };
-/// let mut room = Room::new(1);
+/// let mut room = Room::new(1, layout.nhosts);
+/// assert_eq!(room.net_table.add(Net::new(10, 0, 0), 2), Ok(1));
 /// let mut host = room.host(0);
 /// assert_eq!(host.initialize(Settings::new(Address::new(192, 0, 2, 1), layout)), Answer::Done);
 /// assert_eq!(host.tick(0), Answer::Done);
@@ -18,6 +20,8 @@ use crate::{Clock, Entry, Host, Links, Settings, Walk, HOSTS, LONGEST_MESSAGE, P
 /// ```
 #[derive(Clone, Debug)]
 pub struct Room {
+    /// The net table of the class; the tutor's calls are its methods.
+    pub net_table: ClassTable,
     hosts: Vec<Kept>,
     run: Vec<Entry>,
 }
@@ -46,13 +50,15 @@ impl Kept {
 }
 
 impl Room {
-    /// A room of so many hosts, 16 at most, all still to be set by [`Host::initialize`].
+    /// A room of so many hosts, 16 at most, all still to be set by [`Host::initialize`], in a class
+    /// of that NHOSTS, whose net table has no rows yet.
     ///
     /// # Panics
     /// If there are more than 16.
-    pub fn new(hosts: usize) -> Room {
+    pub fn new(hosts: usize, nhosts: usize) -> Room {
         assert!(hosts <= HOSTS, "a room has at most {HOSTS} hosts");
         Room {
+            net_table: ClassTable::new(nhosts),
             hosts: vec![Kept::unset(); hosts],
             run: vec![Entry::default(); hosts * PLACES],
         }
@@ -72,6 +78,7 @@ impl Room {
         Host {
             number,
             settings: &mut kept.settings,
+            net_table: &self.net_table,
             clock: &mut kept.clock,
             links: &mut kept.links,
             walk: &mut kept.walk,

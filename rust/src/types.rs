@@ -104,7 +104,7 @@ impl LinkSetting {
 pub struct Layout {
     /// ADDRESS-OFFSET: an id is the host octet of the address less this number.
     pub address_offset: u8,
-    /// NHOSTS, 1 to 255: the ids are 0 to NHOSTS - 1.
+    /// NHOSTS, that of the class's table: the ids are 0 to NHOSTS - 1.
     pub nhosts: usize,
 }
 
@@ -118,6 +118,17 @@ pub struct Net {
     pub second: u8,
     /// The third octet.
     pub third: u8,
+}
+
+impl Net {
+    /// The net of three octets.
+    pub const fn new(first: u8, second: u8, third: u8) -> Net {
+        Net {
+            first,
+            second,
+            third,
+        }
+    }
 }
 
 /// A row of the net table: the host through which a net is reached.
@@ -138,6 +149,17 @@ pub struct NetTable {
     pub count: usize,
     /// The rows, searched from the first.
     pub rows: [Row; ROWS],
+}
+
+/// The table of a class, which all its hosts use: its NHOSTS, and the net table. Only the tutor
+/// changes it, by the calls of [`nets`](crate::nets).
+#[repr(C)]
+#[derive(Clone, Copy, Debug, PartialEq, Eq, Default)]
+pub struct ClassTable {
+    /// NHOSTS, 1 to 255: that of every host's settings.
+    pub nhosts: usize,
+    /// The net table; the ids of its rows are below NHOSTS.
+    pub net: NetTable,
 }
 
 /// Which of the ids from 0 to 255 are marked: the hosts that live here. The mark of an id is bit
@@ -200,15 +222,13 @@ pub struct Settings {
     pub link_count: usize,
     /// The links; link 1 comes first.
     pub links: [LinkSetting; LINKS],
-    /// The net table; all its ids are below NHOSTS.
-    pub net: NetTable,
     /// The ids whose hosts live here: the own one, and any others below NHOSTS.
     pub marks: Marks,
 }
 
 impl Settings {
-    /// The settings of a host at an address: one point-to-point link, no net rows, clock setting
-    /// off, HOLD-INTERVAL 1 s, CLOCK-TICK 1 ms, time 0, 1 January 1972. Of the ids its own alone is
+    /// The settings of a host at an address: one point-to-point link, clock setting off,
+    /// HOLD-INTERVAL 1 s, CLOCK-TICK 1 ms, time 0, 1 January 1972. Of the ids its own alone is
     /// marked.
     pub fn new(address: Address, layout: Layout) -> Settings {
         Settings {

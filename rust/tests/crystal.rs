@@ -26,7 +26,7 @@ fn with_crystal<T>(time: i64, run: impl FnOnce(Host) -> T) -> T {
         date: date_word(1972, 1, 2),
         ..Settings::new(Address::new(192, 0, 2, 1), LAYOUT)
     };
-    let mut room = Room::new(1);
+    let mut room = Room::new(1, LAYOUT.nhosts);
     assert_eq!(room.host(0).initialize(settings), Answer::Done);
     run(room.host(0))
 }
@@ -38,7 +38,7 @@ fn clock_ms(host: &Host) -> i64 {
 
 /// A message of a host with that address, with TSP 0, which it sends at 0 ms of its clock.
 fn message_of(address: Address) -> Vec<u8> {
-    let mut room = Room::new(1);
+    let mut room = Room::new(1, LAYOUT.nhosts);
     let mut host = room.host(0);
     let answer = host.initialize(Settings::new(address, LAYOUT));
     assert_eq!(answer, Answer::Done);

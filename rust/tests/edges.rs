@@ -1,9 +1,14 @@
 //! The ends of what the safe calls take: empty slices, numbers far out of range.
 
-use hello::{Address, Answer, Clock, Counter, Entry, Layout, LinkSetting, Links, Room, Settings};
+use hello::{
+    Address, Answer, ClassTable, Clock, Counter, Entry, Layout, LinkSetting, Links, Room, Settings,
+};
 use hello::{Walk, HOSTS, LONGEST_MESSAGE, PLACES, UNITS_PER_MS};
 
 const LINE_CLOCK: Counter = Counter::LINE_CLOCK;
+
+/// The table of a class of four.
+const TABLE: ClassTable = ClassTable::new(4);
 
 /// Good settings of host 192.0.2.1 among four.
 fn settings() -> Settings {
@@ -16,7 +21,7 @@ fn settings() -> Settings {
 
 /// A room of so many hosts, of which the last is set afresh.
 fn room(hosts: usize) -> Room {
-    let mut room = Room::new(hosts);
+    let mut room = Room::new(hosts, 4);
     let answer = room.host(hosts - 1).initialize(settings());
     assert_eq!(answer, Answer::Done);
     room
@@ -41,7 +46,7 @@ fn empty_slices_are_answered() {
 
     let (clock, links) = (&mut Clock::default(), &mut Links::default());
     let walk = &mut Walk::default();
-    let tick = hello::tick(&settings(), 0, clock, links, walk, &[], &mut [], 0);
+    let tick = hello::tick(&settings(), &TABLE, 0, clock, links, walk, &[], &mut [], 0);
     assert_eq!(tick, Answer::OutOfRange.number());
 }
 
@@ -51,7 +56,16 @@ fn numbers_far_out_of_range_are_answered() {
     for number in [HOSTS, usize::MAX] {
         let (clock, links) = (&mut Clock::default(), &mut Links::default());
         let walk = &mut Walk::default();
-        let answer = hello::initialize(&settings(), number, clock, links, walk, &[], &mut run);
+        let answer = hello::initialize(
+            &settings(),
+            &TABLE,
+            number,
+            clock,
+            links,
+            walk,
+            &[],
+            &mut run,
+        );
         assert_eq!(answer, Answer::OutOfRange.number());
     }
     let mut room = room(HOSTS);
@@ -69,11 +83,10 @@ fn numbers_far_out_of_range_are_answered() {
 fn settings_far_out_of_range_are_answered() {
     let mut room = room(1);
     let mut host = room.host(0);
-    let mut broken = [settings(); 5];
-    broken[4].links[0].broadcast = 2;
+    let mut broken = [settings(); 4];
     broken[0].layout.nhosts = usize::MAX;
     broken[1].link_count = usize::MAX;
-    broken[2].net.count = usize::MAX;
+    broken[2].links[0].broadcast = 2;
     broken[3].clock_tick = i64::MIN;
     for settings in broken {
         assert_eq!(host.initialize(settings), Answer::Setting);
@@ -118,7 +131,7 @@ fn a_host_that_is_not_set_is_refused() {
 
 #[test]
 fn the_longest_message_is_sent_whole() {
-    let mut room = Room::new(1);
+    let mut room = Room::new(1, PLACES);
     let mut host = room.host(0);
     let mut wide = settings();
     wide.layout.nhosts = PLACES;

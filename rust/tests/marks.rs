@@ -24,7 +24,7 @@ fn settings(id: u8, marks: &[u8]) -> Settings {
 
 /// A room of one host with those settings.
 fn room(settings: Settings) -> Room {
-    let mut room = Room::new(1);
+    let mut room = Room::new(1, LAYOUT.nhosts);
     assert_eq!(room.host(0).initialize(settings), Answer::Done);
     room
 }
@@ -76,7 +76,7 @@ fn the_own_id_alone_is_marked_unless_told() {
 
 #[test]
 fn initialize_writes_the_marks() {
-    let mut room = Room::new(1);
+    let mut room = Room::new(1, LAYOUT.nhosts);
     room.run_mut().fill(Entry {
         here: 7,
         ..Entry::default()

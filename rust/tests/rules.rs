@@ -28,7 +28,7 @@ fn with_host<T>(entry: Entry, run: impl Fn(Host) -> T) -> T {
     let mut settings = Settings::new(Address::new(192, 0, 2, 1), layout);
     settings.links[..2].fill(LinkSetting::broadcast(Address::new(192, 0, 2, 255)));
     settings.link_count = 2;
-    let mut room = Room::new(1);
+    let mut room = Room::new(1, layout.nhosts);
     let mut host = room.host(0);
     assert_eq!(host.initialize(settings), Answer::Done);
     host.table_mut()[2] = entry;
@@ -87,7 +87,7 @@ fn room_and_message() -> (Room, Vec<u8>) {
         address_offset: 1,
         nhosts: 2,
     };
-    let mut room = Room::new(2);
+    let mut room = Room::new(2, layout.nhosts);
     for number in [A, B] {
         let settings = Settings::new(address(number), layout);
         assert_eq!(room.host(number).initialize(settings), Answer::Done);

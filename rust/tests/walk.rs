@@ -1,8 +1,8 @@
 //! A walk through an arrival, one box at a time.
 
 use hello::{
-    Address, Answer, Clock, Counter, Entry, Host, Layout, Link, LinkSetting, Links, Place, Room,
-    Settings, Walk, LONGEST_MESSAGE, UNITS_PER_MS,
+    Address, Answer, ClassTable, Clock, Counter, Entry, Host, Layout, Link, LinkSetting, Links,
+    Place, Room, Settings, Walk, LONGEST_MESSAGE, UNITS_PER_MS,
 };
 
 const LINE_CLOCK: Counter = Counter::LINE_CLOCK;
@@ -27,7 +27,7 @@ fn settings(id: u8) -> Settings {
 
 /// A room of one host with those settings.
 fn room(settings: Settings) -> Room {
-    let mut room = Room::new(1);
+    let mut room = Room::new(1, settings.layout.nhosts);
     assert_eq!(room.host(0).initialize(settings), Answer::Done);
     room
 }
@@ -307,7 +307,10 @@ fn the_copy_has_room_for_the_longest_message() {
     let (clock, links, run) = (*clock, *links, room.run().to_vec());
     for (length, answer) in [(LONGEST_MESSAGE - 1, 12), (LONGEST_MESSAGE, 0)] {
         let (walk, copy) = (&mut Walk::default(), &mut vec![7; length]);
-        let opened = hello::open_walk(&settings, 0, &clock, &links, walk, copy, &run, 1, &packet);
+        let table = ClassTable::new(4);
+        let opened = hello::open_walk(
+            &settings, &table, 0, &clock, &links, walk, copy, &run, 1, &packet,
+        );
         assert_eq!(opened.answer, answer);
         assert_eq!(walk.is_open(), answer == 0);
         assert_eq!(copy.starts_with(&packet), answer == 0);

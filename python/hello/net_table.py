@@ -1,0 +1,34 @@
+"""The net table of a class, with the tutor's calls as methods."""
+
+from . import library
+from .answer import Answer
+from .lent import ClassTable
+from .values import Added
+
+
+class NetTable(ClassTable):
+    """The net table of a class, which all its hosts use and only the tutor changes.
+
+    Rows keep their order and are numbered from 1 without gaps. A change takes effect at the next
+    call of a host that looks an address up, in the middle of a walk too. Where NHOSTS is another than
+    that of a host's settings, each of its calls answers SETTING.
+    """
+
+    __slots__ = ()
+
+    def set_afresh(self, nhosts):
+        """The table is set afresh, with the class's NHOSTS and without rows."""
+        return Answer(library.net_afresh(self, nhosts))
+
+    def add(self, net, id):
+        """Adds a row at the end, a Net and the id of the host that leads there, as an Added."""
+        answer, row = library.net_add(self, net, id)
+        return Added(Answer(answer), row)
+
+    def remove(self, row):
+        """Removes the row of that number; those behind it move up."""
+        return Answer(library.net_remove(self, row))
+
+    def change(self, row, id):
+        """The row of that number leads to another host; its net stays."""
+        return Answer(library.net_change(self, row, id))
