@@ -17,8 +17,14 @@ pub fn settings(from: &hello::Settings) -> reference::Settings {
         date: reference::Date(from.date),
         link_count: from.link_count,
         links: from.links.map(link_kind),
-        net_count: from.net.count,
-        net_rows: from.net.rows.map(net_row),
+    }
+}
+
+pub fn table(from: &hello::ClassTable) -> reference::NetTable {
+    reference::NetTable {
+        nhosts: from.nhosts,
+        count: from.net.count,
+        rows: from.net.rows.map(net_row),
     }
 }
 
@@ -32,9 +38,13 @@ fn link_kind(from: hello::LinkSetting) -> reference::LinkKind {
 
 fn net_row(from: hello::Row) -> reference::NetRow {
     reference::NetRow {
-        net: [from.net.first, from.net.second, from.net.third],
+        net: net(from.net),
         host: from.id,
     }
+}
+
+pub fn net(from: hello::Net) -> [u8; 3] {
+    [from.first, from.second, from.third]
 }
 
 pub fn clock(from: &hello::Clock) -> reference::Clock {

@@ -2,8 +2,8 @@
 
 use crate::random::Random;
 use crate::room::Room;
-use hello::{Address, Clock, Counter, Entry, Layout, Link, LinkSetting, Links, Marks, Net, Row};
-use hello::{Settings, Walk, HOSTS, LONGEST_MESSAGE, PLACES, UNITS_PER_MS};
+use hello::{Address, ClassTable, Clock, Counter, Entry, Layout, Link, LinkSetting, Links, Marks};
+use hello::{Net, Row, Settings, Walk, HOSTS, LONGEST_MESSAGE, PLACES, ROWS, UNITS_PER_MS};
 
 pub const DAY_MS: i64 = 86_400_000;
 pub const DAY_UNITS: i64 = DAY_MS * UNITS_PER_MS;
@@ -13,9 +13,9 @@ const TICK_MOST: i64 = 65_536 * UNITS_PER_MS;
 const DELTA_LEAST: i64 = -128 * UNITS_PER_MS;
 const DELTA_MOST: i64 = 127 * UNITS_PER_MS;
 
-/// A room of a few hosts, now and then of sixteen, most of them on one net. The
-/// run ends with the last host's places or goes on a little, and all that is
-/// lent is still without rule.
+/// A room of a few hosts, now and then of sixteen, most of them on one net, with
+/// a sound table of their class. The run ends with the last host's places or goes
+/// on a little, and all else that is lent is still without rule.
 pub fn room(random: &mut Random) -> Room {
     let hosts = match random.below(12) {
         0 => HOSTS,
@@ -24,25 +24,33 @@ pub fn room(random: &mut Random) -> Room {
     };
     let past_the_end = random.pick(&[0, 0, 1, 20, PLACES]);
     let (net, layout) = (any_net(random), layout(random));
+    let table = table(random, net, layout.nhosts);
     let settings: Vec<Settings> = (0..hosts)
         .map(|_| {
             if random.one_in(6) {
-                let (other_net, other_layout) = (any_net(random), self::layout(random));
-                settings(random, other_net, other_layout)
+                let other_layout = Layout {
+                    nhosts: layout.nhosts,
+                    ..self::layout(random)
+                };
+                let other_net = any_net(random);
+                settings(random, &table, other_net, other_layout)
             } else {
-                settings(random, net, layout)
+                settings(random, &table, net, layout)
             }
         })
         .collect();
     let crystals = (0..hosts).map(|_| random.one_in(2)).collect();
     let clocks = (0..hosts).map(|_| any_clock(random)).collect();
-    let links = settings.iter().map(|set| links(random, set)).collect();
+    let links = settings
+        .iter()
+        .map(|set| links(random, set, &table))
+        .collect();
     let walks = (0..hosts).map(|_| any_walk(random)).collect();
     let copies = (0..hosts).map(|_| random.octets(LONGEST_MESSAGE)).collect();
     let run = (0..hosts * PLACES + past_the_end)
         .map(|_| any_entry(random))
         .collect();
-    Room::new(settings, crystals, clocks, links, walks, copies, run)
+    Room::new(settings, table, crystals, clocks, links, walks, copies, run)
 }
 
 /// An address of class A, B or C, whose host octet does not matter.
@@ -64,8 +72,19 @@ fn layout(random: &mut Random) -> Layout {
     }
 }
 
+/// A sound table of a class whose hosts are most often on a net. The slots behind its rows hold rows
+/// too.
+pub fn table(random: &mut Random, net: Address, nhosts: usize) -> ClassTable {
+    let mut table = ClassTable::new(nhosts);
+    table.net.count = random.pick(&[0, 1, 2, 3, 5, 30, 31, 32]);
+    for place in 0..ROWS {
+        table.net.rows[place] = row(random, net, nhosts);
+    }
+    table
+}
+
 /// Sound settings of a host on a net.
-fn settings(random: &mut Random, net: Address, layout: Layout) -> Settings {
+pub fn settings(random: &mut Random, table: &ClassTable, net: Address, layout: Layout) -> Settings {
     let ids = layout.nhosts.min(256 - usize::from(layout.address_offset));
     let id = random.below(ids) as u8;
     let any_host = random.below(layout.nhosts) as u8;
@@ -81,14 +100,10 @@ fn settings(random: &mut Random, net: Address, layout: Layout) -> Settings {
         marks: marks(random, layout.nhosts, id),
         ..Settings::default()
     };
-    settings.net.count = random.pick(&[0, 1, 2, 3, 5, 31, 32]);
-    for place in 0..settings.net.rows.len() {
-        settings.net.rows[place] = row(random, net, layout);
-    }
     for place in 0..settings.links.len() {
         settings.links[place] = LinkSetting {
             broadcast: u8::from(random.one_in(3)),
-            neighbor: address(random, &settings),
+            neighbor: address(random, &settings, table),
         };
     }
     settings
@@ -113,20 +128,19 @@ fn clock_tick(random: &mut Random) -> i64 {
 }
 
 /// A row, most often of a net that addresses of the room can be on.
-fn row(random: &mut Random, near: Address, layout: Layout) -> Row {
-    let (first, second, third) = match random.below(20) {
-        0 => (0, 0, 0),
-        1..=9 => (random.pick(&[10, 44, near.first]), 0, 0),
-        10..=15 => (near.first, near.second, near.third.wrapping_add(1)),
-        _ => (random.octet(), random.octet(), random.octet()),
-    };
+fn row(random: &mut Random, near: Address, nhosts: usize) -> Row {
     Row {
-        net: Net {
-            first,
-            second,
-            third,
-        },
-        id: random.below(layout.nhosts) as u8,
+        net: net(random, near),
+        id: random.below(nhosts) as u8,
+    }
+}
+
+pub fn net(random: &mut Random, near: Address) -> Net {
+    match random.below(20) {
+        0 => Net::default(),
+        1..=9 => Net::new(random.pick(&[10, 44, near.first]), 0, 0),
+        10..=15 => Net::new(near.first, near.second, near.third.wrapping_add(1)),
+        _ => Net::new(random.octet(), random.octet(), random.octet()),
     }
 }
 
@@ -145,7 +159,7 @@ fn with_host_octet(address: Address, octet: u8) -> Address {
 }
 
 /// An address that means something to a host, or any.
-pub fn address(random: &mut Random, settings: &Settings) -> Address {
+pub fn address(random: &mut Random, settings: &Settings, table: &ClassTable) -> Address {
     let own = settings.address;
     match random.below(12) {
         0..=4 => {
@@ -155,7 +169,7 @@ pub fn address(random: &mut Random, settings: &Settings) -> Address {
         5 => with_host_octet(own, random.octet()),
         6 => own,
         7 | 8 => {
-            let net = settings.net.rows[random.below(4)].net;
+            let net = table.net.rows[random.below(4)].net;
             Address {
                 first: net.first,
                 second: net.second,
@@ -298,13 +312,13 @@ fn any_clock(random: &mut Random) -> Clock {
 }
 
 /// Links in range. What is lent for a broadcast link need not be the address that was set.
-pub fn links(random: &mut Random, settings: &Settings) -> Links {
+pub fn links(random: &mut Random, settings: &Settings, table: &ClassTable) -> Links {
     let mut links = Links::default();
     for (link, setting) in links.all.iter_mut().zip(&settings.links) {
         let neighbor = if setting.broadcast == 1 && random.one_in(2) {
             setting.neighbor
         } else {
-            address(random, settings)
+            address(random, settings, table)
         };
         *link = Link {
             neighbor,
@@ -422,11 +436,11 @@ pub fn spoil_walk(random: &mut Random, settings: &Settings, walk: &mut Walk) {
 /// Breaks one rule of the settings, or goes to its very edge.
 pub fn spoil_settings(random: &mut Random, settings: &mut Settings) {
     let nhosts = settings.layout.nhosts;
-    match random.below(18) {
+    match random.below(15) {
         0 => settings.address.first = random.pick(&[0, 224, 255]),
         1 => settings.address = with_host_octet(settings.address, random.octet()),
         2 => settings.layout.address_offset = random.octet(),
-        3 => settings.layout.nhosts = random.pick(&[0, 254, 255, 256, 300, usize::MAX]),
+        3 => settings.layout.nhosts = any_nhosts(random, nhosts),
         4 => settings.clock_host = random.pick(&[nhosts.min(254) as u8, 254, 255]),
         5 => settings.hold_interval = random.pick(&[0, 255, 256, u16::MAX]),
         6 => {
@@ -436,17 +450,43 @@ pub fn spoil_settings(random: &mut Random, settings: &mut Settings) {
         7 => settings.time = random.pick(&[-1, DAY_MS - 1, DAY_MS, i64::MIN, i64::MAX]),
         8 => settings.date = any_date(random),
         9 | 10 => settings.link_count = random.pick(&[0, 8, 9, 10, usize::MAX]),
-        11 => settings.net.count = random.pick(&[32, 33, 34, usize::MAX]),
-        12 => settings.links[random.below(8)].broadcast = random.pick(&[2, 128, 255]),
-        13 => {
-            settings.net.rows[random.below(32)].id =
-                random.pick(&[nhosts.min(255) as u8, (nhosts - 1) as u8, 255]);
+        11 => settings.links[random.below(8)].broadcast = random.pick(&[2, 128, 255]),
+        _ => spoil_marks(random, settings),
+    }
+}
+
+/// An NHOSTS at or beside a limit, or beside one that is known.
+pub fn any_nhosts(random: &mut Random, known: usize) -> usize {
+    random.pick(&[
+        0,
+        1,
+        254,
+        255,
+        256,
+        300,
+        usize::MAX,
+        known.saturating_add(1),
+        known.saturating_sub(1),
+    ])
+}
+
+/// Breaks one rule of the class's table, or goes to its very edge, also behind a row of net zero and
+/// behind the rows that stand.
+pub fn spoil_table(random: &mut Random, table: &mut ClassTable) {
+    let nhosts = table.nhosts.min(255) as u8;
+    let last = table.net.count.clamp(1, ROWS) - 1;
+    let any_id = random.octet();
+    let id = random.pick(&[nhosts, nhosts, nhosts.saturating_sub(1), 255, any_id]);
+    match random.below(8) {
+        0 | 1 => table.net.count = random.pick(&[31, 32, 33, 34, 1 << 32, usize::MAX]),
+        2 | 3 => table.nhosts = any_nhosts(random, table.nhosts),
+        4 => table.net.rows[random.below(ROWS)].id = id,
+        5 => table.net.rows[last].id = id,
+        6 => {
+            table.net.rows[random.below(last + 1)].net = Net::default();
+            table.net.rows[last].id = id;
         }
-        14..=16 => spoil_marks(random, settings),
-        _ => {
-            let row = settings.net.count.clamp(1, 32) - 1;
-            settings.net.rows[row].id = nhosts.min(255) as u8;
-        }
+        _ => table.net.rows[(last + 1).min(ROWS - 1)].id = id,
     }
 }
 

@@ -1,10 +1,11 @@
 //! Gives the proved library and the reference the same random calls, and
-//! compares after each call the answer, the values, all clocks, links and walks
-//! with the copies of their packets, the whole run and the whole buffer.
+//! compares after each call the answer, the values, the class's table, all clocks,
+//! links and walks with the copies of their packets, the whole run and the whole
+//! buffer.
 //!
 //! `compare [--seed N] [--calls N]` makes at least N calls. It ends with 1 at
 //! the first difference, and with 2 where an answer that can occur was never
-//! given, or something that readings, walks or marks do never occurred.
+//! given, or something that readings, walks, marks or tables do never occurred.
 
 mod call;
 mod capture;
@@ -21,9 +22,9 @@ mod text;
 mod trials;
 mod vectors;
 
-use call::{Call, Trial, Value};
-use counts::{Counts, Marks, Readings, Walks};
-use hello::{Clock, Entry, Links, Walk, PLACES};
+use call::{Call, Outcome, Trial, Value};
+use counts::{Counts, Marks, Readings, Tables, Walks};
+use hello::{ClassTable, Clock, Entry, Links, Walk, PLACES};
 use random::Random;
 use room::{Difference, Room};
 use std::process::ExitCode;
@@ -62,14 +63,26 @@ struct Comparison {
     readings: Readings,
     walks: Walks,
     marks: Marks,
+    tables: Tables,
     calls: u64,
     /// The host's entries before the call, for the report of a difference.
-    table: Vec<Entry>,
+    entries: Vec<Entry>,
+    /// The class's table as each host's walk was opened.
+    opened: Vec<ClassTable>,
+}
+
+/// What a call is lent beside the entries.
+struct Lent {
+    table: ClassTable,
+    clock: Clock,
+    links: Links,
+    walk: Walk,
 }
 
 impl Comparison {
     /// Makes calls on the hosts of one room.
     fn visit(&mut self, room: &mut Room, most_calls: u64) -> Result<(), String> {
+        self.opened = vec![room.library.table; room.settings.len()];
         for host in 0..room.settings.len() {
             let trial = trials::first(room, host);
             self.perform(room, &trial)?;
@@ -96,45 +109,66 @@ impl Comparison {
         self.counts.add(trial.call.row(), outcome.answer);
         if let (Some(counter), 0 | 10 | 11) = (trial.call.counter(), outcome.answer) {
             let after = &room.library.clocks[trial.host];
-            self.readings.add(counter, &lent.0, after);
+            self.readings.add(counter, &lent.clock, after);
         }
-        if lent.2.is_open() {
+        if lent.walk.is_open() && !trial.call.is_tutors() {
             let after = &room.library.walks[trial.host];
             let is_step = matches!(trial.call, Call::Step { .. });
-            self.walks.add(&lent.2, after, is_step, outcome.answer);
+            self.walks.add(&lent.walk, after, is_step, outcome.answer);
         }
         let after = &room.library.run[PLACES * trial.host..];
-        self.marks.add(trial, &self.table, after, outcome.answer);
+        self.marks
+            .add(trial, &lent.table, &self.entries, after, outcome.answer);
+        self.count_table(room, trial, &lent, &outcome);
         if let (Call::Send { .. }, Value::Length(length @ 1..)) = (&trial.call, &outcome.value) {
             self.messages.keep(&outcome.buffer.0[..*length]);
         }
         Ok(outcome.answer)
     }
 
-    /// The clock, links, walk and used entries that a call is lent.
-    fn lent(&mut self, room: &Room, trial: &Trial) -> (Clock, Links, Walk) {
-        let start = PLACES * trial.host;
-        let nhosts = room.settings[trial.host].layout.nhosts;
-        self.table.clear();
-        self.table
-            .extend_from_slice(&room.library.run[start..start + nhosts]);
-        (
-            room.library.clocks[trial.host],
-            room.library.links[trial.host],
-            room.library.walks[trial.host],
-        )
+    /// Counts what the class's table did in a call.
+    fn count_table(&mut self, room: &Room, trial: &Trial, lent: &Lent, outcome: &Outcome) {
+        if trial.call.is_tutors() {
+            let walking = room.library.walks.iter().any(Walk::is_open);
+            self.tables.add_tutors(&lent.table, walking, outcome.answer);
+            return;
+        }
+        let opened = &mut self.opened[trial.host];
+        self.tables
+            .add(trial, &lent.table, &lent.walk, opened, outcome);
+        if matches!(trial.call, Call::OpenWalk { .. }) && outcome.answer == 0 {
+            *opened = lent.table;
+        }
     }
 
-    fn report(
-        &self,
-        trial: &Trial,
-        lent: &(Clock, Links, Walk),
-        difference: &Difference,
-    ) -> String {
+    /// The table, clock, links, walk and used entries that a call is lent.
+    fn lent(&mut self, room: &Room, trial: &Trial) -> Lent {
+        let start = PLACES * trial.host;
+        let nhosts = room.settings[trial.host].layout.nhosts;
+        self.entries.clear();
+        self.entries
+            .extend_from_slice(&room.library.run[start..start + nhosts]);
+        Lent {
+            table: room.library.table,
+            clock: room.library.clocks[trial.host],
+            links: room.library.links[trial.host],
+            walk: room.library.walks[trial.host],
+        }
+    }
+
+    fn report(&self, trial: &Trial, lent: &Lent, difference: &Difference) -> String {
         format!(
-            "{trial:?}\nlent: {lent:?}\nentries: {:?}\n\
+            "{trial:?}\nlent: {:?}\n{:?}\n{:?}\n{:?}\nentries: {:?}\n\
              difference at call {} in {}\n  library:   {}\n  reference: {}",
-            self.table, self.calls, difference.place, difference.library, difference.reference
+            lent.table,
+            lent.clock,
+            lent.links,
+            lent.walk,
+            self.entries,
+            self.calls,
+            difference.place,
+            difference.library,
+            difference.reference
         )
     }
 }
@@ -147,8 +181,10 @@ fn compare(options: &Options) -> Result<Comparison, String> {
         readings: Readings::default(),
         walks: Walks::default(),
         marks: Marks::default(),
+        tables: Tables::default(),
         calls: 0,
-        table: Vec::new(),
+        entries: Vec::new(),
+        opened: Vec::new(),
     };
     while comparison.calls < options.calls {
         let mut room = generate::room(&mut comparison.random);
@@ -174,6 +210,7 @@ fn main() -> ExitCode {
         readings,
         walks,
         marks,
+        tables,
         ..
     } = match compare(&options) {
         Ok(comparison) => comparison,
@@ -186,10 +223,12 @@ fn main() -> ExitCode {
     readings.print();
     walks.print();
     marks.print();
+    tables.print();
     let mut complaints = counts.complaints();
     complaints.extend(readings.complaints());
     complaints.extend(walks.complaints());
     complaints.extend(marks.complaints());
+    complaints.extend(tables.complaints());
     complaints
         .iter()
         .for_each(|complaint| println!("{complaint}"));

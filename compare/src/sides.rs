@@ -2,12 +2,14 @@
 
 use crate::call::{Call, Octets, Outcome, Trial, Value};
 use crate::convert;
+use hello::nets;
 use reference::walk::FIRST_STEP;
-use reference::{answer, host, program, Place, Refusal};
+use reference::{answer, host, net, program, Place, Refusal};
 
-/// What the library is lent: the clock, links and walk of each host with the copy of
-/// its packet, and the run.
+/// What the library is lent: the table of the class, the clock, links and walk of each host with the
+/// copy of its packet, and the run.
 pub struct Library {
+    pub table: hello::ClassTable,
     pub clocks: Vec<hello::Clock>,
     pub links: Vec<hello::Links>,
     pub walks: Vec<hello::Walk>,
@@ -18,6 +20,7 @@ pub struct Library {
 impl Library {
     pub fn perform(&mut self, trial: &Trial) -> Outcome {
         let settings = &trial.settings;
+        let table = &mut self.table;
         let number = trial.number;
         let clock = &mut self.clocks[trial.host];
         let links = &mut self.links[trial.host];
@@ -26,19 +29,21 @@ impl Library {
         let run = &mut self.run[..trial.run_length];
         match &trial.call {
             Call::Initialize => Outcome::of(hello::initialize(
-                settings, number, clock, links, walk, copy, run,
+                settings, table, number, clock, links, walk, copy, run,
             )),
             Call::Tick { count } => Outcome::of(hello::tick(
-                settings, number, clock, links, walk, copy, run, *count,
+                settings, table, number, clock, links, walk, copy, run, *count,
             )),
             Call::Adjust { count } => Outcome::of(hello::adjust(
-                settings, number, clock, links, walk, copy, run, *count,
+                settings, table, number, clock, links, walk, copy, run, *count,
             )),
             Call::Set { ms, count } => Outcome::of(hello::set(
-                settings, number, clock, links, walk, copy, run, *ms, *count,
+                settings, table, number, clock, links, walk, copy, run, *ms, *count,
             )),
             Call::Read { counter } => {
-                let read = hello::read(settings, number, clock, links, walk, copy, run, *counter);
+                let read = hello::read(
+                    settings, table, number, clock, links, walk, copy, run, *counter,
+                );
                 let value = Value::Time {
                     time: read.time,
                     date: read.date,
@@ -46,10 +51,10 @@ impl Library {
                 Outcome::new(read.answer, value)
             }
             Call::Second => Outcome::of(hello::second(
-                settings, number, clock, links, walk, copy, run,
+                settings, table, number, clock, links, walk, copy, run,
             )),
             Call::SelfReport { counter } => Outcome::of(hello::self_report(
-                settings, number, clock, links, walk, copy, run, *counter,
+                settings, table, number, clock, links, walk, copy, run, *counter,
             )),
             Call::Send {
                 link,
@@ -59,6 +64,7 @@ impl Library {
                 let mut octets = buffer.0.clone();
                 let sent = hello::send(
                     settings,
+                    table,
                     number,
                     clock,
                     links,
@@ -77,7 +83,7 @@ impl Library {
             }
             Call::Inspect { link, packet } => {
                 let told = hello::inspect(
-                    settings, number, clock, links, walk, copy, run, *link, &packet.0,
+                    settings, table, number, clock, links, walk, copy, run, *link, &packet.0,
                 );
                 let value = Value::Inspected {
                     source: convert::address(told.source),
@@ -92,33 +98,41 @@ impl Library {
                 counter,
                 packet,
             } => Outcome::of(hello::act(
-                settings, number, clock, links, walk, copy, run, *link, *counter, &packet.0,
+                settings, table, number, clock, links, walk, copy, run, *link, *counter, &packet.0,
             )),
             Call::Receive {
                 link,
                 counter,
                 packet,
             } => Outcome::of(hello::receive(
-                settings, number, clock, links, walk, copy, run, *link, *counter, &packet.0,
+                settings, table, number, clock, links, walk, copy, run, *link, *counter, &packet.0,
             )),
             Call::OpenWalk { link, packet } => {
                 let packet = &packet.0;
                 next(hello::open_walk(
-                    settings, number, clock, links, walk, copy, run, *link, packet,
+                    settings, table, number, clock, links, walk, copy, run, *link, packet,
                 ))
             }
             Call::Step { counter } => next(hello::step(
-                settings, number, clock, links, walk, copy, run, *counter,
+                settings, table, number, clock, links, walk, copy, run, *counter,
             )),
             Call::Lookup { address } => {
-                let route =
-                    hello::lookup(settings, number, clock, links, walk, copy, run, *address);
+                let route = hello::lookup(
+                    settings, table, number, clock, links, walk, copy, run, *address,
+                );
                 let value = Value::Route {
                     host: route.id,
                     pid: route.pid,
                 };
                 Outcome::new(route.answer, value)
             }
+            Call::NetAfresh { nhosts } => Outcome::of(nets::afresh(table, *nhosts)),
+            Call::NetAdd { net, id } => {
+                let added = nets::add(table, *net, *id);
+                Outcome::new(added.answer, Value::Row(added.row))
+            }
+            Call::NetRemove { row } => Outcome::of(nets::remove(table, *row)),
+            Call::NetChange { row, id } => Outcome::of(nets::change(table, *row, *id)),
             Call::Packet { octets } => Outcome::of(hello::packet(&octets.0)),
             Call::Checksum { octets } => {
                 Outcome::new(0, Value::Checksum(hello::checksum(&octets.0)))
@@ -139,6 +153,7 @@ fn next(stepped: hello::Stepped) -> Outcome {
 
 /// What the reference is lent.
 pub struct Reference {
+    pub table: reference::NetTable,
     pub clocks: Vec<reference::Clock>,
     pub links: Vec<reference::Links>,
     pub walks: Vec<reference::Walk>,
@@ -148,33 +163,38 @@ pub struct Reference {
 impl Reference {
     pub fn perform(&mut self, trial: &Trial) -> Outcome {
         let settings = &convert::settings(&trial.settings);
+        let table = &mut self.table;
         let number = trial.number;
         let clock = &mut self.clocks[trial.host];
         let links = &mut self.links[trial.host];
         let walk = &mut self.walks[trial.host];
         let run = &mut self.run[..trial.run_length];
         match &trial.call {
-            Call::Initialize => done(host::set_afresh(settings, number, clock, links, walk, run)),
+            Call::Initialize => done(host::set_afresh(
+                settings, table, number, clock, links, walk, run,
+            )),
             Call::Tick { count } => done(host::tick(
-                settings, number, clock, links, walk, run, *count,
+                settings, table, number, clock, links, walk, run, *count,
             )),
             Call::Adjust { count } => done(host::adjust(
-                settings, number, clock, links, walk, run, *count,
+                settings, table, number, clock, links, walk, run, *count,
             )),
             Call::Set { ms, count } => done(host::set(
-                settings, number, clock, links, walk, run, *ms, *count,
+                settings, table, number, clock, links, walk, run, *ms, *count,
             )),
             Call::Read { counter } => {
                 let counter = convert::counter(*counter);
-                let read = host::read(settings, number, clock, links, walk, run, counter);
+                let read = host::read(settings, table, number, clock, links, walk, run, counter);
                 let (time, date) = read.map_or((0, 0), |reading| (reading.time, reading.date.0));
                 Outcome::new(answer(&read), Value::Time { time, date })
             }
-            Call::Second => done(host::second(settings, number, clock, links, walk, run)),
+            Call::Second => done(host::second(
+                settings, table, number, clock, links, walk, run,
+            )),
             Call::SelfReport { counter } => {
                 let counter = convert::counter(*counter);
                 done(host::self_report(
-                    settings, number, clock, links, walk, run, counter,
+                    settings, table, number, clock, links, walk, run, counter,
                 ))
             }
             Call::Send {
@@ -185,6 +205,7 @@ impl Reference {
                 let mut octets = buffer.0.clone();
                 let sent = host::send(
                     settings,
+                    table,
                     number,
                     clock,
                     links,
@@ -201,8 +222,9 @@ impl Reference {
                 }
             }
             Call::Inspect { link, packet } => {
-                let said =
-                    host::inspect(settings, number, clock, links, walk, run, *link, &packet.0);
+                let said = host::inspect(
+                    settings, table, number, clock, links, walk, run, *link, &packet.0,
+                );
                 let told = said.unwrap_or_default();
                 let value = Value::Inspected {
                     source: told.source,
@@ -219,7 +241,7 @@ impl Reference {
             } => {
                 let counter = convert::counter(*counter);
                 done(host::act(
-                    settings, number, clock, links, walk, run, *link, counter, &packet.0,
+                    settings, table, number, clock, links, walk, run, *link, counter, &packet.0,
                 ))
             }
             Call::Receive {
@@ -229,27 +251,35 @@ impl Reference {
             } => {
                 let counter = convert::counter(*counter);
                 done(host::arrival(
-                    settings, number, clock, links, walk, run, *link, counter, &packet.0,
+                    settings, table, number, clock, links, walk, run, *link, counter, &packet.0,
                 ))
             }
             Call::OpenWalk { link, packet } => {
                 let packet = &packet.0;
-                let opened =
-                    host::open_walk(settings, number, clock, links, walk, run, *link, packet);
+                let opened = host::open_walk(
+                    settings, table, number, clock, links, walk, run, *link, packet,
+                );
                 let first = opened.map(|()| Place::at_step(FIRST_STEP));
                 Outcome::new(answer(&opened), Value::Next(first.ok()))
             }
             Call::Step { counter } => {
                 let counter = convert::counter(*counter);
-                let stepped = host::step(settings, number, clock, links, walk, run, counter);
+                let stepped = host::step(settings, table, number, clock, links, walk, run, counter);
                 Outcome::new(answer(&stepped), Value::Next(stepped.unwrap_or(None)))
             }
             Call::Lookup { address } => {
                 let address = convert::address(*address);
-                let route = host::lookup(settings, number, clock, links, walk, run, address);
+                let route = host::lookup(settings, table, number, clock, links, walk, run, address);
                 let (host, pid) = route.map_or((0, 0), |route| (route.host, route.pid));
                 Outcome::new(answer(&route), Value::Route { host, pid })
             }
+            Call::NetAfresh { nhosts } => done(net::set_afresh(table, *nhosts)),
+            Call::NetAdd { net, id } => {
+                let added = net::add(table, convert::net(*net), octet(*id));
+                Outcome::new(answer(&added), Value::Row(added.unwrap_or(0)))
+            }
+            Call::NetRemove { row } => done(net::remove(table, *row)),
+            Call::NetChange { row, id } => done(net::change(table, *row, octet(*id))),
             Call::Packet { octets } => Outcome::of(program::packet(&octets.0)),
             Call::Checksum { octets } => {
                 let sum = reference::checksum::checksum(&octets.0);
@@ -257,6 +287,11 @@ impl Reference {
             }
         }
     }
+}
+
+/// The id of a row, which is an octet to the reference. One over 255 is, as 255, never below NHOSTS.
+fn octet(id: usize) -> u8 {
+    id.min(255) as u8
 }
 
 fn done(outcome: Result<(), Refusal>) -> Outcome {

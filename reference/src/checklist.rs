@@ -6,6 +6,7 @@
 
 use crate::clock::{Clock, Counter};
 use crate::link::{Link, LinkKind, Links, KEEP_ALIVE_INTERVAL};
+use crate::net::NetTable;
 use crate::packet::Message;
 use crate::route;
 use crate::settings::Settings;
@@ -19,6 +20,7 @@ type Outcome = Result<Option<Place>, Refusal>;
 /// Carries out the box at which an open walk stands and moves the walk on.
 pub fn carry_out(
     settings: &Settings,
+    net: &NetTable,
     clock: &mut Clock,
     links: &mut Links,
     walk: &mut Walk,
@@ -29,6 +31,7 @@ pub fn carry_out(
     let message = held.message(settings).ok_or(Refusal::Lent)?;
     let mut checklist = Checklist {
         settings,
+        net,
         clock,
         link: &mut links[usize::from(held.link) - 1],
         walk,
@@ -46,6 +49,7 @@ pub fn carry_out(
 /// All that a box goes by, and all that it may change.
 struct Checklist<'a> {
     settings: &'a Settings,
+    net: &'a NetTable,
     clock: &'a mut Clock,
     /// The link on which the packet arrived.
     link: &'a mut Link,
@@ -113,13 +117,14 @@ impl Checklist<'_> {
         next
     }
 
-    /// "DELAY under 100 becomes 100." Then the first id.
+    /// "DELAY under 100 becomes 100." Then the first id, by the net table "as
+    /// it stands at the box that looks it up".
     fn step_5(&mut self) -> Outcome {
         self.walk.delay = self.walk.delay.max(MIN_DELAY as i16);
         let id = if self.message.has_table() {
             0
         } else {
-            route::find(self.settings, self.link.neighbor).ok_or(Refusal::NoHost)?
+            route::find(self.settings, self.net, self.link.neighbor).ok_or(Refusal::NoHost)?
         };
         Ok(Some(Place::at_line(LINE_A, id as u8)))
     }

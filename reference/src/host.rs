@@ -1,7 +1,7 @@
 //! The calls of a host.
 //!
-//! Each is lent the host's settings, clock, links and walk and the run of
-//! entries that all hosts share. Answer 12 is tested first, then 16 while a
+//! Each is lent the host's settings, clock, links and walk, the net table of
+//! the class and the run of entries that all hosts share. Answer 12 is tested first, then 16 while a
 //! walk is open, then 1, then the others. Setting afresh and the step of a
 //! walk do not give 16.
 //!
@@ -20,6 +20,7 @@ use crate::checklist;
 use crate::clock::{Clock, Counter, Sample};
 use crate::date::Date;
 use crate::link::{Link, LinkKind, Links, KEEP_ALIVE_INTERVAL};
+use crate::net::NetTable;
 use crate::packet::{self, Heading, Message};
 use crate::route;
 use crate::settings::Settings;
@@ -55,6 +56,7 @@ pub struct Inspected {
 
 pub fn set_afresh(
     settings: &Settings,
+    net: &NetTable,
     number: usize,
     clock: &mut Clock,
     links: &mut Links,
@@ -62,7 +64,8 @@ pub fn set_afresh(
     run: &mut [Entry],
 ) -> Result<(), Refusal> {
     let start = first_place(number, run.len())?;
-    test_settings(settings)?;
+    net.admit()?;
+    test_settings(settings, net)?;
     *clock = Clock::fresh(settings.time, settings.date);
     *links = settings.links.map(Link::fresh);
     walk.close();
@@ -75,6 +78,7 @@ pub fn set_afresh(
 
 pub fn tick(
     settings: &Settings,
+    net: &NetTable,
     number: usize,
     clock: &mut Clock,
     links: &Links,
@@ -82,13 +86,14 @@ pub fn tick(
     run: &[Entry],
     count: u16,
 ) -> Result<(), Refusal> {
-    admit(settings, number, clock, links, walk, run)?;
+    admit(settings, net, number, clock, links, walk, run)?;
     clock.tick(count, settings.clock_tick, settings.hold_interval);
     Ok(())
 }
 
 pub fn adjust(
     settings: &Settings,
+    net: &NetTable,
     number: usize,
     clock: &mut Clock,
     links: &Links,
@@ -96,13 +101,14 @@ pub fn adjust(
     run: &[Entry],
     count: u16,
 ) -> Result<(), Refusal> {
-    admit(settings, number, clock, links, walk, run)?;
+    admit(settings, net, number, clock, links, walk, run)?;
     clock.adjust(count, settings.hold_interval);
     Ok(())
 }
 
 pub fn set(
     settings: &Settings,
+    net: &NetTable,
     number: usize,
     clock: &mut Clock,
     links: &Links,
@@ -111,13 +117,14 @@ pub fn set(
     ms: i32,
     count: u16,
 ) -> Result<(), Refusal> {
-    admit(settings, number, clock, links, walk, run)?;
+    admit(settings, net, number, clock, links, walk, run)?;
     clock.set(ms, count, settings.hold_interval);
     Ok(())
 }
 
 pub fn read(
     settings: &Settings,
+    net: &NetTable,
     number: usize,
     clock: &mut Clock,
     links: &Links,
@@ -125,7 +132,7 @@ pub fn read(
     run: &[Entry],
     counter: Counter,
 ) -> Result<Reading, Refusal> {
-    admit(settings, number, clock, links, walk, run)?;
+    admit(settings, net, number, clock, links, walk, run)?;
     let time = take_reading(settings, clock, counter).time;
     Ok(Reading {
         time,
@@ -135,13 +142,14 @@ pub fn read(
 
 pub fn second(
     settings: &Settings,
+    net: &NetTable,
     number: usize,
     clock: &mut Clock,
     links: &Links,
     walk: &mut Walk,
     run: &mut [Entry],
 ) -> Result<(), Refusal> {
-    let places = admit(settings, number, clock, links, walk, run)?;
+    let places = admit(settings, net, number, clock, links, walk, run)?;
     clock.second();
     run[places].iter_mut().for_each(Entry::second);
     Ok(())
@@ -151,6 +159,7 @@ pub fn second(
 /// reading.
 pub fn self_report(
     settings: &Settings,
+    net: &NetTable,
     number: usize,
     clock: &mut Clock,
     links: &Links,
@@ -158,7 +167,7 @@ pub fn self_report(
     run: &mut [Entry],
     counter: Counter,
 ) -> Result<(), Refusal> {
-    let places = admit(settings, number, clock, links, walk, run)?;
+    let places = admit(settings, net, number, clock, links, walk, run)?;
     let report = Report {
         delay: 0,
         offset: 0,
@@ -175,6 +184,7 @@ pub fn self_report(
 /// Writes a message for the neighbour on a link into the buffer; its length.
 pub fn send(
     settings: &Settings,
+    net: &NetTable,
     number: usize,
     clock: &mut Clock,
     links: &mut Links,
@@ -185,7 +195,7 @@ pub fn send(
     buffer: &mut [u8],
 ) -> Result<usize, Refusal> {
     admit_link(settings, link)?;
-    let places = admit(settings, number, clock, links, walk, run)?;
+    let places = admit(settings, net, number, clock, links, walk, run)?;
     let sender = &mut links[link - 1];
     let neighbor = sender.neighbor;
     let table = if neighbor != Address::ZERO && neighbor.same_net(settings.address) {
@@ -214,6 +224,7 @@ pub fn send(
 /// Nothing changes and the clock is not read.
 pub fn inspect(
     settings: &Settings,
+    net: &NetTable,
     number: usize,
     clock: &Clock,
     links: &Links,
@@ -223,7 +234,7 @@ pub fn inspect(
     packet: &[u8],
 ) -> Result<Inspected, Refusal> {
     admit_link(settings, link)?;
-    admit(settings, number, clock, links, walk, run)?;
+    admit(settings, net, number, clock, links, walk, run)?;
     let message = Message::on_link(packet, settings, link)?;
     Ok(Inspected {
         source: message.source,
@@ -237,6 +248,7 @@ pub fn inspect(
 /// inspection, so it is tested again.
 pub fn act(
     settings: &Settings,
+    net: &NetTable,
     number: usize,
     clock: &mut Clock,
     links: &mut Links,
@@ -247,7 +259,7 @@ pub fn act(
     packet: &[u8],
 ) -> Result<(), Refusal> {
     admit_link(settings, link)?;
-    let places = admit(settings, number, clock, links, walk, run)?;
+    let places = admit(settings, net, number, clock, links, walk, run)?;
     let message = Message::on_link(packet, settings, link)?;
     let kind = settings.links[link - 1];
     let receiver = &mut links[link - 1];
@@ -262,7 +274,7 @@ pub fn act(
     let table = &mut run[places];
     let date = message.date();
     if !message.has_table() {
-        let id = route::find(settings, receiver.neighbor).ok_or(Refusal::NoHost)?;
+        let id = route::find(settings, net, receiver.neighbor).ok_or(Refusal::NoHost)?;
         learn(
             settings,
             clock,
@@ -289,6 +301,7 @@ pub fn act(
 /// not refuse it, the action directly behind it.
 pub fn arrival(
     settings: &Settings,
+    net: &NetTable,
     number: usize,
     clock: &mut Clock,
     links: &mut Links,
@@ -298,9 +311,9 @@ pub fn arrival(
     counter: Counter,
     packet: &[u8],
 ) -> Result<(), Refusal> {
-    inspect(settings, number, clock, links, walk, run, link, packet)?;
+    inspect(settings, net, number, clock, links, walk, run, link, packet)?;
     act(
-        settings, number, clock, links, walk, run, link, counter, packet,
+        settings, net, number, clock, links, walk, run, link, counter, packet,
     )
 }
 
@@ -308,6 +321,7 @@ pub fn arrival(
 /// the next box is step 1. Nothing else changes and the clock is not read.
 pub fn open_walk(
     settings: &Settings,
+    net: &NetTable,
     number: usize,
     clock: &Clock,
     links: &Links,
@@ -317,7 +331,7 @@ pub fn open_walk(
     packet: &[u8],
 ) -> Result<(), Refusal> {
     admit_link(settings, link)?;
-    admit(settings, number, clock, links, walk, run)?;
+    admit(settings, net, number, clock, links, walk, run)?;
     Message::on_link(packet, settings, link)?;
     walk.open(link as u8, packet);
     Ok(())
@@ -327,6 +341,7 @@ pub fn open_walk(
 /// is used at the first box alone.
 pub fn step(
     settings: &Settings,
+    net: &NetTable,
     number: usize,
     clock: &mut Clock,
     links: &mut Links,
@@ -334,17 +349,18 @@ pub fn step(
     run: &mut [Entry],
     counter: Counter,
 ) -> Result<Option<Place>, Refusal> {
-    let places = admit_lent(settings, number, clock, links, walk, run)?;
-    test_settings(settings)?;
+    let places = admit_lent(settings, net, number, clock, links, walk, run)?;
+    test_settings(settings, net)?;
     if !walk.is_open() {
         return Err(Refusal::NoWalk);
     }
     let table = &mut run[places];
-    checklist::carry_out(settings, clock, links, walk, table, counter)
+    checklist::carry_out(settings, net, clock, links, walk, table, counter)
 }
 
 pub fn lookup(
     settings: &Settings,
+    net: &NetTable,
     number: usize,
     clock: &Clock,
     links: &Links,
@@ -352,8 +368,8 @@ pub fn lookup(
     run: &[Entry],
     address: Address,
 ) -> Result<Route, Refusal> {
-    let places = admit(settings, number, clock, links, walk, run)?;
-    let host = route::find(settings, address).ok_or(Refusal::NoHost)?;
+    let places = admit(settings, net, number, clock, links, walk, run)?;
+    let host = route::find(settings, net, address).ok_or(Refusal::NoHost)?;
     let entry = &run[places][host];
     if !entry.is_up() {
         return Err(Refusal::HostDown);
@@ -376,23 +392,25 @@ fn first_place(number: usize, run_length: usize) -> Result<usize, Refusal> {
 /// The places of the host's entries, unless 12, 16 or 1 refuse the call.
 fn admit(
     settings: &Settings,
+    net: &NetTable,
     number: usize,
     clock: &Clock,
     links: &Links,
     walk: &Walk,
     run: &[Entry],
 ) -> Result<Range<usize>, Refusal> {
-    let places = admit_lent(settings, number, clock, links, walk, run)?;
+    let places = admit_lent(settings, net, number, clock, links, walk, run)?;
     if walk.is_open() {
         return Err(Refusal::WalkOpen);
     }
-    test_settings(settings)?;
+    test_settings(settings, net)?;
     Ok(places)
 }
 
 /// The places of the host's entries, if all that is lent is in range.
 fn admit_lent(
     settings: &Settings,
+    net: &NetTable,
     number: usize,
     clock: &Clock,
     links: &Links,
@@ -400,6 +418,7 @@ fn admit_lent(
     run: &[Entry],
 ) -> Result<Range<usize>, Refusal> {
     let start = first_place(number, run.len())?;
+    net.admit()?;
     let places = start..start + settings.usable_hosts();
     let table = &run[places.clone()];
     let in_range = clock.in_range()
@@ -422,8 +441,8 @@ fn has_marks(table: &[Entry], settings: &Settings) -> bool {
         .all(|(entry, mark)| entry.is_marked(mark))
 }
 
-fn test_settings(settings: &Settings) -> Result<(), Refusal> {
-    if settings.are_sound() {
+fn test_settings(settings: &Settings, net: &NetTable) -> Result<(), Refusal> {
+    if settings.suit(net) {
         Ok(())
     } else {
         Err(Refusal::Settings)

@@ -3,9 +3,10 @@
 //! It shares no code with the proved library and is compared with it call by
 //! call. Up to sixteen hosts share one run of table entries, which the caller
 //! lends to each call together with the host's own settings, clock, links and
-//! walk.
+//! walk and the net table of the class.
 
 pub mod address;
+pub mod bench;
 pub mod capture;
 pub mod checklist;
 pub mod checksum;
@@ -13,6 +14,7 @@ pub mod clock;
 pub mod date;
 pub mod host;
 pub mod link;
+pub mod net;
 pub mod ntp;
 pub mod packet;
 pub mod program;
@@ -29,7 +31,8 @@ pub use address::Address;
 pub use clock::{Clock, Counter, Units};
 pub use date::Date;
 pub use link::{Link, LinkKind, Links, LINKS};
-pub use settings::{Marks, NetRow, Settings, MARKS, NET_ROWS};
+pub use net::{NetRow, NetTable, NET_ROWS};
+pub use settings::{Marks, Settings, MARKS};
 pub use table::Entry;
 pub use walk::{Place, Walk};
 
@@ -59,11 +62,15 @@ pub enum Refusal {
     TextNumber = 15,
     WalkOpen = 16,
     NoWalk = 17,
-    LongInput = 27,
+    FileForm = 18,
+    FileRecord = 19,
+    NetFull = 21,
+    NoRow = 22,
     NtpLength = 23,
     NtpVersion = 24,
     NtpMode = 25,
     NtpTimestamp = 26,
+    LongInput = 27,
 }
 
 impl From<Refusal> for u8 {

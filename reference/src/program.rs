@@ -6,7 +6,8 @@ use crate::clock::{Clock, Counter, Units};
 use crate::date::Date;
 use crate::host;
 use crate::link::{Link, LinkKind, LINKS};
-use crate::settings::{marks_of, NetRow, Settings, CLOCK_SETTING_OFF, NET_ROWS};
+use crate::net::NetTable;
+use crate::settings::{marks_of, Settings, CLOCK_SETTING_OFF};
 use crate::table::Entry;
 use crate::walk::Walk;
 use crate::PLACES;
@@ -24,12 +25,10 @@ pub const SETTINGS: Settings = Settings {
     date: Date::FIRST,
     link_count: 1,
     links: [LinkKind::PointToPoint; LINKS],
-    net_count: 0,
-    net_rows: [NetRow {
-        net: [0; 3],
-        host: 0,
-    }; NET_ROWS],
 };
+
+/// "no net rows".
+pub const NET: NetTable = NetTable::without_rows(SETTINGS.nhosts);
 
 /// The answer number to a packet on the one link of a fresh host.
 pub fn packet(octets: &[u8]) -> u8 {
@@ -37,20 +36,27 @@ pub fn packet(octets: &[u8]) -> u8 {
     let mut links = [Link::default(); LINKS];
     let mut walk = Walk::CLOSED;
     let mut run = [Entry::FRESH; PLACES];
-    let outcome = host::set_afresh(&SETTINGS, 0, &mut clock, &mut links, &mut walk, &mut run)
-        .and_then(|()| host::inspect(&SETTINGS, 0, &clock, &links, &mut walk, &run, 1, octets))
-        .and_then(|_| {
-            host::act(
-                &SETTINGS,
-                0,
-                &mut clock,
-                &mut links,
-                &mut walk,
-                &mut run,
-                1,
-                Counter::LINE_CLOCK,
-                octets,
-            )
-        });
+    let outcome = host::set_afresh(
+        &SETTINGS, &NET, 0, &mut clock, &mut links, &mut walk, &mut run,
+    )
+    .and_then(|()| {
+        host::inspect(
+            &SETTINGS, &NET, 0, &clock, &links, &mut walk, &run, 1, octets,
+        )
+    })
+    .and_then(|_| {
+        host::act(
+            &SETTINGS,
+            &NET,
+            0,
+            &mut clock,
+            &mut links,
+            &mut walk,
+            &mut run,
+            1,
+            Counter::LINE_CLOCK,
+            octets,
+        )
+    });
     answer(&outcome)
 }

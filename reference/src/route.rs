@@ -1,16 +1,17 @@
 //! Finding the id of the host for an address.
 
 use crate::address::Address;
+use crate::net::NetTable;
 use crate::settings::Settings;
 
 /// The id for an address: on our net by its host octet, else by the net table.
-pub fn find(settings: &Settings, address: Address) -> Option<usize> {
+pub fn find(settings: &Settings, net: &NetTable, address: Address) -> Option<usize> {
     if address.same_net(settings.address) {
         id_on_net(settings, address)
     } else if address.is_above_class_c() {
         None
     } else {
-        id_of_net(settings, address.net())
+        net.id_of(address.net())
     }
 }
 
@@ -23,13 +24,4 @@ fn id_on_net(settings: &Settings, address: Address) -> Option<usize> {
     let id = address.host_octet().checked_sub(settings.address_offset)?;
     let id = usize::from(id);
     (id < settings.nhosts).then_some(id)
-}
-
-/// The first row of that net, or of net zero, which matches all.
-fn id_of_net(settings: &Settings, net: [u8; 3]) -> Option<usize> {
-    settings
-        .net_table()
-        .iter()
-        .find(|row| row.net == net || row.net == [0; 3])
-        .map(|row| usize::from(row.host))
 }

@@ -4,11 +4,10 @@ use crate::address::Address;
 use crate::clock::{Units, DAY_MS};
 use crate::date::Date;
 use crate::link::{LinkKind, LINKS};
+use crate::net::NetTable;
 use crate::route;
 use crate::PLACES;
 
-/// The rows a net table can have.
-pub const NET_ROWS: usize = 32;
 /// The clock host id that switches clock setting off.
 pub const CLOCK_SETTING_OFF: u8 = 255;
 /// The ids that can have a mark: one more than a table can have entries, so
@@ -32,12 +31,6 @@ pub const fn marks_of<const COUNT: usize>(ids: [u8; COUNT]) -> Marks {
 }
 
 #[derive(Clone, Copy, Debug, PartialEq, Eq)]
-pub struct NetRow {
-    pub net: [u8; 3],
-    pub host: u8,
-}
-
-#[derive(Clone, Copy, Debug, PartialEq, Eq)]
 pub struct Settings {
     pub address: Address,
     pub address_offset: u8,
@@ -54,8 +47,6 @@ pub struct Settings {
     pub date: Date,
     pub link_count: usize,
     pub links: [LinkKind; LINKS],
-    pub net_count: usize,
-    pub net_rows: [NetRow; NET_ROWS],
 }
 
 impl Settings {
@@ -69,24 +60,22 @@ impl Settings {
         self.nhosts.min(PLACES)
     }
 
-    /// The rows there are, also where too many are set.
-    pub fn net_table(&self) -> &[NetRow] {
-        &self.net_rows[..self.net_count.min(NET_ROWS)]
+    /// Whether 1 lets the settings pass beside the class's table, which
+    /// "holds the class's NHOSTS; a seat set with another gives 1".
+    pub fn suit(&self, net: &NetTable) -> bool {
+        self.are_sound() && self.nhosts == net.nhosts
     }
 
     pub fn are_sound(&self) -> bool {
-        let id_is_sound = |id: u8| usize::from(id) < self.nhosts;
         (1..=223).contains(&self.address.0[0])
             && (1..=PLACES).contains(&self.nhosts)
-            && (self.clock_host == CLOCK_SETTING_OFF || id_is_sound(self.clock_host))
+            && (self.clock_host == CLOCK_SETTING_OFF || usize::from(self.clock_host) < self.nhosts)
             && (1..=255).contains(&self.hold_interval)
             && (Units(1)..=MOST_TICK).contains(&self.clock_tick)
             && (0..DAY_MS).contains(&self.time)
             && self.date.is_real()
             && (1..=LINKS).contains(&self.link_count)
             && !self.links[..self.usable_links()].contains(&LinkKind::Neither)
-            && self.net_count <= NET_ROWS
-            && self.net_table().iter().all(|row| id_is_sound(row.host))
             && route::own_id(self).is_some_and(|id| self.marks[id])
             && !self.marks[self.usable_hosts()..].contains(&true)
     }

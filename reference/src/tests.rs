@@ -8,6 +8,7 @@ use crate::settings::marks_of;
 use crate::table::{Report, HOLD_DOWN, MAX_DELAY};
 use crate::*;
 
+mod bench;
 mod capture;
 mod crystal;
 mod inspect;
@@ -15,6 +16,7 @@ mod marks;
 mod ntp;
 mod random;
 mod text;
+mod tutor;
 mod walk;
 
 const ROUTER: Address = Address([192, 0, 2, 2]);
@@ -24,6 +26,7 @@ const UNITS_OF_DAY: i64 = DAY_MS * 65_536;
 #[derive(Clone, PartialEq, Debug)]
 struct Host {
     settings: Settings,
+    net: NetTable,
     number: usize,
     clock: Clock,
     links: Links,
@@ -39,6 +42,7 @@ impl Host {
     fn fresh(settings: Settings) -> Host {
         let mut host = Host {
             settings,
+            net: NetTable::without_rows(settings.nhosts),
             number: 0,
             clock: Clock::default(),
             links: [Link::default(); LINKS],
@@ -53,6 +57,7 @@ impl Host {
     fn set_afresh(&mut self) -> Done {
         host::set_afresh(
             &self.settings,
+            &self.net,
             self.number,
             &mut self.clock,
             &mut self.links,
@@ -64,6 +69,7 @@ impl Host {
     fn tick(&mut self) -> Done {
         host::tick(
             &self.settings,
+            &self.net,
             self.number,
             &mut self.clock,
             &self.links,
@@ -76,6 +82,7 @@ impl Host {
     fn adjust(&mut self) -> Done {
         host::adjust(
             &self.settings,
+            &self.net,
             self.number,
             &mut self.clock,
             &self.links,
@@ -88,6 +95,7 @@ impl Host {
     fn set(&mut self, ms: i32) -> Done {
         host::set(
             &self.settings,
+            &self.net,
             self.number,
             &mut self.clock,
             &self.links,
@@ -101,6 +109,7 @@ impl Host {
     fn read(&mut self) -> Result<Reading, Refusal> {
         host::read(
             &self.settings,
+            &self.net,
             self.number,
             &mut self.clock,
             &self.links,
@@ -113,6 +122,7 @@ impl Host {
     fn second(&mut self) -> Done {
         host::second(
             &self.settings,
+            &self.net,
             self.number,
             &mut self.clock,
             &self.links,
@@ -124,6 +134,7 @@ impl Host {
     fn self_report(&mut self) -> Done {
         host::self_report(
             &self.settings,
+            &self.net,
             self.number,
             &mut self.clock,
             &self.links,
@@ -136,6 +147,7 @@ impl Host {
     fn send(&mut self, link: usize, buffer: &mut [u8]) -> Result<usize, Refusal> {
         host::send(
             &self.settings,
+            &self.net,
             self.number,
             &mut self.clock,
             &mut self.links,
@@ -157,6 +169,7 @@ impl Host {
     fn inspect(&mut self, link: usize, packet: &[u8]) -> Result<Inspected, Refusal> {
         host::inspect(
             &self.settings,
+            &self.net,
             self.number,
             &self.clock,
             &self.links,
@@ -170,6 +183,7 @@ impl Host {
     fn act(&mut self, link: usize, packet: &[u8]) -> Done {
         host::act(
             &self.settings,
+            &self.net,
             self.number,
             &mut self.clock,
             &mut self.links,
@@ -184,6 +198,7 @@ impl Host {
     fn arrival(&mut self, link: usize, packet: &[u8]) -> Done {
         host::arrival(
             &self.settings,
+            &self.net,
             self.number,
             &mut self.clock,
             &mut self.links,
@@ -198,6 +213,7 @@ impl Host {
     fn lookup(&mut self, address: Address) -> Result<Route, Refusal> {
         host::lookup(
             &self.settings,
+            &self.net,
             self.number,
             &self.clock,
             &self.links,
@@ -210,6 +226,7 @@ impl Host {
     fn open_walk(&mut self, link: usize, packet: &[u8]) -> Done {
         host::open_walk(
             &self.settings,
+            &self.net,
             self.number,
             &self.clock,
             &self.links,
@@ -223,6 +240,7 @@ impl Host {
     fn step(&mut self) -> Result<Option<Place>, Refusal> {
         host::step(
             &self.settings,
+            &self.net,
             self.number,
             &mut self.clock,
             &mut self.links,
@@ -823,22 +841,13 @@ fn self_report_stores_no_delay() {
 
 #[test]
 fn ids_are_found_by_class() {
-    let mut settings = settings_at(Address([10, 1, 2, 9]));
-    settings.net_count = 3;
-    settings.net_rows[0] = NetRow {
-        net: [128, 7, 1],
-        host: 2,
-    };
-    settings.net_rows[1] = NetRow {
-        net: [10, 0, 0],
-        host: 3,
-    };
-    settings.net_rows[2] = NetRow {
-        net: [0, 0, 0],
-        host: 1,
-    };
-    assert!(settings.are_sound());
-    let find = |octets| route::find(&settings, Address(octets));
+    let settings = settings_at(Address([10, 1, 2, 9]));
+    let mut table = NetTable::without_rows(4);
+    for (number, net, host) in [(1, [128, 7, 1], 2), (2, [10, 0, 0], 3), (3, [0, 0, 0], 1)] {
+        assert_eq!(net::add(&mut table, net, host), Ok(number));
+    }
+    assert!(settings.suit(&table));
+    let find = |octets| route::find(&settings, &table, Address(octets));
     assert_eq!(find([10, 1, 4, 9]), Some(3));
     assert_eq!(find([10, 1, 5, 9]), None);
     assert_eq!(find([10, 1, 0, 9]), None);
@@ -847,8 +856,8 @@ fn ids_are_found_by_class() {
     assert_eq!(find([128, 7, 2, 200]), Some(1));
     assert_eq!(find([0, 0, 0, 0]), Some(1));
     assert_eq!(find([224, 0, 0, 1]), None);
-    settings.net_count = 2;
-    assert_eq!(route::find(&settings, Address([0; 4])), None);
+    assert_eq!(net::remove(&mut table, 3), Ok(()));
+    assert_eq!(route::find(&settings, &table, Address([0; 4])), None);
 }
 
 // What is lent, and the settings.
@@ -948,14 +957,6 @@ fn settings_are_tested() {
     assert_eq!(refused(&|set| set.date = Date(0x4000 | 1056)), 1);
     assert_eq!(refused(&|set| set.link_count = 0), 1);
     assert_eq!(refused(&|set| set.link_count = 9), 1);
-    assert_eq!(refused(&|set| set.net_count = 33), 1);
-    assert_eq!(
-        refused(&|set| {
-            set.net_count = 2;
-            set.net_rows[1].host = 4
-        }),
-        1
-    );
     assert_eq!(refused(&|set| set.date = Date(0x8000 | 2988)), 0);
     assert_eq!(refused(&|set| set.clock_host = 3), 0);
 }

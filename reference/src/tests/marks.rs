@@ -249,6 +249,7 @@ fn settings_are_refused_for_their_marks() {
     let afresh = |nhosts: usize, ids: &[usize]| {
         let mut host = Host::fresh(program::SETTINGS);
         host.settings.nhosts = nhosts;
+        host.net.nhosts = nhosts;
         host.settings.marks = [false; MARKS];
         ids.iter().for_each(|id| host.settings.marks[*id] = true);
         let before = host.clone();

@@ -40,6 +40,7 @@ impl Random {
 /// A host with sound settings, lent nothing that is out of range.
 pub fn host(random: &mut Random) -> Host {
     let mut host = Host::fresh(settings(random));
+    host.net = net_table(random, host.settings.nhosts);
     host.clock = clock(random);
     host.counter = counter(random);
     for link in &mut host.links {
@@ -82,12 +83,18 @@ fn settings(random: &mut Random) -> Settings {
             settings.links[place] = LinkKind::Broadcast(address(random, &settings));
         }
     }
-    settings.net_count = random.below(4);
-    for row in &mut settings.net_rows {
+    settings
+}
+
+/// A table with some rows, none of them bad.
+pub fn net_table(random: &mut Random, nhosts: usize) -> NetTable {
+    let mut table = NetTable::without_rows(nhosts);
+    table.count = random.below(4);
+    for row in &mut table.rows {
         row.net = random.pick(&[[10, 0, 0], [128, 7, 3], [192, 0, 3], [0, 0, 0]]);
         row.host = random.below(nhosts) as u8;
     }
-    settings
+    table
 }
 
 /// The own id's mark, and those of any others.
