@@ -5,7 +5,8 @@
     room.seat(2, {"do": "call", "call": "read"})
     room.teacher_view()
 
-Every change of a seat is a call of the proved library; docs/CLASS.md has the messages and views.
+Every change of a seat or of the net table is a call of the proved library; docs/CLASS.md has the
+messages and views.
 """
 
 from .checks import Refused

@@ -1,4 +1,5 @@
-"""The calls of the library: each by its name and the numbers that it is given.
+"""The calls of the library, of a host and of the tutor: each by its name and the numbers that it is
+given.
 
 What is given stands so in the list of calls, a packet as hex; so a replay makes the same call.
 """
@@ -18,6 +19,16 @@ def _place(place):
         return None
     told = {"step": place.step, "line": place.line or None}
     return {**told, "id": place.host if place.line else None, "name": str(place)}
+
+
+def _initialize(host, nhosts):
+    """With an NHOSTS for the host's settings, which one that is refused does not keep."""
+    before = host.settings.nhosts
+    host.settings.nhosts = nhosts
+    answer = host.initialize()
+    if answer != 0:
+        host.settings.nhosts = before
+    return answer, {}
 
 
 def _read(host, counter):
@@ -64,7 +75,7 @@ def _write(host, text):
 
 
 _CALLS = {
-    "initialize": lambda host: (host.initialize(), {}),
+    "initialize": _initialize,
     "tick": lambda host, count: (host.tick(count), {}),
     "adjust": lambda host, count: (host.adjust(count), {}),
     "set": lambda host, ms, count: (host.set(ms, count), {}),
@@ -85,10 +96,30 @@ READING = ("read", "self_report", "send", "receive", "step")
 """The calls that are handed the counter: count, mark of an overflow, count again."""
 
 
+def _net_add(table, net, id):
+    answer, row = table.add([int(octet) for octet in net.split(".")], id)
+    return answer, {"row": row}
+
+
+_TUTORS = {
+    "net_afresh": lambda table, nhosts: (table.set_afresh(nhosts), {}),
+    "net_add": _net_add,
+    "net_remove": lambda table, row: (table.remove(row), {}),
+    "net_change": lambda table, row, id: (table.change(row, id), {}),
+}
+
+
 def make(host, call, given, times=1):
     """Makes a call, so many times: the number of the last answer, and what it told."""
     if call == "tick":
         return int(host.ticks(times, **given)), {}
     for _ in range(times):
         answer, told = _CALLS[call](host, **given)
+    return int(answer), told
+
+
+def tutor(table, call, given):
+    """Makes a call of the tutor's on the class's net table: the number of its answer, and what it
+    told."""
+    answer, told = _TUTORS[call](table, **given)
     return int(answer), told

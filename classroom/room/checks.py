@@ -67,8 +67,17 @@ def keys(what, value, needed, also=()):
 
 def address(what, value):
     """An internet address in four decimal numbers with dots, as its octets."""
-    octets = words(what, value, 15).split(".")
+    return _octets(what, value, 4, "four")
+
+
+def net(what, value):
+    """The number of a net in three decimal numbers with dots, as its octets."""
+    return _octets(what, value, 3, "three")
+
+
+def _octets(what, value, count, in_words):
+    octets = words(what, value, 4 * count - 1).split(".")
     good = all(o.isascii() and o.isdigit() and str(int(o)) == o and int(o) < 256 for o in octets)
-    if len(octets) != 4 or not good:
-        raise Refused(f"{what} must be four numbers from 0 to 255 with dots between them")
+    if len(octets) != count or not good:
+        raise Refused(f"{what} must be {in_words} numbers from 0 to 255 with dots between them")
     return tuple(int(o) for o in octets)

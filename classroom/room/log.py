@@ -10,6 +10,9 @@ from .answers import ANSWERS
 RECENT = 500
 MOST = 256 * 1024 * 1024
 """The octets of the longest list."""
+OF_A_SEAT = MOST // 64
+"""So many of them the calls from one seat's page fill: those from all sixteen fill a quarter, and
+the arrivals of what they send about another."""
 CHUNK = 64 * 1024
 
 
@@ -20,7 +23,7 @@ class Log:
         self.count = 0
         self.recent = deque(maxlen=RECENT)
         self._file = tempfile.TemporaryFile()
-        self._octets = 0
+        self.octets = 0
         self._ticks = {}
         self._write({"room": set_up})
 
@@ -30,7 +33,7 @@ class Log:
     @property
     def full(self):
         """Whether the list is as long as it may become."""
-        return self._octets >= MOST
+        return self.octets >= MOST
 
     def ticks(self, time, seat, given, answer, times):
         """Ticks of a seat; they are written before its next other call."""
@@ -42,8 +45,10 @@ class Log:
         self._ticks[seat] = self._line(time, seat, "tick", given, answer, {}, times)
 
     def add(self, time, seat, call, given, answer, told, times):
-        """A call of a seat, with what it was given, answered and told."""
-        self._flush(seat)
+        """A call with what it was given, answered and told, of a seat, or of the tutor, whose seat is
+        None: the ticks of all seats are written before that."""
+        for ticked in list(self._ticks) if seat is None else [seat]:
+            self._flush(ticked)
         self._append(self._line(time, seat, call, given, answer, told, times))
 
     def _line(self, time, seat, call, given, answer, told, times):
@@ -73,18 +78,19 @@ class Log:
     def _write(self, line):
         octets = json.dumps(line, separators=(",", ":")).encode() + b"\n"
         self._file.write(octets)
-        self._octets += len(octets)
+        self.octets += len(octets)
 
     def since(self, line):
         """The calls behind that line, the last RECENT of them at most."""
         return [call for call in self.recent if call["line"] > line]
 
-    def lines(self, seats):
-        """The file as it is now, line by line, with the states of the seats as its end."""
+    def lines(self, net_table, seats):
+        """The file as it is now, line by line, with the net table and the states of the seats as its
+        end."""
         for seat in list(self._ticks):
             self._flush(seat)
-        end = json.dumps({"end": {"calls": self.count, "seats": seats}}, separators=(",", ":"))
-        return self._lines(self._octets, end)
+        end = {"calls": self.count, "net_table": net_table, "seats": seats}
+        return self._lines(self.octets, json.dumps({"end": end}, separators=(",", ":")))
 
     def _lines(self, length, end):
         at, rest = 0, b""

@@ -1,13 +1,14 @@
-"""The hosts and their cables. Every change of a seat is a call that is made, and logged, here."""
+"""The hosts, their cables and the class's net table. Every change of a seat or of the table is a call
+that is made, and logged, here."""
 
 from collections import deque
 
-from . import calls
+from . import calls, net_table
 from .answers import in_words
 from .cables import Cables
 from .log import Log
 from .seat import READ, Message, Seat
-from .setup import DAY, hosts
+from .setup import DAY, class_of
 from .state import changes, state_of, stored, ticked
 
 MOST_POINTS = 20_000
@@ -16,10 +17,10 @@ STORING = ("receive", "step", "self_report")
 
 
 class Net:
-    """Seats, cables and the list of calls, at one millisecond, `now`."""
+    """Seats, cables, the class's net table and the list of calls, at one millisecond, `now`."""
 
     def begin(self, set_up):
-        """Hosts freshly set by a checked set-up; the list of calls begins anew."""
+        """Net table and hosts freshly set by a checked set-up; the list of calls begins anew."""
         self.set_up = set_up
         self.now = 0
         self.messages = 0
@@ -27,11 +28,30 @@ class Net:
         self.points = deque(maxlen=MOST_POINTS)
         self.pointed = 0
         self.cables = Cables([dict(cable) for cable in set_up["cables"]], set_up["seed"])
-        plans = enumerate(zip(set_up["seats"], hosts(set_up)))
+        self.net_table, hosts = class_of(set_up)
+        plans = enumerate(zip(set_up["seats"], hosts))
         self.seats = [Seat(number, plan, host) for number, (plan, host) in plans]
+        self.tutor("net_afresh", {"nhosts": set_up["nhosts"]})
+        self.tutored = None
         for seat in self.seats:
-            self.make(seat, "initialize")
+            self.initialize(seat)
             seat.last = None
+
+    def tutor(self, call, given):
+        """Makes a call of the tutor's on the net table, after all seats' ticks that are due: the
+        reply, with what changed."""
+        for seat in self.seats:
+            self.catch_up(seat)
+        before = net_table.shown(self.net_table)
+        answer, told = calls.tutor(self.net_table, call, given)
+        self.log.add(self.now, None, call, given, answer, told, 1)
+        moved = net_table.changes(before, net_table.shown(self.net_table))
+        self.tutored = {"call": call, **in_words(answer), "changes": moved, "told": told}
+        return self.tutored
+
+    def initialize(self, seat):
+        """A seat is set afresh, with the class's NHOSTS."""
+        return self.make(seat, "initialize", {"nhosts": self.net_table.nhosts})
 
     def make(self, seat, call, given=None, times=1):
         """Makes a call of a seat, after the ticks that are due: the reply, with what changed."""
@@ -109,9 +129,12 @@ class Net:
         return some
 
     def take_all(self, seat):
-        """A seat that works by itself takes all that waits."""
+        """A seat that works by itself takes all that waits, as long as it is taken."""
         while seat.waiting and not seat.by_hand and not seat.in_walk:
-            self.receive(seat, next(iter(seat.waiting.values())))
+            message = next(iter(seat.waiting.values()))
+            self.receive(seat, message)
+            if message.number in seat.waiting:
+                return
 
     def receive(self, seat, message):
         """A seat takes a message that waits."""

@@ -1,4 +1,4 @@
-"""Makes the calls of a file again, over fresh hosts, and compares the answers and the end.
+"""Makes the calls of a file again, over a fresh class, and compares the answers and the end.
 
     python3 -m classroom.room.replay FILE
 """
@@ -7,7 +7,7 @@ import json
 import sys
 from typing import NamedTuple, Optional
 
-from . import calls, setup
+from . import calls, net_table, setup
 from .checks import Refused, whole
 from .state import shown, state_of
 
@@ -31,12 +31,12 @@ def replay(lines):
     made = 0
     try:
         lines = (json.loads(line) for line in lines)
-        hosts = setup.hosts(setup.checked(next(lines)["room"]))
+        table, hosts = setup.class_of(setup.checked(next(lines)["room"]))
         for line in lines:
             if "end" in line:
-                return Report(made, _end(line["end"], made, hosts))
+                return Report(made, _end(line["end"], made, table, hosts))
             made += 1
-            difference = _again(hosts, line)
+            difference = _again(table, hosts, line)
             if difference:
                 return Report(made, f"line {line['line']}: {difference}")
         return Report(made, "the file has no end")
@@ -44,11 +44,14 @@ def replay(lines):
         return Report(made, f"behind {made} calls the file has another form: {wrong}")
 
 
-def _again(hosts, line):
+def _again(table, hosts, line):
     """How the call of a line differs when it is made again, or None."""
-    host = hosts[whole("seat", line["seat"], 0, len(hosts) - 1)]
     times = whole("times", line["times"], 1, MOST_TIMES)
-    answer, told = calls.make(host, line["call"], line["with"], times)
+    if line["seat"] is None:
+        answer, told = calls.tutor(table, line["call"], line["with"])
+    else:
+        host = hosts[whole("seat", line["seat"], 0, len(hosts) - 1)]
+        answer, told = calls.make(host, line["call"], line["with"], times)
     if answer != line["answer"]:
         return f"{line['call']} answers {answer}, and not {line['answer']}"
     if told != line["told"]:
@@ -56,10 +59,12 @@ def _again(hosts, line):
     return None
 
 
-def _end(end, made, hosts):
+def _end(end, made, table, hosts):
     """How the end differs, or None."""
     if end["calls"] != made:
         return f"there are {made} calls, and not {end['calls']}"
+    if net_table.shown(table) != end["net_table"]:
+        return f"the net table's end is {net_table.shown(table)}, and not {end['net_table']}"
     for number, (host, seat) in enumerate(zip(hosts, end["seats"])):
         if shown(state_of(host)) != seat:
             return f"the end of seat {number} is {shown(state_of(host))}, and not {seat}"

@@ -1,6 +1,6 @@
 """The room as the pages meet it: what they ask for, and what they are shown."""
 
-from . import views
+from . import net_table, views
 from .checks import Refused, keys
 from .setup import checked, ring
 from .state import shown
@@ -63,4 +63,5 @@ class Room(Timed):
 
     def lines(self):
         """The list of calls as a file, line by line."""
-        return self.log.lines([shown(seat.state) for seat in self.seats])
+        seats = [shown(seat.state) for seat in self.seats]
+        return self.log.lines(net_table.shown(self.net_table), seats)

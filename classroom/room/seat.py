@@ -49,7 +49,8 @@ class Message:
 
 
 class Seat:
-    """A seat of the room. `given` counts the ticks that its clock has been given."""
+    """A seat of the room. `given` counts the ticks that its clock has been given, `filled` the
+    octets of the list that its own page's calls have filled."""
 
     def __init__(self, number, plan, host):
         self.number = number
@@ -60,6 +61,7 @@ class Seat:
         self.also = plan["also"]
         self.host = host
         self.given = 0
+        self.filled = 0
         self.waiting = {}
         self.walk = None
         self.last = None

@@ -98,10 +98,12 @@ def links_of(set_up, seat):
     return max([1] + [link for at, link in ends if at == seat])
 
 
-def hosts(set_up):
-    """The hosts of a set-up, one for each seat, still to be initialized."""
-    room = hello.Room(len(set_up["seats"]))
-    return [room.host(number, _settings(set_up, number)) for number in range(len(set_up["seats"]))]
+def class_of(set_up):
+    """The class of a set-up: its net table, still to be set afresh, and its hosts, one for each seat,
+    still to be initialized."""
+    room = hello.Room(len(set_up["seats"]), nhosts=0)
+    numbers = range(len(set_up["seats"]))
+    return room.net_table, [room.host(number, _settings(set_up, number)) for number in numbers]
 
 
 def _settings(set_up, number):

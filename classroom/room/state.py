@@ -17,6 +17,11 @@ class State(NamedTuple):
     table: tuple
     walk: Optional[tuple]
 
+    @property
+    def nhosts(self):
+        """NHOSTS of the settings with which it was set afresh."""
+        return len(self.table)
+
 
 def state_of(host):
     """The state of a host as its last call left it."""
@@ -51,6 +56,10 @@ def ms(units):
     return round(units / UNITS_PER_MS, 4) if rest else whole
 
 
+def _settings(nhosts):
+    return {"NHOSTS": nhosts}
+
+
 def _clock(clock):
     units, delta, hold, date = clock
     return {"CLOCK": ms(units), "DELTA": ms(delta), "HOLD": hold, "DATE": date}
@@ -72,7 +81,8 @@ def _held(walk):
 
 def changes(before, after):
     """What changed, each with its place, its field, and the values before and after."""
-    parts = [("clock", before.clock, after.clock, _clock)]
+    parts = [("settings", before.nhosts, after.nhosts, _settings)]
+    parts.append(("clock", before.clock, after.clock, _clock))
     for number, (old, new) in enumerate(zip(before.links, after.links), 1):
         parts.append((f"link {number}", old, new, _link))
     for id, (old, new) in enumerate(zip(before.table, after.table)):

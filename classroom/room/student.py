@@ -1,5 +1,6 @@
 """What a student's page asks for: the calls of one seat, each checked, then made."""
 
+from . import log
 from .cables import MOST
 from .checks import Refused, address, keys, one_of, switch, whole, words
 from .fields import dotted
@@ -11,14 +12,30 @@ from .sums import Box, sum_of
 LONGEST_TEXT = 4_000
 
 
-def call(room, seat, message):
-    """A call by its name."""
+def not_full(room):
+    """A call more can be written down."""
     if room.log.full:
         raise Refused("the list of calls is full: the room has to be set up anew")
+
+
+def call(room, seat, message):
+    """A call by its name."""
+    not_full(room)
     name = one_of("call", message["call"], CALLS)
     make, needed, also = CALLS[name]
     keys(f"a {name}", message, ("do", "call", *needed), ("n", "seat", *also))
     return make(room, seat, message)
+
+
+def own_call(room, seat, message):
+    """A call from the seat's own page, which has a part of the list to fill."""
+    if seat.filled >= log.OF_A_SEAT:
+        raise Refused("this seat has filled its part of the list of calls: the teacher may set up anew")
+    before = room.log.octets
+    try:
+        return call(room, seat, message)
+    finally:
+        seat.filled += room.log.octets - before
 
 
 def by_hand(room, seat, message):
@@ -33,6 +50,10 @@ def by_hand(room, seat, message):
 
 def _plain(name):
     return lambda room, seat, message: room.make(seat, name)
+
+
+def _initialize(room, seat, message):
+    return room.initialize(seat)
 
 
 def _set(room, seat, message):
@@ -90,7 +111,8 @@ def _step(room, seat, message):
     place, walked = walk["next"], walk["message"]
     if reply["answer"] in READ:
         own = dotted(address_of(seat.number))
-        box = Box(place, own, walked.link, walked.octets, before, seat.state)
+        rows = room.net_table.rows
+        box = Box(place, own, walked.link, walked.octets, before, seat.state, rows)
         made = {**place, "sum": sum_of(box), "changes": reply["changes"]}
         walk["boxes"].append(made)
         walk["next"] = reply["told"]["next"]
@@ -122,8 +144,9 @@ def _drop(room, seat, message):
 CALLS = {
     **{
         name: (_plain(name), (), ())
-        for name in ("initialize", "tick", "adjust", "read", "second", "self_report")
+        for name in ("tick", "adjust", "read", "second", "self_report")
     },
+    "initialize": (_initialize, (), ()),
     "set": (_set, ("ms",), ()),
     "lookup": (_lookup, ("address",), ()),
     "send": (_send, ("link",), ()),
@@ -137,4 +160,4 @@ CALLS = {
 """By its name: what makes the call, the keys that it needs, the keys that it may have."""
 _KEYS = {key for _, needed, also in CALLS.values() for key in (*needed, *also)}
 
-STUDENT = {"call": (call, ("call",), tuple(_KEYS)), "by_hand": (by_hand, ("on",), ())}
+STUDENT = {"call": (own_call, ("call",), tuple(_KEYS)), "by_hand": (by_hand, ("on",), ())}

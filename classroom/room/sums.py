@@ -7,7 +7,8 @@ from .state import DOWN, State
 
 
 class Box(NamedTuple):
-    """A box that was made: its place, its packet, and the seat before and after it."""
+    """A box that was made: its place, its packet, the seat before and after it, and the rows of the
+    class's net table."""
 
     place: dict
     own: str
@@ -15,6 +16,7 @@ class Box(NamedTuple):
     packet: bytes
     before: State
     after: State
+    rows: tuple
 
     @property
     def entry(self):
@@ -85,8 +87,24 @@ def _step5(box):
     nhosts = fields.number(box.packet, "NHOSTS")
     if nhosts:
         return f"{least}; NHOSTS is {nhosts}: each id from 0 to {nhosts - 1} is updated in turn"
-    found = f"is found, and {box.after.walk[0]} is next" if box.after.walk else "is not found: 11"
+    by, walk = _looked_up(box), box.after.walk
+    found = f"is found {by}, and {walk[0]} is next" if walk else f"is not found {by}: 11"
     return f"{least}; NHOSTS is 0: the id of NEIGHBOR-ADDRESS {box.neighbor} {found}"
+
+
+def _looked_up(box):
+    """Where the id of NEIGHBOR-ADDRESS is looked up: our net, of class C, or the first row that
+    matches."""
+    own, octets = (tuple(map(int, address.split("."))) for address in (box.own, box.neighbor))
+    if octets[:3] == own[:3]:
+        return "on our net"
+    if octets[0] >= 224:
+        return "above class C"
+    net = (octets[0], 0, 0) if octets[0] < 128 else octets[:3]
+    for number, row in enumerate(box.rows, 1):
+        if row.net in (net, (0, 0, 0)):
+            return f"by row {number} of the net table" + ("" if any(row.net) else ", of net zero")
+    return "in the net table"
 
 
 def _line_a(box):

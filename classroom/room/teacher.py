@@ -1,11 +1,15 @@
 """What the teacher's page asks for."""
 
 from . import exercises, student
-from .checks import Refused, one_of, real, switch, whole
+from .checks import Refused, net, one_of, real, switch, whole
+from .fields import dotted
 from .setup import checked, conditions
+from .student import not_full
 from .timed import SECOND
 
 MINUTE = 60 * SECOND
+MOST_NUMBER = 2**32 - 1
+"""So great a number the tutor's calls are given; the library answers whether it fits."""
 MOST_CALLS = 50_000
 """An exercise is run to its end at once unless it takes more calls than these, as one of seats
 that work by themselves may."""
@@ -32,8 +36,7 @@ def _speed(room, message):
 
 
 def _may_go_on(room):
-    if room.log.full:
-        raise Refused("the list of calls is full: the room has to be set up anew")
+    not_full(room)
     if waiting := room.waiting_for():
         names = ", ".join(room.seats[number].name for number in waiting)
         raise Refused(f"time stands: the room waits for {names}")
@@ -88,8 +91,7 @@ def _course(room):
         raise Refused("no exercise is set up")
     if room.exercise.ended:
         raise Refused("the exercise has come to its end")
-    if room.log.full:
-        raise Refused("the list of calls is full: the room has to be set up anew")
+    not_full(room)
     return room.exercise
 
 
@@ -109,6 +111,24 @@ def _call(room, message):
     return student.call(room, room.at(message["seat"]), message)
 
 
+_CHECKS = {
+    "net": lambda value: dotted(net("net", value)),
+    "nhosts": lambda value: whole("nhosts", value, 0, MOST_NUMBER),
+    "row": lambda value: whole("row", value, 0, MOST_NUMBER),
+    "id": lambda value: whole("id", value, 0, MOST_NUMBER),
+}
+
+
+def _tutor(name, *needed):
+    """A call of the tutor's: what makes it, and the keys that it needs."""
+
+    def make(room, message):
+        not_full(room)
+        return room.tutor(name, {key: _CHECKS[key](message[key]) for key in needed})
+
+    return make, needed, ()
+
+
 _needed, _keys_of_calls = student.STUDENT["call"][1:]
 
 TEACHER = {
@@ -126,5 +146,9 @@ TEACHER = {
     "next": (_next, (), ()),
     "to_the_end": (_to_the_end, (), ()),
     "call": (_call, ("seat", *_needed), _keys_of_calls),
+    "net_afresh": _tutor("net_afresh", "nhosts"),
+    "net_add": _tutor("net_add", "net", "id"),
+    "net_remove": _tutor("net_remove", "row"),
+    "net_change": _tutor("net_change", "row", "id"),
 }
 """By its name: what does it, the keys that the message needs, the keys that it may have."""

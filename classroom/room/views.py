@@ -1,6 +1,6 @@
 """What the pages show."""
 
-from . import exercises
+from . import exercises, net_table
 from .answers import ANSWERS
 from .checklist import CHECKLIST
 from .fields import clock_words, day, dotted
@@ -14,6 +14,7 @@ def teacher_view(room, since):
     _, line, point = [room.number, 0, 0] if first else since
     view = {
         "room": _room(room),
+        "net_table": _net_table(room),
         "seats": [seat_of(room, seat, teacher=True) for seat in room.seats],
         "cables": _cables(room),
         "on_their_way": room.cables.shown(room.now),
@@ -31,6 +32,7 @@ def seat_view(room, number, first):
     view = {
         "seat": seat and seat_of(room, seat),
         "room": _room(room),
+        "net_table": _net_table(room),
         "others": None if room.show == "nothing" else _others(room),
     }
     return {**view, **_once()} if first else view
@@ -58,6 +60,13 @@ def _room(room):
         "show": room.show,
         "interval": room.set_up["interval"],
     }
+
+
+def _net_table(room):
+    """The class's net table, as everybody sees it."""
+    table = net_table.shown(room.net_table)
+    rows = [{**row, "name": _name(room, row["id"])} for row in table["rows"]]
+    return {**table, "rows": rows, "last": room.tutored}
 
 
 def _cables(room):
@@ -88,7 +97,7 @@ def seat_of(room, seat, teacher=False):
         "name": seat.name,
         "id": seat.number,
         "address": dotted(address_of(seat.number)),
-        "nhosts": room.set_up["nhosts"],
+        "nhosts": seat.state.nhosts,
         "by_hand": seat.by_hand,
         "crystal": seat.crystal,
         "difference": seat.difference,

@@ -101,6 +101,15 @@ class Browser:
         except ValueError:
             return told
 
+    def cut(self, css):
+        """The words of those that the selector finds which are not seen whole."""
+        script = (
+            "return [...document.querySelectorAll(arguments[0])]"
+            ".filter((e) => e.scrollWidth > e.clientWidth || e.scrollHeight > e.clientHeight)"
+            ".map((e) => e.textContent)"
+        )
+        return self.driver.execute_script(script, css)
+
     def until(self, wanted, words=""):
         """Waits until it is so; what it then is."""
 

@@ -195,11 +195,13 @@ class Story(unittest.TestCase):
         browser.click(f'#messages [data-message="{message}"] .open-walk')
         boxes, pictures = 0, 0
         browser.one("#seat.in-walk")
+        self.assertEqual(len(browser.all("#walk .rule")), 9)
         while browser.all("#seat.in-walk"):
             before = browser.text("#walk-place")
             browser.click("#step")
             browser.until(lambda: browser.text("#walk-place") != before, "the next box")
             boxes += 1
+            self.assertEqual(browser.cut("#walk .rule"), [])
             if browser.all("#routes .changed") and not pictures:
                 browser.picture(PICTURES / "student.png")
                 pictures += 1
@@ -246,6 +248,139 @@ class Story(unittest.TestCase):
         teacher.picture(PICTURES / "teacher.png")
         within = "#tables [data-id] [data-field='within']"
         self.assertEqual(teacher.values(within), HOSTS * HOSTS * ["true"])
+        self.replays()
+
+    def test_the_net_table(self):
+        """The teacher edits the table, and each call shows its answer; students see it, read only."""
+        self.set_up("line", by_hand=range(HOSTS))
+        teacher = self.teacher
+        teacher.click('[data-tab="nets"]')
+        self.assertEqual(self.tutor("net-add", net="198.51.100", id=2), 0)
+        self.assertEqual(self.tutor("net-add", net="10.0.0", id=1), 0)
+        self.students_see(("198.51.100", 2), ("10.0.0", 1))
+        self.assertEqual(self.tutor("net-change", row=1, id=3), 0)
+        self.students_see(("198.51.100", 3), ("10.0.0", 1))
+        self.assertEqual(self.first.all('#nets tr[data-row="1"] .changed .was')[0].text, "was 2")
+        self.assertEqual(self.tutor("net-change", row=3, id=9), 22)
+        self.assertEqual(self.tutor("net-change", row=2, id=HOSTS), 1)
+        self.assertEqual(self.tutor("net-remove", row=0), 22)
+        self.assertEqual(self.tutor("net-remove", row=1), 0)
+        self.students_see(("10.0.0", 1))
+        self.add_rows((f"10.0.{row}", row % HOSTS) for row in range(2, 32))
+        self.assertEqual(self.tutor("net-add", net="10.0.32", id=0), 0)
+        for browser, table in ((teacher, "#net-table"), (self.first, "#nets")):
+            browser.until(lambda: self.in_sight(browser, table, 32), "the new row")
+            self.assertFalse(self.in_sight(browser, table, 1))
+        self.assertEqual(self.tutor("net-add", net="10.0.99", id=9), 21)
+        self.assertIn("32 rows stand", teacher.text("#net-answer"))
+        self.students_see(("10.0.0", 1), *((f"10.0.{row}", row % HOSTS) for row in range(2, 33)))
+        teacher.picture(PICTURES / "net-table.png")
+        self.assertEqual(self.tutor("net-afresh", nhosts=0), 1)
+        self.assertEqual(self.tutor("net-afresh", nhosts=HOSTS), 0)
+        self.students_see()
+        teacher.type("#net-add [name=net]", "10.0")
+        teacher.click("#net-add button")
+        teacher.until(lambda: "three numbers" in teacher.text("#net-answer"), "the refusal")
+        for browser in (self.first, self.second):
+            self.assertEqual(browser.all("#nets input, #nets button, #nets select, [id^=net-]"), [])
+        teacher.click('[data-tab="calls"]')
+        teacher.choose("#calls-seat", "null")
+        calls = '#calls tr[data-line] [data-field="call"]'
+        teacher.until(lambda: teacher.text(calls) == "net_afresh", "the tutor's calls alone")
+        self.assertEqual({call.text[:4] for call in teacher.all(calls)}, {"net_"})
+        teacher.choose("#calls-seat", "")
+        self.replays()
+
+    def tutor(self, form, **given):
+        """The teacher makes a call on the net table, by its form: the answer."""
+        teacher = self.teacher
+        for name, value in given.items():
+            teacher.type(f"#{form} [name={name}]", str(value))
+        teacher.driver.execute_script("document.getElementById('net-answer').dataset.answer = 'asked'")
+        teacher.click(f"#{form} button")
+        teacher.until(lambda: teacher.told("#net-answer", "data-answer") != "asked", "the answer")
+        return teacher.told("#net-answer", "data-answer")
+
+    def add_rows(self, rows):
+        """The teacher's browser adds these rows, by a socket of its own and not by the form."""
+        messages = [{"n": n, "do": "net_add", "net": net, "id": id} for n, (net, id) in enumerate(rows)]
+        done = self.teacher.run(
+            "const [messages] = arguments;"
+            "const s = new WebSocket(`ws://${location.host}/teacher/socket`);"
+            "s.onopen = () => messages.forEach((message) => s.send(JSON.stringify(message)));"
+            "s.onmessage = (m) => {"
+            "  const told = JSON.parse(m.data);"
+            "  if (told.n === messages.length - 1) { s.close(); done(told.reply.answer); }"
+            "};",
+            messages,
+        )
+        self.assertEqual(done, 0)
+
+    def in_sight(self, browser, table, row):
+        """Whether that row is in the part of the table that is seen without scrolling it."""
+        script = (
+            "const table = document.querySelector(`${arguments[0]} .scroll`).getBoundingClientRect();"
+            "const row = document.querySelector(`${arguments[0]} tr[data-row='${arguments[1]}']`);"
+            "const { top, bottom } = row?.getBoundingClientRect() ?? {};"
+            "return top >= table.top - 1 && bottom <= table.bottom + 1;"
+        )
+        return browser.driver.execute_script(script, table, row)
+
+    def students_see(self, *rows):
+        """Both students and the teacher see these rows, numbered from 1."""
+        wanted = [[str(number), net, str(id)] for number, (net, id) in enumerate(rows, 1)]
+        script = (
+            "const value = (row, field) => row.querySelector(`[data-field=${field}]`).dataset.value;"
+            "return [...document.querySelectorAll('#net-table tr[data-row], #nets tr[data-row]')]"
+            ".filter((row) => row.offsetParent)"
+            ".map((row) => [row.dataset.row, value(row, 'net'), value(row, 'id')]);"
+        )
+        for browser in (self.teacher, self.first, self.second):
+            browser.until(lambda: browser.driver.execute_script(script) == wanted, f"the rows {wanted}")
+
+    def test_the_net_table_changes_in_mid_walk(self):
+        """Two students walk the same message; for one the row is gone when step 5 looks it up."""
+        self.set_up("line", by_hand=range(HOSTS))
+        self.teacher.click('[data-tab="nets"]')
+        self.tutor("net-add", net="198.51.100", id=2)
+        for browser in (self.first, self.second):
+            browser.type("#write-text", "hello 0 0 0 1 0\n")
+            browser.type("#write-source", "198.51.100.7")
+            browser.click("#write-send")
+            browser.click(f'#messages [data-message="{self.waiting(browser)}"] .open-walk')
+            for step in range(2, 6):
+                browser.click("#step")
+                browser.until(lambda: f"step {step}" in browser.text("#step"), f"step {step}")
+        self.first.click("#step")
+        self.first.until(lambda: "host 2, line a" in self.first.text("#step"), "host 2")
+        self.assertIn("is found by row 1 of the net table", self.first.text("#walk-just"))
+        self.tutor("net-remove", row=1)
+        self.students_see()
+        self.second.click("#step")
+        self.second.until(lambda: self.second.told("#answer", "data-answer") == 11, "no host")
+        self.assertIn("is not found in the net table: 11", self.second.text("#walk-just"))
+        self.replays()
+
+    def test_another_nhosts(self):
+        """A seat answers 1 until it is set afresh, by its student or by the teacher."""
+        self.set_up("line", by_hand=range(HOSTS))
+        first, teacher = self.first, self.teacher
+        teacher.click('[data-tab="nets"]')
+        self.assertEqual(teacher.told("#net-afresh [name=nhosts]", "value"), HOSTS)
+        self.assertEqual(self.tutor("net-afresh", nhosts=6), 0)
+        self.assertIn("NHOSTS is 6, this host's is 4", first.text("#afresh"))
+        self.make(first, "read", '[data-call="read"]')
+        first.until(lambda: first.told("#answer", "data-answer") == 1, "refused")
+        self.make(first, "initialize", '[data-call="initialize"]')
+        first.until(lambda: len(first.all("#routes tr[data-id]")) == 6, "six hosts")
+        self.assertFalse(first.all("#afresh")[0].is_displayed())
+        self.make(first, "read", '[data-call="read"]')
+        first.until(lambda: first.told("#answer", "data-answer") == 0, "done")
+        self.assertTrue(self.second.one("#afresh"))
+        teacher.click("#net-initialize")
+        self.second.until(lambda: not self.second.all("#afresh")[0].is_displayed(), "set afresh")
+        teacher.until(lambda: not teacher.all("#net-left")[0].is_displayed(), "all set afresh")
+        self.assertNotIn("Refused", teacher.text("#net-answer"))
         self.replays()
 
     def test_an_exercise(self):

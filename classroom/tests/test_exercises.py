@@ -76,6 +76,17 @@ class Disturbed(unittest.TestCase):
                         pass
             self.assertTrue(replay(room.lines()).equal)
 
+    def test_another_nhosts(self):
+        choose = random.Random(5)
+        for number in (1, 2, 3, 4, 5, 6, 8, 9, 10):
+            room = begun(number)
+            while not room.exercise.ended:
+                seat = choose.randrange(len(room.seats))
+                room.teacher({"do": "net_afresh", "nhosts": choose.choice((1, 2, 3, 4, 8))})
+                room.teacher({"do": "call", "seat": seat, "call": "initialize"})
+                room.teacher({"do": "next"})
+            self.assertTrue(replay(room.lines()).equal)
+
 
 class Numbers(unittest.TestCase):
     def test_handshake(self):

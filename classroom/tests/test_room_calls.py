@@ -145,6 +145,21 @@ class FullList(unittest.TestCase):
             room.teacher({"do": "set_up", "seats": [{}], "cables": []})
             self.assertEqual(call(room, 0, "read")["answer"], 0)
 
+    def test_one_seat_fills_its_part_alone(self):
+        """The longest texts without pause, in characters that the list writes longest."""
+        room = blackboard()
+        text = 4_000 * "\u00e9"
+        with self.assertRaisesRegex(Refused, "its part of the list"):
+            while True:
+                call(room, 0, "write", link=1, text=text)
+        self.assertLess(sum(len(line) + 1 for line in room.lines()), log.OF_A_SEAT + 50_000)
+        self.assertFalse(room.teacher_view()["room"]["full"])
+        self.assertEqual(call(room, 1, "read")["answer"], 0)
+        self.assertEqual(room.teacher({"do": "call", "seat": 0, "call": "read"})["answer"], 0)
+        room.go_on(1_000)
+        room.teacher({"do": "set_up", "seats": [{}], "cables": []})
+        self.assertEqual(call(room, 0, "read")["answer"], 0)
+
 
 class Views(unittest.TestCase):
     def test_first_and_later(self):
@@ -182,7 +197,7 @@ class Views(unittest.TestCase):
         mark = room.teacher_view()["mark"]
         room.teacher({"do": "set_up", "seats": [{}], "cables": []})
         view = room.teacher_view(mark)
-        self.assertEqual([line["line"] for line in view["calls"]], [1])
+        self.assertEqual([line["call"] for line in view["calls"]], ["net_afresh", "initialize"])
         self.assertIsNone(room.seat_view(3)["seat"])
 
     def test_a_student_sees_no_true_difference(self):

@@ -21,6 +21,10 @@ GOOD = [
     {"do": "show", "what": "tables"},
     {"do": "exercise", "number": 1},
     {"do": "next"},
+    {"do": "net_add", "net": "10.0.0", "id": 1},
+    {"do": "net_change", "row": 1, "id": 0},
+    {"do": "net_remove", "row": 1},
+    {"do": "net_afresh", "nhosts": 2},
 ]
 HELLO = "hello 0 0 0 1 0\n"
 CALLS = [
@@ -36,7 +40,7 @@ CALLS = [
 ]
 ODD = [
     *(None, True, False, -1, 0, 1, 17, 2**31, 2**63, 10**30, -(10**30), 0.5, 1e308),
-    *(float("nan"), float("inf"), "", "x", "192.0.2", "192.0.2.256", "192.0.2.²", "\ud800", "\x00"),
+    *(float("nan"), float("inf"), "", "x", "10.0", "192.0.2", "192.0.2.256", "192.0.2.²", "\ud800", "\x00"),
     *(500 * "hello\n", 20_000 * "9", [], [1], [[]], [[1, 2], [3, 4]], [[0, 1], [0, 1]], 40 * [{}]),
     *({}, {"a": 1}, {"seats": []}, [None, None]),
 ]

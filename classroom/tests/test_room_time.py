@@ -177,7 +177,8 @@ class ByItself(unittest.TestCase):
         made = [line["call"] for line in room.log.recent if line["call"] != "tick"]
         second = ["second", "adjust"]
         report = second + ["self_report"]
-        self.assertEqual(made, ["initialize"] + second + report + second + report)
+        afresh = ["net_afresh", "initialize"]
+        self.assertEqual(made, afresh + second + report + second + report)
 
 
 class Hands(unittest.TestCase):

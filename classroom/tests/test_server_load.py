@@ -97,6 +97,29 @@ class Student:
             place = (await self.call("step"))["told"]["next"]
 
 
+class Tutor:
+    """The teacher, who changes the net table meanwhile: some rows stand, and some calls are refused."""
+
+    def __init__(self, page):
+        self._page = page
+        self._chance = random.Random(10)
+        self.made = []
+
+    async def work(self, until):
+        """Makes calls until that time."""
+        while time.monotonic() < until:
+            do = self._chance.choice(("net_add", "net_change", "net_remove"))
+            net, row, id = (self._chance.choice(of) for of in (("10.0.0", "20.0.0"), range(4), range(20)))
+            given = {
+                "net_add": {"net": net, "id": id},
+                "net_change": {"row": row, "id": id},
+                "net_remove": {"row": row},
+            }[do]
+            reply = await self._page.ask(do, **given)
+            self.made.append((do, given, reply["answer"], reply["told"]))
+            await asyncio.sleep(0.05)
+
+
 def without(seat):
     """A seat without what the teacher alone is shown, nor what depends on when it is shown."""
     table = [{k: v for k, v in entry.items() if k not in TEACHERS_ALONE} for entry in seat["table"]]
@@ -125,7 +148,8 @@ class Load(Quiet):
             await page.until(lambda view: view["seat"]["name"] == f"host {seat}")
             students.append(Student(page, seat))
         until = time.monotonic() + SECONDS
-        await asyncio.gather(*(student.work(until) for student in students))
+        tutor = Tutor(teacher)
+        await asyncio.gather(*(each.work(until) for each in (tutor, *students)))
         await teacher.ask("pause")
 
         await self.ends_alike(teacher, students)
@@ -136,6 +160,7 @@ class Load(Quiet):
         for student in students:
             with self.subTest(seat=student.seat):
                 self.calls_stand(student, lines)
+        self.tutors_calls_stand(tutor, lines)
         self.replays(text)
         print(f"{sum(len(student.made) for student in students):,} calls of sixteen students")
 
@@ -179,6 +204,14 @@ class Load(Quiet):
                     self.assertEqual(line["with"][name], given[name])
             for name, value in line["told"].items():
                 self.assertEqual(reply["told"][name], value)
+
+    def tutors_calls_stand(self, tutor, lines):
+        """The tutor's calls stand among them, once, in their order; the set-up's is the first."""
+        own = [line for line in lines if "call" in line and line["seat"] is None]
+        self.assertEqual(own.pop(0)["call"], "net_afresh")
+        told = [(line["call"], line["with"], line["answer"], line["told"]) for line in own]
+        self.assertEqual(told, tutor.made)
+        self.assertLessEqual({0, 1, 22}, {answer for _, _, answer, _ in told})
 
     def replays(self, text):
         """The file's calls, made again, end equal."""

@@ -32,6 +32,10 @@ TEACHERS = (
     {"do": "exercise", "number": 1},
     {"do": "next"},
     {"do": "to_the_end"},
+    {"do": "net_afresh", "nhosts": 3},
+    {"do": "net_add", "net": "10.0.0", "id": 1},
+    {"do": "net_remove", "row": 1},
+    {"do": "net_change", "row": 1, "id": 2},
     {"do": "call", "seat": 7, "call": "tick"},
     {"do": "call", "seat": 0, "call": "tick"},
 )
@@ -135,10 +139,35 @@ class Messages(Quiet):
     async def test_teachers_messages_from_a_student(self):
         before = await self.seats()
         student = await self.page(0)
+        table = self.teacher.view["net_table"]
         for message in TEACHERS:
             told = await student.send(message)
             self.assertIn("refused", told, message)
         self.assertEqual(await self.seats(), before)
+        self.assertEqual(self.teacher.view["net_table"], table)
+
+    async def test_the_net_table_is_shown_to_all(self):
+        """Each call of the teacher's comes to every page; a refused one changes no row."""
+        students = [await self.page(seat) for seat in range(SEATS)]
+        rows = []
+        for do, given, answer, now in (
+            ("net_add", {"net": "10.0.0", "id": 3}, 0, [("10.0.0", 3)]),
+            ("net_add", {"net": "198.51.100", "id": 0}, 0, [("10.0.0", 3), ("198.51.100", 0)]),
+            ("net_add", {"net": "198.51.100", "id": SEATS}, 1, None),
+            ("net_change", {"row": 3, "id": 0}, 22, None),
+            ("net_change", {"row": 2, "id": 7}, 0, [("10.0.0", 3), ("198.51.100", 7)]),
+            ("net_remove", {"row": 1}, 0, [("198.51.100", 7)]),
+            ("net_afresh", {"nhosts": 256}, 1, None),
+            ("net_afresh", {"nhosts": SEATS}, 0, []),
+        ):
+            reply = await self.teacher.ask(do, **given)
+            self.assertEqual(reply["answer"], answer, (do, given))
+            rows = rows if now is None else now
+            for page in (self.teacher, *students):
+                view = await page.until(lambda view: view["net_table"]["last"] == reply)
+                shown = [(row["row"], row["net"], row["id"]) for row in view["net_table"]["rows"]]
+                self.assertEqual(shown, [(number, *row) for number, row in enumerate(rows, 1)])
+                self.assertEqual(view["net_table"]["nhosts"], SEATS)
 
     async def test_malformed(self):
         before = await self.seats()

@@ -26,17 +26,17 @@ function headline(mark, ...words) {
   return el("p", { class: "headline" }, el("span", { class: "mark", "aria-hidden": "true" }, mark), words);
 }
 
-// {node, strip, show(reply), refused(words), note(words)}
-export function makeAnswer() {
-  const body = el("div", { id: "answer", role: "status", "aria-live": "polite", "aria-atomic": "true" });
-  const title = el("h2", { id: "answer-title" }, "Last answer");
-  const node = el("section", { class: "card", "aria-labelledby": "answer-title" }, title, body);
+// {node, strip, show(reply), refused(words), note(words)}; `asked` is whom the calls are made of.
+export function makeAnswer(id = "answer", asked = "the host") {
+  const body = el("div", { id, class: "answer", role: "status", "aria-live": "polite", "aria-atomic": "true" });
+  const title = el("h2", { id: `${id}-title` }, "Last answer");
+  const node = el("section", { class: "card", "aria-labelledby": title.id }, title, body);
   // The same in a line at the foot of the page, which stays in sight; the card is what is read out.
   const strip = el("p", { class: "strip", "aria-hidden": "true", hidden: true });
 
   function put(answer, sort, parts, short) {
     body.dataset.answer = answer;
-    body.className = sort;
+    body.className = `answer ${sort}`;
     body.replaceChildren(...parts.filter(Boolean));
     strip.hidden = !short;
     strip.className = `strip ${sort}`;
@@ -67,7 +67,7 @@ export function makeAnswer() {
 
   // A message that the room did not take: no call was made.
   function refused(words) {
-    const title = "Not asked of the host";
+    const title = `Not asked of ${asked}`;
     put("none", "refusal", [headline("✗", el("strong", {}, title)), el("p", {}, words)],
       [el("strong", {}, `✗ ${title}: `), words]);
   }

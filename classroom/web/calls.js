@@ -40,7 +40,7 @@ export function makeCalls() {
     node.append(...cells);
     function update(call) {
       const times = call.times > 1 ? "×" + number(call.times) : "";
-      const said = [roomTime(call.time), names[call.seat], call.call, withWords(call.with), times, answerName(call)];
+      const said = [roomTime(call.time), names[call.seat] ?? "net table", call.call, withWords(call.with), times, answerName(call)];
       cells.forEach((cell, i) => say(cell, said[i]));
     }
     return { node, update };
@@ -48,7 +48,7 @@ export function makeCalls() {
 
   function update(view) {
     names = Object.fromEntries(view.seats.map((s) => [s.number, s.name]));
-    options(seat, [["", "all"], ...view.seats.map((s) => [s.number, s.name])]);
+    options(seat, [["", "all"], ["null", "net table"], ...view.seats.map((s) => [s.number, s.name])]);
     if (!changed || (hold.checked && body.childElementCount)) return;
     changed = false;
     const wanted = calls.filter((c) => (seat.value === "" || String(c.seat) === seat.value)

@@ -5,10 +5,12 @@ import { makeAnswer } from "./answer.js";
 import { makeClock } from "./clock.js";
 import { makeLinks } from "./links.js";
 import { makeRoutes } from "./routes.js";
+import { makeNetTable } from "./nettable.js";
 import { makeMessages } from "./messages.js";
 import { makeWalk } from "./walk.js";
 import { makeWrite } from "./write.js";
 import { marksOf } from "./marks.js";
+import { number } from "./words.js";
 
 const BY_HAND = "You make each call; only ticks come by themselves.";
 const BY_ITSELF = "Each second, sends and arrivals come by themselves.";
@@ -16,6 +18,7 @@ const BY_ITSELF = "Each second, sends and arrivals come by themselves.";
 // ask(message) sends a call of this seat; byHand(on) lets it work by hand or by itself.
 export function makeSeat(root, { ask, byHand }) {
   const answer = makeAnswer();
+  const netTable = makeNetTable();
   let seat = null;
   let own = null;
   let place = null;
@@ -53,12 +56,15 @@ export function makeSeat(root, { ask, byHand }) {
   const handWords = el("span", { class: "quiet" });
   const label = el("label", { class: "check" }, hand, el("span", {}, "Work by hand"));
   const mode = el("p", { class: "row mode" }, label, handWords);
-  root.replaceChildren(mode, el("div", { class: "seat" },
-    el("div", { class: "column" }, parts.clock.node, parts.links.node, parts.routes.node),
+  const afresh = el("p", { class: "afresh", id: "afresh", role: "status", hidden: true });
+  const nets = el("section", { class: "card", id: "nets" }, netTable.node);
+  root.replaceChildren(mode, afresh, el("div", { class: "seat" },
+    el("div", { class: "column" }, parts.clock.node, parts.links.node, parts.routes.node, nets),
     el("div", { class: "column" }, answer.node, parts.walk.node, parts.messages.node, parts.write.node)), answer.strip);
 
-  // `room` counts the rooms: in a new one, and at another seat, nothing was asked yet.
-  function update(next, room) {
+  // `room` counts the rooms: in a new one, and at another seat, nothing was asked yet. `net` is the
+  // class's net table.
+  function update(next, room, net) {
     if (place !== `${room}/${next.number}`) {
       place = `${room}/${next.number}`;
       own = null;
@@ -70,6 +76,10 @@ export function makeSeat(root, { ask, byHand }) {
     const reply = own ?? (seat.by_hand ? seat.last : null);
     const marks = marksOf(reply?.changes);
     set(root, { "data-seat": seat.number, class: seat.walk && !seat.walk.ended ? "in-walk" : null });
+    afresh.hidden = seat.nhosts === net.nhosts;
+    say(afresh, afresh.hidden ? "" : `The class's NHOSTS is ${number(net.nhosts)}, this host's is ${number(seat.nhosts)}: `
+      + "every call answers 1, or 16 in a walk, until the host is set afresh, by Initialize.");
+    netTable.update(net);
     set(hand, { checked: seat.by_hand });
     say(handWords, seat.by_hand ? BY_HAND : BY_ITSELF);
     for (const part of Object.values(parts)) part.update(seat, marks);

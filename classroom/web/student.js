@@ -31,7 +31,7 @@ const show = paced((view) => {
     say(byId("name"), `Host ${view.seat.name}`);
     say(byId("address"), `${view.seat.address}, id ${view.seat.id}`);
     document.title = `Host ${view.seat.name}`;
-    seat.update(view.seat, view.room.number);
+    seat.update(view.seat, view.room.number, view.net_table);
   }
   byId("others").hidden = !view.others;
   if (!view.others) return;

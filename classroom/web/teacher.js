@@ -12,6 +12,7 @@ import { makeExercises } from "./exercises.js";
 import { makeSetup } from "./setup.js";
 import { makeStart } from "./start.js";
 import { makeSeat } from "./seat.js";
+import { makeTutor } from "./tutor.js";
 import { makeTabs } from "./tabs.js";
 import { answersTable } from "./answer.js";
 import { listen } from "./keys.js";
@@ -40,6 +41,7 @@ const calls = makeCalls();
 const traffic = makeTraffic();
 const exercises = makeExercises(send, () => choose("tables", true));
 const setup = makeSetup(send);
+const tutor = makeTutor((message) => ask(message));
 const seat = makeSeat(byId("seat"), {
   ask: (message) => ask({ ...message, seat: seatNumber() }),
   byHand: (on) => ask({ do: "by_hand", seat: seatNumber(), on }),
@@ -77,10 +79,11 @@ const panels = {
   plot: () => plot.update(view),
   calls: () => calls.update(view),
   setup: () => setup.update(view),
+  nets: () => tutor.update(view),
   seat: () => {
     const now = view.seats.find((s) => s.number === seatNumber()) ?? view.seats[0];
     say(byId("seat-title"), `At seat ${now.name}`);
-    seat.update(now, view.room.number);
+    seat.update(now, view.room.number, view.net_table);
   },
 };
 

@@ -43,7 +43,11 @@ class Course:
         """Makes the next event; tells it in words, and whether what it promises holds."""
         event = self.exercise.events[len(self.held)]
         event.do(room)
-        self.held.append(event.holds(room) if event.holds else None)
+        try:
+            self.held.append(event.holds(room) if event.holds else None)
+        except IndexError:
+            # A seat was set afresh with an NHOSTS that leaves out a host of the promise.
+            self.held.append(False)
         return {"at": len(self.held), "event": event.words, "holds": self.held[-1]}
 
     def shown(self):

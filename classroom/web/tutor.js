@@ -1,0 +1,64 @@
+// The teacher's calls on the class's net table, each with its answer, and the hosts that are still
+// to be set afresh with its NHOSTS.
+
+import { byId, say } from "./dom.js";
+import { makeAnswer } from "./answer.js";
+import { makeNetTable } from "./nettable.js";
+
+const calls = { "net-add": "net_add", "net-change": "net_change", "net-remove": "net_remove", "net-afresh": "net_afresh" };
+
+// What the fields of a form say, by their names.
+function given(form) {
+  return Object.fromEntries([...form.elements].filter((field) => field.name)
+    .map((field) => [field.name, field.type === "number" ? Number(field.value) : field.value.trim()]));
+}
+
+// ask(message) gives a promise of the reply.
+export function makeTutor(ask) {
+  const table = makeNetTable();
+  const answer = makeAnswer("net-answer", "the library");
+  const left = byId("net-left");
+  let room = null;
+  let others = [];
+  byId("net-table").replaceChildren(table.node);
+  byId("net-said").replaceChildren(answer.node);
+
+  for (const [id, call] of Object.entries(calls)) {
+    byId(id).addEventListener("submit", async (event) => {
+      event.preventDefault();
+      try {
+        answer.show(await ask({ do: call, ...given(event.target) }));
+      } catch (error) {
+        answer.refused(error.message);
+      }
+    });
+  }
+
+  byId("net-initialize").addEventListener("click", async () => {
+    const names = { done: [], refused: [] };
+    try {
+      for (const seat of others) {
+        const reply = await ask({ do: "call", call: "initialize", seat: seat.number });
+        names[reply.answer === 0 ? "done" : "refused"].push(`${seat.name} (${reply.answer})`);
+      }
+      const refused = names.refused.length ? ` Refused: ${names.refused.join(", ")}.` : "";
+      answer.note(`Set afresh: ${names.done.join(", ") || "none"}.${refused}`);
+    } catch (error) {
+      answer.refused(error.message);
+    }
+  });
+
+  function update(view) {
+    if (room !== view.room.number) {
+      room = view.room.number;
+      answer.note("No call yet.");
+      byId("net-afresh").elements.nhosts.value = view.net_table.nhosts;
+    }
+    table.update(view.net_table);
+    others = view.seats.filter((seat) => seat.nhosts !== view.net_table.nhosts);
+    left.hidden = !others.length;
+    const names = others.map((seat) => `${seat.name} (${seat.nhosts})`).join(", ");
+    say(left.firstElementChild, `Every call answers 1 at hosts with another NHOSTS: ${names}.`);
+  }
+  return { update };
+}
