@@ -4,6 +4,7 @@ use mathlib.Core.Bool.{Bool, true, false, false≢true, cond, not}
 use mathlib.Core.List.{List}
 use Prim.Native.Nat.{ℕ, _≤_, _<_, _^_}
 use native.Mathlib.Omega.{arith}
+use lib.IntN.{ℤ}
 use Rattle.lists.proofs.Parts.{over-nothing}
 use Rattle.lists.proofs.Tests.{is-so}
 use Rattle.answer.specs.declared.Answer.{Answer}
@@ -38,7 +39,7 @@ use Rattle.arrival.specs.declared.Delivery.the-variants.{Inspect}
 use Rattle.arrival.specs.Arrival as arriving
 use Rattle.arrival.specs.code.Plan as arriving-planned
 use Rattle.calls.specs.declared.Request.{Request}
-use Rattle.calls.specs.declared.Request.the-variants.{Tick, Adjust, Read, SelfReport, Lookup}
+use Rattle.calls.specs.declared.Request.the-variants.{Tick, Adjust, Set, Read, Second, SelfReport, Lookup}
 use Rattle.calls.specs.declared.plans.Timed.{Timed}
 use Rattle.calls.specs.declared.plans.Aged.{Aged}
 use Rattle.calls.specs.Effects.{scopeOf, effect, looked}
@@ -74,6 +75,14 @@ pub adjust-quiet : (n : Count) → Quiet (Adjust n)
 unfolding definition.adjust
 adjust-quiet n t h w o e = refl
 
+pub set-still : (ms : ℤ) (n : Count) → Still (Set ms n)
+unfolding definition.setBy
+set-still ms n t h w o e = (refl, refl)
+
+pub set-quiet : (ms : ℤ) (n : Count) → Quiet (Set ms n)
+unfolding definition.setBy
+set-quiet ms n t h w o e = refl
+
 pub read-still : (k : Counter) → Still (Read k)
 unfolding definition.read
 read-still k t h w o e = (refl, refl)
@@ -81,6 +90,10 @@ read-still k t h w o e = (refl, refl)
 pub read-quiet : (k : Counter) → Quiet (Read k)
 unfolding definition.read
 read-quiet k t h w o e = refl
+
+pub second-still : Still Second
+unfolding definition.second
+second-still t h w o e = (refl, refl)
 
 pub self-report-still : (k : Counter) → Still (SelfReport k)
 unfolding definition.selfReport

@@ -1,8 +1,6 @@
 // What each request comes to, by value.
 ghost use mathlib.Core.Path.{_≡_};
 ghost use mathlib.Core.Bool.{true, false};
-ghost use Rattle.quantity.specs.Quantity.{millis};
-ghost use Rattle.clock.specs.Clock.{clockInRange};
 ghost use Rattle.host.specs.Settings.{settingsGood};
 ghost use Rattle.host.specs.Effect.{answers};
 ghost use Rattle.host.specs.Lent.{host};
@@ -11,8 +9,6 @@ ghost use Rattle.host.specs.code.Told.{afresh, Ready, RowsBelow, Told, TableTol
 ghost use Rattle.calls.specs.Effects.{
   looked,
   initialize,
-  setBy,
-  second,
   scopeOf,
   effect,
 };
@@ -34,8 +30,6 @@ use host::guard::Scope;
 use host::replies::plainly;
 use host::replies::tells_route;
 use host::walk::Walk;
-use quantity::Count;
-use quantity::Millis;
 use route::Found;
 use table::Entry;
 use table::run::Change;
@@ -67,30 +61,6 @@ fn initialize(s: Settings) -> Effect
         links: host::link_state::fresh(s),
         walk: host::walk::none(),
         work: each(s, Change::Fresh),
-    }
-}
-
-fn set(s: Settings, c: Clock, l: Links, w: Walk, ms: i32, n: Count) -> Effect
-    requires { ⌜ (settingsGood s ≡ true) × (clockInRange c ≡ true) ⌝ }
-    ensures { λ p. ⌜ p ≡ setBy (millis ms) n (host s c l) w ⌝ }
-{
-    answers(
-        c.set_by(s.hold_interval, n, Millis::of_count(ms)),
-        l,
-        w,
-        plainly(Answer::Done),
-    )
-}
-
-fn second(s: Settings, c: Clock, l: Links, w: Walk) -> Effect
-    ensures { λ p. ⌜ p ≡ second (host s c l) w ⌝ }
-{
-    Effect {
-        reply: plainly(Answer::Done),
-        clock: c.second(),
-        links: l,
-        walk: w,
-        work: each(s, Change::Aged),
     }
 }
 
@@ -151,9 +121,9 @@ fn effect(
         Request::Initialize => initialize(s),
         Request::Tick(n) => timed(plans::tick(Answer::Done, s, c, n), l, w),
         Request::Adjust(n) => timed(plans::adjust(Answer::Done, s, c, n), l, w),
-        Request::Set(ms, n) => set(s, c, l, w, ms, n),
+        Request::Set(ms, n) => timed(plans::set(Answer::Done, s, c, ms, n), l, w),
         Request::Read(k) => timed(plans::read(Answer::Done, s, c, k), l, w),
-        Request::Second => second(s, c, l, w),
+        Request::Second => aged(plans::second(Answer::Done, s, c), l, w),
         Request::SelfReport(k) => aged(plans::self_report(Answer::Done, s, c, k), l, w),
         Request::Lookup(a) => { answers(c, l, w, looked(host::found_for(t, s, a), e)) }
         Request::Step(k) => walk::step(s, t, c, l, w, copy, e, k),

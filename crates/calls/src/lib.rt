@@ -2,7 +2,7 @@
 ghost use mathlib.Core.Path.{_≡_};
 ghost use Rattle.host.specs.declared.guard.Scope.the-variants.{All, OnLink, Opening};
 ghost use Rattle.host.specs.Lent.{lent};
-ghost use Rattle.calls.specs.declared.Request.the-variants.{Tick, Adjust, Read, SelfReport, Lookup};
+ghost use Rattle.calls.specs.declared.Request.the-variants.{Tick, Adjust, Set, Read, Second, SelfReport, Lookup};
 ghost use Rattle.calls.specs.Perform.{perform, Leaves, ask, send, deliver, inspect, openWalk};
 ghost use Rattle.arrival.specs.Arrival.{onLink};
 use arrival::Delivery;
@@ -130,6 +130,32 @@ pub fn adjust(
     p.reply
 }
 
+// The clock is set by a signed count of ms.
+pub fn set(
+    settings: &Settings,
+    nets: &ClassTable,
+    number: usize,
+    clock: &mut Clock,
+    links: &Links,
+    walk: &Walk,
+    copy: &[u8],
+    run: &[Entry],
+    ms: i32,
+    count: Count,
+) -> Reply
+    ensures { λ r. ⌜ Leaves (perform (ask (Set ms count)) (lent (now (settings .entry)) (now (nets .entry)) number (now (clock .entry)) (now (links .entry)) (now (walk .entry)) (now (copy .entry)) (now (run .entry)))) r (now (clock .exit)) (now (links .entry)) (now (walk .entry)) (now (copy .entry)) (now (run .entry)) ⌝ }
+{
+    let s = *settings;
+    let c = *clock;
+    let l = *links;
+    let v = *walk;
+    let a = all();
+    let g = guard(settings, nets, number, c, l, v, copy, a, run);
+    let p = plans::set(g, s, c, ms, count);
+    *clock = p.clock;
+    p.reply
+}
+
 // The time and DATE.
 pub fn read(
     settings: &Settings,
@@ -151,6 +177,32 @@ pub fn read(
     let a = all();
     let g = guard(settings, nets, number, c, l, v, copy, a, run);
     let p = plans::read(g, s, c, counter);
+    *clock = p.clock;
+    p.reply
+}
+
+// A second has gone by: HOLD and the entries age.
+pub fn second(
+    settings: &Settings,
+    nets: &ClassTable,
+    number: usize,
+    clock: &mut Clock,
+    links: &Links,
+    walk: &Walk,
+    copy: &[u8],
+    run: &mut [Entry],
+) -> Reply
+    ensures { λ r. ⌜ Leaves (perform (ask Second) (lent (now (settings .entry)) (now (nets .entry)) number (now (clock .entry)) (now (links .entry)) (now (walk .entry)) (now (copy .entry)) (now (run .entry)))) r (now (clock .exit)) (now (links .entry)) (now (walk .entry)) (now (copy .entry)) (now (run .exit)) ⌝ }
+{
+    let s = *settings;
+    let c = *clock;
+    let l = *links;
+    let v = *walk;
+    let a = all();
+    let g = guard(settings, nets, number, c, l, v, copy, a, run);
+    let p = plans::second(g, s, c);
+    let w = places::placed(number, p.work);
+    change_all(run, w);
     *clock = p.clock;
     p.reply
 }

@@ -7,7 +7,7 @@ ghost use Rattle.host.specs.Settings.{foundFor};
 ghost use Rattle.host.specs.Guard.{done};
 ghost use Rattle.host.specs.Reply.{plainly};
 ghost use Rattle.host.specs.code.Told.{Told};
-ghost use Rattle.calls.specs.declared.Request.the-variants.{Tick, Adjust, Read, SelfReport};
+ghost use Rattle.calls.specs.declared.Request.the-variants.{Tick, Adjust, Set, Read, Second, SelfReport};
 ghost use Rattle.calls.specs.Effects.{looked};
 ghost use Rattle.calls.specs.code.Planned.{Timely, Aging, LinkTold, inspects};
 use super::effects::looked;
@@ -23,6 +23,7 @@ use host::inspection;
 use host::replies::plainly;
 use host::replies::tells_time;
 use quantity::Count;
+use quantity::Millis;
 use route::Found;
 use table::Entry;
 use table::run::Change;
@@ -74,6 +75,22 @@ pub fn adjust(g: Answer, s: Settings, c: Clock, n: Count) -> Timed
     }
 }
 
+pub fn set(g: Answer, s: Settings, c: Clock, ms: i32, n: Count) -> Timed
+    requires { ⌜ Told g All s c ⌝ }
+    ensures { λ p. ⌜ Timely p g (Set ms n) s c ⌝ }
+{
+    if !answer::is_done(g) {
+        return Timed {
+            reply: plainly(g),
+            clock: c,
+        };
+    }
+    Timed {
+        reply: plainly(Answer::Done),
+        clock: c.set_by(s.hold_interval, n, Millis::of_count(ms)),
+    }
+}
+
 pub fn read(g: Answer, s: Settings, c: Clock, k: Counter) -> Timed
     requires { ⌜ Told g All s c ⌝ }
     ensures { λ p. ⌜ Timely p g (Read k) s c ⌝ }
@@ -90,6 +107,23 @@ pub fn read(g: Answer, s: Settings, c: Clock, k: Counter) -> Timed
     Timed {
         reply: tells_time(r.time, date),
         clock: clock,
+    }
+}
+
+pub fn second(g: Answer, s: Settings, c: Clock) -> Aged
+    ensures { λ p. ⌜ Aging p g Second s c ⌝ }
+{
+    if !answer::is_done(g) {
+        return Aged {
+            reply: plainly(g),
+            clock: c,
+            work: nothing(),
+        };
+    }
+    Aged {
+        reply: plainly(Answer::Done),
+        clock: c.second(),
+        work: each(s, Change::Aged),
     }
 }
 

@@ -1,10 +1,11 @@
 pub mod ExportAges
+pub mod ExportAgesAlone
 pub mod ExportAsks
 pub mod ExportAsksWith
-pub mod ExportAsksWithTwo
 pub mod ExportDeliversWith
 pub mod ExportInspects
 pub mod ExportLooks
 pub mod ExportOpens
 pub mod ExportSends
 pub mod ExportTimes
+pub mod ExportTimesTwo

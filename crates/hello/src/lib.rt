@@ -164,18 +164,6 @@ fn asks_initialize() -> Request
     Request::Initialize
 }
 
-fn asks_set(ms: i32, count: Count) -> Request
-    ensures { λ q. ⌜ q ≡ Set ms count ⌝ }
-{
-    Request::Set(ms, count)
-}
-
-fn asks_second() -> Request
-    ensures { λ q. ⌜ q ≡ Second ⌝ }
-{
-    Request::Second
-}
-
 fn asks_step(counter: Counter) -> Request
     ensures { λ q. ⌜ q ≡ Step counter ⌝ }
 {
@@ -276,17 +264,27 @@ pub extern "C" fn hello_set(
     nets: &ClassTable,
     number: usize,
     clock: &mut Clock,
-    links: &mut Links,
-    walk: &mut Walk,
+    links: &Links,
+    walk: &Walk,
     copy: &[u8],
-    run: &mut [Entry],
+    run: &[Entry],
     ms: i32,
     count: Count,
 ) -> u8
-    ensures { λ r. ⌜ Returns numbered (perform (ask (Set ms count)) (lent (now (settings .entry)) (now (nets .entry)) number (now (clock .entry)) (now (links .entry)) (now (walk .entry)) (now (copy .entry)) (now (run .entry)))) r (now (clock .exit)) (now (links .exit)) (now (walk .exit)) (now (copy .entry)) (now (run .exit)) ⌝ }
+    ensures { λ r. ⌜ Returns numbered (perform (ask (Set ms count)) (lent (now (settings .entry)) (now (nets .entry)) number (now (clock .entry)) (now (links .entry)) (now (walk .entry)) (now (copy .entry)) (now (run .entry)))) r (now (clock .exit)) (now (links .entry)) (now (walk .entry)) (now (copy .entry)) (now (run .entry)) ⌝ }
 {
-    let q = asks_set(ms, count);
-    let a = calls::call(settings, nets, number, clock, links, walk, copy, run, q);
+    let a = calls::set(
+        settings,
+        nets,
+        number,
+        clock,
+        links,
+        walk,
+        copy,
+        run,
+        ms,
+        count,
+    );
     numbered(a)
 }
 
@@ -326,15 +324,14 @@ pub extern "C" fn hello_second(
     nets: &ClassTable,
     number: usize,
     clock: &mut Clock,
-    links: &mut Links,
-    walk: &mut Walk,
+    links: &Links,
+    walk: &Walk,
     copy: &[u8],
     run: &mut [Entry],
 ) -> u8
-    ensures { λ r. ⌜ Returns numbered (perform (ask Second) (lent (now (settings .entry)) (now (nets .entry)) number (now (clock .entry)) (now (links .entry)) (now (walk .entry)) (now (copy .entry)) (now (run .entry)))) r (now (clock .exit)) (now (links .exit)) (now (walk .exit)) (now (copy .entry)) (now (run .exit)) ⌝ }
+    ensures { λ r. ⌜ Returns numbered (perform (ask Second) (lent (now (settings .entry)) (now (nets .entry)) number (now (clock .entry)) (now (links .entry)) (now (walk .entry)) (now (copy .entry)) (now (run .entry)))) r (now (clock .exit)) (now (links .entry)) (now (walk .entry)) (now (copy .entry)) (now (run .exit)) ⌝ }
 {
-    let q = asks_second();
-    let a = calls::call(settings, nets, number, clock, links, walk, copy, run, q);
+    let a = calls::second(settings, nets, number, clock, links, walk, copy, run);
     numbered(a)
 }
 

@@ -23,7 +23,7 @@ use table::run::all_in_range;
 
 // How much of what it is lent a call tests for 12.
 pub enum Scope {
-    // setting afresh: numbers and places only
+    // setting afresh: the table, numbers and places only
     Places,
     All,
     // all, and that this is a link of the host

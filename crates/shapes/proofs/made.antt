@@ -1,4 +1,5 @@
 pub mod Ages
+pub mod AgesAlone
 pub mod Delivers
 pub mod Guards
 pub mod Inspects
@@ -7,3 +8,4 @@ pub mod Opens
 pub mod Performs
 pub mod Sends
 pub mod Times
+pub mod TimesTwo

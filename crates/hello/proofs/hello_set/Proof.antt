@@ -1,9 +1,9 @@
--- The request, the call, and what is told of its reply.
-use mathlib.Core.Path.{_≡_, sym}
+-- The call, and what is told of its reply.
+use mathlib.Core.Path.{_≡_}
 use mir.Syntax.{w8, w32}
 use base.Logic.{emp, id⊢}
-use Rattle.lent.proofs.Words.{by-value, chosen-by-value, unsigned, signed}
-use Rattle.exports.proofs.made.ExportAsksWithTwo.{proof}
+use Rattle.lent.proofs.Words.{by-value, unsigned, signed}
+use Rattle.exports.proofs.made.ExportTimesTwo.{proof}
 use Rattle.clock.proofs.Types.{clock, count}
 use Rattle.class_table.proofs.Types.{table}
 use Rattle.table.proofs.Types.{entry}
@@ -11,13 +11,10 @@ use Rattle.host.specs.Lent.{lent}
 use Rattle.host.proofs.Types.{number, settings, links, walk, reply}
 use Rattle.calls.specs.declared.Request.the-variants.{Set}
 use Rattle.calls.specs.Perform.{perform, Leaves, ask}
-use Rattle.calls.proofs.Types.{request}
-use Rattle.calls.proofs.call.Symbol as calls
-use Rattle.calls.proofs.call.Met as calls-known
+use Rattle.calls.proofs.set.Symbol as calls
+use Rattle.calls.proofs.set.Met as calls-known
 use Rattle.hello.specs.Told.{numbered, Returns}
 use Rattle.hello.proofs.Returned.{returned}
-use Rattle.hello.proofs.asks_set.Symbol as asks
-use Rattle.hello.proofs.asks_set.Met as asks-known
 use Rattle.hello.proofs.numbered.Symbol as tells
 use Rattle.hello.proofs.numbered.Met as tells-known
 use Rattle.hello.proofs.hello_set.Key.{name as #hello-set}
@@ -27,13 +24,11 @@ use Rattle.hello.proofs.hello_set.Code as code
 pub hello-set-spec : {M : Type 1} → stated.statement M
 unfolding code.routine
 hello-set-spec 𝓤 H 𝓜 𝓖 𝓡 =
-    proof number (signed w32) (by-value count) (chosen-by-value request) (by-value reply) (unsigned w8) settings table clock links walk entry 𝓤 H 𝓜 𝓖 𝓡
-    (λ i n. emp 𝓤) (λ i n q. q ≡ Set i n)
-    (λ s t k c l v o run q. emp 𝓤) (λ s t k c l v o run q a c′ l′ v′ run′. Leaves (perform (ask q) (lent s t k c l v o run)) a c′ l′ v′ o run′)
+    proof number (signed w32) (by-value count) (by-value reply) (unsigned w8) settings table clock links walk entry 𝓤 H 𝓜 𝓖 𝓡
+    (λ s t k c l v o run i n. emp 𝓤) (λ s t k c l v o run i n a c′. Leaves (perform (ask (Set i n)) (lent s t k c l v o run)) a c′ l v o run)
     (λ a. emp 𝓤) (λ a r. r ≡ numbered a)
-    (λ s t k c l v o run i n c′ l′ v′ run′ r. Returns numbered (perform (ask (Set i n)) (lent s t k c l v o run)) r c′ l′ v′ o run′)
-    (λ s t k c l v o run i n. id⊢ 𝓤 _) (λ s t k c l v o run i n q q-is. id⊢ 𝓤 _) (λ s t k c l v o run i n q a c′ l′ v′ run′ q-is left. id⊢ 𝓤 _)
-    (λ s t k c l v o run i n q a c′ l′ v′ run′ r q-is left r-is. rw (sym q-is) (returned numbered (perform (ask q) (lent s t k c l v o run)) a c′ l′ v′ o run′ r left r-is))
-    code.env #hello-set asks.name calls.name tells.name asks.routine calls.routine tells.routine
-    code.calls-hello·asks-set code.calls-calls·call code.calls-hello·numbered
-    (code.unfolded 𝓤 H 𝓜 𝓡) (asks-known.met 𝓤 H 𝓜 𝓖 𝓡) (calls-known.met 𝓤 H 𝓜 𝓖 𝓡) (tells-known.met 𝓤 H 𝓜 𝓖 𝓡)
+    (λ s t k c l v o run i n c′ r. Returns numbered (perform (ask (Set i n)) (lent s t k c l v o run)) r c′ l v o run)
+    (λ s t k c l v o run i n. id⊢ 𝓤 _) (λ s t k c l v o run i n a c′ left. id⊢ 𝓤 _)
+    (λ s t k c l v o run i n a c′ r left r-is. returned numbered (perform (ask (Set i n)) (lent s t k c l v o run)) a c′ l v o run r left r-is)
+    code.env #hello-set calls.name tells.name calls.routine tells.routine code.calls-calls·set code.calls-hello·numbered
+    (code.unfolded 𝓤 H 𝓜 𝓡) (calls-known.met 𝓤 H 𝓜 𝓖 𝓡) (tells-known.met 𝓤 H 𝓜 𝓖 𝓡)
