@@ -1,0 +1,4 @@
+pub mod Powers
+pub mod Each
+pub mod Marks
+pub mod Fits

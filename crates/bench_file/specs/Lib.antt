@@ -1,0 +1,6 @@
+pub mod Octets
+pub mod Header
+pub mod Records
+pub mod Settings
+pub mod Absent
+pub mod code

@@ -1,0 +1,12 @@
+-- Numbers in the records of a file, "high octet first".
+use Prim.Native.Nat.{ℕ, zero, suc, _+_, _*_}
+use mathlib.Core.List.{List}
+use lib.ListN.{getD}
+
+abbrev pub octetAt : List ℕ → (place : ℕ) → ℕ
+octetAt octets i = getD octets i 0
+
+-- the number in so many octets from a place on
+abbrev pub numberAt : List ℕ → (place octets : ℕ) → ℕ
+numberAt octets i zero = 0
+numberAt octets i (suc n) = numberAt octets i n * 256 + octetAt octets (i + n)

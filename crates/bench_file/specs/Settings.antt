@@ -1,0 +1,79 @@
+-- A host's record: its settings, without rows, and the test of them: "settings that answer 1 refuses" are 19, and so is a mark other than 0 and 1.
+use mathlib.Core.Bool.{Bool, _&&_}
+use mathlib.Core.List.{List, [], _∷_, map}
+use Prim.Native.Nat.{ℕ, _+_, _*_, min}
+use lib.Dec.{leb}
+use lib.IntN.{pos}
+use Rattle.lists.specs.Lists.{part}
+use Rattle.quantity.specs.declared.Units.{Units}
+use Rattle.quantity.specs.Quantity.{units, millis}
+use Rattle.wire.specs.Octets.{addressAt}
+use Rattle.table.specs.declared.marks.Marks.{Marks}
+use Rattle.table.specs.Forms.{every, upFrom}
+use Rattle.class_table.specs.declared.ClassTable.{ClassTable}
+use Rattle.host.specs.declared.LinkSetting.{LinkSetting}
+use Rattle.host.specs.declared.Settings.{Settings}
+use Rattle.host.specs.Settings.{settingsFit}
+use Rattle.bench_file.specs.declared.Header.{Header}
+use Rattle.bench_file.specs.Octets.{octetAt, numberAt}
+use Rattle.bench_file.specs.Header.{hostLength}
+use Rattle.bench_file.specs.Records.{hostPlace}
+
+-- CLOCK-TICK in units, eight octets; 2 ^ 32 is the most that answer 1 takes, and what is over it counts as one more
+abbrev pub tickOf : ℕ → Units
+tickOf n = units (pos (min n 4294967297))
+
+-- eight links, whatever the count: a switch and an address each
+abbrev pub linkPlace : (slot : ℕ) → ℕ
+linkPlace i = 25 + 5 * i
+
+abbrev pub linkAt : (octets : List ℕ) → (slot : ℕ) → LinkSetting
+linkAt r i = record { broadcast = octetAt r (linkPlace i); neighbor = addressAt r (linkPlace i + 1) }
+
+-- marks as the bits of a word, the lowest first
+abbrev pub wordOf : List ℕ → ℕ
+wordOf [] = 0
+wordOf (a ∷ rest) = min a 1 + 2 * wordOf rest
+
+-- the marks of ids 0 to 255, an octet each
+abbrev pub marksPlace : ℕ
+marksPlace = 65
+
+abbrev pub markWord : (octets : List ℕ) → (word : ℕ) → ℕ
+markWord r k = wordOf (part (marksPlace + 64 * k) 64 r)
+
+abbrev pub marksOf : (octets : List ℕ) → Marks
+marksOf r = record { words = map (markWord r) (upFrom 0 4) }
+
+unfoldable pub settingsOf : (octets : List ℕ) → Settings
+settingsOf r =
+    record {
+      address = addressAt r 0;
+      layout = record { «address_offset» = octetAt r 4; nhosts = numberAt r 6 2 };
+      «clock_host» = octetAt r 5;
+      «hold_interval» = record { 0 = numberAt r 8 2 };
+      «clock_tick» = tickOf (numberAt r 16 8);
+      time = millis (pos (numberAt r 12 4));
+      date = record { 0 = numberAt r 10 2 };
+      «link_count» = octetAt r 24;
+      links = map (linkAt r) (upFrom 0 8);
+      marks = marksOf r;
+    }
+
+abbrev pub hostRecord : List ℕ → (host : ℕ) → List ℕ
+hostRecord file k = part (hostPlace k) hostLength file
+
+abbrev pub settingsAt : List ℕ → (host : ℕ) → Settings
+settingsAt file k = settingsOf (hostRecord file k)
+
+-- ---- 19
+
+unfoldable pub marksGood : (octets : List ℕ) → Bool
+marksGood r = every (λ (mark : ℕ). leb mark 1) (part marksPlace 256 r)
+
+-- "settings that answer 1 refuses", an NHOSTS unlike the class's among them
+abbrev pub hostGood : ClassTable → (octets : List ℕ) → Bool
+hostGood t r = marksGood r && settingsFit t (settingsOf r)
+
+unfoldable pub hostsGood : ClassTable → List ℕ → Header → Bool
+hostsGood t file h = every (λ (k : ℕ). hostGood t (hostRecord file k)) (upFrom 0 (h .hosts))
