@@ -1,0 +1,95 @@
+// The slots: the label of each, and the packets behind them.
+ghost use mathlib.Core.Path.{_≡_};
+ghost use Prim.Native.Nat.{_+_, _*_, _≤_, _<_};
+ghost use lib.ListN.{length, set};
+ghost use Rattle.bench_file.specs.Absent.{slots};
+ghost use Rattle.bench.specs.Slots.{
+  slotLength,
+  labelOf,
+  labelGood,
+  withLabel,
+  zeros,
+  slotsGood,
+};
+use bench_file::Header;
+use bench_file::SLOTS;
+
+// The octets of a slot, and of all slots.
+const SLOT: usize = 1056;
+
+pub const SLOTS_LENGTH: usize = 33792;
+
+const LONGEST: usize = 1052;
+
+// The length of a slot's packet, 0 where it was never filled, and the cable and the end that the packet was sent from.
+pub struct Label {
+    pub length: usize,
+    pub cable: usize,
+    pub end: usize,
+}
+
+pub fn label_at(octets: &[u8], slot: usize) -> Label
+    requires { ⌜ (slotLength * slots ≤ length (now octets)) × (slot < slots) ⌝ }
+    ensures { λ r. ⌜ r ≡ labelOf slot (now (octets .entry)) ⌝ }
+{
+    let at = SLOT * slot;
+    Label {
+        length: bench_file::octets::two_at(octets, at) as usize,
+        cable: bench_file::octets::octet_at(octets, at + 2),
+        end: bench_file::octets::octet_at(octets, at + 3),
+    }
+}
+
+// Is a slot empty, or its packet one of a cable of the file?
+fn label_good(h: Header, l: Label) -> bool
+    ensures { λ r. ⌜ r ≡ labelGood h l ⌝ }
+{
+    if l.length == 0 {
+        return true;
+    }
+    if LONGEST < l.length {
+        return false;
+    }
+    if l.cable >= h.cables {
+        return false;
+    }
+    l.end <= 1
+}
+
+pub fn slots_good(h: Header, octets: &[u8]) -> bool
+    requires { ⌜ slotLength * slots ≤ length (now octets) ⌝ }
+    ensures { λ r. ⌜ r ≡ slotsGood h (now (octets .entry)) ⌝ }
+{
+    let mut i: usize = 0;
+    while i < SLOTS {
+        if !label_good(h, label_at(octets, i)) {
+            return false;
+        }
+        i += 1;
+    }
+    true
+}
+
+// A packet of so many octets, sent from an end of a cable.
+pub fn put_label(octets: &mut [u8], slot: usize, size: u16, cable: u8, end: u8)
+    requires { ⌜ (slotLength * slots ≤ length (now octets)) × (slot < slots) ⌝ }
+    ensures { λ _. ⌜ now (octets .exit) ≡ withLabel slot size cable end (now (octets .entry)) ⌝ }
+{
+    let at = SLOT * slot;
+    octets[at] = (size / 256 % 256) as u8;
+    octets[at + 1] = (size % 256) as u8;
+    octets[at + 2] = cable;
+    octets[at + 3] = end;
+}
+
+// So many octets zero.
+pub fn clear(octets: &mut [u8], n: usize)
+    requires { ⌜ n ≤ length (now octets) ⌝ }
+    ensures { λ _. ⌜ now (octets .exit) ≡ zeros n (now (octets .entry)) ⌝ }
+{
+    let mut i: usize = 0;
+    while i < n {
+        octets[i] = 0;
+        i += 1;
+    }
+}

@@ -1,0 +1,17 @@
+pub mod Overs
+pub mod Each
+pub mod Slots
+pub mod Sent
+pub mod Events
+pub mod Runs
+pub mod Guards
+pub mod Joined
+pub mod Called
+pub mod Turns
+pub mod SetUp
+pub mod CallsHold
+pub mod Packets
+pub mod Tracks
+pub mod Held
+pub mod BoundHolds
+pub mod Exchanged

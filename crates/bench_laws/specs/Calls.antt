@@ -1,0 +1,129 @@
+-- A bench run is the list of calls that its events name, each lent what the bench then has. So what demand 1 says of calls and of lists of calls it says of set-up and run, whatever the octets of the file are.
+use mathlib.Core.Path.{_≡_}
+use mathlib.Core.Bool.{Bool, true, false, cond}
+use mathlib.Core.List.{List, [], _∷_, map, flatten}
+use Prim.Native.Nat.{ℕ, zero, suc, _<_}
+use lib.Dec.{ltb}
+use lib.ListN.{length, getD}
+use Rattle.lists.specs.Lists.{over}
+use Rattle.answer.specs.declared.Answer.{Answer}
+use Rattle.answer.specs.declared.Answer.the-variants.{Done, IpForm}
+use Rattle.answer.specs.Answer.{number}
+use Rattle.clock.specs.declared.Counter.{Counter}
+use Rattle.class_table.specs.declared.ClassTable.{ClassTable}
+use Rattle.table.specs.Forms.{upFrom}
+use Rattle.host.specs.Guard.{done}
+use Rattle.calls.specs.declared.Request.the-variants as request
+use Rattle.calls.specs.Perform.{Call, ask, send, inspect, act, perform}
+use Rattle.bench_file.specs.declared.End.{End}
+use Rattle.bench_file.specs.declared.Event.{Event}
+use Rattle.bench_file.specs.declared.Event.the-variants.{Tick, Adjust, Set, Second, SelfReport, Send, Arrival, Unknown}
+use Rattle.bench_file.specs.Settings.{settingsAt}
+use Rattle.bench_file.specs.Records.{endAt, eventAt}
+use Rattle.bench.specs.declared.HostState.{HostState}
+use Rattle.bench.specs.Answer.{passes}
+use Rattle.bench.specs.Bench.{Bench, freshHost, copyOf, lentAt}
+use Rattle.bench.specs.Slots.{packetOf, roomOf, empty, farEnd}
+use Rattle.bench.specs.Guard.{setUpGuard, runGuard}
+use Rattle.bench.specs.Run.{header, allSet, next, afterSetUp, afterRun, ran}
+use Rattle.network.specs.Isolation.{SharedEvent, Shared, sharedOutcome, sharedAfter, sharedAfterAll, alone, SharedAlike}
+
+-- ---- a bench as lists of calls have it: what each host has, and the run that all share
+
+abbrev pub hostAt : (file : List ℕ) → Bench → (host : ℕ) → HostState
+hostAt file b k = getD (b .hosts) k (freshHost file k)
+
+abbrev pub sharedOf : (file : List ℕ) → Bench → Shared
+sharedOf file b =
+    record {
+      clock = λ (k : ℕ). hostAt file b k .clock;
+      links = λ (k : ℕ). hostAt file b k .links;
+      walk = λ (k : ℕ). hostAt file b k .walk;
+      copy = λ (k : ℕ). copyOf k (b .copies);
+      run = b .run;
+    }
+
+module _ (file : List ℕ) (t : ClassTable) where
+  -- a call at a host, with its settings of the file and the class's table
+  abbrev pub callAt : (host : ℕ) → Call → SharedEvent
+  callAt k c = record { number = k; settings = settingsAt file k; nets = t; call = c }
+
+  -- ---- the calls of an event
+
+  -- an arrival: the inspection and, where that passes, the action
+  abbrev pub pairOf : (passes : Bool) → End → Counter → (packet : List ℕ) → List SharedEvent
+  pairOf true e k packet = callAt (e .host) (inspect (e .link) packet) ∷ callAt (e .host) (act (e .link) k packet) ∷ []
+  pairOf false e k packet = callAt (e .host) (inspect (e .link) packet) ∷ []
+
+  -- it passes where it answers 0
+  abbrev pub pairAt : End → Counter → (packet : List ℕ) → Bench → List SharedEvent
+  pairAt e k packet b = pairOf (done (perform (inspect (e .link) packet) (lentAt file t (e .host) b) .reply .answer)) e k packet
+
+  -- one call, but for an arrival: that is two, or one that is refused, or none where the slot is empty
+  abbrev pub callsOf : Event → Bench → List SharedEvent
+  callsOf (Tick k n) b = callAt k (ask (request.Tick n)) ∷ []
+  callsOf (Adjust k n) b = callAt k (ask (request.Adjust n)) ∷ []
+  callsOf (Set k ms n) b = callAt k (ask (request.Set ms n)) ∷ []
+  callsOf (Second k) b = callAt k (ask request.Second) ∷ []
+  callsOf (SelfReport k n) b = callAt k (ask (request.SelfReport n)) ∷ []
+  callsOf (Send c i n k) b =
+      let e : End = endAt file (header file t) c i in
+      callAt (e .host) (send (e .link) k (roomOf n (b .slots))) ∷ []
+  callsOf (Arrival n k) b =
+      cond (empty n (b .slots)) [] (pairAt (farEnd file (header file t) n (b .slots)) k (packetOf n (b .slots)) b)
+  callsOf Unknown b = []
+
+  -- ---- the calls of a run
+
+  -- event by event
+  unfoldable pub turns : (allowance : ℕ) → Bench → List (List SharedEvent)
+  turns zero b = []
+  turns (suc n) b =
+      cond (ltb (b .done) (header file t .events)) (callsOf (eventAt file (header file t) (b .done)) b ∷ turns n (next file t b)) []
+
+  -- a run that is refused makes none
+  abbrev pub runTurns : (allowance : ℕ) → Bench → List (List SharedEvent)
+  runTurns n b = cond (passes (runGuard t file b)) (turns n b) []
+
+  abbrev pub runCalls : (allowance : ℕ) → Bench → List SharedEvent
+  runCalls n b = flatten (runTurns n b)
+
+  -- those of set-up: each host is set afresh
+  abbrev pub setUpCalls : Bench → List SharedEvent
+  setUpCalls b =
+      cond (passes (setUpGuard t file b)) (map (λ (k : ℕ). callAt k (ask request.Initialize)) (upFrom 0 (header file t .hosts))) []
+
+-- ---- the answers
+
+-- the last call's; this one where there is none
+abbrev pub lastAnswer : Answer → Shared → List SharedEvent → Answer
+lastAnswer a w [] = a
+lastAnswer a w (e ∷ es) = lastAnswer (sharedOutcome w e .reply .answer) (sharedAfter w e) es
+
+-- "A tray never filled gives answer 3"
+unfoldable pub answersOf : Shared → List (List SharedEvent) → List ℕ
+answersOf w [] = []
+answersOf w (es ∷ rest) = number (lastAnswer IpForm w es) ∷ answersOf (sharedAfterAll w es) rest
+
+-- ---- the theorem
+
+pub record Called (file : List ℕ) (t : ClassTable) (n : ℕ) (b : Bench) : Type 0 where
+  -- "the next in order, each doing what its call does"
+  pub left : sharedOf file (afterRun file t n b) ≡ sharedAfterAll (sharedOf file b) (runCalls file t n b)
+  -- "and its answer kept", from the first that is not done on
+  pub answers : afterRun file t n b .answers ≡ over (b .answers) (b .done) (answersOf (sharedOf file b) (runTurns file t n b))
+  -- "and reports how many it carried out, refused calls included"
+  pub count : ran file t n b .count ≡ length (runTurns file t n b)
+  -- set-up is its settings afresh, host after host
+  pub set-up : sharedOf file (afterSetUp file t b) ≡ sharedAfterAll (sharedOf file b) (setUpCalls file t b)
+  -- and each of them answers 0, where set-up is not refused
+  pub afresh : passes (setUpGuard t file b) ≡ true → (k : ℕ) → k < header file t .hosts
+      → perform (ask request.Initialize) (lentAt file t k (allSet file t 0 k b)) .reply .answer ≡ Done
+  -- "No call for one seat alters another seat's clock, links or entries": a host that none of the calls is at keeps them, its walk with the copy, and all its 255 places
+  pub elsewhere : (k : ℕ) → alone k (runCalls file t n b) ≡ [] → SharedAlike k (sharedOf file (afterRun file t n b)) (sharedOf file b)
+  -- and what any host has goes by its own calls
+  pub own : (k : ℕ)
+      → SharedAlike k (sharedOf file (afterRun file t n b)) (sharedAfterAll (sharedOf file b) (alone k (runCalls file t n b)))
+
+unfoldable pub Calls : Type 0
+Calls = (file : List ℕ) (t : ClassTable) (n : ℕ) (b : Bench) → Called file t n b

@@ -1,0 +1,64 @@
+-- Demand 3 on the bench is not empty: a file that meets every condition. Its hosts and its cable are those of docs/BENCH.md; its events are an exchange between the two, the last packet 101 ms under way. It ends with an entry of DELAY 101 and an error of -51 ms: 10,200 against 10,201.
+use mathlib.Core.Path.{_≡_}
+use mathlib.Core.Bool.{true, cond}
+use mathlib.Core.List.{List, [], _∷_, _++_}
+use Prim.Native.Nat.{ℕ, _*_, _≤_}
+use lib.Dec.{ltb}
+use lib.IntN.{ℤ, pos, negsuc, _-ℤ_}
+use lib.ListN.{take}
+use Rattle.quantity.specs.Quantity.{millis}
+use Rattle.route.specs.declared.Row.{Row}
+use Rattle.class_table.specs.Table.{tableOf}
+use Rattle.table.specs.declared.Entry.{Entry}
+use Rattle.bench.specs.Answer.{passes}
+use Rattle.bench.specs.Guard.{setUpGuard}
+use Rattle.bench.specs.Run.{afterSetUp}
+use Rattle.network.specs.Room.{Room, longestWay, Proper}
+use Rattle.network.specs.TwoSeats.{wire}
+use Rattle.bench_laws.specs.Bound.{fileRoom, Wired, Lot, afterRuns, RunsOnTime, entryAt}
+use Rattle.bench_laws.specs.Example as small
+
+-- an event of cable 0: its kind, host, end, slot and count
+abbrev pub event : (kind host end slot count : ℕ) → List ℕ
+event kind k e s n = kind ∷ k ∷ 0 ∷ e ∷ s ∷ 0 ∷ 0 ∷ n ∷ 0 ∷ 0 ∷ 0 ∷ 0 ∷ 0 ∷ 0 ∷ []
+
+abbrev pub file : List ℕ
+file =
+    take 666 small.file
+    -- host 1 reports itself, and sends; host 0 has it at once, and answers; host 1 has that at once, and answers
+    ++ event 5 1 0 0 0
+    ++ event 6 0 1 0 0
+    ++ event 7 0 0 0 0
+    ++ event 6 0 0 1 0
+    ++ event 7 0 0 1 0
+    ++ event 6 0 1 0 0
+    -- 101 ms later host 0 has the answer; then a second
+    ++ event 7 0 0 0 101
+    ++ event 4 0 0 0 0
+
+-- Host 1 is 500 ms ahead.
+abbrev pub room : Room
+room = fileRoom file small.class small.lentFirst (λ (a : ℕ). pos (500 * a)) wire 101
+
+abbrev pub at : (event : ℕ) → ℤ
+at k = pos (cond (ltb k 6) 40000 40101)
+
+abbrev pub net10 : Row
+net10 = record { net = record { first = 10; second = 0; third = 0 }; host = 1 }
+
+-- Five events, and then the others; between them the tutor adds a row.
+abbrev pub runs : List Lot
+runs = record { nets = small.class; allowance = 5 } ∷ record { nets = tableOf 2 (net10 ∷ []); allowance = 8 } ∷ []
+
+-- what host 0 has of host 1 at the end
+abbrev pub learnt : Entry
+learnt = entryAt (afterRuns file runs (afterSetUp file small.class small.lentFirst)) 0 1
+
+pub record Exchange : Type 0 where
+  pub passed : passes (setUpGuard small.class file small.lentFirst) ≡ true
+  pub proper : Proper room
+  pub ways : 101 ≤ longestWay
+  pub wired : Wired file small.class wire
+  pub on-time : RunsOnTime file room at (λ (slot : ℕ). pos 0) runs (afterSetUp file small.class small.lentFirst)
+  pub delay : learnt .delay ≡ millis (pos 101)
+  pub error : learnt .offset .0 -ℤ (room .fixed 1 -ℤ room .fixed 0) ≡ negsuc 50

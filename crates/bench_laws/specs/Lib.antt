@@ -1,0 +1,5 @@
+pub mod Laws
+pub mod Calls
+pub mod Bound
+pub mod Example
+pub mod Exchange
