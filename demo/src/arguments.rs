@@ -9,7 +9,7 @@ pub const HELP: &str = "\
 Runs a room of HELLO hosts (RFC 891) on cables, and shows what each host has learned.
 
   ./run [--hosts N] [--virtual N] [--crystal N] [--shape line|ring] [--delay LIST]
-        [--clocks LIST] [--net LIST] [--minutes N] [--loss PERCENT] [--seed N] [--help]
+        [--clocks LIST] [--net LIST] [--minutes N] [--loss PERCENT] [--seed N] [--save FILE] [--help]
 
 Without arguments: four hosts in a line, all with line clocks, no net rows, ten minutes, no losses.
 
@@ -33,6 +33,10 @@ Without arguments: four hosts in a line, all with line clocks, no net rows, ten 
   --minutes N      how long the room runs, 1 to 1440 (default 10)
   --loss PERCENT   how many of a hundred messages the cables lose, 0 to 100 (default 0)
   --seed N         which messages they lose: another number, another choice (default 1)
+  --save FILE      writes the room as a bench file (docs/BENCH.md), as far as its 2048 events and 32
+                   trays go, and shows what the hosts have learned by then. All hosts then have
+                   crystal clocks, unless --crystal says otherwise: ticks of line clocks would fill
+                   the file in seconds. The net table is not in it
   --help           this text
 
 Every cable joins a point-to-point link of one host to one of another host. Each host sends on each
@@ -85,7 +89,7 @@ const DELAYS: [Delay; 16] = [
 pub fn parse(mut words: impl Iterator<Item = String>) -> Result<Request, String> {
     let mut hosts = 4;
     let mut further = 0;
-    let mut crystals = 0;
+    let mut crystals = None;
     let mut shape = Shape::Line;
     let mut delays = None;
     let mut clocks = None;
@@ -93,6 +97,7 @@ pub fn parse(mut words: impl Iterator<Item = String>) -> Result<Request, String>
     let mut minutes = 10;
     let mut loss = 0;
     let mut seed = 1;
+    let mut save = None;
     while let Some(option) = words.next() {
         if option == "--help" {
             return Ok(Request::Help);
@@ -101,7 +106,7 @@ pub fn parse(mut words: impl Iterator<Item = String>) -> Result<Request, String>
         match option.as_str() {
             "--hosts" => hosts = number(&option, &value()?, 2..=16)?,
             "--virtual" => further = number(&option, &value()?, 0..=64)?,
-            "--crystal" => crystals = number(&option, &value()?, 0..=16)?,
+            "--crystal" => crystals = Some(number(&option, &value()?, 0..=16)?),
             "--shape" => shape = shape_named(&value()?)?,
             "--delay" => delays = Some(list(&value()?, delay)?),
             "--clocks" => clocks = Some(list(&value()?, clock)?),
@@ -109,9 +114,11 @@ pub fn parse(mut words: impl Iterator<Item = String>) -> Result<Request, String>
             "--minutes" => minutes = number(&option, &value()?, 1..=1440)?,
             "--loss" => loss = number(&option, &value()?, 0..=100)?,
             "--seed" => seed = number(&option, &value()?, 0..=u64::MAX)?,
+            "--save" => save = Some(value()?.into()),
             _ => return Err(format!("there is no option {option}")),
         }
     }
+    let crystals = crystals.unwrap_or(if save.is_some() { hosts } else { 0 });
     Ok(Request::Run(Plan {
         clocks: clocks_of(hosts, clocks)?,
         crystals: crystals_of(hosts, crystals)?,
@@ -122,6 +129,7 @@ pub fn parse(mut words: impl Iterator<Item = String>) -> Result<Request, String>
         minutes,
         loss,
         seed,
+        save,
     }))
 }
 

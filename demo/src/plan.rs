@@ -1,5 +1,7 @@
 //! What a room is to be.
 
+use std::path::PathBuf;
+
 /// Milliseconds.
 pub const SECOND: i64 = 1000;
 pub const MINUTE: i64 = 60 * SECOND;
@@ -24,6 +26,8 @@ pub struct Plan {
     /// Messages lost of a hundred.
     pub loss: u64,
     pub seed: u64,
+    /// Where the room is to be written as a bench file.
+    pub save: Option<PathBuf>,
 }
 
 impl Plan {

@@ -7,6 +7,7 @@ use crate::room::Room;
 use demo::plan::{Plan, Shape, MINUTE, SECOND};
 use hello::{Address, Answer, Entry, Host, Net, Reading};
 use std::io::{Result, Write};
+use std::path::Path;
 
 /// A DELAY of so many ms is down.
 const DOWN: i64 = 30_000;
@@ -98,6 +99,18 @@ fn promise(out: &mut impl Write, broken: &[String]) -> Result<()> {
         writeln!(out, "  - {condition}")?;
     }
     writeln!(out)
+}
+
+/// How much of the room was saved.
+pub fn saved(out: &mut impl Write, path: &Path, room: &Room, end: i64) -> Result<()> {
+    writeln!(
+        out,
+        "Saved in {}, with {} events: the room's first {}.{:03} s. The tables are those of that moment.\n",
+        path.display(),
+        room.record.len(),
+        end / SECOND,
+        end % SECOND
+    )
 }
 
 /// What the hosts have learned, and whether all errors are within the bound.

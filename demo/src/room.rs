@@ -3,7 +3,9 @@
 use crate::drive::{Crystal, Drive, OVERFLOW};
 use crate::host::{settings, Place};
 use crate::random::Random;
+use crate::record::Record;
 use demo::plan::{Cable, End, NetRow, Plan, SECOND, START};
+use hello::bench_file::Event;
 use hello::{Answer, Counter, Net, Reading};
 use std::collections::BTreeMap;
 
@@ -15,6 +17,8 @@ const SELF_REPORT_INTERVAL: i64 = 10;
 struct Message {
     to: End,
     octets: Vec<u8>,
+    /// Its slot in the record.
+    slot: u8,
 }
 
 /// What became of the messages.
@@ -31,6 +35,8 @@ pub struct Room {
     pub tally: Tally,
     /// What drives each host's clock.
     pub drives: Vec<Drive>,
+    /// The calls so far, as a bench file has them.
+    pub record: Record,
     cables: Vec<Cable>,
     loss: u64,
     random: Random,
@@ -55,6 +61,7 @@ impl Room {
             added.expect("the table has room, and the id is below NHOSTS");
         }
         let mut drives = Vec::new();
+        let mut all_settings = Vec::new();
         for (number, clock) in plan.clocks.iter().enumerate() {
             let (drive, tick) = if number < plan.crystals {
                 (Drive::Crystal(Crystal::default()), OVERFLOW)
@@ -70,12 +77,14 @@ impl Room {
                 time: START + clock,
             });
             done(hosts.host(number).initialize(settings));
+            all_settings.push(settings);
             drives.push(drive);
         }
         Room {
             hosts,
             tally: Tally::default(),
             drives,
+            record: Record::of(plan, all_settings),
             cables: plan.cables.clone(),
             loss: plan.loss,
             random: Random::seeded(plan.seed),
@@ -88,13 +97,31 @@ impl Room {
     /// Runs the room until so many ms after the start.
     pub fn run_until(&mut self, end: i64) {
         while self.now < end {
-            if self.now % SECOND == 0 {
-                self.each_second(self.now / SECOND);
-            }
-            self.arrivals();
-            self.now += self.step;
-            self.ticks();
+            self.step();
         }
+    }
+
+    /// Runs a room that is to be saved for as long as its record fits a file, until so many ms after
+    /// the start at most; for how many ms that is.
+    pub fn fits_until(mut self, end: i64) -> i64 {
+        let mut fitted = 0;
+        while self.now < end {
+            self.step();
+            if !self.record.fits() {
+                break;
+            }
+            fitted = self.now;
+        }
+        fitted
+    }
+
+    fn step(&mut self) {
+        if self.now % SECOND == 0 {
+            self.each_second(self.now / SECOND);
+        }
+        self.arrivals();
+        self.now += self.step;
+        self.ticks();
     }
 
     /// The ticks of the clocks that are due now.
@@ -102,6 +129,7 @@ impl Room {
         for (number, drive) in self.drives.iter_mut().enumerate() {
             if let Some(count) = drive.tick(self.now) {
                 done(self.hosts.host(number).tick(count));
+                self.record.add(Event::Tick(number as u8, count));
             }
         }
     }
@@ -121,20 +149,24 @@ impl Room {
     fn each_second(&mut self, second: i64) {
         for number in 0..self.hosts.count() {
             done(self.hosts.host(number).second());
+            self.record.add(Event::Second(number as u8));
             if second % SELF_REPORT_INTERVAL == 0 {
                 let counter = self.counter(number);
                 done(self.hosts.host(number).self_report(counter));
+                self.record.add(Event::SelfReport(number as u8, counter));
             }
         }
-        for cable in self.cables.clone() {
-            let [first, last] = cable.ends;
-            self.send_in_turn(second, first, last, cable.delay[0]);
-            self.send_in_turn(second, last, first, cable.delay[1]);
+        for cable in 0..self.cables.len() {
+            for end in 0..2 {
+                self.send_in_turn(second, cable, end);
+            }
         }
     }
 
     /// Sends from one end of a cable to the other if it is the host's second to send.
-    fn send_in_turn(&mut self, second: i64, from: End, to: End, delay: i64) {
+    fn send_in_turn(&mut self, second: i64, cable: usize, end: usize) {
+        let Cable { ends, delay } = self.cables[cable];
+        let (from, to) = (ends[end], ends[1 - end]);
         if (second + from.host as i64) % SEND_INTERVAL != 0 {
             return;
         }
@@ -142,11 +174,14 @@ impl Room {
         let octets = self.hosts.host(from.host).send(from.link, counter);
         let octets = octets.expect(WELL_LENT);
         self.tally.sent += 1;
+        let slot = self.record.send(cable, end, counter);
         if self.random.happens(self.loss) {
             self.tally.lost += 1;
+            self.record.free(slot);
         } else {
-            let arrival = (self.now + delay, self.tally.sent);
-            self.on_the_way.insert(arrival, Message { to, octets });
+            let arrival = (self.now + delay[end], self.tally.sent);
+            self.on_the_way
+                .insert(arrival, Message { to, octets, slot });
         }
     }
 
@@ -156,19 +191,26 @@ impl Room {
             if first.key().0 > self.now {
                 return;
             }
-            let Message { to, octets } = first.remove();
-            let answer = self.take(to, &octets);
+            let message = first.remove();
+            let answer = self.take(&message);
+            self.record.free(message.slot);
             *self.tally.answers.entry(answer).or_default() += 1;
         }
     }
 
     /// A host looks at a message and, where nothing refuses it, acts on it.
-    fn take(&mut self, to: End, message: &[u8]) -> Answer {
-        match self.hosts.host(to.host).inspect(to.link, message) {
-            Ok(_) => {
-                let counter = self.counter(to.host);
-                self.hosts.host(to.host).act(to.link, counter, message)
-            }
+    fn take(&mut self, message: &Message) -> Answer {
+        let Message { to, octets, slot } = message;
+        let seen = self.hosts.host(to.host).inspect(to.link, octets);
+        // A message that is refused is not read the clock for.
+        let counter = match seen {
+            Ok(_) => self.counter(to.host),
+            Err(_) => Counter::LINE_CLOCK,
+        };
+        let slot = *slot;
+        self.record.add(Event::Arrival { slot, counter });
+        match seen {
+            Ok(_) => self.hosts.host(to.host).act(to.link, counter, octets),
             Err(refusal) => refusal,
         }
     }

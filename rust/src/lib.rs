@@ -19,6 +19,7 @@
 #![deny(missing_docs)]
 
 pub mod answer;
+pub mod bench_file;
 pub mod capture;
 mod host;
 mod layout;
