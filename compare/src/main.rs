@@ -7,6 +7,8 @@
 //! the first difference, and with 2 where an answer that can occur was never
 //! given, or something that readings, walks, marks or tables do never occurred.
 
+#[cfg(test)]
+mod bench;
 mod call;
 mod capture;
 mod checksum;

@@ -89,14 +89,6 @@ impl Tray {
         self.filled != 0
     }
 
-    /// The packet's octets stay.
-    fn empty(&mut self) {
-        *self = Tray {
-            packet: self.packet,
-            ..Tray::EMPTY
-        };
-    }
-
     /// Whether 12 lets the tray pass. Only one that is filled is looked at.
     fn in_range(&self, file: &File) -> bool {
         !self.is_filled()
@@ -118,9 +110,9 @@ pub fn set_up(
         let Seat { clock, links, walk } = &mut bench.seats[number];
         host::set_afresh(settings, net, number, clock, links, walk, entries)?;
     }
-    bench.trays.iter_mut().for_each(Tray::empty);
+    bench.trays = [Tray::EMPTY; TRAYS];
     bench.done = 0;
-    bench.answers = [0; EVENTS];
+    bench.answers[..file.events.len()].fill(0);
     Ok(())
 }
 

@@ -314,14 +314,9 @@ fn set_up_sets_each_seat_afresh() {
     let clock = Clock::fresh(0, Date(2956));
     assert_eq!(class.bench.seats[1], Seat { clock, links, walk });
     assert!(class.bench.seats[2..] == before.bench.seats[2..]);
-    for tray in &class.bench.trays {
-        assert_eq!(
-            (tray.filled, tray.cable, tray.end, tray.length),
-            (0, 0, 0, 0)
-        );
-    }
+    assert!(class.bench.trays == [Tray::EMPTY; TRAYS]);
     assert_eq!(class.bench.done, 0);
-    assert_eq!(class.bench.answers, [0; EVENTS]);
+    assert_eq!(class.bench.answers[..2], [0, 99]);
     assert_eq!(class.entries[..4], fresh_table());
     let other = [false, true, false, false].map(Entry::fresh);
     assert_eq!(class.entries[PLACES..PLACES + 4], other);
@@ -383,7 +378,7 @@ fn the_handshake() {
     let at_0 = class.entry(0, 1);
     assert_eq!((at_0.delay, at_0.offset, at_0.pid), (100, 500, 1));
     assert_eq!(class.bench.done, 22);
-    assert_eq!(class.bench.answers, [0; EVENTS]);
+    assert_eq!(class.bench.answers[..22], [0; 22]);
 }
 
 #[test]
@@ -444,7 +439,7 @@ fn each_event_is_carried_out_once_and_in_order() {
     assert_eq!(class.entry(0, 0).updated, 1_059);
     assert_eq!(class.run(1), Ok(0));
     assert_eq!(class.bench.seats[1], other);
-    assert_eq!(class.bench.answers, [0; EVENTS]);
+    assert_eq!(class.bench.answers[..7], [0, 0, 0, 0, 0, 0, 99]);
 }
 
 #[test]
