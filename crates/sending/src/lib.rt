@@ -7,6 +7,7 @@ ghost use Rattle.table.specs.Entry.{upTo};
 ghost use Rattle.clock.specs.Clock.{clockInRange};
 ghost use Rattle.host.specs.Settings.{settingsGood};
 ghost use Rattle.host.specs.declared.guard.Scope.the-variants.{OnLink};
+ghost use Rattle.host.specs.State.{linkOf};
 ghost use Rattle.host.specs.Lent.{host};
 ghost use Rattle.host.specs.code.Told.{Told};
 ghost use Rattle.sending.specs.Message.{tableGoes, sentTsp, linkSent, packetSent};
@@ -135,14 +136,14 @@ fn packet_sent(s: Settings, x: Link, time: Millis, date: Date, count: u8) -> Pac
     }
 }
 
-fn sends(s: Settings, c: Clock, l: Links, link: usize, k: Counter) -> Sending
+// A send of so many reports on a link of this state.
+fn sends(s: Settings, c: Clock, l: Links, link: usize, k: Counter, x: Link, count: u8) -> Sending
     requires { ⌜ (1 ≤ link) × (link ≤ 8) ⌝ }
     requires { ⌜ (settingsGood s ≡ true) × (clockInRange c ≡ true) ⌝ }
+    requires { ⌜ (x ≡ linkOf l link) × (count ≡ reportCount s x) ⌝ }
     ensures { λ p. ⌜ p ≡ sends link k (host s c l) ⌝ }
 {
     let r = host::our_reading(s, c, k);
-    let x = link_of(l, link);
-    let count = report_count(s, x);
     let end = count as usize;
     let pid = link as u8;
     let work = Reports {
@@ -170,10 +171,12 @@ fn send_in(s: Settings, c: Clock, l: Links, link: usize, k: Counter, room: usize
     requires { ⌜ (settingsGood s ≡ true) × (clockInRange c ≡ true) ⌝ }
     ensures { λ p. ⌜ p ≡ sendIn link k room (host s c l) ⌝ }
 {
-    if room < wire::length(report_count(s, link_of(l, link))) {
+    let x = link_of(l, link);
+    let count = report_count(s, x);
+    if room < wire::length(count) {
         return unsent(Answer::ShortBuffer, s, c, l);
     }
-    sends(s, c, l, link, k)
+    sends(s, c, l, link, k, x, count)
 }
 
 // A refusal of the guard's, or the send.

@@ -19,7 +19,7 @@ use Rattle.wire.specs.declared.Report.{Report}
 use Rattle.wire.specs.Octets.{two, four, addressOctets}
 use Rattle.wire.specs.Ip.{headerLength, versionAndLength, helloProtocol, versionPlace, totalPlace, fragmentPlace, protocolPlace, sourcePlace, headerFront, headerBack, header}
 use Rattle.wire.specs.Hello.{fixedLength, datePlace, timePlace, tspPlace, addressOffsetPlace, nhostsPlace, reportLength, reportPlace, helloLength, reportOctets, helloBehind}
-use Rattle.wire.specs.code.Sealing.{sealedBehind, sealedHello, sealed, helloWithReport, withReport}
+use Rattle.wire.specs.code.Sealing.{headerFields, helloFields, checksumPlace, withChecksum, sealedBehind, sealedHello, sealed, helloWithReport, withReport}
 use Rattle.wire.proofs.Parts.{from-on, comes-back}
 
 -- ---- a report
@@ -49,16 +49,18 @@ pub back-put : (b l₁ l₂ : List ℕ) (source destination : Address)
     → l₂ ≡ sets b sourcePlace (headerBack source destination)
 back-put b l₁ l₂ source destination e₁ e₂ = rw (e₂, e₁)
 
-pub header-sealed : (b l₁ l₂ l₃ l₄ : List ℕ) (total : ℕ) (source destination : Address) → headerLength ≤ length b
-    → l₁ ≡ sets b versionPlace (headerFront total) → l₂ ≡ sets l₁ 10 (two 0) → l₃ ≡ sets l₂ sourcePlace (headerBack source destination) → Octets l₃
-    → l₄ ≡ sets l₃ 10 (two (checksumOf (take headerLength l₃)))
-    → l₄ ≡ header total source destination ++ drop headerLength b
+pub header-fields-put : (b l₁ l₂ l₃ : List ℕ) (total : ℕ) (source destination : Address) → headerLength ≤ length b
+    → l₁ ≡ sets b versionPlace (headerFront total) → l₂ ≡ sets l₁ checksumPlace (two 0) → l₃ ≡ sets l₂ sourcePlace (headerBack source destination)
+    → l₃ ≡ headerFields total source destination ++ drop headerLength b
+header-fields-put b l₁ l₂ l₃ total source destination h e₁ e₂ e₃ = e₃ ∙ rw (e₂, e₁) (sets-eq (headerFields total source destination) b 0 h)
+
+pub header-sealed : (rest l₃ l₄ : List ℕ) (total : ℕ) (source destination : Address)
+    → l₃ ≡ headerFields total source destination ++ rest → Octets l₃ → l₄ ≡ withChecksum headerLength checksumPlace l₃
+    → l₄ ≡ header total source destination ++ rest
 unfolding header
-header-sealed b l₁ l₂ l₃ l₄ total source destination h e₁ e₂ e₃ o e₄ =
+header-sealed rest l₃ l₄ total source destination e o e₄ =
     let front = headerFront total in
     let back = headerBack source destination in
-    let rest = drop headerLength b in
-    let e : l₃ ≡ front ++ two 0 ++ back ++ rest = e₃ ∙ rw (e₂, e₁) (sets-eq (front ++ two 0 ++ back) b 0 h) in
     let p : Octets (front ++ two 0 ++ back ++ rest) = rw e at o in
     let s : checksumOf (take headerLength l₃) ≡ checksumOf (front ++ back) =
     rw e (checksum-over-zero front back refl (in-front front (two 0 ++ back ++ rest) p) (in-front back rest (behind (front ++ two 0) (back ++ rest) p))) in
@@ -73,28 +75,48 @@ pub fixed-put : (b l₁ l₂ l₃ l₄ l₅ : List ℕ) (t w : ℕ) (p : Packet)
     → l₅ ≡ sets b datePlace (helloBehind p [])
 fixed-put b l₁ l₂ l₃ l₄ l₅ t w p e₁ e₂ e₃ e₄ e₅ e₆ e₇ = rw (e₇, e₆, e₅, e₄, e₃, e₂, e₁)
 
-pub hello-sealed : (b l₁ l₂ l₃ : List ℕ) (m : ℕ) (p : Packet) → helloLength (p .nhosts) ≤ length b
-    → l₁ ≡ sets b 0 (two 0) → l₂ ≡ sets l₁ datePlace (helloBehind p []) → Octets l₂
-    → m ≡ helloLength (p .nhosts) → l₃ ≡ sets l₂ 0 (two (checksumOf (take m l₂)))
+pub hello-fields-put : (b l₁ l₂ : List ℕ) (p : Packet) → fixedLength ≤ length b
+    → l₁ ≡ sets b 0 (two 0) → l₂ ≡ sets l₁ datePlace (helloBehind p [])
+    → l₂ ≡ helloFields p ++ drop fixedLength b
+hello-fields-put b l₁ l₂ p h e₁ e₂ = e₂ ∙ rw e₁ (sets-eq (helloFields p) b 0 h)
+
+pub hello-sealed : (b l₂ l₃ : List ℕ) (p : Packet)
+    → l₂ ≡ helloFields p ++ drop fixedLength b → Octets l₂ → l₃ ≡ withChecksum (helloLength (p .nhosts)) 0 l₂
     → l₃ ≡ sealedHello p b
 unfolding sealedHello
-hello-sealed b l₁ l₂ l₃ m p h e₁ e₂ o e₃ e₄ =
+hello-sealed b l₂ l₃ p e o e₄ =
     let n = reportLength * p .nhosts in
     let fixed = helloBehind p [] in
     let rest = drop fixedLength b in
-    let e : l₂ ≡ two 0 ++ fixed ++ rest = e₂ ∙ rw e₁ (sets-eq (two 0 ++ fixed) b 0 (omega arith)) in
     let t : take (helloLength (p .nhosts)) l₂ ≡ two 0 ++ sealedBehind p b = rw e (take-append-add (two 0 ++ fixed) rest n) in
     let q : Octets (two 0 ++ sealedBehind p b ++ drop n rest) = rw (take-append-drop n rest) (rw e at o) in
     let s : checksumOf (take (helloLength (p .nhosts)) l₂) ≡ checksumOf (sealedBehind p b) =
     ap checksumOf t ∙ checksum-over-zero [] (sealedBehind p b) refl tt (in-front (sealedBehind p b) (drop n rest) (behind (two 0) (sealedBehind p b ++ drop n rest) q)) in
-    e₄ ∙ rw (e₃, s, e, ← drop-drop n fixedLength b, take-append-drop n rest)
+    e₄ ∙ rw (s, e, ← drop-drop n fixedLength b, take-append-drop n rest)
 
 -- ---- the packet
 
-pub packet-sealed : (b m l : List ℕ) (n : ℕ) (destination : Address) (p : Packet) → headerLength ≤ length b → n ≡ packetLength (p .nhosts)
-    → m ≡ sealedHello p (take (length b - headerLength) (drop headerLength b))
-    → l ≡ header n (p .source) destination ++ drop headerLength (take headerLength b ++ (m ++ drop (length b - headerLength) (drop headerLength b)))
-    → l ≡ sealed destination p b
+-- a part from the header on, lent, changed and come back
+abbrev pub changedBehind : (b m : List ℕ) → List ℕ
+changedBehind b m = take headerLength b ++ (m ++ drop (length b - headerLength) (drop headerLength b))
+
+pub behind-changed : (b m : List ℕ) → headerLength ≤ length b → drop headerLength (changedBehind b m) ≡ m
+behind-changed b m h = rw (comes-back headerLength b m) (drop-at (take headerLength b) m headerLength (length-take-le headerLength b h))
+
+-- the fields of the HELLO, those of the header, the HELLO's checksum and the header's
+pub packet-sealed : (b m₁ b₂ m₃ b₄ : List ℕ) (n : ℕ) (destination : Address) (p : Packet) → headerLength ≤ length b → n ≡ packetLength (p .nhosts)
+    → m₁ ≡ helloFields p ++ drop fixedLength (take (length b - headerLength) (drop headerLength b))
+    → b₂ ≡ headerFields n (p .source) destination ++ drop headerLength (changedBehind b m₁) → Octets b₂
+    → m₃ ≡ withChecksum (helloLength (p .nhosts)) 0 (take (length b₂ - headerLength) (drop headerLength b₂))
+    → Octets (changedBehind b₂ m₃) → b₄ ≡ withChecksum headerLength checksumPlace (changedBehind b₂ m₃)
+    → b₄ ≡ sealed destination p b
 unfolding sealed
-packet-sealed b m l n destination p h e e₁ e₂ =
-    e₂ ∙ rw (e, comes-back headerLength b m, drop-at (take headerLength b) m headerLength (length-take-le headerLength b h), e₁, from-on headerLength b)
+packet-sealed b m₁ b₂ m₃ b₄ n destination p h e e₁ e₂ o₂ e₃ o₄ e₄ =
+    let fields = headerFields n (p .source) destination in
+    let f₁ : m₁ ≡ helloFields p ++ drop fixedLength (drop headerLength b) = e₁ ∙ rw (from-on headerLength b) in
+    let f₂ : b₂ ≡ fields ++ m₁ = e₂ ∙ rw (behind-changed b m₁ h) in
+    let g₂ : drop headerLength b₂ ≡ m₁ = rw f₂ in
+    let f₃ : m₃ ≡ withChecksum (helloLength (p .nhosts)) 0 m₁ = e₃ ∙ rw (from-on headerLength b₂, g₂) in
+    let s : m₃ ≡ sealedHello p (drop headerLength b) = hello-sealed (drop headerLength b) m₁ m₃ p f₁ (behind fields m₁ (rw f₂ at o₂)) f₃ in
+    let f₄ : changedBehind b₂ m₃ ≡ fields ++ m₃ = comes-back headerLength b₂ m₃ ∙ rw f₂ in
+    header-sealed m₃ (changedBehind b₂ m₃) b₄ n (p .source) destination f₄ o₄ e₄ ∙ rw (e, s)

@@ -1,12 +1,12 @@
 // The HELLO behind the IP header.
 ghost use mathlib.Core.Path.{_≡_};
 ghost use Prim.Native.Nat.{_+_, _≤_};
-ghost use mathlib.Core.List.{[]};
-ghost use lib.ListN.{length};
+ghost use mathlib.Core.List.{[], _++_};
+ghost use lib.ListN.{length, drop};
 ghost use lib.Seq.{sets};
 ghost use Rattle.wire.specs.Hello.{fixedLength, datePlace, reportLength, reportPlace, helloLength, helloForm, helloChecksum, reportAt, helloBehind};
 ghost use Rattle.wire.specs.code.Ranges.{Two, Four};
-ghost use Rattle.wire.specs.code.Sealing.{helloWithReport, sealedHello};
+ghost use Rattle.wire.specs.code.Sealing.{helloWithReport, withChecksum, helloFields};
 use super::Packet;
 use super::Report;
 use super::octets::put_checksum;
@@ -100,13 +100,20 @@ fn put_fixed(hello: &mut [u8], p: Packet)
     put_octet(&mut *hello, NHOSTS, p.nhosts);
 }
 
-// The HELLO completed in front of its reports, which stand in their places.
-pub fn seal(hello: &mut [u8], p: Packet)
-    requires { ⌜ helloLength (p .nhosts) ≤ length (now hello) ⌝ }
+// The HELLO filled in around its reports, which stand in their places, with 0 for its checksum.
+pub fn put_fields(hello: &mut [u8], p: Packet)
+    requires { ⌜ fixedLength ≤ length (now hello) ⌝ }
     requires { ⌜ Four (p .time .0) ⌝ }
-    ensures { λ _. ⌜ now (hello .exit) ≡ sealedHello p (now (hello .entry)) ⌝ }
+    ensures { λ _. ⌜ now (hello .exit) ≡ helloFields p ++ drop fixedLength (now (hello .entry)) ⌝ }
 {
     put_two(&mut *hello, CHECKSUM, 0);
     put_fixed(&mut *hello, p);
-    put_checksum(&mut *hello, length(p.nhosts), CHECKSUM);
+}
+
+// The checksum of a HELLO of so many hosts put in its place, where 0 stands.
+pub fn seal(hello: &mut [u8], nhosts: u8)
+    requires { ⌜ helloLength nhosts ≤ length (now hello) ⌝ }
+    ensures { λ _. ⌜ now (hello .exit) ≡ withChecksum (helloLength nhosts) 0 (now (hello .entry)) ⌝ }
+{
+    put_checksum(&mut *hello, length(nhosts), CHECKSUM);
 }

@@ -4,7 +4,8 @@ ghost use Prim.Native.Nat.{_≤_};
 ghost use mathlib.Core.List.{_++_};
 ghost use lib.ListN.{length, drop};
 ghost use lib.Seq.{sets};
-ghost use Rattle.wire.specs.Ip.{headerLength, versionPlace, sourcePlace, ipForm, ipChecksum, protocol, headerFront, headerBack, header};
+ghost use Rattle.wire.specs.Ip.{headerLength, versionPlace, sourcePlace, ipForm, ipChecksum, protocol, headerFront, headerBack};
+ghost use Rattle.wire.specs.code.Sealing.{checksumPlace, withChecksum, headerFields};
 use super::Address;
 use super::octets::put_address;
 use super::octets::put_checksum;
@@ -94,13 +95,20 @@ fn put_back(packet: &mut [u8], source: Address, destination: Address)
     put_address(&mut *packet, DESTINATION, destination);
 }
 
-// The header put in front of what stands behind it.
-pub fn seal(packet: &mut [u8], total: u16, source: Address, destination: Address)
+// The header put in front of what stands behind it, with 0 for its checksum.
+pub fn put_fields(packet: &mut [u8], total: u16, source: Address, destination: Address)
     requires { ⌜ headerLength ≤ length (now packet) ⌝ }
-    ensures { λ _. ⌜ now (packet .exit) ≡ header total source destination ++ drop headerLength (now (packet .entry)) ⌝ }
+    ensures { λ _. ⌜ now (packet .exit) ≡ headerFields total source destination ++ drop headerLength (now (packet .entry)) ⌝ }
 {
     put_front(&mut *packet, total);
     put_two(&mut *packet, CHECKSUM, 0);
     put_back(&mut *packet, source, destination);
+}
+
+// The header's checksum put in its place, where 0 stands.
+pub fn seal(packet: &mut [u8])
+    requires { ⌜ headerLength ≤ length (now packet) ⌝ }
+    ensures { λ _. ⌜ now (packet .exit) ≡ withChecksum headerLength checksumPlace (now (packet .entry)) ⌝ }
+{
     put_checksum(&mut *packet, LENGTH, CHECKSUM);
 }

@@ -8,15 +8,6 @@ use Rattle.sending.proofs.sends.Tie as tie
 our-reading-requires : tie.Need-our-reading-requires
 our-reading-requires c κs = search needs
 
-link-of-requires : tie.Need-link-of-requires
-link-of-requires c κs = search needs
-
-report-count-requires : tie.Need-report-count-requires
-report-count-requires c κs = search needs
-
-cast-end : tie.Need-cast-end
-cast-end c = search needs
-
 cast-pid : tie.Need-cast-pid
 cast-pid c = search needs
 
@@ -34,15 +25,18 @@ with-link-requires c κs = search needs
 
 packet-sent-requires : tie.Need-packet-sent-requires
 packet-sent-requires c κs =
-    let start = c .before .before .before .before .before .before .before .before .before .before in
-    rw (c .before .before .before .before .before .before .before .before .before .our-reading .ensures) (reading-in (start .args .s .«clock_tick») (start .args .s .«hold_interval») (start .args .k) (start .args .c))
+    let read = c .before .before .before .before .before .before .before in
+    let start = read .before in
+    rw (read .our-reading .ensures) (reading-in (start .args .s .«clock_tick») (start .args .s .«hold_interval») (start .args .k) (start .args .c))
 
 returns : tie.Need-returns
 returns c =
+    let read = c .before .before .before .before .before .before .before .before in
+    let told = read .before .pre .1 .1 in
     rw (
-      ← c .before .before .before .before .before .before .before .before .before .before .our-reading .ensures,
-      ← c .before .before .before .before .before .before .before .before .before .link-of .ensures,
-      ← c .before .before .before .before .before .before .before .before .report-count .ensures,
+      ← read .our-reading .ensures,
+      ← told .0,
+      ← told .1,
       ← c .before .before .before .before .length .ensures,
       ← c .before .before .before .tells-length .ensures,
       ← c .before .before .link-sent .ensures,
@@ -55,9 +49,6 @@ sends-spec =
     tie.close
     (tie.spec
     our-reading-requires
-    link-of-requires
-    report-count-requires
-    cast-end
     cast-pid
     length-requires
     tells-length-requires
