@@ -1,6 +1,6 @@
--- An inspection and the action behind it go one way until the packet passes, and the action tests what the inspection tests. So the two in turn are the action, and that is the arrival in one piece.
+-- What an inspection refuses, the action refuses alike, since both go one way until the packet passes; and calls may come between the two, since an inspection changes nothing.
 use mathlib.Core.Path.{_≡_, refl, sym, ap, fun-ext, _∙_}
-use mathlib.Core.Bool.{Bool, true, false, cond, not, _||_, true≢false}
+use mathlib.Core.Bool.{Bool, true, false, cond, _||_, true≢false}
 use mathlib.Core.List.{List, [], _∷_, _++_}
 use mathlib.Core.Logic.{_↔_}
 use Prim.Native.Nat.{ℕ, _+_, _≤_}
@@ -12,70 +12,23 @@ use Rattle.lists.proofs.Tests.{either}
 use Rattle.answer.specs.declared.Answer.{Answer}
 use Rattle.answer.specs.Answer.{number}
 use Rattle.clock.specs.declared.Counter.{Counter}
-use Rattle.wire.specs.declared.Packet.{Packet}
-use Rattle.wire.specs.declared.Parsed.{Parsed}
-use Rattle.wire.specs.declared.Parsed.the-variants.{Good, Bad}
-use Rattle.host.specs.declared.guard.Scope.the-variants.{OnLink}
 use Rattle.host.specs.State.{placesPerHost, firstPlace}
 use Rattle.host.specs.Lent.{Host, Lent}
-use Rattle.host.specs.Guard.{guard, done}
-use Rattle.arrival.specs.declared.Arrived.{Arrived}
-use Rattle.host.specs.Inspection.{tells}
-use Rattle.host.specs.Inspection as inspecting
-use Rattle.arrival.specs.Arrival.{quiet, action, inspected, inspection}
-use Rattle.arrival.specs.Arrival as arrivals
-use Rattle.arrival.proofs.Pair as pieces
-use Rattle.calls.specs.Perform.{Outcome, inspect, act, receive, refused, updatedBy, perform, left, inTurn}
+use Rattle.host.specs.Guard.{done}
+use Rattle.arrival.specs.Arrival.{action}
+use Rattle.calls.specs.Perform.{inspect, act, receive, perform}
+use Rattle.calls.proofs.Pair.{leaves, looks, receive-acts, pair-ways, one-piece}
 use Rattle.network.specs.History.{Event, State, Left, numberOf, outcome, places, LendsWhole, leftBy, put, after, afterAll}
 use Rattle.network.specs.Demand3.{timed}
 use Rattle.network.specs.Pair.{Pair, answerOf, instead}
-use Rattle.network.proofs.Performs.{performs, there}
-use Rattle.network.proofs.Written.{quieted}
 use Rattle.network.proofs.Demand3.Arrival.{action-timed}
-
--- ---- an inspection changes nothing
-
-module _ (i : ℕ) (octets : List ℕ) (x : Lent) where
-  leaves : perform (inspect i octets) x ≡ record { reply = perform (inspect i octets) x .reply; clock = x .host .clock; links = x .host .links; walk = x .walk; copy = x .copy; run = x .run; buffer = [] }
-  leaves =
-      performs (inspect i octets) x (λ o. o ≡ record { reply = o .reply; clock = x .host .clock; links = x .host .links; walk = x .walk; copy = x .copy; run = x .run; buffer = [] }) (λ _. refl)
-      (λ e. quieted x (there (inspect i octets) x e) (tells (inspecting.inspect (x .host .settings) i octets)) (x .host) octets)
-
-  looks : left x (perform (inspect i octets) x) ≡ x
-  looks = ap (left x) leaves
 
 module _ (i : ℕ) (k : Counter) (octets : List ℕ) (x : Lent) where
   abbrev h : Host
   h = x .host
 
-  -- ---- the action alone
-
-  pub receive-acts : perform (receive i k octets) x ≡ perform (act i k octets) x
-  unfolding perform
-  receive-acts =
-      ap (λ (a : Arrived). cond (not (done (guard (OnLink i) x))) (refused (guard (OnLink i) x) (act i k octets) x) (updatedBy a octets x))
-      (pieces.one-piece i k octets (x .nets) h)
-
-  -- ---- the inspection and the action, side by side
-
-  module _ (P : Outcome → Outcome → Type 0) (alike : (o : Outcome) → P o o)
-      (passes : (p : Packet) → P (updatedBy (quiet (tells (Good p)) h) octets x) (updatedBy (action k (x .nets) h i p) octets x)) where
-    by-packet : (q : Parsed) → P (updatedBy (quiet (tells q) h) octets x) (updatedBy (inspected k (x .nets) h i q) octets x)
-    by-packet (Bad a) = alike _
-    by-packet (Good p) = passes p
-
-    pair-ways : P (perform (inspect i octets) x) (perform (act i k octets) x)
-    unfolding perform
-    pair-ways = go (not (done (guard (OnLink i) x)))
-      where
-        go : (b : Bool)
-            → P (cond b (refused (guard (OnLink i) x) (inspect i octets) x) (updatedBy (inspection i octets h) octets x))
-            (cond b (refused (guard (OnLink i) x) (act i k octets) x) (updatedBy (arrivals.act i k octets (x .nets) h) octets x))
-        go true = alike _
-        go false = by-packet (inspecting.inspect (h .settings) i octets)
-
   refuses : done (answerOf (inspect i octets) x) ≡ false → perform (act i k octets) x ≡ perform (inspect i octets) x
-  refuses = pair-ways (λ o o′. done (o .reply .answer) ≡ false → o′ ≡ o) (λ o _. refl) (λ p e. absurd (true≢false e))
+  refuses = pair-ways i k octets x (λ o o′. done (o .reply .answer) ≡ false → o′ ≡ o) (λ o _. refl) (λ p e. absurd (true≢false e))
 
   -- the answers of an action whose packet passed
   late : (a : Answer) → T (timed a) → 3 ≤ number a → number a ≤ 9 → ⊥
@@ -89,20 +42,8 @@ module _ (i : ℕ) (k : Counter) (octets : List ℕ) (x : Lent) where
 
   exactly : (n : ℕ) → 3 ≤ n → n ≤ 9 → (number (answerOf (inspect i octets) x) ≡ n) ↔ (number (answerOf (act i k octets) x) ≡ n)
   exactly n low high =
-      pair-ways (λ o o′. (number (o .reply .answer) ≡ n) ↔ (number (o′ .reply .answer) ≡ n)) (λ o. (λ e. e, λ e. e))
+      pair-ways i k octets x (λ o o′. (number (o .reply .answer) ≡ n) ↔ (number (o′ .reply .answer) ≡ n)) (λ o. (λ e. e, λ e. e))
       (λ p. (λ e. absurd (omega (arith, e)), λ e. absurd (late (action k (x .nets) h i p .reply .answer) (action-timed k (x .nets) h i p) (omega (arith, e)) (omega (arith, e)))))
-
-  in-turn : perform (act i k octets) x ≡ cond (done (answerOf (inspect i octets) x)) (perform (act i k octets) x) (perform (inspect i octets) x)
-  in-turn = pair-ways (λ o o′. o′ ≡ cond (done (o .reply .answer)) o′ o) (λ o. same (done (o .reply .answer)) o) (λ p. refl)
-    where
-      same : (b : Bool) (o : Outcome) → o ≡ cond b o o
-      same true o = refl
-      same false o = refl
-
-  one-piece : perform (receive i k octets) x ≡ inTurn i k octets x
-  one-piece =
-      receive-acts ∙ in-turn
-      ∙ ap (λ (y : Lent). cond (done (answerOf (inspect i octets) x)) (perform (act i k octets) y) (perform (inspect i octets) x)) (sym (looks i octets x))
 
 -- ---- calls between the two
 

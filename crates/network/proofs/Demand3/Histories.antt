@@ -35,6 +35,7 @@ use Rattle.calls.specs.declared.Request.the-variants as variants
 use Rattle.calls.specs.declared.Request.the-variants.{Initialize, Tick, Second, SelfReport}
 use Rattle.calls.specs.Effects.{initialize}
 use Rattle.calls.specs.Perform.{ask, send, deliver, inspect, Outcome, scopeOfCall, perform}
+use Rattle.calls.proofs.Pair.{receive-acts}
 use Rattle.network.specs.Left.{messageOf}
 use Rattle.network.specs.Frame.{Elsewhere}
 use Rattle.network.specs.History.{Left, leftBy, after}
@@ -49,7 +50,6 @@ use Rattle.network.proofs.Demand3.Seats.{fresh-right, afresh-right, tic
 use Rattle.network.proofs.Demand3.Sending.{send-right}
 use Rattle.network.proofs.Demand3.Arrival.{act-right}
 use Rattle.network.proofs.Demand3.Walks.{open-right, step-right}
-use Rattle.network.proofs.Pair.{receive-acts}
 
 -- an equation of two calls that differ
 unlike : {A : Type 0} → _≡_ {A = ℕ} 0 1 → A
