@@ -2,12 +2,13 @@
 import re
 from script import walk_names
 
-CRATES = ("lent", "shapes", "exports", "wholes", "class_table")
+CRATES = ("lent", "shapes", "exports", "wholes", "class_table", "bench_shapes", "bench_wholes")
 LOOPS = ("Folds", "Maps", "Applies", "Writes")
 
 # What the made text binds or cites itself, beside the names of Walk.antt. A type of the same name would be taken for it, or it for the type. Of a type C the text makes RC and XC besides.
-CITED = set("Type Unit LL Word Data Part Outcome Kept LentAgain Declared Struct Plains Denots Array Sym Contract Clauses Post Says Asks".split())
+CITED = set("Type Unit LL Word Data Part Outcome Kept LentAgain LentPart Declared Struct Plains Denots Array Sym Contract Clauses Post Says Asks".split())
 STRAIGHT_TYPES = CITED | set("A H M W".split())
+REPEATS_TYPES = STRAIGHT_TYPES | set("J X After At En Left Ok Turn".split())
 WHOLE_TYPES = STRAIGHT_TYPES | set("D K O LO PO RO".split())
 # The same for parameters: what stands beside them in the made text, and the fields of the records that are made there.
 VALUES = set("x at v vs sh r u exits walk fm then stayed ended clauses function slice make made back shown one room".split())
@@ -37,21 +38,22 @@ class Param:
 
 
 class WholeParam:
-    """a parameter of a call by value. kind: word, passed on by value; struct or list, held in a local that is lent; octets, a slice that is passed on. mut: it is lent by `&mut`; back: the local is handed back"""
+    """a parameter of a call by value. kind: word, passed on by value; struct or list, held in a local that is lent; slice or ref, lent and passed on. mut: it is lent by `&mut`; back: the local is handed back"""
 
     def __init__(self, name, text, homes):
         self.name = name
         self.type = re.search(r"\w+(?=[\];]|$)", text).group(0)
         self.mut = homes.get(name, text).startswith("&mut ")
-        self.kind = "octets" if text.startswith("&") else "list" if text.startswith("[") else "struct" if name in homes else "word"
+        self.kind = "slice" if "&" in text and "[" in text else "ref" if "&" in text else "list" if text.startswith("[") else "struct" if name in homes else "word"
         self.back = self.mut and name in homes
+        self.size = text[-2] if self.kind == "list" else None
 
 
 class Arg:
-    """how: value, field, share, again or give"""
+    """how: value, field, share, again or give; part: the two values that a part of octets lies between"""
 
-    def __init__(self, name, field, how):
-        self.name, self.field, self.how = name, field, how
+    def __init__(self, name, field, how, part=None):
+        self.name, self.field, self.how, self.part = name, field, how, part
 
 
 class Call:
@@ -64,10 +66,10 @@ class Shape:
 
     def __init__(self, crate, line, head, lines):
         self.crate, self.line, self.lines = crate, line, lines
-        g = re.fullmatch(r"fn (\w+)\((.*)\)(?: -> (\w+))?( requires)? \{", head)
+        g = re.fullmatch(r"fn (\w+)\((.*)\)(?: -> (\w+))?( requires| given)? \{", head)
         if not g:
             raise Wrong(line, "not the heading of a function: `fn NAME(PARAMETERS) -> TYPE {`")
-        self.name, self.result, self.requires = g.group(1), g.group(3) or "()", bool(g.group(4))
+        self.name, self.result, self.requires, self.given = g.group(1), g.group(3) or "()", g.group(4) == " requires", g.group(4) == " given"
         self.text = " ".join(" ".join([head] + [t for _, t in lines] + ["}"]).split())
         self.heads = []
         for text in g.group(2).split(", ") if g.group(2) else []:
@@ -102,6 +104,8 @@ class Shape:
 class Straight(Shape):
     """a function of straight statements"""
 
+    RESERVED = STRAIGHT_TYPES
+
     def __init__(self, *heading):
         super().__init__(*heading)
         self.params = [self.param(name, text) for name, text in self.heads]
@@ -120,7 +124,7 @@ class Straight(Shape):
         if not re.fullmatch(r"\w+|&(mut )?(\w+|\[\w+\])", text):
             raise Wrong(self.line, "not a type of a parameter: `%s` (T, &T, &mut T, &[T] or &mut [T])" % text)
         p = Param(name, text)
-        self.name_type(self.line, p.type, STRAIGHT_TYPES, ("u8",) if p.slice else () if p.ref else ("usize",))
+        self.name_type(self.line, p.type, self.RESERVED, ("u8",) if p.slice else () if p.ref else ("usize",))
         return p
 
     def statement(self, line, text):
@@ -223,6 +227,9 @@ class Straight(Shape):
         return [self.arg(line, a) for a in text.split(", ")] if text else []
 
     def arg(self, line, text):
+        g = re.fullmatch(r"(&mut |&)(\w+)\[(\w+)\.\.(\w+)\]", text)
+        if g:
+            return self.part_arg(line, *g.groups())
         g = re.fullmatch(r"(&mut |&)?([A-Za-z_]\w*)(?:\.(\d+))?", text)
         if not g:
             raise Wrong(line, "not an argument: `%s` (x, p.1, run, &run or &mut run; no literals)" % text)
@@ -245,6 +252,19 @@ class Straight(Shape):
         p.gone = line if how == "give" else False
         return Arg(name, None, how)
 
+    def part_arg(self, line, mark, name, low, high):
+        """a part of octets that are lent"""
+        p = self.by_name.get(name)
+        if not (p and p.slice and p.type == "u8" and p.mut == (mark == "&mut ")):
+            raise Wrong(line, "`%s` is no `%s[u8]`" % (name, mark))
+        if p.gone:
+            raise Wrong(line, "`%s` is given away on line %d" % (name, p.gone))
+        for x in (low, high):
+            if self.types.get(x) != "usize":
+                raise Wrong(line, "`%s` is no value of type usize" % x)
+        p.changed = p.changed or p.mut
+        return Arg(name, None, "again" if p.mut else "share", (low, high))
+
     def ends(self):
         """each `&mut` is stored to or given away, and the function hands its result back"""
         last = self.lines[-1][0] if self.lines else self.line
@@ -260,23 +280,63 @@ class Straight(Shape):
             raise Wrong(last, "`%s` ends with what it hands back: `p.0` or `f(..)`" % self.name)
 
 
+class Repeats(Straight):
+    """a loop whose turn is a call: what is lent is lent again for each turn"""
+
+    RESERVED = REPEATS_TYPES
+
+    def __init__(self, *heading):
+        Shape.__init__(self, *heading)
+        if self.result != "()" or self.requires or self.given or self.heads[-1:] != [("w", "J")]:
+            raise Wrong(self.line, "a loop hands nothing back, and its last parameter is `w: J`")
+        self.params = [self.param(name, text) for name, text in self.heads[:-1]]
+        for p in self.params:
+            if not p.ref or p.mut and not p.slice:
+                raise Wrong(self.line, "`%s` is no `&T`, `&[T]` or `&mut [T]`" % p.name)
+        self.params.append(Param("w", "J"))
+        self.by_name = {p.name: p for p in self.params}
+        self.types, self.parts = {"i": "usize", "w": "J"}, {"J": ["usize", "usize"]}
+        self.name_value(self.line, "i")
+        for n, words in ((0, "for i in w.0..w.1 {"), (2, "}")):
+            line, text = self.lines[n] if n < len(self.lines) else (self.line, "")
+            if text != words:
+                raise Wrong(line, "unknown form: here stands `%s`" % words)
+        line, text = self.lines[1]
+        g = re.fullmatch(r"(\w+)\((.*)\);", text)
+        if not g or len(self.lines) > 3:
+            raise Wrong(line, "a turn is one call, `turn(..);`")
+        args = self.args(line, g.group(2))
+        for p in self.params:
+            passed = [a.how for a in args if a.name == p.name]
+            if p.mut and passed != ["again"] or len(passed) > 1:
+                raise Wrong(line, "`%s` is passed once, as `&mut %s`" % (p.name, p.name) if p.mut else "`%s` is passed twice" % p.name)
+            p.end = "given" if p.mut else None
+        if not [p for p in self.params if p.mut]:
+            raise Wrong(self.line, "a loop that changes nothing has no law here")
+        self.body = [("call", Call(None, "()", g.group(1), args))]
+
+
 class Whole(Shape):
     """a call by value: locals, one call that is lent them, and a struct of what they hold then"""
 
+    RESERVED = WHOLE_TYPES
+
     def __init__(self, *heading):
         super().__init__(*heading)
-        if self.result != "O" or self.requires:
+        if self.result != "O" or self.requires or self.given:
             raise Wrong(self.line, "a call by value ends in `-> O {`")
         for name, text in self.heads:
-            if not re.fullmatch(r"\w+|\[\w+; n\]|&(mut )?\[u8\]", text):
-                raise Wrong(self.line, "not a type of a parameter: `%s` (T, [T; n], &[u8] or &mut [u8])" % text)
-            if not text.startswith("&"):
-                self.name_type(self.line, re.search(r"\w+", text).group(0), WHOLE_TYPES)
+            if not re.fullmatch(r"\w+|\[\w+; [nm]\]|&\w+|&(mut )?\[\w+\]", text):
+                raise Wrong(self.line, "not a type of a parameter: `%s` (T, [T; n], [T; m], &T, &[T] or &mut [T])" % text)
+            if not text.endswith("[u8]"):
+                self.name_type(self.line, re.search(r"\w+(?=[\];]|$)", text).group(0), WHOLE_TYPES)
         homes = self.homes()
         self.params = [WholeParam(name, text, homes) for name, text in self.heads]
         lists = [p for p in self.params if p.kind == "list"]
-        if len(lists) != 1 or len([p for p in self.params if p.kind == "octets" and p.mut]) > 1:
-            raise Wrong(self.line, "a call by value has one array, and at most one `&mut [u8]`")
+        if len({p.size for p in lists}) < len(lists) or len({p.type for p in lists}) < len(lists):
+            raise Wrong(self.line, "a call by value has at most two arrays, `[T; n]` and `[T; m]`, of different types")
+        if self.crate != "bench_wholes" and [p for p in lists if p.size == "m"]:
+            raise Wrong(self.line, "`[T; m]` stands in crate `bench_wholes` alone, which has the law of its length")
         held = [p.name for p in self.params if p.kind in ("struct", "list")]
         if list(homes) != held:
             raise Wrong(self.line, "the locals hold %s, in this order" % ", ".join(held))
@@ -320,7 +380,8 @@ def read(text):
     for line, t in enumerate(text.split("\n"), 1):
         t = t.rstrip()
         if head and t == "}":
-            shape = (Whole if head[1].startswith("fn Whole") else Straight)(crate, head[0], head[1], lines)
+            kind = Whole if head[1].startswith("fn Whole") else Repeats if lines and lines[0][1].startswith("for ") else Straight
+            shape = kind(crate, head[0], head[1], lines)
             if shape.name in line_of:
                 raise Wrong(head[0], "the name `%s` is taken: it %s" % (shape.name, "stands on line %d" % line_of[shape.name] if line_of[shape.name] else "is a loop's"))
             line_of[shape.name] = head[0]

@@ -31,10 +31,21 @@ class Value:
 class Straight(Law):
     PARTS = "calls_and_refs types_of heading signatures mir said knowledge exit walk theorem cites".split()
 
+    def lent_again(self, c):
+        """the arguments of a call that are lent for a lifetime of its own"""
+        return [a for a in c.args if a in c.refs and (a.how == "again" or a.how == "share" and self.by_name[a.name].mut)]
+
+    def own_names(self, c):
+        """names for each of them, and for the lengths of the slices that are left: the first has the call's number"""
+        for i, a in enumerate(self.lent_again(c)):
+            a.n = c.n + "′" * i
+        for i, a in enumerate(a for a in c.args if a.how in ("again", "give") and self.by_name[a.name].slice):
+            a.len_ = "len" + c.n + "′" * i
+
     def calls_and_refs(self):
         """the calls, and the parameters that are lent"""
         self.params, self.by_name, self.body, self.parts, self.types = self.shape.params, self.shape.by_name, self.shape.body, self.shape.parts, self.shape.types
-        self.result, self.requires = self.shape.result, self.shape.requires
+        self.result, self.requires, self.given = self.shape.result, self.shape.requires, self.shape.given
         self.calls = [b[1] for b in self.body if b[0] == "call"]
         for j, c in enumerate(self.calls):
             c.n = digits(j + 1)
@@ -128,6 +139,7 @@ class Straight(Law):
         for c in self.calls:
             slots = []
             c.refs = [a for a in c.args if a.how in ("share", "again", "give")]
+            self.own_names(c)
             for a in c.args:
                 if a in c.refs:
                     p = self.by_name[a.name]
@@ -200,6 +212,15 @@ class Straight(Law):
                     p = self.by_name.get(a.name)
                     if a.how in ("value", "field"):
                         c.operands.append((self.at[a.name], a.field))
+                    elif a.part:
+                        low, high = (self.at[x] for x in a.part)
+                        ty = "tyRef erased %s (tyInt w8)" % ("imm" if a.how == "share" else "mut")
+                        a.from_, a.count, a.ptr, a.whole = self.new("tyPtr"), self.new("tyInt w64"), self.new(ty), self.new("sliceTy (%s)" % ty)
+                        statements.append(assign(a.from_, "op2 offset (%s) (%s)" % (copy(self.at[p.name], "field 0 ∷ []"), copy(low))))
+                        statements.append(assign(a.count, "op2 (minus no-sign) (%s) (%s)" % (copy(high), copy(low))))
+                        statements.append(assign(a.ptr, "addrOf (place %d (deref (tyInt w8) ∷ []))" % a.from_))
+                        statements.append(assign(a.whole, "aggregate (%s ∷ %s ∷ [])" % (copy(a.ptr), copy(a.count))))
+                        c.operands.append((a.whole, None))
                     elif a.how == "share" and not p.mut:
                         c.operands.append((self.at[p.name], None))
                     elif p.slice:
@@ -236,11 +257,11 @@ class Straight(Law):
             res = [self.word(c.type) + " .row .Denot"] if c.let else []
             self.contracts.append("(asks%s : %s)" % (c.n, arrows(args + ["SProp 𝓤"])))
             self.contracts.append("(gives%s : %s)" % (c.n, arrows(args + res + ends + ["Type 0"])))
-        if self.requires:
-            self.contracts.append("(Asks : %s)" % arrows([self.seen(p) for p in self.params] + ["SProp 𝓤"]))
+        if self.requires or self.given:
+            self.contracts.append("(Asks : %s)" % arrows([self.seen(p) for p in self.params] + ["SProp 𝓤" if self.requires else "Type 0"]))
         self.answers = [self.word(self.result) + " .row .Denot"] if self.result != "()" else []
         self.contracts.append("(Says : %s)" % arrows([self.seen(p) for p in self.params] + [self.seen(p) for p in self.changed] + self.answers + ["Type 0"]))
-        self.contract_names = " ".join("asks%s gives%s" % (c.n, c.n) for c in self.calls) + (" Asks" if self.requires else "") + " Says"
+        self.contract_names = " ".join("asks%s gives%s" % (c.n, c.n) for c in self.calls) + (" Asks" if self.requires or self.given else "") + " Says"
         self.emit("  -- what each callee asks and says, and what the function says")
         self.emit("  module _ {M : Type 1} (𝓤 : URA M) (H : Heap 𝓤) (A : Atoms 𝓤) %s where" % " ".join(self.contracts))
 
@@ -262,7 +283,7 @@ class Straight(Law):
     clauses = λ κs a. record { ghost = Unit {0}; requires = λ _. %s; ensures = λ _ r e. fact 𝓤 (Says %s%s%s) }
 """
             % (
-                "Asks " + seen_on_entry if self.requires else "emp 𝓤",
+                "Asks " + seen_on_entry if self.requires else "fact 𝓤 (Asks %s)" % seen_on_entry if self.given else "emp 𝓤",
                 seen_on_entry,
                 "".join(" (%s .now)" % proj("e", self.params.index(p)) for p in self.changed),
                 " r" if self.answers else "",
@@ -307,7 +328,9 @@ class Straight(Law):
 
         bind = " ".join("(%s : %s)" % (p.name, self.seen(p)) for p in self.params)
         self.everything = " ".join(p.name for p in self.params)
-        known_bind, known_facts, self.oks = "", "", []
+        known_bind, known_facts, self.oks, self.ok_names = "", "", [], []
+        asked = " → Asks %s" % self.everything if self.given else ""
+        self.given_by = " asked" if self.given else ""
         facts = []
         prime = {p.name: "" for p in self.refs}
         for b in self.body:
@@ -318,10 +341,17 @@ class Straight(Law):
                 self.env[b[1]] = Value("(length %s)" % b[2], BUILTIN["usize"], "vint w64 (length %s)" % b[2], "(refl, room-%s .0)" % b[2])
             if b[0] == "call":
                 c = b[1]
-                c.xs = [lists[a.name] if a in c.refs else self.value(a).x for a in c.args]
+                for a in c.args:
+                    if a.part:
+                        low, high = (self.env[x].x for x in a.part)
+                        a.within = "within" + c.n + "′" * [b for b in c.args if b.part].index(a)
+                        self.oks.append("(%s : %s%s%s → %s(%s ≤ %s) × (%s ≤ length %s))" % (a.within, bind, asked, self.arrow(asked, known_bind), known_facts, low, high, high, lists[a.name]))
+                        self.ok_names.append(a.within)
+                c.xs = [self.part_of(a, lists[a.name]) if a in c.refs else self.value(a).x for a in c.args]
                 app = " ".join(c.xs)
                 had = "Asks " + self.everything if self.requires and c is self.calls[0] else "emp 𝓤"
-                self.oks.append("(ok%s : %s%s → %sent 𝓤 (%s) (asks%s %s))" % (c.n, bind, known_bind, known_facts, had, c.n, app))
+                self.oks.append("(ok%s : %s%s%s → %sent 𝓤 (%s) (asks%s %s))" % (c.n, bind, asked, self.arrow(asked, known_bind), known_facts, had, c.n, app))
+                self.ok_names.append("ok" + c.n)
                 c.facts = " ".join(facts)
                 c.before = known_bind
                 if c.let:
@@ -334,7 +364,7 @@ class Straight(Law):
                         v = a.name + prime[a.name]
                         known_bind += " (%s : %s)" % (v, self.seen(self.by_name[a.name]))
                         c.ends.append((a, lists[a.name], v))
-                        lists[a.name] = v
+                        lists[a.name] = self.put_back(a, lists[a.name], v)
                 c.said = "gives%s %s%s" % (c.n, app, (" " + c.let if c.let else "") + "".join(" " + v for _, _, v in c.ends))
                 known_facts += "%s → " % c.said
                 c.known_so_far = " ".join(re.findall(r"\((\S+) : ", known_bind))
@@ -345,8 +375,8 @@ class Straight(Law):
                 last[b[1]] = self.value(b[2])
         self.final = {p.name: (last[p.name].x if p.end == "stored" else last[p.name]) for p in self.changed}
         answer = self.answered()
-        self.oks.append("(then : %s%s → %sSays %s%s%s)" % (bind, known_bind, known_facts, self.everything, "".join(" " + self.final[p.name] for p in self.changed), " " + answer.x if self.answers else ""))
-        self.ok_names = " ".join("ok" + c.n for c in self.calls) + " then"
+        self.oks.append("(then : %s%s%s → %sSays %s%s%s)" % (bind, asked, self.arrow(asked, known_bind), known_facts, self.everything, "".join(" " + self.final[p.name] for p in self.changed), " " + answer.x if self.answers else ""))
+        self.ok_names = " ".join(self.ok_names + ["then"])
 
         self.κ = ["κ" + p.d for p in self.refs]
         self.q = ["q" + p.d for p in self.refs]
@@ -375,6 +405,18 @@ class Straight(Law):
                 nest(self.q),
             )
         )
+
+    def arrow(self, asked, bind):
+        """what is known behind what the function is given"""
+        return " →" + bind if asked and bind else bind
+
+    def part_of(self, a, x):
+        """what an argument is lent of a list"""
+        return "(midOf %s (%s - %s) %s)" % (a.part[0], a.part[1], a.part[0], x) if a.part else x
+
+    def put_back(self, a, x, y):
+        """a list, where the argument was left as y"""
+        return "(putMid %s (%s - %s) %s %s)" % (a.part[0], a.part[1], a.part[0], x, y) if a.part else y
 
     def exit(self):
         """the exit"""
@@ -504,6 +546,9 @@ class Straight(Law):
         self.s.note(c.name)
         for a in c.args:
             p = self.by_name.get(a.name)
+            if a.part:
+                self.walk_part(c, a)
+                continue
             if a.how == "share" and not p.mut or a not in c.refs:
                 continue
             if p.slice:
@@ -524,16 +569,33 @@ class Straight(Law):
                 continue
             cur = self.now[a.name]
             here = "ref%s γ%s %s" % (p.d, p.d, cur)
-            if a.how == "share" and not p.mut:
+            if a.how == "share" and a.part:
+                self.twice(p)
+                low, count, δ, j = a.part[0], "(%s - %s)" % (a.part[1], a.part[0]), "δ" + c.n + "part" + p.d, c.refs.index(a)
+                lft, share = "κ" + p.d, "q" + p.d
+                x = "record { ptr = (b%s, %s + o%s); name = %s; now = %s }" % (p.d, low, p.d, δ, self.part_of(a, cur))
+                self.s.move("once" + p.d, "token" + p.d)
+                self.s.head(
+                    "use2 W (later (some (λ (%s : GName). ‵ (%s .own (%s) (slice-vals (%s))) ⊛ ‵ (flft %s %s)))) (shares-part 𝓤 H A W %s %s b%s o%s (named %d) (named %d) γ%s %s %s %s (omega (arith, %s .0, %s .1))) $ await ! tt $"
+                    % (δ, self.owner(p, j, lft, False), x, x, lft, share, lft, share, p.d, p.d, p.j, j, p.d, cur, low, count, a.fits, a.fits),
+                    2,
+                    ["w"],
+                )
+                self.s.binder("pick ! (λ %s." % δ, 0, [])
+                self.s.split("w", "once" + p.d, "token" + p.d)
+                a.own, a.token = "once" + p.d, "token" + p.d
+            elif a.how == "share" and not p.mut:
                 self.twice(p)
                 a.own, a.token, lft, share, x = "once" + p.d, "token" + p.d, "κ" + p.d, "q" + p.d, here
             elif a.how == "give":
                 a.own, a.token, lft, share, x = "own" + p.d, "token" + p.d, "κ" + p.d, "q" + p.d, here
             else:
-                new_lft, ghost = "α" + c.n, "δ" + c.n
+                new_lft, ghost = "α" + a.n, "δ" + a.n
                 self.s.binder("lft-new ! tt (λ %s." % new_lft, 0, ["fresh" + p.d])
                 self.s.move("own" + p.d, "token" + p.d)
                 x = "ref%s %s %s" % (p.d, ghost, cur)
+                if a.part:
+                    x = "record { ptr = (b%s, %s + o%s); name = %s; now = %s }" % (p.d, a.part[0], p.d, ghost, self.part_of(a, cur))
                 lft, share = "(%s ∷ [])" % new_lft, "fullShare"
                 lends, kept = ("lends-shared", "Kept %s κ%s %s q%s γ%s b%s o%s %s" % (self.row(p), p.d, lft, p.d, p.d, p.d, p.d, cur))
                 mut = a.how == "again"
@@ -541,9 +603,13 @@ class Straight(Law):
                     lends, kept = ("lends-again", "LentAgain %s κ%s %s q%s γ%s b%s o%s %s %s" % (self.row(p), p.d, lft, p.d, p.d, p.d, p.d, ghost, cur))
                 j = c.refs.index(a)
                 args_ = "%s κ%s %s q%s γ%s b%s o%s 𝓤 H A W (named %d) (named %d) %s" % (self.row(p), p.d, lft, p.d, p.d, p.d, p.d, p.j, j, cur)
+                if a.part:
+                    count = "(%s - %s)" % (a.part[1], a.part[0])
+                    lends, kept = "lends-part", "LentPart κ%s q%s %s γ%s %s %s %s %s b%s o%s" % (p.d, p.d, lft, p.d, ghost, cur, a.part[0], count, p.d, p.d)
+                    args_ = "𝓤 H A W κ%s %s q%s γ%s b%s o%s (named %d) (named %d) %s %s %s (omega (arith, %s .0, %s .1))" % (p.d, lft, p.d, p.d, p.d, p.d, p.j, j, cur, a.part[0], count, a.fits, a.fits)
                 self.s.head(
                     "use2 W (later (some (λ (%s : GName). ‵ (%s .own (%s) (%s)) ⊛ ‵ (%s)))) (%s %s) $ await ! tt $"
-                    % (ghost, self.owner(p, j, lft, mut), x, self.ref_vals(p, x), kept, lends, args_),
+                    % (ghost, self.owner(p, j, lft, mut), x, "slice-vals (%s)" % x if a.part else self.ref_vals(p, x), kept, lends, args_),
                     2,
                     ["w"],
                 )
@@ -553,7 +619,7 @@ class Straight(Law):
             lfts.append(lft)
             shares.append(share)
             arg.append(x)
-            argvals.append(self.ref_vals(p, x))
+            argvals.append("slice-vals (%s)" % x if a.part else self.ref_vals(p, x))
             tks.append((a.token, lft, share))
         self.s.nothing("tokens")
         for t, _, _ in reversed(tks):
@@ -567,10 +633,10 @@ class Straight(Law):
                 self.s.join("o", "owns", "owns", "fjoin")
         lf, sf, ar, av = nest(lfts), nest(shares), nest(arg), nest(argvals)
         to = "((%s, %s, tt, %s, %s), tt)" % (lf, sf, ar, av)
-        app = " ".join(self.now[a.name] if a in c.refs else self.value(a).x for a in c.args)
+        app = " ".join(self.part_of(a, self.now[a.name]) if a in c.refs else self.value(a).x for a in c.args)
         facts_ = (" " + c.facts) if c.facts else ""
         before = " ".join(self.left.get(v, v) for v in re.findall(r"\((\S+) : ", c.before))
-        ok = "(raw (asks%s %s)) (ok%s %s%s%s) $" % (c.n, app, c.n, self.everything, " " + before if before else "", facts_)
+        ok = "(raw (asks%s %s)) (ok%s %s%s%s%s) $" % (c.n, app, c.n, self.everything, self.given_by, " " + before if before else "", facts_)
         if self.requires and c is self.calls[0]:
             self.s.move("asks")
             self.s.head("use1 W " + ok, 1, ["asks"])
@@ -609,7 +675,7 @@ class Straight(Law):
             elif p.slice:
                 self.s.split("w", "last" + p.d, "len", "fsplit")
                 self.s.move("len")
-                self.s.binder("feqL ! (λ len%s." % c.n, 1, [])
+                self.s.binder("feqL ! (λ %s." % a.len_, 1, [])
             else:
                 self.s.ctx[0] = "last" + p.d
         self.s.drop("lasts")
@@ -624,7 +690,8 @@ class Straight(Law):
             self.s.move("fresh" + p.d)
             self.s.head("lft-end ! tt $", 1, ["dead"])
             base = "%s κ%s %s q%s γ%s b%s o%s 𝓤 H A W" % (self.row(p), p.d, a.lft, p.d, p.d, p.d, p.d)
-            back = cur if a.how == "share" else "(%s)" % ends[id(a)]
+            back = cur if a.how == "share" else self.put_back(a, cur, "(%s)" % ends[id(a)])
+            len_ = None if a.how == "share" else "(same-len-mid %s (%s - %s) %s (%s) %s)" % (a.part[0], a.part[1], a.part[0], cur, ends[id(a)], a.len_) if a.part else a.len_
             owns_back = "later (‵ (%s .own (ref%s γ%s %s) (sliceVal (b%s, o%s) (length %s) ∷ [])) ⊛ ‵ (flft κ%s q%s))" % (self.owner(p), p.d, p.d, back, p.d, p.d, cur, p.d, p.d)
             if a.how == "share":
                 self.s.move("dead", "kept" + p.d)
@@ -632,11 +699,15 @@ class Straight(Law):
                 self.s.split("w", "own" + p.d, "token" + p.d)
             else:
                 self.s.move("dead", "kept" + p.d, "last" + p.d)
-                self.s.head("use3 W (%s) (again-back %s (named %d) (named %d) %s δ%s %s %s len%s) $ await ! tt $" % (owns_back, base, p.j, c.refs.index(a), cur, c.n, back, self.room[p.name], c.n), 3, ["w"])
+                comes = "again-back %s (named %d) (named %d) %s δ%s %s %s %s" % (base, p.j, c.refs.index(a), cur, a.n, back, self.room[p.name], a.len_)
+                if a.part:
+                    comes = "part-back 𝓤 H A W κ%s %s q%s γ%s b%s o%s (named %d) (named %d) %s %s (%s - %s) δ%s (%s) %s" % (p.d, a.lft, p.d, p.d, p.d, p.d, p.j, c.refs.index(a), cur, a.part[0], a.part[1], a.part[0], a.n, ends[id(a)], a.len_)
+                self.s.head("use3 W (%s) (%s) $ await ! tt $" % (owns_back, comes), 3, ["w"])
                 self.s.split("w", "own" + p.d, "token" + p.d)
-                self.s.put("rewrite ! %d (λ (m : ℕ). ‵ (fat fullShare (%s) z%s 0 (sliceVal (b%s, o%s) m))) (sym len%s) refl $" % (self.L(self.at[p.name]), self.local[self.at[p.name]], digits(self.at[p.name]), p.d, p.d, c.n))
-                self.s.put("rewrite ! %d (λ (m : ℕ). ‵ (%s .own (ref%s γ%s %s) (sliceVal (b%s, o%s) m ∷ []))) (sym len%s) refl $" % (self.s.at("own" + p.d), self.owner(p), p.d, p.d, back, p.d, p.d, c.n))
-                self.room[p.name] = "(subst (Room %s) (sym len%s) %s)" % (self.row(p), c.n, self.room[p.name])
+                self.s.put("rewrite ! %d (λ (m : ℕ). ‵ (fat fullShare (%s) z%s 0 (sliceVal (b%s, o%s) m))) (sym %s) refl $" % (self.L(self.at[p.name]), self.local[self.at[p.name]], digits(self.at[p.name]), p.d, p.d, len_))
+                self.s.put("rewrite ! %d (λ (m : ℕ). ‵ (%s .own (ref%s γ%s %s) (sliceVal (b%s, o%s) m ∷ []))) (sym %s) refl $" % (self.s.at("own" + p.d), self.owner(p), p.d, p.d, back, p.d, p.d, len_))
+                self.room[p.name] = "(subst (Room %s) (sym %s) %s)" % (self.row(p), len_, self.room[p.name])
+                a.len_ = len_
         how = "store" if c.to in self.used else "init"
         self.used.add(c.to)
         self.s.put("land ! (from ! (stop !)) (%s ! %d refl (%s .typed M 𝓤 H A W %s _ said-%s)) $" % (how, self.L(c.to), X, r, r))
@@ -645,9 +716,28 @@ class Straight(Law):
             self.env[c.let].known = "(settled %s %s %s said-%s)" % (X, r, v, r)
         for a, _, v2 in c.ends:
             p = self.by_name[a.name]
-            self.left[v2] = self.now[a.name] = "(%s)" % ends[id(a)]
+            self.left[v2] = "(%s)" % ends[id(a)]
+            self.now[a.name] = self.put_back(a, self.now[a.name], self.left[v2])
             if p.slice:
-                self.len_to[a.name] = "len" + c.n if self.len_to[a.name] is None else "(len%s ∙ %s)" % (c.n, self.len_to[a.name])
+                len_ = a.len_
+                self.len_to[a.name] = len_ if self.len_to[a.name] is None else "(%s ∙ %s)" % (len_, self.len_to[a.name])
+
+    def walk_part(self, c, a):
+        """the slice of a part is made: where it begins, and how many octets it has"""
+        p = self.by_name[a.name]
+        low, high = (self.env[x] for x in a.part)
+        before = " ".join(self.left.get(v, v) for v in re.findall(r"\((\S+) : ", c.before))
+        a.fits = "(%s %s%s%s%s)" % (a.within, self.everything, self.given_by, " " + before if before else "", " " + c.facts if c.facts else "")
+        few = "record { fits = omega (arith, %s .1) }" % high.known
+        low_at, high_at = (self.at[x] for x in a.part)
+        self.s.put("assigns ! (bin ! %s %s tt) (from ! (stop !)) (init ! %d refl (tt, tt)) $" % (load(self.s, self.at[p.name], 0), load(self.s, low_at), self.L(a.from_)))
+        self.s.put("assigns ! (bin ! %s %s (%s .0)) (from ! (stop !)) (init ! %d refl (tt, %s)) $" % (load(self.s, high_at), load(self.s, low_at), a.fits, self.L(a.count), few))
+        self.s.put("assigns ! (addr ! (from ! (hop ! (look ! %d refl) (stop !)))) (from ! (stop !)) (init ! %d refl (tt, tt)) $" % (self.L(a.from_), self.L(a.ptr)))
+        self.s.put("assigns ! (agg ! (and-then ! %s (and-then ! %s (no-more !)))) (from ! (stop !)) (init ! %d refl (tt, (tt, (%s, tt)))) $" % (load(self.s, a.ptr), load(self.s, a.count), self.L(a.whole), few))
+        self.s.put(
+            "rewrite ! %d (λ (j : ℕ). ‵ (fat fullShare (%s) z%s 0 (sliceVal (b%s, %s + o%s) j))) (sym (mid-len %s %s %s (%s .1))) refl $"
+            % (self.L(a.whole), self.local[a.whole], digits(a.whole), p.d, low.x, p.d, low.x, high.x, self.now[p.name], a.fits)
+        )
 
     def walk_store(self, b):
         p, v = self.by_name[b[1]], self.value(b[2])
@@ -674,28 +764,23 @@ class Straight(Law):
         given = ["(is-%s : Is (%s .row) %s (%s .val %s ∷ []))" % (p.name, self.word(p.type), p.name, self.word(p.type), p.name) for p in self.params if not p.ref]
         given += ["(room-%s : Room %s (length %s))" % (p.name, self.row(p), p.name) for p in self.refs if p.slice]
         self.emit(self.I + "module _ %s" % " ".join(given))
-        self.emit(self.I + "    (T : Calls 𝓤 H) (Λ : Loops 𝓤 H) (%s : Name) (fm : FmC 𝓤 H (W .laws) T) %s where" % (self.gs, knowns))
+        self.emit(self.I + "    %s(T : Calls 𝓤 H) (Λ : Loops 𝓤 H) (%s : Name) (fm : FmC 𝓤 H (W .laws) T) %s where" % ("(asked : Asks %s) " % self.everything if self.given else "", self.gs, knowns))
         J = self.I + "  "
 
         asked = "Asks " + self.everything if self.requires else "emp 𝓤"
-        self.emit(
-            J
-            + "walk : ent 𝓤 (sep 𝓤 (onEntry 𝓤 H A signature %s %s x at) (%s)) (WpFn 𝓤 H T Λ (function %s) (%s) Post)"
-            % (nest(self.κ), nest(self.q), asked, self.gs, items(map(self.machine, self.params)))
-        )
+        entry = "onEntry 𝓤 H A signature %s %s x at" % (nest(self.κ), nest(self.q))
+        self.emit(J + "walk : ent 𝓤 (%s) (WpFn 𝓤 H T Λ (function %s) (%s) Post)" % (entry if self.given else "sep 𝓤 (%s) (%s)" % (entry, asked), self.gs, items(map(self.machine, self.params))))
         self.emit(J + "walk =")
-        self.s = Script(["entry", "asks"])
-        self.s.put(
-            "qed W (((%s) ⊛ ‵ (owns (%s) x at)) ∷ raw (%s) ∷ []) ∵"
-            % (
-                " ⊛ ".join(["‵ (flft %s %s)" % x for x in zip(self.κ, self.q)] + ["‵ ftrue"]),
-                items(self.owner(p) if p.ref else self.word(p.type) + " .row" for p in self.params),
-                asked,
-            )
-        )
-        self.s.split("entry", "tokens", "owns")
-        if not self.requires:
-            self.s.drop("asks")
+        had = (" ⊛ ".join(["‵ (flft %s %s)" % x for x in zip(self.κ, self.q)] + ["‵ ftrue"]), items(self.owner(p) if p.ref else self.word(p.type) + " .row" for p in self.params))
+        if self.given:
+            self.s = Script(["tokens", "owns"])
+            self.s.put("qed W ((%s) ∷ ‵ (owns (%s) x at) ∷ []) ∵" % had)
+        else:
+            self.s = Script(["entry", "asks"])
+            self.s.put("qed W (((%s) ⊛ ‵ (owns (%s) x at)) ∷ raw (%s) ∷ []) ∵" % (had + (asked,)))
+            self.s.split("entry", "tokens", "owns")
+            if not self.requires:
+                self.s.drop("asks")
         opens(self.s, self.tokens, ["own" + p.d if p.ref else "o" for p in self.params], ["own" + p.d for p in self.refs])
         N = len(self.local)
         allocates(self.s, "enter ! T Λ (function %s) (%s) _ $" % (self.gs, items(map(self.machine, self.params))), N)
@@ -728,8 +813,8 @@ class Straight(Law):
         finals = [self.substituted(self.final[p.name]) for p in self.changed]
         everything_known = " ".join(c for call in self.calls for c in ([call.let] if call.let else []) + ["(%s)" % proj("ends" + call.n, call.args.index(a)) for a, _, _ in call.ends])
         self.s.end(
-            "by ! (exits %s %s (%s)%s (then %s %s %s))"
-            % (" ".join(finals), answer.x, answer.machine, "".join(" " + self.len_to[p.name] for p in self.lengths), self.everything, everything_known, " ".join("φ" + c.n for c in self.calls))
+            "by ! (exits %s %s (%s)%s (then %s%s %s %s))"
+            % (" ".join(finals), answer.x, answer.machine, "".join(" " + self.len_to[p.name] for p in self.lengths), self.everything, self.given_by, everything_known, " ".join("φ" + c.n for c in self.calls))
         )
         text = self.s.lines(J + "    ")
         for c in self.calls:
@@ -751,6 +836,7 @@ class Straight(Law):
         given += ["(%s%s)" % (proj("a", i), " .now" if p.ref else "") for i, p in enumerate(self.params)]
         given += ["(%s)" % proj("are", i) for i, p in enumerate(self.params) if not p.ref]
         given += ["(%s .0 .1)" % proj("are", index(p)) for p in self.refs if p.slice]
+        seen = " ".join("(%s%s)" % (proj("a", i), " .now" if p.ref else "") for i, p in enumerate(self.params))
         contract_of = {c.n: "Contract%s 𝓤 H (𝓖 .A) %s" % (c.n, self.contract_names) for c in self.calls}
         self.emit(
             """
@@ -768,9 +854,9 @@ class Straight(Law):
         Clauses′ (WpFn 𝓤 H (𝓣 .C) (𝓣 .Λ) (function %s)) (WpFn-mono 𝓤 H (W .laws) 𝓣 (function %s))
         (walked 𝓤 H (𝓖 .A) ended stayed Clauses′ (WpFn 𝓤 H (𝓣 .C) (𝓣 .Λ) (function %s)) (λ κs. %s)
         (λ κs. %s)
-        (λ κs qs bounds a _ are. walk 𝓤 H (𝓖 .A) %s W %s
+        (λ κs qs bounds a _ are. %swalk 𝓤 H (𝓖 .A) %s W %s
         %s
-        (𝓣 .C) (𝓣 .Λ) %s (fmOf 𝓤 H (W .laws) 𝓣) %s))
+        %s(𝓣 .C) (𝓣 .Λ) %s (fmOf 𝓤 H (W .laws) 𝓣) %s)%s)
 
     pub proof : %s → Closed 𝓤 H (tables 𝓤 H 𝓜 𝓡 γ .C) (tables 𝓤 H 𝓜 𝓡 γ .Λ) f (function %s) → %s
         → Meets 𝓤 H (𝓖 .A) signature (𝓡 .run (γ f)) (closing 𝓤 H (𝓖 .A) ended Clauses′)
@@ -794,11 +880,14 @@ class Straight(Law):
                 self.gs,
                 spells,
                 tells,
+                "needs 𝓤 (Asks %s) _ (λ asked. " % seen if self.given else "",
                 self.contract_names,
                 self.ok_names,
                 " ".join(given),
+                "asked " if self.given else "",
                 self.gs,
                 " ".join("known" + c.n for c in self.calls),
+                ")" if self.given else "",
                 arrows("γ g%s ≡ r%s" % (c.n, c.n) for c in self.calls),
                 self.gs,
                 arrows("Triple 𝓤 (𝓡 .run r%s) (%s)" % (c.n, contract_of[c.n]) for c in self.calls),
@@ -819,5 +908,8 @@ class Straight(Law):
                 (".Outcomes", ["Outcome", "whole"]),
                 (".Shared", ["Kept", "lends-shared", "comes-back as shared-back"]),
                 (".Again", ["LentAgain", "lends-again", "comes-back as again-back"]),
+                ("Rattle.%s.proofs.Parts" % self.shape.crate, ["shares-part", "LentPart", "lends-part", "part-back"]),
+                ("mir.Syntax", ["sub as minus"]),
+                ("borrow.Rule.Slice.PartMut", ["midOf", "putMid", "mid-len", "same-len-mid"]),
             ],
         )

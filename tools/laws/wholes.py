@@ -9,31 +9,40 @@
         O { answer: a, clock: c, links: l, run: e }
     }
 
-There is one array. Slices of octets are passed on, of which at most one is `&mut`. The call takes the parameters in their order.
+There are two arrays at most: one of up to 1,023 elements, `[T; n]`, and a longer one, `[T; m]`, whose length is lowered to another constant. What is lent, `&T`, `&[T]` and `&mut [T]`, is passed on. The call takes the parameters in their order.
 The checker checks what is written: nothing here is trusted."""
 from script import Law, Script, digits, items, nest, product, proj, uses
 from text import allocates, arrows, assign, at_local, cell, copy, frees, function, load, on_entry, opens, operands, plain, put, sequence, signature, slice_typed, slot, stayed
 
-HERE = "Rattle.wholes.proofs"
-FIELD = {"struct": "declared.field (%s .S)", "list": "list-field %s n"}
-LAWS = {"struct": "LL.field-laws (%s .S) (%s .L) (%s .low)", "list": "list-laws %s n"}
-PLAIN = {"struct": "LL.field-plain (%s .S) (%s .P)", "list": "list-plain %s n"}
+FIELD = {"struct": "declared.field (%s .S)", "list": "list-field %s %n"}
+LAWS = {"struct": "LL.field-laws (%s .S) (%s .L) (%s .low)", "list": "list-laws %s %n"}
+PLAIN = {"struct": "LL.field-plain (%s .S) (%s .P)", "list": "list-plain %s %n"}
 INTO = {"struct": "%s .S .to ", "list": "map (%s .S .to) "}
-LENT = {"struct": "Ref", "list": "SliceRef", "octets": "SliceRef"}
+LENT = {"struct": "Ref", "list": "SliceRef", "slice": "SliceRef", "ref": "Ref"}
+PASSED = ("slice", "ref")
 
 
 class Whole(Law):
     PARTS = "params_and_refs handed_back signatures mir said exit walk theorem cites".split()
 
     def row(self, p):
-        return "u8" if p.kind == "octets" else "R" + p.type
+        return "u8" if p.type == "u8" else "R" + p.type
+
+    def pointee(self, p):
+        return "tyInt w8" if p.type == "u8" else "pointee (R%s .written)" % p.type
+
+    def owner(self, p):
+        """what a parameter that is passed on owns"""
+        return "%s%s (named %d) %s %s" % ("Mut" if p.mut else "Shr", "Slice" if p.kind == "slice" else "Ref", p.k, p.lft, self.row(p))
 
     def word(self, p):
         return p.type if p.kind == "word" else "X" + p.type
 
     def seen(self, p):
         """what a parameter is in a contract"""
-        return {"word": "%s .row .Denot", "struct": "%s .S .D", "list": "List (%s .S .D)", "octets": "List ℕ"}[p.kind].replace("%s", p.type)
+        if p.type == "u8":
+            return "List ℕ"
+        return {"word": "%s .row .Denot", "struct": "%s .S .D", "list": "List (%s .S .D)", "slice": "List (%s .S .D)", "ref": "%s .S .D"}[p.kind].replace("%s", p.type)
 
     def bind(self, ps, prime=""):
         return " ".join("(%s%s : %s)" % (p.name, prime, self.seen(p)) for p in ps)
@@ -45,17 +54,21 @@ class Whole(Law):
         self.homed = [p for p in self.params if p.kind in ("struct", "list")]
         self.changed = [p for p in self.params if p.mut]
         self.held = [p for p in self.homed if p.back]  # what is handed back
-        self.run = [p for p in self.params if p.kind == "list"][0]
-        self.octets = [p for p in self.params if p.kind == "octets"]
-        self.given = [p for p in self.octets if p.mut]
+        self.lists = [p for p in self.params if p.kind == "list"]  # the arrays
+        for p in self.lists:
+            p.of, p.long = "-" + p.name if len(self.lists) > 1 else "", p.size == "m"
+        self.passed = [p for p in self.params if p.kind in PASSED]
+        self.slices = [p for p in self.passed if p.kind == "slice"]
+        self.given = [p for p in self.passed if p.mut]
+        self.data = list(dict.fromkeys(p.type for p in self.homed + self.passed if p.type != "u8"))
         self.refs = [p for p in self.params if p.kind != "word"]  # what the call is lent
         for j, p in enumerate(self.refs):
             p.j, p.lft, p.ghost = j, "(α%s ∷ [])" % digits(j), "γ" + digits(j)
-        for k, p in enumerate(self.octets):
+        for k, p in enumerate(self.passed):
             p.k, p.d = k, digits(k)
             p.lft, p.share, p.ghost = "κ" + p.d, "q" + p.d, "δ" + p.d
-            p.ref = "slice" + p.d
-            p.vals = "slice-vals " + p.ref
+            p.ref = "slice" + p.d if p.kind == "slice" else "lent" + p.d
+            p.vals = "slice-vals " + p.ref if p.kind == "slice" else "vptr b%s o%s ∷ []" % (p.d, p.d)
 
         self.everything = " ".join(p.name for p in self.params)
         self.emit(
@@ -68,7 +81,7 @@ class Whole(Law):
         self.emit("")
 
     def each(self, forms):
-        return [forms[p.kind].replace("%s", p.type) for p in self.held]
+        return [forms[p.kind].replace("%s", p.type).replace("%n", p.size or "") for p in self.held]
 
     def is_at(self, p, x=None):
         x = x or p.name
@@ -80,7 +93,7 @@ class Whole(Law):
         tuple_ = nest(["K .K .into answer"] + [f + p.name for f, p in zip(self.each(INTO), self.held)])
         held_names = " ".join(p.name for p in self.held)
         self.emit(
-            """module _ (%s : Word) (%s : Data) (n : ℕ) (K : Part) (back : K .word .row .Denot → K .K .Value) (shown : (r : K .word .row .Denot) (vs : List Val) → Is (K .word .row) r vs → Is (K .K .row) (K .K .into (back r)) vs)
+            """module _ %s(%s : Data)%s (K : Part) (back : K .word .row .Denot → K .K .Value) (shown : (r : K .word .row .Denot) (vs : List Val) → Is (K .word .row) r vs → Is (K .K .row) (K .K .into (back r)) vs)
     (ν : Sym) (D : Type 0) (to : D → Denots (rows (%s))) (one : (x y : D) → to x ≡ to y → x ≡ y)
     (make : K .K .Value → %s → D) (made : (answer : K .K .Value) %s → to (make answer %s) ≡ %s) where
   abbrev O : Declared
@@ -96,8 +109,9 @@ class Whole(Law):
   RO = row O
 """
             % (
-                " ".join(p.type for p in self.words),
-                " ".join(p.type for p in self.homed),
+                "(%s : Word) " % " ".join(p.type for p in self.words) if self.words else "",
+                " ".join(self.data),
+                " (%s : ℕ)" % " ".join(p.size for p in self.lists) if self.lists else "",
                 fields,
                 arrows(map(self.seen, self.held)),
                 self.bind(self.held),
@@ -108,18 +122,23 @@ class Whole(Law):
                 nest(["K .plain"] + self.each(PLAIN)),
             )
         )
-        for p in self.homed:
-            by_value = "listed %s n" % p.type if p.kind == "list" else "by-value %s" % p.type
-            self.emit("  abbrev X%s : Word\n  X%s = %s\n" % (p.type, p.type, by_value))
-            self.emit("  abbrev R%s : RattleType\n  R%s = row (%s .S)\n" % (p.type, p.type, p.type))
+        for t in self.data:
+            listed = ["listed %s %s" % (t, p.size) for p in self.lists if p.type == t]
+            by_value = listed[0] if listed else "by-value %s" % t
+            self.emit("  abbrev X%s : Word\n  X%s = %s\n" % (t, t, by_value))
+            self.emit("  abbrev R%s : RattleType\n  R%s = row (%s .S)\n" % (t, t, t))
 
-        self.E, self.R = self.run.type, self.run.name
+        for p in self.lists:
+            E, R, N = p.type, p.name, p.size
+            self.emit(
+                """  -- an array has one machine value, by itself and as a field
+  same-val%s : (%s : List (%s .S .D)) → %s → X%s .val %s ≡ list-laws %s %s .val (map (%s .S .to) %s)
+  same-val%s %s is = ap only (list-laws %s %s .tells (map (%s .S .to) %s) (X%s .val %s ∷ []) (in-field %s %s %s _ is))
+"""
+                % ((p.of, R, E, self.is_at(p), E, R, E, N, E, R) + (p.of, R, E, N, E, R, E, R, E, N, R))
+            )
         self.emit(
-            """  -- an array has one machine value, by itself and as a field
-  same-val : (%s : List (%s .S .D)) → %s → X%s .val %s ≡ list-laws %s n .val (map (%s .S .to) %s)
-  same-val %s is = ap only (list-laws %s n .tells (map (%s .S .to) %s) (X%s .val %s ∷ []) (in-field %s n %s _ is))
-
-  abbrev whole-val : K .K .Value → %s → Val
+            """  abbrev whole-val : K .K .Value → %s → Val
   whole-val answer %s = LL.tuple-val O LO %s
 
   -- what is handed back is known of its parts
@@ -129,9 +148,7 @@ class Whole(Law):
       (valss (fields O) (LL.spells (O .parts) LO) %s, (refl, %s))
 """
             % (
-                (self.R, self.E, self.is_at(self.run), self.E, self.R, self.E, self.E, self.R)
-                + (self.R, self.E, self.E, self.R, self.E, self.R, self.E, self.R)
-                + (arrows(map(self.seen, self.held)), held_names, tuple_)
+                (arrows(map(self.seen, self.held)), held_names, tuple_)
                 + (self.bind(self.held), arrows(map(self.is_at, self.held)), held_names, held_names)
                 + (held_names, " ".join("is-" + p.name for p in self.held), held_names, held_names, tuple_)
                 + (
@@ -140,7 +157,7 @@ class Whole(Law):
                         + [
                             "is-" + p.name
                             if p.kind == "struct"
-                            else "subst (λ (v : Val). Is (list-field %s n .row) (map (%s .S .to) %s) (v ∷ [])) (same-val %s is-%s) (in-field %s n %s _ is-%s)" % (self.E, self.E, self.R, self.R, self.R, self.E, self.R, self.R)
+                            else "subst (λ (v : Val). Is (list-field %s %s .row) (map (%s .S .to) %s) (v ∷ [])) (same-val%s %s is-%s) (in-field %s %s %s _ is-%s)" % (p.type, p.size, p.type, p.name, p.of, p.name, p.name, p.type, p.size, p.name, p.name)
                             for p in self.held
                         ]
                     ),
@@ -158,31 +175,31 @@ class Whole(Law):
         return self.by_value_slot(p) if p.kind == "word" else slot(self.lent_as(p), p.j, self.row(p))
 
     def own_slot(self, p):
-        return slot(self.lent_as(p), p.k, "u8") if p.kind == "octets" else self.by_value_slot(p)
+        return slot(self.lent_as(p), p.k, self.row(p)) if p.kind in PASSED else self.by_value_slot(p)
 
     def signatures(self):
         """signatures: that of the call, where the locals are lent, and that of the function"""
         self.emit(signature("₁", len(self.refs), map(self.lent_slot, self.params), "K .word .row"))
-        self.emit(signature("", len(self.octets), map(self.own_slot, self.params), "RO"))
+        self.emit(signature("", len(self.passed), map(self.own_slot, self.params), "RO"))
 
     def new(self, ty):
         self.local.append(ty)
         return len(self.local) - 1
 
-    def octets_slot(self, p):
-        return "(%d ∷ []) tt (plain (λ _. u8))" % p.k
+    def passed_slot(self, p):
+        return "(%d ∷ []) tt (plain (λ _. %s))" % (p.k, self.row(p))
 
     def dropped_slot(self, p):
-        return "(shrSliceOf %s)" % self.octets_slot(p) if p.kind == "octets" else "(%s)" % self.by_value_slot(p)
+        return "(%s %s)" % ("shrSliceOf" if p.kind == "slice" else "shrRefTo", self.passed_slot(p)) if p.kind in PASSED else "(%s)" % self.by_value_slot(p)
 
     def stay(self, p):
-        return "gave-slice " + self.octets_slot(p) if p in self.given else "stay-dropped %s yes" % self.dropped_slot(p)
+        return "gave-slice " + self.passed_slot(p) if p in self.given else "stay-dropped %s yes" % self.dropped_slot(p)
 
     def goes(self, p):
-        h = "𝓤 H (𝓖 .A) W %d " % len(self.octets)
+        h = "𝓤 H (𝓖 .A) W %d " % len(self.passed)
         if p in self.given:
-            return "goes-gave-slice " + h + "%d tt (plain (λ _. u8))" % p.k
-        silent = "(λ κs x f. refl)" if p.kind == "octets" else "(λ κs. %s .silent)" % self.word(p)
+            return "goes-gave-slice " + h + "%d tt (plain (λ _. %s))" % (p.k, self.row(p))
+        silent = "(λ κs x f. refl)" if p.kind in PASSED else "(λ κs. %s .silent)" % self.word(p)
         return "goes-dropped " + h + "%s yes %s" % (self.dropped_slot(p), silent)
 
     def lent_by(self, p):
@@ -194,7 +211,8 @@ class Whole(Law):
         self.at = {}
 
         for p in self.params:
-            self.at[p.name] = self.new("sliceTy (tyRef (named %d) %s (tyInt w8))" % (p.k, self.lent_by(p)) if p.kind == "octets" else self.word(p) + " .ty")
+            ty = "tyRef (named %d) %s (%s)" % (p.k, self.lent_by(p), self.pointee(p)) if p.kind in PASSED else self.word(p) + " .ty"
+            self.at[p.name] = self.new("sliceTy (%s)" % ty if p.kind == "slice" else ty)
         for p in self.homed:
             p.home = self.new(self.word(p) + " .ty")
         self.answer_at = self.new("K .word .ty")
@@ -202,17 +220,18 @@ class Whole(Law):
         passed_at = dict(self.at)
         for p in self.params:
             if p in self.given:
-                p.ptr = self.new("tyRef erased mut (tyInt w8)")
-                p.whole = passed_at[p.name] = self.new("sliceTy (tyRef erased mut (tyInt w8))")
-                statements.append(assign(p.ptr, "addrOf (place %d (field 0 ∷ deref (tyInt w8) ∷ []))" % self.at[p.name]))
+                p.ptr = self.new("tyRef erased mut (%s)" % self.pointee(p))
+                p.whole = passed_at[p.name] = self.new("sliceTy (tyRef erased mut (%s))" % self.pointee(p))
+                element = "tyInt w8" if p.type == "u8" else "layout (shape (%s .S))" % p.type
+                statements.append(assign(p.ptr, "addrOf (place %d (field 0 ∷ deref (%s) ∷ []))" % (self.at[p.name], element)))
                 statements.append(assign(p.whole, "aggregate (%s ∷ %s ∷ [])" % (copy(p.ptr), copy(self.at[p.name], "field 1 ∷ []"))))
             if p in self.homed:
-                written = "Array R%s n .written" % p.type if p.kind == "list" else "R%s .written" % p.type
+                written = "Array R%s %s .written" % (p.type, p.size) if p.kind == "list" else "R%s .written" % p.type
                 p.ptr = passed_at[p.name] = self.new("tyRef erased %s (pointee (%s))" % (self.lent_by(p), written))
                 statements.append(assign(p.ptr, "addrOf (place %d [])" % p.home))
             if p.kind == "list":
                 p.whole = passed_at[p.name] = self.new("sliceTy (tyRef erased %s (pointee (R%s .written)))" % (self.lent_by(p), p.type))
-                statements.append(assign(p.whole, "aggregate (%s ∷ int w64 n ∷ [])" % copy(p.ptr)))
+                statements.append(assign(p.whole, "aggregate (%s ∷ %s w64 %s ∷ [])" % (copy(p.ptr), "intBig" if p.long else "int", p.size)))
         self.operands_at = [passed_at[p.name] for p in self.params]
         statements.append("call g (%s) (place %d [])" % (items(map(copy, self.operands_at)), self.answer_at))
         for p in self.held:
@@ -220,7 +239,7 @@ class Whole(Law):
             statements.append(assign(p.out, "rvOpd (%s)" % copy(p.home)))
         self.parts_at = [self.answer_at] + [p.out for p in self.held]
         statements.append(assign(0, "aggregate (%s)" % items(map(copy, self.parts_at))))
-        self.emit(function(["g"], len(self.octets), len(self.params), self.local, sequence(statements), {p.home for p in self.homed}))
+        self.emit(function(["g"], len(self.passed), len(self.params), self.local, sequence(statements), {p.home for p in self.homed}))
 
         self.emit(stayed(map(self.stay, self.params)))
 
@@ -231,13 +250,15 @@ class Whole(Law):
         return " ".join("(%s .now)" % proj("e", self.params.index(p)) for p in ps)
 
     def entry(self, p):
-        return p.ref if p.kind == "octets" else p.name
+        return p.ref if p.kind in PASSED else p.name
 
     def machine(self, p):
-        return "sliceVal (b%s, o%s) (length %s)" % (p.d, p.d, p.name) if p.kind == "octets" else "%s .val %s" % (self.word(p), p.name)
+        if p.kind == "ref":
+            return "vptr b%s o%s" % (p.d, p.d)
+        return "sliceVal (b%s, o%s) (length %s)" % (p.d, p.d, p.name) if p.kind == "slice" else "%s .val %s" % (self.word(p), p.name)
 
     def vals(self, p):
-        return p.vals if p.kind == "octets" else self.machine(p) + " ∷ []"
+        return p.vals if p.kind in PASSED else self.machine(p) + " ∷ []"
 
     def with_given(self, prime):
         """all parameters, and what is left of a `&mut [u8]`"""
@@ -262,43 +283,43 @@ class Whole(Law):
     abbrev clauses : Clauses 𝓤 ended
     clauses = λ κs a. record { ghost = Unit {0}; requires = λ _. emp 𝓤; ensures = λ _ r e. fact 𝓤 (Says %s r) }
 """
-            % (self.contracts, self.given_by(self.refs), self.lefts_of(self.changed), " ".join([self.given_by(self.octets), self.lefts_of(self.given)]).strip())
+            % (self.contracts, self.given_by(self.refs), self.lefts_of(self.changed), " ".join([self.given_by(self.passed), self.lefts_of(self.given)]).strip())
         )
         lefts = " ".join(p.name + "′" for p in self.changed)
         held = " ".join(p.name + "′" if p.mut else p.name for p in self.held)
         self.then = "(then : %s %s (r : K .word .row .Denot) → gives %s %s r → Says %s (make (back r) %s))" % (self.bind(self.params), self.bind(self.changed, "′"), self.everything, lefts, self.with_given("′"), held)
-        self.fits = "(few : T (ltb n (2 ^ 64))) (small : T (ltb (n * mem R%s .size) (2 ^ 63)))" % self.E
+        self.fits = " ".join("(few%s : T (ltb %s (2 ^ 64))) (small%s : T (ltb (%s * mem R%s .size) (2 ^ 63)))" % (p.of, p.size, p.of, p.size, p.type) for p in self.lists)
         self.emit("    module _ (W : Given 𝓤 H A)\n        %s %s" % (self.then, self.fits))
-        lent = [" ".join(x + p.d for p in self.octets for x in xs) for xs in ("κ", "q", "bo", "δ")]
-        self.emit("        %s%s" % ("(%s : Lft) (%s : Share) (%s : ℕ) (%s : GName) " % tuple(lent) if self.octets else "", self.bind(self.params)))
-        known = ["(is-%s : %s)" % (p.name, self.is_at(p)) for p in self.params if p.kind != "octets"] + ["(room-%s : Room u8 (length %s))" % (p.name, p.name) for p in self.octets]
+        lent = [" ".join(x + p.d for p in self.passed for x in xs) for xs in ("κ", "q", "bo", "δ")]
+        self.emit("        %s%s" % ("(%s : Lft) (%s : Share) (%s : ℕ) (%s : GName) " % tuple(lent) if self.passed else "", self.bind(self.params)))
+        known = ["(is-%s : %s)" % (p.name, self.is_at(p)) for p in self.params if p.kind not in PASSED] + ["(room-%s : Room %s (length %s))" % (p.name, self.row(p), p.name) for p in self.slices]
         self.emit("        %s where" % " ".join(known))
         self.I = "      "
-        for p in self.octets:
-            self.emit(self.I + "abbrev %s : RefT (List ℕ)\n" % p.ref + self.I + "%s = record { ptr = (b%s, o%s); name = %s; now = %s }\n" % (p.ref, p.d, p.d, p.ghost, p.name))
+        for p in self.passed:
+            self.emit(self.I + "abbrev %s : RefT (%s)\n" % (p.ref, self.seen(p)) + self.I + "%s = record { ptr = (b%s, o%s); name = %s; now = %s }\n" % (p.ref, p.d, p.d, p.ghost, p.name))
 
-        self.κ, self.q = nest(p.lft for p in self.octets), nest(p.share for p in self.octets)
+        self.κ, self.q = nest(p.lft for p in self.passed), nest(p.share for p in self.passed)
         room = """
-      room : Room R%s n
-      room = (ltb→lt n (2 ^ 64) few, ltb→lt (n * mem R%s .size) (2 ^ 63) small)
+      room%s : Room R%s %s
+      room%s = (ltb→lt %s (2 ^ 64) few%s, ltb→lt (%s * mem R%s .size) (2 ^ 63) small%s)
 """
         self.emit(
             on_entry(
-                product("RefT (List ℕ)" if p.kind == "octets" else self.seen(p) for p in self.params),
+                product("RefT (%s)" % self.seen(p) if p.kind in PASSED else self.seen(p) for p in self.params),
                 nest(map(self.entry, self.params)),
                 (product("List Val" for _ in self.params), nest(map(self.vals, self.params))),
                 self.κ,
                 self.q,
-                room % (self.E, self.E),
+                "".join(room % (p.of, p.type, p.size, p.of, p.size, p.of, p.size, p.type, p.of) for p in self.lists),
             )
         )
 
     def exit(self):
         """the exit"""
-        self.tokens = ["token-" + p.name for p in self.octets]
+        self.tokens = ["token-" + p.name for p in self.passed]
         self.end_names = ["last-" + p.name for p in self.given] + self.tokens + ["own"]
-        end_items = ["‵ (finally u8 %s %s′)" % (p.ghost, p.name) for p in self.given]
-        end_items = items(end_items + ["‵ (flft %s %s)" % (p.lft, p.share) for p in self.octets] + ["‵ (RO .own w (v ∷ []))"])
+        end_items = ["‵ (finally %s %s %s′)" % (self.row(p), p.ghost, p.name) for p in self.given]
+        end_items = items(end_items + ["‵ (flft %s %s)" % (p.lft, p.share) for p in self.passed] + ["‵ (RO .own w (v ∷ []))"])
         self.s = Script(self.end_names)
         self.s.nothing("true")
         for t in reversed(self.tokens):
@@ -318,7 +339,7 @@ class Whole(Law):
 %s
 """
             % (
-                "".join(" (%s′ : List ℕ)" % p.name for p in self.given),
+                "".join(" (%s′ : %s)" % (p.name, self.seen(p)) for p in self.given),
                 "".join("length %s′ ≡ length %s → " % (p.name, p.name) for p in self.given),
                 self.with_given("′"),
                 end_items,
@@ -327,7 +348,7 @@ class Whole(Law):
                 end_items,
                 self.κ,
                 self.q,
-                nest(p.name + "′" if p in self.given else "tt" if p.kind == "octets" else "%s .last %s" % (self.word(p), p.name) for p in self.params),
+                nest(p.name + "′" if p in self.given else "tt" if p.kind in PASSED else "%s .last %s" % (self.word(p), p.name) for p in self.params),
                 nest("len-" + p.name if p in self.given else "tt" for p in self.params),
                 self.s.lines(self.I + "    "),
             )
@@ -338,6 +359,10 @@ class Whole(Law):
 
     def typed(self, p, x, is_x):
         return "(%s .typed M 𝓤 H A W %s _ %s)" % (self.word(p), x, is_x)
+
+    def counted(self, p):
+        """an array has as many elements as its type says"""
+        return "(counted %s %s %s _ is-%s)" % (p.type, p.size, p.name, p.name)
 
     def held_at(self, i, v):
         return cell(self.local[i], i, v)
@@ -350,16 +375,16 @@ class Whole(Law):
         self.emit(J + "walk : ent 𝓤 (sep 𝓤 (onEntry 𝓤 H A signature %s %s x at) (emp 𝓤)) (WpFn 𝓤 H T₁ Λ (function g) (%s) Post)" % (self.κ, self.q, machines))
         self.emit(J + "walk =")
         self.s = Script(["entry", "asks"])
-        rows = items("%sSlice (named %d) %s u8" % ("Mut" if p.mut else "Shr", p.k, p.lft) if p.kind == "octets" else self.word(p) + " .row" for p in self.params)
-        self.s.put("qed W (((%s) ⊛ ‵ (owns (%s) x at)) ∷ raw (emp 𝓤) ∷ []) ∵" % (" ⊛ ".join(["‵ (flft %s %s)" % (p.lft, p.share) for p in self.octets] + ["‵ ftrue"]), rows))
+        rows = items(self.owner(p) if p.kind in PASSED else self.word(p) + " .row" for p in self.params)
+        self.s.put("qed W (((%s) ⊛ ‵ (owns (%s) x at)) ∷ raw (emp 𝓤) ∷ []) ∵" % (" ⊛ ".join(["‵ (flft %s %s)" % (p.lft, p.share) for p in self.passed] + ["‵ ftrue"]), rows))
         self.s.split("entry", "tokens", "owns")
         self.s.drop("asks")
-        opens(self.s, self.tokens, ["own-" + p.name for p in self.params], ["own-" + p.name for p in self.octets])
+        opens(self.s, self.tokens, ["own-" + p.name for p in self.params], ["own-" + p.name for p in self.passed])
         N = len(self.local)
         allocates(self.s, "enter ! T₁ Λ (function g) (%s) _ $" % machines, N)
 
         for p in self.params:
-            self.s.put("pass1 ! (init ! %d refl %s) $" % (self.L(self.at[p.name]), slice_typed("room-" + p.name) if p.kind == "octets" else self.typed(p, p.name, "is-" + p.name)))
+            self.s.put("pass1 ! (init ! %d refl %s) $" % (self.L(self.at[p.name]), slice_typed("room-" + p.name) if p.kind == "slice" else "(tt, tt)" if p.kind == "ref" else self.typed(p, p.name, "is-" + p.name)))
         self.s.put("pass0 ! $")
         for p in self.homed:
             put(self.s, p.home, "of-opd ! " + load(self.s, self.at[p.name]), self.typed(p, p.name, "is-" + p.name))
@@ -373,9 +398,9 @@ class Whole(Law):
             if p in self.homed:
                 put(self.s, p.ptr, "addr ! (from ! (stop !))", "(tt, tt)")
             if p.kind == "list":
-                put(self.s, p.whole, "agg ! (and-then ! %s (and-then ! (lit ! few) (no-more !)))" % load(self.s, p.ptr), slice_typed("room"))
+                put(self.s, p.whole, "agg ! (and-then ! %s (and-then ! (%s) (no-more !)))" % (load(self.s, p.ptr), "big-lit ! (record { fits = room%s .0 })" % p.of if p.long else "lit ! few" + p.of), slice_typed("room" + p.of))
                 long = self.held_at(p.whole, "sliceVal (z%s, 0) j" % digits(p.home))
-                self.s.put("rewrite ! %d (λ (j : ℕ). ‵ (%s)) (sym (counted %s n %s _ is-%s)) refl $" % (self.L(p.whole), long, self.E, self.R, self.R))
+                self.s.put("rewrite ! %d (λ (j : ℕ). ‵ (%s)) (sym %s) refl $" % (self.L(p.whole), long, self.counted(p)))
 
         self.s.note("the locals are lent, each for a lifetime of its own that is made for the call")
         for p in self.homed:
@@ -389,9 +414,9 @@ class Whole(Law):
                 p.kept = "Referent (mem %s) %s 0 %s" % (self.row(p), z, p.ghost) if p.mut else "partAt %s fullShare %s %s 0" % (self.row(p), p.name, z)
                 lends = "%s 𝓤 H A W %s %s" % ("lends-local" if p.mut else "shares-local", p.type, lent)
             else:
-                p.vals = "sliceVal (%s, 0) (length %s) ∷ []" % (z, self.R)
-                p.kept = "Held %s (length %s) %s 0 %s" % (self.row(p), self.R, z, p.ghost) if p.mut else "arr-parts (shares %s) (length %s) .part fullShare %s %s 0" % (self.row(p), self.R, self.R, z)
-                lends = "%s 𝓤 H A W %s n room %s" % ("lends-array" if p.mut else "shares-array", self.E, lent)
+                p.vals = "sliceVal (%s, 0) (length %s) ∷ []" % (z, p.name)
+                p.kept = "Held %s (length %s) %s 0 %s" % (self.row(p), p.name, z, p.ghost) if p.mut else "arr-parts (shares %s) (length %s) .part fullShare %s %s 0" % (self.row(p), p.name, p.name, z)
+                lends = "%s 𝓤 H A W %s %s room%s %s" % ("lends-array" if p.mut else "shares-array", p.type, p.size, p.of, lent)
             kept = "flent %s (%s)" % (p.lft, p.kept)
             self.s.binder("lft-new ! tt (λ α%s." % digits(p.j), 0, ["token-" + p.name])
             self.s.move("l%d" % p.home)
@@ -459,18 +484,17 @@ class Whole(Law):
             self.s.move("token-" + p.name)
             self.s.head("lft-end ! tt $", 1, ["dead"])
             holds = self.held_at(p.home, "%s .val %s" % (self.word(p), p.end))
-            counts = "(counted %s n %s _ is-%s)" % (self.E, self.R, self.R)
             if not p.mut:
                 self.s.move("dead", "kept-" + p.name)
                 back = "shared-local-back 𝓤 H A W %s %s %s %s" % (p.type, p.lft, p.name, z)
                 if p.kind == "list":
-                    back = "shared-array-back 𝓤 H A W %s n %s %s %s %s" % (self.E, p.lft, self.R, z, counts)
+                    back = "shared-array-back 𝓤 H A W %s %s %s %s %s %s" % (p.type, p.size, p.lft, p.name, z, self.counted(p))
                 self.s.head("use2 W (later (‵ (%s))) (%s) $ await ! tt $" % (holds, back), 2, ["l%d" % p.home])
                 continue
             self.s.move("dead", "kept-" + p.name, "last-" + p.name)
             back = "local-back 𝓤 H A W %s %s %s %s %s" % (p.type, p.lft, p.ghost, p.end, z)
             if p.kind == "list":
-                back = "array-back 𝓤 H A W %s n %s %s %s %s %s %s" % (self.E, p.lft, p.ghost, self.R, p.end, z, counts)
+                back = "array-back 𝓤 H A W %s %s %s %s %s %s %s %s" % (p.type, p.size, p.lft, p.ghost, p.name, p.end, z, self.counted(p))
             self.s.head("use3 W (later (given (%s) (‵ (%s)))) (%s) $ await ! tt $" % (self.is_at(p, p.end), holds, back), 3, ["l%d" % p.home])
             self.s.binder("learn ! (λ %s." % p.left, 0, [])
         answer = "(K .K .into (back r))"
@@ -482,7 +506,7 @@ class Whole(Law):
         for p in self.held:
             put(self.s, p.out, "of-opd ! " + load(self.s, p.home), self.typed(p, p.end, p.left))
             if p.kind == "list":
-                self.s.put("rewrite ! %d (λ (u : Val). ‵ (%s)) (same-val %s %s) refl $" % (self.L(p.out), self.held_at(p.out, "u"), p.end, p.left))
+                self.s.put("rewrite ! %d (λ (u : Val). ‵ (%s)) (same-val%s %s %s) refl $" % (self.L(p.out), self.held_at(p.out, "u"), p.of, p.end, p.left))
         is_answer = "(subst (λ (us : List Val). Is (K .K .row) %s us) (%s) (shown r (v ∷ []) said-r))" % (answer, tells)
         is_whole = "(whole-is (back r) %s %s %s)" % (ends, is_answer, " ".join(p.left for p in self.held))
         whole, whole_val = "(make (back r) %s)" % ends, "(whole-val (back r) %s)" % ends
@@ -496,12 +520,12 @@ class Whole(Law):
 
     def theorem(self):
         """from the walk to the theorem"""
-        given = ["(%s)" % proj(b, p.k) for b in ("κs", "qs") for p in self.octets]
-        given += ["(%s .ptr .%d)" % (proj("a", self.params.index(p)), z) for p in self.octets for z in (0, 1)]
-        given += ["(%s .name)" % proj("a", self.params.index(p)) for p in self.octets]
-        given += [self.given_by(self.octets)]
-        given += ["(%s)" % proj("are", i) for i, p in enumerate(self.params) if p.kind != "octets"]
-        given += ["(%s .0 .1)" % proj("are", self.params.index(p)) for p in self.octets]
+        given = ["(%s)" % proj(b, p.k) for b in ("κs", "qs") for p in self.passed]
+        given += ["(%s .ptr .%d)" % (proj("a", self.params.index(p)), z) for p in self.passed for z in (0, 1)]
+        given += ["(%s .name)" % proj("a", self.params.index(p)) for p in self.passed]
+        given += [self.given_by(self.passed)]
+        given += ["(%s)" % proj("are", i) for i, p in enumerate(self.params) if p.kind not in PASSED]
+        given += ["(%s .0 .1)" % proj("are", self.params.index(p)) for p in self.slices]
         self.emit(
             """
   -- γ is the function's `code.env`, f and g are the keys
@@ -518,7 +542,7 @@ class Whole(Law):
         Clauses′ (WpFn 𝓤 H (𝓣 .C) (𝓣 .Λ) (function g)) (WpFn-mono 𝓤 H (W .laws) 𝓣 (function g))
         (walked 𝓤 H (𝓖 .A) ended stayed Clauses′ (WpFn 𝓤 H (𝓣 .C) (𝓣 .Λ) (function g)) (λ κs. %s)
         (λ κs. %s)
-        (λ κs qs bounds a _ are. walk 𝓤 H (𝓖 .A) gives Says W then few small
+        (λ κs qs bounds a _ are. walk 𝓤 H (𝓖 .A) gives Says W then%s
         %s
         (𝓣 .C) (𝓣 .Λ) g (fmOf 𝓤 H (W .laws) 𝓣) known))
 
@@ -533,8 +557,9 @@ class Whole(Law):
                 self.then,
                 self.fits,
                 nest(map(self.goes, self.params)),
-                nest("slice-vals" if p.kind == "octets" else "(λ m. %s .val m ∷ [])" % self.word(p) for p in self.params),
-                nest("%s-slice-tells (named %d) (%s) u8" % ("mut" if p.mut else "shr", p.k, proj("κs", p.k)) if p.kind == "octets" else "%s .tells" % self.word(p) for p in self.params),
+                nest("slice-vals" if p.kind == "slice" else "ptr-vals" if p.kind == "ref" else "(λ m. %s .val m ∷ [])" % self.word(p) for p in self.params),
+                nest("%s%s-tells (named %d) (%s) %s" % ("mut" if p.mut else "shr", "-slice" if p.kind == "slice" else "", p.k, proj("κs", p.k), self.row(p)) if p.kind in PASSED else "%s .tells" % self.word(p) for p in self.params),
+                "".join(" few%s small%s" % (p.of, p.of) for p in self.lists),
                 " ".join(given),
             )
         )
@@ -546,7 +571,7 @@ class Whole(Law):
             self.shape.crate,
             [
                 ("mathlib.Core.List", ["map"]),
-                ("mir.Syntax", ["Sym", "memorySlot"]),
+                ("mir.Syntax", ["Sym", "memorySlot", "intBig"]),
                 ("base.Fml", ["flent"]),
                 ("types.Kit", ["given", "learn"]),
                 ("denote.RattleType", ["Denots"]),
@@ -556,8 +581,9 @@ class Whole(Law):
                 ("denote.Struct.Field", ["rows"]),
                 ("denote.Struct.Declared", ["Declared", "fields"]),
                 (".Words", ["Word", "Data", "Part", "by-value", "at-type", "passed"]),
-                (HERE + ".Lists", ["listed", "list-field", "list-laws", "list-plain", "in-field", "counted", "lends-local", "local-back", "shares-local", "shared-local-back", "lends-array", "array-back", "shares-array", "shared-array-back"]),
+                (("Rattle.wholes.proofs" if self.shape.crate == "wholes" else "Rattle.wholes.proofs") + ".Lists", ["listed", "list-field", "list-laws", "list-plain", "in-field", "counted", "lends-local", "local-back", "shares-local", "shared-local-back", "lends-array", "array-back", "shares-array", "shared-array-back"]),
                 ("denote.Memory", ["partAt", "shares"]),
                 ("types.Share", ["arr-parts"]),
+                ("Rattle.bench_wholes.proofs.Long", ["big-lit"]),
             ],
         ) + "use denote.Struct.Declared as declared\n"

@@ -8,10 +8,11 @@ import os
 import sys
 import shapes
 from loops import Loop
+from repeats import Repeats
 from straight import Straight
 from wholes import Whole
 
-LAWS = {shapes.Straight: Straight, shapes.Whole: Whole}
+LAWS = {shapes.Straight: Straight, shapes.Repeats: Repeats, shapes.Whole: Whole}
 
 
 def laws(path):

@@ -6,6 +6,8 @@ pub mod ExportDeliversWith
 pub mod ExportInspects
 pub mod ExportLooks
 pub mod ExportOpens
+pub mod ExportRuns
 pub mod ExportSends
+pub mod ExportSetsUp
 pub mod ExportTimes
 pub mod ExportTimesTwo

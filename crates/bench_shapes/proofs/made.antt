@@ -1,0 +1,15 @@
+pub mod AsksAt
+pub mod Events
+pub mod RepeatsAsks
+pub mod RepeatsEvents
+pub mod RepeatsSends
+pub mod RepeatsSets
+pub mod RepeatsTakes
+pub mod Runs
+pub mod SendsAt
+pub mod SetsAt
+pub mod SetsUp
+pub mod TakesAt
+pub mod WholeAsksAt
+pub mod WholeSendsAt
+pub mod WholeTakesAt
