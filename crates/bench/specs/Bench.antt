@@ -21,6 +21,11 @@ pub record Bench : Type 0 where
   pub answers : List ℕ
   pub done : ℕ
 
+-- what set-up and run are lent, as one
+abbrev pub bench : (hosts : List HostState) (copies : List ℕ) (run : List Entry) (slots answers : List ℕ) (done : ℕ) → Bench
+bench hosts copies run slots answers n =
+    record { hosts = hosts; copies = copies; run = run; slots = slots; answers = answers; done = n }
+
 -- a host of the file as it is set afresh: what stands where none is lent
 abbrev pub freshHost : (file : List ℕ) (host : ℕ) → HostState
 freshHost file k =

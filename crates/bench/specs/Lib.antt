@@ -4,3 +4,4 @@ pub mod Slots
 pub mod Guard
 pub mod Event
 pub mod Run
+pub mod code

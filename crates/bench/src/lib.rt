@@ -1,12 +1,32 @@
 // The class bench: an exercise that is set up from one file and run, event by event.
 ghost use mathlib.Core.Path.{_≡_};
 ghost use Rattle.bench.specs.Answer.{number, passes};
+ghost use Rattle.bench.specs.Guard.{setUpGuard};
+ghost use Rattle.bench.specs.Run.{afterSetUp, afterRun, ran};
+ghost use Rattle.bench.specs.Bench.{bench};
+use class_table::ClassTable;
 use clock::Clock;
+use events::turns;
 use host::Links;
 use host::walk::Walk;
+use plans::plan_run;
+use plans::plan_set_up;
+use sets::sets;
+use slots::clear;
+use table::Entry;
 
+mod at_host;
+mod events;
 mod guard;
+mod places;
+mod plans;
+mod requests;
+mod sends;
+mod sets;
 mod slots;
+mod states;
+mod takes;
+mod told;
 
 // A host of the bench: its clock, its links and its walk.
 #[repr(C)]
@@ -61,4 +81,58 @@ fn passes(a: Answer) -> bool
     ensures { λ r. ⌜ r ≡ passes a ⌝ }
 {
     number(a) == 0
+}
+
+// All hosts are set afresh from the file, slots and answers are emptied, and no event is done.
+pub fn set_up(
+    file: &[u8],
+    nets: &ClassTable,
+    hosts: &mut [HostState],
+    copies: &[u8],
+    run: &mut [Entry],
+    slots: &mut [u8],
+    answers: &mut [u8],
+    progress: &mut Progress,
+) -> Answer
+    ensures { λ r. ⌜ (r ≡ setUpGuard (now (nets .entry)) (now (file .entry)) (bench (now (hosts .entry)) (now (copies .entry)) (now (run .entry)) (now (slots .entry)) (now (answers .entry)) (now (progress .entry) .done))) × (bench (now (hosts .exit)) (now (copies .entry)) (now (run .exit)) (now (slots .exit)) (now (answers .exit)) (now (progress .exit) .done) ≡ afterSetUp (now (file .entry)) (now (nets .entry)) (bench (now (hosts .entry)) (now (copies .entry)) (now (run .entry)) (now (slots .entry)) (now (answers .entry)) (now (progress .entry) .done))) ⌝ }
+{
+    let t = *nets;
+    let d = *progress;
+    let a = hosts.len();
+    let b = copies.len();
+    let c = run.len();
+    let e = slots.len();
+    let f = answers.len();
+    let p = plan_set_up(file, t, d, a, b, c, e, f);
+    sets(file, nets, hosts, copies, run, p.sets);
+    clear(slots, p.slots);
+    clear(answers, p.answers);
+    *progress = p.progress;
+    p.answer
+}
+
+// The next events are carried out, each doing what its call does and its answer kept, until the allowance or the file ends.
+pub fn run(
+    file: &[u8],
+    nets: &ClassTable,
+    hosts: &mut [HostState],
+    copies: &[u8],
+    run: &mut [Entry],
+    slots: &mut [u8],
+    answers: &mut [u8],
+    progress: &mut Progress,
+    allowance: usize,
+) -> Ran
+    ensures { λ r. ⌜ (r ≡ ran (now (file .entry)) (now (nets .entry)) allowance (bench (now (hosts .entry)) (now (copies .entry)) (now (run .entry)) (now (slots .entry)) (now (answers .entry)) (now (progress .entry) .done))) × (bench (now (hosts .exit)) (now (copies .entry)) (now (run .exit)) (now (slots .exit)) (now (answers .exit)) (now (progress .exit) .done) ≡ afterRun (now (file .entry)) (now (nets .entry)) allowance (bench (now (hosts .entry)) (now (copies .entry)) (now (run .entry)) (now (slots .entry)) (now (answers .entry)) (now (progress .entry) .done))) ⌝ }
+{
+    let t = *nets;
+    let d = *progress;
+    let a = hosts.len();
+    let b = copies.len();
+    let c = run.len();
+    let e = answers.len();
+    let p = plan_run(file, t, d, a, b, c, slots, e, allowance);
+    turns(file, nets, hosts, copies, run, slots, answers, p.turns);
+    *progress = p.progress;
+    p.ran
 }

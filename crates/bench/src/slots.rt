@@ -2,9 +2,11 @@
 ghost use mathlib.Core.Path.{_≡_};
 ghost use Prim.Native.Nat.{_+_, _*_, _≤_, _<_};
 ghost use lib.ListN.{length, set};
+ghost use Rattle.host.specs.Guard.{longest};
 ghost use Rattle.bench_file.specs.Absent.{slots};
 ghost use Rattle.bench.specs.Slots.{
   slotLength,
+  roomPlace,
   labelOf,
   labelGood,
   withLabel,
@@ -21,11 +23,28 @@ pub const SLOTS_LENGTH: usize = 33792;
 
 const LONGEST: usize = 1052;
 
+const LABEL: usize = 4;
+
 // The length of a slot's packet, 0 where it was never filled, and the cable and the end that the packet was sent from.
 pub struct Label {
     pub length: usize,
     pub cable: usize,
     pub end: usize,
+}
+
+// Where the room for a slot's packet begins.
+pub fn room_start(slot: usize) -> usize
+    requires { ⌜ slot < slots ⌝ }
+    ensures { λ r. ⌜ r ≡ roomPlace slot ⌝ }
+{
+    SLOT * slot + LABEL
+}
+
+pub fn room_end(slot: usize) -> usize
+    requires { ⌜ slot < slots ⌝ }
+    ensures { λ r. ⌜ r ≡ roomPlace slot + longest ⌝ }
+{
+    SLOT * slot + LABEL + LONGEST
 }
 
 pub fn label_at(octets: &[u8], slot: usize) -> Label
@@ -71,7 +90,7 @@ pub fn slots_good(h: Header, octets: &[u8]) -> bool
 }
 
 // A packet of so many octets, sent from an end of a cable.
-pub fn put_label(octets: &mut [u8], slot: usize, size: u16, cable: u8, end: u8)
+pub fn put_label(octets: &mut [u8], slot: usize, size: usize, cable: u8, end: u8)
     requires { ⌜ (slotLength * slots ≤ length (now octets)) × (slot < slots) ⌝ }
     ensures { λ _. ⌜ now (octets .exit) ≡ withLabel slot size cable end (now (octets .entry)) ⌝ }
 {

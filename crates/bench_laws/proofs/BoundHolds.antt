@@ -5,7 +5,7 @@ use mathlib.Core.List.{List, [], _∷_}
 use Prim.Native.Nat.{ℕ, zero, suc, _+_, _≤_, _<_}
 use native.Mathlib.Nat.{zero-add, add-zero}
 use native.Mathlib.Omega.{arith}
-use borrow.Author.Tests.{eqb-true, eqb-false}
+use borrow.Author.Tests.{ltb-true, eqb-true, eqb-false}
 use lib.Dec.{ltb, eqb}
 use lib.IntN.{ℤ, pos}
 use lib.ListN.{length, getD}
@@ -33,7 +33,8 @@ use Rattle.bench_laws.specs.Bound.{fileRoom, Wired, sinceThen, sinceAll,
 use Rattle.bench_laws.proofs.Guards.{Ready, next-ready}
 use Rattle.bench_laws.proofs.Guards as guards
 use Rattle.bench_laws.proofs.Called.{plain, same-copy}
-use Rattle.bench_laws.proofs.Turns.{next-good}
+use Rattle.bench.proofs.Named.{event-good}
+use Rattle.bench.proofs.Afresh.{beside}
 use Rattle.bench_laws.proofs.SetUp.{set-up-ready, all-long, zeros-empty}
 use Rattle.bench_laws.proofs.Held as holding
 use Rattle.bench_laws.proofs.Held.{stayed, went}
@@ -111,7 +112,7 @@ module _ (file : List ℕ) (t : ClassTable) where
                   walk = λ a l. ap (λ (s : HostState). s .walk) (sym (stays-set a (h .hosts) l hosts-lent));
                   copy = λ a l.
                       same-copy (ask Initialize) (lentAt file t a (allSet file t 0 a first)) (plain (ask Initialize) refl)
-                      ∙ ap (copyOf a) (all-long file t 0 a first .copies ∙ sym (all-long file t 0 (h .hosts) first .copies));
+                      ∙ ap (copyOf a) (beside file t 0 a first .copies ∙ sym (beside file t 0 (h .hosts) first .copies));
                   run = refl;
                 };
             held = λ s l e. absurd (true≢false (sym (zeros-empty (allSet file t 0 (h .hosts) first .slots) s l) ∙ e));
@@ -165,7 +166,7 @@ module _ (file : List ℕ) (t : ClassTable) where
           (λ q.
           behind u b w (sinceThen file u (ms (b .done)) since (eventAt file h (b .done)) b) _
           (λ v st′. going u n (next file u b) v _ (next-ready u file b ready q) st′ (on-time q .1))
-          (holding.moves file t first f cable longest u b ready w since st wired (ms (b .done)) (eventAt file h (b .done)) (next-good file u b ready q) (on-time q .0)))
+          (holding.moves file t first f cable longest u b ready w since st wired (ms (b .done)) (eventAt file h (b .done)) (event-good u file h (ready .records) (b .done) (ltb-true (b .done) (h .events) q)) (on-time q .0)))
         where
           go : (c : Bool) → ltb (b .done) (h .events) ≡ c
               → (ltb (b .done) (h .events) ≡ true

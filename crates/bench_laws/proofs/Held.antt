@@ -37,9 +37,9 @@ use Rattle.network.specs.SharedRun.{SharedStep, SharedWorld, lent, sharedStep, 
 use Rattle.network.proofs.Pair.{pair-holds}
 use Rattle.bench_laws.specs.Bound.{fileRoom, Wired, ReadsAt, LaterThan, OnTime, sinceThen}
 use Rattle.bench_laws.proofs.Guards.{Ready}
-use Rattle.bench_laws.proofs.Sent.{fits}
+use Rattle.bench.proofs.Named.{cables-good, end-host, filled}
+use Rattle.bench.proofs.Sent.{fits}
 use Rattle.bench_laws.proofs.Called.{Plain, plain}
-use Rattle.bench_laws.proofs.Turns.{end-host, filled}
 use Rattle.bench_laws.proofs.Packets as packets
 use Rattle.bench_laws.proofs.Tracks as tracking
 
@@ -109,7 +109,7 @@ module _ (file : List ℕ) (t : ClassTable) (first : Bench) (f : ℕ → ℤ) (c
       e = endAt file h c i
 
       here : e .host < h .hosts
-      here = end-host file u b ready c i lc li
+      here = end-host file h (cables-good u file h (ready .records)) c i lc li
 
       abbrev q : RoomCall
       q = rooms.sends (e .link) k (roomOf n (b .slots)) ms
@@ -171,7 +171,7 @@ module _ (file : List ℕ) (t : ClassTable) (first : Bench) (f : ℕ → ℤ) (c
               message = old .message;
               earlier = List·Memᴰ·tail (old .earlier);
               a-copy =
-                  packets.packet-kept (b .slots) n ln (ready .long .slots) (o .buffer) full (o .reply .length) c i (few d) s apart l (filled file u b ready s l was .0)
+                  packets.packet-kept (b .slots) n ln (ready .long .slots) (o .buffer) full (o .reply .length) c i (few d) s apart l (filled h (b .slots) (ready .slots-good) s l was .0)
                   ∙ old .a-copy;
               from-seat = ap (λ (z : Label). endAt file h (z .cable) (z .end) .host) lab ∙ old .from-seat;
               from-link = ap (λ (z : Label). endAt file h (z .cable) (z .end) .link) lab ∙ old .from-link;
@@ -216,7 +216,7 @@ module _ (file : List ℕ) (t : ClassTable) (first : Bench) (f : ℕ → ℤ) (c
       arrive = rooms.arrives (far .link) k packet ms
 
       far-here : far .host < h .hosts
-      far-here = end-host file u b ready (labelOf n (b .slots) .cable) (1 - labelOf n (b .slots) .end) (filled file u b ready n ln is-full .1) (omega arith)
+      far-here = end-host file h (cables-good u file h (ready .records)) (labelOf n (b .slots) .cable) (1 - labelOf n (b .slots) .end) (filled h (b .slots) (ready .slots-good) n ln is-full .1) (omega arith)
 
       abbrev z : SharedStep
       z = tracking.taken file t first f cable longest u b w (st .tracks) (far .host) far-here (there far-here) arrive (plain (callOf arrive) refl)
@@ -228,7 +228,7 @@ module _ (file : List ℕ) (t : ClassTable) (first : Bench) (f : ℕ → ℤ) (c
 
       leads : cable (far .host) (far .link) ≡ at (nearEnd (b .slots) n .host) (nearEnd (b .slots) n .link)
       leads =
-          let g = filled file u b ready n ln is-full in
+          let g = filled h (b .slots) (ready .slots-good) n ln is-full in
           let back : 1 - (1 - labelOf n (b .slots) .end) ≡ labelOf n (b .slots) .end = omega (arith, g .2) in
           wired (labelOf n (b .slots) .cable) (1 - labelOf n (b .slots) .end) (g .1) (omega arith)
           ∙ ap (λ (j : ℕ). at (endAt file h (labelOf n (b .slots) .cable) j .host) (endAt file h (labelOf n (b .slots) .cable) j .link)) back

@@ -12,7 +12,7 @@ use Rattle.bench.specs.Guard.{runGuard}
 use Rattle.bench.specs.Answer.{passes}
 use Rattle.bench.specs.Run.{header, steps, afterRun, ran}
 use Rattle.bench_laws.specs.Laws.{Stayed, Stays, Joined, Joins}
-use Rattle.bench_laws.proofs.Runs.{in-two, keeps, how-many}
+use Rattle.bench.proofs.Runs.{in-two, keeps, how-many}
 use Rattle.bench_laws.proofs.Guards.{Ready, ready, passed, next-ready}
 
 -- only Done passes

@@ -1,9 +1,4 @@
-pub mod Overs
-pub mod Each
-pub mod Slots
-pub mod Sent
 pub mod Events
-pub mod Runs
 pub mod Guards
 pub mod Joined
 pub mod Called

@@ -20,8 +20,8 @@ use Rattle.bench_file.specs.Absent.{slots}
 use Rattle.bench.specs.declared.slots.Label.{Label}
 use Rattle.bench.specs.Slots.{slotLength, slotPlace, roomPlace, labelOf, packetOf, roomOf, withRoom, withLabel}
 use Rattle.network.proofs.Demand1.Refusals.{refusals-hold}
-use Rattle.bench_laws.proofs.Overs as overs
-use Rattle.bench_laws.proofs.Slots.{room-length, label-length}
+use Rattle.bench.proofs.Overs as overs
+use Rattle.bench.proofs.Labels.{room-length, label-length}
 
 -- ---- a part, by its elements
 

@@ -31,7 +31,8 @@ use Rattle.bench.specs.Run.{header, allSet, setUp}
 use Rattle.network.specs.Isolation.{sharedAfterAll, Shared}
 use Rattle.network.proofs.Demand1.Frame.{kept-places}
 use Rattle.bench_laws.specs.Calls.{sharedOf, callAt}
-use Rattle.bench_laws.proofs.Each.{one-of, all-of}
+use Rattle.bench.proofs.Afresh.{beside}
+use Rattle.bench.proofs.Each.{one-of, all-of}
 use Rattle.bench_laws.proofs.Guards.{Ready, ready}
 use Rattle.bench_laws.proofs.Called.{plain, one-call}
 
@@ -89,38 +90,30 @@ module _ (file : List ℕ) (t : ClassTable) where
 
   pub record Longs (b c : Bench) : Type 0 where
     pub hosts : length (c .hosts) ≡ length (b .hosts)
-    pub copies : c .copies ≡ b .copies
     pub run : length (c .run) ≡ length (b .run)
-    pub slots : c .slots ≡ b .slots
-    pub answers : c .answers ≡ b .answers
 
   pub all-long : (k n : ℕ) (b : Bench) → Longs b (allSet file t k n b)
   unfolding allSet
-  all-long k zero b = record { hosts = refl; copies = refl; run = refl; slots = refl; answers = refl }
+  all-long k zero b = record { hosts = refl; run = refl }
   all-long k (suc n) b =
       let l = all-long (suc k) n (asked file t h k Initialize b .bench) in
-      record {
-        hosts = l .hosts ∙ simp length-set;
-        copies = l .copies;
-        run = l .run ∙ kept-places (ask Initialize) (lentAt file t k b) .same-length;
-        slots = l .slots;
-        answers = l .answers;
-      }
+      record { hosts = l .hosts ∙ simp length-set; run = l .run ∙ kept-places (ask Initialize) (lentAt file t k b) .same-length }
 
   pub set-up-ready : (b : Bench) → passes (setUpGuard t file b) ≡ true → Ready t file (setUp file t b)
   unfolding setUp
   set-up-ready b e =
       let r = emptied-ready b e in
       let l = all-long 0 (h .hosts) b in
+      let k = beside file t 0 (h .hosts) b in
       record {
         header-good = r .header-good;
         records = r .records;
         long = record {
           run = rw (l .run) (r .long .run);
           hosts = rw (l .hosts) (r .long .hosts);
-          copies = rw (l .copies) (r .long .copies);
-          slots = rw (l .slots) (r .long .slots);
-          answers = rw (zeros-length (h .events) (allSet file t 0 (h .hosts) b .answers), l .answers) (r .long .answers);
+          copies = rw (k .copies) (r .long .copies);
+          slots = rw (k .slots) (r .long .slots);
+          answers = rw (zeros-length (h .events) (allSet file t 0 (h .hosts) b .answers), k .answers) (r .long .answers);
         };
         slots-good = zeros-good h (allSet file t 0 (h .hosts) b .slots);
         done = omega arith;

@@ -1,11 +1,11 @@
 -- A run is its events' calls, one after the other; and so is set-up.
 use mathlib.Core.Path.{_≡_, refl, sym, _∙_, ap}
-use mathlib.Core.Bool.{Bool, true, false, _&&_, _||_}
+use mathlib.Core.Bool.{Bool, true, false}
 use mathlib.Core.List.{List, [], _∷_, _++_, flatten, append-assoc}
-use Prim.Native.Nat.{ℕ, zero, suc, _+_, _-_, _≤_, _<_}
+use Prim.Native.Nat.{ℕ, zero, suc, _+_, _-_, _<_}
 use native.Mathlib.Omega.{arith}
-use borrow.Author.Tests.{ltb-true, leb-true}
-use lib.Dec.{ltb, leb}
+use borrow.Author.Tests.{ltb-true}
+use lib.Dec.{ltb}
 use lib.ListN.{length, set}
 use lib.Seq.{take-suc-set, drop-set-lt}
 use Rattle.lists.specs.Lists.{over}
@@ -14,22 +14,20 @@ use Rattle.lists.proofs.Tests.{both}
 use Rattle.answer.specs.Answer.{number}
 use Rattle.answer.specs.declared.Answer.the-variants.{IpForm}
 use Rattle.class_table.specs.declared.ClassTable.{ClassTable}
-use Rattle.host.specs.Guard.{longest}
 use Rattle.bench_file.specs.declared.Header.{Header}
 use Rattle.bench_file.specs.declared.Event.{Event}
 use Rattle.bench_file.specs.declared.Event.the-variants.{Tick, Adjust, Set, Second, SelfReport, Send, Arrival, Unknown}
-use Rattle.bench_file.specs.Settings.{hostsGood}
-use Rattle.bench_file.specs.Records.{endAt, eventAt}
-use Rattle.bench_file.specs.Absent.{slots, markGood, endGood, cableGood, cablesGood, eventGood, eventsGood}
+use Rattle.bench_file.specs.Records.{eventAt}
+use Rattle.bench_file.specs.Absent.{markGood, eventGood}
 use Rattle.bench.specs.Bench.{Bench}
-use Rattle.bench.specs.Slots.{labelOf, slotGood, slotsGood, empty}
-use Rattle.bench.specs.Guard.{recordsGood}
+use Rattle.bench.specs.Slots.{labelOf}
 use Rattle.bench.specs.Event.{After, carried}
 use Rattle.bench.specs.Run.{header, next, steps}
 use Rattle.network.specs.Isolation.{SharedEvent, Shared, sharedAfterAll}
 use Rattle.bench_laws.specs.Calls.{sharedOf, callsOf, turns, answersOf, lastAnswer}
-use Rattle.bench_laws.proofs.Each.{one-of}
-use Rattle.bench_laws.proofs.Events.{same-done, carries}
+use Rattle.bench.proofs.Named.{cables-good, event-good, end-host, filled, send-names, arrival-names}
+use Rattle.bench.proofs.Runs.{same-done}
+use Rattle.bench_laws.proofs.Events.{carries}
 use Rattle.bench_laws.proofs.Guards.{Ready, next-ready}
 use Rattle.bench_laws.proofs.Called.{Made, Lent-hosts, made}
 
@@ -52,42 +50,6 @@ module _ (file : List ℕ) (t : ClassTable) where
   -- ---- the hosts of an event's calls are there
 
   module _ (b : Bench) (r : Ready t file b) where
-    cables-good : cablesGood file h ≡ true
-    unfolding recordsGood
-    cables-good = both (cablesGood file h) (eventsGood file h) (both (hostsGood t file h) (cablesGood file h && eventsGood file h) (r .records) .1) .0
-
-    events-good : eventsGood file h ≡ true
-    unfolding recordsGood
-    events-good = both (cablesGood file h) (eventsGood file h) (both (hostsGood t file h) (cablesGood file h && eventsGood file h) (r .records) .1) .1
-
-    pub next-good : ltb (b .done) (h .events) ≡ true → eventGood h (eventAt file h (b .done)) ≡ true
-    unfolding eventsGood
-    next-good e =
-        one-of (λ (k : ℕ). eventGood h (eventAt file h k)) 0 (h .events) (b .done) events-good (omega arith) (omega (arith, ltb-true (b .done) (h .events) e))
-
-    end-good : (c i : ℕ) → c < h .cables → i ≤ 1 → endGood file h (endAt file h c i) ≡ true
-    unfolding cablesGood cableGood
-    end-good c zero lc li =
-        both (endGood file h (endAt file h c 0)) (endGood file h (endAt file h c 1)) (one-of (λ (k : ℕ). endGood file h (endAt file h k 0) && endGood file h (endAt file h k 1)) 0 (h .cables) c cables-good (omega arith) (omega arith)) .0
-    end-good c (suc zero) lc li =
-        both (endGood file h (endAt file h c 0)) (endGood file h (endAt file h c 1)) (one-of (λ (k : ℕ). endGood file h (endAt file h k 0) && endGood file h (endAt file h k 1)) 0 (h .cables) c cables-good (omega arith) (omega arith)) .1
-    end-good c (suc (suc i)) lc li = absurd (omega arith)
-
-    pub end-host : (c i : ℕ) → c < h .cables → i ≤ 1 → endAt file h c i .host < h .hosts
-    unfolding endGood
-    end-host c i lc li = ltb-true _ _ (both _ _ (end-good c i lc li) .0)
-
-    -- a slot that is filled names a cable and an end
-    pub filled : (n : ℕ) → n < slots → empty n (b .slots) ≡ false → (labelOf n (b .slots) .length ≤ longest) × (labelOf n (b .slots) .cable < h .cables) × (labelOf n (b .slots) .end ≤ 1)
-    unfolding slotsGood
-    filled n ln e =
-        let g = one-of (slotGood h (b .slots)) 0 slots n (r .slots-good) (omega arith) (omega arith) in
-        let q : (leb (labelOf n (b .slots) .length) longest && (ltb (labelOf n (b .slots) .cable) (h .cables) && leb (labelOf n (b .slots) .end) 1)) ≡ true =
-        ap (λ (x : Bool). x || (leb (labelOf n (b .slots) .length) longest && (ltb (labelOf n (b .slots) .cable) (h .cables) && leb (labelOf n (b .slots) .end) 1))) (sym e) ∙ g in
-        let one = both _ _ q in
-        let two = both _ _ (one .1) in
-        (leb-true _ _ (one .0), ltb-true _ _ (two .0), leb-true _ _ (two .1))
-
     inside : {k : ℕ} → k < h .hosts → k < length (b .hosts)
     inside l = omega (arith, l, r .long .hosts)
 
@@ -98,12 +60,11 @@ module _ (file : List ℕ) (t : ClassTable) where
     hosts-there (Second k) g = inside (ltb-true k (h .hosts) g)
     hosts-there (SelfReport k n) g = inside (ltb-true k (h .hosts) (both (ltb k (h .hosts)) (markGood n) g .0))
     hosts-there (Send c i n k) g =
-        let one = both (ltb c (h .cables)) (leb i 1 && (ltb n slots && markGood k)) g in
-        let two = both (leb i 1) (ltb n slots && markGood k) (one .1) in
-        inside (end-host c i (ltb-true c (h .cables) (one .0)) (leb-true i 1 (two .0)))
+        let s = send-names h c i n k g in
+        inside (end-host file h (cables-good t file h (r .records)) c i (s .0) (s .1))
     hosts-there (Arrival n k) g = λ full.
-        let f = filled n (ltb-true n slots (both (ltb n slots) (markGood k) g .0)) full in
-        inside (end-host (labelOf n (b .slots) .cable) (1 - labelOf n (b .slots) .end) (f .1) (omega arith))
+        let f = filled h (b .slots) (r .slots-good) n (arrival-names h n k g) full in
+        inside (end-host file h (cables-good t file h (r .records)) (labelOf n (b .slots) .cable) (1 - labelOf n (b .slots) .end) (f .1) (omega arith))
     hosts-there Unknown g = tt
 
   -- ---- a run
@@ -124,8 +85,11 @@ module _ (file : List ℕ) (t : ClassTable) where
     abbrev behind : List (List SharedEvent)
     behind = turns file t n (next file t b)
 
+    good : eventGood h e ≡ true
+    good = event-good t file h (r .records) (b .done) (ltb-true (b .done) (h .events) q)
+
     m : Made file t (callsOf file t e b) b a
-    m = made file t b e (hosts-there b r e (next-good b r q))
+    m = made file t b e (hosts-there b r e good)
 
     lefts : sharedOf file (steps file t n (next file t b)) ≡ sharedAfterAll (sharedOf file b) (callsOf file t e b ++ flatten behind)
     unfolding next
@@ -137,7 +101,7 @@ module _ (file : List ℕ) (t : ClassTable) where
     kept-answer : next file t b .answers ≡ set (b .answers) (b .done) (number (lastAnswer IpForm (sharedOf file b) (callsOf file t e b)))
     unfolding next
     kept-answer =
-        let s = carries file t h b (r .long .slots) e (next-good b r q) in
+        let s = carries file t h b (r .long .slots) e good in
         λ i. set (s .answers i) (same-done file t h e b i) (number (m .answer-same i))
 
     one-done : next file t b .done ≡ suc (b .done)

@@ -1,4 +1,4 @@
--- The complete small file of docs/BENCH.md, and a run of it: two hosts, one cable, eight events, of which the fifth takes a slot that was never filled.
+-- A small file, and a run of it: two hosts, one cable, eight events, of which the fifth takes a slot that was never filled.
 use mathlib.Core.Path.{_≡_}
 use mathlib.Core.Bool.{false}
 use mathlib.Core.List.{List, [], _∷_, _++_, map}

@@ -1,4 +1,4 @@
--- Demand 3 on the bench is not empty: a file that meets every condition. Its hosts and its cable are those of docs/BENCH.md; its events are an exchange between the two, the last packet 101 ms under way. It ends with an entry of DELAY 101 and an error of -51 ms: 10,200 against 10,201.
+-- Demand 3 on the bench is not empty: a file that meets every condition. Its hosts and its cable are those of the small file; its events are an exchange between the two, the last packet 101 ms under way. It ends with an entry of DELAY 101 and an error of -51 ms: 10,200 against 10,201.
 use mathlib.Core.Path.{_≡_}
 use mathlib.Core.Bool.{true, cond}
 use mathlib.Core.List.{List, [], _∷_, _++_}

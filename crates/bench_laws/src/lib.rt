@@ -26,7 +26,7 @@ pub fn bound()
     ensures { λ _. ⌜ Bound ⌝ }
 {}
 
-// The small file of docs/BENCH.md, run.
+// A small file, run.
 pub fn example()
     ensures { λ _. ⌜ Example ⌝ }
 {}

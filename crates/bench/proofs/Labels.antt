@@ -1,21 +1,20 @@
 -- What a send puts into a slot leaves every label good: its own is the send's, or as it was, and the others are not touched.
-use mathlib.Core.Path.{_≡_, refl, sym, _∙_, ap}
-use mathlib.Core.Bool.{Bool, true, false, cond, _&&_, _||_}
+use mathlib.Core.Path.{_≡_, refl, _∙_}
+use mathlib.Core.Bool.{Bool, true, false, _||_}
 use mathlib.Core.List.{List, [], _∷_, _++_}
 use Prim.Native.Nat.{ℕ, _+_, _*_, _≤_, _<_}
 use native.Mathlib.Omega.{arith}
-use lib.Dec.{ltb, leb, eqb}
+use lib.Dec.{leb, eqb}
 use lib.ListN.{length, getD}
 use borrow.Author.Tests.{le-leb, lt-ltb, leb-true, leb-false, eqb-true, eqb-false}
-use Rattle.lists.specs.Lists.{over}
 use Rattle.wire.specs.Octets.{two}
 use Rattle.host.specs.Guard.{longest}
 use Rattle.bench_file.specs.declared.Header.{Header}
 use Rattle.bench_file.specs.Octets.{octetAt}
 use Rattle.bench_file.specs.Absent.{slots}
 use Rattle.bench.specs.Slots.{slotLength, slotPlace, roomPlace, labelOf, withRoom, withLabel, slotGood, slotsGood}
-use Rattle.bench_laws.proofs.Overs as overs
-use Rattle.bench_laws.proofs.Each.{one-of, all-of}
+use Rattle.bench.proofs.Overs as overs
+use Rattle.bench.proofs.Each.{one-of, all-of}
 
 -- a label is good as its four octets are
 alike : (h : Header) (o p : List ℕ) (j : ℕ) → ((d : ℕ) → d < 4 → octetAt p (slotPlace j + d) ≡ octetAt o (slotPlace j + d)) → slotGood h p j ≡ slotGood h o j

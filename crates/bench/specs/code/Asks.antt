@@ -1,0 +1,50 @@
+-- A request at a host, as an event asks it: what it may be lent, and what it leaves.
+use mathlib.Core.Path.{_≡_}
+use mathlib.Core.List.{List}
+use Prim.Native.Nat.{ℕ, _+_, _*_, _≤_, _<_}
+use lib.ListN.{length, getD, set}
+use Rattle.lists.specs.Lists.{part}
+use Rattle.answer.specs.Answer.{number}
+use Rattle.class_table.specs.declared.ClassTable.{ClassTable}
+use Rattle.table.specs.declared.Entry.{Entry}
+use Rattle.host.specs.Guard.{longest}
+use Rattle.host.specs.Lent.{lent}
+use Rattle.calls.specs.Perform.{Outcome, ask, perform}
+use Rattle.bench.specs.declared.HostState.{HostState}
+use Rattle.bench.specs.declared.requests.Ask.{Ask}
+
+pub record AskFits (w : Ask) (hosts : List HostState) (copies answers : List ℕ) : Type 0 where
+  pub host : w .host ≤ 15
+  pub there : w .host < length hosts
+  pub copy : longest * w .host + longest ≤ length copies
+  pub event : w .event < length answers
+
+module _ (w : Ask) (t : ClassTable) (hosts : List HostState) (copies : List ℕ) (run : List Entry) (d : HostState) where
+  -- the state that stands for the host
+  abbrev pub stateOf : HostState
+  stateOf = getD hosts (w .host) d
+
+  abbrev pub outcomeOf : Outcome
+  outcomeOf =
+      perform (ask (w .request))
+      (lent (w .settings) t (w .host) (stateOf .clock) (stateOf .links) (stateOf .walk) (part (longest * w .host) longest copies) run)
+
+pub record AskDone (w : Ask) (t : ClassTable) (hosts : List HostState) (copies : List ℕ) (run : List Entry) (answers : List ℕ) (hosts′ : List HostState) (run′ : List Entry) (answers′ : List ℕ) (d : HostState) : Type 0 where
+  pub states : hosts′ ≡ set hosts (w .host) record { clock = outcomeOf w t hosts copies run d .clock; links = outcomeOf w t hosts copies run d .links; walk = outcomeOf w t hosts copies run d .walk }
+  pub entries : run′ ≡ outcomeOf w t hosts copies run d .run
+  pub kept : answers′ ≡ set answers (w .event) (number (outcomeOf w t hosts copies run d .reply .answer))
+
+-- whatever stands for a host that is not there
+abbrev pub AskLeaves : Ask → ClassTable → List HostState → (copies : List ℕ) → List Entry → (answers : List ℕ) → List HostState → List Entry → List ℕ → Type 0
+AskLeaves w t hosts copies run answers hosts′ run′ answers′ = (d : HostState) → AskDone w t hosts copies run answers hosts′ run′ answers′ d
+
+-- ---- none, or one
+
+pub record AsksFit (w : Ask) (hosts : List HostState) (copies answers : List ℕ) : Type 0 where
+  pub first : w .first ≤ w .end
+  pub one : w .end ≤ w .first + 1
+  pub fits : w .first < w .end → AskFits w hosts copies answers
+
+pub record AsksLeave (w : Ask) (t : ClassTable) (hosts : List HostState) (copies : List ℕ) (run : List Entry) (answers : List ℕ) (hosts′ : List HostState) (run′ : List Entry) (answers′ : List ℕ) : Type 0 where
+  pub none : w .first ≡ w .end → (hosts′ ≡ hosts) × (run′ ≡ run) × (answers′ ≡ answers)
+  pub one : w .first < w .end → AskLeaves w t hosts copies run answers hosts′ run′ answers′

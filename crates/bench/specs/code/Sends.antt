@@ -1,0 +1,64 @@
+-- A send at a host, as an event asks it: what it may be lent, and what it leaves.
+use mathlib.Core.Path.{_≡_}
+use mathlib.Core.Bool.{cond}
+use mathlib.Core.List.{List}
+use Prim.Native.Nat.{ℕ, _+_, _*_, _≤_, _<_}
+use lib.ListN.{length, getD, set}
+use Rattle.lists.specs.Lists.{part}
+use Rattle.answer.specs.Answer.{number}
+use Rattle.class_table.specs.declared.ClassTable.{ClassTable}
+use Rattle.table.specs.declared.Entry.{Entry}
+use Rattle.host.specs.Guard.{longest, done}
+use Rattle.host.specs.Lent.{lent}
+use Rattle.calls.specs.Perform.{Outcome, send, perform}
+use Rattle.bench_file.specs.Header.{mostCables}
+use Rattle.bench_file.specs.Absent as file
+use Rattle.bench.specs.declared.HostState.{HostState}
+use Rattle.bench.specs.declared.sends.Sending.{Sending}
+use Rattle.bench.specs.Slots.{slotLength, roomOf, withRoom, withLabel}
+
+pub record SendFits (w : Sending) (hosts : List HostState) (copies slots answers : List ℕ) : Type 0 where
+  pub host : w .host ≤ 15
+  pub there : w .host < length hosts
+  pub copy : longest * w .host + longest ≤ length copies
+  pub cable : w .cable < mostCables
+  pub side : w .side ≤ 1
+  pub slot : w .slot < file.slots
+  pub room : slotLength * file.slots ≤ length slots
+  pub event : w .event < length answers
+
+module _ (w : Sending) (t : ClassTable) (hosts : List HostState) (copies : List ℕ) (run : List Entry) (slots : List ℕ) (d : HostState) where
+  -- the state that stands for the host
+  abbrev pub stateOf : HostState
+  stateOf = getD hosts (w .host) d
+
+  abbrev pub outcomeOf : Outcome
+  outcomeOf =
+      perform (send (w .link) (w .counter) (roomOf (w .slot) slots))
+      (lent (w .settings) t (w .host) (stateOf .clock) (stateOf .links) (stateOf .walk) (part (longest * w .host) longest copies) run)
+
+  -- the message in its slot, and its label where it was sent
+  abbrev pub slotsOf : List ℕ
+  slotsOf =
+      let put : List ℕ = withRoom (w .slot) (outcomeOf .buffer) slots in
+      cond (done (outcomeOf .reply .answer)) (withLabel (w .slot) (outcomeOf .reply .length) (w .cable) (w .side) put) put
+
+pub record SendDone (w : Sending) (t : ClassTable) (hosts : List HostState) (copies : List ℕ) (run : List Entry) (before answers : List ℕ) (hosts′ : List HostState) (slots′ answers′ : List ℕ) (d : HostState) : Type 0 where
+  pub states : hosts′ ≡ set hosts (w .host) record { clock = outcomeOf w t hosts copies run before d .clock; links = outcomeOf w t hosts copies run before d .links; walk = outcomeOf w t hosts copies run before d .walk }
+  pub slots : slots′ ≡ slotsOf w t hosts copies run before d
+  pub kept : answers′ ≡ set answers (w .event) (number (outcomeOf w t hosts copies run before d .reply .answer))
+
+-- whatever stands for a host that is not there
+abbrev pub SendLeaves : Sending → ClassTable → List HostState → (copies : List ℕ) → List Entry → (slots answers : List ℕ) → List HostState → (slots′ answers′ : List ℕ) → Type 0
+SendLeaves w t hosts copies run slots answers hosts′ slots′ answers′ = (d : HostState) → SendDone w t hosts copies run slots answers hosts′ slots′ answers′ d
+
+-- ---- none, or one
+
+pub record SendsFit (w : Sending) (hosts : List HostState) (copies slots answers : List ℕ) : Type 0 where
+  pub first : w .first ≤ w .end
+  pub one : w .end ≤ w .first + 1
+  pub fits : w .first < w .end → SendFits w hosts copies slots answers
+
+pub record SendsLeave (w : Sending) (t : ClassTable) (hosts : List HostState) (copies : List ℕ) (run : List Entry) (slots answers : List ℕ) (hosts′ : List HostState) (slots′ answers′ : List ℕ) : Type 0 where
+  pub none : w .first ≡ w .end → (hosts′ ≡ hosts) × (slots′ ≡ slots) × (answers′ ≡ answers)
+  pub one : w .first < w .end → SendLeaves w t hosts copies run slots answers hosts′ slots′ answers′

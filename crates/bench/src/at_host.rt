@@ -1,0 +1,130 @@
+// A call at a host whose state is held by value: it is lent for the call, with all else that a call is lent.
+ghost use mathlib.Core.Path.{_≡_};
+ghost use Rattle.host.specs.Lent.{lent};
+ghost use Rattle.calls.specs.Perform.{ask, send, deliver, perform};
+ghost use Rattle.bench.specs.code.Left.{leftOf};
+use arrival::Delivery;
+use calls::Request;
+use class_table::ClassTable;
+use clock::Clock;
+use clock::Counter;
+use host::Links;
+use host::Reply;
+use host::Settings;
+use host::walk::Walk;
+use table::Entry;
+
+// What a call leaves of a host, and what it answers.
+pub struct Left {
+    pub reply: Reply,
+    pub clock: Clock,
+    pub links: Links,
+    pub walk: Walk,
+}
+
+// A request.
+pub fn asked(
+    settings: Settings,
+    nets: &ClassTable,
+    number: usize,
+    clock: Clock,
+    links: Links,
+    walk: Walk,
+    copy: &[u8],
+    run: &mut [Entry],
+    request: Request,
+) -> Left
+    ensures { λ r. ⌜ (r ≡ leftOf (perform (ask request) (lent settings (now (nets .entry)) number clock links walk (now (copy .entry)) (now (run .entry))))) × (now (run .exit) ≡ perform (ask request) (lent settings (now (nets .entry)) number clock links walk (now (copy .entry)) (now (run .entry))) .run) ⌝ }
+{
+    let s = settings;
+    let mut c = clock;
+    let mut l = links;
+    let mut v = walk;
+    let a = calls::call(&s, nets, number, &mut c, &mut l, &mut v, copy, run, request);
+    Left {
+        reply: a,
+        clock: c,
+        links: l,
+        walk: v,
+    }
+}
+
+// A send into a buffer.
+pub fn sent(
+    settings: Settings,
+    nets: &ClassTable,
+    number: usize,
+    clock: Clock,
+    links: Links,
+    walk: Walk,
+    copy: &[u8],
+    run: &[Entry],
+    link: usize,
+    counter: Counter,
+    buffer: &mut [u8],
+) -> Left
+    ensures { λ r. ⌜ (r ≡ leftOf (perform (send link counter (now (buffer .entry))) (lent settings (now (nets .entry)) number clock links walk (now (copy .entry)) (now (run .entry))))) × (now (buffer .exit) ≡ perform (send link counter (now (buffer .entry))) (lent settings (now (nets .entry)) number clock links walk (now (copy .entry)) (now (run .entry))) .buffer) ⌝ }
+{
+    let s = settings;
+    let mut c = clock;
+    let mut l = links;
+    let v = walk;
+    let a = calls::send(
+        &s,
+        nets,
+        number,
+        &mut c,
+        &mut l,
+        &v,
+        copy,
+        run,
+        link,
+        counter,
+        buffer,
+    );
+    Left {
+        reply: a,
+        clock: c,
+        links: l,
+        walk: v,
+    }
+}
+
+// A packet that arrives.
+pub fn taken(
+    settings: Settings,
+    nets: &ClassTable,
+    number: usize,
+    clock: Clock,
+    links: Links,
+    walk: Walk,
+    copy: &[u8],
+    run: &mut [Entry],
+    delivery: Delivery,
+    packet: &[u8],
+) -> Left
+    ensures { λ r. ⌜ (r ≡ leftOf (perform (deliver delivery (now (packet .entry))) (lent settings (now (nets .entry)) number clock links walk (now (copy .entry)) (now (run .entry))))) × (now (run .exit) ≡ perform (deliver delivery (now (packet .entry))) (lent settings (now (nets .entry)) number clock links walk (now (copy .entry)) (now (run .entry))) .run) ⌝ }
+{
+    let s = settings;
+    let mut c = clock;
+    let mut l = links;
+    let v = walk;
+    let a = calls::deliver(
+        &s,
+        nets,
+        number,
+        &mut c,
+        &mut l,
+        &v,
+        copy,
+        run,
+        delivery,
+        packet,
+    );
+    Left {
+        reply: a,
+        clock: c,
+        links: l,
+        walk: v,
+    }
+}

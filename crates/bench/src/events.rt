@@ -1,0 +1,57 @@
+// The events of a run, one after the other.
+ghost use Prim.Native.Nat.{_-_, _<_};
+ghost use Rattle.bench.specs.Run.{next, steps};
+ghost use Rattle.bench.specs.Bench.{bench};
+ghost use Rattle.bench.specs.code.Turns.{Fits, TurnsFit, Left};
+use super::HostState;
+use super::requests::asks;
+use super::sends::sends;
+use super::takes::takes;
+use super::told::Turns;
+use super::told::keep;
+use super::told::tell;
+use class_table::ClassTable;
+use table::Entry;
+
+// One event: what it asks is told, and of the four that it might be, one is carried out.
+pub fn event_at(
+    file: &[u8],
+    nets: &ClassTable,
+    hosts: &mut [HostState],
+    copies: &[u8],
+    run: &mut [Entry],
+    slots: &mut [u8],
+    answers: &mut [u8],
+    i: usize,
+    w: Turns,
+)
+    requires { ⌜ Fits (now file) (w .header) (now nets) (bench (now hosts) (now copies) (now run) (now slots) (now answers) i) × (i < w .header .events) ⌝ }
+    ensures { λ _. ⌜ Left (next (now (file .entry)) (now (nets .entry)) (bench (now (hosts .entry)) (now (copies .entry)) (now (run .entry)) (now (slots .entry)) (now (answers .entry)) i)) (now (hosts .exit)) (now (run .exit)) (now (slots .exit)) (now (answers .exit)) ⌝ }
+{
+    let p = tell(file, slots, i, w);
+    keep(answers, p.note);
+    takes(nets, hosts, copies, run, slots, answers, p.take);
+    sends(nets, hosts, copies, run, slots, answers, p.send);
+    asks(nets, hosts, copies, run, answers, p.ask);
+}
+
+pub fn turns(
+    file: &[u8],
+    nets: &ClassTable,
+    hosts: &mut [HostState],
+    copies: &[u8],
+    run: &mut [Entry],
+    slots: &mut [u8],
+    answers: &mut [u8],
+    w: Turns,
+)
+    requires { ⌜ TurnsFit (now file) w (now nets) (bench (now hosts) (now copies) (now run) (now slots) (now answers) (w .first)) ⌝ }
+    ensures { λ _. ⌜ Left (steps (now (file .entry)) (now (nets .entry)) (w .end - w .first) (bench (now (hosts .entry)) (now (copies .entry)) (now (run .entry)) (now (slots .entry)) (now (answers .entry)) (w .first))) (now (hosts .exit)) (now (run .exit)) (now (slots .exit)) (now (answers .exit)) ⌝ }
+{
+    let end = w.end;
+    let mut i = w.first;
+    while i < end {
+        event_at(file, nets, hosts, copies, run, slots, answers, i, w);
+        i = i + 1;
+    }
+}
