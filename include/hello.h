@@ -48,7 +48,12 @@
  *        32 rows, an NHOSTS not 1 to 255 or a row's id
  *        not below it; something else lent is out of
  *        range; or the mark of one of the host's first
- *        NHOSTS entries is not that of the settings
+ *        NHOSTS entries is not that of the settings.
+ *        Of a bench: something lent is shorter than
+ *        its file asks; in a run also a filled slot
+ *        with a length over 1,052, a cable that is not
+ *        in the file or another end than 0 and 1, or
+ *        more events done than the file has
  *   13   the host looked up is down: its DELAY is       nothing
  *        30,000
  *   16   the host is in the middle of a walk            nothing

@@ -2,24 +2,12 @@
 use host::Link;
 use host::walk::Place;
 use host::walk::Walk;
+use printing::signed;
+use printing::text;
 use quantity::Millis;
 use quantity::Word;
 use table::Entry;
 use wire::Address;
-
-fn text(s: &[u8]) {
-    io::write_all(1, s);
-}
-
-// A signed number.
-fn signed(n: i64) {
-    if n >= 0 {
-        io::print_decimal(1, n as u64);
-        return;
-    }
-    text(b"-");
-    io::print_decimal(1, std::num::wrapping_add_u64((!n) as u64, 1));
-}
 
 // A name and a number.
 fn number(name: &[u8], n: i64) {

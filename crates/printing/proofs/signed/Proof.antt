@@ -1,8 +1,8 @@
 -- A number from 0 on is its own octets; of one below, the complement and one are.
 use Rattle.quantity.proofs.Bits.{low-up, low-down}
 use borrow.Author.Needs.{needs}
-use Rattle.hello_walk.proofs.show.signed.Statement.{statement}
-use Rattle.hello_walk.proofs.show.signed.Tie as tie
+use Rattle.printing.proofs.signed.Statement.{statement}
+use Rattle.printing.proofs.signed.Tie as tie
 
 cast-print-decimal : tie.Need-cast-print-decimal
 cast-print-decimal c = let u = low-up (c .before .args .n) (c .if1 .taken) (c .before .fits .n) in (u .0, u .1)

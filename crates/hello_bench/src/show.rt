@@ -1,0 +1,145 @@
+// The lines that are printed: an event with its answer, and the tables of clocks and entries at the end.
+use bench_file::Event;
+use calendar::Date;
+use clock::Clock;
+use printing::signed;
+use printing::text;
+use quantity::Millis;
+use table::Entry;
+
+// A name and a number.
+fn number(name: &[u8], n: usize) {
+    text(name);
+    io::print_decimal(1, n as u64);
+}
+
+// ---- answers
+
+fn name_of_a_refused_packet(n: u8) {
+    match n {
+        3 => text(b"IpForm"),
+        4 => text(b"IpChecksum"),
+        5 => text(b"Protocol"),
+        6 => text(b"HelloForm"),
+        7 => text(b"HelloChecksum"),
+        8 => text(b"OtherLayout"),
+        9 => text(b"LoopedLine"),
+        10 => text(b"DelayNotValid"),
+        _ => text(b"NoHost"),
+    }
+}
+
+// The name of an answer, as docs/answers.txt has it, of those that a bench and its events have.
+fn name(n: u8) {
+    match n {
+        0 => text(b"Done"),
+        1 => text(b"Setting"),
+        3..=11 => name_of_a_refused_packet(n),
+        12 => text(b"OutOfRange"),
+        16 => text(b"InWalk"),
+        18 => text(b"Header"),
+        19 => text(b"Absent"),
+        _ => text(b"another"),
+    }
+}
+
+// The number of an answer and its name, which end the line.
+pub fn answer(n: u8) {
+    io::print_decimal(1, n as u64);
+    text(b" ");
+    name(n);
+    text(b"\n");
+}
+
+// ---- events
+
+fn of_seat(call: &[u8], seat: usize) {
+    text(call);
+    number(b" seat ", seat);
+}
+
+fn set(seat: usize, amount: Millis) {
+    of_seat(b"set", seat);
+    text(b" by ");
+    signed(amount.0);
+    text(b" ms");
+}
+
+fn send(cable: usize, end: usize, tray: usize) {
+    number(b"send cable ", cable);
+    number(b" end ", end);
+    number(b" tray ", tray);
+}
+
+// An event, as the text of a bench file has it, but for counts.
+pub fn event(i: usize, e: Event) {
+    number(b"event ", i);
+    text(b": ");
+    match e {
+        Event::Tick(seat, _) => of_seat(b"tick", seat),
+        Event::Adjust(seat, _) => of_seat(b"adjust", seat),
+        Event::Set(seat, ms, _) => set(seat, Millis::of_count(ms)),
+        Event::Second(seat) => of_seat(b"second", seat),
+        Event::SelfReport(seat, _) => of_seat(b"self-report", seat),
+        Event::Send(cable, end, tray, _) => send(cable, end, tray),
+        Event::Arrival(tray, _) => number(b"arrival tray ", tray),
+        Event::Unknown => text(b"none"),
+    }
+    text(b": ");
+}
+
+// ---- the tables
+
+// Two digits.
+fn two(n: u16) {
+    if n < 10 {
+        text(b"0");
+    }
+    io::print_decimal(1, n as u64);
+}
+
+fn date(d: Date) {
+    io::print_decimal(1, (d.0 % 32 + 1972) as u64);
+    text(b"-");
+    two(d.0 / 1024 % 16);
+    text(b"-");
+    two(d.0 / 32 % 32);
+}
+
+pub fn clocks() {
+    text(b"seat\tCLOCK ms\tDATE\n");
+}
+
+// A seat's clock, without what a crystal's counter shows.
+pub fn clock(seat: usize, c: Clock) {
+    let ms = Millis::whole(c.clock);
+    number(b"", seat);
+    text(b"\t");
+    signed(ms.0);
+    text(b"\t");
+    date(c.date);
+    text(b"\n");
+}
+
+pub fn entries() {
+    text(b"seat\thost\tDELAY ms\tOFFSET ms\tTTL s\tPID\n");
+}
+
+// A seat's entry of a host, where that is up.
+pub fn entry(seat: usize, id: usize, e: Entry) {
+    if !table::up(e) {
+        return;
+    }
+    let delay = e.delay;
+    let offset = Millis::of_word(e.offset);
+    let ttl = e.ttl;
+    number(b"", seat);
+    number(b"\t", id);
+    text(b"\t");
+    signed(delay.0);
+    text(b"\t");
+    signed(offset.0);
+    number(b"\t", ttl.0 as usize);
+    number(b"\t", e.pid as usize);
+    text(b"\n");
+}

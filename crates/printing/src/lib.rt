@@ -1,0 +1,14 @@
+// What programs print on standard output.
+pub fn text(s: &[u8]) {
+    io::write_all(1, s);
+}
+
+// A signed number.
+pub fn signed(n: i64) {
+    if n >= 0 {
+        io::print_decimal(1, n as u64);
+        return;
+    }
+    text(b"-");
+    io::print_decimal(1, std::num::wrapping_add_u64((!n) as u64, 1));
+}
