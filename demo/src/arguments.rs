@@ -1,8 +1,10 @@
-//! The words of the command line, and the plan of a room that they ask for.
+//! The words of the command line, and the plan of a room, or the bench file, that they ask for.
 
-use crate::plan::{Cable, End, NetRow, Plan, Shape, DAY, START};
+use crate::plan::{Cable, End, Exercise, NetRow, Plan, Shape, DAY, START};
 use std::fmt::Display;
-use std::ops::RangeInclusive;
+use std::fs;
+use std::ops::{Range, RangeInclusive};
+use std::path::PathBuf;
 use std::str::FromStr;
 
 pub const HELP: &str = "\
@@ -10,6 +12,7 @@ Runs a room of HELLO hosts (RFC 891) on cables, and shows what each host has lea
 
   ./run [--hosts N] [--virtual N] [--crystal N] [--shape line|ring] [--delay LIST]
         [--clocks LIST] [--net LIST] [--minutes N] [--loss PERCENT] [--seed N] [--save FILE] [--help]
+  ./run --bench FILE [--net LIST]
 
 Without arguments: four hosts in a line, all with line clocks, no net rows, ten minutes, no losses.
 
@@ -37,6 +40,9 @@ Without arguments: four hosts in a line, all with line clocks, no net rows, ten 
                    trays go, and shows what the hosts have learned by then. All hosts then have
                    crystal clocks, unless --crystal says otherwise: ticks of line clocks would fill
                    the file in seconds. The net table is not in it
+  --bench FILE     runs a bench file instead of a room, and shows each event with its answer and what
+                   the hosts have learned. The net table has the NHOSTS of the file's first host,
+                   and the rows of --net; no other option goes with it
   --help           this text
 
 Every cable joins a point-to-point link of one host to one of another host. Each host sends on each
@@ -54,6 +60,7 @@ arguments break a condition, the program says so, and runs.
 pub enum Request {
     Help,
     Run(Plan),
+    Bench(Exercise),
 }
 
 /// How long a message takes on a cable, either way.
@@ -61,6 +68,9 @@ type Delay = [i64; 2];
 
 /// The rows that a net table can have.
 const ROWS: usize = 32;
+
+/// Where a bench file has NHOSTS of its first host.
+const NHOSTS: Range<usize> = 26..28;
 
 /// The clocks and cables of the built-in example; a larger room goes on with the later ones.
 const CLOCKS: [i64; 16] = [
@@ -98,9 +108,14 @@ pub fn parse(mut words: impl Iterator<Item = String>) -> Result<Request, String>
     let mut loss = 0;
     let mut seed = 1;
     let mut save = None;
+    let mut bench = None;
+    let mut of_a_room = None;
     while let Some(option) = words.next() {
         if option == "--help" {
             return Ok(Request::Help);
+        }
+        if option != "--bench" && option != "--net" {
+            of_a_room = Some(option.clone());
         }
         let mut value = || words.next().ok_or(format!("{option} lacks its value"));
         match option.as_str() {
@@ -115,8 +130,15 @@ pub fn parse(mut words: impl Iterator<Item = String>) -> Result<Request, String>
             "--loss" => loss = number(&option, &value()?, 0..=100)?,
             "--seed" => seed = number(&option, &value()?, 0..=u64::MAX)?,
             "--save" => save = Some(value()?.into()),
+            "--bench" => bench = Some(value()?.into()),
             _ => return Err(format!("there is no option {option}")),
         }
+    }
+    if let Some(path) = bench {
+        return match of_a_room {
+            Some(option) => Err(format!("{option} is for a room, and --bench runs a file")),
+            None => exercise(path, rows).map(Request::Bench),
+        };
     }
     let crystals = crystals.unwrap_or(if save.is_some() { hosts } else { 0 });
     Ok(Request::Run(Plan {
@@ -131,6 +153,21 @@ pub fn parse(mut words: impl Iterator<Item = String>) -> Result<Request, String>
         seed,
         save,
     }))
+}
+
+/// The bench file at a path, with these rows beside it.
+fn exercise(path: PathBuf, rows: Vec<NetRow>) -> Result<Exercise, String> {
+    let octets = fs::read(&path).map_err(|error| format!("{}: {error}", path.display()))?;
+    let nhosts = match octets.get(NHOSTS) {
+        Some([0, nhosts @ 1..=255]) => usize::from(*nhosts),
+        _ => 1,
+    };
+    Ok(Exercise {
+        path,
+        octets,
+        nhosts,
+        rows: rows_of(nhosts, rows)?,
+    })
 }
 
 /// The whole number that a word says, if it is in the range.

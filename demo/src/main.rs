@@ -1,7 +1,9 @@
-//! A room of HELLO hosts on cables: runs it for some minutes and shows what each host has learned.
+//! A room of HELLO hosts on cables: runs it for some minutes and shows what each host has learned. Or
+//! a bench file, which is run to its end.
 
 mod conditions;
 mod drive;
+mod exercise;
 mod host;
 mod progress;
 mod random;
@@ -22,10 +24,7 @@ use std::process::ExitCode;
 fn main() -> ExitCode {
     let request = match arguments::parse(env::args().skip(1)) {
         Ok(request) => request,
-        Err(message) => {
-            eprintln!("{message}\nTry --help.");
-            return ExitCode::from(2);
-        }
+        Err(message) => return refused(&message),
     };
     let mut out = io::stdout();
     let done = match request {
@@ -33,6 +32,10 @@ fn main() -> ExitCode {
             .write_all(arguments::HELP.as_bytes())
             .map_err(Failure::from),
         Request::Run(plan) => run(&mut out, &plan),
+        Request::Bench(exercise) => match exercise::run(&exercise) {
+            Ok(ended) => ended.report(&mut out).map_err(Failure::from),
+            Err(message) => return refused(&message),
+        },
     };
     match done {
         Err(Failure { error, .. }) if error.kind() == ErrorKind::BrokenPipe => ExitCode::SUCCESS,
@@ -42,6 +45,12 @@ fn main() -> ExitCode {
         }
         Ok(()) => ExitCode::SUCCESS,
     }
+}
+
+/// Says what is wrong with the arguments, or with the file that they name.
+fn refused(message: &str) -> ExitCode {
+    eprintln!("{message}\nTry --help.");
+    ExitCode::from(2)
 }
 
 /// What could not be written.

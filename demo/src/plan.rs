@@ -1,4 +1,4 @@
-//! What a room is to be.
+//! What a room is to be, and a bench file that is run instead.
 
 use std::path::PathBuf;
 
@@ -46,6 +46,16 @@ impl Plan {
     pub fn guests(&self, number: usize) -> impl Iterator<Item = usize> + '_ {
         (self.clocks.len()..self.ids()).filter(move |id| self.home(*id) == number)
     }
+}
+
+/// A bench file to run.
+pub struct Exercise {
+    pub path: PathBuf,
+    pub octets: Vec<u8>,
+    /// NHOSTS of the class's table: that of the file's first host, or 1 where it cannot be one.
+    pub nhosts: usize,
+    /// The rows of that table.
+    pub rows: Vec<NetRow>,
 }
 
 /// A row of the net table: the octets of a net, and the id of the host that leads there.

@@ -5,23 +5,30 @@ use crate::drive::Drive;
 use crate::host::address;
 use crate::room::Room;
 use demo::plan::{Plan, Shape, MINUTE, SECOND};
-use hello::{Address, Answer, Entry, Host, Net, Reading};
+use hello::{Address, Answer, Entry, Host, Link, Net, Reading};
+use std::collections::BTreeMap;
 use std::io::{Result, Write};
 use std::path::Path;
 
 /// A DELAY of so many ms is down.
-const DOWN: i64 = 30_000;
+pub const DOWN: i64 = 30_000;
 
-const LEGEND: &str = "\
+/// How to read what a host has learned, what stands beside it, and by which link.
+pub const LEARNED: &str = "\
 How to read the tables:
   KEEP-ALIVE  falls with each message sent on the link; 4 again with each one that arrives
   TSP         the neighbor's time in its last message, less this host's time at its arrival
   DELAY       how long a message takes there and back, as this host has learned it
   OFFSET      what the other host's clock is ahead of this host's, as this host has learned it
-  true        what it is ahead in truth
+";
+
+const IN_TRUTH: &str = "  true        what it is ahead in truth
   error       OFFSET less true
   bound       101/200 of DELAY: the most that the error may be, either way
-  link        the link by which the other host is reached; 0 for this host itself, and for each
+";
+
+pub const BY_LINK: &str =
+    "  link        the link by which the other host is reached; 0 for this host itself, and for each
               that lives here
 ";
 
@@ -115,7 +122,7 @@ pub fn saved(out: &mut impl Write, path: &Path, room: &Room, end: i64) -> Result
 
 /// What the hosts have learned, and whether all errors are within the bound.
 pub fn result(out: &mut impl Write, plan: &Plan, room: &mut Room) -> Result<()> {
-    writeln!(out, "{LEGEND}")?;
+    writeln!(out, "{LEARNED}{IN_TRUTH}{BY_LINK}")?;
     let mut live = 0;
     let mut beyond = 0;
     for number in 0..room.hosts.count() {
@@ -179,11 +186,10 @@ fn live_rows(plan: &Plan, host: &Host) -> Vec<Row> {
         .collect()
 }
 
-/// A host's links and its live entries.
-fn print_host(out: &mut impl Write, host: &Host, rows: &[Row]) -> Result<()> {
+/// A host's links.
+pub fn print_links(out: &mut impl Write, links: &[Link]) -> Result<()> {
     writeln!(out, "  Links")?;
     writeln!(out, "    link  neighbor      KEEP-ALIVE  TSP (ms)")?;
-    let links = &host.links.all[..host.settings.link_count];
     for (index, link) in links.iter().enumerate() {
         writeln!(
             out,
@@ -194,6 +200,12 @@ fn print_host(out: &mut impl Write, host: &Host, rows: &[Row]) -> Result<()> {
             link.tsp
         )?;
     }
+    Ok(())
+}
+
+/// A host's links and its live entries.
+fn print_host(out: &mut impl Write, host: &Host, rows: &[Row]) -> Result<()> {
+    print_links(out, &host.links.all[..host.settings.link_count])?;
     writeln!(out, "  Host table, live entries")?;
     writeln!(
         out,
@@ -274,10 +286,19 @@ fn print_tally(out: &mut impl Write, plan: &Plan, room: &Room) -> Result<()> {
         room.tally.lost,
         room.on_the_way()
     )?;
-    if room.tally.answers.is_empty() {
+    print_answers(out, &room.tally.answers)?;
+    if plan.crystals > 0 {
+        print_overflows(out, room)?;
+    }
+    writeln!(out)
+}
+
+/// How often which answer was given.
+pub fn print_answers(out: &mut impl Write, answers: &BTreeMap<Answer, u64>) -> Result<()> {
+    if answers.is_empty() {
         writeln!(out, "      none")?;
     }
-    for (answer, count) in &room.tally.answers {
+    for (answer, count) in answers {
         writeln!(
             out,
             "  {count:>8}  answered {} ({})",
@@ -285,10 +306,7 @@ fn print_tally(out: &mut impl Write, plan: &Plan, room: &Room) -> Result<()> {
             meaning(*answer)
         )?;
     }
-    if plan.crystals > 0 {
-        print_overflows(out, room)?;
-    }
-    writeln!(out)
+    Ok(())
 }
 
 /// How often the crystals' counters overflowed, and who made the ticks for that.
@@ -314,13 +332,16 @@ fn clock_kind(plan: &Plan, number: usize) -> &'static str {
     }
 }
 
-/// What an answer to an arrival or a lookup means.
-fn meaning(answer: Answer) -> &'static str {
+/// What an answer to an arrival, a lookup or an event means.
+pub fn meaning(answer: Answer) -> &'static str {
     match answer {
         Answer::Done => "done",
         Answer::DelayNotValid => {
             "delay not valid: no message of ours reached the neighbor lately, or HOLD runs"
         }
+        Answer::IpForm => "the tray was never filled",
+        Answer::OtherLayout => "the message has another NHOSTS or ADDRESS-OFFSET",
+        Answer::LoopedLine => "the message is this host's own",
         Answer::NoHost => "no host for the address",
         Answer::HostDown => "that host is down",
         _ => "refused",
@@ -335,7 +356,20 @@ fn minutes(count: i64) -> String {
 }
 
 /// A reading as a date and a time of day.
-fn date_and_time(reading: Reading) -> String {
+pub fn date_and_time(reading: Reading) -> String {
+    let (ms, minutes) = (reading.time % MINUTE, reading.time / MINUTE);
+    format!(
+        "{:02}:{:02}:{:02}.{:03}, {}",
+        minutes / 60,
+        minutes % 60,
+        ms / SECOND,
+        ms % SECOND,
+        day(reading.date)
+    )
+}
+
+/// The day of a DATE word.
+pub fn day(date: u16) -> String {
     const MONTHS: [&str; 12] = [
         "January",
         "February",
@@ -350,18 +384,6 @@ fn date_and_time(reading: Reading) -> String {
         "November",
         "December",
     ];
-    let (year, day, month) = (
-        1972 + (reading.date & 31),
-        reading.date >> 5 & 31,
-        reading.date >> 10 & 15,
-    );
-    let (ms, minutes) = (reading.time % MINUTE, reading.time / MINUTE);
-    format!(
-        "{:02}:{:02}:{:02}.{:03}, {day} {} {year}",
-        minutes / 60,
-        minutes % 60,
-        ms / SECOND,
-        ms % SECOND,
-        MONTHS[usize::from(month) - 1]
-    )
+    let (year, day, month) = (1972 + (date & 31), date >> 5 & 31, date >> 10 & 15);
+    format!("{day} {} {year}", MONTHS[usize::from(month) - 1])
 }

@@ -220,11 +220,16 @@ class Reader:
         return [there("seat", seat, len(self.drafts))]
 
     def _add(self, events):
-        """Adds events; that there are too many is told once, where the first one is too much."""
-        before = len(self.events)
+        """Adds events; that there are too many is told once, where the first one is too much, and none
+        is added behind it."""
+        if self._full():
+            return
         self.events.extend(events)
-        if before <= MOST_EVENTS < len(self.events):
+        if self._full():
             raise Fault(f"that makes {len(self.events):,} events: a file has {MOST_EVENTS:,} at most")
+
+    def _full(self):
+        return len(self.events) > MOST_EVENTS
 
     def _wait(self, _, line):
         """Time goes on for the crystals: from here on they show another count, and tick for each
@@ -241,7 +246,7 @@ class Reader:
         before = self.now
         self.now += ms
         count = self.now % OVERFLOW
-        for _ in range(self.now // OVERFLOW - before // OVERFLOW):
+        for _ in range(0 if self._full() else self.now // OVERFLOW - before // OVERFLOW):
             self._add([Event("tick", seat=seat, count=count) for seat in range(len(self.drafts))])
 
     # What is promised.

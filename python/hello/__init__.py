@@ -32,6 +32,13 @@ a time:
     host.open_walk(1, packet)  # Stepped(answer=Answer.DONE, place=Place(step=1, ..))
     host.step()  # Stepped(answer=Answer.DONE, place=Place(step=2, ..)), and so on
 
+A whole exercise in one file is set up and run on a Bench, which has hosts of its own:
+
+    bench = hello.Bench(octets, hello.NetTable(nhosts=2))
+    bench.set_up()  # Answer.DONE
+    bench.run(allowance=5)  # Ran(answer=Answer.DONE, count=5)
+    bench.answers, bench.host(0).clock, bench.host(0).links, bench.host(0).table, bench.slots
+
 Every call ends with an Answer, whatever the host holds; docs/answers.txt says what each means and
 changes. A Python number that does not fit its field raises OverflowError, a wrong type TypeError
 and a wrong count of parts ValueError: nothing is cut off.
@@ -41,14 +48,15 @@ in hello.library.
 """
 
 from .answer import Answer
-from .lent import ClassTable, Clock, Links, Run, Settings, Walk, date_word
+from .bench import Bench, BenchHost
+from .lent import BenchHosts, ClassTable, Clock, Links, Progress, Run, Settings, Walk, date_word
 from .library import checksum, checksum_plain
 from .net_table import NetTable
 from .room import Host, Room
 from .values import Added, Address, Counter, Entry, Inspected, Link, LinkSetting
-from .values import Net, Place, Route, Row, Sent, Stepped, Time
-from .values import HOSTS, LINE_CLOCK, LINKS, LONGEST_MESSAGE, MARKS
-from .values import NO_CLOCK_HOST, PLACES, ROWS, UNITS_PER_MS
+from .values import Net, Place, Ran, Route, Row, Sent, Slot, Stepped, Time
+from .values import EVENTS, HOSTS, LINE_CLOCK, LINKS, LONGEST_MESSAGE, MARKS
+from .values import NO_CLOCK_HOST, PLACES, ROWS, SLOTS, SLOT_LENGTH, UNITS_PER_MS
 from . import library as _library
 
 

@@ -5,7 +5,8 @@ import enum
 
 class Answer(enum.IntEnum):
     """What a call answers. In the calls of a host OUT_OF_RANGE is tested first, then IN_WALK, then
-    upwards; in the tutor's OUT_OF_RANGE, NO_ROW, TABLE_FULL, SETTING."""
+    upwards; in the tutor's OUT_OF_RANGE, NO_ROW, TABLE_FULL, SETTING; in set-up and run of a bench
+    HEADER, ABSENT, OUT_OF_RANGE."""
 
     DONE = 0
     SETTING = 1
@@ -23,5 +24,7 @@ class Answer(enum.IntEnum):
     HOST_DOWN = 13
     IN_WALK = 16
     NO_WALK = 17
+    HEADER = 18
+    ABSENT = 19
     TABLE_FULL = 21
     NO_ROW = 22

@@ -1,9 +1,11 @@
-"""What is lent to the calls: settings, the class's table, clock, links, walk and the run of entries."""
+"""What is lent to the calls: settings, the class's table, clock, links, walk and the run of entries;
+to a bench the states of its hosts and its progress."""
 
 import operator
 from ctypes import c_size_t, c_uint8
 
-from .structures import CAddress, CClassTable, CClock, CEntry, CLink, CLinks, CSettings, CWalk
+from .structures import CAddress, CBenchHost, CBenchProgress, CClassTable, CClock, CEntry, CLink
+from .structures import CLinks, CSettings, CWalk
 from .structures import fitting, into, into_slots, number, part
 from .values import LINKS, LONGEST_MESSAGE, MARKS, NO_CLOCK_HOST, UNITS_PER_MS
 from .values import Address, Entry, Link, LinkSetting, Net, Row
@@ -266,3 +268,54 @@ class Run:
     def _place(self, index):
         """The index counted from the front."""
         return range(len(self))[operator.index(index)]
+
+
+class BenchHosts:
+    """The states of a bench's hosts, so many, at first all zero."""
+
+    __slots__ = ("_state",)
+
+    def __init__(self, length):
+        # One slot more than the length says, so that no hosts have an address too.
+        self._state = (CBenchHost * (number(c_size_t, "length", length) + 1))()
+
+    def __len__(self):
+        return len(self._state) - 1
+
+    def clock(self, index):
+        """The Clock of a host, which is read and written in its place."""
+        return _in_place(Clock, self._of(index).clock)
+
+    def links(self, index):
+        """The Links of a host, in their place."""
+        return _in_place(Links, self._of(index).links)
+
+    def walk(self, index, copies):
+        """The Walk of a host, in its place; `copies` is the bytearray of all hosts' copies."""
+        walk = _in_place(Walk, self._of(index).walk)
+        place = operator.index(index) * LONGEST_MESSAGE
+        walk._copy = (c_uint8 * LONGEST_MESSAGE).from_buffer(copies, place)
+        walk._room = LONGEST_MESSAGE
+        return walk
+
+    def _of(self, index):
+        return self._state[range(len(self))[operator.index(index)]]
+
+
+def _in_place(kind, state):
+    """A lent object over a part of another one's memory."""
+    made = kind.__new__(kind)
+    made._state = state
+    return made
+
+
+class Progress:
+    """How far a bench is: `done`, the number of events that are done."""
+
+    __slots__ = ("_state",)
+
+    def __init__(self, done=0):
+        self._state = CBenchProgress()
+        self.done = done
+
+    done = part("done")

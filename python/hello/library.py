@@ -1,5 +1,6 @@
 """The plain calls of the library, by ctypes: each on a host is lent settings, the table of the class,
-number, clock, links, walk, run. Those of the tutor, net_afresh and so on, are lent the table alone.
+number, clock, links, walk, run. Those of the tutor, net_afresh and so on, are lent the table alone;
+those of a bench its file, the table, and all that it keeps.
 
 They answer the number of an Answer. The library is target/lib/libhello.so, which
 python/make_library makes; the variable HELLO_SO names another file.
@@ -9,9 +10,10 @@ import ctypes
 import os
 from ctypes import POINTER, c_char_p, c_int32, c_size_t, c_uint8, c_uint16
 
-from .lent import ClassTable, Clock, Links, Run, Settings, Walk, address_of
-from .structures import CAddress, CClassTable, CClock, CCounter, CEntry, CInspected, CLinks, CNet
-from .structures import CNetAdded, CRoute, CSent, CSettings, CStepped, CTime, CWalk, fitting, into
+from .lent import BenchHosts, ClassTable, Clock, Links, Progress, Run, Settings, Walk, address_of
+from .structures import CAddress, CBenchHost, CBenchProgress, CBenchRan, CClassTable, CClock, CCounter
+from .structures import CEntry, CInspected, CLinks, CNet, CNetAdded, CRoute, CSent, CSettings, CStepped
+from .structures import CTime, CWalk, fitting, into
 from .structures import number as fitting_number
 from .values import LINE_CLOCK, Place
 
@@ -61,23 +63,44 @@ _NET_AFRESH = function("hello_net_afresh", c_uint8, POINTER(CClassTable), c_size
 _NET_ADD = function("hello_net_add", CNetAdded, POINTER(CClassTable), CNet, c_size_t)
 _NET_REMOVE = function("hello_net_remove", c_uint8, POINTER(CClassTable), c_size_t)
 _NET_CHANGE = function("hello_net_change", c_uint8, POINTER(CClassTable), c_size_t, c_size_t)
+_OCTETS = (POINTER(c_uint8), c_size_t)
+_BENCH = (
+    c_char_p,
+    c_size_t,
+    POINTER(CClassTable),
+    POINTER(CBenchHost),
+    c_size_t,
+    *_OCTETS,
+    POINTER(CEntry),
+    c_size_t,
+    *_OCTETS,
+    *_OCTETS,
+    POINTER(CBenchProgress),
+)
+_BENCH_SET_UP = function("hello_bench_set_up", c_uint8, *_BENCH)
+_BENCH_RUN = function("hello_bench_run", CBenchRan, *_BENCH, c_size_t)
 _PACKET = function("hello_packet", c_uint8, c_char_p, c_size_t)
 _CHECKSUM = function("hello_checksum", c_uint16, c_char_p, c_size_t)
 _CHECKSUM_PLAIN = function("hello_checksum_plain", c_uint16, c_char_p, c_size_t)
 
 
+def _checked(*lent):
+    """That each thing lent, by its name, is of its kind."""
+    for name, value, kind in lent:
+        if not isinstance(value, kind):
+            raise TypeError(f"{name} must be a {kind.__name__}")
+
+
 def _lent(settings, table, number, clock, links, walk, run):
     """The arguments that all calls on a host share."""
-    for name, value, kind in (
+    _checked(
         ("settings", settings, Settings),
         ("table", table, ClassTable),
         ("clock", clock, Clock),
         ("links", links, Links),
         ("walk", walk, Walk),
         ("run", run, Run),
-    ):
-        if not isinstance(value, kind):
-            raise TypeError(f"{name} must be a {kind.__name__}")
+    )
     return (
         ctypes.byref(settings._state),
         ctypes.byref(table._state),
@@ -248,8 +271,7 @@ def lookup(settings, table, number, clock, links, walk, run, address):
 
 def _table(table):
     """The class's table that a call of the tutor's is lent."""
-    if not isinstance(table, ClassTable):
-        raise TypeError("table must be a ClassTable")
+    _checked(("table", table, ClassTable))
     return ctypes.byref(table._state)
 
 
@@ -280,6 +302,36 @@ def net_remove(table, row):
 def net_change(table, row, id):
     """Changes the host id of the row of that number, from 1; its net stays."""
     return _NET_CHANGE(_table(table), _row(row), _id(id))
+
+
+def _bench(file, table, hosts, copies, run, slots, answers, progress):
+    """The arguments that both calls of a bench share; copies, slots and answers are writable
+    buffers."""
+    _checked(("hosts", hosts, BenchHosts), ("run", run, Run), ("progress", progress, Progress))
+    return (
+        *octets_of(file),
+        _table(table),
+        hosts._state,
+        len(hosts),
+        *buffer_of(copies),
+        run._state,
+        len(run),
+        *buffer_of(slots),
+        *buffer_of(answers),
+        ctypes.byref(progress._state),
+    )
+
+
+def bench_set_up(file, table, hosts, copies, run, slots, answers, progress):
+    """Sets all hosts of a bench file afresh; slots, answers and the events done become zero."""
+    return _BENCH_SET_UP(*_bench(file, table, hosts, copies, run, slots, answers, progress))
+
+
+def bench_run(file, table, hosts, copies, run, slots, answers, progress, allowance):
+    """Carries out the next events of a bench file, at most so many: answer, how many they were."""
+    lent = _bench(file, table, hosts, copies, run, slots, answers, progress)
+    ran = _BENCH_RUN(*lent, fitting_number(c_size_t, "allowance", allowance))
+    return ran.answer, ran.count
 
 
 def packet(octets):

@@ -102,6 +102,18 @@ class CEntry(ctypes.Structure):
     ]
 
 
+class CBenchHost(ctypes.Structure):
+    _fields_ = [("clock", CClock), ("links", CLinks), ("walk", CWalk)]
+
+
+class CBenchProgress(ctypes.Structure):
+    _fields_ = [("done", c_size_t)]
+
+
+class CBenchRan(ctypes.Structure):
+    _fields_ = [("answer", c_uint8), ("count", c_size_t)]
+
+
 class CNetAdded(ctypes.Structure):
     _fields_ = [("answer", c_uint8), ("row", c_size_t)]
 

@@ -20,6 +20,14 @@ UNITS_PER_MS = 65_536
 """Clock units to a millisecond."""
 LONGEST_MESSAGE = 32 + 4 * PLACES
 """The octets of the longest message, with the table of 255 hosts."""
+EVENTS = 2_048
+"""The events that a bench file can have."""
+SLOTS = 32
+"""The slots of a bench."""
+SLOT_LABEL = 4
+"""The octets in front of a slot's packet: its length, high octet first, the cable and the end."""
+SLOT_LENGTH = SLOT_LABEL + LONGEST_MESSAGE
+"""The octets of a slot."""
 
 
 class Address(NamedTuple):
@@ -151,3 +159,20 @@ class Stepped(NamedTuple):
 
     answer: Answer
     place: Optional[Place]
+
+
+class Slot(NamedTuple):
+    """A slot of a bench: the packet (empty where it was never filled), the cable, and the end, 0 or 1,
+    that the packet was sent from."""
+
+    packet: bytes
+    cable: int
+    end: int
+
+
+class Ran(NamedTuple):
+    """What a run of a bench answers: the answer, and how many events it carried out (0 when
+    refused)."""
+
+    answer: Answer
+    count: int

@@ -5,7 +5,8 @@ use std::fmt;
 
 /// What a call answers. Every call of a host tests [`Answer::OutOfRange`] first, then
 /// [`Answer::InWalk`], then upwards in number; the tutor's test [`Answer::OutOfRange`],
-/// [`Answer::NoRow`], [`Answer::TableFull`], [`Answer::Setting`], in this order.
+/// [`Answer::NoRow`], [`Answer::TableFull`], [`Answer::Setting`], in this order; those of a bench
+/// [`Answer::Header`], [`Answer::Absent`], [`Answer::OutOfRange`].
 /// What a refusal changes stands with it; where nothing stands, nothing is changed.
 #[must_use]
 #[repr(u8)]
@@ -43,7 +44,9 @@ pub enum Answer {
     /// host's 255 places are not all in the run; where a walk is opened, its copy has no room for
     /// 1,052 octets; the class's table has over 32 rows, an NHOSTS not 1 to 255 or a row's id not
     /// below it; something else lent is out of range; or the mark of one of the host's first NHOSTS
-    /// entries is not that of the settings.
+    /// entries is not that of the settings. Of a bench: something lent is too short for its file,
+    /// the class's table is bad, a slot's packet is on a cable that the file has not, or more events
+    /// are done than it has.
     OutOfRange = 12,
     /// The host looked up is down: its DELAY is 30,000.
     HostDown = 13,
@@ -51,6 +54,11 @@ pub enum Answer {
     InWalk = 16,
     /// A step was asked, and no walk is open.
     NoWalk = 17,
+    /// A bench file's header or length: a count over its most, a start that is not where the section
+    /// before it ends, or another length.
+    Header = 18,
+    /// A record of a bench file names something that is not there, or has settings that 1 refuses.
+    Absent = 19,
     /// 32 rows stand in the class's table.
     TableFull = 21,
     /// There is no row of that number; none is number 0.
@@ -59,7 +67,7 @@ pub enum Answer {
 
 impl Answer {
     /// All answers, rising in number.
-    pub const ALL: [Answer; 18] = [
+    pub const ALL: [Answer; 20] = [
         Answer::Done,
         Answer::Setting,
         Answer::ShortBuffer,
@@ -76,6 +84,8 @@ impl Answer {
         Answer::HostDown,
         Answer::InWalk,
         Answer::NoWalk,
+        Answer::Header,
+        Answer::Absent,
         Answer::TableFull,
         Answer::NoRow,
     ];

@@ -1,7 +1,7 @@
-//! Bench files: a whole exercise in one file, written from its parts. `docs/BENCH.md` has the layout
-//! of each record.
+//! Bench files: a whole exercise in one file, written from its parts and read back. `docs/BENCH.md`
+//! has the layout of each record.
 
-use crate::{Address, Counter, LinkSetting, Settings};
+use crate::{Address, Counter, Layout, LinkSetting, Marks, Settings, LINKS};
 
 /// The hosts that a file can have.
 pub const MOST_HOSTS: usize = 16;
@@ -18,6 +18,7 @@ pub const SLOTS: usize = 32;
 const HEADER_LENGTH: usize = 20;
 const HOST_LENGTH: usize = 321;
 const CABLE_LENGTH: usize = 4;
+const EVENT_LENGTH: usize = 14;
 
 /// An exercise: what its octets say. Nothing is tested here.
 #[derive(Clone, Debug, PartialEq, Eq, Default)]
@@ -100,6 +101,76 @@ impl File {
         }
         octets
     }
+
+    /// The file of these octets. None where set-up answers
+    /// [`Answer::Header`](crate::Answer::Header), or an event is of no kind; nothing else is tested.
+    pub fn read(octets: &[u8]) -> Option<File> {
+        let header = octets.get(..HEADER_LENGTH)?;
+        let mut numbers = header.chunks_exact(4).map(|four| number(four) as usize);
+        let mut next = || numbers.next().expect("a header has five numbers");
+        let (hosts, cables, events) = (next(), next(), next());
+        if hosts > MOST_HOSTS || cables > MOST_CABLES || events > MOST_EVENTS {
+            return None;
+        }
+        let (cables_start, events_start) = (next(), next());
+        let right = HEADER_LENGTH + HOST_LENGTH * hosts;
+        if cables_start != right || events_start != right + CABLE_LENGTH * cables {
+            return None;
+        }
+        if octets.len() != events_start + EVENT_LENGTH * events {
+            return None;
+        }
+        let (octets, events) = octets.split_at(events_start);
+        let (octets, cables) = octets.split_at(cables_start);
+        let hosts = octets[HEADER_LENGTH..].chunks_exact(HOST_LENGTH);
+        let cables = cables.chunks_exact(CABLE_LENGTH);
+        let events = events.chunks_exact(EVENT_LENGTH);
+        Some(File {
+            hosts: hosts.map(host_of).collect(),
+            cables: cables.map(cable_of).collect(),
+            events: events.map(Event::of).collect::<Option<_>>()?,
+        })
+    }
+}
+
+/// The number of some octets, high octet first.
+fn number(octets: &[u8]) -> u64 {
+    octets
+        .iter()
+        .fold(0, |number, octet| number << 8 | u64::from(*octet))
+}
+
+fn address_of(octets: &[u8]) -> Address {
+    Address::new(octets[0], octets[1], octets[2], octets[3])
+}
+
+fn host_of(record: &[u8]) -> Settings {
+    let mut links = [LinkSetting::default(); LINKS];
+    for (link, octets) in links.iter_mut().zip(record[25..65].chunks_exact(5)) {
+        link.broadcast = octets[0];
+        link.neighbor = address_of(&octets[1..]);
+    }
+    let ids = (0..=u8::MAX).filter(|id| record[65 + usize::from(*id)] != 0);
+    Settings {
+        address: address_of(record),
+        layout: Layout {
+            address_offset: record[4],
+            nhosts: number(&record[6..8]) as usize,
+        },
+        clock_host: record[5],
+        hold_interval: number(&record[8..10]) as u16,
+        clock_tick: number(&record[16..24]) as i64,
+        time: number(&record[12..16]) as i64,
+        date: number(&record[10..12]) as u16,
+        link_count: record[24].into(),
+        links,
+        marks: Marks::of(ids),
+    }
+}
+
+fn cable_of(record: &[u8]) -> [End; 2] {
+    let end = |host: u8, link: u8| End { host, link };
+    [end(record[0], record[1]), end(record[2], record[3])]
 }
 
 fn put_host(octets: &mut Vec<u8>, settings: &Settings) {
@@ -127,7 +198,32 @@ fn address(address: Address) -> [u8; 4] {
 }
 
 impl Event {
-    fn octets(self) -> [u8; 14] {
+    fn of(record: &[u8]) -> Option<Event> {
+        let [host, cable, end, slot] = [record[1], record[2], record[3], record[4]];
+        let count = number(&record[6..8]) as u16;
+        let counter = Counter {
+            count,
+            overflow: record[5],
+            again: number(&record[8..10]) as u16,
+        };
+        Some(match record[0] {
+            1 => Event::Tick(host, count),
+            2 => Event::Adjust(host, count),
+            3 => Event::Set(host, number(&record[10..14]) as u32 as i32, count),
+            4 => Event::Second(host),
+            5 => Event::SelfReport(host, counter),
+            6 => Event::Send {
+                cable,
+                end,
+                slot,
+                counter,
+            },
+            7 => Event::Arrival { slot, counter },
+            _ => return None,
+        })
+    }
+
+    fn octets(self) -> [u8; EVENT_LENGTH] {
         match self {
             Event::Tick(host, count) => record(1, [host, 0, 0, 0], Counter::of(count), 0),
             Event::Adjust(host, count) => record(2, [host, 0, 0, 0], Counter::of(count), 0),
@@ -146,8 +242,8 @@ impl Event {
 }
 
 /// An event's kind, its host, cable, end and slot, its counter and its ms.
-fn record(kind: u8, named: [u8; 4], counter: Counter, ms: i32) -> [u8; 14] {
-    let mut octets = [0; 14];
+fn record(kind: u8, named: [u8; 4], counter: Counter, ms: i32) -> [u8; EVENT_LENGTH] {
+    let mut octets = [0; EVENT_LENGTH];
     octets[0] = kind;
     octets[1..5].copy_from_slice(&named);
     octets[5] = counter.overflow;

@@ -10,6 +10,9 @@
 //! makes one step of the arrival, or one line of a host's update. Meanwhile the host refuses its
 //! other calls with [`Answer::InWalk`], but for [`Host::initialize`], which drops the walk.
 //!
+//! A [`Bench`] runs an exercise that stands in one file, its hosts, cables and events: a
+//! [`bench_file::File`].
+//!
 //! The plain functions of this page are the calls below the methods, for whoever keeps settings,
 //! clocks, links, walks with the copies of their packets, entries and the class's table in another
 //! way. The caller lends them to each call. Host k, from 0 to 15, owns the 255 places of the run from 255 k, and
@@ -19,6 +22,7 @@
 #![deny(missing_docs)]
 
 pub mod answer;
+pub mod bench;
 pub mod bench_file;
 pub mod capture;
 mod host;
@@ -32,6 +36,7 @@ pub mod text;
 mod types;
 
 pub use answer::Answer;
+pub use bench::Bench;
 pub use host::{Found, Host, Reading, Seen};
 pub use room::Room;
 pub use sums::checksum_plain;

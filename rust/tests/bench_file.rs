@@ -75,6 +75,7 @@ fn the_small_file() {
     };
     let small = include_str!("../../docs/bench/small.octets");
     assert_eq!(file.octets(), listed(small));
+    assert_eq!(File::read(&listed(small)), Some(file));
 }
 
 #[test]
@@ -91,6 +92,7 @@ fn other_numbers() {
         events: vec![
             Event::Tick(3, 0x0102),
             Event::Adjust(4, 0x0304),
+            Event::Set(5, i32::MIN, 0x0506),
             Event::Send {
                 cable: 31,
                 end: 1,
@@ -110,6 +112,29 @@ fn other_numbers() {
     let events = &octets[341..];
     assert_eq!(events[..14], [1, 3, 0, 0, 0, 0, 1, 2, 0, 0, 0, 0, 0, 0]);
     assert_eq!(events[14..28], [2, 4, 0, 0, 0, 0, 3, 4, 0, 0, 0, 0, 0, 0]);
+    assert_eq!(
+        events[28..42],
+        [3, 5, 0, 0, 0, 0, 5, 6, 0, 0, 0x80, 0, 0, 0]
+    );
     let send = [6, 0, 31, 1, 30, 1, 0x12, 0x34, 0x56, 0x78, 0, 0, 0, 0];
-    assert_eq!(events[28..], send);
+    assert_eq!(events[42..], send);
+    assert_eq!(File::read(&octets), Some(file));
+}
+
+#[test]
+fn no_file() {
+    let octets = listed(include_str!("../../docs/bench/small.octets"));
+    assert_eq!(File::read(&[]), None);
+    assert_eq!(File::read(&octets[..octets.len() - 1]), None);
+    assert_eq!(File::read(&[&octets[..], &[0]].concat()), None);
+    // The highest and the lowest octet of each number of the header.
+    for place in (0..20).step_by(4).flat_map(|place| [place, place + 3]) {
+        let mut other = octets.clone();
+        other[place] ^= 1;
+        assert_eq!(File::read(&other), None, "octet {place}");
+    }
+    let mut kind = octets.clone();
+    let last = kind.len() - 14;
+    kind[last] = 0;
+    assert_eq!(File::read(&kind), None);
 }

@@ -1,5 +1,5 @@
 //! Answers `--help` and arguments that are wrong, before the library is there. Ends with 0 where a
-//! room is asked for, with 1 after the help, with 2 where an argument is wrong.
+//! room or a bench file is to run, with 1 after the help, with 2 where an argument is wrong.
 
 use demo::arguments::{self, Request};
 use std::env;
@@ -7,7 +7,7 @@ use std::process::ExitCode;
 
 fn main() -> ExitCode {
     match arguments::parse(env::args().skip(1)) {
-        Ok(Request::Run(_)) => ExitCode::SUCCESS,
+        Ok(Request::Run(_) | Request::Bench(_)) => ExitCode::SUCCESS,
         Ok(Request::Help) => {
             print!("{}", arguments::HELP);
             ExitCode::from(1)
