@@ -1,6 +1,7 @@
 """The room as the pages meet it: what they ask for, and what they are shown."""
 
 from . import net_table, views
+from .bench import Stand
 from .checks import Refused, keys
 from .setup import checked, ring
 from .state import shown
@@ -10,12 +11,14 @@ from .timed import Timed
 
 
 class Room(Timed):
-    """A room of up to sixteen seats. What a page asks for that cannot be done raises Refused."""
+    """A room of up to sixteen seats, and the teacher's bench beside it. What a page asks for that
+    cannot be done raises Refused."""
 
     def __init__(self, set_up):
         self.number = 0
         self.speed = 1
         self.show = "picture"
+        self.bench = Stand()
         self.begin(checked(set_up))
 
     @classmethod

@@ -13,7 +13,7 @@ LONGEST_WAY = 60_000
 OVERFLOW = 65_536
 """The ms after which a crystal's counter overflows."""
 HOLD_INTERVAL = 10
-DATE = hello.date_word(1984, 1, 31)
+FIRST_DAY = (1984, 1, 31)
 
 
 def checked(given):
@@ -116,11 +116,16 @@ def _settings(set_up, number):
         marks={number, *seat["also"]},
         clock_host=hello.NO_CLOCK_HOST if clock_host is None else clock_host,
         hold_interval=HOLD_INTERVAL,
-        clock_tick=(OVERFLOW if seat["crystal"] else 1) * hello.UNITS_PER_MS,
+        clock_tick=tick_of(seat),
         time=set_up["time"] + seat["difference"],
-        date=DATE,
+        date=hello.date_word(*FIRST_DAY),
         links=links_of(set_up, number) * (hello.LinkSetting(),),
     )
+
+
+def tick_of(seat):
+    """CLOCK-TICK of a seat in units: a crystal's, or a line clock's."""
+    return (OVERFLOW if seat["crystal"] else 1) * hello.UNITS_PER_MS
 
 
 def address_of(number):

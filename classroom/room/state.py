@@ -23,10 +23,11 @@ class State(NamedTuple):
         return len(self.table)
 
 
-def state_of(host):
-    """The state of a host as its last call left it."""
+def state_of(host, link_count=None):
+    """The state of a host as its last call left it; one without settings is told its number of links."""
     clock = host.clock
-    links = tuple(host.links[link] for link in range(host.settings.link_count))
+    count = host.settings.link_count if link_count is None else link_count
+    links = tuple(host.links[link] for link in range(count))
     times = (clock.clock, clock.delta, clock.hold, clock.date)
     return State(times, links, tuple(host.table), _walk(host.walk))
 

@@ -1,6 +1,7 @@
 """What the teacher's page asks for."""
 
 from . import exercises, student
+from .bench import BENCH
 from .checks import Refused, net, one_of, real, switch, whole
 from .fields import dotted
 from .setup import checked, conditions
@@ -150,5 +151,6 @@ TEACHER = {
     "net_add": _tutor("net_add", "net", "id"),
     "net_remove": _tutor("net_remove", "row"),
     "net_change": _tutor("net_change", "row", "id"),
+    **BENCH,
 }
 """By its name: what does it, the keys that the message needs, the keys that it may have."""

@@ -2,6 +2,7 @@
 
 from . import exercises, net_table
 from .answers import ANSWERS
+from .bench.loaded import READY
 from .checklist import CHECKLIST
 from .fields import clock_words, day, dotted
 from .setup import address_of
@@ -11,7 +12,8 @@ from .state import DOWN, ms
 def teacher_view(room, since):
     """The teacher's view; `since` is the mark of the view before, or None."""
     first = since is None or since[0] != room.number
-    _, line, point = [room.number, 0, 0] if first else since
+    line, point = (0, 0) if first else since[1:3]
+    bench = since[3:] if since else None
     view = {
         "room": _room(room),
         "net_table": _net_table(room),
@@ -21,9 +23,13 @@ def teacher_view(room, since):
         "exercise": room.exercise.shown() if room.exercise else None,
         "calls": room.log.since(line),
         "points": _points(room, point),
-        "mark": [room.number, room.log.count, room.pointed],
+        "mark": [room.number, room.log.count, room.pointed, room.bench.number, room.bench.version],
     }
-    return {**view, **_once(), "exercises": exercises.listed()} if since is None else view
+    if not bench or bench[1] != room.bench.version:
+        view["bench"] = room.bench.shown(bench)
+    if since is not None:
+        return view
+    return {**view, **_once(), "exercises": exercises.listed(), "bench_files": list(READY)}
 
 
 def seat_view(room, number, first):

@@ -32,6 +32,7 @@ class Addresses:
                 ("/teacher", self.page),
                 ("/teacher/socket", self.socket),
                 ("/teacher/calls.jsonl", self.calls),
+                (r"/teacher/exercise.{form:bench|txt}", self.bench),
                 (r"/seat/{seat:0|[1-9][0-9]?}", self.page),
                 (r"/seat/{seat:0|[1-9][0-9]?}/socket", self.socket),
                 (r"/web/{name:[a-z0-9_.-]+}", self.file),
@@ -76,6 +77,20 @@ class Addresses:
         await response.write_eof()
         return response
 
+    async def bench(self, request):
+        """The bench file that is loaded, as octets or as text."""
+        if not self._keys.holds("/teacher", request):
+            return _no_key()
+        loaded, form = self._hall.bench_file(), request.match_info["form"]
+        if loaded is None:
+            return refused(404, "No bench file is loaded.")
+        if form == "txt" and loaded.text is None:
+            return refused(404, "This bench file has a fault, and is no text.")
+        octets = loaded.octets if form == "bench" else loaded.text.encode()
+        sort = "application/octet-stream" if form == "bench" else "text/plain; charset=utf-8"
+        name = f'attachment; filename="{_plain(loaded.name)}.{form}"'
+        return web.Response(body=octets, headers={"Content-Type": sort, "Content-Disposition": name})
+
     async def file(self, request):
         """One of the pages' files. They hold nothing of the room, and need no key."""
         return self._sent(request.match_info["name"])
@@ -91,6 +106,12 @@ def _place(request):
     """The place of an address, "/teacher" or "/seat/3"."""
     seat = request.match_info.get("seat")
     return "/teacher" if seat is None else f"/seat/{seat}"
+
+
+def _plain(name):
+    """A name of letters, digits and a few signs alone."""
+    kept = "".join(c if c.isascii() and (c.isalnum() or c in "-_") else "-" for c in name)
+    return kept.strip("-") or "exercise"
 
 
 def _no_key():

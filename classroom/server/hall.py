@@ -74,6 +74,10 @@ class Hall:
         if self._room.running and self._room.advance(ms * self._room.speed):
             self.changed()
 
+    def bench_file(self):
+        """The bench file that is loaded, or None."""
+        return self._room.bench.loaded
+
     def file(self):
         """The list of calls as a file, in parts of some lines each."""
         part, length = [], 0

@@ -9,7 +9,8 @@ from ..room import Refused
 from .guard import LOG
 from .push import Page
 
-LONGEST = 16 * 1024
+# The longest message, in octets; the teacher's may hold a bench file.
+LONGEST, LONGEST_OF_THE_TEACHER = 16 * 1024, 256 * 1024
 # A page that does not answer within so many seconds is gone.
 HEARTBEAT = 20
 # For so many seconds a page may answer that the socket closes.
@@ -21,8 +22,9 @@ WEIGHED = 512
 
 async def serve(request, hall, place):
     """Talks with the page until it goes."""
+    longest = LONGEST_OF_THE_TEACHER if place == "/teacher" else LONGEST
     socket = web.WebSocketResponse(
-        timeout=GOODBYE, heartbeat=HEARTBEAT, max_msg_size=LONGEST, compress=False
+        timeout=GOODBYE, heartbeat=HEARTBEAT, max_msg_size=longest, compress=False
     )
     page = Page(hall, place, socket, give_up=lambda: request.transport and request.transport.abort())
     hall.enter(page, socket)

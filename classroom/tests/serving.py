@@ -181,5 +181,10 @@ class Page:
 
     async def get(self, path):
         """An answer of the server with this page's cookie: status, text."""
+        status, octets = await self.octets(path)
+        return status, octets.decode()
+
+    async def octets(self, path):
+        """The same: status, octets."""
         async with self._session.get(self._served.origin + path) as answer:
-            return answer.status, await answer.text()
+            return answer.status, await answer.read()

@@ -5,6 +5,8 @@ import tempfile
 import unittest
 from pathlib import Path
 
+import bench_file
+
 from classroom.tests.browsing import PICTURES, Browser
 from classroom.tests.serving import Class, replayed
 
@@ -397,6 +399,141 @@ class Story(unittest.TestCase):
         teacher.until(lambda: "as promised" in teacher.text("#exercise-held"), "the promise")
         self.assertIn("✓", teacher.text("#exercise-held"))
         self.replays()
+
+    # The bench.
+
+    def load(self, octets, ending):
+        """The teacher chooses a file with these octets."""
+        teacher = self.teacher
+        with tempfile.NamedTemporaryFile(prefix="exercise", suffix=ending) as file:
+            file.write(octets)
+            file.flush()
+            teacher.driver.execute_script("document.getElementById('bench-said').textContent = 'asked'")
+            teacher.all("#bench-choose")[0].send_keys(file.name)
+            teacher.until(lambda: teacher.told("#bench-said", "textContent") != "asked", "the file")
+        return teacher.told("#bench-said", "textContent")
+
+    def set_up_bench(self):
+        """The teacher sets the bench up: what is said of it."""
+        self.teacher.driver.execute_script("document.getElementById('bench-answer').textContent = 'asked'")
+        self.teacher.click("#bench-set-up")
+        self.teacher.until(lambda: self.teacher.text("#bench-answer") != "asked", "the set-up")
+        return self.teacher.text("#bench-answer")
+
+    def run_bench(self, button, done):
+        """The teacher runs the bench, until so many events are done."""
+        self.teacher.click(button)
+        self.teacher.until(lambda: self.at_event() == done, f"event {done}")
+
+    def at_event(self):
+        """The number of events that are done, where the list shows all their answers."""
+        done = self.teacher.told("#bench-work", "data-done")
+        return done if len(self.teacher.all("#bench-events tr[data-answer]")) == done else None
+
+    def bench_entry(self, seat, id):
+        """DELAY and OFFSET of an entry at the bench."""
+        at = f'#bench-seats [data-seat="{seat}"] [data-id="{id}"]'
+        return tuple(self.teacher.value(f'{at} [data-field="{field}"]') for field in ("delay", "offset"))
+
+    def fetched(self, path):
+        """A file of the server as the teacher's page fetches it, in octets."""
+        script = "fetch(arguments[0]).then(r => r.arrayBuffer()).then(b => done([...new Uint8Array(b)]))"
+        return bytes(self.teacher.run(script, path))
+
+    def test_the_bench(self):
+        """A ready file by one event, by some, to its end; no seat is touched, no student sees it."""
+        teacher = self.teacher
+        self.set_up("line", by_hand=range(HOSTS))
+        before = self.file()
+        teacher.click('[data-tab="bench"]')
+        teacher.choose("#bench-ready", "01-handshake")
+        teacher.click("#bench-load-ready")
+        teacher.until(lambda: teacher.told("#bench-file", "data-name") == "01-handshake", "the file")
+        self.assertIn("2 seats, 1 cable, 10 events, NHOSTS 2", teacher.text("#bench-file"))
+        self.assertTrue(teacher.told("#bench-one", "aria-disabled"))
+        self.assertIn("set afresh", self.set_up_bench())
+        self.assertEqual(self.bench_entry(1, 0), (30000, 0))
+        for done in range(1, 8):
+            self.run_bench("#bench-one", done)
+        self.assertIn("event 6, seat 0 sends on link 1", teacher.text("#bench-answer"))
+        teacher.driver.find_element("css selector", "body").send_keys("e")
+        teacher.until(lambda: self.at_event() == 8, "the key")
+        self.assertIn("seat 1, host 0, DELAY: 30,000 → 100", teacher.text("#bench-answer"))
+        self.assertEqual(self.bench_entry(1, 0), (100, -500))
+        self.assertTrue(teacher.all('#bench-seats [data-seat="1"] [data-id="0"] .changed'))
+        self.run_bench("#bench-end", 10)
+        self.assertEqual(self.bench_entry(0, 1), (100, 500))
+        self.assertEqual(teacher.told("#bench-progress", "value"), 10)
+        self.assertIn("✓ 12 of the 12 promises", teacher.text("#bench-promised"))
+        self.assertIn("Events 8 to 9 are carried out, 0 of them refused", teacher.text("#bench-answer"))
+        teacher.choose("#bench-ready", "10-hops")
+        teacher.click("#bench-load-ready")
+        teacher.until(lambda: teacher.told("#bench-file", "data-name") == "10-hops", "the file")
+        self.set_up_bench()
+        teacher.type("#bench-count", "100")
+        self.run_bench("#bench-some", 100)
+        self.run_bench("#bench-end", 2008)
+        delays = [self.bench_entry(0, id)[0] for id in range(8)]
+        self.assertEqual(delays, [0, 100, 200, 200, 100, 300, 400, 500])
+        teacher.picture(PICTURES / "bench.png")
+        self.assertEqual(self.file(), before)
+        for browser in (self.first, self.second):
+            self.assertEqual(browser.all("[id^=bench]"), [])
+
+    def test_bench_files(self):
+        """Octets and texts are loaded and saved; a refused one is told with its answer and its record."""
+        teacher = self.teacher
+        teacher.click('[data-tab="bench"]')
+        text = "seat 192.0.2.1\nseat 192.0.2.2\n\ncable 0.1 1.1\n\nself-report 0\narrival tray 5\n"
+        octets = bench_file.to_octets(bench_file.read_text(text)[0])
+        as_text = text.encode()
+        for given, ending in ((as_text, ".txt"), (octets, ".bench"), (octets, ".x"), (as_text, ".x")):
+            self.assertEqual(self.load(given, ending), "")
+            teacher.until(lambda: "2 events" in teacher.text("#bench-file"), "the file")
+            self.assertEqual(self.fetched("/teacher/exercise.bench"), octets)
+            self.assertEqual(self.fetched("/teacher/exercise.txt"), as_text)
+        self.set_up_bench()
+        self.run_bench("#bench-end", 2)
+        row = teacher.text('#bench-events tr[data-event="1"]')
+        self.assertIn("3 IpForm: the tray was never filled, and no seat is asked", row)
+        said = self.load(b"seat 192.0.2.1\ntock 0\n", ".txt")
+        self.assertIn("line 2: 'tock' is not known", said)
+        self.assertIn("not UTF-8", self.load(b"\xff", ".txt"))
+        self.assertIn("too long", self.load(bytes(200_000), ".bench"))
+        self.assertIn("33956 at most", self.load(bytes(34_000), ".bench"))
+        for place, answer, fault in (
+            (3, "18 Header", "number of seats"),
+            (len(octets) - 14, "19 Absent", "event 1, at octet"),
+        ):
+            spoiled = octets[:place] + b"\x99" + octets[place + 1 :]
+            self.assertEqual(self.load(spoiled, ".bench"), "")
+            teacher.until(lambda: fault in teacher.text("#bench-fault"), "the fault")
+            said = self.set_up_bench()
+            self.assertIn(answer, said)
+            self.assertIn(fault, said)
+            self.assertIn("Nothing changed", said)
+            self.assertEqual(self.fetched("/teacher/exercise.bench"), spoiled)
+
+    def test_the_room_as_a_bench_file(self):
+        """The room's calls, run again on the bench, end with the room's tables; a walk ends the file."""
+        teacher = self.teacher
+        self.set_up("line", by_hand=range(HOSTS))
+        teacher.click('[data-tab="tables"]')
+        for _ in range(2):
+            self.send(self.first, 2)
+            self.send(self.second, 1)
+        teacher.click('[data-tab="bench"]')
+        teacher.click("#bench-room")
+        teacher.until(lambda: teacher.told("#bench-file", "data-name") == "room", "the room")
+        self.assertIn("line 13 of 13, as 8 events", teacher.text("#bench-said"))
+        self.set_up_bench()
+        self.run_bench("#bench-end", 8)
+        for seat, browser in ((1, self.first), (2, self.second)):
+            for id in range(HOSTS):
+                self.assertEqual(self.bench_entry(seat, id), self.entry(browser, id)[:2])
+        self.make(self.first, "read", '[data-call="read"]')
+        teacher.click("#bench-room")
+        teacher.until(lambda: "line 14: read of B has no event" in teacher.text("#bench-said"), "the read")
 
     def speed(self, button, wanted):
         """The teacher lets the room run so fast."""

@@ -25,6 +25,13 @@ GOOD = [
     {"do": "net_change", "row": 1, "id": 0},
     {"do": "net_remove", "row": 1},
     {"do": "net_afresh", "nhosts": 2},
+    {"do": "bench_ready", "file": "01-handshake"},
+    {"do": "bench_set_up", "net": "class"},
+    {"do": "bench_run", "events": 3},
+    {"do": "bench_back"},
+    {"do": "bench_load", "name": "one", "text": "seat 192.0.2.1\ntick 0 times 9\n"},
+    {"do": "bench_load", "name": "none", "octets": "AAAAAAAAAAAAAAAAAAAAFAAAABQ="},
+    {"do": "bench_room"},
 ]
 HELLO = "hello 0 0 0 1 0\n"
 CALLS = [

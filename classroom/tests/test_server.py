@@ -109,9 +109,11 @@ class Keys(Quiet):
                 self.assertEqual(status, 200 if place == other else 403, (place, other))
                 status = await opening(place, Origin=served.origin, **cookie(other))
                 self.assertEqual(status, 101 if place == other else 403, (place, other))
-            status = (await get("/teacher/calls.jsonl", **cookie(place)))[0]
-            self.assertEqual(status, 200 if place == TEACHER else 403)
-        self.assertEqual((await get("/teacher/calls.jsonl"))[0], 403)
+            for file, there in (("calls.jsonl", 200), ("exercise.bench", 404), ("exercise.txt", 404)):
+                status = (await get(f"/teacher/{file}", **cookie(place)))[0]
+                self.assertEqual(status, there if place == TEACHER else 403)
+        for file in ("calls.jsonl", "exercise.bench", "exercise.txt"):
+            self.assertEqual((await get(f"/teacher/{file}"))[0], 403)
 
     async def test_broken_cookies(self):
         for value in ("", "=", ";;;", f"{served.cookie}", f"{served.cookie}=\xff", "a" * 6000):

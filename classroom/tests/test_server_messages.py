@@ -1,6 +1,7 @@
 """Tests of the messages: who may say what; nothing that a page sends stops the server."""
 
 import asyncio
+import base64
 import contextlib
 import itertools
 import json
@@ -36,6 +37,12 @@ TEACHERS = (
     {"do": "net_add", "net": "10.0.0", "id": 1},
     {"do": "net_remove", "row": 1},
     {"do": "net_change", "row": 1, "id": 2},
+    {"do": "bench_load", "name": "x", "text": "seat 192.0.2.1\n"},
+    {"do": "bench_ready", "file": "small"},
+    {"do": "bench_room"},
+    {"do": "bench_set_up", "net": "class"},
+    {"do": "bench_run", "events": 5},
+    {"do": "bench_back"},
     {"do": "call", "seat": 7, "call": "tick"},
     {"do": "call", "seat": 0, "call": "tick"},
 )
@@ -191,6 +198,44 @@ class Messages(Quiet):
                 self.assertEqual(page.socket.close_code, aiohttp.WSCloseCode.MESSAGE_TOO_BIG)
         page = await self.page(1)
         self.assertEqual((await page.call("read"))["answer"], 0)
+
+    async def test_a_bench_file(self):
+        """The teacher's messages may be as long as the text of a bench file; it is had back as a file."""
+        for form in ("bench", "txt"):
+            self.assertEqual((await self.teacher.get(f"/teacher/exercise.{form}"))[0], 404)
+        before = await self.seats()
+        student = await self.page(2)
+        seen = student.view
+        text = "seat 192.0.2.1\n" + 2_048 * "tick 0 count 7   # a comment behind it\n"
+        told = await self.teacher.ask("bench_load", name='né/w" 7', text=text)
+        self.assertEqual((told["octets"], told["fault"]), (20 + 321 + 2_048 * 14, None))
+        status, had = await self.teacher.get("/teacher/exercise.txt")
+        self.assertEqual((status, had), (200, "seat 192.0.2.1\n\ntick 0 count 7 times 2048\n"))
+        status, octets = await self.teacher.octets("/teacher/exercise.bench")
+        self.assertEqual((status, len(octets)), (200, told["octets"]))
+        self.assertEqual((await student.get("/teacher/exercise.bench"))[0], 403)
+        self.assertEqual((await self.teacher.ask("bench_set_up", net="own"))["answer"], 0)
+        done = 0
+        while done < 2_048:
+            reply = await self.teacher.ask("bench_run", events=2_048)
+            self.assertEqual((reply["answer"], reply["done"]), (0, done + reply["count"]))
+            self.assertEqual((await student.call("read"))["answer"], 0)
+            done = reply["done"]
+        view = await self.teacher.until(lambda view: view.get("bench") and view["bench"].get("done") == done)
+        self.assertEqual(view["bench"]["answers"], 2_048 * [0])
+        self.assertEqual([seat["table"] for seat in await self.seats()], [seat["table"] for seat in before])
+        self.assertEqual(set(student.view), set(seen))
+        letters = base64.b64encode(b"no bench file").decode()
+        told = await self.teacher.ask("bench_load", name="x", octets=letters)
+        self.assertIn("the header alone has 20", told["fault"])
+        self.assertEqual((await self.teacher.ask("bench_set_up", net="own"))["answer"], 18)
+        self.assertEqual(await self.teacher.get("/teacher/exercise.bench"), (200, "no bench file"))
+        self.assertEqual((await self.teacher.get("/teacher/exercise.txt"))[0], 404)
+        page = await self.enterAsyncContext(Page(served, "/teacher"))
+        with contextlib.suppress(OSError):
+            await page.socket.send_str(" " * 256 * 1024)
+        await page.ended()
+        self.assertEqual(page.socket.close_code, aiohttp.WSCloseCode.MESSAGE_TOO_BIG)
 
     async def test_no_text(self):
         """A text frame whose octets are no text closes the socket, and no other."""

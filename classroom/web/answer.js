@@ -4,7 +4,7 @@ import { el, headRow } from "./dom.js";
 import { changesList, changesWords, told as toldChanges } from "./marks.js";
 import { answerName, callName, number, timeOfDay } from "./words.js";
 
-const titles = { id: "host id", pid: "by link (PID)", tsp: "TSP", nhosts: "hosts in it", date: "DATE word" };
+const titles = { id: "host id", pid: "by link (PID)", tsp: "TSP", nhosts: "hosts in it", date: "DATE word", went: "its packet" };
 // What a box tells stands in the walk.
 const elsewhere = new Set(["next", "box", "sum"]);
 

@@ -65,7 +65,7 @@ export function makeTable({ teacher = false } = {}) {
   function update(seat, marks) {
     set(node, { "data-seat": seat.number, "aria-label": `Host table of ${seat.name}` });
     say(caption, `Host table of ${seat.name}` + (seat.clock ? `, clock ${seat.clock.words}` : ""));
-    const rows = (seat.table ?? []).map((entry) => ({ id: entry.id, entry, own: entry.id === seat.number, marks }));
+    const rows = (seat.table ?? []).map((entry) => ({ id: entry.id, entry, own: entry.id === (seat.id ?? seat.number), marks }));
     keyed(body, rows, (r) => r.id, make);
   }
   return { node, update };

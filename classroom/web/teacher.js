@@ -13,6 +13,7 @@ import { makeSetup } from "./setup.js";
 import { makeStart } from "./start.js";
 import { makeSeat } from "./seat.js";
 import { makeTutor } from "./tutor.js";
+import { makeBench } from "./bench.js";
 import { makeTabs } from "./tabs.js";
 import { answersTable } from "./answer.js";
 import { listen } from "./keys.js";
@@ -42,6 +43,7 @@ const traffic = makeTraffic();
 const exercises = makeExercises(send, () => choose("tables", true));
 const setup = makeSetup(send);
 const tutor = makeTutor((message) => ask(message));
+const bench = makeBench((message) => ask(message));
 const seat = makeSeat(byId("seat"), {
   ask: (message) => ask({ ...message, seat: seatNumber() }),
   byHand: (on) => ask({ do: "by_hand", seat: seatNumber(), on }),
@@ -80,6 +82,7 @@ const panels = {
   calls: () => calls.update(view),
   setup: () => setup.update(view),
   nets: () => tutor.update(view),
+  bench: () => bench.update(),
   seat: () => {
     const now = view.seats.find((s) => s.number === seatNumber()) ?? view.seats[0];
     say(byId("seat-title"), `At seat ${now.name}`);
@@ -112,6 +115,9 @@ const ask = connect((next, first) => {
   plot.add(next.points ?? []);
   if (next.checklist) seat.setChecklist(next.checklist);
   if (next.exercises) exercises.list(next.exercises);
+  if (next.bench_files) bench.setFiles(next.bench_files);
+  if (next.answers) bench.setAnswers(next.answers);
+  if (next.bench !== undefined) bench.take(next.bench);
   if (next.answers) byId("answers").replaceChildren(el("summary", {}, "All answers"), answersTable(next.answers));
   if (next.addresses) start.setAddresses(next.addresses);
   paint(next);
@@ -137,4 +143,5 @@ listen({
   "+": controls.actions.faster,
   b: () => seat.step(),
   n: exercises.next,
+  e: () => document.body.dataset.tab === "bench" && bench.one(),
 });

@@ -54,7 +54,7 @@ const calls = {
   self_report: "self-report", open_walk: "open a walk", lookup: "look up",
   inspect: "inspection", receive: "take", step: "box", write: "write a HELLO",
   net_afresh: "set the net table afresh", net_add: "add a row", net_remove: "remove a row",
-  net_change: "change a row's host",
+  net_change: "change a row's host", bench_set_up: "set up the bench", bench_run: "run the bench",
 };
 
 export function callName(name) {

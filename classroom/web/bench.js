@@ -1,0 +1,176 @@
+// The teacher's bench: a file is loaded, set up, and run by one event, by some, or to its end.
+
+import { byId, options, say, set } from "./dom.js";
+import { makeAnswer } from "./answer.js";
+import { loadMessage } from "./benchfile.js";
+import { makeBenchList, meaningOf } from "./benchlist.js";
+import { makeBenchSeats } from "./benchseats.js";
+import { count, number } from "./words.js";
+
+// So many events are asked for at once, so that progress is seen and nobody has to wait.
+const AT_ONCE = 64;
+
+function fileWords(view) {
+  if (!view) return "No file is loaded.";
+  const octets = count(view.octets, "octet");
+  if (view.fault) return `${view.name}: ${octets}.`;
+  const parts = [count(view.seats_of_file, "seat"), count(view.cables_of_file, "cable"), count(view.of, "event")];
+  return `${view.name}: ${parts.join(", ")}, NHOSTS ${number(view.nhosts)}, ${octets}. `
+    + (view.ready ? "" : "It is not set up yet.");
+}
+
+// What came of taking the room as a file.
+function roomWords(reply) {
+  const lines = `line ${number(reply.lines)} of ${number(reply.of)}, as ${count(reply.events, "event")}`;
+  const out = reply.left_out.length ? ` Left out, since it changed nothing: line ${reply.left_out.join(", ")}.` : "";
+  const end = reply.stopped ? ` There it ends, since of ${reply.stopped}.` : "";
+  return `The list of calls up to ${lines}.${out}${end}`;
+}
+
+function ranWords(first, answers) {
+  if (first === answers.length) return "No event was left.";
+  const refused = number(answers.slice(first).filter((answer) => answer !== 0).length);
+  return `Events ${number(first)} to ${number(answers.length - 1)} are carried out, ${refused} of them refused.`;
+}
+
+// What the text promises, as far as it was looked at.
+function promisedWords({ of, looked, broken }) {
+  if (broken.length) return `✗ It did not come out as promised. ${broken.join("\n")}`;
+  return `✓ ${number(looked)} of the ${count(of, "promise")} of its text are looked at, and kept.`;
+}
+
+// ask(message) gives a promise of the reply.
+export function makeBench(ask) {
+  let view = null;
+  let events = [];
+  let names = [];
+  let busy = false;
+  let stopped = false;
+  let ran = null;
+  let drawn = null;
+  const list = makeBenchList();
+  const seats = makeBenchSeats(() => { drawn = null; update(); });
+  const answer = makeAnswer("bench-answer", "the bench");
+  byId("bench-answered").replaceChildren(answer.node);
+
+  // Asks; gives the reply, and null where it is refused, which is told.
+  async function asked(message) {
+    try {
+      const reply = await ask(await message);
+      tell("");
+      return reply;
+    } catch (error) {
+      tell(`Not done: ${error.message}`, true);
+      return null;
+    }
+  }
+  function tell(words, refused = false) {
+    set(byId("bench-said"), { class: refused ? "said refusal" : "said", hidden: !words });
+    say(byId("bench-said"), words);
+  }
+
+  function progress(done, of) {
+    set(byId("bench-progress"), { max: of || 1, value: done });
+    say(byId("bench-done"), `${number(done)} of ${count(of, "event")} done.`);
+    set(byId("bench-work"), { "data-done": done, "data-of": of });
+  }
+
+  async function run(most) {
+    if (busy || !view?.ready) return;
+    busy = true;
+    stopped = false;
+    ran = view.done;
+    buttons();
+    let left = most, reply = null;
+    do {
+      reply = await asked({ do: "bench_run", events: Math.min(left, AT_ONCE) });
+      left -= reply?.count ?? left;
+      if (reply?.count) progress(reply.done, reply.of);
+    } while (reply?.count && left > 0 && reply.done < reply.of && !stopped);
+    busy = false;
+    buttons();
+  }
+
+  function buttons() {
+    const off = (is) => ({ "aria-disabled": is ? "true" : null });
+    const ended = !view?.ready || view.done >= view.of;
+    for (const id of ["bench-one", "bench-some", "bench-end"]) set(byId(id), off(busy || ended));
+    set(byId("bench-back"), off(busy || !view?.ready));
+    set(byId("bench-set-up"), { ...off(busy), class: view?.ready ? null : "primary" });
+    set(byId("bench-one"), { class: view?.ready ? "primary" : null });
+    set(byId("bench-stop"), off(!busy));
+  }
+
+  const click = (id, action) => byId(id).addEventListener("click", (event) => {
+    if (!event.currentTarget.getAttribute("aria-disabled")) action();
+  });
+  byId("bench-choose").addEventListener("change", async (event) => {
+    const [file] = event.target.files;
+    if (file) await asked(loadMessage(file));
+    event.target.value = "";
+  });
+  click("bench-load-ready", () => asked({ do: "bench_ready", file: byId("bench-ready").value }));
+  click("bench-room", async () => {
+    const reply = await asked({ do: "bench_room" });
+    if (reply) tell(roomWords(reply), !!reply.stopped);
+  });
+  click("bench-set-up", () => asked({ do: "bench_set_up", net: byId("bench-net").checked ? "class" : "own" }));
+  click("bench-one", () => run(1));
+  byId("bench-run").addEventListener("submit", (event) => {
+    event.preventDefault();
+    run(Math.trunc(Number(byId("bench-count").value)));
+  });
+  click("bench-end", () => run(view.of - view.done));
+  click("bench-stop", () => { stopped = true; });
+  click("bench-back", () => asked({ do: "bench_back" }));
+
+  // What set-up and runs came to.
+  function showLast(last) {
+    if (!last) return answer.note("Nothing was done yet.");
+    if (last.call !== "bench_event" && last.answer === 0) {
+      if (last.call === "bench_set_up") return answer.note("All seats are set afresh, and all trays are empty.");
+      // Of a run in pieces the last one is told: it began where this page began it.
+      return answer.note(ranWords(Math.min(ran ?? last.told.first, last.told.first), view.answers));
+    }
+    const [kind, words] = events[last.event] ?? [];
+    const changes = last.changes.map((c) => ({ ...c, where: `seat ${c.seat}, ${c.where}` }));
+    const call = kind ? `event ${last.event}, ${words}` : last.call;
+    answer.show({ ...last, call, meaning: meaningOf(kind, last), changes });
+  }
+
+  // A view's part; the events in words come with a new file alone.
+  function take(next) {
+    view = next;
+    if (!next?.last?.told.count) ran = null;
+    if (!next?.events) return;
+    events = next.events;
+    names = next.hosts;
+    list.load(events);
+  }
+
+  function update() {
+    if (drawn === view) return;
+    drawn = view;
+    say(byId("bench-file"), fileWords(view));
+    set(byId("bench-file"),
+      { "data-number": view?.number, "data-name": view?.name, "data-ready": String(!!view?.ready) });
+    byId("bench-fault").hidden = !view?.fault;
+    say(byId("bench-fault"), view?.fault ? `This file is refused: ${view.fault}` : "");
+    byId("bench-work").hidden = !view;
+    byId("bench-save").hidden = !view;
+    byId("bench-save-text").hidden = !view || !!view.fault;
+    buttons();
+    if (!view) return;
+    progress(view.done ?? 0, view.of ?? 0);
+    list.update(view.answers ?? []);
+    byId("bench-promised").hidden = !view.promised;
+    say(byId("bench-promised"), view.promised ? promisedWords(view.promised) : "");
+    seats.update(view, names);
+    showLast(view.last);
+  }
+
+  function setFiles(files) {
+    options(byId("bench-ready"), files.map((name) => [name, name.replaceAll("-", " ")]));
+  }
+  return { take, update, setFiles, setAnswers: list.setAnswers, one: () => run(1) };
+}
