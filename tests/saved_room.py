@@ -1,7 +1,8 @@
-"""Checks a room that ./run has saved: run by the independent program, the file ends with the links and
-the live entries that ./run has told.
+"""Checks what ./run has told of a bench file, as it saved a room or ran the file: run by the independent
+program, the file ends with the links and the live entries of each report; where a report has the events, they
+are those of the file, with the answers that the independent program gives.
 
-usage: tests/saved_room.py FILE.bench REPORT
+usage: tests/saved_room.py FILE.bench REPORT..
 """
 
 import pathlib
@@ -10,11 +11,15 @@ import sys
 
 sys.path.insert(0, str(pathlib.Path(__file__).resolve().parent.parent / "python"))
 
+import bench_file  # noqa: E402
 from bench_runs import told  # noqa: E402
 
-HOST = re.compile(r"Host \S+ \(id (\d+)\)")
+HOST = re.compile(r"Host (?:(\d+): \S+|\S+ \(id (\d+)\))")
 LINK = re.compile(r" +(\d)  (\S+) +(\d)  +([+-]\d+)")
 ENTRY = re.compile(r" +(\d+)  \S+ +(\d)  +(\d+)  +([+-]\d+)  .*")
+EVENT = re.compile(r" +(\d+)  (\S.*?) +(\d+) \(.*\)")
+EVENTS = "Events, each as a text has it, and its answer:"
+COUNT = re.compile(r"^(?:Saved in .*, with (\d+) events: .*|The bench file .*, (\d+) events?\.)$", re.M)
 DOWN = 30_000
 
 
@@ -24,7 +29,7 @@ def reported(lines):
     for line in lines:
         host, link, entry = HOST.fullmatch(line), LINK.fullmatch(line), ENTRY.fullmatch(line)
         if host:
-            seat = int(host[1])
+            seat = int(host[1] or host[2])
         elif seat is not None and link:
             number, neighbor, keep_alive, tsp = link.groups()
             links.add((seat, int(number), neighbor, int(keep_alive), int(tsp)))
@@ -32,6 +37,23 @@ def reported(lines):
             id, pid, delay, offset = map(int, entry.groups())
             entries.add((seat, id, pid, delay, offset))
     return links, entries
+
+
+def told_events(lines):
+    """The words and the answers of the events in a report; none where it has no events."""
+    if EVENTS not in lines:
+        return None
+    first = lines.index(EVENTS) + 1
+    events = [EVENT.fullmatch(line) for line in lines[first : lines.index("", first)]]
+    assert [int(event[1]) for event in events] == list(range(len(events)))
+    return [event[2] for event in events], [int(event[3]) for event in events]
+
+
+def words(path):
+    """The events of a file, as its text has them."""
+    file = bench_file.from_octets(path.read_bytes())
+    lines = bench_file.to_text(file).splitlines()
+    return lines[len(lines) - len(file.events) :]
 
 
 def run(path):
@@ -51,18 +73,29 @@ def run(path):
     return one, links, entries
 
 
-def main():
-    if len(sys.argv) != 3:
-        sys.exit(__doc__)
-    file, report = map(pathlib.Path, sys.argv[1:])
+def check(report, path, one, links, entries):
+    """What a report tells otherwise, in words."""
     text = report.read_text("utf-8")
-    one, links, entries = run(file)
-    events = int(re.search(r"^Saved in .*, with (\d+) events: ", text, re.M)[1])
+    events = int("".join(COUNT.search(text).groups("")))
     if one.count != events:
-        sys.exit(f"{one.count} events were carried out, and {events} were told")
+        yield f"{one.count} events were carried out, and {events} were told"
     if not links or (links, entries) != reported(text.splitlines()):
-        sys.exit(f"the file ends with {sorted(links)} {sorted(entries)}")
-    print(f"saved room: {events} events, {len(links)} links and {len(entries)} live entries are equal")
+        yield f"the file ends with {sorted(links)} {sorted(entries)}"
+    listed = told_events(text.splitlines())
+    if listed is not None and listed != (words(path), one.answers):
+        yield "an event or its answer is told otherwise"
+
+
+def main():
+    if len(sys.argv) < 3:
+        sys.exit(__doc__)
+    file, *reports = map(pathlib.Path, sys.argv[1:])
+    one, links, entries = run(file)
+    for report in reports:
+        wrong = list(check(report, file, one, links, entries))
+        if wrong:
+            sys.exit("\n".join(f"{report}: {what}" for what in wrong))
+    print(f"bench file: {one.count} events, {len(links)} links and {len(entries)} live entries are equal")
 
 
 if __name__ == "__main__":
