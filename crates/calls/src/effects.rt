@@ -51,7 +51,7 @@ pub fn scope_of(q: Request) -> Scope
     }
 }
 
-fn initialize(s: Settings) -> Effect
+pub fn initialize(s: Settings) -> Effect
     requires { ⌜ settingsGood s ≡ true ⌝ }
     ensures { λ p. ⌜ p ≡ initialize s ⌝ }
 {

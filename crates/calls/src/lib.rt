@@ -2,7 +2,7 @@
 ghost use mathlib.Core.Path.{_≡_};
 ghost use Rattle.host.specs.declared.guard.Scope.the-variants.{All, OnLink, Opening};
 ghost use Rattle.host.specs.Lent.{lent};
-ghost use Rattle.calls.specs.declared.Request.the-variants.{Tick, Adjust, Set, Read, Second, SelfReport, Lookup};
+ghost use Rattle.calls.specs.declared.Request.the-variants.{Initialize, Tick, Adjust, Set, Read, Second, SelfReport, Lookup};
 ghost use Rattle.calls.specs.Perform.{perform, Leaves, ask, send, deliver, inspect, openWalk};
 ghost use Rattle.arrival.specs.Arrival.{onLink};
 use arrival::Delivery;
@@ -14,11 +14,13 @@ use host::Reply;
 use host::Settings;
 use host::guard::Scope;
 use host::guard::guard;
+use host::guard::guard_afresh;
 use host::walk::Walk;
 use quantity::Count;
 use table::Entry;
 use table::run::change_all;
 use table::run::entry_of;
+use table::run::fresh_all;
 use table::run::read_out;
 use table::run::update_all;
 
@@ -68,6 +70,35 @@ pub fn call(
     let p = effects::plan(g, s, t, c, l, v, copy, e, request);
     let w = places::placed(number, p.work);
     change_all(run, w);
+    *clock = p.clock;
+    *links = p.links;
+    *walk = p.walk;
+    p.reply
+}
+
+// The host is set afresh.
+pub fn initialize(
+    settings: &Settings,
+    nets: &ClassTable,
+    number: usize,
+    clock: &mut Clock,
+    links: &mut Links,
+    walk: &mut Walk,
+    copy: &[u8],
+    run: &mut [Entry],
+) -> Reply
+    ensures { λ r. ⌜ Leaves (perform (ask Initialize) (lent (now (settings .entry)) (now (nets .entry)) number (now (clock .entry)) (now (links .entry)) (now (walk .entry)) (now (copy .entry)) (now (run .entry)))) r (now (clock .exit)) (now (links .exit)) (now (walk .exit)) (now (copy .entry)) (now (run .exit)) ⌝ }
+{
+    let s = *settings;
+    let t = *nets;
+    let c = *clock;
+    let l = *links;
+    let v = *walk;
+    let n = run.len();
+    let g = guard_afresh(s, t, number, n);
+    let p = plans::initialize(g, s, c, l, v);
+    let w = places::placed(number, p.work);
+    fresh_all(run, w);
     *clock = p.clock;
     *links = p.links;
     *walk = p.walk;

@@ -1,27 +1,33 @@
-// What the calls that leave links and walk alone come to, by value: a refusal of the guard's, or their work.
+// What setting afresh and the calls that leave links and walk alone come to, by value: a refusal of the guard's, or their work.
 ghost use mathlib.Core.Path.{_≡_};
 ghost use mathlib.Core.Bool.{cond, not};
 ghost use Rattle.route.specs.declared.Found.the-variants.{Nothing};
-ghost use Rattle.host.specs.declared.guard.Scope.the-variants.{All};
+ghost use Rattle.host.specs.declared.guard.Scope.the-variants.{Places, All};
 ghost use Rattle.host.specs.Settings.{foundFor};
+ghost use Rattle.host.specs.Effect.{answers};
 ghost use Rattle.host.specs.Guard.{done};
 ghost use Rattle.host.specs.Reply.{plainly};
 ghost use Rattle.host.specs.code.Told.{Told};
 ghost use Rattle.calls.specs.declared.Request.the-variants.{Tick, Adjust, Set, Read, Second, SelfReport};
-ghost use Rattle.calls.specs.Effects.{looked};
+ghost use Rattle.calls.specs.Effects.{initialize, looked};
 ghost use Rattle.calls.specs.code.Planned.{Timely, Aging, LinkTold, inspects};
+use super::effects;
 use super::effects::looked;
 use answer::Answer;
 use class_table::ClassTable;
 use clock::Clock;
 use clock::Counter;
+use host::Effect;
+use host::Links;
 use host::Reply;
 use host::Settings;
+use host::effects::answers;
 use host::effects::each;
 use host::effects::nothing;
 use host::inspection;
 use host::replies::plainly;
 use host::replies::tells_time;
+use host::walk::Walk;
 use quantity::Count;
 use quantity::Millis;
 use route::Found;
@@ -41,6 +47,16 @@ pub struct Aged {
     pub reply: Reply,
     pub clock: Clock,
     pub work: Changes,
+}
+
+pub fn initialize(g: Answer, s: Settings, c: Clock, l: Links, w: Walk) -> Effect
+    requires { ⌜ Told g Places s c ⌝ }
+    ensures { λ p. ⌜ p ≡ cond (not (done g)) (answers (plainly g) c l w) (initialize s) ⌝ }
+{
+    if !answer::is_done(g) {
+        return answers(c, l, w, plainly(g));
+    }
+    effects::initialize(s)
 }
 
 pub fn tick(g: Answer, s: Settings, c: Clock, n: Count) -> Timed

@@ -1,11 +1,11 @@
 pub mod ExportAges
 pub mod ExportAgesAlone
-pub mod ExportAsks
 pub mod ExportAsksWith
 pub mod ExportDeliversWith
 pub mod ExportInspects
 pub mod ExportLooks
 pub mod ExportOpens
+pub mod ExportRenews
 pub mod ExportRuns
 pub mod ExportSends
 pub mod ExportSetsUp

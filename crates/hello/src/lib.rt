@@ -158,12 +158,6 @@ fn stepped_told(t: Reply) -> Stepped
 
 // ---- what is asked
 
-fn asks_initialize() -> Request
-    ensures { λ q. ⌜ q ≡ Initialize ⌝ }
-{
-    Request::Initialize
-}
-
 fn asks_step(counter: Counter) -> Request
     ensures { λ q. ⌜ q ≡ Step counter ⌝ }
 {
@@ -214,8 +208,7 @@ pub extern "C" fn hello_initialize(
 ) -> u8
     ensures { λ r. ⌜ Returns numbered (perform (ask Initialize) (lent (now (settings .entry)) (now (nets .entry)) number (now (clock .entry)) (now (links .entry)) (now (walk .entry)) (now (copy .entry)) (now (run .entry)))) r (now (clock .exit)) (now (links .exit)) (now (walk .exit)) (now (copy .entry)) (now (run .exit)) ⌝ }
 {
-    let q = asks_initialize();
-    let a = calls::call(settings, nets, number, clock, links, walk, copy, run, q);
+    let a = calls::initialize(settings, nets, number, clock, links, walk, copy, run);
     numbered(a)
 }
 

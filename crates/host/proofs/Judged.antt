@@ -25,7 +25,7 @@ use Rattle.host.specs.State.{placesPerHost, firstPlace, hostCount, entri
 use Rattle.host.specs.Lent.{Host, Lent, entriesOf, ownWalkInRange, marksAsSet, lentInRange}
 use Rattle.host.specs.Guard.{noPlaces, longest, ownOutOfRange, outOfRange, inWalk, guard}
 use Rattle.host.specs.code.Told.{afresh}
-use Rattle.host.specs.code.Held.{placesMissing, settled, isLink, namesLink, wholeScan, held, judged}
+use Rattle.host.specs.code.Held.{placesMissing, settled, isLink, namesLink, wholeScan, held, judged, judgedAfresh}
 
 module _ (x : Lent) where
   abbrev h : Host
@@ -139,3 +139,14 @@ module _ (x : Lent) where
   guarded a =
       ap (λ (b : Bool). cond b OutOfRange (cond (inWalk a (x .walk)) InWalk (cond (not (settingsFit t s)) Setting Done)))
       (table-tested a (tableBad t))
+
+  -- a call that sets afresh looks at no entry
+  pub guarded-afresh : judgedAfresh s t k (length run) ≡ guard Places x
+  unfolding guard noPlaces
+  guarded-afresh = go (tableBad t) (placesMissing k (length run))
+    where
+      go : (bad missing : Bool) → cond bad OutOfRange (cond missing OutOfRange (cond (not (settingsFit t s)) Setting Done))
+          ≡ cond (bad || missing) OutOfRange (cond false InWalk (cond (not (settingsFit t s)) Setting Done))
+      go true missing = refl
+      go false true = refl
+      go false false = refl

@@ -4,7 +4,7 @@ ghost use Prim.Native.Nat.{_≤_};
 ghost use Rattle.host.specs.Lent.{host, lent};
 ghost use Rattle.host.specs.Guard.{inWalk, guard};
 ghost use Rattle.host.specs.code.Told.{afresh};
-ghost use Rattle.host.specs.code.Held.{placesMissing, settled, wholeScan, namesLink, held, judged};
+ghost use Rattle.host.specs.code.Held.{placesMissing, settled, wholeScan, namesLink, held, judged, judgedAfresh};
 use super::HOSTS;
 use super::Links;
 use super::PLACES;
@@ -203,4 +203,22 @@ pub fn guard(
     let w = held(s, t, number, clock, links, walk, copy, scope, n);
     let good = all_in_range(run, w);
     judged(s, t, walk, scope, good)
+}
+
+// The same of a call that sets afresh: clock, links, walk and entries may be anything, in a run of n.
+pub fn guard_afresh(s: Settings, t: ClassTable, number: usize, n: usize) -> Answer
+    ensures { λ r. ⌜ r ≡ judgedAfresh s t number n ⌝ }
+{
+    let bad = class_table::is_bad(t);
+    if bad {
+        return Answer::OutOfRange;
+    }
+    let missing = places_missing(number, n);
+    if missing {
+        return Answer::OutOfRange;
+    }
+    if !super::fit(t, s) {
+        return Answer::Setting;
+    }
+    Answer::Done
 }

@@ -6,6 +6,7 @@ pub mod Inspects
 pub mod Looks
 pub mod Opens
 pub mod Performs
+pub mod Renews
 pub mod Sends
 pub mod Times
 pub mod TimesTwo

@@ -4,6 +4,7 @@ ghost use mathlib.Core.Bool.{true};
 ghost use Prim.Native.Nat.{_-_, _≤_};
 ghost use Rattle.clock.specs.Clock.{clockInRange};
 ghost use Rattle.wire.specs.code.Ranges.{Two};
+ghost use Rattle.table.specs.declared.run.Change.the-variants.{Fresh};
 ghost use Rattle.table.specs.Update.{plusReport, ownInRange, delayInRange};
 ghost use Rattle.table.specs.Runs.{changed, changes, updateAt, updatedAt, updates};
 ghost use Rattle.table.specs.code.Loops.{InRun, stillGood, allInRange, entryOf, Updatable, UpdatesFit, reported, ReportFits, ReportsFit, readOut};
@@ -116,13 +117,34 @@ pub fn entry_of(run: &[Entry], w: Seek) -> Entry
     e
 }
 
+fn freshened(e: Entry, i: usize, w: Changes) -> Entry
+    requires { ⌜ w .first ≤ i ⌝ }
+    ensures { λ r. ⌜ r ≡ changed (w .marks) Fresh (i - w .first) e ⌝ }
+{
+    super::with_mark(super::fresh(), mark(w.marks, i - w.first))
+}
+
+// What setting afresh does to all entries: a loop that asks for no other change is quicker.
+pub fn fresh_all(run: &mut [Entry], w: Changes)
+    requires { ⌜ InRun (w .first) (w .end) (now run) × (w .change ≡ Fresh) ⌝ }
+    ensures { λ _. ⌜ now (run .exit) ≡ changes w (now (run .entry)) ⌝ }
+{
+    let end = w.end;
+    let mut i = w.first;
+    while i < end {
+        let e = freshened(run[i], i, w);
+        run[i] = e;
+        i = i + 1;
+    }
+}
+
 fn changed(e: Entry, i: usize, w: Changes) -> Entry
     requires { ⌜ w .first ≤ i ⌝ }
     ensures { λ r. ⌜ r ≡ changed (w .marks) (w .change) (i - w .first) e ⌝ }
 {
     let change = w.change;
     match change {
-        Change::Fresh => super::with_mark(super::fresh(), mark(w.marks, i - w.first)),
+        Change::Fresh => freshened(e, i, w),
         Change::Aged => super::aged(e),
         Change::Reported(reading) => super::reported_here(reading, e),
         Change::Put(x) => x,

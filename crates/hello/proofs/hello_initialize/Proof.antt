@@ -1,9 +1,9 @@
--- The request, the call, and what is told of its reply.
-use mathlib.Core.Path.{_≡_, sym}
+-- The call, and what is told of its reply.
+use mathlib.Core.Path.{_≡_}
 use mir.Syntax.{w8}
 use base.Logic.{emp, id⊢}
-use Rattle.lent.proofs.Words.{by-value, chosen-by-value, unsigned}
-use Rattle.exports.proofs.made.ExportAsks.{proof}
+use Rattle.lent.proofs.Words.{by-value, unsigned}
+use Rattle.exports.proofs.made.ExportRenews.{proof}
 use Rattle.clock.proofs.Types.{clock}
 use Rattle.class_table.proofs.Types.{table}
 use Rattle.table.proofs.Types.{entry}
@@ -11,13 +11,10 @@ use Rattle.host.specs.Lent.{lent}
 use Rattle.host.proofs.Types.{number, settings, links, walk, reply}
 use Rattle.calls.specs.declared.Request.the-variants.{Initialize}
 use Rattle.calls.specs.Perform.{perform, Leaves, ask}
-use Rattle.calls.proofs.Types.{request}
-use Rattle.calls.proofs.call.Symbol as calls
-use Rattle.calls.proofs.call.Met as calls-known
+use Rattle.calls.proofs.initialize.Symbol as calls
+use Rattle.calls.proofs.initialize.Met as calls-known
 use Rattle.hello.specs.Told.{numbered, Returns}
 use Rattle.hello.proofs.Returned.{returned}
-use Rattle.hello.proofs.asks_initialize.Symbol as asks
-use Rattle.hello.proofs.asks_initialize.Met as asks-known
 use Rattle.hello.proofs.numbered.Symbol as tells
 use Rattle.hello.proofs.numbered.Met as tells-known
 use Rattle.hello.proofs.hello_initialize.Key.{name as #hello-initialize}
@@ -27,13 +24,11 @@ use Rattle.hello.proofs.hello_initialize.Code as code
 pub hello-initialize-spec : {M : Type 1} → stated.statement M
 unfolding code.routine
 hello-initialize-spec 𝓤 H 𝓜 𝓖 𝓡 =
-    proof number (chosen-by-value request) (by-value reply) (unsigned w8) settings table clock links walk entry 𝓤 H 𝓜 𝓖 𝓡
-    (emp 𝓤) (λ q. q ≡ Initialize)
-    (λ s t k c l v o run q. emp 𝓤) (λ s t k c l v o run q a c′ l′ v′ run′. Leaves (perform (ask q) (lent s t k c l v o run)) a c′ l′ v′ o run′)
+    proof number (by-value reply) (unsigned w8) settings table clock links walk entry 𝓤 H 𝓜 𝓖 𝓡
+    (λ s t k c l v o run. emp 𝓤) (λ s t k c l v o run a c′ l′ v′ run′. Leaves (perform (ask Initialize) (lent s t k c l v o run)) a c′ l′ v′ o run′)
     (λ a. emp 𝓤) (λ a r. r ≡ numbered a)
     (λ s t k c l v o run c′ l′ v′ run′ r. Returns numbered (perform (ask Initialize) (lent s t k c l v o run)) r c′ l′ v′ o run′)
-    (λ s t k c l v o run. id⊢ 𝓤 _) (λ s t k c l v o run q q-is. id⊢ 𝓤 _) (λ s t k c l v o run q a c′ l′ v′ run′ q-is left. id⊢ 𝓤 _)
-    (λ s t k c l v o run q a c′ l′ v′ run′ r q-is left r-is. rw (sym q-is) (returned numbered (perform (ask q) (lent s t k c l v o run)) a c′ l′ v′ o run′ r left r-is))
-    code.env #hello-initialize asks.name calls.name tells.name asks.routine calls.routine tells.routine
-    code.calls-hello·asks-initialize code.calls-calls·call code.calls-hello·numbered
-    (code.unfolded 𝓤 H 𝓜 𝓡) (asks-known.met 𝓤 H 𝓜 𝓖 𝓡) (calls-known.met 𝓤 H 𝓜 𝓖 𝓡) (tells-known.met 𝓤 H 𝓜 𝓖 𝓡)
+    (λ s t k c l v o run. id⊢ 𝓤 _) (λ s t k c l v o run a c′ l′ v′ run′ left. id⊢ 𝓤 _)
+    (λ s t k c l v o run a c′ l′ v′ run′ r left r-is. returned numbered (perform (ask Initialize) (lent s t k c l v o run)) a c′ l′ v′ o run′ r left r-is)
+    code.env #hello-initialize calls.name tells.name calls.routine tells.routine code.calls-calls·initialize code.calls-hello·numbered
+    (code.unfolded 𝓤 H 𝓜 𝓡) (calls-known.met 𝓤 H 𝓜 𝓖 𝓡) (tells-known.met 𝓤 H 𝓜 𝓖 𝓡)

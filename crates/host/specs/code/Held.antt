@@ -64,3 +64,8 @@ held a t k h w copy n =
 
 abbrev pub judged : Settings → ClassTable → Walk → Scope → (good : Bool) → Answer
 judged s t w a good = cond (not good) OutOfRange (cond (inWalk a w) InWalk (cond (not (settingsFit t s)) Setting Done))
+
+-- where no more than the table, numbers and places are looked at
+abbrev pub judgedAfresh : Settings → ClassTable → (number n : ℕ) → Answer
+judgedAfresh s t k n =
+    cond (tableBad t) OutOfRange (cond (placesMissing k n) OutOfRange (cond (not (settingsFit t s)) Setting Done))

@@ -6,17 +6,8 @@ use Rattle.table.proofs.run.changed.Tie as tie
 enum-told : tie.Need-enum-told
 enum-told c = search needs
 
-fresh-requires : tie.Need-fresh-requires
-fresh-requires c κs = search needs
-
-sub-mark : tie.Need-sub-mark
-sub-mark c = search needs
-
-mark-requires : tie.Need-mark-requires
-mark-requires c κs = search needs
-
-with-mark-requires : tie.Need-with-mark-requires
-with-mark-requires c κs = search needs
+freshened-requires : tie.Need-freshened-requires
+freshened-requires c κs = search needs
 
 enum-told-2 : tie.Need-enum-told-2
 enum-told-2 c = search needs
@@ -34,8 +25,7 @@ enum-known-change-2 : tie.Need-enum-known-change-2
 enum-known-change-2 c = search needs
 
 returns : tie.Need-returns
-returns c =
-    rw (c .before .before .before .before .enum-told .given .1, ← c .before .before .before .fresh .ensures, ← c .before .mark .ensures) (c .with-mark .ensures)
+returns c = rw (c .before .enum-told .given .1) (c .freshened .ensures)
 
 returns-2 : tie.Need-returns-2
 returns-2 c = rw (c .before .enum-told2 .given .1) (c .aged .ensures)
@@ -51,10 +41,7 @@ changed-spec =
     tie.close
     (tie.spec
     enum-told
-    fresh-requires
-    sub-mark
-    mark-requires
-    with-mark-requires
+    freshened-requires
     enum-told-2
     aged-requires
     enum-known-change
