@@ -1,4 +1,4 @@
--- What is put at a place of a buffer: one sign, signs behind signs, a list from its end or from its start.
+-- What is put at a place of a buffer: one sign, signs behind signs, a list from its end.
 use mathlib.Core.Path.{_≡_, refl, sym, ap, _∙_}
 use mathlib.Core.List.{List, [], _∷_, _++_, append-assoc}
 use Prim.Native.Nat.{ℕ, zero, suc, _+_, _-_, _/_, _%_, _≤_, _<_}
@@ -66,17 +66,6 @@ pub digits-turn : (b : List ℕ) (at left n : ℕ) → 0 < left → at + left �
     → over (set b (at + (left - 1)) (zeroSign + n % 10)) at (digits (left - 1) (n / 10)) ≡ over b at (digits left n)
 digits-turn b at zero n p h = absurd (omega arith)
 digits-turn b at (suc j) n p h = let e : suc j - 1 ≡ j = omega arith in rw e (digit-put b at j n h)
-
--- a list copied from its start
-pub copied-more : (b xs : List ℕ) (i : ℕ) → i < length b → i < length xs
-    → over (set b i (getD xs i 0)) (i + 1) (drop (i + 1) xs) ≡ over b i (drop i xs)
-copied-more b xs i h k =
-    let e : set b i (getD xs i 0) ≡ over b i (getD xs i 0 ∷ []) = octet-put b i (getD xs i 0) h in
-    let d : drop i xs ≡ getD xs i 0 ∷ drop (i + 1) xs = rw (add-one, drop-cons xs i 0 k) in
-    rw (e, d) (over-twice i b (getD xs i 0 ∷ []) (omega arith) (drop (i + 1) xs))
-
-pub copied-all : (b xs : List ℕ) (i : ℕ) → length xs ≤ i → over b i (drop i xs) ≡ b
-copied-all b xs i h = rw (drop-of-length-le xs h) (over-nothing i b)
 
 pub digits-none : (b : List ℕ) (at left n : ℕ) → left ≤ 0 → over b at (digits left n) ≡ b
 unfolding digits

@@ -3,13 +3,15 @@ use mathlib.Core.Path.{_≡_, refl, sym, ap, _∙_}
 use mathlib.Core.Bool.{Bool, true, false, _&&_, false≢true}
 use mathlib.Core.List.{List, [], _∷_, _++_}
 use Prim.Native.Nat.{ℕ, zero, suc, _+_, _-_, _%_, _≤_, _<_}
+use native.Mathlib.Numerals.{add-two}
 use native.Mathlib.Omega.{arith}
 use borrow.Author.Tests.{leb-true, lt-ltb}
 use lib.Dec.{leb, ltb, leb·suc-suc}
 use lib.IntN.{pos, negℤ}
-use lib.ListN.{length}
+use lib.ListN.{length, set}
+use lib.Seq.{sets, sets-eq}
 use Rattle.lists.specs.Lists.{over}
-use Rattle.lists.proofs.Parts.{over-twice, over-length}
+use Rattle.lists.proofs.Parts.{over-length}
 use Rattle.lists.proofs.Tests.{both}
 use Rattle.quantity.specs.Words.{bits16}
 use Rattle.wire.specs.Octets.{two, four}
@@ -38,10 +40,10 @@ pub row-not-put : (b : List ℕ) (fit : Bool) (i : ℕ) (row : Row) → (fit && 
 row-not-put b fit i row e = record { fits = sym e; same = refl; put = λ t. absurd (false≢true t) }
 
 pub row-put : (b m a : List ℕ) (i o : ℕ) (row : Row) → mostLength ≤ length b → i < mostHosts → rowFits row ≡ true
-    → m ≡ over b (reportPlace i) (two (row .delay)) → o ≡ bits16 (row .offset) → a ≡ over m (reportPlace i + 2) (two o)
+    → m ≡ sets b (reportPlace i) (two (row .delay)) → o ≡ bits16 (row .offset) → a ≡ sets m (reportPlace i + 2) (two o)
     → RowPut b a true i row true
 row-put b m a i o row h k e e₁ e₂ e₃ =
-    let q : a ≡ over b (reportPlace i) (rowOctets row) = e₃ ∙ rw (e₂, e₁) (over-twice (reportPlace i) b (two (row .delay)) (omega arith) (two (bits16 (row .offset)))) in
+    let q : a ≡ over b (reportPlace i) (rowOctets row) = e₃ ∙ rw (e₂, e₁, add-two) (sets-eq (rowOctets row) b (reportPlace i) (omega arith)) in
     record {
       fits = rw (lt-ltb i mostHosts k, e);
       same = ap length q ∙ over-length (reportPlace i) b (rowOctets row) (omega arith);
@@ -72,15 +74,7 @@ first-fits f rows e =
     }
 
 pub fixed-put : (b l₁ l₂ l₃ l₄ l₅ : List ℕ) (f : First) → mostLength ≤ length b
-    → l₁ ≡ over b 2 (two (f .date)) → l₂ ≡ over l₁ 4 (four (f .time)) → l₃ ≡ over l₂ 8 (two (f .tsp))
-    → l₄ ≡ over l₃ 10 (f .base ∷ []) → l₅ ≡ over l₄ 11 (f .count ∷ [])
+    → l₁ ≡ sets b 2 (two (f .date)) → l₂ ≡ sets l₁ 4 (four (f .time)) → l₃ ≡ sets l₂ 8 (two (f .tsp))
+    → l₄ ≡ set l₃ 10 (f .base) → l₅ ≡ set l₄ 11 (f .count)
     → l₅ ≡ over b 2 (fixedOctets (firstTold f []))
-fixed-put b l₁ l₂ l₃ l₄ l₅ f h e₁ e₂ e₃ e₄ e₅ =
-    let k : 2 ≤ length b = omega arith in
-    let d = two (f .date) in
-    let t = four (f .time) in
-    let s = two (f .tsp) in
-    let q₂ : l₂ ≡ over b 2 (d ++ t) = e₂ ∙ rw e₁ (over-twice 2 b d k t) in
-    let q₃ : l₃ ≡ over b 2 (d ++ t ++ s) = e₃ ∙ rw q₂ (over-twice 2 b (d ++ t) k s) in
-    let q₄ : l₄ ≡ over b 2 (d ++ t ++ s ++ f .base ∷ []) = e₄ ∙ rw q₃ (over-twice 2 b (d ++ t ++ s) k (f .base ∷ [])) in
-    e₅ ∙ rw q₄ (over-twice 2 b (d ++ t ++ s ++ f .base ∷ []) k (f .count ∷ []))
+fixed-put b l₁ l₂ l₃ l₄ l₅ f h e₁ e₂ e₃ e₄ e₅ = e₅ ∙ rw (e₄, e₃, e₂, e₁) (sets-eq (fixedOctets (firstTold f [])) b 2 (omega arith))

@@ -49,7 +49,7 @@ fn deliver(out: &mut [u8], octets: &[u8]) -> Written
             length: 0,
         };
     }
-    octets::copy(&mut *out, octets);
+    wire::copy(&mut *out, 0, octets);
     Written {
         answer: Answer::Done,
         length,

@@ -11,14 +11,14 @@ ghost use Rattle.wire.specs.Octets.{two};
 ghost use Rattle.text.specs.Numbers.{rowFits, firstFits, fixedOctets};
 ghost use Rattle.text.specs.code.Reading.{mostLength, rowTold, firstTold, RowPut, RowsRead, ReadSays};
 use super::Answer;
-use super::octets::put_four;
-use super::octets::put_octet;
-use super::octets::put_two;
 use super::scan::First;
 use super::scan::Row;
 use super::scan::find;
 use super::scan::read_first;
 use super::scan::read_row;
+use wire::octets::put_four;
+use wire::octets::put_octet;
+use wire::octets::put_two;
 
 // What the lines behind the first are: whether all have the form of a row, whether they are at most 255 and all fit, and how many.
 pub struct Rows {

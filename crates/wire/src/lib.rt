@@ -13,7 +13,7 @@ ghost use Rattle.wire.specs.code.Sealing.{withReport, sealed};
 
 mod hello;
 mod ip;
-mod octets;
+pub mod octets;
 
 // An Internet address: its four octets, the highest first.
 #[repr(C)]

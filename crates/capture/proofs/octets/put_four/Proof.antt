@@ -1,65 +1,34 @@
-use lib.ListN.{length-set}
-use lib.Seq.{sets-eq}
-use Rattle.wire.specs.Octets.{four}
-use native.Mathlib.Numerals.{add-one, add-two, add-three}
+-- The four octets of a number are those of its last 32 bits.
+use mathlib.Core.Path.{_≡_, ap, _∙_}
+use Prim.Native.Nat.{ℕ, _/_, _%_}
 use native.Mathlib.Omega.{arith}
+use lib.Seq.{sets, sets-eq}
 use borrow.Author.Needs.{needs}
+use Rattle.wire.specs.Octets.{four}
 use Rattle.capture.proofs.octets.put_four.Statement.{statement}
 use Rattle.capture.proofs.octets.put_four.Tie as tie
 
-cast-s : tie.Need-cast-s
-cast-s c = search needs
+last-bits : (n : ℕ) → four (n % 4294967296) ≡ four n
+last-bits n =
+    let first : n % 4294967296 / 256 / 256 / 256 % 256 ≡ n / 256 / 256 / 256 % 256 = omega arith in
+    let second : n % 4294967296 / 256 / 256 % 256 ≡ n / 256 / 256 % 256 = omega arith in
+    let third : n % 4294967296 / 256 % 256 ≡ n / 256 % 256 = omega arith in
+    let fourth : n % 4294967296 % 256 ≡ n % 256 = omega arith in
+    rw (first, second, third, fourth)
 
-slice-write-s : tie.Need-slice-write-s
-slice-write-s c = search needs
+cast-put-four : tie.Need-cast-put-four
+cast-put-four c = search needs
 
-cast-s-2 : tie.Need-cast-s-2
-cast-s-2 c = search needs
-
-add-s : tie.Need-add-s
-add-s c = search needs
-
-slice-write-s-2 : tie.Need-slice-write-s-2
-slice-write-s-2 c = simp length-set (omega arith)
-
-cast-s-3 : tie.Need-cast-s-3
-cast-s-3 c = search needs
-
-add-s-2 : tie.Need-add-s-2
-add-s-2 c = search needs
-
-slice-write-s-3 : tie.Need-slice-write-s-3
-slice-write-s-3 c = simp length-set (omega arith)
-
-cast-s-4 : tie.Need-cast-s-4
-cast-s-4 c = search needs
-
-add-s-3 : tie.Need-add-s-3
-add-s-3 c = search needs
-
-slice-write-s-4 : tie.Need-slice-write-s-4
-slice-write-s-4 c = simp length-set (omega arith)
+put-four-requires : tie.Need-put-four-requires
+put-four-requires c κs = search needs
 
 same-length : tie.Need-same-length
 same-length c = search needs
 
 returns : tie.Need-returns
-returns c = rw (add-one, add-two, add-three) (sets-eq (four (c .args .n)) (c .args .s .now) (c .args .i) (search needs))
+returns c =
+    let a = c .before .before .before .before .before .args in
+    c .before .before .put-four .ensures ∙ ap (sets (a .s .now) (a .i)) (last-bits (a .n)) ∙ sets-eq (four (a .n)) (a .s .now) (a .i) (omega arith)
 
 pub put-four-spec : {M : Type 1} → statement M
-put-four-spec =
-    tie.close
-    (tie.spec
-    cast-s
-    slice-write-s
-    cast-s-2
-    add-s
-    slice-write-s-2
-    cast-s-3
-    add-s-2
-    slice-write-s-3
-    cast-s-4
-    add-s-3
-    slice-write-s-4
-    same-length
-    returns)
+put-four-spec = tie.close (tie.spec cast-put-four put-four-requires same-length returns)

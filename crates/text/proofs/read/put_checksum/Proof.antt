@@ -1,6 +1,7 @@
 -- The sum is taken of what stands behind the checksum.
-use mathlib.Core.Path.{ap, _∙_}
-use Rattle.lists.specs.Lists.{over}
+use mathlib.Core.Path.{_∙_}
+use native.Mathlib.Omega.{arith}
+use lib.Seq.{sets-eq}
 use Rattle.wire.specs.Octets.{two}
 use borrow.Author.Needs.{needs}
 use Rattle.text.proofs.read.put_checksum.Statement.{statement}
@@ -25,7 +26,9 @@ same-length : tie.Need-same-length
 same-length c = search needs
 
 returns : tie.Need-returns
-returns c = c .before .before .put-two .ensures ∙ ap (λ n. over (c .before .before .before .before .before .before .before .before .args .message .now) 0 (two n)) (c .before .before .before .before .complement .ensures)
+returns c =
+    let b = c .before .before .before .before .before .before .before .before .args .message .now in
+    c .before .before .put-two .ensures ∙ rw (c .before .before .before .before .complement .ensures) (sets-eq (two _) b 0 (omega arith))
 
 pub put-checksum-spec : {M : Type 1} → statement M
 put-checksum-spec =
