@@ -2,18 +2,12 @@
 use host::Link;
 use host::walk::Place;
 use host::walk::Walk;
-use printing::signed;
+use printing::number;
 use printing::text;
 use quantity::Millis;
 use quantity::Word;
 use table::Entry;
 use wire::Address;
-
-// A name and a number.
-fn number(name: &[u8], n: i64) {
-    text(name);
-    signed(n);
-}
 
 fn step(name: &[u8]) {
     text(b"step ");

@@ -12,3 +12,14 @@ pub fn signed(n: i64) {
     text(b"-");
     io::print_decimal(1, std::num::wrapping_add_u64((!n) as u64, 1));
 }
+
+// A name and a number.
+pub fn number(name: &[u8], n: i64) {
+    text(name);
+    signed(n);
+}
+
+// The end of a line.
+pub fn end() {
+    text(b"\n");
+}

@@ -6,6 +6,9 @@ use calendar::Date;
 use clock::Clock;
 use clock::Counter;
 use host::Link;
+use printing::end;
+use printing::number;
+use printing::text;
 use program::Whole;
 use quantity::Millis;
 use quantity::Seconds;
@@ -123,9 +126,9 @@ fn entry_of(run: [Entry; 255], id: u8) -> Entry {
 fn left(a: Answer, x: Link, id: u8, e: Entry) {
     show::answer(a);
     show::link(x);
-    show::number(b"; id ", id as i64);
+    number(b"; id ", id as i64);
     show::entry(e);
-    show::end();
+    end();
 }
 
 fn told(w: Whole, id: u8) {
@@ -142,7 +145,7 @@ fn told(w: Whole, id: u8) {
 
 // The name of a record.
 fn name(r: [u8; 128]) {
-    show::text(&r[0..64]);
+    text(&r[0..64]);
 }
 
 // The host's clock before.

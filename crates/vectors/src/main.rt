@@ -1,13 +1,10 @@
-// The runs of the rules: arrivals that standard input has, and, of the rest, the papers' worked sums, what may surprise, and the examples of RFC 1071. Each line has a name and what was computed; the file stdout has what the papers say, or what follows from them by hand.
+// The runs of a host's rules: arrivals that standard input has, then sends, seconds and lookups. Each line has a name and what was computed; the file stdout has what the papers say, or what follows from them by hand.
 ghost use mathlib.Core.Path.{_≡_};
 ghost use lib.ListN.{length};
 
 mod arrivals;
-mod clocks;
 mod requests;
-mod rfc1071;
 mod show;
-mod sums;
 
 // The records of standard input are run, one after the other; at most so many.
 const RECORDS: u32 = 100;
@@ -41,18 +38,4 @@ fn main() {
     requests::split_horizon();
     requests::ageing();
     requests::lookups();
-    clocks::midnight();
-    clocks::deltas();
-    clocks::below_zero();
-    clocks::far_sets();
-    clocks::slew_limits();
-    clocks::crystal_midnights();
-    clocks::crystal_overflow();
-    clocks::crystal_changes();
-    sums::checksums();
-    sums::dates();
-    rfc1071::normal();
-    rfc1071::swapped_order();
-    rfc1071::reversed_order();
-    rfc1071::odd_boundary();
 }

@@ -7,6 +7,9 @@ use calls::Request;
 use clock::Clock;
 use clock::Counter;
 use host::Link;
+use printing::end;
+use printing::number;
+use printing::text;
 use program::Whole;
 use quantity::Millis;
 use quantity::Seconds;
@@ -28,9 +31,9 @@ fn route_by(pid: u8, delay: Millis, ttl: Seconds) -> Entry {
 
 // A line of what a send on link 1 advertises for an entry.
 fn advertised(name: &[u8], e: Entry) {
-    show::text(name);
+    text(name);
     show::report(table::advertised(1, e));
-    show::end();
+    end();
 }
 
 // The neighbor is not told of the routes that go by itself (split horizon).
@@ -62,9 +65,9 @@ fn asked(e: Entry, q: Request) -> Whole {
 fn second(name: &[u8], e: Entry) {
     let w = asked(e, Request::Second);
     let run = w.run;
-    show::text(name);
+    text(name);
     show::entry(run[0]);
-    show::end();
+    end();
 }
 
 // "Each TTL that isn't zero falls by one; if it thereby reaches zero and DELAY is under 30,000, DELAY becomes 30,000 and TTL 120."
@@ -98,11 +101,11 @@ fn lookup(name: &[u8], e: Entry) {
     let w = asked(e, Request::Lookup(address));
     let r = w.reply;
     let a = r.answer;
-    show::text(name);
+    text(name);
     show::answer(a);
     show::count(b": id ", r.id);
-    show::number(b" PID ", r.pid as i64);
-    show::end();
+    number(b" PID ", r.pid as i64);
+    end();
 }
 
 // "a lookup its host id and PID", "lookup: host is down (DELAY 30,000)"
@@ -152,10 +155,10 @@ fn sent_at(x: Link, c: Clock) -> Sent {
 fn message(name: &[u8], x: Link, c: Clock) {
     let m = sent_at(x, c);
     let tsp = m.tsp;
-    show::text(name);
-    show::number(b": TSP ", tsp.bits() as i64);
-    show::number(b", KEEP-ALIVE ", m.keep_alive as i64);
-    show::end();
+    text(name);
+    number(b": TSP ", tsp.bits() as i64);
+    number(b", KEEP-ALIVE ", m.keep_alive as i64);
+    end();
 }
 
 // "B, 500 ahead, gets it at 40,530 and answers at 45,530 with TSP 45,000"; "if KEEP-ALIVE isn't zero, which then falls by one; else 0"

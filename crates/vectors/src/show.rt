@@ -1,37 +1,13 @@
 // What a run came to, on a line: a name, and values behind it.
 use answer::Answer;
-use calendar::Date;
-use clock::Clock;
 use host::Link;
+use printing::number;
+use printing::text;
 use quantity::Millis;
 use quantity::Word;
 use table::Entry;
 use wire::Address;
 use wire::Report;
-
-pub fn text(s: &[u8]) {
-    io::write_all(1, s);
-}
-
-pub fn end() {
-    text(b"\n");
-}
-
-// A signed number.
-fn signed(n: i64) {
-    if n >= 0 {
-        io::print_decimal(1, n as u64);
-        return;
-    }
-    text(b"-");
-    io::print_decimal(1, std::num::wrapping_add_u64((!n) as u64, 1));
-}
-
-// A name and a number.
-pub fn number(name: &[u8], n: i64) {
-    text(name);
-    signed(n);
-}
 
 // A name and a count.
 pub fn count(name: &[u8], n: usize) {
@@ -40,24 +16,9 @@ pub fn count(name: &[u8], n: usize) {
 }
 
 // A name and a signed word.
-pub fn word(name: &[u8], w: Word) {
+fn word(name: &[u8], w: Word) {
     let m = Millis::of_word(w);
     number(name, m.0);
-}
-
-// A line of one word, in hex.
-pub fn hex(name: &[u8], word: u16) {
-    text(name);
-    text(b": ");
-    io::print_hex(1, word as u64, 4);
-    end();
-}
-
-// A line of one date word.
-pub fn date(name: &[u8], d: Date) {
-    text(name);
-    number(b": ", d.0 as i64);
-    end();
 }
 
 pub fn answer(a: Answer) {
@@ -93,18 +54,4 @@ pub fn report(r: Report) {
     let delay = r.delay;
     number(b": DELAY ", delay.0);
     word(b" OFFSET ", r.offset);
-}
-
-// A line of a clock: CLOCK and DELTA in units.
-pub fn clock(name: &[u8], c: Clock) {
-    let units = c.clock;
-    let delta = c.delta;
-    let hold = c.hold;
-    let date = c.date;
-    text(name);
-    number(b": CLOCK ", units.0);
-    number(b" DELTA ", delta.0);
-    number(b" HOLD ", hold.0 as i64);
-    number(b" DATE ", date.0 as i64);
-    end();
 }

@@ -1,8 +1,8 @@
 -- The tests tell that clock and tick are in range.
 use mathlib.Core.Path.{_∙_, sym}
 use borrow.Author.Needs.{needs}
-use Rattle.vectors.proofs.clocks.ticked.Statement.{statement}
-use Rattle.vectors.proofs.clocks.ticked.Tie as tie
+use Rattle.sum_runs.proofs.clocks.ticked.Statement.{statement}
+use Rattle.sum_runs.proofs.clocks.ticked.Tie as tie
 
 in-range-requires : tie.Need-in-range-requires
 in-range-requires c κs = search needs

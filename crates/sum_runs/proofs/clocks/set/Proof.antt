@@ -5,8 +5,8 @@ use lib.IntN.{ℤ}
 use mir.Syntax.{w32}
 use mir.Val.{SFits}
 use borrow.Author.Needs.{needs}
-use Rattle.vectors.proofs.clocks.set.Statement.{statement}
-use Rattle.vectors.proofs.clocks.set.Tie as tie
+use Rattle.sum_runs.proofs.clocks.set.Statement.{statement}
+use Rattle.sum_runs.proofs.clocks.set.Tie as tie
 
 in-range-requires : tie.Need-in-range-requires
 in-range-requires c κs = search needs

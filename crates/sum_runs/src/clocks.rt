@@ -3,6 +3,8 @@ use super::show;
 use calendar::Date;
 use clock::Clock;
 use clock::Counter;
+use printing::number;
+use printing::text;
 use quantity::Count;
 use quantity::Millis;
 use quantity::Seconds;
@@ -119,8 +121,8 @@ fn reading(name: &[u8], c: Clock, clock_tick: Units, k: Counter) {
         if clock::tick_in_range(clock_tick) {
             let r = c.reading(clock_tick, HOLD_INTERVAL, k);
             let time = r.time;
-            show::text(name);
-            show::number(b": TIME ", time.0);
+            text(name);
+            number(b": TIME ", time.0);
             show::clock(b"", r.clock);
         }
     }

@@ -1,8 +1,8 @@
 -- The count rises to its end.
 use Prim.Native.Nat.{_≤_, _-_}
 use borrow.Author.Needs.{needs}
-use Rattle.vectors.proofs.clocks.adjusts.Statement.{statement}
-use Rattle.vectors.proofs.clocks.adjusts.Tie as tie
+use Rattle.sum_runs.proofs.clocks.adjusts.Statement.{statement}
+use Rattle.sum_runs.proofs.clocks.adjusts.Tie as tie
 
 abbrev Inv-loop : tie.InvT-loop
 Inv-loop times x₀ i₀ x i = i ≤ times

@@ -1,8 +1,8 @@
 -- Each date is a real one: this is computed.
 use Rattle.calendar.specs.Date.{real, lastDay}
 use borrow.Author.Needs.{needs}
-use Rattle.vectors.proofs.sums.dates.Statement.{statement}
-use Rattle.vectors.proofs.sums.dates.Tie as tie
+use Rattle.sum_runs.proofs.sums.dates.Statement.{statement}
+use Rattle.sum_runs.proofs.sums.dates.Tie as tie
 
 slice-aggregate-date : tie.Need-slice-aggregate-date
 slice-aggregate-date c = search needs

@@ -1,8 +1,8 @@
 -- The test tells that the clock is in range.
 use mathlib.Core.Path.{_∙_, sym}
 use borrow.Author.Needs.{needs}
-use Rattle.vectors.proofs.clocks.adjusted.Statement.{statement}
-use Rattle.vectors.proofs.clocks.adjusted.Tie as tie
+use Rattle.sum_runs.proofs.clocks.adjusted.Statement.{statement}
+use Rattle.sum_runs.proofs.clocks.adjusted.Tie as tie
 
 in-range-requires : tie.Need-in-range-requires
 in-range-requires c κs = search needs
