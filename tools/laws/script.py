@@ -2,7 +2,7 @@
 import os
 import re
 
-WALK = os.path.join(os.path.dirname(os.path.abspath(__file__)), "..", "..", "crates/lent/proofs/Walk.antt")
+PROOFS = os.path.join(os.path.dirname(os.path.abspath(__file__)), "..", "..", "crates/lent/proofs")
 
 
 def digits(n):
@@ -27,6 +27,26 @@ def product(ts):
 
 def proj(base, i):
     return base + " .1" * i + " .0"
+
+
+def tuple_of(xs):
+    """a tuple, nested to the right"""
+    return "(" + ", (".join(xs[:-1]) + ", " + xs[-1] + ")" * (len(xs) - 1) if len(xs) > 1 else xs[0]
+
+
+def bound(binders):
+    """the names of `(x : A) (y : B)`"""
+    return re.findall(r"\((\S+) : ", binders)
+
+
+def wrapped(words, indent, width=200):
+    """the words in lines of no more than this width"""
+    lines = [indent]
+    for w in words:
+        if len(lines[-1]) + len(w) > width and lines[-1].strip():
+            lines.append(indent)
+        lines[-1] += w if lines[-1].endswith("(") or not lines[-1].strip() else " " + w
+    return "\n".join(lines)
 
 
 class Script:
@@ -113,13 +133,36 @@ class Law:
 
 def walk_cites():
     """the names that Walk.antt cites, in its order"""
-    with open(WALK) as walk:
+    with open(os.path.join(PROOFS, "Walk.antt")) as walk:
         lists = [re.match(r"(?:unfoldable )?pub use .*\.\{(.*)\}", l) for l in walk]
     return [n.split(" as ")[-1] for g in lists if g for n in g.group(1).split(", ")]
 
 
 def walk_names():
     return {n.strip("_") for n in walk_cites()}
+
+
+def thin_cites():
+    """the names that Thin.antt passes on, and those that it declares"""
+    with open(os.path.join(PROOFS, "Thin.antt")) as thin:
+        text = thin.read()
+    lists = re.findall(r"(?m)^pub use .*\.\{(.*)\}", text)
+    return [n.split(" as ")[-1].strip() for g in lists for n in g.split(", ")] + re.findall(r"(?m)^ *(?:abbrev pub|pub record|    pub) ([^\s{]+)", text)
+
+
+def thin_names():
+    return {n.strip("_") for n in thin_cites()}
+
+
+def thin_uses(text, crate, modules=()):
+    """the lines that bring in what the text uses of Thin.antt, and of the modules with the names given"""
+    have = set(re.findall(r"[^\s(){}\[\],;.]+", text))
+    lines = ["use %s.Thin.{%s}" % (lib(crate), ", ".join(n for n in thin_cites() if n.strip("_") in have or n == "[]"))]
+    for module, names in modules:
+        ns = [n for n in names if n.split(" as ")[-1] in have]
+        if ns:
+            lines.append("use %s.{%s}" % (module, ", ".join(ns)))
+    return "\n".join(lines) + "\n"
 
 
 def lib(crate):

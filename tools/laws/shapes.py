@@ -1,14 +1,14 @@
 """Read shapes.txt. A line that is not of the language of shapes (README.md) is refused with its number, so that nothing is written from a shape that is half understood."""
 import re
-from script import walk_names
+from script import thin_names, walk_names
 
 CRATES = ("lent", "shapes", "exports", "wholes", "class_table", "bench_shapes", "bench_wholes")
 LOOPS = ("Folds", "Maps", "Applies", "Writes")
 
 # What the made text binds or cites itself, beside the names of Walk.antt. A type of the same name would be taken for it, or it for the type. Of a type C the text makes RC and XC besides.
 CITED = set("Type Unit LL Word Data Part Outcome Kept LentAgain LentPart Declared Struct Plains Denots Array Sym Contract Clauses Post Says Asks".split())
-STRAIGHT_TYPES = CITED | set("A H M W".split())
-REPEATS_TYPES = STRAIGHT_TYPES | set("J X After At En Left Ok Turn".split())
+STRAIGHT_TYPES = CITED | set("A H Kf M T W".split())
+REPEATS_TYPES = STRAIGHT_TYPES | set("J After".split())
 WHOLE_TYPES = STRAIGHT_TYPES | set("D K O LO PO RO".split())
 # The same for parameters: what stands beside them in the made text, and the fields of the records that are made there.
 VALUES = set("x at v vs sh r u exits walk fm then stayed ended clauses function slice make made back shown one room".split())
@@ -85,7 +85,7 @@ class Shape:
         """a name that the shape gives to a parameter or a let"""
         if name in self.fresh:
             raise Wrong(line, "the name `%s` is taken: it stands on line %d" % (name, self.fresh[name]))
-        if name in FIELDS or (line == self.line and name in VALUES) or name in walk_names():
+        if name in FIELDS or (line == self.line and name in VALUES) or name in walk_names() | thin_names():
             raise Wrong(line, "the name `%s` is reserved: the made text uses it" % name)
         self.fresh[name] = line
 
@@ -93,7 +93,7 @@ class Shape:
         if name in NUMBERS:
             if name not in numbers:
                 raise Wrong(line, "`%s` cannot stand here" % name)
-        elif name in reserved or name in walk_names():
+        elif name in reserved or name in walk_names() | thin_names():
             raise Wrong(line, "the type name `%s` is reserved: the made text uses it" % name)
         for other in self.named:
             if name in ("R" + other, "X" + other) or other in ("R" + name, "X" + name):

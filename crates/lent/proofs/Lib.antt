@@ -1,7 +1,16 @@
 pub mod Again
+pub mod Calling
+pub mod Frame
+pub mod Holds
+pub mod Law
+pub mod Lending
 pub mod Loop
+pub mod Looping
 pub mod made
 pub mod Outcomes
+pub mod Parts
 pub mod Shared
+pub mod Thin
 pub mod Walk
+pub mod Ways
 pub mod Words

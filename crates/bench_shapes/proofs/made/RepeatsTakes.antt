@@ -1,324 +1,59 @@
 -- The law of a loop whose turn is a call: `fn RepeatsTakes(nets: &Nets, hosts: &mut [S], octets: &[u8], run: &mut [E], slots: &[u8], answers: &mut [u8], w: J) { for i in w.0..w.1 { turn(nets, &mut hosts, octets, &mut run, slots, &mut answers, i, w); } }`.
 -- It is one walk of that MIR, for any types and any contract of the call. J is a struct that begins with first and end. `After` is what there is after n turns. The author shows that the call is asked for no more than what is known (`ok`), and that what there is after the last turn is what the loop says (`then`).
 -- Made by tools/laws/make. Assumes nothing.
-use Rattle.lent.proofs.Walk.{_≡_, refl, sym, ap, subst, _∙_, ℕ, zero, suc, _+_, _-_, _≤_, _<_, _^_, arith, not, List, [], _∷_, length, T, ltb, ltb→lt, nltb→le, URA, fullShare, Name, Fn, Body, named, erased, mut, imm, tyRef, tyInt, tyBool, tyUnit, w8, w64, local, valueLocal, place, deref, field, copy, int, opdUnit, rvOpd, op2, lt, add, no-sign, addrOf, aggregate, assign, call, seq, block, loop, cond, skip, exit, return, Val, vint, vptr, vunit, SProp, ent, emp, id⊢, GName, Lft, Share, ftrue, fat, froom, fdies, flft, Model, Routine, Env, Heap, Out, afterSeq, afterBlock, Locals, Wp, atReturn, WpFn, Tables, Closed, Atoms, fact, GhostRules, Running, givenOf, tables, afterTurn, Given, Item, ‵, raw, _⊛_, ⋆, some, later, anyQ, atRet, _$_, _∵_, !, qed, by, move, drop, use0, use1, use2, use3, split, join, pick, rewrite, fsplit, fjoin, feqL, suffices, frame, await, done, look, init, store, forget, stop, hop, fld, from, load, lit, unit-lit, addr, of-opd, bin, and-then, no-more, assigns, assigns-last, land, returns, enter, alloc1, alloc0, params1, pass1, pass0, free1, free0, exec, agg, whole-part, sub, look-in, lft-new, lft-end, FmC, fmOf, WpFn-mono, RattleType, owns, Is, shows, pointee, u8, RefOf, SliceRefOf, SliceRefMutOf, RefT, ShrRef, ptr-vals, shr-tells, shr-copy, sliceVal, sliceTy, slice-vals, MutSlice, ShrSlice, Room, mut-slice-tells, shr-slice-tells, shr-slice-copy, Signature, plain, shrRefTo, shrSliceOf, owned, peeks, heard, nothing, layout, row, shape, onEntry, Meets, tripleOf, Contract, Triple, calls-at, entered, cited, Ended, Clauses, Lasts, closing, ensured, lasts, Stays, stay-slice, stay-dropped, says, needs, walkOf, goes-slice, goes-dropped, ends-at, walked, walk-meets, yes}
-use Rattle.lent.proofs.Walk.{tablesOf}
-use denote.Struct.Laws as LL
-use Rattle.lent.proofs.Words.{Word, Data, by-value, unsigned, void, usize-part, passed}
-use Rattle.lent.proofs.Outcomes.{Outcome, whole}
-use Rattle.lent.proofs.Again.{LentAgain, lends-again, comes-back}
-use Rattle.lent.proofs.Loop.{tests, repeats}
+use Rattle.lent.proofs.Thin.{_≡_, refl, sym, subst, _∙_, ℕ, _+_, _-_, _≤_, _<_, suc, zero, List, [], _∷_, length, URA, Name, Fn, opdUnit, tyUnit, tyBool, tyInt, tyRef, erased, mut, w8, w64, ent, emp, Model, Routine, Env, Heap, GhostRules, Running, fmOf, !, u8, pointee, sliceTy, row, Data, by-value, unsigned, usize-part, Outcome, whole, Form, form, silent, by, ref, slice, slicemut, Over, Lefts, is-part, owed-of, is-unit, is-length, typed-of, part, unit, sets, slices, relends, returned, learns, nothing-more, val, share, shares, gives, calls, turns, next, times, last-turn, Ending, finish, takes, Asking, Giving, Saying, Each, callee, function, given-that, thin, loc, fld, set, invoke, point-in, slice-of, up-to, Job, Proven, lawful-over}
 
 module _ (Nets S E : Data) (J : Outcome (usize-part ∷ usize-part ∷ [])) where
-  abbrev RNets : RattleType
-  RNets = row (Nets .S)
-
-  abbrev RS : RattleType
-  RS = row (S .S)
-
-  abbrev RE : RattleType
-  RE = row (E .S)
-
-  abbrev XNets : Word
-  XNets = by-value Nets
-
-  abbrev XS : Word
-  XS = by-value S
-
-  abbrev XE : Word
-  XE = by-value E
-
-  abbrev XJ : Word
-  XJ = by-value (whole J)
-
   abbrev first : J .form .D → ℕ
   first w = J .form .read w .0
 
   abbrev end : J .form .D → ℕ
   end w = J .form .read w .1 .0
 
-  abbrev signature₁ : Signature
-  signature₁ = record { lifetimes = 6; outlives = []; params = RefOf (0 ∷ []) tt (plain (λ _. RNets)) (λ _. tt) ∷ SliceRefMutOf (1 ∷ []) tt (plain (λ _. RS)) (λ _. tt) ∷ SliceRefOf (2 ∷ []) tt (plain (λ _. u8)) (λ _. tt) ∷ SliceRefMutOf (3 ∷ []) tt (plain (λ _. RE)) (λ _. tt) ∷ SliceRefOf (4 ∷ []) tt (plain (λ _. u8)) (λ _. tt) ∷ SliceRefMutOf (5 ∷ []) tt (plain (λ _. u8)) (λ _. tt) ∷ plain (λ _. (unsigned w64) .row) ∷ plain (λ _. XJ .row) ∷ []; result = plain (λ _. void .row) }
+  abbrev form₁ : Form
+  form₁ = silent (ref Nets ∷ slicemut (row (S .S)) ∷ slice u8 ∷ slicemut (row (E .S)) ∷ slice u8 ∷ slicemut u8 ∷ by (unsigned w64) ∷ by (by-value (whole J)) ∷ [])
 
-  abbrev ended₁ : Ended
-  ended₁ = record { signature = signature₁; kept = (yes, (yes, (yes, (yes, (yes, (yes, (yes, (yes, tt)))))))) }
+  abbrev form₀ : Form
+  form₀ = silent (ref Nets ∷ slicemut (row (S .S)) ∷ slice u8 ∷ slicemut (row (E .S)) ∷ slice u8 ∷ slicemut u8 ∷ by (by-value (whole J)) ∷ [])
 
-  abbrev signature : Signature
-  signature = record { lifetimes = 6; outlives = []; params = RefOf (0 ∷ []) tt (plain (λ _. RNets)) (λ _. tt) ∷ SliceRefMutOf (1 ∷ []) tt (plain (λ _. RS)) (λ _. tt) ∷ SliceRefOf (2 ∷ []) tt (plain (λ _. u8)) (λ _. tt) ∷ SliceRefMutOf (3 ∷ []) tt (plain (λ _. RE)) (λ _. tt) ∷ SliceRefOf (4 ∷ []) tt (plain (λ _. u8)) (λ _. tt) ∷ SliceRefMutOf (5 ∷ []) tt (plain (λ _. u8)) (λ _. tt) ∷ plain (λ _. XJ .row) ∷ []; result = plain (λ _. void .row) }
-
-  abbrev ended : Ended
-  ended = record { signature = signature; kept = (yes, (yes, (yes, (yes, (yes, (yes, (yes, tt))))))) }
-
-  abbrev turn : Name → Body
-  turn g = seq (assign (place 10 []) (op2 (lt no-sign) (copy (place 9 [])) (copy (place 8 []))))
-      (seq (cond (copy (place 10 [])) skip (exit 1))
-      (seq (assign (place 12 []) (addrOf (place 2 (field 0 ∷ deref (layout (shape (S .S))) ∷ []))))
-      (seq (assign (place 13 []) (aggregate (copy (place 12 []) ∷ copy (place 2 (field 1 ∷ [])) ∷ [])))
-      (seq (assign (place 14 []) (addrOf (place 4 (field 0 ∷ deref (layout (shape (E .S))) ∷ []))))
-      (seq (assign (place 15 []) (aggregate (copy (place 14 []) ∷ copy (place 4 (field 1 ∷ [])) ∷ [])))
-      (seq (assign (place 16 []) (addrOf (place 6 (field 0 ∷ deref (tyInt w8) ∷ []))))
-      (seq (assign (place 17 []) (aggregate (copy (place 16 []) ∷ copy (place 6 (field 1 ∷ [])) ∷ [])))
-      (seq (call g (copy (place 1 []) ∷ copy (place 13 []) ∷ copy (place 3 []) ∷ copy (place 15 []) ∷ copy (place 5 []) ∷ copy (place 17 []) ∷ copy (place 9 []) ∷ copy (place 7 []) ∷ []) (place 11 []))
-      (assign (place 9 []) (op2 (add no-sign) (copy (place 9 [])) (int w64 1)))))))))))
-
-  abbrev rest : Body
-  rest = seq (assign (place 0 []) (rvOpd opdUnit)) return
-
-  abbrev function : Name → Fn
-  function g = record {
-    lifetimes = 6;
-    outlives = [];
-    params = 7;
-    locals = local (tyUnit) valueLocal ∷ local (tyRef (named 0) imm (pointee (RNets .written))) valueLocal ∷ local (sliceTy (tyRef (named 1) mut (pointee (RS .written)))) valueLocal ∷ local (sliceTy (tyRef (named 2) imm (tyInt w8))) valueLocal ∷ local (sliceTy (tyRef (named 3) mut (pointee (RE .written)))) valueLocal ∷ local (sliceTy (tyRef (named 4) imm (tyInt w8))) valueLocal ∷ local (sliceTy (tyRef (named 5) mut (tyInt w8))) valueLocal ∷ local (XJ .ty) valueLocal ∷ local (tyInt w64) valueLocal ∷ local (tyInt w64) valueLocal ∷ local (tyBool) valueLocal ∷ local (tyUnit) valueLocal ∷ local (tyRef erased mut (pointee (RS .written))) valueLocal ∷ local (sliceTy (tyRef erased mut (pointee (RS .written)))) valueLocal ∷ local (tyRef erased mut (pointee (RE .written))) valueLocal ∷ local (sliceTy (tyRef erased mut (pointee (RE .written)))) valueLocal ∷ local (tyRef erased mut (tyInt w8)) valueLocal ∷ local (sliceTy (tyRef erased mut (tyInt w8))) valueLocal ∷ [];
-    body = seq (assign (place 8 []) (rvOpd (copy (place 7 (field 1 ∷ []))))) (seq (assign (place 9 []) (rvOpd (copy (place 7 (field 0 ∷ []))))) (seq (block (loop (turn g))) rest));
-  }
-
-  abbrev stayed : Stays (ended .signature .params) (ended .kept)
-  stayed = (stay-dropped (shrRefTo (0 ∷ []) tt (plain (λ _. RNets))) yes, (stay-slice (1 ∷ []) tt (plain (λ _. RS)), (stay-dropped (shrSliceOf (2 ∷ []) tt (plain (λ _. u8))) yes, (stay-slice (3 ∷ []) tt (plain (λ _. RE)), (stay-dropped (shrSliceOf (4 ∷ []) tt (plain (λ _. u8))) yes, (stay-slice (5 ∷ []) tt (plain (λ _. u8)), (stay-dropped (plain (λ _. XJ .row)) yes, tt)))))))
+  abbrev code : Name → Fn
+  code g₁ = thin form₀ (tyInt w64 ∷ tyInt w64 ∷ tyBool ∷ tyUnit ∷ tyRef erased mut (pointee (row (S .S) .written)) ∷ sliceTy (tyRef erased mut (pointee (row (S .S) .written))) ∷ tyRef erased mut (pointee (row (E .S) .written)) ∷ sliceTy (tyRef erased mut (pointee (row (E .S) .written))) ∷ tyRef erased mut (tyInt w8) ∷ sliceTy (tyRef erased mut (tyInt w8)) ∷ [])
+      (set 8 (fld 7 1) ∷ set 9 (fld 7 0) ∷
+      up-to 10 9 8 (point-in 12 2 (by-value S .ty) ∷ slice-of 13 12 2 ∷ point-in 14 4 (by-value E .ty) ∷ slice-of 15 14 4 ∷ point-in 16 6 (tyInt w8) ∷ slice-of 17 16 6 ∷ invoke g₁ (loc 1 ∷ loc 13 ∷ loc 3 ∷ loc 15 ∷ loc 5 ∷ loc 17 ∷ loc 9 ∷ loc 7 ∷ []) 11 ∷ []) ∷
+      set 0 opdUnit ∷ [])
 
   -- a turn as a function
-  module _ (step : Nets .S .D → List (S .S .D) → List (ℕ) → List (E .S .D) → List (ℕ) → List (ℕ) → ℕ → J .form .D → (List (S .S .D) × (List (E .S .D) × (List (ℕ) × Unit {0})))) (nets : Nets .S .D) (hosts : List (S .S .D)) (octets : List (ℕ)) (run : List (E .S .D)) (slots : List (ℕ)) (answers : List (ℕ)) (w : J .form .D) where
-    abbrev pub After : ℕ → List (S .S .D) × (List (E .S .D) × (List (ℕ) × Unit {0}))
+  module _ (step : Over (takes form₁) (Lefts (takes form₁))) (nets : Nets .S .D) (hosts : List (S .S .D)) (octets : List (ℕ)) (run : List (E .S .D)) (slots : List (ℕ)) (answers : List (ℕ)) (w : J .form .D) where
+    abbrev pub After : ℕ → Lefts (takes form₁)
     After zero = (hosts, (run, (answers, tt)))
     After (suc n) = step nets (After n .0) octets (After n .1 .0) slots (After n .1 .1 .0) (first w + n) w
 
-  -- what a turn asks and says, and what the loop asks and says
-  module _ {M : Type 1} (𝓤 : URA M) (H : Heap 𝓤) (A : Atoms 𝓤) (step : Nets .S .D → List (S .S .D) → List (ℕ) → List (E .S .D) → List (ℕ) → List (ℕ) → ℕ → J .form .D → (List (S .S .D) × (List (E .S .D) × (List (ℕ) × Unit {0})))) (asks : Nets .S .D → List (S .S .D) → List (ℕ) → List (E .S .D) → List (ℕ) → List (ℕ) → ℕ → J .form .D → SProp 𝓤) (gives : Nets .S .D → List (S .S .D) → List (ℕ) → List (E .S .D) → List (ℕ) → List (ℕ) → ℕ → J .form .D → List (S .S .D) → List (E .S .D) → List (ℕ) → Type 0) (Asks : Nets .S .D → List (S .S .D) → List (ℕ) → List (E .S .D) → List (ℕ) → List (ℕ) → J .form .D → Type 0) (Says : Nets .S .D → List (S .S .D) → List (ℕ) → List (E .S .D) → List (ℕ) → List (ℕ) → J .form .D → List (S .S .D) → List (E .S .D) → List (ℕ) → Type 0) where
-    abbrev clauses₁ : Clauses 𝓤 ended₁
-    clauses₁ = λ κs a. record { ghost = Unit {0}; requires = λ _. asks (a .0 .now) (a .1 .0 .now) (a .1 .1 .0 .now) (a .1 .1 .1 .0 .now) (a .1 .1 .1 .1 .0 .now) (a .1 .1 .1 .1 .1 .0 .now) (a .1 .1 .1 .1 .1 .1 .0) (a .1 .1 .1 .1 .1 .1 .1 .0); ensures = λ _ r e. fact 𝓤 (gives (a .0 .now) (a .1 .0 .now) (a .1 .1 .0 .now) (a .1 .1 .1 .0 .now) (a .1 .1 .1 .1 .0 .now) (a .1 .1 .1 .1 .1 .0 .now) (a .1 .1 .1 .1 .1 .1 .0) (a .1 .1 .1 .1 .1 .1 .1 .0) (e .1 .0 .now) (e .1 .1 .1 .0 .now) (e .1 .1 .1 .1 .1 .0 .now)) }
+  module _ {M : Type 1} (𝓤 : URA M) (H : Heap 𝓤) (𝓜 : Model 𝓤 H) (𝓖 : GhostRules 𝓤 H) (𝓡 : Running 𝓤 H 𝓜) (step : Over (takes form₁) (Lefts (takes form₁))) (asks₁ : Asking form₁ 𝓤) (gives₁ : Giving form₁) (Asks : Over (takes form₀) (Type 0)) (Says : Saying form₀)
+      (steps : Each (takes form₁) (λ nets hosts octets run slots answers i w. (hosts′ : List (S .S .D)) (run′ : List (E .S .D)) (answers′ : List (ℕ)) → gives₁ nets hosts octets run slots answers i w hosts′ run′ answers′ → (hosts′, (run′, (answers′, tt))) ≡ step nets hosts octets run slots answers i w))
+      (fits : Each (takes form₀) (λ nets hosts octets run slots answers w. Asks nets hosts octets run slots answers w → first w ≤ end w))
+      (ok : Each (takes form₀) (λ nets hosts octets run slots answers w. Asks nets hosts octets run slots answers w → (n : ℕ) → first w + n < end w → length (After step nets hosts octets run slots answers w n .0) ≡ length hosts → length (After step nets hosts octets run slots answers w n .1 .0) ≡ length run → length (After step nets hosts octets run slots answers w n .1 .1 .0) ≡ length answers → ent 𝓤 (emp 𝓤) (asks₁ nets (After step nets hosts octets run slots answers w n .0) octets (After step nets hosts octets run slots answers w n .1 .0) slots (After step nets hosts octets run slots answers w n .1 .1 .0) (first w + n) w)))
+      (then : Each (takes form₀) (λ nets hosts octets run slots answers w. Asks nets hosts octets run slots answers w → Says nets hosts octets run slots answers w (After step nets hosts octets run slots answers w (end w - first w) .0) (After step nets hosts octets run slots answers w (end w - first w) .1 .0) (After step nets hosts octets run slots answers w (end w - first w) .1 .1 .0)))
+      (γ : Env) (f g₁ : Name) (r₁ : Routine) where
+    abbrev job : Job 𝓤
+    job = record { code = code g₁; itself = given-that 𝓤 form₀ Asks Says; calls = (g₁, r₁, callee 𝓤 form₁ asks₁ gives₁) ∷ [] }
 
-    abbrev clauses : Clauses 𝓤 ended
-    clauses = λ κs a. record { ghost = Unit {0}; requires = λ _. fact 𝓤 (Asks (a .0 .now) (a .1 .0 .now) (a .1 .1 .0 .now) (a .1 .1 .1 .0 .now) (a .1 .1 .1 .1 .0 .now) (a .1 .1 .1 .1 .1 .0 .now) (a .1 .1 .1 .1 .1 .1 .0)); ensures = λ _ r e. fact 𝓤 (Says (a .0 .now) (a .1 .0 .now) (a .1 .1 .0 .now) (a .1 .1 .1 .0 .now) (a .1 .1 .1 .1 .0 .now) (a .1 .1 .1 .1 .1 .0 .now) (a .1 .1 .1 .1 .1 .1 .0) (e .1 .0 .now) (e .1 .1 .1 .0 .now) (e .1 .1 .1 .1 .1 .0 .now)) }
-
-    abbrev Turn : Contract 𝓤
-    Turn = tripleOf 𝓤 H A signature₁ (closing 𝓤 H A ended₁ clauses₁)
-
-    module _ (W : Given 𝓤 H A)
-        (steps : (nets : Nets .S .D) (hosts : List (S .S .D)) (octets : List (ℕ)) (run : List (E .S .D)) (slots : List (ℕ)) (answers : List (ℕ)) (i : ℕ) (w : J .form .D) (hosts′ : List (S .S .D)) (run′ : List (E .S .D)) (answers′ : List (ℕ)) → gives nets hosts octets run slots answers i w hosts′ run′ answers′ → (hosts′, (run′, (answers′, tt))) ≡ step nets hosts octets run slots answers i w)
-        (fits : (nets : Nets .S .D) (hosts : List (S .S .D)) (octets : List (ℕ)) (run : List (E .S .D)) (slots : List (ℕ)) (answers : List (ℕ)) (w : J .form .D) → Asks nets hosts octets run slots answers w → first w ≤ end w)
-        (ok : (nets : Nets .S .D) (hosts : List (S .S .D)) (octets : List (ℕ)) (run : List (E .S .D)) (slots : List (ℕ)) (answers : List (ℕ)) (w : J .form .D) → Asks nets hosts octets run slots answers w → (n : ℕ) → first w + n < end w → length (After step nets hosts octets run slots answers w n .0) ≡ length hosts → length (After step nets hosts octets run slots answers w n .1 .0) ≡ length run → length (After step nets hosts octets run slots answers w n .1 .1 .0) ≡ length answers → ent 𝓤 (emp 𝓤) (asks nets (After step nets hosts octets run slots answers w n .0) octets (After step nets hosts octets run slots answers w n .1 .0) slots (After step nets hosts octets run slots answers w n .1 .1 .0) (first w + n) w))
-        (then : (nets : Nets .S .D) (hosts : List (S .S .D)) (octets : List (ℕ)) (run : List (E .S .D)) (slots : List (ℕ)) (answers : List (ℕ)) (w : J .form .D) → Asks nets hosts octets run slots answers w → Says nets hosts octets run slots answers w (After step nets hosts octets run slots answers w (end w - first w) .0) (After step nets hosts octets run slots answers w (end w - first w) .1 .0) (After step nets hosts octets run slots answers w (end w - first w) .1 .1 .0))
-        (κ₀ κ₁ κ₂ κ₃ κ₄ κ₅ : Lft) (q₀ q₁ q₂ q₃ q₄ q₅ : Share) (b₀ o₀ b₁ o₁ b₂ o₂ b₃ o₃ b₄ o₄ b₅ o₅ : ℕ) (γ₀ γ₁ γ₂ γ₃ γ₄ γ₅ : GName) (nets : Nets .S .D) (hosts : List (S .S .D)) (octets : List (ℕ)) (run : List (E .S .D)) (slots : List (ℕ)) (answers : List (ℕ)) (w : J .form .D)
-        (room-hosts : Room RS (length hosts)) (room-octets : Room u8 (length octets)) (room-run : Room RE (length run)) (room-slots : Room u8 (length slots)) (room-answers : Room u8 (length answers)) (w-is : Is (XJ .row) w (XJ .val w ∷ [])) (asked : Asks nets hosts octets run slots answers w) where
-      abbrev ref₀ : GName → Nets .S .D → RefT (Nets .S .D)
-      ref₀ γ x = record { ptr = (b₀, o₀); name = γ; now = x }
-
-      abbrev ref₁ : GName → List (S .S .D) → RefT (List (S .S .D))
-      ref₁ γ x = record { ptr = (b₁, o₁); name = γ; now = x }
-
-      abbrev ref₂ : GName → List (ℕ) → RefT (List (ℕ))
-      ref₂ γ x = record { ptr = (b₂, o₂); name = γ; now = x }
-
-      abbrev ref₃ : GName → List (E .S .D) → RefT (List (E .S .D))
-      ref₃ γ x = record { ptr = (b₃, o₃); name = γ; now = x }
-
-      abbrev ref₄ : GName → List (ℕ) → RefT (List (ℕ))
-      ref₄ γ x = record { ptr = (b₄, o₄); name = γ; now = x }
-
-      abbrev ref₅ : GName → List (ℕ) → RefT (List (ℕ))
-      ref₅ γ x = record { ptr = (b₅, o₅); name = γ; now = x }
-
-      abbrev hosts-at : ℕ → List (S .S .D)
-      hosts-at k = (After step nets hosts octets run slots answers w k .0)
-
-      abbrev run-at : ℕ → List (E .S .D)
-      run-at k = (After step nets hosts octets run slots answers w k .1 .0)
-
-      abbrev answers-at : ℕ → List (ℕ)
-      answers-at k = (After step nets hosts octets run slots answers w k .1 .1 .0)
-
-      abbrev n : ℕ
-      n = end w - first w
-
-      abbrev place-of : ℕ → ℕ
-      place-of k = first w + k
-
-      abbrev x : RefT (Nets .S .D) × (RefT (List (S .S .D)) × (RefT (List (ℕ)) × (RefT (List (E .S .D)) × (RefT (List (ℕ)) × (RefT (List (ℕ)) × (J .form .D × Unit {0}))))))
-      x = (ref₀ γ₀ nets, (ref₁ γ₁ hosts, (ref₂ γ₂ octets, (ref₃ γ₃ run, (ref₄ γ₄ slots, (ref₅ γ₅ answers, (w, tt)))))))
-
-      abbrev at : List Val × (List Val × (List Val × (List Val × (List Val × (List Val × (List Val × Unit {0}))))))
-      at = (vptr b₀ o₀ ∷ [], (slice-vals (ref₁ γ₁ hosts), (slice-vals (ref₂ γ₂ octets), (slice-vals (ref₃ γ₃ run), (slice-vals (ref₄ γ₄ slots), (slice-vals (ref₅ γ₅ answers), (XJ .val w ∷ [], tt)))))))
-
-      abbrev Post : Val → SProp 𝓤
-      Post = walkOf 𝓤 H A ended stayed clauses .post (((κ₀, (κ₁, (κ₂, (κ₃, (κ₄, (κ₅, tt)))))), (q₀, (q₁, (q₂, (q₃, (q₄, (q₅, tt)))))), tt, x, at), tt)
-
-      exits : length (hosts-at n) ≡ length hosts → length (run-at n) ≡ length run → length (answers-at n) ≡ length answers → ent 𝓤 (⋆ 𝓤 H A (‵ (MutSlice (named 1) κ₁ RS .own (ref₁ γ₁ (hosts-at n)) (sliceVal (b₁, o₁) (length (hosts-at n)) ∷ [])) ∷ ‵ (MutSlice (named 3) κ₃ RE .own (ref₃ γ₃ (run-at n)) (sliceVal (b₃, o₃) (length (run-at n)) ∷ [])) ∷ ‵ (MutSlice (named 5) κ₅ u8 .own (ref₅ γ₅ (answers-at n)) (sliceVal (b₅, o₅) (length (answers-at n)) ∷ [])) ∷ ‵ (flft κ₀ q₀) ∷ ‵ (flft κ₁ q₁) ∷ ‵ (flft κ₂ q₂) ∷ ‵ (flft κ₃ q₃) ∷ ‵ (flft κ₄ q₄) ∷ ‵ (flft κ₅ q₅) ∷ [])) (Post vunit)
-      exits len-hosts len-run len-answers =
-          qed W (‵ (MutSlice (named 1) κ₁ RS .own (ref₁ γ₁ (hosts-at n)) (sliceVal (b₁, o₁) (length (hosts-at n)) ∷ [])) ∷ ‵ (MutSlice (named 3) κ₃ RE .own (ref₃ γ₃ (run-at n)) (sliceVal (b₃, o₃) (length (run-at n)) ∷ [])) ∷ ‵ (MutSlice (named 5) κ₅ u8 .own (ref₅ γ₅ (answers-at n)) (sliceVal (b₅, o₅) (length (answers-at n)) ∷ [])) ∷ ‵ (flft κ₀ q₀) ∷ ‵ (flft κ₁ q₁) ∷ ‵ (flft κ₂ q₂) ∷ ‵ (flft κ₃ q₃) ∷ ‵ (flft κ₄ q₄) ∷ ‵ (flft κ₅ q₅) ∷ []) ∵
-          suffices ! _ (ends-at 𝓤 H A ended stayed clauses W (((κ₀, (κ₁, (κ₂, (κ₃, (κ₄, (κ₅, tt)))))), (q₀, (q₁, (q₂, (q₃, (q₄, (q₅, tt)))))), tt, x, at), tt) vunit tt (tt, (hosts-at n, (tt, (run-at n, (tt, (answers-at n, (XJ .last w, tt))))))) (tt, (len-hosts, (tt, (len-run, (tt, (len-answers, (tt, tt)))))))) $ says ! (then nets hosts octets run slots answers w asked) $
-          rewrite ! 0 (λ (m : ℕ). ‵ (MutSlice (named 1) κ₁ RS .own (ref₁ γ₁ (hosts-at n)) (sliceVal (b₁, o₁) m ∷ []))) len-hosts refl $
-          rewrite ! 1 (λ (m : ℕ). ‵ (MutSlice (named 3) κ₃ RE .own (ref₃ γ₃ (run-at n)) (sliceVal (b₃, o₃) m ∷ []))) len-run refl $
-          rewrite ! 2 (λ (m : ℕ). ‵ (MutSlice (named 5) κ₅ u8 .own (ref₅ γ₅ (answers-at n)) (sliceVal (b₅, o₅) m ∷ []))) len-answers refl $ nothing ! $ move ! (9 ∷ 0 ∷ []) $ join ! $ move ! (8 ∷ 0 ∷ []) $
-          join ! $ move ! (7 ∷ 0 ∷ []) $ join ! $ move ! (6 ∷ 0 ∷ []) $ join ! $ move ! (5 ∷ 0 ∷ []) $ join ! $ move ! (4 ∷ 0 ∷ []) $ join ! $ frame ! $ nothing ! $ nothing ! $ fjoin ! $ move ! (3 ∷ 0 ∷ []) $
-          fjoin ! $ nothing ! $ fjoin ! $ move ! (2 ∷ 0 ∷ []) $ fjoin ! $ nothing ! $ fjoin ! $ move ! (1 ∷ 0 ∷ []) $ fjoin ! $ nothing ! $ fjoin ! $ frame ! $
-          owned ! (void .row) (Is (void .row)) (void .makes M 𝓤 H A W) tt (vunit ∷ []) refl $ done !
-
-      module _ (𝓣 : Tables 𝓤 H) (g : Name) (known : Triple 𝓤 (𝓣 .C g) Turn) where
-        abbrev fm : FmC 𝓤 H (W .laws) (𝓣 .C)
-        fm = fmOf 𝓤 H (W .laws) 𝓣
-
-        module _ (z₀ z₁ z₂ z₃ z₄ z₅ z₆ z₇ z₈ z₉ z₁₀ z₁₁ z₁₂ z₁₃ z₁₄ z₁₅ z₁₆ z₁₇ : ℕ) where
-          abbrev En : Locals 𝓤 H
-          En = (tyUnit, z₀) ∷ (tyRef (named 0) imm (pointee (RNets .written)), z₁) ∷ (sliceTy (tyRef (named 1) mut (pointee (RS .written))), z₂) ∷ (sliceTy (tyRef (named 2) imm (tyInt w8)), z₃) ∷ (sliceTy (tyRef (named 3) mut (pointee (RE .written))), z₄) ∷ (sliceTy (tyRef (named 4) imm (tyInt w8)), z₅) ∷ (sliceTy (tyRef (named 5) mut (tyInt w8)), z₆) ∷ (XJ .ty, z₇) ∷ (tyInt w64, z₈) ∷ (tyInt w64, z₉) ∷ (tyBool, z₁₀) ∷ (tyUnit, z₁₁) ∷ (tyRef erased mut (pointee (RS .written)), z₁₂) ∷ (sliceTy (tyRef erased mut (pointee (RS .written))), z₁₃) ∷ (tyRef erased mut (pointee (RE .written)), z₁₄) ∷ (sliceTy (tyRef erased mut (pointee (RE .written))), z₁₅) ∷ (tyRef erased mut (tyInt w8), z₁₆) ∷ (sliceTy (tyRef erased mut (tyInt w8)), z₁₇) ∷ []
-
-          -- at the head of turn k: what is lent, and the locals, the last first
-          abbrev At : ℕ → List (Item 𝓤)
-          At k = ‵ (ShrRef (named 0) κ₀ RNets .own (ref₀ γ₀ nets) (vptr b₀ o₀ ∷ [])) ∷ ‵ (flft κ₀ q₀) ∷ ‵ (MutSlice (named 1) κ₁ RS .own (ref₁ γ₁ (hosts-at k)) (sliceVal (b₁, o₁) (length (hosts-at k)) ∷ [])) ∷ ‵ (flft κ₁ q₁) ∷ ‵ (ShrSlice (named 2) κ₂ u8 .own (ref₂ γ₂ octets) (slice-vals (ref₂ γ₂ octets))) ∷ ‵ (flft κ₂ q₂) ∷ ‵ (MutSlice (named 3) κ₃ RE .own (ref₃ γ₃ (run-at k)) (sliceVal (b₃, o₃) (length (run-at k)) ∷ [])) ∷ ‵ (flft κ₃ q₃) ∷ ‵ (ShrSlice (named 4) κ₄ u8 .own (ref₄ γ₄ slots) (slice-vals (ref₄ γ₄ slots))) ∷ ‵ (flft κ₄ q₄) ∷ ‵ (MutSlice (named 5) κ₅ u8 .own (ref₅ γ₅ (answers-at k)) (sliceVal (b₅, o₅) (length (answers-at k)) ∷ [])) ∷ ‵ (flft κ₅ q₅) ∷ ‵ (froom (sliceTy (tyRef erased mut (tyInt w8))) z₁₇ 0) ∷ ‵ (fdies (sliceTy (tyRef erased mut (tyInt w8))) z₁₇) ∷ ‵ (froom (tyRef erased mut (tyInt w8)) z₁₆ 0) ∷ ‵ (fdies (tyRef erased mut (tyInt w8)) z₁₆) ∷ ‵ (froom (sliceTy (tyRef erased mut (pointee (RE .written)))) z₁₅ 0) ∷ ‵ (fdies (sliceTy (tyRef erased mut (pointee (RE .written)))) z₁₅) ∷ ‵ (froom (tyRef erased mut (pointee (RE .written))) z₁₄ 0) ∷ ‵ (fdies (tyRef erased mut (pointee (RE .written))) z₁₄) ∷ ‵ (froom (sliceTy (tyRef erased mut (pointee (RS .written)))) z₁₃ 0) ∷ ‵ (fdies (sliceTy (tyRef erased mut (pointee (RS .written)))) z₁₃) ∷ ‵ (froom (tyRef erased mut (pointee (RS .written))) z₁₂ 0) ∷ ‵ (fdies (tyRef erased mut (pointee (RS .written))) z₁₂) ∷ ‵ (froom (tyUnit) z₁₁ 0) ∷ ‵ (fdies (tyUnit) z₁₁) ∷ ‵ (froom (tyBool) z₁₀ 0) ∷ ‵ (fdies (tyBool) z₁₀) ∷ ‵ (fat fullShare (tyInt w64) z₉ 0 (vint w64 (place-of k))) ∷ ‵ (fdies (tyInt w64) z₉) ∷ ‵ (fat fullShare (tyInt w64) z₈ 0 (vint w64 (end w))) ∷ ‵ (fdies (tyInt w64) z₈) ∷ ‵ (fat fullShare (XJ .ty) z₇ 0 (XJ .val w)) ∷ ‵ (fdies (XJ .ty) z₇) ∷ ‵ (fat fullShare (sliceTy (tyRef (named 5) mut (tyInt w8))) z₆ 0 (sliceVal (b₅, o₅) (length (answers-at k)))) ∷ ‵ (fdies (sliceTy (tyRef (named 5) mut (tyInt w8))) z₆) ∷ ‵ (fat fullShare (sliceTy (tyRef (named 4) imm (tyInt w8))) z₅ 0 (sliceVal (b₄, o₄) (length slots))) ∷ ‵ (fdies (sliceTy (tyRef (named 4) imm (tyInt w8))) z₅) ∷ ‵ (fat fullShare (sliceTy (tyRef (named 3) mut (pointee (RE .written)))) z₄ 0 (sliceVal (b₃, o₃) (length (run-at k)))) ∷ ‵ (fdies (sliceTy (tyRef (named 3) mut (pointee (RE .written)))) z₄) ∷ ‵ (fat fullShare (sliceTy (tyRef (named 2) imm (tyInt w8))) z₃ 0 (sliceVal (b₂, o₂) (length octets))) ∷ ‵ (fdies (sliceTy (tyRef (named 2) imm (tyInt w8))) z₃) ∷ ‵ (fat fullShare (sliceTy (tyRef (named 1) mut (pointee (RS .written)))) z₂ 0 (sliceVal (b₁, o₁) (length (hosts-at k)))) ∷ ‵ (fdies (sliceTy (tyRef (named 1) mut (pointee (RS .written)))) z₂) ∷ ‵ (fat fullShare (tyRef (named 0) imm (pointee (RNets .written))) z₁ 0 (vptr b₀ o₀)) ∷ ‵ (fdies (tyRef (named 0) imm (pointee (RNets .written))) z₁) ∷ ‵ (froom (tyUnit) z₀ 0) ∷ ‵ (fdies (tyUnit) z₀) ∷ []
-
-          abbrev Ok : ℕ → Type 0
-          Ok k = (k ≤ n) × ((length (hosts-at k) ≡ length hosts) × ((length (run-at k) ≡ length run) × ((length (answers-at k) ≡ length answers) × Unit {0})))
-
-          abbrev Left : Out → SProp 𝓤
-          Left = afterBlock 𝓤 H (afterSeq 𝓤 H (Wp 𝓤 H (𝓣 .C) (𝓣 .Λ) En rest (atReturn 𝓤 H En Post)) (atReturn 𝓤 H En Post))
-
-          turns : (k : ℕ) → Ok k → (X : SProp 𝓤) → ((k′ : ℕ) → Ok k′ → n - k′ < n - k → ent 𝓤 (⋆ 𝓤 H A (At k′)) X) → ent 𝓤 (⋆ 𝓤 H A (At k)) (Wp 𝓤 H (𝓣 .C) (𝓣 .Λ) En (turn g) (afterTurn 𝓤 H X Left))
-          unfolding afterTurn
-          turns k good X again =
-              qed W (At k) ∵ exec ! (𝓣 .C) (𝓣 .Λ) En (turn g) (anyQ (afterTurn 𝓤 H X Left)) $
-              assigns ! (bin ! (load ! (from ! (stop !)) (look ! 28 refl)) (load ! (from ! (stop !)) (look ! 30 refl)) tt) (from ! (stop !)) (init ! 26 refl (tt, tt)) $
-              tests ! (load ! (from ! (stop !)) (look ! 26 refl)) (λ h.
-              -- the turn
-              assigns ! (addr ! (from ! (fld ! refl (hop ! (look-in ! 42 (sub ! 0 refl (whole-part !))) (stop !))))) (from ! (stop !)) (init ! 22 refl (tt, tt)) $
-              assigns ! (agg ! (and-then ! (load ! (from ! (stop !)) (look ! 22 refl)) (and-then ! (load ! (from ! (fld ! refl (stop !))) (look-in ! 42 (sub ! 1 refl (whole-part !)))) (no-more !)))) (from ! (stop !)) (init ! 20 refl (tt, (tt, (record { fits = room-now-hosts .0 }, tt)))) $
-              assigns ! (addr ! (from ! (fld ! refl (hop ! (look-in ! 38 (sub ! 0 refl (whole-part !))) (stop !))))) (from ! (stop !)) (init ! 18 refl (tt, tt)) $
-              assigns ! (agg ! (and-then ! (load ! (from ! (stop !)) (look ! 18 refl)) (and-then ! (load ! (from ! (fld ! refl (stop !))) (look-in ! 38 (sub ! 1 refl (whole-part !)))) (no-more !)))) (from ! (stop !)) (init ! 16 refl (tt, (tt, (record { fits = room-now-run .0 }, tt)))) $
-              assigns ! (addr ! (from ! (fld ! refl (hop ! (look-in ! 34 (sub ! 0 refl (whole-part !))) (stop !))))) (from ! (stop !)) (init ! 14 refl (tt, tt)) $
-              assigns ! (agg ! (and-then ! (load ! (from ! (stop !)) (look ! 14 refl)) (and-then ! (load ! (from ! (fld ! refl (stop !))) (look-in ! 34 (sub ! 1 refl (whole-part !)))) (no-more !)))) (from ! (stop !)) (init ! 12 refl (tt, (tt, (record { fits = room-now-answers .0 }, tt)))) $
-              use1 W (‵ (ShrRef (named 0) κ₀ RNets .own (ref₀ γ₀ nets) (vptr b₀ o₀ ∷ [])) ⊛ ‵ (ShrRef (named 0) κ₀ RNets .own (ref₀ γ₀ nets) (vptr b₀ o₀ ∷ []))) (shr-copy 𝓤 H A W (named 0) κ₀ RNets .twice (ref₀ γ₀ nets) (vptr b₀ o₀ ∷ [])) $
-              split ! $ lft-new ! tt (λ α₁. move ! (4 ∷ 5 ∷ []) $
-              use2 W (later (some (λ (δ₁ : GName). ‵ (MutSlice (named 1) (α₁ ∷ []) RS .own (ref₁ δ₁ (hosts-at k)) (slice-vals (ref₁ δ₁ (hosts-at k)))) ⊛ ‵ (LentAgain RS κ₁ (α₁ ∷ []) q₁ γ₁ b₁ o₁ δ₁ (hosts-at k))))) (lends-again RS κ₁ (α₁ ∷ []) q₁ γ₁ b₁ o₁ 𝓤 H A W (named 1) (named 1) (hosts-at k)) $ await ! tt $
-              pick ! (λ δ₁. split ! $ move ! (6 ∷ []) $
-              use1 W (‵ (ShrSlice (named 2) κ₂ u8 .own (ref₂ γ₂ octets) (slice-vals (ref₂ γ₂ octets))) ⊛ ‵ (ShrSlice (named 2) κ₂ u8 .own (ref₂ γ₂ octets) (slice-vals (ref₂ γ₂ octets)))) (shr-slice-copy 𝓤 H A W (named 2) κ₂ u8 .twice (ref₂ γ₂ octets) (slice-vals (ref₂ γ₂ octets))) $
-              split ! $ lft-new ! tt (λ α₃. move ! (10 ∷ 11 ∷ []) $
-              use2 W (later (some (λ (δ₃ : GName). ‵ (MutSlice (named 3) (α₃ ∷ []) RE .own (ref₃ δ₃ (run-at k)) (slice-vals (ref₃ δ₃ (run-at k)))) ⊛ ‵ (LentAgain RE κ₃ (α₃ ∷ []) q₃ γ₃ b₃ o₃ δ₃ (run-at k))))) (lends-again RE κ₃ (α₃ ∷ []) q₃ γ₃ b₃ o₃ 𝓤 H A W (named 3) (named 3) (run-at k)) $ await ! tt $
-              pick ! (λ δ₃. split ! $ move ! (12 ∷ []) $
-              use1 W (‵ (ShrSlice (named 4) κ₄ u8 .own (ref₄ γ₄ slots) (slice-vals (ref₄ γ₄ slots))) ⊛ ‵ (ShrSlice (named 4) κ₄ u8 .own (ref₄ γ₄ slots) (slice-vals (ref₄ γ₄ slots)))) (shr-slice-copy 𝓤 H A W (named 4) κ₄ u8 .twice (ref₄ γ₄ slots) (slice-vals (ref₄ γ₄ slots))) $
-              split ! $ lft-new ! tt (λ α₅. move ! (16 ∷ 17 ∷ []) $
-              use2 W (later (some (λ (δ₅ : GName). ‵ (MutSlice (named 5) (α₅ ∷ []) u8 .own (ref₅ δ₅ (answers-at k)) (slice-vals (ref₅ δ₅ (answers-at k)))) ⊛ ‵ (LentAgain u8 κ₅ (α₅ ∷ []) q₅ γ₅ b₅ o₅ δ₅ (answers-at k))))) (lends-again u8 κ₅ (α₅ ∷ []) q₅ γ₅ b₅ o₅ 𝓤 H A W (named 5) (named 5) (answers-at k)) $ await ! tt $
-              pick ! (λ δ₅. split ! $ nothing ! $ move ! (3 ∷ 0 ∷ []) $ join ! $ move ! (17 ∷ 0 ∷ []) $ join ! $ move ! (7 ∷ 0 ∷ []) $ join ! $ move ! (15 ∷ 0 ∷ []) $ join ! $ move ! (11 ∷ 0 ∷ []) $ join ! $
-              move ! (13 ∷ 0 ∷ []) $ join ! $ nothing ! $ owned ! (XJ .row) (Is (XJ .row)) (XJ .makes M 𝓤 H A W) w (XJ .val w ∷ []) w-is $ fjoin ! $
-              owned ! ((unsigned w64) .row) (Is ((unsigned w64) .row)) ((unsigned w64) .makes M 𝓤 H A W) (place-of k) (vint w64 (place-of k) ∷ []) (refl, place-fits h) $ fjoin ! $ move ! (2 ∷ 0 ∷ []) $ fjoin ! $
-              move ! (3 ∷ 0 ∷ []) $ fjoin ! $ move ! (4 ∷ 0 ∷ []) $ fjoin ! $ move ! (5 ∷ 0 ∷ []) $ fjoin ! $ move ! (6 ∷ 0 ∷ []) $ fjoin ! $ move ! (7 ∷ 0 ∷ []) $ fjoin ! $
-              use0 W (raw (asks nets (hosts-at k) octets (run-at k) slots (answers-at k) (place-of k) w)) (may h) $ move ! (2 ∷ 1 ∷ 0 ∷ []) $
-              use3 W (raw (Turn .pre (((κ₀, ((α₁ ∷ []), (κ₂, ((α₃ ∷ []), (κ₄, ((α₅ ∷ []), tt)))))), (q₀, (fullShare, (q₂, (fullShare, (q₄, (fullShare, tt)))))), tt, (ref₀ γ₀ nets, (ref₁ δ₁ (hosts-at k), (ref₂ γ₂ octets, (ref₃ δ₃ (run-at k), (ref₄ γ₄ slots, (ref₅ δ₅ (answers-at k), ((place-of k), (w, tt)))))))), (vptr b₀ o₀ ∷ [], (slice-vals (ref₁ δ₁ (hosts-at k)), (slice-vals (ref₂ γ₂ octets), (slice-vals (ref₃ δ₃ (run-at k)), (slice-vals (ref₄ γ₄ slots), (slice-vals (ref₅ δ₅ (answers-at k)), (vint w64 (place-of k) ∷ [], (XJ .val w ∷ [], tt))))))))), tt))) (passed 𝓤 H A signature₁ (κ₀, ((α₁ ∷ []), (κ₂, ((α₃ ∷ []), (κ₄, ((α₅ ∷ []), tt)))))) (q₀, (fullShare, (q₂, (fullShare, (q₄, (fullShare, tt)))))) (ref₀ γ₀ nets, (ref₁ δ₁ (hosts-at k), (ref₂ γ₂ octets, (ref₃ δ₃ (run-at k), (ref₄ γ₄ slots, (ref₅ δ₅ (answers-at k), ((place-of k), (w, tt)))))))) (vptr b₀ o₀ ∷ [], (slice-vals (ref₁ δ₁ (hosts-at k)), (slice-vals (ref₂ γ₂ octets), (slice-vals (ref₃ δ₃ (run-at k)), (slice-vals (ref₄ γ₄ slots), (slice-vals (ref₅ δ₅ (answers-at k)), (vint w64 (place-of k) ∷ [], (XJ .val w ∷ [], tt)))))))) (asks nets (hosts-at k) octets (run-at k) slots (answers-at k) (place-of k) w)) $
-              calls-at ! fm Turn known (((κ₀, ((α₁ ∷ []), (κ₂, ((α₃ ∷ []), (κ₄, ((α₅ ∷ []), tt)))))), (q₀, (fullShare, (q₂, (fullShare, (q₄, (fullShare, tt)))))), tt, (ref₀ γ₀ nets, (ref₁ δ₁ (hosts-at k), (ref₂ γ₂ octets, (ref₃ δ₃ (run-at k), (ref₄ γ₄ slots, (ref₅ δ₅ (answers-at k), ((place-of k), (w, tt)))))))), (vptr b₀ o₀ ∷ [], (slice-vals (ref₁ δ₁ (hosts-at k)), (slice-vals (ref₂ γ₂ octets), (slice-vals (ref₃ δ₃ (run-at k)), (slice-vals (ref₄ γ₄ slots), (slice-vals (ref₅ δ₅ (answers-at k)), (vint w64 (place-of k) ∷ [], (XJ .val w ∷ [], tt))))))))), tt) (and-then ! (load ! (from ! (stop !)) (look ! 39 refl)) (and-then ! (load ! (from ! (stop !)) (look ! 15 refl)) (and-then ! (load ! (from ! (stop !)) (look ! 35 refl)) (and-then ! (load ! (from ! (stop !)) (look ! 11 refl)) (and-then ! (load ! (from ! (stop !)) (look ! 31 refl)) (and-then ! (load ! (from ! (stop !)) (look ! 7 refl)) (and-then ! (load ! (from ! (stop !)) (look ! 23 refl)) (and-then ! (load ! (from ! (stop !)) (look ! 27 refl)) (no-more !))))))))) (λ v.
-              use1 W (later (some (λ (r : void .row .Denot). ((‵ (flft κ₀ q₀) ⊛ ‵ (flft (α₁ ∷ []) fullShare) ⊛ ‵ (flft κ₂ q₂) ⊛ ‵ (flft (α₃ ∷ []) fullShare) ⊛ ‵ (flft κ₄ q₄) ⊛ ‵ (flft (α₅ ∷ []) fullShare) ⊛ ‵ ftrue) ⊛ ‵ (void .row .own r (v ∷ []))) ⊛ raw (ensured 𝓤 H A ended₁ clauses₁ (κ₀, ((α₁ ∷ []), (κ₂, ((α₃ ∷ []), (κ₄, ((α₅ ∷ []), tt)))))) (ref₀ γ₀ nets, (ref₁ δ₁ (hosts-at k), (ref₂ γ₂ octets, (ref₃ δ₃ (run-at k), (ref₄ γ₄ slots, (ref₅ δ₅ (answers-at k), ((place-of k), (w, tt)))))))) tt r)))) (id⊢ 𝓤 _) $ await ! tt $
-              pick ! (λ r. split ! $ split ! $ split ! $ move ! (1 ∷ []) $ split ! $ move ! (1 ∷ []) $ split ! $ move ! (1 ∷ []) $ split ! $ move ! (1 ∷ []) $ split ! $ move ! (1 ∷ []) $ split ! $ move ! (1 ∷ []) $
-              drop ! $ move ! (7 ∷ []) $
-              use1 W (some (λ (ends : Lasts ended₁ (κ₀, ((α₁ ∷ []), (κ₂, ((α₃ ∷ []), (κ₄, ((α₅ ∷ []), tt)))))) (ref₀ γ₀ nets, (ref₁ δ₁ (hosts-at k), (ref₂ γ₂ octets, (ref₃ δ₃ (run-at k), (ref₄ γ₄ slots, (ref₅ δ₅ (answers-at k), ((place-of k), (w, tt))))))))). ‵ (lasts ended₁ (κ₀, ((α₁ ∷ []), (κ₂, ((α₃ ∷ []), (κ₄, ((α₅ ∷ []), tt)))))) (ref₀ γ₀ nets, (ref₁ δ₁ (hosts-at k), (ref₂ γ₂ octets, (ref₃ δ₃ (run-at k), (ref₄ γ₄ slots, (ref₅ δ₅ (answers-at k), ((place-of k), (w, tt)))))))) ends) ⊛ raw (fact 𝓤 (gives nets (hosts-at k) octets (run-at k) slots (answers-at k) (place-of k) w (ends .1 .0) (ends .1 .1 .1 .0) (ends .1 .1 .1 .1 .1 .0))))) (id⊢ 𝓤 _) $
-              pick ! (λ ends. split ! $ move ! (1 ∷ []) $ heard ! (gives nets (hosts-at k) octets (run-at k) slots (answers-at k) (place-of k) w (ends .1 .0) (ends .1 .1 .1 .0) (ends .1 .1 .1 .1 .1 .0)) (λ φ.
-              fsplit ! $ drop ! $ fsplit ! $ fsplit ! $ move ! (1 ∷ []) $ feqL ! (λ len₁. move ! (1 ∷ []) $ fsplit ! $ drop ! $ fsplit ! $ fsplit ! $ move ! (1 ∷ []) $ feqL ! (λ len₃. move ! (1 ∷ []) $ fsplit ! $
-              drop ! $ fsplit ! $ fsplit ! $ move ! (1 ∷ []) $ feqL ! (λ len₅. move ! (1 ∷ []) $ fsplit ! $ drop ! $ fsplit ! $ drop ! $ drop ! $ move ! (9 ∷ []) $
-              peeks ! (void .row) (Is (void .row)) (shows 𝓤 H A (void .row)) r (v ∷ []) (λ r-is. drop ! $ move ! (7 ∷ []) $ lft-end ! tt $ move ! (0 ∷ 13 ∷ 3 ∷ []) $
-              use3 W (later (‵ (MutSlice (named 1) κ₁ RS .own (ref₁ γ₁ (ends .1 .0)) (sliceVal (b₁, o₁) (length (hosts-at k)) ∷ [])) ⊛ ‵ (flft κ₁ q₁))) (comes-back RS κ₁ (α₁ ∷ []) q₁ γ₁ b₁ o₁ 𝓤 H A W (named 1) (named 1) (hosts-at k) δ₁ (ends .1 .0) room-now-hosts len₁) $ await ! tt $
-              split ! $ rewrite ! 44 (λ (m : ℕ). ‵ (fat fullShare (sliceTy (tyRef (named 1) mut (pointee (RS .written)))) z₂ 0 (sliceVal (b₁, o₁) m))) (sym len₁) refl $
-              rewrite ! 0 (λ (m : ℕ). ‵ (MutSlice (named 1) κ₁ RS .own (ref₁ γ₁ (ends .1 .0)) (sliceVal (b₁, o₁) m ∷ []))) (sym len₁) refl $ move ! (6 ∷ []) $ lft-end ! tt $ move ! (0 ∷ 11 ∷ 4 ∷ []) $
-              use3 W (later (‵ (MutSlice (named 3) κ₃ RE .own (ref₃ γ₃ (ends .1 .1 .1 .0)) (sliceVal (b₃, o₃) (length (run-at k)) ∷ [])) ⊛ ‵ (flft κ₃ q₃))) (comes-back RE κ₃ (α₃ ∷ []) q₃ γ₃ b₃ o₃ 𝓤 H A W (named 3) (named 3) (run-at k) δ₃ (ends .1 .1 .1 .0) room-now-run len₃) $ await ! tt $
-              split ! $ rewrite ! 39 (λ (m : ℕ). ‵ (fat fullShare (sliceTy (tyRef (named 3) mut (pointee (RE .written)))) z₄ 0 (sliceVal (b₃, o₃) m))) (sym len₃) refl $
-              rewrite ! 0 (λ (m : ℕ). ‵ (MutSlice (named 3) κ₃ RE .own (ref₃ γ₃ (ends .1 .1 .1 .0)) (sliceVal (b₃, o₃) m ∷ []))) (sym len₃) refl $ move ! (5 ∷ []) $ lft-end ! tt $ move ! (0 ∷ 9 ∷ 5 ∷ []) $
-              use3 W (later (‵ (MutSlice (named 5) κ₅ u8 .own (ref₅ γ₅ (ends .1 .1 .1 .1 .1 .0)) (sliceVal (b₅, o₅) (length (answers-at k)) ∷ [])) ⊛ ‵ (flft κ₅ q₅))) (comes-back u8 κ₅ (α₅ ∷ []) q₅ γ₅ b₅ o₅ 𝓤 H A W (named 5) (named 5) (answers-at k) δ₅ (ends .1 .1 .1 .1 .1 .0) room-now-answers len₅) $ await ! tt $
-              split ! $ rewrite ! 34 (λ (m : ℕ). ‵ (fat fullShare (sliceTy (tyRef (named 5) mut (tyInt w8))) z₆ 0 (sliceVal (b₅, o₅) m))) (sym len₅) refl $
-              rewrite ! 0 (λ (m : ℕ). ‵ (MutSlice (named 5) κ₅ u8 .own (ref₅ γ₅ (ends .1 .1 .1 .1 .1 .0)) (sliceVal (b₅, o₅) m ∷ []))) (sym len₅) refl $
-              land ! (from ! (stop !)) (init ! 24 refl (void .typed M 𝓤 H A W r _ r-is)) $
-              -- the turn is over
-              assigns-last ! (bin ! (load ! (from ! (stop !)) (look ! 28 refl)) (lit ! tt) (record { fits = next-fits h })) (from ! (stop !)) (store ! 28 refl (tt, record { fits = next-fits h })) $
-              forget ! 26 refl $ forget ! 24 refl $ forget ! 22 refl $ forget ! 20 refl $ forget ! 18 refl $ forget ! 16 refl $ forget ! 14 refl $ forget ! 12 refl $
-              rewrite ! 28 (λ (j : ℕ). ‵ (fat fullShare (tyInt w64) z₉ 0 (vint w64 j))) next-is refl $
-              rewrite ! 42 (λ (cs : List (S .S .D)). ‵ (fat fullShare (sliceTy (tyRef (named 1) mut (pointee (RS .written)))) z₂ 0 (sliceVal (b₁, o₁) (length cs)))) (ap (λ (s : List (S .S .D) × (List (E .S .D) × (List (ℕ) × Unit {0}))). s .0) (steps nets (hosts-at k) octets (run-at k) slots (answers-at k) (place-of k) w (ends .1 .0) (ends .1 .1 .1 .0) (ends .1 .1 .1 .1 .1 .0) φ)) refl $
-              rewrite ! 4 (λ (cs : List (S .S .D)). ‵ (MutSlice (named 1) κ₁ RS .own (ref₁ γ₁ cs) (sliceVal (b₁, o₁) (length cs) ∷ []))) (ap (λ (s : List (S .S .D) × (List (E .S .D) × (List (ℕ) × Unit {0}))). s .0) (steps nets (hosts-at k) octets (run-at k) slots (answers-at k) (place-of k) w (ends .1 .0) (ends .1 .1 .1 .0) (ends .1 .1 .1 .1 .1 .0) φ)) refl $
-              rewrite ! 38 (λ (cs : List (E .S .D)). ‵ (fat fullShare (sliceTy (tyRef (named 3) mut (pointee (RE .written)))) z₄ 0 (sliceVal (b₃, o₃) (length cs)))) (ap (λ (s : List (S .S .D) × (List (E .S .D) × (List (ℕ) × Unit {0}))). s .1 .0) (steps nets (hosts-at k) octets (run-at k) slots (answers-at k) (place-of k) w (ends .1 .0) (ends .1 .1 .1 .0) (ends .1 .1 .1 .1 .1 .0) φ)) refl $
-              rewrite ! 2 (λ (cs : List (E .S .D)). ‵ (MutSlice (named 3) κ₃ RE .own (ref₃ γ₃ cs) (sliceVal (b₃, o₃) (length cs) ∷ []))) (ap (λ (s : List (S .S .D) × (List (E .S .D) × (List (ℕ) × Unit {0}))). s .1 .0) (steps nets (hosts-at k) octets (run-at k) slots (answers-at k) (place-of k) w (ends .1 .0) (ends .1 .1 .1 .0) (ends .1 .1 .1 .1 .1 .0) φ)) refl $
-              rewrite ! 34 (λ (cs : List (ℕ)). ‵ (fat fullShare (sliceTy (tyRef (named 5) mut (tyInt w8))) z₆ 0 (sliceVal (b₅, o₅) (length cs)))) (ap (λ (s : List (S .S .D) × (List (E .S .D) × (List (ℕ) × Unit {0}))). s .1 .1 .0) (steps nets (hosts-at k) octets (run-at k) slots (answers-at k) (place-of k) w (ends .1 .0) (ends .1 .1 .1 .0) (ends .1 .1 .1 .1 .1 .0) φ)) refl $
-              rewrite ! 0 (λ (cs : List (ℕ)). ‵ (MutSlice (named 5) κ₅ u8 .own (ref₅ γ₅ cs) (sliceVal (b₅, o₅) (length cs) ∷ []))) (ap (λ (s : List (S .S .D) × (List (E .S .D) × (List (ℕ) × Unit {0}))). s .1 .1 .0) (steps nets (hosts-at k) octets (run-at k) slots (answers-at k) (place-of k) w (ends .1 .0) (ends .1 .1 .1 .0) (ends .1 .1 .1 .1 .1 .0) φ)) refl $
-              move ! (11 ∷ 8 ∷ 4 ∷ 5 ∷ 10 ∷ 7 ∷ 2 ∷ 3 ∷ 9 ∷ 6 ∷ 0 ∷ 1 ∷ 12 ∷ 13 ∷ 14 ∷ 15 ∷ 16 ∷ 17 ∷ 18 ∷ 19 ∷ 20 ∷ 21 ∷ 22 ∷ 23 ∷ 24 ∷ 25 ∷ 26 ∷ 27 ∷ 28 ∷ 29 ∷ 30 ∷ 31 ∷ 32 ∷ 33 ∷ 34 ∷ 35 ∷ 36 ∷ 37 ∷ 38 ∷ 39 ∷ 40 ∷ 41 ∷ 42 ∷ 43 ∷ 44 ∷ 45 ∷ 46 ∷ 47 ∷ []) $
-              by ! (again (suc k) (more h, (ap length (sym (ap (λ (s : List (S .S .D) × (List (E .S .D) × (List (ℕ) × Unit {0}))). s .0) (steps nets (hosts-at k) octets (run-at k) slots (answers-at k) (place-of k) w (ends .1 .0) (ends .1 .1 .1 .0) (ends .1 .1 .1 .1 .1 .0) φ))) ∙ len₁ ∙ (good .1 .0), (ap length (sym (ap (λ (s : List (S .S .D) × (List (E .S .D) × (List (ℕ) × Unit {0}))). s .1 .0) (steps nets (hosts-at k) octets (run-at k) slots (answers-at k) (place-of k) w (ends .1 .0) (ends .1 .1 .1 .0) (ends .1 .1 .1 .1 .1 .0) φ))) ∙ len₃ ∙ (good .1 .1 .0), (ap length (sym (ap (λ (s : List (S .S .D) × (List (E .S .D) × (List (ℕ) × Unit {0}))). s .1 .1 .0) (steps nets (hosts-at k) octets (run-at k) slots (answers-at k) (place-of k) w (ends .1 .0) (ends .1 .1 .1 .0) (ends .1 .1 .1 .1 .1 .0) φ))) ∙ len₅ ∙ (good .1 .1 .1 .0), tt)))) (less h)))))))))))))))))
-              (λ h. rewrite ! 2 (λ (m : ℕ). ‵ (MutSlice (named 1) κ₁ RS .own (ref₁ γ₁ (hosts-at m)) (sliceVal (b₁, o₁) (length (hosts-at m)) ∷ []))) (all h) refl $
-              rewrite ! 6 (λ (m : ℕ). ‵ (MutSlice (named 3) κ₃ RE .own (ref₃ γ₃ (run-at m)) (sliceVal (b₃, o₃) (length (run-at m)) ∷ []))) (all h) refl $
-              rewrite ! 10 (λ (m : ℕ). ‵ (MutSlice (named 5) κ₅ u8 .own (ref₅ γ₅ (answers-at m)) (sliceVal (b₅, o₅) (length (answers-at m)) ∷ []))) (all h) refl $ exec ! (𝓣 .C) (𝓣 .Λ) En rest (atRet En Post) $
-              assigns ! (of-opd ! (unit-lit !)) (from ! (stop !)) (init ! 46 refl (tt, tt)) $ returns ! (look ! 46 refl) $ forget ! 26 refl $ forget ! 28 refl $ forget ! 30 refl $ forget ! 32 refl $
-              forget ! 34 refl $ forget ! 36 refl $ forget ! 38 refl $ forget ! 40 refl $ forget ! 42 refl $ forget ! 44 refl $ forget ! 46 refl $ move ! (46 ∷ 47 ∷ []) $ free1 ! $ move ! (44 ∷ 45 ∷ []) $ free1 ! $
-              move ! (42 ∷ 43 ∷ []) $ free1 ! $ move ! (40 ∷ 41 ∷ []) $ free1 ! $ move ! (38 ∷ 39 ∷ []) $ free1 ! $ move ! (36 ∷ 37 ∷ []) $ free1 ! $ move ! (34 ∷ 35 ∷ []) $ free1 ! $ move ! (32 ∷ 33 ∷ []) $
-              free1 ! $ move ! (30 ∷ 31 ∷ []) $ free1 ! $ move ! (28 ∷ 29 ∷ []) $ free1 ! $ move ! (26 ∷ 27 ∷ []) $ free1 ! $ move ! (24 ∷ 25 ∷ []) $ free1 ! $ move ! (22 ∷ 23 ∷ []) $ free1 ! $
-              move ! (20 ∷ 21 ∷ []) $ free1 ! $ move ! (18 ∷ 19 ∷ []) $ free1 ! $ move ! (16 ∷ 17 ∷ []) $ free1 ! $ move ! (14 ∷ 15 ∷ []) $ free1 ! $ move ! (12 ∷ 13 ∷ []) $ free1 ! $ free0 ! $ drop ! $
-              move ! (3 ∷ []) $ drop ! $ move ! (6 ∷ []) $ drop ! $ move ! (1 ∷ 4 ∷ 7 ∷ 0 ∷ 2 ∷ 3 ∷ 5 ∷ 6 ∷ 8 ∷ []) $
-              by ! (exits (subst (λ (m : ℕ). length (hosts-at m) ≡ length hosts) (all h) (good .1 .0)) (subst (λ (m : ℕ). length (run-at m) ≡ length run) (all h) (good .1 .1 .0)) (subst (λ (m : ℕ). length (answers-at m) ≡ length answers) (all h) (good .1 .1 .1 .0))))
-            where
-              end-fits : end w < 2 ^ 64
-              end-fits = LL.owed (whole J .S) (whole J .L) w _ w-is .1 .0 .1
-
-              room-now-hosts : Room RS (length (hosts-at k))
-              room-now-hosts = subst (Room RS) (sym (good .1 .0)) room-hosts
-
-              room-now-run : Room RE (length (run-at k))
-              room-now-run = subst (Room RE) (sym (good .1 .1 .0)) room-run
-
-              room-now-answers : Room u8 (length (answers-at k))
-              room-now-answers = subst (Room u8) (sym (good .1 .1 .1 .0)) room-answers
-
-              may : T (ltb (place-of k) (end w)) → ent 𝓤 (emp 𝓤) (asks nets (hosts-at k) octets (run-at k) slots (answers-at k) (place-of k) w)
-              may h = ok nets hosts octets run slots answers w asked k (ltb→lt (place-of k) (end w) h) (good .1 .0) (good .1 .1 .0) (good .1 .1 .1 .0)
-
-              place-fits : T (ltb (place-of k) (end w)) → place-of k < 2 ^ 64
-              place-fits h = omega (arith, ltb→lt (place-of k) (end w) h, end-fits)
-
-              next-fits : T (ltb (place-of k) (end w)) → place-of k + 1 < 2 ^ 64
-              next-fits h = omega (arith, ltb→lt (place-of k) (end w) h, end-fits)
-
-              next-is : place-of k + 1 ≡ place-of (suc k)
-              next-is = omega arith
-
-              more : T (ltb (place-of k) (end w)) → suc k ≤ n
-              more h = omega (arith, ltb→lt (place-of k) (end w) h)
-
-              less : T (ltb (place-of k) (end w)) → n - suc k < n - k
-              less h = omega (arith, ltb→lt (place-of k) (end w) h)
-
-              all : T (not (ltb (place-of k) (end w))) → k ≡ n
-              all h = omega (arith, good .0, fits nets hosts octets run slots answers w asked, nltb→le (place-of k) (end w) h)
-
-        walk : ent 𝓤 (onEntry 𝓤 H A signature (κ₀, (κ₁, (κ₂, (κ₃, (κ₄, (κ₅, tt)))))) (q₀, (q₁, (q₂, (q₃, (q₄, (q₅, tt)))))) x at) (WpFn 𝓤 H (𝓣 .C) (𝓣 .Λ) (function g) (vptr b₀ o₀ ∷ sliceVal (b₁, o₁) (length hosts) ∷ sliceVal (b₂, o₂) (length octets) ∷ sliceVal (b₃, o₃) (length run) ∷ sliceVal (b₄, o₄) (length slots) ∷ sliceVal (b₅, o₅) (length answers) ∷ XJ .val w ∷ []) Post)
-        walk =
-            qed W ((‵ (flft κ₀ q₀) ⊛ ‵ (flft κ₁ q₁) ⊛ ‵ (flft κ₂ q₂) ⊛ ‵ (flft κ₃ q₃) ⊛ ‵ (flft κ₄ q₄) ⊛ ‵ (flft κ₅ q₅) ⊛ ‵ ftrue) ∷ ‵ (owns (ShrRef (named 0) κ₀ RNets ∷ MutSlice (named 1) κ₁ RS ∷ ShrSlice (named 2) κ₂ u8 ∷ MutSlice (named 3) κ₃ RE ∷ ShrSlice (named 4) κ₄ u8 ∷ MutSlice (named 5) κ₅ u8 ∷ XJ .row ∷ []) x at) ∷ []) ∵
-            split ! $ move ! (1 ∷ []) $ split ! $ move ! (1 ∷ []) $ split ! $ move ! (1 ∷ []) $ split ! $ move ! (1 ∷ []) $ split ! $ move ! (1 ∷ []) $ split ! $ move ! (1 ∷ []) $ drop ! $ move ! (6 ∷ []) $
-            fsplit ! $ move ! (1 ∷ []) $ fsplit ! $ move ! (1 ∷ []) $ fsplit ! $ move ! (1 ∷ []) $ fsplit ! $ move ! (1 ∷ []) $ fsplit ! $ move ! (1 ∷ []) $ fsplit ! $ move ! (1 ∷ []) $ fsplit ! $ drop ! $
-            drop ! $
-            enter ! (𝓣 .C) (𝓣 .Λ) (function g) (vptr b₀ o₀ ∷ sliceVal (b₁, o₁) (length hosts) ∷ sliceVal (b₂, o₂) (length octets) ∷ sliceVal (b₃, o₃) (length run) ∷ sliceVal (b₄, o₄) (length slots) ∷ sliceVal (b₅, o₅) (length answers) ∷ XJ .val w ∷ []) _ $
-            alloc1 ! (λ z₀. alloc1 ! (λ z₁. alloc1 ! (λ z₂. alloc1 ! (λ z₃. alloc1 ! (λ z₄. alloc1 ! (λ z₅. alloc1 ! (λ z₆. alloc1 ! (λ z₇. alloc1 ! (λ z₈. alloc1 ! (λ z₉. alloc1 ! (λ z₁₀. alloc1 ! (λ z₁₁.
-            alloc1 ! (λ z₁₂. alloc1 ! (λ z₁₃. alloc1 ! (λ z₁₄. alloc1 ! (λ z₁₅. alloc1 ! (λ z₁₆. alloc1 ! (λ z₁₇. alloc0 ! $ params1 ! $ pass1 ! (init ! 32 refl (tt, tt)) $
-            pass1 ! (init ! 30 refl (tt, (tt, (record { fits = room-hosts .0 }, tt)))) $ pass1 ! (init ! 28 refl (tt, (tt, (record { fits = room-octets .0 }, tt)))) $
-            pass1 ! (init ! 26 refl (tt, (tt, (record { fits = room-run .0 }, tt)))) $ pass1 ! (init ! 24 refl (tt, (tt, (record { fits = room-slots .0 }, tt)))) $
-            pass1 ! (init ! 22 refl (tt, (tt, (record { fits = room-answers .0 }, tt)))) $ pass1 ! (init ! 20 refl (XJ .typed M 𝓤 H A W w _ w-is)) $ pass0 ! $
-            assigns ! (of-opd ! (load ! (from ! (fld ! refl (stop !))) (look-in ! 20 (sub ! 1 refl (whole-part !))))) (from ! (stop !)) (init ! 18 refl (tt, record { fits = LL.owed (whole J .S) (whole J .L) w _ w-is .1 .0 .1 })) $
-            assigns ! (of-opd ! (load ! (from ! (fld ! refl (stop !))) (look-in ! 20 (sub ! 0 refl (whole-part !))))) (from ! (stop !)) (init ! 16 refl (tt, record { fits = LL.owed (whole J .S) (whole J .L) w _ w-is .0 .1 })) $
-            rewrite ! 16 (λ (j : ℕ). ‵ (fat fullShare (tyInt w64) z₉ 0 (vint w64 j))) from-first refl $
-            move ! (41 ∷ 47 ∷ 40 ∷ 46 ∷ 39 ∷ 45 ∷ 38 ∷ 44 ∷ 37 ∷ 43 ∷ 36 ∷ 42 ∷ 0 ∷ 1 ∷ 2 ∷ 3 ∷ 4 ∷ 5 ∷ 6 ∷ 7 ∷ 8 ∷ 9 ∷ 10 ∷ 11 ∷ 12 ∷ 13 ∷ 14 ∷ 15 ∷ 16 ∷ 17 ∷ 18 ∷ 19 ∷ 20 ∷ 21 ∷ 22 ∷ 23 ∷ 24 ∷ 25 ∷ 26 ∷ 27 ∷ 28 ∷ 29 ∷ 30 ∷ 31 ∷ 32 ∷ 33 ∷ 34 ∷ 35 ∷ []) $
-            by ! (repeats 𝓤 H A W 𝓣 (En z₀ z₁ z₂ z₃ z₄ z₅ z₆ z₇ z₈ z₉ z₁₀ z₁₁ z₁₂ z₁₃ z₁₄ z₁₅ z₁₆ z₁₇) (turn g) (Left z₀ z₁ z₂ z₃ z₄ z₅ z₆ z₇ z₈ z₉ z₁₀ z₁₁ z₁₂ z₁₃ z₁₄ z₁₅ z₁₆ z₁₇) (At z₀ z₁ z₂ z₃ z₄ z₅ z₆ z₇ z₈ z₉ z₁₀ z₁₁ z₁₂ z₁₃ z₁₄ z₁₅ z₁₆ z₁₇) (Ok z₀ z₁ z₂ z₃ z₄ z₅ z₆ z₇ z₈ z₉ z₁₀ z₁₁ z₁₂ z₁₃ z₁₄ z₁₅ z₁₆ z₁₇) (λ k. n - k) (turns z₀ z₁ z₂ z₃ z₄ z₅ z₆ z₇ z₈ z₉ z₁₀ z₁₁ z₁₂ z₁₃ z₁₄ z₁₅ z₁₆ z₁₇) 0 (omega arith, (refl, (refl, (refl, tt)))))))))))))))))))))))
-          where
-            from-first : first w ≡ place-of 0
-            from-first = omega arith
-
-  module _ {M : Type 1} (𝓤 : URA M) (H : Heap 𝓤) (𝓜 : Model 𝓤 H) (𝓖 : GhostRules 𝓤 H) (𝓡 : Running 𝓤 H 𝓜) (step : Nets .S .D → List (S .S .D) → List (ℕ) → List (E .S .D) → List (ℕ) → List (ℕ) → ℕ → J .form .D → (List (S .S .D) × (List (E .S .D) × (List (ℕ) × Unit {0})))) (asks : Nets .S .D → List (S .S .D) → List (ℕ) → List (E .S .D) → List (ℕ) → List (ℕ) → ℕ → J .form .D → SProp 𝓤) (gives : Nets .S .D → List (S .S .D) → List (ℕ) → List (E .S .D) → List (ℕ) → List (ℕ) → ℕ → J .form .D → List (S .S .D) → List (E .S .D) → List (ℕ) → Type 0) (Asks : Nets .S .D → List (S .S .D) → List (ℕ) → List (E .S .D) → List (ℕ) → List (ℕ) → J .form .D → Type 0) (Says : Nets .S .D → List (S .S .D) → List (ℕ) → List (E .S .D) → List (ℕ) → List (ℕ) → J .form .D → List (S .S .D) → List (E .S .D) → List (ℕ) → Type 0)
-      (steps : (nets : Nets .S .D) (hosts : List (S .S .D)) (octets : List (ℕ)) (run : List (E .S .D)) (slots : List (ℕ)) (answers : List (ℕ)) (i : ℕ) (w : J .form .D) (hosts′ : List (S .S .D)) (run′ : List (E .S .D)) (answers′ : List (ℕ)) → gives nets hosts octets run slots answers i w hosts′ run′ answers′ → (hosts′, (run′, (answers′, tt))) ≡ step nets hosts octets run slots answers i w)
-      (fits : (nets : Nets .S .D) (hosts : List (S .S .D)) (octets : List (ℕ)) (run : List (E .S .D)) (slots : List (ℕ)) (answers : List (ℕ)) (w : J .form .D) → Asks nets hosts octets run slots answers w → first w ≤ end w)
-      (ok : (nets : Nets .S .D) (hosts : List (S .S .D)) (octets : List (ℕ)) (run : List (E .S .D)) (slots : List (ℕ)) (answers : List (ℕ)) (w : J .form .D) → Asks nets hosts octets run slots answers w → (n : ℕ) → first w + n < end w → length (After step nets hosts octets run slots answers w n .0) ≡ length hosts → length (After step nets hosts octets run slots answers w n .1 .0) ≡ length run → length (After step nets hosts octets run slots answers w n .1 .1 .0) ≡ length answers → ent 𝓤 (emp 𝓤) (asks nets (After step nets hosts octets run slots answers w n .0) octets (After step nets hosts octets run slots answers w n .1 .0) slots (After step nets hosts octets run slots answers w n .1 .1 .0) (first w + n) w))
-      (then : (nets : Nets .S .D) (hosts : List (S .S .D)) (octets : List (ℕ)) (run : List (E .S .D)) (slots : List (ℕ)) (answers : List (ℕ)) (w : J .form .D) → Asks nets hosts octets run slots answers w → Says nets hosts octets run slots answers w (After step nets hosts octets run slots answers w (end w - first w) .0) (After step nets hosts octets run slots answers w (end w - first w) .1 .0) (After step nets hosts octets run slots answers w (end w - first w) .1 .1 .0))
-      (γ : Env) (f g : Name) (r : Routine) where
-    abbrev Clauses′ : Clauses 𝓤 ended
-    Clauses′ = clauses 𝓤 H (𝓖 .A) step asks gives Asks Says
-
-    meets : (W : Given 𝓤 H (𝓖 .A)) (𝓣 : Tables 𝓤 H) → Triple 𝓤 (𝓣 .C g) (Turn 𝓤 H (𝓖 .A) step asks gives Asks Says) → Meets 𝓤 H (𝓖 .A) signature (WpFn 𝓤 H (𝓣 .C) (𝓣 .Λ) (function g)) (closing 𝓤 H (𝓖 .A) ended Clauses′)
-    meets W 𝓣 known =
-        walk-meets 𝓤 H (𝓖 .A) ended stayed W
-        (goes-dropped 𝓤 H (𝓖 .A) W 6 (shrRefTo (0 ∷ []) tt (plain (λ _. RNets))) yes (λ κs x f. refl), (goes-slice 𝓤 H (𝓖 .A) W 6 1 tt (plain (λ _. RS)), (goes-dropped 𝓤 H (𝓖 .A) W 6 (shrSliceOf (2 ∷ []) tt (plain (λ _. u8))) yes (λ κs x f. refl), (goes-slice 𝓤 H (𝓖 .A) W 6 3 tt (plain (λ _. RE)), (goes-dropped 𝓤 H (𝓖 .A) W 6 (shrSliceOf (4 ∷ []) tt (plain (λ _. u8))) yes (λ κs x f. refl), (goes-slice 𝓤 H (𝓖 .A) W 6 5 tt (plain (λ _. u8)), (goes-dropped 𝓤 H (𝓖 .A) W 6 (plain (λ _. XJ .row)) yes (λ κs. XJ .silent), tt)))))))
-        Clauses′ (WpFn 𝓤 H (𝓣 .C) (𝓣 .Λ) (function g)) (WpFn-mono 𝓤 H (W .laws) 𝓣 (function g))
-        (walked 𝓤 H (𝓖 .A) ended stayed Clauses′ (WpFn 𝓤 H (𝓣 .C) (𝓣 .Λ) (function g)) (λ κs. (ptr-vals, (slice-vals, (slice-vals, (slice-vals, (slice-vals, (slice-vals, ((λ m. XJ .val m ∷ []), tt)))))))) (λ κs. (shr-tells (named 0) (κs .0) RNets, (mut-slice-tells (named 1) (κs .1 .0) RS, (shr-slice-tells (named 2) (κs .1 .1 .0) u8, (mut-slice-tells (named 3) (κs .1 .1 .1 .0) RE, (shr-slice-tells (named 4) (κs .1 .1 .1 .1 .0) u8, (mut-slice-tells (named 5) (κs .1 .1 .1 .1 .1 .0) u8, (XJ .tells, tt))))))))
-        (λ κs qs bounds a _ are. needs 𝓤 (Asks (a .0 .now) (a .1 .0 .now) (a .1 .1 .0 .now) (a .1 .1 .1 .0 .now) (a .1 .1 .1 .1 .0 .now) (a .1 .1 .1 .1 .1 .0 .now) (a .1 .1 .1 .1 .1 .1 .0)) _ (λ asked.
-        walk 𝓤 H (𝓖 .A) step asks gives Asks Says W steps fits ok then
-        (κs .0) (κs .1 .0) (κs .1 .1 .0) (κs .1 .1 .1 .0) (κs .1 .1 .1 .1 .0) (κs .1 .1 .1 .1 .1 .0) (qs .0) (qs .1 .0) (qs .1 .1 .0) (qs .1 .1 .1 .0) (qs .1 .1 .1 .1 .0) (qs .1 .1 .1 .1 .1 .0) (a .0 .ptr .0) (a .0 .ptr .1) (a .1 .0 .ptr .0) (a .1 .0 .ptr .1) (a .1 .1 .0 .ptr .0) (a .1 .1 .0 .ptr .1) (a .1 .1 .1 .0 .ptr .0) (a .1 .1 .1 .0 .ptr .1) (a .1 .1 .1 .1 .0 .ptr .0) (a .1 .1 .1 .1 .0 .ptr .1) (a .1 .1 .1 .1 .1 .0 .ptr .0) (a .1 .1 .1 .1 .1 .0 .ptr .1) (a .0 .name) (a .1 .0 .name) (a .1 .1 .0 .name) (a .1 .1 .1 .0 .name) (a .1 .1 .1 .1 .0 .name) (a .1 .1 .1 .1 .1 .0 .name) (a .0 .now) (a .1 .0 .now) (a .1 .1 .0 .now) (a .1 .1 .1 .0 .now) (a .1 .1 .1 .1 .0 .now) (a .1 .1 .1 .1 .1 .0 .now) (a .1 .1 .1 .1 .1 .1 .0) (are .1 .0 .0 .1) (are .1 .1 .0 .0 .1) (are .1 .1 .1 .0 .0 .1) (are .1 .1 .1 .1 .0 .0 .1) (are .1 .1 .1 .1 .1 .0 .0 .1) (are .1 .1 .1 .1 .1 .1 .0) asked 𝓣 g known)))
-
-    pub proof : γ g ≡ r → Closed 𝓤 H (tables 𝓤 H 𝓜 𝓡 γ .C) (tables 𝓤 H 𝓜 𝓡 γ .Λ) f (function g) → Triple 𝓤 (𝓡 .run r) (Turn 𝓤 H (𝓖 .A) step asks gives Asks Says)
-        → Meets 𝓤 H (𝓖 .A) signature (𝓡 .run (γ f)) (closing 𝓤 H (𝓖 .A) ended Clauses′)
-    unfolding tablesOf
-    proof calls closed known =
-        entered 𝓤 H (tripleOf 𝓤 H (𝓖 .A) signature (closing 𝓤 H (𝓖 .A) ended Clauses′)) (tables 𝓤 H 𝓜 𝓡 γ .C) (tables 𝓤 H 𝓜 𝓡 γ .Λ) f (function g) closed
-        (meets (givenOf 𝓤 H 𝓜 𝓖) (tablesOf 𝓤 H 𝓜 (tables 𝓤 H 𝓜 𝓡 γ)) (cited 𝓤 H (Turn 𝓤 H (𝓖 .A) step asks gives Asks Says) 𝓜 𝓡 γ g r calls known))
+    pub proof : Proven 𝓤 H 𝓜 𝓖 𝓡 γ f job
+    proof = lawful-over 𝓤 H 𝓜 𝓖 𝓡 γ f job _ refl (λ W 𝓣 (known₁, _) κs qs (nets, (hosts, (octets, (run, (slots, (answers, (w, _))))))) (_, (is-hosts, (is-octets, (is-run, (is-slots, (is-answers, (is-w, _))))))) β Kf done.
+        learns ! 6 (Asks (nets .now) (hosts .now) (octets .now) (run .now) (slots .now) (answers .now) w) refl (λ asked.
+        sets ! (part ! tt refl refl) tt (typed-of W (is-part usize-part (end w) (owed-of J is-w .1 .0))) (
+        sets ! (part ! tt refl refl) tt (typed-of W (is-part usize-part (first w) (owed-of J is-w .0))) (
+        times ! 𝓣 (takes form₁) (λ z. Ending 𝓤 H (𝓖 .A) W (𝓣 .C) (𝓣 .Λ) (job .itself) κs qs (nets, (hosts, (octets, (run, (slots, (answers, (w, tt))))))) [] z []) (After step (nets .now) (hosts .now) (octets .now) (run .now) (slots .now) (answers .now) w) (end w) 9 refl (λ k many long goal leave again.
+        turns ! (first w) (end w) k ((is-part usize-part (end w) (owed-of J is-w .1 .0)) .is .1) refl tt tt tt refl (λ now.
+        slices ! refl tt tt tt refl (is-hosts .0) (
+        slices ! refl tt tt tt refl (is-run .0) (
+        slices ! refl tt tt tt refl (is-answers .0) (
+        relends ! 1 refl (λ α δ.
+        relends ! 4 refl (λ α δ.
+        relends ! 7 refl (λ α δ.
+        calls ! (fmOf 𝓤 H (W .laws) 𝓣) (callee 𝓤 form₁ asks₁ gives₁) known₁ (share ! 0 tt refl (gives ! 0 tt refl (shares ! 1 tt refl (gives ! 1 tt refl (shares ! 2 tt refl (gives ! 2 tt refl (val ! tt refl (is-length (now .1)) (val ! tt refl is-w (nothing-more !))))))))) (ok (nets .now) (hosts .now) (octets .now) (run .now) (slots .now) (answers .now) w asked k (now .0) (long .0) (long .1 .0) (long .1 .1 .0)) tt refl (λ u ws φ _.
+        returned ! 1 refl refl (λ len₀.
+        returned ! 3 refl refl (λ len₁.
+        returned ! 5 refl refl (λ len₂.
+        next ! (first w) k refl tt (now .2) (again (now .3) ((ws .1 .0), ((ws .1 .1 .1 .0), ((ws .1 .1 .1 .1 .1 .0), tt))) (steps (nets .now) (After step (nets .now) (hosts .now) (octets .now) (run .now) (slots .now) (answers .now) w k .0) (octets .now) (After step (nets .now) (hosts .now) (octets .now) (run .now) (slots .now) (answers .now) w k .1 .0) (slots .now) (After step (nets .now) (hosts .now) (octets .now) (run .now) (slots .now) (answers .now) w k .1 .1 .0) (first w + k) w (ws .1 .0) (ws .1 .1 .1 .0) (ws .1 .1 .1 .1 .1 .0) φ) (len₀ ∙ long .0, (len₁ ∙ long .1 .0, (len₂ ∙ long .1 .1 .0, tt))) _ 10 refl))))))))))))
+        (λ h. leave _ _ (sets ! (unit !) tt (tt, tt) (
+        finish ! done tt refl is-unit [] (After step (nets .now) (hosts .now) (octets .now) (run .now) (slots .now) (answers .now) w k) [] refl (subst (λ (m : ℕ). Says (nets .now) (hosts .now) (octets .now) (run .now) (slots .now) (answers .now) w (After step (nets .now) (hosts .now) (octets .now) (run .now) (slots .now) (answers .now) w m .0) (After step (nets .now) (hosts .now) (octets .now) (run .now) (slots .now) (answers .now) w m .1 .0) (After step (nets .now) (hosts .now) (octets .now) (run .now) (slots .now) (answers .now) w m .1 .1 .0)) (sym (last-turn (first w) (end w) k (fits (nets .now) (hosts .now) (octets .now) (run .now) (slots .now) (answers .now) w asked) many h)) (then (nets .now) (hosts .now) (octets .now) (run .now) (slots .now) (answers .now) w asked))))))))))

@@ -1,434 +1,79 @@
 -- The law of a thin function: `fn SetsAt(file: &[u8], nets: &Nets, hosts: &mut [S], octets: &[u8], run: &mut [E], i: usize, w: J) given { let q: Q(D, N, I) = asked(file, i, w); let z: Z = seek(i, q.0); let low: usize = from(i); let high: usize = to(i); let v: B(C, L, F) = look(&hosts, z); let o: P(K, C, L, F) = ask(q.0, nets, q.1, v.0, v.1, v.2, &octets[low..high], run, q.2); let y: Y = stored(i, o); store(hosts, y); }`.
 -- It is one walk of that MIR, for any types and any contracts of the functions that are called. The author shows that each of them is asked for no more than what is known (`ok`), and that what they say comes to what the function says (`then`).
 -- Made by tools/laws/make. Assumes nothing.
-use Rattle.lent.proofs.Walk.{_≡_, refl, sym, ap, ℕ, _+_, _-_, _≤_, arith, List, [], _∷_, length, T, URA, fullShare, Name, Fn, named, erased, mut, imm, tyRef, tyInt, tyPtr, tyUnit, w8, w64, local, valueLocal, place, deref, field, copy, opdUnit, rvOpd, op2, offset, no-sign, addrOf, aggregate, assign, call, seq, return, Val, vptr, vunit, SProp, ent, emp, id⊢, GName, Lft, Share, ftrue, fat, flft, Model, Routine, Env, Heap, Calls, Loops, WpFn, Tables, Closed, Atoms, fact, GhostRules, Running, givenOf, tables, Given, ‵, raw, _⊛_, ⋆, some, later, _$_, _∵_, !, qed, by, move, keep, drop, use0, use1, use2, use3, split, join, pick, rewrite, fsplit, fjoin, feqL, suffices, frame, await, done, look, init, store, forget, stop, hop, fld, from, load, unit-lit, addr, of-opd, bin, and-then, no-more, assigns, land, returns, enter, alloc1, alloc0, params1, pass1, pass0, free1, free0, agg, whole-part, sub, look-in, lft-new, lft-end, FmC, fmOf, WpFn-mono, RattleType, owns, Is, shows, pointee, u8, RefOf, SliceRefOf, SliceRefMutOf, RefT, ShrRef, ptr-vals, shr-tells, shr-copy, sliceVal, sliceTy, slice-vals, MutSlice, ShrSlice, Room, finally, mut-slice-tells, shr-slice-tells, shr-slice-copy, Signature, plain, shrRefTo, shrSliceOf, only, owned, peeks, heard, nothing, layout, row, shape, onEntry, Meets, tripleOf, Contract, Triple, calls-at, entered, cited, Ended, Clauses, Lasts, closing, ensured, lasts, Stays, stay-dropped, gave-slice, says, needs, walkOf, goes-dropped, goes-gave-slice, ends-at, walked, walk-meets, yes}
-use Rattle.lent.proofs.Walk.{tablesOf}
-use denote.Struct.Laws as LL
-use Rattle.lent.proofs.Words.{Word, Data, Part, by-value, unsigned, void, settled, passed}
-use Rattle.lent.proofs.Outcomes.{Outcome, whole}
-use Rattle.lent.proofs.Shared.{Kept, lends-shared, comes-back as shared-back}
-use Rattle.bench_shapes.proofs.Parts.{shares-part}
-use mir.Syntax.{sub as minus}
-use borrow.Rule.Slice.PartMut.{midOf, mid-len}
+use Rattle.lent.proofs.Thin.{refl, _-_, _≤_, List, [], _∷_, length, URA, Name, Fn, opdUnit, tyUnit, tyInt, tyPtr, tyRef, erased, imm, mut, w8, w64, ent, emp, Model, Routine, Env, Heap, GhostRules, Running, !, midOf, u8, pointee, sliceTy, row, Word, Data, Part, by-value, unsigned, Outcome, whole, Form, form, silent, by, ref, slice, slicemut, Over, is-part, owed-of, is-unit, part, unit, sets, points, slices, begins, counts, pairs, fewer, cuts, joined, lends, back, learns, nothing-more, value, val, share, shares, gives, calls, goes, finish, takes, Asking, Giving, Saying, Each, callee, given-that, thin, loc, fld, set, invoke, point, point-in, slice-of, begin-at, count-to, slice-with, Job, Proven, lawful}
 
 module _ (J Z Y : Word) (Nets S E : Data) (D N I C L F K : Part) (Q : Outcome (D ∷ N ∷ I ∷ [])) (B : Outcome (C ∷ L ∷ F ∷ [])) (P : Outcome (K ∷ C ∷ L ∷ F ∷ [])) where
-  abbrev RNets : RattleType
-  RNets = row (Nets .S)
+  abbrev form₁ : Form
+  form₁ = form (slice u8 ∷ by (unsigned w64) ∷ by J ∷ []) (by-value (whole Q))
 
-  abbrev RS : RattleType
-  RS = row (S .S)
+  abbrev form₂ : Form
+  form₂ = form (by (unsigned w64) ∷ by (D .word) ∷ []) Z
 
-  abbrev RE : RattleType
-  RE = row (E .S)
+  abbrev form₃ : Form
+  form₃ = form (by (unsigned w64) ∷ []) (unsigned w64)
 
-  abbrev XNets : Word
-  XNets = by-value Nets
+  abbrev form₄ : Form
+  form₄ = form (by (unsigned w64) ∷ []) (unsigned w64)
 
-  abbrev XS : Word
-  XS = by-value S
+  abbrev form₅ : Form
+  form₅ = form (slice (row (S .S)) ∷ by Z ∷ []) (by-value (whole B))
 
-  abbrev XE : Word
-  XE = by-value E
+  abbrev form₆ : Form
+  form₆ = form (by (D .word) ∷ ref Nets ∷ by (N .word) ∷ by (C .word) ∷ by (L .word) ∷ by (F .word) ∷ slice u8 ∷ slicemut (row (E .S)) ∷ by (I .word) ∷ []) (by-value (whole P))
 
-  abbrev XD : Word
-  XD = D .word
+  abbrev form₇ : Form
+  form₇ = form (by (unsigned w64) ∷ by (by-value (whole P)) ∷ []) Y
 
-  abbrev XN : Word
-  XN = N .word
+  abbrev form₈ : Form
+  form₈ = silent (slicemut (row (S .S)) ∷ by Y ∷ [])
 
-  abbrev XI : Word
-  XI = I .word
+  abbrev form₀ : Form
+  form₀ = silent (slice u8 ∷ ref Nets ∷ slicemut (row (S .S)) ∷ slice u8 ∷ slicemut (row (E .S)) ∷ by (unsigned w64) ∷ by J ∷ [])
 
-  abbrev XC : Word
-  XC = C .word
+  abbrev code : Name → Name → Name → Name → Name → Name → Name → Name → Fn
+  code g₁ g₂ g₃ g₄ g₅ g₆ g₇ g₈ = thin form₀ ((by-value (whole Q)) .ty ∷ Z .ty ∷ (unsigned w64) .ty ∷ (unsigned w64) .ty ∷ (by-value (whole B)) .ty ∷ (by-value (whole P)) .ty ∷ Y .ty ∷ tyRef erased imm (pointee (row (S .S) .written)) ∷ sliceTy (tyRef erased imm (pointee (row (S .S) .written))) ∷ tyPtr ∷ tyInt w64 ∷ tyRef erased imm (tyInt w8) ∷ sliceTy (tyRef erased imm (tyInt w8)) ∷ tyRef erased mut (pointee (row (E .S) .written)) ∷ sliceTy (tyRef erased mut (pointee (row (E .S) .written))) ∷ tyUnit ∷ tyRef erased mut (pointee (row (S .S) .written)) ∷ sliceTy (tyRef erased mut (pointee (row (S .S) .written))) ∷ [])
+      (invoke g₁ (loc 1 ∷ loc 6 ∷ loc 7 ∷ []) 8 ∷ invoke g₂ (loc 6 ∷ fld 8 0 ∷ []) 9 ∷ invoke g₃ (loc 6 ∷ []) 10 ∷ invoke g₄ (loc 6 ∷ []) 11 ∷ point-in 15 3 (by-value S .ty) ∷ slice-of 16 15 3 ∷
+      invoke g₅ (loc 16 ∷ loc 9 ∷ []) 12 ∷ begin-at 17 4 10 ∷ count-to 18 11 10 ∷ point 19 17 (tyInt w8) ∷ slice-with 20 19 18 ∷ point-in 21 5 (by-value E .ty) ∷ slice-of 22 21 5 ∷
+      invoke g₆ (fld 8 0 ∷ loc 2 ∷ fld 8 1 ∷ fld 12 0 ∷ fld 12 1 ∷ fld 12 2 ∷ loc 20 ∷ loc 22 ∷ fld 8 2 ∷ []) 13 ∷ invoke g₇ (loc 6 ∷ loc 13 ∷ []) 14 ∷
+      point-in 24 3 (by-value S .ty) ∷ slice-of 25 24 3 ∷ invoke g₈ (loc 25 ∷ loc 14 ∷ []) 23 ∷ set 0 opdUnit ∷ [])
 
-  abbrev XL : Word
-  XL = L .word
-
-  abbrev XF : Word
-  XF = F .word
-
-  abbrev XK : Word
-  XK = K .word
-
-  abbrev XQ : Word
-  XQ = by-value (whole Q)
-
-  abbrev XB : Word
-  XB = by-value (whole B)
-
-  abbrev XP : Word
-  XP = by-value (whole P)
-
-  abbrev signature₁ : Signature
-  signature₁ = record { lifetimes = 1; outlives = []; params = SliceRefOf (0 ∷ []) tt (plain (λ _. u8)) (λ _. tt) ∷ plain (λ _. (unsigned w64) .row) ∷ plain (λ _. J .row) ∷ []; result = plain (λ _. XQ .row) }
-
-  abbrev ended₁ : Ended
-  ended₁ = record { signature = signature₁; kept = (yes, (yes, (yes, tt))) }
-
-  abbrev signature₂ : Signature
-  signature₂ = record { lifetimes = 0; outlives = []; params = plain (λ _. (unsigned w64) .row) ∷ plain (λ _. XD .row) ∷ []; result = plain (λ _. Z .row) }
-
-  abbrev ended₂ : Ended
-  ended₂ = record { signature = signature₂; kept = (yes, (yes, tt)) }
-
-  abbrev signature₃ : Signature
-  signature₃ = record { lifetimes = 0; outlives = []; params = plain (λ _. (unsigned w64) .row) ∷ []; result = plain (λ _. (unsigned w64) .row) }
-
-  abbrev ended₃ : Ended
-  ended₃ = record { signature = signature₃; kept = (yes, tt) }
-
-  abbrev signature₄ : Signature
-  signature₄ = record { lifetimes = 0; outlives = []; params = plain (λ _. (unsigned w64) .row) ∷ []; result = plain (λ _. (unsigned w64) .row) }
-
-  abbrev ended₄ : Ended
-  ended₄ = record { signature = signature₄; kept = (yes, tt) }
-
-  abbrev signature₅ : Signature
-  signature₅ = record { lifetimes = 1; outlives = []; params = SliceRefOf (0 ∷ []) tt (plain (λ _. RS)) (λ _. tt) ∷ plain (λ _. Z .row) ∷ []; result = plain (λ _. XB .row) }
-
-  abbrev ended₅ : Ended
-  ended₅ = record { signature = signature₅; kept = (yes, (yes, tt)) }
-
-  abbrev signature₆ : Signature
-  signature₆ = record { lifetimes = 3; outlives = []; params = plain (λ _. XD .row) ∷ RefOf (0 ∷ []) tt (plain (λ _. RNets)) (λ _. tt) ∷ plain (λ _. XN .row) ∷ plain (λ _. XC .row) ∷ plain (λ _. XL .row) ∷ plain (λ _. XF .row) ∷ SliceRefOf (1 ∷ []) tt (plain (λ _. u8)) (λ _. tt) ∷ SliceRefMutOf (2 ∷ []) tt (plain (λ _. RE)) (λ _. tt) ∷ plain (λ _. XI .row) ∷ []; result = plain (λ _. XP .row) }
-
-  abbrev ended₆ : Ended
-  ended₆ = record { signature = signature₆; kept = (yes, (yes, (yes, (yes, (yes, (yes, (yes, (yes, (yes, tt))))))))) }
-
-  abbrev signature₇ : Signature
-  signature₇ = record { lifetimes = 0; outlives = []; params = plain (λ _. (unsigned w64) .row) ∷ plain (λ _. XP .row) ∷ []; result = plain (λ _. Y .row) }
-
-  abbrev ended₇ : Ended
-  ended₇ = record { signature = signature₇; kept = (yes, (yes, tt)) }
-
-  abbrev signature₈ : Signature
-  signature₈ = record { lifetimes = 1; outlives = []; params = SliceRefMutOf (0 ∷ []) tt (plain (λ _. RS)) (λ _. tt) ∷ plain (λ _. Y .row) ∷ []; result = plain (λ _. void .row) }
-
-  abbrev ended₈ : Ended
-  ended₈ = record { signature = signature₈; kept = (yes, (yes, tt)) }
-
-  abbrev signature : Signature
-  signature = record { lifetimes = 5; outlives = []; params = SliceRefOf (0 ∷ []) tt (plain (λ _. u8)) (λ _. tt) ∷ RefOf (1 ∷ []) tt (plain (λ _. RNets)) (λ _. tt) ∷ SliceRefMutOf (2 ∷ []) tt (plain (λ _. RS)) (λ _. tt) ∷ SliceRefOf (3 ∷ []) tt (plain (λ _. u8)) (λ _. tt) ∷ SliceRefMutOf (4 ∷ []) tt (plain (λ _. RE)) (λ _. tt) ∷ plain (λ _. (unsigned w64) .row) ∷ plain (λ _. J .row) ∷ []; result = plain (λ _. void .row) }
-
-  abbrev ended : Ended
-  ended = record { signature = signature; kept = (yes, (yes, (yes, (yes, (yes, (yes, (yes, tt))))))) }
-
-  abbrev function : Name → Name → Name → Name → Name → Name → Name → Name → Fn
-  function g₁ g₂ g₃ g₄ g₅ g₆ g₇ g₈ = record {
-    lifetimes = 5;
-    outlives = [];
-    params = 7;
-    locals = local (void .ty) valueLocal ∷ local (sliceTy (tyRef (named 0) imm (tyInt w8))) valueLocal ∷ local (tyRef (named 1) imm (pointee (RNets .written))) valueLocal ∷ local (sliceTy (tyRef (named 2) mut (pointee (RS .written)))) valueLocal ∷ local (sliceTy (tyRef (named 3) imm (tyInt w8))) valueLocal ∷ local (sliceTy (tyRef (named 4) mut (pointee (RE .written)))) valueLocal ∷ local ((unsigned w64) .ty) valueLocal ∷ local (J .ty) valueLocal ∷ local (XQ .ty) valueLocal ∷ local (Z .ty) valueLocal ∷ local ((unsigned w64) .ty) valueLocal ∷ local ((unsigned w64) .ty) valueLocal ∷ local (XB .ty) valueLocal ∷ local (XP .ty) valueLocal ∷ local (Y .ty) valueLocal ∷ local (tyRef erased imm (pointee (RS .written))) valueLocal ∷ local (sliceTy (tyRef erased imm (pointee (RS .written)))) valueLocal ∷ local (tyPtr) valueLocal ∷ local (tyInt w64) valueLocal ∷ local (tyRef erased imm (tyInt w8)) valueLocal ∷ local (sliceTy (tyRef erased imm (tyInt w8))) valueLocal ∷ local (tyRef erased mut (pointee (RE .written))) valueLocal ∷ local (sliceTy (tyRef erased mut (pointee (RE .written)))) valueLocal ∷ local (tyUnit) valueLocal ∷ local (tyRef erased mut (pointee (RS .written))) valueLocal ∷ local (sliceTy (tyRef erased mut (pointee (RS .written)))) valueLocal ∷ [];
-    body = seq (call g₁ (copy (place 1 []) ∷ copy (place 6 []) ∷ copy (place 7 []) ∷ []) (place 8 []))
-        (seq (call g₂ (copy (place 6 []) ∷ copy (place 8 (field 0 ∷ [])) ∷ []) (place 9 []))
-        (seq (call g₃ (copy (place 6 []) ∷ []) (place 10 []))
-        (seq (call g₄ (copy (place 6 []) ∷ []) (place 11 []))
-        (seq (assign (place 15 []) (addrOf (place 3 (field 0 ∷ deref (layout (shape (S .S))) ∷ []))))
-        (seq (assign (place 16 []) (aggregate (copy (place 15 []) ∷ copy (place 3 (field 1 ∷ [])) ∷ [])))
-        (seq (call g₅ (copy (place 16 []) ∷ copy (place 9 []) ∷ []) (place 12 []))
-        (seq (assign (place 17 []) (op2 offset (copy (place 4 (field 0 ∷ []))) (copy (place 10 []))))
-        (seq (assign (place 18 []) (op2 (minus no-sign) (copy (place 11 [])) (copy (place 10 []))))
-        (seq (assign (place 19 []) (addrOf (place 17 (deref (tyInt w8) ∷ []))))
-        (seq (assign (place 20 []) (aggregate (copy (place 19 []) ∷ copy (place 18 []) ∷ [])))
-        (seq (assign (place 21 []) (addrOf (place 5 (field 0 ∷ deref (layout (shape (E .S))) ∷ []))))
-        (seq (assign (place 22 []) (aggregate (copy (place 21 []) ∷ copy (place 5 (field 1 ∷ [])) ∷ [])))
-        (seq (call g₆ (copy (place 8 (field 0 ∷ [])) ∷ copy (place 2 []) ∷ copy (place 8 (field 1 ∷ [])) ∷ copy (place 12 (field 0 ∷ [])) ∷ copy (place 12 (field 1 ∷ [])) ∷ copy (place 12 (field 2 ∷ [])) ∷ copy (place 20 []) ∷ copy (place 22 []) ∷ copy (place 8 (field 2 ∷ [])) ∷ []) (place 13 []))
-        (seq (call g₇ (copy (place 6 []) ∷ copy (place 13 []) ∷ []) (place 14 []))
-        (seq (assign (place 24 []) (addrOf (place 3 (field 0 ∷ deref (layout (shape (S .S))) ∷ []))))
-        (seq (assign (place 25 []) (aggregate (copy (place 24 []) ∷ copy (place 3 (field 1 ∷ [])) ∷ [])))
-        (seq (call g₈ (copy (place 25 []) ∷ copy (place 14 []) ∷ []) (place 23 []))
-        (seq (assign (place 0 []) (rvOpd (opdUnit))) return))))))))))))))))));
-  }
-
-  abbrev stayed : Stays (ended .signature .params) (ended .kept)
-  stayed = (stay-dropped (shrSliceOf (0 ∷ []) tt (plain (λ _. u8))) yes, (stay-dropped (shrRefTo (1 ∷ []) tt (plain (λ _. RNets))) yes, (gave-slice (2 ∷ []) tt (plain (λ _. RS)), (stay-dropped (shrSliceOf (3 ∷ []) tt (plain (λ _. u8))) yes, (gave-slice (4 ∷ []) tt (plain (λ _. RE)), (stay-dropped (plain (λ _. (unsigned w64) .row)) yes, (stay-dropped (plain (λ _. J .row)) yes, tt)))))))
-
-  -- what each callee asks and says, and what the function says
-  module _ {M : Type 1} (𝓤 : URA M) (H : Heap 𝓤) (A : Atoms 𝓤) (asks₁ : List (ℕ) → (unsigned w64) .row .Denot → J .row .Denot → SProp 𝓤) (gives₁ : List (ℕ) → (unsigned w64) .row .Denot → J .row .Denot → XQ .row .Denot → Type 0) (asks₂ : (unsigned w64) .row .Denot → XD .row .Denot → SProp 𝓤) (gives₂ : (unsigned w64) .row .Denot → XD .row .Denot → Z .row .Denot → Type 0) (asks₃ : (unsigned w64) .row .Denot → SProp 𝓤) (gives₃ : (unsigned w64) .row .Denot → (unsigned w64) .row .Denot → Type 0) (asks₄ : (unsigned w64) .row .Denot → SProp 𝓤) (gives₄ : (unsigned w64) .row .Denot → (unsigned w64) .row .Denot → Type 0) (asks₅ : List (S .S .D) → Z .row .Denot → SProp 𝓤) (gives₅ : List (S .S .D) → Z .row .Denot → XB .row .Denot → Type 0) (asks₆ : XD .row .Denot → Nets .S .D → XN .row .Denot → XC .row .Denot → XL .row .Denot → XF .row .Denot → List (ℕ) → List (E .S .D) → XI .row .Denot → SProp 𝓤) (gives₆ : XD .row .Denot → Nets .S .D → XN .row .Denot → XC .row .Denot → XL .row .Denot → XF .row .Denot → List (ℕ) → List (E .S .D) → XI .row .Denot → XP .row .Denot → List (E .S .D) → Type 0) (asks₇ : (unsigned w64) .row .Denot → XP .row .Denot → SProp 𝓤) (gives₇ : (unsigned w64) .row .Denot → XP .row .Denot → Y .row .Denot → Type 0) (asks₈ : List (S .S .D) → Y .row .Denot → SProp 𝓤) (gives₈ : List (S .S .D) → Y .row .Denot → List (S .S .D) → Type 0) (Asks : List (ℕ) → Nets .S .D → List (S .S .D) → List (ℕ) → List (E .S .D) → (unsigned w64) .row .Denot → J .row .Denot → Type 0) (Says : List (ℕ) → Nets .S .D → List (S .S .D) → List (ℕ) → List (E .S .D) → (unsigned w64) .row .Denot → J .row .Denot → List (S .S .D) → List (E .S .D) → Type 0) where
-    abbrev clauses₁ : Clauses 𝓤 ended₁
-    clauses₁ = λ κs a. record { ghost = Unit {0}; requires = λ _. asks₁ (a .0 .now) (a .1 .0) (a .1 .1 .0); ensures = λ _ r e. fact 𝓤 (gives₁ (a .0 .now) (a .1 .0) (a .1 .1 .0) r) }
-
-    abbrev Contract₁ : Contract 𝓤
-    Contract₁ = tripleOf 𝓤 H A signature₁ (closing 𝓤 H A ended₁ clauses₁)
-
-    abbrev clauses₂ : Clauses 𝓤 ended₂
-    clauses₂ = λ κs a. record { ghost = Unit {0}; requires = λ _. asks₂ (a .0) (a .1 .0); ensures = λ _ r e. fact 𝓤 (gives₂ (a .0) (a .1 .0) r) }
-
-    abbrev Contract₂ : Contract 𝓤
-    Contract₂ = tripleOf 𝓤 H A signature₂ (closing 𝓤 H A ended₂ clauses₂)
-
-    abbrev clauses₃ : Clauses 𝓤 ended₃
-    clauses₃ = λ κs a. record { ghost = Unit {0}; requires = λ _. asks₃ (a .0); ensures = λ _ r e. fact 𝓤 (gives₃ (a .0) r) }
-
-    abbrev Contract₃ : Contract 𝓤
-    Contract₃ = tripleOf 𝓤 H A signature₃ (closing 𝓤 H A ended₃ clauses₃)
-
-    abbrev clauses₄ : Clauses 𝓤 ended₄
-    clauses₄ = λ κs a. record { ghost = Unit {0}; requires = λ _. asks₄ (a .0); ensures = λ _ r e. fact 𝓤 (gives₄ (a .0) r) }
-
-    abbrev Contract₄ : Contract 𝓤
-    Contract₄ = tripleOf 𝓤 H A signature₄ (closing 𝓤 H A ended₄ clauses₄)
-
-    abbrev clauses₅ : Clauses 𝓤 ended₅
-    clauses₅ = λ κs a. record { ghost = Unit {0}; requires = λ _. asks₅ (a .0 .now) (a .1 .0); ensures = λ _ r e. fact 𝓤 (gives₅ (a .0 .now) (a .1 .0) r) }
-
-    abbrev Contract₅ : Contract 𝓤
-    Contract₅ = tripleOf 𝓤 H A signature₅ (closing 𝓤 H A ended₅ clauses₅)
-
-    abbrev clauses₆ : Clauses 𝓤 ended₆
-    clauses₆ = λ κs a. record { ghost = Unit {0}; requires = λ _. asks₆ (a .0) (a .1 .0 .now) (a .1 .1 .0) (a .1 .1 .1 .0) (a .1 .1 .1 .1 .0) (a .1 .1 .1 .1 .1 .0) (a .1 .1 .1 .1 .1 .1 .0 .now) (a .1 .1 .1 .1 .1 .1 .1 .0 .now) (a .1 .1 .1 .1 .1 .1 .1 .1 .0); ensures = λ _ r e. fact 𝓤 (gives₆ (a .0) (a .1 .0 .now) (a .1 .1 .0) (a .1 .1 .1 .0) (a .1 .1 .1 .1 .0) (a .1 .1 .1 .1 .1 .0) (a .1 .1 .1 .1 .1 .1 .0 .now) (a .1 .1 .1 .1 .1 .1 .1 .0 .now) (a .1 .1 .1 .1 .1 .1 .1 .1 .0) r (e .1 .1 .1 .1 .1 .1 .1 .0 .now)) }
-
-    abbrev Contract₆ : Contract 𝓤
-    Contract₆ = tripleOf 𝓤 H A signature₆ (closing 𝓤 H A ended₆ clauses₆)
-
-    abbrev clauses₇ : Clauses 𝓤 ended₇
-    clauses₇ = λ κs a. record { ghost = Unit {0}; requires = λ _. asks₇ (a .0) (a .1 .0); ensures = λ _ r e. fact 𝓤 (gives₇ (a .0) (a .1 .0) r) }
-
-    abbrev Contract₇ : Contract 𝓤
-    Contract₇ = tripleOf 𝓤 H A signature₇ (closing 𝓤 H A ended₇ clauses₇)
-
-    abbrev clauses₈ : Clauses 𝓤 ended₈
-    clauses₈ = λ κs a. record { ghost = Unit {0}; requires = λ _. asks₈ (a .0 .now) (a .1 .0); ensures = λ _ r e. fact 𝓤 (gives₈ (a .0 .now) (a .1 .0) (e .0 .now)) }
-
-    abbrev Contract₈ : Contract 𝓤
-    Contract₈ = tripleOf 𝓤 H A signature₈ (closing 𝓤 H A ended₈ clauses₈)
-
-    abbrev clauses : Clauses 𝓤 ended
-    clauses = λ κs a. record { ghost = Unit {0}; requires = λ _. fact 𝓤 (Asks (a .0 .now) (a .1 .0 .now) (a .1 .1 .0 .now) (a .1 .1 .1 .0 .now) (a .1 .1 .1 .1 .0 .now) (a .1 .1 .1 .1 .1 .0) (a .1 .1 .1 .1 .1 .1 .0)); ensures = λ _ r e. fact 𝓤 (Says (a .0 .now) (a .1 .0 .now) (a .1 .1 .0 .now) (a .1 .1 .1 .0 .now) (a .1 .1 .1 .1 .0 .now) (a .1 .1 .1 .1 .1 .0) (a .1 .1 .1 .1 .1 .1 .0) (e .1 .1 .0 .now) (e .1 .1 .1 .1 .0 .now)) }
-
-    module _ (W : Given 𝓤 H A)
-        (ok₁ : (file : List (ℕ)) (nets : Nets .S .D) (hosts : List (S .S .D)) (octets : List (ℕ)) (run : List (E .S .D)) (i : (unsigned w64) .row .Denot) (w : J .row .Denot) → Asks file nets hosts octets run i w → ent 𝓤 (emp 𝓤) (asks₁ file i w))
-        (ok₂ : (file : List (ℕ)) (nets : Nets .S .D) (hosts : List (S .S .D)) (octets : List (ℕ)) (run : List (E .S .D)) (i : (unsigned w64) .row .Denot) (w : J .row .Denot) → Asks file nets hosts octets run i w → (q : XQ .row .Denot) → gives₁ file i w q → ent 𝓤 (emp 𝓤) (asks₂ i (D .res (Q .form .read q .0))))
-        (ok₃ : (file : List (ℕ)) (nets : Nets .S .D) (hosts : List (S .S .D)) (octets : List (ℕ)) (run : List (E .S .D)) (i : (unsigned w64) .row .Denot) (w : J .row .Denot) → Asks file nets hosts octets run i w → (q : XQ .row .Denot) (z : Z .row .Denot) → gives₁ file i w q → gives₂ i (D .res (Q .form .read q .0)) z → ent 𝓤 (emp 𝓤) (asks₃ i))
-        (ok₄ : (file : List (ℕ)) (nets : Nets .S .D) (hosts : List (S .S .D)) (octets : List (ℕ)) (run : List (E .S .D)) (i : (unsigned w64) .row .Denot) (w : J .row .Denot) → Asks file nets hosts octets run i w → (q : XQ .row .Denot) (z : Z .row .Denot) (low : (unsigned w64) .row .Denot) → gives₁ file i w q → gives₂ i (D .res (Q .form .read q .0)) z → gives₃ i low → ent 𝓤 (emp 𝓤) (asks₄ i))
-        (ok₅ : (file : List (ℕ)) (nets : Nets .S .D) (hosts : List (S .S .D)) (octets : List (ℕ)) (run : List (E .S .D)) (i : (unsigned w64) .row .Denot) (w : J .row .Denot) → Asks file nets hosts octets run i w → (q : XQ .row .Denot) (z : Z .row .Denot) (low : (unsigned w64) .row .Denot) (high : (unsigned w64) .row .Denot) → gives₁ file i w q → gives₂ i (D .res (Q .form .read q .0)) z → gives₃ i low → gives₄ i high → ent 𝓤 (emp 𝓤) (asks₅ hosts z))
-        (within₆ : (file : List (ℕ)) (nets : Nets .S .D) (hosts : List (S .S .D)) (octets : List (ℕ)) (run : List (E .S .D)) (i : (unsigned w64) .row .Denot) (w : J .row .Denot) → Asks file nets hosts octets run i w → (q : XQ .row .Denot) (z : Z .row .Denot) (low : (unsigned w64) .row .Denot) (high : (unsigned w64) .row .Denot) (v : XB .row .Denot) → gives₁ file i w q → gives₂ i (D .res (Q .form .read q .0)) z → gives₃ i low → gives₄ i high → gives₅ hosts z v → (low ≤ high) × (high ≤ length octets))
-        (ok₆ : (file : List (ℕ)) (nets : Nets .S .D) (hosts : List (S .S .D)) (octets : List (ℕ)) (run : List (E .S .D)) (i : (unsigned w64) .row .Denot) (w : J .row .Denot) → Asks file nets hosts octets run i w → (q : XQ .row .Denot) (z : Z .row .Denot) (low : (unsigned w64) .row .Denot) (high : (unsigned w64) .row .Denot) (v : XB .row .Denot) → gives₁ file i w q → gives₂ i (D .res (Q .form .read q .0)) z → gives₃ i low → gives₄ i high → gives₅ hosts z v → ent 𝓤 (emp 𝓤) (asks₆ (D .res (Q .form .read q .0)) nets (N .res (Q .form .read q .1 .0)) (C .res (B .form .read v .0)) (L .res (B .form .read v .1 .0)) (F .res (B .form .read v .1 .1 .0)) (midOf low (high - low) octets) run (I .res (Q .form .read q .1 .1 .0))))
-        (ok₇ : (file : List (ℕ)) (nets : Nets .S .D) (hosts : List (S .S .D)) (octets : List (ℕ)) (run : List (E .S .D)) (i : (unsigned w64) .row .Denot) (w : J .row .Denot) → Asks file nets hosts octets run i w → (q : XQ .row .Denot) (z : Z .row .Denot) (low : (unsigned w64) .row .Denot) (high : (unsigned w64) .row .Denot) (v : XB .row .Denot) (o : XP .row .Denot) (run′ : List (E .S .D)) → gives₁ file i w q → gives₂ i (D .res (Q .form .read q .0)) z → gives₃ i low → gives₄ i high → gives₅ hosts z v → gives₆ (D .res (Q .form .read q .0)) nets (N .res (Q .form .read q .1 .0)) (C .res (B .form .read v .0)) (L .res (B .form .read v .1 .0)) (F .res (B .form .read v .1 .1 .0)) (midOf low (high - low) octets) run (I .res (Q .form .read q .1 .1 .0)) o run′ → ent 𝓤 (emp 𝓤) (asks₇ i o))
-        (ok₈ : (file : List (ℕ)) (nets : Nets .S .D) (hosts : List (S .S .D)) (octets : List (ℕ)) (run : List (E .S .D)) (i : (unsigned w64) .row .Denot) (w : J .row .Denot) → Asks file nets hosts octets run i w → (q : XQ .row .Denot) (z : Z .row .Denot) (low : (unsigned w64) .row .Denot) (high : (unsigned w64) .row .Denot) (v : XB .row .Denot) (o : XP .row .Denot) (run′ : List (E .S .D)) (y : Y .row .Denot) → gives₁ file i w q → gives₂ i (D .res (Q .form .read q .0)) z → gives₃ i low → gives₄ i high → gives₅ hosts z v → gives₆ (D .res (Q .form .read q .0)) nets (N .res (Q .form .read q .1 .0)) (C .res (B .form .read v .0)) (L .res (B .form .read v .1 .0)) (F .res (B .form .read v .1 .1 .0)) (midOf low (high - low) octets) run (I .res (Q .form .read q .1 .1 .0)) o run′ → gives₇ i o y → ent 𝓤 (emp 𝓤) (asks₈ hosts y))
-        (then : (file : List (ℕ)) (nets : Nets .S .D) (hosts : List (S .S .D)) (octets : List (ℕ)) (run : List (E .S .D)) (i : (unsigned w64) .row .Denot) (w : J .row .Denot) → Asks file nets hosts octets run i w → (q : XQ .row .Denot) (z : Z .row .Denot) (low : (unsigned w64) .row .Denot) (high : (unsigned w64) .row .Denot) (v : XB .row .Denot) (o : XP .row .Denot) (run′ : List (E .S .D)) (y : Y .row .Denot) (hosts′ : List (S .S .D)) → gives₁ file i w q → gives₂ i (D .res (Q .form .read q .0)) z → gives₃ i low → gives₄ i high → gives₅ hosts z v → gives₆ (D .res (Q .form .read q .0)) nets (N .res (Q .form .read q .1 .0)) (C .res (B .form .read v .0)) (L .res (B .form .read v .1 .0)) (F .res (B .form .read v .1 .1 .0)) (midOf low (high - low) octets) run (I .res (Q .form .read q .1 .1 .0)) o run′ → gives₇ i o y → gives₈ hosts y hosts′ → Says file nets hosts octets run i w hosts′ run′)
-        (κ₀ κ₁ κ₂ κ₃ κ₄ : Lft) (q₀ q₁ q₂ q₃ q₄ : Share) (b₀ o₀ b₁ o₁ b₂ o₂ b₃ o₃ b₄ o₄ : ℕ) (γ₀ γ₁ γ₂ γ₃ γ₄ : GName) (file : List (ℕ)) (nets : Nets .S .D) (hosts : List (S .S .D)) (octets : List (ℕ)) (run : List (E .S .D)) (i : (unsigned w64) .row .Denot) (w : J .row .Denot) where
-      abbrev ref₀ : GName → List (ℕ) → RefT (List (ℕ))
-      ref₀ γ x = record { ptr = (b₀, o₀); name = γ; now = x }
-
-      abbrev ref₁ : GName → Nets .S .D → RefT (Nets .S .D)
-      ref₁ γ x = record { ptr = (b₁, o₁); name = γ; now = x }
-
-      abbrev ref₂ : GName → List (S .S .D) → RefT (List (S .S .D))
-      ref₂ γ x = record { ptr = (b₂, o₂); name = γ; now = x }
-
-      abbrev ref₃ : GName → List (ℕ) → RefT (List (ℕ))
-      ref₃ γ x = record { ptr = (b₃, o₃); name = γ; now = x }
-
-      abbrev ref₄ : GName → List (E .S .D) → RefT (List (E .S .D))
-      ref₄ γ x = record { ptr = (b₄, o₄); name = γ; now = x }
-
-      abbrev x : RefT (List (ℕ)) × (RefT (Nets .S .D) × (RefT (List (S .S .D)) × (RefT (List (ℕ)) × (RefT (List (E .S .D)) × ((unsigned w64) .row .Denot × (J .row .Denot × Unit {0}))))))
-      x = (ref₀ γ₀ file, (ref₁ γ₁ nets, (ref₂ γ₂ hosts, (ref₃ γ₃ octets, (ref₄ γ₄ run, (i, (w, tt)))))))
-
-      abbrev at : List Val × (List Val × (List Val × (List Val × (List Val × (List Val × (List Val × Unit {0}))))))
-      at = (slice-vals (ref₀ γ₀ file), (vptr b₁ o₁ ∷ [], (slice-vals (ref₂ γ₂ hosts), (slice-vals (ref₃ γ₃ octets), (slice-vals (ref₄ γ₄ run), ((unsigned w64) .val i ∷ [], (J .val w ∷ [], tt)))))))
-
-      abbrev Post : Val → SProp 𝓤
-      Post = walkOf 𝓤 H A ended stayed clauses .post (((κ₀, (κ₁, (κ₂, (κ₃, (κ₄, tt))))), (q₀, (q₁, (q₂, (q₃, (q₄, tt))))), tt, x, at), tt)
-
-      exits : (hosts′ : List (S .S .D)) (run′ : List (E .S .D)) (r : void .row .Denot) (v : Val) → length hosts′ ≡ length hosts → length run′ ≡ length run → Says file nets hosts octets run i w hosts′ run′ → ent 𝓤 (⋆ 𝓤 H A (‵ (finally RS γ₂ hosts′) ∷ ‵ (finally RE γ₄ run′) ∷ ‵ (flft κ₀ q₀) ∷ ‵ (flft κ₁ q₁) ∷ ‵ (flft κ₂ q₂) ∷ ‵ (flft κ₃ q₃) ∷ ‵ (flft κ₄ q₄) ∷ ‵ (void .row .own r (v ∷ [])) ∷ [])) (Post v)
-      exits hosts′ run′ r v len-hosts len-run φ =
-          qed W (‵ (finally RS γ₂ hosts′) ∷ ‵ (finally RE γ₄ run′) ∷ ‵ (flft κ₀ q₀) ∷ ‵ (flft κ₁ q₁) ∷ ‵ (flft κ₂ q₂) ∷ ‵ (flft κ₃ q₃) ∷ ‵ (flft κ₄ q₄) ∷ ‵ (void .row .own r (v ∷ [])) ∷ []) ∵
-          suffices ! _ (ends-at 𝓤 H A ended stayed clauses W (((κ₀, (κ₁, (κ₂, (κ₃, (κ₄, tt))))), (q₀, (q₁, (q₂, (q₃, (q₄, tt))))), tt, x, at), tt) v r (tt, (tt, (hosts′, (tt, (run′, ((unsigned w64) .last i, (J .last w, tt))))))) (tt, (tt, (len-hosts, (tt, (len-run, (tt, (tt, tt)))))))) $ says ! φ $
-          nothing ! $ move ! (7 ∷ 0 ∷ []) $ join ! $ move ! (6 ∷ 0 ∷ []) $ join ! $ move ! (5 ∷ 0 ∷ []) $ join ! $ move ! (4 ∷ 0 ∷ []) $ join ! $ move ! (3 ∷ 0 ∷ []) $ join ! $ frame ! $ nothing ! $ nothing ! $
-          fjoin ! $ nothing ! $ fjoin ! $ move ! (2 ∷ 0 ∷ []) $ fjoin ! $ nothing ! $ fjoin ! $ move ! (1 ∷ 0 ∷ []) $ fjoin ! $ nothing ! $ fjoin ! $ nothing ! $ fjoin ! $ frame ! $ done !
-
-      module _ (is-i : Is ((unsigned w64) .row) i ((unsigned w64) .val i ∷ [])) (is-w : Is (J .row) w (J .val w ∷ [])) (room-file : Room u8 (length file)) (room-hosts : Room RS (length hosts)) (room-octets : Room u8 (length octets)) (room-run : Room RE (length run))
-          (asked : Asks file nets hosts octets run i w) (T : Calls 𝓤 H) (Λ : Loops 𝓤 H) (g₁ g₂ g₃ g₄ g₅ g₆ g₇ g₈ : Name) (fm : FmC 𝓤 H (W .laws) T) (known₁ : Triple 𝓤 (T g₁) Contract₁) (known₂ : Triple 𝓤 (T g₂) Contract₂) (known₃ : Triple 𝓤 (T g₃) Contract₃) (known₄ : Triple 𝓤 (T g₄) Contract₄) (known₅ : Triple 𝓤 (T g₅) Contract₅) (known₆ : Triple 𝓤 (T g₆) Contract₆) (known₇ : Triple 𝓤 (T g₇) Contract₇) (known₈ : Triple 𝓤 (T g₈) Contract₈) where
-        walk : ent 𝓤 (onEntry 𝓤 H A signature (κ₀, (κ₁, (κ₂, (κ₃, (κ₄, tt))))) (q₀, (q₁, (q₂, (q₃, (q₄, tt))))) x at) (WpFn 𝓤 H T Λ (function g₁ g₂ g₃ g₄ g₅ g₆ g₇ g₈) (sliceVal (b₀, o₀) (length file) ∷ vptr b₁ o₁ ∷ sliceVal (b₂, o₂) (length hosts) ∷ sliceVal (b₃, o₃) (length octets) ∷ sliceVal (b₄, o₄) (length run) ∷ (unsigned w64) .val i ∷ J .val w ∷ []) Post)
-        walk =
-            qed W ((‵ (flft κ₀ q₀) ⊛ ‵ (flft κ₁ q₁) ⊛ ‵ (flft κ₂ q₂) ⊛ ‵ (flft κ₃ q₃) ⊛ ‵ (flft κ₄ q₄) ⊛ ‵ ftrue) ∷ ‵ (owns (ShrSlice (named 0) κ₀ u8 ∷ ShrRef (named 1) κ₁ RNets ∷ MutSlice (named 2) κ₂ RS ∷ ShrSlice (named 3) κ₃ u8 ∷ MutSlice (named 4) κ₄ RE ∷ (unsigned w64) .row ∷ J .row ∷ []) x at) ∷ []) ∵
-            split ! $ move ! (1 ∷ []) $ split ! $ move ! (1 ∷ []) $ split ! $ move ! (1 ∷ []) $ split ! $ move ! (1 ∷ []) $ split ! $ move ! (1 ∷ []) $ drop ! $ move ! (5 ∷ []) $ fsplit ! $ move ! (1 ∷ []) $
-            fsplit ! $ move ! (1 ∷ []) $ fsplit ! $ move ! (1 ∷ []) $ fsplit ! $ move ! (1 ∷ []) $ fsplit ! $ move ! (1 ∷ []) $ fsplit ! $ drop ! $ fsplit ! $ drop ! $ drop ! $
-            enter ! T Λ (function g₁ g₂ g₃ g₄ g₅ g₆ g₇ g₈) (sliceVal (b₀, o₀) (length file) ∷ vptr b₁ o₁ ∷ sliceVal (b₂, o₂) (length hosts) ∷ sliceVal (b₃, o₃) (length octets) ∷ sliceVal (b₄, o₄) (length run) ∷ (unsigned w64) .val i ∷ J .val w ∷ []) _ $
-            alloc1 ! (λ z₀. alloc1 ! (λ z₁. alloc1 ! (λ z₂. alloc1 ! (λ z₃. alloc1 ! (λ z₄. alloc1 ! (λ z₅. alloc1 ! (λ z₆. alloc1 ! (λ z₇. alloc1 ! (λ z₈. alloc1 ! (λ z₉. alloc1 ! (λ z₁₀. alloc1 ! (λ z₁₁.
-            alloc1 ! (λ z₁₂. alloc1 ! (λ z₁₃. alloc1 ! (λ z₁₄. alloc1 ! (λ z₁₅. alloc1 ! (λ z₁₆. alloc1 ! (λ z₁₇. alloc1 ! (λ z₁₈. alloc1 ! (λ z₁₉. alloc1 ! (λ z₂₀. alloc1 ! (λ z₂₁. alloc1 ! (λ z₂₂.
-            alloc1 ! (λ z₂₃. alloc1 ! (λ z₂₄. alloc1 ! (λ z₂₅. alloc0 ! $ params1 ! $ pass1 ! (init ! 48 refl (tt, (tt, (record { fits = room-file .0 }, tt)))) $ pass1 ! (init ! 46 refl (tt, tt)) $
-            pass1 ! (init ! 44 refl (tt, (tt, (record { fits = room-hosts .0 }, tt)))) $ pass1 ! (init ! 42 refl (tt, (tt, (record { fits = room-octets .0 }, tt)))) $
-            pass1 ! (init ! 40 refl (tt, (tt, (record { fits = room-run .0 }, tt)))) $ pass1 ! (init ! 38 refl ((unsigned w64) .typed M 𝓤 H A W i _ is-i)) $
-            pass1 ! (init ! 36 refl (J .typed M 𝓤 H A W w _ is-w)) $ pass0 ! $
-            -- asked
-            move ! (56 ∷ []) $
-            use1 W (‵ (ShrSlice (named 0) κ₀ u8 .own (ref₀ γ₀ file) (slice-vals (ref₀ γ₀ file))) ⊛ ‵ (ShrSlice (named 0) κ₀ u8 .own (ref₀ γ₀ file) (slice-vals (ref₀ γ₀ file)))) (shr-slice-copy 𝓤 H A W (named 0) κ₀ u8 .twice (ref₀ γ₀ file) (slice-vals (ref₀ γ₀ file))) $
-            split ! $ nothing ! $ move ! (63 ∷ 0 ∷ []) $ join ! $ nothing ! $ owned ! (J .row) (Is (J .row)) (J .makes M 𝓤 H A W) w (J .val w ∷ []) is-w $ fjoin ! $
-            owned ! ((unsigned w64) .row) (Is ((unsigned w64) .row)) ((unsigned w64) .makes M 𝓤 H A W) i ((unsigned w64) .val i ∷ []) is-i $ fjoin ! $ move ! (2 ∷ 0 ∷ []) $ fjoin ! $
-            use0 W (raw (asks₁ file i w)) (ok₁ file nets hosts octets run i w asked) $ move ! (2 ∷ 1 ∷ 0 ∷ []) $
-            use3 W (raw (Contract₁ .pre (((κ₀, tt), (q₀, tt), tt, (ref₀ γ₀ file, (i, (w, tt))), (slice-vals (ref₀ γ₀ file), ((unsigned w64) .val i ∷ [], (J .val w ∷ [], tt)))), tt))) (passed 𝓤 H A signature₁ (κ₀, tt) (q₀, tt) (ref₀ γ₀ file, (i, (w, tt))) (slice-vals (ref₀ γ₀ file), ((unsigned w64) .val i ∷ [], (J .val w ∷ [], tt))) (asks₁ file i w)) $
-            calls-at ! fm Contract₁ known₁ (((κ₀, tt), (q₀, tt), tt, (ref₀ γ₀ file, (i, (w, tt))), (slice-vals (ref₀ γ₀ file), ((unsigned w64) .val i ∷ [], (J .val w ∷ [], tt)))), tt) (and-then ! (load ! (from ! (stop !)) (look ! 50 refl)) (and-then ! (load ! (from ! (stop !)) (look ! 40 refl)) (and-then ! (load ! (from ! (stop !)) (look ! 38 refl)) (no-more !)))) (λ v₁.
-            use1 W (later (some (λ (q : XQ .row .Denot). ((‵ (flft κ₀ q₀) ⊛ ‵ ftrue) ⊛ ‵ (XQ .row .own q (v₁ ∷ []))) ⊛ raw (ensured 𝓤 H A ended₁ clauses₁ (κ₀, tt) (ref₀ γ₀ file, (i, (w, tt))) tt q)))) (id⊢ 𝓤 _) $ await ! tt $
-            pick ! (λ q. split ! $ split ! $ split ! $ move ! (1 ∷ []) $ drop ! $ move ! (2 ∷ []) $
-            use1 W (some (λ (ends₁ : Lasts ended₁ (κ₀, tt) (ref₀ γ₀ file, (i, (w, tt)))). ‵ (lasts ended₁ (κ₀, tt) (ref₀ γ₀ file, (i, (w, tt))) ends₁) ⊛ raw (fact 𝓤 (gives₁ file i w q)))) (id⊢ 𝓤 _) $
-            pick ! (λ ends₁. split ! $ move ! (1 ∷ []) $ heard ! (gives₁ file i w q) (λ φ₁. drop ! $ move ! (1 ∷ []) $ peeks ! (XQ .row) (Is (XQ .row)) (shows 𝓤 H A (XQ .row)) q (v₁ ∷ []) (λ said-q. drop ! $
-            land ! (from ! (stop !)) (init ! 36 refl (XQ .typed M 𝓤 H A W q _ said-q)) $ rewrite ! 36 (λ (u : Val). ‵ (fat fullShare (XQ .ty) z₈ 0 u)) (ap only (XQ .tells q (v₁ ∷ []) said-q)) refl $
-            -- seek
-            nothing ! $ nothing ! $
-            owned ! ((D .word) .row) (Is ((D .word) .row)) ((D .word) .makes M 𝓤 H A W) (D .res (Q .form .read q .0)) (D .laws .val (D .K .into (Q .form .read q .0)) ∷ []) (D .is (Q .form .read q .0) (LL.owed (whole Q .S) (whole Q .L) q _ (settled XQ q v₁ said-q) .0)) $
-            fjoin ! $ owned ! ((unsigned w64) .row) (Is ((unsigned w64) .row)) ((unsigned w64) .makes M 𝓤 H A W) i ((unsigned w64) .val i ∷ []) is-i $ fjoin ! $
-            use0 W (raw (asks₂ i (D .res (Q .form .read q .0)))) (ok₂ file nets hosts octets run i w asked q φ₁) $ move ! (2 ∷ 1 ∷ 0 ∷ []) $
-            use3 W (raw (Contract₂ .pre ((tt, tt, tt, (i, ((D .res (Q .form .read q .0)), tt)), ((unsigned w64) .val i ∷ [], (D .laws .val (D .K .into (Q .form .read q .0)) ∷ [], tt))), tt))) (passed 𝓤 H A signature₂ tt tt (i, ((D .res (Q .form .read q .0)), tt)) ((unsigned w64) .val i ∷ [], (D .laws .val (D .K .into (Q .form .read q .0)) ∷ [], tt)) (asks₂ i (D .res (Q .form .read q .0)))) $
-            calls-at ! fm Contract₂ known₂ ((tt, tt, tt, (i, ((D .res (Q .form .read q .0)), tt)), ((unsigned w64) .val i ∷ [], (D .laws .val (D .K .into (Q .form .read q .0)) ∷ [], tt))), tt) (and-then ! (load ! (from ! (stop !)) (look ! 41 refl)) (and-then ! (load ! (from ! (fld ! refl (stop !))) (look-in ! 37 (sub ! 0 refl (whole-part !)))) (no-more !))) (λ v₂.
-            use1 W (later (some (λ (z : Z .row .Denot). (‵ ftrue ⊛ ‵ (Z .row .own z (v₂ ∷ []))) ⊛ raw (ensured 𝓤 H A ended₂ clauses₂ tt (i, ((D .res (Q .form .read q .0)), tt)) tt z)))) (id⊢ 𝓤 _) $ await ! tt $
-            pick ! (λ z. split ! $ split ! $ drop ! $ move ! (1 ∷ []) $
-            use1 W (some (λ (ends₂ : Lasts ended₂ tt (i, ((D .res (Q .form .read q .0)), tt))). ‵ (lasts ended₂ tt (i, ((D .res (Q .form .read q .0)), tt)) ends₂) ⊛ raw (fact 𝓤 (gives₂ i (D .res (Q .form .read q .0)) z)))) (id⊢ 𝓤 _) $
-            pick ! (λ ends₂. split ! $ move ! (1 ∷ []) $ heard ! (gives₂ i (D .res (Q .form .read q .0)) z) (λ φ₂. drop ! $ peeks ! (Z .row) (Is (Z .row)) (shows 𝓤 H A (Z .row)) z (v₂ ∷ []) (λ said-z. drop ! $
-            land ! (from ! (stop !)) (init ! 34 refl (Z .typed M 𝓤 H A W z _ said-z)) $ rewrite ! 34 (λ (u : Val). ‵ (fat fullShare (Z .ty) z₉ 0 u)) (ap only (Z .tells z (v₂ ∷ []) said-z)) refl $
-            -- from
-            nothing ! $ nothing ! $ owned ! ((unsigned w64) .row) (Is ((unsigned w64) .row)) ((unsigned w64) .makes M 𝓤 H A W) i ((unsigned w64) .val i ∷ []) is-i $ fjoin ! $
-            use0 W (raw (asks₃ i)) (ok₃ file nets hosts octets run i w asked q z φ₁ φ₂) $ move ! (2 ∷ 1 ∷ 0 ∷ []) $
-            use3 W (raw (Contract₃ .pre ((tt, tt, tt, (i, tt), ((unsigned w64) .val i ∷ [], tt)), tt))) (passed 𝓤 H A signature₃ tt tt (i, tt) ((unsigned w64) .val i ∷ [], tt) (asks₃ i)) $
-            calls-at ! fm Contract₃ known₃ ((tt, tt, tt, (i, tt), ((unsigned w64) .val i ∷ [], tt)), tt) (and-then ! (load ! (from ! (stop !)) (look ! 41 refl)) (no-more !)) (λ v₃.
-            use1 W (later (some (λ (low : (unsigned w64) .row .Denot). (‵ ftrue ⊛ ‵ ((unsigned w64) .row .own low (v₃ ∷ []))) ⊛ raw (ensured 𝓤 H A ended₃ clauses₃ tt (i, tt) tt low)))) (id⊢ 𝓤 _) $ await ! tt $
-            pick ! (λ low. split ! $ split ! $ drop ! $ move ! (1 ∷ []) $ use1 W (some (λ (ends₃ : Lasts ended₃ tt (i, tt)). ‵ (lasts ended₃ tt (i, tt) ends₃) ⊛ raw (fact 𝓤 (gives₃ i low)))) (id⊢ 𝓤 _) $
-            pick ! (λ ends₃. split ! $ move ! (1 ∷ []) $ heard ! (gives₃ i low) (λ φ₃. drop ! $
-            peeks ! ((unsigned w64) .row) (Is ((unsigned w64) .row)) (shows 𝓤 H A ((unsigned w64) .row)) low (v₃ ∷ []) (λ said-low. drop ! $
-            land ! (from ! (stop !)) (init ! 32 refl ((unsigned w64) .typed M 𝓤 H A W low _ said-low)) $
-            rewrite ! 32 (λ (u : Val). ‵ (fat fullShare ((unsigned w64) .ty) z₁₀ 0 u)) (ap only ((unsigned w64) .tells low (v₃ ∷ []) said-low)) refl $
-            -- to
-            nothing ! $ nothing ! $ owned ! ((unsigned w64) .row) (Is ((unsigned w64) .row)) ((unsigned w64) .makes M 𝓤 H A W) i ((unsigned w64) .val i ∷ []) is-i $ fjoin ! $
-            use0 W (raw (asks₄ i)) (ok₄ file nets hosts octets run i w asked q z low φ₁ φ₂ φ₃) $ move ! (2 ∷ 1 ∷ 0 ∷ []) $
-            use3 W (raw (Contract₄ .pre ((tt, tt, tt, (i, tt), ((unsigned w64) .val i ∷ [], tt)), tt))) (passed 𝓤 H A signature₄ tt tt (i, tt) ((unsigned w64) .val i ∷ [], tt) (asks₄ i)) $
-            calls-at ! fm Contract₄ known₄ ((tt, tt, tt, (i, tt), ((unsigned w64) .val i ∷ [], tt)), tt) (and-then ! (load ! (from ! (stop !)) (look ! 41 refl)) (no-more !)) (λ v₄.
-            use1 W (later (some (λ (high : (unsigned w64) .row .Denot). (‵ ftrue ⊛ ‵ ((unsigned w64) .row .own high (v₄ ∷ []))) ⊛ raw (ensured 𝓤 H A ended₄ clauses₄ tt (i, tt) tt high)))) (id⊢ 𝓤 _) $ await ! tt $
-            pick ! (λ high. split ! $ split ! $ drop ! $ move ! (1 ∷ []) $ use1 W (some (λ (ends₄ : Lasts ended₄ tt (i, tt)). ‵ (lasts ended₄ tt (i, tt) ends₄) ⊛ raw (fact 𝓤 (gives₄ i high)))) (id⊢ 𝓤 _) $
-            pick ! (λ ends₄. split ! $ move ! (1 ∷ []) $ heard ! (gives₄ i high) (λ φ₄. drop ! $
-            peeks ! ((unsigned w64) .row) (Is ((unsigned w64) .row)) (shows 𝓤 H A ((unsigned w64) .row)) high (v₄ ∷ []) (λ said-high. drop ! $
-            land ! (from ! (stop !)) (init ! 30 refl ((unsigned w64) .typed M 𝓤 H A W high _ said-high)) $
-            rewrite ! 30 (λ (u : Val). ‵ (fat fullShare ((unsigned w64) .ty) z₁₁ 0 u)) (ap only ((unsigned w64) .tells high (v₄ ∷ []) said-high)) refl $
-            -- look
-            assigns ! (addr ! (from ! (fld ! refl (hop ! (look-in ! 46 (sub ! 0 refl (whole-part !))) (stop !))))) (from ! (stop !)) (init ! 22 refl (tt, tt)) $
-            assigns ! (agg ! (and-then ! (load ! (from ! (stop !)) (look ! 22 refl)) (and-then ! (load ! (from ! (fld ! refl (stop !))) (look-in ! 46 (sub ! 1 refl (whole-part !)))) (no-more !)))) (from ! (stop !)) (init ! 20 refl (tt, (tt, (record { fits = room-hosts .0 }, tt)))) $
-            lft-new ! tt (λ α₅. move ! (57 ∷ 61 ∷ []) $
-            use2 W (later (some (λ (δ₅ : GName). ‵ (ShrSlice (named 0) (α₅ ∷ []) RS .own (ref₂ δ₅ hosts) (slice-vals (ref₂ δ₅ hosts))) ⊛ ‵ (Kept RS κ₂ (α₅ ∷ []) q₂ γ₂ b₂ o₂ hosts)))) (lends-shared RS κ₂ (α₅ ∷ []) q₂ γ₂ b₂ o₂ 𝓤 H A W (named 2) (named 0) hosts) $ await ! tt $
-            pick ! (λ δ₅. split ! $ nothing ! $ move ! (3 ∷ 0 ∷ []) $ join ! $ nothing ! $ owned ! (Z .row) (Is (Z .row)) (Z .makes M 𝓤 H A W) z (Z .val z ∷ []) (settled Z z v₂ said-z) $ fjoin ! $
-            move ! (2 ∷ 0 ∷ []) $ fjoin ! $ use0 W (raw (asks₅ hosts z)) (ok₅ file nets hosts octets run i w asked q z low high φ₁ φ₂ φ₃ φ₄) $ move ! (2 ∷ 1 ∷ 0 ∷ []) $
-            use3 W (raw (Contract₅ .pre ((((α₅ ∷ []), tt), (fullShare, tt), tt, (ref₂ δ₅ hosts, (z, tt)), (slice-vals (ref₂ δ₅ hosts), (Z .val z ∷ [], tt))), tt))) (passed 𝓤 H A signature₅ ((α₅ ∷ []), tt) (fullShare, tt) (ref₂ δ₅ hosts, (z, tt)) (slice-vals (ref₂ δ₅ hosts), (Z .val z ∷ [], tt)) (asks₅ hosts z)) $
-            calls-at ! fm Contract₅ known₅ ((((α₅ ∷ []), tt), (fullShare, tt), tt, (ref₂ δ₅ hosts, (z, tt)), (slice-vals (ref₂ δ₅ hosts), (Z .val z ∷ [], tt))), tt) (and-then ! (load ! (from ! (stop !)) (look ! 22 refl)) (and-then ! (load ! (from ! (stop !)) (look ! 36 refl)) (no-more !))) (λ v₅.
-            use1 W (later (some (λ (v : XB .row .Denot). ((‵ (flft (α₅ ∷ []) fullShare) ⊛ ‵ ftrue) ⊛ ‵ (XB .row .own v (v₅ ∷ []))) ⊛ raw (ensured 𝓤 H A ended₅ clauses₅ ((α₅ ∷ []), tt) (ref₂ δ₅ hosts, (z, tt)) tt v)))) (id⊢ 𝓤 _) $ await ! tt $
-            pick ! (λ v. split ! $ split ! $ split ! $ move ! (1 ∷ []) $ drop ! $ move ! (2 ∷ []) $
-            use1 W (some (λ (ends₅ : Lasts ended₅ ((α₅ ∷ []), tt) (ref₂ δ₅ hosts, (z, tt))). ‵ (lasts ended₅ ((α₅ ∷ []), tt) (ref₂ δ₅ hosts, (z, tt)) ends₅) ⊛ raw (fact 𝓤 (gives₅ hosts z v)))) (id⊢ 𝓤 _) $
-            pick ! (λ ends₅. split ! $ move ! (1 ∷ []) $ heard ! (gives₅ hosts z v) (λ φ₅. drop ! $ move ! (1 ∷ []) $ peeks ! (XB .row) (Is (XB .row)) (shows 𝓤 H A (XB .row)) v (v₅ ∷ []) (λ said-v. drop ! $
-            lft-end ! tt $
-            use2 W (later (‵ (MutSlice (named 2) κ₂ RS .own (ref₂ γ₂ hosts) (sliceVal (b₂, o₂) (length hosts) ∷ [])) ⊛ ‵ (flft κ₂ q₂))) (shared-back RS κ₂ (α₅ ∷ []) q₂ γ₂ b₂ o₂ 𝓤 H A W (named 2) hosts room-hosts) $ await ! tt $
-            split ! $ land ! (from ! (stop !)) (init ! 30 refl (XB .typed M 𝓤 H A W v _ said-v)) $ rewrite ! 30 (λ (u : Val). ‵ (fat fullShare (XB .ty) z₁₂ 0 u)) (ap only (XB .tells v (v₅ ∷ []) said-v)) refl $
-            -- ask
-            assigns ! (bin ! (load ! (from ! (fld ! refl (stop !))) (look-in ! 46 (sub ! 0 refl (whole-part !)))) (load ! (from ! (stop !)) (look ! 34 refl)) tt) (from ! (stop !)) (init ! 20 refl (tt, tt)) $
-            assigns ! (bin ! (load ! (from ! (stop !)) (look ! 32 refl)) (load ! (from ! (stop !)) (look ! 34 refl)) ((within₆ file nets hosts octets run i w asked q z low high v φ₁ φ₂ φ₃ φ₄ φ₅) .0)) (from ! (stop !)) (init ! 18 refl (tt, record { fits = omega (arith, (settled (unsigned w64) high v₄ said-high) .1) })) $
-            assigns ! (addr ! (from ! (hop ! (look ! 20 refl) (stop !)))) (from ! (stop !)) (init ! 16 refl (tt, tt)) $
-            assigns ! (agg ! (and-then ! (load ! (from ! (stop !)) (look ! 16 refl)) (and-then ! (load ! (from ! (stop !)) (look ! 18 refl)) (no-more !)))) (from ! (stop !)) (init ! 14 refl (tt, (tt, (record { fits = omega (arith, (settled (unsigned w64) high v₄ said-high) .1) }, tt)))) $
-            rewrite ! 14 (λ (j : ℕ). ‵ (fat fullShare (sliceTy (tyRef erased imm (tyInt w8))) z₂₀ 0 (sliceVal (b₃, low + o₃) j))) (sym (mid-len low high octets ((within₆ file nets hosts octets run i w asked q z low high v φ₁ φ₂ φ₃ φ₄ φ₅) .1))) refl $
-            assigns ! (addr ! (from ! (fld ! refl (hop ! (look-in ! 44 (sub ! 0 refl (whole-part !))) (stop !))))) (from ! (stop !)) (init ! 12 refl (tt, tt)) $
-            assigns ! (agg ! (and-then ! (load ! (from ! (stop !)) (look ! 12 refl)) (and-then ! (load ! (from ! (fld ! refl (stop !))) (look-in ! 44 (sub ! 1 refl (whole-part !)))) (no-more !)))) (from ! (stop !)) (init ! 10 refl (tt, (tt, (record { fits = room-run .0 }, tt)))) $
-            move ! (58 ∷ []) $
-            use1 W (‵ (ShrRef (named 1) κ₁ RNets .own (ref₁ γ₁ nets) (vptr b₁ o₁ ∷ [])) ⊛ ‵ (ShrRef (named 1) κ₁ RNets .own (ref₁ γ₁ nets) (vptr b₁ o₁ ∷ []))) (shr-copy 𝓤 H A W (named 1) κ₁ RNets .twice (ref₁ γ₁ nets) (vptr b₁ o₁ ∷ [])) $
-            split ! $ move ! (59 ∷ []) $
-            use1 W (‵ (ShrSlice (named 3) κ₃ u8 .own (ref₃ γ₃ octets) (slice-vals (ref₃ γ₃ octets))) ⊛ ‵ (ShrSlice (named 3) κ₃ u8 .own (ref₃ γ₃ octets) (slice-vals (ref₃ γ₃ octets)))) (shr-slice-copy 𝓤 H A W (named 3) κ₃ u8 .twice (ref₃ γ₃ octets) (slice-vals (ref₃ γ₃ octets))) $
-            split ! $ move ! (0 ∷ 62 ∷ []) $
-            use2 W (later (some (λ (δ₆part₃ : GName). ‵ (ShrSlice (named 1) κ₃ u8 .own (record { ptr = (b₃, low + o₃); name = δ₆part₃; now = (midOf low (high - low) octets) }) (slice-vals (record { ptr = (b₃, low + o₃); name = δ₆part₃; now = (midOf low (high - low) octets) }))) ⊛ ‵ (flft κ₃ q₃)))) (shares-part 𝓤 H A W κ₃ q₃ b₃ o₃ (named 3) (named 1) γ₃ octets low (high - low) (omega (arith, (within₆ file nets hosts octets run i w asked q z low high v φ₁ φ₂ φ₃ φ₄ φ₅) .0, (within₆ file nets hosts octets run i w asked q z low high v φ₁ φ₂ φ₃ φ₄ φ₅) .1))) $ await ! tt $
-            pick ! (λ δ₆part₃. split ! $ nothing ! $ move ! (63 ∷ 0 ∷ []) $ join ! $ move ! (2 ∷ 0 ∷ []) $ join ! $ move ! (62 ∷ 0 ∷ []) $ join ! $ nothing ! $
-            owned ! ((I .word) .row) (Is ((I .word) .row)) ((I .word) .makes M 𝓤 H A W) (I .res (Q .form .read q .1 .1 .0)) (I .laws .val (I .K .into (Q .form .read q .1 .1 .0)) ∷ []) (I .is (Q .form .read q .1 .1 .0) (LL.owed (whole Q .S) (whole Q .L) q _ (settled XQ q v₁ said-q) .1 .1 .0)) $
-            fjoin ! $ move ! (62 ∷ 0 ∷ []) $ fjoin ! $ move ! (2 ∷ 0 ∷ []) $ fjoin ! $
-            owned ! ((F .word) .row) (Is ((F .word) .row)) ((F .word) .makes M 𝓤 H A W) (F .res (B .form .read v .1 .1 .0)) (F .laws .val (F .K .into (B .form .read v .1 .1 .0)) ∷ []) (F .is (B .form .read v .1 .1 .0) (LL.owed (whole B .S) (whole B .L) v _ (settled XB v v₅ said-v) .1 .1 .0)) $
-            fjoin ! $
-            owned ! ((L .word) .row) (Is ((L .word) .row)) ((L .word) .makes M 𝓤 H A W) (L .res (B .form .read v .1 .0)) (L .laws .val (L .K .into (B .form .read v .1 .0)) ∷ []) (L .is (B .form .read v .1 .0) (LL.owed (whole B .S) (whole B .L) v _ (settled XB v v₅ said-v) .1 .0)) $
-            fjoin ! $
-            owned ! ((C .word) .row) (Is ((C .word) .row)) ((C .word) .makes M 𝓤 H A W) (C .res (B .form .read v .0)) (C .laws .val (C .K .into (B .form .read v .0)) ∷ []) (C .is (B .form .read v .0) (LL.owed (whole B .S) (whole B .L) v _ (settled XB v v₅ said-v) .0)) $
-            fjoin ! $
-            owned ! ((N .word) .row) (Is ((N .word) .row)) ((N .word) .makes M 𝓤 H A W) (N .res (Q .form .read q .1 .0)) (N .laws .val (N .K .into (Q .form .read q .1 .0)) ∷ []) (N .is (Q .form .read q .1 .0) (LL.owed (whole Q .S) (whole Q .L) q _ (settled XQ q v₁ said-q) .1 .0)) $
-            fjoin ! $ move ! (3 ∷ 0 ∷ []) $ fjoin ! $
-            owned ! ((D .word) .row) (Is ((D .word) .row)) ((D .word) .makes M 𝓤 H A W) (D .res (Q .form .read q .0)) (D .laws .val (D .K .into (Q .form .read q .0)) ∷ []) (D .is (Q .form .read q .0) (LL.owed (whole Q .S) (whole Q .L) q _ (settled XQ q v₁ said-q) .0)) $
-            fjoin ! $
-            use0 W (raw (asks₆ (D .res (Q .form .read q .0)) nets (N .res (Q .form .read q .1 .0)) (C .res (B .form .read v .0)) (L .res (B .form .read v .1 .0)) (F .res (B .form .read v .1 .1 .0)) (midOf low (high - low) octets) run (I .res (Q .form .read q .1 .1 .0)))) (ok₆ file nets hosts octets run i w asked q z low high v φ₁ φ₂ φ₃ φ₄ φ₅) $
-            move ! (2 ∷ 1 ∷ 0 ∷ []) $
-            use3 W (raw (Contract₆ .pre (((κ₁, (κ₃, (κ₄, tt))), (q₁, (q₃, (q₄, tt))), tt, ((D .res (Q .form .read q .0)), (ref₁ γ₁ nets, ((N .res (Q .form .read q .1 .0)), ((C .res (B .form .read v .0)), ((L .res (B .form .read v .1 .0)), ((F .res (B .form .read v .1 .1 .0)), (record { ptr = (b₃, low + o₃); name = δ₆part₃; now = (midOf low (high - low) octets) }, (ref₄ γ₄ run, ((I .res (Q .form .read q .1 .1 .0)), tt))))))))), (D .laws .val (D .K .into (Q .form .read q .0)) ∷ [], (vptr b₁ o₁ ∷ [], (N .laws .val (N .K .into (Q .form .read q .1 .0)) ∷ [], (C .laws .val (C .K .into (B .form .read v .0)) ∷ [], (L .laws .val (L .K .into (B .form .read v .1 .0)) ∷ [], (F .laws .val (F .K .into (B .form .read v .1 .1 .0)) ∷ [], (slice-vals (record { ptr = (b₃, low + o₃); name = δ₆part₃; now = (midOf low (high - low) octets) }), (slice-vals (ref₄ γ₄ run), (I .laws .val (I .K .into (Q .form .read q .1 .1 .0)) ∷ [], tt)))))))))), tt))) (passed 𝓤 H A signature₆ (κ₁, (κ₃, (κ₄, tt))) (q₁, (q₃, (q₄, tt))) ((D .res (Q .form .read q .0)), (ref₁ γ₁ nets, ((N .res (Q .form .read q .1 .0)), ((C .res (B .form .read v .0)), ((L .res (B .form .read v .1 .0)), ((F .res (B .form .read v .1 .1 .0)), (record { ptr = (b₃, low + o₃); name = δ₆part₃; now = (midOf low (high - low) octets) }, (ref₄ γ₄ run, ((I .res (Q .form .read q .1 .1 .0)), tt))))))))) (D .laws .val (D .K .into (Q .form .read q .0)) ∷ [], (vptr b₁ o₁ ∷ [], (N .laws .val (N .K .into (Q .form .read q .1 .0)) ∷ [], (C .laws .val (C .K .into (B .form .read v .0)) ∷ [], (L .laws .val (L .K .into (B .form .read v .1 .0)) ∷ [], (F .laws .val (F .K .into (B .form .read v .1 .1 .0)) ∷ [], (slice-vals (record { ptr = (b₃, low + o₃); name = δ₆part₃; now = (midOf low (high - low) octets) }), (slice-vals (ref₄ γ₄ run), (I .laws .val (I .K .into (Q .form .read q .1 .1 .0)) ∷ [], tt))))))))) (asks₆ (D .res (Q .form .read q .0)) nets (N .res (Q .form .read q .1 .0)) (C .res (B .form .read v .0)) (L .res (B .form .read v .1 .0)) (F .res (B .form .read v .1 .1 .0)) (midOf low (high - low) octets) run (I .res (Q .form .read q .1 .1 .0)))) $
-            calls-at ! fm Contract₆ known₆ (((κ₁, (κ₃, (κ₄, tt))), (q₁, (q₃, (q₄, tt))), tt, ((D .res (Q .form .read q .0)), (ref₁ γ₁ nets, ((N .res (Q .form .read q .1 .0)), ((C .res (B .form .read v .0)), ((L .res (B .form .read v .1 .0)), ((F .res (B .form .read v .1 .1 .0)), (record { ptr = (b₃, low + o₃); name = δ₆part₃; now = (midOf low (high - low) octets) }, (ref₄ γ₄ run, ((I .res (Q .form .read q .1 .1 .0)), tt))))))))), (D .laws .val (D .K .into (Q .form .read q .0)) ∷ [], (vptr b₁ o₁ ∷ [], (N .laws .val (N .K .into (Q .form .read q .1 .0)) ∷ [], (C .laws .val (C .K .into (B .form .read v .0)) ∷ [], (L .laws .val (L .K .into (B .form .read v .1 .0)) ∷ [], (F .laws .val (F .K .into (B .form .read v .1 .1 .0)) ∷ [], (slice-vals (record { ptr = (b₃, low + o₃); name = δ₆part₃; now = (midOf low (high - low) octets) }), (slice-vals (ref₄ γ₄ run), (I .laws .val (I .K .into (Q .form .read q .1 .1 .0)) ∷ [], tt)))))))))), tt) (and-then ! (load ! (from ! (fld ! refl (stop !))) (look-in ! 41 (sub ! 0 refl (whole-part !)))) (and-then ! (load ! (from ! (stop !)) (look ! 53 refl)) (and-then ! (load ! (from ! (fld ! refl (stop !))) (look-in ! 41 (sub ! 1 refl (whole-part !)))) (and-then ! (load ! (from ! (fld ! refl (stop !))) (look-in ! 33 (sub ! 0 refl (whole-part !)))) (and-then ! (load ! (from ! (fld ! refl (stop !))) (look-in ! 33 (sub ! 1 refl (whole-part !)))) (and-then ! (load ! (from ! (fld ! refl (stop !))) (look-in ! 33 (sub ! 2 refl (whole-part !)))) (and-then ! (load ! (from ! (stop !)) (look ! 17 refl)) (and-then ! (load ! (from ! (stop !)) (look ! 13 refl)) (and-then ! (load ! (from ! (fld ! refl (stop !))) (look-in ! 41 (sub ! 2 refl (whole-part !)))) (no-more !)))))))))) (λ v₆.
-            use1 W (later (some (λ (o : XP .row .Denot). ((‵ (flft κ₁ q₁) ⊛ ‵ (flft κ₃ q₃) ⊛ ‵ (flft κ₄ q₄) ⊛ ‵ ftrue) ⊛ ‵ (XP .row .own o (v₆ ∷ []))) ⊛ raw (ensured 𝓤 H A ended₆ clauses₆ (κ₁, (κ₃, (κ₄, tt))) ((D .res (Q .form .read q .0)), (ref₁ γ₁ nets, ((N .res (Q .form .read q .1 .0)), ((C .res (B .form .read v .0)), ((L .res (B .form .read v .1 .0)), ((F .res (B .form .read v .1 .1 .0)), (record { ptr = (b₃, low + o₃); name = δ₆part₃; now = (midOf low (high - low) octets) }, (ref₄ γ₄ run, ((I .res (Q .form .read q .1 .1 .0)), tt))))))))) tt o)))) (id⊢ 𝓤 _) $ await ! tt $
-            pick ! (λ o. split ! $ split ! $ split ! $ move ! (1 ∷ []) $ split ! $ move ! (1 ∷ []) $ split ! $ move ! (1 ∷ []) $ drop ! $ move ! (4 ∷ []) $
-            use1 W (some (λ (ends₆ : Lasts ended₆ (κ₁, (κ₃, (κ₄, tt))) ((D .res (Q .form .read q .0)), (ref₁ γ₁ nets, ((N .res (Q .form .read q .1 .0)), ((C .res (B .form .read v .0)), ((L .res (B .form .read v .1 .0)), ((F .res (B .form .read v .1 .1 .0)), (record { ptr = (b₃, low + o₃); name = δ₆part₃; now = (midOf low (high - low) octets) }, (ref₄ γ₄ run, ((I .res (Q .form .read q .1 .1 .0)), tt)))))))))). ‵ (lasts ended₆ (κ₁, (κ₃, (κ₄, tt))) ((D .res (Q .form .read q .0)), (ref₁ γ₁ nets, ((N .res (Q .form .read q .1 .0)), ((C .res (B .form .read v .0)), ((L .res (B .form .read v .1 .0)), ((F .res (B .form .read v .1 .1 .0)), (record { ptr = (b₃, low + o₃); name = δ₆part₃; now = (midOf low (high - low) octets) }, (ref₄ γ₄ run, ((I .res (Q .form .read q .1 .1 .0)), tt))))))))) ends₆) ⊛ raw (fact 𝓤 (gives₆ (D .res (Q .form .read q .0)) nets (N .res (Q .form .read q .1 .0)) (C .res (B .form .read v .0)) (L .res (B .form .read v .1 .0)) (F .res (B .form .read v .1 .1 .0)) (midOf low (high - low) octets) run (I .res (Q .form .read q .1 .1 .0)) o (ends₆ .1 .1 .1 .1 .1 .1 .1 .0))))) (id⊢ 𝓤 _) $
-            pick ! (λ ends₆. split ! $ move ! (1 ∷ []) $
-            heard ! (gives₆ (D .res (Q .form .read q .0)) nets (N .res (Q .form .read q .1 .0)) (C .res (B .form .read v .0)) (L .res (B .form .read v .1 .0)) (F .res (B .form .read v .1 .1 .0)) (midOf low (high - low) octets) run (I .res (Q .form .read q .1 .1 .0)) o (ends₆ .1 .1 .1 .1 .1 .1 .1 .0)) (λ φ₆.
-            fsplit ! $ drop ! $ fsplit ! $ drop ! $ fsplit ! $ drop ! $ fsplit ! $ drop ! $ fsplit ! $ drop ! $ fsplit ! $ drop ! $ fsplit ! $ drop ! $ fsplit ! $ fsplit ! $ move ! (1 ∷ []) $ feqL ! (λ len₆.
-            move ! (1 ∷ []) $ fsplit ! $ drop ! $ drop ! $ move ! (4 ∷ []) $ peeks ! (XP .row) (Is (XP .row)) (shows 𝓤 H A (XP .row)) o (v₆ ∷ []) (λ said-o. drop ! $
-            land ! (from ! (stop !)) (init ! 34 refl (XP .typed M 𝓤 H A W o _ said-o)) $ rewrite ! 34 (λ (u : Val). ‵ (fat fullShare (XP .ty) z₁₃ 0 u)) (ap only (XP .tells o (v₆ ∷ []) said-o)) refl $
-            -- stored
-            nothing ! $ nothing ! $ owned ! (XP .row) (Is (XP .row)) (XP .makes M 𝓤 H A W) o (XP .val o ∷ []) (settled XP o v₆ said-o) $ fjoin ! $
-            owned ! ((unsigned w64) .row) (Is ((unsigned w64) .row)) ((unsigned w64) .makes M 𝓤 H A W) i ((unsigned w64) .val i ∷ []) is-i $ fjoin ! $
-            use0 W (raw (asks₇ i o)) (ok₇ file nets hosts octets run i w asked q z low high v o (ends₆ .1 .1 .1 .1 .1 .1 .1 .0) φ₁ φ₂ φ₃ φ₄ φ₅ φ₆) $ move ! (2 ∷ 1 ∷ 0 ∷ []) $
-            use3 W (raw (Contract₇ .pre ((tt, tt, tt, (i, (o, tt)), ((unsigned w64) .val i ∷ [], (XP .val o ∷ [], tt))), tt))) (passed 𝓤 H A signature₇ tt tt (i, (o, tt)) ((unsigned w64) .val i ∷ [], (XP .val o ∷ [], tt)) (asks₇ i o)) $
-            calls-at ! fm Contract₇ known₇ ((tt, tt, tt, (i, (o, tt)), ((unsigned w64) .val i ∷ [], (XP .val o ∷ [], tt))), tt) (and-then ! (load ! (from ! (stop !)) (look ! 49 refl)) (and-then ! (load ! (from ! (stop !)) (look ! 35 refl)) (no-more !))) (λ v₇.
-            use1 W (later (some (λ (y : Y .row .Denot). (‵ ftrue ⊛ ‵ (Y .row .own y (v₇ ∷ []))) ⊛ raw (ensured 𝓤 H A ended₇ clauses₇ tt (i, (o, tt)) tt y)))) (id⊢ 𝓤 _) $ await ! tt $ pick ! (λ y. split ! $
-            split ! $ drop ! $ move ! (1 ∷ []) $ use1 W (some (λ (ends₇ : Lasts ended₇ tt (i, (o, tt))). ‵ (lasts ended₇ tt (i, (o, tt)) ends₇) ⊛ raw (fact 𝓤 (gives₇ i o y)))) (id⊢ 𝓤 _) $ pick ! (λ ends₇.
-            split ! $ move ! (1 ∷ []) $ heard ! (gives₇ i o y) (λ φ₇. drop ! $ peeks ! (Y .row) (Is (Y .row)) (shows 𝓤 H A (Y .row)) y (v₇ ∷ []) (λ said-y. drop ! $
-            land ! (from ! (stop !)) (init ! 32 refl (Y .typed M 𝓤 H A W y _ said-y)) $ rewrite ! 32 (λ (u : Val). ‵ (fat fullShare (Y .ty) z₁₄ 0 u)) (ap only (Y .tells y (v₇ ∷ []) said-y)) refl $
-            -- store
-            assigns ! (addr ! (from ! (fld ! refl (hop ! (look-in ! 54 (sub ! 0 refl (whole-part !))) (stop !))))) (from ! (stop !)) (init ! 12 refl (tt, tt)) $
-            assigns ! (agg ! (and-then ! (load ! (from ! (stop !)) (look ! 12 refl)) (and-then ! (load ! (from ! (fld ! refl (stop !))) (look-in ! 54 (sub ! 1 refl (whole-part !)))) (no-more !)))) (from ! (stop !)) (init ! 10 refl (tt, (tt, (record { fits = room-hosts .0 }, tt)))) $
-            nothing ! $ move ! (8 ∷ 0 ∷ []) $ join ! $ nothing ! $ owned ! (Y .row) (Is (Y .row)) (Y .makes M 𝓤 H A W) y (Y .val y ∷ []) (settled Y y v₇ said-y) $ fjoin ! $ move ! (8 ∷ 0 ∷ []) $ fjoin ! $
-            use0 W (raw (asks₈ hosts y)) (ok₈ file nets hosts octets run i w asked q z low high v o (ends₆ .1 .1 .1 .1 .1 .1 .1 .0) y φ₁ φ₂ φ₃ φ₄ φ₅ φ₆ φ₇) $ move ! (2 ∷ 1 ∷ 0 ∷ []) $
-            use3 W (raw (Contract₈ .pre (((κ₂, tt), (q₂, tt), tt, (ref₂ γ₂ hosts, (y, tt)), (slice-vals (ref₂ γ₂ hosts), (Y .val y ∷ [], tt))), tt))) (passed 𝓤 H A signature₈ (κ₂, tt) (q₂, tt) (ref₂ γ₂ hosts, (y, tt)) (slice-vals (ref₂ γ₂ hosts), (Y .val y ∷ [], tt)) (asks₈ hosts y)) $
-            calls-at ! fm Contract₈ known₈ (((κ₂, tt), (q₂, tt), tt, (ref₂ γ₂ hosts, (y, tt)), (slice-vals (ref₂ γ₂ hosts), (Y .val y ∷ [], tt))), tt) (and-then ! (load ! (from ! (stop !)) (look ! 9 refl)) (and-then ! (load ! (from ! (stop !)) (look ! 31 refl)) (no-more !))) (λ v₈.
-            use1 W (later (some (λ (u₈ : void .row .Denot). ((‵ (flft κ₂ q₂) ⊛ ‵ ftrue) ⊛ ‵ (void .row .own u₈ (v₈ ∷ []))) ⊛ raw (ensured 𝓤 H A ended₈ clauses₈ (κ₂, tt) (ref₂ γ₂ hosts, (y, tt)) tt u₈)))) (id⊢ 𝓤 _) $ await ! tt $
-            pick ! (λ u₈. split ! $ split ! $ split ! $ move ! (1 ∷ []) $ drop ! $ move ! (2 ∷ []) $
-            use1 W (some (λ (ends₈ : Lasts ended₈ (κ₂, tt) (ref₂ γ₂ hosts, (y, tt))). ‵ (lasts ended₈ (κ₂, tt) (ref₂ γ₂ hosts, (y, tt)) ends₈) ⊛ raw (fact 𝓤 (gives₈ hosts y (ends₈ .0))))) (id⊢ 𝓤 _) $
-            pick ! (λ ends₈. split ! $ move ! (1 ∷ []) $ heard ! (gives₈ hosts y (ends₈ .0)) (λ φ₈. fsplit ! $ fsplit ! $ move ! (1 ∷ []) $ feqL ! (λ len₈. move ! (1 ∷ []) $ fsplit ! $ drop ! $ drop ! $
-            move ! (2 ∷ []) $ peeks ! (void .row) (Is (void .row)) (shows 𝓤 H A (void .row)) u₈ (v₈ ∷ []) (λ said-u₈. drop ! $ land ! (from ! (stop !)) (init ! 14 refl (void .typed M 𝓤 H A W u₈ _ said-u₈)) $
-            assigns ! (of-opd ! (unit-lit !)) (from ! (stop !)) (init ! 60 refl (tt, tt)) $
-            -- the locals are freed
-            returns ! (look ! 60 refl) $ forget ! 10 refl $ forget ! 12 refl $ forget ! 14 refl $ forget ! 16 refl $ forget ! 18 refl $ forget ! 20 refl $ forget ! 22 refl $ forget ! 24 refl $ forget ! 26 refl $
-            forget ! 28 refl $ forget ! 30 refl $ forget ! 32 refl $ forget ! 34 refl $ forget ! 36 refl $ forget ! 38 refl $ forget ! 40 refl $ forget ! 42 refl $ forget ! 44 refl $ forget ! 46 refl $
-            forget ! 48 refl $ forget ! 50 refl $ forget ! 52 refl $ forget ! 54 refl $ forget ! 56 refl $ forget ! 58 refl $ forget ! 60 refl $ move ! (60 ∷ 61 ∷ []) $ free1 ! $ move ! (58 ∷ 59 ∷ []) $ free1 ! $
-            move ! (56 ∷ 57 ∷ []) $ free1 ! $ move ! (54 ∷ 55 ∷ []) $ free1 ! $ move ! (52 ∷ 53 ∷ []) $ free1 ! $ move ! (50 ∷ 51 ∷ []) $ free1 ! $ move ! (48 ∷ 49 ∷ []) $ free1 ! $ move ! (46 ∷ 47 ∷ []) $
-            free1 ! $ move ! (44 ∷ 45 ∷ []) $ free1 ! $ move ! (42 ∷ 43 ∷ []) $ free1 ! $ move ! (40 ∷ 41 ∷ []) $ free1 ! $ move ! (38 ∷ 39 ∷ []) $ free1 ! $ move ! (36 ∷ 37 ∷ []) $ free1 ! $
-            move ! (34 ∷ 35 ∷ []) $ free1 ! $ move ! (32 ∷ 33 ∷ []) $ free1 ! $ move ! (30 ∷ 31 ∷ []) $ free1 ! $ move ! (28 ∷ 29 ∷ []) $ free1 ! $ move ! (26 ∷ 27 ∷ []) $ free1 ! $ move ! (24 ∷ 25 ∷ []) $
-            free1 ! $ move ! (22 ∷ 23 ∷ []) $ free1 ! $ move ! (20 ∷ 21 ∷ []) $ free1 ! $ move ! (18 ∷ 19 ∷ []) $ free1 ! $ move ! (16 ∷ 17 ∷ []) $ free1 ! $ move ! (14 ∷ 15 ∷ []) $ free1 ! $
-            move ! (12 ∷ 13 ∷ []) $ free1 ! $ move ! (10 ∷ 11 ∷ []) $ free1 ! $ free0 ! $ owned ! (void .row) (Is (void .row)) (void .makes M 𝓤 H A W) tt (vunit ∷ []) refl $
-            keep ! (1 ∷ 3 ∷ 9 ∷ 6 ∷ 2 ∷ 5 ∷ 4 ∷ 0 ∷ []) $
-            by ! (exits (ends₈ .0) (ends₆ .1 .1 .1 .1 .1 .1 .1 .0) tt (vunit) len₈ len₆ (then file nets hosts octets run i w asked q z low high v o (ends₆ .1 .1 .1 .1 .1 .1 .1 .0) y (ends₈ .0) φ₁ φ₂ φ₃ φ₄ φ₅ φ₆ φ₇ φ₈)))))))))))))))))))))))))))))))))))))))))))))))))))))))))))))))))))))))))
-
-  -- γ is the function's `code.env`, f and the others are the keys
-  module _ {M : Type 1} (𝓤 : URA M) (H : Heap 𝓤) (𝓜 : Model 𝓤 H) (𝓖 : GhostRules 𝓤 H) (𝓡 : Running 𝓤 H 𝓜) (asks₁ : List (ℕ) → (unsigned w64) .row .Denot → J .row .Denot → SProp 𝓤) (gives₁ : List (ℕ) → (unsigned w64) .row .Denot → J .row .Denot → XQ .row .Denot → Type 0) (asks₂ : (unsigned w64) .row .Denot → XD .row .Denot → SProp 𝓤) (gives₂ : (unsigned w64) .row .Denot → XD .row .Denot → Z .row .Denot → Type 0) (asks₃ : (unsigned w64) .row .Denot → SProp 𝓤) (gives₃ : (unsigned w64) .row .Denot → (unsigned w64) .row .Denot → Type 0) (asks₄ : (unsigned w64) .row .Denot → SProp 𝓤) (gives₄ : (unsigned w64) .row .Denot → (unsigned w64) .row .Denot → Type 0) (asks₅ : List (S .S .D) → Z .row .Denot → SProp 𝓤) (gives₅ : List (S .S .D) → Z .row .Denot → XB .row .Denot → Type 0) (asks₆ : XD .row .Denot → Nets .S .D → XN .row .Denot → XC .row .Denot → XL .row .Denot → XF .row .Denot → List (ℕ) → List (E .S .D) → XI .row .Denot → SProp 𝓤) (gives₆ : XD .row .Denot → Nets .S .D → XN .row .Denot → XC .row .Denot → XL .row .Denot → XF .row .Denot → List (ℕ) → List (E .S .D) → XI .row .Denot → XP .row .Denot → List (E .S .D) → Type 0) (asks₇ : (unsigned w64) .row .Denot → XP .row .Denot → SProp 𝓤) (gives₇ : (unsigned w64) .row .Denot → XP .row .Denot → Y .row .Denot → Type 0) (asks₈ : List (S .S .D) → Y .row .Denot → SProp 𝓤) (gives₈ : List (S .S .D) → Y .row .Denot → List (S .S .D) → Type 0) (Asks : List (ℕ) → Nets .S .D → List (S .S .D) → List (ℕ) → List (E .S .D) → (unsigned w64) .row .Denot → J .row .Denot → Type 0) (Says : List (ℕ) → Nets .S .D → List (S .S .D) → List (ℕ) → List (E .S .D) → (unsigned w64) .row .Denot → J .row .Denot → List (S .S .D) → List (E .S .D) → Type 0)
-      (ok₁ : (file : List (ℕ)) (nets : Nets .S .D) (hosts : List (S .S .D)) (octets : List (ℕ)) (run : List (E .S .D)) (i : (unsigned w64) .row .Denot) (w : J .row .Denot) → Asks file nets hosts octets run i w → ent 𝓤 (emp 𝓤) (asks₁ file i w))
-      (ok₂ : (file : List (ℕ)) (nets : Nets .S .D) (hosts : List (S .S .D)) (octets : List (ℕ)) (run : List (E .S .D)) (i : (unsigned w64) .row .Denot) (w : J .row .Denot) → Asks file nets hosts octets run i w → (q : XQ .row .Denot) → gives₁ file i w q → ent 𝓤 (emp 𝓤) (asks₂ i (D .res (Q .form .read q .0))))
-      (ok₃ : (file : List (ℕ)) (nets : Nets .S .D) (hosts : List (S .S .D)) (octets : List (ℕ)) (run : List (E .S .D)) (i : (unsigned w64) .row .Denot) (w : J .row .Denot) → Asks file nets hosts octets run i w → (q : XQ .row .Denot) (z : Z .row .Denot) → gives₁ file i w q → gives₂ i (D .res (Q .form .read q .0)) z → ent 𝓤 (emp 𝓤) (asks₃ i))
-      (ok₄ : (file : List (ℕ)) (nets : Nets .S .D) (hosts : List (S .S .D)) (octets : List (ℕ)) (run : List (E .S .D)) (i : (unsigned w64) .row .Denot) (w : J .row .Denot) → Asks file nets hosts octets run i w → (q : XQ .row .Denot) (z : Z .row .Denot) (low : (unsigned w64) .row .Denot) → gives₁ file i w q → gives₂ i (D .res (Q .form .read q .0)) z → gives₃ i low → ent 𝓤 (emp 𝓤) (asks₄ i))
-      (ok₅ : (file : List (ℕ)) (nets : Nets .S .D) (hosts : List (S .S .D)) (octets : List (ℕ)) (run : List (E .S .D)) (i : (unsigned w64) .row .Denot) (w : J .row .Denot) → Asks file nets hosts octets run i w → (q : XQ .row .Denot) (z : Z .row .Denot) (low : (unsigned w64) .row .Denot) (high : (unsigned w64) .row .Denot) → gives₁ file i w q → gives₂ i (D .res (Q .form .read q .0)) z → gives₃ i low → gives₄ i high → ent 𝓤 (emp 𝓤) (asks₅ hosts z))
-      (within₆ : (file : List (ℕ)) (nets : Nets .S .D) (hosts : List (S .S .D)) (octets : List (ℕ)) (run : List (E .S .D)) (i : (unsigned w64) .row .Denot) (w : J .row .Denot) → Asks file nets hosts octets run i w → (q : XQ .row .Denot) (z : Z .row .Denot) (low : (unsigned w64) .row .Denot) (high : (unsigned w64) .row .Denot) (v : XB .row .Denot) → gives₁ file i w q → gives₂ i (D .res (Q .form .read q .0)) z → gives₃ i low → gives₄ i high → gives₅ hosts z v → (low ≤ high) × (high ≤ length octets))
-      (ok₆ : (file : List (ℕ)) (nets : Nets .S .D) (hosts : List (S .S .D)) (octets : List (ℕ)) (run : List (E .S .D)) (i : (unsigned w64) .row .Denot) (w : J .row .Denot) → Asks file nets hosts octets run i w → (q : XQ .row .Denot) (z : Z .row .Denot) (low : (unsigned w64) .row .Denot) (high : (unsigned w64) .row .Denot) (v : XB .row .Denot) → gives₁ file i w q → gives₂ i (D .res (Q .form .read q .0)) z → gives₃ i low → gives₄ i high → gives₅ hosts z v → ent 𝓤 (emp 𝓤) (asks₆ (D .res (Q .form .read q .0)) nets (N .res (Q .form .read q .1 .0)) (C .res (B .form .read v .0)) (L .res (B .form .read v .1 .0)) (F .res (B .form .read v .1 .1 .0)) (midOf low (high - low) octets) run (I .res (Q .form .read q .1 .1 .0))))
-      (ok₇ : (file : List (ℕ)) (nets : Nets .S .D) (hosts : List (S .S .D)) (octets : List (ℕ)) (run : List (E .S .D)) (i : (unsigned w64) .row .Denot) (w : J .row .Denot) → Asks file nets hosts octets run i w → (q : XQ .row .Denot) (z : Z .row .Denot) (low : (unsigned w64) .row .Denot) (high : (unsigned w64) .row .Denot) (v : XB .row .Denot) (o : XP .row .Denot) (run′ : List (E .S .D)) → gives₁ file i w q → gives₂ i (D .res (Q .form .read q .0)) z → gives₃ i low → gives₄ i high → gives₅ hosts z v → gives₆ (D .res (Q .form .read q .0)) nets (N .res (Q .form .read q .1 .0)) (C .res (B .form .read v .0)) (L .res (B .form .read v .1 .0)) (F .res (B .form .read v .1 .1 .0)) (midOf low (high - low) octets) run (I .res (Q .form .read q .1 .1 .0)) o run′ → ent 𝓤 (emp 𝓤) (asks₇ i o))
-      (ok₈ : (file : List (ℕ)) (nets : Nets .S .D) (hosts : List (S .S .D)) (octets : List (ℕ)) (run : List (E .S .D)) (i : (unsigned w64) .row .Denot) (w : J .row .Denot) → Asks file nets hosts octets run i w → (q : XQ .row .Denot) (z : Z .row .Denot) (low : (unsigned w64) .row .Denot) (high : (unsigned w64) .row .Denot) (v : XB .row .Denot) (o : XP .row .Denot) (run′ : List (E .S .D)) (y : Y .row .Denot) → gives₁ file i w q → gives₂ i (D .res (Q .form .read q .0)) z → gives₃ i low → gives₄ i high → gives₅ hosts z v → gives₆ (D .res (Q .form .read q .0)) nets (N .res (Q .form .read q .1 .0)) (C .res (B .form .read v .0)) (L .res (B .form .read v .1 .0)) (F .res (B .form .read v .1 .1 .0)) (midOf low (high - low) octets) run (I .res (Q .form .read q .1 .1 .0)) o run′ → gives₇ i o y → ent 𝓤 (emp 𝓤) (asks₈ hosts y))
-      (then : (file : List (ℕ)) (nets : Nets .S .D) (hosts : List (S .S .D)) (octets : List (ℕ)) (run : List (E .S .D)) (i : (unsigned w64) .row .Denot) (w : J .row .Denot) → Asks file nets hosts octets run i w → (q : XQ .row .Denot) (z : Z .row .Denot) (low : (unsigned w64) .row .Denot) (high : (unsigned w64) .row .Denot) (v : XB .row .Denot) (o : XP .row .Denot) (run′ : List (E .S .D)) (y : Y .row .Denot) (hosts′ : List (S .S .D)) → gives₁ file i w q → gives₂ i (D .res (Q .form .read q .0)) z → gives₃ i low → gives₄ i high → gives₅ hosts z v → gives₆ (D .res (Q .form .read q .0)) nets (N .res (Q .form .read q .1 .0)) (C .res (B .form .read v .0)) (L .res (B .form .read v .1 .0)) (F .res (B .form .read v .1 .1 .0)) (midOf low (high - low) octets) run (I .res (Q .form .read q .1 .1 .0)) o run′ → gives₇ i o y → gives₈ hosts y hosts′ → Says file nets hosts octets run i w hosts′ run′)
+  module _ {M : Type 1} (𝓤 : URA M) (H : Heap 𝓤) (𝓜 : Model 𝓤 H) (𝓖 : GhostRules 𝓤 H) (𝓡 : Running 𝓤 H 𝓜) (asks₁ : Asking form₁ 𝓤) (gives₁ : Giving form₁) (asks₂ : Asking form₂ 𝓤) (gives₂ : Giving form₂) (asks₃ : Asking form₃ 𝓤) (gives₃ : Giving form₃) (asks₄ : Asking form₄ 𝓤) (gives₄ : Giving form₄) (asks₅ : Asking form₅ 𝓤) (gives₅ : Giving form₅) (asks₆ : Asking form₆ 𝓤) (gives₆ : Giving form₆) (asks₇ : Asking form₇ 𝓤) (gives₇ : Giving form₇) (asks₈ : Asking form₈ 𝓤) (gives₈ : Giving form₈) (Asks : Over (takes form₀) (Type 0)) (Says : Saying form₀)
+      (ok₁ : Each (takes form₀) (λ file nets hosts octets run i w. Asks file nets hosts octets run i w → ent 𝓤 (emp 𝓤) (asks₁ file i w)))
+      (ok₂ : Each (takes form₀) (λ file nets hosts octets run i w. Asks file nets hosts octets run i w → (q : (by-value (whole Q)) .row .Denot) → gives₁ file i w q → ent 𝓤 (emp 𝓤) (asks₂ i (D .res (Q .form .read q .0)))))
+      (ok₃ : Each (takes form₀) (λ file nets hosts octets run i w. Asks file nets hosts octets run i w → (q : (by-value (whole Q)) .row .Denot) (z : Z .row .Denot) → gives₁ file i w q → gives₂ i (D .res (Q .form .read q .0)) z → ent 𝓤 (emp 𝓤) (asks₃ i)))
+      (ok₄ : Each (takes form₀) (λ file nets hosts octets run i w. Asks file nets hosts octets run i w → (q : (by-value (whole Q)) .row .Denot) (z : Z .row .Denot) (low : (unsigned w64) .row .Denot) → gives₁ file i w q → gives₂ i (D .res (Q .form .read q .0)) z → gives₃ i low → ent 𝓤 (emp 𝓤) (asks₄ i)))
+      (ok₅ : Each (takes form₀) (λ file nets hosts octets run i w. Asks file nets hosts octets run i w → (q : (by-value (whole Q)) .row .Denot) (z : Z .row .Denot) (low : (unsigned w64) .row .Denot) (high : (unsigned w64) .row .Denot) → gives₁ file i w q → gives₂ i (D .res (Q .form .read q .0)) z → gives₃ i low → gives₄ i high → ent 𝓤 (emp 𝓤) (asks₅ hosts z)))
+      (within₆ : Each (takes form₀) (λ file nets hosts octets run i w. Asks file nets hosts octets run i w → (q : (by-value (whole Q)) .row .Denot) (z : Z .row .Denot) (low : (unsigned w64) .row .Denot) (high : (unsigned w64) .row .Denot) (v : (by-value (whole B)) .row .Denot) → gives₁ file i w q → gives₂ i (D .res (Q .form .read q .0)) z → gives₃ i low → gives₄ i high → gives₅ hosts z v → (low ≤ high) × (high ≤ length octets)))
+      (ok₆ : Each (takes form₀) (λ file nets hosts octets run i w. Asks file nets hosts octets run i w → (q : (by-value (whole Q)) .row .Denot) (z : Z .row .Denot) (low : (unsigned w64) .row .Denot) (high : (unsigned w64) .row .Denot) (v : (by-value (whole B)) .row .Denot) → gives₁ file i w q → gives₂ i (D .res (Q .form .read q .0)) z → gives₃ i low → gives₄ i high → gives₅ hosts z v → ent 𝓤 (emp 𝓤) (asks₆ (D .res (Q .form .read q .0)) nets (N .res (Q .form .read q .1 .0)) (C .res (B .form .read v .0)) (L .res (B .form .read v .1 .0)) (F .res (B .form .read v .1 .1 .0)) (midOf low (high - low) octets) run (I .res (Q .form .read q .1 .1 .0)))))
+      (ok₇ : Each (takes form₀) (λ file nets hosts octets run i w. Asks file nets hosts octets run i w → (q : (by-value (whole Q)) .row .Denot) (z : Z .row .Denot) (low : (unsigned w64) .row .Denot) (high : (unsigned w64) .row .Denot) (v : (by-value (whole B)) .row .Denot) (o : (by-value (whole P)) .row .Denot) (run′ : List (E .S .D)) → gives₁ file i w q → gives₂ i (D .res (Q .form .read q .0)) z → gives₃ i low → gives₄ i high → gives₅ hosts z v → gives₆ (D .res (Q .form .read q .0)) nets (N .res (Q .form .read q .1 .0)) (C .res (B .form .read v .0)) (L .res (B .form .read v .1 .0)) (F .res (B .form .read v .1 .1 .0)) (midOf low (high - low) octets) run (I .res (Q .form .read q .1 .1 .0)) o run′ → ent 𝓤 (emp 𝓤) (asks₇ i o)))
+      (ok₈ : Each (takes form₀) (λ file nets hosts octets run i w. Asks file nets hosts octets run i w → (q : (by-value (whole Q)) .row .Denot) (z : Z .row .Denot) (low : (unsigned w64) .row .Denot) (high : (unsigned w64) .row .Denot) (v : (by-value (whole B)) .row .Denot) (o : (by-value (whole P)) .row .Denot) (run′ : List (E .S .D)) (y : Y .row .Denot) → gives₁ file i w q → gives₂ i (D .res (Q .form .read q .0)) z → gives₃ i low → gives₄ i high → gives₅ hosts z v → gives₆ (D .res (Q .form .read q .0)) nets (N .res (Q .form .read q .1 .0)) (C .res (B .form .read v .0)) (L .res (B .form .read v .1 .0)) (F .res (B .form .read v .1 .1 .0)) (midOf low (high - low) octets) run (I .res (Q .form .read q .1 .1 .0)) o run′ → gives₇ i o y → ent 𝓤 (emp 𝓤) (asks₈ hosts y)))
+      (then : Each (takes form₀) (λ file nets hosts octets run i w. Asks file nets hosts octets run i w → (q : (by-value (whole Q)) .row .Denot) (z : Z .row .Denot) (low : (unsigned w64) .row .Denot) (high : (unsigned w64) .row .Denot) (v : (by-value (whole B)) .row .Denot) (o : (by-value (whole P)) .row .Denot) (run′ : List (E .S .D)) (y : Y .row .Denot) (hosts′ : List (S .S .D)) → gives₁ file i w q → gives₂ i (D .res (Q .form .read q .0)) z → gives₃ i low → gives₄ i high → gives₅ hosts z v → gives₆ (D .res (Q .form .read q .0)) nets (N .res (Q .form .read q .1 .0)) (C .res (B .form .read v .0)) (L .res (B .form .read v .1 .0)) (F .res (B .form .read v .1 .1 .0)) (midOf low (high - low) octets) run (I .res (Q .form .read q .1 .1 .0)) o run′ → gives₇ i o y → gives₈ hosts y hosts′ → Says file nets hosts octets run i w hosts′ run′))
       (γ : Env) (f g₁ g₂ g₃ g₄ g₅ g₆ g₇ g₈ : Name) (r₁ r₂ r₃ r₄ r₅ r₆ r₇ r₈ : Routine) where
-    abbrev Clauses′ : Clauses 𝓤 ended
-    Clauses′ = clauses 𝓤 H (𝓖 .A) asks₁ gives₁ asks₂ gives₂ asks₃ gives₃ asks₄ gives₄ asks₅ gives₅ asks₆ gives₆ asks₇ gives₇ asks₈ gives₈ Asks Says
+    abbrev job : Job 𝓤
+    job = record { code = code g₁ g₂ g₃ g₄ g₅ g₆ g₇ g₈; itself = given-that 𝓤 form₀ Asks Says; calls = (g₁, r₁, callee 𝓤 form₁ asks₁ gives₁) ∷ (g₂, r₂, callee 𝓤 form₂ asks₂ gives₂) ∷ (g₃, r₃, callee 𝓤 form₃ asks₃ gives₃) ∷ (g₄, r₄, callee 𝓤 form₄ asks₄ gives₄) ∷ (g₅, r₅, callee 𝓤 form₅ asks₅ gives₅) ∷ (g₆, r₆, callee 𝓤 form₆ asks₆ gives₆) ∷ (g₇, r₇, callee 𝓤 form₇ asks₇ gives₇) ∷ (g₈, r₈, callee 𝓤 form₈ asks₈ gives₈) ∷ [] }
 
-    meets : (W : Given 𝓤 H (𝓖 .A)) (𝓣 : Tables 𝓤 H) → Triple 𝓤 (𝓣 .C g₁) (Contract₁ 𝓤 H (𝓖 .A) asks₁ gives₁ asks₂ gives₂ asks₃ gives₃ asks₄ gives₄ asks₅ gives₅ asks₆ gives₆ asks₇ gives₇ asks₈ gives₈ Asks Says) → Triple 𝓤 (𝓣 .C g₂) (Contract₂ 𝓤 H (𝓖 .A) asks₁ gives₁ asks₂ gives₂ asks₃ gives₃ asks₄ gives₄ asks₅ gives₅ asks₆ gives₆ asks₇ gives₇ asks₈ gives₈ Asks Says) → Triple 𝓤 (𝓣 .C g₃) (Contract₃ 𝓤 H (𝓖 .A) asks₁ gives₁ asks₂ gives₂ asks₃ gives₃ asks₄ gives₄ asks₅ gives₅ asks₆ gives₆ asks₇ gives₇ asks₈ gives₈ Asks Says) → Triple 𝓤 (𝓣 .C g₄) (Contract₄ 𝓤 H (𝓖 .A) asks₁ gives₁ asks₂ gives₂ asks₃ gives₃ asks₄ gives₄ asks₅ gives₅ asks₆ gives₆ asks₇ gives₇ asks₈ gives₈ Asks Says) → Triple 𝓤 (𝓣 .C g₅) (Contract₅ 𝓤 H (𝓖 .A) asks₁ gives₁ asks₂ gives₂ asks₃ gives₃ asks₄ gives₄ asks₅ gives₅ asks₆ gives₆ asks₇ gives₇ asks₈ gives₈ Asks Says) → Triple 𝓤 (𝓣 .C g₆) (Contract₆ 𝓤 H (𝓖 .A) asks₁ gives₁ asks₂ gives₂ asks₃ gives₃ asks₄ gives₄ asks₅ gives₅ asks₆ gives₆ asks₇ gives₇ asks₈ gives₈ Asks Says) → Triple 𝓤 (𝓣 .C g₇) (Contract₇ 𝓤 H (𝓖 .A) asks₁ gives₁ asks₂ gives₂ asks₃ gives₃ asks₄ gives₄ asks₅ gives₅ asks₆ gives₆ asks₇ gives₇ asks₈ gives₈ Asks Says) → Triple 𝓤 (𝓣 .C g₈) (Contract₈ 𝓤 H (𝓖 .A) asks₁ gives₁ asks₂ gives₂ asks₃ gives₃ asks₄ gives₄ asks₅ gives₅ asks₆ gives₆ asks₇ gives₇ asks₈ gives₈ Asks Says) → Meets 𝓤 H (𝓖 .A) signature (WpFn 𝓤 H (𝓣 .C) (𝓣 .Λ) (function g₁ g₂ g₃ g₄ g₅ g₆ g₇ g₈)) (closing 𝓤 H (𝓖 .A) ended Clauses′)
-    meets W 𝓣 known₁ known₂ known₃ known₄ known₅ known₆ known₇ known₈ =
-        walk-meets 𝓤 H (𝓖 .A) ended stayed W
-        (goes-dropped 𝓤 H (𝓖 .A) W 5 (shrSliceOf (0 ∷ []) tt (plain (λ _. u8))) yes (λ κs x f. refl), (goes-dropped 𝓤 H (𝓖 .A) W 5 (shrRefTo (1 ∷ []) tt (plain (λ _. RNets))) yes (λ κs x f. refl), (goes-gave-slice 𝓤 H (𝓖 .A) W 5 2 tt (plain (λ _. RS)), (goes-dropped 𝓤 H (𝓖 .A) W 5 (shrSliceOf (3 ∷ []) tt (plain (λ _. u8))) yes (λ κs x f. refl), (goes-gave-slice 𝓤 H (𝓖 .A) W 5 4 tt (plain (λ _. RE)), (goes-dropped 𝓤 H (𝓖 .A) W 5 (plain (λ _. (unsigned w64) .row)) yes (λ κs. (unsigned w64) .silent), (goes-dropped 𝓤 H (𝓖 .A) W 5 (plain (λ _. J .row)) yes (λ κs. J .silent), tt)))))))
-        Clauses′ (WpFn 𝓤 H (𝓣 .C) (𝓣 .Λ) (function g₁ g₂ g₃ g₄ g₅ g₆ g₇ g₈)) (WpFn-mono 𝓤 H (W .laws) 𝓣 (function g₁ g₂ g₃ g₄ g₅ g₆ g₇ g₈))
-        (walked 𝓤 H (𝓖 .A) ended stayed Clauses′ (WpFn 𝓤 H (𝓣 .C) (𝓣 .Λ) (function g₁ g₂ g₃ g₄ g₅ g₆ g₇ g₈)) (λ κs. (slice-vals, (ptr-vals, (slice-vals, (slice-vals, (slice-vals, ((λ m. (unsigned w64) .val m ∷ []), ((λ m. J .val m ∷ []), tt))))))))
-        (λ κs. (shr-slice-tells (named 0) (κs .0) u8, (shr-tells (named 1) (κs .1 .0) RNets, (mut-slice-tells (named 2) (κs .1 .1 .0) RS, (shr-slice-tells (named 3) (κs .1 .1 .1 .0) u8, (mut-slice-tells (named 4) (κs .1 .1 .1 .1 .0) RE, ((unsigned w64) .tells, (J .tells, tt))))))))
-        (λ κs qs bounds a _ are. needs 𝓤 (Asks (a .0 .now) (a .1 .0 .now) (a .1 .1 .0 .now) (a .1 .1 .1 .0 .now) (a .1 .1 .1 .1 .0 .now) (a .1 .1 .1 .1 .1 .0) (a .1 .1 .1 .1 .1 .1 .0)) _ (λ asked. walk 𝓤 H (𝓖 .A) asks₁ gives₁ asks₂ gives₂ asks₃ gives₃ asks₄ gives₄ asks₅ gives₅ asks₆ gives₆ asks₇ gives₇ asks₈ gives₈ Asks Says W ok₁ ok₂ ok₃ ok₄ ok₅ within₆ ok₆ ok₇ ok₈ then
-        (κs .0) (κs .1 .0) (κs .1 .1 .0) (κs .1 .1 .1 .0) (κs .1 .1 .1 .1 .0) (qs .0) (qs .1 .0) (qs .1 .1 .0) (qs .1 .1 .1 .0) (qs .1 .1 .1 .1 .0) (a .0 .ptr .0) (a .0 .ptr .1) (a .1 .0 .ptr .0) (a .1 .0 .ptr .1) (a .1 .1 .0 .ptr .0) (a .1 .1 .0 .ptr .1) (a .1 .1 .1 .0 .ptr .0) (a .1 .1 .1 .0 .ptr .1) (a .1 .1 .1 .1 .0 .ptr .0) (a .1 .1 .1 .1 .0 .ptr .1) (a .0 .name) (a .1 .0 .name) (a .1 .1 .0 .name) (a .1 .1 .1 .0 .name) (a .1 .1 .1 .1 .0 .name) (a .0 .now) (a .1 .0 .now) (a .1 .1 .0 .now) (a .1 .1 .1 .0 .now) (a .1 .1 .1 .1 .0 .now) (a .1 .1 .1 .1 .1 .0) (a .1 .1 .1 .1 .1 .1 .0) (are .1 .1 .1 .1 .1 .0) (are .1 .1 .1 .1 .1 .1 .0) (are .0 .0 .1) (are .1 .1 .0 .0 .1) (are .1 .1 .1 .0 .0 .1) (are .1 .1 .1 .1 .0 .0 .1)
-        asked (𝓣 .C) (𝓣 .Λ) g₁ g₂ g₃ g₄ g₅ g₆ g₇ g₈ (fmOf 𝓤 H (W .laws) 𝓣) known₁ known₂ known₃ known₄ known₅ known₆ known₇ known₈)))
-
-    pub proof : γ g₁ ≡ r₁ → γ g₂ ≡ r₂ → γ g₃ ≡ r₃ → γ g₄ ≡ r₄ → γ g₅ ≡ r₅ → γ g₆ ≡ r₆ → γ g₇ ≡ r₇ → γ g₈ ≡ r₈ → Closed 𝓤 H (tables 𝓤 H 𝓜 𝓡 γ .C) (tables 𝓤 H 𝓜 𝓡 γ .Λ) f (function g₁ g₂ g₃ g₄ g₅ g₆ g₇ g₈) → Triple 𝓤 (𝓡 .run r₁) (Contract₁ 𝓤 H (𝓖 .A) asks₁ gives₁ asks₂ gives₂ asks₃ gives₃ asks₄ gives₄ asks₅ gives₅ asks₆ gives₆ asks₇ gives₇ asks₈ gives₈ Asks Says) → Triple 𝓤 (𝓡 .run r₂) (Contract₂ 𝓤 H (𝓖 .A) asks₁ gives₁ asks₂ gives₂ asks₃ gives₃ asks₄ gives₄ asks₅ gives₅ asks₆ gives₆ asks₇ gives₇ asks₈ gives₈ Asks Says) → Triple 𝓤 (𝓡 .run r₃) (Contract₃ 𝓤 H (𝓖 .A) asks₁ gives₁ asks₂ gives₂ asks₃ gives₃ asks₄ gives₄ asks₅ gives₅ asks₆ gives₆ asks₇ gives₇ asks₈ gives₈ Asks Says) → Triple 𝓤 (𝓡 .run r₄) (Contract₄ 𝓤 H (𝓖 .A) asks₁ gives₁ asks₂ gives₂ asks₃ gives₃ asks₄ gives₄ asks₅ gives₅ asks₆ gives₆ asks₇ gives₇ asks₈ gives₈ Asks Says) → Triple 𝓤 (𝓡 .run r₅) (Contract₅ 𝓤 H (𝓖 .A) asks₁ gives₁ asks₂ gives₂ asks₃ gives₃ asks₄ gives₄ asks₅ gives₅ asks₆ gives₆ asks₇ gives₇ asks₈ gives₈ Asks Says) → Triple 𝓤 (𝓡 .run r₆) (Contract₆ 𝓤 H (𝓖 .A) asks₁ gives₁ asks₂ gives₂ asks₃ gives₃ asks₄ gives₄ asks₅ gives₅ asks₆ gives₆ asks₇ gives₇ asks₈ gives₈ Asks Says) → Triple 𝓤 (𝓡 .run r₇) (Contract₇ 𝓤 H (𝓖 .A) asks₁ gives₁ asks₂ gives₂ asks₃ gives₃ asks₄ gives₄ asks₅ gives₅ asks₆ gives₆ asks₇ gives₇ asks₈ gives₈ Asks Says) → Triple 𝓤 (𝓡 .run r₈) (Contract₈ 𝓤 H (𝓖 .A) asks₁ gives₁ asks₂ gives₂ asks₃ gives₃ asks₄ gives₄ asks₅ gives₅ asks₆ gives₆ asks₇ gives₇ asks₈ gives₈ Asks Says)
-        → Meets 𝓤 H (𝓖 .A) signature (𝓡 .run (γ f)) (closing 𝓤 H (𝓖 .A) ended Clauses′)
-    unfolding tablesOf
-    proof calls₁ calls₂ calls₃ calls₄ calls₅ calls₆ calls₇ calls₈ closed known₁ known₂ known₃ known₄ known₅ known₆ known₇ known₈ =
-        entered 𝓤 H (tripleOf 𝓤 H (𝓖 .A) signature (closing 𝓤 H (𝓖 .A) ended Clauses′)) (tables 𝓤 H 𝓜 𝓡 γ .C) (tables 𝓤 H 𝓜 𝓡 γ .Λ) f (function g₁ g₂ g₃ g₄ g₅ g₆ g₇ g₈) closed
-        (meets (givenOf 𝓤 H 𝓜 𝓖) (tablesOf 𝓤 H 𝓜 (tables 𝓤 H 𝓜 𝓡 γ))
-        (cited 𝓤 H (Contract₁ 𝓤 H (𝓖 .A) asks₁ gives₁ asks₂ gives₂ asks₃ gives₃ asks₄ gives₄ asks₅ gives₅ asks₆ gives₆ asks₇ gives₇ asks₈ gives₈ Asks Says) 𝓜 𝓡 γ g₁ r₁ calls₁ known₁)
-        (cited 𝓤 H (Contract₂ 𝓤 H (𝓖 .A) asks₁ gives₁ asks₂ gives₂ asks₃ gives₃ asks₄ gives₄ asks₅ gives₅ asks₆ gives₆ asks₇ gives₇ asks₈ gives₈ Asks Says) 𝓜 𝓡 γ g₂ r₂ calls₂ known₂)
-        (cited 𝓤 H (Contract₃ 𝓤 H (𝓖 .A) asks₁ gives₁ asks₂ gives₂ asks₃ gives₃ asks₄ gives₄ asks₅ gives₅ asks₆ gives₆ asks₇ gives₇ asks₈ gives₈ Asks Says) 𝓜 𝓡 γ g₃ r₃ calls₃ known₃)
-        (cited 𝓤 H (Contract₄ 𝓤 H (𝓖 .A) asks₁ gives₁ asks₂ gives₂ asks₃ gives₃ asks₄ gives₄ asks₅ gives₅ asks₆ gives₆ asks₇ gives₇ asks₈ gives₈ Asks Says) 𝓜 𝓡 γ g₄ r₄ calls₄ known₄)
-        (cited 𝓤 H (Contract₅ 𝓤 H (𝓖 .A) asks₁ gives₁ asks₂ gives₂ asks₃ gives₃ asks₄ gives₄ asks₅ gives₅ asks₆ gives₆ asks₇ gives₇ asks₈ gives₈ Asks Says) 𝓜 𝓡 γ g₅ r₅ calls₅ known₅)
-        (cited 𝓤 H (Contract₆ 𝓤 H (𝓖 .A) asks₁ gives₁ asks₂ gives₂ asks₃ gives₃ asks₄ gives₄ asks₅ gives₅ asks₆ gives₆ asks₇ gives₇ asks₈ gives₈ Asks Says) 𝓜 𝓡 γ g₆ r₆ calls₆ known₆)
-        (cited 𝓤 H (Contract₇ 𝓤 H (𝓖 .A) asks₁ gives₁ asks₂ gives₂ asks₃ gives₃ asks₄ gives₄ asks₅ gives₅ asks₆ gives₆ asks₇ gives₇ asks₈ gives₈ Asks Says) 𝓜 𝓡 γ g₇ r₇ calls₇ known₇)
-        (cited 𝓤 H (Contract₈ 𝓤 H (𝓖 .A) asks₁ gives₁ asks₂ gives₂ asks₃ gives₃ asks₄ gives₄ asks₅ gives₅ asks₆ gives₆ asks₇ gives₇ asks₈ gives₈ Asks Says) 𝓜 𝓡 γ g₈ r₈ calls₈ known₈))
+    pub proof : Proven 𝓤 H 𝓜 𝓖 𝓡 γ f job
+    proof = lawful 𝓤 H 𝓜 𝓖 𝓡 γ f job _ refl (λ W T Λ fm (known₁, (known₂, (known₃, (known₄, (known₅, (known₆, (known₇, (known₈, _)))))))) κs qs (file, (nets, (hosts, (octets, (run, (i, (w, _))))))) (is-file, (_, (is-hosts, (is-octets, (is-run, (is-i, (is-w, _))))))) β Kf done.
+        learns ! 5 (Asks (file .now) (nets .now) (hosts .now) (octets .now) (run .now) i w) refl (λ asked.
+        calls ! fm (callee 𝓤 form₁ asks₁ gives₁) known₁ (shares ! 0 tt refl (val ! tt refl is-i (val ! tt refl is-w (nothing-more !)))) (ok₁ (file .now) (nets .now) (hosts .now) (octets .now) (run .now) i w asked) tt refl (λ q ws₁ φ₁ is-q.
+        calls ! fm (callee 𝓤 form₂ asks₂ gives₂) known₂ (val ! tt refl is-i (value ! (part ! tt refl refl) (is-part D (Q .form .read q .0) (owed-of Q is-q .0)) (nothing-more !))) (ok₂ (file .now) (nets .now) (hosts .now) (octets .now) (run .now) i w asked q φ₁) tt refl (λ z ws₂ φ₂ is-z.
+        calls ! fm (callee 𝓤 form₃ asks₃ gives₃) known₃ (val ! tt refl is-i (nothing-more !)) (ok₃ (file .now) (nets .now) (hosts .now) (octets .now) (run .now) i w asked q z φ₁ φ₂) tt refl (λ low ws₃ φ₃ is-low.
+        calls ! fm (callee 𝓤 form₄ asks₄ gives₄) known₄ (val ! tt refl is-i (nothing-more !)) (ok₄ (file .now) (nets .now) (hosts .now) (octets .now) (run .now) i w asked q z low φ₁ φ₂ φ₃) tt refl (λ high ws₄ φ₄ is-high.
+        slices ! refl tt tt tt refl (is-hosts .0) (
+        lends ! 2 refl (λ α₅ δ₅.
+        calls ! fm (callee 𝓤 form₅ asks₅ gives₅) known₅ (shares ! 2 tt refl (val ! tt refl is-z (nothing-more !))) (ok₅ (file .now) (nets .now) (hosts .now) (octets .now) (run .now) i w asked q z low high φ₁ φ₂ φ₃ φ₄) tt refl (λ v ws₅ φ₅ is-v.
+        back ! 2 refl refl (
+        begins ! refl tt tt tt (
+        counts ! refl tt tt tt (is-high .is .1) ((within₆ (file .now) (nets .now) (hosts .now) (octets .now) (run .now) i w asked q z low high v φ₁ φ₂ φ₃ φ₄ φ₅) .0) (
+        points ! refl tt tt (tt, tt) (
+        pairs ! refl tt tt tt (fewer low high (is-high .is .1)) (
+        slices ! refl tt tt tt refl (is-run .0) (
+        cuts ! 3 refl low high (within₆ (file .now) (nets .now) (hosts .now) (octets .now) (run .now) i w asked q z low high v φ₁ φ₂ φ₃ φ₄ φ₅) (λ δ₆.
+        calls ! fm (callee 𝓤 form₆ asks₆ gives₆) known₆ (value ! (part ! tt refl refl) (is-part D (Q .form .read q .0) (owed-of Q is-q .0)) (share ! 1 tt refl (value ! (part ! tt refl refl) (is-part N (Q .form .read q .1 .0) (owed-of Q is-q .1 .0)) (value ! (part ! tt refl refl) (is-part C (B .form .read v .0) (owed-of B is-v .0)) (value ! (part ! tt refl refl) (is-part L (B .form .read v .1 .0) (owed-of B is-v .1 .0)) (value ! (part ! tt refl refl) (is-part F (B .form .read v .1 .1 .0) (owed-of B is-v .1 .1 .0)) (shares ! 2 tt refl (gives ! 3 tt refl (value ! (part ! tt refl refl) (is-part I (Q .form .read q .1 .1 .0) (owed-of Q is-q .1 .1 .0)) (nothing-more !)))))))))) (ok₆ (file .now) (nets .now) (hosts .now) (octets .now) (run .now) i w asked q z low high v φ₁ φ₂ φ₃ φ₄ φ₅) tt refl (λ o ws₆ φ₆ is-o.
+        joined ! 3 refl refl (
+        calls ! fm (callee 𝓤 form₇ asks₇ gives₇) known₇ (val ! tt refl is-i (val ! tt refl is-o (nothing-more !))) (ok₇ (file .now) (nets .now) (hosts .now) (octets .now) (run .now) i w asked q z low high v o (ws₆ .1 .1 .1 .1 .1 .1 .1 .0) φ₁ φ₂ φ₃ φ₄ φ₅ φ₆) tt refl (λ y ws₇ φ₇ is-y.
+        slices ! refl tt tt tt refl (is-hosts .0) (
+        calls ! fm (callee 𝓤 form₈ asks₈ gives₈) known₈ (gives ! 2 tt refl (val ! tt refl is-y (nothing-more !))) (ok₈ (file .now) (nets .now) (hosts .now) (octets .now) (run .now) i w asked q z low high v o (ws₆ .1 .1 .1 .1 .1 .1 .1 .0) y φ₁ φ₂ φ₃ φ₄ φ₅ φ₆ φ₇) tt refl (λ u₈ ws₈ φ₈ is-u₈.
+        sets ! (unit !) tt (tt, tt) (
+        finish ! done tt refl is-unit (goes ∷ goes ∷ []) _ _ refl (then (file .now) (nets .now) (hosts .now) (octets .now) (run .now) i w asked q z low high v o (ws₆ .1 .1 .1 .1 .1 .1 .1 .0) y (ws₈ .0) φ₁ φ₂ φ₃ φ₄ φ₅ φ₆ φ₇ φ₈)))))))))))))))))))))))

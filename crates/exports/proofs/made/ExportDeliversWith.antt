@@ -1,266 +1,41 @@
 -- The law of a thin function: `fn ExportDeliversWith(settings: &S, nets: &Nets, number: N, clock: &mut C, links: &mut L, stand: &F, octets: &[u8], run: &mut [E], link: Y, counter: Z, packet: &[u8]) -> K { let d: I = delivery(link, counter); let a: O = call(settings, nets, number, clock, links, stand, octets, run, d, packet); answer(a) }`.
 -- It is one walk of that MIR, for any types and any contracts of the functions that are called. The author shows that each of them is asked for no more than what is known (`ok`), and that what they say comes to what the function says (`then`).
 -- Made by tools/laws/make. Assumes nothing.
-use Rattle.lent.proofs.Walk.{_≡_, refl, ap, ℕ, List, [], _∷_, length, T, URA, fullShare, Name, Fn, named, erased, mut, imm, tyRef, tyInt, w8, local, valueLocal, place, deref, field, copy, addrOf, aggregate, assign, call, seq, return, Val, vptr, SProp, ent, sep, emp, id⊢, GName, Lft, Share, ftrue, fat, flft, fres, Model, Routine, Env, Heap, Calls, Loops, WpFn, Tables, Closed, Atoms, fact, GhostRules, Running, givenOf, tables, Given, ‵, raw, _⊛_, ⋆, some, later, _$_, _∵_, !, qed, by, move, keep, drop, use0, use1, use3, split, join, pick, rewrite, fsplit, fjoin, feqL, suffices, frame, await, done, look, init, forget, stop, hop, fld, from, load, addr, and-then, no-more, assigns, land, returns, enter, alloc1, alloc0, params1, pass1, pass0, free1, free0, agg, whole-part, sub, look-in, FmC, fmOf, WpFn-mono, RattleType, owns, Is, shows, pointee, u8, RefOf, RefMutOf, SliceRefOf, SliceRefMutOf, RefT, MutRef, ShrRef, ptr-vals, mut-tells, shr-tells, shr-copy, sliceVal, sliceTy, slice-vals, MutSlice, ShrSlice, Room, finally, mut-slice-tells, shr-slice-tells, shr-slice-copy, Signature, plain, shrRefTo, shrSliceOf, only, owned, peeks, heard, nothing, layout, row, shape, onEntry, Meets, tripleOf, Contract, Triple, calls-at, entered, cited, Ended, Clauses, Lasts, closing, ensured, lasts, Stays, stay-dropped, gave-ref, gave-slice, says, walkOf, goes-dropped, goes-gave-ref, goes-gave-slice, ends-at, walked, walk-meets, yes}
-use Rattle.lent.proofs.Walk.{tablesOf}
-use denote.Struct.Laws as LL
-use Rattle.lent.proofs.Words.{Word, Data, by-value, settled, passed}
+use Rattle.lent.proofs.Thin.{refl, List, [], _∷_, URA, Name, Fn, tyRef, erased, mut, ent, emp, Model, Routine, Env, Heap, GhostRules, Running, !, u8, pointee, sliceTy, row, Word, Data, by-value, Form, form, by, ref, refmut, slice, slicemut, points, slices, nothing-more, val, share, shares, give, gives, calls, goes, finish, takes, Asking, Giving, Saying, Each, callee, function, thin, loc, invoke, point, point-in, slice-of, Job, Proven, lawful}
 
 module _ (N Y Z I O K : Word) (S Nets C L F E : Data) where
-  abbrev RS : RattleType
-  RS = row (S .S)
+  abbrev form₁ : Form
+  form₁ = form (by Y ∷ by Z ∷ []) I
 
-  abbrev RNets : RattleType
-  RNets = row (Nets .S)
+  abbrev form₂ : Form
+  form₂ = form (ref S ∷ ref Nets ∷ by N ∷ refmut C ∷ refmut L ∷ ref F ∷ slice u8 ∷ slicemut (row (E .S)) ∷ by I ∷ slice u8 ∷ []) O
 
-  abbrev RC : RattleType
-  RC = row (C .S)
+  abbrev form₃ : Form
+  form₃ = form (by O ∷ []) K
 
-  abbrev RL : RattleType
-  RL = row (L .S)
+  abbrev form₀ : Form
+  form₀ = form (ref S ∷ ref Nets ∷ by N ∷ refmut C ∷ refmut L ∷ ref F ∷ slice u8 ∷ slicemut (row (E .S)) ∷ by Y ∷ by Z ∷ slice u8 ∷ []) K
 
-  abbrev RF : RattleType
-  RF = row (F .S)
+  abbrev code : Name → Name → Name → Fn
+  code g₁ g₂ g₃ = thin form₀ (I .ty ∷ O .ty ∷ tyRef erased mut (pointee (row (C .S) .written)) ∷ tyRef erased mut (pointee (row (L .S) .written)) ∷ tyRef erased mut (pointee (row (E .S) .written)) ∷ sliceTy (tyRef erased mut (pointee (row (E .S) .written))) ∷ [])
+      (invoke g₁ (loc 9 ∷ loc 10 ∷ []) 12 ∷ point 14 4 (by-value C .ty) ∷ point 15 5 (by-value L .ty) ∷ point-in 16 8 (by-value E .ty) ∷ slice-of 17 16 8 ∷
+      invoke g₂ (loc 1 ∷ loc 2 ∷ loc 3 ∷ loc 14 ∷ loc 15 ∷ loc 6 ∷ loc 7 ∷ loc 17 ∷ loc 12 ∷ loc 11 ∷ []) 13 ∷ invoke g₃ (loc 13 ∷ []) 0 ∷ [])
 
-  abbrev RE : RattleType
-  RE = row (E .S)
-
-  abbrev XS : Word
-  XS = by-value S
-
-  abbrev XNets : Word
-  XNets = by-value Nets
-
-  abbrev XC : Word
-  XC = by-value C
-
-  abbrev XL : Word
-  XL = by-value L
-
-  abbrev XF : Word
-  XF = by-value F
-
-  abbrev XE : Word
-  XE = by-value E
-
-  abbrev signature₁ : Signature
-  signature₁ = record { lifetimes = 0; outlives = []; params = plain (λ _. Y .row) ∷ plain (λ _. Z .row) ∷ []; result = plain (λ _. I .row) }
-
-  abbrev ended₁ : Ended
-  ended₁ = record { signature = signature₁; kept = (yes, (yes, tt)) }
-
-  abbrev signature₂ : Signature
-  signature₂ = record { lifetimes = 8; outlives = []; params = RefOf (0 ∷ []) tt (plain (λ _. RS)) (λ _. tt) ∷ RefOf (1 ∷ []) tt (plain (λ _. RNets)) (λ _. tt) ∷ plain (λ _. N .row) ∷ RefMutOf (2 ∷ []) tt (plain (λ _. RC)) (λ _. tt) ∷ RefMutOf (3 ∷ []) tt (plain (λ _. RL)) (λ _. tt) ∷ RefOf (4 ∷ []) tt (plain (λ _. RF)) (λ _. tt) ∷ SliceRefOf (5 ∷ []) tt (plain (λ _. u8)) (λ _. tt) ∷ SliceRefMutOf (6 ∷ []) tt (plain (λ _. RE)) (λ _. tt) ∷ plain (λ _. I .row) ∷ SliceRefOf (7 ∷ []) tt (plain (λ _. u8)) (λ _. tt) ∷ []; result = plain (λ _. O .row) }
-
-  abbrev ended₂ : Ended
-  ended₂ = record { signature = signature₂; kept = (yes, (yes, (yes, (yes, (yes, (yes, (yes, (yes, (yes, (yes, tt)))))))))) }
-
-  abbrev signature₃ : Signature
-  signature₃ = record { lifetimes = 0; outlives = []; params = plain (λ _. O .row) ∷ []; result = plain (λ _. K .row) }
-
-  abbrev ended₃ : Ended
-  ended₃ = record { signature = signature₃; kept = (yes, tt) }
-
-  abbrev signature : Signature
-  signature = record { lifetimes = 8; outlives = []; params = RefOf (0 ∷ []) tt (plain (λ _. RS)) (λ _. tt) ∷ RefOf (1 ∷ []) tt (plain (λ _. RNets)) (λ _. tt) ∷ plain (λ _. N .row) ∷ RefMutOf (2 ∷ []) tt (plain (λ _. RC)) (λ _. tt) ∷ RefMutOf (3 ∷ []) tt (plain (λ _. RL)) (λ _. tt) ∷ RefOf (4 ∷ []) tt (plain (λ _. RF)) (λ _. tt) ∷ SliceRefOf (5 ∷ []) tt (plain (λ _. u8)) (λ _. tt) ∷ SliceRefMutOf (6 ∷ []) tt (plain (λ _. RE)) (λ _. tt) ∷ plain (λ _. Y .row) ∷ plain (λ _. Z .row) ∷ SliceRefOf (7 ∷ []) tt (plain (λ _. u8)) (λ _. tt) ∷ []; result = plain (λ _. K .row) }
-
-  abbrev ended : Ended
-  ended = record { signature = signature; kept = (yes, (yes, (yes, (yes, (yes, (yes, (yes, (yes, (yes, (yes, (yes, tt))))))))))) }
-
-  abbrev function : Name → Name → Name → Fn
-  function g₁ g₂ g₃ = record {
-    lifetimes = 8;
-    outlives = [];
-    params = 11;
-    locals = local (K .ty) valueLocal ∷ local (tyRef (named 0) imm (pointee (RS .written))) valueLocal ∷ local (tyRef (named 1) imm (pointee (RNets .written))) valueLocal ∷ local (N .ty) valueLocal ∷ local (tyRef (named 2) mut (pointee (RC .written))) valueLocal ∷ local (tyRef (named 3) mut (pointee (RL .written))) valueLocal ∷ local (tyRef (named 4) imm (pointee (RF .written))) valueLocal ∷ local (sliceTy (tyRef (named 5) imm (tyInt w8))) valueLocal ∷ local (sliceTy (tyRef (named 6) mut (pointee (RE .written)))) valueLocal ∷ local (Y .ty) valueLocal ∷ local (Z .ty) valueLocal ∷ local (sliceTy (tyRef (named 7) imm (tyInt w8))) valueLocal ∷ local (I .ty) valueLocal ∷ local (O .ty) valueLocal ∷ local (tyRef erased mut (pointee (RC .written))) valueLocal ∷ local (tyRef erased mut (pointee (RL .written))) valueLocal ∷ local (tyRef erased mut (pointee (RE .written))) valueLocal ∷ local (sliceTy (tyRef erased mut (pointee (RE .written)))) valueLocal ∷ [];
-    body = seq (call g₁ (copy (place 9 []) ∷ copy (place 10 []) ∷ []) (place 12 []))
-        (seq (assign (place 14 []) (addrOf (place 4 (deref (layout (shape (C .S))) ∷ []))))
-        (seq (assign (place 15 []) (addrOf (place 5 (deref (layout (shape (L .S))) ∷ []))))
-        (seq (assign (place 16 []) (addrOf (place 8 (field 0 ∷ deref (layout (shape (E .S))) ∷ []))))
-        (seq (assign (place 17 []) (aggregate (copy (place 16 []) ∷ copy (place 8 (field 1 ∷ [])) ∷ [])))
-        (seq (call g₂ (copy (place 1 []) ∷ copy (place 2 []) ∷ copy (place 3 []) ∷ copy (place 14 []) ∷ copy (place 15 []) ∷ copy (place 6 []) ∷ copy (place 7 []) ∷ copy (place 17 []) ∷ copy (place 12 []) ∷ copy (place 11 []) ∷ []) (place 13 []))
-        (seq (call g₃ (copy (place 13 []) ∷ []) (place 0 [])) return))))));
-  }
-
-  abbrev stayed : Stays (ended .signature .params) (ended .kept)
-  stayed = (stay-dropped (shrRefTo (0 ∷ []) tt (plain (λ _. RS))) yes, (stay-dropped (shrRefTo (1 ∷ []) tt (plain (λ _. RNets))) yes, (stay-dropped (plain (λ _. N .row)) yes, (gave-ref (2 ∷ []) tt (plain (λ _. RC)), (gave-ref (3 ∷ []) tt (plain (λ _. RL)), (stay-dropped (shrRefTo (4 ∷ []) tt (plain (λ _. RF))) yes, (stay-dropped (shrSliceOf (5 ∷ []) tt (plain (λ _. u8))) yes, (gave-slice (6 ∷ []) tt (plain (λ _. RE)), (stay-dropped (plain (λ _. Y .row)) yes, (stay-dropped (plain (λ _. Z .row)) yes, (stay-dropped (shrSliceOf (7 ∷ []) tt (plain (λ _. u8))) yes, tt)))))))))))
-
-  -- what each callee asks and says, and what the function says
-  module _ {M : Type 1} (𝓤 : URA M) (H : Heap 𝓤) (A : Atoms 𝓤) (asks₁ : Y .row .Denot → Z .row .Denot → SProp 𝓤) (gives₁ : Y .row .Denot → Z .row .Denot → I .row .Denot → Type 0) (asks₂ : S .S .D → Nets .S .D → N .row .Denot → C .S .D → L .S .D → F .S .D → List (ℕ) → List (E .S .D) → I .row .Denot → List (ℕ) → SProp 𝓤) (gives₂ : S .S .D → Nets .S .D → N .row .Denot → C .S .D → L .S .D → F .S .D → List (ℕ) → List (E .S .D) → I .row .Denot → List (ℕ) → O .row .Denot → C .S .D → L .S .D → List (E .S .D) → Type 0) (asks₃ : O .row .Denot → SProp 𝓤) (gives₃ : O .row .Denot → K .row .Denot → Type 0) (Says : S .S .D → Nets .S .D → N .row .Denot → C .S .D → L .S .D → F .S .D → List (ℕ) → List (E .S .D) → Y .row .Denot → Z .row .Denot → List (ℕ) → C .S .D → L .S .D → List (E .S .D) → K .row .Denot → Type 0) where
-    abbrev clauses₁ : Clauses 𝓤 ended₁
-    clauses₁ = λ κs a. record { ghost = Unit {0}; requires = λ _. asks₁ (a .0) (a .1 .0); ensures = λ _ r e. fact 𝓤 (gives₁ (a .0) (a .1 .0) r) }
-
-    abbrev Contract₁ : Contract 𝓤
-    Contract₁ = tripleOf 𝓤 H A signature₁ (closing 𝓤 H A ended₁ clauses₁)
-
-    abbrev clauses₂ : Clauses 𝓤 ended₂
-    clauses₂ = λ κs a. record { ghost = Unit {0}; requires = λ _. asks₂ (a .0 .now) (a .1 .0 .now) (a .1 .1 .0) (a .1 .1 .1 .0 .now) (a .1 .1 .1 .1 .0 .now) (a .1 .1 .1 .1 .1 .0 .now) (a .1 .1 .1 .1 .1 .1 .0 .now) (a .1 .1 .1 .1 .1 .1 .1 .0 .now) (a .1 .1 .1 .1 .1 .1 .1 .1 .0) (a .1 .1 .1 .1 .1 .1 .1 .1 .1 .0 .now); ensures = λ _ r e. fact 𝓤 (gives₂ (a .0 .now) (a .1 .0 .now) (a .1 .1 .0) (a .1 .1 .1 .0 .now) (a .1 .1 .1 .1 .0 .now) (a .1 .1 .1 .1 .1 .0 .now) (a .1 .1 .1 .1 .1 .1 .0 .now) (a .1 .1 .1 .1 .1 .1 .1 .0 .now) (a .1 .1 .1 .1 .1 .1 .1 .1 .0) (a .1 .1 .1 .1 .1 .1 .1 .1 .1 .0 .now) r (e .1 .1 .1 .0 .now) (e .1 .1 .1 .1 .0 .now) (e .1 .1 .1 .1 .1 .1 .1 .0 .now)) }
-
-    abbrev Contract₂ : Contract 𝓤
-    Contract₂ = tripleOf 𝓤 H A signature₂ (closing 𝓤 H A ended₂ clauses₂)
-
-    abbrev clauses₃ : Clauses 𝓤 ended₃
-    clauses₃ = λ κs a. record { ghost = Unit {0}; requires = λ _. asks₃ (a .0); ensures = λ _ r e. fact 𝓤 (gives₃ (a .0) r) }
-
-    abbrev Contract₃ : Contract 𝓤
-    Contract₃ = tripleOf 𝓤 H A signature₃ (closing 𝓤 H A ended₃ clauses₃)
-
-    abbrev clauses : Clauses 𝓤 ended
-    clauses = λ κs a. record { ghost = Unit {0}; requires = λ _. emp 𝓤; ensures = λ _ r e. fact 𝓤 (Says (a .0 .now) (a .1 .0 .now) (a .1 .1 .0) (a .1 .1 .1 .0 .now) (a .1 .1 .1 .1 .0 .now) (a .1 .1 .1 .1 .1 .0 .now) (a .1 .1 .1 .1 .1 .1 .0 .now) (a .1 .1 .1 .1 .1 .1 .1 .0 .now) (a .1 .1 .1 .1 .1 .1 .1 .1 .0) (a .1 .1 .1 .1 .1 .1 .1 .1 .1 .0) (a .1 .1 .1 .1 .1 .1 .1 .1 .1 .1 .0 .now) (e .1 .1 .1 .0 .now) (e .1 .1 .1 .1 .0 .now) (e .1 .1 .1 .1 .1 .1 .1 .0 .now) r) }
-
-    module _ (W : Given 𝓤 H A)
-        (ok₁ : (settings : S .S .D) (nets : Nets .S .D) (number : N .row .Denot) (clock : C .S .D) (links : L .S .D) (stand : F .S .D) (octets : List (ℕ)) (run : List (E .S .D)) (link : Y .row .Denot) (counter : Z .row .Denot) (packet : List (ℕ)) → ent 𝓤 (emp 𝓤) (asks₁ link counter))
-        (ok₂ : (settings : S .S .D) (nets : Nets .S .D) (number : N .row .Denot) (clock : C .S .D) (links : L .S .D) (stand : F .S .D) (octets : List (ℕ)) (run : List (E .S .D)) (link : Y .row .Denot) (counter : Z .row .Denot) (packet : List (ℕ)) (d : I .row .Denot) → gives₁ link counter d → ent 𝓤 (emp 𝓤) (asks₂ settings nets number clock links stand octets run d packet))
-        (ok₃ : (settings : S .S .D) (nets : Nets .S .D) (number : N .row .Denot) (clock : C .S .D) (links : L .S .D) (stand : F .S .D) (octets : List (ℕ)) (run : List (E .S .D)) (link : Y .row .Denot) (counter : Z .row .Denot) (packet : List (ℕ)) (d : I .row .Denot) (a : O .row .Denot) (clock′ : C .S .D) (links′ : L .S .D) (run′ : List (E .S .D)) → gives₁ link counter d → gives₂ settings nets number clock links stand octets run d packet a clock′ links′ run′ → ent 𝓤 (emp 𝓤) (asks₃ a))
-        (then : (settings : S .S .D) (nets : Nets .S .D) (number : N .row .Denot) (clock : C .S .D) (links : L .S .D) (stand : F .S .D) (octets : List (ℕ)) (run : List (E .S .D)) (link : Y .row .Denot) (counter : Z .row .Denot) (packet : List (ℕ)) (d : I .row .Denot) (a : O .row .Denot) (clock′ : C .S .D) (links′ : L .S .D) (run′ : List (E .S .D)) (result : K .row .Denot) → gives₁ link counter d → gives₂ settings nets number clock links stand octets run d packet a clock′ links′ run′ → gives₃ a result → Says settings nets number clock links stand octets run link counter packet clock′ links′ run′ result)
-        (κ₀ κ₁ κ₂ κ₃ κ₄ κ₅ κ₆ κ₇ : Lft) (q₀ q₁ q₂ q₃ q₄ q₅ q₆ q₇ : Share) (b₀ o₀ b₁ o₁ b₂ o₂ b₃ o₃ b₄ o₄ b₅ o₅ b₆ o₆ b₇ o₇ : ℕ) (γ₀ γ₁ γ₂ γ₃ γ₄ γ₅ γ₆ γ₇ : GName) (settings : S .S .D) (nets : Nets .S .D) (number : N .row .Denot) (clock : C .S .D) (links : L .S .D) (stand : F .S .D) (octets : List (ℕ)) (run : List (E .S .D)) (link : Y .row .Denot) (counter : Z .row .Denot) (packet : List (ℕ)) where
-      abbrev ref₀ : GName → S .S .D → RefT (S .S .D)
-      ref₀ γ x = record { ptr = (b₀, o₀); name = γ; now = x }
-
-      abbrev ref₁ : GName → Nets .S .D → RefT (Nets .S .D)
-      ref₁ γ x = record { ptr = (b₁, o₁); name = γ; now = x }
-
-      abbrev ref₂ : GName → C .S .D → RefT (C .S .D)
-      ref₂ γ x = record { ptr = (b₂, o₂); name = γ; now = x }
-
-      abbrev ref₃ : GName → L .S .D → RefT (L .S .D)
-      ref₃ γ x = record { ptr = (b₃, o₃); name = γ; now = x }
-
-      abbrev ref₄ : GName → F .S .D → RefT (F .S .D)
-      ref₄ γ x = record { ptr = (b₄, o₄); name = γ; now = x }
-
-      abbrev ref₅ : GName → List (ℕ) → RefT (List (ℕ))
-      ref₅ γ x = record { ptr = (b₅, o₅); name = γ; now = x }
-
-      abbrev ref₆ : GName → List (E .S .D) → RefT (List (E .S .D))
-      ref₆ γ x = record { ptr = (b₆, o₆); name = γ; now = x }
-
-      abbrev ref₇ : GName → List (ℕ) → RefT (List (ℕ))
-      ref₇ γ x = record { ptr = (b₇, o₇); name = γ; now = x }
-
-      abbrev x : RefT (S .S .D) × (RefT (Nets .S .D) × (N .row .Denot × (RefT (C .S .D) × (RefT (L .S .D) × (RefT (F .S .D) × (RefT (List (ℕ)) × (RefT (List (E .S .D)) × (Y .row .Denot × (Z .row .Denot × (RefT (List (ℕ)) × Unit {0}))))))))))
-      x = (ref₀ γ₀ settings, (ref₁ γ₁ nets, (number, (ref₂ γ₂ clock, (ref₃ γ₃ links, (ref₄ γ₄ stand, (ref₅ γ₅ octets, (ref₆ γ₆ run, (link, (counter, (ref₇ γ₇ packet, tt)))))))))))
-
-      abbrev at : List Val × (List Val × (List Val × (List Val × (List Val × (List Val × (List Val × (List Val × (List Val × (List Val × (List Val × Unit {0}))))))))))
-      at = (vptr b₀ o₀ ∷ [], (vptr b₁ o₁ ∷ [], (N .val number ∷ [], (vptr b₂ o₂ ∷ [], (vptr b₃ o₃ ∷ [], (vptr b₄ o₄ ∷ [], (slice-vals (ref₅ γ₅ octets), (slice-vals (ref₆ γ₆ run), (Y .val link ∷ [], (Z .val counter ∷ [], (slice-vals (ref₇ γ₇ packet), tt)))))))))))
-
-      abbrev Post : Val → SProp 𝓤
-      Post = walkOf 𝓤 H A ended stayed clauses .post (((κ₀, (κ₁, (κ₂, (κ₃, (κ₄, (κ₅, (κ₆, (κ₇, tt)))))))), (q₀, (q₁, (q₂, (q₃, (q₄, (q₅, (q₆, (q₇, tt)))))))), tt, x, at), tt)
-
-      exits : (clock′ : C .S .D) (links′ : L .S .D) (run′ : List (E .S .D)) (r : K .row .Denot) (v : Val) → length run′ ≡ length run → Says settings nets number clock links stand octets run link counter packet clock′ links′ run′ r → ent 𝓤 (⋆ 𝓤 H A (‵ (fres γ₂ (RC .coded .code clock′)) ∷ ‵ (fres γ₃ (RL .coded .code links′)) ∷ ‵ (finally RE γ₆ run′) ∷ ‵ (flft κ₀ q₀) ∷ ‵ (flft κ₁ q₁) ∷ ‵ (flft κ₂ q₂) ∷ ‵ (flft κ₃ q₃) ∷ ‵ (flft κ₄ q₄) ∷ ‵ (flft κ₅ q₅) ∷ ‵ (flft κ₆ q₆) ∷ ‵ (flft κ₇ q₇) ∷ ‵ (K .row .own r (v ∷ [])) ∷ [])) (Post v)
-      exits clock′ links′ run′ r v len-run φ =
-          qed W (‵ (fres γ₂ (RC .coded .code clock′)) ∷ ‵ (fres γ₃ (RL .coded .code links′)) ∷ ‵ (finally RE γ₆ run′) ∷ ‵ (flft κ₀ q₀) ∷ ‵ (flft κ₁ q₁) ∷ ‵ (flft κ₂ q₂) ∷ ‵ (flft κ₃ q₃) ∷ ‵ (flft κ₄ q₄) ∷ ‵ (flft κ₅ q₅) ∷ ‵ (flft κ₆ q₆) ∷ ‵ (flft κ₇ q₇) ∷ ‵ (K .row .own r (v ∷ [])) ∷ []) ∵
-          suffices ! _ (ends-at 𝓤 H A ended stayed clauses W (((κ₀, (κ₁, (κ₂, (κ₃, (κ₄, (κ₅, (κ₆, (κ₇, tt)))))))), (q₀, (q₁, (q₂, (q₃, (q₄, (q₅, (q₆, (q₇, tt)))))))), tt, x, at), tt) v r (tt, (tt, (N .last number, (clock′, (links′, (tt, (tt, (run′, (Y .last link, (Z .last counter, (tt, tt))))))))))) (tt, (tt, (tt, (tt, (tt, (tt, (tt, (len-run, (tt, (tt, (tt, tt)))))))))))) $ says ! φ $
-          nothing ! $ move ! (11 ∷ 0 ∷ []) $ join ! $ move ! (10 ∷ 0 ∷ []) $ join ! $ move ! (9 ∷ 0 ∷ []) $ join ! $ move ! (8 ∷ 0 ∷ []) $ join ! $ move ! (7 ∷ 0 ∷ []) $ join ! $ move ! (6 ∷ 0 ∷ []) $ join ! $
-          move ! (5 ∷ 0 ∷ []) $ join ! $ move ! (4 ∷ 0 ∷ []) $ join ! $ frame ! $ nothing ! $ nothing ! $ fjoin ! $ nothing ! $ fjoin ! $ nothing ! $ fjoin ! $ move ! (3 ∷ 0 ∷ []) $ fjoin ! $ nothing ! $
-          fjoin ! $ nothing ! $ fjoin ! $ move ! (2 ∷ 0 ∷ []) $ fjoin ! $ move ! (1 ∷ 0 ∷ []) $ fjoin ! $ nothing ! $ fjoin ! $ nothing ! $ fjoin ! $ nothing ! $ fjoin ! $ frame ! $ done !
-
-      module _ (is-number : Is (N .row) number (N .val number ∷ [])) (is-link : Is (Y .row) link (Y .val link ∷ [])) (is-counter : Is (Z .row) counter (Z .val counter ∷ [])) (room-octets : Room u8 (length octets)) (room-run : Room RE (length run)) (room-packet : Room u8 (length packet))
-          (T : Calls 𝓤 H) (Λ : Loops 𝓤 H) (g₁ g₂ g₃ : Name) (fm : FmC 𝓤 H (W .laws) T) (known₁ : Triple 𝓤 (T g₁) Contract₁) (known₂ : Triple 𝓤 (T g₂) Contract₂) (known₃ : Triple 𝓤 (T g₃) Contract₃) where
-        walk : ent 𝓤 (sep 𝓤 (onEntry 𝓤 H A signature (κ₀, (κ₁, (κ₂, (κ₃, (κ₄, (κ₅, (κ₆, (κ₇, tt)))))))) (q₀, (q₁, (q₂, (q₃, (q₄, (q₅, (q₆, (q₇, tt)))))))) x at) (emp 𝓤)) (WpFn 𝓤 H T Λ (function g₁ g₂ g₃) (vptr b₀ o₀ ∷ vptr b₁ o₁ ∷ N .val number ∷ vptr b₂ o₂ ∷ vptr b₃ o₃ ∷ vptr b₄ o₄ ∷ sliceVal (b₅, o₅) (length octets) ∷ sliceVal (b₆, o₆) (length run) ∷ Y .val link ∷ Z .val counter ∷ sliceVal (b₇, o₇) (length packet) ∷ []) Post)
-        walk =
-            qed W (((‵ (flft κ₀ q₀) ⊛ ‵ (flft κ₁ q₁) ⊛ ‵ (flft κ₂ q₂) ⊛ ‵ (flft κ₃ q₃) ⊛ ‵ (flft κ₄ q₄) ⊛ ‵ (flft κ₅ q₅) ⊛ ‵ (flft κ₆ q₆) ⊛ ‵ (flft κ₇ q₇) ⊛ ‵ ftrue) ⊛ ‵ (owns (ShrRef (named 0) κ₀ RS ∷ ShrRef (named 1) κ₁ RNets ∷ N .row ∷ MutRef (named 2) κ₂ RC ∷ MutRef (named 3) κ₃ RL ∷ ShrRef (named 4) κ₄ RF ∷ ShrSlice (named 5) κ₅ u8 ∷ MutSlice (named 6) κ₆ RE ∷ Y .row ∷ Z .row ∷ ShrSlice (named 7) κ₇ u8 ∷ []) x at)) ∷ raw (emp 𝓤) ∷ []) ∵
-            split ! $ move ! (2 ∷ []) $ drop ! $ split ! $ move ! (1 ∷ []) $ split ! $ move ! (1 ∷ []) $ split ! $ move ! (1 ∷ []) $ split ! $ move ! (1 ∷ []) $ split ! $ move ! (1 ∷ []) $ split ! $
-            move ! (1 ∷ []) $ split ! $ move ! (1 ∷ []) $ split ! $ move ! (1 ∷ []) $ drop ! $ move ! (8 ∷ []) $ fsplit ! $ move ! (1 ∷ []) $ fsplit ! $ move ! (1 ∷ []) $ fsplit ! $ drop ! $ fsplit ! $
-            move ! (1 ∷ []) $ fsplit ! $ move ! (1 ∷ []) $ fsplit ! $ move ! (1 ∷ []) $ fsplit ! $ move ! (1 ∷ []) $ fsplit ! $ move ! (1 ∷ []) $ fsplit ! $ drop ! $ fsplit ! $ drop ! $ fsplit ! $
-            move ! (1 ∷ []) $ drop ! $
-            enter ! T Λ (function g₁ g₂ g₃) (vptr b₀ o₀ ∷ vptr b₁ o₁ ∷ N .val number ∷ vptr b₂ o₂ ∷ vptr b₃ o₃ ∷ vptr b₄ o₄ ∷ sliceVal (b₅, o₅) (length octets) ∷ sliceVal (b₆, o₆) (length run) ∷ Y .val link ∷ Z .val counter ∷ sliceVal (b₇, o₇) (length packet) ∷ []) _ $
-            alloc1 ! (λ z₀. alloc1 ! (λ z₁. alloc1 ! (λ z₂. alloc1 ! (λ z₃. alloc1 ! (λ z₄. alloc1 ! (λ z₅. alloc1 ! (λ z₆. alloc1 ! (λ z₇. alloc1 ! (λ z₈. alloc1 ! (λ z₉. alloc1 ! (λ z₁₀. alloc1 ! (λ z₁₁.
-            alloc1 ! (λ z₁₂. alloc1 ! (λ z₁₃. alloc1 ! (λ z₁₄. alloc1 ! (λ z₁₅. alloc1 ! (λ z₁₆. alloc1 ! (λ z₁₇. alloc0 ! $ params1 ! $ pass1 ! (init ! 32 refl (tt, tt)) $ pass1 ! (init ! 30 refl (tt, tt)) $
-            pass1 ! (init ! 28 refl (N .typed M 𝓤 H A W number _ is-number)) $ pass1 ! (init ! 26 refl (tt, tt)) $ pass1 ! (init ! 24 refl (tt, tt)) $ pass1 ! (init ! 22 refl (tt, tt)) $
-            pass1 ! (init ! 20 refl (tt, (tt, (record { fits = room-octets .0 }, tt)))) $ pass1 ! (init ! 18 refl (tt, (tt, (record { fits = room-run .0 }, tt)))) $
-            pass1 ! (init ! 16 refl (Y .typed M 𝓤 H A W link _ is-link)) $ pass1 ! (init ! 14 refl (Z .typed M 𝓤 H A W counter _ is-counter)) $
-            pass1 ! (init ! 12 refl (tt, (tt, (record { fits = room-packet .0 }, tt)))) $ pass0 ! $
-            -- delivery
-            nothing ! $ nothing ! $ owned ! (Z .row) (Is (Z .row)) (Z .makes M 𝓤 H A W) counter (Z .val counter ∷ []) is-counter $ fjoin ! $
-            owned ! (Y .row) (Is (Y .row)) (Y .makes M 𝓤 H A W) link (Y .val link ∷ []) is-link $ fjoin ! $
-            use0 W (raw (asks₁ link counter)) (ok₁ settings nets number clock links stand octets run link counter packet) $ move ! (2 ∷ 1 ∷ 0 ∷ []) $
-            use3 W (raw (Contract₁ .pre ((tt, tt, tt, (link, (counter, tt)), (Y .val link ∷ [], (Z .val counter ∷ [], tt))), tt))) (passed 𝓤 H A signature₁ tt tt (link, (counter, tt)) (Y .val link ∷ [], (Z .val counter ∷ [], tt)) (asks₁ link counter)) $
-            calls-at ! fm Contract₁ known₁ ((tt, tt, tt, (link, (counter, tt)), (Y .val link ∷ [], (Z .val counter ∷ [], tt))), tt) (and-then ! (load ! (from ! (stop !)) (look ! 17 refl)) (and-then ! (load ! (from ! (stop !)) (look ! 15 refl)) (no-more !))) (λ v₁.
-            use1 W (later (some (λ (d : I .row .Denot). (‵ ftrue ⊛ ‵ (I .row .own d (v₁ ∷ []))) ⊛ raw (ensured 𝓤 H A ended₁ clauses₁ tt (link, (counter, tt)) tt d)))) (id⊢ 𝓤 _) $ await ! tt $ pick ! (λ d.
-            split ! $ split ! $ drop ! $ move ! (1 ∷ []) $
-            use1 W (some (λ (ends₁ : Lasts ended₁ tt (link, (counter, tt))). ‵ (lasts ended₁ tt (link, (counter, tt)) ends₁) ⊛ raw (fact 𝓤 (gives₁ link counter d)))) (id⊢ 𝓤 _) $ pick ! (λ ends₁. split ! $
-            move ! (1 ∷ []) $ heard ! (gives₁ link counter d) (λ φ₁. drop ! $ peeks ! (I .row) (Is (I .row)) (shows 𝓤 H A (I .row)) d (v₁ ∷ []) (λ said-d. drop ! $
-            land ! (from ! (stop !)) (init ! 10 refl (I .typed M 𝓤 H A W d _ said-d)) $ rewrite ! 10 (λ (u : Val). ‵ (fat fullShare (I .ty) z₁₂ 0 u)) (ap only (I .tells d (v₁ ∷ []) said-d)) refl $
-            -- call
-            assigns ! (addr ! (from ! (hop ! (look ! 26 refl) (stop !)))) (from ! (stop !)) (init ! 6 refl (tt, tt)) $
-            assigns ! (addr ! (from ! (hop ! (look ! 24 refl) (stop !)))) (from ! (stop !)) (init ! 4 refl (tt, tt)) $
-            assigns ! (addr ! (from ! (fld ! refl (hop ! (look-in ! 18 (sub ! 0 refl (whole-part !))) (stop !))))) (from ! (stop !)) (init ! 2 refl (tt, tt)) $
-            assigns ! (agg ! (and-then ! (load ! (from ! (stop !)) (look ! 2 refl)) (and-then ! (load ! (from ! (fld ! refl (stop !))) (look-in ! 18 (sub ! 1 refl (whole-part !)))) (no-more !)))) (from ! (stop !)) (init ! 0 refl (tt, (tt, (record { fits = room-run .0 }, tt)))) $
-            move ! (43 ∷ []) $
-            use1 W (‵ (ShrRef (named 0) κ₀ RS .own (ref₀ γ₀ settings) (vptr b₀ o₀ ∷ [])) ⊛ ‵ (ShrRef (named 0) κ₀ RS .own (ref₀ γ₀ settings) (vptr b₀ o₀ ∷ []))) (shr-copy 𝓤 H A W (named 0) κ₀ RS .twice (ref₀ γ₀ settings) (vptr b₀ o₀ ∷ [])) $
-            split ! $ move ! (44 ∷ []) $
-            use1 W (‵ (ShrRef (named 1) κ₁ RNets .own (ref₁ γ₁ nets) (vptr b₁ o₁ ∷ [])) ⊛ ‵ (ShrRef (named 1) κ₁ RNets .own (ref₁ γ₁ nets) (vptr b₁ o₁ ∷ []))) (shr-copy 𝓤 H A W (named 1) κ₁ RNets .twice (ref₁ γ₁ nets) (vptr b₁ o₁ ∷ [])) $
-            split ! $ move ! (43 ∷ []) $
-            use1 W (‵ (ShrRef (named 4) κ₄ RF .own (ref₄ γ₄ stand) (vptr b₄ o₄ ∷ [])) ⊛ ‵ (ShrRef (named 4) κ₄ RF .own (ref₄ γ₄ stand) (vptr b₄ o₄ ∷ []))) (shr-copy 𝓤 H A W (named 4) κ₄ RF .twice (ref₄ γ₄ stand) (vptr b₄ o₄ ∷ [])) $
-            split ! $ move ! (44 ∷ []) $
-            use1 W (‵ (ShrSlice (named 5) κ₅ u8 .own (ref₅ γ₅ octets) (slice-vals (ref₅ γ₅ octets))) ⊛ ‵ (ShrSlice (named 5) κ₅ u8 .own (ref₅ γ₅ octets) (slice-vals (ref₅ γ₅ octets)))) (shr-slice-copy 𝓤 H A W (named 5) κ₅ u8 .twice (ref₅ γ₅ octets) (slice-vals (ref₅ γ₅ octets))) $
-            split ! $ move ! (44 ∷ []) $
-            use1 W (‵ (ShrSlice (named 7) κ₇ u8 .own (ref₇ γ₇ packet) (slice-vals (ref₇ γ₇ packet))) ⊛ ‵ (ShrSlice (named 7) κ₇ u8 .own (ref₇ γ₇ packet) (slice-vals (ref₇ γ₇ packet)))) (shr-slice-copy 𝓤 H A W (named 7) κ₇ u8 .twice (ref₇ γ₇ packet) (slice-vals (ref₇ γ₇ packet))) $
-            split ! $ nothing ! $ move ! (50 ∷ 0 ∷ []) $ join ! $ move ! (50 ∷ 0 ∷ []) $ join ! $ move ! (50 ∷ 0 ∷ []) $ join ! $ move ! (50 ∷ 0 ∷ []) $ join ! $ move ! (50 ∷ 0 ∷ []) $ join ! $
-            move ! (50 ∷ 0 ∷ []) $ join ! $ move ! (50 ∷ 0 ∷ []) $ join ! $ move ! (50 ∷ 0 ∷ []) $ join ! $ nothing ! $ move ! (2 ∷ 0 ∷ []) $ fjoin ! $
-            owned ! (I .row) (Is (I .row)) (I .makes M 𝓤 H A W) d (I .val d ∷ []) (settled I d v₁ said-d) $ fjoin ! $ move ! (47 ∷ 0 ∷ []) $ fjoin ! $ move ! (3 ∷ 0 ∷ []) $ fjoin ! $ move ! (4 ∷ 0 ∷ []) $
-            fjoin ! $ move ! (45 ∷ 0 ∷ []) $ fjoin ! $ move ! (45 ∷ 0 ∷ []) $ fjoin ! $ owned ! (N .row) (Is (N .row)) (N .makes M 𝓤 H A W) number (N .val number ∷ []) is-number $ fjoin ! $ move ! (5 ∷ 0 ∷ []) $
-            fjoin ! $ move ! (6 ∷ 0 ∷ []) $ fjoin ! $
-            use0 W (raw (asks₂ settings nets number clock links stand octets run d packet)) (ok₂ settings nets number clock links stand octets run link counter packet d φ₁) $ move ! (2 ∷ 1 ∷ 0 ∷ []) $
-            use3 W (raw (Contract₂ .pre (((κ₀, (κ₁, (κ₂, (κ₃, (κ₄, (κ₅, (κ₆, (κ₇, tt)))))))), (q₀, (q₁, (q₂, (q₃, (q₄, (q₅, (q₆, (q₇, tt)))))))), tt, (ref₀ γ₀ settings, (ref₁ γ₁ nets, (number, (ref₂ γ₂ clock, (ref₃ γ₃ links, (ref₄ γ₄ stand, (ref₅ γ₅ octets, (ref₆ γ₆ run, (d, (ref₇ γ₇ packet, tt)))))))))), (vptr b₀ o₀ ∷ [], (vptr b₁ o₁ ∷ [], (N .val number ∷ [], (vptr b₂ o₂ ∷ [], (vptr b₃ o₃ ∷ [], (vptr b₄ o₄ ∷ [], (slice-vals (ref₅ γ₅ octets), (slice-vals (ref₆ γ₆ run), (I .val d ∷ [], (slice-vals (ref₇ γ₇ packet), tt))))))))))), tt))) (passed 𝓤 H A signature₂ (κ₀, (κ₁, (κ₂, (κ₃, (κ₄, (κ₅, (κ₆, (κ₇, tt)))))))) (q₀, (q₁, (q₂, (q₃, (q₄, (q₅, (q₆, (q₇, tt)))))))) (ref₀ γ₀ settings, (ref₁ γ₁ nets, (number, (ref₂ γ₂ clock, (ref₃ γ₃ links, (ref₄ γ₄ stand, (ref₅ γ₅ octets, (ref₆ γ₆ run, (d, (ref₇ γ₇ packet, tt)))))))))) (vptr b₀ o₀ ∷ [], (vptr b₁ o₁ ∷ [], (N .val number ∷ [], (vptr b₂ o₂ ∷ [], (vptr b₃ o₃ ∷ [], (vptr b₄ o₄ ∷ [], (slice-vals (ref₅ γ₅ octets), (slice-vals (ref₆ γ₆ run), (I .val d ∷ [], (slice-vals (ref₇ γ₇ packet), tt)))))))))) (asks₂ settings nets number clock links stand octets run d packet)) $
-            calls-at ! fm Contract₂ known₂ (((κ₀, (κ₁, (κ₂, (κ₃, (κ₄, (κ₅, (κ₆, (κ₇, tt)))))))), (q₀, (q₁, (q₂, (q₃, (q₄, (q₅, (q₆, (q₇, tt)))))))), tt, (ref₀ γ₀ settings, (ref₁ γ₁ nets, (number, (ref₂ γ₂ clock, (ref₃ γ₃ links, (ref₄ γ₄ stand, (ref₅ γ₅ octets, (ref₆ γ₆ run, (d, (ref₇ γ₇ packet, tt)))))))))), (vptr b₀ o₀ ∷ [], (vptr b₁ o₁ ∷ [], (N .val number ∷ [], (vptr b₂ o₂ ∷ [], (vptr b₃ o₃ ∷ [], (vptr b₄ o₄ ∷ [], (slice-vals (ref₅ γ₅ octets), (slice-vals (ref₆ γ₆ run), (I .val d ∷ [], (slice-vals (ref₇ γ₇ packet), tt))))))))))), tt) (and-then ! (load ! (from ! (stop !)) (look ! 38 refl)) (and-then ! (load ! (from ! (stop !)) (look ! 36 refl)) (and-then ! (load ! (from ! (stop !)) (look ! 34 refl)) (and-then ! (load ! (from ! (stop !)) (look ! 12 refl)) (and-then ! (load ! (from ! (stop !)) (look ! 10 refl)) (and-then ! (load ! (from ! (stop !)) (look ! 28 refl)) (and-then ! (load ! (from ! (stop !)) (look ! 26 refl)) (and-then ! (load ! (from ! (stop !)) (look ! 6 refl)) (and-then ! (load ! (from ! (stop !)) (look ! 16 refl)) (and-then ! (load ! (from ! (stop !)) (look ! 18 refl)) (no-more !))))))))))) (λ v₂.
-            use1 W (later (some (λ (a : O .row .Denot). ((‵ (flft κ₀ q₀) ⊛ ‵ (flft κ₁ q₁) ⊛ ‵ (flft κ₂ q₂) ⊛ ‵ (flft κ₃ q₃) ⊛ ‵ (flft κ₄ q₄) ⊛ ‵ (flft κ₅ q₅) ⊛ ‵ (flft κ₆ q₆) ⊛ ‵ (flft κ₇ q₇) ⊛ ‵ ftrue) ⊛ ‵ (O .row .own a (v₂ ∷ []))) ⊛ raw (ensured 𝓤 H A ended₂ clauses₂ (κ₀, (κ₁, (κ₂, (κ₃, (κ₄, (κ₅, (κ₆, (κ₇, tt)))))))) (ref₀ γ₀ settings, (ref₁ γ₁ nets, (number, (ref₂ γ₂ clock, (ref₃ γ₃ links, (ref₄ γ₄ stand, (ref₅ γ₅ octets, (ref₆ γ₆ run, (d, (ref₇ γ₇ packet, tt)))))))))) tt a)))) (id⊢ 𝓤 _) $ await ! tt $
-            pick ! (λ a. split ! $ split ! $ split ! $ move ! (1 ∷ []) $ split ! $ move ! (1 ∷ []) $ split ! $ move ! (1 ∷ []) $ split ! $ move ! (1 ∷ []) $ split ! $ move ! (1 ∷ []) $ split ! $ move ! (1 ∷ []) $
-            split ! $ move ! (1 ∷ []) $ split ! $ move ! (1 ∷ []) $ drop ! $ move ! (9 ∷ []) $
-            use1 W (some (λ (ends₂ : Lasts ended₂ (κ₀, (κ₁, (κ₂, (κ₃, (κ₄, (κ₅, (κ₆, (κ₇, tt)))))))) (ref₀ γ₀ settings, (ref₁ γ₁ nets, (number, (ref₂ γ₂ clock, (ref₃ γ₃ links, (ref₄ γ₄ stand, (ref₅ γ₅ octets, (ref₆ γ₆ run, (d, (ref₇ γ₇ packet, tt))))))))))). ‵ (lasts ended₂ (κ₀, (κ₁, (κ₂, (κ₃, (κ₄, (κ₅, (κ₆, (κ₇, tt)))))))) (ref₀ γ₀ settings, (ref₁ γ₁ nets, (number, (ref₂ γ₂ clock, (ref₃ γ₃ links, (ref₄ γ₄ stand, (ref₅ γ₅ octets, (ref₆ γ₆ run, (d, (ref₇ γ₇ packet, tt)))))))))) ends₂) ⊛ raw (fact 𝓤 (gives₂ settings nets number clock links stand octets run d packet a (ends₂ .1 .1 .1 .0) (ends₂ .1 .1 .1 .1 .0) (ends₂ .1 .1 .1 .1 .1 .1 .1 .0))))) (id⊢ 𝓤 _) $
-            pick ! (λ ends₂. split ! $ move ! (1 ∷ []) $
-            heard ! (gives₂ settings nets number clock links stand octets run d packet a (ends₂ .1 .1 .1 .0) (ends₂ .1 .1 .1 .1 .0) (ends₂ .1 .1 .1 .1 .1 .1 .1 .0)) (λ φ₂. fsplit ! $ drop ! $ fsplit ! $ drop ! $
-            fsplit ! $ drop ! $ fsplit ! $ move ! (1 ∷ []) $ fsplit ! $ move ! (1 ∷ []) $ fsplit ! $ drop ! $ fsplit ! $ drop ! $ fsplit ! $ fsplit ! $ move ! (1 ∷ []) $ feqL ! (λ len₂. move ! (1 ∷ []) $
-            fsplit ! $ drop ! $ fsplit ! $ drop ! $ drop ! $ move ! (11 ∷ []) $ peeks ! (O .row) (Is (O .row)) (shows 𝓤 H A (O .row)) a (v₂ ∷ []) (λ said-a. drop ! $
-            land ! (from ! (stop !)) (init ! 24 refl (O .typed M 𝓤 H A W a _ said-a)) $ rewrite ! 24 (λ (u : Val). ‵ (fat fullShare (O .ty) z₁₃ 0 u)) (ap only (O .tells a (v₂ ∷ []) said-a)) refl $
-            -- answer
-            nothing ! $ nothing ! $ owned ! (O .row) (Is (O .row)) (O .makes M 𝓤 H A W) a (O .val a ∷ []) (settled O a v₂ said-a) $ fjoin ! $
-            use0 W (raw (asks₃ a)) (ok₃ settings nets number clock links stand octets run link counter packet d a (ends₂ .1 .1 .1 .0) (ends₂ .1 .1 .1 .1 .0) (ends₂ .1 .1 .1 .1 .1 .1 .1 .0) φ₁ φ₂) $
-            move ! (2 ∷ 1 ∷ 0 ∷ []) $ use3 W (raw (Contract₃ .pre ((tt, tt, tt, (a, tt), (O .val a ∷ [], tt)), tt))) (passed 𝓤 H A signature₃ tt tt (a, tt) (O .val a ∷ [], tt) (asks₃ a)) $
-            calls-at ! fm Contract₃ known₃ ((tt, tt, tt, (a, tt), (O .val a ∷ [], tt)), tt) (and-then ! (load ! (from ! (stop !)) (look ! 25 refl)) (no-more !)) (λ v₃.
-            use1 W (later (some (λ (result : K .row .Denot). (‵ ftrue ⊛ ‵ (K .row .own result (v₃ ∷ []))) ⊛ raw (ensured 𝓤 H A ended₃ clauses₃ tt (a, tt) tt result)))) (id⊢ 𝓤 _) $ await ! tt $ pick ! (λ result.
-            split ! $ split ! $ drop ! $ move ! (1 ∷ []) $ use1 W (some (λ (ends₃ : Lasts ended₃ tt (a, tt)). ‵ (lasts ended₃ tt (a, tt) ends₃) ⊛ raw (fact 𝓤 (gives₃ a result)))) (id⊢ 𝓤 _) $ pick ! (λ ends₃.
-            split ! $ move ! (1 ∷ []) $ heard ! (gives₃ a result) (λ φ₃. drop ! $ peeks ! (K .row) (Is (K .row)) (shows 𝓤 H A (K .row)) result (v₃ ∷ []) (λ said-result. drop ! $
-            land ! (from ! (stop !)) (init ! 50 refl (K .typed M 𝓤 H A W result _ said-result)) $
-            rewrite ! 50 (λ (u : Val). ‵ (fat fullShare (K .ty) z₀ 0 u)) (ap only (K .tells result (v₃ ∷ []) said-result)) refl $
-            -- the locals are freed
-            returns ! (look ! 50 refl) $ forget ! 16 refl $ forget ! 18 refl $ forget ! 20 refl $ forget ! 22 refl $ forget ! 24 refl $ forget ! 26 refl $ forget ! 28 refl $ forget ! 30 refl $ forget ! 32 refl $
-            forget ! 34 refl $ forget ! 36 refl $ forget ! 38 refl $ forget ! 40 refl $ forget ! 42 refl $ forget ! 44 refl $ forget ! 46 refl $ forget ! 48 refl $ forget ! 50 refl $ move ! (50 ∷ 51 ∷ []) $
-            free1 ! $ move ! (48 ∷ 49 ∷ []) $ free1 ! $ move ! (46 ∷ 47 ∷ []) $ free1 ! $ move ! (44 ∷ 45 ∷ []) $ free1 ! $ move ! (42 ∷ 43 ∷ []) $ free1 ! $ move ! (40 ∷ 41 ∷ []) $ free1 ! $
-            move ! (38 ∷ 39 ∷ []) $ free1 ! $ move ! (36 ∷ 37 ∷ []) $ free1 ! $ move ! (34 ∷ 35 ∷ []) $ free1 ! $ move ! (32 ∷ 33 ∷ []) $ free1 ! $ move ! (30 ∷ 31 ∷ []) $ free1 ! $ move ! (28 ∷ 29 ∷ []) $
-            free1 ! $ move ! (26 ∷ 27 ∷ []) $ free1 ! $ move ! (24 ∷ 25 ∷ []) $ free1 ! $ move ! (22 ∷ 23 ∷ []) $ free1 ! $ move ! (20 ∷ 21 ∷ []) $ free1 ! $ move ! (18 ∷ 19 ∷ []) $ free1 ! $
-            move ! (16 ∷ 17 ∷ []) $ free1 ! $ free0 ! $ owned ! (K .row) (Is (K .row)) (K .makes M 𝓤 H A W) result (K .val result ∷ []) (settled K result v₃ said-result) $
-            keep ! (3 ∷ 2 ∷ 1 ∷ 11 ∷ 10 ∷ 9 ∷ 8 ∷ 7 ∷ 6 ∷ 5 ∷ 4 ∷ 0 ∷ []) $
-            by ! (exits (ends₂ .1 .1 .1 .0) (ends₂ .1 .1 .1 .1 .0) (ends₂ .1 .1 .1 .1 .1 .1 .1 .0) result (K .val result) len₂ (then settings nets number clock links stand octets run link counter packet d a (ends₂ .1 .1 .1 .0) (ends₂ .1 .1 .1 .1 .0) (ends₂ .1 .1 .1 .1 .1 .1 .1 .0) result φ₁ φ₂ φ₃))))))))))))))))))))))))))))))))))))
-
-  -- γ is the function's `code.env`, f and the others are the keys
-  module _ {M : Type 1} (𝓤 : URA M) (H : Heap 𝓤) (𝓜 : Model 𝓤 H) (𝓖 : GhostRules 𝓤 H) (𝓡 : Running 𝓤 H 𝓜) (asks₁ : Y .row .Denot → Z .row .Denot → SProp 𝓤) (gives₁ : Y .row .Denot → Z .row .Denot → I .row .Denot → Type 0) (asks₂ : S .S .D → Nets .S .D → N .row .Denot → C .S .D → L .S .D → F .S .D → List (ℕ) → List (E .S .D) → I .row .Denot → List (ℕ) → SProp 𝓤) (gives₂ : S .S .D → Nets .S .D → N .row .Denot → C .S .D → L .S .D → F .S .D → List (ℕ) → List (E .S .D) → I .row .Denot → List (ℕ) → O .row .Denot → C .S .D → L .S .D → List (E .S .D) → Type 0) (asks₃ : O .row .Denot → SProp 𝓤) (gives₃ : O .row .Denot → K .row .Denot → Type 0) (Says : S .S .D → Nets .S .D → N .row .Denot → C .S .D → L .S .D → F .S .D → List (ℕ) → List (E .S .D) → Y .row .Denot → Z .row .Denot → List (ℕ) → C .S .D → L .S .D → List (E .S .D) → K .row .Denot → Type 0)
-      (ok₁ : (settings : S .S .D) (nets : Nets .S .D) (number : N .row .Denot) (clock : C .S .D) (links : L .S .D) (stand : F .S .D) (octets : List (ℕ)) (run : List (E .S .D)) (link : Y .row .Denot) (counter : Z .row .Denot) (packet : List (ℕ)) → ent 𝓤 (emp 𝓤) (asks₁ link counter))
-      (ok₂ : (settings : S .S .D) (nets : Nets .S .D) (number : N .row .Denot) (clock : C .S .D) (links : L .S .D) (stand : F .S .D) (octets : List (ℕ)) (run : List (E .S .D)) (link : Y .row .Denot) (counter : Z .row .Denot) (packet : List (ℕ)) (d : I .row .Denot) → gives₁ link counter d → ent 𝓤 (emp 𝓤) (asks₂ settings nets number clock links stand octets run d packet))
-      (ok₃ : (settings : S .S .D) (nets : Nets .S .D) (number : N .row .Denot) (clock : C .S .D) (links : L .S .D) (stand : F .S .D) (octets : List (ℕ)) (run : List (E .S .D)) (link : Y .row .Denot) (counter : Z .row .Denot) (packet : List (ℕ)) (d : I .row .Denot) (a : O .row .Denot) (clock′ : C .S .D) (links′ : L .S .D) (run′ : List (E .S .D)) → gives₁ link counter d → gives₂ settings nets number clock links stand octets run d packet a clock′ links′ run′ → ent 𝓤 (emp 𝓤) (asks₃ a))
-      (then : (settings : S .S .D) (nets : Nets .S .D) (number : N .row .Denot) (clock : C .S .D) (links : L .S .D) (stand : F .S .D) (octets : List (ℕ)) (run : List (E .S .D)) (link : Y .row .Denot) (counter : Z .row .Denot) (packet : List (ℕ)) (d : I .row .Denot) (a : O .row .Denot) (clock′ : C .S .D) (links′ : L .S .D) (run′ : List (E .S .D)) (result : K .row .Denot) → gives₁ link counter d → gives₂ settings nets number clock links stand octets run d packet a clock′ links′ run′ → gives₃ a result → Says settings nets number clock links stand octets run link counter packet clock′ links′ run′ result)
+  module _ {M : Type 1} (𝓤 : URA M) (H : Heap 𝓤) (𝓜 : Model 𝓤 H) (𝓖 : GhostRules 𝓤 H) (𝓡 : Running 𝓤 H 𝓜) (asks₁ : Asking form₁ 𝓤) (gives₁ : Giving form₁) (asks₂ : Asking form₂ 𝓤) (gives₂ : Giving form₂) (asks₃ : Asking form₃ 𝓤) (gives₃ : Giving form₃) (Says : Saying form₀)
+      (ok₁ : Each (takes form₀) (λ settings nets number clock links stand octets run link counter packet. ent 𝓤 (emp 𝓤) (asks₁ link counter)))
+      (ok₂ : Each (takes form₀) (λ settings nets number clock links stand octets run link counter packet. (d : I .row .Denot) → gives₁ link counter d → ent 𝓤 (emp 𝓤) (asks₂ settings nets number clock links stand octets run d packet)))
+      (ok₃ : Each (takes form₀) (λ settings nets number clock links stand octets run link counter packet. (d : I .row .Denot) (a : O .row .Denot) (clock′ : C .S .D) (links′ : L .S .D) (run′ : List (E .S .D)) → gives₁ link counter d → gives₂ settings nets number clock links stand octets run d packet a clock′ links′ run′ → ent 𝓤 (emp 𝓤) (asks₃ a)))
+      (then : Each (takes form₀) (λ settings nets number clock links stand octets run link counter packet. (d : I .row .Denot) (a : O .row .Denot) (clock′ : C .S .D) (links′ : L .S .D) (run′ : List (E .S .D)) (result : K .row .Denot) → gives₁ link counter d → gives₂ settings nets number clock links stand octets run d packet a clock′ links′ run′ → gives₃ a result → Says settings nets number clock links stand octets run link counter packet clock′ links′ run′ result))
       (γ : Env) (f g₁ g₂ g₃ : Name) (r₁ r₂ r₃ : Routine) where
-    abbrev Clauses′ : Clauses 𝓤 ended
-    Clauses′ = clauses 𝓤 H (𝓖 .A) asks₁ gives₁ asks₂ gives₂ asks₃ gives₃ Says
+    abbrev job : Job 𝓤
+    job = record { code = code g₁ g₂ g₃; itself = function 𝓤 form₀ Says; calls = (g₁, r₁, callee 𝓤 form₁ asks₁ gives₁) ∷ (g₂, r₂, callee 𝓤 form₂ asks₂ gives₂) ∷ (g₃, r₃, callee 𝓤 form₃ asks₃ gives₃) ∷ [] }
 
-    meets : (W : Given 𝓤 H (𝓖 .A)) (𝓣 : Tables 𝓤 H) → Triple 𝓤 (𝓣 .C g₁) (Contract₁ 𝓤 H (𝓖 .A) asks₁ gives₁ asks₂ gives₂ asks₃ gives₃ Says) → Triple 𝓤 (𝓣 .C g₂) (Contract₂ 𝓤 H (𝓖 .A) asks₁ gives₁ asks₂ gives₂ asks₃ gives₃ Says) → Triple 𝓤 (𝓣 .C g₃) (Contract₃ 𝓤 H (𝓖 .A) asks₁ gives₁ asks₂ gives₂ asks₃ gives₃ Says) → Meets 𝓤 H (𝓖 .A) signature (WpFn 𝓤 H (𝓣 .C) (𝓣 .Λ) (function g₁ g₂ g₃)) (closing 𝓤 H (𝓖 .A) ended Clauses′)
-    meets W 𝓣 known₁ known₂ known₃ =
-        walk-meets 𝓤 H (𝓖 .A) ended stayed W
-        (goes-dropped 𝓤 H (𝓖 .A) W 8 (shrRefTo (0 ∷ []) tt (plain (λ _. RS))) yes (λ κs x f. refl), (goes-dropped 𝓤 H (𝓖 .A) W 8 (shrRefTo (1 ∷ []) tt (plain (λ _. RNets))) yes (λ κs x f. refl), (goes-dropped 𝓤 H (𝓖 .A) W 8 (plain (λ _. N .row)) yes (λ κs. N .silent), (goes-gave-ref 𝓤 H (𝓖 .A) W 8 2 tt (plain (λ _. RC)), (goes-gave-ref 𝓤 H (𝓖 .A) W 8 3 tt (plain (λ _. RL)), (goes-dropped 𝓤 H (𝓖 .A) W 8 (shrRefTo (4 ∷ []) tt (plain (λ _. RF))) yes (λ κs x f. refl), (goes-dropped 𝓤 H (𝓖 .A) W 8 (shrSliceOf (5 ∷ []) tt (plain (λ _. u8))) yes (λ κs x f. refl), (goes-gave-slice 𝓤 H (𝓖 .A) W 8 6 tt (plain (λ _. RE)), (goes-dropped 𝓤 H (𝓖 .A) W 8 (plain (λ _. Y .row)) yes (λ κs. Y .silent), (goes-dropped 𝓤 H (𝓖 .A) W 8 (plain (λ _. Z .row)) yes (λ κs. Z .silent), (goes-dropped 𝓤 H (𝓖 .A) W 8 (shrSliceOf (7 ∷ []) tt (plain (λ _. u8))) yes (λ κs x f. refl), tt)))))))))))
-        Clauses′ (WpFn 𝓤 H (𝓣 .C) (𝓣 .Λ) (function g₁ g₂ g₃)) (WpFn-mono 𝓤 H (W .laws) 𝓣 (function g₁ g₂ g₃))
-        (walked 𝓤 H (𝓖 .A) ended stayed Clauses′ (WpFn 𝓤 H (𝓣 .C) (𝓣 .Λ) (function g₁ g₂ g₃)) (λ κs. (ptr-vals, (ptr-vals, ((λ m. N .val m ∷ []), (ptr-vals, (ptr-vals, (ptr-vals, (slice-vals, (slice-vals, ((λ m. Y .val m ∷ []), ((λ m. Z .val m ∷ []), (slice-vals, tt))))))))))))
-        (λ κs. (shr-tells (named 0) (κs .0) RS, (shr-tells (named 1) (κs .1 .0) RNets, (N .tells, (mut-tells (named 2) (κs .1 .1 .0) RC, (mut-tells (named 3) (κs .1 .1 .1 .0) RL, (shr-tells (named 4) (κs .1 .1 .1 .1 .0) RF, (shr-slice-tells (named 5) (κs .1 .1 .1 .1 .1 .0) u8, (mut-slice-tells (named 6) (κs .1 .1 .1 .1 .1 .1 .0) RE, (Y .tells, (Z .tells, (shr-slice-tells (named 7) (κs .1 .1 .1 .1 .1 .1 .1 .0) u8, tt))))))))))))
-        (λ κs qs bounds a _ are. walk 𝓤 H (𝓖 .A) asks₁ gives₁ asks₂ gives₂ asks₃ gives₃ Says W ok₁ ok₂ ok₃ then
-        (κs .0) (κs .1 .0) (κs .1 .1 .0) (κs .1 .1 .1 .0) (κs .1 .1 .1 .1 .0) (κs .1 .1 .1 .1 .1 .0) (κs .1 .1 .1 .1 .1 .1 .0) (κs .1 .1 .1 .1 .1 .1 .1 .0) (qs .0) (qs .1 .0) (qs .1 .1 .0) (qs .1 .1 .1 .0) (qs .1 .1 .1 .1 .0) (qs .1 .1 .1 .1 .1 .0) (qs .1 .1 .1 .1 .1 .1 .0) (qs .1 .1 .1 .1 .1 .1 .1 .0) (a .0 .ptr .0) (a .0 .ptr .1) (a .1 .0 .ptr .0) (a .1 .0 .ptr .1) (a .1 .1 .1 .0 .ptr .0) (a .1 .1 .1 .0 .ptr .1) (a .1 .1 .1 .1 .0 .ptr .0) (a .1 .1 .1 .1 .0 .ptr .1) (a .1 .1 .1 .1 .1 .0 .ptr .0) (a .1 .1 .1 .1 .1 .0 .ptr .1) (a .1 .1 .1 .1 .1 .1 .0 .ptr .0) (a .1 .1 .1 .1 .1 .1 .0 .ptr .1) (a .1 .1 .1 .1 .1 .1 .1 .0 .ptr .0) (a .1 .1 .1 .1 .1 .1 .1 .0 .ptr .1) (a .1 .1 .1 .1 .1 .1 .1 .1 .1 .1 .0 .ptr .0) (a .1 .1 .1 .1 .1 .1 .1 .1 .1 .1 .0 .ptr .1) (a .0 .name) (a .1 .0 .name) (a .1 .1 .1 .0 .name) (a .1 .1 .1 .1 .0 .name) (a .1 .1 .1 .1 .1 .0 .name) (a .1 .1 .1 .1 .1 .1 .0 .name) (a .1 .1 .1 .1 .1 .1 .1 .0 .name) (a .1 .1 .1 .1 .1 .1 .1 .1 .1 .1 .0 .name) (a .0 .now) (a .1 .0 .now) (a .1 .1 .0) (a .1 .1 .1 .0 .now) (a .1 .1 .1 .1 .0 .now) (a .1 .1 .1 .1 .1 .0 .now) (a .1 .1 .1 .1 .1 .1 .0 .now) (a .1 .1 .1 .1 .1 .1 .1 .0 .now) (a .1 .1 .1 .1 .1 .1 .1 .1 .0) (a .1 .1 .1 .1 .1 .1 .1 .1 .1 .0) (a .1 .1 .1 .1 .1 .1 .1 .1 .1 .1 .0 .now) (are .1 .1 .0) (are .1 .1 .1 .1 .1 .1 .1 .1 .0) (are .1 .1 .1 .1 .1 .1 .1 .1 .1 .0) (are .1 .1 .1 .1 .1 .1 .0 .0 .1) (are .1 .1 .1 .1 .1 .1 .1 .0 .0 .1) (are .1 .1 .1 .1 .1 .1 .1 .1 .1 .1 .0 .0 .1)
-        (𝓣 .C) (𝓣 .Λ) g₁ g₂ g₃ (fmOf 𝓤 H (W .laws) 𝓣) known₁ known₂ known₃))
-
-    pub proof : γ g₁ ≡ r₁ → γ g₂ ≡ r₂ → γ g₃ ≡ r₃ → Closed 𝓤 H (tables 𝓤 H 𝓜 𝓡 γ .C) (tables 𝓤 H 𝓜 𝓡 γ .Λ) f (function g₁ g₂ g₃) → Triple 𝓤 (𝓡 .run r₁) (Contract₁ 𝓤 H (𝓖 .A) asks₁ gives₁ asks₂ gives₂ asks₃ gives₃ Says) → Triple 𝓤 (𝓡 .run r₂) (Contract₂ 𝓤 H (𝓖 .A) asks₁ gives₁ asks₂ gives₂ asks₃ gives₃ Says) → Triple 𝓤 (𝓡 .run r₃) (Contract₃ 𝓤 H (𝓖 .A) asks₁ gives₁ asks₂ gives₂ asks₃ gives₃ Says)
-        → Meets 𝓤 H (𝓖 .A) signature (𝓡 .run (γ f)) (closing 𝓤 H (𝓖 .A) ended Clauses′)
-    unfolding tablesOf
-    proof calls₁ calls₂ calls₃ closed known₁ known₂ known₃ =
-        entered 𝓤 H (tripleOf 𝓤 H (𝓖 .A) signature (closing 𝓤 H (𝓖 .A) ended Clauses′)) (tables 𝓤 H 𝓜 𝓡 γ .C) (tables 𝓤 H 𝓜 𝓡 γ .Λ) f (function g₁ g₂ g₃) closed
-        (meets (givenOf 𝓤 H 𝓜 𝓖) (tablesOf 𝓤 H 𝓜 (tables 𝓤 H 𝓜 𝓡 γ))
-        (cited 𝓤 H (Contract₁ 𝓤 H (𝓖 .A) asks₁ gives₁ asks₂ gives₂ asks₃ gives₃ Says) 𝓜 𝓡 γ g₁ r₁ calls₁ known₁)
-        (cited 𝓤 H (Contract₂ 𝓤 H (𝓖 .A) asks₁ gives₁ asks₂ gives₂ asks₃ gives₃ Says) 𝓜 𝓡 γ g₂ r₂ calls₂ known₂)
-        (cited 𝓤 H (Contract₃ 𝓤 H (𝓖 .A) asks₁ gives₁ asks₂ gives₂ asks₃ gives₃ Says) 𝓜 𝓡 γ g₃ r₃ calls₃ known₃))
+    pub proof : Proven 𝓤 H 𝓜 𝓖 𝓡 γ f job
+    proof = lawful 𝓤 H 𝓜 𝓖 𝓡 γ f job _ refl (λ W T Λ fm (known₁, (known₂, (known₃, _))) κs qs (settings, (nets, (number, (clock, (links, (stand, (octets, (run, (link, (counter, (packet, _))))))))))) (_, (_, (is-number, (_, (_, (_, (is-octets, (is-run, (is-link, (is-counter, (is-packet, _))))))))))) β Kf done.
+        calls ! fm (callee 𝓤 form₁ asks₁ gives₁) known₁ (val ! tt refl is-link (val ! tt refl is-counter (nothing-more !))) (ok₁ (settings .now) (nets .now) number (clock .now) (links .now) (stand .now) (octets .now) (run .now) link counter (packet .now)) tt refl (λ d ws₁ φ₁ is-d.
+        points ! refl tt tt (tt, tt) (
+        points ! refl tt tt (tt, tt) (
+        slices ! refl tt tt tt refl (is-run .0) (
+        calls ! fm (callee 𝓤 form₂ asks₂ gives₂) known₂ (share ! 0 tt refl (share ! 0 tt refl (val ! tt refl is-number (give ! 0 tt refl (give ! 0 tt refl (share ! 0 tt refl (shares ! 0 tt refl (gives ! 0 tt refl (val ! tt refl is-d (shares ! 0 tt refl (nothing-more !))))))))))) (ok₂ (settings .now) (nets .now) number (clock .now) (links .now) (stand .now) (octets .now) (run .now) link counter (packet .now) d φ₁) tt refl (λ a ws₂ φ₂ is-a.
+        calls ! fm (callee 𝓤 form₃ asks₃ gives₃) known₃ (val ! tt refl is-a (nothing-more !)) (ok₃ (settings .now) (nets .now) number (clock .now) (links .now) (stand .now) (octets .now) (run .now) link counter (packet .now) d a (ws₂ .1 .1 .1 .0) (ws₂ .1 .1 .1 .1 .0) (ws₂ .1 .1 .1 .1 .1 .1 .1 .0) φ₁ φ₂) tt refl (λ result ws₃ φ₃ is-result.
+        finish ! done tt refl is-result (goes ∷ goes ∷ goes ∷ []) _ _ refl (then (settings .now) (nets .now) number (clock .now) (links .now) (stand .now) (octets .now) (run .now) link counter (packet .now) d a (ws₂ .1 .1 .1 .0) (ws₂ .1 .1 .1 .1 .0) (ws₂ .1 .1 .1 .1 .1 .1 .1 .0) result φ₁ φ₂ φ₃))))))))

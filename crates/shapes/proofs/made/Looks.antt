@@ -1,372 +1,58 @@
 -- The law of a thin function: `fn Looks(settings: &S, nets: &Nets, number: N, clock: &C, links: &L, stand: &F, octets: &[u8], run: &[E], input: I) -> K { let s = *settings; let t = *nets; let c = *clock; let l = *links; let v = *stand; let a: U = scope(); let g: G = guard(settings, nets, number, c, l, v, octets, a, run); let f: R = find(g, s, t, input); let z: Z = seek(number, f); let e: Q = look(run, z); plan(g, f, e) }`.
 -- It is one walk of that MIR, for any types and any contracts of the functions that are called. The author shows that each of them is asked for no more than what is known (`ok`), and that what they say comes to what the function says (`then`).
 -- Made by tools/laws/make. Assumes nothing.
-use Rattle.lent.proofs.Walk.{_≡_, refl, ap, ℕ, List, [], _∷_, length, T, URA, fullShare, Name, Fn, named, imm, tyRef, tyInt, w8, local, valueLocal, place, deref, copy, rvOpd, assign, call, seq, return, Val, vptr, SProp, ent, sep, emp, id⊢, GName, Lft, Share, ftrue, fat, flft, Model, Routine, Env, Heap, Calls, Loops, WpFn, Tables, Closed, Atoms, fact, GhostRules, Running, givenOf, tables, Given, ‵, raw, _⊛_, ⋆, some, later, _$_, _∵_, !, qed, by, move, keep, drop, use0, use1, use3, split, join, pick, rewrite, fsplit, fsplit3, fjoin, suffices, frame, await, done, look, look-raw, init, forget, stop, hop, from, load, of-opd, and-then, no-more, assigns, land, returns, enter, alloc1, alloc0, params1, pass1, pass0, free1, free0, FmC, fmOf, WpFn-mono, RattleType, owns, Is, shows, pointee, u8, RefOf, SliceRefOf, RefT, ShrRef, ptr-vals, shr-tells, shr-copy, sliceVal, sliceTy, slice-vals, ShrSlice, Room, shr-slice-tells, shr-slice-copy, Signature, plain, shrRefTo, shrSliceOf, only, looks, shuts, owned, peeks, heard, nothing, spelt, layout, row, shape, onEntry, Meets, tripleOf, Contract, Triple, calls-at, entered, cited, Ended, Clauses, Lasts, closing, ensured, lasts, Stays, stay-dropped, says, walkOf, goes-dropped, ends-at, walked, walk-meets, yes}
-use Rattle.lent.proofs.Walk.{tablesOf}
-use denote.Struct.Laws as LL
-use Rattle.lent.proofs.Words.{Word, Data, by-value, settled, passed}
+use Rattle.lent.proofs.Thin.{refl, [], _∷_, URA, Name, Fn, ent, emp, Model, Routine, Env, Heap, GhostRules, Running, !, u8, row, Word, Data, by-value, Form, form, by, ref, slice, copies, nothing-more, val, share, shares, calls, finish, takes, Asking, Giving, Saying, Each, callee, function, thin, loc, take, invoke, Job, Proven, lawful}
 
 module _ (N I U G R Z Q K : Word) (S Nets C L F E : Data) where
-  abbrev RS : RattleType
-  RS = row (S .S)
+  abbrev form₁ : Form
+  form₁ = form ([]) U
 
-  abbrev RNets : RattleType
-  RNets = row (Nets .S)
+  abbrev form₂ : Form
+  form₂ = form (ref S ∷ ref Nets ∷ by N ∷ by (by-value C) ∷ by (by-value L) ∷ by (by-value F) ∷ slice u8 ∷ by U ∷ slice (row (E .S)) ∷ []) G
 
-  abbrev RC : RattleType
-  RC = row (C .S)
+  abbrev form₃ : Form
+  form₃ = form (by G ∷ by (by-value S) ∷ by (by-value Nets) ∷ by I ∷ []) R
 
-  abbrev RL : RattleType
-  RL = row (L .S)
+  abbrev form₄ : Form
+  form₄ = form (by N ∷ by R ∷ []) Z
 
-  abbrev RF : RattleType
-  RF = row (F .S)
+  abbrev form₅ : Form
+  form₅ = form (slice (row (E .S)) ∷ by Z ∷ []) Q
 
-  abbrev RE : RattleType
-  RE = row (E .S)
+  abbrev form₆ : Form
+  form₆ = form (by G ∷ by R ∷ by Q ∷ []) K
 
-  abbrev XS : Word
-  XS = by-value S
+  abbrev form₀ : Form
+  form₀ = form (ref S ∷ ref Nets ∷ by N ∷ ref C ∷ ref L ∷ ref F ∷ slice u8 ∷ slice (row (E .S)) ∷ by I ∷ []) K
 
-  abbrev XNets : Word
-  XNets = by-value Nets
+  abbrev code : Name → Name → Name → Name → Name → Name → Fn
+  code g₁ g₂ g₃ g₄ g₅ g₆ = thin form₀ ((by-value S) .ty ∷ (by-value Nets) .ty ∷ (by-value C) .ty ∷ (by-value L) .ty ∷ (by-value F) .ty ∷ U .ty ∷ G .ty ∷ R .ty ∷ Z .ty ∷ Q .ty ∷ [])
+      (take 10 1 S ∷ take 11 2 Nets ∷ take 12 4 C ∷ take 13 5 L ∷ take 14 6 F ∷ invoke g₁ ([]) 15 ∷ invoke g₂ (loc 1 ∷ loc 2 ∷ loc 3 ∷ loc 12 ∷ loc 13 ∷ loc 14 ∷ loc 7 ∷ loc 15 ∷ loc 8 ∷ []) 16 ∷
+      invoke g₃ (loc 16 ∷ loc 10 ∷ loc 11 ∷ loc 9 ∷ []) 17 ∷ invoke g₄ (loc 3 ∷ loc 17 ∷ []) 18 ∷ invoke g₅ (loc 8 ∷ loc 18 ∷ []) 19 ∷ invoke g₆ (loc 16 ∷ loc 17 ∷ loc 19 ∷ []) 0 ∷ [])
 
-  abbrev XC : Word
-  XC = by-value C
-
-  abbrev XL : Word
-  XL = by-value L
-
-  abbrev XF : Word
-  XF = by-value F
-
-  abbrev XE : Word
-  XE = by-value E
-
-  abbrev signature₁ : Signature
-  signature₁ = record { lifetimes = 0; outlives = []; params = []; result = plain (λ _. U .row) }
-
-  abbrev ended₁ : Ended
-  ended₁ = record { signature = signature₁; kept = tt }
-
-  abbrev signature₂ : Signature
-  signature₂ = record { lifetimes = 4; outlives = []; params = RefOf (0 ∷ []) tt (plain (λ _. RS)) (λ _. tt) ∷ RefOf (1 ∷ []) tt (plain (λ _. RNets)) (λ _. tt) ∷ plain (λ _. N .row) ∷ plain (λ _. XC .row) ∷ plain (λ _. XL .row) ∷ plain (λ _. XF .row) ∷ SliceRefOf (2 ∷ []) tt (plain (λ _. u8)) (λ _. tt) ∷ plain (λ _. U .row) ∷ SliceRefOf (3 ∷ []) tt (plain (λ _. RE)) (λ _. tt) ∷ []; result = plain (λ _. G .row) }
-
-  abbrev ended₂ : Ended
-  ended₂ = record { signature = signature₂; kept = (yes, (yes, (yes, (yes, (yes, (yes, (yes, (yes, (yes, tt))))))))) }
-
-  abbrev signature₃ : Signature
-  signature₃ = record { lifetimes = 0; outlives = []; params = plain (λ _. G .row) ∷ plain (λ _. XS .row) ∷ plain (λ _. XNets .row) ∷ plain (λ _. I .row) ∷ []; result = plain (λ _. R .row) }
-
-  abbrev ended₃ : Ended
-  ended₃ = record { signature = signature₃; kept = (yes, (yes, (yes, (yes, tt)))) }
-
-  abbrev signature₄ : Signature
-  signature₄ = record { lifetimes = 0; outlives = []; params = plain (λ _. N .row) ∷ plain (λ _. R .row) ∷ []; result = plain (λ _. Z .row) }
-
-  abbrev ended₄ : Ended
-  ended₄ = record { signature = signature₄; kept = (yes, (yes, tt)) }
-
-  abbrev signature₅ : Signature
-  signature₅ = record { lifetimes = 1; outlives = []; params = SliceRefOf (0 ∷ []) tt (plain (λ _. RE)) (λ _. tt) ∷ plain (λ _. Z .row) ∷ []; result = plain (λ _. Q .row) }
-
-  abbrev ended₅ : Ended
-  ended₅ = record { signature = signature₅; kept = (yes, (yes, tt)) }
-
-  abbrev signature₆ : Signature
-  signature₆ = record { lifetimes = 0; outlives = []; params = plain (λ _. G .row) ∷ plain (λ _. R .row) ∷ plain (λ _. Q .row) ∷ []; result = plain (λ _. K .row) }
-
-  abbrev ended₆ : Ended
-  ended₆ = record { signature = signature₆; kept = (yes, (yes, (yes, tt))) }
-
-  abbrev signature : Signature
-  signature = record { lifetimes = 7; outlives = []; params = RefOf (0 ∷ []) tt (plain (λ _. RS)) (λ _. tt) ∷ RefOf (1 ∷ []) tt (plain (λ _. RNets)) (λ _. tt) ∷ plain (λ _. N .row) ∷ RefOf (2 ∷ []) tt (plain (λ _. RC)) (λ _. tt) ∷ RefOf (3 ∷ []) tt (plain (λ _. RL)) (λ _. tt) ∷ RefOf (4 ∷ []) tt (plain (λ _. RF)) (λ _. tt) ∷ SliceRefOf (5 ∷ []) tt (plain (λ _. u8)) (λ _. tt) ∷ SliceRefOf (6 ∷ []) tt (plain (λ _. RE)) (λ _. tt) ∷ plain (λ _. I .row) ∷ []; result = plain (λ _. K .row) }
-
-  abbrev ended : Ended
-  ended = record { signature = signature; kept = (yes, (yes, (yes, (yes, (yes, (yes, (yes, (yes, (yes, tt))))))))) }
-
-  abbrev function : Name → Name → Name → Name → Name → Name → Fn
-  function g₁ g₂ g₃ g₄ g₅ g₆ = record {
-    lifetimes = 7;
-    outlives = [];
-    params = 9;
-    locals = local (K .ty) valueLocal ∷ local (tyRef (named 0) imm (pointee (RS .written))) valueLocal ∷ local (tyRef (named 1) imm (pointee (RNets .written))) valueLocal ∷ local (N .ty) valueLocal ∷ local (tyRef (named 2) imm (pointee (RC .written))) valueLocal ∷ local (tyRef (named 3) imm (pointee (RL .written))) valueLocal ∷ local (tyRef (named 4) imm (pointee (RF .written))) valueLocal ∷ local (sliceTy (tyRef (named 5) imm (tyInt w8))) valueLocal ∷ local (sliceTy (tyRef (named 6) imm (pointee (RE .written)))) valueLocal ∷ local (I .ty) valueLocal ∷ local (XS .ty) valueLocal ∷ local (XNets .ty) valueLocal ∷ local (XC .ty) valueLocal ∷ local (XL .ty) valueLocal ∷ local (XF .ty) valueLocal ∷ local (U .ty) valueLocal ∷ local (G .ty) valueLocal ∷ local (R .ty) valueLocal ∷ local (Z .ty) valueLocal ∷ local (Q .ty) valueLocal ∷ [];
-    body = seq (assign (place 10 []) (rvOpd (copy (place 1 (deref (layout (shape (S .S))) ∷ [])))))
-        (seq (assign (place 11 []) (rvOpd (copy (place 2 (deref (layout (shape (Nets .S))) ∷ [])))))
-        (seq (assign (place 12 []) (rvOpd (copy (place 4 (deref (layout (shape (C .S))) ∷ [])))))
-        (seq (assign (place 13 []) (rvOpd (copy (place 5 (deref (layout (shape (L .S))) ∷ [])))))
-        (seq (assign (place 14 []) (rvOpd (copy (place 6 (deref (layout (shape (F .S))) ∷ [])))))
-        (seq (call g₁ ([]) (place 15 []))
-        (seq (call g₂ (copy (place 1 []) ∷ copy (place 2 []) ∷ copy (place 3 []) ∷ copy (place 12 []) ∷ copy (place 13 []) ∷ copy (place 14 []) ∷ copy (place 7 []) ∷ copy (place 15 []) ∷ copy (place 8 []) ∷ []) (place 16 []))
-        (seq (call g₃ (copy (place 16 []) ∷ copy (place 10 []) ∷ copy (place 11 []) ∷ copy (place 9 []) ∷ []) (place 17 []))
-        (seq (call g₄ (copy (place 3 []) ∷ copy (place 17 []) ∷ []) (place 18 []))
-        (seq (call g₅ (copy (place 8 []) ∷ copy (place 18 []) ∷ []) (place 19 []))
-        (seq (call g₆ (copy (place 16 []) ∷ copy (place 17 []) ∷ copy (place 19 []) ∷ []) (place 0 [])) return))))))))));
-  }
-
-  abbrev stayed : Stays (ended .signature .params) (ended .kept)
-  stayed = (stay-dropped (shrRefTo (0 ∷ []) tt (plain (λ _. RS))) yes, (stay-dropped (shrRefTo (1 ∷ []) tt (plain (λ _. RNets))) yes, (stay-dropped (plain (λ _. N .row)) yes, (stay-dropped (shrRefTo (2 ∷ []) tt (plain (λ _. RC))) yes, (stay-dropped (shrRefTo (3 ∷ []) tt (plain (λ _. RL))) yes, (stay-dropped (shrRefTo (4 ∷ []) tt (plain (λ _. RF))) yes, (stay-dropped (shrSliceOf (5 ∷ []) tt (plain (λ _. u8))) yes, (stay-dropped (shrSliceOf (6 ∷ []) tt (plain (λ _. RE))) yes, (stay-dropped (plain (λ _. I .row)) yes, tt)))))))))
-
-  -- what each callee asks and says, and what the function says
-  module _ {M : Type 1} (𝓤 : URA M) (H : Heap 𝓤) (A : Atoms 𝓤) (asks₁ : SProp 𝓤) (gives₁ : U .row .Denot → Type 0) (asks₂ : S .S .D → Nets .S .D → N .row .Denot → XC .row .Denot → XL .row .Denot → XF .row .Denot → List (ℕ) → U .row .Denot → List (E .S .D) → SProp 𝓤) (gives₂ : S .S .D → Nets .S .D → N .row .Denot → XC .row .Denot → XL .row .Denot → XF .row .Denot → List (ℕ) → U .row .Denot → List (E .S .D) → G .row .Denot → Type 0) (asks₃ : G .row .Denot → XS .row .Denot → XNets .row .Denot → I .row .Denot → SProp 𝓤) (gives₃ : G .row .Denot → XS .row .Denot → XNets .row .Denot → I .row .Denot → R .row .Denot → Type 0) (asks₄ : N .row .Denot → R .row .Denot → SProp 𝓤) (gives₄ : N .row .Denot → R .row .Denot → Z .row .Denot → Type 0) (asks₅ : List (E .S .D) → Z .row .Denot → SProp 𝓤) (gives₅ : List (E .S .D) → Z .row .Denot → Q .row .Denot → Type 0) (asks₆ : G .row .Denot → R .row .Denot → Q .row .Denot → SProp 𝓤) (gives₆ : G .row .Denot → R .row .Denot → Q .row .Denot → K .row .Denot → Type 0) (Says : S .S .D → Nets .S .D → N .row .Denot → C .S .D → L .S .D → F .S .D → List (ℕ) → List (E .S .D) → I .row .Denot → K .row .Denot → Type 0) where
-    abbrev clauses₁ : Clauses 𝓤 ended₁
-    clauses₁ = λ κs a. record { ghost = Unit {0}; requires = λ _. asks₁; ensures = λ _ r e. fact 𝓤 (gives₁ r) }
-
-    abbrev Contract₁ : Contract 𝓤
-    Contract₁ = tripleOf 𝓤 H A signature₁ (closing 𝓤 H A ended₁ clauses₁)
-
-    abbrev clauses₂ : Clauses 𝓤 ended₂
-    clauses₂ = λ κs a. record { ghost = Unit {0}; requires = λ _. asks₂ (a .0 .now) (a .1 .0 .now) (a .1 .1 .0) (a .1 .1 .1 .0) (a .1 .1 .1 .1 .0) (a .1 .1 .1 .1 .1 .0) (a .1 .1 .1 .1 .1 .1 .0 .now) (a .1 .1 .1 .1 .1 .1 .1 .0) (a .1 .1 .1 .1 .1 .1 .1 .1 .0 .now); ensures = λ _ r e. fact 𝓤 (gives₂ (a .0 .now) (a .1 .0 .now) (a .1 .1 .0) (a .1 .1 .1 .0) (a .1 .1 .1 .1 .0) (a .1 .1 .1 .1 .1 .0) (a .1 .1 .1 .1 .1 .1 .0 .now) (a .1 .1 .1 .1 .1 .1 .1 .0) (a .1 .1 .1 .1 .1 .1 .1 .1 .0 .now) r) }
-
-    abbrev Contract₂ : Contract 𝓤
-    Contract₂ = tripleOf 𝓤 H A signature₂ (closing 𝓤 H A ended₂ clauses₂)
-
-    abbrev clauses₃ : Clauses 𝓤 ended₃
-    clauses₃ = λ κs a. record { ghost = Unit {0}; requires = λ _. asks₃ (a .0) (a .1 .0) (a .1 .1 .0) (a .1 .1 .1 .0); ensures = λ _ r e. fact 𝓤 (gives₃ (a .0) (a .1 .0) (a .1 .1 .0) (a .1 .1 .1 .0) r) }
-
-    abbrev Contract₃ : Contract 𝓤
-    Contract₃ = tripleOf 𝓤 H A signature₃ (closing 𝓤 H A ended₃ clauses₃)
-
-    abbrev clauses₄ : Clauses 𝓤 ended₄
-    clauses₄ = λ κs a. record { ghost = Unit {0}; requires = λ _. asks₄ (a .0) (a .1 .0); ensures = λ _ r e. fact 𝓤 (gives₄ (a .0) (a .1 .0) r) }
-
-    abbrev Contract₄ : Contract 𝓤
-    Contract₄ = tripleOf 𝓤 H A signature₄ (closing 𝓤 H A ended₄ clauses₄)
-
-    abbrev clauses₅ : Clauses 𝓤 ended₅
-    clauses₅ = λ κs a. record { ghost = Unit {0}; requires = λ _. asks₅ (a .0 .now) (a .1 .0); ensures = λ _ r e. fact 𝓤 (gives₅ (a .0 .now) (a .1 .0) r) }
-
-    abbrev Contract₅ : Contract 𝓤
-    Contract₅ = tripleOf 𝓤 H A signature₅ (closing 𝓤 H A ended₅ clauses₅)
-
-    abbrev clauses₆ : Clauses 𝓤 ended₆
-    clauses₆ = λ κs a. record { ghost = Unit {0}; requires = λ _. asks₆ (a .0) (a .1 .0) (a .1 .1 .0); ensures = λ _ r e. fact 𝓤 (gives₆ (a .0) (a .1 .0) (a .1 .1 .0) r) }
-
-    abbrev Contract₆ : Contract 𝓤
-    Contract₆ = tripleOf 𝓤 H A signature₆ (closing 𝓤 H A ended₆ clauses₆)
-
-    abbrev clauses : Clauses 𝓤 ended
-    clauses = λ κs a. record { ghost = Unit {0}; requires = λ _. emp 𝓤; ensures = λ _ r e. fact 𝓤 (Says (a .0 .now) (a .1 .0 .now) (a .1 .1 .0) (a .1 .1 .1 .0 .now) (a .1 .1 .1 .1 .0 .now) (a .1 .1 .1 .1 .1 .0 .now) (a .1 .1 .1 .1 .1 .1 .0 .now) (a .1 .1 .1 .1 .1 .1 .1 .0 .now) (a .1 .1 .1 .1 .1 .1 .1 .1 .0) r) }
-
-    module _ (W : Given 𝓤 H A)
-        (ok₁ : (settings : S .S .D) (nets : Nets .S .D) (number : N .row .Denot) (clock : C .S .D) (links : L .S .D) (stand : F .S .D) (octets : List (ℕ)) (run : List (E .S .D)) (input : I .row .Denot) → ent 𝓤 (emp 𝓤) (asks₁))
-        (ok₂ : (settings : S .S .D) (nets : Nets .S .D) (number : N .row .Denot) (clock : C .S .D) (links : L .S .D) (stand : F .S .D) (octets : List (ℕ)) (run : List (E .S .D)) (input : I .row .Denot) (a : U .row .Denot) → gives₁ a → ent 𝓤 (emp 𝓤) (asks₂ settings nets number clock links stand octets a run))
-        (ok₃ : (settings : S .S .D) (nets : Nets .S .D) (number : N .row .Denot) (clock : C .S .D) (links : L .S .D) (stand : F .S .D) (octets : List (ℕ)) (run : List (E .S .D)) (input : I .row .Denot) (a : U .row .Denot) (g : G .row .Denot) → gives₁ a → gives₂ settings nets number clock links stand octets a run g → ent 𝓤 (emp 𝓤) (asks₃ g settings nets input))
-        (ok₄ : (settings : S .S .D) (nets : Nets .S .D) (number : N .row .Denot) (clock : C .S .D) (links : L .S .D) (stand : F .S .D) (octets : List (ℕ)) (run : List (E .S .D)) (input : I .row .Denot) (a : U .row .Denot) (g : G .row .Denot) (f : R .row .Denot) → gives₁ a → gives₂ settings nets number clock links stand octets a run g → gives₃ g settings nets input f → ent 𝓤 (emp 𝓤) (asks₄ number f))
-        (ok₅ : (settings : S .S .D) (nets : Nets .S .D) (number : N .row .Denot) (clock : C .S .D) (links : L .S .D) (stand : F .S .D) (octets : List (ℕ)) (run : List (E .S .D)) (input : I .row .Denot) (a : U .row .Denot) (g : G .row .Denot) (f : R .row .Denot) (z : Z .row .Denot) → gives₁ a → gives₂ settings nets number clock links stand octets a run g → gives₃ g settings nets input f → gives₄ number f z → ent 𝓤 (emp 𝓤) (asks₅ run z))
-        (ok₆ : (settings : S .S .D) (nets : Nets .S .D) (number : N .row .Denot) (clock : C .S .D) (links : L .S .D) (stand : F .S .D) (octets : List (ℕ)) (run : List (E .S .D)) (input : I .row .Denot) (a : U .row .Denot) (g : G .row .Denot) (f : R .row .Denot) (z : Z .row .Denot) (e : Q .row .Denot) → gives₁ a → gives₂ settings nets number clock links stand octets a run g → gives₃ g settings nets input f → gives₄ number f z → gives₅ run z e → ent 𝓤 (emp 𝓤) (asks₆ g f e))
-        (then : (settings : S .S .D) (nets : Nets .S .D) (number : N .row .Denot) (clock : C .S .D) (links : L .S .D) (stand : F .S .D) (octets : List (ℕ)) (run : List (E .S .D)) (input : I .row .Denot) (a : U .row .Denot) (g : G .row .Denot) (f : R .row .Denot) (z : Z .row .Denot) (e : Q .row .Denot) (result : K .row .Denot) → gives₁ a → gives₂ settings nets number clock links stand octets a run g → gives₃ g settings nets input f → gives₄ number f z → gives₅ run z e → gives₆ g f e result → Says settings nets number clock links stand octets run input result)
-        (κ₀ κ₁ κ₂ κ₃ κ₄ κ₅ κ₆ : Lft) (q₀ q₁ q₂ q₃ q₄ q₅ q₆ : Share) (b₀ o₀ b₁ o₁ b₂ o₂ b₃ o₃ b₄ o₄ b₅ o₅ b₆ o₆ : ℕ) (γ₀ γ₁ γ₂ γ₃ γ₄ γ₅ γ₆ : GName) (settings : S .S .D) (nets : Nets .S .D) (number : N .row .Denot) (clock : C .S .D) (links : L .S .D) (stand : F .S .D) (octets : List (ℕ)) (run : List (E .S .D)) (input : I .row .Denot) where
-      abbrev ref₀ : GName → S .S .D → RefT (S .S .D)
-      ref₀ γ x = record { ptr = (b₀, o₀); name = γ; now = x }
-
-      abbrev ref₁ : GName → Nets .S .D → RefT (Nets .S .D)
-      ref₁ γ x = record { ptr = (b₁, o₁); name = γ; now = x }
-
-      abbrev ref₂ : GName → C .S .D → RefT (C .S .D)
-      ref₂ γ x = record { ptr = (b₂, o₂); name = γ; now = x }
-
-      abbrev ref₃ : GName → L .S .D → RefT (L .S .D)
-      ref₃ γ x = record { ptr = (b₃, o₃); name = γ; now = x }
-
-      abbrev ref₄ : GName → F .S .D → RefT (F .S .D)
-      ref₄ γ x = record { ptr = (b₄, o₄); name = γ; now = x }
-
-      abbrev ref₅ : GName → List (ℕ) → RefT (List (ℕ))
-      ref₅ γ x = record { ptr = (b₅, o₅); name = γ; now = x }
-
-      abbrev ref₆ : GName → List (E .S .D) → RefT (List (E .S .D))
-      ref₆ γ x = record { ptr = (b₆, o₆); name = γ; now = x }
-
-      abbrev x : RefT (S .S .D) × (RefT (Nets .S .D) × (N .row .Denot × (RefT (C .S .D) × (RefT (L .S .D) × (RefT (F .S .D) × (RefT (List (ℕ)) × (RefT (List (E .S .D)) × (I .row .Denot × Unit {0}))))))))
-      x = (ref₀ γ₀ settings, (ref₁ γ₁ nets, (number, (ref₂ γ₂ clock, (ref₃ γ₃ links, (ref₄ γ₄ stand, (ref₅ γ₅ octets, (ref₆ γ₆ run, (input, tt)))))))))
-
-      abbrev at : List Val × (List Val × (List Val × (List Val × (List Val × (List Val × (List Val × (List Val × (List Val × Unit {0}))))))))
-      at = (vptr b₀ o₀ ∷ [], (vptr b₁ o₁ ∷ [], (N .val number ∷ [], (vptr b₂ o₂ ∷ [], (vptr b₃ o₃ ∷ [], (vptr b₄ o₄ ∷ [], (slice-vals (ref₅ γ₅ octets), (slice-vals (ref₆ γ₆ run), (I .val input ∷ [], tt)))))))))
-
-      abbrev Post : Val → SProp 𝓤
-      Post = walkOf 𝓤 H A ended stayed clauses .post (((κ₀, (κ₁, (κ₂, (κ₃, (κ₄, (κ₅, (κ₆, tt))))))), (q₀, (q₁, (q₂, (q₃, (q₄, (q₅, (q₆, tt))))))), tt, x, at), tt)
-
-      exits : (r : K .row .Denot) (v : Val) → Says settings nets number clock links stand octets run input r → ent 𝓤 (⋆ 𝓤 H A (‵ (flft κ₀ q₀) ∷ ‵ (flft κ₁ q₁) ∷ ‵ (flft κ₂ q₂) ∷ ‵ (flft κ₃ q₃) ∷ ‵ (flft κ₄ q₄) ∷ ‵ (flft κ₅ q₅) ∷ ‵ (flft κ₆ q₆) ∷ ‵ (K .row .own r (v ∷ [])) ∷ [])) (Post v)
-      exits r v φ =
-          qed W (‵ (flft κ₀ q₀) ∷ ‵ (flft κ₁ q₁) ∷ ‵ (flft κ₂ q₂) ∷ ‵ (flft κ₃ q₃) ∷ ‵ (flft κ₄ q₄) ∷ ‵ (flft κ₅ q₅) ∷ ‵ (flft κ₆ q₆) ∷ ‵ (K .row .own r (v ∷ [])) ∷ []) ∵
-          suffices ! _ (ends-at 𝓤 H A ended stayed clauses W (((κ₀, (κ₁, (κ₂, (κ₃, (κ₄, (κ₅, (κ₆, tt))))))), (q₀, (q₁, (q₂, (q₃, (q₄, (q₅, (q₆, tt))))))), tt, x, at), tt) v r (tt, (tt, (N .last number, (tt, (tt, (tt, (tt, (tt, (I .last input, tt))))))))) (tt, (tt, (tt, (tt, (tt, (tt, (tt, (tt, (tt, tt)))))))))) $ says ! φ $
-          nothing ! $ move ! (7 ∷ 0 ∷ []) $ join ! $ move ! (6 ∷ 0 ∷ []) $ join ! $ move ! (5 ∷ 0 ∷ []) $ join ! $ move ! (4 ∷ 0 ∷ []) $ join ! $ move ! (3 ∷ 0 ∷ []) $ join ! $ move ! (2 ∷ 0 ∷ []) $ join ! $
-          move ! (1 ∷ 0 ∷ []) $ join ! $ frame ! $ nothing ! $ nothing ! $ fjoin ! $ nothing ! $ fjoin ! $ nothing ! $ fjoin ! $ nothing ! $ fjoin ! $ nothing ! $ fjoin ! $ nothing ! $ fjoin ! $ nothing ! $
-          fjoin ! $ nothing ! $ fjoin ! $ nothing ! $ fjoin ! $ frame ! $ done !
-
-      module _ (is-number : Is (N .row) number (N .val number ∷ [])) (is-input : Is (I .row) input (I .val input ∷ [])) (room-octets : Room u8 (length octets)) (room-run : Room RE (length run))
-          (T : Calls 𝓤 H) (Λ : Loops 𝓤 H) (g₁ g₂ g₃ g₄ g₅ g₆ : Name) (fm : FmC 𝓤 H (W .laws) T) (known₁ : Triple 𝓤 (T g₁) Contract₁) (known₂ : Triple 𝓤 (T g₂) Contract₂) (known₃ : Triple 𝓤 (T g₃) Contract₃) (known₄ : Triple 𝓤 (T g₄) Contract₄) (known₅ : Triple 𝓤 (T g₅) Contract₅) (known₆ : Triple 𝓤 (T g₆) Contract₆) where
-        walk : ent 𝓤 (sep 𝓤 (onEntry 𝓤 H A signature (κ₀, (κ₁, (κ₂, (κ₃, (κ₄, (κ₅, (κ₆, tt))))))) (q₀, (q₁, (q₂, (q₃, (q₄, (q₅, (q₆, tt))))))) x at) (emp 𝓤)) (WpFn 𝓤 H T Λ (function g₁ g₂ g₃ g₄ g₅ g₆) (vptr b₀ o₀ ∷ vptr b₁ o₁ ∷ N .val number ∷ vptr b₂ o₂ ∷ vptr b₃ o₃ ∷ vptr b₄ o₄ ∷ sliceVal (b₅, o₅) (length octets) ∷ sliceVal (b₆, o₆) (length run) ∷ I .val input ∷ []) Post)
-        walk =
-            qed W (((‵ (flft κ₀ q₀) ⊛ ‵ (flft κ₁ q₁) ⊛ ‵ (flft κ₂ q₂) ⊛ ‵ (flft κ₃ q₃) ⊛ ‵ (flft κ₄ q₄) ⊛ ‵ (flft κ₅ q₅) ⊛ ‵ (flft κ₆ q₆) ⊛ ‵ ftrue) ⊛ ‵ (owns (ShrRef (named 0) κ₀ RS ∷ ShrRef (named 1) κ₁ RNets ∷ N .row ∷ ShrRef (named 2) κ₂ RC ∷ ShrRef (named 3) κ₃ RL ∷ ShrRef (named 4) κ₄ RF ∷ ShrSlice (named 5) κ₅ u8 ∷ ShrSlice (named 6) κ₆ RE ∷ I .row ∷ []) x at)) ∷ raw (emp 𝓤) ∷ []) ∵
-            split ! $ move ! (2 ∷ []) $ drop ! $ split ! $ move ! (1 ∷ []) $ split ! $ move ! (1 ∷ []) $ split ! $ move ! (1 ∷ []) $ split ! $ move ! (1 ∷ []) $ split ! $ move ! (1 ∷ []) $ split ! $
-            move ! (1 ∷ []) $ split ! $ move ! (1 ∷ []) $ drop ! $ move ! (7 ∷ []) $ fsplit ! $ move ! (1 ∷ []) $ fsplit ! $ move ! (1 ∷ []) $ fsplit ! $ drop ! $ fsplit ! $ move ! (1 ∷ []) $ fsplit ! $
-            move ! (1 ∷ []) $ fsplit ! $ move ! (1 ∷ []) $ fsplit ! $ move ! (1 ∷ []) $ fsplit ! $ move ! (1 ∷ []) $ fsplit ! $ drop ! $ drop ! $
-            enter ! T Λ (function g₁ g₂ g₃ g₄ g₅ g₆) (vptr b₀ o₀ ∷ vptr b₁ o₁ ∷ N .val number ∷ vptr b₂ o₂ ∷ vptr b₃ o₃ ∷ vptr b₄ o₄ ∷ sliceVal (b₅, o₅) (length octets) ∷ sliceVal (b₆, o₆) (length run) ∷ I .val input ∷ []) _ $
-            alloc1 ! (λ z₀. alloc1 ! (λ z₁. alloc1 ! (λ z₂. alloc1 ! (λ z₃. alloc1 ! (λ z₄. alloc1 ! (λ z₅. alloc1 ! (λ z₆. alloc1 ! (λ z₇. alloc1 ! (λ z₈. alloc1 ! (λ z₉. alloc1 ! (λ z₁₀. alloc1 ! (λ z₁₁.
-            alloc1 ! (λ z₁₂. alloc1 ! (λ z₁₃. alloc1 ! (λ z₁₄. alloc1 ! (λ z₁₅. alloc1 ! (λ z₁₆. alloc1 ! (λ z₁₇. alloc1 ! (λ z₁₈. alloc1 ! (λ z₁₉. alloc0 ! $ params1 ! $ pass1 ! (init ! 36 refl (tt, tt)) $
-            pass1 ! (init ! 34 refl (tt, tt)) $ pass1 ! (init ! 32 refl (N .typed M 𝓤 H A W number _ is-number)) $ pass1 ! (init ! 30 refl (tt, tt)) $ pass1 ! (init ! 28 refl (tt, tt)) $
-            pass1 ! (init ! 26 refl (tt, tt)) $ pass1 ! (init ! 24 refl (tt, (tt, (record { fits = room-octets .0 }, tt)))) $ pass1 ! (init ! 22 refl (tt, (tt, (record { fits = room-run .0 }, tt)))) $
-            pass1 ! (init ! 20 refl (I .typed M 𝓤 H A W input _ is-input)) $ pass0 ! $
-            -- settings is copied out
-            move ! (46 ∷ []) $
-            use1 W (‵ (ShrRef (named 0) κ₀ RS .own (ref₀ γ₀ settings) (vptr b₀ o₀ ∷ [])) ⊛ ‵ (ShrRef (named 0) κ₀ RS .own (ref₀ γ₀ settings) (vptr b₀ o₀ ∷ []))) (shr-copy 𝓤 H A W (named 0) κ₀ RS .twice (ref₀ γ₀ settings) (vptr b₀ o₀ ∷ [])) $
-            split ! $ fsplit3 ! $ drop ! $ drop ! $ move ! (0 ∷ 54 ∷ []) $ looks ! tt RS (Is RS) (shows 𝓤 H A RS) (λ z. XS .val z ∷ []) (XS .tells) (LL.copy (S .S) (S .copies) 𝓤 H A W) settings b₀ o₀ (λ sh vs.
-            spelt ! RS (Is RS) (shows 𝓤 H A RS) (λ z. XS .val z ∷ []) (XS .tells) sh settings vs b₀ o₀ $ move ! (1 ∷ []) $ peeks ! RS (Is RS) (shows 𝓤 H A RS) settings (XS .val settings ∷ []) (λ is-settings.
-            assigns ! (of-opd ! (load ! (from ! (hop ! (look ! 41 refl) (stop !))) (look-raw ! 1 refl))) (from ! (stop !)) (init ! 23 refl (XS .typed M 𝓤 H A W settings _ is-settings)) $ move ! (1 ∷ 0 ∷ 2 ∷ []) $
-            shuts ! tt RS sh settings (XS .val settings ∷ []) b₀ o₀ $ move ! (1 ∷ []) $ drop ! $
-            -- nets is copied out
-            move ! (47 ∷ []) $
-            use1 W (‵ (ShrRef (named 1) κ₁ RNets .own (ref₁ γ₁ nets) (vptr b₁ o₁ ∷ [])) ⊛ ‵ (ShrRef (named 1) κ₁ RNets .own (ref₁ γ₁ nets) (vptr b₁ o₁ ∷ []))) (shr-copy 𝓤 H A W (named 1) κ₁ RNets .twice (ref₁ γ₁ nets) (vptr b₁ o₁ ∷ [])) $
-            split ! $ fsplit3 ! $ drop ! $ drop ! $ move ! (0 ∷ 54 ∷ []) $
-            looks ! tt RNets (Is RNets) (shows 𝓤 H A RNets) (λ z. XNets .val z ∷ []) (XNets .tells) (LL.copy (Nets .S) (Nets .copies) 𝓤 H A W) nets b₁ o₁ (λ sh vs.
-            spelt ! RNets (Is RNets) (shows 𝓤 H A RNets) (λ z. XNets .val z ∷ []) (XNets .tells) sh nets vs b₁ o₁ $ move ! (1 ∷ []) $
-            peeks ! RNets (Is RNets) (shows 𝓤 H A RNets) nets (XNets .val nets ∷ []) (λ is-nets.
-            assigns ! (of-opd ! (load ! (from ! (hop ! (look ! 41 refl) (stop !))) (look-raw ! 1 refl))) (from ! (stop !)) (init ! 23 refl (XNets .typed M 𝓤 H A W nets _ is-nets)) $ move ! (1 ∷ 0 ∷ 2 ∷ []) $
-            shuts ! tt RNets sh nets (XNets .val nets ∷ []) b₁ o₁ $ move ! (1 ∷ []) $ drop ! $
-            -- clock is copied out
-            move ! (48 ∷ []) $
-            use1 W (‵ (ShrRef (named 2) κ₂ RC .own (ref₂ γ₂ clock) (vptr b₂ o₂ ∷ [])) ⊛ ‵ (ShrRef (named 2) κ₂ RC .own (ref₂ γ₂ clock) (vptr b₂ o₂ ∷ []))) (shr-copy 𝓤 H A W (named 2) κ₂ RC .twice (ref₂ γ₂ clock) (vptr b₂ o₂ ∷ [])) $
-            split ! $ fsplit3 ! $ drop ! $ drop ! $ move ! (0 ∷ 54 ∷ []) $ looks ! tt RC (Is RC) (shows 𝓤 H A RC) (λ z. XC .val z ∷ []) (XC .tells) (LL.copy (C .S) (C .copies) 𝓤 H A W) clock b₂ o₂ (λ sh vs.
-            spelt ! RC (Is RC) (shows 𝓤 H A RC) (λ z. XC .val z ∷ []) (XC .tells) sh clock vs b₂ o₂ $ move ! (1 ∷ []) $ peeks ! RC (Is RC) (shows 𝓤 H A RC) clock (XC .val clock ∷ []) (λ is-clock.
-            assigns ! (of-opd ! (load ! (from ! (hop ! (look ! 39 refl) (stop !))) (look-raw ! 1 refl))) (from ! (stop !)) (init ! 23 refl (XC .typed M 𝓤 H A W clock _ is-clock)) $ move ! (1 ∷ 0 ∷ 2 ∷ []) $
-            shuts ! tt RC sh clock (XC .val clock ∷ []) b₂ o₂ $ move ! (1 ∷ []) $ drop ! $
-            -- links is copied out
-            move ! (49 ∷ []) $
-            use1 W (‵ (ShrRef (named 3) κ₃ RL .own (ref₃ γ₃ links) (vptr b₃ o₃ ∷ [])) ⊛ ‵ (ShrRef (named 3) κ₃ RL .own (ref₃ γ₃ links) (vptr b₃ o₃ ∷ []))) (shr-copy 𝓤 H A W (named 3) κ₃ RL .twice (ref₃ γ₃ links) (vptr b₃ o₃ ∷ [])) $
-            split ! $ fsplit3 ! $ drop ! $ drop ! $ move ! (0 ∷ 54 ∷ []) $ looks ! tt RL (Is RL) (shows 𝓤 H A RL) (λ z. XL .val z ∷ []) (XL .tells) (LL.copy (L .S) (L .copies) 𝓤 H A W) links b₃ o₃ (λ sh vs.
-            spelt ! RL (Is RL) (shows 𝓤 H A RL) (λ z. XL .val z ∷ []) (XL .tells) sh links vs b₃ o₃ $ move ! (1 ∷ []) $ peeks ! RL (Is RL) (shows 𝓤 H A RL) links (XL .val links ∷ []) (λ is-links.
-            assigns ! (of-opd ! (load ! (from ! (hop ! (look ! 39 refl) (stop !))) (look-raw ! 1 refl))) (from ! (stop !)) (init ! 23 refl (XL .typed M 𝓤 H A W links _ is-links)) $ move ! (1 ∷ 0 ∷ 2 ∷ []) $
-            shuts ! tt RL sh links (XL .val links ∷ []) b₃ o₃ $ move ! (1 ∷ []) $ drop ! $
-            -- stand is copied out
-            move ! (50 ∷ []) $
-            use1 W (‵ (ShrRef (named 4) κ₄ RF .own (ref₄ γ₄ stand) (vptr b₄ o₄ ∷ [])) ⊛ ‵ (ShrRef (named 4) κ₄ RF .own (ref₄ γ₄ stand) (vptr b₄ o₄ ∷ []))) (shr-copy 𝓤 H A W (named 4) κ₄ RF .twice (ref₄ γ₄ stand) (vptr b₄ o₄ ∷ [])) $
-            split ! $ fsplit3 ! $ drop ! $ drop ! $ move ! (0 ∷ 54 ∷ []) $ looks ! tt RF (Is RF) (shows 𝓤 H A RF) (λ z. XF .val z ∷ []) (XF .tells) (LL.copy (F .S) (F .copies) 𝓤 H A W) stand b₄ o₄ (λ sh vs.
-            spelt ! RF (Is RF) (shows 𝓤 H A RF) (λ z. XF .val z ∷ []) (XF .tells) sh stand vs b₄ o₄ $ move ! (1 ∷ []) $ peeks ! RF (Is RF) (shows 𝓤 H A RF) stand (XF .val stand ∷ []) (λ is-stand.
-            assigns ! (of-opd ! (load ! (from ! (hop ! (look ! 39 refl) (stop !))) (look-raw ! 1 refl))) (from ! (stop !)) (init ! 23 refl (XF .typed M 𝓤 H A W stand _ is-stand)) $ move ! (1 ∷ 0 ∷ 2 ∷ []) $
-            shuts ! tt RF sh stand (XF .val stand ∷ []) b₄ o₄ $ move ! (1 ∷ []) $ drop ! $
-            -- scope
-            nothing ! $ nothing ! $ use0 W (raw (asks₁)) (ok₁ settings nets number clock links stand octets run input) $ move ! (2 ∷ 1 ∷ 0 ∷ []) $
-            use3 W (raw (Contract₁ .pre ((tt, tt, tt, tt, tt), tt))) (passed 𝓤 H A signature₁ tt tt tt tt (asks₁)) $ calls-at ! fm Contract₁ known₁ ((tt, tt, tt, tt, tt), tt) (no-more !) (λ v₁.
-            use1 W (later (some (λ (a : U .row .Denot). (‵ ftrue ⊛ ‵ (U .row .own a (v₁ ∷ []))) ⊛ raw (ensured 𝓤 H A ended₁ clauses₁ tt tt tt a)))) (id⊢ 𝓤 _) $ await ! tt $ pick ! (λ a. split ! $ split ! $
-            drop ! $ move ! (1 ∷ []) $ use1 W (some (λ (ends₁ : Lasts ended₁ tt tt). ‵ (lasts ended₁ tt tt ends₁) ⊛ raw (fact 𝓤 (gives₁ a)))) (id⊢ 𝓤 _) $ pick ! (λ ends₁. split ! $ move ! (1 ∷ []) $
-            heard ! (gives₁ a) (λ φ₁. drop ! $ peeks ! (U .row) (Is (U .row)) (shows 𝓤 H A (U .row)) a (v₁ ∷ []) (λ said-a. drop ! $ land ! (from ! (stop !)) (init ! 18 refl (U .typed M 𝓤 H A W a _ said-a)) $
-            rewrite ! 18 (λ (u : Val). ‵ (fat fullShare (U .ty) z₁₅ 0 u)) (ap only (U .tells a (v₁ ∷ []) said-a)) refl $
-            -- guard
-            move ! (9 ∷ []) $
-            use1 W (‵ (ShrRef (named 0) κ₀ RS .own (ref₀ γ₀ settings) (vptr b₀ o₀ ∷ [])) ⊛ ‵ (ShrRef (named 0) κ₀ RS .own (ref₀ γ₀ settings) (vptr b₀ o₀ ∷ []))) (shr-copy 𝓤 H A W (named 0) κ₀ RS .twice (ref₀ γ₀ settings) (vptr b₀ o₀ ∷ [])) $
-            split ! $ move ! (9 ∷ []) $
-            use1 W (‵ (ShrRef (named 1) κ₁ RNets .own (ref₁ γ₁ nets) (vptr b₁ o₁ ∷ [])) ⊛ ‵ (ShrRef (named 1) κ₁ RNets .own (ref₁ γ₁ nets) (vptr b₁ o₁ ∷ []))) (shr-copy 𝓤 H A W (named 1) κ₁ RNets .twice (ref₁ γ₁ nets) (vptr b₁ o₁ ∷ [])) $
-            split ! $ move ! (53 ∷ []) $
-            use1 W (‵ (ShrSlice (named 5) κ₅ u8 .own (ref₅ γ₅ octets) (slice-vals (ref₅ γ₅ octets))) ⊛ ‵ (ShrSlice (named 5) κ₅ u8 .own (ref₅ γ₅ octets) (slice-vals (ref₅ γ₅ octets)))) (shr-slice-copy 𝓤 H A W (named 5) κ₅ u8 .twice (ref₅ γ₅ octets) (slice-vals (ref₅ γ₅ octets))) $
-            split ! $ move ! (54 ∷ []) $
-            use1 W (‵ (ShrSlice (named 6) κ₆ RE .own (ref₆ γ₆ run) (slice-vals (ref₆ γ₆ run))) ⊛ ‵ (ShrSlice (named 6) κ₆ RE .own (ref₆ γ₆ run) (slice-vals (ref₆ γ₆ run)))) (shr-slice-copy 𝓤 H A W (named 6) κ₆ RE .twice (ref₆ γ₆ run) (slice-vals (ref₆ γ₆ run))) $
-            split ! $ nothing ! $ move ! (57 ∷ 0 ∷ []) $ join ! $ move ! (57 ∷ 0 ∷ []) $ join ! $ move ! (15 ∷ 0 ∷ []) $ join ! $ move ! (15 ∷ 0 ∷ []) $ join ! $ nothing ! $ move ! (2 ∷ 0 ∷ []) $ fjoin ! $
-            owned ! (U .row) (Is (U .row)) (U .makes M 𝓤 H A W) a (U .val a ∷ []) (settled U a v₁ said-a) $ fjoin ! $ move ! (3 ∷ 0 ∷ []) $ fjoin ! $
-            owned ! (XF .row) (Is (XF .row)) (XF .makes M 𝓤 H A W) stand (XF .val stand ∷ []) is-stand $ fjoin ! $ owned ! (XL .row) (Is (XL .row)) (XL .makes M 𝓤 H A W) links (XL .val links ∷ []) is-links $
-            fjoin ! $ owned ! (XC .row) (Is (XC .row)) (XC .makes M 𝓤 H A W) clock (XC .val clock ∷ []) is-clock $ fjoin ! $
-            owned ! (N .row) (Is (N .row)) (N .makes M 𝓤 H A W) number (N .val number ∷ []) is-number $ fjoin ! $ move ! (4 ∷ 0 ∷ []) $ fjoin ! $ move ! (5 ∷ 0 ∷ []) $ fjoin ! $
-            use0 W (raw (asks₂ settings nets number clock links stand octets a run)) (ok₂ settings nets number clock links stand octets run input a φ₁) $ move ! (2 ∷ 1 ∷ 0 ∷ []) $
-            use3 W (raw (Contract₂ .pre (((κ₀, (κ₁, (κ₅, (κ₆, tt)))), (q₀, (q₁, (q₅, (q₆, tt)))), tt, (ref₀ γ₀ settings, (ref₁ γ₁ nets, (number, (clock, (links, (stand, (ref₅ γ₅ octets, (a, (ref₆ γ₆ run, tt))))))))), (vptr b₀ o₀ ∷ [], (vptr b₁ o₁ ∷ [], (N .val number ∷ [], (XC .val clock ∷ [], (XL .val links ∷ [], (XF .val stand ∷ [], (slice-vals (ref₅ γ₅ octets), (U .val a ∷ [], (slice-vals (ref₆ γ₆ run), tt)))))))))), tt))) (passed 𝓤 H A signature₂ (κ₀, (κ₁, (κ₅, (κ₆, tt)))) (q₀, (q₁, (q₅, (q₆, tt)))) (ref₀ γ₀ settings, (ref₁ γ₁ nets, (number, (clock, (links, (stand, (ref₅ γ₅ octets, (a, (ref₆ γ₆ run, tt))))))))) (vptr b₀ o₀ ∷ [], (vptr b₁ o₁ ∷ [], (N .val number ∷ [], (XC .val clock ∷ [], (XL .val links ∷ [], (XF .val stand ∷ [], (slice-vals (ref₅ γ₅ octets), (U .val a ∷ [], (slice-vals (ref₆ γ₆ run), tt))))))))) (asks₂ settings nets number clock links stand octets a run)) $
-            calls-at ! fm Contract₂ known₂ (((κ₀, (κ₁, (κ₅, (κ₆, tt)))), (q₀, (q₁, (q₅, (q₆, tt)))), tt, (ref₀ γ₀ settings, (ref₁ γ₁ nets, (number, (clock, (links, (stand, (ref₅ γ₅ octets, (a, (ref₆ γ₆ run, tt))))))))), (vptr b₀ o₀ ∷ [], (vptr b₁ o₁ ∷ [], (N .val number ∷ [], (XC .val clock ∷ [], (XL .val links ∷ [], (XF .val stand ∷ [], (slice-vals (ref₅ γ₅ octets), (U .val a ∷ [], (slice-vals (ref₆ γ₆ run), tt)))))))))), tt) (and-then ! (load ! (from ! (stop !)) (look ! 47 refl)) (and-then ! (load ! (from ! (stop !)) (look ! 45 refl)) (and-then ! (load ! (from ! (stop !)) (look ! 43 refl)) (and-then ! (load ! (from ! (stop !)) (look ! 25 refl)) (and-then ! (load ! (from ! (stop !)) (look ! 23 refl)) (and-then ! (load ! (from ! (stop !)) (look ! 21 refl)) (and-then ! (load ! (from ! (stop !)) (look ! 35 refl)) (and-then ! (load ! (from ! (stop !)) (look ! 19 refl)) (and-then ! (load ! (from ! (stop !)) (look ! 33 refl)) (no-more !)))))))))) (λ v₂.
-            use1 W (later (some (λ (g : G .row .Denot). ((‵ (flft κ₀ q₀) ⊛ ‵ (flft κ₁ q₁) ⊛ ‵ (flft κ₅ q₅) ⊛ ‵ (flft κ₆ q₆) ⊛ ‵ ftrue) ⊛ ‵ (G .row .own g (v₂ ∷ []))) ⊛ raw (ensured 𝓤 H A ended₂ clauses₂ (κ₀, (κ₁, (κ₅, (κ₆, tt)))) (ref₀ γ₀ settings, (ref₁ γ₁ nets, (number, (clock, (links, (stand, (ref₅ γ₅ octets, (a, (ref₆ γ₆ run, tt))))))))) tt g)))) (id⊢ 𝓤 _) $ await ! tt $
-            pick ! (λ g. split ! $ split ! $ split ! $ move ! (1 ∷ []) $ split ! $ move ! (1 ∷ []) $ split ! $ move ! (1 ∷ []) $ split ! $ move ! (1 ∷ []) $ drop ! $ move ! (5 ∷ []) $
-            use1 W (some (λ (ends₂ : Lasts ended₂ (κ₀, (κ₁, (κ₅, (κ₆, tt)))) (ref₀ γ₀ settings, (ref₁ γ₁ nets, (number, (clock, (links, (stand, (ref₅ γ₅ octets, (a, (ref₆ γ₆ run, tt)))))))))). ‵ (lasts ended₂ (κ₀, (κ₁, (κ₅, (κ₆, tt)))) (ref₀ γ₀ settings, (ref₁ γ₁ nets, (number, (clock, (links, (stand, (ref₅ γ₅ octets, (a, (ref₆ γ₆ run, tt))))))))) ends₂) ⊛ raw (fact 𝓤 (gives₂ settings nets number clock links stand octets a run g)))) (id⊢ 𝓤 _) $
-            pick ! (λ ends₂. split ! $ move ! (1 ∷ []) $ heard ! (gives₂ settings nets number clock links stand octets a run g) (λ φ₂. drop ! $ move ! (4 ∷ []) $
-            peeks ! (G .row) (Is (G .row)) (shows 𝓤 H A (G .row)) g (v₂ ∷ []) (λ said-g. drop ! $ land ! (from ! (stop !)) (init ! 20 refl (G .typed M 𝓤 H A W g _ said-g)) $
-            rewrite ! 20 (λ (u : Val). ‵ (fat fullShare (G .ty) z₁₆ 0 u)) (ap only (G .tells g (v₂ ∷ []) said-g)) refl $
-            -- find
-            nothing ! $ nothing ! $ owned ! (I .row) (Is (I .row)) (I .makes M 𝓤 H A W) input (I .val input ∷ []) is-input $ fjoin ! $
-            owned ! (XNets .row) (Is (XNets .row)) (XNets .makes M 𝓤 H A W) nets (XNets .val nets ∷ []) is-nets $ fjoin ! $
-            owned ! (XS .row) (Is (XS .row)) (XS .makes M 𝓤 H A W) settings (XS .val settings ∷ []) is-settings $ fjoin ! $
-            owned ! (G .row) (Is (G .row)) (G .makes M 𝓤 H A W) g (G .val g ∷ []) (settled G g v₂ said-g) $ fjoin ! $
-            use0 W (raw (asks₃ g settings nets input)) (ok₃ settings nets number clock links stand octets run input a g φ₁ φ₂) $ move ! (2 ∷ 1 ∷ 0 ∷ []) $
-            use3 W (raw (Contract₃ .pre ((tt, tt, tt, (g, (settings, (nets, (input, tt)))), (G .val g ∷ [], (XS .val settings ∷ [], (XNets .val nets ∷ [], (I .val input ∷ [], tt))))), tt))) (passed 𝓤 H A signature₃ tt tt (g, (settings, (nets, (input, tt)))) (G .val g ∷ [], (XS .val settings ∷ [], (XNets .val nets ∷ [], (I .val input ∷ [], tt)))) (asks₃ g settings nets input)) $
-            calls-at ! fm Contract₃ known₃ ((tt, tt, tt, (g, (settings, (nets, (input, tt)))), (G .val g ∷ [], (XS .val settings ∷ [], (XNets .val nets ∷ [], (I .val input ∷ [], tt))))), tt) (and-then ! (load ! (from ! (stop !)) (look ! 21 refl)) (and-then ! (load ! (from ! (stop !)) (look ! 33 refl)) (and-then ! (load ! (from ! (stop !)) (look ! 31 refl)) (and-then ! (load ! (from ! (stop !)) (look ! 35 refl)) (no-more !))))) (λ v₃.
-            use1 W (later (some (λ (f : R .row .Denot). (‵ ftrue ⊛ ‵ (R .row .own f (v₃ ∷ []))) ⊛ raw (ensured 𝓤 H A ended₃ clauses₃ tt (g, (settings, (nets, (input, tt)))) tt f)))) (id⊢ 𝓤 _) $ await ! tt $
-            pick ! (λ f. split ! $ split ! $ drop ! $ move ! (1 ∷ []) $
-            use1 W (some (λ (ends₃ : Lasts ended₃ tt (g, (settings, (nets, (input, tt))))). ‵ (lasts ended₃ tt (g, (settings, (nets, (input, tt)))) ends₃) ⊛ raw (fact 𝓤 (gives₃ g settings nets input f)))) (id⊢ 𝓤 _) $
-            pick ! (λ ends₃. split ! $ move ! (1 ∷ []) $ heard ! (gives₃ g settings nets input f) (λ φ₃. drop ! $ peeks ! (R .row) (Is (R .row)) (shows 𝓤 H A (R .row)) f (v₃ ∷ []) (λ said-f. drop ! $
-            land ! (from ! (stop !)) (init ! 18 refl (R .typed M 𝓤 H A W f _ said-f)) $ rewrite ! 18 (λ (u : Val). ‵ (fat fullShare (R .ty) z₁₇ 0 u)) (ap only (R .tells f (v₃ ∷ []) said-f)) refl $
-            -- seek
-            nothing ! $ nothing ! $ owned ! (R .row) (Is (R .row)) (R .makes M 𝓤 H A W) f (R .val f ∷ []) (settled R f v₃ said-f) $ fjoin ! $
-            owned ! (N .row) (Is (N .row)) (N .makes M 𝓤 H A W) number (N .val number ∷ []) is-number $ fjoin ! $
-            use0 W (raw (asks₄ number f)) (ok₄ settings nets number clock links stand octets run input a g f φ₁ φ₂ φ₃) $ move ! (2 ∷ 1 ∷ 0 ∷ []) $
-            use3 W (raw (Contract₄ .pre ((tt, tt, tt, (number, (f, tt)), (N .val number ∷ [], (R .val f ∷ [], tt))), tt))) (passed 𝓤 H A signature₄ tt tt (number, (f, tt)) (N .val number ∷ [], (R .val f ∷ [], tt)) (asks₄ number f)) $
-            calls-at ! fm Contract₄ known₄ ((tt, tt, tt, (number, (f, tt)), (N .val number ∷ [], (R .val f ∷ [], tt))), tt) (and-then ! (load ! (from ! (stop !)) (look ! 47 refl)) (and-then ! (load ! (from ! (stop !)) (look ! 19 refl)) (no-more !))) (λ v₄.
-            use1 W (later (some (λ (z : Z .row .Denot). (‵ ftrue ⊛ ‵ (Z .row .own z (v₄ ∷ []))) ⊛ raw (ensured 𝓤 H A ended₄ clauses₄ tt (number, (f, tt)) tt z)))) (id⊢ 𝓤 _) $ await ! tt $ pick ! (λ z. split ! $
-            split ! $ drop ! $ move ! (1 ∷ []) $ use1 W (some (λ (ends₄ : Lasts ended₄ tt (number, (f, tt))). ‵ (lasts ended₄ tt (number, (f, tt)) ends₄) ⊛ raw (fact 𝓤 (gives₄ number f z)))) (id⊢ 𝓤 _) $
-            pick ! (λ ends₄. split ! $ move ! (1 ∷ []) $ heard ! (gives₄ number f z) (λ φ₄. drop ! $ peeks ! (Z .row) (Is (Z .row)) (shows 𝓤 H A (Z .row)) z (v₄ ∷ []) (λ said-z. drop ! $
-            land ! (from ! (stop !)) (init ! 16 refl (Z .typed M 𝓤 H A W z _ said-z)) $ rewrite ! 16 (λ (u : Val). ‵ (fat fullShare (Z .ty) z₁₈ 0 u)) (ap only (Z .tells z (v₄ ∷ []) said-z)) refl $
-            -- look
-            move ! (4 ∷ []) $
-            use1 W (‵ (ShrSlice (named 6) κ₆ RE .own (ref₆ γ₆ run) (slice-vals (ref₆ γ₆ run))) ⊛ ‵ (ShrSlice (named 6) κ₆ RE .own (ref₆ γ₆ run) (slice-vals (ref₆ γ₆ run)))) (shr-slice-copy 𝓤 H A W (named 6) κ₆ RE .twice (ref₆ γ₆ run) (slice-vals (ref₆ γ₆ run))) $
-            split ! $ nothing ! $ move ! (3 ∷ 0 ∷ []) $ join ! $ nothing ! $ owned ! (Z .row) (Is (Z .row)) (Z .makes M 𝓤 H A W) z (Z .val z ∷ []) (settled Z z v₄ said-z) $ fjoin ! $ move ! (2 ∷ 0 ∷ []) $
-            fjoin ! $ use0 W (raw (asks₅ run z)) (ok₅ settings nets number clock links stand octets run input a g f z φ₁ φ₂ φ₃ φ₄) $ move ! (2 ∷ 1 ∷ 0 ∷ []) $
-            use3 W (raw (Contract₅ .pre (((κ₆, tt), (q₆, tt), tt, (ref₆ γ₆ run, (z, tt)), (slice-vals (ref₆ γ₆ run), (Z .val z ∷ [], tt))), tt))) (passed 𝓤 H A signature₅ (κ₆, tt) (q₆, tt) (ref₆ γ₆ run, (z, tt)) (slice-vals (ref₆ γ₆ run), (Z .val z ∷ [], tt)) (asks₅ run z)) $
-            calls-at ! fm Contract₅ known₅ (((κ₆, tt), (q₆, tt), tt, (ref₆ γ₆ run, (z, tt)), (slice-vals (ref₆ γ₆ run), (Z .val z ∷ [], tt))), tt) (and-then ! (load ! (from ! (stop !)) (look ! 36 refl)) (and-then ! (load ! (from ! (stop !)) (look ! 16 refl)) (no-more !))) (λ v₅.
-            use1 W (later (some (λ (e : Q .row .Denot). ((‵ (flft κ₆ q₆) ⊛ ‵ ftrue) ⊛ ‵ (Q .row .own e (v₅ ∷ []))) ⊛ raw (ensured 𝓤 H A ended₅ clauses₅ (κ₆, tt) (ref₆ γ₆ run, (z, tt)) tt e)))) (id⊢ 𝓤 _) $ await ! tt $
-            pick ! (λ e. split ! $ split ! $ split ! $ move ! (1 ∷ []) $ drop ! $ move ! (2 ∷ []) $
-            use1 W (some (λ (ends₅ : Lasts ended₅ (κ₆, tt) (ref₆ γ₆ run, (z, tt))). ‵ (lasts ended₅ (κ₆, tt) (ref₆ γ₆ run, (z, tt)) ends₅) ⊛ raw (fact 𝓤 (gives₅ run z e)))) (id⊢ 𝓤 _) $ pick ! (λ ends₅. split ! $
-            move ! (1 ∷ []) $ heard ! (gives₅ run z e) (λ φ₅. drop ! $ move ! (1 ∷ []) $ peeks ! (Q .row) (Is (Q .row)) (shows 𝓤 H A (Q .row)) e (v₅ ∷ []) (λ said-e. drop ! $
-            land ! (from ! (stop !)) (init ! 14 refl (Q .typed M 𝓤 H A W e _ said-e)) $ rewrite ! 14 (λ (u : Val). ‵ (fat fullShare (Q .ty) z₁₉ 0 u)) (ap only (Q .tells e (v₅ ∷ []) said-e)) refl $
-            -- plan
-            nothing ! $ nothing ! $ owned ! (Q .row) (Is (Q .row)) (Q .makes M 𝓤 H A W) e (Q .val e ∷ []) (settled Q e v₅ said-e) $ fjoin ! $
-            owned ! (R .row) (Is (R .row)) (R .makes M 𝓤 H A W) f (R .val f ∷ []) (settled R f v₃ said-f) $ fjoin ! $
-            owned ! (G .row) (Is (G .row)) (G .makes M 𝓤 H A W) g (G .val g ∷ []) (settled G g v₂ said-g) $ fjoin ! $
-            use0 W (raw (asks₆ g f e)) (ok₆ settings nets number clock links stand octets run input a g f z e φ₁ φ₂ φ₃ φ₄ φ₅) $ move ! (2 ∷ 1 ∷ 0 ∷ []) $
-            use3 W (raw (Contract₆ .pre ((tt, tt, tt, (g, (f, (e, tt))), (G .val g ∷ [], (R .val f ∷ [], (Q .val e ∷ [], tt)))), tt))) (passed 𝓤 H A signature₆ tt tt (g, (f, (e, tt))) (G .val g ∷ [], (R .val f ∷ [], (Q .val e ∷ [], tt))) (asks₆ g f e)) $
-            calls-at ! fm Contract₆ known₆ ((tt, tt, tt, (g, (f, (e, tt))), (G .val g ∷ [], (R .val f ∷ [], (Q .val e ∷ [], tt)))), tt) (and-then ! (load ! (from ! (stop !)) (look ! 21 refl)) (and-then ! (load ! (from ! (stop !)) (look ! 19 refl)) (and-then ! (load ! (from ! (stop !)) (look ! 15 refl)) (no-more !)))) (λ v₆.
-            use1 W (later (some (λ (result : K .row .Denot). (‵ ftrue ⊛ ‵ (K .row .own result (v₆ ∷ []))) ⊛ raw (ensured 𝓤 H A ended₆ clauses₆ tt (g, (f, (e, tt))) tt result)))) (id⊢ 𝓤 _) $ await ! tt $
-            pick ! (λ result. split ! $ split ! $ drop ! $ move ! (1 ∷ []) $
-            use1 W (some (λ (ends₆ : Lasts ended₆ tt (g, (f, (e, tt)))). ‵ (lasts ended₆ tt (g, (f, (e, tt))) ends₆) ⊛ raw (fact 𝓤 (gives₆ g f e result)))) (id⊢ 𝓤 _) $ pick ! (λ ends₆. split ! $ move ! (1 ∷ []) $
-            heard ! (gives₆ g f e result) (λ φ₆. drop ! $ peeks ! (K .row) (Is (K .row)) (shows 𝓤 H A (K .row)) result (v₆ ∷ []) (λ said-result. drop ! $
-            land ! (from ! (stop !)) (init ! 52 refl (K .typed M 𝓤 H A W result _ said-result)) $
-            rewrite ! 52 (λ (u : Val). ‵ (fat fullShare (K .ty) z₀ 0 u)) (ap only (K .tells result (v₆ ∷ []) said-result)) refl $
-            -- the locals are freed
-            returns ! (look ! 52 refl) $ forget ! 14 refl $ forget ! 16 refl $ forget ! 18 refl $ forget ! 20 refl $ forget ! 22 refl $ forget ! 24 refl $ forget ! 26 refl $ forget ! 28 refl $ forget ! 30 refl $
-            forget ! 32 refl $ forget ! 34 refl $ forget ! 36 refl $ forget ! 38 refl $ forget ! 40 refl $ forget ! 42 refl $ forget ! 44 refl $ forget ! 46 refl $ forget ! 48 refl $ forget ! 50 refl $
-            forget ! 52 refl $ move ! (52 ∷ 53 ∷ []) $ free1 ! $ move ! (50 ∷ 51 ∷ []) $ free1 ! $ move ! (48 ∷ 49 ∷ []) $ free1 ! $ move ! (46 ∷ 47 ∷ []) $ free1 ! $ move ! (44 ∷ 45 ∷ []) $ free1 ! $
-            move ! (42 ∷ 43 ∷ []) $ free1 ! $ move ! (40 ∷ 41 ∷ []) $ free1 ! $ move ! (38 ∷ 39 ∷ []) $ free1 ! $ move ! (36 ∷ 37 ∷ []) $ free1 ! $ move ! (34 ∷ 35 ∷ []) $ free1 ! $ move ! (32 ∷ 33 ∷ []) $
-            free1 ! $ move ! (30 ∷ 31 ∷ []) $ free1 ! $ move ! (28 ∷ 29 ∷ []) $ free1 ! $ move ! (26 ∷ 27 ∷ []) $ free1 ! $ move ! (24 ∷ 25 ∷ []) $ free1 ! $ move ! (22 ∷ 23 ∷ []) $ free1 ! $
-            move ! (20 ∷ 21 ∷ []) $ free1 ! $ move ! (18 ∷ 19 ∷ []) $ free1 ! $ move ! (16 ∷ 17 ∷ []) $ free1 ! $ move ! (14 ∷ 15 ∷ []) $ free1 ! $ free0 ! $
-            owned ! (K .row) (Is (K .row)) (K .makes M 𝓤 H A W) result (K .val result ∷ []) (settled K result v₆ said-result) $ keep ! (5 ∷ 4 ∷ 13 ∷ 11 ∷ 9 ∷ 3 ∷ 1 ∷ 0 ∷ []) $
-            by ! (exits result (K .val result) (then settings nets number clock links stand octets run input a g f z e result φ₁ φ₂ φ₃ φ₄ φ₅ φ₆))))))))))))))))))))))))))))))))))))))))))))))))))))))))))))))
-
-  -- γ is the function's `code.env`, f and the others are the keys
-  module _ {M : Type 1} (𝓤 : URA M) (H : Heap 𝓤) (𝓜 : Model 𝓤 H) (𝓖 : GhostRules 𝓤 H) (𝓡 : Running 𝓤 H 𝓜) (asks₁ : SProp 𝓤) (gives₁ : U .row .Denot → Type 0) (asks₂ : S .S .D → Nets .S .D → N .row .Denot → XC .row .Denot → XL .row .Denot → XF .row .Denot → List (ℕ) → U .row .Denot → List (E .S .D) → SProp 𝓤) (gives₂ : S .S .D → Nets .S .D → N .row .Denot → XC .row .Denot → XL .row .Denot → XF .row .Denot → List (ℕ) → U .row .Denot → List (E .S .D) → G .row .Denot → Type 0) (asks₃ : G .row .Denot → XS .row .Denot → XNets .row .Denot → I .row .Denot → SProp 𝓤) (gives₃ : G .row .Denot → XS .row .Denot → XNets .row .Denot → I .row .Denot → R .row .Denot → Type 0) (asks₄ : N .row .Denot → R .row .Denot → SProp 𝓤) (gives₄ : N .row .Denot → R .row .Denot → Z .row .Denot → Type 0) (asks₅ : List (E .S .D) → Z .row .Denot → SProp 𝓤) (gives₅ : List (E .S .D) → Z .row .Denot → Q .row .Denot → Type 0) (asks₆ : G .row .Denot → R .row .Denot → Q .row .Denot → SProp 𝓤) (gives₆ : G .row .Denot → R .row .Denot → Q .row .Denot → K .row .Denot → Type 0) (Says : S .S .D → Nets .S .D → N .row .Denot → C .S .D → L .S .D → F .S .D → List (ℕ) → List (E .S .D) → I .row .Denot → K .row .Denot → Type 0)
-      (ok₁ : (settings : S .S .D) (nets : Nets .S .D) (number : N .row .Denot) (clock : C .S .D) (links : L .S .D) (stand : F .S .D) (octets : List (ℕ)) (run : List (E .S .D)) (input : I .row .Denot) → ent 𝓤 (emp 𝓤) (asks₁))
-      (ok₂ : (settings : S .S .D) (nets : Nets .S .D) (number : N .row .Denot) (clock : C .S .D) (links : L .S .D) (stand : F .S .D) (octets : List (ℕ)) (run : List (E .S .D)) (input : I .row .Denot) (a : U .row .Denot) → gives₁ a → ent 𝓤 (emp 𝓤) (asks₂ settings nets number clock links stand octets a run))
-      (ok₃ : (settings : S .S .D) (nets : Nets .S .D) (number : N .row .Denot) (clock : C .S .D) (links : L .S .D) (stand : F .S .D) (octets : List (ℕ)) (run : List (E .S .D)) (input : I .row .Denot) (a : U .row .Denot) (g : G .row .Denot) → gives₁ a → gives₂ settings nets number clock links stand octets a run g → ent 𝓤 (emp 𝓤) (asks₃ g settings nets input))
-      (ok₄ : (settings : S .S .D) (nets : Nets .S .D) (number : N .row .Denot) (clock : C .S .D) (links : L .S .D) (stand : F .S .D) (octets : List (ℕ)) (run : List (E .S .D)) (input : I .row .Denot) (a : U .row .Denot) (g : G .row .Denot) (f : R .row .Denot) → gives₁ a → gives₂ settings nets number clock links stand octets a run g → gives₃ g settings nets input f → ent 𝓤 (emp 𝓤) (asks₄ number f))
-      (ok₅ : (settings : S .S .D) (nets : Nets .S .D) (number : N .row .Denot) (clock : C .S .D) (links : L .S .D) (stand : F .S .D) (octets : List (ℕ)) (run : List (E .S .D)) (input : I .row .Denot) (a : U .row .Denot) (g : G .row .Denot) (f : R .row .Denot) (z : Z .row .Denot) → gives₁ a → gives₂ settings nets number clock links stand octets a run g → gives₃ g settings nets input f → gives₄ number f z → ent 𝓤 (emp 𝓤) (asks₅ run z))
-      (ok₆ : (settings : S .S .D) (nets : Nets .S .D) (number : N .row .Denot) (clock : C .S .D) (links : L .S .D) (stand : F .S .D) (octets : List (ℕ)) (run : List (E .S .D)) (input : I .row .Denot) (a : U .row .Denot) (g : G .row .Denot) (f : R .row .Denot) (z : Z .row .Denot) (e : Q .row .Denot) → gives₁ a → gives₂ settings nets number clock links stand octets a run g → gives₃ g settings nets input f → gives₄ number f z → gives₅ run z e → ent 𝓤 (emp 𝓤) (asks₆ g f e))
-      (then : (settings : S .S .D) (nets : Nets .S .D) (number : N .row .Denot) (clock : C .S .D) (links : L .S .D) (stand : F .S .D) (octets : List (ℕ)) (run : List (E .S .D)) (input : I .row .Denot) (a : U .row .Denot) (g : G .row .Denot) (f : R .row .Denot) (z : Z .row .Denot) (e : Q .row .Denot) (result : K .row .Denot) → gives₁ a → gives₂ settings nets number clock links stand octets a run g → gives₃ g settings nets input f → gives₄ number f z → gives₅ run z e → gives₆ g f e result → Says settings nets number clock links stand octets run input result)
+  module _ {M : Type 1} (𝓤 : URA M) (H : Heap 𝓤) (𝓜 : Model 𝓤 H) (𝓖 : GhostRules 𝓤 H) (𝓡 : Running 𝓤 H 𝓜) (asks₁ : Asking form₁ 𝓤) (gives₁ : Giving form₁) (asks₂ : Asking form₂ 𝓤) (gives₂ : Giving form₂) (asks₃ : Asking form₃ 𝓤) (gives₃ : Giving form₃) (asks₄ : Asking form₄ 𝓤) (gives₄ : Giving form₄) (asks₅ : Asking form₅ 𝓤) (gives₅ : Giving form₅) (asks₆ : Asking form₆ 𝓤) (gives₆ : Giving form₆) (Says : Saying form₀)
+      (ok₁ : Each (takes form₀) (λ settings nets number clock links stand octets run input. ent 𝓤 (emp 𝓤) (asks₁)))
+      (ok₂ : Each (takes form₀) (λ settings nets number clock links stand octets run input. (a : U .row .Denot) → gives₁ a → ent 𝓤 (emp 𝓤) (asks₂ settings nets number clock links stand octets a run)))
+      (ok₃ : Each (takes form₀) (λ settings nets number clock links stand octets run input. (a : U .row .Denot) (g : G .row .Denot) → gives₁ a → gives₂ settings nets number clock links stand octets a run g → ent 𝓤 (emp 𝓤) (asks₃ g settings nets input)))
+      (ok₄ : Each (takes form₀) (λ settings nets number clock links stand octets run input. (a : U .row .Denot) (g : G .row .Denot) (f : R .row .Denot) → gives₁ a → gives₂ settings nets number clock links stand octets a run g → gives₃ g settings nets input f → ent 𝓤 (emp 𝓤) (asks₄ number f)))
+      (ok₅ : Each (takes form₀) (λ settings nets number clock links stand octets run input. (a : U .row .Denot) (g : G .row .Denot) (f : R .row .Denot) (z : Z .row .Denot) → gives₁ a → gives₂ settings nets number clock links stand octets a run g → gives₃ g settings nets input f → gives₄ number f z → ent 𝓤 (emp 𝓤) (asks₅ run z)))
+      (ok₆ : Each (takes form₀) (λ settings nets number clock links stand octets run input. (a : U .row .Denot) (g : G .row .Denot) (f : R .row .Denot) (z : Z .row .Denot) (e : Q .row .Denot) → gives₁ a → gives₂ settings nets number clock links stand octets a run g → gives₃ g settings nets input f → gives₄ number f z → gives₅ run z e → ent 𝓤 (emp 𝓤) (asks₆ g f e)))
+      (then : Each (takes form₀) (λ settings nets number clock links stand octets run input. (a : U .row .Denot) (g : G .row .Denot) (f : R .row .Denot) (z : Z .row .Denot) (e : Q .row .Denot) (result : K .row .Denot) → gives₁ a → gives₂ settings nets number clock links stand octets a run g → gives₃ g settings nets input f → gives₄ number f z → gives₅ run z e → gives₆ g f e result → Says settings nets number clock links stand octets run input result))
       (γ : Env) (f g₁ g₂ g₃ g₄ g₅ g₆ : Name) (r₁ r₂ r₃ r₄ r₅ r₆ : Routine) where
-    abbrev Clauses′ : Clauses 𝓤 ended
-    Clauses′ = clauses 𝓤 H (𝓖 .A) asks₁ gives₁ asks₂ gives₂ asks₃ gives₃ asks₄ gives₄ asks₅ gives₅ asks₆ gives₆ Says
+    abbrev job : Job 𝓤
+    job = record { code = code g₁ g₂ g₃ g₄ g₅ g₆; itself = function 𝓤 form₀ Says; calls = (g₁, r₁, callee 𝓤 form₁ asks₁ gives₁) ∷ (g₂, r₂, callee 𝓤 form₂ asks₂ gives₂) ∷ (g₃, r₃, callee 𝓤 form₃ asks₃ gives₃) ∷ (g₄, r₄, callee 𝓤 form₄ asks₄ gives₄) ∷ (g₅, r₅, callee 𝓤 form₅ asks₅ gives₅) ∷ (g₆, r₆, callee 𝓤 form₆ asks₆ gives₆) ∷ [] }
 
-    meets : (W : Given 𝓤 H (𝓖 .A)) (𝓣 : Tables 𝓤 H) → Triple 𝓤 (𝓣 .C g₁) (Contract₁ 𝓤 H (𝓖 .A) asks₁ gives₁ asks₂ gives₂ asks₃ gives₃ asks₄ gives₄ asks₅ gives₅ asks₆ gives₆ Says) → Triple 𝓤 (𝓣 .C g₂) (Contract₂ 𝓤 H (𝓖 .A) asks₁ gives₁ asks₂ gives₂ asks₃ gives₃ asks₄ gives₄ asks₅ gives₅ asks₆ gives₆ Says) → Triple 𝓤 (𝓣 .C g₃) (Contract₃ 𝓤 H (𝓖 .A) asks₁ gives₁ asks₂ gives₂ asks₃ gives₃ asks₄ gives₄ asks₅ gives₅ asks₆ gives₆ Says) → Triple 𝓤 (𝓣 .C g₄) (Contract₄ 𝓤 H (𝓖 .A) asks₁ gives₁ asks₂ gives₂ asks₃ gives₃ asks₄ gives₄ asks₅ gives₅ asks₆ gives₆ Says) → Triple 𝓤 (𝓣 .C g₅) (Contract₅ 𝓤 H (𝓖 .A) asks₁ gives₁ asks₂ gives₂ asks₃ gives₃ asks₄ gives₄ asks₅ gives₅ asks₆ gives₆ Says) → Triple 𝓤 (𝓣 .C g₆) (Contract₆ 𝓤 H (𝓖 .A) asks₁ gives₁ asks₂ gives₂ asks₃ gives₃ asks₄ gives₄ asks₅ gives₅ asks₆ gives₆ Says) → Meets 𝓤 H (𝓖 .A) signature (WpFn 𝓤 H (𝓣 .C) (𝓣 .Λ) (function g₁ g₂ g₃ g₄ g₅ g₆)) (closing 𝓤 H (𝓖 .A) ended Clauses′)
-    meets W 𝓣 known₁ known₂ known₃ known₄ known₅ known₆ =
-        walk-meets 𝓤 H (𝓖 .A) ended stayed W
-        (goes-dropped 𝓤 H (𝓖 .A) W 7 (shrRefTo (0 ∷ []) tt (plain (λ _. RS))) yes (λ κs x f. refl), (goes-dropped 𝓤 H (𝓖 .A) W 7 (shrRefTo (1 ∷ []) tt (plain (λ _. RNets))) yes (λ κs x f. refl), (goes-dropped 𝓤 H (𝓖 .A) W 7 (plain (λ _. N .row)) yes (λ κs. N .silent), (goes-dropped 𝓤 H (𝓖 .A) W 7 (shrRefTo (2 ∷ []) tt (plain (λ _. RC))) yes (λ κs x f. refl), (goes-dropped 𝓤 H (𝓖 .A) W 7 (shrRefTo (3 ∷ []) tt (plain (λ _. RL))) yes (λ κs x f. refl), (goes-dropped 𝓤 H (𝓖 .A) W 7 (shrRefTo (4 ∷ []) tt (plain (λ _. RF))) yes (λ κs x f. refl), (goes-dropped 𝓤 H (𝓖 .A) W 7 (shrSliceOf (5 ∷ []) tt (plain (λ _. u8))) yes (λ κs x f. refl), (goes-dropped 𝓤 H (𝓖 .A) W 7 (shrSliceOf (6 ∷ []) tt (plain (λ _. RE))) yes (λ κs x f. refl), (goes-dropped 𝓤 H (𝓖 .A) W 7 (plain (λ _. I .row)) yes (λ κs. I .silent), tt)))))))))
-        Clauses′ (WpFn 𝓤 H (𝓣 .C) (𝓣 .Λ) (function g₁ g₂ g₃ g₄ g₅ g₆)) (WpFn-mono 𝓤 H (W .laws) 𝓣 (function g₁ g₂ g₃ g₄ g₅ g₆))
-        (walked 𝓤 H (𝓖 .A) ended stayed Clauses′ (WpFn 𝓤 H (𝓣 .C) (𝓣 .Λ) (function g₁ g₂ g₃ g₄ g₅ g₆)) (λ κs. (ptr-vals, (ptr-vals, ((λ m. N .val m ∷ []), (ptr-vals, (ptr-vals, (ptr-vals, (slice-vals, (slice-vals, ((λ m. I .val m ∷ []), tt))))))))))
-        (λ κs. (shr-tells (named 0) (κs .0) RS, (shr-tells (named 1) (κs .1 .0) RNets, (N .tells, (shr-tells (named 2) (κs .1 .1 .0) RC, (shr-tells (named 3) (κs .1 .1 .1 .0) RL, (shr-tells (named 4) (κs .1 .1 .1 .1 .0) RF, (shr-slice-tells (named 5) (κs .1 .1 .1 .1 .1 .0) u8, (shr-slice-tells (named 6) (κs .1 .1 .1 .1 .1 .1 .0) RE, (I .tells, tt))))))))))
-        (λ κs qs bounds a _ are. walk 𝓤 H (𝓖 .A) asks₁ gives₁ asks₂ gives₂ asks₃ gives₃ asks₄ gives₄ asks₅ gives₅ asks₆ gives₆ Says W ok₁ ok₂ ok₃ ok₄ ok₅ ok₆ then
-        (κs .0) (κs .1 .0) (κs .1 .1 .0) (κs .1 .1 .1 .0) (κs .1 .1 .1 .1 .0) (κs .1 .1 .1 .1 .1 .0) (κs .1 .1 .1 .1 .1 .1 .0) (qs .0) (qs .1 .0) (qs .1 .1 .0) (qs .1 .1 .1 .0) (qs .1 .1 .1 .1 .0) (qs .1 .1 .1 .1 .1 .0) (qs .1 .1 .1 .1 .1 .1 .0) (a .0 .ptr .0) (a .0 .ptr .1) (a .1 .0 .ptr .0) (a .1 .0 .ptr .1) (a .1 .1 .1 .0 .ptr .0) (a .1 .1 .1 .0 .ptr .1) (a .1 .1 .1 .1 .0 .ptr .0) (a .1 .1 .1 .1 .0 .ptr .1) (a .1 .1 .1 .1 .1 .0 .ptr .0) (a .1 .1 .1 .1 .1 .0 .ptr .1) (a .1 .1 .1 .1 .1 .1 .0 .ptr .0) (a .1 .1 .1 .1 .1 .1 .0 .ptr .1) (a .1 .1 .1 .1 .1 .1 .1 .0 .ptr .0) (a .1 .1 .1 .1 .1 .1 .1 .0 .ptr .1) (a .0 .name) (a .1 .0 .name) (a .1 .1 .1 .0 .name) (a .1 .1 .1 .1 .0 .name) (a .1 .1 .1 .1 .1 .0 .name) (a .1 .1 .1 .1 .1 .1 .0 .name) (a .1 .1 .1 .1 .1 .1 .1 .0 .name) (a .0 .now) (a .1 .0 .now) (a .1 .1 .0) (a .1 .1 .1 .0 .now) (a .1 .1 .1 .1 .0 .now) (a .1 .1 .1 .1 .1 .0 .now) (a .1 .1 .1 .1 .1 .1 .0 .now) (a .1 .1 .1 .1 .1 .1 .1 .0 .now) (a .1 .1 .1 .1 .1 .1 .1 .1 .0) (are .1 .1 .0) (are .1 .1 .1 .1 .1 .1 .1 .1 .0) (are .1 .1 .1 .1 .1 .1 .0 .0 .1) (are .1 .1 .1 .1 .1 .1 .1 .0 .0 .1)
-        (𝓣 .C) (𝓣 .Λ) g₁ g₂ g₃ g₄ g₅ g₆ (fmOf 𝓤 H (W .laws) 𝓣) known₁ known₂ known₃ known₄ known₅ known₆))
-
-    pub proof : γ g₁ ≡ r₁ → γ g₂ ≡ r₂ → γ g₃ ≡ r₃ → γ g₄ ≡ r₄ → γ g₅ ≡ r₅ → γ g₆ ≡ r₆ → Closed 𝓤 H (tables 𝓤 H 𝓜 𝓡 γ .C) (tables 𝓤 H 𝓜 𝓡 γ .Λ) f (function g₁ g₂ g₃ g₄ g₅ g₆) → Triple 𝓤 (𝓡 .run r₁) (Contract₁ 𝓤 H (𝓖 .A) asks₁ gives₁ asks₂ gives₂ asks₃ gives₃ asks₄ gives₄ asks₅ gives₅ asks₆ gives₆ Says) → Triple 𝓤 (𝓡 .run r₂) (Contract₂ 𝓤 H (𝓖 .A) asks₁ gives₁ asks₂ gives₂ asks₃ gives₃ asks₄ gives₄ asks₅ gives₅ asks₆ gives₆ Says) → Triple 𝓤 (𝓡 .run r₃) (Contract₃ 𝓤 H (𝓖 .A) asks₁ gives₁ asks₂ gives₂ asks₃ gives₃ asks₄ gives₄ asks₅ gives₅ asks₆ gives₆ Says) → Triple 𝓤 (𝓡 .run r₄) (Contract₄ 𝓤 H (𝓖 .A) asks₁ gives₁ asks₂ gives₂ asks₃ gives₃ asks₄ gives₄ asks₅ gives₅ asks₆ gives₆ Says) → Triple 𝓤 (𝓡 .run r₅) (Contract₅ 𝓤 H (𝓖 .A) asks₁ gives₁ asks₂ gives₂ asks₃ gives₃ asks₄ gives₄ asks₅ gives₅ asks₆ gives₆ Says) → Triple 𝓤 (𝓡 .run r₆) (Contract₆ 𝓤 H (𝓖 .A) asks₁ gives₁ asks₂ gives₂ asks₃ gives₃ asks₄ gives₄ asks₅ gives₅ asks₆ gives₆ Says)
-        → Meets 𝓤 H (𝓖 .A) signature (𝓡 .run (γ f)) (closing 𝓤 H (𝓖 .A) ended Clauses′)
-    unfolding tablesOf
-    proof calls₁ calls₂ calls₃ calls₄ calls₅ calls₆ closed known₁ known₂ known₃ known₄ known₅ known₆ =
-        entered 𝓤 H (tripleOf 𝓤 H (𝓖 .A) signature (closing 𝓤 H (𝓖 .A) ended Clauses′)) (tables 𝓤 H 𝓜 𝓡 γ .C) (tables 𝓤 H 𝓜 𝓡 γ .Λ) f (function g₁ g₂ g₃ g₄ g₅ g₆) closed
-        (meets (givenOf 𝓤 H 𝓜 𝓖) (tablesOf 𝓤 H 𝓜 (tables 𝓤 H 𝓜 𝓡 γ))
-        (cited 𝓤 H (Contract₁ 𝓤 H (𝓖 .A) asks₁ gives₁ asks₂ gives₂ asks₃ gives₃ asks₄ gives₄ asks₅ gives₅ asks₆ gives₆ Says) 𝓜 𝓡 γ g₁ r₁ calls₁ known₁)
-        (cited 𝓤 H (Contract₂ 𝓤 H (𝓖 .A) asks₁ gives₁ asks₂ gives₂ asks₃ gives₃ asks₄ gives₄ asks₅ gives₅ asks₆ gives₆ Says) 𝓜 𝓡 γ g₂ r₂ calls₂ known₂)
-        (cited 𝓤 H (Contract₃ 𝓤 H (𝓖 .A) asks₁ gives₁ asks₂ gives₂ asks₃ gives₃ asks₄ gives₄ asks₅ gives₅ asks₆ gives₆ Says) 𝓜 𝓡 γ g₃ r₃ calls₃ known₃)
-        (cited 𝓤 H (Contract₄ 𝓤 H (𝓖 .A) asks₁ gives₁ asks₂ gives₂ asks₃ gives₃ asks₄ gives₄ asks₅ gives₅ asks₆ gives₆ Says) 𝓜 𝓡 γ g₄ r₄ calls₄ known₄)
-        (cited 𝓤 H (Contract₅ 𝓤 H (𝓖 .A) asks₁ gives₁ asks₂ gives₂ asks₃ gives₃ asks₄ gives₄ asks₅ gives₅ asks₆ gives₆ Says) 𝓜 𝓡 γ g₅ r₅ calls₅ known₅)
-        (cited 𝓤 H (Contract₆ 𝓤 H (𝓖 .A) asks₁ gives₁ asks₂ gives₂ asks₃ gives₃ asks₄ gives₄ asks₅ gives₅ asks₆ gives₆ Says) 𝓜 𝓡 γ g₆ r₆ calls₆ known₆))
+    pub proof : Proven 𝓤 H 𝓜 𝓖 𝓡 γ f job
+    proof = lawful 𝓤 H 𝓜 𝓖 𝓡 γ f job _ refl (λ W T Λ fm (known₁, (known₂, (known₃, (known₄, (known₅, (known₆, _)))))) κs qs (settings, (nets, (number, (clock, (links, (stand, (octets, (run, (input, _))))))))) (_, (_, (is-number, (_, (_, (_, (is-octets, (is-run, (is-input, _))))))))) β Kf done.
+        copies ! 0 refl tt tt refl (λ is-s.
+        copies ! 1 refl tt tt refl (λ is-t.
+        copies ! 2 refl tt tt refl (λ is-c.
+        copies ! 3 refl tt tt refl (λ is-l.
+        copies ! 4 refl tt tt refl (λ is-v.
+        calls ! fm (callee 𝓤 form₁ asks₁ gives₁) known₁ (nothing-more !) (ok₁ (settings .now) (nets .now) number (clock .now) (links .now) (stand .now) (octets .now) (run .now) input) tt refl (λ a ws₁ φ₁ is-a.
+        calls ! fm (callee 𝓤 form₂ asks₂ gives₂) known₂ (share ! 0 tt refl (share ! 0 tt refl (val ! tt refl is-number (val ! tt refl is-c (val ! tt refl is-l (val ! tt refl is-v (shares ! 3 tt refl (val ! tt refl is-a (shares ! 3 tt refl (nothing-more !)))))))))) (ok₂ (settings .now) (nets .now) number (clock .now) (links .now) (stand .now) (octets .now) (run .now) input a φ₁) tt refl (λ g ws₂ φ₂ is-g.
+        calls ! fm (callee 𝓤 form₃ asks₃ gives₃) known₃ (val ! tt refl is-g (val ! tt refl is-s (val ! tt refl is-t (val ! tt refl is-input (nothing-more !))))) (ok₃ (settings .now) (nets .now) number (clock .now) (links .now) (stand .now) (octets .now) (run .now) input a g φ₁ φ₂) tt refl (λ f ws₃ φ₃ is-f.
+        calls ! fm (callee 𝓤 form₄ asks₄ gives₄) known₄ (val ! tt refl is-number (val ! tt refl is-f (nothing-more !))) (ok₄ (settings .now) (nets .now) number (clock .now) (links .now) (stand .now) (octets .now) (run .now) input a g f φ₁ φ₂ φ₃) tt refl (λ z ws₄ φ₄ is-z.
+        calls ! fm (callee 𝓤 form₅ asks₅ gives₅) known₅ (shares ! 6 tt refl (val ! tt refl is-z (nothing-more !))) (ok₅ (settings .now) (nets .now) number (clock .now) (links .now) (stand .now) (octets .now) (run .now) input a g f z φ₁ φ₂ φ₃ φ₄) tt refl (λ e ws₅ φ₅ is-e.
+        calls ! fm (callee 𝓤 form₆ asks₆ gives₆) known₆ (val ! tt refl is-g (val ! tt refl is-f (val ! tt refl is-e (nothing-more !)))) (ok₆ (settings .now) (nets .now) number (clock .now) (links .now) (stand .now) (octets .now) (run .now) input a g f z e φ₁ φ₂ φ₃ φ₄ φ₅) tt refl (λ result ws₆ φ₆ is-result.
+        finish ! done tt refl is-result ([]) _ _ refl (then (settings .now) (nets .now) number (clock .now) (links .now) (stand .now) (octets .now) (run .now) input a g f z e result φ₁ φ₂ φ₃ φ₄ φ₅ φ₆)))))))))))))

@@ -1,450 +1,77 @@
 -- The law of a thin function: `fn Performs(settings: &S, nets: &Nets, number: N, clock: &mut C, links: &mut L, stand: &mut F, octets: &[u8], run: &mut [E], request: I) -> K { let s = *settings; let t = *nets; let c = *clock; let l = *links; let v = *stand; let a: U = scope(request); let g: G = guard(settings, nets, number, c, l, v, octets, a, &run); let z: Z = seek(g, s, t, v, number, request); let e: Q = look(&run, z); let p: P(K, C, L, F, J) = plan(g, s, t, c, l, v, octets, e, request); let w: X = place(number, p.4); act(run, w); *clock = p.1; *links = p.2; *stand = p.3; p.0 }`.
 -- It is one walk of that MIR, for any types and any contracts of the functions that are called. The author shows that each of them is asked for no more than what is known (`ok`), and that what they say comes to what the function says (`then`).
 -- Made by tools/laws/make. Assumes nothing.
-use Rattle.lent.proofs.Walk.{_≡_, refl, ap, ℕ, List, [], _∷_, length, T, URA, fullShare, Name, Fn, named, erased, mut, imm, tyRef, tyInt, tyUnit, w8, local, valueLocal, place, deref, field, copy, rvOpd, addrOf, aggregate, assign, call, seq, return, Val, vptr, SProp, ent, sep, emp, id⊢, GName, Lft, Share, ftrue, fat, flft, fobs, fbor, Model, Routine, Env, Heap, Calls, Loops, WpFn, Tables, Closed, Atoms, fact, GhostRules, Running, givenOf, tables, Given, ‵, raw, _⊛_, ⋆, some, later, _$_, _∵_, !, qed, by, move, keep, drop, use0, use1, use2, use3, split, join, pick, rewrite, fsplit, fsplit3, fjoin, fjoin3, feqI, feqL, suffices, frame, await, done, look, look-raw, init, store-raw, forget, stop, hop, fld, from, load, addr, of-opd, and-then, no-more, assigns, land, returns, enter, alloc1, alloc0, params1, pass1, pass0, free1, free0, agg, whole-part, sub, look-in, lft-new, lft-end, Referent, FmC, fmOf, WpFn-mono, RattleType, owns, Is, shows, mem, pointee, u8, RefOf, RefMutOf, SliceRefOf, SliceRefMutOf, RefT, MutRef, ShrRef, ptr-vals, mut-tells, shr-tells, shr-copy, sliceVal, sliceTy, slice-vals, MutSlice, ShrSlice, Room, finally, mut-slice-tells, shr-slice-tells, shr-slice-copy, Signature, plain, shrRefTo, shrSliceOf, only, opens, closes, looks, shuts, owned, peeks, heard, nothing, spelt, layout, row, shape, onEntry, Meets, tripleOf, Contract, Triple, calls-at, entered, cited, Ended, Clauses, Lasts, closing, ensured, lasts, Stays, stay-ref, stay-dropped, gave-slice, says, walkOf, goes-ref, goes-dropped, goes-gave-slice, ends-at, walked, walk-meets, yes}
-use Rattle.lent.proofs.Walk.{tablesOf}
-use denote.Struct.Laws as LL
-use Rattle.lent.proofs.Words.{Word, Data, Part, by-value, void, struct-part, settled, passed}
-use Rattle.lent.proofs.Outcomes.{Outcome, whole}
-use Rattle.lent.proofs.Shared.{Kept, lends-shared, comes-back as shared-back}
+use Rattle.lent.proofs.Thin.{refl, List, [], _∷_, URA, Name, Fn, tyUnit, tyRef, erased, imm, mut, ent, emp, Model, Routine, Env, Heap, GhostRules, Running, !, u8, pointee, sliceTy, row, Word, Data, Part, by-value, struct-part, Outcome, whole, Form, form, silent, by, ref, refmut, slice, slicemut, is-part, owed-of, typed-of, part, sets, copies, copies-mut, stores, slices, lends, back, nothing-more, value, val, share, shares, gives, calls, stays, goes, finish, takes, Asking, Giving, Saying, Each, callee, function, thin, loc, fld, set, take, store, invoke, point-in, slice-of, Job, Proven, lawful}
 
 module _ (N I U G Z Q X : Word) (S Nets C L F E : Data) (K J : Part) (P : Outcome (K ∷ (struct-part C) ∷ (struct-part L) ∷ (struct-part F) ∷ J ∷ [])) where
-  abbrev RS : RattleType
-  RS = row (S .S)
+  abbrev form₁ : Form
+  form₁ = form (by I ∷ []) U
 
-  abbrev RNets : RattleType
-  RNets = row (Nets .S)
+  abbrev form₂ : Form
+  form₂ = form (ref S ∷ ref Nets ∷ by N ∷ by (by-value C) ∷ by (by-value L) ∷ by (by-value F) ∷ slice u8 ∷ by U ∷ slice (row (E .S)) ∷ []) G
 
-  abbrev RC : RattleType
-  RC = row (C .S)
+  abbrev form₃ : Form
+  form₃ = form (by G ∷ by (by-value S) ∷ by (by-value Nets) ∷ by (by-value F) ∷ by N ∷ by I ∷ []) Z
 
-  abbrev RL : RattleType
-  RL = row (L .S)
+  abbrev form₄ : Form
+  form₄ = form (slice (row (E .S)) ∷ by Z ∷ []) Q
 
-  abbrev RF : RattleType
-  RF = row (F .S)
+  abbrev form₅ : Form
+  form₅ = form (by G ∷ by (by-value S) ∷ by (by-value Nets) ∷ by (by-value C) ∷ by (by-value L) ∷ by (by-value F) ∷ slice u8 ∷ by Q ∷ by I ∷ []) (by-value (whole P))
 
-  abbrev RE : RattleType
-  RE = row (E .S)
+  abbrev form₆ : Form
+  form₆ = form (by N ∷ by (J .word) ∷ []) X
 
-  abbrev XS : Word
-  XS = by-value S
+  abbrev form₇ : Form
+  form₇ = silent (slicemut (row (E .S)) ∷ by X ∷ [])
 
-  abbrev XNets : Word
-  XNets = by-value Nets
+  abbrev form₀ : Form
+  form₀ = form (ref S ∷ ref Nets ∷ by N ∷ refmut C ∷ refmut L ∷ refmut F ∷ slice u8 ∷ slicemut (row (E .S)) ∷ by I ∷ []) (K .word)
 
-  abbrev XC : Word
-  XC = by-value C
+  abbrev code : Name → Name → Name → Name → Name → Name → Name → Fn
+  code g₁ g₂ g₃ g₄ g₅ g₆ g₇ = thin form₀ ((by-value S) .ty ∷ (by-value Nets) .ty ∷ (by-value C) .ty ∷ (by-value L) .ty ∷ (by-value F) .ty ∷ U .ty ∷ G .ty ∷ Z .ty ∷ Q .ty ∷ (by-value (whole P)) .ty ∷ X .ty ∷ tyRef erased imm (pointee (row (E .S) .written)) ∷ sliceTy (tyRef erased imm (pointee (row (E .S) .written))) ∷ tyRef erased imm (pointee (row (E .S) .written)) ∷ sliceTy (tyRef erased imm (pointee (row (E .S) .written))) ∷ tyUnit ∷ tyRef erased mut (pointee (row (E .S) .written)) ∷ sliceTy (tyRef erased mut (pointee (row (E .S) .written))) ∷ [])
+      (take 10 1 S ∷ take 11 2 Nets ∷ take 12 4 C ∷ take 13 5 L ∷ take 14 6 F ∷ invoke g₁ (loc 9 ∷ []) 15 ∷ point-in 21 8 (by-value E .ty) ∷ slice-of 22 21 8 ∷
+      invoke g₂ (loc 1 ∷ loc 2 ∷ loc 3 ∷ loc 12 ∷ loc 13 ∷ loc 14 ∷ loc 7 ∷ loc 15 ∷ loc 22 ∷ []) 16 ∷ invoke g₃ (loc 16 ∷ loc 10 ∷ loc 11 ∷ loc 14 ∷ loc 3 ∷ loc 9 ∷ []) 17 ∷
+      point-in 23 8 (by-value E .ty) ∷ slice-of 24 23 8 ∷ invoke g₄ (loc 24 ∷ loc 17 ∷ []) 18 ∷ invoke g₅ (loc 16 ∷ loc 10 ∷ loc 11 ∷ loc 12 ∷ loc 13 ∷ loc 14 ∷ loc 7 ∷ loc 18 ∷ loc 9 ∷ []) 19 ∷
+      invoke g₆ (loc 3 ∷ fld 19 4 ∷ []) 20 ∷ point-in 26 8 (by-value E .ty) ∷ slice-of 27 26 8 ∷ invoke g₇ (loc 27 ∷ loc 20 ∷ []) 25 ∷ store 4 C (fld 19 1) ∷ store 5 L (fld 19 2) ∷
+      store 6 F (fld 19 3) ∷ set 0 (fld 19 0) ∷ [])
 
-  abbrev XL : Word
-  XL = by-value L
-
-  abbrev XF : Word
-  XF = by-value F
-
-  abbrev XE : Word
-  XE = by-value E
-
-  abbrev XK : Word
-  XK = K .word
-
-  abbrev XJ : Word
-  XJ = J .word
-
-  abbrev XP : Word
-  XP = by-value (whole P)
-
-  abbrev signature₁ : Signature
-  signature₁ = record { lifetimes = 0; outlives = []; params = plain (λ _. I .row) ∷ []; result = plain (λ _. U .row) }
-
-  abbrev ended₁ : Ended
-  ended₁ = record { signature = signature₁; kept = (yes, tt) }
-
-  abbrev signature₂ : Signature
-  signature₂ = record { lifetimes = 4; outlives = []; params = RefOf (0 ∷ []) tt (plain (λ _. RS)) (λ _. tt) ∷ RefOf (1 ∷ []) tt (plain (λ _. RNets)) (λ _. tt) ∷ plain (λ _. N .row) ∷ plain (λ _. XC .row) ∷ plain (λ _. XL .row) ∷ plain (λ _. XF .row) ∷ SliceRefOf (2 ∷ []) tt (plain (λ _. u8)) (λ _. tt) ∷ plain (λ _. U .row) ∷ SliceRefOf (3 ∷ []) tt (plain (λ _. RE)) (λ _. tt) ∷ []; result = plain (λ _. G .row) }
-
-  abbrev ended₂ : Ended
-  ended₂ = record { signature = signature₂; kept = (yes, (yes, (yes, (yes, (yes, (yes, (yes, (yes, (yes, tt))))))))) }
-
-  abbrev signature₃ : Signature
-  signature₃ = record { lifetimes = 0; outlives = []; params = plain (λ _. G .row) ∷ plain (λ _. XS .row) ∷ plain (λ _. XNets .row) ∷ plain (λ _. XF .row) ∷ plain (λ _. N .row) ∷ plain (λ _. I .row) ∷ []; result = plain (λ _. Z .row) }
-
-  abbrev ended₃ : Ended
-  ended₃ = record { signature = signature₃; kept = (yes, (yes, (yes, (yes, (yes, (yes, tt)))))) }
-
-  abbrev signature₄ : Signature
-  signature₄ = record { lifetimes = 1; outlives = []; params = SliceRefOf (0 ∷ []) tt (plain (λ _. RE)) (λ _. tt) ∷ plain (λ _. Z .row) ∷ []; result = plain (λ _. Q .row) }
-
-  abbrev ended₄ : Ended
-  ended₄ = record { signature = signature₄; kept = (yes, (yes, tt)) }
-
-  abbrev signature₅ : Signature
-  signature₅ = record { lifetimes = 1; outlives = []; params = plain (λ _. G .row) ∷ plain (λ _. XS .row) ∷ plain (λ _. XNets .row) ∷ plain (λ _. XC .row) ∷ plain (λ _. XL .row) ∷ plain (λ _. XF .row) ∷ SliceRefOf (0 ∷ []) tt (plain (λ _. u8)) (λ _. tt) ∷ plain (λ _. Q .row) ∷ plain (λ _. I .row) ∷ []; result = plain (λ _. XP .row) }
-
-  abbrev ended₅ : Ended
-  ended₅ = record { signature = signature₅; kept = (yes, (yes, (yes, (yes, (yes, (yes, (yes, (yes, (yes, tt))))))))) }
-
-  abbrev signature₆ : Signature
-  signature₆ = record { lifetimes = 0; outlives = []; params = plain (λ _. N .row) ∷ plain (λ _. XJ .row) ∷ []; result = plain (λ _. X .row) }
-
-  abbrev ended₆ : Ended
-  ended₆ = record { signature = signature₆; kept = (yes, (yes, tt)) }
-
-  abbrev signature₇ : Signature
-  signature₇ = record { lifetimes = 1; outlives = []; params = SliceRefMutOf (0 ∷ []) tt (plain (λ _. RE)) (λ _. tt) ∷ plain (λ _. X .row) ∷ []; result = plain (λ _. void .row) }
-
-  abbrev ended₇ : Ended
-  ended₇ = record { signature = signature₇; kept = (yes, (yes, tt)) }
-
-  abbrev signature : Signature
-  signature = record { lifetimes = 7; outlives = []; params = RefOf (0 ∷ []) tt (plain (λ _. RS)) (λ _. tt) ∷ RefOf (1 ∷ []) tt (plain (λ _. RNets)) (λ _. tt) ∷ plain (λ _. N .row) ∷ RefMutOf (2 ∷ []) tt (plain (λ _. RC)) (λ _. tt) ∷ RefMutOf (3 ∷ []) tt (plain (λ _. RL)) (λ _. tt) ∷ RefMutOf (4 ∷ []) tt (plain (λ _. RF)) (λ _. tt) ∷ SliceRefOf (5 ∷ []) tt (plain (λ _. u8)) (λ _. tt) ∷ SliceRefMutOf (6 ∷ []) tt (plain (λ _. RE)) (λ _. tt) ∷ plain (λ _. I .row) ∷ []; result = plain (λ _. XK .row) }
-
-  abbrev ended : Ended
-  ended = record { signature = signature; kept = (yes, (yes, (yes, (yes, (yes, (yes, (yes, (yes, (yes, tt))))))))) }
-
-  abbrev function : Name → Name → Name → Name → Name → Name → Name → Fn
-  function g₁ g₂ g₃ g₄ g₅ g₆ g₇ = record {
-    lifetimes = 7;
-    outlives = [];
-    params = 9;
-    locals = local (XK .ty) valueLocal ∷ local (tyRef (named 0) imm (pointee (RS .written))) valueLocal ∷ local (tyRef (named 1) imm (pointee (RNets .written))) valueLocal ∷ local (N .ty) valueLocal ∷ local (tyRef (named 2) mut (pointee (RC .written))) valueLocal ∷ local (tyRef (named 3) mut (pointee (RL .written))) valueLocal ∷ local (tyRef (named 4) mut (pointee (RF .written))) valueLocal ∷ local (sliceTy (tyRef (named 5) imm (tyInt w8))) valueLocal ∷ local (sliceTy (tyRef (named 6) mut (pointee (RE .written)))) valueLocal ∷ local (I .ty) valueLocal ∷ local (XS .ty) valueLocal ∷ local (XNets .ty) valueLocal ∷ local (XC .ty) valueLocal ∷ local (XL .ty) valueLocal ∷ local (XF .ty) valueLocal ∷ local (U .ty) valueLocal ∷ local (G .ty) valueLocal ∷ local (Z .ty) valueLocal ∷ local (Q .ty) valueLocal ∷ local (XP .ty) valueLocal ∷ local (X .ty) valueLocal ∷ local (tyRef erased imm (pointee (RE .written))) valueLocal ∷ local (sliceTy (tyRef erased imm (pointee (RE .written)))) valueLocal ∷ local (tyRef erased imm (pointee (RE .written))) valueLocal ∷ local (sliceTy (tyRef erased imm (pointee (RE .written)))) valueLocal ∷ local (tyUnit) valueLocal ∷ local (tyRef erased mut (pointee (RE .written))) valueLocal ∷ local (sliceTy (tyRef erased mut (pointee (RE .written)))) valueLocal ∷ [];
-    body = seq (assign (place 10 []) (rvOpd (copy (place 1 (deref (layout (shape (S .S))) ∷ [])))))
-        (seq (assign (place 11 []) (rvOpd (copy (place 2 (deref (layout (shape (Nets .S))) ∷ [])))))
-        (seq (assign (place 12 []) (rvOpd (copy (place 4 (deref (layout (shape (C .S))) ∷ [])))))
-        (seq (assign (place 13 []) (rvOpd (copy (place 5 (deref (layout (shape (L .S))) ∷ [])))))
-        (seq (assign (place 14 []) (rvOpd (copy (place 6 (deref (layout (shape (F .S))) ∷ [])))))
-        (seq (call g₁ (copy (place 9 []) ∷ []) (place 15 []))
-        (seq (assign (place 21 []) (addrOf (place 8 (field 0 ∷ deref (layout (shape (E .S))) ∷ []))))
-        (seq (assign (place 22 []) (aggregate (copy (place 21 []) ∷ copy (place 8 (field 1 ∷ [])) ∷ [])))
-        (seq (call g₂ (copy (place 1 []) ∷ copy (place 2 []) ∷ copy (place 3 []) ∷ copy (place 12 []) ∷ copy (place 13 []) ∷ copy (place 14 []) ∷ copy (place 7 []) ∷ copy (place 15 []) ∷ copy (place 22 []) ∷ []) (place 16 []))
-        (seq (call g₃ (copy (place 16 []) ∷ copy (place 10 []) ∷ copy (place 11 []) ∷ copy (place 14 []) ∷ copy (place 3 []) ∷ copy (place 9 []) ∷ []) (place 17 []))
-        (seq (assign (place 23 []) (addrOf (place 8 (field 0 ∷ deref (layout (shape (E .S))) ∷ []))))
-        (seq (assign (place 24 []) (aggregate (copy (place 23 []) ∷ copy (place 8 (field 1 ∷ [])) ∷ [])))
-        (seq (call g₄ (copy (place 24 []) ∷ copy (place 17 []) ∷ []) (place 18 []))
-        (seq (call g₅ (copy (place 16 []) ∷ copy (place 10 []) ∷ copy (place 11 []) ∷ copy (place 12 []) ∷ copy (place 13 []) ∷ copy (place 14 []) ∷ copy (place 7 []) ∷ copy (place 18 []) ∷ copy (place 9 []) ∷ []) (place 19 []))
-        (seq (call g₆ (copy (place 3 []) ∷ copy (place 19 (field 4 ∷ [])) ∷ []) (place 20 []))
-        (seq (assign (place 26 []) (addrOf (place 8 (field 0 ∷ deref (layout (shape (E .S))) ∷ []))))
-        (seq (assign (place 27 []) (aggregate (copy (place 26 []) ∷ copy (place 8 (field 1 ∷ [])) ∷ [])))
-        (seq (call g₇ (copy (place 27 []) ∷ copy (place 20 []) ∷ []) (place 25 []))
-        (seq (assign (place 4 (deref (layout (shape (C .S))) ∷ [])) (rvOpd (copy (place 19 (field 1 ∷ [])))))
-        (seq (assign (place 5 (deref (layout (shape (L .S))) ∷ [])) (rvOpd (copy (place 19 (field 2 ∷ [])))))
-        (seq (assign (place 6 (deref (layout (shape (F .S))) ∷ [])) (rvOpd (copy (place 19 (field 3 ∷ [])))))
-        (seq (assign (place 0 []) (rvOpd (copy (place 19 (field 0 ∷ []))))) return)))))))))))))))))))));
-  }
-
-  abbrev stayed : Stays (ended .signature .params) (ended .kept)
-  stayed = (stay-dropped (shrRefTo (0 ∷ []) tt (plain (λ _. RS))) yes, (stay-dropped (shrRefTo (1 ∷ []) tt (plain (λ _. RNets))) yes, (stay-dropped (plain (λ _. N .row)) yes, (stay-ref (2 ∷ []) tt (plain (λ _. RC)), (stay-ref (3 ∷ []) tt (plain (λ _. RL)), (stay-ref (4 ∷ []) tt (plain (λ _. RF)), (stay-dropped (shrSliceOf (5 ∷ []) tt (plain (λ _. u8))) yes, (gave-slice (6 ∷ []) tt (plain (λ _. RE)), (stay-dropped (plain (λ _. I .row)) yes, tt)))))))))
-
-  -- what each callee asks and says, and what the function says
-  module _ {M : Type 1} (𝓤 : URA M) (H : Heap 𝓤) (A : Atoms 𝓤) (asks₁ : I .row .Denot → SProp 𝓤) (gives₁ : I .row .Denot → U .row .Denot → Type 0) (asks₂ : S .S .D → Nets .S .D → N .row .Denot → XC .row .Denot → XL .row .Denot → XF .row .Denot → List (ℕ) → U .row .Denot → List (E .S .D) → SProp 𝓤) (gives₂ : S .S .D → Nets .S .D → N .row .Denot → XC .row .Denot → XL .row .Denot → XF .row .Denot → List (ℕ) → U .row .Denot → List (E .S .D) → G .row .Denot → Type 0) (asks₃ : G .row .Denot → XS .row .Denot → XNets .row .Denot → XF .row .Denot → N .row .Denot → I .row .Denot → SProp 𝓤) (gives₃ : G .row .Denot → XS .row .Denot → XNets .row .Denot → XF .row .Denot → N .row .Denot → I .row .Denot → Z .row .Denot → Type 0) (asks₄ : List (E .S .D) → Z .row .Denot → SProp 𝓤) (gives₄ : List (E .S .D) → Z .row .Denot → Q .row .Denot → Type 0) (asks₅ : G .row .Denot → XS .row .Denot → XNets .row .Denot → XC .row .Denot → XL .row .Denot → XF .row .Denot → List (ℕ) → Q .row .Denot → I .row .Denot → SProp 𝓤) (gives₅ : G .row .Denot → XS .row .Denot → XNets .row .Denot → XC .row .Denot → XL .row .Denot → XF .row .Denot → List (ℕ) → Q .row .Denot → I .row .Denot → XP .row .Denot → Type 0) (asks₆ : N .row .Denot → XJ .row .Denot → SProp 𝓤) (gives₆ : N .row .Denot → XJ .row .Denot → X .row .Denot → Type 0) (asks₇ : List (E .S .D) → X .row .Denot → SProp 𝓤) (gives₇ : List (E .S .D) → X .row .Denot → List (E .S .D) → Type 0) (Says : S .S .D → Nets .S .D → N .row .Denot → C .S .D → L .S .D → F .S .D → List (ℕ) → List (E .S .D) → I .row .Denot → C .S .D → L .S .D → F .S .D → List (E .S .D) → XK .row .Denot → Type 0) where
-    abbrev clauses₁ : Clauses 𝓤 ended₁
-    clauses₁ = λ κs a. record { ghost = Unit {0}; requires = λ _. asks₁ (a .0); ensures = λ _ r e. fact 𝓤 (gives₁ (a .0) r) }
-
-    abbrev Contract₁ : Contract 𝓤
-    Contract₁ = tripleOf 𝓤 H A signature₁ (closing 𝓤 H A ended₁ clauses₁)
-
-    abbrev clauses₂ : Clauses 𝓤 ended₂
-    clauses₂ = λ κs a. record { ghost = Unit {0}; requires = λ _. asks₂ (a .0 .now) (a .1 .0 .now) (a .1 .1 .0) (a .1 .1 .1 .0) (a .1 .1 .1 .1 .0) (a .1 .1 .1 .1 .1 .0) (a .1 .1 .1 .1 .1 .1 .0 .now) (a .1 .1 .1 .1 .1 .1 .1 .0) (a .1 .1 .1 .1 .1 .1 .1 .1 .0 .now); ensures = λ _ r e. fact 𝓤 (gives₂ (a .0 .now) (a .1 .0 .now) (a .1 .1 .0) (a .1 .1 .1 .0) (a .1 .1 .1 .1 .0) (a .1 .1 .1 .1 .1 .0) (a .1 .1 .1 .1 .1 .1 .0 .now) (a .1 .1 .1 .1 .1 .1 .1 .0) (a .1 .1 .1 .1 .1 .1 .1 .1 .0 .now) r) }
-
-    abbrev Contract₂ : Contract 𝓤
-    Contract₂ = tripleOf 𝓤 H A signature₂ (closing 𝓤 H A ended₂ clauses₂)
-
-    abbrev clauses₃ : Clauses 𝓤 ended₃
-    clauses₃ = λ κs a. record { ghost = Unit {0}; requires = λ _. asks₃ (a .0) (a .1 .0) (a .1 .1 .0) (a .1 .1 .1 .0) (a .1 .1 .1 .1 .0) (a .1 .1 .1 .1 .1 .0); ensures = λ _ r e. fact 𝓤 (gives₃ (a .0) (a .1 .0) (a .1 .1 .0) (a .1 .1 .1 .0) (a .1 .1 .1 .1 .0) (a .1 .1 .1 .1 .1 .0) r) }
-
-    abbrev Contract₃ : Contract 𝓤
-    Contract₃ = tripleOf 𝓤 H A signature₃ (closing 𝓤 H A ended₃ clauses₃)
-
-    abbrev clauses₄ : Clauses 𝓤 ended₄
-    clauses₄ = λ κs a. record { ghost = Unit {0}; requires = λ _. asks₄ (a .0 .now) (a .1 .0); ensures = λ _ r e. fact 𝓤 (gives₄ (a .0 .now) (a .1 .0) r) }
-
-    abbrev Contract₄ : Contract 𝓤
-    Contract₄ = tripleOf 𝓤 H A signature₄ (closing 𝓤 H A ended₄ clauses₄)
-
-    abbrev clauses₅ : Clauses 𝓤 ended₅
-    clauses₅ = λ κs a. record { ghost = Unit {0}; requires = λ _. asks₅ (a .0) (a .1 .0) (a .1 .1 .0) (a .1 .1 .1 .0) (a .1 .1 .1 .1 .0) (a .1 .1 .1 .1 .1 .0) (a .1 .1 .1 .1 .1 .1 .0 .now) (a .1 .1 .1 .1 .1 .1 .1 .0) (a .1 .1 .1 .1 .1 .1 .1 .1 .0); ensures = λ _ r e. fact 𝓤 (gives₅ (a .0) (a .1 .0) (a .1 .1 .0) (a .1 .1 .1 .0) (a .1 .1 .1 .1 .0) (a .1 .1 .1 .1 .1 .0) (a .1 .1 .1 .1 .1 .1 .0 .now) (a .1 .1 .1 .1 .1 .1 .1 .0) (a .1 .1 .1 .1 .1 .1 .1 .1 .0) r) }
-
-    abbrev Contract₅ : Contract 𝓤
-    Contract₅ = tripleOf 𝓤 H A signature₅ (closing 𝓤 H A ended₅ clauses₅)
-
-    abbrev clauses₆ : Clauses 𝓤 ended₆
-    clauses₆ = λ κs a. record { ghost = Unit {0}; requires = λ _. asks₆ (a .0) (a .1 .0); ensures = λ _ r e. fact 𝓤 (gives₆ (a .0) (a .1 .0) r) }
-
-    abbrev Contract₆ : Contract 𝓤
-    Contract₆ = tripleOf 𝓤 H A signature₆ (closing 𝓤 H A ended₆ clauses₆)
-
-    abbrev clauses₇ : Clauses 𝓤 ended₇
-    clauses₇ = λ κs a. record { ghost = Unit {0}; requires = λ _. asks₇ (a .0 .now) (a .1 .0); ensures = λ _ r e. fact 𝓤 (gives₇ (a .0 .now) (a .1 .0) (e .0 .now)) }
-
-    abbrev Contract₇ : Contract 𝓤
-    Contract₇ = tripleOf 𝓤 H A signature₇ (closing 𝓤 H A ended₇ clauses₇)
-
-    abbrev clauses : Clauses 𝓤 ended
-    clauses = λ κs a. record { ghost = Unit {0}; requires = λ _. emp 𝓤; ensures = λ _ r e. fact 𝓤 (Says (a .0 .now) (a .1 .0 .now) (a .1 .1 .0) (a .1 .1 .1 .0 .now) (a .1 .1 .1 .1 .0 .now) (a .1 .1 .1 .1 .1 .0 .now) (a .1 .1 .1 .1 .1 .1 .0 .now) (a .1 .1 .1 .1 .1 .1 .1 .0 .now) (a .1 .1 .1 .1 .1 .1 .1 .1 .0) (e .1 .1 .1 .0 .now) (e .1 .1 .1 .1 .0 .now) (e .1 .1 .1 .1 .1 .0 .now) (e .1 .1 .1 .1 .1 .1 .1 .0 .now) r) }
-
-    module _ (W : Given 𝓤 H A)
-        (ok₁ : (settings : S .S .D) (nets : Nets .S .D) (number : N .row .Denot) (clock : C .S .D) (links : L .S .D) (stand : F .S .D) (octets : List (ℕ)) (run : List (E .S .D)) (request : I .row .Denot) → ent 𝓤 (emp 𝓤) (asks₁ request))
-        (ok₂ : (settings : S .S .D) (nets : Nets .S .D) (number : N .row .Denot) (clock : C .S .D) (links : L .S .D) (stand : F .S .D) (octets : List (ℕ)) (run : List (E .S .D)) (request : I .row .Denot) (a : U .row .Denot) → gives₁ request a → ent 𝓤 (emp 𝓤) (asks₂ settings nets number clock links stand octets a run))
-        (ok₃ : (settings : S .S .D) (nets : Nets .S .D) (number : N .row .Denot) (clock : C .S .D) (links : L .S .D) (stand : F .S .D) (octets : List (ℕ)) (run : List (E .S .D)) (request : I .row .Denot) (a : U .row .Denot) (g : G .row .Denot) → gives₁ request a → gives₂ settings nets number clock links stand octets a run g → ent 𝓤 (emp 𝓤) (asks₃ g settings nets stand number request))
-        (ok₄ : (settings : S .S .D) (nets : Nets .S .D) (number : N .row .Denot) (clock : C .S .D) (links : L .S .D) (stand : F .S .D) (octets : List (ℕ)) (run : List (E .S .D)) (request : I .row .Denot) (a : U .row .Denot) (g : G .row .Denot) (z : Z .row .Denot) → gives₁ request a → gives₂ settings nets number clock links stand octets a run g → gives₃ g settings nets stand number request z → ent 𝓤 (emp 𝓤) (asks₄ run z))
-        (ok₅ : (settings : S .S .D) (nets : Nets .S .D) (number : N .row .Denot) (clock : C .S .D) (links : L .S .D) (stand : F .S .D) (octets : List (ℕ)) (run : List (E .S .D)) (request : I .row .Denot) (a : U .row .Denot) (g : G .row .Denot) (z : Z .row .Denot) (e : Q .row .Denot) → gives₁ request a → gives₂ settings nets number clock links stand octets a run g → gives₃ g settings nets stand number request z → gives₄ run z e → ent 𝓤 (emp 𝓤) (asks₅ g settings nets clock links stand octets e request))
-        (ok₆ : (settings : S .S .D) (nets : Nets .S .D) (number : N .row .Denot) (clock : C .S .D) (links : L .S .D) (stand : F .S .D) (octets : List (ℕ)) (run : List (E .S .D)) (request : I .row .Denot) (a : U .row .Denot) (g : G .row .Denot) (z : Z .row .Denot) (e : Q .row .Denot) (p : XP .row .Denot) → gives₁ request a → gives₂ settings nets number clock links stand octets a run g → gives₃ g settings nets stand number request z → gives₄ run z e → gives₅ g settings nets clock links stand octets e request p → ent 𝓤 (emp 𝓤) (asks₆ number (J .res (P .form .read p .1 .1 .1 .1 .0))))
-        (ok₇ : (settings : S .S .D) (nets : Nets .S .D) (number : N .row .Denot) (clock : C .S .D) (links : L .S .D) (stand : F .S .D) (octets : List (ℕ)) (run : List (E .S .D)) (request : I .row .Denot) (a : U .row .Denot) (g : G .row .Denot) (z : Z .row .Denot) (e : Q .row .Denot) (p : XP .row .Denot) (w : X .row .Denot) → gives₁ request a → gives₂ settings nets number clock links stand octets a run g → gives₃ g settings nets stand number request z → gives₄ run z e → gives₅ g settings nets clock links stand octets e request p → gives₆ number (J .res (P .form .read p .1 .1 .1 .1 .0)) w → ent 𝓤 (emp 𝓤) (asks₇ run w))
-        (then : (settings : S .S .D) (nets : Nets .S .D) (number : N .row .Denot) (clock : C .S .D) (links : L .S .D) (stand : F .S .D) (octets : List (ℕ)) (run : List (E .S .D)) (request : I .row .Denot) (a : U .row .Denot) (g : G .row .Denot) (z : Z .row .Denot) (e : Q .row .Denot) (p : XP .row .Denot) (w : X .row .Denot) (run′ : List (E .S .D)) → gives₁ request a → gives₂ settings nets number clock links stand octets a run g → gives₃ g settings nets stand number request z → gives₄ run z e → gives₅ g settings nets clock links stand octets e request p → gives₆ number (J .res (P .form .read p .1 .1 .1 .1 .0)) w → gives₇ run w run′ → Says settings nets number clock links stand octets run request ((struct-part C) .res (P .form .read p .1 .0)) ((struct-part L) .res (P .form .read p .1 .1 .0)) ((struct-part F) .res (P .form .read p .1 .1 .1 .0)) run′ (K .res (P .form .read p .0)))
-        (κ₀ κ₁ κ₂ κ₃ κ₄ κ₅ κ₆ : Lft) (q₀ q₁ q₂ q₃ q₄ q₅ q₆ : Share) (b₀ o₀ b₁ o₁ b₂ o₂ b₃ o₃ b₄ o₄ b₅ o₅ b₆ o₆ : ℕ) (γ₀ γ₁ γ₂ γ₃ γ₄ γ₅ γ₆ : GName) (settings : S .S .D) (nets : Nets .S .D) (number : N .row .Denot) (clock : C .S .D) (links : L .S .D) (stand : F .S .D) (octets : List (ℕ)) (run : List (E .S .D)) (request : I .row .Denot) where
-      abbrev ref₀ : GName → S .S .D → RefT (S .S .D)
-      ref₀ γ x = record { ptr = (b₀, o₀); name = γ; now = x }
-
-      abbrev ref₁ : GName → Nets .S .D → RefT (Nets .S .D)
-      ref₁ γ x = record { ptr = (b₁, o₁); name = γ; now = x }
-
-      abbrev ref₂ : GName → C .S .D → RefT (C .S .D)
-      ref₂ γ x = record { ptr = (b₂, o₂); name = γ; now = x }
-
-      abbrev ref₃ : GName → L .S .D → RefT (L .S .D)
-      ref₃ γ x = record { ptr = (b₃, o₃); name = γ; now = x }
-
-      abbrev ref₄ : GName → F .S .D → RefT (F .S .D)
-      ref₄ γ x = record { ptr = (b₄, o₄); name = γ; now = x }
-
-      abbrev ref₅ : GName → List (ℕ) → RefT (List (ℕ))
-      ref₅ γ x = record { ptr = (b₅, o₅); name = γ; now = x }
-
-      abbrev ref₆ : GName → List (E .S .D) → RefT (List (E .S .D))
-      ref₆ γ x = record { ptr = (b₆, o₆); name = γ; now = x }
-
-      abbrev x : RefT (S .S .D) × (RefT (Nets .S .D) × (N .row .Denot × (RefT (C .S .D) × (RefT (L .S .D) × (RefT (F .S .D) × (RefT (List (ℕ)) × (RefT (List (E .S .D)) × (I .row .Denot × Unit {0}))))))))
-      x = (ref₀ γ₀ settings, (ref₁ γ₁ nets, (number, (ref₂ γ₂ clock, (ref₃ γ₃ links, (ref₄ γ₄ stand, (ref₅ γ₅ octets, (ref₆ γ₆ run, (request, tt)))))))))
-
-      abbrev at : List Val × (List Val × (List Val × (List Val × (List Val × (List Val × (List Val × (List Val × (List Val × Unit {0}))))))))
-      at = (vptr b₀ o₀ ∷ [], (vptr b₁ o₁ ∷ [], (N .val number ∷ [], (vptr b₂ o₂ ∷ [], (vptr b₃ o₃ ∷ [], (vptr b₄ o₄ ∷ [], (slice-vals (ref₅ γ₅ octets), (slice-vals (ref₆ γ₆ run), (I .val request ∷ [], tt)))))))))
-
-      abbrev Post : Val → SProp 𝓤
-      Post = walkOf 𝓤 H A ended stayed clauses .post (((κ₀, (κ₁, (κ₂, (κ₃, (κ₄, (κ₅, (κ₆, tt))))))), (q₀, (q₁, (q₂, (q₃, (q₄, (q₅, (q₆, tt))))))), tt, x, at), tt)
-
-      exits : (clock′ : C .S .D) (links′ : L .S .D) (stand′ : F .S .D) (run′ : List (E .S .D)) (r : XK .row .Denot) (v : Val) → length run′ ≡ length run → Says settings nets number clock links stand octets run request clock′ links′ stand′ run′ r → ent 𝓤 (⋆ 𝓤 H A (‵ (fobs γ₂ (RC .coded .code clock′)) ∷ ‵ (fbor κ₂ (Referent (mem RC) b₂ o₂ γ₂)) ∷ ‵ (fobs γ₃ (RL .coded .code links′)) ∷ ‵ (fbor κ₃ (Referent (mem RL) b₃ o₃ γ₃)) ∷ ‵ (fobs γ₄ (RF .coded .code stand′)) ∷ ‵ (fbor κ₄ (Referent (mem RF) b₄ o₄ γ₄)) ∷ ‵ (finally RE γ₆ run′) ∷ ‵ (flft κ₀ q₀) ∷ ‵ (flft κ₁ q₁) ∷ ‵ (flft κ₂ q₂) ∷ ‵ (flft κ₃ q₃) ∷ ‵ (flft κ₄ q₄) ∷ ‵ (flft κ₅ q₅) ∷ ‵ (flft κ₆ q₆) ∷ ‵ (XK .row .own r (v ∷ [])) ∷ [])) (Post v)
-      exits clock′ links′ stand′ run′ r v len-run φ =
-          qed W (‵ (fobs γ₂ (RC .coded .code clock′)) ∷ ‵ (fbor κ₂ (Referent (mem RC) b₂ o₂ γ₂)) ∷ ‵ (fobs γ₃ (RL .coded .code links′)) ∷ ‵ (fbor κ₃ (Referent (mem RL) b₃ o₃ γ₃)) ∷ ‵ (fobs γ₄ (RF .coded .code stand′)) ∷ ‵ (fbor κ₄ (Referent (mem RF) b₄ o₄ γ₄)) ∷ ‵ (finally RE γ₆ run′) ∷ ‵ (flft κ₀ q₀) ∷ ‵ (flft κ₁ q₁) ∷ ‵ (flft κ₂ q₂) ∷ ‵ (flft κ₃ q₃) ∷ ‵ (flft κ₄ q₄) ∷ ‵ (flft κ₅ q₅) ∷ ‵ (flft κ₆ q₆) ∷ ‵ (XK .row .own r (v ∷ [])) ∷ []) ∵
-          suffices ! _ (ends-at 𝓤 H A ended stayed clauses W (((κ₀, (κ₁, (κ₂, (κ₃, (κ₄, (κ₅, (κ₆, tt))))))), (q₀, (q₁, (q₂, (q₃, (q₄, (q₅, (q₆, tt))))))), tt, x, at), tt) v r (tt, (tt, (N .last number, (clock′, (links′, (stand′, (tt, (run′, (I .last request, tt))))))))) (tt, (tt, (tt, (tt, (tt, (tt, (tt, (len-run, (tt, tt)))))))))) $ says ! φ $
-          nothing ! $ move ! (14 ∷ 0 ∷ []) $ join ! $ move ! (13 ∷ 0 ∷ []) $ join ! $ move ! (12 ∷ 0 ∷ []) $ join ! $ move ! (11 ∷ 0 ∷ []) $ join ! $ move ! (10 ∷ 0 ∷ []) $ join ! $ move ! (9 ∷ 0 ∷ []) $
-          join ! $ move ! (8 ∷ 0 ∷ []) $ join ! $ frame ! $ nothing ! $ nothing ! $ fjoin ! $ move ! (7 ∷ 0 ∷ []) $ fjoin ! $ nothing ! $ fjoin ! $ move ! (5 ∷ 6 ∷ []) $
-          feqI ! (List Val) (vptr b₄ o₄ ∷ []) (vptr b₄ o₄ ∷ []) refl $ fjoin3 ! $ fjoin ! $ move ! (3 ∷ 4 ∷ []) $ feqI ! (List Val) (vptr b₃ o₃ ∷ []) (vptr b₃ o₃ ∷ []) refl $ fjoin3 ! $ fjoin ! $
-          move ! (1 ∷ 2 ∷ []) $ feqI ! (List Val) (vptr b₂ o₂ ∷ []) (vptr b₂ o₂ ∷ []) refl $ fjoin3 ! $ fjoin ! $ nothing ! $ fjoin ! $ nothing ! $ fjoin ! $ nothing ! $ fjoin ! $ frame ! $ done !
-
-      module _ (is-number : Is (N .row) number (N .val number ∷ [])) (is-request : Is (I .row) request (I .val request ∷ [])) (room-octets : Room u8 (length octets)) (room-run : Room RE (length run))
-          (T : Calls 𝓤 H) (Λ : Loops 𝓤 H) (g₁ g₂ g₃ g₄ g₅ g₆ g₇ : Name) (fm : FmC 𝓤 H (W .laws) T) (known₁ : Triple 𝓤 (T g₁) Contract₁) (known₂ : Triple 𝓤 (T g₂) Contract₂) (known₃ : Triple 𝓤 (T g₃) Contract₃) (known₄ : Triple 𝓤 (T g₄) Contract₄) (known₅ : Triple 𝓤 (T g₅) Contract₅) (known₆ : Triple 𝓤 (T g₆) Contract₆) (known₇ : Triple 𝓤 (T g₇) Contract₇) where
-        walk : ent 𝓤 (sep 𝓤 (onEntry 𝓤 H A signature (κ₀, (κ₁, (κ₂, (κ₃, (κ₄, (κ₅, (κ₆, tt))))))) (q₀, (q₁, (q₂, (q₃, (q₄, (q₅, (q₆, tt))))))) x at) (emp 𝓤)) (WpFn 𝓤 H T Λ (function g₁ g₂ g₃ g₄ g₅ g₆ g₇) (vptr b₀ o₀ ∷ vptr b₁ o₁ ∷ N .val number ∷ vptr b₂ o₂ ∷ vptr b₃ o₃ ∷ vptr b₄ o₄ ∷ sliceVal (b₅, o₅) (length octets) ∷ sliceVal (b₆, o₆) (length run) ∷ I .val request ∷ []) Post)
-        walk =
-            qed W (((‵ (flft κ₀ q₀) ⊛ ‵ (flft κ₁ q₁) ⊛ ‵ (flft κ₂ q₂) ⊛ ‵ (flft κ₃ q₃) ⊛ ‵ (flft κ₄ q₄) ⊛ ‵ (flft κ₅ q₅) ⊛ ‵ (flft κ₆ q₆) ⊛ ‵ ftrue) ⊛ ‵ (owns (ShrRef (named 0) κ₀ RS ∷ ShrRef (named 1) κ₁ RNets ∷ N .row ∷ MutRef (named 2) κ₂ RC ∷ MutRef (named 3) κ₃ RL ∷ MutRef (named 4) κ₄ RF ∷ ShrSlice (named 5) κ₅ u8 ∷ MutSlice (named 6) κ₆ RE ∷ I .row ∷ []) x at)) ∷ raw (emp 𝓤) ∷ []) ∵
-            split ! $ move ! (2 ∷ []) $ drop ! $ split ! $ move ! (1 ∷ []) $ split ! $ move ! (1 ∷ []) $ split ! $ move ! (1 ∷ []) $ split ! $ move ! (1 ∷ []) $ split ! $ move ! (1 ∷ []) $ split ! $
-            move ! (1 ∷ []) $ split ! $ move ! (1 ∷ []) $ drop ! $ move ! (7 ∷ []) $ fsplit ! $ move ! (1 ∷ []) $ fsplit ! $ move ! (1 ∷ []) $ fsplit ! $ drop ! $ fsplit ! $ move ! (1 ∷ []) $ fsplit ! $
-            move ! (1 ∷ []) $ fsplit ! $ move ! (1 ∷ []) $ fsplit ! $ move ! (1 ∷ []) $ fsplit ! $ move ! (1 ∷ []) $ fsplit ! $ drop ! $ drop ! $
-            enter ! T Λ (function g₁ g₂ g₃ g₄ g₅ g₆ g₇) (vptr b₀ o₀ ∷ vptr b₁ o₁ ∷ N .val number ∷ vptr b₂ o₂ ∷ vptr b₃ o₃ ∷ vptr b₄ o₄ ∷ sliceVal (b₅, o₅) (length octets) ∷ sliceVal (b₆, o₆) (length run) ∷ I .val request ∷ []) _ $
-            alloc1 ! (λ z₀. alloc1 ! (λ z₁. alloc1 ! (λ z₂. alloc1 ! (λ z₃. alloc1 ! (λ z₄. alloc1 ! (λ z₅. alloc1 ! (λ z₆. alloc1 ! (λ z₇. alloc1 ! (λ z₈. alloc1 ! (λ z₉. alloc1 ! (λ z₁₀. alloc1 ! (λ z₁₁.
-            alloc1 ! (λ z₁₂. alloc1 ! (λ z₁₃. alloc1 ! (λ z₁₄. alloc1 ! (λ z₁₅. alloc1 ! (λ z₁₆. alloc1 ! (λ z₁₇. alloc1 ! (λ z₁₈. alloc1 ! (λ z₁₉. alloc1 ! (λ z₂₀. alloc1 ! (λ z₂₁. alloc1 ! (λ z₂₂.
-            alloc1 ! (λ z₂₃. alloc1 ! (λ z₂₄. alloc1 ! (λ z₂₅. alloc1 ! (λ z₂₆. alloc1 ! (λ z₂₇. alloc0 ! $ params1 ! $ pass1 ! (init ! 52 refl (tt, tt)) $ pass1 ! (init ! 50 refl (tt, tt)) $
-            pass1 ! (init ! 48 refl (N .typed M 𝓤 H A W number _ is-number)) $ pass1 ! (init ! 46 refl (tt, tt)) $ pass1 ! (init ! 44 refl (tt, tt)) $ pass1 ! (init ! 42 refl (tt, tt)) $
-            pass1 ! (init ! 40 refl (tt, (tt, (record { fits = room-octets .0 }, tt)))) $ pass1 ! (init ! 38 refl (tt, (tt, (record { fits = room-run .0 }, tt)))) $
-            pass1 ! (init ! 36 refl (I .typed M 𝓤 H A W request _ is-request)) $ pass0 ! $
-            -- settings is copied out
-            move ! (62 ∷ []) $
-            use1 W (‵ (ShrRef (named 0) κ₀ RS .own (ref₀ γ₀ settings) (vptr b₀ o₀ ∷ [])) ⊛ ‵ (ShrRef (named 0) κ₀ RS .own (ref₀ γ₀ settings) (vptr b₀ o₀ ∷ []))) (shr-copy 𝓤 H A W (named 0) κ₀ RS .twice (ref₀ γ₀ settings) (vptr b₀ o₀ ∷ [])) $
-            split ! $ fsplit3 ! $ drop ! $ drop ! $ move ! (0 ∷ 70 ∷ []) $ looks ! tt RS (Is RS) (shows 𝓤 H A RS) (λ z. XS .val z ∷ []) (XS .tells) (LL.copy (S .S) (S .copies) 𝓤 H A W) settings b₀ o₀ (λ sh vs.
-            spelt ! RS (Is RS) (shows 𝓤 H A RS) (λ z. XS .val z ∷ []) (XS .tells) sh settings vs b₀ o₀ $ move ! (1 ∷ []) $ peeks ! RS (Is RS) (shows 𝓤 H A RS) settings (XS .val settings ∷ []) (λ is-settings.
-            assigns ! (of-opd ! (load ! (from ! (hop ! (look ! 57 refl) (stop !))) (look-raw ! 1 refl))) (from ! (stop !)) (init ! 39 refl (XS .typed M 𝓤 H A W settings _ is-settings)) $ move ! (1 ∷ 0 ∷ 2 ∷ []) $
-            shuts ! tt RS sh settings (XS .val settings ∷ []) b₀ o₀ $ move ! (1 ∷ []) $ drop ! $
-            -- nets is copied out
-            move ! (63 ∷ []) $
-            use1 W (‵ (ShrRef (named 1) κ₁ RNets .own (ref₁ γ₁ nets) (vptr b₁ o₁ ∷ [])) ⊛ ‵ (ShrRef (named 1) κ₁ RNets .own (ref₁ γ₁ nets) (vptr b₁ o₁ ∷ []))) (shr-copy 𝓤 H A W (named 1) κ₁ RNets .twice (ref₁ γ₁ nets) (vptr b₁ o₁ ∷ [])) $
-            split ! $ fsplit3 ! $ drop ! $ drop ! $ move ! (0 ∷ 70 ∷ []) $
-            looks ! tt RNets (Is RNets) (shows 𝓤 H A RNets) (λ z. XNets .val z ∷ []) (XNets .tells) (LL.copy (Nets .S) (Nets .copies) 𝓤 H A W) nets b₁ o₁ (λ sh vs.
-            spelt ! RNets (Is RNets) (shows 𝓤 H A RNets) (λ z. XNets .val z ∷ []) (XNets .tells) sh nets vs b₁ o₁ $ move ! (1 ∷ []) $
-            peeks ! RNets (Is RNets) (shows 𝓤 H A RNets) nets (XNets .val nets ∷ []) (λ is-nets.
-            assigns ! (of-opd ! (load ! (from ! (hop ! (look ! 57 refl) (stop !))) (look-raw ! 1 refl))) (from ! (stop !)) (init ! 39 refl (XNets .typed M 𝓤 H A W nets _ is-nets)) $ move ! (1 ∷ 0 ∷ 2 ∷ []) $
-            shuts ! tt RNets sh nets (XNets .val nets ∷ []) b₁ o₁ $ move ! (1 ∷ []) $ drop ! $
-            -- clock is copied out
-            move ! (64 ∷ []) $ fsplit3 ! $ drop ! $ move ! (0 ∷ 1 ∷ 70 ∷ []) $ opens ! tt RC {h = clock} b₂ o₂ (λ vs.
-            spelt ! RC (Is RC) (shows 𝓤 H A RC) (λ z. XC .val z ∷ []) (XC .tells) fullShare clock vs b₂ o₂ $ move ! (1 ∷ []) $ peeks ! RC (Is RC) (shows 𝓤 H A RC) clock (XC .val clock ∷ []) (λ is-clock.
-            assigns ! (of-opd ! (load ! (from ! (hop ! (look ! 55 refl) (stop !))) (look-raw ! 1 refl))) (from ! (stop !)) (init ! 39 refl (XC .typed M 𝓤 H A W clock _ is-clock)) $ drop ! $
-            -- links is copied out
-            move ! (67 ∷ []) $ fsplit3 ! $ drop ! $ move ! (0 ∷ 1 ∷ 72 ∷ []) $ opens ! tt RL {h = links} b₃ o₃ (λ vs.
-            spelt ! RL (Is RL) (shows 𝓤 H A RL) (λ z. XL .val z ∷ []) (XL .tells) fullShare links vs b₃ o₃ $ move ! (1 ∷ []) $ peeks ! RL (Is RL) (shows 𝓤 H A RL) links (XL .val links ∷ []) (λ is-links.
-            assigns ! (of-opd ! (load ! (from ! (hop ! (look ! 57 refl) (stop !))) (look-raw ! 1 refl))) (from ! (stop !)) (init ! 41 refl (XL .typed M 𝓤 H A W links _ is-links)) $ drop ! $
-            -- stand is copied out
-            move ! (70 ∷ []) $ fsplit3 ! $ drop ! $ move ! (0 ∷ 1 ∷ 74 ∷ []) $ opens ! tt RF {h = stand} b₄ o₄ (λ vs.
-            spelt ! RF (Is RF) (shows 𝓤 H A RF) (λ z. XF .val z ∷ []) (XF .tells) fullShare stand vs b₄ o₄ $ move ! (1 ∷ []) $ peeks ! RF (Is RF) (shows 𝓤 H A RF) stand (XF .val stand ∷ []) (λ is-stand.
-            assigns ! (of-opd ! (load ! (from ! (hop ! (look ! 59 refl) (stop !))) (look-raw ! 1 refl))) (from ! (stop !)) (init ! 43 refl (XF .typed M 𝓤 H A W stand _ is-stand)) $ drop ! $
-            -- scope
-            nothing ! $ nothing ! $ owned ! (I .row) (Is (I .row)) (I .makes M 𝓤 H A W) request (I .val request ∷ []) is-request $ fjoin ! $
-            use0 W (raw (asks₁ request)) (ok₁ settings nets number clock links stand octets run request) $ move ! (2 ∷ 1 ∷ 0 ∷ []) $
-            use3 W (raw (Contract₁ .pre ((tt, tt, tt, (request, tt), (I .val request ∷ [], tt)), tt))) (passed 𝓤 H A signature₁ tt tt (request, tt) (I .val request ∷ [], tt) (asks₁ request)) $
-            calls-at ! fm Contract₁ known₁ ((tt, tt, tt, (request, tt), (I .val request ∷ [], tt)), tt) (and-then ! (load ! (from ! (stop !)) (look ! 53 refl)) (no-more !)) (λ v₁.
-            use1 W (later (some (λ (a : U .row .Denot). (‵ ftrue ⊛ ‵ (U .row .own a (v₁ ∷ []))) ⊛ raw (ensured 𝓤 H A ended₁ clauses₁ tt (request, tt) tt a)))) (id⊢ 𝓤 _) $ await ! tt $ pick ! (λ a. split ! $
-            split ! $ drop ! $ move ! (1 ∷ []) $ use1 W (some (λ (ends₁ : Lasts ended₁ tt (request, tt)). ‵ (lasts ended₁ tt (request, tt) ends₁) ⊛ raw (fact 𝓤 (gives₁ request a)))) (id⊢ 𝓤 _) $ pick ! (λ ends₁.
-            split ! $ move ! (1 ∷ []) $ heard ! (gives₁ request a) (λ φ₁. drop ! $ peeks ! (U .row) (Is (U .row)) (shows 𝓤 H A (U .row)) a (v₁ ∷ []) (λ said-a. drop ! $
-            land ! (from ! (stop !)) (init ! 40 refl (U .typed M 𝓤 H A W a _ said-a)) $ rewrite ! 40 (λ (u : Val). ‵ (fat fullShare (U .ty) z₁₅ 0 u)) (ap only (U .tells a (v₁ ∷ []) said-a)) refl $
-            -- guard
-            assigns ! (addr ! (from ! (fld ! refl (hop ! (look-in ! 54 (sub ! 0 refl (whole-part !))) (stop !))))) (from ! (stop !)) (init ! 28 refl (tt, tt)) $
-            assigns ! (agg ! (and-then ! (load ! (from ! (stop !)) (look ! 28 refl)) (and-then ! (load ! (from ! (fld ! refl (stop !))) (look-in ! 54 (sub ! 1 refl (whole-part !)))) (no-more !)))) (from ! (stop !)) (init ! 26 refl (tt, (tt, (record { fits = room-run .0 }, tt)))) $
-            move ! (15 ∷ []) $
-            use1 W (‵ (ShrRef (named 0) κ₀ RS .own (ref₀ γ₀ settings) (vptr b₀ o₀ ∷ [])) ⊛ ‵ (ShrRef (named 0) κ₀ RS .own (ref₀ γ₀ settings) (vptr b₀ o₀ ∷ []))) (shr-copy 𝓤 H A W (named 0) κ₀ RS .twice (ref₀ γ₀ settings) (vptr b₀ o₀ ∷ [])) $
-            split ! $ move ! (15 ∷ []) $
-            use1 W (‵ (ShrRef (named 1) κ₁ RNets .own (ref₁ γ₁ nets) (vptr b₁ o₁ ∷ [])) ⊛ ‵ (ShrRef (named 1) κ₁ RNets .own (ref₁ γ₁ nets) (vptr b₁ o₁ ∷ []))) (shr-copy 𝓤 H A W (named 1) κ₁ RNets .twice (ref₁ γ₁ nets) (vptr b₁ o₁ ∷ [])) $
-            split ! $ move ! (75 ∷ []) $
-            use1 W (‵ (ShrSlice (named 5) κ₅ u8 .own (ref₅ γ₅ octets) (slice-vals (ref₅ γ₅ octets))) ⊛ ‵ (ShrSlice (named 5) κ₅ u8 .own (ref₅ γ₅ octets) (slice-vals (ref₅ γ₅ octets)))) (shr-slice-copy 𝓤 H A W (named 5) κ₅ u8 .twice (ref₅ γ₅ octets) (slice-vals (ref₅ γ₅ octets))) $
-            split ! $ lft-new ! tt (λ α₂. move ! (77 ∷ 78 ∷ []) $
-            use2 W (later (some (λ (δ₂ : GName). ‵ (ShrSlice (named 3) (α₂ ∷ []) RE .own (ref₆ δ₂ run) (slice-vals (ref₆ δ₂ run))) ⊛ ‵ (Kept RE κ₆ (α₂ ∷ []) q₆ γ₆ b₆ o₆ run)))) (lends-shared RE κ₆ (α₂ ∷ []) q₆ γ₆ b₆ o₆ 𝓤 H A W (named 6) (named 3) run) $ await ! tt $
-            pick ! (λ δ₂. split ! $ nothing ! $ move ! (3 ∷ 0 ∷ []) $ join ! $ move ! (79 ∷ 0 ∷ []) $ join ! $ move ! (21 ∷ 0 ∷ []) $ join ! $ move ! (21 ∷ 0 ∷ []) $ join ! $ nothing ! $ move ! (2 ∷ 0 ∷ []) $
-            fjoin ! $ owned ! (U .row) (Is (U .row)) (U .makes M 𝓤 H A W) a (U .val a ∷ []) (settled U a v₁ said-a) $ fjoin ! $ move ! (3 ∷ 0 ∷ []) $ fjoin ! $
-            owned ! (XF .row) (Is (XF .row)) (XF .makes M 𝓤 H A W) stand (XF .val stand ∷ []) is-stand $ fjoin ! $ owned ! (XL .row) (Is (XL .row)) (XL .makes M 𝓤 H A W) links (XL .val links ∷ []) is-links $
-            fjoin ! $ owned ! (XC .row) (Is (XC .row)) (XC .makes M 𝓤 H A W) clock (XC .val clock ∷ []) is-clock $ fjoin ! $
-            owned ! (N .row) (Is (N .row)) (N .makes M 𝓤 H A W) number (N .val number ∷ []) is-number $ fjoin ! $ move ! (4 ∷ 0 ∷ []) $ fjoin ! $ move ! (5 ∷ 0 ∷ []) $ fjoin ! $
-            use0 W (raw (asks₂ settings nets number clock links stand octets a run)) (ok₂ settings nets number clock links stand octets run request a φ₁) $ move ! (2 ∷ 1 ∷ 0 ∷ []) $
-            use3 W (raw (Contract₂ .pre (((κ₀, (κ₁, (κ₅, ((α₂ ∷ []), tt)))), (q₀, (q₁, (q₅, (fullShare, tt)))), tt, (ref₀ γ₀ settings, (ref₁ γ₁ nets, (number, (clock, (links, (stand, (ref₅ γ₅ octets, (a, (ref₆ δ₂ run, tt))))))))), (vptr b₀ o₀ ∷ [], (vptr b₁ o₁ ∷ [], (N .val number ∷ [], (XC .val clock ∷ [], (XL .val links ∷ [], (XF .val stand ∷ [], (slice-vals (ref₅ γ₅ octets), (U .val a ∷ [], (slice-vals (ref₆ δ₂ run), tt)))))))))), tt))) (passed 𝓤 H A signature₂ (κ₀, (κ₁, (κ₅, ((α₂ ∷ []), tt)))) (q₀, (q₁, (q₅, (fullShare, tt)))) (ref₀ γ₀ settings, (ref₁ γ₁ nets, (number, (clock, (links, (stand, (ref₅ γ₅ octets, (a, (ref₆ δ₂ run, tt))))))))) (vptr b₀ o₀ ∷ [], (vptr b₁ o₁ ∷ [], (N .val number ∷ [], (XC .val clock ∷ [], (XL .val links ∷ [], (XF .val stand ∷ [], (slice-vals (ref₅ γ₅ octets), (U .val a ∷ [], (slice-vals (ref₆ δ₂ run), tt))))))))) (asks₂ settings nets number clock links stand octets a run)) $
-            calls-at ! fm Contract₂ known₂ (((κ₀, (κ₁, (κ₅, ((α₂ ∷ []), tt)))), (q₀, (q₁, (q₅, (fullShare, tt)))), tt, (ref₀ γ₀ settings, (ref₁ γ₁ nets, (number, (clock, (links, (stand, (ref₅ γ₅ octets, (a, (ref₆ δ₂ run, tt))))))))), (vptr b₀ o₀ ∷ [], (vptr b₁ o₁ ∷ [], (N .val number ∷ [], (XC .val clock ∷ [], (XL .val links ∷ [], (XF .val stand ∷ [], (slice-vals (ref₅ γ₅ octets), (U .val a ∷ [], (slice-vals (ref₆ δ₂ run), tt)))))))))), tt) (and-then ! (load ! (from ! (stop !)) (look ! 69 refl)) (and-then ! (load ! (from ! (stop !)) (look ! 67 refl)) (and-then ! (load ! (from ! (stop !)) (look ! 65 refl)) (and-then ! (load ! (from ! (stop !)) (look ! 47 refl)) (and-then ! (load ! (from ! (stop !)) (look ! 45 refl)) (and-then ! (load ! (from ! (stop !)) (look ! 43 refl)) (and-then ! (load ! (from ! (stop !)) (look ! 57 refl)) (and-then ! (load ! (from ! (stop !)) (look ! 41 refl)) (and-then ! (load ! (from ! (stop !)) (look ! 27 refl)) (no-more !)))))))))) (λ v₂.
-            use1 W (later (some (λ (g : G .row .Denot). ((‵ (flft κ₀ q₀) ⊛ ‵ (flft κ₁ q₁) ⊛ ‵ (flft κ₅ q₅) ⊛ ‵ (flft (α₂ ∷ []) fullShare) ⊛ ‵ ftrue) ⊛ ‵ (G .row .own g (v₂ ∷ []))) ⊛ raw (ensured 𝓤 H A ended₂ clauses₂ (κ₀, (κ₁, (κ₅, ((α₂ ∷ []), tt)))) (ref₀ γ₀ settings, (ref₁ γ₁ nets, (number, (clock, (links, (stand, (ref₅ γ₅ octets, (a, (ref₆ δ₂ run, tt))))))))) tt g)))) (id⊢ 𝓤 _) $ await ! tt $
-            pick ! (λ g. split ! $ split ! $ split ! $ move ! (1 ∷ []) $ split ! $ move ! (1 ∷ []) $ split ! $ move ! (1 ∷ []) $ split ! $ move ! (1 ∷ []) $ drop ! $ move ! (5 ∷ []) $
-            use1 W (some (λ (ends₂ : Lasts ended₂ (κ₀, (κ₁, (κ₅, ((α₂ ∷ []), tt)))) (ref₀ γ₀ settings, (ref₁ γ₁ nets, (number, (clock, (links, (stand, (ref₅ γ₅ octets, (a, (ref₆ δ₂ run, tt)))))))))). ‵ (lasts ended₂ (κ₀, (κ₁, (κ₅, ((α₂ ∷ []), tt)))) (ref₀ γ₀ settings, (ref₁ γ₁ nets, (number, (clock, (links, (stand, (ref₅ γ₅ octets, (a, (ref₆ δ₂ run, tt))))))))) ends₂) ⊛ raw (fact 𝓤 (gives₂ settings nets number clock links stand octets a run g)))) (id⊢ 𝓤 _) $
-            pick ! (λ ends₂. split ! $ move ! (1 ∷ []) $ heard ! (gives₂ settings nets number clock links stand octets a run g) (λ φ₂. drop ! $ move ! (4 ∷ []) $
-            peeks ! (G .row) (Is (G .row)) (shows 𝓤 H A (G .row)) g (v₂ ∷ []) (λ said-g. drop ! $ lft-end ! tt $ move ! (0 ∷ 4 ∷ []) $
-            use2 W (later (‵ (MutSlice (named 6) κ₆ RE .own (ref₆ γ₆ run) (sliceVal (b₆, o₆) (length run) ∷ [])) ⊛ ‵ (flft κ₆ q₆))) (shared-back RE κ₆ (α₂ ∷ []) q₆ γ₆ b₆ o₆ 𝓤 H A W (named 6) run room-run) $ await ! tt $
-            split ! $ land ! (from ! (stop !)) (init ! 42 refl (G .typed M 𝓤 H A W g _ said-g)) $ rewrite ! 42 (λ (u : Val). ‵ (fat fullShare (G .ty) z₁₆ 0 u)) (ap only (G .tells g (v₂ ∷ []) said-g)) refl $
-            -- seek
-            nothing ! $ nothing ! $ owned ! (I .row) (Is (I .row)) (I .makes M 𝓤 H A W) request (I .val request ∷ []) is-request $ fjoin ! $
-            owned ! (N .row) (Is (N .row)) (N .makes M 𝓤 H A W) number (N .val number ∷ []) is-number $ fjoin ! $ owned ! (XF .row) (Is (XF .row)) (XF .makes M 𝓤 H A W) stand (XF .val stand ∷ []) is-stand $
-            fjoin ! $ owned ! (XNets .row) (Is (XNets .row)) (XNets .makes M 𝓤 H A W) nets (XNets .val nets ∷ []) is-nets $ fjoin ! $
-            owned ! (XS .row) (Is (XS .row)) (XS .makes M 𝓤 H A W) settings (XS .val settings ∷ []) is-settings $ fjoin ! $
-            owned ! (G .row) (Is (G .row)) (G .makes M 𝓤 H A W) g (G .val g ∷ []) (settled G g v₂ said-g) $ fjoin ! $
-            use0 W (raw (asks₃ g settings nets stand number request)) (ok₃ settings nets number clock links stand octets run request a g φ₁ φ₂) $ move ! (2 ∷ 1 ∷ 0 ∷ []) $
-            use3 W (raw (Contract₃ .pre ((tt, tt, tt, (g, (settings, (nets, (stand, (number, (request, tt)))))), (G .val g ∷ [], (XS .val settings ∷ [], (XNets .val nets ∷ [], (XF .val stand ∷ [], (N .val number ∷ [], (I .val request ∷ [], tt))))))), tt))) (passed 𝓤 H A signature₃ tt tt (g, (settings, (nets, (stand, (number, (request, tt)))))) (G .val g ∷ [], (XS .val settings ∷ [], (XNets .val nets ∷ [], (XF .val stand ∷ [], (N .val number ∷ [], (I .val request ∷ [], tt)))))) (asks₃ g settings nets stand number request)) $
-            calls-at ! fm Contract₃ known₃ ((tt, tt, tt, (g, (settings, (nets, (stand, (number, (request, tt)))))), (G .val g ∷ [], (XS .val settings ∷ [], (XNets .val nets ∷ [], (XF .val stand ∷ [], (N .val number ∷ [], (I .val request ∷ [], tt))))))), tt) (and-then ! (load ! (from ! (stop !)) (look ! 43 refl)) (and-then ! (load ! (from ! (stop !)) (look ! 55 refl)) (and-then ! (load ! (from ! (stop !)) (look ! 53 refl)) (and-then ! (load ! (from ! (stop !)) (look ! 47 refl)) (and-then ! (load ! (from ! (stop !)) (look ! 69 refl)) (and-then ! (load ! (from ! (stop !)) (look ! 57 refl)) (no-more !))))))) (λ v₃.
-            use1 W (later (some (λ (z : Z .row .Denot). (‵ ftrue ⊛ ‵ (Z .row .own z (v₃ ∷ []))) ⊛ raw (ensured 𝓤 H A ended₃ clauses₃ tt (g, (settings, (nets, (stand, (number, (request, tt)))))) tt z)))) (id⊢ 𝓤 _) $ await ! tt $
-            pick ! (λ z. split ! $ split ! $ drop ! $ move ! (1 ∷ []) $
-            use1 W (some (λ (ends₃ : Lasts ended₃ tt (g, (settings, (nets, (stand, (number, (request, tt))))))). ‵ (lasts ended₃ tt (g, (settings, (nets, (stand, (number, (request, tt)))))) ends₃) ⊛ raw (fact 𝓤 (gives₃ g settings nets stand number request z)))) (id⊢ 𝓤 _) $
-            pick ! (λ ends₃. split ! $ move ! (1 ∷ []) $ heard ! (gives₃ g settings nets stand number request z) (λ φ₃. drop ! $ peeks ! (Z .row) (Is (Z .row)) (shows 𝓤 H A (Z .row)) z (v₃ ∷ []) (λ said-z.
-            drop ! $ land ! (from ! (stop !)) (init ! 40 refl (Z .typed M 𝓤 H A W z _ said-z)) $ rewrite ! 40 (λ (u : Val). ‵ (fat fullShare (Z .ty) z₁₇ 0 u)) (ap only (Z .tells z (v₃ ∷ []) said-z)) refl $
-            -- look
-            assigns ! (addr ! (from ! (fld ! refl (hop ! (look-in ! 58 (sub ! 0 refl (whole-part !))) (stop !))))) (from ! (stop !)) (init ! 28 refl (tt, tt)) $
-            assigns ! (agg ! (and-then ! (load ! (from ! (stop !)) (look ! 28 refl)) (and-then ! (load ! (from ! (fld ! refl (stop !))) (look-in ! 58 (sub ! 1 refl (whole-part !)))) (no-more !)))) (from ! (stop !)) (init ! 26 refl (tt, (tt, (record { fits = room-run .0 }, tt)))) $
-            lft-new ! tt (λ α₄. move ! (1 ∷ 2 ∷ []) $
-            use2 W (later (some (λ (δ₄ : GName). ‵ (ShrSlice (named 0) (α₄ ∷ []) RE .own (ref₆ δ₄ run) (slice-vals (ref₆ δ₄ run))) ⊛ ‵ (Kept RE κ₆ (α₄ ∷ []) q₆ γ₆ b₆ o₆ run)))) (lends-shared RE κ₆ (α₄ ∷ []) q₆ γ₆ b₆ o₆ 𝓤 H A W (named 6) (named 0) run) $ await ! tt $
-            pick ! (λ δ₄. split ! $ nothing ! $ move ! (3 ∷ 0 ∷ []) $ join ! $ nothing ! $ owned ! (Z .row) (Is (Z .row)) (Z .makes M 𝓤 H A W) z (Z .val z ∷ []) (settled Z z v₃ said-z) $ fjoin ! $
-            move ! (2 ∷ 0 ∷ []) $ fjoin ! $ use0 W (raw (asks₄ run z)) (ok₄ settings nets number clock links stand octets run request a g z φ₁ φ₂ φ₃) $ move ! (2 ∷ 1 ∷ 0 ∷ []) $
-            use3 W (raw (Contract₄ .pre ((((α₄ ∷ []), tt), (fullShare, tt), tt, (ref₆ δ₄ run, (z, tt)), (slice-vals (ref₆ δ₄ run), (Z .val z ∷ [], tt))), tt))) (passed 𝓤 H A signature₄ ((α₄ ∷ []), tt) (fullShare, tt) (ref₆ δ₄ run, (z, tt)) (slice-vals (ref₆ δ₄ run), (Z .val z ∷ [], tt)) (asks₄ run z)) $
-            calls-at ! fm Contract₄ known₄ ((((α₄ ∷ []), tt), (fullShare, tt), tt, (ref₆ δ₄ run, (z, tt)), (slice-vals (ref₆ δ₄ run), (Z .val z ∷ [], tt))), tt) (and-then ! (load ! (from ! (stop !)) (look ! 26 refl)) (and-then ! (load ! (from ! (stop !)) (look ! 40 refl)) (no-more !))) (λ v₄.
-            use1 W (later (some (λ (e : Q .row .Denot). ((‵ (flft (α₄ ∷ []) fullShare) ⊛ ‵ ftrue) ⊛ ‵ (Q .row .own e (v₄ ∷ []))) ⊛ raw (ensured 𝓤 H A ended₄ clauses₄ ((α₄ ∷ []), tt) (ref₆ δ₄ run, (z, tt)) tt e)))) (id⊢ 𝓤 _) $ await ! tt $
-            pick ! (λ e. split ! $ split ! $ split ! $ move ! (1 ∷ []) $ drop ! $ move ! (2 ∷ []) $
-            use1 W (some (λ (ends₄ : Lasts ended₄ ((α₄ ∷ []), tt) (ref₆ δ₄ run, (z, tt))). ‵ (lasts ended₄ ((α₄ ∷ []), tt) (ref₆ δ₄ run, (z, tt)) ends₄) ⊛ raw (fact 𝓤 (gives₄ run z e)))) (id⊢ 𝓤 _) $
-            pick ! (λ ends₄. split ! $ move ! (1 ∷ []) $ heard ! (gives₄ run z e) (λ φ₄. drop ! $ move ! (1 ∷ []) $ peeks ! (Q .row) (Is (Q .row)) (shows 𝓤 H A (Q .row)) e (v₄ ∷ []) (λ said-e. drop ! $
-            lft-end ! tt $
-            use2 W (later (‵ (MutSlice (named 6) κ₆ RE .own (ref₆ γ₆ run) (sliceVal (b₆, o₆) (length run) ∷ [])) ⊛ ‵ (flft κ₆ q₆))) (shared-back RE κ₆ (α₄ ∷ []) q₆ γ₆ b₆ o₆ 𝓤 H A W (named 6) run room-run) $ await ! tt $
-            split ! $ land ! (from ! (stop !)) (init ! 38 refl (Q .typed M 𝓤 H A W e _ said-e)) $ rewrite ! 38 (λ (u : Val). ‵ (fat fullShare (Q .ty) z₁₈ 0 u)) (ap only (Q .tells e (v₄ ∷ []) said-e)) refl $
-            -- plan
-            move ! (5 ∷ []) $
-            use1 W (‵ (ShrSlice (named 5) κ₅ u8 .own (ref₅ γ₅ octets) (slice-vals (ref₅ γ₅ octets))) ⊛ ‵ (ShrSlice (named 5) κ₅ u8 .own (ref₅ γ₅ octets) (slice-vals (ref₅ γ₅ octets)))) (shr-slice-copy 𝓤 H A W (named 5) κ₅ u8 .twice (ref₅ γ₅ octets) (slice-vals (ref₅ γ₅ octets))) $
-            split ! $ nothing ! $ move ! (5 ∷ 0 ∷ []) $ join ! $ nothing ! $ owned ! (I .row) (Is (I .row)) (I .makes M 𝓤 H A W) request (I .val request ∷ []) is-request $ fjoin ! $
-            owned ! (Q .row) (Is (Q .row)) (Q .makes M 𝓤 H A W) e (Q .val e ∷ []) (settled Q e v₄ said-e) $ fjoin ! $ move ! (2 ∷ 0 ∷ []) $ fjoin ! $
-            owned ! (XF .row) (Is (XF .row)) (XF .makes M 𝓤 H A W) stand (XF .val stand ∷ []) is-stand $ fjoin ! $ owned ! (XL .row) (Is (XL .row)) (XL .makes M 𝓤 H A W) links (XL .val links ∷ []) is-links $
-            fjoin ! $ owned ! (XC .row) (Is (XC .row)) (XC .makes M 𝓤 H A W) clock (XC .val clock ∷ []) is-clock $ fjoin ! $
-            owned ! (XNets .row) (Is (XNets .row)) (XNets .makes M 𝓤 H A W) nets (XNets .val nets ∷ []) is-nets $ fjoin ! $
-            owned ! (XS .row) (Is (XS .row)) (XS .makes M 𝓤 H A W) settings (XS .val settings ∷ []) is-settings $ fjoin ! $
-            owned ! (G .row) (Is (G .row)) (G .makes M 𝓤 H A W) g (G .val g ∷ []) (settled G g v₂ said-g) $ fjoin ! $
-            use0 W (raw (asks₅ g settings nets clock links stand octets e request)) (ok₅ settings nets number clock links stand octets run request a g z e φ₁ φ₂ φ₃ φ₄) $ move ! (2 ∷ 1 ∷ 0 ∷ []) $
-            use3 W (raw (Contract₅ .pre (((κ₅, tt), (q₅, tt), tt, (g, (settings, (nets, (clock, (links, (stand, (ref₅ γ₅ octets, (e, (request, tt))))))))), (G .val g ∷ [], (XS .val settings ∷ [], (XNets .val nets ∷ [], (XC .val clock ∷ [], (XL .val links ∷ [], (XF .val stand ∷ [], (slice-vals (ref₅ γ₅ octets), (Q .val e ∷ [], (I .val request ∷ [], tt)))))))))), tt))) (passed 𝓤 H A signature₅ (κ₅, tt) (q₅, tt) (g, (settings, (nets, (clock, (links, (stand, (ref₅ γ₅ octets, (e, (request, tt))))))))) (G .val g ∷ [], (XS .val settings ∷ [], (XNets .val nets ∷ [], (XC .val clock ∷ [], (XL .val links ∷ [], (XF .val stand ∷ [], (slice-vals (ref₅ γ₅ octets), (Q .val e ∷ [], (I .val request ∷ [], tt))))))))) (asks₅ g settings nets clock links stand octets e request)) $
-            calls-at ! fm Contract₅ known₅ (((κ₅, tt), (q₅, tt), tt, (g, (settings, (nets, (clock, (links, (stand, (ref₅ γ₅ octets, (e, (request, tt))))))))), (G .val g ∷ [], (XS .val settings ∷ [], (XNets .val nets ∷ [], (XC .val clock ∷ [], (XL .val links ∷ [], (XF .val stand ∷ [], (slice-vals (ref₅ γ₅ octets), (Q .val e ∷ [], (I .val request ∷ [], tt)))))))))), tt) (and-then ! (load ! (from ! (stop !)) (look ! 42 refl)) (and-then ! (load ! (from ! (stop !)) (look ! 54 refl)) (and-then ! (load ! (from ! (stop !)) (look ! 52 refl)) (and-then ! (load ! (from ! (stop !)) (look ! 50 refl)) (and-then ! (load ! (from ! (stop !)) (look ! 48 refl)) (and-then ! (load ! (from ! (stop !)) (look ! 46 refl)) (and-then ! (load ! (from ! (stop !)) (look ! 60 refl)) (and-then ! (load ! (from ! (stop !)) (look ! 38 refl)) (and-then ! (load ! (from ! (stop !)) (look ! 56 refl)) (no-more !)))))))))) (λ v₅.
-            use1 W (later (some (λ (p : XP .row .Denot). ((‵ (flft κ₅ q₅) ⊛ ‵ ftrue) ⊛ ‵ (XP .row .own p (v₅ ∷ []))) ⊛ raw (ensured 𝓤 H A ended₅ clauses₅ (κ₅, tt) (g, (settings, (nets, (clock, (links, (stand, (ref₅ γ₅ octets, (e, (request, tt))))))))) tt p)))) (id⊢ 𝓤 _) $ await ! tt $
-            pick ! (λ p. split ! $ split ! $ split ! $ move ! (1 ∷ []) $ drop ! $ move ! (2 ∷ []) $
-            use1 W (some (λ (ends₅ : Lasts ended₅ (κ₅, tt) (g, (settings, (nets, (clock, (links, (stand, (ref₅ γ₅ octets, (e, (request, tt)))))))))). ‵ (lasts ended₅ (κ₅, tt) (g, (settings, (nets, (clock, (links, (stand, (ref₅ γ₅ octets, (e, (request, tt))))))))) ends₅) ⊛ raw (fact 𝓤 (gives₅ g settings nets clock links stand octets e request p)))) (id⊢ 𝓤 _) $
-            pick ! (λ ends₅. split ! $ move ! (1 ∷ []) $ heard ! (gives₅ g settings nets clock links stand octets e request p) (λ φ₅. drop ! $ move ! (1 ∷ []) $
-            peeks ! (XP .row) (Is (XP .row)) (shows 𝓤 H A (XP .row)) p (v₅ ∷ []) (λ said-p. drop ! $ land ! (from ! (stop !)) (init ! 36 refl (XP .typed M 𝓤 H A W p _ said-p)) $
-            rewrite ! 36 (λ (u : Val). ‵ (fat fullShare (XP .ty) z₁₉ 0 u)) (ap only (XP .tells p (v₅ ∷ []) said-p)) refl $
-            -- place
-            nothing ! $ nothing ! $
-            owned ! ((J .word) .row) (Is ((J .word) .row)) ((J .word) .makes M 𝓤 H A W) (J .res (P .form .read p .1 .1 .1 .1 .0)) (J .laws .val (J .K .into (P .form .read p .1 .1 .1 .1 .0)) ∷ []) (J .is (P .form .read p .1 .1 .1 .1 .0) (LL.owed (whole P .S) (whole P .L) p _ (settled XP p v₅ said-p) .1 .1 .1 .1 .0)) $
-            fjoin ! $ owned ! (N .row) (Is (N .row)) (N .makes M 𝓤 H A W) number (N .val number ∷ []) is-number $ fjoin ! $
-            use0 W (raw (asks₆ number (J .res (P .form .read p .1 .1 .1 .1 .0)))) (ok₆ settings nets number clock links stand octets run request a g z e p φ₁ φ₂ φ₃ φ₄ φ₅) $ move ! (2 ∷ 1 ∷ 0 ∷ []) $
-            use3 W (raw (Contract₆ .pre ((tt, tt, tt, (number, ((J .res (P .form .read p .1 .1 .1 .1 .0)), tt)), (N .val number ∷ [], (J .laws .val (J .K .into (P .form .read p .1 .1 .1 .1 .0)) ∷ [], tt))), tt))) (passed 𝓤 H A signature₆ tt tt (number, ((J .res (P .form .read p .1 .1 .1 .1 .0)), tt)) (N .val number ∷ [], (J .laws .val (J .K .into (P .form .read p .1 .1 .1 .1 .0)) ∷ [], tt)) (asks₆ number (J .res (P .form .read p .1 .1 .1 .1 .0)))) $
-            calls-at ! fm Contract₆ known₆ ((tt, tt, tt, (number, ((J .res (P .form .read p .1 .1 .1 .1 .0)), tt)), (N .val number ∷ [], (J .laws .val (J .K .into (P .form .read p .1 .1 .1 .1 .0)) ∷ [], tt))), tt) (and-then ! (load ! (from ! (stop !)) (look ! 69 refl)) (and-then ! (load ! (from ! (fld ! refl (stop !))) (look-in ! 37 (sub ! 4 refl (whole-part !)))) (no-more !))) (λ v₆.
-            use1 W (later (some (λ (w : X .row .Denot). (‵ ftrue ⊛ ‵ (X .row .own w (v₆ ∷ []))) ⊛ raw (ensured 𝓤 H A ended₆ clauses₆ tt (number, ((J .res (P .form .read p .1 .1 .1 .1 .0)), tt)) tt w)))) (id⊢ 𝓤 _) $ await ! tt $
-            pick ! (λ w. split ! $ split ! $ drop ! $ move ! (1 ∷ []) $
-            use1 W (some (λ (ends₆ : Lasts ended₆ tt (number, ((J .res (P .form .read p .1 .1 .1 .1 .0)), tt))). ‵ (lasts ended₆ tt (number, ((J .res (P .form .read p .1 .1 .1 .1 .0)), tt)) ends₆) ⊛ raw (fact 𝓤 (gives₆ number (J .res (P .form .read p .1 .1 .1 .1 .0)) w)))) (id⊢ 𝓤 _) $
-            pick ! (λ ends₆. split ! $ move ! (1 ∷ []) $ heard ! (gives₆ number (J .res (P .form .read p .1 .1 .1 .1 .0)) w) (λ φ₆. drop ! $
-            peeks ! (X .row) (Is (X .row)) (shows 𝓤 H A (X .row)) w (v₆ ∷ []) (λ said-w. drop ! $ land ! (from ! (stop !)) (init ! 34 refl (X .typed M 𝓤 H A W w _ said-w)) $
-            rewrite ! 34 (λ (u : Val). ‵ (fat fullShare (X .ty) z₂₀ 0 u)) (ap only (X .tells w (v₆ ∷ []) said-w)) refl $
-            -- act
-            assigns ! (addr ! (from ! (fld ! refl (hop ! (look-in ! 58 (sub ! 0 refl (whole-part !))) (stop !))))) (from ! (stop !)) (init ! 22 refl (tt, tt)) $
-            assigns ! (agg ! (and-then ! (load ! (from ! (stop !)) (look ! 22 refl)) (and-then ! (load ! (from ! (fld ! refl (stop !))) (look-in ! 58 (sub ! 1 refl (whole-part !)))) (no-more !)))) (from ! (stop !)) (init ! 20 refl (tt, (tt, (record { fits = room-run .0 }, tt)))) $
-            nothing ! $ move ! (4 ∷ 0 ∷ []) $ join ! $ nothing ! $ owned ! (X .row) (Is (X .row)) (X .makes M 𝓤 H A W) w (X .val w ∷ []) (settled X w v₆ said-w) $ fjoin ! $ move ! (4 ∷ 0 ∷ []) $ fjoin ! $
-            use0 W (raw (asks₇ run w)) (ok₇ settings nets number clock links stand octets run request a g z e p w φ₁ φ₂ φ₃ φ₄ φ₅ φ₆) $ move ! (2 ∷ 1 ∷ 0 ∷ []) $
-            use3 W (raw (Contract₇ .pre (((κ₆, tt), (q₆, tt), tt, (ref₆ γ₆ run, (w, tt)), (slice-vals (ref₆ γ₆ run), (X .val w ∷ [], tt))), tt))) (passed 𝓤 H A signature₇ (κ₆, tt) (q₆, tt) (ref₆ γ₆ run, (w, tt)) (slice-vals (ref₆ γ₆ run), (X .val w ∷ [], tt)) (asks₇ run w)) $
-            calls-at ! fm Contract₇ known₇ (((κ₆, tt), (q₆, tt), tt, (ref₆ γ₆ run, (w, tt)), (slice-vals (ref₆ γ₆ run), (X .val w ∷ [], tt))), tt) (and-then ! (load ! (from ! (stop !)) (look ! 19 refl)) (and-then ! (load ! (from ! (stop !)) (look ! 33 refl)) (no-more !))) (λ v₇.
-            use1 W (later (some (λ (u₇ : void .row .Denot). ((‵ (flft κ₆ q₆) ⊛ ‵ ftrue) ⊛ ‵ (void .row .own u₇ (v₇ ∷ []))) ⊛ raw (ensured 𝓤 H A ended₇ clauses₇ (κ₆, tt) (ref₆ γ₆ run, (w, tt)) tt u₇)))) (id⊢ 𝓤 _) $ await ! tt $
-            pick ! (λ u₇. split ! $ split ! $ split ! $ move ! (1 ∷ []) $ drop ! $ move ! (2 ∷ []) $
-            use1 W (some (λ (ends₇ : Lasts ended₇ (κ₆, tt) (ref₆ γ₆ run, (w, tt))). ‵ (lasts ended₇ (κ₆, tt) (ref₆ γ₆ run, (w, tt)) ends₇) ⊛ raw (fact 𝓤 (gives₇ run w (ends₇ .0))))) (id⊢ 𝓤 _) $ pick ! (λ ends₇.
-            split ! $ move ! (1 ∷ []) $ heard ! (gives₇ run w (ends₇ .0)) (λ φ₇. fsplit ! $ fsplit ! $ move ! (1 ∷ []) $ feqL ! (λ len₇. move ! (1 ∷ []) $ fsplit ! $ drop ! $ drop ! $ move ! (2 ∷ []) $
-            peeks ! (void .row) (Is (void .row)) (shows 𝓤 H A (void .row)) u₇ (v₇ ∷ []) (λ said-u₇. drop ! $ land ! (from ! (stop !)) (init ! 24 refl (void .typed M 𝓤 H A W u₇ _ said-u₇)) $
-            -- what is left is stored
-            assigns ! (of-opd ! (load ! (from ! (fld ! refl (stop !))) (look-in ! 36 (sub ! 1 refl (whole-part !))))) (from ! (hop ! (look ! 66 refl) (stop !))) (store-raw ! 16 refl (((struct-part C) .word) .typed M 𝓤 H A W ((struct-part C) .res (P .form .read p .1 .0)) _ ((struct-part C) .is (P .form .read p .1 .0) (LL.owed (whole P .S) (whole P .L) p _ (settled XP p v₅ said-p) .1 .0)))) $
-            -- what is left is stored
-            assigns ! (of-opd ! (load ! (from ! (fld ! refl (stop !))) (look-in ! 36 (sub ! 2 refl (whole-part !))))) (from ! (hop ! (look ! 64 refl) (stop !))) (store-raw ! 12 refl (((struct-part L) .word) .typed M 𝓤 H A W ((struct-part L) .res (P .form .read p .1 .1 .0)) _ ((struct-part L) .is (P .form .read p .1 .1 .0) (LL.owed (whole P .S) (whole P .L) p _ (settled XP p v₅ said-p) .1 .1 .0)))) $
-            -- what is left is stored
-            assigns ! (of-opd ! (load ! (from ! (fld ! refl (stop !))) (look-in ! 36 (sub ! 3 refl (whole-part !))))) (from ! (hop ! (look ! 62 refl) (stop !))) (store-raw ! 8 refl (((struct-part F) .word) .typed M 𝓤 H A W ((struct-part F) .res (P .form .read p .1 .1 .1 .0)) _ ((struct-part F) .is (P .form .read p .1 .1 .1 .0) (LL.owed (whole P .S) (whole P .L) p _ (settled XP p v₅ said-p) .1 .1 .1 .0)))) $
-            assigns ! (of-opd ! (load ! (from ! (fld ! refl (stop !))) (look-in ! 36 (sub ! 0 refl (whole-part !))))) (from ! (stop !)) (init ! 74 refl ((K .word) .typed M 𝓤 H A W (K .res (P .form .read p .0)) _ (K .is (P .form .read p .0) (LL.owed (whole P .S) (whole P .L) p _ (settled XP p v₅ said-p) .0)))) $
-            owned ! (((struct-part C) .word) .row) (Is (((struct-part C) .word) .row)) (((struct-part C) .word) .makes M 𝓤 H A W) ((struct-part C) .res (P .form .read p .1 .0)) ((struct-part C) .laws .val ((struct-part C) .K .into (P .form .read p .1 .0)) ∷ []) ((struct-part C) .is (P .form .read p .1 .0) (LL.owed (whole P .S) (whole P .L) p _ (settled XP p v₅ said-p) .1 .0)) $
-            move ! (17 ∷ 0 ∷ 18 ∷ 19 ∷ 20 ∷ []) $ closes ! tt RC ((struct-part C) .res (P .form .read p .1 .0)) ((struct-part C) .laws .val ((struct-part C) .K .into (P .form .read p .1 .0)) ∷ []) b₂ o₂ $
-            owned ! (((struct-part L) .word) .row) (Is (((struct-part L) .word) .row)) (((struct-part L) .word) .makes M 𝓤 H A W) ((struct-part L) .res (P .form .read p .1 .1 .0)) ((struct-part L) .laws .val ((struct-part L) .K .into (P .form .read p .1 .1 .0)) ∷ []) ((struct-part L) .is (P .form .read p .1 .1 .0) (LL.owed (whole P .S) (whole P .L) p _ (settled XP p v₅ said-p) .1 .1 .0)) $
-            move ! (16 ∷ 0 ∷ 17 ∷ 18 ∷ 19 ∷ []) $ closes ! tt RL ((struct-part L) .res (P .form .read p .1 .1 .0)) ((struct-part L) .laws .val ((struct-part L) .K .into (P .form .read p .1 .1 .0)) ∷ []) b₃ o₃ $
-            owned ! (((struct-part F) .word) .row) (Is (((struct-part F) .word) .row)) (((struct-part F) .word) .makes M 𝓤 H A W) ((struct-part F) .res (P .form .read p .1 .1 .1 .0)) ((struct-part F) .laws .val ((struct-part F) .K .into (P .form .read p .1 .1 .1 .0)) ∷ []) ((struct-part F) .is (P .form .read p .1 .1 .1 .0) (LL.owed (whole P .S) (whole P .L) p _ (settled XP p v₅ said-p) .1 .1 .1 .0)) $
-            move ! (15 ∷ 0 ∷ 16 ∷ 17 ∷ 18 ∷ []) $
-            closes ! tt RF ((struct-part F) .res (P .form .read p .1 .1 .1 .0)) ((struct-part F) .laws .val ((struct-part F) .K .into (P .form .read p .1 .1 .1 .0)) ∷ []) b₄ o₄ $
-            -- the locals are freed
-            returns ! (look ! 71 refl) $ forget ! 17 refl $ forget ! 19 refl $ forget ! 21 refl $ forget ! 23 refl $ forget ! 25 refl $ forget ! 27 refl $ forget ! 29 refl $ forget ! 31 refl $ forget ! 33 refl $
-            forget ! 35 refl $ forget ! 37 refl $ forget ! 39 refl $ forget ! 41 refl $ forget ! 43 refl $ forget ! 45 refl $ forget ! 47 refl $ forget ! 49 refl $ forget ! 51 refl $ forget ! 53 refl $
-            forget ! 55 refl $ forget ! 57 refl $ forget ! 59 refl $ forget ! 61 refl $ forget ! 63 refl $ forget ! 65 refl $ forget ! 67 refl $ forget ! 69 refl $ forget ! 71 refl $ move ! (71 ∷ 72 ∷ []) $
-            free1 ! $ move ! (69 ∷ 70 ∷ []) $ free1 ! $ move ! (67 ∷ 68 ∷ []) $ free1 ! $ move ! (65 ∷ 66 ∷ []) $ free1 ! $ move ! (63 ∷ 64 ∷ []) $ free1 ! $ move ! (61 ∷ 62 ∷ []) $ free1 ! $
-            move ! (59 ∷ 60 ∷ []) $ free1 ! $ move ! (57 ∷ 58 ∷ []) $ free1 ! $ move ! (55 ∷ 56 ∷ []) $ free1 ! $ move ! (53 ∷ 54 ∷ []) $ free1 ! $ move ! (51 ∷ 52 ∷ []) $ free1 ! $ move ! (49 ∷ 50 ∷ []) $
-            free1 ! $ move ! (47 ∷ 48 ∷ []) $ free1 ! $ move ! (45 ∷ 46 ∷ []) $ free1 ! $ move ! (43 ∷ 44 ∷ []) $ free1 ! $ move ! (41 ∷ 42 ∷ []) $ free1 ! $ move ! (39 ∷ 40 ∷ []) $ free1 ! $
-            move ! (37 ∷ 38 ∷ []) $ free1 ! $ move ! (35 ∷ 36 ∷ []) $ free1 ! $ move ! (33 ∷ 34 ∷ []) $ free1 ! $ move ! (31 ∷ 32 ∷ []) $ free1 ! $ move ! (29 ∷ 30 ∷ []) $ free1 ! $ move ! (27 ∷ 28 ∷ []) $
-            free1 ! $ move ! (25 ∷ 26 ∷ []) $ free1 ! $ move ! (23 ∷ 24 ∷ []) $ free1 ! $ move ! (21 ∷ 22 ∷ []) $ free1 ! $ move ! (19 ∷ 20 ∷ []) $ free1 ! $ move ! (17 ∷ 18 ∷ []) $ free1 ! $ free0 ! $
-            owned ! ((K .word) .row) (Is ((K .word) .row)) ((K .word) .makes M 𝓤 H A W) (K .res (P .form .read p .0)) (K .laws .val (K .K .into (P .form .read p .0)) ∷ []) (K .is (P .form .read p .0) (LL.owed (whole P .S) (whole P .L) p _ (settled XP p v₅ said-p) .0)) $
-            keep ! (7 ∷ 8 ∷ 4 ∷ 5 ∷ 1 ∷ 2 ∷ 10 ∷ 15 ∷ 14 ∷ 9 ∷ 6 ∷ 3 ∷ 12 ∷ 11 ∷ 0 ∷ []) $
-            by ! (exits ((struct-part C) .res (P .form .read p .1 .0)) ((struct-part L) .res (P .form .read p .1 .1 .0)) ((struct-part F) .res (P .form .read p .1 .1 .1 .0)) (ends₇ .0) (K .res (P .form .read p .0)) (K .laws .val (K .K .into (P .form .read p .0))) len₇ (then settings nets number clock links stand octets run request a g z e p w (ends₇ .0) φ₁ φ₂ φ₃ φ₄ φ₅ φ₆ φ₇))))))))))))))))))))))))))))))))))))))))))))))))))))))))))))))))))))))))))))))))
-
-  -- γ is the function's `code.env`, f and the others are the keys
-  module _ {M : Type 1} (𝓤 : URA M) (H : Heap 𝓤) (𝓜 : Model 𝓤 H) (𝓖 : GhostRules 𝓤 H) (𝓡 : Running 𝓤 H 𝓜) (asks₁ : I .row .Denot → SProp 𝓤) (gives₁ : I .row .Denot → U .row .Denot → Type 0) (asks₂ : S .S .D → Nets .S .D → N .row .Denot → XC .row .Denot → XL .row .Denot → XF .row .Denot → List (ℕ) → U .row .Denot → List (E .S .D) → SProp 𝓤) (gives₂ : S .S .D → Nets .S .D → N .row .Denot → XC .row .Denot → XL .row .Denot → XF .row .Denot → List (ℕ) → U .row .Denot → List (E .S .D) → G .row .Denot → Type 0) (asks₃ : G .row .Denot → XS .row .Denot → XNets .row .Denot → XF .row .Denot → N .row .Denot → I .row .Denot → SProp 𝓤) (gives₃ : G .row .Denot → XS .row .Denot → XNets .row .Denot → XF .row .Denot → N .row .Denot → I .row .Denot → Z .row .Denot → Type 0) (asks₄ : List (E .S .D) → Z .row .Denot → SProp 𝓤) (gives₄ : List (E .S .D) → Z .row .Denot → Q .row .Denot → Type 0) (asks₅ : G .row .Denot → XS .row .Denot → XNets .row .Denot → XC .row .Denot → XL .row .Denot → XF .row .Denot → List (ℕ) → Q .row .Denot → I .row .Denot → SProp 𝓤) (gives₅ : G .row .Denot → XS .row .Denot → XNets .row .Denot → XC .row .Denot → XL .row .Denot → XF .row .Denot → List (ℕ) → Q .row .Denot → I .row .Denot → XP .row .Denot → Type 0) (asks₆ : N .row .Denot → XJ .row .Denot → SProp 𝓤) (gives₆ : N .row .Denot → XJ .row .Denot → X .row .Denot → Type 0) (asks₇ : List (E .S .D) → X .row .Denot → SProp 𝓤) (gives₇ : List (E .S .D) → X .row .Denot → List (E .S .D) → Type 0) (Says : S .S .D → Nets .S .D → N .row .Denot → C .S .D → L .S .D → F .S .D → List (ℕ) → List (E .S .D) → I .row .Denot → C .S .D → L .S .D → F .S .D → List (E .S .D) → XK .row .Denot → Type 0)
-      (ok₁ : (settings : S .S .D) (nets : Nets .S .D) (number : N .row .Denot) (clock : C .S .D) (links : L .S .D) (stand : F .S .D) (octets : List (ℕ)) (run : List (E .S .D)) (request : I .row .Denot) → ent 𝓤 (emp 𝓤) (asks₁ request))
-      (ok₂ : (settings : S .S .D) (nets : Nets .S .D) (number : N .row .Denot) (clock : C .S .D) (links : L .S .D) (stand : F .S .D) (octets : List (ℕ)) (run : List (E .S .D)) (request : I .row .Denot) (a : U .row .Denot) → gives₁ request a → ent 𝓤 (emp 𝓤) (asks₂ settings nets number clock links stand octets a run))
-      (ok₃ : (settings : S .S .D) (nets : Nets .S .D) (number : N .row .Denot) (clock : C .S .D) (links : L .S .D) (stand : F .S .D) (octets : List (ℕ)) (run : List (E .S .D)) (request : I .row .Denot) (a : U .row .Denot) (g : G .row .Denot) → gives₁ request a → gives₂ settings nets number clock links stand octets a run g → ent 𝓤 (emp 𝓤) (asks₃ g settings nets stand number request))
-      (ok₄ : (settings : S .S .D) (nets : Nets .S .D) (number : N .row .Denot) (clock : C .S .D) (links : L .S .D) (stand : F .S .D) (octets : List (ℕ)) (run : List (E .S .D)) (request : I .row .Denot) (a : U .row .Denot) (g : G .row .Denot) (z : Z .row .Denot) → gives₁ request a → gives₂ settings nets number clock links stand octets a run g → gives₃ g settings nets stand number request z → ent 𝓤 (emp 𝓤) (asks₄ run z))
-      (ok₅ : (settings : S .S .D) (nets : Nets .S .D) (number : N .row .Denot) (clock : C .S .D) (links : L .S .D) (stand : F .S .D) (octets : List (ℕ)) (run : List (E .S .D)) (request : I .row .Denot) (a : U .row .Denot) (g : G .row .Denot) (z : Z .row .Denot) (e : Q .row .Denot) → gives₁ request a → gives₂ settings nets number clock links stand octets a run g → gives₃ g settings nets stand number request z → gives₄ run z e → ent 𝓤 (emp 𝓤) (asks₅ g settings nets clock links stand octets e request))
-      (ok₆ : (settings : S .S .D) (nets : Nets .S .D) (number : N .row .Denot) (clock : C .S .D) (links : L .S .D) (stand : F .S .D) (octets : List (ℕ)) (run : List (E .S .D)) (request : I .row .Denot) (a : U .row .Denot) (g : G .row .Denot) (z : Z .row .Denot) (e : Q .row .Denot) (p : XP .row .Denot) → gives₁ request a → gives₂ settings nets number clock links stand octets a run g → gives₃ g settings nets stand number request z → gives₄ run z e → gives₅ g settings nets clock links stand octets e request p → ent 𝓤 (emp 𝓤) (asks₆ number (J .res (P .form .read p .1 .1 .1 .1 .0))))
-      (ok₇ : (settings : S .S .D) (nets : Nets .S .D) (number : N .row .Denot) (clock : C .S .D) (links : L .S .D) (stand : F .S .D) (octets : List (ℕ)) (run : List (E .S .D)) (request : I .row .Denot) (a : U .row .Denot) (g : G .row .Denot) (z : Z .row .Denot) (e : Q .row .Denot) (p : XP .row .Denot) (w : X .row .Denot) → gives₁ request a → gives₂ settings nets number clock links stand octets a run g → gives₃ g settings nets stand number request z → gives₄ run z e → gives₅ g settings nets clock links stand octets e request p → gives₆ number (J .res (P .form .read p .1 .1 .1 .1 .0)) w → ent 𝓤 (emp 𝓤) (asks₇ run w))
-      (then : (settings : S .S .D) (nets : Nets .S .D) (number : N .row .Denot) (clock : C .S .D) (links : L .S .D) (stand : F .S .D) (octets : List (ℕ)) (run : List (E .S .D)) (request : I .row .Denot) (a : U .row .Denot) (g : G .row .Denot) (z : Z .row .Denot) (e : Q .row .Denot) (p : XP .row .Denot) (w : X .row .Denot) (run′ : List (E .S .D)) → gives₁ request a → gives₂ settings nets number clock links stand octets a run g → gives₃ g settings nets stand number request z → gives₄ run z e → gives₅ g settings nets clock links stand octets e request p → gives₆ number (J .res (P .form .read p .1 .1 .1 .1 .0)) w → gives₇ run w run′ → Says settings nets number clock links stand octets run request ((struct-part C) .res (P .form .read p .1 .0)) ((struct-part L) .res (P .form .read p .1 .1 .0)) ((struct-part F) .res (P .form .read p .1 .1 .1 .0)) run′ (K .res (P .form .read p .0)))
+  module _ {M : Type 1} (𝓤 : URA M) (H : Heap 𝓤) (𝓜 : Model 𝓤 H) (𝓖 : GhostRules 𝓤 H) (𝓡 : Running 𝓤 H 𝓜) (asks₁ : Asking form₁ 𝓤) (gives₁ : Giving form₁) (asks₂ : Asking form₂ 𝓤) (gives₂ : Giving form₂) (asks₃ : Asking form₃ 𝓤) (gives₃ : Giving form₃) (asks₄ : Asking form₄ 𝓤) (gives₄ : Giving form₄) (asks₅ : Asking form₅ 𝓤) (gives₅ : Giving form₅) (asks₆ : Asking form₆ 𝓤) (gives₆ : Giving form₆) (asks₇ : Asking form₇ 𝓤) (gives₇ : Giving form₇) (Says : Saying form₀)
+      (ok₁ : Each (takes form₀) (λ settings nets number clock links stand octets run request. ent 𝓤 (emp 𝓤) (asks₁ request)))
+      (ok₂ : Each (takes form₀) (λ settings nets number clock links stand octets run request. (a : U .row .Denot) → gives₁ request a → ent 𝓤 (emp 𝓤) (asks₂ settings nets number clock links stand octets a run)))
+      (ok₃ : Each (takes form₀) (λ settings nets number clock links stand octets run request. (a : U .row .Denot) (g : G .row .Denot) → gives₁ request a → gives₂ settings nets number clock links stand octets a run g → ent 𝓤 (emp 𝓤) (asks₃ g settings nets stand number request)))
+      (ok₄ : Each (takes form₀) (λ settings nets number clock links stand octets run request. (a : U .row .Denot) (g : G .row .Denot) (z : Z .row .Denot) → gives₁ request a → gives₂ settings nets number clock links stand octets a run g → gives₃ g settings nets stand number request z → ent 𝓤 (emp 𝓤) (asks₄ run z)))
+      (ok₅ : Each (takes form₀) (λ settings nets number clock links stand octets run request. (a : U .row .Denot) (g : G .row .Denot) (z : Z .row .Denot) (e : Q .row .Denot) → gives₁ request a → gives₂ settings nets number clock links stand octets a run g → gives₃ g settings nets stand number request z → gives₄ run z e → ent 𝓤 (emp 𝓤) (asks₅ g settings nets clock links stand octets e request)))
+      (ok₆ : Each (takes form₀) (λ settings nets number clock links stand octets run request. (a : U .row .Denot) (g : G .row .Denot) (z : Z .row .Denot) (e : Q .row .Denot) (p : (by-value (whole P)) .row .Denot) → gives₁ request a → gives₂ settings nets number clock links stand octets a run g → gives₃ g settings nets stand number request z → gives₄ run z e → gives₅ g settings nets clock links stand octets e request p → ent 𝓤 (emp 𝓤) (asks₆ number (J .res (P .form .read p .1 .1 .1 .1 .0)))))
+      (ok₇ : Each (takes form₀) (λ settings nets number clock links stand octets run request. (a : U .row .Denot) (g : G .row .Denot) (z : Z .row .Denot) (e : Q .row .Denot) (p : (by-value (whole P)) .row .Denot) (w : X .row .Denot) → gives₁ request a → gives₂ settings nets number clock links stand octets a run g → gives₃ g settings nets stand number request z → gives₄ run z e → gives₅ g settings nets clock links stand octets e request p → gives₆ number (J .res (P .form .read p .1 .1 .1 .1 .0)) w → ent 𝓤 (emp 𝓤) (asks₇ run w)))
+      (then : Each (takes form₀) (λ settings nets number clock links stand octets run request. (a : U .row .Denot) (g : G .row .Denot) (z : Z .row .Denot) (e : Q .row .Denot) (p : (by-value (whole P)) .row .Denot) (w : X .row .Denot) (run′ : List (E .S .D)) → gives₁ request a → gives₂ settings nets number clock links stand octets a run g → gives₃ g settings nets stand number request z → gives₄ run z e → gives₅ g settings nets clock links stand octets e request p → gives₆ number (J .res (P .form .read p .1 .1 .1 .1 .0)) w → gives₇ run w run′ → Says settings nets number clock links stand octets run request ((struct-part C) .res (P .form .read p .1 .0)) ((struct-part L) .res (P .form .read p .1 .1 .0)) ((struct-part F) .res (P .form .read p .1 .1 .1 .0)) run′ (K .res (P .form .read p .0))))
       (γ : Env) (f g₁ g₂ g₃ g₄ g₅ g₆ g₇ : Name) (r₁ r₂ r₃ r₄ r₅ r₆ r₇ : Routine) where
-    abbrev Clauses′ : Clauses 𝓤 ended
-    Clauses′ = clauses 𝓤 H (𝓖 .A) asks₁ gives₁ asks₂ gives₂ asks₃ gives₃ asks₄ gives₄ asks₅ gives₅ asks₆ gives₆ asks₇ gives₇ Says
+    abbrev job : Job 𝓤
+    job = record { code = code g₁ g₂ g₃ g₄ g₅ g₆ g₇; itself = function 𝓤 form₀ Says; calls = (g₁, r₁, callee 𝓤 form₁ asks₁ gives₁) ∷ (g₂, r₂, callee 𝓤 form₂ asks₂ gives₂) ∷ (g₃, r₃, callee 𝓤 form₃ asks₃ gives₃) ∷ (g₄, r₄, callee 𝓤 form₄ asks₄ gives₄) ∷ (g₅, r₅, callee 𝓤 form₅ asks₅ gives₅) ∷ (g₆, r₆, callee 𝓤 form₆ asks₆ gives₆) ∷ (g₇, r₇, callee 𝓤 form₇ asks₇ gives₇) ∷ [] }
 
-    meets : (W : Given 𝓤 H (𝓖 .A)) (𝓣 : Tables 𝓤 H) → Triple 𝓤 (𝓣 .C g₁) (Contract₁ 𝓤 H (𝓖 .A) asks₁ gives₁ asks₂ gives₂ asks₃ gives₃ asks₄ gives₄ asks₅ gives₅ asks₆ gives₆ asks₇ gives₇ Says) → Triple 𝓤 (𝓣 .C g₂) (Contract₂ 𝓤 H (𝓖 .A) asks₁ gives₁ asks₂ gives₂ asks₃ gives₃ asks₄ gives₄ asks₅ gives₅ asks₆ gives₆ asks₇ gives₇ Says) → Triple 𝓤 (𝓣 .C g₃) (Contract₃ 𝓤 H (𝓖 .A) asks₁ gives₁ asks₂ gives₂ asks₃ gives₃ asks₄ gives₄ asks₅ gives₅ asks₆ gives₆ asks₇ gives₇ Says) → Triple 𝓤 (𝓣 .C g₄) (Contract₄ 𝓤 H (𝓖 .A) asks₁ gives₁ asks₂ gives₂ asks₃ gives₃ asks₄ gives₄ asks₅ gives₅ asks₆ gives₆ asks₇ gives₇ Says) → Triple 𝓤 (𝓣 .C g₅) (Contract₅ 𝓤 H (𝓖 .A) asks₁ gives₁ asks₂ gives₂ asks₃ gives₃ asks₄ gives₄ asks₅ gives₅ asks₆ gives₆ asks₇ gives₇ Says) → Triple 𝓤 (𝓣 .C g₆) (Contract₆ 𝓤 H (𝓖 .A) asks₁ gives₁ asks₂ gives₂ asks₃ gives₃ asks₄ gives₄ asks₅ gives₅ asks₆ gives₆ asks₇ gives₇ Says) → Triple 𝓤 (𝓣 .C g₇) (Contract₇ 𝓤 H (𝓖 .A) asks₁ gives₁ asks₂ gives₂ asks₃ gives₃ asks₄ gives₄ asks₅ gives₅ asks₆ gives₆ asks₇ gives₇ Says) → Meets 𝓤 H (𝓖 .A) signature (WpFn 𝓤 H (𝓣 .C) (𝓣 .Λ) (function g₁ g₂ g₃ g₄ g₅ g₆ g₇)) (closing 𝓤 H (𝓖 .A) ended Clauses′)
-    meets W 𝓣 known₁ known₂ known₃ known₄ known₅ known₆ known₇ =
-        walk-meets 𝓤 H (𝓖 .A) ended stayed W
-        (goes-dropped 𝓤 H (𝓖 .A) W 7 (shrRefTo (0 ∷ []) tt (plain (λ _. RS))) yes (λ κs x f. refl), (goes-dropped 𝓤 H (𝓖 .A) W 7 (shrRefTo (1 ∷ []) tt (plain (λ _. RNets))) yes (λ κs x f. refl), (goes-dropped 𝓤 H (𝓖 .A) W 7 (plain (λ _. N .row)) yes (λ κs. N .silent), (goes-ref 𝓤 H (𝓖 .A) W 7 2 tt (plain (λ _. RC)), (goes-ref 𝓤 H (𝓖 .A) W 7 3 tt (plain (λ _. RL)), (goes-ref 𝓤 H (𝓖 .A) W 7 4 tt (plain (λ _. RF)), (goes-dropped 𝓤 H (𝓖 .A) W 7 (shrSliceOf (5 ∷ []) tt (plain (λ _. u8))) yes (λ κs x f. refl), (goes-gave-slice 𝓤 H (𝓖 .A) W 7 6 tt (plain (λ _. RE)), (goes-dropped 𝓤 H (𝓖 .A) W 7 (plain (λ _. I .row)) yes (λ κs. I .silent), tt)))))))))
-        Clauses′ (WpFn 𝓤 H (𝓣 .C) (𝓣 .Λ) (function g₁ g₂ g₃ g₄ g₅ g₆ g₇)) (WpFn-mono 𝓤 H (W .laws) 𝓣 (function g₁ g₂ g₃ g₄ g₅ g₆ g₇))
-        (walked 𝓤 H (𝓖 .A) ended stayed Clauses′ (WpFn 𝓤 H (𝓣 .C) (𝓣 .Λ) (function g₁ g₂ g₃ g₄ g₅ g₆ g₇)) (λ κs. (ptr-vals, (ptr-vals, ((λ m. N .val m ∷ []), (ptr-vals, (ptr-vals, (ptr-vals, (slice-vals, (slice-vals, ((λ m. I .val m ∷ []), tt))))))))))
-        (λ κs. (shr-tells (named 0) (κs .0) RS, (shr-tells (named 1) (κs .1 .0) RNets, (N .tells, (mut-tells (named 2) (κs .1 .1 .0) RC, (mut-tells (named 3) (κs .1 .1 .1 .0) RL, (mut-tells (named 4) (κs .1 .1 .1 .1 .0) RF, (shr-slice-tells (named 5) (κs .1 .1 .1 .1 .1 .0) u8, (mut-slice-tells (named 6) (κs .1 .1 .1 .1 .1 .1 .0) RE, (I .tells, tt))))))))))
-        (λ κs qs bounds a _ are. walk 𝓤 H (𝓖 .A) asks₁ gives₁ asks₂ gives₂ asks₃ gives₃ asks₄ gives₄ asks₅ gives₅ asks₆ gives₆ asks₇ gives₇ Says W ok₁ ok₂ ok₃ ok₄ ok₅ ok₆ ok₇ then
-        (κs .0) (κs .1 .0) (κs .1 .1 .0) (κs .1 .1 .1 .0) (κs .1 .1 .1 .1 .0) (κs .1 .1 .1 .1 .1 .0) (κs .1 .1 .1 .1 .1 .1 .0) (qs .0) (qs .1 .0) (qs .1 .1 .0) (qs .1 .1 .1 .0) (qs .1 .1 .1 .1 .0) (qs .1 .1 .1 .1 .1 .0) (qs .1 .1 .1 .1 .1 .1 .0) (a .0 .ptr .0) (a .0 .ptr .1) (a .1 .0 .ptr .0) (a .1 .0 .ptr .1) (a .1 .1 .1 .0 .ptr .0) (a .1 .1 .1 .0 .ptr .1) (a .1 .1 .1 .1 .0 .ptr .0) (a .1 .1 .1 .1 .0 .ptr .1) (a .1 .1 .1 .1 .1 .0 .ptr .0) (a .1 .1 .1 .1 .1 .0 .ptr .1) (a .1 .1 .1 .1 .1 .1 .0 .ptr .0) (a .1 .1 .1 .1 .1 .1 .0 .ptr .1) (a .1 .1 .1 .1 .1 .1 .1 .0 .ptr .0) (a .1 .1 .1 .1 .1 .1 .1 .0 .ptr .1) (a .0 .name) (a .1 .0 .name) (a .1 .1 .1 .0 .name) (a .1 .1 .1 .1 .0 .name) (a .1 .1 .1 .1 .1 .0 .name) (a .1 .1 .1 .1 .1 .1 .0 .name) (a .1 .1 .1 .1 .1 .1 .1 .0 .name) (a .0 .now) (a .1 .0 .now) (a .1 .1 .0) (a .1 .1 .1 .0 .now) (a .1 .1 .1 .1 .0 .now) (a .1 .1 .1 .1 .1 .0 .now) (a .1 .1 .1 .1 .1 .1 .0 .now) (a .1 .1 .1 .1 .1 .1 .1 .0 .now) (a .1 .1 .1 .1 .1 .1 .1 .1 .0) (are .1 .1 .0) (are .1 .1 .1 .1 .1 .1 .1 .1 .0) (are .1 .1 .1 .1 .1 .1 .0 .0 .1) (are .1 .1 .1 .1 .1 .1 .1 .0 .0 .1)
-        (𝓣 .C) (𝓣 .Λ) g₁ g₂ g₃ g₄ g₅ g₆ g₇ (fmOf 𝓤 H (W .laws) 𝓣) known₁ known₂ known₃ known₄ known₅ known₆ known₇))
-
-    pub proof : γ g₁ ≡ r₁ → γ g₂ ≡ r₂ → γ g₃ ≡ r₃ → γ g₄ ≡ r₄ → γ g₅ ≡ r₅ → γ g₆ ≡ r₆ → γ g₇ ≡ r₇ → Closed 𝓤 H (tables 𝓤 H 𝓜 𝓡 γ .C) (tables 𝓤 H 𝓜 𝓡 γ .Λ) f (function g₁ g₂ g₃ g₄ g₅ g₆ g₇) → Triple 𝓤 (𝓡 .run r₁) (Contract₁ 𝓤 H (𝓖 .A) asks₁ gives₁ asks₂ gives₂ asks₃ gives₃ asks₄ gives₄ asks₅ gives₅ asks₆ gives₆ asks₇ gives₇ Says) → Triple 𝓤 (𝓡 .run r₂) (Contract₂ 𝓤 H (𝓖 .A) asks₁ gives₁ asks₂ gives₂ asks₃ gives₃ asks₄ gives₄ asks₅ gives₅ asks₆ gives₆ asks₇ gives₇ Says) → Triple 𝓤 (𝓡 .run r₃) (Contract₃ 𝓤 H (𝓖 .A) asks₁ gives₁ asks₂ gives₂ asks₃ gives₃ asks₄ gives₄ asks₅ gives₅ asks₆ gives₆ asks₇ gives₇ Says) → Triple 𝓤 (𝓡 .run r₄) (Contract₄ 𝓤 H (𝓖 .A) asks₁ gives₁ asks₂ gives₂ asks₃ gives₃ asks₄ gives₄ asks₅ gives₅ asks₆ gives₆ asks₇ gives₇ Says) → Triple 𝓤 (𝓡 .run r₅) (Contract₅ 𝓤 H (𝓖 .A) asks₁ gives₁ asks₂ gives₂ asks₃ gives₃ asks₄ gives₄ asks₅ gives₅ asks₆ gives₆ asks₇ gives₇ Says) → Triple 𝓤 (𝓡 .run r₆) (Contract₆ 𝓤 H (𝓖 .A) asks₁ gives₁ asks₂ gives₂ asks₃ gives₃ asks₄ gives₄ asks₅ gives₅ asks₆ gives₆ asks₇ gives₇ Says) → Triple 𝓤 (𝓡 .run r₇) (Contract₇ 𝓤 H (𝓖 .A) asks₁ gives₁ asks₂ gives₂ asks₃ gives₃ asks₄ gives₄ asks₅ gives₅ asks₆ gives₆ asks₇ gives₇ Says)
-        → Meets 𝓤 H (𝓖 .A) signature (𝓡 .run (γ f)) (closing 𝓤 H (𝓖 .A) ended Clauses′)
-    unfolding tablesOf
-    proof calls₁ calls₂ calls₃ calls₄ calls₅ calls₆ calls₇ closed known₁ known₂ known₃ known₄ known₅ known₆ known₇ =
-        entered 𝓤 H (tripleOf 𝓤 H (𝓖 .A) signature (closing 𝓤 H (𝓖 .A) ended Clauses′)) (tables 𝓤 H 𝓜 𝓡 γ .C) (tables 𝓤 H 𝓜 𝓡 γ .Λ) f (function g₁ g₂ g₃ g₄ g₅ g₆ g₇) closed
-        (meets (givenOf 𝓤 H 𝓜 𝓖) (tablesOf 𝓤 H 𝓜 (tables 𝓤 H 𝓜 𝓡 γ))
-        (cited 𝓤 H (Contract₁ 𝓤 H (𝓖 .A) asks₁ gives₁ asks₂ gives₂ asks₃ gives₃ asks₄ gives₄ asks₅ gives₅ asks₆ gives₆ asks₇ gives₇ Says) 𝓜 𝓡 γ g₁ r₁ calls₁ known₁)
-        (cited 𝓤 H (Contract₂ 𝓤 H (𝓖 .A) asks₁ gives₁ asks₂ gives₂ asks₃ gives₃ asks₄ gives₄ asks₅ gives₅ asks₆ gives₆ asks₇ gives₇ Says) 𝓜 𝓡 γ g₂ r₂ calls₂ known₂)
-        (cited 𝓤 H (Contract₃ 𝓤 H (𝓖 .A) asks₁ gives₁ asks₂ gives₂ asks₃ gives₃ asks₄ gives₄ asks₅ gives₅ asks₆ gives₆ asks₇ gives₇ Says) 𝓜 𝓡 γ g₃ r₃ calls₃ known₃)
-        (cited 𝓤 H (Contract₄ 𝓤 H (𝓖 .A) asks₁ gives₁ asks₂ gives₂ asks₃ gives₃ asks₄ gives₄ asks₅ gives₅ asks₆ gives₆ asks₇ gives₇ Says) 𝓜 𝓡 γ g₄ r₄ calls₄ known₄)
-        (cited 𝓤 H (Contract₅ 𝓤 H (𝓖 .A) asks₁ gives₁ asks₂ gives₂ asks₃ gives₃ asks₄ gives₄ asks₅ gives₅ asks₆ gives₆ asks₇ gives₇ Says) 𝓜 𝓡 γ g₅ r₅ calls₅ known₅)
-        (cited 𝓤 H (Contract₆ 𝓤 H (𝓖 .A) asks₁ gives₁ asks₂ gives₂ asks₃ gives₃ asks₄ gives₄ asks₅ gives₅ asks₆ gives₆ asks₇ gives₇ Says) 𝓜 𝓡 γ g₆ r₆ calls₆ known₆)
-        (cited 𝓤 H (Contract₇ 𝓤 H (𝓖 .A) asks₁ gives₁ asks₂ gives₂ asks₃ gives₃ asks₄ gives₄ asks₅ gives₅ asks₆ gives₆ asks₇ gives₇ Says) 𝓜 𝓡 γ g₇ r₇ calls₇ known₇))
+    pub proof : Proven 𝓤 H 𝓜 𝓖 𝓡 γ f job
+    proof = lawful 𝓤 H 𝓜 𝓖 𝓡 γ f job _ refl (λ W T Λ fm (known₁, (known₂, (known₃, (known₄, (known₅, (known₆, (known₇, _))))))) κs qs (settings, (nets, (number, (clock, (links, (stand, (octets, (run, (request, _))))))))) (_, (_, (is-number, (_, (_, (_, (is-octets, (is-run, (is-request, _))))))))) β Kf done.
+        copies ! 0 refl tt tt refl (λ is-s.
+        copies ! 1 refl tt tt refl (λ is-t.
+        copies-mut ! 2 refl tt tt refl (λ is-c.
+        copies-mut ! 3 refl tt tt refl (λ is-l.
+        copies-mut ! 4 refl tt tt refl (λ is-v.
+        calls ! fm (callee 𝓤 form₁ asks₁ gives₁) known₁ (val ! tt refl is-request (nothing-more !)) (ok₁ (settings .now) (nets .now) number (clock .now) (links .now) (stand .now) (octets .now) (run .now) request) tt refl (λ a ws₁ φ₁ is-a.
+        slices ! refl tt tt tt refl (is-run .0) (
+        lends ! 6 refl (λ α₂ δ₂.
+        calls ! fm (callee 𝓤 form₂ asks₂ gives₂) known₂ (share ! 0 tt refl (share ! 0 tt refl (val ! tt refl is-number (val ! tt refl is-c (val ! tt refl is-l (val ! tt refl is-v (shares ! 3 tt refl (val ! tt refl is-a (shares ! 3 tt refl (nothing-more !)))))))))) (ok₂ (settings .now) (nets .now) number (clock .now) (links .now) (stand .now) (octets .now) (run .now) request a φ₁) tt refl (λ g ws₂ φ₂ is-g.
+        back ! 6 refl refl (
+        calls ! fm (callee 𝓤 form₃ asks₃ gives₃) known₃ (val ! tt refl is-g (val ! tt refl is-s (val ! tt refl is-t (val ! tt refl is-v (val ! tt refl is-number (val ! tt refl is-request (nothing-more !))))))) (ok₃ (settings .now) (nets .now) number (clock .now) (links .now) (stand .now) (octets .now) (run .now) request a g φ₁ φ₂) tt refl (λ z ws₃ φ₃ is-z.
+        slices ! refl tt tt tt refl (is-run .0) (
+        lends ! 6 refl (λ α₄ δ₄.
+        calls ! fm (callee 𝓤 form₄ asks₄ gives₄) known₄ (shares ! 6 tt refl (val ! tt refl is-z (nothing-more !))) (ok₄ (settings .now) (nets .now) number (clock .now) (links .now) (stand .now) (octets .now) (run .now) request a g z φ₁ φ₂ φ₃) tt refl (λ e ws₄ φ₄ is-e.
+        back ! 6 refl refl (
+        calls ! fm (callee 𝓤 form₅ asks₅ gives₅) known₅ (val ! tt refl is-g (val ! tt refl is-s (val ! tt refl is-t (val ! tt refl is-c (val ! tt refl is-l (val ! tt refl is-v (shares ! 5 tt refl (val ! tt refl is-e (val ! tt refl is-request (nothing-more !)))))))))) (ok₅ (settings .now) (nets .now) number (clock .now) (links .now) (stand .now) (octets .now) (run .now) request a g z e φ₁ φ₂ φ₃ φ₄) tt refl (λ p ws₅ φ₅ is-p.
+        calls ! fm (callee 𝓤 form₆ asks₆ gives₆) known₆ (val ! tt refl is-number (value ! (part ! tt refl refl) (is-part J (P .form .read p .1 .1 .1 .1 .0) (owed-of P is-p .1 .1 .1 .1 .0)) (nothing-more !))) (ok₆ (settings .now) (nets .now) number (clock .now) (links .now) (stand .now) (octets .now) (run .now) request a g z e p φ₁ φ₂ φ₃ φ₄ φ₅) tt refl (λ w ws₆ φ₆ is-w.
+        slices ! refl tt tt tt refl (is-run .0) (
+        calls ! fm (callee 𝓤 form₇ asks₇ gives₇) known₇ (gives ! 6 tt refl (val ! tt refl is-w (nothing-more !))) (ok₇ (settings .now) (nets .now) number (clock .now) (links .now) (stand .now) (octets .now) (run .now) request a g z e p w φ₁ φ₂ φ₃ φ₄ φ₅ φ₆) tt refl (λ u₇ ws₇ φ₇ is-u₇.
+        stores ! 2 refl tt (part ! tt refl refl) (is-part (struct-part C) (P .form .read p .1 .0) (owed-of P is-p .1 .0)) (
+        stores ! 3 refl tt (part ! tt refl refl) (is-part (struct-part L) (P .form .read p .1 .1 .0) (owed-of P is-p .1 .1 .0)) (
+        stores ! 4 refl tt (part ! tt refl refl) (is-part (struct-part F) (P .form .read p .1 .1 .1 .0) (owed-of P is-p .1 .1 .1 .0)) (
+        sets ! (part ! tt refl refl) tt (typed-of W (is-part K (P .form .read p .0) (owed-of P is-p .0))) (
+        finish ! done tt refl (is-part K (P .form .read p .0) (owed-of P is-p .0)) (stays ∷ stays ∷ stays ∷ goes ∷ []) _ _ refl (then (settings .now) (nets .now) number (clock .now) (links .now) (stand .now) (octets .now) (run .now) request a g z e p w (ws₇ .0) φ₁ φ₂ φ₃ φ₄ φ₅ φ₆ φ₇)))))))))))))))))))))))))
