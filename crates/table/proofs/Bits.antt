@@ -11,7 +11,7 @@ use lib.ListN.{length, getD, List·getD-eq-default}
 use Rattle.table.specs.declared.marks.Marks.{Marks}
 use Rattle.table.specs.Forms.{every, upFrom}
 use Rattle.table.specs.Marks.{bit, mark, noneFrom}
-use Rattle.table.specs.code.Words.{zeroFrom}
+use Rattle.table.specs.code.Words.{wordOf, zeroFrom}
 
 -- ---- a test of numbers in a row
 
@@ -122,12 +122,14 @@ in-words : (ws : List ℕ) (n : ℕ) → every (unmarked ws) (upFrom n (64 * len
 in-words [] n = let z : 64 * 0 - n ≡ 0 = omega arith in rw (z) refl
 in-words (w ∷ ws) n = word-more w ws (in-words ws) n (ltb n 64) refl
 
--- an id that has no bit
-pub no-mark : (m : Marks) (id : ℕ) → length (m .words) ≡ 4 → 256 ≤ id → 0 ≡ mark m id
-unfolding mark
-no-mark m id four h =
+-- the word of an id, and one that has none
+pub word-at : (m : Marks) (id k : ℕ) → 64 * k ≤ id → id < 64 * k + 64 → getD (m .words) k 0 ≡ wordOf m id
+word-at m id k low high = let is : id / 64 ≡ k = omega (arith, low, high) in rw (is) refl
+
+pub no-word : (m : Marks) (id : ℕ) → length (m .words) ≡ 4 → 256 ≤ id → 0 ≡ wordOf m id
+no-word m id four h =
     let past : length (m .words) ≤ id / 64 = omega (arith, four, h) in
-    rw (List·getD-eq-default (m .words) 0 past) (sym (ap (λ (x : ℕ). x % 2) (zero-div (2 ^ (id % 64)))))
+    sym (List·getD-eq-default (m .words) 0 past)
 
 -- the four words of the marks
 four-zeros : (ws : List ℕ) (n : ℕ) → length ws ≡ 4
@@ -164,11 +166,3 @@ first-word-alone m n four one two three =
     sym
     (rw (one, two, three, zero-word (upFrom (n - 64) (64 - (n - 64))), zero-word (upFrom (n - 128) (64 - (n - 128))), zero-word (upFrom (n - 192) (64 - (n - 192))), and-true (zeroFrom (getD (m .words) 0 0) n), and-true (zeroFrom (getD (m .words) 0 0) n), and-true (zeroFrom (getD (m .words) 0 0) n)) at
     (sym (four-words m n four)))
-
--- an id of the first word
-pub first-mark : (m : Marks) (id : ℕ) → id < 64 → getD (m .words) 0 0 / 2 ^ id % 2 ≡ mark m id
-unfolding mark
-first-mark m id h =
-    let z : id / 64 ≡ 0 = omega (arith, h) in
-    let k : id % 64 ≡ id = omega (arith, h) in
-    rw (z, k) refl

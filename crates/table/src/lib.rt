@@ -97,23 +97,37 @@ fn with_mark(e: Entry, here: u8) -> Entry
     x
 }
 
-// The entry with another TTL.
+// The entry with another TTL. This and each of the rest make an entry of its fields: one that is moved whole and changed in a place goes through memory.
 fn with_ttl(e: Entry, ttl: Seconds) -> Entry
     ensures { λ r. ⌜ r ≡ withTtl ttl e ⌝ }
 {
-    let mut x = e;
-    x.ttl = ttl;
-    x
+    let delay = e.delay;
+    let offset = e.offset;
+    let time = e.time;
+    Entry {
+        delay: delay,
+        offset: offset,
+        ttl: ttl,
+        pid: e.pid,
+        here: e.here,
+        time: time,
+    }
 }
 
 // The entry with its host taken down.
 fn taken_down(e: Entry) -> Entry
     ensures { λ r. ⌜ r ≡ takenDown e ⌝ }
 {
-    let mut x = with_ttl(e, HOLD_DOWN);
-    let delay = MAX_DELAY;
-    x.delay = delay;
-    x
+    let offset = e.offset;
+    let time = e.time;
+    Entry {
+        delay: MAX_DELAY,
+        offset: offset,
+        ttl: HOLD_DOWN,
+        pid: e.pid,
+        here: e.here,
+        time: time,
+    }
 }
 
 // The entry a second later.
@@ -227,12 +241,14 @@ pub fn line_c(u: Update, e: Entry) -> Line
     let delay = u.delay;
     let offset = u.offset;
     let reading = u.reading;
-    let mut x = with_ttl(e, HOLD_DOWN);
-    x.delay = delay;
-    x.offset = offset;
-    x.pid = u.pid;
-    x.time = reading;
-    Line::On(x)
+    Line::On(Entry {
+        delay: delay,
+        offset: offset,
+        ttl: HOLD_DOWN,
+        pid: u.pid,
+        here: e.here,
+        time: reading,
+    })
 }
 
 // Lines (a) to (c).
@@ -263,9 +279,15 @@ fn date_taken(date: Date, c: Clock) -> Clock
     if awaited {
         return c;
     }
-    let mut x = c;
-    x.date = date;
-    x
+    let clock = c.clock;
+    let delta = c.delta;
+    let hold = c.hold;
+    Clock {
+        clock: clock,
+        delta: delta,
+        hold: hold,
+        date: date,
+    }
 }
 
 // Line (d), for the clock host: the packet's date is taken, and the clock is set by OFFSET.

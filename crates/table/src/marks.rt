@@ -2,7 +2,7 @@
 ghost use mathlib.Core.Path.{_≡_};
 ghost use Prim.Native.Nat.{_-_};
 ghost use Rattle.table.specs.Marks.{noMarks, mark, noneFrom};
-ghost use Rattle.table.specs.code.Words.{zeroFrom};
+ghost use Rattle.table.specs.code.Words.{wordOf, zeroFrom};
 
 // The marks of the ids from 0 to 255: that of an id is bit id % 64 of word id / 64, the lowest bit first.
 #[repr(C)]
@@ -16,20 +16,31 @@ pub fn none() -> Marks
     Marks { words: [0; 4] }
 }
 
-// The mark of an id, 1 or 0. The ids of the first word are apart: a word that is taken by its number has all words copied first.
+// The word with an id's mark, or 0 where there is none. Each word is named: one that is taken by a number worked out has all words copied first.
+fn word_of(m: Marks, id: usize) -> u64
+    ensures { λ r. ⌜ r ≡ wordOf m id ⌝ }
+{
+    let words = m.words;
+    if id < 64 {
+        return words[0];
+    }
+    if id < 128 {
+        return words[1];
+    }
+    if id < 192 {
+        return words[2];
+    }
+    if id < 256 {
+        return words[3];
+    }
+    0
+}
+
+// The mark of an id, 1 or 0.
 pub fn mark(m: Marks, id: usize) -> u8
     ensures { λ r. ⌜ r ≡ mark m id ⌝ }
 {
-    if id < 64 {
-        let words = m.words;
-        return ((words[0] >> id) % 2) as u8;
-    }
-    if id >= 256 {
-        return 0;
-    }
-    let words = m.words;
-    let word = words[id / 64];
-    ((word >> (id % 64)) % 2) as u8
+    ((word_of(m, id) >> (id % 64)) % 2) as u8
 }
 
 // Are the bits of a word from the n-th on zero?
@@ -68,14 +79,12 @@ pub fn none_from(m: Marks, n: usize) -> bool
     ensures { λ r. ⌜ r ≡ noneFrom m n ⌝ }
 {
     let words = m.words;
-    if words[1] != 0 {
-        return none_in_words(m, n);
+    if words[1] == 0 {
+        if words[2] == 0 {
+            if words[3] == 0 {
+                return zero_from(words[0], n);
+            }
+        }
     }
-    if words[2] != 0 {
-        return none_in_words(m, n);
-    }
-    if words[3] != 0 {
-        return none_in_words(m, n);
-    }
-    zero_from(words[0], n)
+    none_in_words(m, n)
 }

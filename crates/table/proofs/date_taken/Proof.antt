@@ -20,8 +20,9 @@ returns-2 c =
 
 returns-3 : tie.Need-returns-3
 returns-3 c =
-    let real = sym (c .before .before .before .is-real .ensures) ∙ not-false _ (c .before .if1 .left) in
-    rw (real, sym (c .before .before .awaited .ensures) ∙ c .if2 .left)
+    let at = c .before .before .before in
+    let real = sym (at .before .before .before .is-real .ensures) ∙ not-false _ (at .before .if1 .left) in
+    rw (real, sym (at .before .before .awaited .ensures) ∙ at .if2 .left)
 
 pub date-taken-spec : {M : Type 1} → statement M
 date-taken-spec =
