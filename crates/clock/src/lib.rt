@@ -367,6 +367,22 @@ impl Clock {
         self.days_on(hold_interval, n).days_back(hold_interval, n)
     }
 
+    // The clock, made anew of its fields. What a call hands back lies in memory, where a clock of the usual case must then go too; one that is so made need not.
+    fn by_fields(self) -> Clock
+        ensures { λ r. ⌜ r ≡ self ⌝ }
+    {
+        let clock = self.clock;
+        let delta = self.delta;
+        let hold = self.hold;
+        let date = self.date;
+        Clock {
+            clock: clock,
+            delta: delta,
+            hold: hold,
+            date: date,
+        }
+    }
+
     // The clock so that CLOCK plus the count lies within its day: each midnight passed moves DATE and loads HOLD. The usual case, none, is quick: the two calls are apart, so that it alone is compiled into the callers.
     fn midnight(self, hold_interval: Seconds, n: Count) -> Clock
         requires { ⌜ Near self ⌝ }
@@ -374,11 +390,11 @@ impl Clock {
     {
         if self.exceeds_day(n) {
             let c = self;
-            return c.past_midnight(hold_interval, n);
+            return c.past_midnight(hold_interval, n).by_fields();
         }
         if self.below_zero(n) {
             let c = self;
-            return c.past_midnight(hold_interval, n);
+            return c.past_midnight(hold_interval, n).by_fields();
         }
         self
     }

@@ -11,8 +11,11 @@ exceeds-day-requires c κs = search needs
 past-midnight-requires : tie.Need-past-midnight-requires
 past-midnight-requires c κs = search needs
 
+by-fields-requires : tie.Need-by-fields-requires
+by-fields-requires c κs = search needs
+
 returns : tie.Need-returns
-returns c = c .past-midnight .ensures
+returns c = rw (c .by-fields .ensures) (c .before .past-midnight .ensures)
 
 below-zero-requires : tie.Need-below-zero-requires
 below-zero-requires c κs = search needs
@@ -20,8 +23,11 @@ below-zero-requires c κs = search needs
 past-midnight-requires-2 : tie.Need-past-midnight-requires-2
 past-midnight-requires-2 c κs = search needs
 
+by-fields-requires-2 : tie.Need-by-fields-requires-2
+by-fields-requires-2 c κs = search needs
+
 returns-2 : tie.Need-returns-2
-returns-2 c = c .past-midnight2 .ensures
+returns-2 c = rw (c .by-fields2 .ensures) (c .before .past-midnight2 .ensures)
 
 returns-3 : tie.Need-returns-3
 returns-3 c =
@@ -31,4 +37,4 @@ returns-3 c =
     (sym (at-rest (s .args .hold-interval) (s .args .n) (s .args .self) not-over not-under), s .pre)
 
 pub midnight-spec : {M : Type 1} → statement M
-midnight-spec = tie.close (tie.spec exceeds-day-requires past-midnight-requires returns below-zero-requires past-midnight-requires-2 returns-2 returns-3)
+midnight-spec = tie.close (tie.spec exceeds-day-requires past-midnight-requires by-fields-requires returns below-zero-requires past-midnight-requires-2 by-fields-requires-2 returns-2 returns-3)
