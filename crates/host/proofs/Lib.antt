@@ -1,4 +1,5 @@
 pub mod Numbers
+pub mod Rules
 pub mod Places
 pub mod Guarded
 pub mod Sound

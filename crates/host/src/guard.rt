@@ -167,17 +167,24 @@ fn held(
     )
 }
 
-// 12 where something lent is out of range, 16 in a walk, then 1.
+// 12 where something lent is out of range, 16 in a walk, then 1. The settings are tested in parts, here and in `guard_afresh`: each part is small enough to be compiled into both, and their test in one, `fit`, is not.
 fn judged(s: Settings, t: ClassTable, w: Walk, scope: Scope, good: bool) -> Answer
     ensures { λ r. ⌜ r ≡ judged s t w scope good ⌝ }
 {
+    let layout = s.layout;
     if !good {
         return Answer::OutOfRange;
     }
     if in_walk(w, scope) {
         return Answer::InWalk;
     }
-    if !super::fit(t, s) {
+    if !super::numbers_good(s) {
+        return Answer::Setting;
+    }
+    if !super::marks_good(s) {
+        return Answer::Setting;
+    }
+    if layout.nhosts != t.nhosts {
         return Answer::Setting;
     }
     Answer::Done
@@ -209,6 +216,7 @@ pub fn guard(
 pub fn guard_afresh(s: Settings, t: ClassTable, number: usize, n: usize) -> Answer
     ensures { λ r. ⌜ r ≡ judgedAfresh s t number n ⌝ }
 {
+    let layout = s.layout;
     let bad = class_table::is_bad(t);
     if bad {
         return Answer::OutOfRange;
@@ -217,7 +225,13 @@ pub fn guard_afresh(s: Settings, t: ClassTable, number: usize, n: usize) -> Answ
     if missing {
         return Answer::OutOfRange;
     }
-    if !super::fit(t, s) {
+    if !super::numbers_good(s) {
+        return Answer::Setting;
+    }
+    if !super::marks_good(s) {
+        return Answer::Setting;
+    }
+    if layout.nhosts != t.nhosts {
         return Answer::Setting;
     }
     Answer::Done

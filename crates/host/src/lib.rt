@@ -18,6 +18,7 @@ ghost use Rattle.host.specs.Settings.{
   settingsFit,
 };
 ghost use Rattle.host.specs.State.{firstPlace, hostCount};
+ghost use Rattle.host.specs.code.Rules.{numbersGood, marksGood};
 use class_table::ClassTable;
 use link_state::MAX_LINKS;
 
@@ -171,31 +172,47 @@ pub fn our_reading(s: Settings, c: clock::Clock, k: clock::Counter) -> clock::Re
     c.reading(s.clock_tick, s.hold_interval, k)
 }
 
-// Are all settings within their rules?
-pub fn good(s: Settings) -> bool
-    ensures { λ r. ⌜ r ≡ settingsGood s ⌝ }
+// Are the links, the numbers, the time and the date of the settings within their rules?
+fn numbers_good(s: Settings) -> bool
+    ensures { λ r. ⌜ r ≡ numbersGood s ⌝ }
 {
     let address = s.address;
     let layout = s.layout;
     let hold_interval = s.hold_interval;
-    let clock_tick = s.clock_tick;
-    let time = s.time;
-    let date = s.date;
-    let marks = s.marks;
     let nhosts = layout.nhosts;
+    if !(from_to(1, MAX_LINKS, s.link_count) & link_state::switches_good(s)) {
+        return false;
+    }
+    if !(from_to(1, MAX_HOSTS, nhosts) & from_to(1, LAST_OCTET, address.first as usize)) {
+        return false;
+    }
+    if !(clock_host_good(s.clock_host, nhosts)
+        & from_to(1, MAX_HOLD_INTERVAL, hold_interval.0 as usize)) {
+        return false;
+    }
+    if !(clock::tick_in_range(s.clock_tick) & time_good(s.time)) {
+        return false;
+    }
+    s.date.is_real()
+}
+
+// Is there an id of our own, is it marked, and none from NHOSTS on?
+fn marks_good(s: Settings) -> bool
+    ensures { λ r. ⌜ r ≡ marksGood s ⌝ }
+{
+    let layout = s.layout;
     let own = own_id(s);
-    from_to(1, MAX_LINKS, s.link_count)
-        & link_state::switches_good(s)
-        & from_to(1, MAX_HOSTS, nhosts)
-        & from_to(1, LAST_OCTET, address.first as usize)
-        & clock_host_good(s.clock_host, nhosts)
-        & from_to(1, MAX_HOLD_INTERVAL, hold_interval.0 as usize)
-        & clock::tick_in_range(clock_tick)
-        & time_good(time)
-        & date.is_real()
-        & route::is_found(own)
-        & found_marked(marks, own)
-        & table::marks::none_from(marks, nhosts)
+    if !(route::is_found(own) & found_marked(s.marks, own)) {
+        return false;
+    }
+    table::marks::none_from(s.marks, layout.nhosts)
+}
+
+// Are all settings within their rules?
+pub fn good(s: Settings) -> bool
+    ensures { λ r. ⌜ r ≡ settingsGood s ⌝ }
+{
+    numbers_good(s) & marks_good(s)
 }
 
 // Are they, and is the class's NHOSTS theirs?
