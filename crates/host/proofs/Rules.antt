@@ -1,11 +1,15 @@
--- The two parts in which the code tests the settings are all of their rules.
+-- How the code tests the rules of the settings: two at a time, and part by part.
 use mathlib.Core.Path.{_≡_, refl}
-use mathlib.Core.Bool.{Bool, true, false, _&&_, and-assoc}
-use lib.Dec.{eqb}
+use mathlib.Core.Bool.{Bool, true, false, not, _&&_, _||_, and-assoc}
+use lib.Dec.{ltb, eqb}
+use lib.IntN.{pos}
+use Rattle.quantity.specs.Quantity.{millis, lessMillis}
+use Rattle.calendar.specs.Date.{real}
+use Rattle.clock.specs.Midnight.{dayMillis}
+use Rattle.clock.specs.Clock.{tickInRange}
 use Rattle.class_table.specs.declared.ClassTable.{ClassTable}
 use Rattle.host.specs.declared.Settings.{Settings}
-use Rattle.host.specs.Settings.{settingsGood, settingsFit}
-use Rattle.host.specs.code.Rules.{numbersGood, marksGood}
+use Rattle.host.specs.Settings.{fromTo, clockSettingOff, switchesGood, numbersGood, marksGood, settingsGood, settingsFit}
 
 -- ---- tests in a row
 
@@ -19,17 +23,25 @@ passed e f = cc
 pub failed : {a : Bool} (b : Bool) → a ≡ false → (a && b) ≡ false
 failed b e = cc
 
--- ---- the parts
+-- ---- the numbers, two at a time
 
-pub parts : (s : Settings) → (numbersGood s && marksGood s) ≡ settingsGood s
-unfolding settingsGood
-parts s = simp and-assoc
+abbrev paired : Settings → Bool
+paired s =
+    (fromTo 1 8 (s .«link_count») && switchesGood s)
+    && ((fromTo 1 255 (s .layout .nhosts) && fromTo 1 223 (s .address .first))
+    && (((eqb (s .«clock_host») clockSettingOff || ltb (s .«clock_host») (s .layout .nhosts)) && fromTo 1 255 (s .«hold_interval» .0))
+    && ((tickInRange (s .«clock_tick») && (not (lessMillis (s .time) (millis (pos 0))) && lessMillis (s .time) dayMillis))
+    && real (s .date))))
+
+pub in-pairs : (s : Settings) → paired s ≡ numbersGood s
+in-pairs s = simp and-assoc
 
 -- ---- with the class's NHOSTS
 
 module _ (t : ClassTable) (s : Settings) where
   all : (a b c : Bool) → numbersGood s ≡ a → marksGood s ≡ b → eqb (s .layout .nhosts) (t .nhosts) ≡ c → settingsFit t s ≡ (a && b && c)
-  all a b c n m h = rw (← parts s, n, m, h) refl
+  unfolding settingsGood
+  all a b c n m h = rw (n, m, h) refl
 
   pub numbers-off : numbersGood s ≡ false → settingsFit t s ≡ false
   numbers-off n = all false _ _ n refl refl

@@ -14,7 +14,7 @@ use Rattle.clock.specs.Clock.{tickInRange}
 use Rattle.route.specs.Find.{isFound}
 use Rattle.table.specs.Marks.{noneFrom}
 use Rattle.host.specs.declared.Settings.{Settings}
-use Rattle.host.specs.Settings.{fromTo, clockSettingOff, ownId, foundMarked, switchesGood, settingsGood}
+use Rattle.host.specs.Settings.{fromTo, clockSettingOff, ownId, foundMarked, switchesGood, numbersGood, marksGood, settingsGood}
 
 pub record Sound (s : Settings) : Type 0 where
   pub links-from : 1 ≤ s .«link_count»
@@ -37,6 +37,7 @@ pub record Sound (s : Settings) : Type 0 where
 pub sound : (s : Settings) → settingsGood s ≡ true → Sound s
 unfolding settingsGood
 sound s e =
+    let parts = both (numbersGood s) (marksGood s) e in
     let t =
     each (fromTo 1 8 (s .«link_count»))
     (switchesGood s
@@ -47,10 +48,8 @@ sound s e =
     ∷ tickInRange (s .«clock_tick»)
     ∷ (not (lessMillis (s .time) (millis (pos 0))) && lessMillis (s .time) dayMillis)
     ∷ real (s .date)
-    ∷ isFound (ownId s)
-    ∷ foundMarked (s .marks) (ownId s)
-    ∷ noneFrom (s .marks) (s .layout .nhosts)
-    ∷ []) e in
+    ∷ []) (parts .0) in
+    let marks = each (isFound (ownId s)) (foundMarked (s .marks) (ownId s) ∷ noneFrom (s .marks) (s .layout .nhosts) ∷ []) (parts .1) in
     let links = both (leb 1 (s .«link_count»)) (leb (s .«link_count») 8) (t .0) in
     let hosts = both (leb 1 (s .layout .nhosts)) (leb (s .layout .nhosts) 255) (t .1 .1 .0) in
     let class = both (leb 1 (s .address .first)) (leb (s .address .first) 223) (t .1 .1 .1 .0) in
@@ -69,7 +68,7 @@ sound s e =
       tick = t .1 .1 .1 .1 .1 .1 .0;
       time = t .1 .1 .1 .1 .1 .1 .1 .0;
       date = t .1 .1 .1 .1 .1 .1 .1 .1 .0;
-      own-id = t .1 .1 .1 .1 .1 .1 .1 .1 .1 .0;
-      own-marked = t .1 .1 .1 .1 .1 .1 .1 .1 .1 .1 .0;
-      marks-below = t .1 .1 .1 .1 .1 .1 .1 .1 .1 .1 .1 .0;
+      own-id = marks .0;
+      own-marked = marks .1 .0;
+      marks-below = marks .1 .1 .0;
     }

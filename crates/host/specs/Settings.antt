@@ -50,9 +50,9 @@ abbrev pub foundMarked : Marks → Found → Bool
 foundMarked m Nothing = false
 foundMarked m (Id id) = marked m id
 
--- the rules of the settings, in the papers' order; the last two: "1 also where the own id is unmarked or a mark lies at NHOSTS or above"
-unfoldable pub settingsGood : Settings → Bool
-settingsGood s =
+-- the rules of the settings, in the papers' order: the links, the numbers, the time and the date
+abbrev pub numbersGood : Settings → Bool
+numbersGood s =
     fromTo 1 8 (s .«link_count»)
     && switchesGood s
     && fromTo 1 255 (s .layout .nhosts)
@@ -62,9 +62,13 @@ settingsGood s =
     && tickInRange (s .«clock_tick»)
     && (not (lessMillis (s .time) (millis (pos 0))) && lessMillis (s .time) dayMillis)
     && real (s .date)
-    && isFound (ownId s)
-    && foundMarked (s .marks) (ownId s)
-    && noneFrom (s .marks) (s .layout .nhosts)
+
+-- an id of one's own; "1 also where the own id is unmarked or a mark lies at NHOSTS or above"
+abbrev pub marksGood : Settings → Bool
+marksGood s = isFound (ownId s) && foundMarked (s .marks) (ownId s) && noneFrom (s .marks) (s .layout .nhosts)
+
+unfoldable pub settingsGood : Settings → Bool
+settingsGood s = numbersGood s && marksGood s
 
 -- "The table holds the class's NHOSTS; a seat set with another gives 1."
 abbrev pub settingsFit : ClassTable → Settings → Bool

@@ -1,4 +1,3 @@
 pub mod Walks
 pub mod Told
 pub mod Held
-pub mod Rules

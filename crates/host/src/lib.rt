@@ -14,11 +14,12 @@ ghost use Rattle.host.specs.Settings.{
   foundFor,
   foundMarked,
   switchesGood,
+  numbersGood,
+  marksGood,
   settingsGood,
   settingsFit,
 };
 ghost use Rattle.host.specs.State.{firstPlace, hostCount};
-ghost use Rattle.host.specs.code.Rules.{numbersGood, marksGood};
 use class_table::ClassTable;
 use link_state::MAX_LINKS;
 

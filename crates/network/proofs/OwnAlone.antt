@@ -1,58 +1,51 @@
 -- Where the own id alone is marked, and entries have the settings' marks, the mark tests pass and the one entry with a mark is the own.
-use mathlib.Core.Path.{_≡_, refl, sym, ap, subst, _∙_}
-use mathlib.Core.Bool.{Bool, true, false, false≢true, cond, not, _&&_, _||_, and-true}
-use mathlib.Core.List.{List, [], _∷_, _++_, append-assoc}
+use mathlib.Core.Path.{_≡_, refl, sym, ap, _∙_}
+use mathlib.Core.Bool.{Bool, true, false, false≢true, cond, not, _&&_, and-true}
+use mathlib.Core.List.{List, [], _∷_}
 use Prim.Native.Nat.{ℕ, zero, suc, _+_, _-_, _*_, _/_, _%_, _≤_, _<_, _^_}
-use native.Mathlib.Nat.{zero-add, pow-suc, pow-succ', zero-div, div-eq-of-lt, div-div-eq-div-mul}
+use native.Mathlib.Nat.{pow-suc, pow-succ', zero-div, div-eq-of-lt, div-div-eq-div-mul}
 use native.Mathlib.Omega.{arith}
-use borrow.Author.Tests.{eqb-true, eqb-false, eq-eqb, ne-eqb, ltb-true}
-use lib.Dec.{ltb, eqb}
-use lib.IntN.{pos}
+use borrow.Author.Tests.{eqb-true, eqb-false, eq-eqb, ne-eqb}
+use lib.Dec.{eqb}
 use lib.Pow.{pow-pos}
-use lib.ListN.{length, getD, set, replicate, length-set, length-replicate}
+use lib.ListN.{length, getD, set, replicate, length-set}
 use lib.Seq.{ext-getD, getD-set-same, getD-set-other}
-use Rattle.lists.specs.Lists.{part, over}
+use Rattle.lists.specs.Lists.{over}
 use Rattle.lists.proofs.Tests as tests
 use Rattle.lists.proofs.Parts.{part-more}
 use Rattle.quantity.specs.declared.Millis.{Millis}
-use Rattle.quantity.specs.Quantity.{millis, lessMillis}
-use Rattle.calendar.specs.Date.{real}
 use Rattle.answer.specs.declared.Answer.{Answer}
-use Rattle.answer.specs.declared.Answer.the-variants.{Done, Setting, OutOfRange, InWalk}
+use Rattle.answer.specs.declared.Answer.the-variants.{Done}
 use Rattle.clock.specs.declared.Counter.{Counter}
-use Rattle.clock.specs.Midnight.{dayMillis}
-use Rattle.clock.specs.Clock.{tickInRange}
 use Rattle.route.specs.declared.Found.{Found}
 use Rattle.route.specs.declared.Found.the-variants.{Id, Nothing}
 use Rattle.route.specs.Find.{isFound}
 use Rattle.route.proofs.Ids.{local-id-below}
 use Rattle.table.specs.declared.Entry.{Entry}
-use Rattle.table.specs.declared.marks.Marks.{Marks}
-use Rattle.table.specs.declared.run.Change.the-variants.{Reported, Put}
-use Rattle.table.specs.Forms.{every, upFrom, everyFrom, mapFrom}
-use Rattle.table.specs.Marks.{onlyMark, bit, mark, marked, idsFrom, noneFrom}
+use Rattle.table.specs.declared.run.Change.the-variants.{Reported}
+use Rattle.table.specs.Forms.{every, upFrom, mapFrom}
+use Rattle.table.specs.Marks.{onlyMark, bit, mark, marked, noneFrom}
 use Rattle.table.specs.Entry.{freshEntry, livesHere, asMarked}
 use Rattle.table.specs.Update.{selfReported, reportedHere}
-use Rattle.table.specs.Runs.{changed, changes}
+use Rattle.table.specs.Runs.{changes}
 use Rattle.table.proofs.Loops.{map-length}
 use Rattle.host.specs.declared.Settings.{Settings}
 use Rattle.host.specs.declared.guard.Scope.{Scope}
 use Rattle.host.specs.declared.guard.Scope.the-variants.{Places, All, OnLink, Opening, Walking}
-use Rattle.host.specs.Settings.{fromTo, clockSettingOff, ownId, switchesGood, foundMarked, settingsGood}
+use Rattle.host.specs.Settings.{ownId, foundMarked, numbersGood, settingsGood}
 use Rattle.host.specs.State.{hostCount, withEntries}
 use Rattle.host.specs.Lent.{Lent, ourReading, entriesOf, marksAsSet, lentInRange}
-use Rattle.host.specs.Guard.{guard, inWalk, done}
+use Rattle.host.specs.Guard.{guard, done}
 use Rattle.host.specs.Effect.{each, one}
 use Rattle.host.specs.Reply.{plainly}
 use Rattle.host.specs.code.Told.{afresh}
 use Rattle.host.proofs.Places.{entries-length}
 use Rattle.host.proofs.Sound.{sound}
 use Rattle.host.proofs.Guarded.{passed}
-use Rattle.calls.specs.declared.Request.{Request}
 use Rattle.calls.specs.declared.Request.the-variants.{Initialize, Tick, Adjust, Set, Read, Second, SelfReport, Lookup, Step}
 use Rattle.calls.specs.Effects.{selfReport}
 use Rattle.calls.specs.Perform.{Call, ask, send, deliver, openWalk, Outcome, scopeOfCall, refused, carriedOut, work, perform}
-use Rattle.network.specs.OwnAlone.{isOwn, MarksOwn, settingsUnmarked, lentUnmarked, outUnmarked, guardUnmarked, ownWork, ownReport, workUnmarked, performUnmarked, OwnAlone}
+use Rattle.network.specs.OwnAlone.{isOwn, MarksOwn, settingsUnmarked, lentUnmarked, guardUnmarked, ownWork, ownReport, workUnmarked, performUnmarked, OwnAlone}
 use Rattle.network.proofs.Lists.{all-there, each-all}
 use Rattle.network.proofs.Performs.{guardOf, performs, there}
 use Rattle.network.proofs.Swept.{changes-each}
@@ -66,27 +59,11 @@ all-pass : (test : ℕ → Bool) (first n : ℕ) → ((id : ℕ) → first ≤ i
 all-pass test first zero pass = refl
 all-pass test first (suc n) pass = rw (pass first (omega arith), all-pass test (suc first) n (λ id l. pass id (omega (arith, l)))) refl
 
-own-found : (s : Settings) → settingsUnmarked s ≡ true → isFound (ownId s) ≡ true
-own-found s e =
-    let t =
-    tests.each (fromTo 1 8 (s .«link_count»))
-    (switchesGood s
-    ∷ fromTo 1 255 (s .layout .nhosts)
-    ∷ fromTo 1 223 (s .address .first)
-    ∷ (eqb (s .«clock_host») clockSettingOff || ltb (s .«clock_host») (s .layout .nhosts))
-    ∷ fromTo 1 255 (s .«hold_interval» .0)
-    ∷ tickInRange (s .«clock_tick»)
-    ∷ (not (lessMillis (s .time) (millis (pos 0))) && lessMillis (s .time) dayMillis)
-    ∷ real (s .date)
-    ∷ isFound (ownId s)
-    ∷ []) e in
-    t .1 .1 .1 .1 .1 .1 .1 .1 .1 .0
-
 module _ (s : Settings) (own : MarksOwn s) where
-  marks-pass : (f : Found) → ownId s ≡ f → isFound f ≡ true → (foundMarked (s .marks) f && noneFrom (s .marks) (s .layout .nhosts)) ≡ true
+  marks-pass : (f : Found) → ownId s ≡ f → (isFound f && foundMarked (s .marks) f && noneFrom (s .marks) (s .layout .nhosts)) ≡ isFound f
   unfolding noneFrom
-  marks-pass Nothing is found = found
-  marks-pass (Id i) is found =
+  marks-pass Nothing is = refl
+  marks-pass (Id i) is =
       let alone : (id : ℕ) → marked (s .marks) id ≡ eqb id i = λ id. own id ∙ ap (λ (f : Found). isOwn f id) is in
       let below = local-id-below (s .layout) (s .address) i is in
       let here : marked (s .marks) i ≡ true = alone i ∙ eq-eqb i i refl in
@@ -96,11 +73,7 @@ module _ (s : Settings) (own : MarksOwn s) where
 
   settings-same : settingsGood s ≡ settingsUnmarked s
   unfolding settingsGood
-  settings-same = go (settingsUnmarked s) (own-found s)
-    where
-      go : (b : Bool) → (b ≡ true → isFound (ownId s) ≡ true) → (b && foundMarked (s .marks) (ownId s) && noneFrom (s .marks) (s .layout .nhosts)) ≡ b
-      go false found = refl
-      go true found = marks-pass (ownId s) refl (found refl)
+  settings-same = ap (λ (b : Bool). numbersGood s && b) (marks-pass (ownId s) refl)
 
 -- ---- the guard
 

@@ -4,17 +4,12 @@ use mathlib.Core.Bool.{Bool, true, false, cond, not, _&&_, _||_}
 use mathlib.Core.List.{map}
 use Prim.Native.Nat.{ℕ, _<_}
 use lib.Dec.{ltb, eqb}
-use lib.IntN.{pos}
 use lib.ListN.{length}
 use Rattle.quantity.specs.declared.Millis.{Millis}
-use Rattle.quantity.specs.Quantity.{millis, lessMillis}
-use Rattle.calendar.specs.Date.{real}
 use Rattle.answer.specs.declared.Answer.{Answer}
 use Rattle.answer.specs.declared.Answer.the-variants.{Done, Setting, OutOfRange, InWalk}
 use Rattle.clock.specs.declared.Counter.{Counter}
 use Rattle.clock.specs.declared.Reading.{Reading}
-use Rattle.clock.specs.Midnight.{dayMillis}
-use Rattle.clock.specs.Clock.{tickInRange}
 use Rattle.route.specs.declared.Found.{Found}
 use Rattle.route.specs.declared.Found.the-variants.{Id, Nothing}
 use Rattle.route.specs.Find.{isFound}
@@ -30,7 +25,7 @@ use Rattle.host.specs.declared.Settings.{Settings}
 use Rattle.host.specs.declared.Effect.{Effect}
 use Rattle.host.specs.declared.guard.Scope.{Scope}
 use Rattle.host.specs.declared.guard.Scope.the-variants.{Places, All, OnLink, Opening, Walking}
-use Rattle.host.specs.Settings.{fromTo, clockSettingOff, ownId, switchesGood}
+use Rattle.host.specs.Settings.{ownId, numbersGood}
 use Rattle.host.specs.State.{noLink}
 use Rattle.host.specs.Lent.{Lent, lent, ourReading, entriesOf, hostInRange, ownWalkInRange, marksAsSet}
 use Rattle.host.specs.Guard.{noPlaces, longest, inWalk, done}
@@ -51,17 +46,7 @@ MarksOwn s = (id : ℕ) → marked (s .marks) id ≡ isOwn (ownId s) id
 -- ---- the guard without marks
 
 abbrev pub settingsUnmarked : Settings → Bool
-settingsUnmarked s =
-    fromTo 1 8 (s .«link_count»)
-    && switchesGood s
-    && fromTo 1 255 (s .layout .nhosts)
-    && fromTo 1 223 (s .address .first)
-    && (eqb (s .«clock_host») clockSettingOff || ltb (s .«clock_host») (s .layout .nhosts))
-    && fromTo 1 255 (s .«hold_interval» .0)
-    && tickInRange (s .«clock_tick»)
-    && (not (lessMillis (s .time) (millis (pos 0))) && lessMillis (s .time) dayMillis)
-    && real (s .date)
-    && isFound (ownId s)
+settingsUnmarked s = numbersGood s && isFound (ownId s)
 
 abbrev pub lentUnmarked : Lent → Bool
 lentUnmarked x = hostInRange (x .host) && ownWalkInRange x && every entryInRange (entriesOf x)

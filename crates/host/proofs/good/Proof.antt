@@ -1,7 +1,8 @@
 -- Both parts of the rules.
-use mathlib.Core.Path.{sym}
+use mathlib.Core.Path.{refl, sym}
 use borrow.Author.Needs.{needs}
-use Rattle.host.proofs.Rules.{both, parts}
+use Rattle.host.specs.Settings.{settingsGood}
+use Rattle.host.proofs.Rules.{both}
 use Rattle.host.proofs.good.Statement.{statement}
 use Rattle.host.proofs.good.Tie as tie
 
@@ -12,7 +13,8 @@ marks-good-requires : tie.Need-marks-good-requires
 marks-good-requires c κs = search needs
 
 returns : tie.Need-returns
-returns c = both (sym (c .before .numbers-good .ensures)) (sym (c .marks-good .ensures)) (parts (c .before .before .args .s))
+unfolding settingsGood
+returns c = both (sym (c .before .numbers-good .ensures)) (sym (c .marks-good .ensures)) refl
 
 pub good-spec : {M : Type 1} → statement M
 good-spec = tie.close (tie.spec numbers-good-requires marks-good-requires returns)
