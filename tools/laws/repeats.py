@@ -115,7 +115,7 @@ class Repeats(Straight):
         for k in (1, 0):
             self.step("sets ! (part ! tt refl refl) tt (typed-of W %s) (" % field[k])
         self.step("times ! 𝓣 (takes form₁) (λ z. Ending 𝓤 H (𝓖 .A) W (𝓣 .C) (𝓣 .Λ) (job .itself) κs qs %s [] z []) (After step %s) (end w) %d refl (λ k many long goal leave again." % (args, self.everything, self.at["i"]))
-        self.step("turns ! (first w) (end w) k (%s .is .1) refl tt tt tt refl (λ now." % field[1])
+        self.step("turns ! (first w) (end w) k (%s .is .1) refl tt tt tt tt refl (λ now." % field[1])
         self.walk_turn()
         self.step("(λ h. leave _ _ (sets ! (unit !) tt (tt, tt) (")
         said = "Says %s" % " ".join([self.everything] + [self.list_at(p, self.after("m", True)) for p in self.changed])
@@ -131,7 +131,7 @@ class Repeats(Straight):
         c, before = self.call, self.open
         for a in c.args:
             if a.how == "again":
-                self.step("slices ! refl tt tt tt refl (is-%s .0) (" % a.name)
+                self.step("slices ! refl tt tt tt tt refl (is-%s .0) (" % a.name)
         lent = [a for a in c.args if a.how == "again"]
         for a in lent:
             d = self.d(a.name)
@@ -147,6 +147,6 @@ class Repeats(Straight):
         left = ["(%s)" % proj("ws", c.args.index(a)) for a in lent]
         entry = [{"i": "(first w + k)", "w": "w"}.get(a.name) or (self.list_at(self.by_name[a.name], self.after("k", True)) if a.how == "again" else "(%s .now)" % a.name) for a in c.args]
         same = nest("len%s ∙ %s" % (digits(i), proj("long", i)) for i in range(len(lent)))
-        self.step("next ! (first w) k refl tt (now .2) (again (now .3) %s (steps %s φ) %s _ %d refl)" % (nest(left), " ".join(entry + left), same, self.at["i"] + 1), 0)
+        self.step("next ! (first w) k refl tt tt (now .2) (again (now .3) %s (steps %s φ) %s _ %d tt refl)" % (nest(left), " ".join(entry + left), same, self.at["i"] + 1), 0)
         self.steps[-1] += ")" * (self.open - before + 1)
         self.open = before - 1

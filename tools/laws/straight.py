@@ -365,7 +365,7 @@ class Straight(Law):
         elif a.how == "share" and not p.mut:
             return
         elif p.slice:
-            self.step("slices ! refl tt tt tt refl (is-%s .0) (" % a.name)
+            self.step("slices ! refl tt tt tt tt refl (is-%s .0) (" % a.name)
         else:
             self.step("points ! refl tt tt (tt, tt) (")
 

@@ -28,12 +28,12 @@ pub use denote.Struct.Declared.{row}
 pub use Rattle.lent.proofs.Words.{Word, Data, Part, by-value, unsigned, void, struct-part, usize-part, bool-part}
 pub use Rattle.lent.proofs.Outcomes.{Outcome, whole}
 pub use Rattle.lent.proofs.Ways.{Form, form, silent, Way, by, ref, refmut, slice, slicemut, Over, Left, Lefts}
-pub use Rattle.lent.proofs.Holds.{is-part, owed-of, is-unit, is-length, typed-of, plain, part, unit, sets, copies, copies-mut, stores}
+pub use Rattle.lent.proofs.Holds.{Known, literal, all-got, got, makes, is-part, owed-of, is-unit, is-length, typed-of, plain, part, unit, sets, copies, copies-mut, stores}
 pub use Rattle.lent.proofs.Lending.{points, slices, begins, counts, pairs, fewer, cuts, joined, recuts, rejoined, lends, back, relends, returned, learns}
 pub use Rattle.lent.proofs.Calling.{nothing-more, value, val, share, shares, give, gives, calls, calls-having}
-pub use Rattle.lent.proofs.Looping.{turns, next, times, last-turn}
+pub use Rattle.lent.proofs.Looping.{revalued, turns, next, times, last-turn}
 pub use Rattle.lent.proofs.Law.{stays, goes, Ending, finish}
-use mir.Syntax.{Ty, Local, local, valueLocal, Opd, Body, place, deref, field, copy, rvOpd, op2, offset, sub as minus, unsigned as no-sign, addrOf, aggregate, assign, call, lt, add, int, seq, block, loop, cond, skip, exit, return}
+use mir.Syntax.{Ty, Local, local, valueLocal, memorySlot, Opd, Body, place, deref, field, copy, rvOpd, op2, offset, sub as minus, unsigned as no-sign, addrOf, aggregate, assign, call, lt, add, int, seq, block, loop, cond, skip, exit, return}
 use contract.Monad.{fact}
 use contract.Lifetimes.{Lfts}
 use contract.Running.{givenOf, tables}
@@ -92,6 +92,14 @@ abbrev chain : List Body → Body → Body
 chain [] c = c
 chain (b ∷ bs) c = seq b (chain bs c)
 
+-- and where the first of the further locals have their address taken
+abbrev homes : List Ty → List Local → List Local
+homes [] ls = ls
+homes (τ ∷ τs) ls = local τ memorySlot ∷ homes τs ls
+
+abbrev pub thin-home : Form → List Ty → List Ty → List Body → Fn
+thin-home F σs τs bs = record { lifetimes = count (takes F); outlives = []; params = length (takes F); locals = local (answers F .ty) valueLocal ∷ parameters zero (takes F) (homes σs (further τs)); body = chain bs return }
+
 abbrev pub thin : Form → List Ty → List Body → Fn
 thin F τs bs = record { lifetimes = count (takes F); outlives = []; params = length (takes F); locals = local (answers F .ty) valueLocal ∷ parameters zero (takes F) (further τs); body = chain bs return }
 
@@ -123,6 +131,13 @@ point-in n k τ = assign (place n []) (addrOf (place k (field 0 ∷ deref τ ∷
 
 abbrev pub slice-of : ℕ → ℕ → ℕ → Body
 slice-of m n k = assign (place m []) (aggregate (loc n ∷ fld k 1 ∷ []))
+
+-- the address of a local, and a struct
+abbrev pub address : ℕ → ℕ → Body
+address n k = assign (place n []) (addrOf (place k []))
+
+abbrev pub aggregated : ℕ → List Opd → Body
+aggregated n xs = assign (place n []) (aggregate xs)
 
 -- those that make a part of a slice of octets: local n is where it begins; how many octets there are; the slice of locals i and j
 abbrev pub begin-at : ℕ → ℕ → ℕ → Body

@@ -81,7 +81,7 @@ module _ (J Z Y : Word) (Nets S E : Data) (D N I G C L F K : Part) (Q : Outcome 
         calls ! fm (callee 𝓤 form₄ asks₄ gives₄) known₄ (val ! tt refl is-w (nothing-more !)) (ok₄ (nets .now) (hosts .now) (octets .now) (run .now) (slots .now) (answers .now) i w asked z q low φ₁ φ₂ φ₃) tt refl (λ high ws₄ φ₄ is-high.
         calls ! fm (callee 𝓤 form₅ asks₅ gives₅) known₅ (val ! tt refl is-w (nothing-more !)) (ok₅ (nets .now) (hosts .now) (octets .now) (run .now) (slots .now) (answers .now) i w asked z q low high φ₁ φ₂ φ₃ φ₄) tt refl (λ here ws₅ φ₅ is-here.
         calls ! fm (callee 𝓤 form₆ asks₆ gives₆) known₆ (val ! tt refl is-w (nothing-more !)) (ok₆ (nets .now) (hosts .now) (octets .now) (run .now) (slots .now) (answers .now) i w asked z q low high here φ₁ φ₂ φ₃ φ₄ φ₅) tt refl (λ there ws₆ φ₆ is-there.
-        slices ! refl tt tt tt refl (is-hosts .0) (
+        slices ! refl tt tt tt tt refl (is-hosts .0) (
         lends ! 1 refl (λ α₇ δ₇.
         calls ! fm (callee 𝓤 form₇ asks₇ gives₇) known₇ (shares ! 1 tt refl (val ! tt refl is-z (nothing-more !))) (ok₇ (nets .now) (hosts .now) (octets .now) (run .now) (slots .now) (answers .now) i w asked z q low high here there φ₁ φ₂ φ₃ φ₄ φ₅ φ₆) tt refl (λ v ws₇ φ₇ is-v.
         back ! 1 refl refl (
@@ -99,11 +99,11 @@ module _ (J Z Y : Word) (Nets S E : Data) (D N I G C L F K : Part) (Q : Outcome 
         joined ! 2 refl refl (
         rejoined ! 4 refl refl (
         calls ! fm (callee 𝓤 form₉ asks₉ gives₉) known₉ (val ! tt refl is-w (val ! tt refl is-o (nothing-more !))) (ok₉ (nets .now) (hosts .now) (octets .now) (run .now) (slots .now) (answers .now) i w asked z q low high here there v o (ws₈ .1 .1 .1 .1 .1 .1 .1 .1 .1 .1 .0) φ₁ φ₂ φ₃ φ₄ φ₅ φ₆ φ₇ φ₈) tt refl (λ y ws₉ φ₉ is-y.
-        slices ! refl tt tt tt refl (is-hosts .0) (
+        slices ! refl tt tt tt tt refl (is-hosts .0) (
         calls ! fm (callee 𝓤 form₁₀ asks₁₀ gives₁₀) known₁₀ (gives ! 1 tt refl (val ! tt refl is-y (nothing-more !))) (ok₁₀ (nets .now) (hosts .now) (octets .now) (run .now) (slots .now) (answers .now) i w asked z q low high here there v o (ws₈ .1 .1 .1 .1 .1 .1 .1 .1 .1 .1 .0) y φ₁ φ₂ φ₃ φ₄ φ₅ φ₆ φ₇ φ₈ φ₉) tt refl (λ u₁₀ ws₁₀ φ₁₀ is-u₁₀.
-        slices ! refl tt tt tt refl (is-slots .0) (
+        slices ! refl tt tt tt tt refl (is-slots .0) (
         calls ! fm (callee 𝓤 form₁₁ asks₁₁ gives₁₁) known₁₁ (gives ! 4 tt refl (val ! tt refl is-w (value ! (part ! tt refl refl) (is-part K (P .form .read o .0) (owed-of P is-o .0)) (nothing-more !)))) (ok₁₁ (nets .now) (hosts .now) (octets .now) (run .now) (slots .now) (answers .now) i w asked z q low high here there v o (ws₈ .1 .1 .1 .1 .1 .1 .1 .1 .1 .1 .0) y (ws₁₀ .0) φ₁ φ₂ φ₃ φ₄ φ₅ φ₆ φ₇ φ₈ φ₉ φ₁₀) tt refl (λ u₁₁ ws₁₁ φ₁₁ is-u₁₁.
-        slices ! refl tt tt tt refl (is-answers .0) (
+        slices ! refl tt tt tt tt refl (is-answers .0) (
         calls ! fm (callee 𝓤 form₁₂ asks₁₂ gives₁₂) known₁₂ (gives ! 5 tt refl (val ! tt refl is-w (value ! (part ! tt refl refl) (is-part K (P .form .read o .0) (owed-of P is-o .0)) (nothing-more !)))) (ok₁₂ (nets .now) (hosts .now) (octets .now) (run .now) (slots .now) (answers .now) i w asked z q low high here there v o (ws₈ .1 .1 .1 .1 .1 .1 .1 .1 .1 .1 .0) y (ws₁₀ .0) (ws₁₁ .0) φ₁ φ₂ φ₃ φ₄ φ₅ φ₆ φ₇ φ₈ φ₉ φ₁₀ φ₁₁) tt refl (λ u₁₂ ws₁₂ φ₁₂ is-u₁₂.
         sets ! (unit !) tt (tt, tt) (
         finish ! done tt refl is-unit (goes ∷ goes ∷ goes ∷ []) _ _ refl (then (nets .now) (hosts .now) (octets .now) (run .now) (slots .now) (answers .now) i w asked z q low high here there v o (ws₈ .1 .1 .1 .1 .1 .1 .1 .1 .1 .1 .0) y (ws₁₀ .0) (ws₁₁ .0) (ws₁₂ .0) φ₁ φ₂ φ₃ φ₄ φ₅ φ₆ φ₇ φ₈ φ₉ φ₁₀ φ₁₁ φ₁₂))))))))))))))))))))))))))))))))))

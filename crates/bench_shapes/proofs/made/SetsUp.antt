@@ -46,12 +46,12 @@ module _ (Nets S E D : Data) (K J I Y : Part) (P : Outcome (K ∷ (struct-part D
         sets ! (part ! tt refl refl) tt (typed-of W (is-length (is-slots .0))) (
         sets ! (part ! tt refl refl) tt (typed-of W (is-length (is-answers .0))) (
         calls ! fm (callee 𝓤 form₁ asks₁ gives₁) known₁ (shares ! 0 tt refl (val ! tt refl is-t (val ! tt refl is-d (val ! tt refl (is-length (is-hosts .0)) (val ! tt refl (is-length (is-octets .0)) (val ! tt refl (is-length (is-run .0)) (val ! tt refl (is-length (is-slots .0)) (val ! tt refl (is-length (is-answers .0)) (nothing-more !))))))))) (ok₁ (file .now) (nets .now) (hosts .now) (octets .now) (run .now) (slots .now) (answers .now) (progress .now)) tt refl (λ p ws₁ φ₁ is-p.
-        slices ! refl tt tt tt refl (is-hosts .0) (
-        slices ! refl tt tt tt refl (is-run .0) (
+        slices ! refl tt tt tt tt refl (is-hosts .0) (
+        slices ! refl tt tt tt tt refl (is-run .0) (
         calls ! fm (callee 𝓤 form₂ asks₂ gives₂) known₂ (shares ! 0 tt refl (share ! 0 tt refl (gives ! 0 tt refl (shares ! 0 tt refl (gives ! 0 tt refl (value ! (part ! tt refl refl) (is-part J (P .form .read p .1 .1 .0) (owed-of P is-p .1 .1 .0)) (nothing-more !))))))) (ok₂ (file .now) (nets .now) (hosts .now) (octets .now) (run .now) (slots .now) (answers .now) (progress .now) p φ₁) tt refl (λ u₂ ws₂ φ₂ is-u₂.
-        slices ! refl tt tt tt refl (is-slots .0) (
+        slices ! refl tt tt tt tt refl (is-slots .0) (
         calls ! fm (callee 𝓤 form₃ asks₃ gives₃) known₃ (gives ! 5 tt refl (value ! (part ! tt refl refl) (is-part I (P .form .read p .1 .1 .1 .0) (owed-of P is-p .1 .1 .1 .0)) (nothing-more !))) (ok₃ (file .now) (nets .now) (hosts .now) (octets .now) (run .now) (slots .now) (answers .now) (progress .now) p (ws₂ .1 .1 .0) (ws₂ .1 .1 .1 .1 .0) φ₁ φ₂) tt refl (λ u₃ ws₃ φ₃ is-u₃.
-        slices ! refl tt tt tt refl (is-answers .0) (
+        slices ! refl tt tt tt tt refl (is-answers .0) (
         calls ! fm (callee 𝓤 form₄ asks₄ gives₄) known₄ (gives ! 6 tt refl (value ! (part ! tt refl refl) (is-part Y (P .form .read p .1 .1 .1 .1 .0) (owed-of P is-p .1 .1 .1 .1 .0)) (nothing-more !))) (ok₄ (file .now) (nets .now) (hosts .now) (octets .now) (run .now) (slots .now) (answers .now) (progress .now) p (ws₂ .1 .1 .0) (ws₂ .1 .1 .1 .1 .0) (ws₃ .0) φ₁ φ₂ φ₃) tt refl (λ u₄ ws₄ φ₄ is-u₄.
         stores ! 7 refl tt (part ! tt refl refl) (is-part (struct-part D) (P .form .read p .1 .0) (owed-of P is-p .1 .0)) (
         sets ! (part ! tt refl refl) tt (typed-of W (is-part K (P .form .read p .0) (owed-of P is-p .0))) (

@@ -42,12 +42,12 @@ module _ (N I U G : Word) (S Nets C L F E : Data) (K J : Part) (P : Outcome (K �
         copies ! 3 refl tt tt refl (λ is-l.
         copies-mut ! 4 refl tt tt refl (λ is-v.
         calls ! fm (callee 𝓤 form₁ asks₁ gives₁) known₁ (val ! tt refl is-link (nothing-more !)) (ok₁ (settings .now) (nets .now) number (clock .now) (links .now) (stand .now) (octets .now) (run .now) link (packet .now)) tt refl (λ a ws₁ φ₁ is-a.
-        slices ! refl tt tt tt refl (is-octets .0) (
+        slices ! refl tt tt tt tt refl (is-octets .0) (
         lends ! 5 refl (λ α₂ δ₂.
         calls ! fm (callee 𝓤 form₂ asks₂ gives₂) known₂ (share ! 0 tt refl (share ! 0 tt refl (val ! tt refl is-number (val ! tt refl is-c (val ! tt refl is-l (val ! tt refl is-v (shares ! 3 tt refl (val ! tt refl is-a (shares ! 4 tt refl (nothing-more !)))))))))) (ok₂ (settings .now) (nets .now) number (clock .now) (links .now) (stand .now) (octets .now) (run .now) link (packet .now) a φ₁) tt refl (λ g ws₂ φ₂ is-g.
         back ! 5 refl refl (
         calls ! fm (callee 𝓤 form₃ asks₃ gives₃) known₃ (val ! tt refl is-g (val ! tt refl is-s (val ! tt refl is-v (val ! tt refl is-link (shares ! 7 tt refl (nothing-more !)))))) (ok₃ (settings .now) (nets .now) number (clock .now) (links .now) (stand .now) (octets .now) (run .now) link (packet .now) a g φ₁ φ₂) tt refl (λ p ws₃ φ₃ is-p.
-        slices ! refl tt tt tt refl (is-octets .0) (
+        slices ! refl tt tt tt tt refl (is-octets .0) (
         calls ! fm (callee 𝓤 form₄ asks₄ gives₄) known₄ (gives ! 5 tt refl (shares ! 6 tt refl (value ! (part ! tt refl refl) (is-part J (P .form .read p .1 .1 .0) (owed-of P is-p .1 .1 .0)) (nothing-more !)))) (ok₄ (settings .now) (nets .now) number (clock .now) (links .now) (stand .now) (octets .now) (run .now) link (packet .now) a g p φ₁ φ₂ φ₃) tt refl (λ u₄ ws₄ φ₄ is-u₄.
         stores ! 4 refl tt (part ! tt refl refl) (is-part (struct-part F) (P .form .read p .1 .0) (owed-of P is-p .1 .0)) (
         sets ! (part ! tt refl refl) tt (typed-of W (is-part K (P .form .read p .0) (owed-of P is-p .0))) (

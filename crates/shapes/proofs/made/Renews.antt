@@ -46,7 +46,7 @@ module _ (N G X : Word) (S Nets C L F E : Data) (K J : Part) (P : Outcome (K ∷
         calls ! fm (callee 𝓤 form₁ asks₁ gives₁) known₁ (val ! tt refl is-s (val ! tt refl is-t (val ! tt refl is-number (val ! tt refl (is-length (is-run .0)) (nothing-more !))))) (ok₁ (settings .now) (nets .now) number (clock .now) (links .now) (stand .now) (octets .now) (run .now)) tt refl (λ g ws₁ φ₁ is-g.
         calls ! fm (callee 𝓤 form₂ asks₂ gives₂) known₂ (val ! tt refl is-g (val ! tt refl is-s (val ! tt refl is-c (val ! tt refl is-l (val ! tt refl is-v (nothing-more !)))))) (ok₂ (settings .now) (nets .now) number (clock .now) (links .now) (stand .now) (octets .now) (run .now) g φ₁) tt refl (λ p ws₂ φ₂ is-p.
         calls ! fm (callee 𝓤 form₃ asks₃ gives₃) known₃ (val ! tt refl is-number (value ! (part ! tt refl refl) (is-part J (P .form .read p .1 .1 .1 .1 .0) (owed-of P is-p .1 .1 .1 .1 .0)) (nothing-more !))) (ok₃ (settings .now) (nets .now) number (clock .now) (links .now) (stand .now) (octets .now) (run .now) g p φ₁ φ₂) tt refl (λ w ws₃ φ₃ is-w.
-        slices ! refl tt tt tt refl (is-run .0) (
+        slices ! refl tt tt tt tt refl (is-run .0) (
         calls ! fm (callee 𝓤 form₄ asks₄ gives₄) known₄ (gives ! 6 tt refl (val ! tt refl is-w (nothing-more !))) (ok₄ (settings .now) (nets .now) number (clock .now) (links .now) (stand .now) (octets .now) (run .now) g p w φ₁ φ₂ φ₃) tt refl (λ u₄ ws₄ φ₄ is-u₄.
         stores ! 2 refl tt (part ! tt refl refl) (is-part (struct-part C) (P .form .read p .1 .0) (owed-of P is-p .1 .0)) (
         stores ! 3 refl tt (part ! tt refl refl) (is-part (struct-part L) (P .form .read p .1 .1 .0) (owed-of P is-p .1 .1 .0)) (
