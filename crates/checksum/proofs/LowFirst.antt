@@ -12,7 +12,7 @@ use Rattle.checksum.proofs.Folding.{end-word, end-high, end-again, end-
 
 -- ---- the octets change places
 
-pub low-times : (s : List ℕ) → endAround (lowSum s * 256) ≡ endAround (wordSum s)
+low-times : (s : List ℕ) → endAround (lowSum s * 256) ≡ endAround (wordSum s)
 low-times [] = refl
 low-times (x ∷ []) = simp add-zero
 low-times (x ∷ y ∷ rest) =
@@ -21,7 +21,7 @@ low-times (x ∷ y ∷ rest) =
     let e₃ : wordSum rest + (x * 256 + y) ≡ x * 256 + y + wordSum rest = omega arith in
     rw e₁ (end-high y (lowSum rest * 256 + x * 256) ∙ rw e₂ (end-plus (lowSum rest * 256) (wordSum rest) (x * 256 + y) (x * 256 + y) (low-times rest) refl ∙ rw e₃))
 
-pub end-times : (t k : ℕ) → endAround (endAround t * k) ≡ endAround (t * k)
+end-times : (t k : ℕ) → endAround (endAround t * k) ≡ endAround (t * k)
 end-times t zero = rw (mul-zero, mul-zero)
 end-times t (suc k) = rw (mul-suc, mul-suc) (end-plus (endAround t * k) (t * k) (endAround t) t (end-times t k) (end-again t))
 
@@ -30,6 +30,10 @@ swapped-word w h =
     let e : w * 256 ≡ w / 256 * 256 * 256 + w % 256 * 256 = omega arith in
     let c : w / 256 + w % 256 * 256 ≡ w % 256 * 256 + w / 256 = omega arith in
     sym (rw e (end-high (w / 256) (w % 256 * 256) ∙ rw c (end-word (w % 256 * 256 + w / 256) (omega arith))))
+
+-- a folded sum with the low octet first, and its octets changed over
+pub changed-over : (s : List ℕ) (w r : ℕ) → w ≡ endAround (lowSum s) → r ≡ endAround (w * 256) → r ≡ endAround (wordSum s)
+changed-over s w r e f = f ∙ ap (λ n. endAround (n * 256)) e ∙ end-times (lowSum s) 256 ∙ low-times s
 
 -- ---- four octets at a time
 

@@ -2,5 +2,6 @@ pub mod Parts
 pub mod Parsing
 pub mod Messages
 pub mod Stores
+pub mod Sums
 pub mod Sealing
 pub mod ReadBack

@@ -10,9 +10,10 @@ use Rattle.wire.specs.declared.Address.{Address}
 use Rattle.wire.specs.declared.Packet.{Packet}
 use Rattle.wire.specs.declared.Report.{Report}
 use Rattle.wire.specs.Octets.{two}
-use Rattle.wire.specs.Ip.{header}
+use Rattle.wire.specs.Ip.{headerFront, headerBack, header}
 use Rattle.wire.specs.Hello.{reportLength, reportPlace, helloLength, reportOctets, reportsOctets, helloBehind, hello}
 use Rattle.wire.specs.Packet.{packetLength, message}
+use Rattle.wire.specs.code.Ranges.{AddressFits}
 
 -- ---- lengths
 
@@ -32,6 +33,13 @@ message-length destination p rs = omega (arith, hello-length p rs)
 
 pub two-octets : (n : ℕ) → Octets (two n)
 two-octets n = (omega arith, (omega arith, tt))
+
+pub front-octets : (total : ℕ) → Octets (headerFront total)
+front-octets total = omega arith
+
+pub back-octets : (source destination : Address) → AddressFits source → AddressFits destination → Octets (headerBack source destination)
+back-octets source destination f g =
+    (f .first, (f .second, (f .third, (f .fourth, (g .first, (g .second, (g .third, (g .fourth, tt))))))))
 
 pub reports-octets : (rs : List Report) → Octets (reportsOctets rs)
 reports-octets [] = tt

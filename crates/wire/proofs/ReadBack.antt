@@ -11,19 +11,19 @@ use Rattle.quantity.specs.Words.{word, bits16, signed16}
 use Rattle.quantity.proofs.Ints.{up, dn, one, of-≤ℤ, of-<ℤ}
 use Rattle.quantity.proofs.Wrap.{wrap-fits}
 use Rattle.checksum.specs.Checksum.{checksumGood, checksumOf}
-use Rattle.checksum.proofs.Octets.{Octets, joined}
+use Rattle.checksum.proofs.Octets.{Octets}
 use Rattle.checksum.proofs.Folding.{checksum-good}
 use Rattle.wire.specs.declared.Address.{Address}
 use Rattle.wire.specs.declared.Packet.{Packet}
 use Rattle.wire.specs.declared.Report.{Report}
 use Rattle.wire.specs.declared.Parsed.the-variants.{Good}
-use Rattle.wire.specs.Octets.{two, addressOctets}
+use Rattle.wire.specs.Octets.{two}
 use Rattle.wire.specs.Ip.{ipChecksum, protocol, headerFront, headerBack, header}
 use Rattle.wire.specs.Hello.{reportAt, reportPlace, helloLength, helloChecksum, reportsOctets, helloBehind, hello}
 use Rattle.wire.specs.Packet.{helloOf, fields, packetLength, message}
-use Rattle.wire.specs.code.Ranges.{Two, SignedTwo, Four, AddressFits, PacketFits, ReportFits, ReportsFit}
+use Rattle.wire.specs.code.Ranges.{Two, SignedTwo, Four, PacketFits, ReportFits, ReportsFit}
 use Rattle.wire.specs.ReadBack.{MessageFits, ReadBack, ReportsBack}
-use Rattle.wire.proofs.Messages.{octet-of-report, message-length, hello-length, behind-octets}
+use Rattle.wire.proofs.Messages.{octet-of-report, message-length, hello-length, front-octets, back-octets, behind-octets}
 use Rattle.wire.proofs.Parsing.{ip-form, hello-form, HeaderPasses, HelloPasses, passes}
 
 -- ---- numbers
@@ -143,12 +143,6 @@ reports-are-back destination p rs f i none h =
 
 -- ---- and no test refuses it
 
-address-octets : (a : Address) → AddressFits a → Octets (addressOctets a)
-address-octets a f = (f .first, (f .second, (f .third, (f .fourth, tt))))
-
-front-octets : (total : ℕ) → Octets (headerFront total)
-front-octets total = omega arith
-
 checksum-small : (xs : List ℕ) → checksumOf xs < 2 ^ 16
 unfolding checksumOf
 checksum-small xs = omega arith
@@ -174,7 +168,7 @@ module _ (destination : Address) (p : Packet) (rs : List Report) (f : MessageFit
         checksum =
             checksum-passes (headerFront (packetLength (p .nhosts))) (headerBack (p .source) destination) refl
             (front-octets (packetLength (p .nhosts)))
-            (joined (addressOctets (p .source)) (addressOctets destination) (address-octets (p .source) (f .source-fits)) (address-octets destination (f .destination-fits)));
+            (back-octets (p .source) destination (f .source-fits) (f .destination-fits));
         kind = refl;
       }
 

@@ -1,17 +1,16 @@
--- What the stores leave: stores one after the other are one run of stores, and a checksum taken with zeros in its place is that of the others.
-use mathlib.Core.Path.{_≡_, refl, ap, _∙_}
+-- What the stores leave: stores one after the other are one run of stores.
+use mathlib.Core.Path.{_≡_, _∙_}
 use mathlib.Core.List.{List, [], _++_}
 use Prim.Native.Nat.{ℕ, _+_, _-_, _*_, _≤_}
 use native.Mathlib.Numerals.{add-two}
 use native.Mathlib.Omega.{arith}
 use lib.IntN.{natAbs}
 use lib.ListN.{length, take, drop, set, take-append-drop}
-use lib.Seq.{sets, sets-eq, drop-drop, drop-at, take-append-add, length-take-le}
+use lib.Seq.{sets, sets-eq, drop-drop, drop-at, length-take-le}
 use Rattle.lists.proofs.Parts.{over-behind}
 use Rattle.quantity.specs.Words.{bits16}
 use Rattle.checksum.specs.Checksum.{checksumOf}
-use Rattle.checksum.proofs.Octets.{Octets, in-front, behind}
-use Rattle.checksum.proofs.Folding.{checksum-over-zero}
+use Rattle.checksum.proofs.Octets.{Octets, joined, in-front, behind}
 use Rattle.wire.specs.declared.Address.{Address}
 use Rattle.wire.specs.declared.Packet.{Packet}
 use Rattle.wire.specs.Packet.{packetLength}
@@ -19,8 +18,9 @@ use Rattle.wire.specs.declared.Report.{Report}
 use Rattle.wire.specs.Octets.{two, four, addressOctets}
 use Rattle.wire.specs.Ip.{headerLength, versionAndLength, helloProtocol, versionPlace, totalPlace, fragmentPlace, protocolPlace, sourcePlace, headerFront, headerBack, header}
 use Rattle.wire.specs.Hello.{fixedLength, datePlace, timePlace, tspPlace, addressOffsetPlace, nhostsPlace, reportLength, reportPlace, helloLength, reportOctets, helloBehind}
-use Rattle.wire.specs.code.Sealing.{headerFields, helloFields, checksumPlace, withChecksum, sealedBehind, sealedHello, sealed, helloWithReport, withReport}
+use Rattle.wire.specs.code.Sealing.{sealedBehind, sealedHello, sealed, helloWithReport, withReport}
 use Rattle.wire.proofs.Parts.{from-on, comes-back}
+use Rattle.wire.proofs.Messages.{front-octets}
 
 -- ---- a report
 
@@ -49,22 +49,25 @@ pub back-put : (b l₁ l₂ : List ℕ) (source destination : Address)
     → l₂ ≡ sets b sourcePlace (headerBack source destination)
 back-put b l₁ l₂ source destination e₁ e₂ = rw (e₂, e₁)
 
-pub header-fields-put : (b l₁ l₂ l₃ : List ℕ) (total : ℕ) (source destination : Address) → headerLength ≤ length b
-    → l₁ ≡ sets b versionPlace (headerFront total) → l₂ ≡ sets l₁ checksumPlace (two 0) → l₃ ≡ sets l₂ sourcePlace (headerBack source destination)
-    → l₃ ≡ headerFields total source destination ++ drop headerLength b
-header-fields-put b l₁ l₂ l₃ total source destination h e₁ e₂ e₃ = e₃ ∙ rw (e₂, e₁) (sets-eq (headerFields total source destination) b 0 h)
+-- all of it, with any number for the checksum
+pub header-stored : (b l₁ l₂ l₃ : List ℕ) (total sum : ℕ) (source destination : Address) → headerLength ≤ length b
+    → l₁ ≡ sets b versionPlace (headerFront total) → l₂ ≡ sets l₁ 10 (two sum) → l₃ ≡ sets l₂ sourcePlace (headerBack source destination)
+    → l₃ ≡ headerFront total ++ two sum ++ headerBack source destination ++ drop headerLength b
+header-stored b l₁ l₂ l₃ total sum source destination h e₁ e₂ e₃ =
+    e₃ ∙ rw (e₂, e₁) (sets-eq (headerFront total ++ two sum ++ headerBack source destination) b 0 h)
 
-pub header-sealed : (rest l₃ l₄ : List ℕ) (total : ℕ) (source destination : Address)
-    → l₃ ≡ headerFields total source destination ++ rest → Octets l₃ → l₄ ≡ withChecksum headerLength checksumPlace l₃
-    → l₄ ≡ header total source destination ++ rest
-unfolding header
-header-sealed rest l₃ l₄ total source destination e o e₄ =
-    let front = headerFront total in
+-- so the octets that the checksum is of are octets
+pub header-octets : (l rest : List ℕ) (total sum : ℕ) (source destination : Address)
+    → l ≡ headerFront total ++ two sum ++ headerBack source destination ++ rest → Octets l → Octets (headerFront total ++ headerBack source destination)
+header-octets l rest total sum source destination e o =
     let back = headerBack source destination in
-    let p : Octets (front ++ two 0 ++ back ++ rest) = rw e at o in
-    let s : checksumOf (take headerLength l₃) ≡ checksumOf (front ++ back) =
-    rw e (checksum-over-zero front back refl (in-front front (two 0 ++ back ++ rest) p) (in-front back rest (behind (front ++ two 0) (back ++ rest) p))) in
-    e₄ ∙ rw (s, e)
+    joined (headerFront total) back (front-octets total) (in-front back rest (behind (headerFront total ++ two sum) (back ++ rest) (rw e at o)))
+
+pub header-put : (l rest : List ℕ) (total sum : ℕ) (source destination : Address)
+    → l ≡ headerFront total ++ two sum ++ headerBack source destination ++ rest → sum ≡ checksumOf (headerFront total ++ headerBack source destination)
+    → l ≡ header total source destination ++ rest
+unfolding header
+header-put l rest total sum source destination e f = rw (← f) e
 
 -- ---- the HELLO
 
@@ -75,24 +78,22 @@ pub fixed-put : (b l₁ l₂ l₃ l₄ l₅ : List ℕ) (t w : ℕ) (p : Packet)
     → l₅ ≡ sets b datePlace (helloBehind p [])
 fixed-put b l₁ l₂ l₃ l₄ l₅ t w p e₁ e₂ e₃ e₄ e₅ e₆ e₇ = rw (e₇, e₆, e₅, e₄, e₃, e₂, e₁)
 
-pub hello-fields-put : (b l₁ l₂ : List ℕ) (p : Packet) → fixedLength ≤ length b
-    → l₁ ≡ sets b 0 (two 0) → l₂ ≡ sets l₁ datePlace (helloBehind p [])
-    → l₂ ≡ helloFields p ++ drop fixedLength b
-hello-fields-put b l₁ l₂ p h e₁ e₂ = e₂ ∙ rw e₁ (sets-eq (helloFields p) b 0 h)
+-- all of it, with any number for the checksum
+pub hello-stored : (b l₁ l₂ : List ℕ) (sum : ℕ) (p : Packet) → fixedLength ≤ length b
+    → l₁ ≡ sets b 0 (two sum) → l₂ ≡ sets l₁ datePlace (helloBehind p [])
+    → l₂ ≡ two sum ++ helloBehind p [] ++ drop fixedLength b
+hello-stored b l₁ l₂ sum p h e₁ e₂ = e₂ ∙ rw e₁ (sets-eq (two sum ++ helloBehind p []) b 0 h)
 
-pub hello-sealed : (b l₂ l₃ : List ℕ) (p : Packet)
-    → l₂ ≡ helloFields p ++ drop fixedLength b → Octets l₂ → l₃ ≡ withChecksum (helloLength (p .nhosts)) 0 l₂
-    → l₃ ≡ sealedHello p b
+pub fixed-octets : (l rest : List ℕ) (sum : ℕ) (p : Packet) → l ≡ two sum ++ helloBehind p [] ++ rest → Octets l → Octets (helloBehind p [])
+fixed-octets l rest sum p e o = in-front (helloBehind p []) rest (behind (two sum) (helloBehind p [] ++ rest) (rw e at o))
+
+pub hello-put : (b l : List ℕ) (sum : ℕ) (p : Packet)
+    → l ≡ two sum ++ helloBehind p [] ++ drop fixedLength b → sum ≡ checksumOf (sealedBehind p b)
+    → l ≡ sealedHello p b
 unfolding sealedHello
-hello-sealed b l₂ l₃ p e o e₄ =
+hello-put b l sum p e f =
     let n = reportLength * p .nhosts in
-    let fixed = helloBehind p [] in
-    let rest = drop fixedLength b in
-    let t : take (helloLength (p .nhosts)) l₂ ≡ two 0 ++ sealedBehind p b = rw e (take-append-add (two 0 ++ fixed) rest n) in
-    let q : Octets (two 0 ++ sealedBehind p b ++ drop n rest) = rw (take-append-drop n rest) (rw e at o) in
-    let s : checksumOf (take (helloLength (p .nhosts)) l₂) ≡ checksumOf (sealedBehind p b) =
-    ap checksumOf t ∙ checksum-over-zero [] (sealedBehind p b) refl tt (in-front (sealedBehind p b) (drop n rest) (behind (two 0) (sealedBehind p b ++ drop n rest) q)) in
-    e₄ ∙ rw (s, e, ← drop-drop n fixedLength b, take-append-drop n rest)
+    rw (← f, ← drop-drop n fixedLength b, take-append-drop n (drop fixedLength b)) e
 
 -- ---- the packet
 
@@ -103,20 +104,10 @@ changedBehind b m = take headerLength b ++ (m ++ drop (length b - headerLength) 
 pub behind-changed : (b m : List ℕ) → headerLength ≤ length b → drop headerLength (changedBehind b m) ≡ m
 behind-changed b m h = rw (comes-back headerLength b m) (drop-at (take headerLength b) m headerLength (length-take-le headerLength b h))
 
--- the fields of the HELLO, those of the header, the HELLO's checksum and the header's
-pub packet-sealed : (b m₁ b₂ m₃ b₄ : List ℕ) (n : ℕ) (destination : Address) (p : Packet) → headerLength ≤ length b → n ≡ packetLength (p .nhosts)
-    → m₁ ≡ helloFields p ++ drop fixedLength (take (length b - headerLength) (drop headerLength b))
-    → b₂ ≡ headerFields n (p .source) destination ++ drop headerLength (changedBehind b m₁) → Octets b₂
-    → m₃ ≡ withChecksum (helloLength (p .nhosts)) 0 (take (length b₂ - headerLength) (drop headerLength b₂))
-    → Octets (changedBehind b₂ m₃) → b₄ ≡ withChecksum headerLength checksumPlace (changedBehind b₂ m₃)
-    → b₄ ≡ sealed destination p b
+-- the HELLO, then the header
+pub packet-sealed : (b m b₂ : List ℕ) (n : ℕ) (destination : Address) (p : Packet) → headerLength ≤ length b → n ≡ packetLength (p .nhosts)
+    → m ≡ sealedHello p (take (length b - headerLength) (drop headerLength b))
+    → b₂ ≡ header n (p .source) destination ++ drop headerLength (changedBehind b m)
+    → b₂ ≡ sealed destination p b
 unfolding sealed
-packet-sealed b m₁ b₂ m₃ b₄ n destination p h e e₁ e₂ o₂ e₃ o₄ e₄ =
-    let fields = headerFields n (p .source) destination in
-    let f₁ : m₁ ≡ helloFields p ++ drop fixedLength (drop headerLength b) = e₁ ∙ rw (from-on headerLength b) in
-    let f₂ : b₂ ≡ fields ++ m₁ = e₂ ∙ rw (behind-changed b m₁ h) in
-    let g₂ : drop headerLength b₂ ≡ m₁ = rw f₂ in
-    let f₃ : m₃ ≡ withChecksum (helloLength (p .nhosts)) 0 m₁ = e₃ ∙ rw (from-on headerLength b₂, g₂) in
-    let s : m₃ ≡ sealedHello p (drop headerLength b) = hello-sealed (drop headerLength b) m₁ m₃ p f₁ (behind fields m₁ (rw f₂ at o₂)) f₃ in
-    let f₄ : changedBehind b₂ m₃ ≡ fields ++ m₃ = comes-back headerLength b₂ m₃ ∙ rw f₂ in
-    header-sealed m₃ (changedBehind b₂ m₃) b₄ n (p .source) destination f₄ o₄ e₄ ∙ rw (e, s)
+packet-sealed b m b₂ n destination p h e e₁ e₂ = e₂ ∙ rw (behind-changed b m h, e₁, e, from-on headerLength b)

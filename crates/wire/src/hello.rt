@@ -1,15 +1,15 @@
 // The HELLO behind the IP header.
 ghost use mathlib.Core.Path.{_≡_};
-ghost use Prim.Native.Nat.{_+_, _≤_};
-ghost use mathlib.Core.List.{[], _++_};
-ghost use lib.ListN.{length, drop};
+ghost use Prim.Native.Nat.{_+_, _≤_, _<_, _^_};
+ghost use mathlib.Core.List.{[]};
+ghost use lib.ListN.{length};
 ghost use lib.Seq.{sets};
+ghost use Rattle.checksum.specs.code.EndAround.{endAround, wordSum};
 ghost use Rattle.wire.specs.Hello.{fixedLength, datePlace, reportLength, reportPlace, helloLength, helloForm, helloChecksum, reportAt, helloBehind};
 ghost use Rattle.wire.specs.code.Ranges.{Two, Four};
-ghost use Rattle.wire.specs.code.Sealing.{helloWithReport, withChecksum, helloFields};
+ghost use Rattle.wire.specs.code.Sealing.{helloWithReport, sealedHello};
 use super::Packet;
 use super::Report;
-use super::octets::put_checksum;
 use super::octets::put_four;
 use super::octets::put_octet;
 use super::octets::put_two;
@@ -100,20 +100,30 @@ fn put_fixed(hello: &mut [u8], p: Packet)
     put_octet(&mut *hello, NHOSTS, p.nhosts);
 }
 
-// The HELLO filled in around its reports, which stand in their places, with 0 for its checksum.
-pub fn put_fields(hello: &mut [u8], p: Packet)
-    requires { ⌜ fixedLength ≤ length (now hello) ⌝ }
+// A number that stands for the sum of the fixed part's words behind the checksum: the time counts as its two words.
+fn fixed_sum(p: Packet) -> u64
     requires { ⌜ Four (p .time .0) ⌝ }
-    ensures { λ _. ⌜ now (hello .exit) ≡ helloFields p ++ drop fixedLength (now (hello .entry)) ⌝ }
+    ensures { λ r. ⌜ endAround r ≡ endAround (wordSum (helloBehind p [])) ⌝ }
+    ensures { λ r. ⌜ r < 2 ^ 40 ⌝ }
 {
-    put_two(&mut *hello, CHECKSUM, 0);
-    put_fixed(&mut *hello, p);
+    let date = p.date;
+    let time = p.time;
+    let tsp = p.tsp;
+    date.0 as u64
+        + time.unsigned() as u64
+        + tsp.bits() as u64
+        + p.address_offset as u64 * 256
+        + p.nhosts as u64
 }
 
-// The checksum of a HELLO of so many hosts put in its place, where 0 stands.
-pub fn seal(hello: &mut [u8], nhosts: u8)
-    requires { ⌜ helloLength nhosts ≤ length (now hello) ⌝ }
-    ensures { λ _. ⌜ now (hello .exit) ≡ withChecksum (helloLength nhosts) 0 (now (hello .entry)) ⌝ }
+// The HELLO filled in around its reports, which stand in their places. Its fixed part goes into the checksum by its values: what is read where it was just written is waited for.
+pub fn seal(hello: &mut [u8], p: Packet)
+    requires { ⌜ helloLength (p .nhosts) ≤ length (now hello) ⌝ }
+    requires { ⌜ Four (p .time .0) ⌝ }
+    ensures { λ _. ⌜ now (hello .exit) ≡ sealedHello p (now (hello .entry)) ⌝ }
 {
-    put_checksum(&mut *hello, length(nhosts), CHECKSUM);
+    let n = length(p.nhosts);
+    let sum = checksum::complement_behind(fixed_sum(p), &hello[FIXED..n]);
+    put_two(&mut *hello, CHECKSUM, sum);
+    put_fixed(&mut *hello, p);
 }

@@ -1,14 +1,14 @@
 // The IPv4 header, octets 0 to 19 of a packet.
 ghost use mathlib.Core.Path.{_≡_};
-ghost use Prim.Native.Nat.{_≤_};
+ghost use Prim.Native.Nat.{_+_, _*_, _≤_, _<_, _^_};
 ghost use mathlib.Core.List.{_++_};
 ghost use lib.ListN.{length, drop};
 ghost use lib.Seq.{sets};
-ghost use Rattle.wire.specs.Ip.{headerLength, versionPlace, sourcePlace, ipForm, ipChecksum, protocol, headerFront, headerBack};
-ghost use Rattle.wire.specs.code.Sealing.{checksumPlace, withChecksum, headerFields};
+ghost use Rattle.checksum.specs.code.EndAround.{endAround, wordSum};
+ghost use Rattle.wire.specs.Ip.{headerLength, versionPlace, sourcePlace, ipForm, ipChecksum, protocol, headerFront, headerBack, header};
 use super::Address;
+use super::octets::four;
 use super::octets::put_address;
-use super::octets::put_checksum;
 use super::octets::put_octet;
 use super::octets::put_two;
 use super::octets::two_at;
@@ -19,6 +19,9 @@ pub const LENGTH: usize = 20;
 const VERSION_AND_LENGTH: u8 = 0x45;
 
 const HELLO: u8 = 63;
+
+// The first word of a header, and the fifth, its time to live and protocol, added up. Those between are zero but for the total length.
+const FIRST_AND_FIFTH: u64 = 0x4500 + 0xFF3F;
 
 // The places of the fields.
 const VERSION: usize = 0;
@@ -95,20 +98,28 @@ fn put_back(packet: &mut [u8], source: Address, destination: Address)
     put_address(&mut *packet, DESTINATION, destination);
 }
 
-// The header put in front of what stands behind it, with 0 for its checksum.
-pub fn put_fields(packet: &mut [u8], total: u16, source: Address, destination: Address)
-    requires { ⌜ headerLength ≤ length (now packet) ⌝ }
-    ensures { λ _. ⌜ now (packet .exit) ≡ headerFields total source destination ++ drop headerLength (now (packet .entry)) ⌝ }
+// The number in an address's octets.
+fn number(a: Address) -> u64
+    ensures { λ r. ⌜ r ≡ ((a .first * 256 + a .second) * 256 + a .third) * 256 + a .fourth ⌝ }
+    ensures { λ r. ⌜ r < 2 ^ 32 ⌝ }
 {
-    put_front(&mut *packet, total);
-    put_two(&mut *packet, CHECKSUM, 0);
-    put_back(&mut *packet, source, destination);
+    four(a.first, a.second, a.third, a.fourth) as u64
 }
 
-// The header's checksum put in its place, where 0 stands.
-pub fn seal(packet: &mut [u8])
-    requires { ⌜ headerLength ≤ length (now packet) ⌝ }
-    ensures { λ _. ⌜ now (packet .exit) ≡ withChecksum headerLength checksumPlace (now (packet .entry)) ⌝ }
+// A number that stands for the sum of the header's words but for the checksum: each address counts as its two words.
+fn sum(total: u16, source: Address, destination: Address) -> u64
+    ensures { λ r. ⌜ endAround r ≡ endAround (wordSum (headerFront total ++ headerBack source destination)) ⌝ }
 {
-    put_checksum(&mut *packet, LENGTH, CHECKSUM);
+    FIRST_AND_FIFTH + total as u64 + number(source) + number(destination)
+}
+
+// The header put in front of what stands behind it.
+pub fn seal(packet: &mut [u8], total: u16, source: Address, destination: Address)
+    requires { ⌜ headerLength ≤ length (now packet) ⌝ }
+    ensures { λ _. ⌜ now (packet .exit) ≡ header total source destination ++ drop headerLength (now (packet .entry)) ⌝ }
+{
+    let checksum = checksum::complement_of(sum(total, source, destination));
+    put_front(&mut *packet, total);
+    put_two(&mut *packet, CHECKSUM, checksum);
+    put_back(&mut *packet, source, destination);
 }

@@ -141,7 +141,7 @@ pub fn put_report(buffer: &mut [u8], i: usize, r: Report)
     hello::put_report(&mut buffer[ip::LENGTH..], i, r);
 }
 
-// The packet completed around its reports, which stand in their places. Octets beyond the message stay. All fields are there before the first checksum is taken: a checksum reads in fours what was written in ones and twos, for which a processor waits, and so it waits for both at once.
+// The packet completed around its reports, which stand in their places. Octets beyond the message stay.
 pub fn seal(buffer: &mut [u8], destination: Address, p: Packet)
     requires { ⌜ packetLength (p .nhosts) ≤ length (now buffer) ⌝ }
     requires { ⌜ Four (p .time .0) ⌝ }
@@ -149,10 +149,8 @@ pub fn seal(buffer: &mut [u8], destination: Address, p: Packet)
 {
     let source = p.source;
     let total = length(p.nhosts);
-    hello::put_fields(&mut buffer[ip::LENGTH..], p);
-    ip::put_fields(&mut *buffer, total as u16, source, destination);
-    hello::seal(&mut buffer[ip::LENGTH..], p.nhosts);
-    ip::seal(&mut *buffer);
+    hello::seal(&mut buffer[ip::LENGTH..], p);
+    ip::seal(&mut *buffer, total as u16, source, destination);
 }
 
 // What was written is read back: a message is never refused, and its fields and reports are those that were written.

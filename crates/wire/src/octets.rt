@@ -1,9 +1,8 @@
 // Numbers and addresses in octets, the high octet first: read from a place, and written there.
 ghost use mathlib.Core.Path.{_≡_};
 ghost use Prim.Native.Nat.{_+_, _*_, _≤_, _<_};
-ghost use lib.ListN.{length, take, set};
+ghost use lib.ListN.{length, set};
 ghost use lib.Seq.{sets};
-ghost use Rattle.checksum.specs.Checksum.{checksumOf};
 ghost use Rattle.wire.specs.Octets.{two, four, addressOctets, twoAt, fourAt, addressAt};
 use super::Address;
 
@@ -14,7 +13,7 @@ fn two(a: u8, b: u8) -> u16
     a as u16 * 256 + b as u16
 }
 
-fn four(a: u8, b: u8, c: u8, d: u8) -> u32
+pub fn four(a: u8, b: u8, c: u8, d: u8) -> u32
     ensures { λ r. ⌜ r ≡ ((a * 256 + b) * 256 + c) * 256 + d ⌝ }
 {
     ((a as u32 * 256 + b as u32) * 256 + c as u32) * 256 + d as u32
@@ -79,13 +78,4 @@ pub fn put_address(s: &mut [u8], i: usize, a: Address)
     s[i + 1] = a.second;
     s[i + 2] = a.third;
     s[i + 3] = a.fourth;
-}
-
-// The checksum of the first n octets, among which its own place counts as it stands, put in its place.
-pub fn put_checksum(s: &mut [u8], n: usize, i: usize)
-    requires { ⌜ (n ≤ length (now s)) × (i + 2 ≤ length (now s)) ⌝ }
-    ensures { λ _. ⌜ now (s .exit) ≡ sets (now (s .entry)) i (two (checksumOf (take n (now (s .entry))))) ⌝ }
-{
-    let sum = checksum::complement(&s[..n]);
-    put_two(&mut *s, i, sum);
 }

@@ -1,11 +1,9 @@
 -- The sum with the low octet first is 256 times less, and changing the octets over is 256 times as much.
 use borrow.Author.Needs.{needs}
-use mathlib.Core.Path.{sym, ap, _∙_}
-use Prim.Native.Nat.{_*_}
-use Rattle.checksum.specs.code.EndAround.{endAround, lowSum}
+use mathlib.Core.Path.{sym, _∙_}
 use Rattle.checksum.proofs.Octets.{of-places}
 use Rattle.checksum.proofs.Folding.{folded-sum}
-use Rattle.checksum.proofs.LowFirst.{low-times, end-times}
+use Rattle.checksum.proofs.LowFirst.{changed-over}
 use Rattle.checksum.proofs.folded.Statement.{statement}
 use Rattle.checksum.proofs.folded.Tie as tie
 
@@ -18,7 +16,7 @@ swapped-requires c κs = search needs
 returns : tie.Need-returns
 returns c =
     let s = c .before .before .before .args .s .now in
-    c .swapped .ensures ∙ ap (λ w. endAround (w * 256)) (c .before .low-first .ensures) ∙ end-times (lowSum s) 256 ∙ low-times s
+    changed-over s _ _ (c .before .low-first .ensures) (c .swapped .ensures)
     ∙ sym (folded-sum s (of-places s (λ i. c .before .before .shared-slice-known .given i .fits)))
 
 pub folded-spec : {M : Type 1} → statement M

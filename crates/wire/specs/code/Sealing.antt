@@ -2,14 +2,13 @@
 use mathlib.Core.List.{List, [], _∷_, _++_}
 use Prim.Native.Nat.{ℕ, suc, _+_, _*_}
 use lib.ListN.{take, drop}
-use lib.Seq.{sets}
 use Rattle.lists.specs.Lists.{over}
 use Rattle.checksum.specs.Checksum.{checksumOf}
 use Rattle.wire.specs.declared.Address.{Address}
 use Rattle.wire.specs.declared.Packet.{Packet}
 use Rattle.wire.specs.declared.Report.{Report}
 use Rattle.wire.specs.Octets.{two}
-use Rattle.wire.specs.Ip.{headerLength, headerFront, headerBack, header}
+use Rattle.wire.specs.Ip.{headerLength, header}
 use Rattle.wire.specs.Hello.{fixedLength, reportLength, reportPlace, helloLength, reportOctets, helloBehind}
 use Rattle.wire.specs.Packet.{helloOf, packetLength}
 
@@ -27,23 +26,7 @@ unfoldable pub withReports : (i : ℕ) → List Report → List ℕ → List ℕ
 withReports i [] b = b
 withReports i (r ∷ rs) b = withReports (suc i) rs (withReport i r b)
 
--- ---- the rest: first all fields, with zeros for each checksum, then the checksums
-
-abbrev pub headerFields : (total : ℕ) (source destination : Address) → List ℕ
-headerFields total source destination = headerFront total ++ two 0 ++ headerBack source destination
-
-abbrev pub helloFields : Packet → List ℕ
-helloFields p = two 0 ++ helloBehind p []
-
--- the place of the header's checksum
-abbrev pub checksumPlace : ℕ
-checksumPlace = 10
-
--- the checksum of the first n octets at a place
-abbrev pub withChecksum : (n place : ℕ) → List ℕ → List ℕ
-withChecksum n place b = sets b place (two (checksumOf (take n b)))
-
--- ---- what that comes to
+-- ---- the rest
 
 -- what stands behind the checksum: the fixed part, filled in, and the reports as they stand
 abbrev pub sealedBehind : Packet → List ℕ → List ℕ
