@@ -124,7 +124,7 @@ class Repeats(Straight):
         self.emit("    pub proof : Proven 𝓤 H 𝓜 𝓖 𝓡 γ f job")
         self.emit("    proof = lawful-over 𝓤 H 𝓜 𝓖 𝓡 γ f job _ refl (λ W 𝓣 (known₁, _) κs qs %s %s β Kf done." % (tuple_of([p.name for p in self.params] + ["_"]), tuple_of(["is-" + p.name if not p.ref or p.slice else "_" for p in self.params] + ["_"])))
         self.steps[-1] += ")" * self.open
-        self.emit("\n".join("        " + s for s in self.steps))
+        self.emit(wrapped(self.steps, "        "))
 
     def walk_turn(self):
         """a turn: what is lent is lent again, and comes back"""

@@ -310,7 +310,7 @@ class Straight(Law):
         self.emit("    pub proof : Proven 𝓤 H 𝓜 𝓖 𝓡 γ f job")
         self.emit("    proof = lawful 𝓤 H 𝓜 𝓖 𝓡 γ f job _ refl (λ W T Λ fm %s κs qs %s %s β Kf done." % (knowns, tuple_of([p.name for p in self.params] + ["_"]), tuple_of(["is-" + p.name if not p.ref or p.slice else "_" for p in self.params] + ["_"])))
         self.steps[-1] += ")" * self.open
-        self.emit("\n".join("        " + s for s in self.steps))
+        self.emit(wrapped(self.steps, "        "))
 
     def walk_copy(self, let, name):
         self.step("%s ! %d refl tt tt refl (λ is-%s." % ("copies-mut" if self.by_name[name].mut else "copies", self.d(name), let))

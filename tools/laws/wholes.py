@@ -19,6 +19,11 @@ LAWS = {"struct": "LL.field-laws (%s .S) (%s .L) (%s .low)", "list": "list-laws 
 PLAIN = {"struct": "LL.field-plain (%s .S) (%s .P)", "list": "list-plain %s %n"}
 INTO = {"struct": "%s .S .to ", "list": "map (%s .S .to) "}
 PASSED = ("slice", "ref")
+# what a law cites of `Homes.antt` in crate `wholes`
+HOMES = (
+    "map T ltb Sym int Val Denots Is mem Array Plains rows Declared fields at-type listed list-field list-laws list-plain"
+    " addressed shared-home shared-home-back lent-home lent-home-back shared-homes shared-homes-back lent-homes lent-homes-back handed handed-is answer-field array-field has-room"
+).split()
 
 
 class Whole(Law):
@@ -190,7 +195,7 @@ class Whole(Law):
         self.emit("    pub proof : Proven 𝓤 H 𝓜 𝓖 𝓡 γ f job")
         self.emit("    proof = lawful 𝓤 H 𝓜 𝓖 𝓡 γ f job _ refl (λ W T Λ fm (known, _) κs qs %s %s β Kf done." % (knowns, facts))
         self.steps[-1] += ")" * self.open
-        self.emit("\n".join("        " + s for s in self.steps))
+        self.emit(wrapped(self.steps, "        "))
 
     def walk_lent(self):
         """what is passed is made, and the locals are lent, each for a lifetime of its own that is made for the call"""
@@ -249,26 +254,9 @@ class Whole(Law):
 
     def cites(self):
         """the names that the text uses"""
-        homes = "addressed shared-home shared-home-back lent-home lent-home-back shared-homes shared-homes-back lent-homes lent-homes-back handed handed-is answer-field array-field has-room".split()
         own = "Rattle.wholes.proofs" if self.shape.crate == "wholes" else "Rattle.wholes.proofs"
         self.out[self.uses_at] = thin_uses(
             "\n".join(self.out[self.uses_at:]),
             self.shape.crate,
-            [
-                ("mathlib.Core.List", ["map"]),
-                ("lib.Dec", ["T", "ltb"]),
-                ("mir.Syntax", ["Sym", "int", "intBig"]),
-                ("mir.Val", ["Val"]),
-                ("denote.RattleType", ["Denots"]),
-                ("denote.Laws", ["Is"]),
-                ("denote.Memory", ["mem"]),
-                ("denote.Array", ["Array"]),
-                ("denote.Struct.Struct", ["Plains"]),
-                ("denote.Struct.Field", ["rows"]),
-                ("denote.Struct.Declared", ["Declared", "fields"]),
-                ("Rattle.lent.proofs.Words", ["at-type"]),
-                (own + ".Lists", ["listed", "list-field", "list-laws", "list-plain"]),
-                (own + ".Homes", homes),
-                ("Rattle.bench_wholes.proofs.Long", ["big-literal"]),
-            ],
+            [(own + ".Homes", HOMES), ("Rattle.bench_wholes.proofs.Long", ["big-literal", "intBig"])],
         ) + "use denote.Struct.Declared as declared\nuse denote.Struct.Laws as LL\n"

@@ -65,15 +65,11 @@ module _ (J Z Y : Word) (Nets S E : Data) (D N I C L F K : Part) (Q : Outcome (D
         calls ! fm (callee 𝓤 form₂ asks₂ gives₂) known₂ (val ! tt refl is-w (nothing-more !)) (ok₂ (nets .now) (hosts .now) (octets .now) (run .now) (answers .now) i w asked z φ₁) tt refl (λ q ws₂ φ₂ is-q.
         calls ! fm (callee 𝓤 form₃ asks₃ gives₃) known₃ (val ! tt refl is-w (nothing-more !)) (ok₃ (nets .now) (hosts .now) (octets .now) (run .now) (answers .now) i w asked z q φ₁ φ₂) tt refl (λ low ws₃ φ₃ is-low.
         calls ! fm (callee 𝓤 form₄ asks₄ gives₄) known₄ (val ! tt refl is-w (nothing-more !)) (ok₄ (nets .now) (hosts .now) (octets .now) (run .now) (answers .now) i w asked z q low φ₁ φ₂ φ₃) tt refl (λ high ws₄ φ₄ is-high.
-        slices ! refl tt tt tt tt refl (is-hosts .0) (
-        lends ! 1 refl (λ α₅ δ₅.
+        slices ! refl tt tt tt tt refl (is-hosts .0) (lends ! 1 refl (λ α₅ δ₅.
         calls ! fm (callee 𝓤 form₅ asks₅ gives₅) known₅ (shares ! 1 tt refl (val ! tt refl is-z (nothing-more !))) (ok₅ (nets .now) (hosts .now) (octets .now) (run .now) (answers .now) i w asked z q low high φ₁ φ₂ φ₃ φ₄) tt refl (λ v ws₅ φ₅ is-v.
-        back ! 1 refl refl (
-        begins ! refl tt tt tt (
-        counts ! refl tt tt tt (is-high .is .1) ((within₆ (nets .now) (hosts .now) (octets .now) (run .now) (answers .now) i w asked z q low high v φ₁ φ₂ φ₃ φ₄ φ₅) .0) (
-        points ! refl tt tt (tt, tt) (
-        pairs ! refl tt tt tt (fewer low high (is-high .is .1)) (
-        slices ! refl tt tt tt tt refl (is-run .0) (
+        back ! 1 refl refl (begins ! refl tt tt tt (
+        counts ! refl tt tt tt (is-high .is .1) ((within₆ (nets .now) (hosts .now) (octets .now) (run .now) (answers .now) i w asked z q low high v φ₁ φ₂ φ₃ φ₄ φ₅) .0) (points ! refl tt tt (tt, tt) (
+        pairs ! refl tt tt tt (fewer low high (is-high .is .1)) (slices ! refl tt tt tt tt refl (is-run .0) (
         cuts ! 2 refl low high (within₆ (nets .now) (hosts .now) (octets .now) (run .now) (answers .now) i w asked z q low high v φ₁ φ₂ φ₃ φ₄ φ₅) (λ δ₆.
         calls ! fm (callee 𝓤 form₆ asks₆ gives₆) known₆ (value ! (part ! tt refl refl) (is-part D (Q .form .read q .0) (owed-of Q is-q .0)) (share ! 0 tt refl (value ! (part ! tt refl refl) (is-part N (Q .form .read q .1 .0) (owed-of Q is-q .1 .0)) (value ! (part ! tt refl refl) (is-part C (B .form .read v .0) (owed-of B is-v .0)) (value ! (part ! tt refl refl) (is-part L (B .form .read v .1 .0) (owed-of B is-v .1 .0)) (value ! (part ! tt refl refl) (is-part F (B .form .read v .1 .1 .0) (owed-of B is-v .1 .1 .0)) (shares ! 1 tt refl (gives ! 2 tt refl (value ! (part ! tt refl refl) (is-part I (Q .form .read q .1 .1 .0) (owed-of Q is-q .1 .1 .0)) (nothing-more !)))))))))) (ok₆ (nets .now) (hosts .now) (octets .now) (run .now) (answers .now) i w asked z q low high v φ₁ φ₂ φ₃ φ₄ φ₅) tt refl (λ o ws₆ φ₆ is-o.
         joined ! 2 refl refl (

@@ -44,41 +44,19 @@ module _ (J : Word) (Nets S E : Data) (Q Y Z I : Part) (P : Outcome (Q ∷ Y ∷
 
     pub proof : Proven 𝓤 H 𝓜 𝓖 𝓡 γ f job
     proof = lawful 𝓤 H 𝓜 𝓖 𝓡 γ f job _ refl (λ W T Λ fm (known₁, (known₂, (known₃, (known₄, (known₅, _))))) κs qs (file, (nets, (hosts, (octets, (run, (slots, (answers, (i, (w, _))))))))) (is-file, (_, (is-hosts, (is-octets, (is-run, (is-slots, (is-answers, (is-i, (is-w, _))))))))) β Kf done.
-        learns ! 7 (Asks (file .now) (nets .now) (hosts .now) (octets .now) (run .now) (slots .now) (answers .now) i w) refl (λ asked.
-        slices ! refl tt tt tt tt refl (is-slots .0) (
+        learns ! 7 (Asks (file .now) (nets .now) (hosts .now) (octets .now) (run .now) (slots .now) (answers .now) i w) refl (λ asked. slices ! refl tt tt tt tt refl (is-slots .0) (
         lends ! 5 refl (λ α₁ δ₁.
         calls ! fm (callee 𝓤 form₁ asks₁ gives₁) known₁ (shares ! 0 tt refl (shares ! 4 tt refl (val ! tt refl is-i (val ! tt refl is-w (nothing-more !))))) (ok₁ (file .now) (nets .now) (hosts .now) (octets .now) (run .now) (slots .now) (answers .now) i w asked) tt refl (λ p ws₁ φ₁ is-p.
-        back ! 5 refl refl (
-        slices ! refl tt tt tt tt refl (is-answers .0) (
-        relends ! 6 refl (λ α₂ δ₂.
+        back ! 5 refl refl (slices ! refl tt tt tt tt refl (is-answers .0) (relends ! 6 refl (λ α₂ δ₂.
         calls ! fm (callee 𝓤 form₂ asks₂ gives₂) known₂ (gives ! 6 tt refl (value ! (part ! tt refl refl) (is-part I (P .form .read p .1 .1 .1 .0) (owed-of P is-p .1 .1 .1 .0)) (nothing-more !))) (ok₂ (file .now) (nets .now) (hosts .now) (octets .now) (run .now) (slots .now) (answers .now) i w asked p φ₁) tt refl (λ u₂ ws₂ φ₂ is-u₂.
-        returned ! 6 refl refl (λ len₂.
-        slices ! refl tt tt tt tt refl (is-hosts .0) (
-        slices ! refl tt tt tt tt refl (is-run .0) (
-        slices ! refl tt tt tt tt refl (is-slots .0) (
-        slices ! refl tt tt tt tt refl (is-answers .0) (
-        relends ! 2 refl (λ α₃ δ₃.
-        relends ! 5 refl (λ α₃′ δ₃′.
-        lends ! 7 refl (λ α₃′′ δ₃′′.
-        relends ! 9 refl (λ α₃′′′ δ₃′′′.
+        returned ! 6 refl refl (λ len₂. slices ! refl tt tt tt tt refl (is-hosts .0) (slices ! refl tt tt tt tt refl (is-run .0) (slices ! refl tt tt tt tt refl (is-slots .0) (
+        slices ! refl tt tt tt tt refl (is-answers .0) (relends ! 2 refl (λ α₃ δ₃. relends ! 5 refl (λ α₃′ δ₃′. lends ! 7 refl (λ α₃′′ δ₃′′. relends ! 9 refl (λ α₃′′′ δ₃′′′.
         calls ! fm (callee 𝓤 form₃ asks₃ gives₃) known₃ (share ! 1 tt refl (gives ! 1 tt refl (shares ! 2 tt refl (gives ! 2 tt refl (shares ! 3 tt refl (gives ! 4 tt refl (value ! (part ! tt refl refl) (is-part Z (P .form .read p .1 .1 .0) (owed-of P is-p .1 .1 .0)) (nothing-more !)))))))) (ok₃ (file .now) (nets .now) (hosts .now) (octets .now) (run .now) (slots .now) (answers .now) i w asked p (ws₂ .0) φ₁ φ₂) tt refl (λ u₃ ws₃ φ₃ is-u₃.
-        returned ! 2 refl refl (λ len₃.
-        returned ! 4 refl refl (λ len₃′.
-        back ! 5 refl refl (
-        returned ! 6 refl refl (λ len₃′′′.
-        slices ! refl tt tt tt tt refl (is-hosts .0) (
-        slices ! refl tt tt tt tt refl (is-run .0) (
-        slices ! refl tt tt tt tt refl (is-slots .0) (
-        slices ! refl tt tt tt tt refl (is-answers .0) (
-        relends ! 2 refl (λ α₄ δ₄.
-        lends ! 5 refl (λ α₄′ δ₄′.
+        returned ! 2 refl refl (λ len₃. returned ! 4 refl refl (λ len₃′. back ! 5 refl refl (returned ! 6 refl refl (λ len₃′′′. slices ! refl tt tt tt tt refl (is-hosts .0) (
+        slices ! refl tt tt tt tt refl (is-run .0) (slices ! refl tt tt tt tt refl (is-slots .0) (slices ! refl tt tt tt tt refl (is-answers .0) (relends ! 2 refl (λ α₄ δ₄. lends ! 5 refl (λ α₄′ δ₄′.
         relends ! 8 refl (λ α₄′′ δ₄′′.
         calls ! fm (callee 𝓤 form₄ asks₄ gives₄) known₄ (share ! 1 tt refl (gives ! 1 tt refl (shares ! 2 tt refl (shares ! 2 tt refl (gives ! 3 tt refl (gives ! 3 tt refl (value ! (part ! tt refl refl) (is-part Y (P .form .read p .1 .0) (owed-of P is-p .1 .0)) (nothing-more !)))))))) (ok₄ (file .now) (nets .now) (hosts .now) (octets .now) (run .now) (slots .now) (answers .now) i w asked p (ws₂ .0) (ws₃ .1 .0) (ws₃ .1 .1 .1 .0) (ws₃ .1 .1 .1 .1 .1 .0) φ₁ φ₂ φ₃) tt refl (λ u₄ ws₄ φ₄ is-u₄.
-        returned ! 2 refl refl (λ len₄.
-        back ! 4 refl refl (
-        returned ! 6 refl refl (λ len₄′′.
-        slices ! refl tt tt tt tt refl (is-hosts .0) (
-        slices ! refl tt tt tt tt refl (is-run .0) (
+        returned ! 2 refl refl (λ len₄. back ! 4 refl refl (returned ! 6 refl refl (λ len₄′′. slices ! refl tt tt tt tt refl (is-hosts .0) (slices ! refl tt tt tt tt refl (is-run .0) (
         slices ! refl tt tt tt tt refl (is-answers .0) (
         calls ! fm (callee 𝓤 form₅ asks₅ gives₅) known₅ (share ! 1 tt refl (gives ! 1 tt refl (shares ! 1 tt refl (gives ! 1 tt refl (gives ! 2 tt refl (value ! (part ! tt refl refl) (is-part Q (P .form .read p .0) (owed-of P is-p .0)) (nothing-more !))))))) (ok₅ (file .now) (nets .now) (hosts .now) (octets .now) (run .now) (slots .now) (answers .now) i w asked p (ws₂ .0) (ws₃ .1 .0) (ws₃ .1 .1 .1 .0) (ws₃ .1 .1 .1 .1 .1 .0) (ws₄ .1 .0) (ws₄ .1 .1 .1 .1 .0) (ws₄ .1 .1 .1 .1 .1 .0) φ₁ φ₂ φ₃ φ₄) tt refl (λ u₅ ws₅ φ₅ is-u₅.
         sets ! (unit !) tt (tt, tt) (

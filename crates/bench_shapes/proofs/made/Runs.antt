@@ -30,19 +30,11 @@ module _ (Nets S E D : Data) (K J : Part) (P : Outcome (K ∷ (struct-part D) �
 
     pub proof : Proven 𝓤 H 𝓜 𝓖 𝓡 γ f job
     proof = lawful 𝓤 H 𝓜 𝓖 𝓡 γ f job _ refl (λ W T Λ fm (known₁, (known₂, _)) κs qs (file, (nets, (hosts, (octets, (run, (slots, (answers, (progress, (allowance, _))))))))) (is-file, (_, (is-hosts, (is-octets, (is-run, (is-slots, (is-answers, (_, (is-allowance, _))))))))) β Kf done.
-        copies ! 1 refl tt tt refl (λ is-t.
-        copies-mut ! 7 refl tt tt refl (λ is-d.
-        sets ! (part ! tt refl refl) tt (typed-of W (is-length (is-hosts .0))) (
-        sets ! (part ! tt refl refl) tt (typed-of W (is-length (is-octets .0))) (
-        sets ! (part ! tt refl refl) tt (typed-of W (is-length (is-run .0))) (
-        sets ! (part ! tt refl refl) tt (typed-of W (is-length (is-answers .0))) (
-        slices ! refl tt tt tt tt refl (is-slots .0) (
-        lends ! 5 refl (λ α₁ δ₁.
+        copies ! 1 refl tt tt refl (λ is-t. copies-mut ! 7 refl tt tt refl (λ is-d. sets ! (part ! tt refl refl) tt (typed-of W (is-length (is-hosts .0))) (
+        sets ! (part ! tt refl refl) tt (typed-of W (is-length (is-octets .0))) (sets ! (part ! tt refl refl) tt (typed-of W (is-length (is-run .0))) (
+        sets ! (part ! tt refl refl) tt (typed-of W (is-length (is-answers .0))) (slices ! refl tt tt tt tt refl (is-slots .0) (lends ! 5 refl (λ α₁ δ₁.
         calls ! fm (callee 𝓤 form₁ asks₁ gives₁) known₁ (shares ! 0 tt refl (val ! tt refl is-t (val ! tt refl is-d (val ! tt refl (is-length (is-hosts .0)) (val ! tt refl (is-length (is-octets .0)) (val ! tt refl (is-length (is-run .0)) (shares ! 4 tt refl (val ! tt refl (is-length (is-answers .0)) (val ! tt refl is-allowance (nothing-more !)))))))))) (ok₁ (file .now) (nets .now) (hosts .now) (octets .now) (run .now) (slots .now) (answers .now) (progress .now) allowance) tt refl (λ p ws₁ φ₁ is-p.
-        back ! 5 refl refl (
-        slices ! refl tt tt tt tt refl (is-hosts .0) (
-        slices ! refl tt tt tt tt refl (is-run .0) (
-        slices ! refl tt tt tt tt refl (is-slots .0) (
+        back ! 5 refl refl (slices ! refl tt tt tt tt refl (is-hosts .0) (slices ! refl tt tt tt tt refl (is-run .0) (slices ! refl tt tt tt tt refl (is-slots .0) (
         slices ! refl tt tt tt tt refl (is-answers .0) (
         calls ! fm (callee 𝓤 form₂ asks₂ gives₂) known₂ (shares ! 0 tt refl (share ! 0 tt refl (gives ! 0 tt refl (shares ! 0 tt refl (gives ! 0 tt refl (gives ! 0 tt refl (gives ! 0 tt refl (value ! (part ! tt refl refl) (is-part J (P .form .read p .1 .1 .0) (owed-of P is-p .1 .1 .0)) (nothing-more !))))))))) (ok₂ (file .now) (nets .now) (hosts .now) (octets .now) (run .now) (slots .now) (answers .now) (progress .now) allowance p φ₁) tt refl (λ u₂ ws₂ φ₂ is-u₂.
         stores ! 7 refl tt (part ! tt refl refl) (is-part (struct-part D) (P .form .read p .1 .0) (owed-of P is-p .1 .0)) (

@@ -81,23 +81,17 @@ module _ (J Z Y : Word) (Nets S E : Data) (D N I G C L F K : Part) (Q : Outcome 
         calls ! fm (callee 𝓤 form₄ asks₄ gives₄) known₄ (val ! tt refl is-w (nothing-more !)) (ok₄ (nets .now) (hosts .now) (octets .now) (run .now) (slots .now) (answers .now) i w asked z q low φ₁ φ₂ φ₃) tt refl (λ high ws₄ φ₄ is-high.
         calls ! fm (callee 𝓤 form₅ asks₅ gives₅) known₅ (val ! tt refl is-w (nothing-more !)) (ok₅ (nets .now) (hosts .now) (octets .now) (run .now) (slots .now) (answers .now) i w asked z q low high φ₁ φ₂ φ₃ φ₄) tt refl (λ here ws₅ φ₅ is-here.
         calls ! fm (callee 𝓤 form₆ asks₆ gives₆) known₆ (val ! tt refl is-w (nothing-more !)) (ok₆ (nets .now) (hosts .now) (octets .now) (run .now) (slots .now) (answers .now) i w asked z q low high here φ₁ φ₂ φ₃ φ₄ φ₅) tt refl (λ there ws₆ φ₆ is-there.
-        slices ! refl tt tt tt tt refl (is-hosts .0) (
-        lends ! 1 refl (λ α₇ δ₇.
+        slices ! refl tt tt tt tt refl (is-hosts .0) (lends ! 1 refl (λ α₇ δ₇.
         calls ! fm (callee 𝓤 form₇ asks₇ gives₇) known₇ (shares ! 1 tt refl (val ! tt refl is-z (nothing-more !))) (ok₇ (nets .now) (hosts .now) (octets .now) (run .now) (slots .now) (answers .now) i w asked z q low high here there φ₁ φ₂ φ₃ φ₄ φ₅ φ₆) tt refl (λ v ws₇ φ₇ is-v.
-        back ! 1 refl refl (
-        begins ! refl tt tt tt (
+        back ! 1 refl refl (begins ! refl tt tt tt (
         counts ! refl tt tt tt (is-high .is .1) ((within₈ (nets .now) (hosts .now) (octets .now) (run .now) (slots .now) (answers .now) i w asked z q low high here there v φ₁ φ₂ φ₃ φ₄ φ₅ φ₆ φ₇) .0) (
-        points ! refl tt tt (tt, tt) (
-        pairs ! refl tt tt tt (fewer low high (is-high .is .1)) (
-        begins ! refl tt tt tt (
+        points ! refl tt tt (tt, tt) (pairs ! refl tt tt tt (fewer low high (is-high .is .1)) (begins ! refl tt tt tt (
         counts ! refl tt tt tt (is-there .is .1) ((within₈′ (nets .now) (hosts .now) (octets .now) (run .now) (slots .now) (answers .now) i w asked z q low high here there v φ₁ φ₂ φ₃ φ₄ φ₅ φ₆ φ₇) .0) (
-        points ! refl tt tt (tt, tt) (
-        pairs ! refl tt tt tt (fewer here there (is-there .is .1)) (
+        points ! refl tt tt (tt, tt) (pairs ! refl tt tt tt (fewer here there (is-there .is .1)) (
         cuts ! 2 refl low high (within₈ (nets .now) (hosts .now) (octets .now) (run .now) (slots .now) (answers .now) i w asked z q low high here there v φ₁ φ₂ φ₃ φ₄ φ₅ φ₆ φ₇) (λ δ₈.
         recuts ! 5 refl here there (within₈′ (nets .now) (hosts .now) (octets .now) (run .now) (slots .now) (answers .now) i w asked z q low high here there v φ₁ φ₂ φ₃ φ₄ φ₅ φ₆ φ₇) (λ α₈′ δ₈′.
         calls ! fm (callee 𝓤 form₈ asks₈ gives₈) known₈ (value ! (part ! tt refl refl) (is-part D (Q .form .read q .0) (owed-of Q is-q .0)) (share ! 0 tt refl (value ! (part ! tt refl refl) (is-part N (Q .form .read q .1 .0) (owed-of Q is-q .1 .0)) (value ! (part ! tt refl refl) (is-part C (B .form .read v .0) (owed-of B is-v .0)) (value ! (part ! tt refl refl) (is-part L (B .form .read v .1 .0) (owed-of B is-v .1 .0)) (value ! (part ! tt refl refl) (is-part F (B .form .read v .1 .1 .0) (owed-of B is-v .1 .1 .0)) (shares ! 1 tt refl (shares ! 2 tt refl (value ! (part ! tt refl refl) (is-part I (Q .form .read q .1 .1 .0) (owed-of Q is-q .1 .1 .0)) (value ! (part ! tt refl refl) (is-part G (Q .form .read q .1 .1 .1 .0) (owed-of Q is-q .1 .1 .1 .0)) (gives ! 2 tt refl (nothing-more !)))))))))))) (ok₈ (nets .now) (hosts .now) (octets .now) (run .now) (slots .now) (answers .now) i w asked z q low high here there v φ₁ φ₂ φ₃ φ₄ φ₅ φ₆ φ₇) tt refl (λ o ws₈ φ₈ is-o.
-        joined ! 2 refl refl (
-        rejoined ! 4 refl refl (
+        joined ! 2 refl refl (rejoined ! 4 refl refl (
         calls ! fm (callee 𝓤 form₉ asks₉ gives₉) known₉ (val ! tt refl is-w (val ! tt refl is-o (nothing-more !))) (ok₉ (nets .now) (hosts .now) (octets .now) (run .now) (slots .now) (answers .now) i w asked z q low high here there v o (ws₈ .1 .1 .1 .1 .1 .1 .1 .1 .1 .1 .0) φ₁ φ₂ φ₃ φ₄ φ₅ φ₆ φ₇ φ₈) tt refl (λ y ws₉ φ₉ is-y.
         slices ! refl tt tt tt tt refl (is-hosts .0) (
         calls ! fm (callee 𝓤 form₁₀ asks₁₀ gives₁₀) known₁₀ (gives ! 1 tt refl (val ! tt refl is-y (nothing-more !))) (ok₁₀ (nets .now) (hosts .now) (octets .now) (run .now) (slots .now) (answers .now) i w asked z q low high here there v o (ws₈ .1 .1 .1 .1 .1 .1 .1 .1 .1 .1 .0) y φ₁ φ₂ φ₃ φ₄ φ₅ φ₆ φ₇ φ₈ φ₉) tt refl (λ u₁₀ ws₁₀ φ₁₀ is-u₁₀.

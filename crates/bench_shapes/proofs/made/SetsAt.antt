@@ -60,15 +60,11 @@ module _ (J Z Y : Word) (Nets S E : Data) (D N I C L F K : Part) (Q : Outcome (D
         calls ! fm (callee 𝓤 form₂ asks₂ gives₂) known₂ (val ! tt refl is-i (value ! (part ! tt refl refl) (is-part D (Q .form .read q .0) (owed-of Q is-q .0)) (nothing-more !))) (ok₂ (file .now) (nets .now) (hosts .now) (octets .now) (run .now) i w asked q φ₁) tt refl (λ z ws₂ φ₂ is-z.
         calls ! fm (callee 𝓤 form₃ asks₃ gives₃) known₃ (val ! tt refl is-i (nothing-more !)) (ok₃ (file .now) (nets .now) (hosts .now) (octets .now) (run .now) i w asked q z φ₁ φ₂) tt refl (λ low ws₃ φ₃ is-low.
         calls ! fm (callee 𝓤 form₄ asks₄ gives₄) known₄ (val ! tt refl is-i (nothing-more !)) (ok₄ (file .now) (nets .now) (hosts .now) (octets .now) (run .now) i w asked q z low φ₁ φ₂ φ₃) tt refl (λ high ws₄ φ₄ is-high.
-        slices ! refl tt tt tt tt refl (is-hosts .0) (
-        lends ! 2 refl (λ α₅ δ₅.
+        slices ! refl tt tt tt tt refl (is-hosts .0) (lends ! 2 refl (λ α₅ δ₅.
         calls ! fm (callee 𝓤 form₅ asks₅ gives₅) known₅ (shares ! 2 tt refl (val ! tt refl is-z (nothing-more !))) (ok₅ (file .now) (nets .now) (hosts .now) (octets .now) (run .now) i w asked q z low high φ₁ φ₂ φ₃ φ₄) tt refl (λ v ws₅ φ₅ is-v.
-        back ! 2 refl refl (
-        begins ! refl tt tt tt (
-        counts ! refl tt tt tt (is-high .is .1) ((within₆ (file .now) (nets .now) (hosts .now) (octets .now) (run .now) i w asked q z low high v φ₁ φ₂ φ₃ φ₄ φ₅) .0) (
-        points ! refl tt tt (tt, tt) (
-        pairs ! refl tt tt tt (fewer low high (is-high .is .1)) (
-        slices ! refl tt tt tt tt refl (is-run .0) (
+        back ! 2 refl refl (begins ! refl tt tt tt (
+        counts ! refl tt tt tt (is-high .is .1) ((within₆ (file .now) (nets .now) (hosts .now) (octets .now) (run .now) i w asked q z low high v φ₁ φ₂ φ₃ φ₄ φ₅) .0) (points ! refl tt tt (tt, tt) (
+        pairs ! refl tt tt tt (fewer low high (is-high .is .1)) (slices ! refl tt tt tt tt refl (is-run .0) (
         cuts ! 3 refl low high (within₆ (file .now) (nets .now) (hosts .now) (octets .now) (run .now) i w asked q z low high v φ₁ φ₂ φ₃ φ₄ φ₅) (λ δ₆.
         calls ! fm (callee 𝓤 form₆ asks₆ gives₆) known₆ (value ! (part ! tt refl refl) (is-part D (Q .form .read q .0) (owed-of Q is-q .0)) (share ! 1 tt refl (value ! (part ! tt refl refl) (is-part N (Q .form .read q .1 .0) (owed-of Q is-q .1 .0)) (value ! (part ! tt refl refl) (is-part C (B .form .read v .0) (owed-of B is-v .0)) (value ! (part ! tt refl refl) (is-part L (B .form .read v .1 .0) (owed-of B is-v .1 .0)) (value ! (part ! tt refl refl) (is-part F (B .form .read v .1 .1 .0) (owed-of B is-v .1 .1 .0)) (shares ! 2 tt refl (gives ! 3 tt refl (value ! (part ! tt refl refl) (is-part I (Q .form .read q .1 .1 .0) (owed-of Q is-q .1 .1 .0)) (nothing-more !)))))))))) (ok₆ (file .now) (nets .now) (hosts .now) (octets .now) (run .now) i w asked q z low high v φ₁ φ₂ φ₃ φ₄ φ₅) tt refl (λ o ws₆ φ₆ is-o.
         joined ! 3 refl refl (

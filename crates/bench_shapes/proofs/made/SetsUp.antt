@@ -38,16 +38,11 @@ module _ (Nets S E D : Data) (K J I Y : Part) (P : Outcome (K ∷ (struct-part D
 
     pub proof : Proven 𝓤 H 𝓜 𝓖 𝓡 γ f job
     proof = lawful 𝓤 H 𝓜 𝓖 𝓡 γ f job _ refl (λ W T Λ fm (known₁, (known₂, (known₃, (known₄, _)))) κs qs (file, (nets, (hosts, (octets, (run, (slots, (answers, (progress, _)))))))) (is-file, (_, (is-hosts, (is-octets, (is-run, (is-slots, (is-answers, (_, _)))))))) β Kf done.
-        copies ! 1 refl tt tt refl (λ is-t.
-        copies-mut ! 7 refl tt tt refl (λ is-d.
-        sets ! (part ! tt refl refl) tt (typed-of W (is-length (is-hosts .0))) (
-        sets ! (part ! tt refl refl) tt (typed-of W (is-length (is-octets .0))) (
-        sets ! (part ! tt refl refl) tt (typed-of W (is-length (is-run .0))) (
-        sets ! (part ! tt refl refl) tt (typed-of W (is-length (is-slots .0))) (
-        sets ! (part ! tt refl refl) tt (typed-of W (is-length (is-answers .0))) (
+        copies ! 1 refl tt tt refl (λ is-t. copies-mut ! 7 refl tt tt refl (λ is-d. sets ! (part ! tt refl refl) tt (typed-of W (is-length (is-hosts .0))) (
+        sets ! (part ! tt refl refl) tt (typed-of W (is-length (is-octets .0))) (sets ! (part ! tt refl refl) tt (typed-of W (is-length (is-run .0))) (
+        sets ! (part ! tt refl refl) tt (typed-of W (is-length (is-slots .0))) (sets ! (part ! tt refl refl) tt (typed-of W (is-length (is-answers .0))) (
         calls ! fm (callee 𝓤 form₁ asks₁ gives₁) known₁ (shares ! 0 tt refl (val ! tt refl is-t (val ! tt refl is-d (val ! tt refl (is-length (is-hosts .0)) (val ! tt refl (is-length (is-octets .0)) (val ! tt refl (is-length (is-run .0)) (val ! tt refl (is-length (is-slots .0)) (val ! tt refl (is-length (is-answers .0)) (nothing-more !))))))))) (ok₁ (file .now) (nets .now) (hosts .now) (octets .now) (run .now) (slots .now) (answers .now) (progress .now)) tt refl (λ p ws₁ φ₁ is-p.
-        slices ! refl tt tt tt tt refl (is-hosts .0) (
-        slices ! refl tt tt tt tt refl (is-run .0) (
+        slices ! refl tt tt tt tt refl (is-hosts .0) (slices ! refl tt tt tt tt refl (is-run .0) (
         calls ! fm (callee 𝓤 form₂ asks₂ gives₂) known₂ (shares ! 0 tt refl (share ! 0 tt refl (gives ! 0 tt refl (shares ! 0 tt refl (gives ! 0 tt refl (value ! (part ! tt refl refl) (is-part J (P .form .read p .1 .1 .0) (owed-of P is-p .1 .1 .0)) (nothing-more !))))))) (ok₂ (file .now) (nets .now) (hosts .now) (octets .now) (run .now) (slots .now) (answers .now) (progress .now) p φ₁) tt refl (λ u₂ ws₂ φ₂ is-u₂.
         slices ! refl tt tt tt tt refl (is-slots .0) (
         calls ! fm (callee 𝓤 form₃ asks₃ gives₃) known₃ (gives ! 5 tt refl (value ! (part ! tt refl refl) (is-part I (P .form .read p .1 .1 .1 .0) (owed-of P is-p .1 .1 .1 .0)) (nothing-more !))) (ok₃ (file .now) (nets .now) (hosts .now) (octets .now) (run .now) (slots .now) (answers .now) (progress .now) p (ws₂ .1 .1 .0) (ws₂ .1 .1 .1 .1 .0) φ₁ φ₂) tt refl (λ u₃ ws₃ φ₃ is-u₃.

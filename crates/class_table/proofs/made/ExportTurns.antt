@@ -27,7 +27,6 @@ module _ (X O K : Word) (C : Data) where
 
     pub proof : Proven 𝓤 H 𝓜 𝓖 𝓡 γ f job
     proof = lawful 𝓤 H 𝓜 𝓖 𝓡 γ f job _ refl (λ W T Λ fm (known₁, (known₂, _)) κs qs (table, (a, _)) (_, (is-a, _)) β Kf done.
-        points ! refl tt tt (tt, tt) (
-        calls ! fm (callee 𝓤 form₁ asks₁ gives₁) known₁ (give ! 0 tt refl (val ! tt refl is-a (nothing-more !))) (ok₁ (table .now) a) tt refl (λ o ws₁ φ₁ is-o.
+        points ! refl tt tt (tt, tt) (calls ! fm (callee 𝓤 form₁ asks₁ gives₁) known₁ (give ! 0 tt refl (val ! tt refl is-a (nothing-more !))) (ok₁ (table .now) a) tt refl (λ o ws₁ φ₁ is-o.
         calls ! fm (callee 𝓤 form₂ asks₂ gives₂) known₂ (val ! tt refl is-o (nothing-more !)) (ok₂ (table .now) a o (ws₁ .0) φ₁) tt refl (λ result ws₂ φ₂ is-result.
         finish ! done tt refl is-result (goes ∷ []) _ _ refl (then (table .now) a o (ws₁ .0) result φ₁ φ₂)))))

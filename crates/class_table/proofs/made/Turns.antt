@@ -23,8 +23,7 @@ module _ (X : Word) (C : Data) (K : Part) (P : Outcome ((struct-part C) ∷ K �
 
     pub proof : Proven 𝓤 H 𝓜 𝓖 𝓡 γ f job
     proof = lawful 𝓤 H 𝓜 𝓖 𝓡 γ f job _ refl (λ W T Λ fm (known₁, _) κs qs (table, (a, _)) (_, (is-a, _)) β Kf done.
-        copies-mut ! 0 refl tt tt refl (λ is-c.
-        calls ! fm (callee 𝓤 form₁ asks₁ gives₁) known₁ (val ! tt refl is-c (val ! tt refl is-a (nothing-more !))) (ok₁ (table .now) a) tt refl (λ r ws₁ φ₁ is-r.
+        copies-mut ! 0 refl tt tt refl (λ is-c. calls ! fm (callee 𝓤 form₁ asks₁ gives₁) known₁ (val ! tt refl is-c (val ! tt refl is-a (nothing-more !))) (ok₁ (table .now) a) tt refl (λ r ws₁ φ₁ is-r.
         stores ! 0 refl tt (part ! tt refl refl) (is-part (struct-part C) (P .form .read r .0) (owed-of P is-r .0)) (
         sets ! (part ! tt refl refl) tt (typed-of W (is-part K (P .form .read r .1 .0) (owed-of P is-r .1 .0))) (
         finish ! done tt refl (is-part K (P .form .read r .1 .0) (owed-of P is-r .1 .0)) (stays ∷ []) _ _ refl (then (table .now) a r φ₁))))))

@@ -28,10 +28,7 @@ module _ (O K : Word) (Nets S E D : Data) where
 
     pub proof : Proven 𝓤 H 𝓜 𝓖 𝓡 γ f job
     proof = lawful 𝓤 H 𝓜 𝓖 𝓡 γ f job _ refl (λ W T Λ fm (known₁, (known₂, _)) κs qs (file, (nets, (hosts, (octets, (run, (slots, (answers, (progress, _)))))))) (is-file, (_, (is-hosts, (is-octets, (is-run, (is-slots, (is-answers, (_, _)))))))) β Kf done.
-        slices ! refl tt tt tt tt refl (is-hosts .0) (
-        slices ! refl tt tt tt tt refl (is-run .0) (
-        slices ! refl tt tt tt tt refl (is-slots .0) (
-        slices ! refl tt tt tt tt refl (is-answers .0) (
+        slices ! refl tt tt tt tt refl (is-hosts .0) (slices ! refl tt tt tt tt refl (is-run .0) (slices ! refl tt tt tt tt refl (is-slots .0) (slices ! refl tt tt tt tt refl (is-answers .0) (
         points ! refl tt tt (tt, tt) (
         calls ! fm (callee 𝓤 form₁ asks₁ gives₁) known₁ (shares ! 0 tt refl (share ! 0 tt refl (gives ! 0 tt refl (shares ! 0 tt refl (gives ! 0 tt refl (gives ! 0 tt refl (gives ! 0 tt refl (give ! 0 tt refl (nothing-more !))))))))) (ok₁ (file .now) (nets .now) (hosts .now) (octets .now) (run .now) (slots .now) (answers .now) (progress .now)) tt refl (λ a ws₁ φ₁ is-a.
         calls ! fm (callee 𝓤 form₂ asks₂ gives₂) known₂ (val ! tt refl is-a (nothing-more !)) (ok₂ (file .now) (nets .now) (hosts .now) (octets .now) (run .now) (slots .now) (answers .now) (progress .now) a (ws₁ .1 .1 .0) (ws₁ .1 .1 .1 .1 .0) (ws₁ .1 .1 .1 .1 .1 .0) (ws₁ .1 .1 .1 .1 .1 .1 .0) (ws₁ .1 .1 .1 .1 .1 .1 .1 .0) φ₁) tt refl (λ result ws₂ φ₂ is-result.

@@ -32,9 +32,7 @@ module _ (N C L F U J B G : Word) (S Nets E : Data) where
 
     pub proof : Proven 𝓤 H 𝓜 𝓖 𝓡 γ f job
     proof = lawful 𝓤 H 𝓜 𝓖 𝓡 γ f job _ refl (λ W T Λ fm (known₁, (known₂, (known₃, _))) κs qs (settings, (nets, (number, (clock, (links, (stand, (octets, (scope, (run, _))))))))) (_, (_, (is-number, (is-clock, (is-links, (is-stand, (is-octets, (is-scope, (is-run, _))))))))) β Kf done.
-        copies ! 0 refl tt tt refl (λ is-s.
-        copies ! 1 refl tt tt refl (λ is-t.
-        sets ! (part ! tt refl refl) tt (typed-of W (is-length (is-run .0))) (
+        copies ! 0 refl tt tt refl (λ is-s. copies ! 1 refl tt tt refl (λ is-t. sets ! (part ! tt refl refl) tt (typed-of W (is-length (is-run .0))) (
         calls ! fm (callee 𝓤 form₁ asks₁ gives₁) known₁ (val ! tt refl is-s (val ! tt refl is-t (val ! tt refl is-number (val ! tt refl is-clock (val ! tt refl is-links (val ! tt refl is-stand (shares ! 2 tt refl (val ! tt refl is-scope (val ! tt refl (is-length (is-run .0)) (nothing-more !)))))))))) (ok₁ (settings .now) (nets .now) number clock links stand (octets .now) scope (run .now)) tt refl (λ w ws₁ φ₁ is-w.
         calls ! fm (callee 𝓤 form₂ asks₂ gives₂) known₂ (shares ! 3 tt refl (val ! tt refl is-w (nothing-more !))) (ok₂ (settings .now) (nets .now) number clock links stand (octets .now) scope (run .now) w φ₁) tt refl (λ good ws₂ φ₂ is-good.
         calls ! fm (callee 𝓤 form₃ asks₃ gives₃) known₃ (val ! tt refl is-s (val ! tt refl is-t (val ! tt refl is-stand (val ! tt refl is-scope (val ! tt refl is-good (nothing-more !)))))) (ok₃ (settings .now) (nets .now) number clock links stand (octets .now) scope (run .now) w good φ₁ φ₂) tt refl (λ result ws₃ φ₃ is-result.

@@ -51,19 +51,13 @@ module _ (N I U G Z Q X : Word) (S Nets C L F E : Data) (K J : Part) (P : Outcom
 
     pub proof : Proven 𝓤 H 𝓜 𝓖 𝓡 γ f job
     proof = lawful 𝓤 H 𝓜 𝓖 𝓡 γ f job _ refl (λ W T Λ fm (known₁, (known₂, (known₃, (known₄, (known₅, (known₆, (known₇, _))))))) κs qs (settings, (nets, (number, (clock, (links, (stand, (octets, (run, (request, _))))))))) (_, (_, (is-number, (_, (_, (_, (is-octets, (is-run, (is-request, _))))))))) β Kf done.
-        copies ! 0 refl tt tt refl (λ is-s.
-        copies ! 1 refl tt tt refl (λ is-t.
-        copies-mut ! 2 refl tt tt refl (λ is-c.
-        copies-mut ! 3 refl tt tt refl (λ is-l.
-        copies-mut ! 4 refl tt tt refl (λ is-v.
+        copies ! 0 refl tt tt refl (λ is-s. copies ! 1 refl tt tt refl (λ is-t. copies-mut ! 2 refl tt tt refl (λ is-c. copies-mut ! 3 refl tt tt refl (λ is-l. copies-mut ! 4 refl tt tt refl (λ is-v.
         calls ! fm (callee 𝓤 form₁ asks₁ gives₁) known₁ (val ! tt refl is-request (nothing-more !)) (ok₁ (settings .now) (nets .now) number (clock .now) (links .now) (stand .now) (octets .now) (run .now) request) tt refl (λ a ws₁ φ₁ is-a.
-        slices ! refl tt tt tt tt refl (is-run .0) (
-        lends ! 6 refl (λ α₂ δ₂.
+        slices ! refl tt tt tt tt refl (is-run .0) (lends ! 6 refl (λ α₂ δ₂.
         calls ! fm (callee 𝓤 form₂ asks₂ gives₂) known₂ (share ! 0 tt refl (share ! 0 tt refl (val ! tt refl is-number (val ! tt refl is-c (val ! tt refl is-l (val ! tt refl is-v (shares ! 3 tt refl (val ! tt refl is-a (shares ! 3 tt refl (nothing-more !)))))))))) (ok₂ (settings .now) (nets .now) number (clock .now) (links .now) (stand .now) (octets .now) (run .now) request a φ₁) tt refl (λ g ws₂ φ₂ is-g.
         back ! 6 refl refl (
         calls ! fm (callee 𝓤 form₃ asks₃ gives₃) known₃ (val ! tt refl is-g (val ! tt refl is-s (val ! tt refl is-t (val ! tt refl is-v (val ! tt refl is-number (val ! tt refl is-request (nothing-more !))))))) (ok₃ (settings .now) (nets .now) number (clock .now) (links .now) (stand .now) (octets .now) (run .now) request a g φ₁ φ₂) tt refl (λ z ws₃ φ₃ is-z.
-        slices ! refl tt tt tt tt refl (is-run .0) (
-        lends ! 6 refl (λ α₄ δ₄.
+        slices ! refl tt tt tt tt refl (is-run .0) (lends ! 6 refl (λ α₄ δ₄.
         calls ! fm (callee 𝓤 form₄ asks₄ gives₄) known₄ (shares ! 6 tt refl (val ! tt refl is-z (nothing-more !))) (ok₄ (settings .now) (nets .now) number (clock .now) (links .now) (stand .now) (octets .now) (run .now) request a g z φ₁ φ₂ φ₃) tt refl (λ e ws₄ φ₄ is-e.
         back ! 6 refl refl (
         calls ! fm (callee 𝓤 form₅ asks₅ gives₅) known₅ (val ! tt refl is-g (val ! tt refl is-s (val ! tt refl is-t (val ! tt refl is-c (val ! tt refl is-l (val ! tt refl is-v (shares ! 5 tt refl (val ! tt refl is-e (val ! tt refl is-request (nothing-more !)))))))))) (ok₅ (settings .now) (nets .now) number (clock .now) (links .now) (stand .now) (octets .now) (run .now) request a g z e φ₁ φ₂ φ₃ φ₄) tt refl (λ p ws₅ φ₅ is-p.

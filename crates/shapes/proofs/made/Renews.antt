@@ -37,11 +37,7 @@ module _ (N G X : Word) (S Nets C L F E : Data) (K J : Part) (P : Outcome (K ∷
 
     pub proof : Proven 𝓤 H 𝓜 𝓖 𝓡 γ f job
     proof = lawful 𝓤 H 𝓜 𝓖 𝓡 γ f job _ refl (λ W T Λ fm (known₁, (known₂, (known₃, (known₄, _)))) κs qs (settings, (nets, (number, (clock, (links, (stand, (octets, (run, _)))))))) (_, (_, (is-number, (_, (_, (_, (is-octets, (is-run, _)))))))) β Kf done.
-        copies ! 0 refl tt tt refl (λ is-s.
-        copies ! 1 refl tt tt refl (λ is-t.
-        copies-mut ! 2 refl tt tt refl (λ is-c.
-        copies-mut ! 3 refl tt tt refl (λ is-l.
-        copies-mut ! 4 refl tt tt refl (λ is-v.
+        copies ! 0 refl tt tt refl (λ is-s. copies ! 1 refl tt tt refl (λ is-t. copies-mut ! 2 refl tt tt refl (λ is-c. copies-mut ! 3 refl tt tt refl (λ is-l. copies-mut ! 4 refl tt tt refl (λ is-v.
         sets ! (part ! tt refl refl) tt (typed-of W (is-length (is-run .0))) (
         calls ! fm (callee 𝓤 form₁ asks₁ gives₁) known₁ (val ! tt refl is-s (val ! tt refl is-t (val ! tt refl is-number (val ! tt refl (is-length (is-run .0)) (nothing-more !))))) (ok₁ (settings .now) (nets .now) number (clock .now) (links .now) (stand .now) (octets .now) (run .now)) tt refl (λ g ws₁ φ₁ is-g.
         calls ! fm (callee 𝓤 form₂ asks₂ gives₂) known₂ (val ! tt refl is-g (val ! tt refl is-s (val ! tt refl is-c (val ! tt refl is-l (val ! tt refl is-v (nothing-more !)))))) (ok₂ (settings .now) (nets .now) number (clock .now) (links .now) (stand .now) (octets .now) (run .now) g φ₁) tt refl (λ p ws₂ φ₂ is-p.
