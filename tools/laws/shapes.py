@@ -5,14 +5,14 @@ from script import thin_names, walk_names
 CRATES = ("lent", "shapes", "exports", "wholes", "class_table", "bench_shapes", "bench_wholes")
 LOOPS = ("Folds", "Maps", "Applies", "Writes")
 
-# What the made text binds or cites itself, beside the names of Walk.antt. A type of the same name would be taken for it, or it for the type. Of a type C the text makes RC and XC besides.
-CITED = set("Type Unit LL Word Data Part Outcome Kept LentAgain LentPart Declared Struct Plains Denots Array Sym Contract Clauses Post Says Asks".split())
+# What the made text binds or cites itself, beside the names of Thin.antt and Walk.antt. A type of the same name would be taken for it, or it for the type.
+CITED = set("Type Unit LL Declared Plains Denots Array Sym Val Is Says Asks".split())
 STRAIGHT_TYPES = CITED | set("A H Kf M T W".split())
 REPEATS_TYPES = STRAIGHT_TYPES | set("J After".split())
-WHOLE_TYPES = STRAIGHT_TYPES | set("D K O LO PO RO".split())
+WHOLE_TYPES = STRAIGHT_TYPES | set("D K O LO PO".split())
 # The same for parameters: what stands beside them in the made text, and the fields of the records that are made there.
-VALUES = set("x at v vs sh r u exits walk fm then stayed ended clauses function slice make made back shown one room".split())
-FIELDS = set("lifetimes outlives params result locals body signature kept ghost requires ensures ptr name now fits".split())
+VALUES = set("x at v vs r u fm then told known done code job make made back shown one many long leave again".split())
+FIELDS = set("code itself calls ptr name now fits".split())
 NUMBERS = ("usize", "bool", "u8")
 
 
@@ -77,7 +77,7 @@ class Shape:
             if not h:
                 raise Wrong(line, "not a parameter: `%s`" % text)
             self.heads.append(h.groups())
-        self.fresh, self.named = {}, set()
+        self.fresh = {}
         for name, _ in self.heads:
             self.name_value(line, name)
 
@@ -95,10 +95,6 @@ class Shape:
                 raise Wrong(line, "`%s` cannot stand here" % name)
         elif name in reserved or name in walk_names() | thin_names():
             raise Wrong(line, "the type name `%s` is reserved: the made text uses it" % name)
-        for other in self.named:
-            if name in ("R" + other, "X" + other) or other in ("R" + name, "X" + name):
-                raise Wrong(line, "the types `%s` and `%s` do not go together: of a type C the made text makes RC and XC" % (other, name))
-        self.named.add(name)
 
 
 class Straight(Shape):
