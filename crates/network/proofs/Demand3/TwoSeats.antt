@@ -1,8 +1,9 @@
 -- The room of two seats is proper, by cases; and its calls are lent what was left.
-use mathlib.Core.Path.{_≡_, refl, ap, _∙_}
+use mathlib.Core.Path.{_≡_, refl, sym, ap, _∙_}
 use mathlib.Core.Bool.{Bool, true, false, false≢true, cond, not, _&&_}
 use mathlib.Core.List.{List·Memᴰ}
-use Prim.Native.Nat.{ℕ, zero, suc, _+_, _*_, _≤_, _<_}
+use Prim.Native.Nat.{ℕ, zero, suc, _+_, _*_, _%_, _≤_, _<_, _^_}
+use native.Mathlib.Nat.{zero-div}
 use native.Mathlib.Omega.{arith}
 use borrow.Author.Tests.{eqb-true, eqb-false, ltb-true, ltb-false}
 use lib.Dec.{eqb, ltb}
@@ -17,9 +18,9 @@ use Rattle.route.specs.Find.{sameNet}
 use Rattle.lists.proofs.Tests.{both}
 use Rattle.table.specs.declared.marks.Marks.{Marks}
 use Rattle.table.specs.Forms.{every, upFrom}
-use Rattle.table.specs.Marks.{marked, idsFrom}
+use Rattle.table.specs.Marks.{bit, mark, marked, idsFrom}
 use Rattle.table.specs.Entry.{freshEntry}
-use Rattle.table.proofs.Bits.{no-mark}
+use Rattle.table.proofs.Bits.{no-word}
 use Rattle.host.specs.State.{placesPerHost, firstPlace, hostCount, entries}
 use Rattle.network.specs.History.{Lends}
 use Rattle.network.specs.Room.{clockSpread, loose, at, afresh, HostAt, Cabled, Proper}
@@ -45,6 +46,11 @@ every-id test first (suc n) e id l h =
     go : (suc first ≤ id → id < suc first + n → test id ≡ true) → (b : Bool) → eqb id first ≡ b → test id ≡ true
     go rest true is = rw (eqb-true id first is) (both (test first) (every test (upFrom (suc first) n)) e .0)
     go rest false is = let other = eqb-false id first is in rest (omega (arith, l, other)) (omega (arith, h))
+
+no-mark : (m : Marks) (id : ℕ) → length (m .words) ≡ 4 → 256 ≤ id → 0 ≡ mark m id
+unfolding mark
+no-mark m id four h =
+    sym (ap (λ (w : ℕ). bit w (id % 64)) (sym (no-word m id four h)) ∙ ap (λ (x : ℕ). x % 2) (zero-div (2 ^ (id % 64))))
 
 pub apart : (m n : Marks) → length (m .words) ≡ 4 → every (λ (id : ℕ). not (marked m id && marked n id)) (idsFrom 0) ≡ true
     → (id : ℕ) → marked m id ≡ true → marked n id ≡ true → ⊥
