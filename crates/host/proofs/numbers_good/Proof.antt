@@ -16,7 +16,7 @@ returns : tie.Need-returns
 returns c =
     sym
     (failed _ (both (c .before .before .from-to .ensures) (c .before .switches-good .ensures) (is-not _ (c .if1 .taken))))
-    ∙ in-pairs (c .before .before .before .args .s)
+    ∙ in-pairs (c .before .before .before .before .before .before .args .s)
 
 from-to-requires-2 : tie.Need-from-to-requires-2
 from-to-requires-2 c κs = search needs
@@ -33,7 +33,7 @@ returns-2 c =
     sym
     (passed (both (p1 .before .before .from-to .ensures) (p1 .before .switches-good .ensures) (is-so _ (p1 .if1 .left)))
     (failed _ (both (c .before .before .before .from-to2 .ensures) (c .before .from-to3 .ensures) (is-not _ (c .if2 .taken)))))
-    ∙ in-pairs (p1 .before .before .before .args .s)
+    ∙ in-pairs (p1 .before .before .before .before .before .before .args .s)
 
 clock-host-good-requires : tie.Need-clock-host-good-requires
 clock-host-good-requires c κs = search needs
@@ -52,7 +52,7 @@ returns-3 c =
     (passed (both (p1 .before .before .from-to .ensures) (p1 .before .switches-good .ensures) (is-so _ (p1 .if1 .left)))
     (passed (both (p2 .before .before .before .from-to2 .ensures) (p2 .before .from-to3 .ensures) (is-so _ (p2 .if2 .left)))
     (failed _ (both (c .before .before .before .clock-host-good .ensures) (c .before .from-to4 .ensures) (is-not _ (c .if3 .taken))))))
-    ∙ in-pairs (p1 .before .before .before .args .s)
+    ∙ in-pairs (p1 .before .before .before .before .before .before .args .s)
 
 tick-in-range-requires : tie.Need-tick-in-range-requires
 tick-in-range-requires c κs = search needs
@@ -70,7 +70,7 @@ returns-4 c =
     (passed (both (p2 .before .before .before .from-to2 .ensures) (p2 .before .from-to3 .ensures) (is-so _ (p2 .if2 .left)))
     (passed (both (p3 .before .before .before .clock-host-good .ensures) (p3 .before .from-to4 .ensures) (is-so _ (p3 .if3 .left)))
     (failed _ (both (c .before .before .tick-in-range .ensures) (c .before .time-good .ensures) (is-not _ (c .if4 .taken)))))))
-    ∙ in-pairs (p1 .before .before .before .args .s)
+    ∙ in-pairs (p1 .before .before .before .before .before .before .args .s)
 
 is-real-requires : tie.Need-is-real-requires
 is-real-requires c κs = search needs
@@ -87,7 +87,7 @@ returns-5 c =
     (passed (both (p3 .before .before .before .clock-host-good .ensures) (p3 .before .from-to4 .ensures) (is-so _ (p3 .if3 .left)))
     (passed (both (p4 .before .before .tick-in-range .ensures) (p4 .before .time-good .ensures) (is-so _ (p4 .if4 .left)))
     (sym (c .is-real .ensures))))))
-    ∙ in-pairs (p1 .before .before .before .args .s)
+    ∙ in-pairs (p1 .before .before .before .before .before .before .args .s)
 
 pub numbers-good-spec : {M : Type 1} → statement M
 numbers-good-spec =
