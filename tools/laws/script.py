@@ -1,4 +1,4 @@
-"""A proof script over a context whose entries have names, so that no place is counted by hand; and the names of crate `lent` that a text uses."""
+"""What the laws of all shapes share: pieces of text, and the names of crate `lent` that a text uses."""
 import os
 import re
 
@@ -7,6 +7,10 @@ PROOFS = os.path.join(os.path.dirname(os.path.abspath(__file__)), "..", "..", "c
 
 def digits(n):
     return "".join("₀₁₂₃₄₅₆₇₈₉"[int(d)] for d in str(n))
+
+
+def arrows(ts):
+    return " → ".join(ts)
 
 
 def items(xs):
@@ -18,11 +22,6 @@ def nest(xs):
     for x in reversed(list(xs)):
         r = "(%s, %s)" % (x, r)
     return r
-
-
-def product(ts):
-    ts = list(ts)
-    return "".join("%s × (" % t for t in ts[:-1]) + ts[-1] + " × Unit {0}" + ")" * (len(ts) - 1)
 
 
 def proj(base, i):
@@ -49,73 +48,6 @@ def wrapped(words, indent, width=200):
     return "\n".join(lines)
 
 
-class Script:
-    def __init__(self, names):
-        self.ctx = list(names)
-        self.out = []
-        self.open = 0
-
-    def put(self, s):
-        self.out.append(s)
-
-    def note(self, s):
-        self.put("-- " + s)
-
-    def at(self, n):
-        return self.ctx.index(n)
-
-    def head(self, s, k, new):
-        """s takes the first k entries and leaves the new ones"""
-        self.put(s)
-        self.ctx = list(new) + self.ctx[k:]
-
-    def binder(self, s, k, new):
-        self.head(s, k, new)
-        self.open += 1
-
-    def move(self, *ns):
-        places = [self.at(n) for n in ns]
-        if places != list(range(len(ns))):
-            self.put("move ! (%s) $" % items(map(str, places)))
-            self.ctx = list(ns) + [c for c in self.ctx if c not in ns]
-
-    def keep(self, *ns):
-        self.put("keep ! (%s) $" % items(str(self.at(n)) for n in ns))
-        self.ctx = list(ns)
-
-    def drop(self, *ns):
-        for n in ns:
-            self.move(n)
-            self.head("drop ! $", 1, [])
-
-    def nothing(self, n):
-        self.head("nothing ! $", 0, [n])
-
-    def split(self, n, a, b, how="split"):
-        self.move(n)
-        self.head(how + " ! $", 1, [a, b])
-
-    def join(self, a, b, n, how="join"):
-        self.move(a, b)
-        self.head(how + " ! $", 2, [n])
-
-    def end(self, s):
-        self.put(s + ")" * self.open)
-
-    def lines(self, indent, width=200):
-        res, cur = [], ""
-        for s in self.out:
-            if s.startswith("-- ") or (cur and len(cur) + len(s) + 1 > width):
-                if cur:
-                    res.append(indent + cur)
-                cur = ""
-            if s.startswith("-- "):
-                res.append(indent + s)
-            else:
-                cur = (cur + " " + s) if cur else s
-        return "\n".join(res + [indent + cur])
-
-
 class Law:
     """the text of a law, written part by part: a part uses what those before it have found"""
 
@@ -129,17 +61,6 @@ class Law:
 
     def text(self):
         return "\n".join(self.out) + "\n"
-
-
-def walk_cites():
-    """the names that Walk.antt cites, in its order"""
-    with open(os.path.join(PROOFS, "Walk.antt")) as walk:
-        lists = [re.match(r"(?:unfoldable )?pub use .*\.\{(.*)\}", l) for l in walk]
-    return [n.split(" as ")[-1] for g in lists if g for n in g.group(1).split(", ")]
-
-
-def walk_names():
-    return {n.strip("_") for n in walk_cites()}
 
 
 def thin_cites():
@@ -156,7 +77,7 @@ def thin_names():
 
 def thin_uses(text, crate, modules=()):
     """the lines that bring in what the text uses of Thin.antt, and of the modules with the names given"""
-    have = set(re.findall(r"[^\s(){}\[\],;.]+", text))
+    have = set(re.findall(r"[^\s(){}\[\],;.]+", re.sub(r"(?m)^ *--.*", "", text)))
     lines = ["use %s.Thin.{%s}" % (lib(crate), ", ".join(n for n in thin_cites() if n.strip("_") in have or n == "[]"))]
     for module, names in modules:
         ns = [n for n in names if n.split(" as ")[-1] in have]
@@ -168,16 +89,3 @@ def thin_uses(text, crate, modules=()):
 def lib(crate):
     """what the laws of a crate call the proofs of crate `lent`"""
     return "Rattle.lent.proofs" if crate == "lent" else "Rattle.lent.proofs"
-
-
-def uses(text, crate, modules):
-    """the lines that bring in what the text uses of Walk.antt, and of the modules with the names given; a module that begins with a dot is one of crate `lent`"""
-    have = set(re.findall(r"[^\s(){}\[\],;.]+", text))
-    cited = [n for n in walk_cites() if n.strip("_") in have or n in have or (n == "[]" and "[]" in text)]
-    home = lib(crate)
-    lines = ["use %s.Walk.{%s}" % (home, ", ".join(n for n in cited if n != "tablesOf")), "use %s.Walk.{tablesOf}" % home, "use denote.Struct.Laws as LL"]
-    for module, names in modules:
-        ns = [n for n in names if n.split(" as ")[-1] in have]
-        if ns:
-            lines.append("use %s.{%s}" % (home + module if module.startswith(".") else module, ", ".join(ns)))
-    return "\n".join(lines) + "\n"

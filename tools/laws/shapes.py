@@ -1,11 +1,11 @@
 """Read shapes.txt. A line that is not of the language of shapes (README.md) is refused with its number, so that nothing is written from a shape that is half understood."""
 import re
-from script import thin_names, walk_names
+from script import thin_names
 
 CRATES = ("lent", "shapes", "exports", "wholes", "class_table", "bench_shapes", "bench_wholes")
 LOOPS = ("Folds", "Maps", "Applies", "Writes")
 
-# What the made text binds or cites itself, beside the names of Thin.antt and Walk.antt. A type of the same name would be taken for it, or it for the type.
+# What the made text binds or cites itself, beside the names of Thin.antt. A type of the same name would be taken for it, or it for the type.
 CITED = set("Type Unit LL Declared Plains Denots Array Sym Val Is Says Asks".split())
 STRAIGHT_TYPES = CITED | set("A H Kf M T W".split())
 REPEATS_TYPES = STRAIGHT_TYPES | set("J After".split())
@@ -85,7 +85,7 @@ class Shape:
         """a name that the shape gives to a parameter or a let"""
         if name in self.fresh:
             raise Wrong(line, "the name `%s` is taken: it stands on line %d" % (name, self.fresh[name]))
-        if name in FIELDS or (line == self.line and name in VALUES) or name in walk_names() | thin_names():
+        if name in FIELDS or (line == self.line and name in VALUES) or name in thin_names():
             raise Wrong(line, "the name `%s` is reserved: the made text uses it" % name)
         self.fresh[name] = line
 
@@ -93,7 +93,7 @@ class Shape:
         if name in NUMBERS:
             if name not in numbers:
                 raise Wrong(line, "`%s` cannot stand here" % name)
-        elif name in reserved or name in walk_names() | thin_names():
+        elif name in reserved or name in thin_names():
             raise Wrong(line, "the type name `%s` is reserved: the made text uses it" % name)
 
 

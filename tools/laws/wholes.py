@@ -11,8 +11,7 @@
 
 There are two arrays at most: one of up to 1,023 elements, `[T; n]`, and a longer one, `[T; m]`, whose length is lowered to another constant. What is lent, `&T`, `&[T]` and `&mut [T]`, is passed on. The call takes the parameters in their order.
 The checker checks what is written: nothing here is trusted."""
-from script import Law, items, nest, proj, thin_uses, tuple_of, wrapped
-from text import arrows
+from script import Law, arrows, items, nest, proj, thin_uses, tuple_of, wrapped
 
 FIELD = {"struct": "declared.field (%s .S)", "list": "list-field %s %n"}
 LAWS = {"struct": "LL.field-laws (%s .S) (%s .L) (%s .low)", "list": "list-laws %s %n"}

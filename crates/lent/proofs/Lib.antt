@@ -1,5 +1,6 @@
 pub mod Again
 pub mod Calling
+pub mod Elements
 pub mod Frame
 pub mod Holds
 pub mod Law
@@ -11,6 +12,5 @@ pub mod Outcomes
 pub mod Parts
 pub mod Shared
 pub mod Thin
-pub mod Walk
 pub mod Ways
 pub mod Words

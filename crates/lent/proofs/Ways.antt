@@ -19,10 +19,10 @@ use contract.Monad.{fact}
 use denote.RattleType.{RattleType, Denots}
 use denote.Ref.{MutRef, ShrRef}
 use denote.Slice.{MutSlice, ShrSlice}
-use denote.Signature.{Slot, Signature, plain, typesAt}
+use denote.Signature.{Slot, plain, typesAt}
 use denote.Struct.Declared.{row}
 use denote.Exit.{yes}
-use denote.Triple.End.{Kepts, all, Outs}
+use denote.Triple.End.{all, Outs}
 use denote.Triple.Statement.{Contract}
 use denote.Triple.Spec.{tripleOf}
 use denote.Triple.Clauses.{Ended, Clauses, closing}

@@ -28,10 +28,10 @@ use lib.Dec.{ltb→lt}
 use lib.ListN.{length}
 use mir.Syntax.{Ty, erased, Body, place, addrOf, assign, seq}
 use mir.Val.{vptr, WT, hasTy}
-use base.Fml.{GName, fat, flft, flent, fres}
+use base.Fml.{GName, fat, flent}
 use prog.Wp.{Heap, Calls, Loops}
 use ghost.Atoms.{Atoms}
-use types.Kit.{Given, ‵, _⊛_, some, later, given, learn, Post, _$_, move, use1, use2, use3, rewrite, split, fsplit, fjoin, fjoin3, await, pick, drop}
+use types.Kit.{Given, ‵, _⊛_, some, later, given, learn, Post, _$_, move, use1, use2, use3, rewrite, split, fsplit, fjoin, await, pick, drop}
 use types.Run.{from, stop, addr, assigns}
 use types.SemTy.{Body as Referent}
 use types.Share.{arr-parts}
@@ -40,7 +40,7 @@ use denote.RattleType.{RattleType}
 use denote.Laws.{valss}
 use denote.Memory.{partAt, shares}
 use denote.Ref.{RefT, MutRef, ShrRef}
-use denote.Slice.{sliceVal, MutSlice, ShrSlice, Room, finally}
+use denote.Slice.{sliceVal, MutSlice, ShrSlice, Room}
 use denote.Lend.{Held}
 use denote.Exit.{unchanged}
 use denote.Steps.{only}

@@ -1,258 +1,56 @@
 -- The law of a loop over a run of entries: `fn f(run: &mut [E], w: J) { let end = w.end; let mut i = w.first; while i < end { let t = turn(run[i], i, w); run[i] = t; i = i + 1; } }`.
--- It is one walk of that MIR, for any types and any contract of the function that does a turn. J is a struct that begins with first, end. `After` is what there is after n turns. The author shows that the places lie in the run (`fits`), that each turn is asked for no more than what is known (`ok`), and that what there is after the last turn is what the loop says (`then`).
+-- It is one walk of that MIR, for any types and any contract of the function that does a turn. J is a struct that begins with first and end. `After` is what there is after n turns. The author shows that the places lie in the run (`fits`), that each turn is asked for no more than what is known (`ok`), and that what there is after the last turn is what the loop says (`then`).
 -- Made by tools/laws/make. Assumes nothing.
-use Rattle.lent.proofs.Walk.{_≡_, refl, sym, ap, subst, _∙_, ℕ, zero, suc, _+_, _-_, _*_, _≤_, _<_, _^_, mul-le-mul-right, lt-of-le-of-lt, arith, not, List, [], _∷_, length, getD, set, length-set, T, ltb, ltb→lt, nltb→le, URA, fullShare, Name, Fn, Body, named, mut, tyRef, tyInt, tyBool, tyPtr, tyUnit, w64, local, valueLocal, place, deref, field, copy, int, opdUnit, rvOpd, op2, lt, mul, add, offset, no-sign, assign, call, seq, block, loop, cond, skip, exit, return, Val, vint, vptr, vunit, SProp, ent, emp, id⊢, GName, Lft, Share, ftrue, fat, froom, fdies, flft, fobs, fauth, fbor, fobor, Model, Routine, Env, Heap, Out, afterSeq, afterBlock, Locals, Wp, atReturn, WpFn, Tables, Closed, Atoms, fact, GhostRules, Running, givenOf, tables, afterTurn, Given, Item, ‵, raw, _⊛_, ⋆, some, later, anyQ, atRet, _$_, _∵_, !, qed, by, move, drop, use0, use1, use3, split, join, pick, rewrite, fsplit, fjoin, suffices, frame, await, done, look, look-raw, init, store, store-raw, forget, stop, hop, fld, from, load, lit, unit-lit, of-opd, bin, and-then, no-more, assigns, assigns-last, land, returns, enter, alloc1, alloc0, params1, pass1, pass0, free1, free0, exec, whole-part, sub, look-in, FmC, fmOf, WpFn-mono, RattleType, owns, Is, shows, pureI, mem, pointee, SliceRefMutOf, RefT, sliceVal, sliceTy, slice-vals, MutSlice, Room, heres, codedHoleys, at-slice, mut-slice-tells, Held, cells-of, place-is, elem-out, elem-put, opens-slice, closes-slice, Signature, plain, only, owned, peeks, heard, nothing, layout, row, shape, onEntry, Meets, tripleOf, Contract, Triple, calls-at, entered, cited, Ended, Clauses, Lasts, closing, ensured, lasts, Stays, stay-slice, stay-dropped, says, needs, walkOf, goes-slice, goes-dropped, ends-at, walked, walk-meets, yes}
-use Rattle.lent.proofs.Walk.{tablesOf}
-use denote.Struct.Laws as LL
-use Rattle.lent.proofs.Words.{Word, Data, by-value, unsigned, void, usize-part, settled, passed}
-use Rattle.lent.proofs.Outcomes.{Outcome, whole}
-use Rattle.lent.proofs.Loop.{tests, repeats}
+use Rattle.lent.proofs.Thin.{_≡_, refl, sym, ap, subst, _∙_, ℕ, _+_, _-_, _≤_, _<_, _^_, suc, zero, List, [], _∷_, length, URA, Name, Fn, opdUnit, tyBool, tyInt, tyPtr, w64, ent, emp, Model, Routine, Env, Heap, GhostRules, Running, fmOf, !, row, Data, by-value, unsigned, usize-part, Outcome, whole, Form, form, silent, by, slicemut, Over, is-part, owed-of, is-unit, is-length, typed-of, plain, part, unit, sets, begins, learns, nothing-more, val, calls, scaled, reads-element-mut, writes-element, inside, inside-now, bytes, turns, next, times, last-turn, Ending, finish, takes, Asking, Giving, Saying, Each, callee, given-that, thin, loc, fld, set, take, store, invoke, begin-at, scale, up-to, Job, Proven, lawful-over}
+use lib.Dec.{T, ltb}
+use lib.ListN.{getD, set as set-at, length-set}
+use denote.Memory.{mem}
 
 module _ (E : Data) (J : Outcome (usize-part ∷ usize-part ∷ [])) where
-  abbrev RE : RattleType
-  RE = row (E .S)
-
-  abbrev XE : Word
-  XE = by-value E
-
-  abbrev XJ : Word
-  XJ = by-value (whole J)
-
-  abbrev size : ℕ
-  size = mem RE .size
-
   abbrev first : J .form .D → ℕ
   first w = J .form .read w .0
 
   abbrev end : J .form .D → ℕ
   end w = J .form .read w .1 .0
 
-  abbrev signature₁ : Signature
-  signature₁ = record { lifetimes = 0; outlives = []; params = plain (λ _. XE .row) ∷ plain (λ _. (unsigned w64) .row) ∷ plain (λ _. XJ .row) ∷ []; result = plain (λ _. XE .row) }
+  abbrev form₁ : Form
+  form₁ = form (by (by-value E) ∷ by (unsigned w64) ∷ by (by-value (whole J)) ∷ []) (by-value E)
 
-  abbrev ended₁ : Ended
-  ended₁ = record { signature = signature₁; kept = (yes, (yes, (yes, tt))) }
+  abbrev form₀ : Form
+  form₀ = silent (slicemut (row (E .S)) ∷ by (by-value (whole J)) ∷ [])
 
-  abbrev signature : Signature
-  signature = record { lifetimes = 1; outlives = []; params = SliceRefMutOf (0 ∷ []) tt (plain (λ _. RE)) (λ _. tt) ∷ plain (λ _. XJ .row) ∷ []; result = plain (λ _. void .row) }
-
-  abbrev ended : Ended
-  ended = record { signature = signature; kept = (yes, (yes, tt)) }
-
-  abbrev turn : Name → Body
-  turn g = seq (assign (place 6 []) (op2 (lt no-sign) (copy (place 4 [])) (copy (place 3 []))))
-      (seq (cond (copy (place 6 [])) skip (exit 1))
-      (seq (assign (place 7 []) (op2 (mul no-sign) (copy (place 4 [])) (int w64 size)))
-      (seq (assign (place 8 []) (op2 offset (copy (place 1 (field 0 ∷ []))) (copy (place 7 []))))
-      (seq (assign (place 9 []) (rvOpd (copy (place 8 (deref (layout (shape (E .S))) ∷ [])))))
-      (seq (call g (copy (place 9 []) ∷ copy (place 4 []) ∷ copy (place 2 []) ∷ []) (place 5 []))
-      (seq (assign (place 7 []) (op2 (mul no-sign) (copy (place 4 [])) (int w64 size)))
-      (seq (assign (place 10 []) (op2 offset (copy (place 1 (field 0 ∷ []))) (copy (place 7 []))))
-      (seq (assign (place 10 (deref (layout (shape (E .S))) ∷ [])) (rvOpd (copy (place 5 []))))
-      (assign (place 4 []) (op2 (add no-sign) (copy (place 4 [])) (int w64 1)))))))))))
-
-  abbrev rest : Body
-  rest = seq (assign (place 0 []) (rvOpd opdUnit)) return
-
-  abbrev function : Name → Fn
-  function g = record {
-    lifetimes = 1;
-    outlives = [];
-    params = 2;
-    locals = local (tyUnit) valueLocal ∷ local (sliceTy (tyRef (named 0) mut (pointee (RE .written)))) valueLocal ∷ local (XJ .ty) valueLocal ∷ local (tyInt w64) valueLocal ∷ local (tyInt w64) valueLocal ∷ local (XE .ty) valueLocal ∷ local (tyBool) valueLocal ∷ local (tyInt w64) valueLocal ∷ local (tyPtr) valueLocal ∷ local (XE .ty) valueLocal ∷ local (tyPtr) valueLocal ∷ [];
-    body = seq (assign (place 3 []) (rvOpd (copy (place 2 (field 1 ∷ []))))) (seq (assign (place 4 []) (rvOpd (copy (place 2 (field 0 ∷ []))))) (seq (block (loop (turn g))) rest));
-  }
-
-  abbrev stayed : Stays (ended .signature .params) (ended .kept)
-  stayed = (stay-slice (0 ∷ []) tt (plain (λ _. RE)), (stay-dropped (plain (λ _. XJ .row)) yes, tt))
+  abbrev code : Name → Fn
+  code g = thin form₀ (tyInt w64 ∷ tyInt w64 ∷ by-value E .ty ∷ tyBool ∷ tyInt w64 ∷ tyPtr ∷ by-value E .ty ∷ tyPtr ∷ [])
+      (set 3 (fld 2 1) ∷ set 4 (fld 2 0) ∷
+      up-to 6 4 3 (scale 7 4 (mem (row (E .S)) .size) ∷ begin-at 8 1 7 ∷ take 9 8 E ∷ invoke g (loc 9 ∷ loc 4 ∷ loc 2 ∷ []) 5 ∷ scale 7 4 (mem (row (E .S)) .size) ∷ begin-at 10 1 7 ∷ store 10 E (loc 5) ∷ []) ∷
+      set 0 opdUnit ∷ [])
 
   -- a turn as a function, and what stands for an entry that is not there
-  module _ (stepE : E .S .D → ℕ → J .form .D → E .S .D) (none : E .S .D) (run : List (E .S .D)) (w : J .form .D) where
-    abbrev pub After : ℕ → (List (E .S .D))
+  module _ (stepE : Over (takes form₁) (E .S .D)) (none : E .S .D) (run : List (E .S .D)) (w : J .form .D) where
+    abbrev pub After : ℕ → List (E .S .D)
     After zero = run
-    After (suc n) = set (After n) (first w + n) (stepE (getD (After n) (first w + n) none) (first w + n) w)
+    After (suc n) = set-at (After n) (first w + n) (stepE (getD (After n) (first w + n) none) (first w + n) w)
 
-    after-length : (n : ℕ) → length (After n) ≡ length run
-    after-length zero = refl
-    after-length (suc n) = length-set (After n) (first w + n) _ ∙ after-length n
+  module _ {M : Type 1} (𝓤 : URA M) (H : Heap 𝓤) (𝓜 : Model 𝓤 H) (𝓖 : GhostRules 𝓤 H) (𝓡 : Running 𝓤 H 𝓜) (stepE : Over (takes form₁) (E .S .D)) (none : E .S .D) (asks₁ : Asking form₁ 𝓤) (gives₁ : Giving form₁) (Asks : Over (takes form₀) (Type 0)) (Says : Saying form₀)
+      (steps : Each (takes form₁) (λ e i w. (r : E .S .D) → gives₁ e i w r → r ≡ stepE e i w))
+      (fits : Each (takes form₀) (λ run w. Asks run w → (first w ≤ end w) × (end w ≤ length run)))
+      (ok : Each (takes form₀) (λ run w. Asks run w → (n : ℕ) → first w + n < end w → ent 𝓤 (emp 𝓤) (asks₁ (getD (After stepE none run w n) (first w + n) none) (first w + n) w)))
+      (then : Each (takes form₀) (λ run w. Asks run w → Says run w (After stepE none run w (end w - first w))))
+      (small : T (ltb (mem (row (E .S)) .size) (2 ^ 64))) (γ : Env) (f g : Name) (r : Routine) where
+    abbrev job : Job 𝓤
+    job = record { code = code g; itself = given-that 𝓤 form₀ Asks Says; calls = (g, r, callee 𝓤 form₁ asks₁ gives₁) ∷ [] }
 
-  -- what a turn asks and says, and what the loop asks and says
-  module _ {M : Type 1} (𝓤 : URA M) (H : Heap 𝓤) (A : Atoms 𝓤) (stepE : E .S .D → ℕ → J .form .D → E .S .D) (none : E .S .D) (asks : E .S .D → ℕ → J .form .D → SProp 𝓤) (gives : E .S .D → ℕ → J .form .D → E .S .D → Type 0) (Asks : List (E .S .D) → J .form .D → Type 0) (Says : List (E .S .D) → J .form .D → List (E .S .D) → Type 0) where
-    abbrev clauses₁ : Clauses 𝓤 ended₁
-    clauses₁ = λ κs a. record { ghost = Unit {0}; requires = λ _. asks (a .0) (a .1 .0) (a .1 .1 .0); ensures = λ _ r e. fact 𝓤 (gives (a .0) (a .1 .0) (a .1 .1 .0) r) }
-
-    abbrev clauses : Clauses 𝓤 ended
-    clauses = λ κs a. record { ghost = Unit {0}; requires = λ _. fact 𝓤 (Asks (a .0 .now) (a .1 .0)); ensures = λ _ r e. fact 𝓤 (Says (a .0 .now) (a .1 .0) (e .0 .now)) }
-
-    abbrev Turn : Contract 𝓤
-    Turn = tripleOf 𝓤 H A signature₁ (closing 𝓤 H A ended₁ clauses₁)
-
-    module _ (W : Given 𝓤 H A)
-        (steps : (e : E .S .D) (i : ℕ) (w : J .form .D) (r : E .S .D) → gives e i w r → r ≡ stepE e i w)
-        (fits : (run : List (E .S .D)) (w : J .form .D) → Asks run w → (first w ≤ end w) × (end w ≤ length run))
-        (ok : (run : List (E .S .D)) (w : J .form .D) → Asks run w → (n : ℕ) → first w + n < end w → ent 𝓤 (emp 𝓤) (asks (getD (After stepE none run w n) (first w + n) none) (first w + n) w))
-        (then : (run : List (E .S .D)) (w : J .form .D) → Asks run w → Says run w (After stepE none run w (end w - first w)))
-        (small : T (ltb size (2 ^ 64)))
-        (κ₀ : Lft) (q₀ : Share) (b₀ o₀ : ℕ) (γ₀ : GName) (run : List (E .S .D)) (w : J .form .D)
-        (room-run : Room RE (length run)) (w-is : Is (XJ .row) w (XJ .val w ∷ [])) (asked : Asks run w) where
-      abbrev ref₀ : GName → List (E .S .D) → RefT (List (E .S .D))
-      ref₀ γ x = record { ptr = (b₀, o₀); name = γ; now = x }
-
-      abbrev run-at : ℕ → List (E .S .D)
-      run-at k = After stepE none run w k
-
-      abbrev n : ℕ
-      n = end w - first w
-
-      abbrev place-of : ℕ → ℕ
-      place-of k = first w + k
-
-      abbrev x : RefT (List (E .S .D)) × (J .form .D × Unit {0})
-      x = (ref₀ γ₀ run, (w, tt))
-
-      abbrev at : List Val × (List Val × Unit {0})
-      at = (slice-vals (ref₀ γ₀ run), (XJ .val w ∷ [], tt))
-
-      abbrev Post : Val → SProp 𝓤
-      Post = walkOf 𝓤 H A ended stayed clauses .post (((κ₀, tt), (q₀, tt), tt, x, at), tt)
-
-      exits : ent 𝓤 (⋆ 𝓤 H A (‵ (fobs γ₀ (codedHoleys RE .code (heres RE (run-at n)))) ∷ ‵ (fbor κ₀ (Held RE (length (run-at n)) b₀ o₀ γ₀)) ∷ ‵ (flft κ₀ q₀) ∷ [])) (Post (vunit))
-      exits =
-          qed W (‵ (fobs γ₀ (codedHoleys RE .code (heres RE (run-at n)))) ∷ ‵ (fbor κ₀ (Held RE (length (run-at n)) b₀ o₀ γ₀)) ∷ ‵ (flft κ₀ q₀) ∷ []) ∵
-          suffices ! _ (ends-at 𝓤 H A ended stayed clauses W (((κ₀, tt), (q₀, tt), tt, x, at), tt) (vunit) tt (run-at n, (XJ .last w, tt)) (after-length stepE none run w n, (tt, tt))) $ says ! (then run w asked) $
-          nothing ! $ move ! (3 ∷ 0 ∷ []) $ join ! $ frame ! $ fjoin ! $
-          pureI ! (at-slice RE (ref₀ γ₀ (run-at n)) (slice-vals (ref₀ γ₀ run))) (tt, (tt, tt)) (ap (λ (m : ℕ). sliceVal (b₀, o₀) m ∷ []) (sym (after-length stepE none run w n)), subst (Room RE) (sym (after-length stepE none run w n)) room-run) $
-          fjoin ! $ nothing ! $ nothing ! $ fjoin ! $ move ! (1 ∷ 0 ∷ []) $ fjoin ! $ frame ! $ owned ! (void .row) (Is (void .row)) (void .makes M 𝓤 H A W) tt (vunit ∷ []) refl $ done !
-
-      module _ (𝓣 : Tables 𝓤 H) (g : Name) (known : Triple 𝓤 (𝓣 .C g) Turn) where
-        abbrev fm : FmC 𝓤 H (W .laws) (𝓣 .C)
-        fm = fmOf 𝓤 H (W .laws) 𝓣
-
-        module _ (z₀ z₁ z₂ z₃ z₄ z₅ z₆ z₇ z₈ z₉ z₁₀ : ℕ) where
-          abbrev En : Locals 𝓤 H
-          En = (tyUnit, z₀) ∷ (sliceTy (tyRef (named 0) mut (pointee (RE .written))), z₁) ∷ (XJ .ty, z₂) ∷ (tyInt w64, z₃) ∷ (tyInt w64, z₄) ∷ (XE .ty, z₅) ∷ (tyBool, z₆) ∷ (tyInt w64, z₇) ∷ (tyPtr, z₈) ∷ (XE .ty, z₉) ∷ (tyPtr, z₁₀) ∷ []
-
-          -- at the head of turn k: the entries, what is held with them, and the locals, the last first
-          abbrev At : ℕ → List (Item 𝓤)
-          At k = ‵ (cells-of RE fullShare (run-at k) b₀ o₀) ∷ ‵ (fobor κ₀ q₀ (Held RE (length run) b₀ o₀ γ₀)) ∷ ‵ (fobs γ₀ (codedHoleys RE .code (heres RE run))) ∷ ‵ (fauth γ₀ (codedHoleys RE .code (heres RE run))) ∷ ‵ (froom (tyPtr) z₁₀ 0) ∷ ‵ (fdies (tyPtr) z₁₀) ∷ ‵ (froom (XE .ty) z₉ 0) ∷ ‵ (fdies (XE .ty) z₉) ∷ ‵ (froom (tyPtr) z₈ 0) ∷ ‵ (fdies (tyPtr) z₈) ∷ ‵ (froom (tyInt w64) z₇ 0) ∷ ‵ (fdies (tyInt w64) z₇) ∷ ‵ (froom (tyBool) z₆ 0) ∷ ‵ (fdies (tyBool) z₆) ∷ ‵ (froom (XE .ty) z₅ 0) ∷ ‵ (fdies (XE .ty) z₅) ∷ ‵ (fat fullShare (tyInt w64) z₄ 0 (vint w64 (place-of k))) ∷ ‵ (fdies (tyInt w64) z₄) ∷ ‵ (fat fullShare (tyInt w64) z₃ 0 (vint w64 (end w))) ∷ ‵ (fdies (tyInt w64) z₃) ∷ ‵ (fat fullShare (XJ .ty) z₂ 0 (XJ .val w)) ∷ ‵ (fdies (XJ .ty) z₂) ∷ ‵ (fat fullShare (sliceTy (tyRef (named 0) mut (pointee (RE .written)))) z₁ 0 (sliceVal (b₀, o₀) (length run))) ∷ ‵ (fdies (sliceTy (tyRef (named 0) mut (pointee (RE .written)))) z₁) ∷ ‵ (froom (tyUnit) z₀ 0) ∷ ‵ (fdies (tyUnit) z₀) ∷ []
-
-          abbrev Ok : ℕ → Type 0
-          Ok k = k ≤ n
-
-          abbrev Left : Out → SProp 𝓤
-          Left = afterBlock 𝓤 H (afterSeq 𝓤 H (Wp 𝓤 H (𝓣 .C) (𝓣 .Λ) En rest (atReturn 𝓤 H En Post)) (atReturn 𝓤 H En Post))
-
-          turns : (k : ℕ) → Ok k → (X : SProp 𝓤) → ((k′ : ℕ) → Ok k′ → n - k′ < n - k → ent 𝓤 (⋆ 𝓤 H A (At k′)) X) → ent 𝓤 (⋆ 𝓤 H A (At k)) (Wp 𝓤 H (𝓣 .C) (𝓣 .Λ) En (turn g) (afterTurn 𝓤 H X Left))
-          unfolding afterTurn
-          turns k good X again =
-              qed W (At k) ∵ exec ! (𝓣 .C) (𝓣 .Λ) En (turn g) (anyQ (afterTurn 𝓤 H X Left)) $
-              assigns ! (bin ! (load ! (from ! (stop !)) (look ! 16 refl)) (load ! (from ! (stop !)) (look ! 18 refl)) tt) (from ! (stop !)) (init ! 12 refl (tt, tt)) $
-              tests ! (load ! (from ! (stop !)) (look ! 12 refl)) (λ h.
-              assigns ! (bin ! (load ! (from ! (stop !)) (look ! 16 refl)) (lit ! small) (record { fits = byte-fits h })) (from ! (stop !)) (init ! 10 refl (tt, record { fits = byte-fits h })) $
-              assigns ! (bin ! (load ! (from ! (fld ! refl (stop !))) (look-in ! 22 (sub ! 0 refl (whole-part !)))) (load ! (from ! (stop !)) (look ! 10 refl)) tt) (from ! (stop !)) (init ! 8 refl (tt, tt)) $
-              rewrite ! 8 (λ (m : ℕ). ‵ (fat fullShare tyPtr z₈ 0 (vptr b₀ m))) (sym (place-is size o₀ (place-of k))) refl $
-              elem-out ! RE (Is RE) (shows 𝓤 H A RE) (λ z. XE .val z ∷ []) (XE .tells) fullShare (run-at k) (place-of k) none b₀ o₀ (in-now h) (λ e-is.
-              assigns ! (of-opd ! (load ! (from ! (hop ! (look ! 10 refl) (stop !))) (look-raw ! 0 refl))) (from ! (stop !)) (init ! 8 refl (XE .typed M 𝓤 H A W e _ e-is)) $ move ! (1 ∷ []) $ drop ! $
-              -- the turn
-              nothing ! $ nothing ! $ owned ! (XJ .row) (Is (XJ .row)) (XJ .makes M 𝓤 H A W) w (XJ .val w ∷ []) w-is $ fjoin ! $
-              owned ! ((unsigned w64) .row) (Is ((unsigned w64) .row)) ((unsigned w64) .makes M 𝓤 H A W) (place-of k) (vint w64 (place-of k) ∷ []) (refl, place-fits h) $ fjoin ! $
-              owned ! (XE .row) (Is (XE .row)) (XE .makes M 𝓤 H A W) e (XE .val e ∷ []) e-is $ fjoin ! $ use0 W (raw (asks e (place-of k) w)) (may h) $ move ! (2 ∷ 1 ∷ 0 ∷ []) $
-              use3 W (raw (Turn .pre ((tt, tt, tt, (e, (place-of k, (w, tt))), (XE .val e ∷ [], (vint w64 (place-of k) ∷ [], (XJ .val w ∷ [], tt)))), tt))) (passed 𝓤 H A signature₁ tt tt (e, (place-of k, (w, tt))) (XE .val e ∷ [], (vint w64 (place-of k) ∷ [], (XJ .val w ∷ [], tt))) (asks e (place-of k) w)) $
-              calls-at ! fm Turn known ((tt, tt, tt, (e, (place-of k, (w, tt))), (XE .val e ∷ [], (vint w64 (place-of k) ∷ [], (XJ .val w ∷ [], tt)))), tt) (and-then ! (load ! (from ! (stop !)) (look ! 8 refl)) (and-then ! (load ! (from ! (stop !)) (look ! 18 refl)) (and-then ! (load ! (from ! (stop !)) (look ! 22 refl)) (no-more !)))) (λ v.
-              use1 W (later (some (λ (r : XE .row .Denot). (‵ ftrue ⊛ ‵ (XE .row .own r (v ∷ []))) ⊛ raw (ensured 𝓤 H A ended₁ clauses₁ tt (e, (place-of k, (w, tt))) tt r)))) (id⊢ 𝓤 _) $ await ! tt $ pick ! (λ r.
-              split ! $ split ! $ drop ! $ move ! (1 ∷ []) $
-              use1 W (some (λ (ends : Lasts ended₁ tt (e, (place-of k, (w, tt)))). ‵ (lasts ended₁ tt (e, (place-of k, (w, tt))) ends) ⊛ raw (fact 𝓤 (gives e (place-of k) w r)))) (id⊢ 𝓤 _) $ pick ! (λ ends.
-              split ! $ move ! (1 ∷ []) $ heard ! (gives e (place-of k) w r) (λ φ. drop ! $ peeks ! (XE .row) (Is (XE .row)) (shows 𝓤 H A (XE .row)) r (v ∷ []) (λ r-is. drop ! $
-              land ! (from ! (stop !)) (init ! 15 refl (XE .typed M 𝓤 H A W r _ r-is)) $ rewrite ! 15 (λ (u : Val). ‵ (fat fullShare (XE .ty) z₅ 0 u)) (ap only (XE .tells r (v ∷ []) r-is)) refl $
-              -- the entry is stored
-              assigns ! (bin ! (load ! (from ! (stop !)) (look ! 17 refl)) (lit ! small) (record { fits = byte-fits h })) (from ! (stop !)) (store ! 11 refl (tt, record { fits = byte-fits h })) $
-              assigns ! (bin ! (load ! (from ! (fld ! refl (stop !))) (look-in ! 23 (sub ! 0 refl (whole-part !)))) (load ! (from ! (stop !)) (look ! 11 refl)) tt) (from ! (stop !)) (init ! 5 refl (tt, tt)) $
-              rewrite ! 5 (λ (m : ℕ). ‵ (fat fullShare tyPtr z₁₀ 0 (vptr b₀ m))) (sym (place-is size o₀ (place-of k))) refl $
-              assigns ! (of-opd ! (load ! (from ! (stop !)) (look ! 15 refl))) (from ! (hop ! (look ! 5 refl) (stop !))) (store-raw ! 0 refl (XE .typed M 𝓤 H A W r _ (settled XE r v r-is))) $
-              owned ! RE (Is RE) (XE .makes M 𝓤 H A W) r (XE .val r ∷ []) (settled XE r v r-is) $ move ! (1 ∷ 0 ∷ 2 ∷ []) $ elem-put ! RE fullShare (run-at k) (place-of k) r (XE .val r ∷ []) b₀ o₀ (in-now h) $
-              -- the turn is over
-              assigns-last ! (bin ! (load ! (from ! (stop !)) (look ! 16 refl)) (lit ! tt) (record { fits = next-fits h })) (from ! (stop !)) (store ! 16 refl (tt, record { fits = next-fits h })) $
-              forget ! 14 refl $ forget ! 12 refl $ forget ! 10 refl $ forget ! 8 refl $ forget ! 6 refl $ forget ! 4 refl $ rewrite ! 16 (λ (j : ℕ). ‵ (fat fullShare (tyInt w64) z₄ 0 (vint w64 j))) next-is refl $
-              rewrite ! 0 (λ (y : E .S .D). ‵ (cells-of RE fullShare (set (run-at k) (place-of k) y) b₀ o₀)) (steps e (place-of k) w r φ) refl $ by ! (again (suc k) (more h) (less h)))))))))
-              (λ h. rewrite ! 0 (λ (m : ℕ). ‵ (cells-of RE fullShare (run-at m) b₀ o₀)) (all h) refl $ exec ! (𝓣 .C) (𝓣 .Λ) En rest (atRet En Post) $
-              closes-slice ! tt RE run (run-at n) (after-length stepE none run w n) b₀ o₀ $ assigns ! (of-opd ! (unit-lit !)) (from ! (stop !)) (init ! 23 refl (tt, tt)) $ returns ! (look ! 23 refl) $
-              forget ! 11 refl $ forget ! 15 refl $ forget ! 17 refl $ forget ! 19 refl $ forget ! 21 refl $ forget ! 23 refl $ move ! (23 ∷ 24 ∷ []) $ free1 ! $ move ! (21 ∷ 22 ∷ []) $ free1 ! $
-              move ! (19 ∷ 20 ∷ []) $ free1 ! $ move ! (17 ∷ 18 ∷ []) $ free1 ! $ move ! (15 ∷ 16 ∷ []) $ free1 ! $ move ! (13 ∷ 14 ∷ []) $ free1 ! $ move ! (11 ∷ 12 ∷ []) $ free1 ! $ move ! (9 ∷ 10 ∷ []) $
-              free1 ! $ move ! (7 ∷ 8 ∷ []) $ free1 ! $ move ! (5 ∷ 6 ∷ []) $ free1 ! $ move ! (3 ∷ 4 ∷ []) $ free1 ! $ free0 ! $ by ! (exits))
-            where
-              e : E .S .D
-              e = getD (run-at k) (place-of k) none
-
-              inside : T (ltb (place-of k) (end w)) → place-of k < length run
-              inside h = omega (arith, ltb→lt (place-of k) (end w) h, fits run w asked .1)
-
-              in-now : T (ltb (place-of k) (end w)) → place-of k < length (run-at k)
-              in-now h = subst (λ (m : ℕ). place-of k < m) (sym (after-length stepE none run w k)) (inside h)
-
-              may : T (ltb (place-of k) (end w)) → ent 𝓤 (emp 𝓤) (asks e (place-of k) w)
-              may h = ok run w asked k (ltb→lt (place-of k) (end w) h)
-
-              place-fits : T (ltb (place-of k) (end w)) → place-of k < 2 ^ 64
-              place-fits h = omega (arith, inside h, room-run .0)
-
-              le-of : T (ltb (place-of k) (end w)) → place-of k ≤ length run
-              le-of h = omega (arith, inside h)
-
-              byte-fits : T (ltb (place-of k) (end w)) → place-of k * size < 2 ^ 64
-              byte-fits h = omega (arith, lt-of-le-of-lt (mul-le-mul-right size (le-of h)) (room-run .1))
-
-              next-fits : T (ltb (place-of k) (end w)) → place-of k + 1 < 2 ^ 64
-              next-fits h = omega (arith, inside h, room-run .0)
-
-              next-is : place-of k + 1 ≡ place-of (suc k)
-              next-is = omega arith
-
-              more : T (ltb (place-of k) (end w)) → suc k ≤ n
-              more h = omega (arith, ltb→lt (place-of k) (end w) h)
-
-              less : T (ltb (place-of k) (end w)) → n - suc k < n - k
-              less h = omega (arith, ltb→lt (place-of k) (end w) h)
-
-              all : T (not (ltb (place-of k) (end w))) → k ≡ n
-              all h = omega (arith, good, fits run w asked .0, nltb→le (place-of k) (end w) h)
-
-        walk : ent 𝓤 (onEntry 𝓤 H A signature (κ₀, tt) (q₀, tt) x at) (WpFn 𝓤 H (𝓣 .C) (𝓣 .Λ) (function g) (sliceVal (b₀, o₀) (length run) ∷ XJ .val w ∷ []) Post)
-        walk =
-            qed W ((‵ (flft κ₀ q₀) ⊛ ‵ ftrue) ∷ ‵ (owns (MutSlice (named 0) κ₀ RE ∷ XJ .row ∷ []) x at) ∷ []) ∵ split ! $ move ! (1 ∷ []) $ drop ! $ move ! (1 ∷ []) $ fsplit ! $ move ! (1 ∷ []) $ fsplit ! $
-            drop ! $ drop ! $ enter ! (𝓣 .C) (𝓣 .Λ) (function g) (sliceVal (b₀, o₀) (length run) ∷ XJ .val w ∷ []) _ $ alloc1 ! (λ z₀. alloc1 ! (λ z₁. alloc1 ! (λ z₂. alloc1 ! (λ z₃. alloc1 ! (λ z₄.
-            alloc1 ! (λ z₅. alloc1 ! (λ z₆. alloc1 ! (λ z₇. alloc1 ! (λ z₈. alloc1 ! (λ z₉. alloc1 ! (λ z₁₀. alloc0 ! $ params1 ! $ pass1 ! (init ! 18 refl (tt, (tt, (record { fits = room-run .0 }, tt)))) $
-            pass1 ! (init ! 16 refl (XJ .typed M 𝓤 H A W w _ w-is)) $ pass0 ! $
-            assigns ! (of-opd ! (load ! (from ! (fld ! refl (stop !))) (look-in ! 16 (sub ! 1 refl (whole-part !))))) (from ! (stop !)) (init ! 14 refl (tt, record { fits = LL.owed (whole J .S) (whole J .L) w _ w-is .1 .0 .1 })) $
-            assigns ! (of-opd ! (load ! (from ! (fld ! refl (stop !))) (look-in ! 16 (sub ! 0 refl (whole-part !))))) (from ! (stop !)) (init ! 12 refl (tt, record { fits = LL.owed (whole J .S) (whole J .L) w _ w-is .0 .1 })) $
-            rewrite ! 12 (λ (j : ℕ). ‵ (fat fullShare (tyInt w64) z₄ 0 (vint w64 j))) from-first refl $ move ! (22 ∷ []) $ fsplit ! $ drop ! $ fsplit ! $ move ! (0 ∷ 1 ∷ 24 ∷ []) $ opens-slice ! tt RE run b₀ o₀ $
-            by ! (repeats 𝓤 H A W 𝓣 (En z₀ z₁ z₂ z₃ z₄ z₅ z₆ z₇ z₈ z₉ z₁₀) (turn g) (Left z₀ z₁ z₂ z₃ z₄ z₅ z₆ z₇ z₈ z₉ z₁₀) (At z₀ z₁ z₂ z₃ z₄ z₅ z₆ z₇ z₈ z₉ z₁₀) (Ok z₀ z₁ z₂ z₃ z₄ z₅ z₆ z₇ z₈ z₉ z₁₀) (λ k. n - k) (turns z₀ z₁ z₂ z₃ z₄ z₅ z₆ z₇ z₈ z₉ z₁₀) 0 (omega arith)))))))))))))
-          where
-            from-first : first w ≡ place-of 0
-            from-first = omega arith
-
-  module _ {M : Type 1} (𝓤 : URA M) (H : Heap 𝓤) (𝓜 : Model 𝓤 H) (𝓖 : GhostRules 𝓤 H) (𝓡 : Running 𝓤 H 𝓜) (stepE : E .S .D → ℕ → J .form .D → E .S .D) (none : E .S .D) (asks : E .S .D → ℕ → J .form .D → SProp 𝓤) (gives : E .S .D → ℕ → J .form .D → E .S .D → Type 0) (Asks : List (E .S .D) → J .form .D → Type 0) (Says : List (E .S .D) → J .form .D → List (E .S .D) → Type 0)
-      (steps : (e : E .S .D) (i : ℕ) (w : J .form .D) (r : E .S .D) → gives e i w r → r ≡ stepE e i w)
-      (fits : (run : List (E .S .D)) (w : J .form .D) → Asks run w → (first w ≤ end w) × (end w ≤ length run))
-      (ok : (run : List (E .S .D)) (w : J .form .D) → Asks run w → (n : ℕ) → first w + n < end w → ent 𝓤 (emp 𝓤) (asks (getD (After stepE none run w n) (first w + n) none) (first w + n) w))
-      (then : (run : List (E .S .D)) (w : J .form .D) → Asks run w → Says run w (After stepE none run w (end w - first w)))
-      (small : T (ltb size (2 ^ 64)))
-      (γ : Env) (f g : Name) (r : Routine) where
-    abbrev Clauses′ : Clauses 𝓤 ended
-    Clauses′ = clauses 𝓤 H (𝓖 .A) stepE none asks gives Asks Says
-
-    meets : (W : Given 𝓤 H (𝓖 .A)) (𝓣 : Tables 𝓤 H) → Triple 𝓤 (𝓣 .C g) (Turn 𝓤 H (𝓖 .A) stepE none asks gives Asks Says) → Meets 𝓤 H (𝓖 .A) signature (WpFn 𝓤 H (𝓣 .C) (𝓣 .Λ) (function g)) (closing 𝓤 H (𝓖 .A) ended Clauses′)
-    meets W 𝓣 known =
-        walk-meets 𝓤 H (𝓖 .A) ended stayed W
-        (goes-slice 𝓤 H (𝓖 .A) W 1 0 tt (plain (λ _. RE)), (goes-dropped 𝓤 H (𝓖 .A) W 1 (plain (λ _. XJ .row)) yes (λ κs. XJ .silent), tt))
-        Clauses′ (WpFn 𝓤 H (𝓣 .C) (𝓣 .Λ) (function g)) (WpFn-mono 𝓤 H (W .laws) 𝓣 (function g))
-        (walked 𝓤 H (𝓖 .A) ended stayed Clauses′ (WpFn 𝓤 H (𝓣 .C) (𝓣 .Λ) (function g)) (λ κs. (slice-vals, ((λ z. XJ .val z ∷ []), tt))) (λ κs. (mut-slice-tells (named 0) (κs .0) RE, (XJ .tells, tt)))
-        (λ κs qs bounds a _ are. needs 𝓤 (Asks (a .0 .now) (a .1 .0)) _ (λ asked.
-        walk 𝓤 H (𝓖 .A) stepE none asks gives Asks Says W steps fits ok then small
-        (κs .0) (qs .0) (a .0 .ptr .0) (a .0 .ptr .1) (a .0 .name) (a .0 .now) (a .1 .0) (are .0 .0 .1) (are .1 .0) asked 𝓣 g known)))
-
-    pub proof : γ g ≡ r → Closed 𝓤 H (tables 𝓤 H 𝓜 𝓡 γ .C) (tables 𝓤 H 𝓜 𝓡 γ .Λ) f (function g) → Triple 𝓤 (𝓡 .run r) (Turn 𝓤 H (𝓖 .A) stepE none asks gives Asks Says)
-        → Meets 𝓤 H (𝓖 .A) signature (𝓡 .run (γ f)) (closing 𝓤 H (𝓖 .A) ended Clauses′)
-    unfolding tablesOf
-    proof calls closed known =
-        entered 𝓤 H (tripleOf 𝓤 H (𝓖 .A) signature (closing 𝓤 H (𝓖 .A) ended Clauses′)) (tables 𝓤 H 𝓜 𝓡 γ .C) (tables 𝓤 H 𝓜 𝓡 γ .Λ) f (function g) closed
-        (meets (givenOf 𝓤 H 𝓜 𝓖) (tablesOf 𝓤 H 𝓜 (tables 𝓤 H 𝓜 𝓡 γ)) (cited 𝓤 H (Turn 𝓤 H (𝓖 .A) stepE none asks gives Asks Says) 𝓜 𝓡 γ g r calls known))
+    pub proof : Proven 𝓤 H 𝓜 𝓖 𝓡 γ f job
+    proof = lawful-over 𝓤 H 𝓜 𝓖 𝓡 γ f job _ refl (λ W 𝓣 (known, _) κs qs (run, (w, _)) (is-run, (is-w, _)) β Kf done.
+        learns ! 1 (Asks (run .now) w) refl (λ asked. sets ! (part ! tt refl refl) tt (typed-of W (is-part usize-part (end w) (owed-of J is-w .1 .0))) (
+        sets ! (part ! tt refl refl) tt (typed-of W (is-part usize-part (first w) (owed-of J is-w .0))) (
+        times ! 𝓣 (takes form₀) (λ z. Ending 𝓤 H (𝓖 .A) W (𝓣 .C) (𝓣 .Λ) (job .itself) κs qs (run, (w, tt)) [] z []) (λ k. (After stepE none (run .now) w k, tt)) (end w) 4 refl (λ k many long goal leave again.
+        turns ! (first w) (end w) k ((is-part usize-part (end w) (owed-of J is-w .1 .0)) .is .1) refl tt tt tt tt refl (λ now.
+        scaled ! refl tt tt small (bytes (row (E .S)) (length (run .now)) (is-run .1) (inside (fits (run .now) w asked .1) (now .0))) (begins ! refl tt tt tt (
+        reads-element-mut E none ! 0 (first w + k) refl refl refl tt tt (inside-now (fits (run .now) w asked .1) (now .0) (long .0)) (λ is-e.
+        calls ! (fmOf 𝓤 H (W .laws) 𝓣) (callee 𝓤 form₁ asks₁ gives₁) known (val ! tt refl is-e (val ! tt refl (is-length (now .1)) (val ! tt refl is-w (nothing-more !)))) (ok (run .now) w asked k (now .0)) tt refl (λ t ws φ is-t.
+        scaled ! refl tt tt small (bytes (row (E .S)) (length (run .now)) (is-run .1) (inside (fits (run .now) w asked .1) (now .0))) (begins ! refl tt tt tt (
+        writes-element E ! 0 (first w + k) refl refl refl tt (plain ! tt refl) is-t (inside-now (fits (run .now) w asked .1) (now .0) (long .0)) (
+        next ! (first w) k refl tt tt (now .2) (again (now .3) _ (ap (λ (y : E .S .D). (set-at (After stepE none (run .now) w k) (first w + k) y, tt)) (steps (getD (After stepE none (run .now) w k) (first w + k) none) (first w + k) w t φ)) (length-set (After stepE none (run .now) w k) (first w + k) t ∙ long .0, tt) _ 5 tt refl)))))))))
+        (λ h. leave _ _ (sets ! (unit !) tt (tt, tt) (
+        finish ! done tt refl is-unit [] _ [] refl (subst (λ (m : ℕ). Says (run .now) w (After stepE none (run .now) w m)) (sym (last-turn (first w) (end w) k (fits (run .now) w asked .0) many h)) (then (run .now) w asked))))))))))
