@@ -40,6 +40,8 @@ SIZE = "(mem (row (E .S)) .size)"
 
 
 class Loop(Law):
+    """the law of one of the four loops"""
+
     PARTS = "kind heading forms mir turns_as_function hypotheses job walk cites".split()
 
     def kind(self):
@@ -54,6 +56,7 @@ class Loop(Law):
         self.held = [p for p in self.params if p != "w"]
 
     def heading(self):
+        """the text of the function, what is known of it, and the fields of w"""
         self.emit(
             """-- The law of a loop over a run of entries: `%s`.
 -- It is one walk of that MIR, for any types and any contract of the function that does a turn. J is a struct that begins with first%s. `After` is what there is after n turns. The author shows that the places lie in the run (`fits`), that each turn is asked for no more than what is known (`ok`), and that what there is after the last turn is what the loop says (`then`).
@@ -77,6 +80,7 @@ class Loop(Law):
         self.emit("  abbrev form₀ : Form\n  form₀ = %s\n" % ("form (%s) (B .word)" % ways if self.folds else "silent (%s)" % ways))
 
     def new(self, key, ty):
+        """one more local, behind those there are"""
         self.local.append(ty)
         self.at[key] = len(self.params) + len(self.local)
 
@@ -102,12 +106,15 @@ class Loop(Law):
         self.emit("  abbrev code : Name → Fn\n  code g = thin form₀ (%s)\n%s\n" % (items(self.local), wrapped(["("] + [s + " ∷" for s in statements] + ["[])"], "      ")))
 
     def after(self, n, names=None):
+        """what there is after n turns"""
         return "After %s none %s %s" % (" ".join(self.steps_named), names or self.names, n)
 
     def run_at(self, after):
+        """of that the run, where a turn changes it"""
         return "(%s)" % (after + " .0" if self.packet else after) if self.lent else None
 
     def x_at(self, after):
+        """of that the x, or the buffer"""
         return "(%s)" % (after + " .1" if self.packet else after)
 
     def args(self, after, i, run, w="w", packet="packet"):
@@ -116,6 +123,7 @@ class Loop(Law):
         return " ".join({"x": self.x_at(after), "buffer": self.x_at(after), "e": e, "i": i, "w": w, "packet": packet}[a] for a in self.turn)
 
     def step_types(self):
+        """a turn as functions: to the entry that is stored, to x or the buffer"""
         result = {"stepE": "E .S .D", "step": "List ℕ" if self.buffer else "B .word .row .Denot"}
         return " ".join("(%s : Over (takes form₁) (%s))" % (s, result[s]) for s in self.steps_named)
 
@@ -151,9 +159,11 @@ class Loop(Law):
             self.emit("      " + o)
 
     def job(self):
+        """the function with its contract, and the turn with its own"""
         self.emit("    abbrev job : Job 𝓤\n    job = record { code = code g; itself = given-that 𝓤 form₀ Asks Says; calls = (g, r, callee 𝓤 form₁ asks₁ gives₁) ∷ [] }\n")
 
     def step(self, s, opens=1):
+        """one more step, which leaves this many brackets open"""
         self.steps.append(s)
         self.open += opens
 
