@@ -1,6 +1,7 @@
 // What each request comes to, by value.
 ghost use mathlib.Core.Path.{_≡_};
 ghost use mathlib.Core.Bool.{true, false};
+ghost use Rattle.clock.specs.Clock.{clockInRange};
 ghost use Rattle.host.specs.Settings.{settingsGood};
 ghost use Rattle.host.specs.Effect.{answers};
 ghost use Rattle.host.specs.Lent.{host};
@@ -9,6 +10,7 @@ ghost use Rattle.host.specs.code.Told.{afresh, Ready, RowsBelow, Told, TableTol
 ghost use Rattle.calls.specs.Effects.{
   looked,
   initialize,
+  selfReport,
   scopeOf,
   effect,
 };
@@ -20,6 +22,7 @@ use super::plans::Timed;
 use answer::Answer;
 use class_table::ClassTable;
 use clock::Clock;
+use clock::Counter;
 use host::Effect;
 use host::Links;
 use host::Reply;
@@ -89,6 +92,23 @@ fn aged(p: Aged, l: Links, w: Walk) -> Effect
     }
 }
 
+// A self-report. The call of its own has another function for it (`plans::self_report`), which is then called once and compiled into it.
+fn self_report(s: Settings, c: Clock, l: Links, w: Walk, k: Counter) -> Effect
+    requires { ⌜ (settingsGood s ≡ true) × (clockInRange c ≡ true) ⌝ }
+    ensures { λ p. ⌜ p ≡ selfReport k (host s c l) w ⌝ }
+{
+    let r = host::our_reading(s, c, k);
+    let clock = r.clock;
+    let time = r.time;
+    Effect {
+        reply: plainly(Answer::Done),
+        clock: clock,
+        links: l,
+        walk: w,
+        work: each(s, Change::Reported(time)),
+    }
+}
+
 pub fn looked(found: Found, e: Entry) -> Reply
     ensures { λ r. ⌜ r ≡ looked found e ⌝ }
 {
@@ -124,7 +144,7 @@ fn effect(
         Request::Set(ms, n) => timed(plans::set(Answer::Done, s, c, ms, n), l, w),
         Request::Read(k) => timed(plans::read(Answer::Done, s, c, k), l, w),
         Request::Second => aged(plans::second(Answer::Done, s, c), l, w),
-        Request::SelfReport(k) => aged(plans::self_report(Answer::Done, s, c, k), l, w),
+        Request::SelfReport(k) => self_report(s, c, l, w, k),
         Request::Lookup(a) => { answers(c, l, w, looked(host::found_for(t, s, a), e)) }
         Request::Step(k) => walk::step(s, t, c, l, w, copy, e, k),
     }
