@@ -31,9 +31,6 @@ message-length destination p rs = omega (arith, hello-length p rs)
 
 -- ---- octets
 
-pub two-octets : (n : ℕ) → Octets (two n)
-two-octets n = (omega arith, (omega arith, tt))
-
 pub front-octets : (total : ℕ) → Octets (headerFront total)
 front-octets total = omega arith
 
