@@ -80,7 +80,7 @@ def thin_uses(text, crate, modules=()):
     have = set(re.findall(r"[^\s(){}\[\],;.]+", re.sub(r"(?m)^ *--.*", "", text)))
     lines = ["use %s.Thin.{%s}" % (lib(crate), ", ".join(n for n in thin_cites() if n.strip("_") in have or n == "[]"))]
     for module, names in modules:
-        ns = [n for n in names if n.split(" as ")[-1] in have]
+        ns = [n for n in names if n.split(" as ")[-1].strip("_") in have]
         if ns:
             lines.append("use %s.{%s}" % (module, ", ".join(ns)))
     return "\n".join(lines) + "\n"

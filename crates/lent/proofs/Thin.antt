@@ -31,9 +31,9 @@ pub use Rattle.lent.proofs.Holds.{literal, all-got, got, makes, is-part
 pub use Rattle.lent.proofs.Lending.{points, slices, begins, counts, pairs, fewer, cuts, joined, recuts, rejoined, lends, back, relends, returned, learns}
 pub use Rattle.lent.proofs.Calling.{nothing-more, value, val, share, shares, give, gives, calls, calls-having}
 pub use Rattle.lent.proofs.Elements.{scaled, reads-element, reads-element-mut, writes-element, inside, inside-now, bytes}
-pub use Rattle.lent.proofs.Looping.{revalued, turns, next, times, folds, last-turn}
+pub use Rattle.lent.proofs.Looping.{revalued, turns, breaks, next, times, folds, folds-while, last-turn, tested, held-so, failed-so, stopped}
 pub use Rattle.lent.proofs.Law.{stays, goes, Ending, finish}
-use mir.Syntax.{Ty, Local, local, valueLocal, memorySlot, Opd, Body, place, deref, field, copy, rvOpd, op2, offset, sub as minus, unsigned as no-sign, addrOf, aggregate, assign, call, lt, add, mul, int, seq, block, loop, cond, skip, exit, return}
+use mir.Syntax.{Ty, Local, local, valueLocal, memorySlot, Opd, Body, place, deref, field, copy, rvOpd, op2, offset, sub as minus, unsigned as no-sign, addrOf, aggregate, assign, call, lt, add, mul, bitNot, op1, int, seq, block, loop, cond, skip, exit, return}
 use base.Logic.{SProp}
 use contract.Monad.{fact}
 use contract.Lifetimes.{Lfts}
@@ -156,6 +156,13 @@ slice-with n i j = assign (place n []) (aggregate (loc i ∷ loc j ∷ []))
 -- a loop while local i is less than local e, which goes up by one in each turn; local n is the test
 abbrev pub up-to : ℕ → ℕ → ℕ → List Body → Body
 up-to n i e bs = block (loop (seq (assign (place n []) (op2 (lt no-sign) (loc i) (loc e))) (seq (cond (loc n) skip (exit 1)) (chain bs (assign (place i []) (op2 (add no-sign) (loc i) (int w64 1)))))))
+
+-- what a turn may do besides: local n is what local m is not; the loop is left where local n holds
+abbrev pub negate : ℕ → ℕ → Body
+negate n m = assign (place n []) (op1 bitNot (loc m))
+
+abbrev pub leave-if : ℕ → Body
+leave-if n = cond (loc n) (exit 1) skip
 
 -- ---- the theorem
 pub record Job {M : Type 1} (𝓤 : URA M) : Type 2 where

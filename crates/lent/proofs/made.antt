@@ -3,5 +3,9 @@ pub mod Folds
 pub mod Maps
 pub mod Moves
 pub mod Moves3
+pub mod Plans
+pub mod PlansPart
 pub mod Reads
+pub mod Surveys
+pub mod Tests
 pub mod Writes
