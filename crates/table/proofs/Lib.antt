@@ -1,5 +1,6 @@
 pub mod Types
 pub mod Bits
+pub mod ByWords
 pub mod LineA
 pub mod Stages
 pub mod Ranges

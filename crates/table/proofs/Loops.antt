@@ -1,6 +1,6 @@
 -- What a loop over the run has made after n turns: what its definition makes of the first n places.
 use mathlib.Core.Path.{_≡_, refl, sym, ap, _∙_}
-use mathlib.Core.Bool.{Bool, true, false, _&&_, and-true, and-assoc}
+use mathlib.Core.Bool.{Bool, _&&_, and-true, and-assoc}
 use mathlib.Core.List.{List, [], _∷_, _++_, map, map-append}
 use Prim.Native.Nat.{ℕ, suc, _+_, _-_, _<_}
 use native.Mathlib.Nat.{add-zero}
@@ -13,16 +13,12 @@ use Rattle.wire.specs.declared.Report.{Report}
 use Rattle.wire.specs.code.Sealing.{withReport, withReports}
 use Rattle.table.specs.declared.Entry.{Entry}
 use Rattle.table.specs.declared.Updated.{Updated}
-use Rattle.table.specs.Forms.{every, everyFrom, mapFrom}
+use Rattle.table.specs.Forms.{everyFrom, mapFrom}
 use Rattle.table.specs.Sweep.{Swept, sweep}
 use Rattle.table.specs.code.Loops.{latest}
 use Rattle.table.proofs.Sweeps.{sweep-length, sweep-more}
 
 -- ---- one element more
-
-every-more : {A : Type 0} (test : A → Bool) (xs : List A) (a : A) → every test (xs ++ (a ∷ [])) ≡ (every test xs && test a)
-every-more test [] a = and-true (test a)
-every-more test (x ∷ xs) a = rw (every-more test xs a) (sym (and-assoc (test x) (every test xs) (test a)))
 
 from-more : {A : Type 0} (i : ℕ) (test : ℕ → A → Bool) (xs : List A) (a : A)
     → everyFrom i test (xs ++ (a ∷ [])) ≡ (everyFrom i test xs && test (i + length xs) a)
@@ -51,14 +47,6 @@ unfolding withReports
 reports-more i [] r b = let z : i + 0 ≡ i = omega arith in rw (z) refl
 reports-more i (x ∷ rs) r b = let s : i + suc (length rs) ≡ suc i + length rs = omega arith in rw (s) (reports-more (suc i) rs r (withReport i x b))
 
--- what two tests say so far, and of one more
-shuffled : (g x y a b : Bool) → (g && x && y && (a && b)) ≡ (g && (x && a) && (y && b))
-shuffled false x y a b = refl
-shuffled true false y a b = refl
-shuffled true true false true b = refl
-shuffled true true false false b = refl
-shuffled true true true a b = refl
-
 -- ---- one turn more, at the place first + n
 
 module _ (run : List Entry) (first n : ℕ) (none : Entry) (inside : first + n < length run) where
@@ -71,14 +59,11 @@ module _ (run : List Entry) (first n : ℕ) (none : Entry) (inside : first + n <
   done-length : length done ≡ n
   done-length = part-length first n run (omega arith)
 
-  pub scan-turn : (test : Entry → Bool) (counted : ℕ → Entry → Bool) (good : Bool)
-      → (good && every test done && everyFrom 0 counted done && (test e && counted (first + n - first) e))
-      ≡ (good && every test (part first (suc n) run) && everyFrom 0 counted (part first (suc n) run))
-  scan-turn test counted good =
+  pub test-turn : (test : ℕ → Entry → Bool) → (everyFrom 0 test done && test (first + n - first) e) ≡ everyFrom 0 test (part first (suc n) run)
+  test-turn test =
       let id : first + n - first ≡ n = omega arith in
       let at : 0 + length done ≡ n = omega (arith, done-length) in
-      rw (part-more first n run none inside, every-more test done e, from-more 0 counted done e, at, id)
-      (shuffled good (every test done) (everyFrom 0 counted done) (test e) (counted n e))
+      rw (part-more first n run none inside, from-more 0 test done e, at, id) refl
 
   pub seek-turn : (known : Entry) → e ≡ latest known (part first (suc n) run)
   seek-turn known = rw (part-more first n run none inside) (sym (latest-more known done e))

@@ -9,6 +9,10 @@ use Rattle.table.proofs.Updated as Updated
 use Rattle.table.proofs.Updated.Laws as Updated′
 use Rattle.table.proofs.run.Scan as Scan
 use Rattle.table.proofs.run.Scan.Laws as Scan′
+use Rattle.table.proofs.run.Words as Words
+use Rattle.table.proofs.run.Words.Laws as Words′
+use Rattle.table.proofs.run.Stretch as Stretch
+use Rattle.table.proofs.run.Stretch.Laws as Stretch′
 use Rattle.table.proofs.run.Seek as Seek
 use Rattle.table.proofs.run.Seek.Laws as Seek′
 use Rattle.table.proofs.run.Changes as Changes
@@ -37,6 +41,38 @@ scan = record {
   behind-plain = Scan′.the-plain .1 .1 .1;
   low = Scan′.lowers;
   copies = Scan′.the-copy;
+}
+
+abbrev pub words : Outcome (usize-part ∷ usize-part ∷ bool-part ∷ [])
+words = record {
+  form = record {
+    name = Words.the-type .name;
+    D = Words.the-type .D;
+    read = λ w. (w .first, (w .end, (w .good, tt)));
+    behind = behind (Words.the-type .parts) 3;
+    rest = λ w. Words.the-type .to w .1 .1 .1;
+    one = Words.the-type .to-one;
+  };
+  behind-laws = Words′.the-laws .1 .1 .1;
+  behind-plain = Words′.the-plain .1 .1 .1;
+  low = Words′.lowers;
+  copies = Words′.the-copy;
+}
+
+abbrev pub stretch : Outcome (usize-part ∷ usize-part ∷ bool-part ∷ [])
+stretch = record {
+  form = record {
+    name = Stretch.the-type .name;
+    D = Stretch.the-type .D;
+    read = λ w. (w .first, (w .end, (w .good, tt)));
+    behind = behind (Stretch.the-type .parts) 3;
+    rest = λ w. Stretch.the-type .to w .1 .1 .1;
+    one = Stretch.the-type .to-one;
+  };
+  behind-laws = Stretch′.the-laws .1 .1 .1;
+  behind-plain = Stretch′.the-plain .1 .1 .1;
+  low = Stretch′.lowers;
+  copies = Stretch′.the-copy;
 }
 
 abbrev pub seek : Outcome (usize-part ∷ usize-part ∷ struct-part entry ∷ [])

@@ -1,7 +1,7 @@
 // The marks of host ids: which hosts live here.
 ghost use mathlib.Core.Path.{_≡_};
-ghost use Prim.Native.Nat.{_-_};
-ghost use Rattle.table.specs.Marks.{noMarks, mark, noneFrom};
+ghost use Prim.Native.Nat.{_-_, _%_};
+ghost use Rattle.table.specs.Marks.{noMarks, bit, mark, noneFrom};
 ghost use Rattle.table.specs.code.Words.{wordOf, zeroFrom};
 
 // The marks of the ids from 0 to 255: that of an id is bit id % 64 of word id / 64, the lowest bit first.
@@ -17,7 +17,7 @@ pub fn none() -> Marks
 }
 
 // The word with an id's mark, or 0 where there is none. Each word is named: one that is taken by a number worked out has all words copied first.
-fn word_of(m: Marks, id: usize) -> u64
+pub fn word_of(m: Marks, id: usize) -> u64
     ensures { λ r. ⌜ r ≡ wordOf m id ⌝ }
 {
     let words = m.words;
@@ -36,11 +36,18 @@ fn word_of(m: Marks, id: usize) -> u64
     0
 }
 
+// The mark of an id in its word, 1 or 0.
+pub fn mark_in(word: u64, id: usize) -> u8
+    ensures { λ r. ⌜ r ≡ bit word (id % 64) ⌝ }
+{
+    ((word >> (id % 64)) % 2) as u8
+}
+
 // The mark of an id, 1 or 0.
 pub fn mark(m: Marks, id: usize) -> u8
     ensures { λ r. ⌜ r ≡ mark m id ⌝ }
 {
-    ((word_of(m, id) >> (id % 64)) % 2) as u8
+    mark_in(word_of(m, id), id)
 }
 
 // Are the bits of a word from the n-th on zero?

@@ -7,12 +7,15 @@ ghost use Rattle.wire.specs.code.Ranges.{Two};
 ghost use Rattle.table.specs.declared.run.Change.the-variants.{Fresh};
 ghost use Rattle.table.specs.Update.{plusReport, ownInRange, delayInRange};
 ghost use Rattle.table.specs.Runs.{changed, changes, updateAt, updatedAt, updates};
-ghost use Rattle.table.specs.code.Loops.{InRun, stillGood, allInRange, entryOf, Updatable, UpdatesFit, reported, ReportFits, ReportsFit, readOut};
+ghost use Rattle.table.specs.code.Loops.{InRun, allInRange, entryOf, Updatable, UpdatesFit, reported, ReportFits, ReportsFit, readOut};
+ghost use Rattle.table.specs.code.Words.{byWords, InWord, stretchOf, asInWord, allAsInWord};
 use super::Entry;
 use super::Update;
 use super::Updated;
 use super::marks::Marks;
 use super::marks::mark;
+use super::marks::mark_in;
+use super::marks::word_of;
 use calendar::Date;
 use clock::Clock;
 use quantity::Count;
@@ -27,6 +30,22 @@ pub struct Scan {
     pub end: usize,
     pub good: bool,
     pub marks: Marks,
+}
+
+// The same by words of marks, so many of them.
+pub struct Words {
+    pub first: usize,
+    pub end: usize,
+    pub good: bool,
+    pub scan: Scan,
+}
+
+// The entries of the ids that have their marks in one word; `first` is the place of the lowest.
+pub struct Stretch {
+    pub first: usize,
+    pub end: usize,
+    pub good: bool,
+    pub word: u64,
 }
 
 // The entry of a place, or `entry` where there is no place.
@@ -73,28 +92,117 @@ pub struct Reports {
     pub pid: u8,
 }
 
-// Each entry is tested, also behind one that is out of range: a loop without a branch is quicker.
-fn still_good(good: bool, e: Entry, i: usize, w: Scan) -> bool
-    requires { ⌜ w .first ≤ i ⌝ }
-    ensures { λ r. ⌜ r ≡ stillGood good e i w ⌝ }
+// All words of the ids; the last may have none.
+fn by_words(w: Scan) -> Words
+    requires { ⌜ w .first ≤ w .end ⌝ }
+    ensures { λ r. ⌜ r ≡ byWords w ⌝ }
 {
+    let ids = w.end - w.first;
+    if !w.good {
+        return Words {
+            first: 0,
+            end: 0,
+            good: false,
+            scan: w,
+        };
+    }
+    let words = ids / 64 + 1;
+    Words {
+        first: 0,
+        end: words,
+        good: true,
+        scan: w,
+    }
+}
+
+// The ids of word k: 64, or those that are left.
+fn stretch_of(k: usize, v: Words) -> Stretch
+    requires { ⌜ InWord k (v .scan) ⌝ }
+    ensures { λ r. ⌜ r ≡ stretchOf k (v .scan) ⌝ }
+{
+    let w = v.scan;
     let marks = w.marks;
+    let id = 64 * k;
+    let first = w.first + id;
+    let word = word_of(marks, id);
+    if w.end - first < 64 {
+        return Stretch {
+            first: first,
+            end: w.end,
+            good: true,
+            word: word,
+        };
+    }
+    let end = first + 64;
+    Stretch {
+        first: first,
+        end: end,
+        good: true,
+        word: word,
+    }
+}
+
+// Has the entry its mark in the word, and is it within its ranges?
+fn as_in_word(e: Entry, i: usize, w: Stretch) -> bool
+    requires { ⌜ w .first ≤ i ⌝ }
+    ensures { λ r. ⌜ r ≡ asInWord (w .word) (i - w .first) e ⌝ }
+{
     let n = i - w.first;
-    good & (super::in_range(e) & (e.here == mark(marks, n)))
+    if e.here != mark_in(w.word, n) {
+        return false;
+    }
+    super::in_range(e)
+}
+
+// The loop ends at the first entry that fails, and goes over one word's ids: of the ways that were tried this is the quickest.
+fn all_as_in_word(run: &[Entry], w: Stretch) -> bool
+    requires { ⌜ InRun (w .first) (w .end) (now run) × (w .good ≡ true) ⌝ }
+    ensures { λ r. ⌜ r ≡ allAsInWord w (now (run .entry)) ⌝ }
+{
+    let end = w.end;
+    let mut i = w.first;
+    let mut good = w.good;
+    while i < end {
+        good = as_in_word(run[i], i, w);
+        if !good {
+            break;
+        }
+        i = i + 1;
+    }
+    good
+}
+
+fn good_in_word(run: &[Entry], k: usize, v: Words) -> bool
+    requires { ⌜ InRun (v .scan .first) (v .scan .end) (now run) × InWord k (v .scan) ⌝ }
+    ensures { λ r. ⌜ r ≡ allAsInWord (stretchOf k (v .scan)) (now (run .entry)) ⌝ }
+{
+    let w = stretch_of(k, v);
+    all_as_in_word(run, w)
+}
+
+fn good_in_all(run: &[Entry], v: Words) -> bool
+    requires { ⌜ InRun (v .scan .first) (v .scan .end) (now run) × (v ≡ byWords (v .scan)) ⌝ }
+    ensures { λ r. ⌜ r ≡ allInRange (v .scan) (now (run .entry)) ⌝ }
+{
+    let end = v.end;
+    let mut k = v.first;
+    let mut good = v.good;
+    while k < end {
+        good = good_in_word(run, k, v);
+        if !good {
+            break;
+        }
+        k = k + 1;
+    }
+    good
 }
 
 pub fn all_in_range(run: &[Entry], w: Scan) -> bool
     requires { ⌜ InRun (w .first) (w .end) (now run) ⌝ }
     ensures { λ r. ⌜ r ≡ allInRange w (now (run .entry)) ⌝ }
 {
-    let end = w.end;
-    let mut i = w.first;
-    let mut good = w.good;
-    while i < end {
-        good = still_good(good, run[i], i, w);
-        i = i + 1;
-    }
-    good
+    let v = by_words(w);
+    good_in_all(run, v)
 }
 
 fn latest(known: Entry, e: Entry, i: usize, w: Seek) -> Entry

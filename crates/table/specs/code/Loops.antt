@@ -33,9 +33,6 @@ allInRange w run =
     w .good && every entryInRange (part (w .first) (w .end - w .first) run)
     && everyFrom 0 (asMarked (w .marks)) (part (w .first) (w .end - w .first) run)
 
-abbrev pub stillGood : Bool → Entry → (place : ℕ) → Scan → Bool
-stillGood good e i w = good && (entryInRange e && asMarked (w .marks) (i - w .first) e)
-
 -- the last of some entries
 abbrev pub latest : Entry → List Entry → Entry
 latest known [] = known

@@ -1,21 +1,20 @@
 -- The bit of the id's word.
+use mathlib.Core.Path.{_∙_, ap}
+use Prim.Native.Nat.{ℕ, _%_}
 use borrow.Author.Needs.{needs}
-use Rattle.table.specs.Marks.{mark}
+use Rattle.table.specs.Marks.{bit, mark}
 use Rattle.table.proofs.marks.mark.Statement.{statement}
 use Rattle.table.proofs.marks.mark.Tie as tie
 
 word-of-requires : tie.Need-word-of-requires
 word-of-requires c κs = search needs
 
-shr-result : tie.Need-shr-result
-shr-result c = search needs
-
-cast-result : tie.Need-cast-result
-cast-result c = search needs
+mark-in-requires : tie.Need-mark-in-requires
+mark-in-requires c κs = search needs
 
 returns : tie.Need-returns
 unfolding mark
-returns c = rw (c .word-of .ensures)
+returns c = rw (← c .before .word-of .ensures) (c .mark-in .ensures)
 
 pub mark-spec : {M : Type 1} → statement M
-mark-spec = tie.close (tie.spec word-of-requires shr-result cast-result returns)
+mark-spec = tie.close (tie.spec word-of-requires mark-in-requires returns)
