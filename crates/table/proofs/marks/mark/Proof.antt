@@ -1,8 +1,6 @@
 -- The bit of the id's word.
-use mathlib.Core.Path.{_∙_, ap}
-use Prim.Native.Nat.{ℕ, _%_}
 use borrow.Author.Needs.{needs}
-use Rattle.table.specs.Marks.{bit, mark}
+use Rattle.table.specs.Marks.{mark}
 use Rattle.table.proofs.marks.mark.Statement.{statement}
 use Rattle.table.proofs.marks.mark.Tie as tie
 
