@@ -23,3 +23,11 @@ pub fn number(name: &[u8], n: i64) {
 pub fn end() {
     text(b"\n");
 }
+
+// Four octets, as an address is written.
+pub fn dotted(first: u8, second: u8, third: u8, fourth: u8) {
+    signed(first as i64);
+    number(b".", second as i64);
+    number(b".", third as i64);
+    number(b".", fourth as i64);
+}
