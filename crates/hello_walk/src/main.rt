@@ -90,5 +90,5 @@ fn main() {
     let r = end.reply;
     let a = r.answer;
     io::print_decimal(1, answer::number(a) as u64);
-    io::write_all(1, b"\n");
+    printing::end();
 }

@@ -2,6 +2,7 @@
 use host::Link;
 use host::walk::Place;
 use host::walk::Walk;
+use printing::dotted;
 use printing::number;
 use printing::text;
 use quantity::Millis;
@@ -9,33 +10,31 @@ use quantity::Word;
 use table::Entry;
 use wire::Address;
 
-fn step(name: &[u8]) {
-    text(b"step ");
-    text(name);
+fn step(n: i64) {
+    number(b"step ", n);
     text(b":");
 }
 
-// A line of a host id.
-fn line(id: u8, name: &[u8]) {
+// A line of a host id, by its letter.
+fn line(id: u8, letter: u8) {
     number(b"host ", id as i64);
     text(b", line ");
-    text(name);
-    text(b":");
+    text(&[letter, b':']);
 }
 
 // Where a walk stands.
 pub fn place(w: Walk) {
     match host::walk::place_of(w) {
         Place::Nowhere => text(b"nowhere:"),
-        Place::Step1 => step(b"1"),
-        Place::Step2 => step(b"2"),
-        Place::Step3 => step(b"3"),
-        Place::Step4 => step(b"4"),
-        Place::Step5 => step(b"5"),
-        Place::LineA => line(w.id, b"a"),
-        Place::LineB => line(w.id, b"b"),
-        Place::LineC => line(w.id, b"c"),
-        Place::LineD => line(w.id, b"d"),
+        Place::Step1 => step(1),
+        Place::Step2 => step(2),
+        Place::Step3 => step(3),
+        Place::Step4 => step(4),
+        Place::Step5 => step(5),
+        Place::LineA => line(w.id, b'a'),
+        Place::LineB => line(w.id, b'b'),
+        Place::LineC => line(w.id, b'c'),
+        Place::LineD => line(w.id, b'd'),
     }
 }
 
@@ -67,13 +66,6 @@ fn word(empty: bool, name: &[u8], before: Word, after: Word) -> bool {
     millis(empty, name, Millis::of_word(before), Millis::of_word(after))
 }
 
-fn address(a: Address) {
-    number(b"", a.first as i64);
-    number(b".", a.second as i64);
-    number(b".", a.third as i64);
-    number(b".", a.fourth as i64);
-}
-
 fn same(a: Address, b: Address) -> bool {
     (a.first == b.first) & (a.second == b.second) & (a.third == b.third) & (a.fourth == b.fourth)
 }
@@ -83,9 +75,9 @@ fn neighbor(empty: bool, before: Address, after: Address) -> bool {
         return empty;
     }
     field(empty, b"NEIGHBOR-ADDRESS ");
-    address(before);
+    dotted(before.first, before.second, before.third, before.fourth);
     text(b" -> ");
-    address(after);
+    dotted(after.first, after.second, after.third, after.fourth);
     false
 }
 
@@ -94,8 +86,7 @@ pub fn reading(before: Walk, after: Walk) -> bool {
     if before.step != 1 {
         return true;
     }
-    let time = after.reading;
-    number(b" reading ", time.0);
+    number(b" reading ", after.reading.0);
     text(b" ms");
     false
 }
@@ -122,11 +113,9 @@ pub fn held(empty: bool, before: Walk, after: Walk) -> bool {
 
 // The entry of a host id.
 pub fn entry(empty: bool, before: Entry, after: Entry) -> bool {
-    let ttl = before.ttl;
-    let left = after.ttl;
     let a = millis(empty, b"DELAY", before.delay, after.delay);
     let b = word(a, b"OFFSET", before.offset, after.offset);
-    let c = change(b, b"TTL", ttl.0 as i64, left.0 as i64);
+    let c = change(b, b"TTL", before.ttl.0 as i64, after.ttl.0 as i64);
     let d = change(c, b"PID", before.pid as i64, after.pid as i64);
     millis(d, b"time", before.time, after.time)
 }
@@ -136,5 +125,5 @@ pub fn end(empty: bool) {
     if empty {
         text(b" nothing");
     }
-    text(b"\n");
+    printing::end();
 }
