@@ -1,7 +1,6 @@
 // Arrivals on link 1 of a host of 192.0.2, one to a record of standard input. tests/packets.py has the table of them, and makes the records.
 ghost use mathlib.Core.Path.{_≡_};
 use super::show;
-use answer::Answer;
 use calendar::Date;
 use clock::Clock;
 use clock::Counter;
@@ -123,24 +122,15 @@ fn entry_of(run: [Entry; 255], id: u8) -> Entry {
 }
 
 // A line's end: the answer, link 1, and the entry of an id.
-fn left(a: Answer, x: Link, id: u8, e: Entry) {
-    show::answer(a);
-    show::link(x);
-    number(b"; id ", id as i64);
-    show::entry(e);
-    end();
-}
-
 fn told(w: Whole, id: u8) {
     let r = w.reply;
     let a = r.answer;
     let run = w.run;
-    left(
-        a,
-        host::link_state::link_of(w.links, 1),
-        id,
-        entry_of(run, id),
-    );
+    show::answer(a);
+    show::link(host::link_state::link_of(w.links, 1));
+    number(b"; id ", id as i64);
+    show::entry(entry_of(run, id));
+    end();
 }
 
 // The name of a record.

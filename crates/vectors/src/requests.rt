@@ -18,38 +18,29 @@ use table::Entry;
 use wire::Address;
 
 // A route by that PID.
-fn route_by(pid: u8, delay: Millis, ttl: Seconds) -> Entry {
+fn route_by(pid: u8, delay: i64, ttl: u16) -> Entry {
     Entry {
-        delay: delay,
+        delay: Millis(delay),
         offset: Word(7),
-        ttl: ttl,
+        ttl: Seconds(ttl),
         pid: pid,
         here: 0,
         time: Millis(0),
     }
 }
 
-// A line of what a send on link 1 advertises for an entry.
-fn advertised(name: &[u8], e: Entry) {
+// A line of what a send on link 1 advertises for a route.
+fn advertised(name: &[u8], pid: u8, delay: i64) {
     text(name);
-    show::report(table::advertised(1, e));
+    show::report(table::advertised(1, route_by(pid, delay, 60)));
     end();
 }
 
 // The neighbor is not told of the routes that go by itself (split horizon).
 pub fn split_horizon() {
-    advertised(
-        b"sent on link 1, of a route by link 1",
-        route_by(1, Millis(500), Seconds(60)),
-    );
-    advertised(
-        b"sent on link 1, of a route by link 2",
-        route_by(2, Millis(500), Seconds(60)),
-    );
-    advertised(
-        b"sent on link 1, of the host itself",
-        route_by(0, Millis(0), Seconds(60)),
-    );
+    advertised(b"sent on link 1, of a route by link 1", 1, 500);
+    advertised(b"sent on link 1, of a route by link 2", 2, 500);
+    advertised(b"sent on link 1, of the host itself", 0, 0);
 }
 
 // The host of the packet program, all whose entries are the same, as a request leaves it.
@@ -61,9 +52,9 @@ fn asked(e: Entry, q: Request) -> Whole {
     program::call(s, program::nets(), 0, c, l, v, b"", entries(0, e), q)
 }
 
-// A line of an entry a second later.
-fn second(name: &[u8], e: Entry) {
-    let w = asked(e, Request::Second);
+// A line of a route by link 1 a second later.
+fn second(name: &[u8], delay: i64, ttl: u16) {
+    let w = asked(route_by(1, delay, ttl), Request::Second);
     let run = w.run;
     text(name);
     show::entry(run[0]);
@@ -72,33 +63,21 @@ fn second(name: &[u8], e: Entry) {
 
 // "Each TTL that isn't zero falls by one; if it thereby reaches zero and DELAY is under 30,000, DELAY becomes 30,000 and TTL 120."
 pub fn ageing() {
-    second(
-        b"a second, live entry, TTL 2",
-        route_by(1, Millis(500), Seconds(2)),
-    );
-    second(
-        b"a second, live entry, TTL 1",
-        route_by(1, Millis(500), Seconds(1)),
-    );
-    second(
-        b"a second, live entry, TTL 0",
-        route_by(1, Millis(500), Seconds(0)),
-    );
-    second(
-        b"a second, down entry, TTL 1",
-        route_by(1, table::MAX_DELAY, Seconds(1)),
-    );
+    second(b"a second, live entry, TTL 2", 500, 2);
+    second(b"a second, live entry, TTL 1", 500, 1);
+    second(b"a second, live entry, TTL 0", 500, 0);
+    second(b"a second, down entry, TTL 1", table::MAX_DELAY.0, 1);
 }
 
-// A line of a lookup of 192.0.2.3, whose id is 2, where that id's entry is so.
-fn lookup(name: &[u8], e: Entry) {
+// A line of a lookup of 192.0.2.3, whose id is 2, where that id has such a route.
+fn lookup(name: &[u8], pid: u8, delay: i64) {
     let address = Address {
         first: 192,
         second: 0,
         third: 2,
         fourth: 3,
     };
-    let w = asked(e, Request::Lookup(address));
+    let w = asked(route_by(pid, delay, 60), Request::Lookup(address));
     let r = w.reply;
     let a = r.answer;
     text(name);
@@ -110,18 +89,9 @@ fn lookup(name: &[u8], e: Entry) {
 
 // "a lookup its host id and PID", "lookup: host is down (DELAY 30,000)"
 pub fn lookups() {
-    lookup(
-        b"lookup, route by link 1:",
-        route_by(1, Millis(500), Seconds(60)),
-    );
-    lookup(
-        b"lookup, route by link 8:",
-        route_by(8, Millis(29_999), Seconds(60)),
-    );
-    lookup(
-        b"lookup, the host is down:",
-        route_by(1, table::MAX_DELAY, Seconds(60)),
-    );
+    lookup(b"lookup, route by link 1:", 1, 500);
+    lookup(b"lookup, route by link 8:", 8, 29_999);
+    lookup(b"lookup, the host is down:", 1, table::MAX_DELAY.0);
 }
 
 // What a message on link 1 carries as TSP, and KEEP-ALIVE behind it.
@@ -136,8 +106,7 @@ fn sent_at(x: Link, c: Clock) -> Sent {
     if host::good(s) {
         if c.in_range() {
             let p = sending::plan(Answer::Done, s, c, links, 1, Counter::zero(), 32);
-            let m = p.packet;
-            let tsp = m.tsp;
+            let tsp = p.packet.tsp;
             let link = host::link_state::link_of(p.links, 1);
             return Sent {
                 tsp: tsp,
@@ -151,29 +120,22 @@ fn sent_at(x: Link, c: Clock) -> Sent {
     }
 }
 
-// A line of it.
-fn message(name: &[u8], x: Link, c: Clock) {
-    let m = sent_at(x, c);
-    let tsp = m.tsp;
+// A line of what B sends at 45,530 where its TSP is -530.
+fn message(name: &[u8], keep_alive: u8) {
+    let x = Link {
+        neighbor: Address::ZERO,
+        keep_alive: keep_alive,
+        tsp: Word(-530),
+    };
+    let m = sent_at(x, Clock::fresh(Millis(45530), Date::FIRST));
     text(name);
-    number(b": TSP ", tsp.bits() as i64);
+    number(b": TSP ", m.tsp.bits() as i64);
     number(b", KEEP-ALIVE ", m.keep_alive as i64);
     end();
 }
 
 // "B, 500 ahead, gets it at 40,530 and answers at 45,530 with TSP 45,000"; "if KEEP-ALIVE isn't zero, which then falls by one; else 0"
 pub fn tsp() {
-    let c = Clock::fresh(Millis(45530), Date::FIRST);
-    let heard = Link {
-        neighbor: Address::ZERO,
-        keep_alive: 4,
-        tsp: Word(-530),
-    };
-    message(b"B answers at 45,530 where its TSP is -530", heard, c);
-    let silent = Link {
-        neighbor: Address::ZERO,
-        keep_alive: 0,
-        tsp: Word(-530),
-    };
-    message(b"the same where KEEP-ALIVE is 0", silent, c);
+    message(b"B answers at 45,530 where its TSP is -530", 4);
+    message(b"the same where KEEP-ALIVE is 0", 0);
 }
