@@ -14,22 +14,22 @@ use quantity::Units;
 const HOLD_INTERVAL: Seconds = Seconds(1);
 
 // A line clock's count.
-const NO_COUNT: Count = Count(0);
+const NO_COUNT: u16 = 0;
 
 // The clock a tick later. A clock or a tick out of range stays, as with a host.
-fn ticked(c: Clock, clock_tick: Units, n: Count) -> Clock {
+fn ticked(c: Clock, clock_tick: Units, n: u16) -> Clock {
     if c.in_range() {
         if clock::tick_in_range(clock_tick) {
-            return c.ticked(clock_tick, HOLD_INTERVAL, n);
+            return c.ticked(clock_tick, HOLD_INTERVAL, Count(n));
         }
     }
     c
 }
 
 // The clock after an adjust.
-fn adjusted(c: Clock, n: Count) -> Clock {
+fn adjusted(c: Clock, n: u16) -> Clock {
     if c.in_range() {
-        return c.adjusted(HOLD_INTERVAL, n);
+        return c.adjusted(HOLD_INTERVAL, Count(n));
     }
     c
 }
@@ -46,9 +46,9 @@ fn adjusts(c: Clock, times: u32) -> Clock {
 }
 
 // The clock set by a count of milliseconds.
-fn set(c: Clock, ms: i32, n: Count) -> Clock {
+fn set(c: Clock, ms: i32, n: u16) -> Clock {
     if c.in_range() {
-        return c.set_by(HOLD_INTERVAL, n, Millis::of_count(ms));
+        return c.set_by(HOLD_INTERVAL, Count(n), Millis::of_count(ms));
     }
     c
 }
@@ -71,27 +71,26 @@ fn clock_of(clock: Units, delta: Units) -> Clock {
     }
 }
 
+// A line of a clock after so many adjusts.
+fn after_adjusts(name: &[u8], clock: i64, delta: i64, times: u32) {
+    show::clock(name, adjusts(clock_of(Units(clock), Units(delta)), times));
+}
+
 // "A DELTA of -1 to -128 units moves by one unit at each adjust until it is 0: -127 takes 127 adjusts. One of +1 to +127 never moves."
 pub fn deltas() {
-    let one = clock_of(Units(1000), Units(-1));
-    show::clock(b"DELTA -1 after 1 adjust", adjusts(one, 1));
-    let most = clock_of(Units(1000), Units(-127));
-    show::clock(b"DELTA -127 after 1 adjust", adjusts(most, 1));
-    show::clock(b"DELTA -127 after 126 adjusts", adjusts(most, 126));
-    show::clock(b"DELTA -127 after 127 adjusts", adjusts(most, 127));
-    show::clock(b"DELTA -127 after 128 adjusts", adjusts(most, 128));
-    let least = clock_of(Units(1000), Units(1));
-    show::clock(b"DELTA +1 after 1000 adjusts", adjusts(least, 1000));
-    let stays = clock_of(Units(1000), Units(127));
-    show::clock(b"DELTA +127 after 1000 adjusts", adjusts(stays, 1000));
-    let more = clock_of(Units(1000), Units(128));
-    show::clock(b"DELTA +128 after 1000 adjusts", adjusts(more, 1000));
+    after_adjusts(b"DELTA -1 after 1 adjust", 1000, -1, 1);
+    after_adjusts(b"DELTA -127 after 1 adjust", 1000, -127, 1);
+    after_adjusts(b"DELTA -127 after 126 adjusts", 1000, -127, 126);
+    after_adjusts(b"DELTA -127 after 127 adjusts", 1000, -127, 127);
+    after_adjusts(b"DELTA -127 after 128 adjusts", 1000, -127, 128);
+    after_adjusts(b"DELTA +1 after 1000 adjusts", 1000, 1, 1000);
+    after_adjusts(b"DELTA +127 after 1000 adjusts", 1000, 127, 1000);
+    after_adjusts(b"DELTA +128 after 1000 adjusts", 1000, 128, 1000);
 }
 
 // "Adjust at CLOCK 0 with DELTA -1 steps the date back and loads HOLD."
 pub fn below_zero() {
-    let start = clock_of(Units(0), Units(-1));
-    show::clock(b"DELTA -1 at CLOCK 0", adjusts(start, 1));
+    after_adjusts(b"DELTA -1 at CLOCK 0", 0, -1, 1);
 }
 
 // A Set by the most and by the least that it takes passes midnight 24 times, and 25 times back.
@@ -120,9 +119,8 @@ fn reading(name: &[u8], c: Clock, clock_tick: Units, k: Counter) {
     if c.in_range() {
         if clock::tick_in_range(clock_tick) {
             let r = c.reading(clock_tick, HOLD_INTERVAL, k);
-            let time = r.time;
             text(name);
-            number(b": TIME ", time.0);
+            number(b": TIME ", r.time.0);
             show::clock(b"", r.clock);
         }
     }
@@ -148,27 +146,23 @@ fn marked(n: u16, again: u16) -> Counter {
 
 // "Both midnight rules now test the sum, so a reading may move the date and load HOLD, and CLOCK alone may stand up to 65,535 ms below zero"
 pub fn crystal_midnights() {
+    let tick = Units(1);
     let late = clock_of(Units::of_millis(Millis(86_399_000)), Units(0));
-    reading(b"86,399,000 ms and 1,000", late, Units(1), counting(1_000));
-    reading(b"86,399,000 ms and 1,001", late, Units(1), counting(1_001));
+    reading(b"86,399,000 ms and 1,000", late, tick, counting(1_000));
+    reading(b"86,399,000 ms and 1,001", late, tick, counting(1_001));
     let first = clock_of(Units::of_millis(Millis(86_334_466)), Units(0));
-    reading(
-        b"86,334,466 ms and 65,535",
-        first,
-        Units(1),
-        counting(65_535),
-    );
+    reading(b"86,334,466 ms and 65,535", first, tick, counting(65_535));
     let below = clock_of(Units::of_millis(Millis(-65_535)), Units(0));
     reading(
         b"65,535 ms below zero and 65,535",
         below,
-        Units(1),
+        tick,
         counting(65_535),
     );
     reading(
         b"65,535 ms below zero and 65,534",
         below,
-        Units(1),
+        tick,
         counting(65_534),
     );
 }
@@ -190,19 +184,14 @@ pub fn crystal_overflow() {
 
 // "Every call that reads or alters CLOCK takes the count, tick, adjust and set without a mark"
 pub fn crystal_changes() {
+    let tick = Units::of_millis(Millis(1));
     let late = clock_of(Units::of_millis(Millis(86_399_000)), Units(128));
-    show::clock(
-        b"a tick of 1 ms, 999",
-        ticked(late, Units::of_millis(Millis(1)), Count(999)),
-    );
-    show::clock(
-        b"a tick of 1 ms, 1,000",
-        ticked(late, Units::of_millis(Millis(1)), Count(1_000)),
-    );
-    show::clock(b"an adjust, 999", adjusted(late, Count(999)));
-    show::clock(b"an adjust, 1,000", adjusted(late, Count(1_000)));
-    show::clock(b"a Set by 0, 1,000", set(late, 0, Count(1_000)));
-    show::clock(b"a Set by 0, 1,001", set(late, 0, Count(1_001)));
-    show::clock(b"a Set by 500, 500", set(late, 500, Count(500)));
-    show::clock(b"a Set by 500, 501", set(late, 500, Count(501)));
+    show::clock(b"a tick of 1 ms, 999", ticked(late, tick, 999));
+    show::clock(b"a tick of 1 ms, 1,000", ticked(late, tick, 1_000));
+    show::clock(b"an adjust, 999", adjusted(late, 999));
+    show::clock(b"an adjust, 1,000", adjusted(late, 1_000));
+    show::clock(b"a Set by 0, 1,000", set(late, 0, 1_000));
+    show::clock(b"a Set by 0, 1,001", set(late, 0, 1_001));
+    show::clock(b"a Set by 500, 500", set(late, 500, 500));
+    show::clock(b"a Set by 500, 501", set(late, 500, 501));
 }

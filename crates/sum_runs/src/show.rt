@@ -22,14 +22,10 @@ pub fn date(name: &[u8], d: Date) {
 
 // A line of a clock: CLOCK and DELTA in units.
 pub fn clock(name: &[u8], c: Clock) {
-    let units = c.clock;
-    let delta = c.delta;
-    let hold = c.hold;
-    let date = c.date;
     text(name);
-    number(b": CLOCK ", units.0);
-    number(b" DELTA ", delta.0);
-    number(b" HOLD ", hold.0 as i64);
-    number(b" DATE ", date.0 as i64);
+    number(b": CLOCK ", c.clock.0);
+    number(b" DELTA ", c.delta.0);
+    number(b" HOLD ", c.hold.0 as i64);
+    number(b" DATE ", c.date.0 as i64);
     end();
 }
