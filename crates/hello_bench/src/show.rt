@@ -2,7 +2,7 @@
 use bench_file::Event;
 use calendar::Date;
 use clock::Clock;
-use printing::signed;
+use printing::end;
 use printing::text;
 use quantity::Millis;
 use table::Entry;
@@ -48,7 +48,7 @@ pub fn answer(n: u8) {
     io::print_decimal(1, n as u64);
     text(b" ");
     name(n);
-    text(b"\n");
+    end();
 }
 
 // ---- events
@@ -60,31 +60,35 @@ fn of_seat(call: &[u8], seat: usize) {
 
 fn set(seat: usize, amount: Millis) {
     of_seat(b"set", seat);
-    text(b" by ");
-    signed(amount.0);
+    printing::number(b" by ", amount.0);
     text(b" ms");
 }
 
-fn send(cable: usize, end: usize, tray: usize) {
+fn send(cable: usize, side: usize, tray: usize) {
     number(b"send cable ", cable);
-    number(b" end ", end);
+    number(b" end ", side);
     number(b" tray ", tray);
 }
 
 // An event, as the text of a bench file has it, but for counts.
-pub fn event(i: usize, e: Event) {
-    number(b"event ", i);
-    text(b": ");
+fn call(e: Event) {
     match e {
         Event::Tick(seat, _) => of_seat(b"tick", seat),
         Event::Adjust(seat, _) => of_seat(b"adjust", seat),
         Event::Set(seat, ms, _) => set(seat, Millis::of_count(ms)),
         Event::Second(seat) => of_seat(b"second", seat),
         Event::SelfReport(seat, _) => of_seat(b"self-report", seat),
-        Event::Send(cable, end, tray, _) => send(cable, end, tray),
+        Event::Send(cable, side, tray, _) => send(cable, side, tray),
         Event::Arrival(tray, _) => number(b"arrival tray ", tray),
         Event::Unknown => text(b"none"),
     }
+}
+
+// The number of an event and the event, in front of its answer.
+pub fn event(i: usize, e: Event) {
+    number(b"event ", i);
+    text(b": ");
+    call(e);
     text(b": ");
 }
 
@@ -106,19 +110,22 @@ fn date(d: Date) {
     two(d.0 / 32 % 32);
 }
 
+// The next column.
+fn column(n: i64) {
+    printing::number(b"\t", n);
+}
+
 pub fn clocks() {
     text(b"seat\tCLOCK ms\tDATE\n");
 }
 
 // A seat's clock, without what a crystal's counter shows.
 pub fn clock(seat: usize, c: Clock) {
-    let ms = Millis::whole(c.clock);
-    number(b"", seat);
-    text(b"\t");
-    signed(ms.0);
+    io::print_decimal(1, seat as u64);
+    column(Millis::whole(c.clock).0);
     text(b"\t");
     date(c.date);
-    text(b"\n");
+    end();
 }
 
 pub fn entries() {
@@ -130,16 +137,11 @@ pub fn entry(seat: usize, id: usize, e: Entry) {
     if !table::up(e) {
         return;
     }
-    let delay = e.delay;
-    let offset = Millis::of_word(e.offset);
-    let ttl = e.ttl;
-    number(b"", seat);
+    io::print_decimal(1, seat as u64);
     number(b"\t", id);
-    text(b"\t");
-    signed(delay.0);
-    text(b"\t");
-    signed(offset.0);
-    number(b"\t", ttl.0 as usize);
-    number(b"\t", e.pid as usize);
-    text(b"\n");
+    column(e.delay.0);
+    column(Millis::of_word(e.offset).0);
+    column(e.ttl.0 as i64);
+    column(e.pid as i64);
+    end();
 }
