@@ -1,23 +1,23 @@
 -- Entries that are tested word by word: the tests of the words come to the test of all.
 use mathlib.Core.Path.{_≡_, refl, sym, ap, _∙_}
-use mathlib.Core.Bool.{Bool, true, false, cond, _&&_, and-assoc}
+use mathlib.Core.Bool.{Bool, true, false, cond, _&&_}
 use mathlib.Core.List.{List, [], _∷_, _++_}
-use Prim.Native.Nat.{ℕ, zero, suc, _+_, _-_, _*_, _/_, _%_, _≤_, _<_}
-use native.Mathlib.Nat.{add-zero}
+use Prim.Native.Nat.{ℕ, suc, _+_, _-_, _*_, _/_, _%_, _≤_, _<_}
 use native.Mathlib.Omega.{arith}
 use borrow.Author.Tests.{lt-ltb, le-ltb, ltb-false}
-use lib.Dec.{eqb, ltb}
-use lib.ListN.{length, drop, getD}
+use lib.Dec.{ltb}
+use lib.ListN.{length, drop}
 use lib.Seq.{take-add, drop-drop}
 use Rattle.lists.specs.Lists.{part}
 use Rattle.lists.proofs.Parts.{part-length}
 use Rattle.table.specs.declared.Entry.{Entry}
 use Rattle.table.specs.declared.run.Scan.{Scan}
 use Rattle.table.specs.Forms.{every, everyFrom}
-use Rattle.table.specs.Marks.{bit, mark}
+use Rattle.table.specs.Marks.{mark}
 use Rattle.table.specs.Entry.{asMarked, entryInRange}
 use Rattle.table.specs.code.Loops.{InRun, allInRange}
-use Rattle.table.specs.code.Words.{wordOf, byWords, InWord, stretchOf, asInWord, allAsInWord}
+use Rattle.table.specs.code.Words.{wordOf, byWords, InWord, stretchOf, StretchFits, asInWord, allAsInWord}
+use Rattle.table.proofs.Loops.{both-lists}
 
 -- ---- elements that are tested
 
@@ -35,14 +35,6 @@ at-once i test counted [] = refl
 at-once i test counted (x ∷ xs) =
     shuffled (test x) (every test xs) (counted i x) (everyFrom (suc i) counted xs)
     ∙ ap (λ (b : Bool). counted i x && test x && b) (at-once (suc i) test counted xs)
-
--- those of two lists
-both-lists : {A : Type 0} (i : ℕ) (test : ℕ → A → Bool) (xs ys : List A)
-    → (everyFrom i test xs && everyFrom (i + length xs) test ys) ≡ everyFrom i test (xs ++ ys)
-both-lists i test [] ys = rw (add-zero i) refl
-both-lists i test (x ∷ xs) ys =
-    let s : i + suc (length xs) ≡ suc i + length xs = omega arith in
-    rw (s) (and-assoc (test i x) (everyFrom (suc i) test xs) (everyFrom (suc i + length xs) test ys) ∙ ap (λ (b : Bool). test i x && b) (both-lists (suc i) test xs ys))
 
 -- two tests that are the same, which are counted from two places
 alike : {A : Type 0} (f g : ℕ → A → Bool) (c i : ℕ) (xs : List A) → ((n : ℕ) (x : A) → n < i + length xs → f n x ≡ g (c + n) x)
@@ -127,9 +119,8 @@ word-inside w up k = go (w .good) where
   go true l = record { rising = up; before = omega (arith, l) }
   go false l = absurd (omega (arith, l))
 
-pub stretch-inside : (run : List Entry) (k : ℕ) (w : Scan) → InRun (w .first) (w .end) run → InWord k w
-    → InRun (stretchOf k w .first) (stretchOf k w .end) run × (stretchOf k w .good ≡ true)
-stretch-inside run k w h i = (go (ltb (w .end - (w .first + 64 * k)) 64) refl, refl) where
+pub stretch-fits : (run : List Entry) (k : ℕ) (w : Scan) → InRun (w .first) (w .end) run → InWord k w → StretchFits (stretchOf k w) run
+stretch-fits run k w h i = record { places = go (ltb (w .end - (w .first + 64 * k)) 64) refl; good = refl } where
   go : (b : Bool) → ltb (w .end - (w .first + 64 * k)) 64 ≡ b → InRun (w .first + 64 * k) (cond b (w .end) (w .first + 64 * k + 64)) run
   go true e = record { rising = omega (arith, i .before, i .rising); inside = h .inside }
   go false e = let many = ltb-false (w .end - (w .first + 64 * k)) 64 e in record { rising = omega arith; inside = omega (arith, many, h .inside) }

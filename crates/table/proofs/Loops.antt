@@ -18,14 +18,15 @@ use Rattle.table.specs.Sweep.{Swept, sweep}
 use Rattle.table.specs.code.Loops.{latest}
 use Rattle.table.proofs.Sweeps.{sweep-length, sweep-more}
 
--- ---- one element more
+-- ---- one element more, and of a test as many as there are
 
-from-more : {A : Type 0} (i : ℕ) (test : ℕ → A → Bool) (xs : List A) (a : A)
-    → everyFrom i test (xs ++ (a ∷ [])) ≡ (everyFrom i test xs && test (i + length xs) a)
-from-more i test [] a = rw (add-zero i) (and-true (test i a))
-from-more i test (x ∷ xs) a =
+-- the elements of two lists
+pub both-lists : {A : Type 0} (i : ℕ) (test : ℕ → A → Bool) (xs ys : List A)
+    → (everyFrom i test xs && everyFrom (i + length xs) test ys) ≡ everyFrom i test (xs ++ ys)
+both-lists i test [] ys = rw (add-zero i) refl
+both-lists i test (x ∷ xs) ys =
     let s : i + suc (length xs) ≡ suc i + length xs = omega arith in
-    rw (s, from-more (suc i) test xs a) (sym (and-assoc (test i x) (everyFrom (suc i) test xs) (test (suc i + length xs) a)))
+    rw (s) (and-assoc (test i x) (everyFrom (suc i) test xs) (everyFrom (suc i + length xs) test ys) ∙ ap (λ (b : Bool). test i x && b) (both-lists (suc i) test xs ys))
 
 pub map-length : {A B : Type 0} (i : ℕ) (f : ℕ → A → B) (xs : List A) → length (mapFrom i f xs) ≡ length xs
 map-length i f [] = refl
@@ -61,9 +62,9 @@ module _ (run : List Entry) (first n : ℕ) (none : Entry) (inside : first + n <
 
   pub test-turn : (test : ℕ → Entry → Bool) → (everyFrom 0 test done && test (first + n - first) e) ≡ everyFrom 0 test (part first (suc n) run)
   test-turn test =
-      let id : first + n - first ≡ n = omega arith in
-      let at : 0 + length done ≡ n = omega (arith, done-length) in
-      rw (part-more first n run none inside, from-more 0 test done e, at, id) refl
+      let at : first + n - first ≡ 0 + length done = omega (arith, done-length) in
+      rw (part-more first n run none inside, at)
+      (ap (λ (b : Bool). everyFrom 0 test done && b) (sym (and-true (test (0 + length done) e))) ∙ both-lists 0 test done (e ∷ []))
 
   pub seek-turn : (known : Entry) → e ≡ latest known (part first (suc n) run)
   seek-turn known = rw (part-more first n run none inside) (sym (latest-more known done e))

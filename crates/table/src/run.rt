@@ -8,7 +8,7 @@ ghost use Rattle.table.specs.declared.run.Change.the-variants.{Fresh};
 ghost use Rattle.table.specs.Update.{plusReport, ownInRange, delayInRange};
 ghost use Rattle.table.specs.Runs.{changed, changes, updateAt, updatedAt, updates};
 ghost use Rattle.table.specs.code.Loops.{InRun, allInRange, entryOf, Updatable, UpdatesFit, reported, ReportFits, ReportsFit, readOut};
-ghost use Rattle.table.specs.code.Words.{byWords, InWord, stretchOf, asInWord, allAsInWord};
+ghost use Rattle.table.specs.code.Words.{byWords, InWord, stretchOf, WordsFit, WordFits, StretchFits, asInWord, allAsInWord};
 use super::Entry;
 use super::Update;
 use super::Updated;
@@ -156,7 +156,7 @@ fn as_in_word(e: Entry, i: usize, w: Stretch) -> bool
 
 // The loop ends at the first entry that fails, and goes over one word's ids: of the ways that were tried this is the quickest.
 fn all_as_in_word(run: &[Entry], w: Stretch) -> bool
-    requires { ⌜ InRun (w .first) (w .end) (now run) × (w .good ≡ true) ⌝ }
+    requires { ⌜ StretchFits w (now run) ⌝ }
     ensures { λ r. ⌜ r ≡ allAsInWord w (now (run .entry)) ⌝ }
 {
     let end = w.end;
@@ -173,7 +173,7 @@ fn all_as_in_word(run: &[Entry], w: Stretch) -> bool
 }
 
 fn good_in_word(run: &[Entry], k: usize, v: Words) -> bool
-    requires { ⌜ InRun (v .scan .first) (v .scan .end) (now run) × InWord k (v .scan) ⌝ }
+    requires { ⌜ WordFits k v (now run) ⌝ }
     ensures { λ r. ⌜ r ≡ allAsInWord (stretchOf k (v .scan)) (now (run .entry)) ⌝ }
 {
     let w = stretch_of(k, v);
@@ -181,7 +181,7 @@ fn good_in_word(run: &[Entry], k: usize, v: Words) -> bool
 }
 
 fn good_in_all(run: &[Entry], v: Words) -> bool
-    requires { ⌜ InRun (v .scan .first) (v .scan .end) (now run) × (v ≡ byWords (v .scan)) ⌝ }
+    requires { ⌜ WordsFit v (now run) ⌝ }
     ensures { λ r. ⌜ r ≡ allInRange (v .scan) (now (run .entry)) ⌝ }
 {
     let end = v.end;

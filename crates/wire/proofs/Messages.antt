@@ -9,7 +9,6 @@ use Rattle.checksum.proofs.Octets.{Octets}
 use Rattle.wire.specs.declared.Address.{Address}
 use Rattle.wire.specs.declared.Packet.{Packet}
 use Rattle.wire.specs.declared.Report.{Report}
-use Rattle.wire.specs.Octets.{two}
 use Rattle.wire.specs.Ip.{headerFront, headerBack, header}
 use Rattle.wire.specs.Hello.{reportLength, reportPlace, helloLength, reportOctets, reportsOctets, helloBehind, hello}
 use Rattle.wire.specs.Packet.{packetLength, message}

@@ -1,5 +1,6 @@
 -- The marks of one word, and the entries of its ids.
-use mathlib.Core.Bool.{Bool, true, false, _&&_, cond}
+use mathlib.Core.Path.{_≡_}
+use mathlib.Core.Bool.{Bool, true, _&&_, cond}
 use mathlib.Core.List.{List}
 use Prim.Native.Nat.{ℕ, _+_, _-_, _*_, _/_, _%_, _≤_}
 use lib.Dec.{eqb, ltb}
@@ -13,6 +14,7 @@ use Rattle.table.specs.declared.run.Stretch.{Stretch}
 use Rattle.table.specs.Forms.{every, everyFrom, upFrom}
 use Rattle.table.specs.Marks.{bit}
 use Rattle.table.specs.Entry.{entryInRange}
+use Rattle.table.specs.code.Loops.{InRun}
 
 -- the word with an id's mark
 abbrev pub wordOf : Marks → (id : ℕ) → ℕ
@@ -36,6 +38,19 @@ abbrev pub stretchOf : (k : ℕ) → Scan → Stretch
 stretchOf k w =
     let first = w .first + 64 * k in
     record { first = first; end = cond (ltb (w .end - first) 64) (w .end) (first + 64); good = true; word = wordOf (w .marks) (64 * k) }
+
+-- all words lie in the run; word k does; and a stretch does
+pub record WordsFit (v : Words) (run : List Entry) : Type 0 where
+  pub places : InRun (v .scan .first) (v .scan .end) run
+  pub all : v ≡ byWords (v .scan)
+
+pub record WordFits (k : ℕ) (v : Words) (run : List Entry) : Type 0 where
+  pub places : InRun (v .scan .first) (v .scan .end) run
+  pub word : InWord k (v .scan)
+
+pub record StretchFits (w : Stretch) (run : List Entry) : Type 0 where
+  pub places : InRun (w .first) (w .end) run
+  pub good : w .good ≡ true
 
 -- the entry of an id has its mark in the word, and is in range
 abbrev pub asInWord : (word id : ℕ) → Entry → Bool

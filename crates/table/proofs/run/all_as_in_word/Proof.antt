@@ -1,6 +1,6 @@
 -- After n turns the answer is whether the first n entries are as they should be.
 use mathlib.Core.Path.{_≡_, ap, _∙_}
-use mathlib.Core.Bool.{Bool, true, _&&_}
+use mathlib.Core.Bool.{Bool, _&&_}
 use mathlib.Core.List.{List}
 use Prim.Native.Nat.{ℕ, zero, suc, _+_, _-_, _≤_}
 use native.Mathlib.Omega.{arith}
@@ -12,8 +12,7 @@ use Rattle.table.specs.declared.Entry.{Entry}
 use Rattle.table.specs.declared.run.Stretch.{Stretch}
 use Rattle.table.specs.Forms.{everyFrom}
 use Rattle.table.specs.Entry.{freshEntry}
-use Rattle.table.specs.code.Loops.{InRun}
-use Rattle.table.specs.code.Words.{asInWord, allAsInWord}
+use Rattle.table.specs.code.Words.{StretchFits, asInWord, allAsInWord}
 use Rattle.table.proofs.Loops.{test-turn}
 use Rattle.table.proofs.Types.{entry, stretch}
 use Rattle.table.proofs.run.as_in_word.Symbol as tested
@@ -25,22 +24,19 @@ use Rattle.table.proofs.run.all_as_in_word.Code as code
 abbrev turn : Entry → ℕ → Stretch → Bool
 turn e i w = asInWord (w .word) (i - w .first) e
 
-abbrev Asked : List Entry → Stretch → Type 0
-Asked run w = InRun (w .first) (w .end) run × (w .good ≡ true)
-
-after : (run : List Entry) (w : Stretch) → Asked run w → (n : ℕ) → w .first + n ≤ w .end
+after : (run : List Entry) (w : Stretch) → StretchFits w run → (n : ℕ) → w .first + n ≤ w .end
     → After entry stretch turn freshEntry run w n ≡ everyFrom 0 (asInWord (w .word)) (part (w .first) n run)
-after run w h zero l = h .1
+after run w h zero l = h .good
 after run w h (suc n) l =
     ap (λ (b : Bool). b && turn (getD run (w .first + n) freshEntry) (w .first + n) w) (after run w h n (omega arith))
-    ∙ test-turn run (w .first) n freshEntry (omega (arith, l, h .0 .inside)) (asInWord (w .word))
+    ∙ test-turn run (w .first) n freshEntry (omega (arith, l, h .places .inside)) (asInWord (w .word))
 
 pub all-as-in-word-spec : {M : Type 1} → stated.statement M
 unfolding code.routine
 all-as-in-word-spec 𝓤 H 𝓜 𝓖 𝓡 =
     proof entry stretch 𝓤 H 𝓜 𝓖 𝓡 turn freshEntry
     (λ e i w. fact 𝓤 (w .first ≤ i)) (λ e i w r. r ≡ turn e i w)
-    Asked (λ run w r. r ≡ allAsInWord w run)
-    (λ e i w r f. f) (λ run w h. (h .0 .rising, h .0 .inside, λ _. h .1)) (λ run w h n l. factI 𝓤 _ _ (omega arith))
-    (λ run w h. after run w h (w .end - w .first) (omega (arith, h .0 .rising))) tt
+    (λ run w. StretchFits w run) (λ run w r. r ≡ allAsInWord w run)
+    (λ e i w r f. f) (λ run w h. (h .places .rising, h .places .inside, λ _. h .good)) (λ run w h n l. factI 𝓤 _ _ (omega arith))
+    (λ run w h. after run w h (w .end - w .first) (omega (arith, h .places .rising))) tt
     code.env #all-as-in-word tested.name tested.routine code.calls-table·run·as-in-word (code.unfolded 𝓤 H 𝓜 𝓡) (known.met 𝓤 H 𝓜 𝓖 𝓡)

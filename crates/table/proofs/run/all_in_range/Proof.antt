@@ -1,15 +1,13 @@
 -- All words are tested.
 use mathlib.Core.Path.{_≡_, refl, ap, sym, subst, _∙_}
-use mathlib.Core.List.{List}
 use Prim.Native.Nat.{_≤_}
 use contract.Monad.{fact, factI}
 use Rattle.lent.proofs.Words.{by-value, bool-part}
 use Rattle.lent.proofs.Outcomes.{whole}
 use Rattle.lent.proofs.made.Plans.{proof}
-use Rattle.table.specs.declared.Entry.{Entry}
 use Rattle.table.specs.declared.run.Words.{Words}
 use Rattle.table.specs.code.Loops.{InRun, allInRange}
-use Rattle.table.specs.code.Words.{byWords}
+use Rattle.table.specs.code.Words.{byWords, WordsFit}
 use Rattle.table.proofs.Types.{entry, scan, words}
 use Rattle.table.proofs.run.by_words.Symbol as made
 use Rattle.table.proofs.run.by_words.Met as made-known
@@ -19,18 +17,15 @@ use Rattle.table.proofs.run.all_in_range.Key.{name as #all-in-range}
 use Rattle.table.proofs.run.all_in_range.Statement as stated
 use Rattle.table.proofs.run.all_in_range.Code as code
 
-abbrev Fits : List Entry → Words → Type 0
-Fits run v = InRun (v .scan .first) (v .scan .end) run × (v ≡ byWords (v .scan))
-
 pub all-in-range-spec : {M : Type 1} → stated.statement M
 unfolding code.routine
 all-in-range-spec 𝓤 H 𝓜 𝓖 𝓡 =
     proof (by-value (whole scan)) (by-value (whole words)) (bool-part .word) entry 𝓤 H 𝓜 𝓖 𝓡
     (λ w. fact 𝓤 (w .first ≤ w .end)) (λ w v. v ≡ byWords w)
-    (λ run v. fact 𝓤 (Fits run v)) (λ run v r. r ≡ allInRange (v .scan) run)
+    (λ run v. fact 𝓤 (WordsFit v run)) (λ run v r. r ≡ allInRange (v .scan) run)
     (λ run w. InRun (w .first) (w .end) run) (λ run w r. r ≡ allInRange w run)
     (λ run w h. factI 𝓤 _ _ (h .rising))
-    (λ run w h v v-is. factI 𝓤 _ _ (subst (Fits run) (sym v-is) (h, refl)))
+    (λ run w h v v-is. factI 𝓤 _ _ (subst (λ (x : Words). WordsFit x run) (sym v-is) record { places = h; all = refl }))
     (λ run w h v r v-is r-is. r-is ∙ ap (λ (x : Words). allInRange (x .scan) run) v-is)
     code.env #all-in-range made.name tested.name made.routine tested.routine code.calls-table·run·by-words code.calls-table·run·good-in-all
     (code.unfolded 𝓤 H 𝓜 𝓡) (made-known.met 𝓤 H 𝓜 𝓖 𝓡) (tested-known.met 𝓤 H 𝓜 𝓖 𝓡)

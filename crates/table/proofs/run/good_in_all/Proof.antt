@@ -10,7 +10,7 @@ use Rattle.table.specs.declared.Entry.{Entry}
 use Rattle.table.specs.declared.run.Scan.{Scan}
 use Rattle.table.specs.declared.run.Words.{Words}
 use Rattle.table.specs.code.Loops.{InRun, allInRange}
-use Rattle.table.specs.code.Words.{byWords, InWord, stretchOf, allAsInWord}
+use Rattle.table.specs.code.Words.{byWords, InWord, stretchOf, WordsFit, WordFits, allAsInWord}
 use Rattle.table.proofs.ByWords.{good, full-word, last-word, all-good, none-good, started, word-inside}
 use Rattle.table.proofs.Types.{entry, words}
 use Rattle.table.proofs.run.good_in_word.Symbol as tested
@@ -21,9 +21,6 @@ use Rattle.table.proofs.run.good_in_all.Code as code
 
 abbrev turn : List Entry → ℕ → Words → Bool
 turn run k v = allAsInWord (stretchOf k (v .scan)) run
-
-abbrev Asked : List Entry → Words → Type 0
-Asked run v = InRun (v .scan .first) (v .scan .end) run × (v ≡ byWords (v .scan))
 
 module _ (run : List Entry) (w : Scan) (h : InRun (w .first) (w .end) run) where
   abbrev so : ℕ → Bool
@@ -50,10 +47,10 @@ pub good-in-all-spec : {M : Type 1} → stated.statement M
 unfolding code.routine
 good-in-all-spec 𝓤 H 𝓜 𝓖 𝓡 =
     proof entry words 𝓤 H 𝓜 𝓖 𝓡 turn
-    (λ run k v. fact 𝓤 (InRun (v .scan .first) (v .scan .end) run × InWord k (v .scan))) (λ run k v r. r ≡ turn run k v)
-    Asked (λ run v r. r ≡ allInRange (v .scan) run)
+    (λ run k v. fact 𝓤 (WordFits k v run)) (λ run k v r. r ≡ turn run k v)
+    (λ run v. WordsFit v run) (λ run v r. r ≡ allInRange (v .scan) run)
     (λ run k v r f. f)
-    (λ run v h. subst (λ (x : Words). (x .first ≤ x .end) × (x .first < x .end → x .good ≡ true)) (sym (h .1)) (omega arith, started (v .scan .good) ((v .scan .end - v .scan .first) / 64 + 1)))
-    (λ run v h n l. factI 𝓤 _ _ (h .0, subst (λ (x : Words). x .first + n < x .end → InWord (x .first + n) (v .scan)) (sym (h .1)) (word-inside (v .scan) (h .0 .rising) n) l))
-    (λ run v h. subst (λ (x : Words). After entry words turn run x (x .end - x .first) ≡ allInRange (v .scan) run) (sym (h .1)) (all run (v .scan) (h .0) (v .scan .good) refl))
+    (λ run v h. subst (λ (x : Words). (x .first ≤ x .end) × (x .first < x .end → x .good ≡ true)) (sym (h .all)) (omega arith, started (v .scan .good) ((v .scan .end - v .scan .first) / 64 + 1)))
+    (λ run v h n l. factI 𝓤 _ _ record { places = h .places; word = subst (λ (x : Words). x .first + n < x .end → InWord (x .first + n) (v .scan)) (sym (h .all)) (word-inside (v .scan) (h .places .rising) n) l })
+    (λ run v h. subst (λ (x : Words). After entry words turn run x (x .end - x .first) ≡ allInRange (v .scan) run) (sym (h .all)) (all run (v .scan) (h .places) (v .scan .good) refl))
     code.env #good-in-all tested.name tested.routine code.calls-table·run·good-in-word (code.unfolded 𝓤 H 𝓜 𝓡) (known.met 𝓤 H 𝓜 𝓖 𝓡)
