@@ -38,7 +38,7 @@ use table::Entry;
 use table::run::Change;
 
 // How much of what is lent is tested.
-pub fn scope_of(q: Request) -> Scope
+pub(crate) fn scope_of(q: Request) -> Scope
     ensures { λ r. ⌜ r ≡ scopeOf q ⌝ }
 {
     match q {
@@ -54,7 +54,7 @@ pub fn scope_of(q: Request) -> Scope
     }
 }
 
-pub fn initialize(s: Settings) -> Effect
+pub(crate) fn initialize(s: Settings) -> Effect
     requires { ⌜ settingsGood s ≡ true ⌝ }
     ensures { λ p. ⌜ p ≡ initialize s ⌝ }
 {
@@ -109,7 +109,7 @@ fn self_report(s: Settings, c: Clock, l: Links, w: Walk, k: Counter) -> Effect
     }
 }
 
-pub fn looked(found: Found, e: Entry) -> Reply
+pub(crate) fn looked(found: Found, e: Entry) -> Reply
     ensures { λ r. ⌜ r ≡ looked found e ⌝ }
 {
     match found {
@@ -151,7 +151,7 @@ fn effect(
 }
 
 // A refusal of the guard's, or the effect.
-pub fn plan(
+pub(crate) fn plan(
     g: Answer,
     s: Settings,
     t: ClassTable,

@@ -56,7 +56,7 @@ fn no_entry() -> Seek
     }
 }
 
-pub fn seek_at(number: usize, found: Found) -> Seek
+pub(crate) fn seek_at(number: usize, found: Found) -> Seek
     requires { ⌜ (isFound found ≡ true → number ≤ 15) × (hasPlace found ≡ true) ⌝ }
     ensures { λ w. ⌜ w ≡ seekAt number found ⌝ }
 {
@@ -74,7 +74,14 @@ pub fn seek_at(number: usize, found: Found) -> Seek
 }
 
 // The entry that is looked at.
-pub fn sought(g: Answer, s: Settings, t: ClassTable, w: Walk, number: usize, q: Request) -> Seek
+pub(crate) fn sought(
+    g: Answer,
+    s: Settings,
+    t: ClassTable,
+    w: Walk,
+    number: usize,
+    q: Request,
+) -> Seek
     requires { ⌜ Seekable g q t s w number ⌝ }
     ensures { λ r. ⌜ r ≡ soughtAt g q t s w number ⌝ }
 {
@@ -85,7 +92,7 @@ pub fn sought(g: Answer, s: Settings, t: ClassTable, w: Walk, number: usize, q: 
 }
 
 // The places of ids that are changed.
-pub fn placed(number: usize, w: Changes) -> Changes
+pub(crate) fn placed(number: usize, w: Changes) -> Changes
     requires { ⌜ Placeable number (w .first) (w .end) ⌝ }
     ensures { λ r. ⌜ r ≡ placed number w ⌝ }
 {
@@ -111,7 +118,7 @@ pub fn placed(number: usize, w: Changes) -> Changes
 }
 
 // The places of ids that are updated.
-pub fn updates_at(number: usize, w: Updates) -> Updates
+pub(crate) fn updates_at(number: usize, w: Updates) -> Updates
     requires { ⌜ Placeable number (w .first) (w .end) × (w .base ≤ w .first) ⌝ }
     ensures { λ r. ⌜ r ≡ updatesAt number w ⌝ }
 {
@@ -127,7 +134,7 @@ pub fn updates_at(number: usize, w: Updates) -> Updates
 }
 
 // The places of ids that are reported.
-pub fn reports_at(number: usize, w: Reports) -> Reports
+pub(crate) fn reports_at(number: usize, w: Reports) -> Reports
     requires { ⌜ Placeable number (w .first) (w .end) ⌝ }
     ensures { λ r. ⌜ r ≡ reportsAt number w ⌝ }
 {

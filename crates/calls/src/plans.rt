@@ -49,7 +49,7 @@ pub struct Aged {
     pub work: Changes,
 }
 
-pub fn initialize(g: Answer, s: Settings, c: Clock, l: Links, w: Walk) -> Effect
+pub(crate) fn initialize(g: Answer, s: Settings, c: Clock, l: Links, w: Walk) -> Effect
     requires { ⌜ Told g Places s c ⌝ }
     ensures { λ p. ⌜ p ≡ cond (not (done g)) (answers (plainly g) c l w) (initialize s) ⌝ }
 {
@@ -59,7 +59,7 @@ pub fn initialize(g: Answer, s: Settings, c: Clock, l: Links, w: Walk) -> Effect
     effects::initialize(s)
 }
 
-pub fn tick(g: Answer, s: Settings, c: Clock, n: Count) -> Timed
+pub(crate) fn tick(g: Answer, s: Settings, c: Clock, n: Count) -> Timed
     requires { ⌜ Told g All s c ⌝ }
     ensures { λ p. ⌜ Timely p g (Tick n) s c ⌝ }
 {
@@ -75,7 +75,7 @@ pub fn tick(g: Answer, s: Settings, c: Clock, n: Count) -> Timed
     }
 }
 
-pub fn adjust(g: Answer, s: Settings, c: Clock, n: Count) -> Timed
+pub(crate) fn adjust(g: Answer, s: Settings, c: Clock, n: Count) -> Timed
     requires { ⌜ Told g All s c ⌝ }
     ensures { λ p. ⌜ Timely p g (Adjust n) s c ⌝ }
 {
@@ -91,7 +91,7 @@ pub fn adjust(g: Answer, s: Settings, c: Clock, n: Count) -> Timed
     }
 }
 
-pub fn set(g: Answer, s: Settings, c: Clock, ms: i32, n: Count) -> Timed
+pub(crate) fn set(g: Answer, s: Settings, c: Clock, ms: i32, n: Count) -> Timed
     requires { ⌜ Told g All s c ⌝ }
     ensures { λ p. ⌜ Timely p g (Set ms n) s c ⌝ }
 {
@@ -107,7 +107,7 @@ pub fn set(g: Answer, s: Settings, c: Clock, ms: i32, n: Count) -> Timed
     }
 }
 
-pub fn read(g: Answer, s: Settings, c: Clock, k: Counter) -> Timed
+pub(crate) fn read(g: Answer, s: Settings, c: Clock, k: Counter) -> Timed
     requires { ⌜ Told g All s c ⌝ }
     ensures { λ p. ⌜ Timely p g (Read k) s c ⌝ }
 {
@@ -126,7 +126,7 @@ pub fn read(g: Answer, s: Settings, c: Clock, k: Counter) -> Timed
     }
 }
 
-pub fn second(g: Answer, s: Settings, c: Clock) -> Aged
+pub(crate) fn second(g: Answer, s: Settings, c: Clock) -> Aged
     ensures { λ p. ⌜ Aging p g Second s c ⌝ }
 {
     if !answer::is_done(g) {
@@ -143,7 +143,7 @@ pub fn second(g: Answer, s: Settings, c: Clock) -> Aged
     }
 }
 
-pub fn self_report(g: Answer, s: Settings, c: Clock, k: Counter) -> Aged
+pub(crate) fn self_report(g: Answer, s: Settings, c: Clock, k: Counter) -> Aged
     requires { ⌜ Told g All s c ⌝ }
     ensures { λ p. ⌜ Aging p g (SelfReport k) s c ⌝ }
 {
@@ -165,7 +165,7 @@ pub fn self_report(g: Answer, s: Settings, c: Clock, k: Counter) -> Aged
 }
 
 // The id that a lookup finds.
-pub fn found(g: Answer, s: Settings, t: ClassTable, a: Address) -> Found
+pub(crate) fn found(g: Answer, s: Settings, t: ClassTable, a: Address) -> Found
     ensures { λ r. ⌜ r ≡ cond (not (done g)) Nothing (foundFor t s a) ⌝ }
 {
     if !answer::is_done(g) {
@@ -175,7 +175,7 @@ pub fn found(g: Answer, s: Settings, t: ClassTable, a: Address) -> Found
 }
 
 // What a lookup tells of the id that it found, and of its entry.
-pub fn route_of(g: Answer, found: Found, e: Entry) -> Reply
+pub(crate) fn route_of(g: Answer, found: Found, e: Entry) -> Reply
     ensures { λ r. ⌜ r ≡ cond (not (done g)) (plainly g) (looked found e) ⌝ }
 {
     if !answer::is_done(g) {
@@ -184,7 +184,7 @@ pub fn route_of(g: Answer, found: Found, e: Entry) -> Reply
     looked(found, e)
 }
 
-pub fn inspect(g: Answer, s: Settings, link: usize, packet: &[u8]) -> Reply
+pub(crate) fn inspect(g: Answer, s: Settings, link: usize, packet: &[u8]) -> Reply
     requires { ⌜ LinkTold g s link ⌝ }
     ensures { λ r. ⌜ r ≡ inspects g s link (now (packet .entry)) ⌝ }
 {
