@@ -45,7 +45,7 @@ module _ (file : List ℕ) (t : ClassTable) (first : Bench) (f : ℕ → ℤ) (c
 
     module _ (q : RoomCall) (p : Plain (callOf q)) where
       abbrev pub taken : SharedStep
-      taken = record { seat = k; nets = u; links = hostAt file b k .links; call = q }
+      taken = record { seat = k; nets = u; links = hostAt file b k .links; copy = w .world .state k .copy; call = q }
 
       abbrev pub o : Outcome
       o = perform (callOf q) (lentAt file u k b)
@@ -57,7 +57,7 @@ module _ (file : List ℕ) (t : ClassTable) (first : Bench) (f : ℕ → ℤ) (c
           (host.lent (settingsAt file k) u k (tr .clock k here i) (hostAt file b k .links) (tr .walk k here i) (tr .copy k here i) (tr .run i))
 
       pub allowed : Timely r (w .world) k (result r (w .world) (lent w taken)) q → SharedAllowed r w taken
-      allowed timely = record { seat-in = here; own-links = ap (ownLinks (settingsAt file k)) (sym (tr .links k here)); timely = timely }
+      allowed timely = record { seat-in = here; own-links = ap (ownLinks (settingsAt file k)) (sym (tr .links k here)); own-packet = refl; timely = timely }
 
       -- what stands at a seat, put by the call or kept
       at-seat : {A : Type 0} (G : Left → A) (F : HostState → A) (y : HostState) → G (leftBy k (w .world .state k .places) (result r (w .world) (lent w taken))) ≡ F y

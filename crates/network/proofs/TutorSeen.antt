@@ -16,8 +16,8 @@ pub tutor-seen : TutorSeen
 unfolding rules.opened add remove effects.lookup after classAfter AllLentIn classTold
 tutor-seen =
     record {
-      lent = (again _, (tt, (again _, (tt, (again _, tt)))));
+      lent = (λ _. again _, (tt, (λ _. again _, (tt, (λ _. again _, tt)))));
       told = refl;
-      lent-without = (again _, (again _, (again _, tt)));
+      lent-without = (λ _. again _, (λ _. again _, (λ _. again _, tt)));
       told-without = refl;
     }

@@ -70,13 +70,13 @@ classAfterAll w [] = w
 classAfterAll w (e ∷ es) = classAfterAll (classAfter w e) es
 
 -- each seat's call is lent what that seat's last one left
-abbrev pub LentIn : Class → ClassEvent → Type 0
-LentIn w (seat e) = LendsWhole (w .left (e .number)) (given (w .table) e .lent)
-LentIn w (tutor c) = Unit {0}
+abbrev pub LentIn : (number : ℕ) → Class → ClassEvent → Type 0
+LentIn k w (seat e) = e .number ≡ k → LendsWhole (w .left k) (given (w .table) e .lent)
+LentIn k w (tutor c) = Unit {0}
 
-unfoldable pub AllLentIn : Class → List ClassEvent → Type 0
-AllLentIn w [] = Unit {0}
-AllLentIn w (e ∷ es) = LentIn w e × AllLentIn (classAfter w e) es
+unfoldable pub AllLentIn : (number : ℕ) → Class → List ClassEvent → Type 0
+AllLentIn k w [] = Unit {0}
+AllLentIn k w (e ∷ es) = LentIn k w e × AllLentIn k (classAfter w e) es
 
 -- what is told at number k, call by call
 unfoldable pub classTold : (number : ℕ) → Class → List ClassEvent → List Told
@@ -121,7 +121,7 @@ pub record ClassIsolation : Type 0 where
   pub seats-stay : (w : Class) (c : TutorCall) → classAfter w (tutor c) .left ≡ w .left
   -- what is told at k, what is left there, and the table go by k's own calls and the tutor's alone
   pub isolated :
-      (k : ℕ) (w v : Class) (es fs : List ClassEvent) → AllLentIn w es → AllLentIn v fs
+      (k : ℕ) (w v : Class) (es fs : List ClassEvent) → AllLentIn k w es → AllLentIn k v fs
       → SameCalls (ownAndTutors k es) (ownAndTutors k fs) → w .table ≡ v .table → w .left k ≡ v .left k → SameAt k w v es fs
   -- deleting every other seat's calls changes nothing at k
-  pub alone : (k : ℕ) (w : Class) (es : List ClassEvent) → AllLentIn w es → SameAt k w w es (ownAndTutors k es)
+  pub alone : (k : ℕ) (w : Class) (es : List ClassEvent) → AllLentIn k w es → SameAt k w w es (ownAndTutors k es)

@@ -12,6 +12,7 @@ use Rattle.answer.specs.declared.Answer.the-variants.{Done}
 use Rattle.answer.specs.Answer.{number}
 use Rattle.quantity.specs.declared.Count.{Count}
 use Rattle.clock.specs.declared.Clock.{Clock}
+use Rattle.wire.specs.declared.Address.{Address}
 use Rattle.clock.specs.declared.Counter.{Counter}
 use Rattle.clock.specs.declared.Reading.{Reading}
 use Rattle.clock.specs.Midnight.{dayMillis}
@@ -24,7 +25,7 @@ use Rattle.host.specs.declared.walk.Walk.{Walk}
 use Rattle.host.specs.declared.walk.Place.the-variants.{Step1}
 use Rattle.host.specs.Guard.{done}
 use Rattle.host.specs.Walk.{isOpen, placeOf, packetOf}
-use Rattle.calls.specs.declared.Request.the-variants.{Tick, Second, SelfReport}
+use Rattle.calls.specs.declared.Request.the-variants.{Tick, Adjust, Set, Read, Lookup, Second, SelfReport}
 use Rattle.calls.specs.Perform.{Call, ask, send, inspect, act, receive, openWalk, Outcome}
 use Rattle.calls.specs.Perform as calls
 use Rattle.network.specs.Left.{messageOf}
@@ -44,6 +45,10 @@ pub data RoomCall : Type 0 where
   inspects : (link : ℕ) (packet : List ℕ) → RoomCall
   opens : (link : ℕ) (packet : List ℕ) → RoomCall
   steps : Counter → (ms : ℤ) → RoomCall
+  adjusts : Count → RoomCall
+  sets : (ms : ℤ) → Count → RoomCall
+  clocks : Counter → RoomCall
+  looks : Address → RoomCall
 
 abbrev pub callOf : RoomCall → Call
 callOf (ticks n) = ask (Tick n)
@@ -55,12 +60,17 @@ callOf (acts i k packet t) = act i k packet
 callOf (inspects i packet) = inspect i packet
 callOf (opens i packet) = openWalk i packet
 callOf (steps k t) = calls.step k
+callOf (adjusts n) = ask (Adjust n)
+callOf (sets ms n) = ask (Set ms n)
+callOf (clocks k) = ask (Read k)
+callOf (looks a) = ask (Lookup a)
 
 -- A call at a seat, with the class's net table, the links and the run that it is lent. The tutor may change the table between any two calls, "demand 3 holds whatever they are": nothing is asked of it.
 pub record Step : Type 0 where
   pub seat : ℕ
   pub nets : ClassTable
   pub links : Links
+  pub copy : List ℕ
   pub run : List Entry
   pub call : RoomCall
 
@@ -86,7 +96,7 @@ leftAt r w a = w .state (r .number a)
 abbrev pub eventOf : Room → World → Step → Event
 eventOf r w x =
     let was : Left = leftAt r w (x .seat) in
-    record { call = callOf (x .call); lent = lentAt r (x .seat) (x .nets) (was .clock) (x .links) (was .walk) (was .copy) (x .run) }
+    record { call = callOf (x .call); lent = lentAt r (x .seat) (x .nets) (was .clock) (x .links) (was .walk) (x .copy) (x .run) }
 
 abbrev pub result : Room → World → Step → Outcome
 result r w x = outcome (eventOf r w x)
@@ -103,6 +113,10 @@ mailAfter a o (acts i k packet t) mail = mail
 mailAfter a o (inspects i packet) mail = mail
 mailAfter a o (opens i packet) mail = mail
 mailAfter a o (steps k t) mail = mail
+mailAfter a o (adjusts n) mail = mail
+mailAfter a o (sets ms n) mail = mail
+mailAfter a o (clocks k) mail = mail
+mailAfter a o (looks d) mail = mail
 
 unfoldable pub step : Room → World → Step → World
 step r w x =
@@ -152,6 +166,10 @@ Timely r w a o (arrives i k packet t) = Delivered r w a i k packet t (o .reply .
 Timely r w a o (acts i k packet t) = Delivered r w a i k packet t (o .reply .answer)
 Timely r w a o (inspects i packet) = Unit {0}
 Timely r w a o (opens i packet) = Unit {0}
+Timely r w a o (adjusts n) = Unit {0}
+Timely r w a o (sets ms n) = Unit {0}
+Timely r w a o (clocks k) = Unit {0}
+Timely r w a o (looks d) = Unit {0}
 Timely r w a o (steps k t) =
     let v : Walk = leftAt r w a .walk in
     isOpen v ≡ true → placeOf v ≡ Step1 → Delivered r w a (v .link) k (packetOf v (leftAt r w a .copy)) t (o .reply .answer)

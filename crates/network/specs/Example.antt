@@ -7,6 +7,7 @@ use Prim.Native.Nat.{ℕ, _*_, _≤_, _<_}
 use lib.Dec.{eqb}
 use lib.IntN.{pos, negsuc, _-ℤ_}
 use lib.ListN.{replicate}
+use Rattle.answer.specs.declared.Answer.the-variants.{InWalk}
 use Rattle.quantity.specs.Quantity.{millis, counts, toUnits}
 use Rattle.quantity.specs.Words.{word}
 use Rattle.clock.specs.Crystal.{counting}
@@ -16,8 +17,10 @@ use Rattle.table.specs.declared.marks.Marks.{Marks}
 use Rattle.table.specs.Marks.{onlyMark}
 use Rattle.network.specs.Left.{messageOf}
 use Rattle.network.specs.Room.{longestWay, Room, Proper}
-use Rattle.network.specs.Demand3.{reports, sends, arrives, Step, World, result, step, history, Allows, Starts, entryOf}
-use Rattle.network.specs.TwoSeats.{pair, begun, call}
+use Rattle.route.specs.declared.Row.{Row}
+use Rattle.class_table.specs.Table.{tableOf}
+use Rattle.network.specs.Demand3.{reports, sends, arrives, inspects, opens, steps, ticks, Step, World, result, step, history, Allows, Starts, entryOf}
+use Rattle.network.specs.TwoSeats.{pair, begun, call, runFor}
 
 -- ids 1 and 2
 abbrev pub oneAndTwo : Marks
@@ -33,6 +36,7 @@ near =
       longest = longestWay;
       hosts = 3;
       marks = λ a. cond (eqb a 0) (onlyMark 0) oneAndTwo;
+      copy = replicate 1052 0;
     }
 
 -- ---- the history
@@ -75,12 +79,101 @@ x₅ = call near w₄ 0 (arrives 1 record { count = counts 65535; overflow = 1; 
 unfoldable pub w₅ : World
 w₅ = step near w₄ x₅
 
--- and has it once more
+abbrev pub net10 : Row
+net10 = record { net = record { first = 10; second = 0; third = 0 }; host = 1 }
+
 unfoldable pub x₆ : Step
-x₆ = call near w₅ 0 (arrives 1 (counting (counts 65)) (messageOf (result near w₃ x₄)) (pos 65601))
+x₆ = call near w₅ 0 (inspects 1 (messageOf (result near w₃ x₄)))
+
+unfoldable pub w₆ : World
+w₆ = step near w₅ x₆
+
+unfoldable pub x₇ : Step
+x₇ = call near w₆ 0 (opens 1 (messageOf (result near w₃ x₄)))
+
+unfoldable pub w₇ : World
+w₇ = step near w₆ x₇
+
+unfoldable pub x₈ : Step
+x₈ = record { seat = 0; nets = tableOf 3 (net10 ∷ []); links = w₇ .state 0 .links; copy = w₇ .state 0 .copy; run = runFor w₇ 0; call = steps (counting (counts 65)) (pos 65601) }
+
+unfoldable pub w₈ : World
+w₈ = step near w₇ x₈
+
+unfoldable pub x₉ : Step
+x₉ = call near w₈ 0 (ticks (counts 0))
+
+unfoldable pub w₉ : World
+w₉ = step near w₈ x₉
+
+unfoldable pub x₁₀ : Step
+x₁₀ = call near w₉ 0 (steps noCounter (pos 0))
+
+unfoldable pub w₁₀ : World
+w₁₀ = step near w₉ x₁₀
+
+unfoldable pub x₁₁ : Step
+x₁₁ = call near w₁₀ 0 (steps noCounter (pos 0))
+
+unfoldable pub w₁₁ : World
+w₁₁ = step near w₁₀ x₁₁
+
+unfoldable pub x₁₂ : Step
+x₁₂ = call near w₁₁ 0 (steps noCounter (pos 0))
+
+unfoldable pub w₁₂ : World
+w₁₂ = step near w₁₁ x₁₂
+
+unfoldable pub x₁₃ : Step
+x₁₃ = call near w₁₂ 0 (steps noCounter (pos 0))
+
+unfoldable pub w₁₃ : World
+w₁₃ = step near w₁₂ x₁₃
+
+unfoldable pub x₁₄ : Step
+x₁₄ = call near w₁₃ 0 (steps noCounter (pos 0))
+
+unfoldable pub w₁₄ : World
+w₁₄ = step near w₁₃ x₁₄
+
+unfoldable pub x₁₅ : Step
+x₁₅ = call near w₁₄ 0 (steps noCounter (pos 0))
+
+unfoldable pub w₁₅ : World
+w₁₅ = step near w₁₄ x₁₅
+
+unfoldable pub x₁₆ : Step
+x₁₆ = call near w₁₅ 0 (steps noCounter (pos 0))
+
+unfoldable pub w₁₆ : World
+w₁₆ = step near w₁₅ x₁₆
+
+unfoldable pub x₁₇ : Step
+x₁₇ = call near w₁₆ 0 (steps noCounter (pos 0))
+
+unfoldable pub w₁₇ : World
+w₁₇ = step near w₁₆ x₁₇
+
+unfoldable pub x₁₈ : Step
+x₁₈ = call near w₁₇ 0 (steps noCounter (pos 0))
+
+unfoldable pub w₁₈ : World
+w₁₈ = step near w₁₇ x₁₈
+
+unfoldable pub x₁₉ : Step
+x₁₉ = call near w₁₈ 0 (steps noCounter (pos 0))
+
+unfoldable pub w₁₉ : World
+w₁₉ = step near w₁₈ x₁₉
+
+unfoldable pub x₂₀ : Step
+x₂₀ = call near w₁₉ 0 (steps noCounter (pos 0))
+
+unfoldable pub w₂₀ : World
+w₂₀ = step near w₁₉ x₂₀
 
 abbrev pub story : List Step
-story = x₁ ∷ x₂ ∷ x₃ ∷ x₄ ∷ x₅ ∷ x₆ ∷ []
+story = x₁ ∷ x₂ ∷ x₃ ∷ x₄ ∷ x₅ ∷ x₆ ∷ x₇ ∷ x₈ ∷ x₉ ∷ x₁₀ ∷ x₁₁ ∷ x₁₂ ∷ x₁₃ ∷ x₁₄ ∷ x₁₅ ∷ x₁₆ ∷ x₁₇ ∷ x₁₈ ∷ x₁₉ ∷ x₂₀ ∷ []
 
 -- what seat 0 has of the two hosts at seat 1 at the end
 abbrev pub learnt : (id : ℕ) → Entry
@@ -91,6 +184,8 @@ pub record Example : Type 0 where
   pub ways : near .longest ≤ longestWay
   pub starts : Starts near w₀
   pub allowed : Allows near w₀ story
+  -- a tick between the boxes of the walk is refused with 16
+  pub refused : result near w₈ x₉ .reply .answer ≡ InWalk
   pub delay : learnt 1 .delay ≡ millis (pos 101)
   pub offset : learnt 1 .offset ≡ word (pos 449)
   pub other-delay : learnt 2 .delay ≡ millis (pos 101)

@@ -82,7 +82,7 @@ unfoldable pub afterAll : State → List Event → State
 afterAll w [] = w
 afterAll w (e ∷ es) = afterAll (after w e) es
 
--- each event of a list is lent what those before it left
-unfoldable pub LendsAll : (Left → Lent → Type 0) → State → List Event → Type 0
-LendsAll L w [] = Unit {0}
-LendsAll L w (e ∷ es) = L (w (numberOf e)) (e .lent) × LendsAll L (after w e) es
+-- each event of a list at number k is lent what those before it left there; what the others are lent is free
+unfoldable pub LendsAll : (number : ℕ) → (Left → Lent → Type 0) → State → List Event → Type 0
+LendsAll k L w [] = Unit {0}
+LendsAll k L w (e ∷ es) = (numberOf e ≡ k → L (w k) (e .lent)) × LendsAll k L (after w e) es

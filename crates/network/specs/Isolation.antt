@@ -53,7 +53,7 @@ Pairwise (e ∷ es) (f ∷ fs) = Agree e f × Pairwise es fs
 -- The settings may differ from call to call. What one call does not count a later one may, so each is lent all that was left.
 unfoldable pub Isolation : Type 0
 Isolation =
-    (k : ℕ) (w v : State) (es fs : List Event) → LendsAll LendsWhole w es → LendsAll LendsWhole v fs → Pairwise (own k es) (own k fs)
+    (k : ℕ) (w v : State) (es fs : List Event) → LendsAll k LendsWhole w es → LendsAll k LendsWhole v fs → Pairwise (own k es) (own k fs)
     → w k ≡ v k → (toldAt k es ≡ toldAt k fs) × (afterAll w es k ≡ afterAll v fs k)
 
 -- ---- isolation from a setting afresh on
@@ -83,7 +83,7 @@ pub record LeftAlike (s : Settings) (x y : Left) : Type 0 where
 
 unfoldable pub IsolationFromAfresh : Type 0
 IsolationFromAfresh =
-    (k : ℕ) (w v : State) (es fs : List Event) (t : Settings) → LendsAll Lends w es → LendsAll Lends v fs
+    (k : ℕ) (w v : State) (es fs : List Event) (t : Settings) → LendsAll k Lends w es → LendsAll k Lends v fs
     → Pairwise (own k es) (own k fs) → FromAfresh (own k es) t
     → (toldAt k es ≡ toldAt k fs) × LeftAlike t (afterAll w es k) (afterAll v fs k)
 

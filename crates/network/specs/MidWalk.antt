@@ -48,7 +48,7 @@ abbrev pub far : Address
 far = record { first = 10; second = 0; third = 0; fourth = 5 }
 
 abbrev pub settings : Settings
-settings = settingsFor record { tick = units (pos 1); start = λ a. 0; longest = 0; hosts = 3; marks = onlyMark } 0
+settings = settingsFor record { tick = units (pos 1); start = λ a. 0; longest = 0; hosts = 3; marks = onlyMark; copy = [] } 0
 
 abbrev pub now : Millis
 now = millis (pos 3600000)

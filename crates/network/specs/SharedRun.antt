@@ -8,7 +8,7 @@ use Rattle.class_table.specs.declared.ClassTable.{ClassTable}
 use Rattle.table.specs.declared.Entry.{Entry}
 use Rattle.table.specs.Entry.{freshEntry, up}
 use Rattle.host.specs.declared.Links.{Links}
-use Rattle.network.specs.Locality.{ownLinks}
+use Rattle.network.specs.Locality.{ownLinks, heldPacket}
 use Rattle.network.specs.History.{places}
 use Rattle.network.specs.Room.{longestWay, Room, afresh, Proper}
 use Rattle.network.specs.Demand3.{RoomCall, Step, World, leftAt, result, step, Timely, Starts, Right}
@@ -18,6 +18,7 @@ pub record SharedStep : Type 0 where
   pub seat : ℕ
   pub nets : ClassTable
   pub links : Links
+  pub copy : List ℕ
   pub call : RoomCall
 
 -- the world, and the one run
@@ -27,7 +28,7 @@ pub record SharedWorld : Type 0 where
 
 -- the call, lent the shared run
 abbrev pub lent : SharedWorld → SharedStep → Step
-lent w x = record { seat = x .seat; nets = x .nets; links = x .links; run = w .run; call = x .call }
+lent w x = record { seat = x .seat; nets = x .nets; links = x .links; copy = x .copy; run = w .run; call = x .call }
 
 unfoldable pub sharedStep : Room → SharedWorld → SharedStep → SharedWorld
 sharedStep r w x = record { world = step r (w .world) (lent w x); run = result r (w .world) (lent w x) .run }
@@ -40,6 +41,7 @@ sharedHistory r w (x ∷ xs) = sharedHistory r (sharedStep r w x) xs
 pub record SharedAllowed (r : Room) (w : SharedWorld) (x : SharedStep) : Type 0 where
   pub seat-in : x .seat < r .seats
   pub own-links : ownLinks (r .settings (x .seat)) (x .links) ≡ ownLinks (r .settings (x .seat)) (leftAt r (w .world) (x .seat) .links)
+  pub own-packet : heldPacket (leftAt r (w .world) (x .seat) .walk) (x .copy) ≡ heldPacket (leftAt r (w .world) (x .seat) .walk) (leftAt r (w .world) (x .seat) .copy)
   pub timely : Timely r (w .world) (x .seat) (result r (w .world) (lent w x)) (x .call)
 
 unfoldable pub SharedAllows : Room → SharedWorld → List SharedStep → Type 0

@@ -20,7 +20,7 @@ tooLong = 16384
 
 -- 33 ticks come to 32,768 ms, and some units; seat 1 starts as the first message comes
 abbrev pub lateness : Pair
-lateness = record { tick = units (pos 65075263); start = λ a. 40000 + tooLong * a; longest = tooLong; hosts = 2; marks = onlyMark }
+lateness = record { tick = units (pos 65075263); start = λ a. 40000 + tooLong * a; longest = tooLong; hosts = 2; marks = onlyMark; copy = [] }
 
 abbrev pub late : Room
 late = pair lateness
@@ -29,7 +29,7 @@ late = pair lateness
 
 -- a call of seat 0 while its links and its table are fresh
 abbrev pub early : RoomCall → Step
-early x = record { seat = 0; nets = netsFor lateness; links = freshLinks (settingsFor lateness 0); run = placesOf 0; call = x }
+early x = record { seat = 0; nets = netsFor lateness; links = freshLinks (settingsFor lateness 0); copy = []; run = placesOf 0; call = x }
 
 unfoldable pub w₀ : World
 w₀ = begun late

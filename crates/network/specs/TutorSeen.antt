@@ -49,7 +49,7 @@ abbrev pub answersOf : List Told → List Answer
 answersOf = map (λ (t : Told). t .reply .answer)
 
 pub record TutorSeen : Type 0 where
-  pub lent : AllLentIn class exercise
+  pub lent : AllLentIn 0 class exercise
   pub told : answersOf (classTold 0 class exercise) ≡ NoHost ∷ HostDown ∷ NoHost ∷ []
-  pub lent-without : AllLentIn class withoutTutor
+  pub lent-without : AllLentIn 0 class withoutTutor
   pub told-without : answersOf (classTold 0 class withoutTutor) ≡ NoHost ∷ NoHost ∷ NoHost ∷ []

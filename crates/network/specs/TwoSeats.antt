@@ -30,6 +30,7 @@ pub record Pair : Type 0 where
   pub longest : ℕ
   pub hosts : ℕ
   pub marks : ℕ → Marks
+  pub copy : List ℕ
 
 abbrev pub hostAt : (octet : ℕ) → Address
 hostAt n = record { first = 192; second = 0; third = 2; fourth = n }
@@ -73,7 +74,7 @@ pair p =
       clock = λ a. freshClock (millis (pos 0)) firstDate;
       links = λ a. freshLinks (settingsFor p a);
       walk = λ a. noWalk;
-      copy = λ a. [];
+      copy = λ a. p .copy;
       run = λ a. replicate (2 * placesPerHost) freshEntry;
     }
 
@@ -86,4 +87,4 @@ abbrev pub runFor : World → ℕ → List Entry
 runFor w a = replicate (placesPerHost * a) freshEntry ++ w .state a .places
 
 abbrev pub call : Room → World → ℕ → RoomCall → Step
-call r w a x = record { seat = a; nets = r .nets a; links = w .state a .links; run = runFor w a; call = x }
+call r w a x = record { seat = a; nets = r .nets a; links = w .state a .links; copy = w .state a .copy; run = runFor w a; call = x }

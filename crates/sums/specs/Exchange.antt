@@ -23,7 +23,7 @@ use Rattle.network.specs.TwoSeats.{Pair, hostAt, settingsFor, netsFor, placesOf
 
 -- seat 0 is A, and seat 1 is B
 abbrev pub seats : Pair
-seats = record { tick = units (pos 1); start = λ a. 0; longest = 0; hosts = 2; marks = onlyMark }
+seats = record { tick = units (pos 1); start = λ a. 0; longest = 0; hosts = 2; marks = onlyMark; copy = [] }
 
 abbrev pub settingsOf : (seat : ℕ) → Settings
 settingsOf = settingsFor seats

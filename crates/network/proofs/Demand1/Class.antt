@@ -31,21 +31,21 @@ record Given (w : Class) (es : List ClassEvent) : Type 0 where
   left-is : classAfterAll w es .left ≡ afterAll (w .left) (events (w .table) es)
   table-is : classAfterAll w es .table ≡ tableAfter (w .table) es
   told-is : (k : ℕ) → classTold k w es ≡ toldAt k (events (w .table) es)
-  lends : AllLentIn w es → LendsAll LendsWhole (w .left) (events (w .table) es)
+  lends : (k : ℕ) → AllLentIn k w es → LendsAll k LendsWhole (w .left) (events (w .table) es)
 
 gives : (w : Class) (es : List ClassEvent) → Given w es
 unfolding classAfterAll classAfter classTold AllLentIn afterAll LendsAll
-gives w [] = record { left-is = refl; table-is = refl; told-is = λ k. refl; lends = λ h. h }
+gives w [] = record { left-is = refl; table-is = refl; told-is = λ k. refl; lends = λ k h. h }
 gives w (tutor c ∷ es) =
     let g = gives (classAfter w (tutor c)) es in
-    record { left-is = g .left-is; table-is = g .table-is; told-is = g .told-is; lends = λ h. g .lends (h .1) }
+    record { left-is = g .left-is; table-is = g .table-is; told-is = g .told-is; lends = λ k h. g .lends k (h .1) }
 gives w (seat e ∷ es) =
     let g = gives (classAfter w (seat e)) es in
     record {
       left-is = g .left-is;
       table-is = g .table-is;
       told-is = λ k. rw (g .told-is k) (go k (eqb (e .number) k));
-      lends = λ h. (h .0, g .lends (h .1));
+      lends = λ k h. (h .0, g .lends k (h .1));
     }
   where
     go : (k : ℕ) (b : Bool)
@@ -87,8 +87,8 @@ module _ (k : ℕ) where
       go rest false h = rest
 
   -- each of them is lent there what it is lent without the others
-  lent-alone : (t : ClassTable) (w v : State) (es : List ClassEvent) → w k ≡ v k → AllLentIn record { table = t; left = w } es
-      → AllLentIn record { table = t; left = v } (ownAndTutors k es)
+  lent-alone : (t : ClassTable) (w v : State) (es : List ClassEvent) → w k ≡ v k → AllLentIn k record { table = t; left = w } es
+      → AllLentIn k record { table = t; left = v } (ownAndTutors k es)
   unfolding AllLentIn classAfter
   lent-alone t w v [] alike h = tt
   lent-alone t w v (tutor c ∷ es) alike h = (tt, lent-alone (turned c t) w v es alike (h .1))
@@ -99,14 +99,13 @@ module _ (k : ℕ) where
 
       Rest : Type 0
       Rest =
-          (w′ v′ : State) → w′ k ≡ v′ k → AllLentIn record { table = t; left = w′ } es → AllLentIn record { table = t; left = v′ } (ownAndTutors k es)
+          (w′ v′ : State) → w′ k ≡ v′ k → AllLentIn k record { table = t; left = w′ } es → AllLentIn k record { table = t; left = v′ } (ownAndTutors k es)
 
-      go : Rest → (b : Bool) → eqb (e .number) k ≡ b → AllLentIn record { table = t; left = v } (cond b (seat e ∷ ownAndTutors k es) (ownAndTutors k es))
+      go : Rest → (b : Bool) → eqb (e .number) k ≡ b → AllLentIn k record { table = t; left = v } (cond b (seat e ∷ ownAndTutors k es) (ownAndTutors k es))
       go rest true is =
           let here : e .number ≡ k = eqb-true (e .number) k is in
-          let now : w (e .number) ≡ v (e .number) = rw here alike in
           let next : after w f k ≡ after v f k = after-here k w f here ∙ ap (λ z. leftFrom k z f) alike ∙ sym (after-here k v f here) in
-          (subst (λ z. LendsWhole z (f .lent)) now (h .0), rest (after w f) (after v f) next (h .1))
+          (λ same. subst (λ z. LendsWhole z (f .lent)) alike (h .0 same), rest (after w f) (after v f) next (h .1))
       go rest false is = rest (after w f) v (after-other k w f (eqb-false (e .number) k is) ∙ alike) (h .1)
 
 -- ---- lists that agree
@@ -132,7 +131,7 @@ same-lists (tutor c ∷ es) = tutors-call (same-lists es)
 
 -- ---- the laws
 
-module _ (k : ℕ) (w v : Class) (es fs : List ClassEvent) (lends : AllLentIn w es) (lends′ : AllLentIn v fs)
+module _ (k : ℕ) (w v : Class) (es fs : List ClassEvent) (lends : AllLentIn k w es) (lends′ : AllLentIn k v fs)
     (calls : SameCalls (ownAndTutors k es) (ownAndTutors k fs)) (table : w .table ≡ v .table) (left : w .left k ≡ v .left k) where
   paired : Pairwise (own k (events (w .table) es)) (own k (events (v .table) fs))
   paired =
@@ -144,7 +143,7 @@ module _ (k : ℕ) (w v : Class) (es fs : List ClassEvent) (lends : AllLentIn w 
   isolated =
       let a = gives w es in
       let b = gives v fs in
-      let both = isolation-holds k (w .left) (v .left) (events (w .table) es) (events (v .table) fs) (a .lends lends) (b .lends lends′) paired left in
+      let both = isolation-holds k (w .left) (v .left) (events (w .table) es) (events (v .table) fs) (a .lends k lends) (b .lends k lends′) paired left in
       record {
         told-same = a .told-is k ∙ both .0 ∙ sym (b .told-is k);
         left-same = ap (λ (f : State). f k) (a .left-is) ∙ both .1 ∙ ap (λ (f : State). f k) (sym (b .left-is));
@@ -153,7 +152,7 @@ module _ (k : ℕ) (w v : Class) (es fs : List ClassEvent) (lends : AllLentIn w 
             ∙ sym (own-table k (w .table) fs) ∙ ap (λ (t : ClassTable). tableAfter t fs) table ∙ sym (b .table-is);
       }
 
-alone : (k : ℕ) (w : Class) (es : List ClassEvent) → AllLentIn w es → SameAt k w w es (ownAndTutors k es)
+alone : (k : ℕ) (w : Class) (es : List ClassEvent) → AllLentIn k w es → SameAt k w w es (ownAndTutors k es)
 alone k w es lends =
     isolated k w w es (ownAndTutors k es) lends (lent-alone k (w .table) (w .left) (w .left) es refl lends)
     (rw (own-again k es) (same-lists (ownAndTutors k es))) refl refl

@@ -41,7 +41,7 @@ module _ (k : ℕ) where
   -- the list leaves at k what these do
   pub record Follows (L : Left → Lent → Type 0) (w : State) (es : List Event) : Type 0 where
     pub last-is : afterAll w es k ≡ lastFrom (w k) (own k es)
-    pub all-lend : LendsAll L w es → AllLend L (w k) (own k es)
+    pub all-lend : LendsAll k L w es → AllLend L (w k) (own k es)
 
   pub after-here : (w : State) (e : Event) → numberOf e ≡ k → after w e k ≡ leftFrom (w k) e
   unfolding after
@@ -61,7 +61,7 @@ module _ (k : ℕ) where
           let here : numberOf e ≡ k = eqb-true (numberOf e) k h in
           record {
             last-is = rw h (f .last-is ∙ ap (λ x. lastFrom x (own k es)) (after-here w e here));
-            all-lend = λ p. rw h (subst (λ j. L (w j) (e .lent)) here (p .0), rw (after-here w e here) at (f .all-lend (p .1)));
+            all-lend = λ p. rw h (p .0 here, rw (after-here w e here) at (f .all-lend (p .1)));
           }
       go f false h =
           let other : after w e k ≡ w k = after-other w e (eqb-false (numberOf e) k h) in

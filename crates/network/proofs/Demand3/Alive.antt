@@ -1,21 +1,28 @@
 -- The history of specs/Example.antt, by computing.
 use mathlib.Core.Path.{_≡_, refl, ap}
 use mathlib.Core.Bool.{cond}
-use mathlib.Core.List.{List·Memᴰ·head}
+use mathlib.Core.List.{List·Memᴰ, List·Memᴰ·head}
 use Prim.Native.Nat.{ℕ, _*_}
 use native.Mathlib.Omega.{arith}
 use lib.Dec.{eqb}
 use lib.IntN.{ℤ, pos, _-ℤ_}
-use Rattle.quantity.specs.Quantity.{millis, toUnits}
+use lib.ListN.{replicate}
+use Rattle.quantity.specs.Quantity.{millis, counts, toUnits}
+use Rattle.clock.specs.Crystal.{counting}
 use Rattle.quantity.specs.Words.{word}
 use Rattle.answer.specs.declared.Answer.{Answer}
 use Rattle.network.specs.Left.{messageOf}
 use Rattle.network.specs.History.{after}
-use Rattle.network.specs.Room.{longestWay, afresh, Proper}
-use Rattle.network.specs.Demand3.{Message, result, step, history, Allows, Starts}
+use Rattle.network.specs.Room.{longestWay, at, afresh, Proper}
+use Rattle.network.specs.Demand3.{Message, Reads, result, step, history, Allowed, Allows, Starts}
 use Rattle.network.specs.TwoSeats.{Pair}
 use Rattle.table.specs.Marks.{onlyMark}
-use Rattle.network.specs.Example.{oneAndTwo, near, w₀, x₁, w₁, x₂, w₂, x₃, w₃, x₄, w₄, x₅, w₅, x₆, story, learnt, Example}
+use Rattle.network.specs.Example.{oneAndTwo, near, w₀, x₁, w₁, x₂, w₂, x₃, w₃, x₄, w₄, x₅, w₅, x₆, w₆, x₇, w₇, x₈, w₈, x₉, w₉, x₁₀, w₁₀, x₁₁, w₁₁, x₁₂, w₁₂, x₁₃, w₁₃, x₁₄, w₁₄, x₁₅, w₁₅, x₁₆, w₁₆, x₁₇, w₁₇, x₁₈, w₁₈, x₁₉, w₁₉, x₂₀, w₂₀, story, learnt, Example}
+use Rattle.host.specs.Walk.{placeOf, packetOf}
+use Rattle.network.proofs.Openings.{copied-back}
+use Rattle.walk.specs.Opening as walk
+use Rattle.walk.specs.Boxes.{box1, box2, box3, box4, box5, boxA, boxB, boxC}
+use Rattle.walk.specs.Boxes as Boxes
 use Rattle.network.proofs.Opened.{opened}
 use Rattle.network.proofs.Demand3.TwoSeats.{below-2, apart, pair-proper, starts, as-left, reads, delivered}
 
@@ -27,10 +34,11 @@ p =
       longest = longestWay;
       hosts = 3;
       marks = λ a. cond (eqb a 0) (onlyMark 0) oneAndTwo;
+      copy = replicate 1052 0;
     }
 
 entry-is : (learnt 1 .delay .0 ≡ pos 101) × (learnt 1 .offset .0 ≡ pos 449) × (learnt 2 .delay .0 ≡ pos 101) × (learnt 2 .offset .0 ≡ pos 449)
-unfolding opened after step history w₀ x₁ w₁ x₂ w₂ x₃ w₃ x₄ w₄ x₅ w₅ x₆
+unfolding opened after step history w₀ x₁ w₁ x₂ w₂ x₃ w₃ x₄ w₄ x₅ w₅ x₆ w₆ x₇ w₇ x₈ w₈ x₉ w₉ x₁₀ w₁₀ x₁₁ w₁₁ x₁₂ w₁₂ x₁₃ w₁₃ x₁₄ w₁₄ x₁₅ w₁₅ x₁₆ w₁₆ x₁₇ w₁₇ x₁₈ w₁₈ x₁₉ w₁₉ x₂₀ w₂₀ placeOf walk.opening walk.copied box1 box2 box3 box4 box5 boxA boxB boxC Boxes.step
 entry-is = (refl, refl, refl, refl)
 
 -- what was sent
@@ -40,27 +48,116 @@ first = record { seat = 0; link = 1; ms = pos 65500; octets = messageOf (result 
 abbrev second : Message
 second = record { seat = 1; link = 1; ms = pos 65500; octets = messageOf (result near w₃ x₄) }
 
+ok₁ : Allowed near w₀ x₁
+unfolding opened after step w₀ x₁ w₁ x₂ w₂ x₃ w₃ x₄ w₄ x₅ w₅ x₆ w₆ x₇ w₇ x₈ w₈ x₉ w₉ x₁₀ w₁₀ x₁₁ w₁₁ x₁₂ w₁₂ x₁₃ w₁₃ x₁₄ w₁₄ x₁₅ w₁₅ x₁₆ w₁₆ x₁₇ w₁₇ x₁₈ w₁₈ x₁₉ w₁₉ x₂₀ w₂₀ placeOf walk.opening walk.copied box1 box2 box3 box4 box5 boxA boxB boxC Boxes.step
+ok₁ = record { seat-in = omega arith; lends = as-left p w₀ 1 (x₁ .call); timely = tt }
+
+ok₂ : Allowed near w₁ x₂
+unfolding opened after step w₀ x₁ w₁ x₂ w₂ x₃ w₃ x₄ w₄ x₅ w₅ x₆ w₆ x₇ w₇ x₈ w₈ x₉ w₉ x₁₀ w₁₀ x₁₁ w₁₁ x₁₂ w₁₂ x₁₃ w₁₃ x₁₄ w₁₄ x₁₅ w₁₅ x₁₆ w₁₆ x₁₇ w₁₇ x₁₈ w₁₈ x₁₉ w₁₉ x₂₀ w₂₀ placeOf walk.opening walk.copied box1 box2 box3 box4 box5 boxA boxB boxC Boxes.step
+ok₂ = record { seat-in = omega arith; lends = as-left p w₁ 0 (x₂ .call); timely = λ _. (reads p w₁ 0 _ (pos 65500) refl record { lt = tt }) }
+
+ok₃ : Allowed near w₂ x₃
+unfolding opened after step w₀ x₁ w₁ x₂ w₂ x₃ w₃ x₄ w₄ x₅ w₅ x₆ w₆ x₇ w₇ x₈ w₈ x₉ w₉ x₁₀ w₁₀ x₁₁ w₁₁ x₁₂ w₁₂ x₁₃ w₁₃ x₁₄ w₁₄ x₁₅ w₁₅ x₁₆ w₁₆ x₁₇ w₁₇ x₁₈ w₁₈ x₁₉ w₁₉ x₂₀ w₂₀ placeOf walk.opening walk.copied box1 box2 box3 box4 box5 boxA boxB boxC Boxes.step
+ok₃ = record { seat-in = omega arith; lends = as-left p w₂ 1 (x₃ .call); timely = delivered p w₂ 1 _ (pos 65500) _ first 0 (List·Memᴰ·head refl) refl (reads p w₂ 1 _ (pos 65500) refl record { lt = tt }) (omega arith) refl }
+
+ok₄ : Allowed near w₃ x₄
+unfolding opened after step w₀ x₁ w₁ x₂ w₂ x₃ w₃ x₄ w₄ x₅ w₅ x₆ w₆ x₇ w₇ x₈ w₈ x₉ w₉ x₁₀ w₁₀ x₁₁ w₁₁ x₁₂ w₁₂ x₁₃ w₁₃ x₁₄ w₁₄ x₁₅ w₁₅ x₁₆ w₁₆ x₁₇ w₁₇ x₁₈ w₁₈ x₁₉ w₁₉ x₂₀ w₂₀ placeOf walk.opening walk.copied box1 box2 box3 box4 box5 boxA boxB boxC Boxes.step
+ok₄ = record { seat-in = omega arith; lends = as-left p w₃ 1 (x₄ .call); timely = λ _. (reads p w₃ 1 _ (pos 65500) refl record { lt = tt }) }
+
+ok₅ : Allowed near w₄ x₅
+unfolding opened after step w₀ x₁ w₁ x₂ w₂ x₃ w₃ x₄ w₄ x₅ w₅ x₆ w₆ x₇ w₇ x₈ w₈ x₉ w₉ x₁₀ w₁₀ x₁₁ w₁₁ x₁₂ w₁₂ x₁₃ w₁₃ x₁₄ w₁₄ x₁₅ w₁₅ x₁₆ w₁₆ x₁₇ w₁₇ x₁₈ w₁₈ x₁₉ w₁₉ x₂₀ w₂₀ placeOf walk.opening walk.copied box1 box2 box3 box4 box5 boxA boxB boxC Boxes.step
+ok₅ = record { seat-in = omega arith; lends = as-left p w₄ 0 (x₅ .call); timely = delivered p w₄ 0 _ (pos 65601) _ second 101 (List·Memᴰ·head refl) refl (reads p w₄ 0 _ (pos 65601) refl record { lt = tt }) (omega arith) refl }
+
+ok₆ : Allowed near w₅ x₆
+unfolding opened after step w₀ x₁ w₁ x₂ w₂ x₃ w₃ x₄ w₄ x₅ w₅ x₆ w₆ x₇ w₇ x₈ w₈ x₉ w₉ x₁₀ w₁₀ x₁₁ w₁₁ x₁₂ w₁₂ x₁₃ w₁₃ x₁₄ w₁₄ x₁₅ w₁₅ x₁₆ w₁₆ x₁₇ w₁₇ x₁₈ w₁₈ x₁₉ w₁₉ x₂₀ w₂₀ placeOf walk.opening walk.copied box1 box2 box3 box4 box5 boxA boxB boxC Boxes.step
+ok₆ = record { seat-in = omega arith; lends = as-left p w₅ 0 (x₆ .call); timely = tt }
+
+ok₇ : Allowed near w₆ x₇
+unfolding opened after step w₀ x₁ w₁ x₂ w₂ x₃ w₃ x₄ w₄ x₅ w₅ x₆ w₆ x₇ w₇ x₈ w₈ x₉ w₉ x₁₀ w₁₀ x₁₁ w₁₁ x₁₂ w₁₂ x₁₃ w₁₃ x₁₄ w₁₄ x₁₅ w₁₅ x₁₆ w₁₆ x₁₇ w₁₇ x₁₈ w₁₈ x₁₉ w₁₉ x₂₀ w₂₀ placeOf walk.opening walk.copied box1 box2 box3 box4 box5 boxA boxB boxC Boxes.step
+ok₇ = record { seat-in = omega arith; lends = as-left p w₆ 0 (x₇ .call); timely = tt }
+
+held-is : packetOf (w₇ .state 0 .walk) (w₇ .state 0 .copy) ≡ messageOf (result near w₃ x₄)
+unfolding opened after step w₀ x₁ w₁ x₂ w₂ x₃ w₃ x₄ w₄ x₅ w₅ x₆ w₆ x₇ w₇ placeOf walk.opening box1 box2 box3 box4 box5 boxA boxB boxC Boxes.step
+held-is = copied-back (messageOf (result near w₃ x₄)) (w₆ .state 0 .copy)
+
+mem₄ : List·Memᴰ second (w₄ .mail)
+unfolding opened after step w₀ x₁ w₁ x₂ w₂ x₃ w₃ x₄ w₄ placeOf walk.opening walk.copied box1 box2 box3 box4 box5 boxA boxB boxC Boxes.step
+mem₄ = List·Memᴰ·head refl
+
+mem₇ : List·Memᴰ second (w₇ .mail)
+unfolding step x₅ w₅ x₆ w₆ x₇ w₇
+mem₇ = mem₄
+
+reads₇ : Reads near w₇ 0 (counting (counts 65)) (pos 65601)
+unfolding opened after step w₀ x₁ w₁ x₂ w₂ x₃ w₃ x₄ w₄ x₅ w₅ x₆ w₆ x₇ w₇ placeOf walk.opening walk.copied box1 box2 box3 box4 box5 boxA boxB boxC Boxes.step
+reads₇ = record { clock = refl; no-midnight = record { lt = tt } }
+
+link₇ : w₇ .state 0 .walk .link ≡ 1
+unfolding opened after step w₀ x₁ w₁ x₂ w₂ x₃ w₃ x₄ w₄ x₅ w₅ x₆ w₆ x₇ w₇ placeOf walk.opening walk.copied box1 box2 box3 box4 box5 boxA boxB boxC Boxes.step
+link₇ = refl
+
+end₇ : near .cable 0 (w₇ .state 0 .walk .link) ≡ at 1 1
+end₇ = ap (near .cable 0) link₇
+
+ok₈ : Allowed near w₇ x₈
+unfolding x₈
+ok₈ = record { seat-in = omega arith; lends = (let l = as-left p w₇ 0 (x₈ .call) in record { own-clock = l .own-clock; own-links = l .own-links; own-walk = l .own-walk; own-packet = l .own-packet; own-entries = l .own-entries }); timely = λ _ _. record { message = second; earlier = mem₇; a-copy = held-is; other-end = end₇; in-time = λ _. record { reads = reads₇; way = 101; short = omega arith; later = refl } } }
+
+ok₉ : Allowed near w₈ x₉
+unfolding opened after step w₀ x₁ w₁ x₂ w₂ x₃ w₃ x₄ w₄ x₅ w₅ x₆ w₆ x₇ w₇ x₈ w₈ x₉ w₉ x₁₀ w₁₀ x₁₁ w₁₁ x₁₂ w₁₂ x₁₃ w₁₃ x₁₄ w₁₄ x₁₅ w₁₅ x₁₆ w₁₆ x₁₇ w₁₇ x₁₈ w₁₈ x₁₉ w₁₉ x₂₀ w₂₀ placeOf walk.opening walk.copied box1 box2 box3 box4 box5 boxA boxB boxC Boxes.step
+ok₉ = record { seat-in = omega arith; lends = as-left p w₈ 0 (x₉ .call); timely = tt }
+
+ok₁₀ : Allowed near w₉ x₁₀
+unfolding opened after step w₀ x₁ w₁ x₂ w₂ x₃ w₃ x₄ w₄ x₅ w₅ x₆ w₆ x₇ w₇ x₈ w₈ x₉ w₉ x₁₀ w₁₀ x₁₁ w₁₁ x₁₂ w₁₂ x₁₃ w₁₃ x₁₄ w₁₄ x₁₅ w₁₅ x₁₆ w₁₆ x₁₇ w₁₇ x₁₈ w₁₈ x₁₉ w₁₉ x₂₀ w₂₀ placeOf walk.opening walk.copied box1 box2 box3 box4 box5 boxA boxB boxC Boxes.step
+ok₁₀ = record { seat-in = omega arith; lends = as-left p w₉ 0 (x₁₀ .call); timely = λ _ e. absurd (let z : _≡_ {A = ℕ} 0 1 = cc in omega arith) }
+
+ok₁₁ : Allowed near w₁₀ x₁₁
+unfolding opened after step w₀ x₁ w₁ x₂ w₂ x₃ w₃ x₄ w₄ x₅ w₅ x₆ w₆ x₇ w₇ x₈ w₈ x₉ w₉ x₁₀ w₁₀ x₁₁ w₁₁ x₁₂ w₁₂ x₁₃ w₁₃ x₁₄ w₁₄ x₁₅ w₁₅ x₁₆ w₁₆ x₁₇ w₁₇ x₁₈ w₁₈ x₁₉ w₁₉ x₂₀ w₂₀ placeOf walk.opening walk.copied box1 box2 box3 box4 box5 boxA boxB boxC Boxes.step
+ok₁₁ = record { seat-in = omega arith; lends = as-left p w₁₀ 0 (x₁₁ .call); timely = λ _ e. absurd (let z : _≡_ {A = ℕ} 0 1 = cc in omega arith) }
+
+ok₁₂ : Allowed near w₁₁ x₁₂
+unfolding opened after step w₀ x₁ w₁ x₂ w₂ x₃ w₃ x₄ w₄ x₅ w₅ x₆ w₆ x₇ w₇ x₈ w₈ x₉ w₉ x₁₀ w₁₀ x₁₁ w₁₁ x₁₂ w₁₂ x₁₃ w₁₃ x₁₄ w₁₄ x₁₅ w₁₅ x₁₆ w₁₆ x₁₇ w₁₇ x₁₈ w₁₈ x₁₉ w₁₉ x₂₀ w₂₀ placeOf walk.opening walk.copied box1 box2 box3 box4 box5 boxA boxB boxC Boxes.step
+ok₁₂ = record { seat-in = omega arith; lends = as-left p w₁₁ 0 (x₁₂ .call); timely = λ _ e. absurd (let z : _≡_ {A = ℕ} 0 1 = cc in omega arith) }
+
+ok₁₃ : Allowed near w₁₂ x₁₃
+unfolding opened after step w₀ x₁ w₁ x₂ w₂ x₃ w₃ x₄ w₄ x₅ w₅ x₆ w₆ x₇ w₇ x₈ w₈ x₉ w₉ x₁₀ w₁₀ x₁₁ w₁₁ x₁₂ w₁₂ x₁₃ w₁₃ x₁₄ w₁₄ x₁₅ w₁₅ x₁₆ w₁₆ x₁₇ w₁₇ x₁₈ w₁₈ x₁₉ w₁₉ x₂₀ w₂₀ placeOf walk.opening walk.copied box1 box2 box3 box4 box5 boxA boxB boxC Boxes.step
+ok₁₃ = record { seat-in = omega arith; lends = as-left p w₁₂ 0 (x₁₃ .call); timely = λ _ e. absurd (let z : _≡_ {A = ℕ} 0 1 = cc in omega arith) }
+
+ok₁₄ : Allowed near w₁₃ x₁₄
+unfolding opened after step w₀ x₁ w₁ x₂ w₂ x₃ w₃ x₄ w₄ x₅ w₅ x₆ w₆ x₇ w₇ x₈ w₈ x₉ w₉ x₁₀ w₁₀ x₁₁ w₁₁ x₁₂ w₁₂ x₁₃ w₁₃ x₁₄ w₁₄ x₁₅ w₁₅ x₁₆ w₁₆ x₁₇ w₁₇ x₁₈ w₁₈ x₁₉ w₁₉ x₂₀ w₂₀ placeOf walk.opening walk.copied box1 box2 box3 box4 box5 boxA boxB boxC Boxes.step
+ok₁₄ = record { seat-in = omega arith; lends = as-left p w₁₃ 0 (x₁₄ .call); timely = λ _ e. absurd (let z : _≡_ {A = ℕ} 0 1 = cc in omega arith) }
+
+ok₁₅ : Allowed near w₁₄ x₁₅
+unfolding opened after step w₀ x₁ w₁ x₂ w₂ x₃ w₃ x₄ w₄ x₅ w₅ x₆ w₆ x₇ w₇ x₈ w₈ x₉ w₉ x₁₀ w₁₀ x₁₁ w₁₁ x₁₂ w₁₂ x₁₃ w₁₃ x₁₄ w₁₄ x₁₅ w₁₅ x₁₆ w₁₆ x₁₇ w₁₇ x₁₈ w₁₈ x₁₉ w₁₉ x₂₀ w₂₀ placeOf walk.opening walk.copied box1 box2 box3 box4 box5 boxA boxB boxC Boxes.step
+ok₁₅ = record { seat-in = omega arith; lends = as-left p w₁₄ 0 (x₁₅ .call); timely = λ _ e. absurd (let z : _≡_ {A = ℕ} 0 1 = cc in omega arith) }
+
+ok₁₆ : Allowed near w₁₅ x₁₆
+unfolding opened after step w₀ x₁ w₁ x₂ w₂ x₃ w₃ x₄ w₄ x₅ w₅ x₆ w₆ x₇ w₇ x₈ w₈ x₉ w₉ x₁₀ w₁₀ x₁₁ w₁₁ x₁₂ w₁₂ x₁₃ w₁₃ x₁₄ w₁₄ x₁₅ w₁₅ x₁₆ w₁₆ x₁₇ w₁₇ x₁₈ w₁₈ x₁₉ w₁₉ x₂₀ w₂₀ placeOf walk.opening walk.copied box1 box2 box3 box4 box5 boxA boxB boxC Boxes.step
+ok₁₆ = record { seat-in = omega arith; lends = as-left p w₁₅ 0 (x₁₆ .call); timely = λ _ e. absurd (let z : _≡_ {A = ℕ} 0 1 = cc in omega arith) }
+
+ok₁₇ : Allowed near w₁₆ x₁₇
+unfolding opened after step w₀ x₁ w₁ x₂ w₂ x₃ w₃ x₄ w₄ x₅ w₅ x₆ w₆ x₇ w₇ x₈ w₈ x₉ w₉ x₁₀ w₁₀ x₁₁ w₁₁ x₁₂ w₁₂ x₁₃ w₁₃ x₁₄ w₁₄ x₁₅ w₁₅ x₁₆ w₁₆ x₁₇ w₁₇ x₁₈ w₁₈ x₁₉ w₁₉ x₂₀ w₂₀ placeOf walk.opening walk.copied box1 box2 box3 box4 box5 boxA boxB boxC Boxes.step
+ok₁₇ = record { seat-in = omega arith; lends = as-left p w₁₆ 0 (x₁₇ .call); timely = λ _ e. absurd (let z : _≡_ {A = ℕ} 0 1 = cc in omega arith) }
+
+ok₁₈ : Allowed near w₁₇ x₁₈
+unfolding opened after step w₀ x₁ w₁ x₂ w₂ x₃ w₃ x₄ w₄ x₅ w₅ x₆ w₆ x₇ w₇ x₈ w₈ x₉ w₉ x₁₀ w₁₀ x₁₁ w₁₁ x₁₂ w₁₂ x₁₃ w₁₃ x₁₄ w₁₄ x₁₅ w₁₅ x₁₆ w₁₆ x₁₇ w₁₇ x₁₈ w₁₈ x₁₉ w₁₉ x₂₀ w₂₀ placeOf walk.opening walk.copied box1 box2 box3 box4 box5 boxA boxB boxC Boxes.step
+ok₁₈ = record { seat-in = omega arith; lends = as-left p w₁₇ 0 (x₁₈ .call); timely = λ _ e. absurd (let z : _≡_ {A = ℕ} 0 1 = cc in omega arith) }
+
+ok₁₉ : Allowed near w₁₈ x₁₉
+unfolding opened after step w₀ x₁ w₁ x₂ w₂ x₃ w₃ x₄ w₄ x₅ w₅ x₆ w₆ x₇ w₇ x₈ w₈ x₉ w₉ x₁₀ w₁₀ x₁₁ w₁₁ x₁₂ w₁₂ x₁₃ w₁₃ x₁₄ w₁₄ x₁₅ w₁₅ x₁₆ w₁₆ x₁₇ w₁₇ x₁₈ w₁₈ x₁₉ w₁₉ x₂₀ w₂₀ placeOf walk.opening walk.copied box1 box2 box3 box4 box5 boxA boxB boxC Boxes.step
+ok₁₉ = record { seat-in = omega arith; lends = as-left p w₁₈ 0 (x₁₉ .call); timely = λ _ e. absurd (let z : _≡_ {A = ℕ} 0 1 = cc in omega arith) }
+
+ok₂₀ : Allowed near w₁₉ x₂₀
+unfolding opened after step w₀ x₁ w₁ x₂ w₂ x₃ w₃ x₄ w₄ x₅ w₅ x₆ w₆ x₇ w₇ x₈ w₈ x₉ w₉ x₁₀ w₁₀ x₁₁ w₁₁ x₁₂ w₁₂ x₁₃ w₁₃ x₁₄ w₁₄ x₁₅ w₁₅ x₁₆ w₁₆ x₁₇ w₁₇ x₁₈ w₁₈ x₁₉ w₁₉ x₂₀ w₂₀ placeOf walk.opening walk.copied box1 box2 box3 box4 box5 boxA boxB boxC Boxes.step
+ok₂₀ = record { seat-in = omega arith; lends = as-left p w₁₉ 0 (x₂₀ .call); timely = λ _ e. absurd (let z : _≡_ {A = ℕ} 0 1 = cc in omega arith) }
+
 allowed : Allows near w₀ story
-unfolding opened after step Allows w₀ x₁ w₁ x₂ w₂ x₃ w₃ x₄ w₄ x₅ w₅ x₆
-allowed = (
-  record { seat-in = omega arith; lends = as-left p w₀ 1 (x₁ .call); timely = tt },
-  (
-    record { seat-in = omega arith; lends = as-left p w₁ 0 (x₂ .call); timely = λ _. reads p w₁ 0 _ (pos 65500) refl record { lt = tt } },
-    (
-      record { seat-in = omega arith; lends = as-left p w₂ 1 (x₃ .call); timely = delivered p w₂ 1 _ (pos 65500) _ first 0 (List·Memᴰ·head refl) refl (reads p w₂ 1 _ (pos 65500) refl record { lt = tt }) (omega arith) refl },
-      (
-        record { seat-in = omega arith; lends = as-left p w₃ 1 (x₄ .call); timely = λ _. reads p w₃ 1 _ (pos 65500) refl record { lt = tt } },
-        (
-          record { seat-in = omega arith; lends = as-left p w₄ 0 (x₅ .call); timely = delivered p w₄ 0 _ (pos 65601) _ second 101 (List·Memᴰ·head refl) refl (reads p w₄ 0 _ (pos 65601) refl record { lt = tt }) (omega arith) refl },
-          (
-            record { seat-in = omega arith; lends = as-left p w₅ 0 (x₆ .call); timely = delivered p w₅ 0 _ (pos 65601) _ second 101 (List·Memᴰ·head refl) refl (reads p w₅ 0 _ (pos 65601) refl record { lt = tt }) (omega arith) refl },
-            tt,
-          ),
-        ),
-      ),
-    ),
-  ),
-)
+unfolding Allows w₁ w₂ w₃ w₄ w₅ w₆ w₇ w₈ w₉ w₁₀ w₁₁ w₁₂ w₁₃ w₁₄ w₁₅ w₁₆ w₁₇ w₁₈ w₁₉ w₂₀
+allowed = (ok₁, (ok₂, (ok₃, (ok₄, (ok₅, (ok₆, (ok₇, (ok₈, (ok₉, (ok₁₀, (ok₁₁, (ok₁₂, (ok₁₃, (ok₁₄, (ok₁₅, (ok₁₆, (ok₁₇, (ok₁₈, (ok₁₉, (ok₂₀, tt))))))))))))))))))))
+
+refused : result near w₈ x₉ .reply .answer ≡ Answer.InWalk
+unfolding opened after step w₀ x₁ w₁ x₂ w₂ x₃ w₃ x₄ w₄ x₅ w₅ x₆ w₆ x₇ w₇ x₈ w₈ x₉ w₉ x₁₀ w₁₀ x₁₁ w₁₁ x₁₂ w₁₂ x₁₃ w₁₃ x₁₄ w₁₄ x₁₅ w₁₅ x₁₆ w₁₆ x₁₇ w₁₇ x₁₈ w₁₈ x₁₉ w₁₉ x₂₀ w₂₀ placeOf walk.opening walk.copied box1 box2 box3 box4 box5 boxA boxB boxC Boxes.step
+refused = refl
 
 proper : Proper near
 unfolding opened
@@ -77,6 +174,7 @@ alive =
       ways = omega arith;
       starts = start;
       allowed = allowed;
+      refused = refused;
       delay = ap millis (entry-is .0);
       offset = ap word (entry-is .1);
       other-delay = ap millis (entry-is .2);

@@ -32,7 +32,7 @@ use Rattle.arrival.specs.declared.Delivery.{Delivery}
 use Rattle.arrival.specs.declared.Delivery.the-variants.{Inspect, Act, Receive}
 use Rattle.calls.specs.declared.Request.{Request}
 use Rattle.calls.specs.declared.Request.the-variants as variants
-use Rattle.calls.specs.declared.Request.the-variants.{Initialize, Tick, Second, SelfReport}
+use Rattle.calls.specs.declared.Request.the-variants.{Initialize, Tick, Adjust, Set, Read, Lookup, Second, SelfReport}
 use Rattle.calls.specs.Effects.{initialize}
 use Rattle.calls.specs.Perform.{ask, send, deliver, inspect, Outcome, scopeOfCall, perform}
 use Rattle.calls.proofs.Pair.{receive-acts}
@@ -41,18 +41,18 @@ use Rattle.network.specs.Frame.{Elsewhere}
 use Rattle.network.specs.History.{Left, leftBy, after}
 use Rattle.network.specs.Room.{longestWay, Room, lentAt, afresh, Proper}
 use Rattle.network.proofs.Performs.{performs, there}
-use Rattle.network.specs.Demand3.{RoomCall, ticks, seconds, reports, sends, arrives, acts, inspects, opens, steps, callOf, Step, Message, World, readingAt, result, mailAfter, step, history, timed, Later, Delivered, Allowed, Allows, Starts, Claim, Demand3Within, Demand3}
+use Rattle.network.specs.Demand3.{RoomCall, ticks, seconds, reports, sends, arrives, acts, inspects, opens, steps, adjusts, sets, clocks, looks, callOf, Step, Message, World, readingAt, result, mailAfter, step, history, timed, Later, Delivered, Allowed, Allows, Starts, Claim, Demand3Within, Demand3}
 use Rattle.network.proofs.Lists.{All, all-at}
 use Rattle.network.proofs.Demand3.Near.{near-close}
 use Rattle.network.proofs.Demand3.Invariant.{RightEntry, RightMessage, Taken, RightWalk, RightSeat, RightWorld}
-use Rattle.network.proofs.Demand3.Outcomes.{RightOutcome, RightLent, SeatLent, SeatLeft, same-right, updated-right, lent-right, left-right, any-walk, no-walk, plain-right}
-use Rattle.network.proofs.Demand3.Seats.{fresh-right, afresh-right, tick-right, second-right, self-right, set-good}
+use Rattle.network.proofs.Demand3.Outcomes.{RightOutcome, RightLent, SeatLent, SeatLeft, same-right, updated-right, same-packet, lent-right, left-right, any-walk, no-walk, plain-right}
+use Rattle.network.proofs.Demand3.Seats.{fresh-right, afresh-right, tick-right, adjust-right, set-right, clock-right, look-right, second-right, self-right, set-good}
 use Rattle.network.proofs.Demand3.Sending.{send-right}
 use Rattle.network.proofs.Demand3.Arrival.{act-right}
 use Rattle.network.proofs.Demand3.Walks.{open-right, step-right}
 
 -- an equation of two calls that differ
-unlike : {A : Type 0} → _≡_ {A = ℕ} 0 1 → A
+pub unlike : {A : Type 0} → _≡_ {A = ℕ} 0 1 → A
 unlike z = absurd (omega arith)
 
 module _ (r : Room) (proper : Proper r) (ways : r .longest ≤ longestWay) where
@@ -73,27 +73,27 @@ module _ (r : Room) (proper : Proper r) (ways : r .longest ≤ longestWay) where
       go (inl e) = subst (RightMessage r) (sym e) (here refl)
       go (inr y) = old m y
 
-  module _ (w : World) (right : RightWorld r w) (a : ℕ) (inside : a < r .seats) (nets : ClassTable) (links : Links) (run : List Entry) where
+  module _ (w : World) (right : RightWorld r w) (a : ℕ) (inside : a < r .seats) (nets : ClassTable) (links : Links) (copy : List ℕ) (run : List Entry) where
     abbrev now : Left
     now = w .state (r .number a)
 
     abbrev at-seat : RoomCall → Step
-    at-seat call = record { seat = a; nets = nets; links = links; run = run; call = call }
+    at-seat call = record { seat = a; nets = nets; links = links; copy = copy; run = run; call = call }
 
-    lent : (call : RoomCall) → Allowed r w (at-seat call) → SeatLent r a (now .walk) (now .copy) links run
-    lent call ok = lent-right r a proper now nets (now .clock) links run (ok .lends) (right .seats a inside)
+    pub lent : (call : RoomCall) → Allowed r w (at-seat call) → SeatLent r a (now .walk) copy links run
+    lent call ok = lent-right r a proper now nets (now .clock) links copy run (ok .lends) (right .seats a inside)
 
     -- a call that changes no walk
     plain : (call : RoomCall) → Allowed r w (at-seat call) → Elsewhere (callOf call) → ((v : Walk) → inWalk (scopeOfCall (callOf call)) v ≡ isOpen v)
         → (RightLent r a links run → RightOutcome r a run (result r w (at-seat call))) → SeatLeft r a run (result r w (at-seat call))
-    plain call ok else refuses by-itself = plain-right r a nets (now .clock) links (now .walk) (now .copy) run (lent call ok) (callOf call) else refuses by-itself
+    plain call ok else refuses by-itself = plain-right r a nets (now .clock) links (now .walk) copy run (lent call ok) (callOf call) else refuses by-itself
 
     acts-right : (i : ℕ) (k : Counter) (packet : List ℕ) (t : ℤ) → Allowed r w (at-seat (acts i k packet t)) → RightLent r a links run
         → RightOutcome r a run (result r w (at-seat (acts i k packet t)))
     acts-right i k packet t ok lent =
         let d = ok .timely in
         subst (λ (o : List ℕ). RightOutcome r a run (result r w (at-seat (acts i k o t)))) (sym (d .a-copy))
-        (act-right r proper ways a i inside (d .message) (d .other-end) (right .mail (d .message) (d .earlier)) nets (now .clock) links (now .walk) (now .copy) run
+        (act-right r proper ways a i inside (d .message) (d .other-end) (right .mail (d .message) (d .earlier)) nets (now .clock) links (now .walk) copy run
         lent k
         (λ e.
         let later = subst (λ (o : List ℕ). T (timed (result r w (at-seat (acts i k o t)) .reply .answer)) → Later r w a k t (d .message)) (d .a-copy) (d .in-time) e in
@@ -102,7 +102,7 @@ module _ (r : Room) (proper : Proper r) (ways : r .longest ≤ longestWay) where
     arrives-right : (i : ℕ) (k : Counter) (packet : List ℕ) (t : ℤ) → Allowed r w (at-seat (arrives i k packet t)) → RightLent r a links run
         → RightOutcome r a run (result r w (at-seat (arrives i k packet t)))
     arrives-right i k packet t ok lent =
-        let same = receive-acts i k packet (lentAt r a nets (now .clock) links (now .walk) (now .copy) run) in
+        let same = receive-acts i k packet (lentAt r a nets (now .clock) links (now .walk) copy run) in
         subst (RightOutcome r a run) (sym same)
         (acts-right i k packet t
         record {
@@ -114,25 +114,25 @@ module _ (r : Room) (proper : Proper r) (ways : r .longest ≤ longestWay) where
 
     inspects-right : (i : ℕ) (packet : List ℕ) → RightLent r a links run → RightOutcome r a run (result r w (at-seat (inspects i packet)))
     inspects-right i packet right =
-        let x = lentAt r a nets (now .clock) links (now .walk) (now .copy) run in
+        let x = lentAt r a nets (now .clock) links (now .walk) copy run in
         performs (inspect i packet) x (RightOutcome r a run) (λ _. same-right r a links run right)
         (λ e.
-        updated-right r a nets (now .clock) links (now .walk) (now .copy) run right (there (inspect i packet) x e) (inspection i packet (x .host)) packet (right .links)
+        updated-right r a nets (now .clock) links (now .walk) copy run right (there (inspect i packet) x e) (inspection i packet (x .host)) packet (right .links)
         (λ id d y low high inside h. absurd (omega arith)))
 
     -- no setting afresh, no opening and no step
-    a-request : (q : Request) → (q ≡ Initialize → ⊥) → ((k : Counter) → q ≡ variants.Step k → ⊥) → Elsewhere (ask q)
+    pub a-request : (q : Request) → (q ≡ Initialize → ⊥) → ((k : Counter) → q ≡ variants.Step k → ⊥) → Elsewhere (ask q)
     a-request q fresh stepping = record { not-afresh = λ e. fresh cc; not-opening = λ i packet e. unlike cc; not-step = λ k e. stepping k cc }
 
-    a-send : (i : ℕ) (k : Counter) (buffer : List ℕ) → Elsewhere (send i k buffer)
+    pub a-send : (i : ℕ) (k : Counter) (buffer : List ℕ) → Elsewhere (send i k buffer)
     a-send i k buffer = record { not-afresh = λ e. unlike cc; not-opening = λ j packet e. unlike cc; not-step = λ j e. unlike cc }
 
-    a-delivery : (d : Delivery) (packet : List ℕ) → Elsewhere (deliver d packet)
+    pub a-delivery : (d : Delivery) (packet : List ℕ) → Elsewhere (deliver d packet)
     a-delivery d packet = record { not-afresh = λ e. unlike cc; not-opening = λ j p e. unlike cc; not-step = λ j e. unlike cc }
 
     -- box 1 is taken as an arrival
     in-time : (k : Counter) (t : ℤ) (ok : Allowed r w (at-seat (steps k t))) → T (timed (result r w (at-seat (steps k t)) .reply .answer)) → isOpen (now .walk) ≡ true → placeOf (now .walk) ≡ Step1
-        → Taken r a (now .walk .link) (readingAt r a (now .clock) k .time) (packetOf (now .walk) (now .copy))
+        → Taken r a (now .walk .link) (readingAt r a (now .clock) k .time) (packetOf (now .walk) copy)
     in-time k t ok timed-answer opened first =
         let d = ok .timely opened first in
         let later = d .in-time timed-answer in
@@ -140,7 +140,7 @@ module _ (r : Room) (proper : Proper r) (ways : r .longest ≤ longestWay) where
           message = d .message;
           right = right .mail (d .message) (d .earlier);
           cable = d .other-end;
-          octets-are = d .a-copy;
+          octets-are = same-packet r a now nets (now .clock) links copy run (ok .lends) opened ∙ d .a-copy;
           way = later .way;
           short = later .short;
           clock = later .reads .clock ∙ ap (λ (z : ℤ). z +ℤ r .fixed a) (later .later);
@@ -149,22 +149,22 @@ module _ (r : Room) (proper : Proper r) (ways : r .longest ≤ longestWay) where
     call-right : (call : RoomCall) → Allowed r w (at-seat call) → StepRight w (at-seat call)
     call-right (ticks n) ok =
         record {
-          seat = plain (ticks n) ok (a-request (Tick n) (λ e. unlike cc) (λ k e. unlike cc)) (λ v. refl) (λ lent. tick-right r a nets (now .clock) links (now .walk) (now .copy) run lent n);
+          seat = plain (ticks n) ok (a-request (Tick n) (λ e. unlike cc) (λ k e. unlike cc)) (λ v. refl) (λ lent. tick-right r a nets (now .clock) links (now .walk) copy run lent n);
           mail = right .mail;
         }
     call-right seconds ok =
         record {
-          seat = plain seconds ok (a-request Second (λ e. unlike cc) (λ k e. unlike cc)) (λ v. refl) (λ lent. second-right r a nets (now .clock) links (now .walk) (now .copy) run lent);
+          seat = plain seconds ok (a-request Second (λ e. unlike cc) (λ k e. unlike cc)) (λ v. refl) (λ lent. second-right r a nets (now .clock) links (now .walk) copy run lent);
           mail = right .mail;
         }
     call-right (reports k) ok =
         record {
-          seat = plain (reports k) ok (a-request (SelfReport k) (λ e. unlike cc) (λ j e. unlike cc)) (λ v. refl) (λ lent. self-right r a nets (now .clock) links (now .walk) (now .copy) run lent inside k);
+          seat = plain (reports k) ok (a-request (SelfReport k) (λ e. unlike cc) (λ j e. unlike cc)) (λ v. refl) (λ lent. self-right r a nets (now .clock) links (now .walk) copy run lent inside k);
           mail = right .mail;
         }
     call-right (sends i k buffer t) ok =
         record {
-          seat = plain (sends i k buffer t) ok (a-send i k buffer) (λ v. refl) (λ lent. send-right r a i inside nets (now .clock) links (now .walk) (now .copy) run lent k buffer t (λ e. (let q = ok .timely e in (q .clock, q .no-midnight))) .seat);
+          seat = plain (sends i k buffer t) ok (a-send i k buffer) (λ v. refl) (λ lent. send-right r a i inside nets (now .clock) links (now .walk) copy run lent k buffer t (λ e. (let q = ok .timely e in (q .clock, q .no-midnight))) .seat);
           mail = post _ (w .mail) _ (sent i k buffer t ok (isOpen (now .walk)) refl) (right .mail);
         }
       where
@@ -173,12 +173,12 @@ module _ (r : Room) (proper : Proper r) (ways : r .longest ≤ longestWay) where
             → RightMessage r record { seat = a; link = i; ms = t; octets = messageOf (result r w (at-seat (sends i k buffer t))) }
         sent i k buffer t ok false e =
             let l = lent (sends i k buffer t) ok in
-            send-right r a i inside nets (now .clock) links (now .walk) (now .copy) run record { links = no-walk r a (now .walk) (links .all) e (l .links); table = l .table } k buffer t
+            send-right r a i inside nets (now .clock) links (now .walk) copy run record { links = no-walk r a (now .walk) (links .all) e (l .links); table = l .table } k buffer t
             (λ z. (let q = ok .timely z in (q .clock, q .no-midnight))) .message
         sent i k buffer t ok true e =
-            performs (send i k buffer) (lentAt r a nets (now .clock) links (now .walk) (now .copy) run)
+            performs (send i k buffer) (lentAt r a nets (now .clock) links (now .walk) copy run)
             (λ o. done (o .reply .answer) ≡ true → RightMessage r record { seat = a; link = i; ms = t; octets = messageOf o })
-            (λ no is. absurd (false≢true (sym no ∙ is))) (λ yes. absurd (true≢false (sym e ∙ passed (OnLink i) (lentAt r a nets (now .clock) links (now .walk) (now .copy) run) yes .closed)))
+            (λ no is. absurd (false≢true (sym no ∙ is))) (λ yes. absurd (true≢false (sym e ∙ passed (OnLink i) (lentAt r a nets (now .clock) links (now .walk) copy run) yes .closed)))
     call-right (arrives i k packet t) ok =
         record { seat = plain (arrives i k packet t) ok (a-delivery (Receive i k) packet) (λ v. refl) (arrives-right i k packet t ok); mail = right .mail }
     call-right (acts i k packet t) ok =
@@ -186,14 +186,34 @@ module _ (r : Room) (proper : Proper r) (ways : r .longest ≤ longestWay) where
     call-right (inspects i packet) ok =
         record { seat = plain (inspects i packet) ok (a-delivery (Inspect i) packet) (λ v. refl) (inspects-right i packet); mail = right .mail }
     call-right (opens i packet) ok =
-        record { seat = open-right r proper ways a inside nets (now .clock) links (now .walk) (now .copy) run (lent (opens i packet) ok) i packet; mail = right .mail }
+        record { seat = open-right r proper ways a inside nets (now .clock) links (now .walk) copy run (lent (opens i packet) ok) i packet; mail = right .mail }
     call-right (steps k t) ok =
-        record { seat = step-right r proper ways a inside nets (now .clock) links (now .walk) (now .copy) run (lent (steps k t) ok) k (in-time k t ok); mail = right .mail }
+        record { seat = step-right r proper ways a inside nets (now .clock) links (now .walk) copy run (lent (steps k t) ok) k (in-time k t ok); mail = right .mail }
+    call-right (adjusts n) ok =
+        record {
+          seat = plain (adjusts n) ok (a-request (Adjust n) (λ e. unlike cc) (λ j e. unlike cc)) (λ v. refl) (λ lent. adjust-right r a nets (now .clock) links (now .walk) copy run lent n);
+          mail = right .mail;
+        }
+    call-right (sets ms n) ok =
+        record {
+          seat = plain (sets ms n) ok (a-request (Set ms n) (λ e. unlike cc) (λ j e. unlike cc)) (λ v. refl) (λ lent. set-right r a nets (now .clock) links (now .walk) copy run lent ms n);
+          mail = right .mail;
+        }
+    call-right (clocks k) ok =
+        record {
+          seat = plain (clocks k) ok (a-request (Read k) (λ e. unlike cc) (λ j e. unlike cc)) (λ v. refl) (λ lent. clock-right r a nets (now .clock) links (now .walk) copy run lent k);
+          mail = right .mail;
+        }
+    call-right (looks d) ok =
+        record {
+          seat = plain (looks d) ok (a-request (Lookup d) (λ e. unlike cc) (λ j e. unlike cc)) (λ v. refl) (λ lent. look-right r a nets (now .clock) links (now .walk) copy run lent d);
+          mail = right .mail;
+        }
 
-  world-right : (w : World) (x : Step) → Allowed r w x → RightWorld r w → RightWorld r (step r w x)
+  pub world-right : (w : World) (x : Step) → Allowed r w x → RightWorld r w → RightWorld r (step r w x)
   unfolding step after
   world-right w x ok right =
-      let s = call-right w right (x .seat) (ok .seat-in) (x .nets) (x .links) (x .run) (x .call) ok in
+      let s = call-right w right (x .seat) (ok .seat-in) (x .nets) (x .links) (x .copy) (x .run) (x .call) ok in
       record {
         seats =
             λ b hb.
@@ -208,13 +228,13 @@ module _ (r : Room) (proper : Proper r) (ways : r .longest ≤ longestWay) where
 
   -- ---- the whole list
 
-  history-right : (w : World) (xs : List Step) → Allows r w xs → RightWorld r w → RightWorld r (history r w xs)
+  pub history-right : (w : World) (xs : List Step) → Allows r w xs → RightWorld r w → RightWorld r (history r w xs)
   unfolding Allows history
   history-right w [] ok right = right
   history-right w (x ∷ xs) ok right = history-right (step r w x) xs (ok .1) (world-right w x (ok .0) right)
 
   -- the beginning
-  starts-right : (w : World) → Starts r w → RightWorld r w
+  pub starts-right : (w : World) → Starts r w → RightWorld r w
   unfolding initialize
   starts-right w start =
       record {

@@ -79,14 +79,18 @@ module _ (r : Room) (a : ℕ) where
       let there = neither (eqb (suc j) 0) (ltb (linkCount (r .settings a)) (suc j)) (proper .cables a (suc j) b i cable .link-in) .1 in
       absurd (true≢false (sym (lt-ltb (linkCount (r .settings a)) (suc j) (omega arith)) ∙ there))
 
-  pub lent-right : Proper r → (x : Left) (nets : ClassTable) (c : Clock) (l : Links) (run : List Entry) → Lends x (lentAt r a nets c l (x .walk) (x .copy) run) → RightSeat r a x
-      → SeatLent r a (x .walk) (x .copy) l run
-  lent-right proper x nets c l run lends right =
+  -- the packet of an open walk is as it was left
+  pub same-packet : (x : Left) (nets : ClassTable) (c : Clock) (l : Links) (copy : List ℕ) (run : List Entry) → Lends x (lentAt r a nets c l (x .walk) copy run) → isOpen (x .walk) ≡ true → packetOf (x .walk) copy ≡ packetOf (x .walk) (x .copy)
+  same-packet x nets c l copy run lends opened = rw opened at (lends .own-packet)
+
+  pub lent-right : Proper r → (x : Left) (nets : ClassTable) (c : Clock) (l : Links) (copy : List ℕ) (run : List Entry) → Lends x (lentAt r a nets c l (x .walk) copy run) → RightSeat r a x
+      → SeatLent r a (x .walk) copy l run
+  lent-right proper x nets c l copy run lends right =
       record {
         links =
             all-first (λ (j : ℕ) (y : Link). between (x .walk) (suc j) ≡ false → RightLink r a (suc j) y) (linkCount (r .settings a)) (λ j y past _. spare-right proper j y past) (x .links .all) (l .all)
             (sym (lends .own-links)) (right .links);
-        walk = λ opened. moved (placeOf (x .walk)) (right .walk opened);
+        walk = λ opened. subst (λ (o : List ℕ). RightAt r a (x .walk) o l (placeOf (x .walk))) (sym (same-packet x nets c l copy run lends opened)) (moved (placeOf (x .walk)) (right .walk opened));
         table = λ holds. subst (All (RightEntry r a)) (sym (lends .own-entries holds)) (right .table);
       }
     where

@@ -9,7 +9,7 @@ use lib.Dec.{eqb}
 use lib.ListN.{length, getD}
 use Rattle.quantity.specs.declared.Millis.{Millis}
 use Rattle.quantity.specs.declared.Seconds.{Seconds}
-use Rattle.quantity.specs.Quantity.{fallSeconds}
+use Rattle.quantity.specs.Quantity.{millis, fallSeconds}
 use Rattle.answer.specs.declared.Answer.the-variants.{Done}
 use Rattle.quantity.specs.declared.Count.{Count}
 use Rattle.clock.specs.declared.Clock.{Clock}
@@ -27,7 +27,7 @@ use Rattle.class_table.specs.declared.ClassTable.{ClassTable}
 use Rattle.host.specs.declared.Links.{Links}
 use Rattle.host.specs.declared.walk.Walk.{Walk}
 use Rattle.host.specs.declared.guard.Scope.the-variants.{Places, All}
-use Rattle.host.specs.Settings.{ownId, foundMarked, settingsGood}
+use Rattle.host.specs.Settings.{ownId, foundMarked, settingsGood, foundFor}
 use Rattle.host.specs.State.{freshLink, freshLinks, hostCount}
 use Rattle.host.specs.Lent.{Lent, entriesOf, marksAsSet}
 use Rattle.host.specs.Effect.{each}
@@ -35,9 +35,12 @@ use Rattle.host.specs.Guard.{done}
 use Rattle.host.proofs.Places.{entries-length}
 use Rattle.host.proofs.Sound.{sound}
 use Rattle.host.proofs.Guarded.{passed, marks-lent}
-use Rattle.calls.specs.declared.Request.the-variants.{Initialize, Tick, Second, SelfReport}
+use Rattle.calls.specs.declared.Request.the-variants.{Initialize, Tick, Adjust, Set, Read, Lookup, Second, SelfReport}
 use Rattle.calls.specs.Effects.{initialize, tick, second, selfReport}
-use Rattle.calls.specs.Perform.{ask, Outcome, perform}
+use Rattle.calls.specs.Effects as effects
+use Rattle.wire.specs.declared.Address.{Address}
+use lib.IntN.{ℤ}
+use Rattle.calls.specs.Perform.{ask, Outcome, entryAt, perform}
 use Rattle.network.specs.Room.{Room, lentAt, afresh, HostAt, Proper}
 use Rattle.network.specs.Demand3.{readingAt}
 use Rattle.network.proofs.Lists.{all-any, all-made, all-counted, all-there, each-all}
@@ -107,6 +110,30 @@ module _ (r : Room) (a : ℕ) where
     tick-right n =
         performs (ask (Tick n)) x (RightOutcome r a run) (λ _. same-right r a l run lent)
         (λ e. carried-right r a nets c l walk copy run lent (there (ask (Tick n)) x e) (tick n (x .host) (x .walk)) (lent .links) (λ id y low high is right. absurd (omega arith)))
+
+    pub adjust-right : (n : Count) → RightOutcome r a run (perform (ask (Adjust n)) x)
+    unfolding effects.adjust
+    adjust-right n =
+        performs (ask (Adjust n)) x (RightOutcome r a run) (λ _. same-right r a l run lent)
+        (λ e. carried-right r a nets c l walk copy run lent (there (ask (Adjust n)) x e) (effects.adjust n (x .host) (x .walk)) (lent .links) (λ id y low high is right. absurd (omega arith)))
+
+    pub set-right : (ms : ℤ) (n : Count) → RightOutcome r a run (perform (ask (Set ms n)) x)
+    unfolding effects.setBy
+    set-right ms n =
+        performs (ask (Set ms n)) x (RightOutcome r a run) (λ _. same-right r a l run lent)
+        (λ e. carried-right r a nets c l walk copy run lent (there (ask (Set ms n)) x e) (effects.setBy (millis ms) n (x .host) (x .walk)) (lent .links) (λ id y low high is right. absurd (omega arith)))
+
+    pub clock-right : (k : Counter) → RightOutcome r a run (perform (ask (Read k)) x)
+    unfolding effects.read
+    clock-right k =
+        performs (ask (Read k)) x (RightOutcome r a run) (λ _. same-right r a l run lent)
+        (λ e. carried-right r a nets c l walk copy run lent (there (ask (Read k)) x e) (effects.read k (x .host) (x .walk)) (lent .links) (λ id y low high is right. absurd (omega arith)))
+
+    pub look-right : (d : Address) → RightOutcome r a run (perform (ask (Lookup d)) x)
+    unfolding effects.lookup
+    look-right d =
+        performs (ask (Lookup d)) x (RightOutcome r a run) (λ _. same-right r a l run lent)
+        (λ e. carried-right r a nets c l walk copy run lent (there (ask (Lookup d)) x e) (effects.lookup d (x .nets) (x .host) (x .walk) (entryAt (foundFor (x .nets) (x .host .settings) d) x)) (lent .links) (λ id y low high is right. absurd (omega arith)))
 
     pub second-right : RightOutcome r a run (perform (ask Second) x)
     unfolding second

@@ -92,7 +92,7 @@ module _ (r : Room) (proper : Proper r) where
                 own-clock = refl;
                 own-links = now .own-links;
                 own-walk = refl;
-                own-packet = refl;
+                own-packet = now .own-packet;
                 own-entries =
                     λ _.
                     entries-first (r .settings (x .seat)) (r .number (x .seat)) (w .run)

@@ -1,0 +1,150 @@
+-- Rounds: every seat speaks, then every seat listens. After k + 1 of them every table has exactly the hosts that are up to k cables away, each with a DELAY of 100 ms a cable.
+use mathlib.Core.Path.{_≡_}
+use mathlib.Core.Bool.{true, false}
+use mathlib.Core.List.{List, [], _∷_}
+use mathlib.Core.Logic.{_⊎_}
+use Prim.Native.Nat.{ℕ, suc, _+_, _*_, _≤_, _<_}
+use lib.IntN.{pos}
+use lib.ListN.{length}
+use lib.Signed.{_≤ℤ_}
+use Rattle.answer.specs.declared.Answer.the-variants.{Done}
+use Rattle.table.specs.Entry.{up}
+use Rattle.host.specs.Settings.{linkCount}
+use Rattle.network.specs.Room.{Room, at, HostAt, Proper}
+use Rattle.network.specs.Demand3.{RoomCall, ticks, seconds, reports, sends, arrives, acts, inspects, opens, steps, adjusts, sets, clocks, looks, Step, World, result, step, history, Allows, Starts, entryOf}
+use Rattle.alive.specs.Silence.{rise, emptied, secondsAt}
+use Rattle.alive.specs.Hops.{Hops}
+
+-- ---- the law's numbers
+
+-- a message is under way for at most so many ms: two ways make no more than 100
+abbrev pub quickWay : ℕ
+quickWay = 50
+
+-- seconds of a seat in a round: two rounds less two seconds fit into a TTL
+abbrev pub roundSeconds : ℕ
+roundSeconds = 59
+
+-- ---- a round
+
+-- no arrival; and no walk is opened
+abbrev pub Speaks : Room → World → (b : ℕ) → RoomCall → Type 0
+Speaks r w b (ticks n) = Unit {0}
+Speaks r w b seconds = Unit {0}
+Speaks r w b (reports k) = Unit {0}
+Speaks r w b (sends i k buffer t) = Unit {0}
+Speaks r w b (arrives i k packet t) = ⊥
+Speaks r w b (acts i k packet t) = ⊥
+Speaks r w b (inspects i packet) = Unit {0}
+Speaks r w b (opens i packet) = ⊥
+Speaks r w b (steps k t) = Unit {0}
+Speaks r w b (adjusts n) = Unit {0}
+Speaks r w b (sets ms n) = Unit {0}
+Speaks r w b (clocks κ) = Unit {0}
+Speaks r w b (looks d) = Unit {0}
+
+-- no send; and no walk is opened
+abbrev pub Listens : RoomCall → Type 0
+Listens (ticks n) = Unit {0}
+Listens seconds = Unit {0}
+Listens (reports k) = Unit {0}
+Listens (sends i k buffer t) = ⊥
+Listens (arrives i k packet t) = Unit {0}
+Listens (acts i k packet t) = Unit {0}
+Listens (inspects i packet) = Unit {0}
+Listens (opens i packet) = ⊥
+Listens (steps k t) = Unit {0}
+Listens (adjusts n) = Unit {0}
+Listens (sets ms n) = Unit {0}
+Listens (clocks κ) = Unit {0}
+Listens (looks d) = Unit {0}
+
+unfoldable pub Speaking : Room → World → List Step → Type 0
+Speaking r w [] = Unit {0}
+Speaking r w (x ∷ xs) = Speaks r w (x .seat) (x .call) × Speaking r (step r w x) xs
+
+unfoldable pub Listening : List Step → Type 0
+Listening [] = Unit {0}
+Listening (x ∷ xs) = Listens (x .call) × Listening xs
+
+-- a call answers 0, and is a self-report; and is an arrival on link j
+abbrev pub ReportsNow : Room → World → (b : ℕ) → Step → RoomCall → Type 0
+ReportsNow r w b x (ticks n) = ⊥
+ReportsNow r w b x seconds = ⊥
+ReportsNow r w b x (reports k) = (x .seat ≡ b) × (result r w x .reply .answer ≡ Done)
+ReportsNow r w b x (sends i k buffer t) = ⊥
+ReportsNow r w b x (arrives i k packet t) = ⊥
+ReportsNow r w b x (acts i k packet t) = ⊥
+ReportsNow r w b x (inspects i packet) = ⊥
+ReportsNow r w b x (opens i packet) = ⊥
+ReportsNow r w b x (steps k t) = ⊥
+ReportsNow r w b x (adjusts n) = ⊥
+ReportsNow r w b x (sets ms n) = ⊥
+ReportsNow r w b x (clocks κ) = ⊥
+ReportsNow r w b x (looks d) = ⊥
+
+abbrev pub HearsNow : Room → World → (b j : ℕ) → Step → RoomCall → Type 0
+HearsNow r w b j x (ticks n) = ⊥
+HearsNow r w b j x seconds = ⊥
+HearsNow r w b j x (reports k) = ⊥
+HearsNow r w b j x (sends i k buffer t) = ⊥
+HearsNow r w b j x (arrives i k packet t) = (x .seat ≡ b) × (i ≡ j) × (result r w x .reply .answer ≡ Done)
+HearsNow r w b j x (acts i k packet t) = (x .seat ≡ b) × (i ≡ j) × (result r w x .reply .answer ≡ Done)
+HearsNow r w b j x (inspects i packet) = ⊥
+HearsNow r w b j x (opens i packet) = ⊥
+HearsNow r w b j x (steps k t) = ⊥
+HearsNow r w b j x (adjusts n) = ⊥
+HearsNow r w b j x (sets ms n) = ⊥
+HearsNow r w b j x (clocks κ) = ⊥
+HearsNow r w b j x (looks d) = ⊥
+
+unfoldable pub Reported : Room → World → (b : ℕ) → List Step → Type 0
+Reported r w b [] = ⊥
+Reported r w b (x ∷ xs) = ReportsNow r w b x (x .call) ⊎ Reported r (step r w x) b xs
+
+unfoldable pub Heard : Room → World → (b j : ℕ) → List Step → Type 0
+Heard r w b j [] = ⊥
+Heard r w b j (x ∷ xs) = HearsNow r w b j x (x .call) ⊎ Heard r (step r w x) b j xs
+
+-- the seats speak, and then they listen
+abbrev pub spoken : Room → World → List Step → World
+spoken r w xs = history r (emptied w) xs
+
+pub record Round (r : Room) (w : World) (xs ys : List Step) : Type 0 where
+  pub allowed : Allows r (emptied w) xs
+  pub allowed-then : Allows r (spoken r w xs) ys
+  pub speak : Speaking r (emptied w) xs
+  pub listen : Listening ys
+  pub reported : (b : ℕ) → b < r .seats → Reported r (emptied w) b xs ⊎ Reported r (spoken r w xs) b ys
+  pub heard : (b j a i : ℕ) → r .cable b j ≡ at a i → Heard r (spoken r w xs) b j ys
+  pub short : (b : ℕ) → b < r .seats → secondsAt r (emptied w) b xs + secondsAt r (spoken r w xs) b ys ≤ roundSeconds
+
+pub data Rounds (r : Room) (w : World) : (count : ℕ) → World → Type 0 where
+  begin : Rounds r w 0 w
+  next : {k : ℕ} {v : World} → Rounds r w k v → (xs ys : List Step) → Round r v xs ys → Rounds r w (suc k) (history r (spoken r v xs) ys)
+
+-- ---- the claim
+
+-- a host h cables away is there after h + 1 rounds, with a DELAY of 100 ms a cable at most: so of the shortest way
+pub record Shown (r : Room) (v : World) (b i h : ℕ) : Type 0 where
+  pub is-up : up (entryOf r v b i) ≡ true
+  pub near : entryOf r v b i .delay .0 ≤ℤ pos (rise * h)
+
+-- an entry that is up is of a host so many cables away, and its DELAY is exactly 100 ms a cable; it is not there before its round
+pub record Exact (r : Room) (v : World) (k b i : ℕ) : Type 0 where
+  pub seat : ℕ
+  pub seat-in : seat < r .seats
+  pub host-there : HostAt r i seat
+  pub hops : ℕ
+  pub way : Hops r seat b hops
+  pub in-time : hops ≤ k
+  pub delay : entryOf r v b i .delay .0 ≡ pos (rise * hops)
+
+-- The settings have a slot for each link.
+unfoldable pub ComesAlive : Type 0
+ComesAlive =
+    (r : Room) → Proper r → r .longest ≤ quickWay → ((a : ℕ) → a < r .seats → linkCount (r .settings a) ≤ length (r .settings a .links))
+    → (w : World) → Starts r w → (k : ℕ) (v : World) → Rounds r w (suc k) v
+    → (b i : ℕ) → b < r .seats → i < r .settings b .layout .nhosts
+    → ((c h : ℕ) → c < r .seats → HostAt r i c → Hops r c b h → h ≤ k → h < 16 → Shown r v b i h)
+    × (up (entryOf r v b i) ≡ true → Exact r v k b i)
