@@ -101,6 +101,7 @@ class Straight(Shape):
     """a function of straight statements"""
 
     RESERVED = STRAIGHT_TYPES
+    LETS = ("usize",)
 
     def __init__(self, *heading):
         super().__init__(*heading)
@@ -150,7 +151,7 @@ class Straight(Shape):
         self.body.append(("len", let, name))
 
     def let(self, line, let, type_, parts, name, args):
-        self.name_type(line, type_, STRAIGHT_TYPES, ("usize",))
+        self.name_type(line, type_, STRAIGHT_TYPES, self.LETS)
         if parts is not None:
             ts = parts.split(", ")
             for t in ts:
@@ -276,6 +277,95 @@ class Straight(Shape):
             raise Wrong(last, "`%s` ends with what it hands back: `p.0` or `f(..)`" % self.name)
 
 
+class Branches(Straight):
+    """straight statements, and last a branch: an `if` on a value of type bool, or a `match` on an enum, whose arms are straight statements. It hands nothing back"""
+
+    LETS = ("usize", "bool")
+
+    def __init__(self, *heading):
+        Shape.__init__(self, *heading)
+        self.early = bool([t for _, t in self.lines if t.startswith("return ")])
+        if (self.result != "()") != self.early or self.requires:
+            raise Wrong(self.line, "a function that branches hands nothing back, or returns early; and asks by ` given`")
+        if self.result != "()":
+            self.name_type(self.line, self.result, STRAIGHT_TYPES, ("usize",))
+        self.params = [self.param(name, text) for name, text in self.heads]
+        self.by_name = {p.name: p for p in self.params}
+        self.types = {p.name: p.type for p in self.params if not p.ref}
+        self.body, self.parts, self.stored, self.choices = [], {}, set(), {}
+        at = next(i for i, (_, t) in enumerate(self.lines) if re.fullmatch(r"(if|match) \w+ \{", t))
+        for line, text in self.lines[:at]:
+            self.statement(line, text)
+        if not self.body or self.stored or [p for p in self.params if p.gone]:
+            raise Wrong(self.lines[at][0], "before a branch there are calls, and nothing is stored to or given away")
+        (self.leaves if self.early else self.tests if self.lines[at][1].startswith("if ") else self.matches)(self.lines[at:])
+
+    def tests(self, lines):
+        line, text = lines[0]
+        g = re.fullmatch(r"if (\w+) \{", text)
+        if not g or self.types.get(g.group(1)) != "bool":
+            raise Wrong(line, "a test is a value of type bool that a call hands back: `if x {`")
+        texts = [t for _, t in lines]
+        if texts.count("} else {") != 1 or texts[-1] != "}":
+            raise Wrong(line, "a branch has two arms, `if x {`, `} else {` and `}`, and is last")
+        cut = texts.index("} else {")
+        self.branch = ("if", g.group(1), [(None, None, self.arm(lines[1:cut])), (None, None, self.arm(lines[cut + 1 : -1]))])
+
+    def leaves(self, lines):
+        """`if x { return f(..); }`, and then the rest"""
+        line, text = lines[0]
+        g = re.fullmatch(r"if (\w+) \{", text)
+        if not g or self.types.get(g.group(1)) != "bool":
+            raise Wrong(line, "a test is a value of type bool that a call hands back: `if x {`")
+        h = re.fullmatch(r"return (\w+\(.*\));", lines[1][1])
+        if not h or lines[2][1] != "}" or len(lines) < 4:
+            raise Wrong(lines[1][0], "here stands `return f(..);` and `}`, and then the rest")
+        arm, rest = self.arm([(lines[1][0], h.group(1))]), self.arm(lines[3:])
+        last = rest[0][-1]
+        if last[0] != "return" and not (last[0] == "call" and last[1].let == "result"):
+            raise Wrong(lines[-1][0], "`%s` ends with what it hands back: `p.0` or `f(..)`" % self.name)
+        self.branch = ("if", g.group(1), [(None, None, arm), (None, None, rest)])
+
+    def matches(self, lines):
+        line, text = lines[0]
+        g = re.fullmatch(r"match (\w+) \{", text)
+        if not g or not [b for b in self.body if b[0] == "call" and b[1].let == g.group(1)] or self.body[-1][1].let != g.group(1):
+            raise Wrong(line, "a `match` is on what the call before it hands back")
+        if lines[-1][1] != "}":
+            raise Wrong(lines[-1][0], "a `match` is last")
+        arms, t, rest = [], self.types[g.group(1)], lines[1:-1]
+        while rest:
+            at, words = rest.pop(0)
+            h = re.fullmatch(r"(?:(\w+): (\w+)|_) => (?:(\w+\(.*\)),|\{\},|(\{))", words)
+            if not h:
+                raise Wrong(at, "not an arm: `x: T => f(..),`, `x: T => {`, .., `}` or `_ => {},`")
+            name, type_, call, block = h.groups()
+            if name:
+                self.name_value(at, name)
+                self.name_type(at, type_, STRAIGHT_TYPES, ("usize",))
+                self.types[name] = type_
+            body = [(at, call + ";")] if call else []
+            if block:
+                if "}" not in [w for _, w in rest]:
+                    raise Wrong(at, "the arm is not ended by `}`")
+                n = [w for _, w in rest].index("}")
+                body, rest = rest[:n], rest[n + 1 :]
+            arms.append((name, type_, self.arm(body)))
+        self.choices[t] = [type_ for _, type_, _ in arms]
+        self.branch = ("match", g.group(1), arms)
+
+    def arm(self, lines):
+        """the statements of an arm, and how it leaves each `&mut`"""
+        head, self.body, stored, self.stored = self.body, [], self.stored, set()
+        for line, text in lines:
+            self.statement(line, text)
+        ends = {p.name: "stored" if p.name in self.stored else "given" if p.gone else "left" for p in self.params if p.mut}
+        arm, self.body, self.stored = self.body, head, stored
+        for p in self.params:
+            p.gone = False
+        return arm, ends
+
+
 class Repeats(Straight):
     """a loop whose turn is a call: what is lent is lent again for each turn"""
 
@@ -376,7 +466,7 @@ def read(text):
     for line, t in enumerate(text.split("\n"), 1):
         t = t.rstrip()
         if head and t == "}":
-            kind = Whole if head[1].startswith("fn Whole") else Repeats if lines and lines[0][1].startswith("for ") else Straight
+            kind = Whole if head[1].startswith("fn Whole") else Repeats if lines and lines[0][1].startswith("for ") else Branches if [t for _, t in lines if re.fullmatch(r"(if|match) \w+ \{", t)] else Straight
             shape = kind(crate, head[0], head[1], lines)
             if shape.name in line_of:
                 raise Wrong(head[0], "the name `%s` is taken: it %s" % (shape.name, "stands on line %d" % line_of[shape.name] if line_of[shape.name] else "is a loop's"))

@@ -101,8 +101,12 @@ class Straight(Law):
         head = ["(%s : Word)" % " ".join(self.words)] if self.words else []
         head += ["(%s : Data)" % " ".join(self.data)] if self.data else []
         head += ["(%s : Part)" % " ".join(self.fields)] if self.fields else []
-        head += ["(%s : Outcome (%s))" % (t, items(self.part(u) for u in q)) for t, q in self.parts.items()]
+        head += ["(%s : Outcome (%s))" % (t, items(self.part(u) for u in q)) for t, q in self.parts.items()] + self.enums()
         self.emit("module _ %s where" % " ".join(head))
+
+    def enums(self):
+        """the enums that are matched on"""
+        return []
 
     def way(self, p, mut):
         """how a parameter is taken"""
@@ -140,13 +144,22 @@ class Straight(Law):
     def mir(self):
         """the MIR: behind the result and the parameters the lets, then what the lowering adds"""
         self.at = {p.name: i + 1 for i, p in enumerate(self.params)}
-        self.local, statements = [], []
-        for b in self.body:
-            let = b[1].let if b[0] == "call" else b[1] if b[0] in ("copy", "len") else None
-            if let and let != "result":
-                self.at[let] = self.new(self.word(self.types[let]) + " .ty")
+        self.local = []
+        for let in self.lets():
+            self.at[let] = self.new(self.word(self.types[let]) + " .ty")
         self.at["result"] = 0
-        for b in self.body:
+        statements = self.statements(self.body)
+        self.gs = " ".join("g" + c.n for c in self.calls)
+        self.emit("  abbrev code : %s → Fn\n  code %s = thin form₀ (%s)\n%s\n" % (arrows("Name" for _ in self.calls), self.gs, items(self.local), wrapped(["("] + [s + " ∷" for s in statements] + ["[])"], "      ")))
+
+    def lets(self):
+        lets = [b[1].let if b[0] == "call" else b[1] for b in self.body if b[0] in ("call", "copy", "len")]
+        return [let for let in lets if let and let != "result"]
+
+    def statements(self, body):
+        """the MIR of these"""
+        statements = []
+        for b in body:
             if b[0] == "copy":
                 statements.append("take %d %d %s" % (self.at[b[1]], self.at[b[2]], self.by_name[b[2]].type))
             if b[0] == "len":
@@ -157,8 +170,7 @@ class Straight(Law):
                 statements.append("store %d %s (%s)" % (self.at[b[1]], self.by_name[b[1]].type, self.operand(b[2])))
             if b[0] == "return":
                 statements.append("set 0 %s" % ("(%s)" % self.operand(b[1]) if b[1] else "opdUnit"))
-        self.gs = " ".join("g" + c.n for c in self.calls)
-        self.emit("  abbrev code : %s → Fn\n  code %s = thin form₀ (%s)\n%s\n" % (arrows("Name" for _ in self.calls), self.gs, items(self.local), wrapped(["("] + [s + " ∷" for s in statements] + ["[])"], "      ")))
+        return statements
 
     def mir_call(self, c):
         """a call, and what its arguments are made of"""
@@ -216,6 +228,8 @@ class Straight(Law):
             return "Each (takes form₀) (λ %s. %s%s%s%s)" % (names, given, "%s → " % binders.strip() if binders else "", facts, said)
 
         for b in self.body:
+            if b[0] == "case":
+                binders, facts = self.known_case(b[1], binders, facts)
             if b[0] == "copy":
                 self.env[b[1]] = Value(b[2], "(plain ! tt refl)", "is-" + b[1])
             if b[0] == "len":
@@ -243,7 +257,7 @@ class Straight(Law):
                         c.ends.append((a, v))
                         lists[a.name] = self.put_back(a, lists[a.name], v)
                 facts += " ".join(["gives" + c.n] + xs + ([c.let] if c.let else []) + [v for _, v in c.ends]) + " → "
-        last = {p.name: lists[p.name] for p in self.changed if p.end == "given"}
+        last = {p.name: lists[p.name] for p in self.changed if p.end != "stored"}
         last.update((b[1], self.value(b[2]).x) for b in self.body if b[0] == "store")
         self.oks.append("(then : %s)" % known("Says %s%s%s" % (names, "".join(" " + last[p.name] for p in self.changed), " " + self.answered().x if self.answers else "")))
         self.everything = " ".join("(%s .now)" % p.name if p.ref else p.name for p in self.params) + (" asked" if self.given else "")

@@ -7,12 +7,13 @@ All are made before one is written, so that a wrong line leaves everything as it
 import os
 import sys
 import shapes
+from branches import Branches
 from loops import Loop
 from repeats import Repeats
 from straight import Straight
 from wholes import Whole
 
-LAWS = {shapes.Straight: Straight, shapes.Repeats: Repeats, shapes.Whole: Whole}
+LAWS = {shapes.Straight: Straight, shapes.Branches: Branches, shapes.Repeats: Repeats, shapes.Whole: Whole}
 
 
 def laws(path):

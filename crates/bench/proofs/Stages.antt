@@ -1,8 +1,12 @@
--- The four stages of an event, a note, an arrival, a send and a call: only the one that is told does anything, and what it does is what the event does.
-use mathlib.Core.Path.{_≡_, refl, sym, _∙_, subst}
+-- What an event asks, a call, a send, an arrival or a note, may be asked; and what it leaves is what the event does.
+use mathlib.Core.Path.{_≡_, refl, sym, ap, _∙_, subst, subst⁻¹}
+use mathlib.Core.Bool.{true, false}
 use mathlib.Core.List.{List}
-use Prim.Native.Nat.{ℕ, _<_}
+use Prim.Native.Nat.{ℕ, _*_, _≤_, _<_}
 use native.Mathlib.Omega.{arith}
+use lib.Dec.{T, eqb}
+use lib.ListN.{length, set}
+use Rattle.answer.specs.Answer.{number as answered}
 use Rattle.answer.specs.declared.Answer.the-variants.{IpForm}
 use Rattle.clock.specs.declared.Counter.{Counter}
 use Rattle.class_table.specs.declared.ClassTable.{ClassTable}
@@ -19,41 +23,71 @@ use Rattle.bench.specs.declared.HostState.{HostState}
 use Rattle.bench.specs.declared.requests.Ask.{Ask}
 use Rattle.bench.specs.declared.sends.Sending.{Sending}
 use Rattle.bench.specs.declared.takes.Taking.{Taking}
-use Rattle.bench.specs.declared.told.Note.{Note}
+use Rattle.bench.specs.declared.told.Asking.{Asking}
+use Rattle.bench.specs.declared.told.Going.{Going}
+use Rattle.bench.specs.declared.told.Coming.{Coming}
 use Rattle.bench.specs.declared.told.Told.{Told}
+use Rattle.bench.specs.declared.told.Told.the-variants as told
 use Rattle.bench.specs.Bench.{Bench, freshHost, lentAt}
-use Rattle.bench.specs.Slots.{roomOf, farEnd}
+use Rattle.bench.specs.Slots.{slotLength, roomOf, farEnd, empty, slotsGood}
+use Rattle.bench_file.specs.Absent.{slots, cablesGood}
+use Rattle.bench_file.specs.code.Sections.{Sections}
 use Rattle.bench.specs.Event.{After, asked, sent, taken, kept, carried}
 use Rattle.bench.specs.Guard.{lengthsOf}
 use Rattle.bench.specs.Run.{next}
-use Rattle.bench.specs.code.Asks.{AskFits, AskDone, AsksFit, AsksLeave}
-use Rattle.bench.specs.code.Sends.{SendFits, SendDone, SendsFit, SendsLeave}
-use Rattle.bench.specs.code.Takes.{TakeFits, TakeDone, TakesFit, TakesLeave}
-use Rattle.bench.specs.code.Told.{EventFits, None, OnlyAsk, OnlySend, OnlyTake, OnlyNote, askOf, sendOf, takeOf, noteOf, Tells, NoteFits, NoteLeaves}
+use Rattle.bench.specs.code.Asks.{AskFits, AskDone, AskLeaves}
+use Rattle.bench.specs.code.Sends.{SendFits, SendDone, SendLeaves}
+use Rattle.bench.specs.code.Takes.{TakeFits, TakeDone, TakeLeaves}
+use Rattle.bench.specs.code.Told.{EventFits, OnlyAsk, OnlySend, OnlyTake, OnlyNote, askOf, sendOf, takeOf, Tells}
 use Rattle.bench.specs.code.Turns.{Fits, Left}
 use Rattle.bench.proofs.Guards.{Long, long-of}
 use Rattle.bench.proofs.Named.{cables-good, event-good}
 use Rattle.bench.proofs.Which.{Sendable, Takable, which}
 
--- ---- none asks nothing
+-- ---- which it is
 
-none-is : (first end : ℕ) → None first end → first ≡ end
-none-is first end z = z .0 ∙ sym (z .1)
+abbrev number : Told → ℕ
+number (told.Ask w) = 0
+number (told.Send w) = 1
+number (told.Take w) = 2
+number (told.Note n) = 3
 
-no-note : (w : Note) (answers : List ℕ) → None (w .first) (w .end) → NoteFits w answers
-no-note w answers z = record { first = omega (arith, z .0, z .1); fits = λ l. absurd (omega (arith, z .0, z .1, l)) }
+-- two that differ
+abbrev Same : Told → Told → Type 0
+Same p q = T (eqb (number p) (number q))
 
-no-take : (w : Taking) (hosts : List HostState) (copies slots answers : List ℕ) → None (w .first) (w .end) → TakesFit w hosts copies slots answers
-no-take w hosts copies slots answers z =
-    record { first = omega (arith, z .0, z .1); one = omega (arith, z .0, z .1); fits = λ l. absurd (omega (arith, z .0, z .1, l)) }
+same : (p : Told) → Same p p
+same (told.Ask w) = tt
+same (told.Send w) = tt
+same (told.Take w) = tt
+same (told.Note n) = tt
 
-no-send : (w : Sending) (hosts : List HostState) (copies slots answers : List ℕ) → None (w .first) (w .end) → SendsFit w hosts copies slots answers
-no-send w hosts copies slots answers z =
-    record { first = omega (arith, z .0, z .1); one = omega (arith, z .0, z .1); fits = λ l. absurd (omega (arith, z .0, z .1, l)) }
+apart : {p q : Told} → p ≡ q → Same p q
+apart {p} {q} e = subst (Same p) e (same p)
 
-no-ask : (w : Ask) (hosts : List HostState) (copies answers : List ℕ) → None (w .first) (w .end) → AsksFit w hosts copies answers
-no-ask w hosts copies answers z =
-    record { first = omega (arith, z .0, z .1); one = omega (arith, z .0, z .1); fits = λ l. absurd (omega (arith, z .0, z .1, l)) }
+abbrev ask-in : Asking → Told → Asking
+ask-in d (told.Ask w) = w
+ask-in d (told.Send w) = d
+ask-in d (told.Take w) = d
+ask-in d (told.Note n) = d
+
+abbrev send-in : Going → Told → Going
+send-in d (told.Ask w) = d
+send-in d (told.Send w) = w
+send-in d (told.Take w) = d
+send-in d (told.Note n) = d
+
+abbrev take-in : Coming → Told → Coming
+take-in d (told.Ask w) = d
+take-in d (told.Send w) = d
+take-in d (told.Take w) = w
+take-in d (told.Note n) = d
+
+abbrev note-in : ℕ → Told → ℕ
+note-in d (told.Ask w) = d
+note-in d (told.Send w) = d
+note-in d (told.Take w) = d
+note-in d (told.Note n) = n
 
 -- a send leaves the entries
 send-run : (i : ℕ) (k : Counter) (buffer : List ℕ) (x : Lent) → perform (send i k buffer) x .run ≡ x .run
@@ -112,117 +146,117 @@ module _ (file : List ℕ) (t : ClassTable) (h : Header) (b : Bench) (f : Fits f
         event = omega (arith, more, long .answers);
       }
 
-  module _ (p : Told) (told : Tells file (b .slots) h (b .done) (eventAt file h (b .done)) p) where
-    -- by which of the four it is
-    by-which : (P : After → Type 0)
-        → ((k : ℕ) (q : Request) → k < h .hosts → OnlyAsk (askOf file (b .done) k q) p → P (asked file t h k q b))
-        → ((c s n : ℕ) (k : Counter) → Sendable file h c s n → OnlySend (sendOf file h (b .done) c s n k) p → P (sent file t h (endAt file h c s) c s n k b))
-        → ((n : ℕ) (k : Counter) → Takable file h (b .slots) n → OnlyTake (takeOf file (b .slots) h (b .done) n k) p → P (taken file t h (farEnd file h n (b .slots)) n k b))
-        → (OnlyNote (noteOf (b .done)) p → P record { bench = b; answer = IpForm })
-        → P (carried file t h (eventAt file h (b .done)) b)
-    by-which P asks sends takes notes =
-        which file t h (event-fits .cables) b (f .slots) (b .done) p P asks sends takes notes (eventAt file h (b .done)) (event-fits .good) told
+  -- by which of the four it is
+  by-which : (p : Told) → Tells (b .slots) (b .done) (eventAt file h (b .done)) p → (P : After → Type 0)
+      → ((k : ℕ) (q : Request) → k < h .hosts → OnlyAsk (b .done) k q p → P (asked file t h k q b))
+      → ((c s n : ℕ) (k : Counter) → Sendable file h c s n → OnlySend (b .done) c s n k p → P (sent file t h (endAt file h c s) c s n k b))
+      → ((n : ℕ) (k : Counter) → empty n (b .slots) ≡ false → Takable file h (b .slots) n → OnlyTake (b .done) n k p → P (taken file t h (farEnd file h n (b .slots)) n k b))
+      → (OnlyNote (b .done) p → P record { bench = b; answer = IpForm })
+      → P (carried file t h (eventAt file h (b .done)) b)
+  by-which p o P asks sends takes notes =
+      which file t h (event-fits .cables) b (f .slots) (b .done) p P asks sends takes notes (eventAt file h (b .done)) (event-fits .good) o
 
-    pub note-fits : NoteFits (p .note) (b .answers)
-    note-fits =
-        by-which (λ _. NoteFits (p .note) (b .answers))
-        (λ k q l o. no-note (p .note) (b .answers) (o .note))
-        (λ c s n k l o. no-note (p .note) (b .answers) (o .note))
-        (λ n k l o. no-note (p .note) (b .answers) (o .note))
-        (λ o. rw (o .note) record { first = omega arith; fits = λ _. omega (arith, more, long .answers) })
+  -- what is left, of the header that the file has
+  left-of : {hosts′ : List HostState} {run′ : List Entry} {slots′ answers′ : List ℕ} → Left (kept (carried file t h (eventAt file h (b .done)) b)) hosts′ run′ slots′ answers′ → Left (next file t b) hosts′ run′ slots′ answers′
+  unfolding next
+  left-of {hosts′} {run′} {slots′} {answers′} l = subst (λ (g : Header). Left (kept (carried file t g (eventAt file g (b .done)) b)) hosts′ run′ slots′ answers′) (f .header) l
 
-    module _ (answers₁ : List ℕ) (noted : NoteLeaves (p .note) (b .answers) answers₁) where
-      pub takes-fit : TakesFit (p .take) (b .hosts) (b .copies) (b .slots) answers₁
-      takes-fit =
-          by-which (λ _. TakesFit (p .take) (b .hosts) (b .copies) (b .slots) answers₁)
-          (λ k q l o. no-take (p .take) _ _ _ _ (o .take))
-          (λ c s n k l o. no-take (p .take) _ _ _ _ (o .take))
-          (λ n k l o.
-          let same : answers₁ ≡ b .answers = noted .none (none-is _ _ (o .note)) in
-          rw (o .take, same) record { first = omega arith; one = omega arith; fits = λ _. takes-there n k l })
-          (λ o. no-take (p .take) _ _ _ _ (o .take))
+  abbrev ask-made : Asking → Ask
+  ask-made x = askOf file (x .event) (x .host) (x .request)
 
-      module _ (hosts₁ : List HostState) (run₁ : List Entry) (answers₂ : List ℕ) (took : TakesLeave (p .take) t (b .hosts) (b .copies) (b .run) (b .slots) answers₁ hosts₁ run₁ answers₂) where
-        pub sends-fit : SendsFit (p .send) hosts₁ (b .copies) (b .slots) answers₂
-        sends-fit =
-            by-which (λ _. SendsFit (p .send) hosts₁ (b .copies) (b .slots) answers₂)
-            (λ k q l o. no-send (p .send) _ _ _ _ (o .send))
-            (λ c s n k l o.
-            let x = took .none (none-is _ _ (o .take)) in
-            let same : answers₂ ≡ b .answers = x .2 ∙ noted .none (none-is _ _ (o .note)) in
-            rw (o .send, x .0, same) record { first = omega arith; one = omega arith; fits = λ _. sends-there c s n k l })
-            (λ n k l o. no-send (p .send) _ _ _ _ (o .send))
-            (λ o. no-send (p .send) _ _ _ _ (o .send))
+  abbrev send-made : Going → Sending
+  send-made x = sendOf file h (x .event) (x .cable) (x .side) (x .slot) (x .counter)
 
-        module _ (hosts₂ : List HostState) (slots₁ answers₃ : List ℕ) (went : SendsLeave (p .send) t hosts₁ (b .copies) run₁ (b .slots) answers₂ hosts₂ slots₁ answers₃) where
-          pub asks-fit : AsksFit (p .ask) hosts₂ (b .copies) answers₃
-          asks-fit =
-              by-which (λ _. AsksFit (p .ask) hosts₂ (b .copies) answers₃)
-              (λ k q l o.
-              let x = took .none (none-is _ _ (o .take)) in
-              let y = went .none (none-is _ _ (o .send)) in
-              let same : answers₃ ≡ b .answers = y .2 ∙ x .2 ∙ noted .none (none-is _ _ (o .note)) in
-              let hosts-same : hosts₂ ≡ b .hosts = y .0 ∙ x .0 in
-              rw (o .ask, hosts-same, same) record { first = omega arith; one = omega arith; fits = λ _. asks-there k q l })
-              (λ c s n k l o. no-ask (p .ask) _ _ _ (o .ask))
-              (λ n k l o. no-ask (p .ask) _ _ _ (o .ask))
-              (λ o. no-ask (p .ask) _ _ _ (o .ask))
+  abbrev take-made : Coming → Taking
+  take-made x = takeOf file (b .slots) h (x .event) (x .slot) (x .counter)
 
-          -- ---- what is left
+  module _ (x : Asking) (o : Tells (b .slots) (b .done) (eventAt file h (b .done)) (told.Ask x)) where
+    pub ask-named : Sections h (length file) × (x .host < h .hosts)
+    ask-named =
+        by-which (told.Ask x) o (λ _. Sections h (length file) × (x .host < h .hosts))
+        (λ k q l e. (f .sections, subst⁻¹ (λ (y : Asking). y .host < h .hosts) (ap (ask-in x) e) l))
+        (λ c s n k l e. absurd (apart e))
+        (λ n k em l e. absurd (apart e))
+        (λ e. absurd (apart e))
 
-          module _ (hosts₃ : List HostState) (run₂ : List Entry) (answers₄ : List ℕ) (did : AsksLeave (p .ask) t hosts₂ (b .copies) run₁ answers₃ hosts₃ run₂ answers₄) where
-            left-ask : (k : ℕ) (q : Request) → OnlyAsk (askOf file (b .done) k q) p → Left (kept (asked file t h k q b)) hosts₃ run₂ slots₁ answers₄
-            left-ask k q o =
-                let x = took .none (none-is _ _ (o .take)) in
-                let y = went .none (none-is _ _ (o .send)) in
-                let same : answers₃ ≡ b .answers = y .2 ∙ x .2 ∙ noted .none (none-is _ _ (o .note)) in
-                let hosts-same : hosts₂ ≡ b .hosts = y .0 ∙ x .0 in
-                let run-same : run₁ ≡ b .run = x .1 in
-                let one : p .ask .first < p .ask .end = rw (o .ask) (omega arith) in
-                let d : AskDone (askOf file (b .done) k q) t (b .hosts) (b .copies) (b .run) (b .answers) hosts₃ run₂ answers₄ (freshHost file k) =
-                coe 0 1 (j. AskDone (o .ask j) t (hosts-same j) (b .copies) (run-same j) (same j) hosts₃ run₂ answers₄ (freshHost file k)) (did .one one (freshHost file k)) in
-                record { hosts = d .states; run = d .entries; slots = y .1; answers = d .kept }
+    module _ (w : Ask) (w-is : w ≡ ask-made x) where
+      pub ask-fits : AskFits w (b .hosts) (b .copies) (b .answers)
+      ask-fits =
+          by-which (told.Ask x) o (λ _. AskFits w (b .hosts) (b .copies) (b .answers))
+          (λ k q l e. subst⁻¹ (λ (z : Ask). AskFits z (b .hosts) (b .copies) (b .answers)) (w-is ∙ ap ask-made (ap (ask-in x) e)) (asks-there k q l))
+          (λ c s n k l e. absurd (apart e))
+          (λ n k em l e. absurd (apart e))
+          (λ e. absurd (apart e))
 
-            left-send : (c s n : ℕ) (k : Counter) → OnlySend (sendOf file h (b .done) c s n k) p → Left (kept (sent file t h (endAt file h c s) c s n k b)) hosts₃ run₂ slots₁ answers₄
-            left-send c s n k o =
-                let e : ℕ = endAt file h c s .host in
-                let x = took .none (none-is _ _ (o .take)) in
-                let z = did .none (none-is _ _ (o .ask)) in
-                let same : answers₂ ≡ b .answers = x .2 ∙ noted .none (none-is _ _ (o .note)) in
-                let hosts-same : hosts₁ ≡ b .hosts = x .0 in
-                let run-same : run₁ ≡ b .run = x .1 in
-                let one : p .send .first < p .send .end = rw (o .send) (omega arith) in
-                let d : SendDone (sendOf file h (b .done) c s n k) t (b .hosts) (b .copies) (b .run) (b .slots) (b .answers) hosts₂ slots₁ answers₃ (freshHost file e) =
-                coe 0 1 (j. SendDone (o .send j) t (hosts-same j) (b .copies) (run-same j) (b .slots) (same j) hosts₂ slots₁ answers₃ (freshHost file e)) (went .one one (freshHost file e)) in
-                record {
-                  hosts = z .0 ∙ d .states;
-                  run = z .1 ∙ run-same ∙ sym (send-run (endAt file h c s .link) k (roomOf n (b .slots)) (lentAt file t e b));
-                  slots = d .slots;
-                  answers = z .2 ∙ d .kept;
-                }
+      pub ask-left : (hosts′ : List HostState) (run′ : List Entry) (answers′ : List ℕ) → AskLeaves w t (b .hosts) (b .copies) (b .run) (b .answers) hosts′ run′ answers′ → Left (next file t b) hosts′ run′ (b .slots) answers′
+      ask-left hosts′ run′ answers′ did =
+          left-of (by-which (told.Ask x) o (λ (a : After). Left (kept a) hosts′ run′ (b .slots) answers′)
+          (λ k q l e. let d = subst (λ (z : Ask). AskDone z t (b .hosts) (b .copies) (b .run) (b .answers) hosts′ run′ answers′ (freshHost file k)) (w-is ∙ ap ask-made (ap (ask-in x) e)) (did (freshHost file k)) in record { hosts = d .states; run = d .entries; slots = refl; answers = d .kept })
+          (λ c s n k l e. absurd (apart e))
+          (λ n k em l e. absurd (apart e))
+          (λ e. absurd (apart e)))
 
-            left-take : (n : ℕ) (k : Counter) → OnlyTake (takeOf file (b .slots) h (b .done) n k) p → Left (kept (taken file t h (farEnd file h n (b .slots)) n k b)) hosts₃ run₂ slots₁ answers₄
-            left-take n k o =
-                let e : ℕ = farEnd file h n (b .slots) .host in
-                let y = went .none (none-is _ _ (o .send)) in
-                let z = did .none (none-is _ _ (o .ask)) in
-                let same : answers₁ ≡ b .answers = noted .none (none-is _ _ (o .note)) in
-                let one : p .take .first < p .take .end = rw (o .take) (omega arith) in
-                let d : TakeDone (takeOf file (b .slots) h (b .done) n k) t (b .hosts) (b .copies) (b .run) (b .slots) (b .answers) hosts₁ run₁ answers₂ (freshHost file e) =
-                coe 0 1 (j. TakeDone (o .take j) t (b .hosts) (b .copies) (b .run) (b .slots) (same j) hosts₁ run₁ answers₂ (freshHost file e)) (took .one one (freshHost file e)) in
-                record { hosts = z .0 ∙ y .0 ∙ d .states; run = z .1 ∙ d .entries; slots = y .1; answers = z .2 ∙ y .2 ∙ d .kept }
+  module _ (x : Going) (o : Tells (b .slots) (b .done) (eventAt file h (b .done)) (told.Send x)) where
+    pub send-named : Sections h (length file) × (x .cable < h .cables) × (x .side ≤ 1) × (endAt file h (x .cable) (x .side) .host < h .hosts)
+    send-named =
+        by-which (told.Send x) o (λ _. Sections h (length file) × (x .cable < h .cables) × (x .side ≤ 1) × (endAt file h (x .cable) (x .side) .host < h .hosts))
+        (λ k q l e. absurd (apart e))
+        (λ c s n k l e. subst⁻¹ (λ (y : Going). Sections h (length file) × (y .cable < h .cables) × (y .side ≤ 1) × (endAt file h (y .cable) (y .side) .host < h .hosts)) (ap (send-in x) e) (f .sections, l .cable, l .side, l .host))
+        (λ n k em l e. absurd (apart e))
+        (λ e. absurd (apart e))
 
-            left-note : OnlyNote (noteOf (b .done)) p → Left (kept record { bench = b; answer = IpForm }) hosts₃ run₂ slots₁ answers₄
-            left-note o =
-                let x = took .none (none-is _ _ (o .take)) in
-                let y = went .none (none-is _ _ (o .send)) in
-                let z = did .none (none-is _ _ (o .ask)) in
-                let one : p .note .first < p .note .end = rw (o .note) (omega arith) in
-                let d = noted .one one in
-                record { hosts = z .0 ∙ y .0 ∙ x .0; run = z .1 ∙ x .1; slots = y .1; answers = z .2 ∙ y .2 ∙ x .2 ∙ (rw (o .note) at d) }
+    module _ (w : Sending) (w-is : w ≡ send-made x) where
+      pub send-fits : SendFits w (b .hosts) (b .copies) (b .slots) (b .answers)
+      send-fits =
+          by-which (told.Send x) o (λ _. SendFits w (b .hosts) (b .copies) (b .slots) (b .answers))
+          (λ k q l e. absurd (apart e))
+          (λ c s n k l e. subst⁻¹ (λ (z : Sending). SendFits z (b .hosts) (b .copies) (b .slots) (b .answers)) (w-is ∙ ap send-made (ap (send-in x) e)) (sends-there c s n k l))
+          (λ n k em l e. absurd (apart e))
+          (λ e. absurd (apart e))
 
-            pub left : Left (next file t b) hosts₃ run₂ slots₁ answers₄
-            unfolding next
-            left =
-                subst (λ (g : Header). Left (kept (carried file t g (eventAt file g (b .done)) b)) hosts₃ run₂ slots₁ answers₄) (f .header)
-                (by-which (λ (a : After). Left (kept a) hosts₃ run₂ slots₁ answers₄) (λ k q l o. left-ask k q o) (λ c s n k l o. left-send c s n k o) (λ n k l o. left-take n k o) left-note)
+      pub send-left : (hosts′ : List HostState) (slots′ answers′ : List ℕ) → SendLeaves w t (b .hosts) (b .copies) (b .run) (b .slots) (b .answers) hosts′ slots′ answers′ → Left (next file t b) hosts′ (b .run) slots′ answers′
+      send-left hosts′ slots′ answers′ did =
+          left-of (by-which (told.Send x) o (λ (a : After). Left (kept a) hosts′ (b .run) slots′ answers′)
+          (λ k q l e. absurd (apart e))
+          (λ c s n k l e. let d = subst (λ (z : Sending). SendDone z t (b .hosts) (b .copies) (b .run) (b .slots) (b .answers) hosts′ slots′ answers′ (freshHost file (endAt file h c s .host))) (w-is ∙ ap send-made (ap (send-in x) e)) (did (freshHost file (endAt file h c s .host))) in record { hosts = d .states; run = sym (send-run (endAt file h c s .link) k (roomOf n (b .slots)) (lentAt file t (endAt file h c s .host) b)); slots = d .slots; answers = d .kept })
+          (λ n k em l e. absurd (apart e))
+          (λ e. absurd (apart e)))
+
+  module _ (x : Coming) (o : Tells (b .slots) (b .done) (eventAt file h (b .done)) (told.Take x)) where
+    pub take-named : Sections h (length file) × (cablesGood file h ≡ true) × (slotLength * slots ≤ length (b .slots)) × (slotsGood h (b .slots) ≡ true) × (x .slot < slots) × (empty (x .slot) (b .slots) ≡ false)
+    take-named =
+        by-which (told.Take x) o (λ _. Sections h (length file) × (cablesGood file h ≡ true) × (slotLength * slots ≤ length (b .slots)) × (slotsGood h (b .slots) ≡ true) × (x .slot < slots) × (empty (x .slot) (b .slots) ≡ false))
+        (λ k q l e. absurd (apart e))
+        (λ c s n k l e. absurd (apart e))
+        (λ n k em l e. subst⁻¹ (λ (y : Coming). Sections h (length file) × (cablesGood file h ≡ true) × (slotLength * slots ≤ length (b .slots)) × (slotsGood h (b .slots) ≡ true) × (y .slot < slots) × (empty (y .slot) (b .slots) ≡ false)) (ap (take-in x) e) (f .sections, event-fits .cables, long .slots, f .slots, l .slot, em))
+        (λ e. absurd (apart e))
+
+    module _ (w : Taking) (w-is : w ≡ take-made x) where
+      pub take-fits : TakeFits w (b .hosts) (b .copies) (b .slots) (b .answers)
+      take-fits =
+          by-which (told.Take x) o (λ _. TakeFits w (b .hosts) (b .copies) (b .slots) (b .answers))
+          (λ k q l e. absurd (apart e))
+          (λ c s n k l e. absurd (apart e))
+          (λ n k em l e. subst⁻¹ (λ (z : Taking). TakeFits z (b .hosts) (b .copies) (b .slots) (b .answers)) (w-is ∙ ap take-made (ap (take-in x) e)) (takes-there n k l))
+          (λ e. absurd (apart e))
+
+      pub take-left : (hosts′ : List HostState) (run′ : List Entry) (answers′ : List ℕ) → TakeLeaves w t (b .hosts) (b .copies) (b .run) (b .slots) (b .answers) hosts′ run′ answers′ → Left (next file t b) hosts′ run′ (b .slots) answers′
+      take-left hosts′ run′ answers′ did =
+          left-of (by-which (told.Take x) o (λ (a : After). Left (kept a) hosts′ run′ (b .slots) answers′)
+          (λ k q l e. absurd (apart e))
+          (λ c s n k l e. absurd (apart e))
+          (λ n k em l e. let d = subst (λ (z : Taking). TakeDone z t (b .hosts) (b .copies) (b .run) (b .slots) (b .answers) hosts′ run′ answers′ (freshHost file (farEnd file h n (b .slots) .host))) (w-is ∙ ap take-made (ap (take-in x) e)) (did (freshHost file (farEnd file h n (b .slots) .host))) in record { hosts = d .states; run = d .entries; slots = refl; answers = d .kept })
+          (λ e. absurd (apart e)))
+
+  module _ (n : ℕ) (o : Tells (b .slots) (b .done) (eventAt file h (b .done)) (told.Note n)) where
+    noted : n ≡ b .done
+    noted = by-which (told.Note n) o (λ _. n ≡ b .done) (λ k q l e. absurd (apart e)) (λ c s m k l e. absurd (apart e)) (λ m k em l e. absurd (apart e)) (λ e. ap (note-in n) e)
+
+    pub note-fits : n < length (b .answers)
+    note-fits = omega (arith, noted, more, long .answers)
+
+    pub note-left : (answers′ : List ℕ) → answers′ ≡ set (b .answers) n (answered IpForm) → Left (next file t b) (b .hosts) (b .run) (b .slots) answers′
+    note-left answers′ is =
+        left-of (by-which (told.Note n) o (λ (a : After). Left (kept a) (b .hosts) (b .run) (b .slots) answers′)
+        (λ k q l e. absurd (apart e)) (λ c s m k l e. absurd (apart e)) (λ m k em l e. absurd (apart e))
+        (λ e. record { hosts = refl; run = refl; slots = refl; answers = is ∙ ap (λ (m : ℕ). set (b .answers) m (answered IpForm)) (ap (note-in n) e) }))

@@ -1,6 +1,7 @@
 -- The structs that the bench passes, as the laws of thin functions take them.
 use mathlib.Core.List.{[], _∷_}
 use Rattle.lent.proofs.Words.{Data, struct-part, enum-part, usize-part}
+use Rattle.lent.proofs.Choices.{Choices}
 use Rattle.lent.proofs.Outcomes.{Outcome, behind, whole}
 use Rattle.clock.proofs.Types.{clock, counter}
 use Rattle.host.proofs.Types.{settings, links, walk, reply}
@@ -27,8 +28,12 @@ use Rattle.bench.proofs.states.Other as Other
 use Rattle.bench.proofs.states.Other.Laws as Other′
 use Rattle.bench.proofs.told.Turns as Turns
 use Rattle.bench.proofs.told.Turns.Laws as Turns′
-use Rattle.bench.proofs.told.Note as Note
-use Rattle.bench.proofs.told.Note.Laws as Note′
+use Rattle.bench.proofs.told.Asking as Asking
+use Rattle.bench.proofs.told.Asking.Laws as Asking′
+use Rattle.bench.proofs.told.Going as Going
+use Rattle.bench.proofs.told.Going.Laws as Going′
+use Rattle.bench.proofs.told.Coming as Coming
+use Rattle.bench.proofs.told.Coming.Laws as Coming′
 use Rattle.bench.proofs.told.Told as Told
 use Rattle.bench.proofs.told.Told.Laws as Told′
 
@@ -99,21 +104,8 @@ left = record {
   copies = Left′.the-copy;
 }
 
-abbrev pub sending : Outcome (usize-part ∷ usize-part ∷ [])
-sending = record {
-  form = record {
-    name = Sending.the-type .name;
-    D = Sending.the-type .D;
-    read = λ w. (w .first, (w .end, tt));
-    behind = behind (Sending.the-type .parts) 2;
-    rest = λ w. Sending.the-type .to w .1 .1;
-    one = Sending.the-type .to-one;
-  };
-  behind-laws = Sending′.the-laws .1 .1;
-  behind-plain = Sending′.the-plain .1 .1;
-  low = Sending′.lowers;
-  copies = Sending′.the-copy;
-}
+abbrev pub sending : Data
+sending = record { S = Sending.the-type; L = Sending′.the-laws; P = Sending′.the-plain; low = Sending′.lowers; copies = Sending′.the-copy }
 
 abbrev pub sent : Outcome (struct-part settings ∷ usize-part ∷ usize-part ∷ struct-part counter ∷ [])
 sent = record {
@@ -147,21 +139,8 @@ asked = record {
   copies = Asked′.the-copy;
 }
 
-abbrev pub ask : Outcome (usize-part ∷ usize-part ∷ [])
-ask = record {
-  form = record {
-    name = Ask.the-type .name;
-    D = Ask.the-type .D;
-    read = λ w. (w .first, (w .end, tt));
-    behind = behind (Ask.the-type .parts) 2;
-    rest = λ w. Ask.the-type .to w .1 .1;
-    one = Ask.the-type .to-one;
-  };
-  behind-laws = Ask′.the-laws .1 .1;
-  behind-plain = Ask′.the-plain .1 .1;
-  low = Ask′.lowers;
-  copies = Ask′.the-copy;
-}
+abbrev pub ask : Data
+ask = record { S = Ask.the-type; L = Ask′.the-laws; P = Ask′.the-plain; low = Ask′.lowers; copies = Ask′.the-copy }
 
 abbrev pub taken : Outcome (struct-part settings ∷ usize-part ∷ enum-part delivery ∷ [])
 taken = record {
@@ -179,21 +158,8 @@ taken = record {
   copies = Taken′.the-copy;
 }
 
-abbrev pub taking : Outcome (usize-part ∷ usize-part ∷ [])
-taking = record {
-  form = record {
-    name = Taking.the-type .name;
-    D = Taking.the-type .D;
-    read = λ w. (w .first, (w .end, tt));
-    behind = behind (Taking.the-type .parts) 2;
-    rest = λ w. Taking.the-type .to w .1 .1;
-    one = Taking.the-type .to-one;
-  };
-  behind-laws = Taking′.the-laws .1 .1;
-  behind-plain = Taking′.the-plain .1 .1;
-  low = Taking′.lowers;
-  copies = Taking′.the-copy;
-}
+abbrev pub taking : Data
+taking = record { S = Taking.the-type; L = Taking′.the-laws; P = Taking′.the-plain; low = Taking′.lowers; copies = Taking′.the-copy }
 
 -- ---- events
 
@@ -213,21 +179,26 @@ turns = record {
   copies = Turns′.the-copy;
 }
 
-abbrev pub note : Data
-note = record { S = Note.the-type; L = Note′.the-laws; P = Note′.the-plain; low = Note′.lowers; copies = Note′.the-copy }
+abbrev pub asking : Data
+asking = record { S = Asking.the-type; L = Asking′.the-laws; P = Asking′.the-plain; low = Asking′.lowers; copies = Asking′.the-copy }
 
-abbrev pub told : Outcome (struct-part (whole ask) ∷ struct-part (whole sending) ∷ struct-part (whole taking) ∷ struct-part note ∷ [])
+abbrev pub going : Data
+going = record { S = Going.the-type; L = Going′.the-laws; P = Going′.the-plain; low = Going′.lowers; copies = Going′.the-copy }
+
+abbrev pub coming : Data
+coming = record { S = Coming.the-type; L = Coming′.the-laws; P = Coming′.the-plain; low = Coming′.lowers; copies = Coming′.the-copy }
+
+abbrev pub told : Choices ((struct-part asking ∷ []) ∷ (struct-part going ∷ []) ∷ (struct-part coming ∷ []) ∷ (usize-part ∷ []) ∷ [])
 told = record {
   form = record {
     name = Told.the-type .name;
     D = Told.the-type .D;
-    read = λ p. (p .ask, (p .send, (p .take, (p .note, tt))));
-    behind = [];
-    rest = λ w. tt;
+    pick = Told.as-values;
+    make = Told.make;
+    eta = Told.eta;
     one = Told.the-type .to-one;
   };
-  behind-laws = tt;
-  behind-plain = tt;
+  few = tt;
   low = Told′.lowers;
   copies = Told′.the-copy;
 }

@@ -21,12 +21,12 @@ use Rattle.bench.specs.declared.told.Told.{Told}
 use Rattle.bench.specs.Bench.{Bench}
 use Rattle.bench.specs.Slots.{labelOf, slotsGood, empty, farEnd}
 use Rattle.bench.specs.Event.{After, asked, sent, taken, carried}
-use Rattle.bench.specs.code.Told.{OnlyAsk, OnlySend, OnlyTake, OnlyNote, askOf, sendOf, takeOf, noteOf, Tells}
+use Rattle.bench.specs.code.Told.{OnlyAsk, OnlySend, OnlyTake, OnlyNote, Tells}
 use Rattle.bench.proofs.Named.{end-host, filled, send-names, arrival-names}
 
 -- one event for another
-pub tells-as : (file octets : List ℕ) (h : Header) (i : ℕ) (p : Told) {e f : Event} → e ≡ f → Tells file octets h i f p → Tells file octets h i e p
-tells-as file octets h i p is o = subst⁻¹ (λ (x : Event). Tells file octets h i x p) is o
+pub tells-as : (octets : List ℕ) (i : ℕ) (p : Told) {e f : Event} → e ≡ f → Tells octets i f p → Tells octets i e p
+tells-as octets i p is o = subst⁻¹ (λ (x : Event). Tells octets i x p) is o
 
 -- a send's numbers, and an arrival's, where the file passes
 pub record Sendable (file : List ℕ) (h : Header) (c i n : ℕ) : Type 0 where
@@ -52,11 +52,11 @@ module _ (file : List ℕ) (t : ClassTable) (h : Header) (cables : cablesGood fi
       record { slot = l; size = f .0; host = end-host file h cables (labelOf n (b .slots) .cable) (1 - labelOf n (b .slots) .end) (f .1) (omega arith) }
 
   module _ (i : ℕ) (p : Told) (P : After → Type 0)
-      (asks : (k : ℕ) (q : Request) → k < h .hosts → OnlyAsk (askOf file i k q) p → P (asked file t h k q b))
-      (sends : (c s n : ℕ) (k : Counter) → Sendable file h c s n → OnlySend (sendOf file h i c s n k) p → P (sent file t h (endAt file h c s) c s n k b))
-      (takes : (n : ℕ) (k : Counter) → Takable file h (b .slots) n → OnlyTake (takeOf file (b .slots) h i n k) p → P (taken file t h (farEnd file h n (b .slots)) n k b))
-      (notes : OnlyNote (noteOf i) p → P record { bench = b; answer = IpForm }) where
-    pub which : (e : Event) → eventGood h e ≡ true → Tells file (b .slots) h i e p → P (carried file t h e b)
+      (asks : (k : ℕ) (q : Request) → k < h .hosts → OnlyAsk i k q p → P (asked file t h k q b))
+      (sends : (c s n : ℕ) (k : Counter) → Sendable file h c s n → OnlySend i c s n k p → P (sent file t h (endAt file h c s) c s n k b))
+      (takes : (n : ℕ) (k : Counter) → empty n (b .slots) ≡ false → Takable file h (b .slots) n → OnlyTake i n k p → P (taken file t h (farEnd file h n (b .slots)) n k b))
+      (notes : OnlyNote i p → P record { bench = b; answer = IpForm }) where
+    pub which : (e : Event) → eventGood h e ≡ true → Tells (b .slots) i e p → P (carried file t h e b)
     which (Tick k n) g o = asks k _ (ltb-true k (h .hosts) g) o
     which (Adjust k n) g o = asks k _ (ltb-true k (h .hosts) g) o
     which (Set k ms n) g o = asks k _ (ltb-true k (h .hosts) g) o
@@ -66,5 +66,5 @@ module _ (file : List ℕ) (t : ClassTable) (h : Header) (cables : cablesGood fi
     which (Arrival n k) g o =
         either P (empty n (b .slots)) record { bench = b; answer = IpForm } (taken file t h (farEnd file h n (b .slots)) n k b)
         (λ e. notes (o .unfilled e))
-        (λ e. takes n k (takable n (arrival-names h n k g) e) (o .filled e))
+        (λ e. takes n k e (takable n (arrival-names h n k g) e) (o .filled e))
     which Unknown g o = absurd (false≢true g)

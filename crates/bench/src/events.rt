@@ -4,16 +4,20 @@ ghost use Rattle.bench.specs.Run.{next, steps};
 ghost use Rattle.bench.specs.Bench.{bench};
 ghost use Rattle.bench.specs.code.Turns.{Fits, TurnsFit, Left};
 use super::HostState;
-use super::requests::asks;
-use super::sends::sends;
-use super::takes::takes;
+use super::requests::ask_at;
+use super::sends::send_at;
+use super::takes::take_at;
+use super::told::Told;
 use super::told::Turns;
+use super::told::ask_of;
 use super::told::keep;
+use super::told::send_of;
+use super::told::take_of;
 use super::told::tell;
 use class_table::ClassTable;
 use table::Entry;
 
-// One event: what it asks is told, and of the four that it might be, one is carried out.
+// One event: what it asks is told, and carried out.
 pub fn event_at(
     file: &[u8],
     nets: &ClassTable,
@@ -29,10 +33,21 @@ pub fn event_at(
     ensures { λ _. ⌜ Left (next (now (file .entry)) (now (nets .entry)) (bench (now (hosts .entry)) (now (copies .entry)) (now (run .entry)) (now (slots .entry)) (now (answers .entry)) i)) (now (hosts .exit)) (now (run .exit)) (now (slots .exit)) (now (answers .exit)) ⌝ }
 {
     let p = tell(file, slots, i, w);
-    keep(answers, p.note);
-    takes(nets, hosts, copies, run, slots, answers, p.take);
-    sends(nets, hosts, copies, run, slots, answers, p.send);
-    asks(nets, hosts, copies, run, answers, p.ask);
+    match p {
+        Told::Ask(x) => {
+            let a = ask_of(file, w, x);
+            ask_at(nets, hosts, copies, run, answers, a);
+        }
+        Told::Send(y) => {
+            let s = send_of(file, w, y);
+            send_at(nets, hosts, copies, run, slots, answers, s);
+        }
+        Told::Take(z) => {
+            let t = take_of(file, slots, w, z);
+            take_at(nets, hosts, copies, run, slots, answers, t);
+        }
+        Told::Note(n) => keep(answers, n),
+    }
 }
 
 pub fn turns(

@@ -4,7 +4,7 @@ ghost use Prim.Native.Nat.{_+_, _*_, _≤_, _<_};
 ghost use lib.ListN.{length, set};
 ghost use Rattle.answer.specs.Answer.{number};
 ghost use Rattle.host.specs.Guard.{longest};
-ghost use Rattle.bench.specs.code.Asks.{AskFits, AskLeaves, AsksFit, AsksLeave};
+ghost use Rattle.bench.specs.code.Asks.{AskFits, AskLeaves};
 use super::HostState;
 use super::at_host::Left;
 use super::at_host::asked;
@@ -23,10 +23,8 @@ use host::Reply;
 use host::Settings;
 use table::Entry;
 
-// No request, or one: the host, its settings, what is asked, and the event whose answer it is.
+// A request: the host, its settings, what is asked, and the event whose answer it is.
 pub struct Ask {
-    pub first: usize,
-    pub end: usize,
     pub host: usize,
     pub event: usize,
     pub settings: Settings,
@@ -94,7 +92,6 @@ pub fn ask_at(
     copies: &[u8],
     run: &mut [Entry],
     answers: &mut [u8],
-    i: usize,
     w: Ask,
 )
     requires { ⌜ AskFits w (now hosts) (now copies) (now answers) ⌝ }
@@ -119,24 +116,4 @@ pub fn ask_at(
     let y = left(w, o);
     replace(hosts, y);
     keep(answers, w, o.reply);
-}
-
-// None, or one.
-pub fn asks(
-    nets: &ClassTable,
-    hosts: &mut [HostState],
-    copies: &[u8],
-    run: &mut [Entry],
-    answers: &mut [u8],
-    w: Ask,
-)
-    requires { ⌜ AsksFit w (now hosts) (now copies) (now answers) ⌝ }
-    ensures { λ _. ⌜ AsksLeave w (now (nets .entry)) (now (hosts .entry)) (now (copies .entry)) (now (run .entry)) (now (answers .entry)) (now (hosts .exit)) (now (run .exit)) (now (answers .exit)) ⌝ }
-{
-    let end = w.end;
-    let mut i = w.first;
-    while i < end {
-        ask_at(nets, hosts, copies, run, answers, i, w);
-        i = i + 1;
-    }
 }

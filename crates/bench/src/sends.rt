@@ -8,7 +8,7 @@ ghost use Rattle.host.specs.Guard.{longest, done};
 ghost use Rattle.bench_file.specs.Header.{mostCables};
 ghost use Rattle.bench_file.specs.Absent.{slots};
 ghost use Rattle.bench.specs.Slots.{slotLength, roomPlace, withLabel};
-ghost use Rattle.bench.specs.code.Sends.{SendFits, SendLeaves, SendsFit, SendsLeave};
+ghost use Rattle.bench.specs.code.Sends.{SendFits, SendLeaves};
 use super::HostState;
 use super::at_host::Left;
 use super::at_host::sent;
@@ -30,10 +30,8 @@ use host::Reply;
 use host::Settings;
 use table::Entry;
 
-// No send, or one: the host, its settings, the link and the counter, the cable and the end that the message goes from, the slot that it is put into, and the event whose answer it is.
+// A send: the host, its settings, the link and the counter, the cable and the end that the message goes from, the slot that it is put into, and the event whose answer it is.
 pub struct Sending {
-    pub first: usize,
-    pub end: usize,
     pub host: usize,
     pub event: usize,
     pub settings: Settings,
@@ -135,7 +133,6 @@ pub fn send_at(
     run: &[Entry],
     slots: &mut [u8],
     answers: &mut [u8],
-    i: usize,
     w: Sending,
 )
     requires { ⌜ SendFits w (now hosts) (now copies) (now slots) (now answers) ⌝ }
@@ -165,25 +162,4 @@ pub fn send_at(
     replace(hosts, y);
     label(slots, w, o.reply);
     keep(answers, w, o.reply);
-}
-
-// None, or one.
-pub fn sends(
-    nets: &ClassTable,
-    hosts: &mut [HostState],
-    copies: &[u8],
-    run: &[Entry],
-    slots: &mut [u8],
-    answers: &mut [u8],
-    w: Sending,
-)
-    requires { ⌜ SendsFit w (now hosts) (now copies) (now slots) (now answers) ⌝ }
-    ensures { λ _. ⌜ SendsLeave w (now (nets .entry)) (now (hosts .entry)) (now (copies .entry)) (now (run .entry)) (now (slots .entry)) (now (answers .entry)) (now (hosts .exit)) (now (slots .exit)) (now (answers .exit)) ⌝ }
-{
-    let end = w.end;
-    let mut i = w.first;
-    while i < end {
-        send_at(nets, hosts, copies, run, slots, answers, i, w);
-        i = i + 1;
-    }
 }

@@ -7,7 +7,7 @@ ghost use Rattle.host.specs.Guard.{longest};
 ghost use Rattle.arrival.specs.declared.Delivery.the-variants.{Receive};
 ghost use Rattle.bench_file.specs.Absent.{slots};
 ghost use Rattle.bench.specs.Slots.{roomPlace};
-ghost use Rattle.bench.specs.code.Takes.{TakeFits, TakeLeaves, TakesFit, TakesLeave};
+ghost use Rattle.bench.specs.code.Takes.{TakeFits, TakeLeaves};
 use super::HostState;
 use super::at_host::Left;
 use super::at_host::taken;
@@ -28,10 +28,8 @@ use host::Reply;
 use host::Settings;
 use table::Entry;
 
-// No arrival, or one: the host, its settings, the link and the counter, the slot and the length of its packet, and the event whose answer it is.
+// An arrival: the host, its settings, the link and the counter, the slot and the length of its packet, and the event whose answer it is.
 pub struct Taking {
-    pub first: usize,
-    pub end: usize,
     pub host: usize,
     pub event: usize,
     pub settings: Settings,
@@ -118,7 +116,6 @@ pub fn take_at(
     run: &mut [Entry],
     slots: &[u8],
     answers: &mut [u8],
-    i: usize,
     w: Taking,
 )
     requires { ⌜ TakeFits w (now hosts) (now copies) (now slots) (now answers) ⌝ }
@@ -146,25 +143,4 @@ pub fn take_at(
     let y = left(w, o);
     replace(hosts, y);
     keep(answers, w, o.reply);
-}
-
-// None, or one.
-pub fn takes(
-    nets: &ClassTable,
-    hosts: &mut [HostState],
-    copies: &[u8],
-    run: &mut [Entry],
-    slots: &[u8],
-    answers: &mut [u8],
-    w: Taking,
-)
-    requires { ⌜ TakesFit w (now hosts) (now copies) (now slots) (now answers) ⌝ }
-    ensures { λ _. ⌜ TakesLeave w (now (nets .entry)) (now (hosts .entry)) (now (copies .entry)) (now (run .entry)) (now (slots .entry)) (now (answers .entry)) (now (hosts .exit)) (now (run .exit)) (now (answers .exit)) ⌝ }
-{
-    let end = w.end;
-    let mut i = w.first;
-    while i < end {
-        take_at(nets, hosts, copies, run, slots, answers, i, w);
-        i = i + 1;
-    }
 }

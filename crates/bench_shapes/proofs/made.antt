@@ -1,10 +1,7 @@
 pub mod AsksAt
 pub mod Events
-pub mod RepeatsAsks
 pub mod RepeatsEvents
-pub mod RepeatsSends
 pub mod RepeatsSets
-pub mod RepeatsTakes
 pub mod Runs
 pub mod SendsAt
 pub mod SetsAt

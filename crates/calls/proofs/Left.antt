@@ -2,7 +2,7 @@
 use mathlib.Core.Path.{_≡_, refl, sym, ap, subst, _∙_}
 use mathlib.Core.Bool.{Bool, true, false, false≢true, cond, not}
 use mathlib.Core.List.{List}
-use Prim.Native.Nat.{ℕ, _≤_, _<_, _^_}
+use Prim.Native.Nat.{ℕ, _+_, _≤_, _<_, _^_}
 use native.Mathlib.Omega.{arith}
 use lib.IntN.{ℤ}
 use Rattle.lists.proofs.Parts.{over-nothing}
@@ -202,7 +202,7 @@ module _ (x : Lent) (a : Address) where
       go true is = (λ n. absurd (false≢true n), refl)
       go false is = (λ _. seekable x (Lookup a) .number (is-so _ is), seekable x (Lookup a) .place (is-so _ is))
 
-  pub found-there : InRun (seekAt (x .number) found .first) (seekAt (x .number) found .end) (x .run)
+  pub found-there : InRun (seekAt (x .number) found .first) (seekAt (x .number) found .end) (x .run) × (seekAt (x .number) found .end ≤ seekAt (x .number) found .first + 1)
   found-there = rw sought (sought-in x (Lookup a))
 
   abbrev looked-g : Answer

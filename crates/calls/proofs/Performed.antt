@@ -91,16 +91,16 @@ module _ (x : Lent) (q : Request) where
   -- ---- the entry that is looked at
 
   record Sought (f : Found) : Type 0 where
-    pub there : InRun (seekAt k f .first) (seekAt k f .end) run
+    pub there : InRun (seekAt k f .first) (seekAt k f .end) run × (seekAt k f .end ≤ seekAt k f .first + 1)
     pub is : entryOf (seekAt k f) run ≡ entryAt f x
 
   sought-at : (f : Found) → ((id : ℕ) → f ≡ Id id → id < hostCount s) → Holds k run → Sought f
   unfolding entryOf
-  sought-at Nothing below h = record { there = record { rising = omega arith; inside = omega arith }; is = refl }
+  sought-at Nothing below h = record { there = (record { rising = omega arith; inside = omega arith }, omega arith); is = refl }
   sought-at (Id id) below h =
       let i = below id refl in
       let one : firstPlace k + id + 1 - (firstPlace k + id) ≡ 1 = omega arith in
-      record { there = record { rising = omega arith; inside = omega arith }; is = rw (one, one-part s k run h id i) refl }
+      record { there = (record { rising = omega arith; inside = omega arith }, omega arith); is = rw (one, one-part s k run h id i) refl }
 
   sought-for : done g ≡ true → Sought (wanted q t s v)
   sought-for d =
@@ -116,9 +116,9 @@ module _ (x : Lent) (q : Request) where
   pub walk-told : WalkTold g q s v o
   walk-told = record { walk = λ d f. walk-lent x (passed (scopeOf q) x d .lent f) }
 
-  pub sought-in : InRun (soughtAt g q t s v k .first) (soughtAt g q t s v k .end) run
+  pub sought-in : InRun (soughtAt g q t s v k .first) (soughtAt g q t s v k .end) run × (soughtAt g q t s v k .end ≤ soughtAt g q t s v k .first + 1)
   sought-in =
-      either (λ (z : Seek). InRun (z .first) (z .end) run) (not (done g)) _ _ (λ _. record { rising = omega arith; inside = omega arith })
+      either (λ (z : Seek). InRun (z .first) (z .end) run × (z .end ≤ z .first + 1)) (not (done g)) _ _ (λ _. (record { rising = omega arith; inside = omega arith }, omega arith))
       (λ e. sought-for (is-so _ e) .there)
 
   -- ---- the call

@@ -5,6 +5,7 @@ ghost use Rattle.host.specs.Lent.{lent};
 ghost use Rattle.calls.specs.declared.Request.the-variants.{Initialize, Tick, Adjust, Set, Read, Second, SelfReport, Lookup};
 ghost use Rattle.calls.specs.Perform.{perform, Leaves, ask, send, deliver, inspect, openWalk};
 ghost use Rattle.arrival.specs.Arrival.{onLink};
+ghost use Rattle.calls.specs.Contract.{Does};
 use arrival::Delivery;
 use class_table::ClassTable;
 use clock::Clock;
@@ -56,7 +57,7 @@ pub fn call(
     run: &mut [Entry],
     request: Request,
 ) -> Reply
-    ensures { λ r. ⌜ Leaves (perform (ask request) (lent (now (settings .entry)) (now (nets .entry)) number (now (clock .entry)) (now (links .entry)) (now (walk .entry)) (now (copy .entry)) (now (run .entry)))) r (now (clock .exit)) (now (links .exit)) (now (walk .exit)) (now (copy .entry)) (now (run .exit)) ⌝ }
+    ensures { λ r. ⌜ Does (ask request) settings nets number clock links walk copy run r ⌝ }
 {
     let s = *settings;
     let t = *nets;
@@ -87,7 +88,7 @@ pub fn initialize(
     copy: &[u8],
     run: &mut [Entry],
 ) -> Reply
-    ensures { λ r. ⌜ Leaves (perform (ask Initialize) (lent (now (settings .entry)) (now (nets .entry)) number (now (clock .entry)) (now (links .entry)) (now (walk .entry)) (now (copy .entry)) (now (run .entry)))) r (now (clock .exit)) (now (links .exit)) (now (walk .exit)) (now (copy .entry)) (now (run .exit)) ⌝ }
+    ensures { λ r. ⌜ Does (ask Initialize) settings nets number clock links walk copy run r ⌝ }
 {
     let s = *settings;
     let t = *nets;
@@ -123,7 +124,7 @@ pub fn tick(
     run: &[Entry],
     count: Count,
 ) -> Reply
-    ensures { λ r. ⌜ Leaves (perform (ask (Tick count)) (lent (now (settings .entry)) (now (nets .entry)) number (now (clock .entry)) (now (links .entry)) (now (walk .entry)) (now (copy .entry)) (now (run .entry)))) r (now (clock .exit)) (now (links .entry)) (now (walk .entry)) (now (copy .entry)) (now (run .entry)) ⌝ }
+    ensures { λ r. ⌜ Does (ask (Tick count)) settings nets number clock links walk copy run r ⌝ }
 {
     let s = *settings;
     let c = *clock;
@@ -148,7 +149,7 @@ pub fn adjust(
     run: &[Entry],
     count: Count,
 ) -> Reply
-    ensures { λ r. ⌜ Leaves (perform (ask (Adjust count)) (lent (now (settings .entry)) (now (nets .entry)) number (now (clock .entry)) (now (links .entry)) (now (walk .entry)) (now (copy .entry)) (now (run .entry)))) r (now (clock .exit)) (now (links .entry)) (now (walk .entry)) (now (copy .entry)) (now (run .entry)) ⌝ }
+    ensures { λ r. ⌜ Does (ask (Adjust count)) settings nets number clock links walk copy run r ⌝ }
 {
     let s = *settings;
     let c = *clock;
@@ -174,7 +175,7 @@ pub fn set(
     ms: i32,
     count: Count,
 ) -> Reply
-    ensures { λ r. ⌜ Leaves (perform (ask (Set ms count)) (lent (now (settings .entry)) (now (nets .entry)) number (now (clock .entry)) (now (links .entry)) (now (walk .entry)) (now (copy .entry)) (now (run .entry)))) r (now (clock .exit)) (now (links .entry)) (now (walk .entry)) (now (copy .entry)) (now (run .entry)) ⌝ }
+    ensures { λ r. ⌜ Does (ask (Set ms count)) settings nets number clock links walk copy run r ⌝ }
 {
     let s = *settings;
     let c = *clock;
@@ -199,7 +200,7 @@ pub fn read(
     run: &[Entry],
     counter: Counter,
 ) -> Reply
-    ensures { λ r. ⌜ Leaves (perform (ask (Read counter)) (lent (now (settings .entry)) (now (nets .entry)) number (now (clock .entry)) (now (links .entry)) (now (walk .entry)) (now (copy .entry)) (now (run .entry)))) r (now (clock .exit)) (now (links .entry)) (now (walk .entry)) (now (copy .entry)) (now (run .entry)) ⌝ }
+    ensures { λ r. ⌜ Does (ask (Read counter)) settings nets number clock links walk copy run r ⌝ }
 {
     let s = *settings;
     let c = *clock;
@@ -223,7 +224,7 @@ pub fn second(
     copy: &[u8],
     run: &mut [Entry],
 ) -> Reply
-    ensures { λ r. ⌜ Leaves (perform (ask Second) (lent (now (settings .entry)) (now (nets .entry)) number (now (clock .entry)) (now (links .entry)) (now (walk .entry)) (now (copy .entry)) (now (run .entry)))) r (now (clock .exit)) (now (links .entry)) (now (walk .entry)) (now (copy .entry)) (now (run .exit)) ⌝ }
+    ensures { λ r. ⌜ Does (ask Second) settings nets number clock links walk copy run r ⌝ }
 {
     let s = *settings;
     let c = *clock;
@@ -250,7 +251,7 @@ pub fn self_report(
     run: &mut [Entry],
     counter: Counter,
 ) -> Reply
-    ensures { λ r. ⌜ Leaves (perform (ask (SelfReport counter)) (lent (now (settings .entry)) (now (nets .entry)) number (now (clock .entry)) (now (links .entry)) (now (walk .entry)) (now (copy .entry)) (now (run .entry)))) r (now (clock .exit)) (now (links .entry)) (now (walk .entry)) (now (copy .entry)) (now (run .exit)) ⌝ }
+    ensures { λ r. ⌜ Does (ask (SelfReport counter)) settings nets number clock links walk copy run r ⌝ }
 {
     let s = *settings;
     let c = *clock;
@@ -277,7 +278,7 @@ pub fn lookup(
     run: &[Entry],
     address: wire::Address,
 ) -> Reply
-    ensures { λ r. ⌜ Leaves (perform (ask (Lookup address)) (lent (now (settings .entry)) (now (nets .entry)) number (now (clock .entry)) (now (links .entry)) (now (walk .entry)) (now (copy .entry)) (now (run .entry)))) r (now (clock .entry)) (now (links .entry)) (now (walk .entry)) (now (copy .entry)) (now (run .entry)) ⌝ }
+    ensures { λ r. ⌜ Does (ask (Lookup address)) settings nets number clock links walk copy run r ⌝ }
 {
     let s = *settings;
     let t = *nets;
@@ -311,7 +312,7 @@ pub fn open_walk(
     link: usize,
     packet: &[u8],
 ) -> Reply
-    ensures { λ r. ⌜ Leaves (perform (openWalk link (now (packet .entry))) (lent (now (settings .entry)) (now (nets .entry)) number (now (clock .entry)) (now (links .entry)) (now (walk .entry)) (now (copy .entry)) (now (run .entry)))) r (now (clock .entry)) (now (links .entry)) (now (walk .exit)) (now (copy .exit)) (now (run .entry)) ⌝ }
+    ensures { λ r. ⌜ Does (openWalk link (now (packet .entry))) settings nets number clock links walk copy run r ⌝ }
 {
     let s = *settings;
     let c = *clock;
@@ -377,7 +378,7 @@ pub fn inspect(
     link: usize,
     packet: &[u8],
 ) -> Reply
-    ensures { λ r. ⌜ Leaves (perform (inspect link (now (packet .entry))) (lent (now (settings .entry)) (now (nets .entry)) number (now (clock .entry)) (now (links .entry)) (now (walk .entry)) (now (copy .entry)) (now (run .entry)))) r (now (clock .entry)) (now (links .entry)) (now (walk .entry)) (now (copy .entry)) (now (run .entry)) ⌝ }
+    ensures { λ r. ⌜ Does (inspect link (now (packet .entry))) settings nets number clock links walk copy run r ⌝ }
 {
     let s = *settings;
     let c = *clock;
@@ -407,7 +408,7 @@ pub fn deliver(
     delivery: Delivery,
     packet: &[u8],
 ) -> Reply
-    ensures { λ r. ⌜ Leaves (perform (deliver delivery (now (packet .entry))) (lent (now (settings .entry)) (now (nets .entry)) number (now (clock .entry)) (now (links .entry)) (now (walk .entry)) (now (copy .entry)) (now (run .entry)))) r (now (clock .exit)) (now (links .exit)) (now (walk .entry)) (now (copy .entry)) (now (run .exit)) ⌝ }
+    ensures { λ r. ⌜ Does (deliver delivery (now (packet .entry))) settings nets number clock links walk copy run r ⌝ }
 {
     let s = *settings;
     let t = *nets;

@@ -1,5 +1,7 @@
 pub mod Again
 pub mod Calling
+pub mod Choices
+pub mod Choosing
 pub mod Elements
 pub mod Frame
 pub mod Holds
@@ -8,8 +10,10 @@ pub mod Lending
 pub mod Loop
 pub mod Looping
 pub mod made
+pub mod Matching
 pub mod Outcomes
 pub mod Parts
+pub mod Picks
 pub mod Shared
 pub mod Thin
 pub mod Ways

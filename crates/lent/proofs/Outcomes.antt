@@ -26,11 +26,11 @@ abbrev pub intos : (ps : List Part) (Fs : List Field) → Values ps → Denots (
 intos [] Fs xs ys = ys
 intos (p ∷ ps) Fs xs ys = (p .K .into (xs .0), intos ps Fs (xs .1) ys)
 
-abbrev all-laws : (ps : List Part) (Fs : List Field) → LL.Lawss Fs → LL.Lawss (all ps Fs)
+abbrev pub all-laws : (ps : List Part) (Fs : List Field) → LL.Lawss Fs → LL.Lawss (all ps Fs)
 all-laws [] Fs ls = ls
 all-laws (p ∷ ps) Fs ls = (p .laws, all-laws ps Fs ls)
 
-abbrev all-plain : (ps : List Part) (Fs : List Field) → Plains (rows Fs) → Plains (rows (all ps Fs))
+abbrev pub all-plain : (ps : List Part) (Fs : List Field) → Plains (rows Fs) → Plains (rows (all ps Fs))
 all-plain [] Fs pl = pl
 all-plain (p ∷ ps) Fs pl = (p .plain, all-plain ps Fs pl)
 

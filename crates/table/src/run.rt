@@ -1,7 +1,7 @@
 // The run of entries that all hosts share, as it is lent: one loop for each use. A loop goes over the places from `first` on, up to `end`, and touches no other.
 ghost use mathlib.Core.Path.{_≡_};
 ghost use mathlib.Core.Bool.{true};
-ghost use Prim.Native.Nat.{_-_, _≤_};
+ghost use Prim.Native.Nat.{_+_, _-_, _≤_};
 ghost use Rattle.clock.specs.Clock.{clockInRange};
 ghost use Rattle.wire.specs.code.Ranges.{Two};
 ghost use Rattle.table.specs.declared.run.Change.the-variants.{Fresh};
@@ -205,24 +205,16 @@ pub fn all_in_range(run: &[Entry], w: Scan) -> bool
     good_in_all(run, v)
 }
 
-fn latest(known: Entry, e: Entry, i: usize, w: Seek) -> Entry
-    ensures { λ r. ⌜ r ≡ e ⌝ }
-{
-    e
-}
-
 pub fn entry_of(run: &[Entry], w: Seek) -> Entry
-    requires { ⌜ InRun (w .first) (w .end) (now run) ⌝ }
+    requires { ⌜ InRun (w .first) (w .end) (now run) × (w .end ≤ w .first + 1) ⌝ }
     ensures { λ r. ⌜ r ≡ entryOf w (now (run .entry)) ⌝ }
 {
+    let i = w.first;
     let end = w.end;
-    let mut i = w.first;
-    let mut e = w.entry;
-    while i < end {
-        e = latest(e, run[i], i, w);
-        i = i + 1;
+    if i < end {
+        return run[i];
     }
-    e
+    w.entry
 }
 
 fn freshened(e: Entry, i: usize, w: Changes) -> Entry

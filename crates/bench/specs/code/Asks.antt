@@ -37,14 +37,3 @@ pub record AskDone (w : Ask) (t : ClassTable) (hosts : List HostState) (copies :
 -- whatever stands for a host that is not there
 abbrev pub AskLeaves : Ask → ClassTable → List HostState → (copies : List ℕ) → List Entry → (answers : List ℕ) → List HostState → List Entry → List ℕ → Type 0
 AskLeaves w t hosts copies run answers hosts′ run′ answers′ = (d : HostState) → AskDone w t hosts copies run answers hosts′ run′ answers′ d
-
--- ---- none, or one
-
-pub record AsksFit (w : Ask) (hosts : List HostState) (copies answers : List ℕ) : Type 0 where
-  pub first : w .first ≤ w .end
-  pub one : w .end ≤ w .first + 1
-  pub fits : w .first < w .end → AskFits w hosts copies answers
-
-pub record AsksLeave (w : Ask) (t : ClassTable) (hosts : List HostState) (copies : List ℕ) (run : List Entry) (answers : List ℕ) (hosts′ : List HostState) (run′ : List Entry) (answers′ : List ℕ) : Type 0 where
-  pub none : w .first ≡ w .end → (hosts′ ≡ hosts) × (run′ ≡ run) × (answers′ ≡ answers)
-  pub one : w .first < w .end → AskLeaves w t hosts copies run answers hosts′ run′ answers′

@@ -51,14 +51,3 @@ pub record SendDone (w : Sending) (t : ClassTable) (hosts : List HostState) (cop
 -- whatever stands for a host that is not there
 abbrev pub SendLeaves : Sending → ClassTable → List HostState → (copies : List ℕ) → List Entry → (slots answers : List ℕ) → List HostState → (slots′ answers′ : List ℕ) → Type 0
 SendLeaves w t hosts copies run slots answers hosts′ slots′ answers′ = (d : HostState) → SendDone w t hosts copies run slots answers hosts′ slots′ answers′ d
-
--- ---- none, or one
-
-pub record SendsFit (w : Sending) (hosts : List HostState) (copies slots answers : List ℕ) : Type 0 where
-  pub first : w .first ≤ w .end
-  pub one : w .end ≤ w .first + 1
-  pub fits : w .first < w .end → SendFits w hosts copies slots answers
-
-pub record SendsLeave (w : Sending) (t : ClassTable) (hosts : List HostState) (copies : List ℕ) (run : List Entry) (slots answers : List ℕ) (hosts′ : List HostState) (slots′ answers′ : List ℕ) : Type 0 where
-  pub none : w .first ≡ w .end → (hosts′ ≡ hosts) × (slots′ ≡ slots) × (answers′ ≡ answers)
-  pub one : w .first < w .end → SendLeaves w t hosts copies run slots answers hosts′ slots′ answers′

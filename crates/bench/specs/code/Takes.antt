@@ -43,14 +43,3 @@ pub record TakeDone (w : Taking) (t : ClassTable) (hosts : List HostState) (copi
 -- whatever stands for a host that is not there
 abbrev pub TakeLeaves : Taking → ClassTable → List HostState → (copies : List ℕ) → List Entry → (slots answers : List ℕ) → List HostState → List Entry → (answers′ : List ℕ) → Type 0
 TakeLeaves w t hosts copies run slots answers hosts′ run′ answers′ = (d : HostState) → TakeDone w t hosts copies run slots answers hosts′ run′ answers′ d
-
--- ---- none, or one
-
-pub record TakesFit (w : Taking) (hosts : List HostState) (copies slots answers : List ℕ) : Type 0 where
-  pub first : w .first ≤ w .end
-  pub one : w .end ≤ w .first + 1
-  pub fits : w .first < w .end → TakeFits w hosts copies slots answers
-
-pub record TakesLeave (w : Taking) (t : ClassTable) (hosts : List HostState) (copies : List ℕ) (run : List Entry) (slots answers : List ℕ) (hosts′ : List HostState) (run′ : List Entry) (answers′ : List ℕ) : Type 0 where
-  pub none : w .first ≡ w .end → (hosts′ ≡ hosts) × (run′ ≡ run) × (answers′ ≡ answers)
-  pub one : w .first < w .end → TakeLeaves w t hosts copies run slots answers hosts′ run′ answers′

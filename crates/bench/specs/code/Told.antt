@@ -3,9 +3,7 @@ use mathlib.Core.Path.{_≡_}
 use mathlib.Core.Bool.{true, false}
 use mathlib.Core.List.{List}
 use Prim.Native.Nat.{ℕ, _*_, _≤_, _<_}
-use lib.ListN.{length, set}
-use Rattle.answer.specs.declared.Answer.the-variants.{IpForm}
-use Rattle.answer.specs.Answer.{number}
+use lib.ListN.{length}
 use Rattle.clock.specs.declared.Counter.{Counter}
 use Rattle.calls.specs.declared.Request.{Request}
 use Rattle.calls.specs.declared.Request.the-variants as request
@@ -19,8 +17,8 @@ use Rattle.bench_file.specs.code.Sections.{Sections}
 use Rattle.bench.specs.declared.requests.Ask.{Ask}
 use Rattle.bench.specs.declared.sends.Sending.{Sending}
 use Rattle.bench.specs.declared.takes.Taking.{Taking}
-use Rattle.bench.specs.declared.told.Note.{Note}
 use Rattle.bench.specs.declared.told.Told.{Told}
+use Rattle.bench.specs.declared.told.Told.the-variants as told
 use Rattle.bench.specs.Slots.{slotLength, labelOf, empty, farEnd, slotsGood}
 
 -- an event of a file that passes, and slots that may stand
@@ -32,46 +30,29 @@ pub record EventFits (file octets : List ℕ) (i : ℕ) (h : Header) : Type 0 wh
   pub room : slotLength * slots ≤ length octets
   pub slots : slotsGood h octets ≡ true
 
-abbrev pub None : (first end : ℕ) → Type 0
-None first end = (first ≡ 0) × (end ≡ 0)
-
 -- ---- one of the four
 
-pub record OnlyAsk (w : Ask) (p : Told) : Type 0 where
-  pub ask : p .ask ≡ w
-  pub send : None (p .send .first) (p .send .end)
-  pub take : None (p .take .first) (p .take .end)
-  pub note : None (p .note .first) (p .note .end)
+abbrev pub OnlyAsk : (event host : ℕ) → Request → Told → Type 0
+OnlyAsk event k q p = p ≡ told.Ask record { host = k; event = event; request = q }
 
-pub record OnlySend (w : Sending) (p : Told) : Type 0 where
-  pub ask : None (p .ask .first) (p .ask .end)
-  pub send : p .send ≡ w
-  pub take : None (p .take .first) (p .take .end)
-  pub note : None (p .note .first) (p .note .end)
+abbrev pub OnlySend : (event cable end slot : ℕ) → Counter → Told → Type 0
+OnlySend event c i n k p = p ≡ told.Send record { event = event; cable = c; side = i; slot = n; counter = k }
 
-pub record OnlyTake (w : Taking) (p : Told) : Type 0 where
-  pub ask : None (p .ask .first) (p .ask .end)
-  pub send : None (p .send .first) (p .send .end)
-  pub take : p .take ≡ w
-  pub note : None (p .note .first) (p .note .end)
+abbrev pub OnlyTake : (event slot : ℕ) → Counter → Told → Type 0
+OnlyTake event n k p = p ≡ told.Take record { event = event; slot = n; counter = k }
 
-pub record OnlyNote (w : Note) (p : Told) : Type 0 where
-  pub ask : None (p .ask .first) (p .ask .end)
-  pub send : None (p .send .first) (p .send .end)
-  pub take : None (p .take .first) (p .take .end)
-  pub note : p .note ≡ w
+abbrev pub OnlyNote : ℕ → Told → Type 0
+OnlyNote event p = p ≡ told.Note event
 
 -- ---- by the event
 
 abbrev pub askOf : (file : List ℕ) → (event host : ℕ) → Request → Ask
 askOf file event k q =
-    record { first = 0; end = 1; host = k; event = event; settings = settingsAt file k; request = q }
+    record { host = k; event = event; settings = settingsAt file k; request = q }
 
 abbrev pub sendOf : (file : List ℕ) → Header → (event cable end slot : ℕ) → Counter → Sending
 sendOf file h event c i n k =
     record {
-      first = 0;
-      end = 1;
       host = endAt file h c i .host;
       event = event;
       settings = settingsAt file (endAt file h c i .host);
@@ -85,8 +66,6 @@ sendOf file h event c i n k =
 abbrev pub takeOf : (file octets : List ℕ) → Header → (event slot : ℕ) → Counter → Taking
 takeOf file octets h event n k =
     record {
-      first = 0;
-      end = 1;
       host = farEnd file h n octets .host;
       event = event;
       settings = settingsAt file (farEnd file h n octets .host);
@@ -96,31 +75,17 @@ takeOf file octets h event n k =
       size = labelOf n octets .length;
     }
 
-abbrev pub noteOf : (event : ℕ) → Note
-noteOf event = record { first = 0; end = 1; event = event }
-
 -- a slot that was never filled is only noted
-pub record TellsArrival (file octets : List ℕ) (h : Header) (event n : ℕ) (k : Counter) (p : Told) : Type 0 where
-  pub unfilled : empty n octets ≡ true → OnlyNote (noteOf event) p
-  pub filled : empty n octets ≡ false → OnlyTake (takeOf file octets h event n k) p
+pub record TellsArrival (octets : List ℕ) (event n : ℕ) (k : Counter) (p : Told) : Type 0 where
+  pub unfilled : empty n octets ≡ true → OnlyNote event p
+  pub filled : empty n octets ≡ false → OnlyTake event n k p
 
-abbrev pub Tells : (file octets : List ℕ) → Header → (event : ℕ) → Event → Told → Type 0
-Tells file octets h event (Tick k n) p = OnlyAsk (askOf file event k (request.Tick n)) p
-Tells file octets h event (Adjust k n) p = OnlyAsk (askOf file event k (request.Adjust n)) p
-Tells file octets h event (Set k ms n) p = OnlyAsk (askOf file event k (request.Set ms n)) p
-Tells file octets h event (Second k) p = OnlyAsk (askOf file event k request.Second) p
-Tells file octets h event (SelfReport k n) p = OnlyAsk (askOf file event k (request.SelfReport n)) p
-Tells file octets h event (Send c i n k) p = OnlySend (sendOf file h event c i n k) p
-Tells file octets h event (Arrival n k) p = TellsArrival file octets h event n k p
-Tells file octets h event Unknown p = OnlyNote (noteOf event) p
-
--- ---- the note, none or one
-
-pub record NoteFits (n : Note) (answers : List ℕ) : Type 0 where
-  pub first : n .first ≤ n .end
-  pub fits : n .first < n .end → n .event < length answers
-
--- "A tray never filled gives answer 3"
-pub record NoteLeaves (n : Note) (answers answers′ : List ℕ) : Type 0 where
-  pub none : n .first ≡ n .end → answers′ ≡ answers
-  pub one : n .first < n .end → answers′ ≡ set answers (n .event) (number IpForm)
+abbrev pub Tells : (octets : List ℕ) → (event : ℕ) → Event → Told → Type 0
+Tells octets event (Tick k n) p = OnlyAsk event k (request.Tick n) p
+Tells octets event (Adjust k n) p = OnlyAsk event k (request.Adjust n) p
+Tells octets event (Set k ms n) p = OnlyAsk event k (request.Set ms n) p
+Tells octets event (Second k) p = OnlyAsk event k request.Second p
+Tells octets event (SelfReport k n) p = OnlyAsk event k (request.SelfReport n) p
+Tells octets event (Send c i n k) p = OnlySend event c i n k p
+Tells octets event (Arrival n k) p = TellsArrival octets event n k p
+Tells octets event Unknown p = OnlyNote event p

@@ -1,4 +1,5 @@
 -- The guard, the entry that is looked at, the plan by value, its ids placed, and the loop that changes the entries; clock, links and walk are stored.
+use Prim.Native.Nat.{_+_, _≤_}
 use mathlib.Core.Path.{_≡_}
 use base.Logic.{emp, id⊢}
 use contract.Monad.{fact, factI}
@@ -48,7 +49,7 @@ call-spec 𝓤 H 𝓜 𝓖 𝓡 =
     (λ q. emp 𝓤) (λ q a. a ≡ scopeOf q)
     (λ s t k c l v o a run. emp 𝓤) (λ s t k c l v o a run g. g ≡ guard a (lent s t k c l v o run))
     (λ g s t v k q. fact 𝓤 (Seekable g q t s v k)) (λ g s t v k q z. z ≡ soughtAt g q t s v k)
-    (λ run z. fact 𝓤 (InRun (z .first) (z .end) run)) (λ run z e. e ≡ entryOf z run)
+    (λ run z. fact 𝓤 (InRun (z .first) (z .end) run × (z .end ≤ z .first + 1))) (λ run z e. e ≡ entryOf z run)
     (λ g s t c l v o e q. fact 𝓤 (Told g (scopeOf q) s c × TableTold g t s × WalkTold g q s v o)) (λ g s t c l v o e q p. p ≡ planned g q t (host s c l) v o e)
     (λ k w. fact 𝓤 (Placeable k (w .first) (w .end))) (λ k w v. v ≡ placing.placed k w)
     (λ run w. fact 𝓤 (InRun (w .first) (w .end) run)) (λ run w run′. run′ ≡ loops.changes w run)

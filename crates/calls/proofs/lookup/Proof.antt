@@ -1,7 +1,7 @@
 -- The guard, the id that is found, its entry, and what is told of it.
 use mathlib.Core.Path.{_≡_}
 use mathlib.Core.Bool.{true, cond, not}
-use Prim.Native.Nat.{_≤_}
+use Prim.Native.Nat.{_+_, _≤_}
 use base.Logic.{emp, id⊢}
 use contract.Monad.{fact, factI}
 use Rattle.lent.proofs.Words.{by-value, chosen-by-value}
@@ -51,7 +51,7 @@ lookup-spec 𝓤 H 𝓜 𝓖 𝓡 =
     (λ s t k c l v o a run. emp 𝓤) (λ s t k c l v o a run g. g ≡ guard a (lent s t k c l v o run))
     (λ g s t i. emp 𝓤) (λ g s t i f. f ≡ cond (not (done g)) Nothing (foundFor t s i))
     (λ k f. fact 𝓤 ((isFound f ≡ true → k ≤ 15) × (hasPlace f ≡ true))) (λ k f z. z ≡ seekAt k f)
-    (λ run z. fact 𝓤 (InRun (z .first) (z .end) run)) (λ run z e. e ≡ entryOf z run)
+    (λ run z. fact 𝓤 (InRun (z .first) (z .end) run × (z .end ≤ z .first + 1))) (λ run z e. e ≡ entryOf z run)
     (λ g f e. emp 𝓤) (λ g f e r. r ≡ cond (not (done g)) (plainly g) (looked f e))
     (λ s t k c l v o run i r. Leaves (perform (ask (Lookup i)) (lent s t k c l v o run)) r c l v o run)
     (λ s t k c l v o run i. id⊢ 𝓤 _)

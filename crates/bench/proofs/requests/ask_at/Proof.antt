@@ -63,7 +63,7 @@ same w t hosts copies run q q-is low high low-is high-is v d v-is =
 pub ask-at-spec : {M : Type 1} → stated.statement M
 unfolding code.routine
 ask-at-spec 𝓤 H 𝓜 𝓖 𝓡 =
-    proof (by-value (whole ask)) (by-value (whole seek)) (by-value (whole other)) table state entry
+    proof (by-value ask) (by-value (whole seek)) (by-value (whole other)) table state entry
     (struct-part settings) usize-part (enum-part request) (struct-part clock) (struct-part links) (struct-part walk) (struct-part reply) asked standing left 𝓤 H 𝓜 𝓖 𝓡
     (λ w. fact 𝓤 (w .host ≤ 15)) (λ w z. (z .first ≡ w .host) × (z .end ≡ w .host + 1))
     (λ w. emp 𝓤) (λ w q. (q .settings ≡ w .settings) × (q .number ≡ w .host) × (q .request ≡ w .request))
@@ -74,19 +74,19 @@ ask-at-spec 𝓤 H 𝓜 𝓖 𝓡 =
     (λ w o. fact 𝓤 (w .host ≤ 15)) (λ w o y. (y .first ≡ w .host) × (y .end ≡ w .host + 1) × (y .state ≡ record { clock = o .clock; links = o .links; walk = o .walk }))
     (λ hosts y. fact 𝓤 (OneOf (y .first) (y .end) hosts)) (λ hosts y hosts′. hosts′ ≡ set hosts (y .first) (y .state))
     (λ answers w r. fact 𝓤 (w .event < length answers)) (λ answers w r answers′. answers′ ≡ set answers (w .event) (number (r .answer)))
-    (λ t hosts copies run answers i w. AskFits w hosts copies answers)
-    (λ t hosts copies run answers i w hosts′ run′ answers′. AskLeaves w t hosts copies run answers hosts′ run′ answers′)
-    (λ t hosts copies run answers i w a. factI 𝓤 _ _ (a .host))
-    (λ t hosts copies run answers i w a z z-is. id⊢ 𝓤 _)
-    (λ t hosts copies run answers i w a z q z-is q-is. factI 𝓤 _ _ (a .host))
-    (λ t hosts copies run answers i w a z q low z-is q-is low-is. factI 𝓤 _ _ (a .host))
-    (λ t hosts copies run answers i w a z q low high z-is q-is low-is high-is. factI 𝓤 _ _ (one-of hosts (w .host) (a .there) (z .first) (z .end) z-is))
-    (λ t hosts copies run answers i w a z q low high v z-is q-is low-is high-is v-is. (rw (low-is, high-is) (omega arith), rw high-is (a .copy)))
-    (λ t hosts copies run answers i w a z q low high v z-is q-is low-is high-is v-is. id⊢ 𝓤 _)
-    (λ t hosts copies run answers i w a z q low high v o run′ z-is q-is low-is high-is v-is o-is. factI 𝓤 _ _ (a .host))
-    (λ t hosts copies run answers i w a z q low high v o run′ y z-is q-is low-is high-is v-is o-is y-is. factI 𝓤 _ _ (one-of hosts (w .host) (a .there) (y .first) (y .end) (y-is .0, y-is .1)))
-    (λ t hosts copies run answers i w a z q low high v o run′ y hosts′ z-is q-is low-is high-is v-is o-is y-is hosts-is. factI 𝓤 _ _ (a .event))
-    (λ t hosts copies run answers i w a z q low high v o run′ y hosts′ answers′ z-is q-is low-is high-is v-is o-is y-is hosts-is answers-is.
+    (λ t hosts copies run answers w. AskFits w hosts copies answers)
+    (λ t hosts copies run answers w hosts′ run′ answers′. AskLeaves w t hosts copies run answers hosts′ run′ answers′)
+    (λ t hosts copies run answers w a. factI 𝓤 _ _ (a .host))
+    (λ t hosts copies run answers w a z z-is. id⊢ 𝓤 _)
+    (λ t hosts copies run answers w a z q z-is q-is. factI 𝓤 _ _ (a .host))
+    (λ t hosts copies run answers w a z q low z-is q-is low-is. factI 𝓤 _ _ (a .host))
+    (λ t hosts copies run answers w a z q low high z-is q-is low-is high-is. factI 𝓤 _ _ (one-of hosts (w .host) (a .there) (z .first) (z .end) z-is))
+    (λ t hosts copies run answers w a z q low high v z-is q-is low-is high-is v-is. (rw (low-is, high-is) (omega arith), rw high-is (a .copy)))
+    (λ t hosts copies run answers w a z q low high v z-is q-is low-is high-is v-is. id⊢ 𝓤 _)
+    (λ t hosts copies run answers w a z q low high v o run′ z-is q-is low-is high-is v-is o-is. factI 𝓤 _ _ (a .host))
+    (λ t hosts copies run answers w a z q low high v o run′ y z-is q-is low-is high-is v-is o-is y-is. factI 𝓤 _ _ (one-of hosts (w .host) (a .there) (y .first) (y .end) (y-is .0, y-is .1)))
+    (λ t hosts copies run answers w a z q low high v o run′ y hosts′ z-is q-is low-is high-is v-is o-is y-is hosts-is. factI 𝓤 _ _ (a .event))
+    (λ t hosts copies run answers w a z q low high v o run′ y hosts′ answers′ z-is q-is low-is high-is v-is o-is y-is hosts-is answers-is.
     λ d.
     let e = same w t hosts copies run q q-is low high low-is high-is v d (found hosts (w .host) (a .there) z (z-is .0) v v-is d) in
     record {

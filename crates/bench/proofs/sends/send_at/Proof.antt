@@ -100,7 +100,7 @@ module _ (w : Sending) (t : ClassTable) (hosts : List HostState) (copies : List 
 pub send-at-spec : {M : Type 1} → stated.statement M
 unfolding code.routine
 send-at-spec 𝓤 H 𝓜 𝓖 𝓡 =
-    proof (by-value (whole sending)) (by-value (whole seek)) (by-value (whole other)) table state entry
+    proof (by-value sending) (by-value (whole seek)) (by-value (whole other)) table state entry
     (struct-part settings) usize-part usize-part (struct-part counter) (struct-part clock) (struct-part links) (struct-part walk) (struct-part reply) sent standing left 𝓤 H 𝓜 𝓖 𝓡
     (λ w. fact 𝓤 (w .host ≤ 15)) (λ w z. (z .first ≡ w .host) × (z .end ≡ w .host + 1))
     (λ w. emp 𝓤) (λ w q. (q .settings ≡ w .settings) × (q .number ≡ w .host) × (q .link ≡ w .link) × (q .counter ≡ w .counter))
@@ -115,24 +115,24 @@ send-at-spec 𝓤 H 𝓜 𝓖 𝓡 =
     (λ slots w r. fact 𝓤 ((slotLength * file.slots ≤ length slots) × (w .slot < file.slots) × (w .cable < mostCables) × (w .side ≤ 1)))
     (λ slots w r slots′. slots′ ≡ cond (done (r .answer)) (withLabel (w .slot) (r .length) (w .cable) (w .side) slots) slots)
     (λ answers w r. fact 𝓤 (w .event < length answers)) (λ answers w r answers′. answers′ ≡ set answers (w .event) (number (r .answer)))
-    (λ t hosts copies run slots answers i w. SendFits w hosts copies slots answers)
-    (λ t hosts copies run slots answers i w hosts′ slots′ answers′. SendLeaves w t hosts copies run slots answers hosts′ slots′ answers′)
-    (λ t hosts copies run slots answers i w a. factI 𝓤 _ _ (a .host))
-    (λ t hosts copies run slots answers i w a z z-is. id⊢ 𝓤 _)
-    (λ t hosts copies run slots answers i w a z q z-is q-is. factI 𝓤 _ _ (a .host))
-    (λ t hosts copies run slots answers i w a z q low z-is q-is low-is. factI 𝓤 _ _ (a .host))
-    (λ t hosts copies run slots answers i w a z q low high z-is q-is low-is high-is. factI 𝓤 _ _ (a .slot))
-    (λ t hosts copies run slots answers i w a z q low high here z-is q-is low-is high-is here-is. factI 𝓤 _ _ (a .slot))
-    (λ t hosts copies run slots answers i w a z q low high here there z-is q-is low-is high-is here-is there-is. factI 𝓤 _ _ (one-of hosts (w .host) (a .there) (z .first) (z .end) z-is))
-    (λ t hosts copies run slots answers i w a z q low high here there v z-is q-is low-is high-is here-is there-is v-is. (rw (low-is, high-is) (omega arith), rw high-is (a .copy)))
-    (λ t hosts copies run slots answers i w a z q low high here there v z-is q-is low-is high-is here-is there-is v-is. (rw (here-is, there-is) (omega arith), rw there-is (omega (arith, a .slot, a .room))))
-    (λ t hosts copies run slots answers i w a z q low high here there v z-is q-is low-is high-is here-is there-is v-is. id⊢ 𝓤 _)
-    (λ t hosts copies run slots answers i w a z q low high here there v o room z-is q-is low-is high-is here-is there-is v-is o-is. factI 𝓤 _ _ (a .host))
-    (λ t hosts copies run slots answers i w a z q low high here there v o room y z-is q-is low-is high-is here-is there-is v-is o-is y-is. factI 𝓤 _ _ (one-of hosts (w .host) (a .there) (y .first) (y .end) (y-is .0, y-is .1)))
-    (λ t hosts copies run slots answers i w a z q low high here there v o room y hosts′ z-is q-is low-is high-is here-is there-is v-is o-is y-is hosts-is.
+    (λ t hosts copies run slots answers w. SendFits w hosts copies slots answers)
+    (λ t hosts copies run slots answers w hosts′ slots′ answers′. SendLeaves w t hosts copies run slots answers hosts′ slots′ answers′)
+    (λ t hosts copies run slots answers w a. factI 𝓤 _ _ (a .host))
+    (λ t hosts copies run slots answers w a z z-is. id⊢ 𝓤 _)
+    (λ t hosts copies run slots answers w a z q z-is q-is. factI 𝓤 _ _ (a .host))
+    (λ t hosts copies run slots answers w a z q low z-is q-is low-is. factI 𝓤 _ _ (a .host))
+    (λ t hosts copies run slots answers w a z q low high z-is q-is low-is high-is. factI 𝓤 _ _ (a .slot))
+    (λ t hosts copies run slots answers w a z q low high here z-is q-is low-is high-is here-is. factI 𝓤 _ _ (a .slot))
+    (λ t hosts copies run slots answers w a z q low high here there z-is q-is low-is high-is here-is there-is. factI 𝓤 _ _ (one-of hosts (w .host) (a .there) (z .first) (z .end) z-is))
+    (λ t hosts copies run slots answers w a z q low high here there v z-is q-is low-is high-is here-is there-is v-is. (rw (low-is, high-is) (omega arith), rw high-is (a .copy)))
+    (λ t hosts copies run slots answers w a z q low high here there v z-is q-is low-is high-is here-is there-is v-is. (rw (here-is, there-is) (omega arith), rw there-is (omega (arith, a .slot, a .room))))
+    (λ t hosts copies run slots answers w a z q low high here there v z-is q-is low-is high-is here-is there-is v-is. id⊢ 𝓤 _)
+    (λ t hosts copies run slots answers w a z q low high here there v o room z-is q-is low-is high-is here-is there-is v-is o-is. factI 𝓤 _ _ (a .host))
+    (λ t hosts copies run slots answers w a z q low high here there v o room y z-is q-is low-is high-is here-is there-is v-is o-is y-is. factI 𝓤 _ _ (one-of hosts (w .host) (a .there) (y .first) (y .end) (y-is .0, y-is .1)))
+    (λ t hosts copies run slots answers w a z q low high here there v o room y hosts′ z-is q-is low-is high-is here-is there-is v-is o-is y-is hosts-is.
     factI 𝓤 _ _ (still-long w t hosts copies run slots q q-is low high here there low-is high-is here-is there-is v (a .slot) (a .room) room (o-is .1), a .slot, a .cable, a .side))
-    (λ t hosts copies run slots answers i w a z q low high here there v o room y hosts′ slots′ z-is q-is low-is high-is here-is there-is v-is o-is y-is hosts-is slots-is. factI 𝓤 _ _ (a .event))
-    (λ t hosts copies run slots answers i w a z q low high here there v o room y hosts′ slots′ answers′ z-is q-is low-is high-is here-is there-is v-is o-is y-is hosts-is slots-is answers-is.
+    (λ t hosts copies run slots answers w a z q low high here there v o room y hosts′ slots′ z-is q-is low-is high-is here-is there-is v-is o-is y-is hosts-is slots-is. factI 𝓤 _ _ (a .event))
+    (λ t hosts copies run slots answers w a z q low high here there v o room y hosts′ slots′ answers′ z-is q-is low-is high-is here-is there-is v-is o-is y-is hosts-is slots-is answers-is.
     λ d.
     let e = same w t hosts copies run slots q q-is low high here there low-is high-is here-is there-is v d (found hosts (w .host) (a .there) z (z-is .0) v v-is d) in
     let b = back w t hosts copies run slots q q-is low high here there low-is high-is here-is there-is v (a .slot) (a .room) room (o-is .1) in

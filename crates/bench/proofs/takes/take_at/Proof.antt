@@ -76,7 +76,7 @@ same w t hosts copies run octets q q-is low high low-is high-is here there here-
 pub take-at-spec : {M : Type 1} → stated.statement M
 unfolding code.routine
 take-at-spec 𝓤 H 𝓜 𝓖 𝓡 =
-    proof (by-value (whole taking)) (by-value (whole seek)) (by-value (whole other)) table state entry
+    proof (by-value taking) (by-value (whole seek)) (by-value (whole other)) table state entry
     (struct-part settings) usize-part (enum-part delivery) (struct-part clock) (struct-part links) (struct-part walk) (struct-part reply) taken standing left 𝓤 H 𝓜 𝓖 𝓡
     (λ w. fact 𝓤 (w .host ≤ 15)) (λ w z. (z .first ≡ w .host) × (z .end ≡ w .host + 1))
     (λ w. emp 𝓤) (λ w q. (q .settings ≡ w .settings) × (q .number ≡ w .host) × (q .delivery ≡ Receive (w .link) (w .counter)))
@@ -89,22 +89,22 @@ take-at-spec 𝓤 H 𝓜 𝓖 𝓡 =
     (λ w o. fact 𝓤 (w .host ≤ 15)) (λ w o y. (y .first ≡ w .host) × (y .end ≡ w .host + 1) × (y .state ≡ record { clock = o .clock; links = o .links; walk = o .walk }))
     (λ hosts y. fact 𝓤 (OneOf (y .first) (y .end) hosts)) (λ hosts y hosts′. hosts′ ≡ set hosts (y .first) (y .state))
     (λ answers w r. fact 𝓤 (w .event < length answers)) (λ answers w r answers′. answers′ ≡ set answers (w .event) (number (r .answer)))
-    (λ t hosts copies run octets answers i w. TakeFits w hosts copies octets answers)
-    (λ t hosts copies run octets answers i w hosts′ run′ answers′. TakeLeaves w t hosts copies run octets answers hosts′ run′ answers′)
-    (λ t hosts copies run octets answers i w a. factI 𝓤 _ _ (a .host))
-    (λ t hosts copies run octets answers i w a z z-is. id⊢ 𝓤 _)
-    (λ t hosts copies run octets answers i w a z q z-is q-is. factI 𝓤 _ _ (a .host))
-    (λ t hosts copies run octets answers i w a z q low z-is q-is low-is. factI 𝓤 _ _ (a .host))
-    (λ t hosts copies run octets answers i w a z q low high z-is q-is low-is high-is. factI 𝓤 _ _ (a .slot))
-    (λ t hosts copies run octets answers i w a z q low high here z-is q-is low-is high-is here-is. factI 𝓤 _ _ (a .slot, a .size))
-    (λ t hosts copies run octets answers i w a z q low high here there z-is q-is low-is high-is here-is there-is. factI 𝓤 _ _ (one-of hosts (w .host) (a .there) (z .first) (z .end) z-is))
-    (λ t hosts copies run octets answers i w a z q low high here there v z-is q-is low-is high-is here-is there-is v-is. (rw (low-is, high-is) (omega arith), rw high-is (a .copy)))
-    (λ t hosts copies run octets answers i w a z q low high here there v z-is q-is low-is high-is here-is there-is v-is. (rw (here-is, there-is) (omega arith), rw there-is (omega (arith, a .slot, a .size, a .room))))
-    (λ t hosts copies run octets answers i w a z q low high here there v z-is q-is low-is high-is here-is there-is v-is. id⊢ 𝓤 _)
-    (λ t hosts copies run octets answers i w a z q low high here there v o run′ z-is q-is low-is high-is here-is there-is v-is o-is. factI 𝓤 _ _ (a .host))
-    (λ t hosts copies run octets answers i w a z q low high here there v o run′ y z-is q-is low-is high-is here-is there-is v-is o-is y-is. factI 𝓤 _ _ (one-of hosts (w .host) (a .there) (y .first) (y .end) (y-is .0, y-is .1)))
-    (λ t hosts copies run octets answers i w a z q low high here there v o run′ y hosts′ z-is q-is low-is high-is here-is there-is v-is o-is y-is hosts-is. factI 𝓤 _ _ (a .event))
-    (λ t hosts copies run octets answers i w a z q low high here there v o run′ y hosts′ answers′ z-is q-is low-is high-is here-is there-is v-is o-is y-is hosts-is answers-is.
+    (λ t hosts copies run octets answers w. TakeFits w hosts copies octets answers)
+    (λ t hosts copies run octets answers w hosts′ run′ answers′. TakeLeaves w t hosts copies run octets answers hosts′ run′ answers′)
+    (λ t hosts copies run octets answers w a. factI 𝓤 _ _ (a .host))
+    (λ t hosts copies run octets answers w a z z-is. id⊢ 𝓤 _)
+    (λ t hosts copies run octets answers w a z q z-is q-is. factI 𝓤 _ _ (a .host))
+    (λ t hosts copies run octets answers w a z q low z-is q-is low-is. factI 𝓤 _ _ (a .host))
+    (λ t hosts copies run octets answers w a z q low high z-is q-is low-is high-is. factI 𝓤 _ _ (a .slot))
+    (λ t hosts copies run octets answers w a z q low high here z-is q-is low-is high-is here-is. factI 𝓤 _ _ (a .slot, a .size))
+    (λ t hosts copies run octets answers w a z q low high here there z-is q-is low-is high-is here-is there-is. factI 𝓤 _ _ (one-of hosts (w .host) (a .there) (z .first) (z .end) z-is))
+    (λ t hosts copies run octets answers w a z q low high here there v z-is q-is low-is high-is here-is there-is v-is. (rw (low-is, high-is) (omega arith), rw high-is (a .copy)))
+    (λ t hosts copies run octets answers w a z q low high here there v z-is q-is low-is high-is here-is there-is v-is. (rw (here-is, there-is) (omega arith), rw there-is (omega (arith, a .slot, a .size, a .room))))
+    (λ t hosts copies run octets answers w a z q low high here there v z-is q-is low-is high-is here-is there-is v-is. id⊢ 𝓤 _)
+    (λ t hosts copies run octets answers w a z q low high here there v o run′ z-is q-is low-is high-is here-is there-is v-is o-is. factI 𝓤 _ _ (a .host))
+    (λ t hosts copies run octets answers w a z q low high here there v o run′ y z-is q-is low-is high-is here-is there-is v-is o-is y-is. factI 𝓤 _ _ (one-of hosts (w .host) (a .there) (y .first) (y .end) (y-is .0, y-is .1)))
+    (λ t hosts copies run octets answers w a z q low high here there v o run′ y hosts′ z-is q-is low-is high-is here-is there-is v-is o-is y-is hosts-is. factI 𝓤 _ _ (a .event))
+    (λ t hosts copies run octets answers w a z q low high here there v o run′ y hosts′ answers′ z-is q-is low-is high-is here-is there-is v-is o-is y-is hosts-is answers-is.
     λ d.
     let e = same w t hosts copies run octets q q-is low high low-is high-is here there here-is there-is v d (found hosts (w .host) (a .there) z (z-is .0) v v-is d) in
     record {

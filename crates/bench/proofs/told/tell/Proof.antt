@@ -10,7 +10,7 @@ use lib.IntN.{ℤ}
 use Rattle.lists.proofs.Tests.{both}
 use Rattle.calls.specs.declared.Request.the-variants as request
 use Rattle.bench_file.specs.Absent.{markGood}
-use Rattle.bench.specs.code.Told.{OnlyAsk, askOf}
+use Rattle.bench.specs.code.Told.{OnlyAsk}
 use Rattle.bench.proofs.Named.{end-host, send-names, arrival-names, good-as}
 use Rattle.bench.proofs.Which.{tells-as}
 use Rattle.bench.proofs.told.tell.Statement.{statement}
@@ -23,57 +23,37 @@ enum-known-e : tie.Need-enum-known-e
 enum-known-e c = search needs
 
 ask-requires : tie.Need-ask-requires
-ask-requires c κs =
-    let start = c .before .before .before .before .before .before .before in
-    let is = sym (c .before .before .before .event-at .ensures) ∙ c .before .e .given .1 in
-    (start .pre .sections, ltb-true (c .before .e .given .0 .0) (start .args .w .header .hosts) (good-as (start .args .w .header) is (start .pre .good)))
+ask-requires c κs = search needs
 
 enum-known-e-2 : tie.Need-enum-known-e-2
 enum-known-e-2 c = search needs
 
 ask-requires-2 : tie.Need-ask-requires-2
-ask-requires-2 c κs =
-    let start = c .before .before .before .before .before .before .before in
-    let is = sym (c .before .before .before .event-at .ensures) ∙ c .before .e2 .given .1 in
-    (start .pre .sections, ltb-true (c .before .e2 .given .0 .0) (start .args .w .header .hosts) (good-as (start .args .w .header) is (start .pre .good)))
+ask-requires-2 c κs = search needs
 
 enum-known-e-3 : tie.Need-enum-known-e-3
 enum-known-e-3 c = search needs
 
 ask-requires-3 : tie.Need-ask-requires-3
-ask-requires-3 c κs =
-    let start = c .before .before .before .before .before .before .before in
-    let is = sym (c .before .before .before .event-at .ensures) ∙ c .before .e3 .given .1 in
-    (start .pre .sections, ltb-true (c .before .e3 .given .0 .0) (start .args .w .header .hosts) (good-as (start .args .w .header) is (start .pre .good)))
+ask-requires-3 c κs = search needs
 
 enum-known-e-4 : tie.Need-enum-known-e-4
 enum-known-e-4 c = search needs
 
 ask-requires-4 : tie.Need-ask-requires-4
-ask-requires-4 c κs =
-    let start = c .before .before .before .before .before .before .before in
-    let is = sym (c .before .before .before .event-at .ensures) ∙ c .before .e4 .given .1 in
-    (start .pre .sections, ltb-true (c .before .e4 .given .0 .0) (start .args .w .header .hosts) (good-as (start .args .w .header) is (start .pre .good)))
+ask-requires-4 c κs = search needs
 
 enum-known-e-5 : tie.Need-enum-known-e-5
 enum-known-e-5 c = search needs
 
 ask-requires-5 : tie.Need-ask-requires-5
-ask-requires-5 c κs =
-    let start = c .before .before .before .before .before .before .before in
-    let is = sym (c .before .before .before .event-at .ensures) ∙ c .before .e5 .given .1 in
-    (start .pre .sections, ltb-true (c .before .e5 .given .0 .0) (start .args .w .header .hosts) (both (ltb (c .before .e5 .given .0 .0) (start .args .w .header .hosts)) (markGood (c .before .e5 .given .0 .1 .0)) (good-as (start .args .w .header) is (start .pre .good)) .0))
+ask-requires-5 c κs = search needs
 
 enum-known-e-6 : tie.Need-enum-known-e-6
 enum-known-e-6 c = search needs
 
 send-requires : tie.Need-send-requires
-send-requires c κs =
-    let start = c .before .before .before .before .before .before .before in
-    let is = sym (c .before .before .before .event-at .ensures) ∙ c .before .e6 .given .1 in
-    let v = c .before .e6 .given .0 in
-    let s = send-names (start .args .w .header) (v .0) (v .1 .0) (v .1 .1 .0) (v .1 .1 .1 .0) (good-as (start .args .w .header) is (start .pre .good)) in
-    (start .pre .sections, s .0, s .1, end-host (start .args .file .now) (start .args .w .header) (start .pre .cables) (v .0) (v .1 .0) (s .0) (s .1))
+send-requires c κs = search needs
 
 enum-known-e-7 : tie.Need-enum-known-e-7
 enum-known-e-7 c = search needs
@@ -82,13 +62,8 @@ take-requires : tie.Need-take-requires
 take-requires c κs =
     let start = c .before .before .before .before .before .before .before in
     let is = sym (c .before .before .before .event-at .ensures) ∙ c .before .e7 .given .1 in
-    let v = c .before .e7 .given .0 in (
-      start .pre .sections,
-      start .pre .cables,
-      start .pre .room,
-      start .pre .slots,
-      arrival-names (start .args .w .header) (v .0) (v .1 .0) (good-as (start .args .w .header) is (start .pre .good)),
-    )
+    let v = c .before .e7 .given .0 in
+    (start .pre .room, start .pre .slots, arrival-names (start .args .w .header) (v .0) (v .1 .0) (good-as (start .args .w .header) is (start .pre .good)))
 
 enum-told : tie.Need-enum-told
 enum-told c = search needs
@@ -100,13 +75,13 @@ returns : tie.Need-returns
 returns c =
     let a = c .before .before .before .before .before .before .before .before .args in
     let is = sym (c .before .before .before .before .event-at .ensures) ∙ c .before .before .e .given .1 in
-    tells-as (a .file .now) (a .octets .now) (a .w .header) (a .i) (c .ask .result) is (c .ask .ensures)
+    tells-as (a .octets .now) (a .i) (c .ask .result) is (c .ask .ensures)
 
 returns-2 : tie.Need-returns-2
 returns-2 c =
     let a = c .before .before .before .before .before .before .before .before .args in
     let is = sym (c .before .before .before .before .event-at .ensures) ∙ c .before .before .e2 .given .1 in
-    tells-as (a .file .now) (a .octets .now) (a .w .header) (a .i) (c .ask2 .result) is (c .ask2 .ensures)
+    tells-as (a .octets .now) (a .i) (c .ask2 .result) is (c .ask2 .ensures)
 
 returns-3 : tie.Need-returns-3
 returns-3 c =
@@ -114,38 +89,38 @@ returns-3 c =
     let is = sym (c .before .before .before .before .event-at .ensures) ∙ c .before .before .e3 .given .1 in
     let v = c .before .before .e3 .given .0 in
     let f : SFits w32 (v .1 .0) = search needs in
-    tells-as (a .file .now) (a .octets .now) (a .w .header) (a .i) (c .ask3 .result) is
-    (subst (λ (ms : ℤ). OnlyAsk (askOf (a .file .now) (a .i) (v .0) (request.Set ms (v .1 .1 .0))) (c .ask3 .result)) (toZ-ofZ w32 (v .1 .0) f) (c .ask3 .ensures))
+    tells-as (a .octets .now) (a .i) (c .ask3 .result) is
+    (subst (λ (ms : ℤ). OnlyAsk (a .i) (v .0) (request.Set ms (v .1 .1 .0)) (c .ask3 .result)) (toZ-ofZ w32 (v .1 .0) f) (c .ask3 .ensures))
 
 returns-4 : tie.Need-returns-4
 returns-4 c =
     let a = c .before .before .before .before .before .before .before .before .args in
     let is = sym (c .before .before .before .before .event-at .ensures) ∙ c .before .before .e4 .given .1 in
-    tells-as (a .file .now) (a .octets .now) (a .w .header) (a .i) (c .ask4 .result) is (c .ask4 .ensures)
+    tells-as (a .octets .now) (a .i) (c .ask4 .result) is (c .ask4 .ensures)
 
 returns-5 : tie.Need-returns-5
 returns-5 c =
     let a = c .before .before .before .before .before .before .before .before .args in
     let is = sym (c .before .before .before .before .event-at .ensures) ∙ c .before .before .e5 .given .1 in
-    tells-as (a .file .now) (a .octets .now) (a .w .header) (a .i) (c .ask5 .result) is (c .ask5 .ensures)
+    tells-as (a .octets .now) (a .i) (c .ask5 .result) is (c .ask5 .ensures)
 
 returns-6 : tie.Need-returns-6
 returns-6 c =
     let a = c .before .before .before .before .before .before .before .before .args in
     let is = sym (c .before .before .before .before .event-at .ensures) ∙ c .before .before .e6 .given .1 in
-    tells-as (a .file .now) (a .octets .now) (a .w .header) (a .i) (c .send .result) is (c .send .ensures)
+    tells-as (a .octets .now) (a .i) (c .send .result) is (c .send .ensures)
 
 returns-7 : tie.Need-returns-7
 returns-7 c =
     let a = c .before .before .before .before .before .before .before .before .args in
     let is = sym (c .before .before .before .before .event-at .ensures) ∙ c .before .before .e7 .given .1 in
-    tells-as (a .file .now) (a .octets .now) (a .w .header) (a .i) (c .take .result) is (c .take .ensures)
+    tells-as (a .octets .now) (a .i) (c .take .result) is (c .take .ensures)
 
 returns-8 : tie.Need-returns-8
 returns-8 c =
     let a = c .before .before .before .before .before .before .before .args in
     let is = sym (c .before .before .before .event-at .ensures) ∙ c .before .enum-told .given .1 in
-    tells-as (a .file .now) (a .octets .now) (a .w .header) (a .i) (c .only-note .result) is (c .only-note .ensures)
+    tells-as (a .octets .now) (a .i) (c .only-note .result) is (c .only-note .ensures)
 
 pub tell-spec : {M : Type 1} → statement M
 tell-spec =

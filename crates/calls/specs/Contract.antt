@@ -1,0 +1,23 @@
+-- What the contract of a lent call says, of its parameters as they are at entry and at exit.
+use mathlib.Core.List.{List}
+use Prim.Native.Nat.{ℕ}
+use denote.Ref.{RefT}
+use denote.Triple.Both.{Both}
+use Rattle.clock.specs.declared.Clock.{Clock}
+use Rattle.class_table.specs.declared.ClassTable.{ClassTable}
+use Rattle.table.specs.declared.Entry.{Entry}
+use Rattle.host.specs.declared.Settings.{Settings}
+use Rattle.host.specs.declared.Links.{Links}
+use Rattle.host.specs.declared.walk.Walk.{Walk}
+use Rattle.host.specs.declared.Reply.{Reply}
+use Rattle.host.specs.Lent.{lent}
+use Rattle.calls.specs.Perform.{Call, perform, Leaves}
+
+-- a parameter that is a reference: what is behind it at entry, and at exit
+abbrev pub Ref : Type 0 → Type 0
+Ref A = Both (RefT A) (RefT A)
+
+abbrev pub Does : Call → Ref Settings → Ref ClassTable → ℕ → Ref Clock → Ref Links → Ref Walk → Ref (List ℕ) → Ref (List Entry) → Reply → Type 0
+Does call settings nets number clock links walk copy run r =
+    Leaves (perform call (lent (settings .entry .now) (nets .entry .now) number (clock .entry .now) (links .entry .now) (walk .entry .now) (copy .entry .now) (run .entry .now)))
+    r (clock .exit .now) (links .exit .now) (walk .exit .now) (copy .exit .now) (run .exit .now)
