@@ -1,0 +1,83 @@
+"""Runs bench files through the independent program, and checks what their texts promise."""
+
+import pathlib
+import subprocess
+import tempfile
+from typing import NamedTuple
+
+import bench_file
+from bench_file import Entry
+
+ROOT = pathlib.Path(__file__).resolve().parent.parent.parent
+PROGRAM = ROOT / "target" / "cargo" / "release" / "run_bench"
+EXERCISES = ROOT / "apps" / "exercises"
+
+
+class Run(NamedTuple):
+    """What a run told."""
+
+    answer: int
+    count: int
+    answers: list
+
+
+class Shown(NamedTuple):
+    """What the seats hold: their lines, and the entries by (seat, host)."""
+
+    lines: list
+    tables: dict
+
+
+def told(*words):
+    """What the program told for these words: the answer to the set-up, the runs, and what it showed."""
+    output = subprocess.run(
+        [str(PROGRAM), *map(str, words)], check=True, capture_output=True, text=True
+    ).stdout
+    set_up, runs, shown = None, [], []
+    in_show = False
+    for line in output.splitlines():
+        name, *rest = line.split()
+        if name == "seat":
+            if not in_show:
+                shown.append(Shown([], {}))
+            shown[-1].lines.append(line)
+            if rest[1] == "host":
+                seat, _, host, _, delay, _, offset, _, ttl, _, pid, *_ = rest
+                entry = Entry(int(delay), int(offset), int(ttl), int(pid))
+                shown[-1].tables[int(seat), int(host)] = entry
+        elif name == "set-up":
+            set_up = int(rest[0])
+        elif name == "ran":
+            runs.append(Run(int(rest[0]), int(rest[1]), []))
+        elif name == "answers":
+            runs[-1].answers.extend(map(int, rest))
+        in_show = name == "seat"
+    return set_up, runs, shown
+
+
+def broken(path):
+    """What the text at a path promises and the run does not keep, in words."""
+    file, promises = bench_file.read_text(path.read_text("utf-8"))
+    with tempfile.TemporaryDirectory() as folder:
+        octets = pathlib.Path(folder) / "file.bench"
+        octets.write_bytes(bench_file.to_octets(file))
+        return list(_broken(octets, len(file.events), promises))
+
+
+def _broken(octets, events, promises):
+    cuts = sorted({promise.after for promise in promises} | {events})
+    words = [word for start, end in zip([0, *cuts], cuts) for word in (end - start, "show")]
+    set_up, runs, shown = told(octets, *words)
+    if set_up != 0 or any(run.answer != 0 for run in runs):
+        yield "the file is refused"
+        return
+    answers = [answer for run in runs for answer in run.answers]
+    if len(answers) != events:
+        yield f"{len(answers)} events were carried out, and the file has {events}"
+    if told(octets, "all", "show")[2][-1] != shown[-1]:
+        yield "the run in one piece ends otherwise"
+    tables = {cut: each.tables for cut, each in zip(cuts, shown, strict=True)}
+    for promise in promises:
+        wrong = promise.broken(tables[promise.after], answers)
+        if wrong:
+            yield f"line {promise.line}: {wrong}"
