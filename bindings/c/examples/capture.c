@@ -8,13 +8,15 @@ static uint8_t stretches[HELLO_LONGEST_STRETCHES];
 
 static unsigned long number(const uint8_t *octets)
 {
-    return (unsigned long)octets[0] << 24 | (unsigned long)octets[1] << 16 | (unsigned long)octets[2] << 8 | octets[3];
+    return (unsigned long)octets[0] << 24 | (unsigned long)octets[1] << 16 |
+           (unsigned long)octets[2] << 8 | octets[3];
 }
 
 int main(void)
 {
     size_t length = fread(input, 1, sizeof input, stdin);
-    hello_mended mended = hello_mend(input, length, capture, sizeof capture, stretches, sizeof stretches);
+    hello_mended mended =
+        hello_mend(input, length, capture, sizeof capture, stretches, sizeof stretches);
     if (mended.answer != 0) {
         fprintf(stderr, "refused with %u\n", mended.answer);
         return 1;

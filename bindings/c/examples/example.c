@@ -114,8 +114,7 @@ static hello_inspected take_now(host *h, const uint8_t *message, size_t length)
 
 static int same_address(hello_address x, hello_address y)
 {
-    return x.first == y.first && x.second == y.second && x.third == y.third &&
-           x.fourth == y.fourth;
+    return x.first == y.first && x.second == y.second && x.third == y.third && x.fourth == y.fourth;
 }
 
 int main(void)

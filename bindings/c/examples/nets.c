@@ -40,8 +40,8 @@ static const hello_address there = {10, 1, 2, 3};
 
 static uint8_t initialize(host *h)
 {
-    return hello_initialize(&h->settings, &table, h->number, &h->clock, &h->links, &h->walk, h->copy,
-                            sizeof h->copy, run, RUN);
+    return hello_initialize(&h->settings, &table, h->number, &h->clock, &h->links, &h->walk,
+                            h->copy, sizeof h->copy, run, RUN);
 }
 
 static hello_route lookup(host *h)
@@ -103,12 +103,13 @@ int main(void)
     assert(hello_net_change(&table, 2, B) == HELLO_NO_ROW);
 
     /* A walk uses the table of the box that looks it up, which is step 5. */
-    hello_sent sent = hello_send(&b.settings, &table, B, &b.clock, &b.links, &b.walk, b.copy,
-                                 sizeof b.copy, run, RUN, LINK, HELLO_LINE_CLOCK, message,
-                                 sizeof message);
+    hello_sent sent =
+        hello_send(&b.settings, &table, B, &b.clock, &b.links, &b.walk, b.copy, sizeof b.copy, run,
+                   RUN, LINK, HELLO_LINE_CLOCK, message, sizeof message);
     assert(sent.answer == HELLO_DONE);
-    hello_stepped next = hello_open_walk(&a.settings, &table, A, &a.clock, &a.links, &a.walk, a.copy,
-                                         sizeof a.copy, run, RUN, LINK, message, sent.length);
+    hello_stepped next =
+        hello_open_walk(&a.settings, &table, A, &a.clock, &a.links, &a.walk, a.copy, sizeof a.copy,
+                        run, RUN, LINK, message, sent.length);
     while (next.step != 5)
         next = step(&a);
     assert(hello_net_change(&table, 1, B) == HELLO_DONE);

@@ -23,7 +23,8 @@ int main(void)
     hello_ntp_written written = hello_ntp_write(header);
     assert(written.answer == 0);
     hello_ntp_read_answer read = hello_ntp_read(written.octets, HELLO_NTP_OCTETS);
-    assert(read.answer == 0 && read.header.precision == -20 && read.header.transmit == header.transmit);
+    assert(read.answer == 0 && read.header.precision == -20 &&
+           read.header.transmit == header.transmit);
 
     hello_ntp_outcome outcome =
         hello_ntp_receive(client, written.octets, HELLO_NTP_OCTETS, 107 * SECOND);
@@ -33,7 +34,8 @@ int main(void)
     assert(outcome.association.saved == header.transmit);
 
     /* The same packet again. */
-    outcome = hello_ntp_receive(outcome.association, written.octets, HELLO_NTP_OCTETS, 108 * SECOND);
+    outcome =
+        hello_ntp_receive(outcome.association, written.octets, HELLO_NTP_OCTETS, 108 * SECOND);
     assert(outcome.answer == HELLO_NTP_TIMESTAMP && outcome.delay == 0);
 
     header.leap = 4;

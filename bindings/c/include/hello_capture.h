@@ -29,8 +29,8 @@ extern "C" {
 #define HELLO_CAPTURE_LENGTH 27
 
 /* The longest input; the most octets that its mended capture and its list of stretches can have. */
-#define HELLO_LONGEST_INPUT 65536
-#define HELLO_LONGEST_CAPTURE 73732
+#define HELLO_LONGEST_INPUT     65536
+#define HELLO_LONGEST_CAPTURE   73732
 #define HELLO_LONGEST_STRETCHES 16392
 
 /* What the mender answers; zeros where it refuses. */
@@ -45,8 +45,8 @@ typedef struct hello_mended {
  * Writes a capture of the packets found in order, and a list of the stretches passed over: start
  * and length of each, 32 bits each, high octet first. Octets beyond what is written stay.
  */
-hello_mended hello_mend(const uint8_t *input, size_t input_length, uint8_t *capture, size_t capture_length,
-                        uint8_t *stretches, size_t stretches_length);
+hello_mended hello_mend(const uint8_t *input, size_t input_length, uint8_t *capture,
+                        size_t capture_length, uint8_t *stretches, size_t stretches_length);
 
 #ifdef __cplusplus
 }

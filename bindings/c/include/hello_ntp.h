@@ -30,25 +30,25 @@ extern "C" {
 #define HELLO_NTP_OCTETS 48
 
 /* The answers. */
-#define HELLO_NTP_LENGTH 23
-#define HELLO_NTP_VERSION 24
-#define HELLO_NTP_MODE 25
+#define HELLO_NTP_LENGTH    23
+#define HELLO_NTP_VERSION   24
+#define HELLO_NTP_MODE      25
 #define HELLO_NTP_TIMESTAMP 26
 
 /* The actions, with the numbers of the RFC's appendix A.5. */
-#define HELLO_NTP_ERR (-1)
+#define HELLO_NTP_ERR   (-1)
 #define HELLO_NTP_DSCRD 0
-#define HELLO_NTP_PROC 1
+#define HELLO_NTP_PROC  1
 #define HELLO_NTP_FXMIT 3
-#define HELLO_NTP_MANY 4
+#define HELLO_NTP_MANY  4
 #define HELLO_NTP_NEWPS 5
 #define HELLO_NTP_NEWBC 6
 
 /* A header. A timestamp has seconds in its high 32 bits and a fraction of a second in its low. */
 typedef struct hello_ntp_header {
-    uint8_t leap;             /* 0 to 3 */
-    uint8_t version;          /* 4 */
-    uint8_t mode;             /* 1 to 5 */
+    uint8_t leap;    /* 0 to 3 */
+    uint8_t version; /* 4 */
+    uint8_t mode;    /* 1 to 5 */
     uint8_t stratum;
     int8_t poll;              /* a power of two, in seconds */
     int8_t precision;         /* a power of two, in seconds */
