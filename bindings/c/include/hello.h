@@ -113,32 +113,32 @@
 extern "C" {
 #endif
 
-#define HELLO_PLACES          255   /* places of the run that one host owns */
-#define HELLO_HOSTS           16    /* hosts that one run can hold */
-#define HELLO_LINKS           8     /* links that a host can have */
-#define HELLO_ROWS            32    /* rows that a net table can have */
-#define HELLO_MARKS           256   /* ids that can be marked, from 0 */
-#define HELLO_NO_CLOCK_HOST   255   /* clock_host where clock setting is off */
-#define HELLO_UNITS_PER_MS    65536 /* clock units to a millisecond */
-#define HELLO_LONGEST_MESSAGE 1052  /* octets of a message with the table of 255 hosts */
+#define HELLO_PLACES 255           /* places of the run that one host owns */
+#define HELLO_HOSTS 16             /* hosts that one run can hold */
+#define HELLO_LINKS 8              /* links that a host can have */
+#define HELLO_ROWS 32              /* rows that a net table can have */
+#define HELLO_MARKS 256            /* ids that can be marked, from 0 */
+#define HELLO_NO_CLOCK_HOST 255    /* clock_host where clock setting is off */
+#define HELLO_UNITS_PER_MS 65536   /* clock units to a millisecond */
+#define HELLO_LONGEST_MESSAGE 1052 /* octets of a message with the table of 255 hosts */
 
 /* The answers. */
-#define HELLO_DONE            0
-#define HELLO_SETTING         1
-#define HELLO_SHORT_BUFFER    2
-#define HELLO_IP_FORM         3
-#define HELLO_IP_CHECKSUM     4
-#define HELLO_PROTOCOL        5
-#define HELLO_HELLO_FORM      6
-#define HELLO_HELLO_CHECKSUM  7
-#define HELLO_OTHER_LAYOUT    8
-#define HELLO_LOOPED_LINE     9
+#define HELLO_DONE 0
+#define HELLO_SETTING 1
+#define HELLO_SHORT_BUFFER 2
+#define HELLO_IP_FORM 3
+#define HELLO_IP_CHECKSUM 4
+#define HELLO_PROTOCOL 5
+#define HELLO_HELLO_FORM 6
+#define HELLO_HELLO_CHECKSUM 7
+#define HELLO_OTHER_LAYOUT 8
+#define HELLO_LOOPED_LINE 9
 #define HELLO_DELAY_NOT_VALID 10
-#define HELLO_NO_HOST         11
-#define HELLO_OUT_OF_RANGE    12
-#define HELLO_HOST_DOWN       13
-#define HELLO_IN_WALK         16
-#define HELLO_NO_WALK         17
+#define HELLO_NO_HOST 11
+#define HELLO_OUT_OF_RANGE 12
+#define HELLO_HOST_DOWN 13
+#define HELLO_IN_WALK 16
+#define HELLO_NO_WALK 17
 
 /* An internet address, first octet first. */
 typedef struct hello_address {

@@ -52,11 +52,11 @@ extern "C" {
 #define HELLO_ABSENT 19
 
 /* A file has HELLO_HOSTS hosts at most, and as many cables, events and octets as these. */
-#define HELLO_BENCH_CABLES       32
-#define HELLO_BENCH_EVENTS       2048
+#define HELLO_BENCH_CABLES 32
+#define HELLO_BENCH_EVENTS 2048
 #define HELLO_BENCH_LONGEST_FILE 33956
 
-#define HELLO_BENCH_SLOTS       32   /* slots of a bench */
+#define HELLO_BENCH_SLOTS 32         /* slots of a bench */
 #define HELLO_BENCH_SLOT_LENGTH 1056 /* octets of a slot: its label, then a longest message */
 
 /* A host of the bench. What stands there does not matter to set-up, but something must. */

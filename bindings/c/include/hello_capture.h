@@ -29,8 +29,8 @@ extern "C" {
 #define HELLO_CAPTURE_LENGTH 27
 
 /* The longest input; the most octets that its mended capture and its list of stretches can have. */
-#define HELLO_LONGEST_INPUT     65536
-#define HELLO_LONGEST_CAPTURE   73732
+#define HELLO_LONGEST_INPUT 65536
+#define HELLO_LONGEST_CAPTURE 73732
 #define HELLO_LONGEST_STRETCHES 16392
 
 /* What the mender answers; zeros where it refuses. */

@@ -31,7 +31,7 @@ extern "C" {
 #endif
 
 #define HELLO_TABLE_FULL 21
-#define HELLO_NO_ROW     22
+#define HELLO_NO_ROW 22
 
 /* What adding a row answers. */
 typedef struct hello_net_added {

@@ -30,17 +30,17 @@ extern "C" {
 #define HELLO_NTP_OCTETS 48
 
 /* The answers. */
-#define HELLO_NTP_LENGTH    23
-#define HELLO_NTP_VERSION   24
-#define HELLO_NTP_MODE      25
+#define HELLO_NTP_LENGTH 23
+#define HELLO_NTP_VERSION 24
+#define HELLO_NTP_MODE 25
 #define HELLO_NTP_TIMESTAMP 26
 
 /* The actions, with the numbers of the RFC's appendix A.5. */
-#define HELLO_NTP_ERR   (-1)
+#define HELLO_NTP_ERR (-1)
 #define HELLO_NTP_DSCRD 0
-#define HELLO_NTP_PROC  1
+#define HELLO_NTP_PROC 1
 #define HELLO_NTP_FXMIT 3
-#define HELLO_NTP_MANY  4
+#define HELLO_NTP_MANY 4
 #define HELLO_NTP_NEWPS 5
 #define HELLO_NTP_NEWBC 6
 

@@ -27,7 +27,7 @@
 extern "C" {
 #endif
 
-#define HELLO_TEXT_FORM   14
+#define HELLO_TEXT_FORM 14
 #define HELLO_FIELD_RANGE 15
 
 /* The number of the answer, and the length of what was written, 0 at a refusal. */
