@@ -8,9 +8,9 @@ PORT = 8891
 SEATS = 4
 MOST_SEATS = 16
 
-# How the program ends: the class is to be served, a file is to be run again, the help was
-# printed, an argument is wrong.
-SERVE, HELP, WRONG, REPLAY = 0, 1, 2, 3
+# How the program ends: the class is to be served, an argument is wrong, the help was printed, a file is
+# to be replayed. Python itself ends with 1 or 2 on an error, so the last two are other numbers.
+SERVE, WRONG, HELP, REPLAY = 0, 2, 77, 78
 
 
 def whole(least, most):
@@ -49,8 +49,11 @@ def parser():
         usage="./class [--port N] [--seats N] [--open-to-the-net]\n       ./class --replay FILE",
         description="A class of HELLO hosts in browsers: prints the teacher's address and one for "
         "each seat, and serves until it is stopped (Ctrl-C).",
+        epilog="HELLO_SO names a ready libhello.so, HELLO_LIB the folder of libhello.a and libclass_bench.a. "
+        "Without them, rt proves and builds the library in target/, in some minutes. The Debian package "
+        "python3-aiohttp is installed if it is missing.",
     )
-    made.add_argument("--help", action="store_true", help="prints this")
+    made.add_argument("-h", "--help", action="store_true", help="prints this")
     made.add_argument(
         "--port",
         type=whole(0, 65535),

@@ -43,7 +43,12 @@ Without arguments: four hosts in a line, all with line clocks, no net rows, ten 
   --bench FILE     runs a bench file instead of a room, and shows each event with its answer and what
                    the hosts have learned. The net table has the NHOSTS of the file's first host,
                    and the rows of --net; no other option goes with it
-  --help           this text
+  -h, --help       this text
+
+It needs cargo. HELLO_LIB names the folder of a ready libhello.a and libclass_bench.a; without it they
+are proved and built in target/, by rt, in some minutes. CARGO_TARGET_DIR is kept if it is set. In a
+checkout that cannot be written, HELLO_LIB is needed. Status: 0 done, 2 a wrong argument or bench file,
+another number if something failed.
 
 Every cable joins a point-to-point link of one host to one of another host. Each host sends on each
 of its links every 5 s and reports itself in its own table every 10 s. A line clock ticks at each
@@ -111,7 +116,7 @@ pub fn parse(mut words: impl Iterator<Item = String>) -> Result<Request, String>
     let mut bench = None;
     let mut of_a_room = None;
     while let Some(option) = words.next() {
-        if option == "--help" {
+        if option == "--help" || option == "-h" {
             return Ok(Request::Help);
         }
         if option != "--bench" && option != "--net" {
