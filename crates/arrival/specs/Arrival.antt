@@ -1,4 +1,4 @@
--- What a packet that arrives comes to: the inspection, answers 3 to 9, and the action, steps 2 to 5 of section 3.3.3: the reply, the links afterwards, and the updates of which ids, with the clock that they start from.
+-- INSPECT-1, INSPECT-3: what a packet that arrives results in: the reply, the links, and the updates of which ids.
 use mathlib.Core.Bool.{Bool, true, false, cond}
 use mathlib.Core.List.{List}
 use Prim.Native.Nat.{ℕ, _+_}
@@ -35,7 +35,7 @@ use Rattle.arrival.specs.declared.Delivery.the-variants.{Inspect, Act, R
 use Rattle.host.specs.Inspection.{inspect, tells}
 use Rattle.arrival.specs.Steps.{steps2to4, neighborUpdate}
 
--- no updates: the clock stays
+-- ARRIVE-5: no updates; the clock stays
 abbrev pub noUpdates : Clock → Updates
 noUpdates c =
     record {
@@ -51,14 +51,15 @@ noUpdates c =
       table = false;
     }
 
--- a reply; clock, links and entries stay
+-- INSPECT-1: a reply; clock, links and entries stay
 abbrev pub quiet : Reply → Host → Arrived
 quiet r h = record { reply = r; links = h .links; work = noUpdates (h .clock) }
 
+-- CLOCK-16: an answer; clock, links and entries stay
 abbrev pub ends : Answer → Host → Arrived
 ends a h = quiet (plainly a) h
 
--- so many ids from one on are updated, each with its report added where the packet has a table; the count is that of the reading
+-- ARRIVE-5, CLOCK-16: updates of n ids from one on; the count is the reading's
 abbrev pub updated : Host → Count → Packet → Update → (id ids : ℕ) → (table : Bool) → Arrived
 updated h n p u id ids table =
     record {
@@ -78,56 +79,60 @@ updated h n p u id ids table =
       };
     }
 
--- "NHOSTS 0: find the id of NEIGHBOR-ADDRESS, else 11; update it."
+-- ARRIVE-5, ANSWER-11: a packet without a table: the id of NEIGHBOR-ADDRESS, or 11
 abbrev pub noTable : Host → (link : ℕ) → Count → Packet → Flight → Found → Arrived
 noTable h i n p f Nothing = ends NoHost h
 noTable h i n p f (Id id) = updated h n p (neighborUpdate i f) id 1 false
 
--- "Otherwise update each id in rising order"
+-- ARRIVE-5, UPDATE-2: a packet with a table: every id
 abbrev pub withTable : Host → (link : ℕ) → Count → Packet → Flight → Arrived
 withTable h i n p f = updated h n p (neighborUpdate i f) 0 (hostCount (h .settings)) true
 
+-- ARRIVE-5: step 5
 abbrev pub step5 : ClassTable → Host → (link : ℕ) → Count → Packet → Flight → Arrived
 step5 t h i n p f = cond (eqb (p .nhosts) 0) (noTable h i n p f (foundFor t (h .settings) (f .link .neighbor))) (withTable h i n p f)
 
--- the link is stored as steps 2 to 4 leave it, whether they end with 10 or go on to step 5
+-- ARRIVE-4, ANSWER-10, CLOCK-16: the link is stored as steps 2 to 4 make it, then 10 or step 5
 abbrev pub concluded : ClassTable → Host → (link : ℕ) → Count → Packet → Stage Flight → Arrived
 concluded t h i n p (end f) = ends DelayNotValid (host (h .settings) (h .clock) (withLink i (f .link) (h .links)))
 concluded t h i n p (on f) = step5 t (host (h .settings) (h .clock) (withLink i (f .link) (h .links))) i n p f
 
--- one reading, before HOLD is looked at; its clock is carried on, "10, and 11 at an arrival, keep what the reading did"
+-- CLOCK-16, INSPECT-3: steps 2 to 5 with a reading, whose clock they keep
 abbrev pub actionAt : Reading → Count → ClassTable → Host → (link : ℕ) → Packet → Arrived
 actionAt r n t h i p =
     concluded t (host (h .settings) (r .clock) (h .links)) i n p
     (steps2to4 (broadcast (h .settings) i) (r .clock .hold) p (r .time) (linkOf (h .links) i))
 
+-- INSPECT-3, CLOCK-16: steps 2 to 5 with one reading
 abbrev pub action : Counter → ClassTable → Host → (link : ℕ) → Packet → Arrived
 action k t h i p = actionAt (ourReading k h) (countUsed k) t h i p
 
 -- ---- the three calls
 
--- "an inspection, which tests for answers 3 to 9 and tells .., changing nothing"
+-- INSPECT-1: the inspection: tests for 3 to 9, no change
 abbrev pub inspection : (link : ℕ) (packet : List ℕ) → Host → Arrived
 inspection i octets h = quiet (tells (inspect (h .settings) i octets)) h
 
--- "an action, which carries out steps 2 to 5. .. the action inspects again and takes its own reading": answers 3 to 9, then 10, 11 and 0
+-- INSPECT-3, CLOCK-16: a packet that passes is acted on; a refused one is not, and no clock is read
 abbrev pub inspected : Counter → ClassTable → Host → (link : ℕ) → Parsed → Arrived
 inspected k t h i (Bad a) = ends a h
 inspected k t h i (Good p) = action k t h i p
 
+-- INSPECT-3, INSPECT-5: the action: it inspects again
 abbrev pub act : (link : ℕ) → Counter → (packet : List ℕ) → ClassTable → Host → Arrived
 act i k octets t h = inspected k t h i (inspect (h .settings) i octets)
 
--- "The one-piece arrival remains and equals the two in direct succession."
+-- INSPECT-4: the arrival in one call: the inspection and, if it answers 0, the action
 abbrev pub arrival : (link : ℕ) → Counter → (packet : List ℕ) → ClassTable → Host → Arrived
 arrival i k octets t h = cond (done (inspection i octets h .reply .answer)) (act i k octets t h) (inspection i octets h)
 
+-- INSPECT-4: one of the three calls
 abbrev pub delivered : Delivery → (packet : List ℕ) → ClassTable → Host → Arrived
 delivered (Inspect i) octets t h = inspection i octets h
 delivered (Act i k) octets t h = act i k octets t h
 delivered (Receive i k) octets t h = arrival i k octets t h
 
--- the link that a packet arrives on
+-- HOST-2: the link that a packet arrives on
 abbrev pub onLink : Delivery → ℕ
 onLink (Inspect i) = i
 onLink (Act i k) = i

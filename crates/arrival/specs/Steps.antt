@@ -1,4 +1,4 @@
--- Steps 2 to 4 of section 3.3.3, on an arrival in flight, and what step 5 updates an id with.
+-- ARRIVE-2 to ARRIVE-5: steps 2 to 4 on an arrival, and the update of step 5.
 use mathlib.Core.Bool.{Bool, cond, not, _||_}
 use Prim.Native.Nat.{ℕ}
 use lib.Dec.{eqb}
@@ -24,7 +24,7 @@ use Rattle.arrival.specs.declared.Flight.{Flight}
 use Rattle.host.specs.declared.Settings.{Settings}
 use Rattle.host.specs.State.{keepAliveInterval}
 
--- "2. KEEP-ALIVE becomes 4."
+-- ARRIVE-2: KEEP-ALIVE becomes 4
 unfoldable pub step2 : Flight → Flight
 step2 f =
     record {
@@ -34,16 +34,19 @@ step2 f =
       offset = f .offset;
     }
 
--- "3. TSP becomes the low 16 bits, signed, of packet time less our reading. DELAY is our reading less packet TSP, low 16 bits, signed; 0 on broadcast. OFFSET is TSP + DELAY/2 rounded down, kept to 16 bits signed."
+-- ARRIVE-3: TSP: the packet's time minus our reading, as a 16-bit word
 abbrev pub tspOf : (time reading : Millis) → Word
 tspOf t r = toWord (subMillis t r)
 
+-- ARRIVE-3, SLIP-4: DELAY: our reading minus the packet's TSP, as a signed 16-bit word
 abbrev pub delayOf : (reading : Millis) (packetTsp : Word) → Millis
 delayOf r v = ofWord (toWord (subMillis r (ofWord v)))
 
+-- ARRIVE-3: OFFSET: TSP plus half of DELAY, as a 16-bit word
 abbrev pub offsetOf : (tsp : Word) (delay : Millis) → Word
 offsetOf v d = toWord (addMillis (ofWord v) (halfMillis d))
 
+-- ARRIVE-3, SLIP-2: TSP, DELAY (0 on a broadcast link) and OFFSET
 unfoldable pub step3 : (broadcast : Bool) → Packet → Flight → Flight
 step3 b p f =
     let v : Word = tspOf (p .time) (f .reading) in
@@ -55,7 +58,7 @@ step3 b p f =
       offset = offsetOf v d;
     }
 
--- "4. Point-to-point only. A source other than NEIGHBOR-ADDRESS is stored there, with DELAY 30,000. Otherwise a packet TSP of 0, or HOLD not 0, gives 10."
+-- ARRIVE-4: the source becomes NEIGHBOR-ADDRESS, and DELAY 30,000
 abbrev pub newNeighbor : Packet → Flight → Flight
 newNeighbor p f =
     record {
@@ -65,32 +68,34 @@ newNeighbor p f =
       offset = f .offset;
     }
 
+-- ARRIVE-4, ANSWER-10: a new neighbour is stored; a known one needs a TSP that is not 0 and HOLD 0, or the arrival ends with 10
 unfoldable pub step4 : (broadcast : Bool) (hold : Seconds) → Packet → Flight → Stage Flight
 step4 b h p f =
     cond b (on f)
     (cond (not (sameAddress (p .source) (f .link .neighbor))) (on (newNeighbor p f))
     (cond (zeroWord (p .tsp) || not (eqb (h .0) 0)) (end f) (on f)))
 
--- 2 and 3, from the link and our reading, and 2 to 4
+-- ARRIVE-3: steps 2 and 3 of a link and our reading
 abbrev pub measured : (broadcast : Bool) → Packet → (reading : Millis) → Link → Flight
 measured b p r x = step3 b p (step2 record { reading = r; link = x; delay = millis (pos 0); offset = word (pos 0) })
 
+-- INSPECT-3: steps 2 to 4
 unfoldable pub steps2to4 : (broadcast : Bool) (hold : Seconds) → Packet → (reading : Millis) → Link → Stage Flight
 steps2to4 b h p r x = step4 b h p (measured b p r x)
 
--- "5. DELAY under 100 becomes 100."
+-- ARRIVE-5, SLIP-2, SLIP-4: a DELAY of less than 100 becomes 100
 abbrev pub atLeastMin : Millis → Millis
 atLeastMin d = cond (lessMillis d minDelay) minDelay d
 
--- what an id is updated with where the packet has no table
+-- ARRIVE-5, UPDATE-2: the update without a report, with the link's number as PID and the reading of step 3
 abbrev pub neighborUpdate : (link : ℕ) → Flight → Update
 neighborUpdate i f =
     record { pid = i; delay = atLeastMin (f .delay); offset = f .offset; reading = f .reading }
 
--- ".. with DELAY plus the packet's delay .. and OFFSET plus its offset"
+-- UPDATE-1, UPDATE-2: the update with a report
 abbrev pub reportUpdate : (link : ℕ) → Flight → Report → Update
 reportUpdate i f r = plusReport (neighborUpdate i f) r
 
--- the update of the entry of one id; line (d) is for the clock host
+-- UPDATE-d: the update of the entry of one id; line (d) for the clock host
 abbrev pub updateId : Settings → Count → Packet → Update → (id : ℕ) → Clock → Entry → Updated
 updateId s n p u id c e = update (eqb id (s .«clock_host»)) (s .«hold_interval») n (p .date) u c e

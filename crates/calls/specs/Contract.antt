@@ -1,4 +1,4 @@
--- What the contract of a lent call says, of its parameters as they are at entry and at exit.
+-- CALL-4: the contract of a call over references, with its parameters before and after.
 use mathlib.Core.List.{List}
 use Prim.Native.Nat.{ℕ}
 use denote.Ref.{RefT}
@@ -13,10 +13,11 @@ use Rattle.host.specs.declared.Reply.{Reply}
 use Rattle.host.specs.Lent.{lent}
 use Rattle.calls.specs.Perform.{Call, perform, Leaves}
 
--- a parameter that is a reference: what is behind it at entry, and at exit
+-- CALL-4: a reference: its value before the call, and after it
 abbrev pub Ref : Type 0 → Type 0
 Ref A = Both (RefT A) (RefT A)
 
+-- CALL-4: everything that the caller passed is afterwards as `perform` says
 abbrev pub Does : Call → Ref Settings → Ref ClassTable → ℕ → Ref Clock → Ref Links → Ref Walk → Ref (List ℕ) → Ref (List Entry) → Reply → Type 0
 Does call settings nets number clock links walk copy run r =
     Leaves (perform call (lent (settings .entry .now) (nets .entry .now) number (clock .entry .now) (links .entry .now) (walk .entry .now) (copy .entry .now) (run .entry .now)))

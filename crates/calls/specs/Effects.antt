@@ -1,4 +1,4 @@
--- What each call comes to: its effect.
+-- CALL-1: what each call results in.
 use mathlib.Core.Bool.{cond, not}
 use mathlib.Core.List.{List}
 use Prim.Native.Nat.{ℕ}
@@ -35,45 +35,50 @@ use Rattle.calls.specs.declared.Request.the-variants.{Initialize, Tick, 
 
 -- ---- the calls
 
--- setting afresh, "which drops the walk"
+-- HOST-7, TABLE-3, CLOCK-11, HOST-4, MARK-1: initialize: everything fresh, and no walk
 unfoldable pub initialize : Settings → Effect
 initialize s =
     record { reply = plainly Done; clock = freshClock (s .time) (s .date); links = freshLinks s; walk = noWalk; work = each s Fresh }
 
+-- CLOCK-2, CLOCK-14: tick
 unfoldable pub tick : Count → Host → Walk → Effect
 tick n h w = answers (plainly Done) (clock.tick (h .settings .«clock_tick») (h .settings .«hold_interval») n (h .clock)) (h .links) w
 
+-- CLOCK-3, CLOCK-14: adjust
 unfoldable pub adjust : Count → Host → Walk → Effect
 adjust n h w = answers (plainly Done) (clock.adjust (h .settings .«hold_interval») n (h .clock)) (h .links) w
 
--- by a signed count of ms
+-- CLOCK-4, CLOCK-14: set, by a signed number of milliseconds
 unfoldable pub setBy : Millis → Count → Host → Walk → Effect
 setBy ms n h w = answers (plainly Done) (clock.setBy (h .settings .«hold_interval») n ms (h .clock)) (h .links) w
 
+-- CLOCK-8, CLOCK-16: read: the reading and the DATE after it
 unfoldable pub read : Counter → Host → Walk → Effect
 read k h w =
     let r : Reading = ourReading k h in
     answers (tellsTime (r .time) (r .clock .date)) (r .clock) (h .links) w
 
+-- CLOCK-10, TABLE-5: second: HOLD and the entries
 unfoldable pub second : Host → Walk → Effect
 second h w =
     record { reply = plainly Done; clock = holdSecond (h .clock); links = h .links; walk = w; work = each (h .settings) Aged }
 
--- "a self-report covers every marked id in rising order", each with this one reading
+-- SELF-1, CLOCK-16: self-report: one reading for every marked id
 unfoldable pub selfReport : Counter → Host → Walk → Effect
 selfReport k h w =
     let r : Reading = ourReading k h in
     record { reply = plainly Done; clock = r .clock; links = h .links; walk = w; work = each (h .settings) (Reported (r .time)) }
 
--- 11 where no id is found, 13 where its host is down
+-- CALL-3, ANSWER-11, ANSWER-13: 11 without an id, 13 if its entry is down; else id and PID
 abbrev pub looked : Found → Entry → Reply
 looked Nothing e = plainly NoHost
 looked (Id id) e = cond (not (up e)) (plainly HostDown) (tellsRoute id (e .pid))
 
+-- CALL-3: lookup; nothing changes
 unfoldable pub lookup : Address → ClassTable → Host → Walk → Entry → Effect
 lookup a t h w e = answers (looked (foundFor t (h .settings) a) e) (h .clock) (h .links) w
 
--- by what is asked; a lookup has the entry of the id that it finds, a step that of the id at hand
+-- CALL-1: what a request results in, given the entry that it uses
 abbrev pub effect : Request → ClassTable → Host → Walk → (copy : List ℕ) → Entry → Effect
 effect Initialize t h w copy e = initialize (h .settings)
 effect (Tick n) t h w copy e = tick n h w
@@ -87,7 +92,7 @@ effect (Step k) t h w copy e = step k t h w copy e
 
 -- ---- what a call asks for beside
 
--- how much of what is lent is tested
+-- CALL-2, HOST-7: how much of the caller's state the guard tests
 abbrev pub scopeOf : Request → Scope
 scopeOf Initialize = Places
 scopeOf (Tick n) = All
@@ -99,7 +104,7 @@ scopeOf (SelfReport k) = All
 scopeOf (Lookup a) = All
 scopeOf (Step k) = Walking
 
--- the id whose entry is looked at
+-- CALL-3, WALK-3: the id whose entry a request uses
 abbrev pub wanted : Request → ClassTable → Settings → Walk → Found
 wanted Initialize t s w = Nothing
 wanted (Tick n) t s w = Nothing

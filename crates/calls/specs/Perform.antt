@@ -1,4 +1,4 @@
--- The calls: each is its guard, then its work on what is lent. Everything afterwards, refusals included.
+-- CALL-4: a call is its guard, then its work. Everything afterwards is defined, refusals included.
 use mathlib.Core.Path.{_≡_}
 use mathlib.Core.Bool.{cond, not}
 use mathlib.Core.List.{List, []}
@@ -35,28 +35,30 @@ use Rattle.calls.specs.declared.Request.{Request}
 use Rattle.calls.specs.declared.Request.the-variants.{Step}
 use Rattle.calls.specs.Effects.{scopeOf, wanted, effect}
 
--- a call with its input: a request, a send on a link into a buffer, a packet that arrives and what is done with it, a packet that a walk is opened for
+-- CALL-1, CALL-4: a call with its input
 pub data Call : Type 0 where
   ask : Request → Call
   send : (link : ℕ) → Counter → (buffer : List ℕ) → Call
   deliver : Delivery → (packet : List ℕ) → Call
   openWalk : (link : ℕ) (packet : List ℕ) → Call
 
--- the inspection, the action, and the arrival in one piece
+-- INSPECT-1: the inspection of a packet
 abbrev pub inspect : (link : ℕ) (packet : List ℕ) → Call
 inspect i packet = deliver (Inspect i) packet
 
+-- INSPECT-3: the action on a packet
 abbrev pub act : (link : ℕ) → Counter → (packet : List ℕ) → Call
 act i k packet = deliver (Act i k) packet
 
+-- INSPECT-4: the arrival in one call
 abbrev pub receive : (link : ℕ) → Counter → (packet : List ℕ) → Call
 receive i k packet = deliver (Receive i k) packet
 
--- one box of a walk
+-- WALK-3: one box of a walk
 abbrev pub step : Counter → Call
 step k = ask (Step k)
 
--- the reply, and everything that was lent, as it is afterwards; a call that is lent no buffer leaves none
+-- CALL-4: the reply, and everything that the caller passed, afterwards
 pub record Outcome : Type 0 where
   pub reply : Reply
   pub clock : Clock
@@ -68,51 +70,54 @@ pub record Outcome : Type 0 where
 
 -- ---- the guard
 
+-- CALL-2: how much of the caller's state the guard tests
 abbrev pub scopeOfCall : Call → Scope
 scopeOfCall (ask q) = scopeOf q
 scopeOfCall (send i k buffer) = OnLink i
 scopeOfCall (deliver d packet) = OnLink (onLink d)
 scopeOfCall (openWalk i packet) = Opening i
 
+-- SEND-4: the buffer of a send
 abbrev pub bufferOf : Call → List ℕ
 bufferOf (ask q) = []
 bufferOf (send i k buffer) = buffer
 bufferOf (deliver d packet) = []
 bufferOf (openWalk i packet) = []
 
--- a refusal changes nothing
+-- CALL-2, REPLY-3, CLOCK-16: a refusal changes nothing
 abbrev pub refused : Answer → Call → Lent → Outcome
 refused a call x =
     record { reply = plainly a; clock = x .host .clock; links = x .host .links; walk = x .walk; copy = x .copy; run = x .run; buffer = bufferOf call }
 
 -- ---- the work
 
--- the entry of an id that was found
+-- CALL-3: the entry of a found id
 abbrev pub entryAt : Found → Lent → Entry
 entryAt Nothing x = freshEntry
 entryAt (Id id) x = getD (entriesOf x) id freshEntry
 
--- the changes that an effect makes to the host's entries
+-- CALL-4: the changes of a request
 abbrev pub carriedOut : Effect → Lent → Outcome
 carriedOut e x =
     record { reply = e .reply; clock = e .clock; links = e .links; walk = e .walk; copy = x .copy; run = withEntries (x .number) (changes (e .work) (entriesOf x)) (x .run); buffer = [] }
 
--- the message, written to the front of the buffer
+-- SEND-4: the changes of a send
 abbrev pub sentBy : Sending → (buffer : List ℕ) → Lent → Outcome
 sentBy p buffer x =
     record { reply = p .reply; clock = p .clock; links = p .links; walk = x .walk; copy = x .copy; run = x .run; buffer = written p (entriesOf x) buffer }
 
--- the updates in rising order, the clock handed from one to the next
+-- UPDATE-2: the changes of an arrival: updates in rising order
 abbrev pub updatedBy : Arrived → (packet : List ℕ) → Lent → Outcome
 updatedBy e octets x =
     let w : Swept = updates (e .work) octets (entriesOf x) in
     record { reply = e .reply; clock = w .clock; links = e .links; walk = x .walk; copy = x .copy; run = withEntries (x .number) (w .entries) (x .run); buffer = [] }
 
--- the walk at its first box, and the packet copied
+-- WALK-1: the changes of opening a walk
 abbrev pub openedBy : declared.Opening → (packet : List ℕ) → Lent → Outcome
 openedBy o packet x =
     record { reply = o .reply; clock = x .host .clock; links = x .host .links; walk = o .walk; copy = copied (o .octets) packet (x .copy); run = x .run; buffer = [] }
 
+-- CALL-4: the work of each call
 abbrev pub work : Call → Lent → Outcome
 work (ask q) x = carriedOut (effect q (x .nets) (x .host) (x .walk) (x .copy) (entryAt (wanted q (x .nets) (x .host .settings) (x .walk)) x)) x
 work (send i k buffer) x = sentBy (sendIn i k (length buffer) (x .host)) buffer x
@@ -121,21 +126,22 @@ work (openWalk i packet) x = openedBy (opening i packet (x .host .settings) (x .
 
 -- ---- the call
 
+-- CALL-4, CALL-2, REPLY-1: the call: the guard's refusal, or the work
 unfoldable pub perform : Call → Lent → Outcome
 perform call x =
     cond (not (done (guard (scopeOfCall call) x))) (refused (guard (scopeOfCall call) x) call x) (work call x)
 
--- what a call leaves, as it may be lent again
+-- ISOLATION-3: the state after a call, as the next call takes it
 abbrev pub left : Lent → Outcome → Lent
 left x o = lent (x .host .settings) (x .nets) (x .number) (o .clock) (o .links) (o .walk) (o .copy) (o .run)
 
--- the inspection and, where it answers 0, the action: how a program takes a packet
+-- INSPECT-4: the inspection and, if it answers 0, the action
 abbrev pub inTurn : (link : ℕ) → Counter → (packet : List ℕ) → Lent → Outcome
 inTurn i k packet x =
     let o : Outcome = perform (inspect i packet) x in
     cond (done (o .reply .answer)) (perform (act i k packet) (left x o)) o
 
--- an outcome as a caller sees it, but for a buffer
+-- CALL-4, REPLY-5: an outcome as a caller sees it, without a buffer
 pub record Leaves (o : Outcome) (r : Reply) (c : Clock) (l : Links) (w : Walk) (octets : List ℕ) (es : List Entry) : Type 0 where
   pub reply : r ≡ o .reply
   pub clock : c ≡ o .clock

@@ -1,4 +1,4 @@
--- What the tutor's calls leave: which rows stand, that no bad table is left where there was none, and that a refusal leaves what was lent.
+-- NET-6, NET-7, NET-8: what the tutor's calls result in: which rows there are, never a bad table, and no change at a refusal.
 use mathlib.Core.Path.{_≡_}
 use mathlib.Core.Bool.{true, false}
 use mathlib.Core.List.{List, [], _∷_, _++_, map}
@@ -12,13 +12,13 @@ use Rattle.class_table.specs.declared.Answer.the-variants.{Done, Setting
 use Rattle.class_table.specs.Table.{mostRows, standing, tableBad, zeroRow}
 use Rattle.class_table.specs.Tutor.{setAfresh, add, remove, change, rowAt}
 
--- "Rows keep their order and are numbered from 1 without gaps; additions go at the end": the rows that stand after a call that was done
+-- NET-6: the rows after a call that answered 0
 pub record RowsAfter : Type 0 where
   pub afresh : (n : ℕ) (t : ClassTable) → setAfresh n t .answer ≡ Done → standing (setAfresh n t .table) ≡ []
   pub added :
       (m : Net) (id : ℕ) (t : ClassTable) → add m id t .added .answer ≡ Done
       → standing (add m id t .table) ≡ standing t ++ (record { net = m; host = id } ∷ [])
-  -- by the number that is answered the new row is found
+  -- NET-3: the new row has the number that was returned
   pub number :
       (m : Net) (id : ℕ) (t : ClassTable) → add m id t .added .answer ≡ Done
       → rowAt (add m id t .added .row) (standing (add m id t .table)) ≡ record { net = m; host = id }
@@ -28,26 +28,26 @@ pub record RowsAfter : Type 0 where
   pub changed :
       (k id : ℕ) (t : ClassTable) → change k id t .answer ≡ Done
       → standing (change k id t .table) ≡ set (standing t) (k - 1) record { net = rowAt k (standing t) .net; host = id }
-  -- changing a row's host id leaves the nets of all rows
+  -- NET-5: a change of an id keeps the nets of all rows
   pub nets :
       (k id : ℕ) (t : ClassTable) → change k id t .answer ≡ Done
       → map (λ (r : Row). r .net) (standing (change k id t .table)) ≡ map (λ (r : Row). r .net) (standing t)
 
--- the table that a call leaves that was done is not one that 12 refuses, whatever was lent
+-- NET-8: a table that a call produced is not bad
 pub record NeverBad : Type 0 where
   pub afresh : (n : ℕ) (t : ClassTable) → setAfresh n t .answer ≡ Done → tableBad (setAfresh n t .table) ≡ false
   pub added : (m : Net) (id : ℕ) (t : ClassTable) → add m id t .added .answer ≡ Done → tableBad (add m id t .table) ≡ false
   pub removed : (k : ℕ) (t : ClassTable) → remove k t .answer ≡ Done → tableBad (remove k t .table) ≡ false
   pub changed : (k id : ℕ) (t : ClassTable) → change k id t .answer ≡ Done → tableBad (change k id t .table) ≡ false
 
--- a refusal changes nothing, and the number of a row that was not added is 0
+-- NET-7: a refusal changes nothing, and returns row number 0
 pub record Refused : Type 0 where
   pub afresh : (n : ℕ) (t : ClassTable) → (setAfresh n t .answer ≡ Done → ⊥) → setAfresh n t .table ≡ t
   pub added : (m : Net) (id : ℕ) (t : ClassTable) → (add m id t .added .answer ≡ Done → ⊥) → (add m id t .table ≡ t) × (add m id t .added .row ≡ 0)
   pub removed : (k : ℕ) (t : ClassTable) → (remove k t .answer ≡ Done → ⊥) → remove k t .table ≡ t
   pub changed : (k id : ℕ) (t : ClassTable) → (change k id t .answer ≡ Done → ⊥) → change k id t .table ≡ t
 
--- 12 asks the id of every row that stands, one behind a row of net zero among them
+-- NET-8: in a table that is not bad every row's id is below NHOSTS, also after a row of net zero
 pub record EveryRow : Type 0 where
   pub below :
       (t : ClassTable) → tableBad t ≡ false → (i : ℕ) → i < length (standing t) → getD (standing t) i zeroRow .host < t .nhosts

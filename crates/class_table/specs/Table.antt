@@ -1,4 +1,4 @@
--- The net table of a class: its NHOSTS and the rows that stand.
+-- NET-1: the net table of a class: its NHOSTS and its rows.
 use mathlib.Core.Bool.{Bool, not, _||_}
 use mathlib.Core.List.{List, _++_}
 use Prim.Native.Nat.{ℕ, _-_}
@@ -8,29 +8,32 @@ use Rattle.route.specs.declared.Row.{Row}
 use Rattle.route.specs.Find.{zeroNet, rowsOf, idsBelow}
 use Rattle.class_table.specs.declared.ClassTable.{ClassTable}
 
--- "full means 32 rows stand"
+-- NET-1: the most rows
 abbrev pub mostRows : ℕ
 mostRows = 32
 
--- the rows that stand, in their order: "numbered from 1 without gaps"
+-- NET-6: the rows in order; row 1 is the first
 abbrev pub standing : ClassTable → List Row
 standing t = rowsOf (t .net)
 
--- "NHOSTS not 1 to 255"
+-- NET-8: is NHOSTS not 1 to 255?
 abbrev pub nhostsBad : ℕ → Bool
 nhostsBad n = ltb n 1 || ltb 255 n
 
--- "a lent table with over 32 rows or such numbers": NHOSTS not 1 to 255, or the id of a row that stands not below it, also behind a row of net zero
+-- NET-8: are there more than 32 rows, a bad NHOSTS, or a row whose id is not below it?
 unfoldable pub tableBad : ClassTable → Bool
 tableBad t = ltb mostRows (t .net .count) || nhostsBad (t .nhosts) || not (idsBelow (t .nhosts) (standing t))
 
 -- ---- the table of given rows; the places behind them are zero
 
+-- NET-6: an empty slot
 abbrev pub zeroRow : Row
 zeroRow = record { net = zeroNet; host = 0 }
 
+-- NET-6: rows with empty slots after them
 abbrev pub padded : List Row → List Row
 padded rows = rows ++ replicate (mostRows - length rows) zeroRow
 
+-- NET-1, NET-2: the table of an NHOSTS and rows
 abbrev pub tableOf : (nhosts : ℕ) → List Row → ClassTable
 tableOf n rows = record { nhosts = n; net = record { count = length rows; rows = padded rows } }

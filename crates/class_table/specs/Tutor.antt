@@ -1,5 +1,4 @@
--- The tutor's four calls: "set afresh without rows, add a row, remove a row, change a row's host id". Each gives the table afterwards and its answer.
--- "order 12, 22, 21, 1". A refusal leaves the table that was lent.
+-- NET-2 to NET-7: the tutor's four calls. Each gives the table afterwards and its answer.
 use mathlib.Core.Bool.{Bool, cond, not, _||_}
 use mathlib.Core.List.{List, [], _∷_, _++_}
 use Prim.Native.Nat.{ℕ, suc, _+_, _-_}
@@ -15,48 +14,50 @@ use Rattle.class_table.specs.declared.Added.{Added}
 use Rattle.class_table.specs.declared.Addition.{Addition}
 use Rattle.class_table.specs.Table.{mostRows, standing, nhostsBad, tableBad, zeroRow, tableOf}
 
+-- NET-7: a table and an answer
 abbrev pub leaves : ClassTable → Answer → Outcome
 leaves t a = record { table = t; answer = a }
 
 -- ---- rows
 
--- 22: "no row of that number"; none is number 0
+-- NET-7, ANSWER-22: is there no row of that number? None is number 0.
 abbrev pub noRow : (number : ℕ) → List Row → Bool
 noRow k rows = eqb k 0 || ltb (length rows) k
 
--- 21: "full means 32 rows stand"
+-- NET-7, ANSWER-21: are there 32 rows?
 abbrev pub full : List Row → Bool
 full rows = leb mostRows (length rows)
 
+-- NET-6: the row of a number
 abbrev pub rowAt : (number : ℕ) → List Row → Row
 rowAt k rows = getD rows (k - 1) zeroRow
 
--- "additions go at the end"
+-- NET-3: rows with one more at the end
 abbrev pub withRow : Row → List Row → List Row
 withRow r rows = rows ++ (r ∷ [])
 
--- the row out, those behind it moved up
+-- NET-4: rows without one; those after it move up
 abbrev pub withoutRow : (number : ℕ) → List Row → List Row
 withoutRow k rows = take (k - 1) rows ++ drop k rows
 
--- the row with another id; its net stays
+-- NET-5: rows with another id in one; its net stays
 abbrev pub withId : (number id : ℕ) → List Row → List Row
 withId k id rows = set rows (k - 1) record { net = rowAt k rows .net; host = id }
 
 -- ---- the calls
 
--- set afresh: the class's NHOSTS, and no rows; "in every call but its setting afresh 12"
+-- NET-2: initialize the table; 1 for a bad NHOSTS
 unfoldable pub setAfresh : (nhosts : ℕ) → ClassTable → Outcome
 setAfresh n t = cond (nhostsBad n) (leaves t Setting) (leaves (tableOf n []) Done)
 
--- remove a row: 12, 22
+-- NET-4, NET-7: remove a row: 12, 22, 0
 unfoldable pub remove : (number : ℕ) → ClassTable → Outcome
 remove k t =
     cond (tableBad t) (leaves t OutOfRange)
     (cond (noRow k (standing t)) (leaves t NoRow)
     (leaves (tableOf (t .nhosts) (withoutRow k (standing t))) Done))
 
--- change a row's host id: 12, 22, 1
+-- NET-5, NET-7: change a row's id: 12, 22, 1, 0
 unfoldable pub change : (number id : ℕ) → ClassTable → Outcome
 change k id t =
     cond (tableBad t) (leaves t OutOfRange)
@@ -64,10 +65,11 @@ change k id t =
     (cond (not (ltb id (t .nhosts))) (leaves t Setting)
     (leaves (tableOf (t .nhosts) (withId k id (standing t))) Done)))
 
--- add a row: 12, 21, 1; it answers the row's number, 0 where it refuses
+-- NET-3: a table, an answer and a row's number
 abbrev pub addition : ClassTable → Answer → (number : ℕ) → Addition
 addition t a k = record { table = t; added = record { answer = a; row = k } }
 
+-- NET-3, NET-7: add a row: 12, 21, 1, 0
 unfoldable pub add : Net → (id : ℕ) → ClassTable → Addition
 add m id t =
     cond (tableBad t) (addition t OutOfRange 0)

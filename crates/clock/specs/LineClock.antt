@@ -1,4 +1,4 @@
--- The clock of a line-clock seat, which passes zero for the count, and no mark: document 01's own words, with midnight tested on CLOCK alone.
+-- CLOCK-14: the clock without a counter. Midnight is tested on CLOCK alone.
 use mathlib.Core.Path.{_≡_}
 use mathlib.Core.Bool.{Bool, cond}
 use Prim.Native.Nat.{ℕ}
@@ -17,45 +17,52 @@ use Rattle.clock.specs.Midnight.{day, dayOn, dayBack}
 use Rattle.clock.specs.Clock.{movedOn, share, slews, tick, adjust, setBy, reading}
 use Rattle.clock.specs.Crystal.{counting}
 
+-- CLOCK-14: the count of a line clock
 abbrev pub noCount : Count
 noCount = counts 0
 
+-- CLOCK-14: the counter of a line clock
 abbrev pub noCounter : Counter
 noCounter = counting noCount
 
--- "While CLOCK exceeds 86,400,000 ms .. While it is below 0 .."
+-- CLOCK-14: how many days CLOCK is away from its day
 abbrev pub clockDays : Clock → ℕ
 clockDays c = natAbs (divUnits (c .clock) (natAbs (day .0)) .0)
 
+-- CLOCK-5: is CLOCK more than a day?
 abbrev pub clockExceeds : Clock → Bool
 clockExceeds c = lessUnits day (c .clock)
 
+-- CLOCK-6: is CLOCK negative?
 abbrev pub clockBelow : Clock → Bool
 clockBelow c = lessUnits (c .clock) (units (pos 0))
 
+-- CLOCK-5, CLOCK-6: midnight on CLOCK alone
 unfoldable pub lineMidnight : (holdInterval : Seconds) → Clock → Clock
 lineMidnight h c = while clockDays clockBelow (dayBack h) (while clockDays clockExceeds (dayOn h) c)
 
--- "Tick adds CLOCK-TICK to CLOCK."
+-- CLOCK-2: tick without a counter
 abbrev pub lineTick : (clockTick : Units) (holdInterval : Seconds) → Clock → Clock
 lineTick t h c = lineMidnight h (movedOn t c)
 
+-- CLOCK-3: adjust without a counter
 abbrev pub lineAdjust : (holdInterval : Seconds) → Clock → Clock
 lineAdjust h c =
     lineMidnight h
     (record { clock = addUnits (c .clock) (share c); delta = subUnits (c .delta) (share c); hold = c .hold; date = c .date })
 
+-- CLOCK-4: set without a counter
 abbrev pub lineSet : (holdInterval : Seconds) → Millis → Clock → Clock
 lineSet h m c =
     lineMidnight h
     (cond (slews m) record { clock = c .clock; delta = toUnits m; hold = c .hold; date = c .date }
     record { clock = addUnits (c .clock) (toUnits m); delta = units (pos 0); hold = h; date = c .date })
 
--- "Read answers the whole milliseconds of CLOCK, and DATE."
+-- CLOCK-8: the milliseconds of CLOCK; nothing changes
 abbrev pub lineReading : Clock → Reading
 lineReading c = record { clock = c; time = wholeMillis (c .clock) }
 
--- "line-clock seats pass zero": then the clock is that clock. Its CLOCK, from 0 to 86,400,000 ms, is read without a change.
+-- CLOCK-14: with a count of zero and no mark, the clock is the one without a counter
 pub record LineClock : Type 0 where
   pub ticks : (t : Units) (h : Seconds) (c : Clock) → tick t h noCount c ≡ lineTick t h c
   pub adjusts : (h : Seconds) (c : Clock) → adjust h noCount c ≡ lineAdjust h c

@@ -1,4 +1,4 @@
--- The guard: answers 12, 16 and 1, tested before anything else in every call, in that order.
+-- CALL-2: the guard tests for 12, 16 and 1, in this order, before every call.
 use mathlib.Core.Bool.{Bool, false, cond, not, _||_}
 use mathlib.Core.List.{List}
 use Prim.Native.Nat.{ℕ, _+_}
@@ -18,16 +18,17 @@ use Rattle.host.specs.State.{placesPerHost, firstPlace, noLink}
 use Rattle.host.specs.Walk.{isOpen}
 use Rattle.host.specs.Lent.{Lent, lentInRange}
 
--- ---- 12: "seat over 15, link not from 1 to the seat's count (8 at most), the seat's places not all in the run, or something lent out of range"
+-- ---- 12
 
+-- ANSWER-12, TABLE-8: is the host's number over 15, or are its places not all in the host table?
 unfoldable pub noPlaces : (number : ℕ) → List Entry → Bool
 noPlaces k run = ltb 15 k || ltb (length run) (firstPlace k + placesPerHost)
 
--- the octets of the longest packet, 1,052, which a walk's copy has room for
+-- WALK-1: the octets of the longest packet
 abbrev pub longest : ℕ
 longest = packetLength 255
 
--- by how much a call tests: setting afresh "tests numbers and places only", the others all that is lent, and the link that they name; opening a walk also the room for its packet
+-- ANSWER-12, HOST-6, HOST-7: is the host's state out of range, or the link not there? Initialize tests number and places only.
 abbrev pub ownOutOfRange : Scope → Lent → Bool
 ownOutOfRange Places x = noPlaces (x .number) (x .run)
 ownOutOfRange All x = noPlaces (x .number) (x .run) || not (lentInRange x)
@@ -37,11 +38,12 @@ ownOutOfRange (Opening i) x =
     ltb (length (x .copy)) longest
     || (noLink (x .host .settings) i || (noPlaces (x .number) (x .run) || not (lentInRange x)))
 
--- "in every call .. 12 for a lent table with over 32 rows or such numbers", in a seat's setting afresh too
+-- ANSWER-12, NET-8: that, or a bad net table
 abbrev pub outOfRange : Scope → Lent → Bool
 outOfRange a x = tableBad (x .nets) || ownOutOfRange a x
 
--- ---- 16: "seat is in the middle of a walk": "the seat refuses its other calls, except setting afresh, which drops the walk"
+-- ---- 16
+-- ANSWER-16, WALK-4: is a walk open, in a call that it excludes?
 abbrev pub inWalk : Scope → Walk → Bool
 inWalk Places w = false
 inWalk All w = isOpen w
@@ -49,12 +51,13 @@ inWalk Walking w = false
 inWalk (OnLink i) w = isOpen w
 inWalk (Opening i) w = isOpen w
 
--- 12, 16 "right after 12", then 1, and Done where the call may go on
+-- CALL-2, REPLY-1, ANSWER-1, NET-9: 12, then 16, then 1, else Done
 unfoldable pub guard : Scope → Lent → Answer
 guard a x =
     cond (outOfRange a x) OutOfRange
     (cond (inWalk a (x .walk)) InWalk
     (cond (not (settingsFit (x .nets) (x .host .settings))) Setting Done))
 
+-- ANSWER-0: is the answer 0?
 abbrev pub done : Answer → Bool
 done a = eqb (number a) 0

@@ -1,4 +1,4 @@
--- The inspection of an arrival, answers 3 to 9: 3 to 7 by the octets alone, then 8 and step 1 of section 3.3.3.
+-- INSPECT-1: the tests for 3 to 9: 3 to 7 on the octets alone, then 8 and step 1.
 use mathlib.Core.Bool.{Bool, cond, not, _&&_, _||_}
 use mathlib.Core.List.{List}
 use Prim.Native.Nat.{ℕ}
@@ -15,24 +15,26 @@ use Rattle.host.specs.State.{broadcast}
 use Rattle.host.specs.declared.Reply.{Reply}
 use Rattle.host.specs.Reply.{plainly, tellsPacket}
 
--- "If NHOSTS isn't 0, it and ADDRESS-OFFSET must equal ours, else 8."
+-- PACKET-10, ANSWER-8: has the packet a table of another layout?
 unfoldable pub otherLayout : Settings → Packet → Bool
 otherLayout s p =
     not (eqb (p .nhosts) 0)
     && (not (eqb (p .nhosts) (s .layout .nhosts)) || not (eqb (p .«address_offset») (s .layout .«address_offset»)))
 
--- "1. Source equals LOCAL-ADDRESS on a point-to-point link: 9."
+-- ARRIVE-1, ANSWER-9, MARK-4: is the source our LOCAL-ADDRESS on a point-to-point link?
 unfoldable pub looped : Settings → (link : ℕ) → Packet → Bool
 looped s i p = not (broadcast s i) && sameAddress (p .source) (s .address)
 
+-- INSPECT-1, INSPECT-5: 8 and 9, after 3 to 7
 abbrev pub inspected : Settings → (link : ℕ) → Parsed → Parsed
 inspected s i (Bad a) = Bad a
 inspected s i (Good p) = cond (otherLayout s p) (Bad OtherLayout) (cond (looped s i p) (Bad LoopedLine) (Good p))
 
+-- INSPECT-1, INSPECT-5: the packet, or the first of 3 to 9
 unfoldable pub inspect : Settings → (link : ℕ) → (packet : List ℕ) → Parsed
 inspect s i octets = inspected s i (parse octets)
 
--- ".. and tells source, time, TSP and host count (zeros if refused)"
+-- INSPECT-2: what an inspection returns; zeros at a refusal
 abbrev pub tells : Parsed → Reply
 tells (Bad a) = plainly a
 tells (Good p) = tellsPacket (p .source) (p .time) (bits16 (p .tsp .0)) (p .nhosts)

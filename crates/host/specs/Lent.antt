@@ -1,4 +1,4 @@
--- What a call is lent: a host by itself, which document 01 calls a seat, the class's net table, the host's number, its walk with the copy of a packet, and the host table that all hosts share, its run.
+-- CALL-4, HOST-6: everything that a call takes: settings, clock and links, the net table, the host's number, its walk with the packet's copy, and the host table.
 use mathlib.Core.Bool.{Bool, _&&_}
 use mathlib.Core.List.{List}
 use Prim.Native.Nat.{ℕ}
@@ -18,18 +18,21 @@ use Rattle.host.specs.Settings.{linkCount}
 use Rattle.host.specs.State.{linkInRange, entries}
 use Rattle.host.specs.Walk.{walkInRange}
 
+-- HOST-3: a host by itself: settings, clock and links
 pub record Host : Type 0 where
   pub settings : Settings
   pub clock : Clock
   pub links : Links
 
+-- HOST-3: a host of its parts
 abbrev pub host : Settings → Clock → Links → Host
 host s c l = record { settings = s; clock = c; links = l }
 
--- our reading: "CLOCK plus a 16-bit count"
+-- CLOCK-8: our reading: CLOCK plus the count
 abbrev pub ourReading : Counter → Host → Reading
 ourReading k h = reading (h .settings .«clock_tick») (h .settings .«hold_interval») k (h .clock)
 
+-- CALL-4, NET-1: everything that a call takes
 pub record Lent : Type 0 where
   pub host : Host
   pub nets : ClassTable
@@ -38,23 +41,26 @@ pub record Lent : Type 0 where
   pub copy : List ℕ
   pub run : List Entry
 
+-- CALL-4: the same of its parts
 abbrev pub lent : Settings → ClassTable → (number : ℕ) → Clock → Links → Walk → (copy : List ℕ) → List Entry → Lent
 lent s t k c l w copy run = record { host = host s c l; nets = t; number = k; walk = w; copy = copy; run = run }
 
--- the host's own entries
+-- TABLE-8: the host's own entries
 abbrev pub entriesOf : Lent → List Entry
 entriesOf x = entries (x .host .settings) (x .number) (x .run)
 
--- "Ranges of what is lent": the clock, the links up to the count, a walk, the first NHOSTS entries
+-- HOST-6: are the clock and the host's links in range?
 abbrev pub hostInRange : Host → Bool
 hostInRange h = clockInRange (h .clock) && every linkInRange (take (linkCount (h .settings)) (h .links .all))
 
+-- HOST-6, WALK-9: is the walk in range?
 abbrev pub ownWalkInRange : Lent → Bool
 ownWalkInRange x = walkInRange (x .host .settings) (x .walk) (x .copy)
 
--- "12 also where an entry's mark isn't the settings'"
+-- MARK-3: is the mark of each entry the settings' mark?
 abbrev pub marksAsSet : Lent → Bool
 marksAsSet x = everyFrom 0 (asMarked (x .host .settings .marks)) (entriesOf x)
 
+-- HOST-6: is the caller's state in range?
 unfoldable pub lentInRange : Lent → Bool
 lentInRange x = hostInRange (x .host) && ownWalkInRange x && every entryInRange (entriesOf x) && marksAsSet x

@@ -1,4 +1,4 @@
--- What a call answers: "A send answers its length, a lookup its host id and PID, a read its time and DATE; every refusal answers zero for them." An inspection "tells source, time, TSP and host count (zeros if refused)". "A box answers the next place, none at the end".
+-- REPLY-2: what a call returns. A refusal returns zeros.
 use Prim.Native.Nat.{ℕ}
 use lib.IntN.{pos}
 use Rattle.quantity.specs.declared.Millis.{Millis}
@@ -10,6 +10,7 @@ use Rattle.wire.specs.declared.Address.{Address}
 use Rattle.wire.specs.Octets.{zeroAddress}
 use Rattle.host.specs.declared.Reply.{Reply}
 
+-- REPLY-2: an answer and zeros
 abbrev pub plainly : Answer → Reply
 plainly a =
     record {
@@ -26,6 +27,7 @@ plainly a =
       line = 0;
     }
 
+-- REPLY-2, SEND-4: a send's length
 abbrev pub tellsLength : ℕ → Reply
 tellsLength n =
     record {
@@ -42,6 +44,7 @@ tellsLength n =
       line = 0;
     }
 
+-- REPLY-2, CALL-3: a lookup's id and PID
 abbrev pub tellsRoute : (id pid : ℕ) → Reply
 tellsRoute i p =
     record {
@@ -58,6 +61,7 @@ tellsRoute i p =
       line = 0;
     }
 
+-- REPLY-2, CLOCK-8: a reading and DATE
 abbrev pub tellsTime : Millis → Date → Reply
 tellsTime t d =
     record {
@@ -74,7 +78,7 @@ tellsTime t d =
       line = 0;
     }
 
--- TSP as the unsigned 16-bit word
+-- REPLY-2, INSPECT-2: what an inspection returns, TSP unsigned
 abbrev pub tellsPacket : (source : Address) → Millis → (tsp nhosts : ℕ) → Reply
 tellsPacket a t v n =
     record {
@@ -91,7 +95,7 @@ tellsPacket a t v n =
       line = 0;
     }
 
--- step 1 to 5, in step 5 also line 1 to 4 for (a) to (d), and the host id; zeros where there is no place
+-- REPLY-2, WALK-7: a place: step 1 to 5, line 1 to 4 for (a) to (d), host id; zeros for none
 abbrev pub tellsPlace : (step line id : ℕ) → Reply
 tellsPlace n m i =
     record {

@@ -1,4 +1,4 @@
--- "Settings": the test of answer 1, "a setting outside the above".
+-- HOST-1, ANSWER-1: the settings and their ranges.
 use mathlib.Core.Bool.{Bool, false, not, _&&_, _||_}
 use Prim.Native.Nat.{ℕ, min}
 use lib.Dec.{ltb, leb, eqb}
@@ -19,38 +19,40 @@ use Rattle.class_table.specs.declared.ClassTable.{ClassTable}
 use Rattle.host.specs.declared.LinkSetting.{LinkSetting}
 use Rattle.host.specs.declared.Settings.{Settings}
 
+-- HOST-1: is n between two limits?
 abbrev pub fromTo : (least most n : ℕ) → Bool
 fromTo least most n = leb least n && leb n most
 
--- 255: clock setting off
+-- HOST-1: the clock host 255: clock setting off
 abbrev pub clockSettingOff : ℕ
 clockSettingOff = 255
 
--- the id that LOCAL-ADDRESS gives, the host's own
+-- HOST-5: the id that LOCAL-ADDRESS gives
 abbrev pub ownId : Settings → Found
 ownId s = localId (s .layout) (s .address)
 
--- the id of an address, by the host's own net or the class's net table
+-- ROUTE-6, NET-1: the id of an address, by our net or by the class's net table
 abbrev pub foundFor : ClassTable → Settings → Address → Found
 foundFor t s a = find (s .address) (s .layout) (t .net) a
 
--- the links of the host: its first count, 8 at most
+-- HOST-2: how many links the host has, 8 at most
 abbrev pub linkCount : Settings → ℕ
 linkCount s = min (s .«link_count») 8
 
--- a link's switch: 0 is point-to-point, 1 broadcast
+-- HOST-2: is a link's switch 0 or 1?
 abbrev pub switchGood : LinkSetting → Bool
 switchGood x = leb (x .broadcast) 1
 
+-- HOST-2: are the switches of all the host's links good?
 abbrev pub switchesGood : Settings → Bool
 switchesGood s = every switchGood (take (linkCount s) (s .links))
 
--- an id that is marked: its host lives here
+-- MARK-2: was an id found that is marked?
 abbrev pub foundMarked : Marks → Found → Bool
 foundMarked m Nothing = false
 foundMarked m (Id id) = marked m id
 
--- the rules of the settings, in the papers' order: the links, the numbers, the time and the date
+-- HOST-1: are links, numbers, time and date in range?
 abbrev pub numbersGood : Settings → Bool
 numbersGood s =
     fromTo 1 8 (s .«link_count»)
@@ -63,13 +65,14 @@ numbersGood s =
     && (not (lessMillis (s .time) (millis (pos 0))) && lessMillis (s .time) dayMillis)
     && real (s .date)
 
--- an id of one's own; "1 also where the own id is unmarked or a mark lies at NHOSTS or above"
+-- MARK-2, HOST-5: is there an own id that is marked, and no mark from NHOSTS on?
 abbrev pub marksGood : Settings → Bool
 marksGood s = isFound (ownId s) && foundMarked (s .marks) (ownId s) && noneFrom (s .marks) (s .layout .nhosts)
 
+-- HOST-1, ANSWER-1: are the settings good?
 unfoldable pub settingsGood : Settings → Bool
 settingsGood s = numbersGood s && marksGood s
 
--- "The table holds the class's NHOSTS; a seat set with another gives 1."
+-- NET-9, ANSWER-1: are the settings good, with the table's NHOSTS?
 abbrev pub settingsFit : ClassTable → Settings → Bool
 settingsFit t s = settingsGood s && eqb (s .layout .nhosts) (t .nhosts)

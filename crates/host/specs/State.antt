@@ -1,4 +1,4 @@
--- "What a seat has": its links by number, and its places in the run that all hosts share; and what is fresh.
+-- HOST-2, TABLE-8: a host's links by number, and its places in the host table.
 use mathlib.Core.Bool.{Bool, true, cond, _||_}
 use mathlib.Core.List.{List, map}
 use Prim.Native.Nat.{ℕ, _-_, _*_, min}
@@ -17,62 +17,71 @@ use Rattle.host.specs.declared.Link.{Link}
 use Rattle.host.specs.declared.Links.{Links}
 use Rattle.host.specs.Settings.{linkCount}
 
--- ---- links: "1 to 8 links, numbered from 1; that number is the PID"
+-- ---- links
 
--- "a point-to-point or broadcast switch": 0 or 1
+-- HOST-2: is the switch broadcast?
 abbrev pub isBroadcast : LinkSetting → Bool
 isBroadcast x = eqb (x .broadcast) 1
 
+-- HOST-2: a link that is not set
 abbrev pub unset : LinkSetting
 unset = record { broadcast = 0; neighbor = zeroAddress }
 
+-- HOST-2: is link i a broadcast link?
 abbrev pub broadcast : Settings → ℕ → Bool
 broadcast s i = isBroadcast (getD (s .links) (i - 1) unset)
 
--- "TSP and KEEP-ALIVE zero; .. NEIGHBOR-ADDRESS zero, or as set for a broadcast link"
+-- HOST-4: a fresh link
 abbrev pub freshLink : LinkSetting → Link
 freshLink x = record { neighbor = cond (isBroadcast x) (x .neighbor) zeroAddress; «keep_alive» = 0; tsp = word (pos 0) }
 
+-- HOST-4: all links fresh
 unfoldable pub freshLinks : Settings → Links
 freshLinks s = record { all = map freshLink (s .links) }
 
+-- HOST-2: link i
 abbrev pub linkOf : Links → ℕ → Link
 linkOf l i = getD (l .all) (i - 1) (freshLink unset)
 
+-- HOST-2: the links with another link i
 abbrev pub withLink : ℕ → Link → Links → Links
 withLink i x l = record { all = set (l .all) (i - 1) x }
 
--- "link not from 1 to the seat's count (8 at most)"
+-- HOST-2, ANSWER-12: is i no link of the host?
 unfoldable pub noLink : Settings → (link : ℕ) → Bool
 noLink s i = eqb i 0 || ltb (linkCount s) i
 
--- "KEEP-ALIVE-INTERVAL 4"
+-- HOST-3: KEEP-ALIVE-INTERVAL
 abbrev pub keepAliveInterval : ℕ
 keepAliveInterval = 4
 
+-- HOST-3: is KEEP-ALIVE in range?
 abbrev pub linkInRange : Link → Bool
 linkInRange x = leb (x .«keep_alive») keepAliveInterval
 
--- ---- entries: "All seats use one run of entries lent by the caller; seat k .. owns the 255 places from 255k."
+-- ---- entries
 
+-- TABLE-8: the places of each host
 abbrev pub placesPerHost : ℕ
 placesPerHost = 255
 
+-- TABLE-8: the first place of a host
 abbrev pub firstPlace : (number : ℕ) → ℕ
 firstPlace k = placesPerHost * k
 
--- the host's first NHOSTS places, 255 at most
+-- TABLE-9: how many places the host uses: NHOSTS, 255 at most
 abbrev pub hostCount : Settings → ℕ
 hostCount s = min (s .layout .nhosts) placesPerHost
 
--- an id that has a place, and no id
+-- TABLE-8: has a found id a place?
 abbrev pub hasPlace : Found → Bool
 hasPlace Nothing = true
 hasPlace (Id id) = ltb id placesPerHost
 
+-- TABLE-8: the host's entries
 unfoldable pub entries : Settings → (number : ℕ) → List Entry → List Entry
 entries s k run = part (firstPlace k) (hostCount s) run
 
--- the run with these entries in the host's first places; the others stay
+-- TABLE-9: the host table with these entries in the host's first places; all others stay
 unfoldable pub withEntries : (number : ℕ) → List Entry → List Entry → List Entry
 withEntries k es run = over run (firstPlace k) es

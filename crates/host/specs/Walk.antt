@@ -1,4 +1,4 @@
--- A walk: "holds the arrival as a place in section 3.3.3 (step 1 to 5, in step 5, behind a box of its own, also the next host id and update line, d for the clock host only)"; and what of it is out of range, answer 12.
+-- WALK-2, WALK-9: a walk, its places, and when it is in range.
 use mathlib.Core.Bool.{Bool, true, false, cond, not, _&&_, _||_}
 use mathlib.Core.List.{List}
 use Prim.Native.Nat.{ℕ}
@@ -23,10 +23,11 @@ use Rattle.host.specs.declared.walk.Place.the-variants.{Nowhere, Step1, 
 use Rattle.host.specs.State.{noLink}
 use Rattle.host.specs.Inspection.{inspect}
 
--- any mark but 0 is one
+-- WALK-2: is a walk open? Any mark except 0 says so.
 abbrev pub isOpen : Walk → Bool
 isOpen w = not (eqb (w .opened) 0)
 
+-- WALK-2: a closed walk: zeros
 abbrev pub noWalk : Walk
 noWalk =
     record {
@@ -44,6 +45,7 @@ noWalk =
 
 -- ---- places: a step from 1 to 5, or in step 5 a line from 1 to 4, for (a) to (d)
 
+-- WALK-2: the place of a step from 1 to 5
 abbrev pub stepPlace : ℕ → Place
 stepPlace n =
     cond (eqb n 1) Step1
@@ -52,6 +54,7 @@ stepPlace n =
     (cond (eqb n 4) Step4
     (cond (eqb n 5) Step5 Nowhere))))
 
+-- WALK-2: the place of a line from 1 to 4, for (a) to (d)
 abbrev pub linePlace : ℕ → Place
 linePlace m =
     cond (eqb m 1) LineA
@@ -59,38 +62,46 @@ linePlace m =
     (cond (eqb m 3) LineC
     (cond (eqb m 4) LineD Nowhere)))
 
+-- WALK-2: the place of a step and a line
 abbrev pub placeIn : (step line : ℕ) → Place
 placeIn n m = cond (eqb m 0) (stepPlace n) (cond (eqb n 5) (linePlace m) Nowhere)
 
+-- WALK-2: the next place of a walk
 unfoldable pub placeOf : Walk → Place
 placeOf w = placeIn (w .step) (w .line)
 
--- ---- "copies the packet at opening"
+-- ----
 
+-- WALK-1: the walk's packet, at the start of its copy
 abbrev pub packetOf : Walk → (copy : List ℕ) → List ℕ
 packetOf w copy = take (w .length) copy
 
 -- ---- what the lines of an id update it with: DELAY and OFFSET as they are held, with the packet's report where it has a table
 
+-- WALK-2: the update with the walk's DELAY, OFFSET and reading
 abbrev pub heldUpdate : Walk → Update
 heldUpdate w = record { pid = w .link; delay = ofWord (w .delay); offset = w .offset; reading = w .reading }
 
+-- WALK-3, UPDATE-1: the update of the walk's id: with its report if the packet has a table
 abbrev pub lineUpdate : Walk → Packet → (packet : List ℕ) → Update
 lineUpdate w p octets =
     cond (eqb (p .nhosts) 0) (heldUpdate w) (plusReport (heldUpdate w) (reportAt (helloOf octets) (w .id)))
 
--- ---- 12: "also where a held packet is one that 3 to 9 would refuse, a held host id isn't below NHOSTS, a held reading is over 86,400,000 or line c would store a DELAY outside 100 to 29,999"
+-- ---- 12
 
+-- WALK-9: is the walk's reading at most a day?
 abbrev pub readingInRange : Walk → Bool
 readingInRange w = upTo dayMillis (w .reading)
 
+-- WALK-9: is the walk's host id below NHOSTS?
 abbrev pub idInRange : Settings → Walk → Bool
 idInRange s w = ltb (w .id) (s .layout .nhosts)
 
+-- WALK-9: would line (c) store a DELAY of 100 to 29,999?
 abbrev pub storable : Update → Bool
 storable u = not (lessMillis (u .delay) minDelay) && lessMillis (u .delay) maxDelay
 
--- only what is held by then: our reading from step 2 on, an id at the lines
+-- WALK-9: is everything in range that the walk's place uses?
 abbrev pub heldAt : Place → Settings → Walk → Packet → (packet : List ℕ) → Bool
 heldAt Nowhere s w p octets = false
 heldAt Step1 s w p octets = true
@@ -103,11 +114,12 @@ heldAt LineB s w p octets = readingInRange w && idInRange s w
 heldAt LineC s w p octets = readingInRange w && idInRange s w && storable (lineUpdate w p octets)
 heldAt LineD s w p octets = readingInRange w && idInRange s w
 
+-- WALK-9: does the walk's packet pass the tests for 3 to 9, and is its place in range?
 abbrev pub packetHeld : Settings → Walk → (packet : List ℕ) → Parsed → Bool
 packetHeld s w octets (Bad a) = false
 packetHeld s w octets (Good p) = heldAt (placeOf w) s w p octets
 
--- only while a walk is open, and with the settings of the call
+-- WALK-9: is a walk closed, or in range with the settings of the call?
 unfoldable pub walkInRange : Settings → Walk → (copy : List ℕ) → Bool
 walkInRange s w copy =
     not (isOpen w)

@@ -1,4 +1,4 @@
--- What a send comes to: the reply, the clock and the links afterwards, and the message, with a report of which ids.
+-- SEND-4: what a send results in: the reply, clock and links, and the message with its reports.
 use mathlib.Core.Bool.{true, false, cond}
 use mathlib.Core.List.{List, map, _++_}
 use Prim.Native.Nat.{ℕ, _-_}
@@ -25,10 +25,11 @@ use Rattle.host.specs.Reply.{plainly, tellsLength}
 use Rattle.sending.specs.declared.Sending.{Sending}
 use Rattle.sending.specs.Message.{tableGoes, linkSent, packetSent}
 
--- how many reports go out
+-- SEND-2: how many reports go out
 abbrev pub reportCount : Settings → Link → ℕ
 reportCount s x = cond (tableGoes s x) (hostCount s) 0
 
+-- SEND-4: no packet
 abbrev pub noPacket : Packet
 noPacket =
     record {
@@ -40,7 +41,7 @@ noPacket =
       nhosts = 0;
     }
 
--- no message: nothing changes
+-- SEND-4, CLOCK-16: a send without a message: nothing changes
 abbrev pub unsent : Answer → Host → Sending
 unsent a h =
     record {
@@ -53,7 +54,7 @@ unsent a h =
       packet = noPacket;
     }
 
--- "destination NEIGHBOR-ADDRESS"; a report of each id goes out, or of none
+-- SEND-1, SEND-2, CLOCK-16: a send with its reading, to NEIGHBOR-ADDRESS
 abbrev pub sentAt : Reading → (link : ℕ) → Host → Sending
 sentAt r i h =
     let x : Link = linkOf (h .links) i in
@@ -68,16 +69,16 @@ sentAt r i h =
       packet = packetSent (h .settings) x (r .time) (r .clock .date) n;
     }
 
--- "sends .. read once, before DATE or HOLD is used"
+-- SEND-1, CLOCK-16: a send; it reads the clock once, first
 abbrev pub sends : (link : ℕ) → Counter → Host → Sending
 sends i k h = sentAt (ourReading k h) i h
 
--- 2, "send buffer shorter than the message"; it doesn't read
+-- SEND-4, ANSWER-2, CLOCK-16: 2 if the buffer is too short, without a reading; else the send
 abbrev pub sendIn : (link : ℕ) → Counter → (room : ℕ) → Host → Sending
 sendIn i k room h =
     cond (ltb room (packetLength (reportCount (h .settings) (linkOf (h .links) i)))) (unsent ShortBuffer h) (sends i k h)
 
--- the message in front; "octets beyond the message stay"
+-- SEND-4, TABLE-6: the message at the buffer's start; the octets after it stay
 abbrev pub written : Sending → List Entry → (buffer : List ℕ) → List ℕ
 written p es buffer =
     cond (p .goes)

@@ -1,4 +1,4 @@
--- What becomes of the entries at the places from `first` on, up to `end`. "All seats use one run of entries lent by the caller."
+-- TABLE-8, UPDATE-2: changes to the entries at the places from `first` to before `end`.
 use mathlib.Core.Bool.{Bool, cond}
 use mathlib.Core.List.{List}
 use Prim.Native.Nat.{ℕ, _-_}
@@ -23,26 +23,29 @@ use Rattle.table.specs.Sweep.{Swept, sweep}
 
 -- ---- changing each entry
 
--- the n-th entry from `first` on: where entries are set afresh, that is the one of id n
+-- MARK-1, TABLE-5, SELF-1: the n-th entry after a change; a fresh entry has the mark of id n
 abbrev pub changed : Marks → Change → (n : ℕ) → Entry → Entry
 changed m Fresh n e = withMark (mark m n) freshEntry
 changed m Aged n e = aged e
 changed m (Reported reading) n e = reportedHere reading e
 changed m (Put x) n e = x
 
+-- TABLE-8, TABLE-9: the host table after a change to these places
 unfoldable pub changes : Changes → List Entry → List Entry
 changes w run = over run (w .first) (mapFrom 0 (changed (w .marks) (w .change)) (part (w .first) (w .end - w .first) run))
 
 -- ---- the updates of an arrival
 
+-- UPDATE-1: the update of an id: with its report if the packet has a table
 abbrev pub updateAt : Updates → (id : ℕ) → (packet : List ℕ) → Update
 updateAt w id packet = cond (w .table) (plusReport (w .update) (reportAt (helloOf packet) id)) (w .update)
 
+-- UPDATE-2, UPDATE-d: clock and entry after the update of a place; line (d) for the clock host
 abbrev pub updatedAt : Updates → (packet : List ℕ) → (place : ℕ) → Clock → Entry → Updated
 updatedAt w packet i c e =
     update (eqb (i - w .base) (w .«clock_host»)) (w .«hold_interval») (w .count) (w .date) (updateAt w (i - w .base) packet) c e
 
--- the clock, and the whole run
+-- UPDATE-2: clock and host table after all updates of an arrival
 unfoldable pub updates : Updates → (packet : List ℕ) → List Entry → Swept
 updates w packet run =
     let swept : Swept = sweep (w .first) (updatedAt w packet) (w .clock) (part (w .first) (w .end - w .first) run) in

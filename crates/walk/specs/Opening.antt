@@ -1,4 +1,4 @@
--- Opening a walk: "copies the packet at opening"; "Opening a walk makes the tests of 1 and 3 to 9."
+-- WALK-1: opening a walk.
 use mathlib.Core.List.{List}
 use Prim.Native.Nat.{ℕ}
 use lib.IntN.{pos}
@@ -14,7 +14,7 @@ use Rattle.host.specs.Reply.{plainly, tellsPlace}
 use Rattle.host.specs.Inspection.{inspect}
 use Rattle.walk.specs.declared.Opening.{Opening}
 
--- at step 1
+-- WALK-1: a walk before step 1
 abbrev pub openedOn : (link octets : ℕ) → Walk
 openedOn i n =
     record {
@@ -30,14 +30,15 @@ openedOn i n =
       offset = word (pos 0);
     }
 
--- the reply, the walk, and how many octets are copied
+-- WALK-1: the reply, the walk, and how many octets are copied
 abbrev pub openedBy : (link : ℕ) → (packet : List ℕ) → Walk → Parsed → Opening
 openedBy i octets w (Bad a) = record { reply = plainly a; walk = w; octets = 0 }
 openedBy i octets w (Good p) = record { reply = tellsPlace 1 0 0; walk = openedOn i (length octets); octets = length octets }
 
+-- WALK-1: opening, with the tests for 3 to 9
 unfoldable pub opening : (link : ℕ) → (packet : List ℕ) → Settings → Walk → Opening
 opening i octets s w = openedBy i octets w (inspect s i octets)
 
--- the packet's first octets, so many, at the front of the copy; octets behind them stay
+-- WALK-1: the copy with the packet at its start; the octets after it stay
 unfoldable pub copied : (octets : ℕ) → (packet copy : List ℕ) → List ℕ
 copied n packet copy = over copy 0 (take n packet)

@@ -1,4 +1,4 @@
--- The HELLO: "octets from its start: checksum 0-1, date word 2-3, time in ms 4-7, TSP 8-9, ADDRESS-OFFSET 10, NHOSTS 11, then per host DELAY and OFFSET, two octets each."
+-- PACKET-5: the HELLO, with its fields by their places from its start.
 use mathlib.Core.Bool.{Bool, _&&_}
 use mathlib.Core.List.{List, [], _∷_, _++_}
 use Prim.Native.Nat.{ℕ, _+_, _*_}
@@ -12,49 +12,56 @@ use Rattle.wire.specs.declared.Packet.{Packet}
 use Rattle.wire.specs.declared.Report.{Report}
 use Rattle.wire.specs.Octets.{two, four, octetAt, twoAt}
 
+-- PACKET-5: the octets before the reports
 abbrev pub fixedLength : ℕ
 fixedLength = 12
 
--- the octets of one host's report
+-- PACKET-5: the octets of one host's report
 abbrev pub reportLength : ℕ
 reportLength = 4
 
 -- ---- the places of the fields
 
+-- PACKET-5: where DATE is
 abbrev pub datePlace : ℕ
 datePlace = 2
 
+-- PACKET-5: where the time is
 abbrev pub timePlace : ℕ
 timePlace = 4
 
+-- PACKET-5: where TSP is
 abbrev pub tspPlace : ℕ
 tspPlace = 8
 
+-- PACKET-5: where ADDRESS-OFFSET is
 abbrev pub addressOffsetPlace : ℕ
 addressOffsetPlace = 10
 
+-- PACKET-5: where NHOSTS is
 abbrev pub nhostsPlace : ℕ
 nhostsPlace = 11
 
--- where the report of host i stands, its DELAY first
+-- PACKET-5: where the report of host i is, DELAY first
 abbrev pub reportPlace : ℕ → ℕ
 reportPlace i = fixedLength + reportLength * i
 
 -- ---- read: the tests of answers 6 and 7, and what is reported of a host
 
--- "Length is 12 + 4 x NHOSTS, else 6."
+-- PACKET-6: the octets of a HELLO with n hosts
 abbrev pub helloLength : (nhosts : ℕ) → ℕ
 helloLength nhosts = fixedLength + reportLength * nhosts
 
+-- PACKET-6, ANSWER-6: does the length fit NHOSTS?
 unfoldable pub helloForm : List ℕ → Bool
 helloForm hello =
     leb fixedLength (length hello) && eqb (length hello) (helloLength (octetAt hello nhostsPlace))
 
--- "The checksum covers the whole HELLO by the same rule."
+-- PACKET-7, ANSWER-7: is the checksum over all octets good?
 unfoldable pub helloChecksum : List ℕ → Bool
 helloChecksum hello = checksumGood hello
 
--- "the packet's delay (unsigned ..)" and "its offset (16 bits signed ..)"
+-- PACKET-5: the report of host i: DELAY unsigned, OFFSET signed
 unfoldable pub reportAt : List ℕ → ℕ → Report
 reportAt hello i =
     record {
@@ -64,19 +71,22 @@ reportAt hello i =
 
 -- ---- written
 
+-- PACKET-5: the octets of a report
 abbrev pub reportOctets : Report → List ℕ
 reportOctets r = two (bits16 (r .delay .0)) ++ two (bits16 (r .offset .0))
 
+-- PACKET-5: the octets of a list of reports
 abbrev pub reportsOctets : List Report → List ℕ
 reportsOctets [] = []
 reportsOctets (r ∷ rs) = reportOctets r ++ reportsOctets rs
 
--- what stands behind the checksum
+-- PACKET-5: everything after the checksum
 abbrev pub helloBehind : Packet → List Report → List ℕ
 helloBehind p rs =
     two (p .date .0) ++ four (natAbs (p .time .0)) ++ two (bits16 (p .tsp .0))
     ++ p .«address_offset» ∷ p .nhosts ∷ []
     ++ reportsOctets rs
 
+-- PACKET-7, CHECKSUM-3: a HELLO with its checksum
 unfoldable pub hello : Packet → List Report → List ℕ
 hello p rs = two (checksumOf (helloBehind p rs)) ++ helloBehind p rs

@@ -1,4 +1,4 @@
--- A packet: the IP header and the HELLO behind its 20 octets; read, with the answers 3 to 7 in their order, and written.
+-- PACKET-8: a packet is the IP header and the HELLO after it. Reading it tests for 3 to 7 in this order.
 use mathlib.Core.Bool.{cond, not}
 use mathlib.Core.List.{List, _++_}
 use Prim.Native.Nat.{ℕ, _+_}
@@ -16,12 +16,13 @@ use Rattle.wire.specs.Octets.{octetAt, twoAt, fourAt, addressAt}
 use Rattle.wire.specs.Ip.{headerLength, sourcePlace, ipForm, ipChecksum, protocol, header}
 use Rattle.wire.specs.Hello.{datePlace, timePlace, tspPlace, addressOffsetPlace, nhostsPlace, helloLength, helloForm, helloChecksum, hello}
 
--- the HELLO of a packet
+-- PACKET-5: the HELLO of a packet
 abbrev pub helloOf : List ℕ → List ℕ
 helloOf octets = drop headerLength octets
 
 -- ---- read
 
+-- PACKET-5, PACKET-2: the fields of a packet; nothing else of it is used
 unfoldable pub fields : List ℕ → Packet
 fields octets =
     record {
@@ -33,6 +34,7 @@ fields octets =
       nhosts = octetAt (helloOf octets) nhostsPlace;
     }
 
+-- PACKET-8: the first test that fails, or the fields
 unfoldable pub parse : List ℕ → Parsed
 parse octets =
     cond (not (ipForm octets)) (Bad IpForm)
@@ -44,9 +46,10 @@ parse octets =
 
 -- ---- written
 
--- the octets of a packet whose table has so many hosts
+-- PACKET-6: the octets of a packet whose table has n hosts
 abbrev pub packetLength : (nhosts : ℕ) → ℕ
 packetLength nhosts = headerLength + helloLength nhosts
 
+-- PACKET-3, PACKET-5: a packet as it is sent
 unfoldable pub message : (destination : Address) → Packet → List Report → List ℕ
 message destination p rs = header (packetLength (p .nhosts)) (p .source) destination ++ hello p rs

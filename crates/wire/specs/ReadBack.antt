@@ -1,4 +1,4 @@
--- Reading back what was written gives what was written: so a message is never refused with 3 to 7.
+-- PACKET-9: reading what was written gives what was written. So a message is never refused with 3 to 7.
 use mathlib.Core.Path.{_≡_}
 use mathlib.Core.List.{List}
 use Prim.Native.Nat.{ℕ, _<_}
@@ -11,7 +11,7 @@ use Rattle.wire.specs.Hello.{reportAt}
 use Rattle.wire.specs.Packet.{helloOf, parse, message}
 use Rattle.wire.specs.code.Ranges.{AddressFits, PacketFits, ReportsFit}
 
--- all octets of a message are octets, and its NHOSTS counts its reports
+-- PACKET-9: all fields fit their octets, and NHOSTS is the number of reports
 pub record MessageFits (destination : Address) (p : Packet) (rs : List Report) : Type 0 where
   pub destination-fits : AddressFits destination
   pub source-fits : AddressFits (p .source)
@@ -21,12 +21,13 @@ pub record MessageFits (destination : Address) (p : Packet) (rs : List Report) :
   pub count : p .nhosts ≡ length rs
   pub reports-fit : ReportsFit rs
 
+-- PACKET-9: for every message that fits: its fields are read back
 unfoldable pub ReadBack : Type 0
 ReadBack =
     (destination : Address) (p : Packet) (rs : List Report) → MessageFits destination p rs
     → parse (message destination p rs) ≡ Good p
 
--- the i-th report, whatever is said to stand past the end of the list
+-- PACKET-9: for every report i of such a message: it is read back
 unfoldable pub ReportsBack : Type 0
 ReportsBack =
     (destination : Address) (p : Packet) (rs : List Report) → ReportsFit rs
