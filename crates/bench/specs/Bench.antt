@@ -1,4 +1,4 @@
--- What a bench is lent beside its file and the class's table: the hosts with the copies of their walks' packets, the run of entries, the slots, a place for each event's answer, and how many events are done.
+-- BENCH-1, NET-12: the state of a bench: hosts, the copies of their walks' packets, the host table, slots, answers, events done.
 use mathlib.Core.List.{List}
 use Prim.Native.Nat.{ℕ, _*_}
 use lib.ListN.{getD}
@@ -13,6 +13,7 @@ use Rattle.host.specs.Lent.{Lent, lent}
 use Rattle.bench_file.specs.Settings.{settingsAt}
 use Rattle.bench.specs.declared.HostState.{HostState}
 
+-- BENCH-1: the state of a bench
 pub record Bench : Type 0 where
   pub hosts : List HostState
   pub copies : List ℕ
@@ -21,21 +22,21 @@ pub record Bench : Type 0 where
   pub answers : List ℕ
   pub done : ℕ
 
--- what set-up and run are lent, as one
+-- BENCH-1: the same of its parts
 abbrev pub bench : (hosts : List HostState) (copies : List ℕ) (run : List Entry) (slots answers : List ℕ) (done : ℕ) → Bench
 bench hosts copies run slots answers n =
     record { hosts = hosts; copies = copies; run = run; slots = slots; answers = answers; done = n }
 
--- a host of the file as it is set afresh: what stands where none is lent
+-- BENCH-1: a fresh host of the file, used if the state has none
 abbrev pub freshHost : (file : List ℕ) (host : ℕ) → HostState
 freshHost file k =
     record { clock = freshClock (settingsAt file k .time) (settingsAt file k .date); links = freshLinks (settingsAt file k); walk = noWalk }
 
--- the octets of a host's copy: 1,052 from 1,052 k on
+-- WALK-1: the copy of a host's walk
 abbrev pub copyOf : (host : ℕ) → List ℕ → List ℕ
 copyOf k copies = part (longest * k) longest copies
 
--- what a call at a host is lent: its settings of the file, the class's table, its own state, and the run that all share
+-- BENCH-1, NET-12: everything that a call at a host takes
 abbrev pub lentAt : (file : List ℕ) → ClassTable → (host : ℕ) → Bench → Lent
 lentAt file t k b =
     let h : HostState = getD (b .hosts) k (freshHost file k) in

@@ -1,4 +1,4 @@
--- What an event does: what its call does, by the call's own definition, its answer kept.
+-- BENCH-4, BENCH-5: an event does what its call does, and its answer is stored.
 use mathlib.Core.Bool.{cond}
 use mathlib.Core.List.{List}
 use Prim.Native.Nat.{ℕ, suc}
@@ -20,12 +20,12 @@ use Rattle.bench_file.specs.Records.{endAt}
 use Rattle.bench.specs.Bench.{Bench, lentAt}
 use Rattle.bench.specs.Slots.{packetOf, roomOf, empty, farEnd, withRoom, withLabel}
 
--- a bench, and the answer of the event that left it so
+-- BENCH-6: the bench after an event, and the event's answer
 pub record After : Type 0 where
   pub bench : Bench
   pub answer : calls.Answer
 
--- what a call at a host left; no event's call changes a walk's copy
+-- BENCH-1: the bench after a call at a host
 abbrev pub leftAt : (host : ℕ) → Outcome → Bench → Bench
 leftAt k o b =
     record {
@@ -37,18 +37,19 @@ leftAt k o b =
       done = b .done;
     }
 
+-- BENCH-5: the bench with other slots
 abbrev pub withSlots : List ℕ → Bench → Bench
 withSlots o b =
     record { hosts = b .hosts; copies = b .copies; run = b .run; slots = o; answers = b .answers; done = b .done }
 
 module _ (file : List ℕ) (t : ClassTable) (h : Header) where
-  -- a tick, adjust, set, second or self-report
+  -- BENCH-4: a tick, adjust, set, second or self-report
   abbrev pub asked : (host : ℕ) → Request → Bench → After
   asked k q b =
       let o : Outcome = perform (ask q) (lentAt file t k b) in
       record { bench = leftAt k o b; answer = o .reply .answer }
 
-  -- a send from a cable's end into a slot: "its packet replaces the old one"; where it is refused, the old one stays
+  -- BENCH-5: a send into a slot; a refused one keeps the slot's packet
   abbrev pub sent : End → (cable end slot : ℕ) → Counter → Bench → After
   sent e c i n k b =
       let o : Outcome = perform (send (e .link) k (roomOf n (b .slots))) (lentAt file t (e .host) b) in
@@ -56,18 +57,18 @@ module _ (file : List ℕ) (t : ClassTable) (h : Header) where
       let slots : List ℕ = cond (done (o .reply .answer)) (withLabel n (o .reply .length) c i put) put in
       record { bench = withSlots slots (leftAt (e .host) o b); answer = o .reply .answer }
 
-  -- an arrival of a slot's packet at the far end of its cable, the inspection and then the action
+  -- BENCH-5, INSPECT-4: an arrival at the far end of the cable: inspection, then action
   abbrev pub taken : End → (slot : ℕ) → Counter → Bench → After
   taken e n k b =
       let o : Outcome = inTurn (e .link) k (packetOf n (b .slots)) (lentAt file t (e .host) b) in
       record { bench = leftAt (e .host) o b; answer = o .reply .answer }
 
-  -- "A tray never filled gives answer 3", and no host is asked
+  -- BENCH-5, ANSWER-3: an arrival; 3 for an empty slot, without a call
   abbrev pub arrived : (slot : ℕ) → Counter → Bench → After
   arrived n k b =
       cond (empty n (b .slots)) record { bench = b; answer = IpForm } (taken (farEnd file h n (b .slots)) n k b)
 
-  -- by the event; a file that passes has no unknown kind
+  -- BENCH-4: what each event does
   abbrev pub carried : Event → Bench → After
   carried (Tick k n) b = asked k (request.Tick n) b
   carried (Adjust k n) b = asked k (request.Adjust n) b
@@ -78,7 +79,7 @@ module _ (file : List ℕ) (t : ClassTable) (h : Header) where
   carried (Arrival n k) b = arrived n k b
   carried Unknown b = record { bench = b; answer = IpForm }
 
--- "its answer kept", and one event more done
+-- BENCH-6: the answer is stored, and one event more is done
 abbrev pub kept : After → Bench
 kept a =
     record {

@@ -1,4 +1,4 @@
--- "Refusals: 18 header or length, 19 a record that names something absent or settings that answer 1 refuses, then 12 entries lent without a seat's places, a tray's cable not in the file or more events done than it has; in that order". A bad table is 12 too, and so is anything lent too short. Set-up asks nothing of slots and of events done.
+-- BENCH-8: 18, then 19, then 12. Set-up does not test slots and events done.
 use mathlib.Core.Bool.{Bool, true, cond, not, _&&_}
 use mathlib.Core.List.{List}
 use Prim.Native.Nat.{ℕ, _*_}
@@ -19,11 +19,11 @@ use Rattle.bench.specs.Answer.{passes}
 use Rattle.bench.specs.Bench.{Bench}
 use Rattle.bench.specs.Slots.{slotLength, slotsGood}
 
--- 19
+-- BENCH-8, ANSWER-19: are all records good?
 unfoldable pub recordsGood : ClassTable → (file : List ℕ) → declared.Header → Bool
 recordsGood t file h = hostsGood t file h && (cablesGood file h && eventsGood file h)
 
--- 12, by lengths: "entries lent without a seat's places"
+-- BENCH-8: the lengths of a bench's state
 abbrev pub lengthsOf : Bench → Lengths
 lengthsOf b =
     record {
@@ -34,28 +34,31 @@ lengthsOf b =
       answers = length (b .answers);
     }
 
+-- BENCH-8: is the state large enough for the file?
 unfoldable pub allLent : declared.Header → Lengths → Bool
 allLent h n =
     leb (placesPerHost * h .hosts) (n .run)
     && (leb (h .hosts) (n .hosts)
     && (leb (longest * h .hosts) (n .copies) && (leb (slotLength * slots) (n .slots) && leb (h .events) (n .answers))))
 
--- 12 in a run besides
+-- BENCH-8: are the slots good, and are no more events done than the file has?
 abbrev pub runnable : declared.Header → (slots : List ℕ) → (done : ℕ) → Bool
 runnable h o n = slotsGood h o && leb n (h .events)
 
--- 18 and 19, or Done
+-- BENCH-8, ANSWER-18, ANSWER-19: 18, then 19
 unfoldable pub fileTested : ClassTable → (file : List ℕ) → Answer
 fileTested t file = cond (headerBad file) Header (cond (not (recordsGood t file (headerOf file))) Absent Done)
 
--- 18, 19, 12 by what the call asks besides
+-- BENCH-8: 18, 19, then 12
 abbrev pub tested : (besides : Bool) → ClassTable → (file : List ℕ) → Lengths → Answer
 tested besides t file n =
     cond (not (passes (fileTested t file))) (fileTested t file)
     (cond (allLent (headerOf file) n && (besides && not (tableBad t))) Done OutOfRange)
 
+-- BENCH-8: the answer of set-up
 abbrev pub setUpGuard : ClassTable → (file : List ℕ) → Bench → Answer
 setUpGuard t file b = tested true t file (lengthsOf b)
 
+-- BENCH-8: the answer of a run
 abbrev pub runGuard : ClassTable → (file : List ℕ) → Bench → Answer
 runGuard t file b = tested (runnable (headerOf file) (b .slots) (b .done)) t file (lengthsOf b)

@@ -1,4 +1,4 @@
--- Set-up and run. "A run is given an allowance of events and reports how many it carried out, refused calls included: the next in order, each doing what its call does and its answer kept, until allowance or file ends."
+-- BENCH-6: set-up and run.
 use mathlib.Core.Bool.{cond}
 use mathlib.Core.List.{List}
 use Prim.Native.Nat.{ℕ, zero, suc, _-_, _*_}
@@ -17,15 +17,18 @@ use Rattle.bench.specs.Guard.{setUpGuard, runGuard}
 use Rattle.bench.specs.Event.{asked, carried, kept}
 
 module _ (file : List ℕ) (t : ClassTable) where
+  -- BENCH-2: the header of the file
   abbrev pub header : Header
   header = headerOf file
 
   -- ---- set-up: each host set afresh from its record, in rising order; slots, answers and events done zero
 
+  -- BENCH-1: hosts initialized in rising order
   unfoldable pub allSet : (first count : ℕ) → Bench → Bench
   allSet k zero b = b
   allSet k (suc n) b = allSet (suc k) n (asked file t header k Initialize b .bench)
 
+  -- BENCH-1: every host initialized; slots, answers and events done are zero
   unfoldable pub setUp : Bench → Bench
   setUp b =
       let c : Bench = allSet 0 (header .hosts) b in
@@ -40,22 +43,25 @@ module _ (file : List ℕ) (t : ClassTable) where
 
   -- ---- a run
 
-  -- the next event
+  -- BENCH-6: the next event
   unfoldable pub next : Bench → Bench
   next b = kept (carried file t header (eventAt file header (b .done)) b)
 
-  -- "the next in order .. until allowance or file ends"
+  -- BENCH-6: the next events, until budget or file ends
   unfoldable pub steps : (allowance : ℕ) → Bench → Bench
   steps zero b = b
   steps (suc n) b = cond (ltb (b .done) (header .events)) (steps n (next b)) b
 
   -- ---- the calls: a refusal changes nothing, and carries out no event
 
+  -- BENCH-1, BENCH-8: the bench after set-up; a refusal changes nothing
   abbrev pub afterSetUp : Bench → Bench
   afterSetUp b = cond (passes (setUpGuard t file b)) (setUp b) b
 
+  -- BENCH-6, BENCH-8: the bench after a run; a refusal changes nothing
   abbrev pub afterRun : (allowance : ℕ) → Bench → Bench
   afterRun n b = cond (passes (runGuard t file b)) (steps n b) b
 
+  -- BENCH-6: what a run returns: its answer and how many events it did
   abbrev pub ran : (allowance : ℕ) → Bench → Ran
   ran n b = record { answer = runGuard t file b; count = afterRun n b .done - b .done }

@@ -1,4 +1,4 @@
--- The header: "five 32-bit numbers, high octet first: the counts of seats, cables and events, and where cables and events start; seat records follow directly; sections touch, in that order, and end with the file". A seat is a host here.
+-- BENCH-2, BENCH-3: the header of a bench file.
 use mathlib.Core.Bool.{Bool, not, _&&_, _||_}
 use mathlib.Core.List.{List}
 use Prim.Native.Nat.{ℕ, _+_, _*_}
@@ -9,31 +9,39 @@ use Rattle.bench_file.specs.declared.Header.{Header}
 
 -- ---- the octets of the header, and of each record
 
+-- BENCH-2: the octets of the header
 abbrev pub headerLength : ℕ
 headerLength = 20
 
+-- BENCH-2: the octets of a host record
 abbrev pub hostLength : ℕ
 hostLength = 321
 
+-- BENCH-2: the octets of a cable record
 abbrev pub cableLength : ℕ
 cableLength = 4
 
+-- BENCH-2: the octets of an event record
 abbrev pub eventLength : ℕ
 eventLength = 14
 
--- ---- "Up to 16 seats, 32 cables, 2,048 events."
+-- ----
 
+-- BENCH-3: the most hosts
 abbrev pub mostHosts : ℕ
 mostHosts = 16
 
+-- BENCH-3: the most cables
 abbrev pub mostCables : ℕ
 mostCables = 32
 
+-- BENCH-3: the most events
 abbrev pub mostEvents : ℕ
 mostEvents = 2048
 
 -- ---- the header's numbers
 
+-- BENCH-2: the five numbers
 abbrev pub headerOf : List ℕ → Header
 headerOf file =
     record {
@@ -44,17 +52,18 @@ headerOf file =
       «events_start» = numberAt file 16 4;
     }
 
--- "seat records follow directly; sections touch, in that order, and end with the file"
+-- BENCH-2: does each section begin where the one before ends, and the file end with the last?
 abbrev pub sectionsTouch : Header → (length : ℕ) → Bool
 sectionsTouch h n =
     eqb (h .«cables_start») (headerLength + hostLength * h .hosts)
     && eqb (h .«events_start») (h .«cables_start» + cableLength * h .cables)
     && eqb n (h .«events_start» + eventLength * h .events)
 
+-- BENCH-2, BENCH-3: are the numbers in range, and do the sections touch?
 unfoldable pub headerFits : Header → (length : ℕ) → Bool
 headerFits h n =
     leb (h .hosts) mostHosts && leb (h .cables) mostCables && leb (h .events) mostEvents && sectionsTouch h n
 
--- 18: "header or length"
+-- BENCH-8, ANSWER-18: is the header or the length bad?
 abbrev pub headerBad : List ℕ → Bool
 headerBad file = ltb (length file) headerLength || not (headerFits (headerOf file) (length file))

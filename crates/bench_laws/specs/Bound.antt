@@ -1,4 +1,4 @@
--- Demand 3 on the bench: where the hosts and cables of a file are those of a room, and its events come at the room's milliseconds, every live entry is within the bound, after set-up and any runs.
+-- ROOM-9: demand 3 on the bench: if hosts and cables of a file form such a network and its events are on time, every live entry is within the bound.
 use mathlib.Core.Path.{_≡_}
 use mathlib.Core.Bool.{true, false, cond}
 use mathlib.Core.List.{List, [], _∷_}
@@ -33,7 +33,7 @@ use Rattle.bench_laws.specs.Calls.{hostAt}
 module _ (file : List ℕ) (t : ClassTable) where
   -- ---- the room of a file
 
-  -- Record a is seat a, with its settings, set afresh as set-up does it, those before it first. The fixed numbers, the cables and how long a message may be under way are the room's.
+  -- ROOM-1, ROOM-2: the network of a file: record a is host a, initialized by set-up
   abbrev pub fileRoom : Bench → (fixed : ℕ → ℤ) → (cable : (seat link : ℕ) → End) → (longest : ℕ) → Room
   fileRoom b f cable n =
       record {
@@ -51,7 +51,7 @@ module _ (file : List ℕ) (t : ClassTable) where
         run = λ (a : ℕ). allSet file t 0 a b .run;
       }
 
-  -- The file's cables are the room's: from either end of one the room's cable leads to its other end.
+  -- ROOM-3: the network's cables are those of the file
   abbrev pub Wired : (cable : (seat link : ℕ) → End) → Type 0
   Wired cable =
       (c i : ℕ) → c < header file t .cables → i ≤ 1
@@ -60,10 +60,11 @@ module _ (file : List ℕ) (t : ClassTable) where
 
   -- ---- events at the room's milliseconds
 
+  -- ROOM-6: the answer of an event
   abbrev pub answerOf : Event → Bench → Answer
   answerOf e b = carried file t (header file t) e b .answer
 
-  -- when the packet of each slot was sent, after an event
+  -- ROOM-8: when the packet of each slot was sent, after an event
   abbrev pub sinceThen : (ms : ℤ) → (since : ℕ → ℤ) → Event → Bench → (ℕ → ℤ)
   sinceThen ms since (Tick k n) b = since
   sinceThen ms since (Adjust k n) b = since
@@ -74,7 +75,7 @@ module _ (file : List ℕ) (t : ClassTable) where
   sinceThen ms since (Arrival n k) b = since
   sinceThen ms since Unknown b = since
 
-  -- after the next events, event k at the room's millisecond `ms k`
+  -- ROOM-8: the same after the next events, with event k at millisecond `ms k`
   unfoldable pub sinceAll : (ms : ℕ → ℤ) → (allowance : ℕ) → (since : ℕ → ℤ) → Bench → (ℕ → ℤ)
   sinceAll ms zero since b = since
   sinceAll ms (suc n) since b =
@@ -82,19 +83,19 @@ module _ (file : List ℕ) (t : ClassTable) where
       (sinceAll ms n (sinceThen (ms (b .done)) since (eventAt file (header file t) (b .done)) b) (next file t b)) since
 
   module _ (r : Room) where
-    -- "Our reading in that call is this number plus the seat's fixed number, and is below 86,400,000."
+    -- ROOM-6: the reading is the network's millisecond plus the host's fixed number, before midnight
     pub record ReadsAt (b : Bench) (a : ℕ) (k : Counter) (ms : ℤ) : Type 0 where
       pub clock : readingAt r a (hostAt file b a .clock) k .time .0 ≡ ms +ℤ r .fixed a
       pub no-midnight : readingAt r a (hostAt file b a .clock) k .time .0 <ℤ dayMillis .0
 
-    -- "0 to 16,383 above the send's": up to the room's longest way
+    -- ROOM-8: the packet was at most the longest time under way
     pub record LaterThan (b : Bench) (a : ℕ) (k : Counter) (ms sent : ℤ) : Type 0 where
       pub reads : ReadsAt b a k ms
       pub way : ℕ
       pub short : way ≤ r .longest
       pub later : ms ≡ sent +ℤ pos way
 
-    -- An event is one of "ticks, sends, arrivals, self-reports and seconds": neither an adjust nor a set. "Each send answered 0, and each arrival answered 0, 10 or 11, has a whole number, the room's millisecond"; "Nothing is asked of the reading in other calls." `since` says when the packet of each slot was sent.
+    -- ROOM-4, ROOM-6: an event of demand 3's kinds, on time; other readings are free
     abbrev pub OnTime : (ms : ℤ) → (since : ℕ → ℤ) → Event → Bench → Type 0
     OnTime ms since (Tick k n) b = Unit {0}
     OnTime ms since (Adjust k n) b = ⊥
@@ -108,7 +109,7 @@ module _ (file : List ℕ) (t : ClassTable) where
         → LaterThan b (farEnd file (header file t) n (b .slots) .host) k ms (since n)
     OnTime ms since Unknown b = Unit {0}
 
-    -- the next events, each on time
+    -- ROOM-6: the next events, each on time
     unfoldable pub AllOnTime : (ms : ℕ → ℤ) → (allowance : ℕ) → (since : ℕ → ℤ) → Bench → Type 0
     AllOnTime ms zero since b = Unit {0}
     AllOnTime ms (suc n) since b =
@@ -118,17 +119,18 @@ module _ (file : List ℕ) (t : ClassTable) where
 
 -- ---- runs, one after the other
 
--- a run: the class's net table as it then stands, and the allowance
+-- BENCH-6: a run: its net table and its budget
 pub record Lot : Type 0 where
   pub nets : ClassTable
   pub allowance : ℕ
 
 module _ (file : List ℕ) where
+  -- BENCH-6: the bench after several runs
   abbrev pub afterRuns : List Lot → Bench → Bench
   afterRuns [] b = b
   afterRuns (x ∷ xs) b = afterRuns xs (afterRun file (x .nets) (x .allowance) b)
 
-  -- the events of all of them; a run that is refused carries out none
+  -- ROOM-6: the events of all runs are on time
   abbrev pub RunsOnTime : Room → (ms : ℕ → ℤ) → (since : ℕ → ℤ) → List Lot → Bench → Type 0
   RunsOnTime r ms since [] b = Unit {0}
   RunsOnTime r ms since (x ∷ xs) b =
@@ -138,11 +140,11 @@ module _ (file : List ℕ) where
 
 -- ---- the claim
 
--- the entry of id i of host a
+-- ROOM-9: the entry of id i of host a
 abbrev pub entryAt : Bench → (a i : ℕ) → Entry
 entryAt b a i = getD (places a (b .run)) i freshEntry
 
--- "each lent what the seat's last call left" and "Only what was sent arrives, at the cable's other end, unchanged" are facts on the bench, and not asked. Nor is anything asked of the net tables, which the tutor may change from run to run.
+-- ROOM-9, NET-10: for every file, network and list of runs: that state and messages are passed on unchanged is a fact of the bench, not a condition
 unfoldable pub Bound : Type 0
 Bound =
     (file : List ℕ) (t : ClassTable) (b : Bench) → passes (setUpGuard t file b) ≡ true

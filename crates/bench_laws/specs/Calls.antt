@@ -1,4 +1,4 @@
--- A bench run is the list of calls that its events name, each lent what the bench then has. So what demand 1 says of calls and of lists of calls it says of set-up and run, whatever the octets of the file are.
+-- BENCH-1, ISOLATION-2: a run is the list of calls that its events name. So demand 1 is true of set-up and run, for every file.
 use mathlib.Core.Path.{_≡_}
 use mathlib.Core.Bool.{Bool, true, false, cond}
 use mathlib.Core.List.{List, [], _∷_, map, flatten}
@@ -30,9 +30,11 @@ use Rattle.network.specs.Isolation.{SharedEvent, Shared, sharedOutcome, sharedA
 
 -- ---- a bench as lists of calls have it: what each host has, and the run that all share
 
+-- BENCH-1: the state of a host
 abbrev pub hostAt : (file : List ℕ) → Bench → (host : ℕ) → HostState
 hostAt file b k = getD (b .hosts) k (freshHost file k)
 
+-- BENCH-1: the state of all hosts
 abbrev pub sharedOf : (file : List ℕ) → Bench → Shared
 sharedOf file b =
     record {
@@ -44,22 +46,22 @@ sharedOf file b =
     }
 
 module _ (file : List ℕ) (t : ClassTable) where
-  -- a call at a host, with its settings of the file and the class's table
+  -- BENCH-1: a call at a host, with the settings of the file
   abbrev pub callAt : (host : ℕ) → Call → SharedEvent
   callAt k c = record { number = k; settings = settingsAt file k; nets = t; call = c }
 
   -- ---- the calls of an event
 
-  -- an arrival: the inspection and, where that passes, the action
+  -- INSPECT-4: inspection and, if it passes, action
   abbrev pub pairOf : (passes : Bool) → End → Counter → (packet : List ℕ) → List SharedEvent
   pairOf true e k packet = callAt (e .host) (inspect (e .link) packet) ∷ callAt (e .host) (act (e .link) k packet) ∷ []
   pairOf false e k packet = callAt (e .host) (inspect (e .link) packet) ∷ []
 
-  -- it passes where it answers 0
+  -- INSPECT-4: the same, if the inspection answers 0
   abbrev pub pairAt : End → Counter → (packet : List ℕ) → Bench → List SharedEvent
   pairAt e k packet b = pairOf (done (perform (inspect (e .link) packet) (lentAt file t (e .host) b) .reply .answer)) e k packet
 
-  -- one call, but for an arrival: that is two, or one that is refused, or none where the slot is empty
+  -- BENCH-4: the calls of an event: one; for an arrival two, one that is refused, or none for an empty slot
   abbrev pub callsOf : Event → Bench → List SharedEvent
   callsOf (Tick k n) b = callAt k (ask (request.Tick n)) ∷ []
   callsOf (Adjust k n) b = callAt k (ask (request.Adjust n)) ∷ []
@@ -75,55 +77,58 @@ module _ (file : List ℕ) (t : ClassTable) where
 
   -- ---- the calls of a run
 
-  -- event by event
+  -- BENCH-6: the calls of a run, event by event
   unfoldable pub turns : (allowance : ℕ) → Bench → List (List SharedEvent)
   turns zero b = []
   turns (suc n) b =
       cond (ltb (b .done) (header file t .events)) (callsOf (eventAt file (header file t) (b .done)) b ∷ turns n (next file t b)) []
 
-  -- a run that is refused makes none
+  -- BENCH-8: none for a run that is refused
   abbrev pub runTurns : (allowance : ℕ) → Bench → List (List SharedEvent)
   runTurns n b = cond (passes (runGuard t file b)) (turns n b) []
 
+  -- BENCH-6: the calls of a run
   abbrev pub runCalls : (allowance : ℕ) → Bench → List SharedEvent
   runCalls n b = flatten (runTurns n b)
 
-  -- those of set-up: each host is set afresh
+  -- BENCH-1: the calls of set-up: each host is initialized
   abbrev pub setUpCalls : Bench → List SharedEvent
   setUpCalls b =
       cond (passes (setUpGuard t file b)) (map (λ (k : ℕ). callAt k (ask request.Initialize)) (upFrom 0 (header file t .hosts))) []
 
 -- ---- the answers
 
--- the last call's; this one where there is none
+-- BENCH-6: the answer of the last call
 abbrev pub lastAnswer : Answer → Shared → List SharedEvent → Answer
 lastAnswer a w [] = a
 lastAnswer a w (e ∷ es) = lastAnswer (sharedOutcome w e .reply .answer) (sharedAfter w e) es
 
--- "A tray never filled gives answer 3"
+-- BENCH-5, BENCH-6: the answers of all events; 3 for an event without a call
 unfoldable pub answersOf : Shared → List (List SharedEvent) → List ℕ
 answersOf w [] = []
 answersOf w (es ∷ rest) = number (lastAnswer IpForm w es) ∷ answersOf (sharedAfterAll w es) rest
 
 -- ---- the theorem
 
+-- BENCH-6: what a run is
 pub record Called (file : List ℕ) (t : ClassTable) (n : ℕ) (b : Bench) : Type 0 where
-  -- "the next in order, each doing what its call does"
+  -- BENCH-6: the state after it is the state after its calls, in order
   pub left : sharedOf file (afterRun file t n b) ≡ sharedAfterAll (sharedOf file b) (runCalls file t n b)
-  -- "and its answer kept", from the first that is not done on
+  -- BENCH-6: their answers are stored, from the first event not done on
   pub answers : afterRun file t n b .answers ≡ over (b .answers) (b .done) (answersOf (sharedOf file b) (runTurns file t n b))
-  -- "and reports how many it carried out, refused calls included"
+  -- BENCH-6: and the count is the number of events
   pub count : ran file t n b .count ≡ length (runTurns file t n b)
-  -- set-up is its settings afresh, host after host
+  -- BENCH-1: set-up is the initializing of each host in turn
   pub set-up : sharedOf file (afterSetUp file t b) ≡ sharedAfterAll (sharedOf file b) (setUpCalls file t b)
-  -- and each of them answers 0, where set-up is not refused
+  -- BENCH-1: and each answers 0, if set-up is not refused
   pub afresh : passes (setUpGuard t file b) ≡ true → (k : ℕ) → k < header file t .hosts
       → perform (ask request.Initialize) (lentAt file t k (allSet file t 0 k b)) .reply .answer ≡ Done
-  -- "No call for one seat alters another seat's clock, links or entries": a host that none of the calls is at keeps them, its walk with the copy, and all its 255 places
+  -- ISOLATION-2: a host without calls keeps its clock, links, walk and all 255 places
   pub elsewhere : (k : ℕ) → alone k (runCalls file t n b) ≡ [] → SharedAlike k (sharedOf file (afterRun file t n b)) (sharedOf file b)
-  -- and what any host has goes by its own calls
+  -- ISOLATION-3: the state of each host depends on its own calls only
   pub own : (k : ℕ)
       → SharedAlike k (sharedOf file (afterRun file t n b)) (sharedAfterAll (sharedOf file b) (alone k (runCalls file t n b)))
 
+-- BENCH-6, ISOLATION-2: for every file, table, budget and bench
 unfoldable pub Calls : Type 0
 Calls = (file : List ℕ) (t : ClassTable) (n : ℕ) (b : Bench) → Called file t n b

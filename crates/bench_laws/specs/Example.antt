@@ -1,4 +1,4 @@
--- A small file, and a run of it: two hosts, one cable, eight events, of which the fifth takes a slot that was never filled.
+-- BENCH-2: a small file and its run: two hosts, a cable, eight events, the fifth from an empty slot.
 use mathlib.Core.Path.{_≡_}
 use mathlib.Core.Bool.{false}
 use mathlib.Core.List.{List, [], _∷_, _++_, map}
@@ -21,6 +21,7 @@ use Rattle.bench.specs.declared.Answer.the-variants.{Done}
 use Rattle.bench.specs.Bench.{Bench, freshHost}
 use Rattle.bench.specs.Run.{afterSetUp, afterRun, ran}
 
+-- BENCH-2: its octets
 abbrev pub file : List ℕ
 file =
     (0 ∷ 0 ∷ 0 ∷ 2 ∷ 0 ∷ 0 ∷ 0 ∷ 1 ∷ 0 ∷ 0 ∷ 0 ∷ 8 ∷ 0 ∷ 0 ∷ 2 ∷ 150 ∷ 0 ∷ 0 ∷ 2 ∷ 154 ∷ 192 ∷ 0 ∷ 2 ∷ 1 ∷ 1 ∷ 255 ∷ 0 ∷ 2 ∷ 0 ∷ 1 ∷ 4 ∷ 32 ∷ 0 ∷ 0 ∷ 156 ∷ 64 ∷ 0 ∷ 0 ∷ 0 ∷ 0 ∷ 0 ∷ 1 ∷ 0 ∷ 0 ∷ 1 ∷ 0 ∷ 0 ∷ 0 ∷ 0 ∷ 0 ∷ [])
@@ -33,16 +34,19 @@ file =
     ++ replicate 254 0
     ++ (0 ∷ 1 ∷ 1 ∷ 1 ∷ 5 ∷ 0 ∷ 0 ∷ 0 ∷ 0 ∷ 0 ∷ 0 ∷ 0 ∷ 0 ∷ 0 ∷ 0 ∷ 0 ∷ 0 ∷ 0 ∷ 1 ∷ 0 ∷ 0 ∷ 0 ∷ 0 ∷ 0 ∷ 0 ∷ 0 ∷ 0 ∷ 0 ∷ 0 ∷ 0 ∷ 0 ∷ 0 ∷ 6 ∷ 0 ∷ 0 ∷ 0 ∷ 0 ∷ 0 ∷ 0 ∷ 0 ∷ 0 ∷ 0 ∷ 0 ∷ 0 ∷ 0 ∷ 0 ∷ 7 ∷ 0 ∷ 0 ∷ 0 ∷ 0 ∷ 0 ∷ 0 ∷ 0 ∷ 0 ∷ 0 ∷ 0 ∷ 0 ∷ 0 ∷ 0 ∷ 7 ∷ 0 ∷ 0 ∷ 0 ∷ 5 ∷ 0 ∷ 0 ∷ 0 ∷ 0 ∷ 0 ∷ 0 ∷ 0 ∷ 0 ∷ 0 ∷ 4 ∷ 1 ∷ 0 ∷ 0 ∷ 0 ∷ 0 ∷ 0 ∷ 0 ∷ 0 ∷ 0 ∷ 0 ∷ 0 ∷ 0 ∷ 0 ∷ 2 ∷ 1 ∷ 0 ∷ 0 ∷ 0 ∷ 0 ∷ 0 ∷ 0 ∷ 0 ∷ 0 ∷ 0 ∷ 0 ∷ 0 ∷ 0 ∷ 3 ∷ 0 ∷ 0 ∷ 0 ∷ 0 ∷ 0 ∷ 0 ∷ 0 ∷ 0 ∷ 0 ∷ 255 ∷ 255 ∷ 255 ∷ 156 ∷ [])
 
--- a class of two hosts, without rows
+-- NET-1: a class of two hosts without rows
 abbrev pub class : ClassTable
 class = tableOf 2 []
 
+-- CLOCK-14: the count of a line clock
 abbrev pub noCount : Count
 noCount = record { 0 = 0 }
 
+-- CLOCK-14: the counter of a line clock
 abbrev pub noCounter : Counter
 noCounter = record { count = noCount; overflow = 0; again = noCount }
 
+-- BENCH-4: its events
 abbrev pub events : List Event
 events =
     SelfReport 0 noCounter
@@ -55,7 +59,7 @@ events =
     ∷ Set 0 (negsuc 99) noCount
     ∷ []
 
--- what is lent, as it may be
+-- BENCH-1: the state before
 abbrev pub lentFirst : Bench
 lentFirst =
     record {
@@ -67,13 +71,15 @@ lentFirst =
       done = 0;
     }
 
+-- BENCH-1: the state after set-up
 abbrev pub ready : Bench
 ready = afterSetUp file class lentFirst
 
+-- BENCH-6: what the run results in
 pub record Example : Type 0 where
   pub good : headerBad file ≡ false
   pub read : map (eventAt file (headerOf file)) (upFrom 0 8) ≡ events
-  -- the answers, one for each event
+  -- BENCH-6: an answer for each event
   pub answers : afterRun file class 8 ready .answers ≡ 0 ∷ 0 ∷ 0 ∷ 0 ∷ 3 ∷ 0 ∷ 0 ∷ 0 ∷ []
-  -- more allowance than events
+  -- BENCH-6: a budget of more events than the file has
   pub all : ran file class 10 ready ≡ record { answer = Done; count = 8 }

@@ -1,4 +1,4 @@
--- Demand 3 on the bench is not empty: a file that meets every condition. Its hosts and its cable are those of the small file; its events are an exchange between the two, the last packet 101 ms under way. It ends with an entry of DELAY 101 and an error of -51 ms: 10,200 against 10,201.
+-- ROOM-10: a file that meets every condition of demand 3 on the bench: the last packet takes 101 ms, and the entry has DELAY 101 and an error of -51 ms.
 use mathlib.Core.Path.{_≡_}
 use mathlib.Core.Bool.{true, cond}
 use mathlib.Core.List.{List, [], _∷_, _++_}
@@ -18,10 +18,11 @@ use Rattle.network.specs.TwoSeats.{wire}
 use Rattle.bench_laws.specs.Bound.{fileRoom, Wired, Lot, afterRuns, RunsOnTime, entryAt}
 use Rattle.bench_laws.specs.Example as small
 
--- an event of cable 0: its kind, host, end, slot and count
+-- BENCH-4: an event of cable 0
 abbrev pub event : (kind host end slot count : ℕ) → List ℕ
 event kind k e s n = kind ∷ k ∷ 0 ∷ e ∷ s ∷ 0 ∷ 0 ∷ n ∷ 0 ∷ 0 ∷ 0 ∷ 0 ∷ 0 ∷ 0 ∷ []
 
+-- BENCH-2: its octets: an exchange between the two hosts
 abbrev pub file : List ℕ
 file =
     take 666 small.file
@@ -36,24 +37,27 @@ file =
     ++ event 7 0 0 0 101
     ++ event 4 0 0 0 0
 
--- Host 1 is 500 ms ahead.
+-- ROOM-1: its network: host 1 is 500 ms ahead
 abbrev pub room : Room
 room = fileRoom file small.class small.lentFirst (λ (a : ℕ). pos (500 * a)) wire 101
 
+-- ROOM-6: the millisecond of each event
 abbrev pub at : (event : ℕ) → ℤ
 at k = pos (cond (ltb k 6) 40000 40101)
 
+-- NET-1: a row
 abbrev pub net10 : Row
 net10 = record { net = record { first = 10; second = 0; third = 0 }; host = 1 }
 
--- Five events, and then the others; between them the tutor adds a row.
+-- NET-10: two runs, with a row added between
 abbrev pub runs : List Lot
 runs = record { nets = small.class; allowance = 5 } ∷ record { nets = tableOf 2 (net10 ∷ []); allowance = 8 } ∷ []
 
--- what host 0 has of host 1 at the end
+-- ROOM-9: the entry that host 0 has of host 1
 abbrev pub learnt : Entry
 learnt = entryAt (afterRuns file runs (afterSetUp file small.class small.lentFirst)) 0 1
 
+-- ROOM-10: it meets every condition, and its error is near the bound
 pub record Exchange : Type 0 where
   pub passed : passes (setUpGuard small.class file small.lentFirst) ≡ true
   pub proper : Proper room

@@ -1,4 +1,4 @@
--- "A run cut in two by allowances ends as one run": in all that is lent, in its answer and in the count of events, refusals too.
+-- BENCH-7: two runs equal one with the sum of their budgets, in state, answer and count.
 use mathlib.Core.Path.{_≡_}
 use mathlib.Core.Bool.{true}
 use mathlib.Core.List.{List}
@@ -9,18 +9,21 @@ use Rattle.bench.specs.Guard.{runGuard}
 use Rattle.bench.specs.Answer.{passes}
 use Rattle.bench.specs.Run.{header, steps, afterRun, ran}
 
--- what a run does not refuse it leaves so; and it carries out the allowance, or what the file still has
+-- BENCH-6: after a run that is not refused, another is not refused either; the count is the budget or what the file still has
 pub record Stayed (file : List ℕ) (t : ClassTable) (n : ℕ) (b : Bench) : Type 0 where
   pub passed : passes (runGuard t file (steps file t n b)) ≡ true
   pub count : ran file t n b .count ≡ min n (header file t .events - b .done)
 
+-- BENCH-6: for every file, table, budget and bench
 unfoldable pub Stays : Type 0
 Stays = (file : List ℕ) (t : ClassTable) (n : ℕ) (b : Bench) → passes (runGuard t file b) ≡ true → Stayed file t n b
 
+-- BENCH-7: two runs and one
 pub record Joined (file : List ℕ) (t : ClassTable) (m n : ℕ) (b : Bench) : Type 0 where
   pub bench : afterRun file t n (afterRun file t m b) ≡ afterRun file t (m + n) b
   pub answer : ran file t n (afterRun file t m b) .answer ≡ ran file t m b .answer
   pub count : ran file t m b .count + ran file t n (afterRun file t m b) .count ≡ ran file t (m + n) b .count
 
+-- BENCH-7: for every file, table, two budgets and bench
 unfoldable pub Joins : Type 0
 Joins = (file : List ℕ) (t : ClassTable) (m n : ℕ) (b : Bench) → Joined file t m n b

@@ -1,4 +1,4 @@
--- Mending what the mender wrote, where it is not over 65,536 octets, gives the same capture, with the mark.
+-- CAPTURE-5: recovery of a recovered capture gives the same capture, with the mark true.
 use mathlib.Core.Path.{_≡_}
 use mathlib.Core.Bool.{true}
 use mathlib.Core.List.{List, [], _∷_}
@@ -7,10 +7,12 @@ use lib.ListN.{length}
 use Rattle.capture.specs.Capture.{mendedCapture, placesTrue}
 use Rattle.capture.specs.Mend.{longestInput}
 
+-- CAPTURE-5: each number is an octet
 abbrev pub Octets : List ℕ → Type 0
 Octets [] = Unit {0}
 Octets (o ∷ rest) = (o < 256) × Octets rest
 
+-- CAPTURE-5: for every input whose output has at most 65,536 octets
 unfoldable pub Again : Type 0
 Again =
     (input : List ℕ) → Octets input → length (mendedCapture input) ≤ longestInput

@@ -1,4 +1,4 @@
--- "If .. damage lies wholly before a place that no hit straddles in damaged or undamaged input, and an untouched good packet starts there, it is kept and all after it is read as in the undamaged input, places shifted."
+-- CAPTURE-6: damage before a place does not change what is read from there on.
 use mathlib.Core.Path.{_≡_}
 use mathlib.Core.Bool.{cond}
 use mathlib.Core.List.{List, [], _∷_, _++_}
@@ -7,29 +7,30 @@ use lib.Dec.{leb}
 use lib.ListN.{length}
 use Rattle.capture.specs.Search.{Span, span, hit, hits, stretches}
 
--- "no hit straddles": one that starts before the place ends there at the latest
+-- CAPTURE-6: a packet that starts before the place ends there at the latest
 abbrev pub Unstraddled : (place : ℕ) → List Span → Type 0
 Unstraddled p [] = Unit {0}
 Unstraddled p (h ∷ hs) = (h .start < p → h .start + h .size ≤ p) × Unstraddled p hs
 
--- those that start from a place on, their starts counted from there
+-- CAPTURE-6: those that start from a place on, counted from there
 abbrev pub onward : (place : ℕ) → List Span → List Span
 onward p [] = []
 onward p (h ∷ hs) = cond (leb p (h .start)) (span (h .start - p) (h .size) ∷ []) [] ++ onward p hs
 
--- what is read from a place on: hits and stretches
+-- CAPTURE-6: packets and stretches from a place on
 pub record Reading : Type 0 where
   pub hits-onward : List Span
   pub stretches-onward : List Span
 
+-- CAPTURE-6: what is read from a place on
 unfoldable pub readFrom : (place : ℕ) → (input : List ℕ) → Reading
 readFrom p input = record { hits-onward = onward p (hits input); stretches-onward = onward p (stretches input) }
 
--- the packet at a place is kept: the hits from there on begin with it
+-- CAPTURE-6: the packet at a place is kept
 abbrev pub KeptAt : (place size : ℕ) → (input : List ℕ) → Type 0
 KeptAt p n input = (later : List Span) × (onward p (hits input) ≡ span 0 n ∷ later)
 
--- the inputs are alike from the place on: what stands before it was damaged
+-- CAPTURE-6: for every two inputs that are equal from the place on, if a good packet starts there and no packet found reaches across
 unfoldable pub Damage : Type 0
 Damage =
     (damaged undamaged alike : List ℕ)

@@ -1,4 +1,4 @@
--- The mender: from an input and two buffers to what it answers and what the buffers then hold.
+-- CAPTURE-7: recovery: from an input and two buffers to what it returns and the buffers afterwards.
 use mathlib.Core.Path.{_≡_}
 use mathlib.Core.Bool.{cond, false, _||_}
 use mathlib.Core.List.{List}
@@ -11,33 +11,34 @@ use Rattle.capture.specs.declared.Answer.the-variants.{Done, ShortBuffer
 use Rattle.capture.specs.declared.Mended.{Mended}
 use Rattle.capture.specs.Capture.{mendedCapture, stretchList, placesTrue}
 
--- "27 an input over 65,536 octets"
+-- CAPTURE-7: the longest input
 abbrev pub longestInput : ℕ
 longestInput = 65536
 
--- the most octets that the outputs of an input can have
+-- CAPTURE-7: the most octets of a recovered capture
 abbrev pub longestCapture : ℕ
 longestCapture = 73732
 
+-- CAPTURE-7: the most octets of a list of stretches
 abbrev pub longestStretches : ℕ
 longestStretches = 16392
 
--- what is answered, and what the two buffers hold afterwards
+-- CAPTURE-7: what is returned, and the two buffers afterwards
 pub record Outcome : Type 0 where
   pub mended : Mended
   pub capture : List ℕ
   pub stretches : List ℕ
 
--- a refusal answers zeros
+-- CAPTURE-7: a refusal returns zeros
 abbrev pub refusal : Answer → Mended
 refusal a = record { answer = a; «capture_length» = 0; «stretches_length» = 0; «places_true» = false }
 
--- "both untouched"
+-- CAPTURE-7: a refusal changes no buffer
 abbrev pub refused : Answer → (capture stretches : List ℕ) → Outcome
 refused a capture stretches =
     record { mended = refusal a; capture = capture; stretches = stretches }
 
--- both outputs written; octets beyond them stay
+-- CAPTURE-4, CAPTURE-5: both outputs are written; the octets after them stay
 abbrev pub written : (input capture stretches : List ℕ) → Outcome
 written input capture stretches =
     record {
@@ -51,20 +52,20 @@ written input capture stretches =
       stretches = over stretches 0 (stretchList input);
     }
 
--- "27 an input over 65,536 octets, then 2 where the outputs don't fit"
+-- CAPTURE-7, ANSWER-27, ANSWER-2: 27, then 2, else the outputs
 unfoldable pub mend : (input capture stretches : List ℕ) → Outcome
 mend input capture stretches =
     cond (ltb longestInput (length input)) (refused CaptureLength capture stretches)
     (cond (ltb (length capture) (length (mendedCapture input)) || ltb (length stretches) (length (stretchList input))) (refused ShortBuffer capture stretches)
     (written input capture stretches))
 
--- an outcome as a caller sees it
+-- CAPTURE-7: an outcome as a caller sees it
 pub record Leaves (o : Outcome) (m : Mended) (c s : List ℕ) : Type 0 where
   pub mended : m ≡ o .mended
   pub capture : c ≡ o .capture
   pub stretches : s ≡ o .stretches
 
--- an input that is not refused with 27 is never refused with 2 where the outputs have that room
+-- CAPTURE-7: for every input of at most 65,536 octets, these bounds are long enough
 unfoldable pub Bounded : Type 0
 Bounded =
     (input : List ℕ) → length input ≤ longestInput

@@ -1,4 +1,4 @@
--- Why the law of damage asks that no hit straddles the place: without it for the undamaged input, and without it for the damaged one, the law fails.
+-- CAPTURE-6: why no packet may reach across the place: without this for either input the theorem is false.
 use mathlib.Core.Path.{_≡_}
 use mathlib.Core.List.{List, [], _∷_, _++_}
 use Prim.Native.Nat.{ℕ, _<_}
@@ -6,53 +6,55 @@ use lib.ListN.{length, drop}
 use Rattle.capture.specs.Search.{hit, hits}
 use Rattle.capture.specs.Damage.{Unstraddled, readFrom}
 
--- what the law says of two inputs that are alike from a place on
+-- CAPTURE-6: what the theorem says of two inputs that are equal from a place on
 abbrev pub ReadAlike : (damaged undamaged alike : List ℕ) → Type 0
 ReadAlike damaged undamaged alike =
     readFrom (length damaged) (damaged ++ alike) ≡ readFrom (length undamaged) (undamaged ++ alike)
 
 -- ---- a packet that holds a good one in its host area
 
--- the one inside: no hosts
+-- CAPTURE-6: a good packet without hosts
 abbrev pub inner : List ℕ
 inner =
     0x45 ∷ 0x00 ∷ 0x00 ∷ 0x20 ∷ 0x00 ∷ 0x00 ∷ 0x00 ∷ 0x00 ∷ 0xff ∷ 0x3f ∷ 0x37 ∷ 0x9b ∷ 0xc0 ∷ 0x00 ∷ 0x02 ∷ 0x01 ∷
     0xc0 ∷ 0x00 ∷ 0x02 ∷ 0x02 ∷ 0xca ∷ 0xec ∷ 0x30 ∷ 0x2b ∷ 0x00 ∷ 0x00 ∷ 0x03 ∷ 0xe8 ∷ 0x00 ∷ 0x00 ∷ 0x01 ∷ 0x00 ∷ []
 
--- header and fixed part of the one around it: eight hosts, whose 32 octets are the packet inside
+-- CAPTURE-6: header and fixed part of a packet whose eight reports are that packet
 abbrev pub outerFront : List ℕ
 outerFront =
     0x45 ∷ 0x00 ∷ 0x00 ∷ 0x40 ∷ 0x00 ∷ 0x00 ∷ 0x00 ∷ 0x00 ∷ 0xff ∷ 0x3f ∷ 0x37 ∷ 0x79 ∷ 0xc0 ∷ 0x00 ∷ 0x02 ∷ 0x03 ∷
     0xc0 ∷ 0x00 ∷ 0x02 ∷ 0x02 ∷ 0xc6 ∷ 0xfc ∷ 0x30 ∷ 0x2b ∷ 0x00 ∷ 0x00 ∷ 0x07 ∷ 0xd0 ∷ 0x00 ∷ 0x00 ∷ 0x01 ∷ 0x08 ∷ []
 
--- the front was lost: the packet inside is kept, which in the undamaged input lay within a hit
+-- CAPTURE-6: without the beginning, the packet inside is kept, which was part of another before
 unfoldable pub StraddledUndamaged : Type 0
 StraddledUndamaged =
     (0 < hit inner) × Unstraddled 0 (hits ([] ++ inner)) × (ReadAlike [] outerFront inner → ⊥)
 
 -- ---- a chain of packets, each ending inside the next
 
--- the first 32 octets of two packets of one host each, whose four octets are the first four of what follows
+-- CAPTURE-6: the first 32 octets of a packet whose report is the beginning of the next
 abbrev pub first : List ℕ
 first =
     0x45 ∷ 0x00 ∷ 0x00 ∷ 0x24 ∷ 0x00 ∷ 0x00 ∷ 0x00 ∷ 0x00 ∷ 0xff ∷ 0x3f ∷ 0x37 ∷ 0x95 ∷ 0xc0 ∷ 0x00 ∷ 0x02 ∷ 0x03 ∷
     0xc0 ∷ 0x00 ∷ 0x02 ∷ 0x02 ∷ 0x7d ∷ 0xf7 ∷ 0x30 ∷ 0x2b ∷ 0x00 ∷ 0x00 ∷ 0x0b ∷ 0xb8 ∷ 0x00 ∷ 0x00 ∷ 0x01 ∷ 0x01 ∷ []
 
+-- CAPTURE-6: another one
 abbrev pub second : List ℕ
 second =
     0x45 ∷ 0x00 ∷ 0x00 ∷ 0x24 ∷ 0x00 ∷ 0x00 ∷ 0x00 ∷ 0x00 ∷ 0xff ∷ 0x3f ∷ 0x37 ∷ 0x94 ∷ 0xc0 ∷ 0x00 ∷ 0x02 ∷ 0x04 ∷
     0xc0 ∷ 0x00 ∷ 0x02 ∷ 0x02 ∷ 0x7a ∷ 0x13 ∷ 0x30 ∷ 0x2b ∷ 0x00 ∷ 0x00 ∷ 0x0f ∷ 0xa0 ∷ 0x00 ∷ 0x00 ∷ 0x01 ∷ 0x01 ∷ []
 
--- the last of the chain: no hosts
+-- CAPTURE-6: the last of the chain, without hosts
 abbrev pub third : List ℕ
 third =
     0x45 ∷ 0x00 ∷ 0x00 ∷ 0x20 ∷ 0x00 ∷ 0x00 ∷ 0x00 ∷ 0x00 ∷ 0xff ∷ 0x3f ∷ 0x37 ∷ 0x97 ∷ 0xc0 ∷ 0x00 ∷ 0x02 ∷ 0x05 ∷
     0xc0 ∷ 0x00 ∷ 0x02 ∷ 0x02 ∷ 0xbb ∷ 0x4c ∷ 0x30 ∷ 0x2b ∷ 0x00 ∷ 0x00 ∷ 0x13 ∷ 0x88 ∷ 0x00 ∷ 0x00 ∷ 0x01 ∷ 0x00 ∷ []
 
--- the first octet was overwritten: the second packet is kept instead of the first, and the third lies within it
+-- CAPTURE-6: the first packet with its first octet overwritten
 abbrev pub firstDamaged : List ℕ
 firstDamaged = 0 ∷ drop 1 first
 
+-- CAPTURE-6: with that octet overwritten, the second packet is kept, and the third is inside it
 unfoldable pub StraddledDamaged : Type 0
 StraddledDamaged =
     (0 < hit third)

@@ -1,4 +1,4 @@
--- What the exported NTP functions answer: the number of the answer, and values that are zero in a refusal.
+-- REPLY-5, NTP-7: what the exported NTP functions return; values are zero at a refusal.
 use lib.IntN.{pos}
 use Rattle.ntp.specs.declared.Header.{Header}
 use Rattle.ntp.specs.declared.Outcome.{Outcome}
@@ -11,6 +11,7 @@ use Rattle.hello.specs.declared.ntp_calls.NtpRead.{NtpRead}
 use Rattle.hello.specs.declared.ntp_calls.NtpWritten.{NtpWritten}
 use Rattle.hello.specs.declared.ntp_calls.NtpOutcome.{NtpOutcome}
 
+-- NTP-7: a header of zeros
 abbrev pub zeroHeader : Header
 zeroHeader =
     record {
@@ -29,13 +30,16 @@ zeroHeader =
       transmit = timestamp 0;
     }
 
+-- REPLY-5: what reading returns
 abbrev pub readTold : Read → NtpRead
 readTold (Good h) = record { answer = 0; header = h }
 readTold (Bad a) = record { answer = number a; header = zeroHeader }
 
+-- REPLY-5: what writing returns
 abbrev pub writtenTold : Written → NtpWritten
 writtenTold w = record { answer = number (w .answer); octets = w .octets }
 
+-- REPLY-5: what receiving returns
 abbrev pub outcomeTold : Outcome → NtpOutcome
 outcomeTold o =
     record { answer = number (o .answer); action = o .action; offset = o .offset; delay = o .delay; association = o .association }

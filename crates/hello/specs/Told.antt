@@ -1,4 +1,4 @@
--- What the exported calls answer: ".. a definition sets out this paper's number and values for each of its cases."
+-- REPLY-5: what the exported calls return, with the answer as its number.
 use mathlib.Core.Path.{_≡_}
 use mathlib.Core.List.{List}
 use Prim.Native.Nat.{ℕ}
@@ -15,27 +15,32 @@ use Rattle.hello.specs.declared.Time.{Time}
 use Rattle.hello.specs.declared.Inspected.{Inspected}
 use Rattle.hello.specs.declared.Stepped.{Stepped}
 
+-- REPLY-5: the number alone
 abbrev pub numbered : Reply → ℕ
 numbered r = number (r .answer)
 
+-- REPLY-5: a read: time and DATE
 abbrev pub timeTold : Reply → Time
 timeTold r = record { answer = number (r .answer); time = r .time; date = r .date }
 
+-- REPLY-5: a send: the length
 abbrev pub sentTold : Reply → Sent
 sentTold r = record { answer = number (r .answer); length = r .length }
 
+-- REPLY-5: a lookup: id and PID
 abbrev pub routeTold : Reply → Route
 routeTold r = record { answer = number (r .answer); id = r .id; pid = r .pid }
 
+-- REPLY-5, INSPECT-2: an inspection: source, time, TSP, NHOSTS
 abbrev pub inspectedTold : Reply → Inspected
 inspectedTold r =
     record { answer = number (r .answer); source = r .source; time = r .time; tsp = r .tsp; nhosts = r .nhosts }
 
--- the next place of a walk
+-- REPLY-5, WALK-7: a walk: the next place
 abbrev pub steppedTold : Reply → Stepped
 steppedTold r = record { answer = number (r .answer); step = r .step; line = r .line; id = r .id }
 
--- an outcome as a program sees it, but for a buffer: of the reply it is told a part
+-- CALL-4, REPLY-5: everything after a call, with the part of the reply that it returns
 pub record Returns {R : Type 0} (told : Reply → R) (o : Outcome) (r : R) (c : Clock) (l : Links) (w : Walk) (octets : List ℕ) (es : List Entry) : Type 0 where
   pub result : r ≡ told (o .reply)
   pub clock : c ≡ o .clock

@@ -1,8 +1,9 @@
--- "Refusals: 23 not 48 octets, 24 version not 4, 25 packet mode or association outside the table or a leap over 3, 26 a timestamp test failed"
+-- ANSWER-23 to ANSWER-26: the answers of NTP.
 use Prim.Native.Nat.{ℕ}
 use Rattle.ntp.specs.declared.Answer.{Answer}
 use Rattle.ntp.specs.declared.Answer.the-variants.{Done, NtpLength, NtpVersion, NtpMode, NtpTimestamp}
 
+-- ANSWER-23, ANSWER-24, ANSWER-25, ANSWER-26, NTP-7, REPLY-5: the number of each answer
 abbrev pub number : Answer → ℕ
 number Done = 0
 number NtpLength = 23

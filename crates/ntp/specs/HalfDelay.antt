@@ -1,4 +1,4 @@
--- The half-delay law of NTP: of an exchange whose second packet is processed, the delay told is the sum of the ways, and twice the error of the offset told is at most that plus one.
+-- NTP-6: the half-delay bound of NTP, for an exchange whose second packet is processed.
 use mathlib.Core.Path.{_≡_}
 use mathlib.Core.Bool.{true}
 use lib.IntN.{ℤ, pos}
@@ -8,7 +8,7 @@ use Rattle.ntp.specs.declared.Header.{Header}
 use Rattle.ntp.specs.declared.Timestamp.{Timestamp}
 use Rattle.ntp.specs.Receive.{processed}
 
--- the server's clock is θ ahead of ours; the request took d, and the answer e
+-- NTP-6: for every exchange with a server θ ahead, a request of d and an answer of e
 unfoldable pub NtpHalfDelay : Type 0
 NtpHalfDelay =
     (a : Association) (h : Header) (destination : Timestamp) (θ d e : ℤ)

@@ -1,4 +1,4 @@
--- Reading back what was written gives the fields, and writing what was read gives the octets.
+-- NTP-1: reading undoes writing, and writing undoes reading.
 use mathlib.Core.Path.{_≡_}
 use mathlib.Core.List.{List, [], _∷_}
 use Prim.Native.Nat.{ℕ, _<_, _^_}
@@ -8,16 +8,17 @@ use Rattle.ntp.specs.declared.Header.{Header}
 use Rattle.ntp.specs.declared.Read.the-variants.{Good}
 use Rattle.ntp.specs.Header.{read, write}
 
+-- NTP-1: each number is an octet
 abbrev pub Octets : List ℕ → Type 0
 Octets [] = Unit {0}
 Octets (x ∷ xs) = (x < 256) × Octets xs
 
--- a signed octet
+-- NTP-1: a signed octet
 abbrev pub SignedOctet : ℤ → Type 0
 SignedOctet (pos n) = n < 128
 SignedOctet (negsuc n) = n < 128
 
--- the values that the fields' types hold
+-- NTP-1: the values that the types of the fields have
 pub record HeaderFits (h : Header) : Type 0 where
   pub poll : SignedOctet (h .poll .0)
   pub precision : SignedOctet (h .precision .0)
@@ -29,8 +30,10 @@ pub record HeaderFits (h : Header) : Type 0 where
   pub receive : h .receive .0 < 2 ^ 64
   pub transmit : h .transmit .0 < 2 ^ 64
 
+-- NTP-1: for every header that is written: it is read back
 unfoldable pub ReadBack : Type 0
 ReadBack = (h : Header) (octets : List ℕ) → HeaderFits h → write h ≡ record { answer = Done; octets = octets } → read octets ≡ Good h
 
+-- NTP-1: for every 48 octets that are read: they are written again
 unfoldable pub WrittenBack : Type 0
 WrittenBack = (octets : List ℕ) (h : Header) → Octets octets → read octets ≡ Good h → write h ≡ record { answer = Done; octets = octets }

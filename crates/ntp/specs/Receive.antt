@@ -1,4 +1,4 @@
--- What an association makes of a packet that arrives at its destination time.
+-- NTP-4, NTP-5: what an association does with a packet.
 use mathlib.Core.Bool.{Bool, cond, not, _&&_}
 use mathlib.Core.List.{List}
 use Prim.Native.Nat.{ℕ}
@@ -17,20 +17,22 @@ use Rattle.ntp.specs.Header.{read}
 use Rattle.ntp.specs.Times.{interval, later, offset, delay}
 use Rattle.ntp.specs.Dispatch.{DSCRD, PROC, same, lastAssociation, dispatch}
 
+-- NTP-3: an action
 abbrev pub action : ℤ → Action
 action z = record { 0 = z }
 
 -- ---- what comes of it
 
--- "other actions leave the association and give offset and delay zero"; a refusal tells no action either
+-- NTP-5: an answer and an action; the association stays, offset and delay are zero
 abbrev pub idle : Answer → ℤ → Association → Outcome
 idle answer told a =
     record { answer = answer; action = action told; offset = interval (pos 0); delay = interval (pos 0); association = a }
 
+-- NTP-7: a refusal: no action either
 abbrev pub refused : Answer → Association → Outcome
 refused answer a = idle answer DSCRD a
 
--- "a packet that passes leaves its transmit time for the duplicate test"
+-- NTP-5, NTP-2: a packet that passes: offset and delay, and its transmit time is saved
 abbrev pub processed : Association → Header → Timestamp → Outcome
 processed a h destination =
     record {
@@ -43,27 +45,29 @@ processed a h destination =
 
 -- ---- the four timestamp tests of source document 002
 
--- 1. the transmit timestamp is not zero
+-- NTP-4: test 1: the transmit time is not zero
 abbrev pub sent : Header → Bool
 sent h = not (eqb (h .transmit .0) 0)
 
--- 2. the origin timestamp is the transmit timestamp that we sent last
+-- NTP-4: test 2: the origin time is our last transmit time
 abbrev pub answers : Association → Header → Bool
 answers a h = eqb (h .origin .0) (a .transmit .0)
 
--- 3. no duplicate: the transmit timestamp is not the saved one
+-- NTP-4: test 3: the transmit time is not the saved one
 abbrev pub fresh : Association → Header → Bool
 fresh a h = not (eqb (h .transmit .0) (a .saved .0))
 
--- 4. the destination timestamp is later than the origin timestamp
+-- NTP-4: test 4: the destination time is later than the origin time
 abbrev pub after : Header → Timestamp → Bool
 after h destination = later destination (h .origin)
 
+-- NTP-4: all four tests
 unfoldable pub passes : Association → Header → Timestamp → Bool
 passes a h destination = sent h && answers a h && fresh a h && after h destination
 
 -- ---- the order: 23, 24, 25, 26
 
+-- NTP-5, NTP-7, NTP-3: 25, then the action of the table; for PROC 26, or processed
 unfoldable pub dispatched : Association → Header → Timestamp → Outcome
 dispatched a h destination =
     cond (not (leb (a .number) lastAssociation)) (refused NtpMode a)
@@ -71,9 +75,11 @@ dispatched a h destination =
     (cond (not (passes a h destination)) (refused NtpTimestamp a)
     (processed a h destination)))
 
+-- NTP-7: a header that was read, or its refusal
 abbrev pub received : Association → Read → Timestamp → Outcome
 received a (Bad answer) destination = refused answer a
 received a (Good h) destination = dispatched a h destination
 
+-- NTP-7: receive: 23, 24, 25, 26 in this order
 unfoldable pub receive : Association → List ℕ → Timestamp → Outcome
 receive a octets destination = received a (read octets) destination

@@ -1,4 +1,4 @@
--- "A program reads one packet from standard input, gives it to the one point-to-point link of a fresh seat .. and prints the number": its host, and the number.
+-- PROGRAM-1: the host of the packet programs, and the number that they print.
 use mathlib.Core.List.{List, []}
 use Prim.Native.Nat.{ℕ}
 use lib.IntN.{pos}
@@ -21,7 +21,7 @@ use Rattle.host.specs.Lent.{Lent, lent}
 use Rattle.calls.specs.declared.Request.the-variants.{Initialize}
 use Rattle.calls.specs.Perform.{Outcome, ask, inspect, perform, inTurn}
 
--- "192.0.2.1, ADDRESS-OFFSET 1, NHOSTS 4, .. clock setting off, time 0, 1 January 1972, the rest at their least"; of the ids its own, 0, alone is marked
+-- PROGRAM-1: its settings
 abbrev pub programSettings : Settings
 programSettings =
     record {
@@ -37,25 +37,26 @@ programSettings =
       marks = onlyMark 0;
     }
 
--- "NHOSTS 4, no net rows": the net table of its class
+-- PROGRAM-1: its net table, without rows
 abbrev pub programTable : ClassTable
 programTable = tableOf 4 []
 
--- the host of number 0, set afresh; no walk is opened on it, and the packet stands for the copy of one
+-- PROGRAM-1: the host after initialize
 unfoldable pub programHost : (packet : List ℕ) → Outcome
 programHost octets =
     perform (ask Initialize)
     (lent programSettings programTable 0 (freshClock (millis (pos 0)) firstDate) (freshLinks programSettings) noWalk octets (replicate placesPerHost freshEntry))
 
+-- PROGRAM-1: everything that its calls take
 abbrev pub programLent : (packet : List ℕ) → Lent
 programLent octets =
     let o : Outcome = programHost octets in
     lent programSettings programTable 0 (o .clock) (o .links) (o .walk) octets (o .run)
 
--- the number of its answer to a packet on link 1, which is inspected and then acted on; its clock is a line clock
+-- PROGRAM-1: the number of the answer: inspected, then acted on, with a line clock
 unfoldable pub programAnswer : (packet : List ℕ) → ℕ
 programAnswer octets = number (inTurn 1 noCounter octets (programLent octets) .reply .answer)
 
--- what it tells of a packet on link 1 that it only looks at
+-- PROGRAM-1: what an inspection returns
 unfoldable pub programInspection : (packet : List ℕ) → Reply
 programInspection octets = perform (inspect 1 octets) (programLent octets) .reply

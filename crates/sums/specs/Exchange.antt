@@ -1,4 +1,4 @@
--- The exchange of the blackboard, over the octets that a send writes and an arrival reads: A has the id 0, at 192.0.2.1; B has the id 1, at 192.0.2.2, and is 500 ms ahead.
+-- SUM-6: the exchange over the octets that a send writes and an arrival reads: A has id 0 at 192.0.2.1, B has id 1 at 192.0.2.2.
 use mathlib.Core.List.{List, []}
 use Prim.Native.Nat.{ℕ}
 use lib.IntN.{pos}
@@ -21,48 +21,50 @@ use Rattle.calls.specs.declared.Request.the-variants.{SelfReport}
 use Rattle.calls.specs.Perform.{ask, send, receive, Outcome, perform}
 use Rattle.network.specs.TwoSeats.{Pair, hostAt, settingsFor, netsFor, placesOf}
 
--- seat 0 is A, and seat 1 is B
+-- SUM-6: host 0 is A, host 1 is B
 abbrev pub seats : Pair
 seats = record { tick = units (pos 1); start = λ a. 0; longest = 0; hosts = 2; marks = onlyMark; copy = [] }
 
+-- SUM-6: their settings
 abbrev pub settingsOf : (seat : ℕ) → Settings
 settingsOf = settingsFor seats
 
--- a clock that reads so many milliseconds
+-- SUM-6: a clock with a given reading
 abbrev pub clockAt : ℕ → Clock
 clockAt ms = freshClock (millis (pos ms)) firstDate
 
--- each in a run of its own, with no walk; the class's net table has no rows
+-- SUM-6: everything that a call takes, each host with its own host table
 abbrev pub lentAt : (seat ms : ℕ) → Links → List Entry → Lent
 lentAt a ms l run = lent (settingsOf a) (netsFor seats) 0 (clockAt ms) l noWalk [] run
 
+-- SUM-6: a buffer
 abbrev pub room : List ℕ
 room = replicate 40 0
 
--- A knows its neighbour from earlier
+-- SUM-6: A knows its neighbour already
 abbrev pub linksA : Links
 linksA = withLink 1 record { neighbor = hostAt 2; «keep_alive» = 0; tsp = word (pos 0) } (freshLinks (settingsOf 0))
 
--- B reports itself
+-- SUM-6: B's entries after a self-report
 abbrev pub runB : List Entry
 runB = perform (ask (SelfReport noCounter)) (lentAt 1 40500 (freshLinks (settingsOf 1)) (placesOf 1)) .run
 
--- "A sends at 40,000"
+-- SUM-6: A sends
 unfoldable pub aSends : Outcome
 aSends = perform (send 1 noCounter room) (lentAt 0 40000 linksA (placesOf 0))
 
--- "B, 500 ahead, gets it at 40,530"
+-- SUM-6: B receives it
 unfoldable pub bGets : Outcome
 bGets = perform (receive 1 noCounter (aSends .buffer)) (lentAt 1 40530 (freshLinks (settingsOf 1)) runB)
 
--- "and answers at 45,530"
+-- SUM-6: B answers
 unfoldable pub bAnswers : Outcome
 bAnswers = perform (send 1 noCounter room) (lentAt 1 45530 (bGets .links) (bGets .run))
 
--- "A gets it at 45,081"
+-- SUM-6: A receives the answer
 unfoldable pub aGets : Outcome
 aGets = perform (receive 1 noCounter (bAnswers .buffer)) (lentAt 0 45081 (aSends .links) (aSends .run))
 
--- what A then has of B
+-- SUM-6: the entry that A has of B
 unfoldable pub learnt : Entry
 learnt = getD (aGets .run) 1 freshEntry

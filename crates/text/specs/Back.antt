@@ -1,4 +1,4 @@
--- There and back: what is proved of the two together.
+-- TEXT-5: writer and reader undo each other.
 use mathlib.Core.Path.{_≡_}
 use mathlib.Core.Bool.{true}
 use mathlib.Core.List.{List, [], _∷_}
@@ -12,16 +12,16 @@ use Rattle.text.specs.Numbers.{numbersOf}
 use Rattle.text.specs.Text.{textOf}
 use Rattle.text.specs.Answers.{made, toText, fromText}
 
--- each number is that of an octet
+-- TEXT-5: each number is an octet
 abbrev pub Octets : List ℕ → Type 0
 Octets [] = Unit {0}
 Octets (x ∷ xs) = (x < 256) × Octets xs
 
--- a checksum in the form that a sender computes
+-- TEXT-5: the checksum is the one that a sender computes
 abbrev pub SendersChecksum : List ℕ → Type 0
 SendersChecksum message = take 2 message ≡ two (checksumOf (drop 2 message))
 
--- "Message to text and back gives the same message if its checksum was of that form"
+-- TEXT-5: for every message with the sender's checksum: written and read again, it is the same
 unfoldable pub MessageBack : Type 0
 MessageBack =
     (message : List ℕ) (room room₂ : ℕ) → Octets message → helloForm message ≡ true → SendersChecksum message
@@ -29,13 +29,13 @@ MessageBack =
     → length message ≤ room₂
     → fromText (toText message room .octets) room₂ ≡ made message
 
--- "and text to message and back gives the same text"
+-- TEXT-5: for every text that the reader accepts: read and written again, it is the same
 unfoldable pub TextBack : Type 0
 TextBack =
     (text : List ℕ) (room room₂ : ℕ) → fromText text room .answer ≡ Done → length text ≤ room₂
     → toText (fromText text room .octets) room₂ ≡ made text
 
--- a text that the writer wrote is never refused with 14 or 15
+-- TEXT-5: the reader never refuses a text of the writer with 14 or 15
 unfoldable pub NeverRefused : Type 0
 NeverRefused =
     (message : List ℕ) (room room₂ : ℕ) → Octets message → toText message room .answer ≡ Done
