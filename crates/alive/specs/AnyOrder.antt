@@ -1,4 +1,4 @@
--- Rounds in any order: seats report, send and hear as they come to it, but no message overtakes another on its cable. A DELAY may be longer at first, and then falls.
+-- LIVE-3: rounds in any order, if no message overtakes another on its cable.
 use mathlib.Core.Path.{_≡_}
 use mathlib.Core.Bool.{true, cond, _&&_}
 use mathlib.Core.List.{List, [], _∷_}
@@ -18,12 +18,12 @@ use Rattle.alive.specs.Rounds.{quickWay, roundSeconds, Reported, Heard, 
 
 -- ---- order
 
--- a message stands in the mail, with so many that were sent before it in the round: its number
+-- LIVE-3: a message is in the mail, after n others of the round
 unfoldable pub Stands : Message → ℕ → List Message → Type 0
 Stands m n [] = ⊥
 Stands m n (x ∷ ms) = ((x ≡ m) × (length ms ≡ n)) ⊎ Stands m n ms
 
--- an arrival at link j of seat b is given a message of the other end that is not older than the last that came there: none overtakes another
+-- LIVE-3: an arrival gets a message that is not older than the last one on its cable
 pub record Next (r : Room) (w : World) (last : ℕ → ℕ → ℕ) (b j : ℕ) (packet : List ℕ) : Type 0 where
   pub message : Message
   pub number : ℕ
@@ -32,7 +32,7 @@ pub record Next (r : Room) (w : World) (last : ℕ → ℕ → ℕ) (b j : ℕ) 
   pub a-copy : packet ≡ message .octets
   pub in-order : last b j ≤ number
 
--- and no walk is opened
+-- LIVE-3: each arrival does, and no walk is opened
 abbrev pub Fresh : Room → World → (last : ℕ → ℕ → ℕ) (b : ℕ) → RoomCall → Type 0
 Fresh r w last b (ticks n) = Unit {0}
 Fresh r w last b seconds = Unit {0}
@@ -48,10 +48,11 @@ Fresh r w last b (sets ms n) = Unit {0}
 Fresh r w last b (clocks κ) = Unit {0}
 Fresh r w last b (looks d) = Unit {0}
 
--- the number of the last message that came at link j of seat b
+-- LIVE-3: the number of the last message on a link, after another
 abbrev pub came : (b j n : ℕ) → (ℕ → ℕ → ℕ) → ℕ → ℕ → ℕ
 came b j n last p q = cond (eqb p b && eqb q j) n (last p q)
 
+-- LIVE-3: the same after a call
 abbrev pub lastAfter : (r : Room) (w : World) (last : ℕ → ℕ → ℕ) (b : ℕ) (call : RoomCall) → Fresh r w last b call → ℕ → ℕ → ℕ
 lastAfter r w last b (ticks n) f = last
 lastAfter r w last b seconds f = last
@@ -67,33 +68,37 @@ lastAfter r w last b (sets ms n) f = last
 lastAfter r w last b (clocks κ) f = last
 lastAfter r w last b (looks d) f = last
 
+-- LIVE-3: each call of a list
 unfoldable pub AllFresh : Room → World → (last : ℕ → ℕ → ℕ) → List Step → Type 0
 AllFresh r w last [] = Unit {0}
 AllFresh r w last (x ∷ xs) = (f : Fresh r w last (x .seat) (x .call)) × AllFresh r (step r w x) (lastAfter r w last (x .seat) (x .call) f) xs
 
--- nothing came yet
+-- LIVE-3: no message yet
 abbrev pub nothingCame : ℕ → ℕ → ℕ
 nothingCame b j = 0
 
 -- ---- a round, and the beginning of one
 
+-- LIVE-3: the beginning of a round
 pub record Begun (r : Room) (w : World) (xs : List Step) : Type 0 where
   pub allowed : Allows r (emptied w) xs
   pub fresh : AllFresh r (emptied w) nothingCame xs
   pub short : (b : ℕ) → b < r .seats → secondsAt r (emptied w) b xs ≤ roundSeconds
 
+-- LIVE-3: a round: each host reports itself, and something is received on each cable
 pub record AnyRound (r : Room) (w : World) (xs : List Step) : Type 0 where
   pub begun : Begun r w xs
   pub reported : (b : ℕ) → b < r .seats → Reported r (emptied w) b xs
   pub heard : (b j a i : ℕ) → r .cable b j ≡ at a i → Heard r (emptied w) b j xs
 
+-- LIVE-3: n rounds in succession
 pub data AnyRounds (r : Room) (w : World) : (count : ℕ) → World → Type 0 where
   begin : AnyRounds r w 0 w
   next : {k : ℕ} {v : World} → AnyRounds r w k v → (xs : List Step) → AnyRound r v xs → AnyRounds r w (suc k) (history r (emptied v) xs)
 
 -- ---- the claim
 
--- an entry that is up: its DELAY is exactly 100 ms a cable, of some way to the host's seat
+-- LIVE-3: an entry that is up has a DELAY of 100 ms for each cable of some path
 pub record Measured (r : Room) (v : World) (b i : ℕ) : Type 0 where
   pub seat : ℕ
   pub seat-in : seat < r .seats
@@ -102,7 +107,7 @@ pub record Measured (r : Room) (v : World) (b i : ℕ) : Type 0 where
   pub way : Hops r seat b hops
   pub delay : entryOf r v b i .delay .0 ≡ pos (rise * hops)
 
--- where its PID is not 0, the seat at that cable's other end has it too, with a DELAY that is less by 100 ms at least
+-- LIVE-3: its PID leads to a host that has it with at least 100 ms less
 pub record Leads (r : Room) (v : World) (b i : ℕ) : Type 0 where
   pub seat : ℕ
   pub link : ℕ
@@ -110,12 +115,12 @@ pub record Leads (r : Room) (v : World) (b i : ℕ) : Type 0 where
   pub is-up : up (entryOf r v seat i) ≡ true
   pub less : (entryOf r v seat i .delay .0 +ℤ pos rise) ≤ℤ entryOf r v b i .delay .0
 
--- so many PIDs lead from a seat to seat c
+-- LIVE-3: n PIDs lead from one host to another
 pub data Follows (r : Room) (v : World) (i c : ℕ) : (seat count : ℕ) → Type 0 where
   here : Follows r v i c c 0
   on : {b d l n : ℕ} → up (entryOf r v b i) ≡ true → (entryOf r v b i .pid ≡ 0 → ⊥) → r .cable b (entryOf r v b i .pid) ≡ at d l → Follows r v i c d n → Follows r v i c b (suc n)
 
--- they lead to the host's seat, 100 ms of DELAY for each at least
+-- LIVE-3: the PIDs lead to the id's host
 pub record Led (r : Room) (v : World) (b i : ℕ) : Type 0 where
   pub seat : ℕ
   pub seat-in : seat < r .seats
@@ -124,39 +129,41 @@ pub record Led (r : Room) (v : World) (b i : ℕ) : Type 0 where
   pub follows : Follows r v i seat b count
   pub few : pos (rise * count) ≤ℤ entryOf r v b i .delay .0
 
--- from one world to the next an entry does not go down, and its DELAY does not rise; its PID is another one only where DELAY fell by 100 ms at least
+-- LIVE-3: an entry stays up, its DELAY does not rise, and its PID changes only for 100 ms less
 pub record Stays (r : Room) (w v : World) (b i : ℕ) : Type 0 where
   pub is-up : up (entryOf r v b i) ≡ true
   pub no-longer : entryOf r v b i .delay .0 ≤ℤ entryOf r w b i .delay .0
   pub turns : (entryOf r v b i .pid ≡ entryOf r w b i .pid) ⊎ ((entryOf r v b i .delay .0 +ℤ pos rise) ≤ℤ entryOf r w b i .delay .0)
 
--- .. by any call of a list
+-- LIVE-3: at every call of a list
 unfoldable pub StaysOn : (r : Room) (w : World) (b i : ℕ) → List Step → Type 0
 StaysOn r w b i [] = Unit {0}
 StaysOn r w b i (x ∷ xs) = (up (entryOf r w b i) ≡ true → Stays r w (step r w x) b i) × StaysOn r (step r w x) b i xs
 
--- it has the DELAY of so many cables, and neither DELAY nor PID changes
+-- LIVE-3: DELAY and PID change no more
 pub record Settled (r : Room) (w v : World) (b i h : ℕ) : Type 0 where
   pub delay : entryOf r w b i .delay .0 ≡ pos (rise * h)
   pub delay-then : entryOf r v b i .delay .0 ≡ pos (rise * h)
   pub same-pid : entryOf r v b i .pid ≡ entryOf r w b i .pid
 
+-- LIVE-3: at every call of a list
 unfoldable pub SettledOn : (r : Room) (w : World) (b i h : ℕ) → List Step → Type 0
 SettledOn r w b i h [] = Unit {0}
 SettledOn r w b i h (x ∷ xs) = Settled r w (step r w x) b i h × SettledOn r (step r w x) b i h xs
 
--- After k rounds, at any moment of the next: the hosts less than k cables away are there, with a DELAY of their shortest way.
+-- LIVE-3: after k rounds, at any moment of the next one
 pub record AnyClaim (r : Room) (k : ℕ) (v : World) (xs : List Step) (b i : ℕ) : Type 0 where
   pub there : (c h : ℕ) → c < r .seats → HostAt r i c → Hops r c b h → h < k → h < 16 → Shown r (history r (emptied v) xs) b i h
   pub measured : up (entryOf r (history r (emptied v) xs) b i) ≡ true → Measured r (history r (emptied v) xs) b i
   pub leads : up (entryOf r (history r (emptied v) xs) b i) ≡ true → (entryOf r (history r (emptied v) xs) b i .pid ≡ 0 → ⊥) → Leads r (history r (emptied v) xs) b i
   pub led : up (entryOf r (history r (emptied v) xs) b i) ≡ true → Led r (history r (emptied v) xs) b i
-  -- PIDs form no loop
+  -- LIVE-3: PIDs form no loop
   pub no-loop : (n : ℕ) → Follows r (history r (emptied v) xs) i b b (suc n) → ⊥
   pub stays : StaysOn r (emptied v) b i xs
-  -- a host less than k cables away, by its shortest way: nothing changes any more
+  -- LIVE-3: hosts less than k cables away: nothing changes any more
   pub settled : (c h : ℕ) → c < r .seats → HostAt r i c → Hops r c b h → ((g : ℕ) → Hops r c b g → h ≤ g) → h < k → h < 16 → SettledOn r (emptied v) b i h xs
 
+-- LIVE-3: for every network with messages of at most 50 ms, every start and every such rounds
 unfoldable pub AnyOrder : Type 0
 AnyOrder =
     (r : Room) → Proper r → r .longest ≤ quickWay → ((a : ℕ) → a < r .seats → linkCount (r .settings a) ≤ length (r .settings a .links))

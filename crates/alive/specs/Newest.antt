@@ -1,4 +1,4 @@
--- Where every arrival is given the newest message of its cable's other end, no message overtakes another: so such rounds are rounds of any order.
+-- LIVE-5: if each arrival gets the newest message of its cable, no message overtakes another.
 use mathlib.Core.Path.{_≡_}
 use mathlib.Core.Bool.{Bool, cond, _&&_}
 use mathlib.Core.List.{List, [], _∷_}
@@ -9,20 +9,23 @@ use Rattle.network.specs.Demand3.{RoomCall, ticks, seconds, reports, sends, arr
 use Rattle.alive.specs.Silence.{emptied}
 use Rattle.alive.specs.AnyOrder.{nothingCame, AllFresh}
 
+-- LIVE-5: was a message sent on this link?
 abbrev pub isFrom : (seat link : ℕ) → Message → Bool
 isFrom a i m = eqb (m .seat) a && eqb (m .link) i
 
--- the newest message of a link: none, or one; mail is newest first
+-- LIVE-5: the newest message of a link
 unfoldable pub newestFrom : (seat link : ℕ) → List Message → List Message
 newestFrom a i [] = []
 newestFrom a i (m ∷ ms) = cond (isFrom a i m) (m ∷ []) (newestFrom a i ms)
 
+-- LIVE-5: the packet is a copy of it
 pub record Newest (r : Room) (w : World) (b j : ℕ) (packet : List ℕ) : Type 0 where
   pub message : Message
   pub other-end : r .cable b j ≡ at (message .seat) (message .link)
   pub newest : newestFrom (message .seat) (message .link) (w .mail) ≡ message ∷ []
   pub a-copy : packet ≡ message .octets
 
+-- LIVE-5: each arrival gets the newest, and no walk is opened
 abbrev pub GivenNewest : Room → World → (b : ℕ) → RoomCall → Type 0
 GivenNewest r w b (ticks n) = Unit {0}
 GivenNewest r w b seconds = Unit {0}
@@ -38,9 +41,11 @@ GivenNewest r w b (sets ms n) = Unit {0}
 GivenNewest r w b (clocks κ) = Unit {0}
 GivenNewest r w b (looks d) = Unit {0}
 
+-- LIVE-5: each call of a list
 unfoldable pub AllNewest : Room → World → List Step → Type 0
 AllNewest r w [] = Unit {0}
 AllNewest r w (x ∷ xs) = GivenNewest r w (x .seat) (x .call) × AllNewest r (step r w x) xs
 
+-- LIVE-5: for every network and list
 unfoldable pub NewestInOrder : Type 0
 NewestInOrder = (r : Room) (w : World) (xs : List Step) → AllNewest r (emptied w) xs → AllFresh r (emptied w) nothingCame xs

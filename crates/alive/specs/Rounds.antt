@@ -1,4 +1,4 @@
--- Rounds: every seat speaks, then every seat listens. After k + 1 of them every table has exactly the hosts that are up to k cables away, each with a DELAY of 100 ms a cable.
+-- LIVE-2: rounds in which all hosts send, then all receive.
 use mathlib.Core.Path.{_≡_}
 use mathlib.Core.Bool.{true, false}
 use mathlib.Core.List.{List, [], _∷_}
@@ -17,17 +17,17 @@ use Rattle.alive.specs.Hops.{Hops}
 
 -- ---- the law's numbers
 
--- a message is under way for at most so many ms: two ways make no more than 100
+-- LIVE-2: a message takes at most 50 ms
 abbrev pub quickWay : ℕ
 quickWay = 50
 
--- seconds of a seat in a round: two rounds less two seconds fit into a TTL
+-- LIVE-2: the most seconds of a host in a round
 abbrev pub roundSeconds : ℕ
 roundSeconds = 59
 
 -- ---- a round
 
--- no arrival; and no walk is opened
+-- LIVE-2: no arrival, and no walk is opened
 abbrev pub Speaks : Room → World → (b : ℕ) → RoomCall → Type 0
 Speaks r w b (ticks n) = Unit {0}
 Speaks r w b seconds = Unit {0}
@@ -43,7 +43,7 @@ Speaks r w b (sets ms n) = Unit {0}
 Speaks r w b (clocks κ) = Unit {0}
 Speaks r w b (looks d) = Unit {0}
 
--- no send; and no walk is opened
+-- LIVE-2: no send, and no walk is opened
 abbrev pub Listens : RoomCall → Type 0
 Listens (ticks n) = Unit {0}
 Listens seconds = Unit {0}
@@ -59,15 +59,17 @@ Listens (sets ms n) = Unit {0}
 Listens (clocks κ) = Unit {0}
 Listens (looks d) = Unit {0}
 
+-- LIVE-2: a list without arrivals
 unfoldable pub Speaking : Room → World → List Step → Type 0
 Speaking r w [] = Unit {0}
 Speaking r w (x ∷ xs) = Speaks r w (x .seat) (x .call) × Speaking r (step r w x) xs
 
+-- LIVE-2: a list without sends
 unfoldable pub Listening : List Step → Type 0
 Listening [] = Unit {0}
 Listening (x ∷ xs) = Listens (x .call) × Listening xs
 
--- a call answers 0, and is a self-report; and is an arrival on link j
+-- LIVE-2: a call is a self-report, answered 0
 abbrev pub ReportsNow : Room → World → (b : ℕ) → Step → RoomCall → Type 0
 ReportsNow r w b x (ticks n) = ⊥
 ReportsNow r w b x seconds = ⊥
@@ -83,6 +85,7 @@ ReportsNow r w b x (sets ms n) = ⊥
 ReportsNow r w b x (clocks κ) = ⊥
 ReportsNow r w b x (looks d) = ⊥
 
+-- LIVE-2: a call is an arrival on link j, answered 0
 abbrev pub HearsNow : Room → World → (b j : ℕ) → Step → RoomCall → Type 0
 HearsNow r w b j x (ticks n) = ⊥
 HearsNow r w b j x seconds = ⊥
@@ -98,18 +101,21 @@ HearsNow r w b j x (sets ms n) = ⊥
 HearsNow r w b j x (clocks κ) = ⊥
 HearsNow r w b j x (looks d) = ⊥
 
+-- LIVE-2: some call of a list is such a self-report
 unfoldable pub Reported : Room → World → (b : ℕ) → List Step → Type 0
 Reported r w b [] = ⊥
 Reported r w b (x ∷ xs) = ReportsNow r w b x (x .call) ⊎ Reported r (step r w x) b xs
 
+-- LIVE-2: some call of a list is such an arrival
 unfoldable pub Heard : Room → World → (b j : ℕ) → List Step → Type 0
 Heard r w b j [] = ⊥
 Heard r w b j (x ∷ xs) = HearsNow r w b j x (x .call) ⊎ Heard r (step r w x) b j xs
 
--- the seats speak, and then they listen
+-- LIVE-2: the network after all have sent
 abbrev pub spoken : Room → World → List Step → World
 spoken r w xs = history r (emptied w) xs
 
+-- LIVE-2: a round
 pub record Round (r : Room) (w : World) (xs ys : List Step) : Type 0 where
   pub allowed : Allows r (emptied w) xs
   pub allowed-then : Allows r (spoken r w xs) ys
@@ -119,18 +125,19 @@ pub record Round (r : Room) (w : World) (xs ys : List Step) : Type 0 where
   pub heard : (b j a i : ℕ) → r .cable b j ≡ at a i → Heard r (spoken r w xs) b j ys
   pub short : (b : ℕ) → b < r .seats → secondsAt r (emptied w) b xs + secondsAt r (spoken r w xs) b ys ≤ roundSeconds
 
+-- LIVE-2: n rounds in succession
 pub data Rounds (r : Room) (w : World) : (count : ℕ) → World → Type 0 where
   begin : Rounds r w 0 w
   next : {k : ℕ} {v : World} → Rounds r w k v → (xs ys : List Step) → Round r v xs ys → Rounds r w (suc k) (history r (spoken r v xs) ys)
 
 -- ---- the claim
 
--- a host h cables away is there after h + 1 rounds, with a DELAY of 100 ms a cable at most: so of the shortest way
+-- LIVE-2: the entry is up, with a DELAY of at most 100 ms for each cable
 pub record Shown (r : Room) (v : World) (b i h : ℕ) : Type 0 where
   pub is-up : up (entryOf r v b i) ≡ true
   pub near : entryOf r v b i .delay .0 ≤ℤ pos (rise * h)
 
--- an entry that is up is of a host so many cables away, and its DELAY is exactly 100 ms a cable; it is not there before its round
+-- LIVE-2: an entry that is up is of a host n cables away, with exactly 100 ms for each
 pub record Exact (r : Room) (v : World) (k b i : ℕ) : Type 0 where
   pub seat : ℕ
   pub seat-in : seat < r .seats
@@ -140,7 +147,7 @@ pub record Exact (r : Room) (v : World) (k b i : ℕ) : Type 0 where
   pub in-time : hops ≤ k
   pub delay : entryOf r v b i .delay .0 ≡ pos (rise * hops)
 
--- The settings have a slot for each link.
+-- LIVE-2: for every network, start and k + 1 rounds
 unfoldable pub ComesAlive : Type 0
 ComesAlive =
     (r : Room) → Proper r → r .longest ≤ quickWay → ((a : ℕ) → a < r .seats → linkCount (r .settings a) ≤ length (r .settings a .links))

@@ -1,5 +1,4 @@
--- Demand 1, answers: "Each is given exactly on its condition; 12 is tested first in all calls, then upwards in number"; 16 right after 12.
--- For each call, its answers with their conditions, in that order; the call gives the first whose condition holds, and 0 where none does.
+-- REPLY-1, ISOLATION-1: for each call, its answers with their conditions in order. The call gives the first whose condition is true, or 0.
 use mathlib.Core.Path.{_≡_}
 use mathlib.Core.Bool.{Bool, false, cond, not, _&&_, _||_}
 use mathlib.Core.List.{List, [], _∷_, _++_}
@@ -37,62 +36,65 @@ use Rattle.calls.specs.declared.Request.{Request}
 use Rattle.calls.specs.declared.Request.the-variants.{Initialize, Tick, Adjust, Set, Read, Second, SelfReport, Lookup, Step}
 use Rattle.calls.specs.Perform.{Call, ask, send, deliver, openWalk, scopeOfCall, perform}
 
--- an answer and its condition
+-- REPLY-1: an answer and its condition
 pub record Test : Type 0 where
   pub answer : Answer
   pub holds : Bool
 
+-- REPLY-1: the same of its parts
 abbrev pub on : Answer → Bool → Test
 on a b = record { answer = a; holds = b }
 
+-- REPLY-1: the first answer whose condition is true
 abbrev pub firstOf : List Test → Answer
 firstOf [] = Done
 firstOf (t ∷ ts) = cond (t .holds) (t .answer) (firstOf ts)
 
 -- ---- conditions
 
--- 10: on a point-to-point link, a known neighbour, and a packet TSP of 0 or HOLD not 0
+-- ANSWER-10, ARRIVE-4: 10: a known neighbour on a point-to-point link, with packet TSP 0 or HOLD not 0
 abbrev pub delayInvalidIn : (hold : Seconds) → Host → (link : ℕ) → Packet → Bool
 delayInvalidIn hold h i p =
     not (broadcast (h .settings) i) && sameAddress (p .source) (linkOf (h .links) i .neighbor) && (zeroWord (p .tsp) || not (eqb (hold .0) 0))
 
--- behind the reading
+-- ANSWER-10, CLOCK-16: the same after the reading
 abbrev pub delayInvalid : Counter → Host → (link : ℕ) → Packet → Bool
 delayInvalid k h i p = delayInvalidIn (ourReading k h .clock .hold) h i p
 
--- the neighbour after step 4
+-- ARRIVE-4: the neighbour after step 4
 abbrev pub neighborNow : Host → (link : ℕ) → Packet → Address
 neighborNow h i p = cond (broadcast (h .settings) i) (linkOf (h .links) i .neighbor) (p .source)
 
--- 11 at an arrival: no table, and no id for the neighbour
+-- ANSWER-11, ARRIVE-5: 11 at an arrival: no table, and no id for the neighbour
 abbrev pub neighborUnknown : ClassTable → Host → (link : ℕ) → Packet → Bool
 neighborUnknown t h i p = eqb (p .nhosts) 0 && not (isFound (foundFor t (h .settings) (neighborNow h i p)))
 
--- a walk is open, and stands before this step
+-- WALK-2: is a walk open before this step?
 abbrev pub beforeStep : ℕ → Walk → Bool
 beforeStep n w = isOpen w && eqb (w .line) 0 && eqb (w .step) n
 
--- the fields of the packet that a walk holds
+-- WALK-2: the fields of the walk's packet
 abbrev pub held : Lent → Packet
 held x = fields (packetOf (x .walk) (x .copy))
 
--- 10 at step 4 of a walk, with HOLD as it is by then
+-- ANSWER-10, WALK-7: 10 at step 4 of a walk, with HOLD as it is then
 abbrev pub walkDelayInvalid : Lent → Bool
 walkDelayInvalid x = beforeStep 4 (x .walk) && delayInvalidIn (x .host .clock .hold) (x .host) (x .walk .link) (held x)
 
--- 11 at step 5 of a walk, with the neighbour and the table as they are by then
+-- ANSWER-11, WALK-7, NET-11: 11 at step 5 of a walk, with neighbour and table as they are then
 abbrev pub walkNeighborUnknown : Lent → Bool
 walkNeighborUnknown x =
     beforeStep 5 (x .walk)
     && (eqb (held x .nhosts) 0 && not (isFound (foundFor (x .nets) (x .host .settings) (linkOf (x .host .links) (x .walk .link) .neighbor))))
 
--- 13: an id is found, and its entry is down
+-- ANSWER-13: 13: an id is found, and its entry is down
 abbrev pub hostDown : List Entry → Found → Bool
 hostDown es Nothing = false
 hostDown es (Id id) = not (up (getD es id freshEntry))
 
 -- ---- the tests of each call, behind 12, 16 and 1
 
+-- REPLY-1, ANSWER-17: the tests of a request after 12, 16 and 1
 abbrev pub requestTests : Request → Lent → List Test
 requestTests Initialize x = []
 requestTests (Tick n) x = []
@@ -108,10 +110,12 @@ requestTests (Lookup a) x =
 requestTests (Step k) x =
     on DelayNotValid (walkDelayInvalid x) ∷ on NoHost (walkNeighborUnknown x) ∷ on NoWalk (not (isOpen (x .walk))) ∷ []
 
+-- REPLY-1, ANSWER-2: the test of a send
 abbrev pub sendTests : (link : ℕ) (buffer : List ℕ) → Host → List Test
 sendTests i buffer h =
     on ShortBuffer (ltb (length buffer) (packetLength (reportCount (h .settings) (linkOf (h .links) i)))) ∷ []
 
+-- INSPECT-5, PACKET-8: the tests of an inspection
 abbrev pub inspectionTests : (link : ℕ) (octets : List ℕ) → Host → List Test
 inspectionTests i octets h =
     on IpForm (not (ipForm octets))
@@ -123,7 +127,7 @@ inspectionTests i octets h =
     ∷ on LoopedLine (looped (h .settings) i (fields octets))
     ∷ []
 
--- "the action adds 10 and 11"
+-- INSPECT-5: the tests of an action
 abbrev pub actionTests : (link : ℕ) → Counter → (octets : List ℕ) → ClassTable → Host → List Test
 actionTests i k octets t h =
     inspectionTests i octets h
@@ -131,18 +135,20 @@ actionTests i k octets t h =
     ∷ on NoHost (neighborUnknown t h i (fields octets))
     ∷ []
 
+-- INSPECT-5: the tests of each of the three calls
 abbrev pub deliveryTests : Delivery → (octets : List ℕ) → ClassTable → Host → List Test
 deliveryTests (Inspect i) octets t h = inspectionTests i octets h
 deliveryTests (Act i k) octets t h = actionTests i k octets t h
 deliveryTests (Receive i k) octets t h = actionTests i k octets t h
 
+-- REPLY-1: the tests of a call after 12, 16 and 1
 abbrev pub ownTests : Call → Lent → List Test
 ownTests (ask q) x = requestTests q x
 ownTests (send i k buffer) x = sendTests i buffer (x .host)
 ownTests (deliver d packet) x = deliveryTests d packet (x .nets) (x .host)
 ownTests (openWalk i packet) x = inspectionTests i packet (x .host)
 
--- 12, by the table and by how much the call tests, 16, which setting afresh and a step don't give, and 1, also where NHOSTS is not the table's
+-- REPLY-1, CALL-2: all tests of a call, in order
 abbrev pub tests : Call → Lent → List Test
 tests c x =
     on OutOfRange (outOfRange (scopeOfCall c) x)
@@ -150,5 +156,6 @@ tests c x =
     ∷ on Setting (not (settingsFit (x .nets) (x .host .settings)))
     ∷ ownTests c x
 
+-- REPLY-1, REPLY-4, ISOLATION-1: for every call and everything that it takes: it gives the first answer whose condition is true
 unfoldable pub Answers : Type 0
 Answers = (c : Call) (x : Lent) → perform c x .reply .answer ≡ firstOf (tests c x)

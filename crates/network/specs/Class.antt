@@ -1,4 +1,4 @@
--- Demand 1 for a class: its seats' calls and the tutor's in one list. "Under demand 1 a seat's answers now depend also on the tutor's changes so far, still on no other seat."
+-- NET-10: demand 1 for a class: the calls of its hosts and the tutor's in one list.
 use mathlib.Core.Path.{_≡_}
 use mathlib.Core.Bool.{cond}
 use mathlib.Core.List.{List, [], _∷_}
@@ -21,21 +21,21 @@ use Rattle.network.specs.History.{Event, State, LendsWhole, outcome, aft
 
 -- ---- what happens in a class
 
--- a call of the tutor's: "set afresh without rows, add a row, remove a row, change a row's host id"
+-- NET-2, NET-3, NET-4, NET-5: a call of the tutor's
 pub data TutorCall : Type 0 where
   afresh : (nhosts : ℕ) → TutorCall
   adds : Net → (id : ℕ) → TutorCall
   removes : (row : ℕ) → TutorCall
   changes : (row id : ℕ) → TutorCall
 
--- the table that it leaves
+-- NET-10: the table after it
 abbrev pub turned : TutorCall → ClassTable → ClassTable
 turned (afresh n) t = setAfresh n t .table
 turned (adds m id) t = add m id t .table
 turned (removes k) t = remove k t .table
 turned (changes k id) t = change k id t .table
 
--- a seat's call, with what it is lent but the table
+-- NET-10: a host's call with everything that it takes except the table
 pub record SeatCall : Type 0 where
   pub call : Call
   pub settings : Settings
@@ -46,39 +46,44 @@ pub record SeatCall : Type 0 where
   pub copy : List ℕ
   pub run : List Entry
 
+-- NET-10: a call of a host or of the tutor
 pub data ClassEvent : Type 0 where
   seat : SeatCall → ClassEvent
   tutor : TutorCall → ClassEvent
 
--- the call, lent the table as it stands
+-- NET-10: the call with the table as it is
 abbrev pub given : ClassTable → SeatCall → Event
 given t e =
     record { call = e .call; lent = lent (e .settings) t (e .number) (e .clock) (e .links) (e .walk) (e .copy) (e .run) }
 
 -- ---- the class afterwards: its table, and what was left at each number
 
+-- NET-10: the table, and the state at each number
 pub record Class : Type 0 where
   pub table : ClassTable
   pub left : State
 
+-- NET-10: the class after a call
 unfoldable pub classAfter : Class → ClassEvent → Class
 classAfter w (seat e) = record { table = w .table; left = after (w .left) (given (w .table) e) }
 classAfter w (tutor c) = record { table = turned c (w .table); left = w .left }
 
+-- NET-10: the class after a list of calls
 unfoldable pub classAfterAll : Class → List ClassEvent → Class
 classAfterAll w [] = w
 classAfterAll w (e ∷ es) = classAfterAll (classAfter w e) es
 
--- each seat's call is lent what that seat's last one left
+-- ISOLATION-3: a host's call gets the state after that host's last one
 abbrev pub LentIn : (number : ℕ) → Class → ClassEvent → Type 0
 LentIn k w (seat e) = e .number ≡ k → LendsWhole (w .left k) (given (w .table) e .lent)
 LentIn k w (tutor c) = Unit {0}
 
+-- ISOLATION-3: each of a host's calls does
 unfoldable pub AllLentIn : (number : ℕ) → Class → List ClassEvent → Type 0
 AllLentIn k w [] = Unit {0}
 AllLentIn k w (e ∷ es) = LentIn k w e × AllLentIn k (classAfter w e) es
 
--- what is told at number k, call by call
+-- NET-10: what is returned at number k, call by call
 unfoldable pub classTold : (number : ℕ) → Class → List ClassEvent → List Told
 classTold k w [] = []
 classTold k w (seat e ∷ es) =
@@ -88,20 +93,20 @@ classTold k w (tutor c ∷ es) = classTold k (classAfter w (tutor c)) es
 
 -- ---- one seat's own calls and the tutor's
 
--- the list without every other seat's calls
+-- NET-10: the list without the calls of other hosts
 abbrev pub ownAndTutors : (number : ℕ) → List ClassEvent → List ClassEvent
 ownAndTutors k [] = []
 ownAndTutors k (seat e ∷ es) = cond (eqb (e .number) k) (seat e ∷ ownAndTutors k es) (ownAndTutors k es)
 ownAndTutors k (tutor c ∷ es) = tutor c ∷ ownAndTutors k es
 
--- two calls of a seat that agree in settings, input and lengths
+-- NET-10: two calls that agree in settings, input and lengths
 pub record SameCall (e f : SeatCall) : Type 0 where
   pub settings-same : e .settings ≡ f .settings
   pub input-same : SameInput (e .call) (f .call)
   pub length-same : length (e .run) ≡ length (f .run)
   pub room-same : length (e .copy) ≡ length (f .copy)
 
--- two lists that agree event by event, the tutor's calls in the same places among a seat's
+-- NET-10: two lists that agree, with the tutor's calls in the same places
 pub data SameCalls : List ClassEvent → List ClassEvent → Type 0 where
   no-more : SameCalls [] []
   own-call : {e f : SeatCall} {es fs : List ClassEvent} → SameCall e f → SameCalls es fs → SameCalls (seat e ∷ es) (seat f ∷ fs)
@@ -109,19 +114,21 @@ pub data SameCalls : List ClassEvent → List ClassEvent → Type 0 where
 
 -- ---- the laws
 
--- at number k the same is told, and the same is left; and the table is the same
+-- NET-10: at number k the same is returned, the state is the same, and so is the table
 pub record SameAt (k : ℕ) (w v : Class) (es fs : List ClassEvent) : Type 0 where
   pub told-same : classTold k w es ≡ classTold k v fs
   pub left-same : classAfterAll w es .left k ≡ classAfterAll v fs .left k
   pub table-same : classAfterAll w es .table ≡ classAfterAll v fs .table
 
+-- NET-10, NET-1: a host depends on its own calls and the tutor's alone
 pub record ClassIsolation : Type 0 where
-  -- no seat's call changes the table, and no tutor's call what was left at a number
+  -- NET-1: no host's call changes the table
   pub table-stays : (w : Class) (e : SeatCall) → classAfter w (seat e) .table ≡ w .table
+  -- NET-1: no tutor's call changes a host's state
   pub seats-stay : (w : Class) (c : TutorCall) → classAfter w (tutor c) .left ≡ w .left
-  -- what is told at k, what is left there, and the table go by k's own calls and the tutor's alone
+  -- NET-10: for every two lists that agree in k's own calls and the tutor's
   pub isolated :
       (k : ℕ) (w v : Class) (es fs : List ClassEvent) → AllLentIn k w es → AllLentIn k v fs
       → SameCalls (ownAndTutors k es) (ownAndTutors k fs) → w .table ≡ v .table → w .left k ≡ v .left k → SameAt k w v es fs
-  -- deleting every other seat's calls changes nothing at k
+  -- NET-10: without the calls of other hosts everything at k is the same
   pub alone : (k : ℕ) (w : Class) (es : List ClassEvent) → AllLentIn k w es → SameAt k w w es (ownAndTutors k es)

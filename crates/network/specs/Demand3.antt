@@ -1,4 +1,4 @@
--- Demand 3: one claim about every list of calls in a room.
+-- ROOM-4 to ROOM-10: demand 3, one theorem about every list of calls in a network.
 use mathlib.Core.Path.{_≡_}
 use mathlib.Core.Bool.{Bool, true, cond, _||_}
 use mathlib.Core.List.{List, [], _∷_, List·Memᴰ}
@@ -34,7 +34,7 @@ use Rattle.network.specs.Room.{longestWay, errorParts, delayParts, Room,
 
 -- ---- the calls of the list
 
--- "ticks, sends, arrivals, self-reports and seconds"; a send and an arrival have the room's millisecond. An action is an arrival; an inspection may be given any packet. A walk is an arrival, with the millisecond of its box 1: it may be opened for any packet, and the packet that box 1 finds must be a message in time.
+-- ROOM-4: the calls of the list. Send and arrival have the network's millisecond; a walk counts as an arrival at its first box.
 pub data RoomCall : Type 0 where
   ticks : Count → RoomCall
   seconds : RoomCall
@@ -50,6 +50,7 @@ pub data RoomCall : Type 0 where
   clocks : Counter → RoomCall
   looks : Address → RoomCall
 
+-- ROOM-4: the call itself
 abbrev pub callOf : RoomCall → Call
 callOf (ticks n) = ask (Tick n)
 callOf seconds = ask Second
@@ -65,7 +66,7 @@ callOf (sets ms n) = ask (Set ms n)
 callOf (clocks k) = ask (Read k)
 callOf (looks a) = ask (Lookup a)
 
--- A call at a seat, with the class's net table, the links and the run that it is lent. The tutor may change the table between any two calls, "demand 3 holds whatever they are": nothing is asked of it.
+-- ROOM-4, NET-10: a call at a host with the state that it gets. The net table may be any.
 pub record Step : Type 0 where
   pub seat : ℕ
   pub nets : ClassTable
@@ -76,32 +77,33 @@ pub record Step : Type 0 where
 
 -- ---- the room after a list of calls
 
--- a message that was sent with answer 0: from which link of which seat, when, and its octets
+-- ROOM-8: a message sent with answer 0: its link, its millisecond and its octets
 pub record Message : Type 0 where
   pub seat : ℕ
   pub link : ℕ
   pub ms : ℤ
   pub octets : List ℕ
 
--- what each number's last call left, and all that was sent so far
+-- ROOM-5: the state after each host's last call, and everything sent so far
 pub record World : Type 0 where
   pub state : State
   pub mail : List Message
 
--- what is left at a seat
+-- ROOM-5: the state of a host
 abbrev pub leftAt : Room → World → (seat : ℕ) → Left
 leftAt r w a = w .state (r .number a)
 
--- "Each call gets its seat's settings, and the clock .. as that seat's last call left" it, and is lent this table, these links and this run.
+-- ROOM-5: the call with everything that it takes
 abbrev pub eventOf : Room → World → Step → Event
 eventOf r w x =
     let was : Left = leftAt r w (x .seat) in
     record { call = callOf (x .call); lent = lentAt r (x .seat) (x .nets) (was .clock) (x .links) (was .walk) (x .copy) (x .run) }
 
+-- ROOM-10: the outcome of a call
 abbrev pub result : Room → World → Step → Outcome
 result r w x = outcome (eventOf r w x)
 
--- the mail after a call that left this
+-- ROOM-8: the messages after a call; an arrival removes none
 abbrev pub mailAfter : (seat : ℕ) → Outcome → RoomCall → List Message → List Message
 mailAfter a o (ticks n) mail = mail
 mailAfter a o seconds mail = mail
@@ -118,37 +120,39 @@ mailAfter a o (sets ms n) mail = mail
 mailAfter a o (clocks k) mail = mail
 mailAfter a o (looks d) mail = mail
 
+-- ROOM-10: the network after a call
 unfoldable pub step : Room → World → Step → World
 step r w x =
     record { state = after (w .state) (eventOf r w x); mail = mailAfter (x .seat) (result r w x) (x .call) (w .mail) }
 
+-- ROOM-10: the network after a list of calls
 unfoldable pub history : Room → World → List Step → World
 history r w [] = w
 history r w (x ∷ xs) = history r (step r w x) xs
 
 -- ---- what demand 3 asks of each call
 
--- our reading of this clock at a seat, with this counter: "Demand 3's "reads" means this sum."
+-- ROOM-6: a host's reading with this counter: CLOCK plus the count
 abbrev pub readingAt : Room → (seat : ℕ) → Clock → Counter → Reading
 readingAt r a c k = reading (r .settings a .«clock_tick») (r .settings a .«hold_interval») k c
 
--- "Our reading in that call is this number plus the seat's fixed number, and is below 86,400,000."
+-- ROOM-6: the reading is the network's millisecond plus the host's fixed number, before midnight
 pub record Reads (r : Room) (w : World) (a : ℕ) (k : Counter) (t : ℤ) : Type 0 where
   pub clock : readingAt r a (leftAt r w a .clock) k .time .0 ≡ t +ℤ r .fixed a
   pub no-midnight : readingAt r a (leftAt r w a .clock) k .time .0 <ℤ dayMillis .0
 
--- "each arrival answered 0, 10 or 11, has a whole number, the room's millisecond"
+-- ROOM-6: is the answer 0, 10 or 11? Then the arrival has a millisecond.
 abbrev pub timed : Answer → Bool
 timed a = eqb (number a) 0 || eqb (number a) 10 || eqb (number a) 11
 
--- ".. where the arrival has a millisecond, that is 0 to 16,383 above the send's": up to the room's longest way
+-- ROOM-8: the message was at most the longest time under way
 pub record Later (r : Room) (w : World) (a : ℕ) (k : Counter) (t : ℤ) (m : Message) : Type 0 where
   pub reads : Reads r w a k t
   pub way : ℕ
   pub short : way ≤ r .longest
   pub later : t ≡ m .ms +ℤ pos way
 
--- "Each arrival is given a copy of the message that one earlier send of the list, answered 0, wrote at the cable's other end"
+-- ROOM-8: the packet is a copy of an earlier message from the cable's other end
 pub record Delivered (r : Room) (w : World) (a i : ℕ) (k : Counter) (packet : List ℕ) (t : ℤ) (answer : Answer) : Type 0 where
   pub message : Message
   pub earlier : List·Memᴰ message (w .mail)
@@ -156,7 +160,7 @@ pub record Delivered (r : Room) (w : World) (a i : ℕ) (k : Counter) (packet : 
   pub other-end : r .cable a i ≡ at (message .seat) (message .link)
   pub in-time : T (timed answer) → Later r w a k t message
 
--- nothing is asked of the reading in other calls; a send may name any link and lend any buffer
+-- ROOM-6, ROOM-8: what is required of each call; other readings, links and buffers are free
 abbrev pub Timely : Room → World → (seat : ℕ) → Outcome → RoomCall → Type 0
 Timely r w a o (ticks n) = Unit {0}
 Timely r w a o seconds = Unit {0}
@@ -174,46 +178,48 @@ Timely r w a o (steps k t) =
     let v : Walk = leftAt r w a .walk in
     isOpen v ≡ true → placeOf v ≡ Step1 → Delivered r w a (v .link) k (packetOf v (leftAt r w a .copy)) t (o .reply .answer)
 
+-- ROOM-5: a call that demand 3 allows
 pub record Allowed (r : Room) (w : World) (x : Step) : Type 0 where
   pub seat-in : x .seat < r .seats
-  -- "Each call gets .. the clock, links and entries as that seat's last call left them": "An entry here is one of a seat's first NHOSTS."
+  -- ROOM-5: it gets the host's state after its last call
   pub lends : Lends (leftAt r w (x .seat)) (eventOf r w x .lent)
   pub timely : Timely r w (x .seat) (result r w x) (x .call)
 
--- each call of a list is allowed in the world that those before it made
+-- ROOM-5: each call of a list is allowed in the network that the calls before it made
 unfoldable pub Allows : Room → World → List Step → Type 0
 Allows r w [] = Unit {0}
 Allows r w (x ∷ xs) = Allowed r w x × Allows r (step r w x) xs
 
 -- ---- the claim
 
--- "setting each afresh gave 0; the list starts there", with nothing sent
+-- ROOM-1: every host was just initialized, and nothing is sent
 pub record Starts (r : Room) (w : World) : Type 0 where
   pub set-afresh : (a : ℕ) → a < r .seats → leftAt r w a ≡ leftBy (r .number a) [] (afresh r a)
   pub no-mail : w .mail ≡ []
 
--- the entry of id i in the table of seat b
+-- ROOM-9: the entry of id i at host b
 abbrev pub entryOf : Room → World → (b i : ℕ) → Entry
 entryOf r w b i = getD (leftAt r w b .places) i freshEntry
 
--- The entry "is for a host at one of these seats. Its offset differs from the true difference, the fixed number of that seat less that of the table's seat, by at most 101/200 of the delay."
+-- ROOM-9: the id's host is in the network, and OFFSET is within 101/200 of DELAY
 pub record Right (r : Room) (b i : ℕ) (e : Entry) : Type 0 where
   pub seat : ℕ
   pub seat-in : seat < r .seats
   pub host-there : HostAt r i seat
   pub close : pos (delayParts * natAbs (e .offset .0 -ℤ (r .fixed seat -ℤ r .fixed b))) ≤ℤ (e .delay .0 *ℤ pos errorParts)
 
--- "An entry with a delay under 30,000, in any seat's table": "An entry here is one of a seat's first NHOSTS."
+-- ROOM-9: every entry that is up, among the first NHOSTS, is right
 unfoldable pub Claim : Room → World → Type 0
 Claim r w =
     (b i : ℕ) → b < r .seats → i < r .settings b .layout .nhosts → up (entryOf r w b i) ≡ true
     → Right r b i (entryOf r w b i)
 
--- where no message is under way for longer than so many ms
+-- ROOM-10: for every network, start and allowed list, if messages take at most n ms
 unfoldable pub Demand3Within : (longest : ℕ) → Type 0
 Demand3Within n =
     (r : Room) → Proper r → r .longest ≤ n → (w : World) → Starts r w → (xs : List Step) → Allows r w xs
     → Claim r (history r w xs)
 
+-- ROOM-10, ROOM-9: for at most 16,383 ms
 abbrev pub Demand3 : Type 0
 Demand3 = Demand3Within longestWay

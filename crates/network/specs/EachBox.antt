@@ -1,4 +1,4 @@
--- Request 5, a law for each box: "advances by one box, making just that step's or line's changes to the seat". What a box changes, and that it changes nothing else; a step that is refused changes nothing.
+-- WALK-3: what each box of a walk changes, and that it changes nothing else.
 use mathlib.Core.Path.{_≡_}
 use mathlib.Core.Bool.{true}
 use Prim.Native.Nat.{ℕ, _+_, _≤_}
@@ -20,46 +20,52 @@ use Rattle.network.specs.Answers.{held}
 
 -- ---- what stays
 
+-- WALK-3: the clock stays
 abbrev pub SameClock : Lent → Outcome → Type 0
 SameClock x o = o .clock ≡ x .host .clock
 
+-- WALK-3: the links stay
 abbrev pub SameLinks : Lent → Outcome → Type 0
 SameLinks x o = o .links ≡ x .host .links
 
+-- WALK-3: the host table stays
 abbrev pub SameRun : Lent → Outcome → Type 0
 SameRun x o = o .run ≡ x .run
 
 -- ---- what changes
 
--- the clock, as the reading leaves it
+-- WALK-6: the clock is the one after the reading
 abbrev pub Reads : Counter → Lent → Outcome → Type 0
 Reads k x o = done (o .reply .answer) ≡ true → o .clock ≡ ourReading k (x .host) .clock
 
--- the clock, at the clock host's id alone
+-- WALK-3: the clock changes for the clock host's id only
 abbrev pub SetsClock : Lent → Outcome → Type 0
 SetsClock x o = (x .walk .id ≡ x .host .settings .«clock_host» → ⊥) → SameClock x o
 
--- one field of the walk's link, and no other link
+-- WALK-3: one field of the walk's link changes, and no other link
 pub record ChangesLink (OneField : (before after : Link) → Type 0) (x : Lent) (o : Outcome) : Type 0 where
   pub field : OneField (linkOf (x .host .links) (x .walk .link)) (linkOf (o .links) (x .walk .link))
   pub others : (i : ℕ) → 1 ≤ i → (i ≡ x .walk .link → ⊥) → linkOf (o .links) i ≡ linkOf (x .host .links) i
 
+-- WALK-3: only KEEP-ALIVE changes
 abbrev pub KeepAlive : (before after : Link) → Type 0
 KeepAlive before after = (after .neighbor ≡ before .neighbor) × (after .tsp ≡ before .tsp)
 
+-- WALK-3: only TSP changes
 abbrev pub Tsp : (before after : Link) → Type 0
 Tsp before after = (after .neighbor ≡ before .neighbor) × (after .«keep_alive» ≡ before .«keep_alive»)
 
+-- WALK-3: only NEIGHBOR-ADDRESS changes
 abbrev pub Neighbor : (before after : Link) → Type 0
 Neighbor before after = (after .«keep_alive» ≡ before .«keep_alive») × (after .tsp ≡ before .tsp)
 
--- the entry of the walk's id, and no other place of the run that all hosts share
+-- WALK-3: only the entry of the walk's id changes
 abbrev pub ChangesEntry : Lent → Outcome → Type 0
 ChangesEntry x o = (i : ℕ) (d : Entry) → (i ≡ firstPlace (x .number) + x .walk .id → ⊥) → getD (o .run) i d ≡ getD (x .run) i d
 
 -- ---- what is looked up
 
--- "A walk .. uses the table as it stands at the box that looks it up": of a packet without a table, the id of the neighbour by the table that this box is lent
+-- NET-11: without a table the neighbour's id is found by the net table of this box
 abbrev pub LooksUp : Lent → Outcome → Type 0
 LooksUp x o =
     eqb (held x .nhosts) 0 ≡ true → done (o .reply .answer) ≡ true
@@ -67,6 +73,7 @@ LooksUp x o =
 
 -- ---- the boxes
 
+-- WALK-3: what each box changes
 abbrev pub Changes : Place → Counter → Lent → Outcome → Type 0
 Changes Nowhere k x o = SameClock x o × SameLinks x o × SameRun x o
 Changes Step1 k x o = Reads k x o × SameLinks x o × SameRun x o
@@ -79,10 +86,11 @@ Changes LineB k x o = SameClock x o × SameLinks x o × ChangesEntry x o
 Changes LineC k x o = SameClock x o × SameLinks x o × ChangesEntry x o
 Changes LineD k x o = SetsClock x o × SameLinks x o × SameRun x o
 
--- by the place at which the walk stands; the copy of the packet stays at every place
+-- WALK-3: a box and the place of the walk; the copy of the packet stays
 pub record Box (k : Counter) (x : Lent) (o : Outcome) : Type 0 where
   pub changes : Changes (placeOf (x .walk)) k x o
   pub copy : o .copy ≡ x .copy
 
+-- WALK-3: for every counter and everything that a step takes
 unfoldable pub EachBox : Type 0
 EachBox = (k : Counter) (x : Lent) → Box k x (perform (step k) x)

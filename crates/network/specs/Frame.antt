@@ -1,5 +1,4 @@
--- Demand 1, frame: "No call for one seat alters another seat's clock, links or entries."
--- A call is lent one clock and one set of links and yields no other; the net table it is lent to read, and yields none; of the run it keeps the length, and every place but the host's first NHOSTS. Of the links it keeps the slots past the count; only setting afresh sets all eight. Only opening a walk changes the copy of a packet, and keeps its length; only that, a step and setting afresh change the walk.
+-- ISOLATION-2, TABLE-9: what each call keeps: every place except the host's first NHOSTS, links after the count, the net table, and the walk and its copy.
 use mathlib.Core.Path.{_≡_}
 use mathlib.Core.List.{List}
 use Prim.Native.Nat.{ℕ, _+_, _≤_, _<_}
@@ -15,21 +14,23 @@ use Rattle.calls.specs.declared.Request.the-variants.{Initialize, Step}
 use Rattle.clock.specs.declared.Counter.{Counter}
 use Rattle.calls.specs.Perform.{Call, ask, openWalk, Outcome, perform}
 
+-- ISOLATION-2, TABLE-9: all places before and after the host's own are the same
 pub record Kept (s : Settings) (k : ℕ) (before after : List Entry) : Type 0 where
   pub same-length : length after ≡ length before
   pub in-front : (i : ℕ) (d : Entry) → i < firstPlace k → getD after i d ≡ getD before i d
   pub behind : (i : ℕ) (d : Entry) → firstPlace k + hostCount s ≤ i → getD after i d ≡ getD before i d
 
--- the slots past the host's links
+-- ISOLATION-2: the link slots after the host's count
 abbrev pub spareLinks : Settings → Links → List Link
 spareLinks s l = drop (linkCount s) (l .all)
 
--- no setting afresh, no opening, no step
+-- WALK-4: a call other than initialize, opening and step
 pub record Elsewhere (c : Call) : Type 0 where
   pub not-afresh : c ≡ ask Initialize → ⊥
   pub not-opening : (i : ℕ) (packet : List ℕ) → c ≡ openWalk i packet → ⊥
   pub not-step : (k : Counter) → c ≡ ask (Step k) → ⊥
 
+-- ISOLATION-2: what a call keeps
 pub record Framed (c : Call) (x : Lent) (o : Outcome) : Type 0 where
   pub places : Kept (x .host .settings) (x .number) (x .run) (o .run)
   pub copy : ((i : ℕ) (packet : List ℕ) → c ≡ openWalk i packet → ⊥) → o .copy ≡ x .copy
@@ -37,5 +38,6 @@ pub record Framed (c : Call) (x : Lent) (o : Outcome) : Type 0 where
   pub walk : Elsewhere c → o .walk ≡ x .walk
   pub spare : (c ≡ ask Initialize → ⊥) → spareLinks (x .host .settings) (o .links) ≡ spareLinks (x .host .settings) (x .host .links)
 
+-- ISOLATION-2: for every call and everything that it takes
 unfoldable pub Frame : Type 0
 Frame = (c : Call) (x : Lent) → Framed c x (perform c x)

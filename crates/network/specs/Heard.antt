@@ -1,4 +1,4 @@
--- What a send writes, an arrival at a host of the same layout never refuses with 3 to 8: only 9 is left to refuse it.
+-- PACKET-9: a host of the same layout never refuses a message of a send with 3 to 8; only 9 remains.
 use mathlib.Core.Path.{_≡_}
 use mathlib.Core.List.{List}
 use Prim.Native.Nat.{ℕ, _<_, _^_}
@@ -16,7 +16,7 @@ use Rattle.host.specs.Inspection.{inspect}
 use Rattle.calls.specs.Perform.{send, perform}
 use Rattle.network.specs.Left.{messageOf}
 
--- octets and 16-bit words, which the code's types hold at all times
+-- PACKET-9: octets and 16-bit words, as the types of the code have them
 pub record Typed (x : Lent) (i : ℕ) (k : Counter) : Type 0 where
   pub address : AddressFits (x .host .settings .address)
   pub neighbor : AddressFits (linkOf (x .host .links) i .neighbor)
@@ -24,6 +24,7 @@ pub record Typed (x : Lent) (i : ℕ) (k : Counter) : Type 0 where
   pub date : ourReading k (x .host) .clock .date .0 < 2 ^ 16
   pub offsets : (id : ℕ) → SignedTwo (getD (entriesOf x) id freshEntry .offset .0)
 
+-- PACKET-9: for every send that answers 0
 unfoldable pub Heard : Type 0
 Heard =
     (i : ℕ) (k : Counter) (buffer : List ℕ) (x : Lent) → Typed x i k → perform (send i k buffer) x .reply .answer ≡ Done

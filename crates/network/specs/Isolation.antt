@@ -1,4 +1,4 @@
--- Demand 1, lists: "A seat's answers depend only on its own settings, its own calls, the packets given to it and the lengths of what is lent, provided each call is lent what the seat's last one left." And on the table that each call is lent, which the tutor alone changes.
+-- ISOLATION-3: the answers of a host depend on its own calls and what they take, and on the net table.
 use mathlib.Core.Path.{_≡_}
 use mathlib.Core.Bool.{cond}
 use mathlib.Core.List.{List, [], _∷_, map}
@@ -22,19 +22,20 @@ use Rattle.network.specs.History.{Event, State, Left, numberOf, Lends, L
 
 -- ---- a host's own calls
 
--- the events of a list at number k
+-- ISOLATION-3: the calls at number k
 abbrev pub own : (number : ℕ) → List Event → List Event
 own k [] = []
 own k (e ∷ es) = cond (eqb (numberOf e) k) (e ∷ own k es) (own k es)
 
--- what is told at number k, call by call
+-- ISOLATION-3: what is returned at number k, call by call
 abbrev pub toldAt : (number : ℕ) → List Event → List Told
 toldAt k es = map (λ (e : Event). told (outcome e)) (own k es)
 
+-- ISOLATION-3: the settings of a call
 abbrev pub settingsOf : Event → Settings
 settingsOf e = e .lent .host .settings
 
--- two calls that agree in settings, table, input and lengths
+-- ISOLATION-3: two calls that agree in settings, table, input and lengths
 pub record Agree (e f : Event) : Type 0 where
   pub settings-same : settingsOf e ≡ settingsOf f
   pub nets-same : e .lent .nets ≡ f .lent .nets
@@ -42,6 +43,7 @@ pub record Agree (e f : Event) : Type 0 where
   pub length-same : length (e .lent .run) ≡ length (f .lent .run)
   pub room-same : length (e .lent .copy) ≡ length (f .lent .copy)
 
+-- ISOLATION-3: two lists that agree call by call
 unfoldable pub Pairwise : List Event → List Event → Type 0
 Pairwise [] [] = Unit {0}
 Pairwise [] (f ∷ fs) = ⊥
@@ -50,7 +52,7 @@ Pairwise (e ∷ es) (f ∷ fs) = Agree e f × Pairwise es fs
 
 -- ---- isolation
 
--- The settings may differ from call to call. What one call does not count a later one may, so each is lent all that was left.
+-- ISOLATION-3: for every two lists that agree at k, from the same state: the same is returned, and the state is the same
 unfoldable pub Isolation : Type 0
 Isolation =
     (k : ℕ) (w v : State) (es fs : List Event) → LendsAll k LendsWhole w es → LendsAll k LendsWhole v fs → Pairwise (own k es) (own k fs)
@@ -58,22 +60,22 @@ Isolation =
 
 -- ---- isolation from a setting afresh on
 
--- The call is a setting afresh that is answered 0.
+-- ISOLATION-3, HOST-7: a call is initialize, answered 0
 pub record SetsAfresh (e : Event) : Type 0 where
   pub call-is : e .call ≡ ask Initialize
   pub answered : outcome e .reply .answer ≡ Done
 
--- The settings stay s up to the next setting afresh that is answered 0, and so on; they end as t.
+-- ISOLATION-3: the settings stay until the next initialize that is answered 0
 pub data Steady : Settings → List Event → Settings → Type 0 where
   stays : {s : Settings} → Steady s [] s
   goes-on : {s t : Settings} {e : Event} {es : List Event} → settingsOf e ≡ s → Steady s es t → Steady s (e ∷ es) t
   begins-anew : {s t : Settings} {e : Event} {es : List Event} → SetsAfresh e → Steady (settingsOf e) es t → Steady s (e ∷ es) t
 
--- The first call sets afresh, and the settings are steady from there; they end as t.
+-- ISOLATION-3: the first call is initialize, and the settings stay from there
 pub data FromAfresh : List Event → Settings → Type 0 where
   begins : {t : Settings} {e : Event} {es : List Event} → SetsAfresh e → Steady (settingsOf e) es t → FromAfresh (e ∷ es) t
 
--- what is left agrees, in the links and the places that the settings count, and in the packet that an open walk holds
+-- ISOLATION-3: the state agrees in what the settings count
 pub record LeftAlike (s : Settings) (x y : Left) : Type 0 where
   pub clock-same : x .clock ≡ y .clock
   pub links-same : ownLinks s (x .links) ≡ ownLinks s (y .links)
@@ -81,6 +83,7 @@ pub record LeftAlike (s : Settings) (x y : Left) : Type 0 where
   pub packet-same : heldPacket (x .walk) (x .copy) ≡ heldPacket (y .walk) (y .copy)
   pub entries-same : take (hostCount s) (x .places) ≡ take (hostCount s) (y .places)
 
+-- ISOLATION-3: from initialize on, for every two lists that agree at k, from any state
 unfoldable pub IsolationFromAfresh : Type 0
 IsolationFromAfresh =
     (k : ℕ) (w v : State) (es fs : List Event) (t : Settings) → LendsAll k Lends w es → LendsAll k Lends v fs
@@ -89,14 +92,14 @@ IsolationFromAfresh =
 
 -- ---- one run that all hosts share
 
--- a call at a number, with its settings and the table as it stands; the run is the shared one
+-- ISOLATION-3, TABLE-8: a call at a number; the host table is the shared one
 pub record SharedEvent : Type 0 where
   pub number : ℕ
   pub settings : Settings
   pub nets : ClassTable
   pub call : Call
 
--- each host's clock, links and walk with its copy, and the one run
+-- ISOLATION-3, TABLE-8: each host's state, and the one host table
 pub record Shared : Type 0 where
   pub clock : ℕ → Clock
   pub links : ℕ → Links
@@ -104,12 +107,15 @@ pub record Shared : Type 0 where
   pub copy : ℕ → List ℕ
   pub run : List Entry
 
+-- TABLE-8: everything that such a call takes
 abbrev pub sharedLent : Shared → SharedEvent → Lent
 sharedLent w e = lent (e .settings) (e .nets) (e .number) (w .clock (e .number)) (w .links (e .number)) (w .walk (e .number)) (w .copy (e .number)) (w .run)
 
+-- TABLE-8: what it results in
 abbrev pub sharedOutcome : Shared → SharedEvent → Outcome
 sharedOutcome w e = perform (e .call) (sharedLent w e)
 
+-- TABLE-8: the state after it
 unfoldable pub sharedAfter : Shared → SharedEvent → Shared
 sharedAfter w e =
     record {
@@ -120,21 +126,23 @@ sharedAfter w e =
       run = sharedOutcome w e .run;
     }
 
+-- TABLE-8: the state after a list
 unfoldable pub sharedAfterAll : Shared → List SharedEvent → Shared
 sharedAfterAll w [] = w
 sharedAfterAll w (e ∷ es) = sharedAfterAll (sharedAfter w e) es
 
+-- ISOLATION-3: what is returned at number k
 unfoldable pub sharedTold : (number : ℕ) → Shared → List SharedEvent → List Told
 sharedTold k w [] = []
 sharedTold k w (e ∷ es) =
     cond (eqb (e .number) k) (told (sharedOutcome w e) ∷ sharedTold k (sharedAfter w e) es) (sharedTold k (sharedAfter w e) es)
 
--- the list without every other host's calls
+-- ISOLATION-3: the list without the calls of other hosts
 abbrev pub alone : (number : ℕ) → List SharedEvent → List SharedEvent
 alone k [] = []
 alone k (e ∷ es) = cond (eqb (e .number) k) (e ∷ alone k es) (alone k es)
 
--- what is left at number k
+-- ISOLATION-3: the state at number k agrees
 pub record SharedAlike (k : ℕ) (w v : Shared) : Type 0 where
   pub clock-same : w .clock k ≡ v .clock k
   pub links-same : w .links k ≡ v .links k
@@ -142,7 +150,7 @@ pub record SharedAlike (k : ℕ) (w v : Shared) : Type 0 where
   pub copy-same : w .copy k ≡ v .copy k
   pub places-same : places k (w .run) ≡ places k (v .run)
 
--- Deleting every other host's calls changes nothing at k.
+-- ISOLATION-3: for every list over one shared host table: without the calls of other hosts everything at k is the same
 unfoldable pub Alone : Type 0
 Alone =
     (k : ℕ) (w : Shared) (es : List SharedEvent)

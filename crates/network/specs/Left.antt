@@ -1,18 +1,19 @@
--- What a call tells.
+-- ISOLATION-3: what a call returns.
 use mathlib.Core.List.{List}
 use Prim.Native.Nat.{ℕ}
 use lib.ListN.{take}
 use Rattle.host.specs.declared.Reply.{Reply}
 use Rattle.calls.specs.Perform.{Outcome}
 
--- the message of a send: the first n octets of its buffer, n being the length answered
+-- SEND-4: the message of a send: as many octets of its buffer as the length says
 abbrev pub messageOf : Outcome → List ℕ
 messageOf o = take (o .reply .length) (o .buffer)
 
--- what is told of a call: its answer with its values, and its message
+-- ISOLATION-3: the reply and the message
 pub record Told : Type 0 where
   pub reply : Reply
   pub message : List ℕ
 
+-- ISOLATION-3: what an outcome returns
 abbrev pub told : Outcome → Told
 told o = record { reply = o .reply; message = messageOf o }

@@ -1,4 +1,4 @@
--- Request 4 leaves document 01's clock as it was: "line-clock seats pass zero". The calls over the line clock, as document 01 has them, and that a call without a count is the same.
+-- CLOCK-14: the calls over a clock without a counter, and that calls without a count are the same.
 use mathlib.Core.Path.{_≡_}
 use mathlib.Core.Bool.{Bool, cond, not}
 use mathlib.Core.List.{List}
@@ -58,18 +58,22 @@ use Rattle.walk.specs.Boxes.{holdingReading, atStep, onward, nextId, isClockHos
 
 -- ---- the boxes of a walk: step 1 reads the line clock, and line (d) sets it
 
+-- CLOCK-14: step 1 of a walk
 abbrev pub lineBox1 : Host → Walk → Effect
 lineBox1 h w =
     let r : Reading = lineReading (h .clock) in
     onward (atStep 2 (holdingReading noCount (r .time) w)) (r .clock) (h .links) nothing
 
+-- CLOCK-14: the clock that line (d) sets
 abbrev pub lineClockSet : Packet → (packet : List ℕ) → Host → Walk → Clock
 lineClockSet p octets h w =
     cond (isClockHost h w) (lineSet (h .settings .«hold_interval») (ofWord (lineUpdate w p octets .offset)) (dateTaken (p .date) (h .clock))) (h .clock)
 
+-- CLOCK-14: line (d) of a walk
 abbrev pub lineBoxD : Packet → (packet : List ℕ) → Host → Walk → Effect
 lineBoxD p octets h w = nextId p (host (h .settings) (lineClockSet p octets h w) (h .links)) w nothing
 
+-- CLOCK-14: the box of a place
 abbrev pub lineBoxAt : Place → Counter → Packet → (packet : List ℕ) → ClassTable → Host → Walk → Entry → Effect
 lineBoxAt Nowhere k p octets t h w e = boxAt Nowhere k p octets t h w e
 lineBoxAt Step1 k p octets t h w e = lineBox1 h w
@@ -82,10 +86,12 @@ lineBoxAt LineB k p octets t h w e = boxAt LineB k p octets t h w e
 lineBoxAt LineC k p octets t h w e = boxAt LineC k p octets t h w e
 lineBoxAt LineD k p octets t h w e = lineBoxD p octets h w
 
+-- CLOCK-14: the box of a packet
 abbrev pub lineBoxOf : Counter → (packet : List ℕ) → ClassTable → Host → Walk → Entry → Parsed → Effect
 lineBoxOf k octets t h w e (Bad a) = answers (plainly OutOfRange) (h .clock) (h .links) w
 lineBoxOf k octets t h w e (Good p) = lineBoxAt (placeOf w) k p octets t h w e
 
+-- CLOCK-14: one box
 abbrev pub lineStep : Counter → ClassTable → Host → Walk → (copy : List ℕ) → Entry → Effect
 lineStep k t h w copy e =
     cond (not (isOpen w)) (answers (plainly NoWalk) (h .clock) (h .links) w)
@@ -93,6 +99,7 @@ lineStep k t h w copy e =
 
 -- ---- requests
 
+-- CLOCK-14: what a request results in
 abbrev pub lineEffect : Request → ClassTable → Host → Walk → (copy : List ℕ) → Entry → Effect
 lineEffect Initialize t h w copy e = effect Initialize t h w copy e
 lineEffect (Tick n) t h w copy e = answers (plainly Done) (lineTick (h .settings .«clock_tick») (h .settings .«hold_interval») (h .clock)) (h .links) w
@@ -110,31 +117,36 @@ lineEffect (Step k) t h w copy e = lineStep k t h w copy e
 
 -- ---- sends
 
+-- CLOCK-14: a send
 abbrev pub lineSend : (link : ℕ) (room : ℕ) → Host → Sending
 lineSend i room h =
     cond (ltb room (packetLength (reportCount (h .settings) (linkOf (h .links) i)))) (unsent ShortBuffer h) (sentAt (lineReading (h .clock)) i h)
 
 -- ---- arrivals
 
+-- CLOCK-14: an action
 abbrev pub lineInspected : ClassTable → Host → (link : ℕ) → Parsed → Arrived
 lineInspected t h i (Bad a) = ends a h
 lineInspected t h i (Good p) = actionAt (lineReading (h .clock)) noCount t h i p
 
+-- CLOCK-14: one of the three calls
 abbrev pub lineDelivered : Delivery → (packet : List ℕ) → ClassTable → Host → Arrived
 lineDelivered (Inspect i) octets t h = inspection i octets h
 lineDelivered (Act i k) octets t h = lineInspected t h i (inspect (h .settings) i octets)
 lineDelivered (Receive i k) octets t h = lineInspected t h i (inspect (h .settings) i octets)
 
--- line (d)'s Set is that of the line clock
+-- CLOCK-14: line (d)
 abbrev pub lineSettled : (clockHost : Bool) → Seconds → Date → Update → Clock → Stage Entry → Updated
 lineSettled clockHost h date u c (on e) = record { clock = cond clockHost (lineSet h (ofWord (u .offset)) (dateTaken date c)) c; entry = e }
 lineSettled clockHost h date u c (end e) = record { clock = c; entry = e }
 
+-- CLOCK-14: the update of a place
 abbrev pub lineUpdatedAt : Updates → (packet : List ℕ) → (place : ℕ) → Clock → Entry → Updated
 lineUpdatedAt w packet i c e =
     let u : Update = updateAt w (i - w .base) packet in
     lineSettled (eqb (i - w .base) (w .«clock_host»)) (w .«hold_interval») (w .date) u c (lines u e)
 
+-- CLOCK-14: all updates of an arrival
 unfoldable pub lineUpdates : Updates → (packet : List ℕ) → List Entry → Swept
 lineUpdates w packet run =
     let swept : Swept = sweep (w .first) (lineUpdatedAt w packet) (w .clock) (part (w .first) (w .end - w .first) run) in
@@ -142,24 +154,27 @@ lineUpdates w packet run =
 
 -- ---- the calls
 
+-- CLOCK-14: the changes of an arrival
 abbrev pub lineUpdatedBy : Arrived → (packet : List ℕ) → Lent → Outcome
 lineUpdatedBy e octets x =
     let w : Swept = lineUpdates (e .work) octets (entriesOf x) in
     record { reply = e .reply; clock = w .clock; links = e .links; walk = x .walk; copy = x .copy; run = withEntries (x .number) (w .entries) (x .run); buffer = List.[] }
 
+-- CLOCK-14: the work of each call
 abbrev pub lineWork : Call → Lent → Outcome
 lineWork (ask q) x = carriedOut (lineEffect q (x .nets) (x .host) (x .walk) (x .copy) (entryAt (wanted q (x .nets) (x .host .settings) (x .walk)) x)) x
 lineWork (send i k buffer) x = sentBy (lineSend i (length buffer) (x .host)) buffer x
 lineWork (deliver d packet) x = lineUpdatedBy (lineDelivered d packet (x .nets) (x .host)) packet x
 lineWork (openWalk i packet) x = openedBy (opening i packet (x .host .settings) (x .walk)) packet x
 
+-- CLOCK-14: the call
 unfoldable pub linePerform : Call → Lent → Outcome
 linePerform call x =
     cond (not (done (guard (scopeOfCall call) x))) (refused (guard (scopeOfCall call) x) call x) (lineWork call x)
 
 -- ---- the law
 
--- the call is handed no count; nor does a step find one that its walk holds
+-- CLOCK-14: the call gets no count, and its walk has none
 abbrev pub NoCount : Call → Walk → Type 0
 NoCount (ask Initialize) w = Unit {0}
 NoCount (ask (Tick n)) w = n ≡ noCount
@@ -176,13 +191,15 @@ NoCount (deliver (Act i k) packet) w = k ≡ noCounter
 NoCount (deliver (Receive i k) packet) w = k ≡ noCounter
 NoCount (openWalk i packet) w = Unit {0}
 
--- CLOCK lies within its day, from 0 on
+-- CLOCK-14: CLOCK is within its day
 pub record LineTime (c : Clock) : Type 0 where
   pub from-0 : (pos 0) ≤ℤ (c .clock .0)
   pub to-day : (c .clock .0) ≤ℤ (day .0)
 
+-- CLOCK-14: for every call without a count
 pub record LineCalls : Type 0 where
+  -- CLOCK-14: it is the call over a clock without a counter
   pub same : (c : Call) (x : Lent) → NoCount c (x .walk) → LineTime (x .host .clock) → perform c x ≡ linePerform c x
-  -- so it is for a whole list of such calls
+  -- CLOCK-14: and so for every list of such calls
   pub stays : (c : Call) (x : Lent) → NoCount c (x .walk) → LineTime (x .host .clock) → LineTime (perform c x .clock)
   pub holds-none : (c : Call) (x : Lent) → NoCount c (x .walk) → x .walk .count ≡ noCount → perform c x .walk .count ≡ noCount

@@ -1,5 +1,4 @@
--- Demand 1, locality: a call's answer, values, clock, links, walk, entries and message depend only on the number, the settings, the class's net table, the host's own clock, links, walk and entries, the packet that an open walk holds, the input, and the lengths of what is lent.
--- Of the links these are the slots up to the count, 8 at most; where the slots past it are the same before, they are the same after. So with the octets of the copy past the packet.
+-- ISOLATION-3: one call: it depends only on number, settings, net table, own state, input, and lengths.
 use mathlib.Core.Path.{_≡_}
 use mathlib.Core.Bool.{cond}
 use mathlib.Core.List.{List, []}
@@ -16,19 +15,20 @@ use Rattle.host.specs.Lent.{Lent, entriesOf}
 use Rattle.calls.specs.Perform.{Call, send, perform, left}
 use Rattle.network.specs.Left.{told}
 
--- two inputs that count as one: the same, or sends on one link with one counter into buffers of one length
+-- ISOLATION-3: the same input; for sends, buffers of the same length
 pub data SameInput : Call → Call → Type 0 where
   same : {c : Call} → SameInput c c
   same-send : {i : ℕ} {k : Counter} {b d : List ℕ} → length b ≡ length d → SameInput (send i k b) (send i k d)
 
--- the host's links: the slots up to its count
+-- HOST-2: the host's links up to its count
 abbrev pub ownLinks : Settings → Links → List Link
 ownLinks s l = take (linkCount s) (l .all)
 
--- the packet that a walk holds, where one is open
+-- WALK-2: the walk's packet, if a walk is open
 abbrev pub heldPacket : Walk → (copy : List ℕ) → List ℕ
 heldPacket w copy = cond (isOpen w) (packetOf w copy) []
 
+-- ISOLATION-3: two states that agree in everything that a call uses
 pub record Alike (x y : Lent) : Type 0 where
   pub settings-same : x .host .settings ≡ y .host .settings
   pub nets-same : x .nets ≡ y .nets
@@ -41,11 +41,13 @@ pub record Alike (x y : Lent) : Type 0 where
   pub length-same : length (x .run) ≡ length (y .run)
   pub entries-same : entriesOf x ≡ entriesOf y
 
+-- ISOLATION-3: the same is returned, and the states agree again
 pub record Local (c d : Call) (x y : Lent) : Type 0 where
   pub told-same : told (perform c x) ≡ told (perform d y)
   pub left-alike : Alike (left x (perform c x)) (left y (perform d y))
   pub all-links : x .host .links ≡ y .host .links → perform c x .links ≡ perform d y .links
   pub all-copy : x .copy ≡ y .copy → perform c x .copy ≡ perform d y .copy
 
+-- ISOLATION-3: for every two calls that agree
 unfoldable pub Locality : Type 0
 Locality = (c d : Call) (x y : Lent) → SameInput c d → Alike x y → Local c d x y

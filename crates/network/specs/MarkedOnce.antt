@@ -1,4 +1,4 @@
--- Request 8: "Demand 3 then supposes each id marked at no more than one seat; the id's host is at that seat, and the true difference is to that seat's fixed number." Demand 3 names some seat that marks the id of a live entry; so it is the one that does.
+-- MARK-5: demand 3 names some host that marks the id of a live entry; it is the only one.
 use mathlib.Core.Path.{_≡_}
 use mathlib.Core.Bool.{true}
 use mathlib.Core.List.{List}
@@ -11,14 +11,15 @@ use Rattle.host.specs.Settings.{ownId}
 use Rattle.network.specs.Room.{longestWay, errorParts, delayParts, Room, HostAt, Proper}
 use Rattle.network.specs.Demand3.{Step, World, history, Allows, Starts, entryOf}
 
--- the OFFSET of an entry of seat b is right by the host at seat a
+-- MARK-5: OFFSET of an entry at host b is right by host a
 abbrev pub RightBy : Room → (a b : ℕ) → Entry → Type 0
 RightBy r a b e = pos (delayParts * natAbs (e .offset .0 -ℤ (r .fixed a -ℤ r .fixed b))) ≤ℤ (e .delay .0 *ℤ pos errorParts)
 
+-- MARK-5: what follows if each id is marked at no more than one host
 pub record MarkedOnce : Type 0 where
-  -- "the different own ids then follow from the marks"
+  -- MARK-5: then the own ids differ
   pub own-ids-differ : (r : Room) → Proper r → (a b : ℕ) → a < r .seats → b < r .seats → ownId (r .settings a) ≡ ownId (r .settings b) → a ≡ b
-  -- a live entry is right by the seat that marks its id
+  -- MARK-5, ROOM-9: a live entry is right by the host that marks its id
   pub true-difference :
       (r : Room) → Proper r → r .longest ≤ longestWay → (w : World) → Starts r w → (xs : List Step) → Allows r w xs
       → (a b i : ℕ) → a < r .seats → b < r .seats → i < r .settings b .layout .nhosts → HostAt r i a → up (entryOf r (history r w xs) b i) ≡ true

@@ -1,5 +1,4 @@
--- The table of box 5 matters: a walk in whose middle the tutor changes a row, computed.
--- The packet has no table of hosts, and comes from 10.0.0.5, which is on another net. The one row leads from net 10 to id 1 as the walk is opened, and to id 2 from its fourth box on; between them one box is lent a table of another NHOSTS, and refused. The walk ends as the arrival with the changed table, which stores for id 2; with the table of its opening that stores for id 1.
+-- NET-11: a walk in whose middle the tutor changes a row, computed. It ends as the arrival with the table of step 5.
 use mathlib.Core.Path.{_≡_}
 use mathlib.Core.List.{List, [], _∷_, _++_}
 use Prim.Native.Nat.{ℕ}
@@ -32,34 +31,39 @@ use Rattle.network.specs.WalkEnds.{Box, boxed, walkOn, boxesOn, withTabl
 
 -- ---- the tutor's table, of three ids and one row
 
+-- NET-11: the table with a row to id 1
 unfoldable pub before : ClassTable
 before = add record { first = 10; second = 0; third = 0 } 1 (tableOf 3 []) .table
 
+-- NET-11: the row leads to id 2
 unfoldable pub after : ClassTable
 after = change 1 2 before .table
 
--- and one of four ids
+-- NET-9: a table of four ids
 unfoldable pub unlike : ClassTable
 unlike = setAfresh 4 before .table
 
 -- ---- the seat, 192.0.2.1, and its neighbour
 
+-- NET-11: an address on another net
 abbrev pub far : Address
 far = record { first = 10; second = 0; third = 0; fourth = 5 }
 
+-- NET-11: the host's settings
 abbrev pub settings : Settings
 settings = settingsFor record { tick = units (pos 1); start = λ a. 0; longest = 0; hosts = 3; marks = onlyMark; copy = [] } 0
 
+-- NET-11: the time
 abbrev pub now : Millis
 now = millis (pos 3600000)
 
--- it knows its neighbour from earlier
+-- NET-11: the host, which knows its neighbour already
 abbrev pub seat : Lent
 seat =
     lent settings before 0 (freshClock now firstDate) (withLink 1 record { neighbor = far; «keep_alive» = 0; tsp = word (pos 0) } (freshLinks settings)) noWalk
     (replicate longest 0) (placesOf 0)
 
--- a packet with a DELAY of 120 ms
+-- NET-11: a packet without a table, with a DELAY of 120 ms
 abbrev pub packet : List ℕ
 packet =
     message (hostAt 1)
@@ -67,37 +71,41 @@ packet =
 
 -- ---- the walk and the arrivals
 
+-- NET-11: the state after opening
 unfoldable pub opened : Lent
 opened = left seat (opening 1 packet seat)
 
--- three boxes, the one that is refused, and the others: boxes 4 and 5, and lines a to c of an id
+-- NET-11: three boxes with the first table
 abbrev pub three : List Box
 three = withTable before (replicate 3 noCounter)
 
+-- NET-9: a box with a table of another NHOSTS, which is refused
 abbrev pub other : Box
 other = record { counter = noCounter; nets = unlike }
 
+-- NET-11: the walk to its end, with the changed table from box 4 on
 unfoldable pub walked : Outcome
 walked = walkOn (three ++ (other ∷ withTable after (replicate 5 noCounter))) opened
 
--- the arrival with a table
+-- NET-11: the arrival with a table
 abbrev pub arrived : ClassTable → Outcome
 arrived t = perform (receive 1 noCounter packet) (under t seat)
 
--- the DELAY of an id's entry
+-- NET-11: the DELAY of an id's entry
 abbrev pub delayOf : Outcome → (id : ℕ) → Millis
 delayOf o id = getD (o .run) id freshEntry .delay
 
+-- NET-11: it ends as with the changed table, and not as with the first one
 pub record MidWalk : Type 0 where
   pub opens : opening 1 packet seat .reply .answer ≡ Done
   pub is-changed : change 1 2 before .answer ≡ tutor.Done
-  -- a table of another NHOSTS
+  -- NET-9: the table of another NHOSTS
   pub refused : boxed other (boxesOn three opened) .reply .answer ≡ Setting
-  -- as with the changed table
+  -- NET-11: as with the changed table
   pub ends : Ends walked (arrived after)
   pub for-2 : delayOf walked 2 ≡ millis (pos 120)
   pub not-for-1 : delayOf walked 1 ≡ maxDelay
-  -- and not as with the table of its opening
+  -- NET-11: and not as with the table of its opening
   pub otherwise-for-1 : delayOf (arrived before) 1 ≡ millis (pos 120)
   pub otherwise-not-for-2 : delayOf (arrived before) 2 ≡ maxDelay
   pub unlike-then : Ends walked (arrived before) → ⊥

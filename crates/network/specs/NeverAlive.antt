@@ -1,4 +1,4 @@
--- "In its room an id marked nowhere never comes alive": where no seat marks an id, every entry of it stays down.
+-- MARK-5: an id that no host marks is down in every table.
 use mathlib.Core.Path.{_≡_}
 use mathlib.Core.Bool.{false}
 use mathlib.Core.List.{List}
@@ -7,6 +7,7 @@ use Rattle.table.specs.Entry.{up}
 use Rattle.network.specs.Room.{longestWay, Room, HostAt, Proper}
 use Rattle.network.specs.Demand3.{Step, World, history, Allows, Starts, entryOf}
 
+-- MARK-5: for every network and allowed list
 unfoldable pub NeverAlive : Type 0
 NeverAlive =
     (r : Room) → Proper r → r .longest ≤ longestWay → (w : World) → Starts r w → (xs : List Step) → Allows r w xs

@@ -1,4 +1,4 @@
--- Request 8 leaves a host that carries no virtual ones as it was: where the own id alone is marked, the calls are those without marks. Nothing but the guard and a self-report looks at a mark; setting afresh writes the marks, and what else changes an entry keeps its own.
+-- MARK-6: if only the own id is marked, the calls are those without marks.
 use mathlib.Core.Path.{_≡_}
 use mathlib.Core.Bool.{Bool, true, false, cond, not, _&&_, _||_}
 use mathlib.Core.List.{map}
@@ -35,22 +35,26 @@ use Rattle.host.specs.code.Told.{afresh}
 use Rattle.calls.specs.declared.Request.the-variants.{Initialize, Tick, Adjust, Set, Read, Second, SelfReport, Lookup, Step}
 use Rattle.calls.specs.Perform.{Call, ask, send, deliver, openWalk, Outcome, scopeOfCall, refused, entryAt, carriedOut, work, perform, left}
 
--- the own id alone is marked
+-- MARK-6: is it the own id?
 abbrev pub isOwn : Found → (id : ℕ) → Bool
 isOwn Nothing id = false
 isOwn (Id own) id = eqb id own
 
+-- MARK-6: only the own id is marked
 abbrev pub MarksOwn : Settings → Type 0
 MarksOwn s = (id : ℕ) → marked (s .marks) id ≡ isOwn (ownId s) id
 
 -- ---- the guard without marks
 
+-- MARK-6: the test of the settings without marks
 abbrev pub settingsUnmarked : Settings → Bool
 settingsUnmarked s = numbersGood s && isFound (ownId s)
 
+-- MARK-6: the test of the caller's state without marks
 abbrev pub lentUnmarked : Lent → Bool
 lentUnmarked x = hostInRange (x .host) && ownWalkInRange x && every entryInRange (entriesOf x)
 
+-- MARK-6: out of range, without marks
 abbrev pub ownOutUnmarked : Scope → Lent → Bool
 ownOutUnmarked Places x = noPlaces (x .number) (x .run)
 ownOutUnmarked All x = noPlaces (x .number) (x .run) || not (lentUnmarked x)
@@ -60,21 +64,25 @@ ownOutUnmarked (Opening i) x =
     ltb (length (x .copy)) longest
     || (noLink (x .host .settings) i || (noPlaces (x .number) (x .run) || not (lentUnmarked x)))
 
+-- MARK-6: the same, or a bad net table
 abbrev pub outUnmarked : Scope → Lent → Bool
 outUnmarked a x = tableBad (x .nets) || ownOutUnmarked a x
 
+-- MARK-6: the guard without marks
 abbrev pub guardUnmarked : Scope → Lent → Answer
 guardUnmarked a x =
     cond (outUnmarked a x) OutOfRange
     (cond (inWalk a (x .walk)) InWalk
     (cond (not (settingsUnmarked (x .host .settings) && eqb (x .host .settings .layout .nhosts) (x .nets .nhosts))) Setting Done))
 
--- ---- "Self-report: update of the seat's own id with PID 0, DELAY 0, OFFSET 0, without (d)."
+-- ----
 
+-- MARK-6, SELF-1: the update of the own id alone
 abbrev pub ownWork : Millis → Found → Lent → Changes
 ownWork time Nothing x = nothing
 ownWork time (Id id) x = one id (Put (selfReported time (entryAt (Id id) x)))
 
+-- MARK-6, SELF-1: a self-report of the own id alone
 abbrev pub ownReport : Counter → Lent → Effect
 ownReport k x =
     let r : Reading = ourReading k (x .host) in
@@ -82,6 +90,7 @@ ownReport k x =
 
 -- ---- the calls
 
+-- MARK-6: the work of each call
 abbrev pub workUnmarked : Call → Lent → Outcome
 workUnmarked (ask Initialize) x = work (ask Initialize) x
 workUnmarked (ask (Tick n)) x = work (ask (Tick n)) x
@@ -96,32 +105,37 @@ workUnmarked (send i k buffer) x = work (send i k buffer) x
 workUnmarked (deliver d packet) x = work (deliver d packet) x
 workUnmarked (openWalk i packet) x = work (openWalk i packet) x
 
+-- MARK-6: the call without marks
 abbrev pub performUnmarked : Call → Lent → Outcome
 performUnmarked c x =
     cond (not (done (guardUnmarked (scopeOfCall c) x))) (refused (guardUnmarked (scopeOfCall c) x) c x) (workUnmarked c x)
 
 -- ---- what is lent, and what is left, without the marks
 
+-- MARK-6: an entry without its mark
 abbrev pub bare : Entry → Entry
 bare e = withMark 0 e
 
+-- MARK-6: a caller's state without marks
 abbrev pub bareLent : Lent → Lent
 bareLent x = lent (x .host .settings) (x .nets) (x .number) (x .host .clock) (x .host .links) (x .walk) (x .copy) (map bare (x .run))
 
+-- MARK-6: an outcome without marks
 abbrev pub bareOutcome : Outcome → Outcome
 bareOutcome o =
     record { reply = o .reply; clock = o .clock; links = o .links; walk = o .walk; copy = o .copy; run = map bare (o .run); buffer = o .buffer }
 
 -- ---- the law
 
+-- MARK-6: for every call of a host that marks its own id alone
 pub record OwnAlone : Type 0 where
-  -- the entries are marked as set, which setting afresh does not ask
+  -- MARK-6: it is the call without marks
   pub calls : (c : Call) (x : Lent) → MarksOwn (x .host .settings) → (afresh (scopeOfCall c) ≡ false → marksAsSet x ≡ true)
       → perform c x ≡ performUnmarked c x
-  -- and these look at no mark: what they answer, tell and leave is, but for the marks, what they do of entries without marks
+  -- MARK-6: which uses no mark
   pub blind : (c : Call) (x : Lent) → bareOutcome (performUnmarked c x) ≡ bareOutcome (performUnmarked c (bareLent x))
-  -- the entries are marked as set from a setting afresh on, whatever the marks are
+  -- MARK-1: after initialize the entries have the marks of the settings
   pub begins : (x : Lent) → perform (ask Initialize) x .reply .answer ≡ Done → marksAsSet (left x (perform (ask Initialize) x)) ≡ true
   pub stays : (c : Call) (x : Lent) → marksAsSet x ≡ true → marksAsSet (left x (perform c x)) ≡ true
-  -- such marks
+  -- MARK-6: such marks exist
   pub only : (own id : ℕ) → own < 256 → marked (onlyMark own) id ≡ eqb id own

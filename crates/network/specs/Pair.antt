@@ -1,4 +1,4 @@
--- Request 1: "Split arrival into an inspection .. and an action .. Calls may come between, so the action inspects again and takes its own reading. The one-piece arrival remains and equals the two in direct succession."
+-- INSPECT-3, INSPECT-4: inspection and action, and the arrival in one call.
 use mathlib.Core.Path.{_≡_}
 use mathlib.Core.Bool.{false}
 use mathlib.Core.List.{List, [], _∷_, _++_}
@@ -12,24 +12,26 @@ use Rattle.host.specs.Guard.{done}
 use Rattle.calls.specs.Perform.{Call, inspect, act, receive, perform, left, inTurn}
 use Rattle.network.specs.History.{Event, State, numberOf, outcome, LendsWhole, afterAll}
 
+-- INSPECT-5: the answer of a call
 abbrev pub answerOf : Call → Lent → Answer
 answerOf c x = perform c x .reply .answer
 
--- a call with what another was lent
+-- INSPECT-4: another call with the same state
 abbrev pub instead : Call → Event → Event
 instead c e = record { call = c; lent = e .lent }
 
+-- INSPECT-4: how the three calls belong together
 pub record Pair : Type 0 where
   pub one-piece : (i : ℕ) (k : Counter) (octets : List ℕ) (x : Lent) → perform (receive i k octets) x ≡ inTurn i k octets x
   pub action-alone : (i : ℕ) (k : Counter) (octets : List ℕ) (x : Lent) → perform (receive i k octets) x ≡ perform (act i k octets) x
-  -- an inspection changes nothing
+  -- INSPECT-1: an inspection changes nothing
   pub looks : (i : ℕ) (octets : List ℕ) (x : Lent) → left x (perform (inspect i octets) x) ≡ x
-  -- what it refuses, the action refuses alike, and changes nothing either
+  -- INSPECT-3: what it refuses, the action refuses with the same answer
   pub refuses : (i : ℕ) (k : Counter) (octets : List ℕ) (x : Lent) → done (answerOf (inspect i octets) x) ≡ false → perform (act i k octets) x ≡ perform (inspect i octets) x
-  -- 3 to 9 exactly where the inspection does
+  -- INSPECT-5: 3 to 9 exactly if the inspection gives it
   pub exactly : (i : ℕ) (k : Counter) (octets : List ℕ) (x : Lent) (n : ℕ) → 3 ≤ n → n ≤ 9
       → (number (answerOf (inspect i octets) x) ≡ n) ↔ (number (answerOf (act i k octets) x) ≡ n)
-  -- any calls between the two, at any numbers: the action is an arrival then, and the inspection might not have been
+  -- INSPECT-3: any calls between the two: the action is an arrival then
   pub between : (w : State) (e f : Event) (es : List Event) (i j : ℕ) (k : Counter) (octets packet : List ℕ)
       → e .call ≡ inspect i octets → LendsWhole (w (numberOf e)) (e .lent) → f .call ≡ act j k packet
       → (outcome f ≡ perform (receive j k packet) (f .lent))

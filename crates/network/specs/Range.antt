@@ -1,4 +1,4 @@
--- Demand 1, range: setting afresh leaves a host that 12 does not refuse, and no call but a step leaves another under the same settings. A step leaves one whose clock, links and entries 12 does not refuse, and its walk neither, if it was opened. Another table that 12 does not refuse changes nothing of that.
+-- HOST-6: initialize gives a state that 12 does not refuse, and calls keep it so.
 use mathlib.Core.Path.{_≡_}
 use mathlib.Core.Bool.{false}
 use mathlib.Core.List.{List}
@@ -19,20 +19,21 @@ use Rattle.calls.specs.declared.Request.the-variants.{Initialize, Tick, Adjust,
 use Rattle.calls.specs.Perform.{Call, ask, send, deliver, openWalk, step, perform, left}
 use Rattle.network.specs.Refusals.{closed}
 
--- 12 does not refuse the host
+-- HOST-6: 12 does not refuse the state
 abbrev pub Accepted : Lent → Type 0
 Accepted x = guard All x ≡ OutOfRange → ⊥
 
--- what was lent, with another table
+-- NET-10: the state with another net table
 abbrev pub under : ClassTable → Lent → Lent
 under t x = lent (x .host .settings) t (x .number) (x .host .clock) (x .host .links) (x .walk) (x .copy) (x .run)
 
--- the count that a delivery, and that a call, is handed and works with
+-- CLOCK-16: the count of a packet's call
 abbrev pub countBy : Delivery → Count
 countBy (Inspect i) = noCount
 countBy (Act i k) = countUsed k
 countBy (Receive i k) = countUsed k
 
+-- CLOCK-16: the count that a call uses
 abbrev pub countOf : Call → Count
 countOf (ask Initialize) = noCount
 countOf (ask (Tick n)) = n
@@ -47,21 +48,22 @@ countOf (send i k buffer) = countUsed k
 countOf (deliver d packet) = countBy d
 countOf (openWalk i packet) = noCount
 
--- what is lent once a walk was opened, and stepped since, under the same settings, with the table as the tutor leaves it; a count has 16 bits
+-- WALK-9: a walk that was opened, and stepped with good tables under the same settings
 pub data Walked : Lent → Type 0 where
   begins : (i : ℕ) (packet : List ℕ) (x : Lent) → x .walk .count .0 < 2 ^ 16 → Accepted x → perform (openWalk i packet) x .reply .answer ≡ Done
       → Walked (left x (perform (openWalk i packet) x))
   goes-on : (k : Counter) (x : Lent) → countUsed k .0 < 2 ^ 16 → Walked x → Walked (left x (perform (step k) x))
   other-table : (t : ClassTable) (x : Lent) → tableBad t ≡ false → Walked x → Walked (under t x)
 
+-- HOST-6: 12 never refuses what the calls themselves produce
 pub record Range : Type 0 where
   pub fresh :
       (x : Lent) → perform (ask Initialize) x .reply .answer ≡ Done → Accepted (left x (perform (ask Initialize) x))
-  -- a count has 16 bits
+  -- HOST-6: any call except a step keeps it
   pub stays : (c : Call) (x : Lent) → ((k : Counter) → c ≡ step k → ⊥) → countOf c .0 < 2 ^ 16 → Accepted x → Accepted (left x (perform c x))
-  -- also the one that a walk holds; 12 may refuse a walk that was not opened itself a box later
+  -- WALK-9: a step keeps clock, links and entries in range
   pub steps : (k : Counter) (x : Lent) → countUsed k .0 < 2 ^ 16 → x .walk .count .0 < 2 ^ 16 → Accepted x → Accepted (closed (left x (perform (step k) x)))
-  -- a walk that was opened is never refused with 12
+  -- WALK-9: a walk that was opened is never refused with 12
   pub walks : (x : Lent) → Walked x → Accepted x
-  -- whatever the tutor makes of the table, NHOSTS among it
+  -- NET-10: another good table changes nothing
   pub tables : (t : ClassTable) (x : Lent) → tableBad t ≡ false → Accepted x → Accepted (under t x)

@@ -1,4 +1,4 @@
--- The tutor's calls are rightly among what a seat's answers go by: a seat that looks up an address of another net before a row is added for that net, behind it, and once it is removed, computed. Without the tutor's calls it is told otherwise.
+-- NET-10: the tutor's calls do matter: a lookup before a row is added, after it, and after it is removed, computed.
 use mathlib.Core.Path.{_≡_}
 use mathlib.Core.List.{List, [], _∷_, map}
 use Prim.Native.Nat.{ℕ}
@@ -17,14 +17,15 @@ use Rattle.network.specs.Class.{adds, removes, SeatCall, ClassEvent, sea
 use Rattle.network.specs.TwoSeats.{placesOf}
 use Rattle.network.specs.MidWalk.{far, settings, now}
 
--- the seat of `MidWalk`, 192.0.2.1, in a class of three ids and no row
+-- NET-10: the host's state
 abbrev pub home : Left
 home = record { clock = freshClock now firstDate; links = freshLinks settings; walk = noWalk; copy = []; places = placesOf 0 }
 
+-- NET-10: a class of three ids without rows
 abbrev pub class : Class
 class = record { table = tableOf 3 []; left = λ (k : ℕ). home }
 
--- it looks up 10.0.0.5
+-- NET-10: a lookup of 10.0.0.5
 abbrev pub lookup : SeatCall
 lookup =
     record {
@@ -38,16 +39,19 @@ lookup =
       run = home .places;
     }
 
--- a row for net 10, to id 1, which is down
+-- NET-10: three lookups, a row added and removed between them
 abbrev pub exercise : List ClassEvent
 exercise = seat lookup ∷ tutor (adds record { first = 10; second = 0; third = 0 } 1) ∷ seat lookup ∷ tutor (removes 1) ∷ seat lookup ∷ []
 
+-- NET-10: the same without the tutor
 abbrev pub withoutTutor : List ClassEvent
 withoutTutor = seat lookup ∷ seat lookup ∷ seat lookup ∷ []
 
+-- NET-10: the answers
 abbrev pub answersOf : List Told → List Answer
 answersOf = map (λ (t : Told). t .reply .answer)
 
+-- NET-10: the answers differ
 pub record TutorSeen : Type 0 where
   pub lent : AllLentIn 0 class exercise
   pub told : answersOf (classTold 0 class exercise) ≡ NoHost ∷ HostDown ∷ NoHost ∷ []

@@ -1,4 +1,4 @@
--- Two seats with one cable between them, for histories that are computed. Seat a is 192.0.2.(a + 1), with one link; seat 1 is 500 ms ahead.
+-- ROOM-10: two hosts with one cable, for histories that are computed. Host 1 is 500 ms ahead.
 use mathlib.Core.Bool.{cond}
 use mathlib.Core.List.{List, [], _++_}
 use Prim.Native.Nat.{ℕ, _+_, _*_}
@@ -23,7 +23,7 @@ use Rattle.network.specs.History.{leftBy}
 use Rattle.network.specs.Room.{Room, End, loose, at, afresh}
 use Rattle.network.specs.Demand3.{RoomCall, Step, World}
 
--- what the two rooms differ in: how much a tick adds, at which millisecond of the room each seat starts, how long a message may be under way, NHOSTS, and which ids each seat marks
+-- ROOM-10: what such networks differ in
 pub record Pair : Type 0 where
   pub tick : Units
   pub start : ℕ → ℕ
@@ -32,9 +32,11 @@ pub record Pair : Type 0 where
   pub marks : ℕ → Marks
   pub copy : List ℕ
 
+-- ROOM-10: an address
 abbrev pub hostAt : (octet : ℕ) → Address
 hostAt n = record { first = 192; second = 0; third = 2; fourth = n }
 
+-- ROOM-10: the settings of a host
 abbrev pub settingsFor : Pair → (seat : ℕ) → Settings
 settingsFor p a =
     record {
@@ -50,17 +52,19 @@ settingsFor p a =
       marks = p .marks a;
     }
 
--- the class's net table, without rows
+-- ROOM-10: the net table, without rows
 abbrev pub netsFor : Pair → ClassTable
 netsFor p = tableOf (p .hosts) []
 
--- the places of a host that marks its own id alone, as setting afresh leaves them
+-- ROOM-10: the fresh places of a host that marks its own id alone
 abbrev pub placesOf : (own : ℕ) → List Entry
 placesOf own = set (replicate placesPerHost freshEntry) own (withMark 1 freshEntry)
 
+-- ROOM-3: the cable
 abbrev pub wire : (seat link : ℕ) → End
 wire a i = cond (eqb i 1) (cond (eqb a 0) (at 1 1) (cond (eqb a 1) (at 0 1) loose)) loose
 
+-- ROOM-10: the network
 abbrev pub pair : Pair → Room
 pair p =
     record {
@@ -78,13 +82,14 @@ pair p =
       run = λ a. replicate (2 * placesPerHost) freshEntry;
     }
 
--- set afresh, and nothing sent
+-- ROOM-1: both hosts initialized, and nothing sent
 abbrev pub begun : Room → World
 begun r = record { state = λ n. leftBy n [] (afresh r n); mail = [] }
 
--- a run with the places of seat a as they were left
+-- ROOM-5: a host table with the host's places
 abbrev pub runFor : World → ℕ → List Entry
 runFor w a = replicate (placesPerHost * a) freshEntry ++ w .state a .places
 
+-- ROOM-5: a call with the state after the last one
 abbrev pub call : Room → World → ℕ → RoomCall → Step
 call r w a x = record { seat = a; nets = r .nets a; links = w .state a .links; copy = w .state a .copy; run = runFor w a; call = x }

@@ -1,4 +1,4 @@
--- Request 5: "Run to its end it leaves the answer, clock, link and entries of the ordinary arrival, for every packet and seat." Request 10: "A walk of Wish 5 uses the table as it stands at the box that looks it up, and equals the arrival made with that table."
+-- WALK-5, NET-11: a walk that runs to its end equals the arrival with the table of step 5.
 use mathlib.Core.Path.{_≡_}
 use mathlib.Core.Bool.{Bool, true, false, cond, not}
 use mathlib.Core.List.{List, [], _∷_, map}
@@ -24,49 +24,51 @@ use Rattle.network.specs.Range.{under}
 
 -- ---- boxes
 
--- what a box is handed: its counter, and the class's net table as it then stands
+-- NET-11: what a box gets: a counter and the net table
 pub record Box : Type 0 where
   pub counter : Counter
   pub nets : ClassTable
 
+-- WALK-3: a box
 abbrev pub boxed : Box → Lent → Outcome
 boxed b x = perform (step (b .counter)) (under (b .nets) x)
 
--- one after another, each lent what the one before it left, until the walk is closed
+-- WALK-5: boxes one after another, until the walk is closed
 unfoldable pub walkOn : List Box → Lent → Outcome
 walkOn [] x = refused InWalk (step noCounter) x
 walkOn (b ∷ bs) x = cond (isOpen (boxed b x .walk)) (walkOn bs (left x (boxed b x))) (boxed b x)
 
--- what they leave, all of them
+-- WALK-5: the state after them
 unfoldable pub boxesOn : List Box → Lent → Lent
 boxesOn [] x = x
 boxesOn (b ∷ bs) x = boxesOn bs (left x (boxed b x))
 
--- five steps, and four lines of each id
+-- WALK-5: five steps, and four lines of each id
 abbrev pub mostBoxes : ℕ
 mostBoxes = 5 + 4 * placesPerHost
 
 -- ---- boxes that were not refused
 
--- what a table has a seat answer: 12 for a bad one, 1 for one of another NHOSTS
+-- NET-9, NET-8: what a table makes a host answer: 12 if bad, 1 for another NHOSTS
 abbrev pub byTable : Settings → ClassTable → Answer
 byTable s t = cond (tableBad t) OutOfRange (cond (not (eqb (s .layout .nhosts) (t .nhosts))) Setting Done)
 
+-- WALK-5: the boxes that were not refused
 abbrev pub taken : Settings → List Box → List Box
 taken s [] = []
 taken s (b ∷ bs) = cond (done (byTable s (b .nets))) (b ∷ taken s bs) (taken s bs)
 
--- a count has 16 bits
+-- CLOCK-8: a count has 16 bits
 abbrev pub countsFit : List Box → Bool
 countsFit bs = every (λ (b : Box). ltb (countUsed (b .counter) .0) (2 ^ 16)) bs
 
--- all boxes with one table
+-- NET-11: boxes with one table
 abbrev pub withTable : ClassTable → List Counter → List Box
 withTable t ks = map (λ (k : Counter). record { counter = k; nets = t }) ks
 
 -- ---- the claim
 
--- what an opened walk ends with, beside what the arrival leaves
+-- WALK-5: the walk has ended as the arrival
 pub record Ends (walked arrived : Outcome) : Type 0 where
   pub reply : walked .reply ≡ arrived .reply
   pub clock : walked .clock ≡ arrived .clock
@@ -74,24 +76,25 @@ pub record Ends (walked arrived : Outcome) : Type 0 where
   pub run : walked .run ≡ arrived .run
   pub closed : isOpen (walked .walk) ≡ false
 
+-- WALK-1: opening a walk
 abbrev pub opening : (link : ℕ) (packet : List ℕ) → Lent → Outcome
 opening i packet x = perform (openWalk i packet) x
 
--- A host has eight slots for its links.
+-- WALK-5, NET-11: for every packet and host with eight link slots
 pub record WalkEnds : Type 0 where
-  -- of the boxes that were not refused, with the counts of the first and the table of the fifth; the others do not look at theirs
+  -- WALK-5, WALK-6, NET-11: with the counter of the first box that was not refused, and the table of the fifth
   pub whole : (i : ℕ) (packet : List ℕ) (x : Lent) (bs : List Box) (b₁ b₂ b₃ b₄ b₅ : Box) (more : List Box) → length (x .host .links .all) ≡ 8 → countsFit bs ≡ true
       → opening i packet x .reply .answer ≡ Done → taken (x .host .settings) bs ≡ b₁ ∷ b₂ ∷ b₃ ∷ b₄ ∷ b₅ ∷ more → mostBoxes ≤ length (taken (x .host .settings) bs)
       → Ends (walkOn bs (left x (opening i packet x))) (perform (receive i (b₁ .counter) packet) (under (b₅ .nets) x))
-  -- with one table from opening to end it is the arrival with that table
+  -- WALK-5: with one table throughout it is the arrival with that table
   pub one-table : (i : ℕ) (packet : List ℕ) (x : Lent) (k : Counter) (ks : List Counter) → length (x .host .links .all) ≡ 8 → countsFit (withTable (x .nets) (k ∷ ks)) ≡ true
       → opening i packet x .reply .answer ≡ Done → mostBoxes ≤ length (k ∷ ks)
       → Ends (walkOn (withTable (x .nets) (k ∷ ks)) (left x (opening i packet x))) (perform (receive i k packet) x)
-  -- while the walk is open, a box is refused for its table alone, if at all
+  -- NET-9: an open walk's box is refused only because of its table
   pub by-table : (i : ℕ) (packet : List ℕ) (x : Lent) (bs : List Box) (t : ClassTable) → countsFit bs ≡ true → opening i packet x .reply .answer ≡ Done
       → isOpen (boxesOn bs (left x (opening i packet x)) .walk) ≡ true
       → guard Walking (under t (boxesOn bs (left x (opening i packet x)))) ≡ byTable (x .host .settings) t
-  -- where opening refuses, with room for the copy, it is the arrival's refusal with the same table, and nothing changes
+  -- WALK-1: if opening refuses, it is the arrival's refusal, and nothing changes
   pub refused : (i : ℕ) (packet : List ℕ) (k : Counter) (x : Lent) → longest ≤ length (x .copy) → done (opening i packet x .reply .answer) ≡ false
       → opening i packet x ≡ perform (receive i k packet) x
   pub unchanged : (i : ℕ) (packet : List ℕ) (x : Lent) → done (opening i packet x .reply .answer) ≡ false → left x (opening i packet x) ≡ x

@@ -1,4 +1,4 @@
--- `NeverBack` is sharp, and none of its hypotheses is idle; nor are the days of `Slewed`. By computing.
+-- BACK-1: the bound is sharp, and each condition is needed, by computing.
 use mathlib.Core.Path.{_≡_}
 use mathlib.Core.Bool.{Bool, true, false}
 use mathlib.Core.List.{List, [], _∷_}
@@ -13,52 +13,53 @@ use Rattle.steady.specs.NeverBack.{Readings, ReadsTwice, earlier, later,
 use Rattle.steady.specs.Slewed.{SetsOnce, slewedBy, deltaLeft}
 use Rattle.steady.specs.Examples.{start, asks, setTo, adjustOnce, refusedAdjust, betweenReads, afterArrival, lateSlew}
 
--- the two readings, and which hypotheses are met: counts of 16 bits, no setting afresh, small sets, one adjust, one date, counter and ticks not falling
+-- BACK-1: the two readings, and which conditions are met
 pub record Goes (y : Readings) (met : List Bool) (from to : ℤ) : Type 0 where
   pub reads-twice : ReadsTwice y
   pub meets : supposed y ≡ met
   pub before : earlier y .time .0 ≡ from
   pub after : later y .time .0 ≡ to
 
+-- BACK-1: one example for each condition
 pub record Sharp : Type 0 where
-  -- by exactly one
+  -- BACK-1: back by exactly one
   pub by-one :
       Goes (betweenReads start noCounter (setTo (negsuc 127) ∷ adjustOnce ∷ []) noCounter) (true ∷ true ∷ true ∷ true ∷ true ∷ true ∷ [])
       (pos 3600000) (pos 3599999)
-  -- also with a refused adjust, a read and a second between
+  -- BACK-1: also with a refused adjust, a read and a second between
   pub among-others :
       Goes (betweenReads start noCounter (setTo (negsuc 127) ∷ refusedAdjust ∷ asks (Read noCounter) ∷ asks Second ∷ adjustOnce ∷ []) noCounter)
       (true ∷ true ∷ true ∷ true ∷ true ∷ true ∷ []) (pos 3600000) (pos 3599999)
-  -- and where the earlier reading is an arrival's, whose line (d) sets by -128
+  -- BACK-2: and if the first reading is an arrival's, whose line (d) sets by -128
   pub arrival-by-one :
       Goes (afterArrival setLeast (adjustOnce ∷ [])) (true ∷ true ∷ true ∷ true ∷ true ∷ true ∷ []) (pos 3600000) (pos 3599999)
-  -- a count that takes the date round through 32 years, 11,688 days less a second
+  -- BACK-1: a count that takes the date around through 32 years
   pub wide-count :
       Goes (betweenReads start noCounter [] (counting (counts (11688 * 86400000 - 1000)))) (false ∷ true ∷ true ∷ true ∷ true ∷ true ∷ [])
       (pos 3600000) (pos 3599000)
-  -- a setting afresh, when the clock is a second on
+  -- BACK-1: an initialize between
   pub set-afresh :
       Goes (betweenReads (millis (pos 3601000)) noCounter (asks Initialize ∷ []) noCounter) (true ∷ false ∷ true ∷ true ∷ true ∷ true ∷ [])
       (pos 3601000) (pos 3600000)
-  -- a set of -129, by a call and by line (d)
+  -- BACK-1: a set of -129, by a call and by line (d)
   pub set-by-129 :
       Goes (betweenReads start noCounter (setTo (negsuc 128) ∷ []) noCounter) (true ∷ true ∷ false ∷ true ∷ true ∷ true ∷ [])
       (pos 3600000) (pos 3599871)
   pub arrival-by-129 :
       Goes (afterArrival (millis (negsuc 128)) []) (true ∷ true ∷ false ∷ true ∷ true ∷ true ∷ []) (pos 3600000) (pos 3599871)
-  -- two adjusts
+  -- BACK-1: two adjusts
   pub two-adjusts :
       Goes (betweenReads start noCounter (setTo (negsuc 127) ∷ adjustOnce ∷ adjustOnce ∷ []) noCounter) (true ∷ true ∷ true ∷ false ∷ true ∷ true ∷ [])
       (pos 3600000) (pos 3599998)
-  -- a tick past midnight, and a count past midnight at the later reading
+  -- BACK-1: a tick past midnight, and a count past midnight at the second reading
   pub date-changes :
       Goes (betweenReads dayMillis noCounter (asks (Tick noCount) ∷ []) noCounter) (true ∷ true ∷ true ∷ true ∷ false ∷ true ∷ [])
       (pos 86400000) (pos 1000)
   pub date-changes-last :
       Goes (betweenReads dayMillis noCounter [] (counting (counts 5))) (true ∷ true ∷ true ∷ true ∷ false ∷ true ∷ []) (pos 86400000) (pos 5)
-  -- a counter that falls by two
+  -- BACK-1: a counter that falls by two
   pub counter-falls :
       Goes (betweenReads start (counting (counts 2)) [] noCounter) (true ∷ true ∷ true ∷ true ∷ true ∷ false ∷ []) (pos 3600002) (pos 3600000)
-  -- an adjust past midnight: the sum is a day short
+  -- BACK-3: an adjust past midnight: the sum is a day short
   pub late : SetsOnce lateSlew
   pub day-short : addUnits (slewedBy lateSlew) (deltaLeft lateSlew) ≡ subUnits (toUnits setMost) day

@@ -1,4 +1,4 @@
--- A seat for examples that are computed: 192.0.2.1, with the host 192.0.2.2 on its link, by whom it sets its clock. CLOCK-TICK is 1,000 ms, and set afresh the clock stands at 3,600,000 ms.
+-- BACK-1: a host for computed examples: 192.0.2.1, whose clock host is 192.0.2.2. CLOCK-TICK is 1,000 ms.
 use mathlib.Core.List.{List, [], _∷_}
 use Prim.Native.Nat.{ℕ}
 use lib.IntN.{ℤ, pos}
@@ -27,9 +27,11 @@ use Rattle.steady.specs.Turns.{Turn}
 use Rattle.steady.specs.NeverBack.{setMost, Readings}
 use Rattle.steady.specs.Slewed.{Slew}
 
+-- BACK-1: its starting time
 abbrev pub start : Millis
 start = millis (pos 3600000)
 
+-- BACK-1: its settings
 abbrev pub seat : Settings
 seat =
     record {
@@ -45,12 +47,13 @@ seat =
       marks = onlyMark 0;
     }
 
--- the class's net table, without rows
+-- BACK-1: the net table, without rows
 abbrev pub nets : ClassTable
 nets = tableOf 2 []
 
 -- ---- calls
 
+-- BACK-1: a call with fresh state
 abbrev pub turn : Call → Turn
 turn c =
     record {
@@ -63,20 +66,23 @@ turn c =
       run = placesOf 0;
     }
 
+-- BACK-1: a request
 abbrev pub asks : Request → Turn
 asks q = turn (ask q)
 
+-- BACK-1: a set
 abbrev pub setTo : (ms : ℤ) → Turn
 setTo ms = asks (Set ms noCount)
 
+-- BACK-1: an adjust
 abbrev pub adjustOnce : Turn
 adjustOnce = asks (Adjust noCount)
 
--- 12: no host has the number 16
+-- BACK-1: an adjust that gives 12
 abbrev pub refusedAdjust : Turn
 refusedAdjust = record { call = ask (Adjust noCount); nets = nets; number = 16; links = adjustOnce .links; walk = adjustOnce .walk; copy = adjustOnce .copy; run = adjustOnce .run }
 
--- the clock host's packet, that arrives at the starting time with a DELAY of 100 ms and this OFFSET: its time, 50 ms later, is that much ahead
+-- BACK-2: the clock host's packet with this OFFSET
 abbrev pub packetOf : (offset : Millis) → List ℕ
 packetOf offset =
     message (hostAt 1)
@@ -90,12 +96,13 @@ packetOf offset =
     }
     []
 
+-- BACK-2: its arrival
 abbrev pub arrives : (offset : Millis) → Turn
 arrives offset = turn (receive 1 noCounter (packetOf offset))
 
 -- ---- lists of calls
 
--- a read, these calls, and a read again, from a clock that is set afresh to this time
+-- BACK-1: a read, these calls, and a read again
 abbrev pub betweenReads : Millis → Counter → List Turn → Counter → Readings
 betweenReads time k between j =
     record {
@@ -108,11 +115,11 @@ betweenReads time k between j =
       counterAgain = j;
     }
 
--- a set of +127 as the day ends, and an adjust past midnight
+-- BACK-3: a set of +127 at the end of the day, and an adjust past midnight
 abbrev pub lateSlew : Slew
 lateSlew = record { settings = seat; clock = freshClock dayMillis firstDate; first = setTo (pos 127); amount = setMost; after = adjustOnce ∷ [] }
 
--- the arrival of that packet, these calls, and a read
+-- BACK-2: the arrival of that packet, these calls, and a read
 abbrev pub afterArrival : (offset : Millis) → List Turn → Readings
 afterArrival offset between =
     record {

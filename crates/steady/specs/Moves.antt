@@ -1,4 +1,4 @@
--- What a call does to the clock, as a list of moves: each is one of the clock's own procedures. A refused call makes none, but for the reading of 10 and 11 at an arrival.
+-- BACK-2: what a call does to the clock, as a list of moves, each one of the clock's own procedures.
 use mathlib.Core.Path.{_≡_}
 use mathlib.Core.Bool.{Bool, cond, not}
 use mathlib.Core.List.{List, [], _∷_, _++_}
@@ -45,7 +45,7 @@ use Rattle.calls.specs.Perform.{Call, ask, send, deliver, openWalk, scopeOfCall
 
 -- ---- moves
 
--- `dates` is the date that line (d) takes; `second` is what a second does to HOLD
+-- BACK-2: a move; `dates` is the date of line (d), `second` what a second does to HOLD
 pub data Move : Type 0 where
   reads : Counter → Move
   ticks : Count → Move
@@ -55,6 +55,7 @@ pub data Move : Type 0 where
   second : Move
   afresh : Move
 
+-- BACK-2: the clock after a move
 abbrev pub moved : Settings → Move → Clock → Clock
 moved s (reads k) c = reading (s .«clock_tick») (s .«hold_interval») k c .clock
 moved s (ticks n) c = tick (s .«clock_tick») (s .«hold_interval») n c
@@ -64,32 +65,35 @@ moved s (dates d) c = dateTaken d c
 moved s second c = holdSecond c
 moved s afresh c = freshClock (s .time) (s .date)
 
+-- BACK-2: the clock after a list of moves
 abbrev pub movedBy : Settings → List Move → Clock → Clock
 movedBy s [] c = c
 movedBy s (m ∷ ms) c = movedBy s ms (moved s m c)
 
 -- ---- the moves of an arrival
 
--- line (d), for the clock host where (c) stored
+-- BACK-2, UPDATE-d: line (d), for the clock host after (c)
 abbrev pub lineDMoves : (clockHost : Bool) → Updates → Update → Stage Entry → List Move
 lineDMoves clockHost w u (on e) = cond clockHost (dates (w .date) ∷ sets (w .count) (ofWord (u .offset)) ∷ []) []
 lineDMoves clockHost w u (end e) = []
 
--- the ids from i on
+-- BACK-2: the updates of the ids from i on
 abbrev pub sweepMoves : (i : ℕ) → Updates → (packet : List ℕ) → List Entry → List Move
 sweepMoves i w packet [] = []
 sweepMoves i w packet (e ∷ es) =
     lineDMoves (eqb (i - w .base) (w .«clock_host»)) w (updateAt w (i - w .base) packet) (lines (updateAt w (i - w .base) packet) e)
     ++ sweepMoves (suc i) w packet es
 
+-- BACK-2: all updates of an arrival
 abbrev pub updateMoves : Updates → (packet : List ℕ) → List Entry → List Move
 updateMoves w packet es = sweepMoves (w .first) w packet (part (w .first) (w .end - w .first) es)
 
--- 3 to 9 don't read
+-- BACK-2, CLOCK-16: an action; a packet refused with 3 to 9 reads no clock
 abbrev pub actionMoves : (link : ℕ) → Counter → (packet : List ℕ) → Lent → Parsed → List Move
 actionMoves i k packet x (Bad a) = []
 actionMoves i k packet x (Good p) = reads k ∷ updateMoves (action k (x .nets) (x .host) i p .work) packet (entriesOf x)
 
+-- BACK-2: one of the three calls
 abbrev pub deliveryMoves : Delivery → (packet : List ℕ) → Lent → List Move
 deliveryMoves (Inspect i) packet x = []
 deliveryMoves (Act i k) packet x = actionMoves i k packet x (inspect (x .host .settings) i packet)
@@ -97,6 +101,7 @@ deliveryMoves (Receive i k) packet x = actionMoves i k packet x (inspect (x .hos
 
 -- ---- the moves of a box: the first reads, and line (d) sets, for the clock host
 
+-- BACK-2, WALK-6: a box: the first reads, and line (d) sets
 abbrev pub boxMoves : Place → Counter → Packet → (packet : List ℕ) → Host → Walk → List Move
 boxMoves Nowhere k p packet h w = []
 boxMoves Step1 k p packet h w = reads k ∷ []
@@ -110,15 +115,18 @@ boxMoves LineC k p packet h w = []
 boxMoves LineD k p packet h w =
     cond (isClockHost h w) (dates (p .date) ∷ sets (w .count) (ofWord (lineUpdate w p packet .offset)) ∷ []) []
 
+-- BACK-2: the walk's next box
 abbrev pub heldMoves : Counter → Lent → Parsed → List Move
 heldMoves k x (Bad a) = []
 heldMoves k x (Good p) = boxMoves (placeOf (x .walk)) k p (packetOf (x .walk) (x .copy)) (x .host) (x .walk)
 
+-- BACK-2: a step
 abbrev pub stepMoves : Counter → Lent → List Move
 stepMoves k x = cond (not (isOpen (x .walk))) [] (heldMoves k x (inspect (x .host .settings) (x .walk .link) (packetOf (x .walk) (x .copy))))
 
 -- ---- the moves of a call
 
+-- BACK-2: a request
 abbrev pub requestMoves : Request → Lent → List Move
 requestMoves Initialize x = afresh ∷ []
 requestMoves (Tick n) x = ticks n ∷ []
@@ -130,6 +138,7 @@ requestMoves (SelfReport k) x = reads k ∷ []
 requestMoves (Lookup a) x = []
 requestMoves (Step k) x = stepMoves k x
 
+-- BACK-2: a call after its guard
 abbrev pub workMoves : Call → Lent → List Move
 workMoves (ask q) x = requestMoves q x
 workMoves (send i k buffer) x =
@@ -137,14 +146,16 @@ workMoves (send i k buffer) x =
 workMoves (deliver d packet) x = deliveryMoves d packet x
 workMoves (openWalk i packet) x = []
 
+-- BACK-2: a call
 unfoldable pub moves : Call → Lent → List Move
 moves c x = cond (not (done (guard (scopeOfCall c) x))) [] (workMoves c x)
 
 -- ---- the law
 
+-- BACK-2: for every call
 pub record ClockMoves : Type 0 where
-  -- a call makes its moves, and nothing else becomes of the clock
+  -- BACK-2: it makes its moves, and nothing else changes the clock
   pub clock : (c : Call) (x : Lent) → perform c x .clock ≡ movedBy (x .host .settings) (moves c x) (x .host .clock)
-  -- what a read tells is its reading
+  -- CLOCK-8: what a read returns is its reading
   pub told : (k : Counter) (x : Lent) → perform (ask (Read k)) x .reply .answer ≡ Done
       → perform (ask (Read k)) x .reply .time ≡ ourReading k (x .host) .time

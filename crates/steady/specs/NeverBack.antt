@@ -1,5 +1,4 @@
--- Request 9: "Between two readings of a seat, let there be ticks, sets from -128 to +127, seconds and at most one adjust, in any order, with no change of date, at the later reading either, and with the counter and ticks together never falling. Then the later reading is at least the earlier less one millisecond."
--- Either reading is that of any call that reads, and where the earlier is an arrival's, its line (d) lies between the two. Calls between that read, and refused ones, do no harm.
+-- BACK-1: between two readings a clock goes back by at most one millisecond, if the conditions below are true. Either reading may be that of any call that reads.
 use mathlib.Core.Path.{_≡_}
 use mathlib.Core.Bool.{Bool, true, false, not, _&&_}
 use mathlib.Core.List.{List, [], _∷_, _++_}
@@ -24,7 +23,7 @@ use Rattle.steady.specs.Turns.{Turn, clockAfter, clockAfterAll, movesOf,
 
 -- ---- two readings of a seat
 
--- a call that reads, calls between, and a call that reads again; the clock is that which the first is lent
+-- BACK-1: a call that reads, calls between, and a call that reads again
 pub record Readings : Type 0 where
   pub settings : Settings
   pub clock : Clock
@@ -34,24 +33,28 @@ pub record Readings : Type 0 where
   pub last : Turn
   pub counterAgain : Counter
 
+-- BACK-1: a reading of a clock
 abbrev pub readAt : Settings → Counter → Clock → Reading
 readAt s k c = reading (s .«clock_tick») (s .«hold_interval») k c
 
+-- BACK-1: the clock before the second reading
 abbrev pub clockAtLast : Readings → Clock
 clockAtLast y = clockAfterAll (y .settings) (clockAfter (y .settings) (y .clock) (y .first)) (y .between)
 
+-- BACK-1: the first reading
 abbrev pub earlier : Readings → Reading
 earlier y = readAt (y .settings) (y .counter) (y .clock)
 
+-- BACK-1: the second reading
 abbrev pub later : Readings → Reading
 later y = readAt (y .settings) (y .counterAgain) (clockAtLast y)
 
--- both calls read, with these counters: a reading is a call's first move
+-- BACK-1: both calls read, with these counters
 pub record ReadsTwice (y : Readings) : Type 0 where
   pub once : take 1 (movesOf (y .settings) (y .clock) (y .first)) ≡ reads (y .counter) ∷ []
   pub again : take 1 (movesOf (y .settings) (clockAtLast y) (y .last)) ≡ reads (y .counterAgain) ∷ []
 
--- the moves after the earlier reading: of its own call, of the calls between, and the later reading
+-- BACK-2: the moves after the first reading, with the second reading
 abbrev pub since : Readings → List Move
 since y =
     drop 1 (movesOf (y .settings) (y .clock) (y .first))
@@ -59,49 +62,53 @@ since y =
 
 -- ---- what is supposed of them
 
--- "a 16-bit count"
+-- BACK-1: a count has 16 bits
 abbrev pub countFits : Move → Bool
 countFits m = ltb (kind m .count .0) (2 ^ 16)
 
--- setting afresh is none of the calls named
+-- BACK-1: no initialize
 abbrev pub notAnew : Setting → Bool
 notAnew none = true
 notAnew (by m) = true
 notAnew anew = false
 
--- "sets from -128 to +127", by a call or by line (d)
+-- BACK-1: the least set
 abbrev pub setLeast : Millis
 setLeast = millis (negsuc 127)
 
+-- BACK-1: the greatest set
 abbrev pub setMost : Millis
 setMost = millis (pos 127)
 
+-- BACK-1: is a set from -128 to +127 ms?
 abbrev pub small : Millis → Bool
 small m = not (lessMillis m setLeast) && not (lessMillis setMost m)
 
+-- BACK-1: only such sets, by a call or by line (d)
 abbrev pub bySmall : Setting → Bool
 bySmall none = true
 bySmall (by m) = small m
 bySmall anew = true
 
--- "at most one adjust"
+-- BACK-1: at most one adjust
 abbrev pub mostAdjusts : ℕ
 mostAdjusts = 1
 
--- "no change of date": DATE names one day all along; bit 15 is not looked at
+-- BACK-1: the same day, whatever bit 15 is
 abbrev pub sameDay : Date → Date → Bool
 sameDay a b = eqb (await a .0) (await b .0)
 
+-- BACK-1: the date never changes
 abbrev pub dateStays : Settings → Clock → List Move → Bool
 dateStays s c [] = true
 dateStays s c (m ∷ ms) = sameDay (c .date) (moved s m c .date) && dateStays s (moved s m c) ms
 
--- "the counter and ticks together never falling": the ticks since the earlier reading and the count used at the later are at least the count used at the earlier
+-- BACK-1: ticks and counter together do not decrease
 abbrev pub notFalling : Readings → Bool
 notFalling y =
     not (lessUnits (addUnits (ticksIn (y .settings) (since y)) (countUnits (countUsed (y .counterAgain)))) (countUnits (countUsed (y .counter))))
 
--- all in turn
+-- BACK-1: all conditions in order
 abbrev pub supposed : Readings → List Bool
 supposed y =
     every countFits (reads (y .counter) ∷ since y)
@@ -114,9 +121,11 @@ supposed y =
 
 -- ---- the law
 
+-- BACK-1: one millisecond
 abbrev pub mostBack : Millis
 mostBack = millis (pos 1)
 
+-- BACK-1: for every two such readings
 unfoldable pub NeverBack : Type 0
 NeverBack =
     (y : Readings) → ReadsTwice y → supposed y ≡ true ∷ true ∷ true ∷ true ∷ true ∷ true ∷ []

@@ -1,4 +1,4 @@
--- Lists of calls at one seat: the settings stay, and each call is lent the clock that the one before it left. What else a call is lent, the class's net table among it, may be anything.
+-- BACK-2: lists of calls at one host: the settings stay, and each call gets the clock after the one before it. The rest of the state may be anything.
 use mathlib.Core.List.{List, [], _∷_, _++_}
 use Prim.Native.Nat.{ℕ}
 use Rattle.clock.specs.declared.Clock.{Clock}
@@ -11,7 +11,7 @@ use Rattle.host.specs.Lent.{Lent, lent}
 use Rattle.calls.specs.Perform.{Call, perform}
 use Rattle.steady.specs.Moves.{Move, moves}
 
--- a call, with what it is lent besides settings and clock
+-- BACK-2: a call with everything that it takes except settings and clock
 pub record Turn : Type 0 where
   pub call : Call
   pub nets : ClassTable
@@ -21,20 +21,24 @@ pub record Turn : Type 0 where
   pub copy : List ℕ
   pub run : List Entry
 
+-- BACK-2: everything that it takes
 abbrev pub lentTo : Settings → Clock → Turn → Lent
 lentTo s c t = lent s (t .nets) (t .number) c (t .links) (t .walk) (t .copy) (t .run)
 
+-- BACK-2: the clock after a call
 abbrev pub clockAfter : Settings → Clock → Turn → Clock
 clockAfter s c t = perform (t .call) (lentTo s c t) .clock
 
+-- BACK-2: the clock after a list of calls
 abbrev pub clockAfterAll : Settings → Clock → List Turn → Clock
 clockAfterAll s c [] = c
 clockAfterAll s c (t ∷ ts) = clockAfterAll s (clockAfter s c t) ts
 
--- the moves of one call, and of all in turn
+-- BACK-2: the moves of a call
 abbrev pub movesOf : Settings → Clock → Turn → List Move
 movesOf s c t = moves (t .call) (lentTo s c t)
 
+-- BACK-2: the moves of a list of calls
 abbrev pub movesOfAll : Settings → Clock → List Turn → List Move
 movesOfAll s c [] = []
 movesOfAll s c (t ∷ ts) = movesOf s c t ++ movesOfAll s (clockAfter s c t) ts
