@@ -1,11 +1,10 @@
 """The list of calls: the last ones at hand, all of them in a file of JSON lines."""
 
 import json
-import os
-import tempfile
 from collections import deque
 
 from .answers import ANSWERS
+from .paper import FilePaper
 
 RECENT = 500
 MOST = 256 * 1024 * 1024
@@ -13,22 +12,23 @@ MOST = 256 * 1024 * 1024
 OF_A_SEAT = MOST // 64
 """So many of them the calls from one seat's page fill: those from all sixteen fill a quarter, and
 the arrivals of what they send about another."""
-CHUNK = 64 * 1024
 
 
 class Log:
-    """The calls of a room since its set-up. Ticks in a row of a seat become one line."""
+    """The calls of a room since its set-up, on a paper. Ticks in a row of a seat become one line.
+    `changes` counts all that was noted, ticks too."""
 
-    def __init__(self, set_up):
+    def __init__(self, set_up, paper=None):
         self.count = 0
+        self.changes = 0
         self.recent = deque(maxlen=RECENT)
-        self._file = tempfile.TemporaryFile()
+        self.paper = paper or FilePaper()
         self.octets = 0
         self._ticks = {}
         self._write({"room": set_up})
 
-    def __del__(self):
-        self._file.close()
+    def __getstate__(self):
+        return {**self.__dict__, "paper": None}
 
     @property
     def full(self):
@@ -37,6 +37,7 @@ class Log:
 
     def ticks(self, time, seat, given, answer, times):
         """Ticks of a seat; they are written before its next other call."""
+        self.changes += 1
         line = self._ticks.get(seat)
         if line and (line["with"], line["answer"]) == (given, answer):
             line.update(time=time, times=line["times"] + times)
@@ -47,6 +48,7 @@ class Log:
     def add(self, time, seat, call, given, answer, told, times):
         """A call with what it was given, answered and told, of a seat, or of the tutor, whose seat is
         None: the ticks of all seats are written before that."""
+        self.changes += 1
         for ticked in list(self._ticks) if seat is None else [seat]:
             self._flush(ticked)
         self._append(self._line(time, seat, call, given, answer, told, times))
@@ -75,30 +77,35 @@ class Log:
         shown = {key: value for key, value in line.items() if key != "told"}
         self.recent.append({**shown, "name": ANSWERS[line["answer"]]["name"]})
 
+    def flush(self):
+        """Writes the ticks of all seats."""
+        for seat in list(self._ticks):
+            self._flush(seat)
+
     def _write(self, line):
-        octets = json.dumps(line, separators=(",", ":")).encode() + b"\n"
-        self._file.write(octets)
+        octets = _octets(line)
+        self.paper.write(octets)
         self.octets += len(octets)
 
     def since(self, line):
-        """The calls behind that line, the last RECENT of them at most."""
+        """The calls after that line, the last RECENT of them at most."""
         return [call for call in self.recent if call["line"] > line]
 
     def lines(self, net_table, seats):
         """The file as it is now, line by line, with the net table and the states of the seats as its
-        end."""
-        for seat in list(self._ticks):
-            self._flush(seat)
-        end = {"calls": self.count, "net_table": net_table, "seats": seats}
-        return self._lines(self.octets, json.dumps({"end": end}, separators=(",", ":")))
+        end. Ticks that are still to be written are its last calls; here they stay to be written."""
+        ticks = self.unwritten()
+        end = {"calls": self.count + len(ticks), "net_table": net_table, "seats": seats}
+        return self._lines(self.paper.lines(), [*ticks, {"end": end}])
 
-    def _lines(self, length, end):
-        at, rest = 0, b""
-        while at < length:
-            self._file.seek(at)
-            read = self._file.read(min(CHUNK, length - at))
-            self._file.seek(0, os.SEEK_END)
-            at += len(read)
-            *lines, rest = (rest + read).split(b"\n")
-            yield from (line.decode() for line in lines)
-        yield end
+    def unwritten(self):
+        """The lines of the ticks that are still to be written."""
+        return [{**line, "line": self.count + more} for more, line in enumerate(self._ticks.values(), 1)]
+
+    def _lines(self, written, more):
+        yield from written
+        yield from (_octets(line).decode()[:-1] for line in more)
+
+
+def _octets(line):
+    return json.dumps(line, separators=(",", ":")).encode() + b"\n"

@@ -7,6 +7,7 @@ from . import calls, net_table
 from .answers import in_words
 from .cables import Cables
 from .log import Log
+from .paper import FilePaper
 from .seat import READ, Message, Seat
 from .setup import DAY, class_of
 from .state import changes, state_of, stored, ticked
@@ -17,14 +18,17 @@ STORING = ("receive", "step", "self_report")
 
 
 class Net:
-    """Seats, cables, the class's net table and the list of calls, at one millisecond, `now`."""
+    """Seats, cables, the class's net table and the list of calls, at one millisecond, `now`. `paper`
+    makes the place of a list's lines."""
+
+    paper = FilePaper
 
     def begin(self, set_up):
         """Net table and hosts freshly set by a checked set-up; the list of calls begins anew."""
         self.set_up = set_up
         self.now = 0
         self.messages = 0
-        self.log = Log(set_up)
+        self.log = Log(set_up, self.paper())
         self.points = deque(maxlen=MOST_POINTS)
         self.pointed = 0
         self.cables = Cables([dict(cable) for cable in set_up["cables"]], set_up["seed"])

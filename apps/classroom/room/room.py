@@ -3,6 +3,7 @@
 from . import net_table, views
 from .bench import Stand
 from .checks import Refused, keys
+from .paper import FilePaper
 from .setup import checked, ring
 from .state import shown
 from .student import STUDENT
@@ -14,7 +15,8 @@ class Room(Timed):
     """A room of up to sixteen seats, and the teacher's bench beside it. What a page asks for that
     cannot be done raises Refused."""
 
-    def __init__(self, set_up):
+    def __init__(self, set_up, paper=FilePaper):
+        self.paper = paper
         self.number = 0
         self.speed = 1
         self.show = "picture"
@@ -22,9 +24,12 @@ class Room(Timed):
         self.begin(checked(set_up))
 
     @classmethod
-    def fresh(cls, seats=4):
+    def fresh(cls, seats=4, paper=FilePaper):
         """A first room: so many hosts in a ring, which work by themselves."""
-        return cls(ring(seats))
+        return cls(ring(seats), paper)
+
+    def __getstate__(self):
+        return {**self.__dict__, "paper": None}
 
     def begin(self, set_up, exercise=None):
         """A new room by a checked set-up, paused."""
@@ -66,5 +71,8 @@ class Room(Timed):
 
     def lines(self):
         """The list of calls as a file, line by line."""
-        seats = [shown(seat.state) for seat in self.seats]
-        return self.log.lines(net_table.shown(self.net_table), seats)
+        return self.log.lines(*self.end())
+
+    def end(self):
+        """The end of that file: the net table, and the states of the seats."""
+        return net_table.shown(self.net_table), [shown(seat.state) for seat in self.seats]

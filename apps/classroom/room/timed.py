@@ -27,12 +27,17 @@ class Timed(Net):
     def advance(self, ms):
         """Time goes on by so many ms, of which parts add up, unless it has to stand, and not by
         more than the line clocks' ticks allow; tells by how many it went on."""
+        start = self.now
+        self.go_on(start + self.step_of(ms))
+        return self.now - start
+
+    def step_of(self, ms):
+        """The whole ms by which time may go on after so many ms more, of which parts add up."""
         line_clocks = sum(not seat.crystal for seat in self.seats)
         self._rest = min(self._rest + ms, MOST_TICKS // max(line_clocks, 1))
-        start, whole = self.now, int(self._rest)
+        whole = int(self._rest)
         self._rest -= whole
-        self.go_on(start + whole)
-        return self.now - start
+        return whole
 
     def go_on(self, to):
         """Time goes on to that ms, unless it has to stand before."""

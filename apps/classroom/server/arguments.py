@@ -46,9 +46,11 @@ def parser():
         prog="./class",
         allow_abbrev=False,
         add_help=False,
-        usage="./class [--port N] [--seats N] [--open-to-the-net]\n       ./class --replay FILE",
+        usage="./class [--new] [--store FILE] [--port N] [--seats N] [--open-to-the-net]\n"
+        "       ./class --replay FILE",
         description="A class of HELLO hosts in browsers: prints the teacher's address and one for "
-        "each seat, and serves until it is stopped (Ctrl-C).",
+        "each seat, and serves until it is stopped (Ctrl-C). Everything is kept in a store, and the "
+        "last class is resumed, with its addresses and keys.",
         epilog="HELLO_SO names a ready libhello.so, HELLO_LIB the folder of libhello.a and libclass_bench.a. "
         "Without them, rt proves and builds the library in target/, in some minutes. The Debian package "
         "python3-aiohttp is installed if it is missing.",
@@ -57,16 +59,22 @@ def parser():
     made.add_argument(
         "--port",
         type=whole(0, 65535),
-        default=PORT,
         metavar="N",
-        help=f"the port of the server; 0 takes a free one ({PORT} if not said)",
+        help=f"the port of the server; 0 takes a free one. If not said, the port that the class had, "
+        f"or {PORT}",
     )
     made.add_argument(
         "--seats",
         type=whole(1, MOST_SEATS),
-        default=SEATS,
         metavar="N",
-        help=f"how many students, 1 to {MOST_SEATS} ({SEATS} if not said)",
+        help=f"how many students a new class has, 1 to {MOST_SEATS} ({SEATS} if not said)",
+    )
+    made.add_argument("--new", action="store_true", help="begins another class, and keeps the last one")
+    made.add_argument(
+        "--store",
+        metavar="FILE",
+        help="the file of the class: resumed if there is one, else made. If not said, the last one of "
+        "the folder that HELLO_CLASSES names, or of classes/ beside ./class",
     )
     made.add_argument(
         "--open-to-the-net",
@@ -84,7 +92,7 @@ def parser():
 
 
 def read(arguments):
-    """The arguments as an object with port, seats, open_to_the_net, replay, help."""
+    """The arguments as an object with port, seats, new, store, open_to_the_net, replay, help."""
     return parser().parse_args(arguments)
 
 

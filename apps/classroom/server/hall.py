@@ -1,25 +1,67 @@
 """The room and the pages that look at it: who may say what, and who is shown what."""
 
-from ..room import Room
+import asyncio
+import time
+
+from .guard import LOG
 from .pace import Pace
 from .push import AFTER_OTHERS, PART_FOR_VIEWS
+from .store import StoreError
 
 # Messages of a place: some at once, then so many a second; more of them wait.
 AT_ONCE, A_SECOND = 100, 50
 MOST_PAGES = 4
 PART_OF_FILE = 32 * 1024
+# What time changed is written after so many seconds at most; a message's change before its reply.
+BETWEEN_WRITES = 0.25
+# The store is tried again after so many seconds.
+TRY_AGAIN = 1
 
 
 class Hall:
-    """A room, the pages at their places, the pace of each place; the seats' addresses, which the
-    teacher's page is told."""
+    """A room with its record, the pages at their places, the pace of each place; the seats' addresses,
+    which the teacher's page is told. `trouble` says why the store cannot be written, or is None."""
 
-    def __init__(self, seats, addresses):
-        self._room = Room.fresh(seats)
+    def __init__(self, record, addresses):
+        self._record = record
         self._addresses = addresses
         self._pages = {}
         self._paces = {}
+        self._written = 0.0
+        self.trouble = None
         self.over = False
+
+    @property
+    def _room(self):
+        return self._record.room
+
+    async def stored(self):
+        """Waits until all that was changed is in the store."""
+        while not self.write():
+            await asyncio.sleep(TRY_AGAIN)
+
+    def write(self):
+        """Writes all that was changed; whether that could be done. While it cannot, the class waits:
+        time stands, no message is taken, no reply is sent, and no view is shown."""
+        try:
+            self._record.write()
+        except StoreError as why:
+            if self.trouble is None:
+                LOG.error("%s The class waits until it can be, and then goes on by itself.", why)
+                self.trouble = f"{why} The class waits until it can be, and then goes on by itself."
+                self.changed()
+            return False
+        self._written = time.monotonic()
+        if self.trouble is not None:
+            LOG.warning("the store can be written again")
+            self.trouble = None
+            self.changed()
+        return True
+
+    def end(self):
+        """Writes the last changes and the room as it is."""
+        self._record.write()
+        self._record.keep()
 
     def enter(self, page, socket):
         """A page has come."""
@@ -44,9 +86,7 @@ class Hall:
     def take(self, place, message):
         """The room's reply to a message of the place; Refused where it has none."""
         try:
-            if place == "/teacher":
-                return self._room.teacher(message)
-            return self._room.seat(_seat(place), message)
+            return self._record.take(place, message)
         finally:
             self.changed()
 
@@ -71,8 +111,16 @@ class Hall:
 
     def pass_time(self, ms):
         """So many real milliseconds have passed."""
-        if self._room.running and self._room.advance(ms * self._room.speed):
+        late = time.monotonic() - self._written
+        if self.trouble is not None:
+            if late > TRY_AGAIN:
+                self._written = time.monotonic()
+                self.write()
+            return
+        if self._room.running and self._record.pass_time(ms * self._room.speed):
             self.changed()
+        if late > BETWEEN_WRITES:
+            self.write()
 
     def bench_file(self):
         """The bench file that is loaded, or None."""

@@ -8,12 +8,17 @@ def _octets(text):
     return text.encode("utf-8", "surrogatepass")
 
 
+def new_keys(seats):
+    """Keys for so many seats and the teacher, by place."""
+    places = ["/teacher", *(f"/seat/{seat}" for seat in range(seats))]
+    return {place: secrets.token_urlsafe(24) for place in places}
+
+
 class Keys:
     """A random key for each place: "/teacher" and "/seat/0" and so on."""
 
-    def __init__(self, seats, port):
-        places = ["/teacher", *(f"/seat/{seat}" for seat in range(seats))]
-        self._keys = {place: secrets.token_urlsafe(24) for place in places}
+    def __init__(self, keys, port):
+        self._keys = keys
         # Cookies know no port: with one name, two servers on a machine would overwrite each other's.
         self._cookie = f"hello-{port}"
 

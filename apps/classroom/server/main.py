@@ -10,9 +10,12 @@ import sys
 from aiohttp import web
 from aiohttp.http_exceptions import HttpProcessingError
 
+from . import arguments, which
 from .app import application
 from .hall import Hall
-from .keys import Keys
+from .keys import Keys, new_keys
+from .record import Record
+from .store import StoreError
 
 LOOPBACK = "127.0.0.1"
 
@@ -85,18 +88,36 @@ def tell(addresses, others):
     print("Stop with Ctrl-C.", flush=True)
 
 
-async def serve(asked):
+def class_of(store, asked):
+    """What is noted of a class; a new one is begun. Another number of seats than it has is refused."""
+    seats = store.told("seats")
+    if seats is None:
+        seats = asked.seats or arguments.SEATS
+        store.tell(seats=seats, keys=new_keys(seats))
+    elif asked.seats not in (None, seats):
+        raise StoreError(
+            f"The class in {store.path} has {seats} seats, and not {asked.seats}: leave out --seats to "
+            "resume it, or begin another with --new."
+        )
+    return seats, store.told("keys")
+
+
+async def serve(asked, store):
     """Serves until the process is told to stop."""
+    seats, keys = class_of(store, asked)
+    resumed = store.begun()
+    record = Record(store, seats)
+    wanted = store.told("port", arguments.PORT) if asked.port is None else asked.port
     try:
-        sockets = listening(asked.port, asked.open_to_the_net)
+        sockets = listening(wanted, asked.open_to_the_net)
     except OSError as why:
-        print(f"Port {asked.port} cannot be had: {why.strerror}.", file=sys.stderr)
-        return 1
+        raise StoreError(f"Port {wanted} cannot be had: {why.strerror}.") from None
     port = sockets[0].getsockname()[1]
+    store.tell(port=port)
     told, also = ([with_port(name, port) for name in names] for names in names_of(asked.open_to_the_net))
-    keys = Keys(asked.seats, port)
+    keys = Keys(keys, port)
     addresses = keys.addresses(told[0])
-    hall = Hall(asked.seats, list(addresses.values())[1:])
+    hall = Hall(record, list(addresses.values())[1:])
     app = application(hall, keys, {host.lower() for host in told + also})
 
     stop = asyncio.Event()
@@ -106,13 +127,24 @@ async def serve(asked):
     await runner.setup()
     for each in sockets:
         await web.SockSite(runner, each, shutdown_timeout=2).start()
+    print(f"{'Resumed' if resumed else 'A new class,'} {store.path}")
     tell(addresses, told[1:])
     await stop.wait()
     await runner.cleanup()
+    hall.end()
     return 0
 
 
 def run(asked):
     """Serves; the number with which the process ends."""
     log_to_stderr()
-    return asyncio.run(serve(asked))
+    store = None
+    try:
+        store = which.opened(asked)
+        return asyncio.run(serve(asked, store))
+    except StoreError as why:
+        print(why, file=sys.stderr)
+        return 1
+    finally:
+        if store is not None:
+            store.close()

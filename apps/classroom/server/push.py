@@ -42,10 +42,14 @@ class Page:
             self._own.set()
 
     async def show(self):
-        """Pushes views for as long as the page takes them."""
+        """Pushes views for as long as the page takes them; while the store cannot be written, that."""
         shown_at = 0.0
         while True:
             await self._changed.wait()
+            if self._hall.trouble is not None:
+                self._changed.clear()
+                await self._socket.send_str(json.dumps({"notice": self._hall.trouble}))
+                continue
             if not self._own.is_set():
                 rest = shown_at + self._hall.between_views() - time.monotonic()
                 if rest > 0:

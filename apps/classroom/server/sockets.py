@@ -49,7 +49,11 @@ async def _talk(socket, hall, page):
             if message.type is WSMsgType.ERROR:
                 break
             await hall.pace(page.place).take(1 + len(message.data) // WEIGHED)
-            await socket.send_str(answer(hall, page.place, message))
+            if hall.trouble is not None:
+                await hall.stored()
+            reply = answer(hall, page.place, message)
+            await hall.stored()
+            await socket.send_str(reply)
             page.changed(own=True)
     finally:
         showing.cancel()

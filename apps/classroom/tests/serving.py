@@ -2,8 +2,10 @@
 
 import asyncio
 import json
+import os
 import signal
 import subprocess
+import tempfile
 import unittest
 from pathlib import Path
 from urllib.parse import urlsplit
@@ -14,12 +16,21 @@ ROOT = Path(__file__).resolve().parents[3]
 
 
 class Class:
-    """A class that is served until stop."""
+    """A class that is served until stop. Its store is in a folder of its own, unless one is named."""
 
-    def __init__(self, seats, *more):
-        command = [ROOT / "class", "--port", "0", "--seats", str(seats), *more]
+    def __init__(self, seats, *more, folder=None):
+        command = [ROOT / "class", *more]
+        if seats is not None:
+            command += ["--port", "0", "--seats", str(seats)]
+        self._own = None if folder else tempfile.TemporaryDirectory(prefix="class-")
+        self.folder = Path(folder or self._own.name)
         self.process = subprocess.Popen(
-            command, stdout=subprocess.PIPE, stderr=subprocess.PIPE, text=True, start_new_session=True
+            command,
+            stdout=subprocess.PIPE,
+            stderr=subprocess.PIPE,
+            text=True,
+            start_new_session=True,
+            env={**os.environ, "HELLO_CLASSES": str(self.folder)},
         )
         self.address = {}
         for line in self.process.stdout:
@@ -30,7 +41,9 @@ class Class:
             place, address = line.rsplit(maxsplit=1)
             self.address.setdefault("/" + place.strip().replace(" ", "/"), address)
         else:
-            raise AssertionError("./class did not start: " + self.process.stderr.read())
+            said = self.process.stderr.read()
+            self.process.wait()
+            raise AssertionError("./class did not start: " + said)
         parts = urlsplit(self.address["/teacher"])
         self.origin = f"http://{parts.netloc}"
         self.host, self.port = parts.hostname, parts.port
@@ -57,7 +70,14 @@ class Class:
         except subprocess.TimeoutExpired:
             self.process.kill()
             raise
+        if self._own:
+            self._own.cleanup()
         return self.process.returncode, logged
+
+    def kill(self):
+        """Ends it at once, as a loss of power does for the process."""
+        self.process.kill()
+        self.process.communicate()
 
 
 class Quiet(unittest.IsolatedAsyncioTestCase):

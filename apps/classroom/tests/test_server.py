@@ -1,8 +1,10 @@
 """Tests of the server's doors: keys, cookies, methods, host names, origins, files."""
 
 import asyncio
+import os
 import socket
 import subprocess
+import tempfile
 import unittest
 
 import aiohttp
@@ -292,8 +294,14 @@ class Stopping(Quiet):
             self.assertEqual(page.socket.close_code, aiohttp.WSCloseCode.GOING_AWAY)
 
     async def test_port_in_use(self):
+        folder = tempfile.TemporaryDirectory()
+        self.addCleanup(folder.cleanup)
         second = await asyncio.create_subprocess_exec(
-            "./class", "--port", str(served.port), stderr=asyncio.subprocess.PIPE
+            "./class",
+            "--port",
+            str(served.port),
+            stderr=asyncio.subprocess.PIPE,
+            env={**os.environ, "HELLO_CLASSES": folder.name},
         )
         _, said = await second.communicate()
         self.assertEqual(second.returncode, 1)

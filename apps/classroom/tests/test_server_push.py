@@ -12,6 +12,8 @@ from classroom.server.push import MOST_A_SECOND, Page
 class Hall:
     """A hall whose view is a number that grows."""
 
+    trouble = None
+
     def __init__(self):
         self.number = 0
 

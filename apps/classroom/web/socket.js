@@ -7,8 +7,11 @@ const LOST = "The connection is lost. Trying again by itself; nothing you see is
 const LONG = "Still no connection. If the class was started anew, open the address that it has printed now. "
   + "A seat can be open in four pages at most.";
 
+let noticed = false;
+
 function notice(words) {
   const node = byId("notice");
+  noticed = words !== "";
   say(node, words);
   node.hidden = words === "";
 }
@@ -23,7 +26,9 @@ export function connect(onView) {
   let first = true;
 
   function take(message) {
+    if (message.notice !== undefined) notice(message.notice);
     if (message.view) {
+      if (noticed) notice("");
       onView(message.view, first);
       first = false;
     }

@@ -45,6 +45,7 @@ class _Stopped(Exception):
 
 def taken(room):
     """The room as a file, as far as its calls are events."""
+    room.log.flush()
     lines = (json.loads(line) for line in room.lines())
     set_up = next(lines)["room"]
     calls, left_out, stopped = _calls(room, lines)
