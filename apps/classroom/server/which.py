@@ -6,14 +6,21 @@ from pathlib import Path
 
 from .store import Store, StoreError
 
-FOLDER = Path(__file__).resolve().parents[3] / "classes"
+ROOT = Path(__file__).resolve().parents[3]
 ENDING = ".class"
 
 
 def folder():
-    """The folder of the classes' files, which only their owner may read: they hold keys."""
+    """The folder of the classes' files, which only their owner may read: they hold keys. It is the one
+    that HELLO_CLASSES names, or classes/ beside ./class, or, if nothing can be written there, one in the
+    user's own folder."""
     named = os.environ.get("HELLO_CLASSES")
-    return Path(named).resolve() if named else FOLDER
+    if named:
+        return Path(named).resolve()
+    beside = ROOT / "classes"
+    if os.access(beside if beside.exists() else ROOT, os.W_OK):
+        return beside
+    return Path.home() / ".local" / "share" / "hello-class"
 
 
 def _used(path):
