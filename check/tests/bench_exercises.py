@@ -6,7 +6,7 @@ import random
 import tempfile
 import unittest
 
-import bench_file
+from hello import bench_file
 from bench_runs import EXERCISES, ROOT, broken, told
 from test_bench_file import any_file
 

@@ -4,7 +4,7 @@ import pathlib
 import subprocess
 import tempfile
 
-import bench_file
+from hello import bench_file
 from bench_runs import EXERCISES, ROOT, told
 
 PROGRAM = ROOT / "target" / "bin" / "hello_bench"

@@ -5,8 +5,8 @@ import subprocess
 import tempfile
 from typing import NamedTuple
 
-import bench_file
-from bench_file import Entry
+from hello import bench_file
+from hello.bench_file import Entry
 
 ROOT = pathlib.Path(__file__).resolve().parent.parent.parent
 PROGRAM = ROOT / "target" / "cargo" / "release" / "run_bench"

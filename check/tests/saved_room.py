@@ -11,7 +11,7 @@ import sys
 
 sys.path.insert(0, str(pathlib.Path(__file__).resolve().parent.parent.parent / "bindings" / "python"))
 
-import bench_file  # noqa: E402
+from hello import bench_file  # noqa: E402
 from bench_runs import told  # noqa: E402
 
 HOST = re.compile(r"Host (?:(\d+): \S+|\S+ \(id (\d+)\))")

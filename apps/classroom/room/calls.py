@@ -4,9 +4,8 @@ given.
 What is given stands so in the list of calls, a packet as hex; so a replay makes the same call.
 """
 
-import hello_text
-
 import hello
+
 
 def _counter(counter):
     count, overflow, again = counter
@@ -69,9 +68,9 @@ def _step(host, counter):
 def _write(host, text):
     """Not a call on the host: the reader of texts."""
     try:
-        return 0, {"octets": hello_text.from_text(text).hex(" ")}
-    except hello_text.Refused as refused:
-        return refused.answer, {}
+        return 0, {"octets": hello.text.from_text(text).hex(" ")}
+    except hello.Refused as refused:
+        return refused.number, {}
 
 
 _CALLS = {
@@ -102,7 +101,7 @@ def _net_add(table, net, id):
 
 
 _TUTORS = {
-    "net_afresh": lambda table, nhosts: (table.set_afresh(nhosts), {}),
+    "net_afresh": lambda table, nhosts: (table.initialize(nhosts), {}),
     "net_add": _net_add,
     "net_remove": lambda table, row: (table.remove(row), {}),
     "net_change": lambda table, row, id: (table.change(row, id), {}),

@@ -1,6 +1,6 @@
 """A packet as octets, as fields and as text."""
 
-import hello_text
+import hello
 
 from .packet import HEADER
 
@@ -91,4 +91,4 @@ def clock_words(ms):
 
 def text(packet):
     """The packet's HELLO as text."""
-    return hello_text.to_text(packet[HEADER:])
+    return hello.text.to_text(packet[HEADER:])

@@ -5,7 +5,7 @@ import tempfile
 import unittest
 from pathlib import Path
 
-import bench_file
+from hello import bench_file
 
 from classroom.tests.browsing import PICTURES, Browser
 from classroom.tests.serving import Class, replayed

@@ -6,7 +6,7 @@ import random
 import unittest
 from pathlib import Path
 
-import bench_file
+from hello import bench_file
 
 import hello
 from classroom.room import Refused, Room

@@ -1,12 +1,15 @@
 """The types of the C interface, and the ways from Python values to them."""
 
+from __future__ import annotations
+
 import ctypes
 import operator
-from ctypes import c_int16, c_int32, c_int64, c_size_t, c_uint8, c_uint16, c_uint64
+from ctypes import c_int8, c_int16, c_int32, c_int64, c_size_t, c_uint8, c_uint16, c_uint64
+from typing import Any, Iterable, SupportsIndex, overload
 
-from .values import LINKS, MARKS, ROWS
+from .values import LINKS, MARKS, ROWS, address
 
-_SIGNED = (c_int16, c_int32, c_int64)
+_SIGNED = (c_int8, c_int16, c_int32, c_int64)
 
 
 class CAddress(ctypes.Structure):
@@ -144,7 +147,7 @@ class CStepped(ctypes.Structure):
     _fields_ = [("answer", c_uint8), ("step", c_uint8), ("line", c_uint8), ("id", c_size_t)]
 
 
-def fitting(name, value, low, high):
+def fitting(name: str, value: SupportsIndex, low: int, high: int) -> int:
     """The number, if it is one from low to high."""
     number = operator.index(value)
     if not low <= number <= high:
@@ -152,7 +155,7 @@ def fitting(name, value, low, high):
     return number
 
 
-def number(kind, name, value):
+def number(kind: Any, name: str, value: SupportsIndex) -> int:
     """The number, if it fits the C type `kind`."""
     bits = 8 * ctypes.sizeof(kind)
     if kind in _SIGNED:
@@ -160,15 +163,15 @@ def number(kind, name, value):
     return fitting(name, value, 0, (1 << bits) - 1)
 
 
-def into(kind, name, value):
-    """The value as the C type `kind`: a number, a switch, or a structure from a tuple of its parts."""
+def into(kind: Any, name: str, value: Any) -> Any:
+    """The value as the C type `kind`: a number, a switch, an address, or a structure from a tuple of its parts."""
     if kind is Switch:
         if not isinstance(value, bool):
             raise TypeError(f"{name} must be True or False")
         return Switch(value)
     if not issubclass(kind, ctypes.Structure):
         return number(kind, name, value)
-    parts = tuple(value)
+    parts = tuple(address(value) if kind is CAddress else value)
     if len(parts) != len(kind._fields_):
         raise ValueError(f"{name} has {len(parts)} parts, and must have {len(kind._fields_)}")
     return kind(
@@ -176,7 +179,7 @@ def into(kind, name, value):
     )
 
 
-def into_slots(slots, name, values):
+def into_slots(slots: Any, name: str, values: Iterable[Any]) -> None:
     """Writes the values to the first slots of a C array, and zeros to the rest."""
     new = [into(slots._type_, f"{name}[{i}]", value) for i, value in enumerate(values)]
     if len(new) > len(slots):
@@ -185,22 +188,39 @@ def into_slots(slots, name, values):
         slots[i] = new[i] if i < len(new) else slots._type_()
 
 
-def part(*path):
-    """A property for the number at a path of a structure's fields, checked when it is written."""
-    *owners, name = path
+def octets_of(given: Any, name: str = "octets") -> bytes:
+    """A copy of a bytes-like object. TypeError for anything else, a number included."""
+    try:
+        view = memoryview(given)
+    except TypeError:
+        raise TypeError(f"{name} must be bytes or another buffer, not {type(given).__name__}") from None
+    return view.tobytes()
 
-    def owner(self):
-        structure = self._state
-        for field in owners:
-            structure = getattr(structure, field)
-        return structure
 
-    def read(self):
-        return getattr(owner(self), name)
+def array_of(octets: bytes) -> Any:
+    """Octets as a C array, which has an address even if it is empty."""
+    return (c_uint8 * max(1, len(octets))).from_buffer_copy(octets or b"\0")
 
-    def write(self, value):
-        structure = owner(self)
-        kind = dict(structure._fields_)[name]
-        setattr(structure, name, number(kind, name, value))
 
-    return property(read, write)
+class Part:
+    """A number at a path of a structure's fields, checked when it is written."""
+
+    def __init__(self, *path: str) -> None:
+        *self._owners, self._name = path
+
+    def _owner(self, state: Any) -> Any:
+        for field in self._owners:
+            state = getattr(state, field)
+        return state
+
+    @overload
+    def __get__(self, instance: None, owner: Any) -> Part: ...
+    @overload
+    def __get__(self, instance: Any, owner: Any) -> int: ...
+    def __get__(self, instance: Any, owner: Any) -> Any:
+        return self if instance is None else getattr(self._owner(instance._state), self._name)
+
+    def __set__(self, instance: Any, value: SupportsIndex) -> None:
+        structure = self._owner(instance._state)
+        kind = dict(structure._fields_)[self._name]
+        setattr(structure, self._name, number(kind, self._name, value))

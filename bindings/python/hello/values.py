@@ -1,13 +1,16 @@
-"""Plain values: what is set, what is lent and what is answered, as named tuples."""
+"""Plain values: what is set, what a call borrows and what it returns, as named tuples."""
 
-from typing import NamedTuple, Optional
+from __future__ import annotations
+
+import ipaddress
+from typing import Iterable, NamedTuple, Optional, Union
 
 from .answer import Answer
 
 PLACES = 255
-"""The places of the run that one host owns."""
+"""The entries of the host table that one host owns."""
 HOSTS = 16
-"""The hosts that one run can hold."""
+"""The hosts that one host table can hold."""
 LINKS = 8
 """The links that a host can have."""
 ROWS = 32
@@ -15,7 +18,7 @@ ROWS = 32
 MARKS = 256
 """The ids that can be marked, from 0."""
 NO_CLOCK_HOST = 255
-"""The clock host's id where clock setting is off."""
+"""The clock host's id if clock setting is off."""
 UNITS_PER_MS = 65_536
 """Clock units to a millisecond."""
 LONGEST_MESSAGE = 32 + 4 * PLACES
@@ -25,18 +28,42 @@ EVENTS = 2_048
 SLOTS = 32
 """The slots of a bench."""
 SLOT_LABEL = 4
-"""The octets in front of a slot's packet: its length, high octet first, the cable and the end."""
+"""The octets before a slot's packet: its length, high octet first, the cable and the end."""
 SLOT_LENGTH = SLOT_LABEL + LONGEST_MESSAGE
 """The octets of a slot."""
 
 
 class Address(NamedTuple):
-    """An internet address, first octet first."""
+    """An internet address, first octet first. Its str is "192.0.2.1"."""
 
     first: int = 0
     second: int = 0
     third: int = 0
     fourth: int = 0
+
+    def __str__(self) -> str:
+        return ".".join(map(str, self))
+
+    @property
+    def ip(self) -> ipaddress.IPv4Address:
+        """The same as an address of the module ipaddress."""
+        return ipaddress.IPv4Address(bytes(self))
+
+
+AddressLike = Union[str, ipaddress.IPv4Address, Iterable[int]]
+"""What is taken for an address: "192.0.2.1", an IPv4Address, or four octets."""
+
+
+def address(given: AddressLike) -> Address:
+    """The address; ValueError if a text is none or there are not four octets."""
+    if isinstance(given, str):
+        given = ipaddress.IPv4Address(given)
+    if isinstance(given, ipaddress.IPv4Address):
+        given = given.packed
+    octets = tuple(given)
+    if len(octets) != 4:
+        raise ValueError(f"an address has {len(octets)} octets, and must have 4")
+    return Address(*octets)
 
 
 class LinkSetting(NamedTuple):
@@ -47,7 +74,7 @@ class LinkSetting(NamedTuple):
 
 
 class Net(NamedTuple):
-    """The number of a net; class A has two zeros behind its first octet."""
+    """The number of a net; class A has two zeros after its first octet; classes B and C have all three octets."""
 
     first: int = 0
     second: int = 0
@@ -70,7 +97,7 @@ class Counter(NamedTuple):
     again     the count taken again after the overflow; without the mark not looked at
     """
 
-    count: int = 0
+    count: int = 0  # type: ignore[assignment]
     overflow: bool = False
     again: int = 0
 
@@ -149,7 +176,7 @@ class Place(NamedTuple):
     line: str = ""
     host: int = 0
 
-    def __str__(self):
+    def __str__(self) -> str:
         return f"host {self.host}, line {self.line}" if self.line else f"step {self.step}"
 
 
@@ -175,4 +202,4 @@ class Ran(NamedTuple):
     refused)."""
 
     answer: Answer
-    count: int
+    count: int  # type: ignore[assignment]

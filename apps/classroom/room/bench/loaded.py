@@ -3,8 +3,8 @@
 from pathlib import Path
 from typing import NamedTuple, Optional
 
-import bench_file
-from bench_file import layout
+from hello import bench_file
+from hello.bench_file import layout
 
 from ..checks import Refused
 

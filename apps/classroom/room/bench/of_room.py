@@ -6,8 +6,8 @@ A call that has no event ends the file before it, unless it has changed nothing:
 import json
 from typing import NamedTuple, Optional
 
-from bench_file import Cable, Event, File, Seat
-from bench_file.file import CLOCK_SETTING_OFF, MOST_EVENTS, TRAYS
+from hello.bench_file import Cable, Event, File, Seat
+from hello.bench_file.file import CLOCK_SETTING_OFF, MOST_EVENTS, TRAYS
 
 from ..answers import ANSWERS
 from ..setup import FIRST_DAY, HOLD_INTERVAL, address_of, links_of, tick_of

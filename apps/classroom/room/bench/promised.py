@@ -2,7 +2,7 @@
 
 import bisect
 
-from bench_file import Entry
+from hello.bench_file import Entry
 from hello import PLACES
 
 
@@ -45,7 +45,7 @@ class _Tables:
     """The entry of a bench by (seat, host)."""
 
     def __init__(self, bench):
-        self._run = bench.run_of_entries
+        self._run = bench.entries
 
     def __getitem__(self, place):
         seat, host = place

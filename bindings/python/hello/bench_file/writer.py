@@ -1,15 +1,18 @@
 """The text of a bench file: of a seat what is not the default, an event that is repeated as one line."""
 
-import itertools
+from __future__ import annotations
 
-from .file import KINDS, UNITS_PER_MS, dotted
+import itertools
+from typing import Callable
+
+from .file import KINDS, UNITS_PER_MS, Cable, Event, File, Seat, dotted
 from .reader import SEAT_DEFAULTS, SEAT_PARTS
 
 
 SEAT_WORDS = {part: word for word, part in SEAT_PARTS.items()}
 
 
-def to_text(file):
+def to_text(file: File) -> str:
     """The text; reading it gives the file again, and that file's text is this one."""
     nhosts = file.seats[0].nhosts if file.seats else 0
     sections = (
@@ -21,17 +24,18 @@ def to_text(file):
     return "\n".join("".join(f"{line}\n" for line in lines) for lines in sections if lines)
 
 
-def seat_line(number, seat, cables):
+def seat_line(number: int, seat: Seat, cables: tuple[Cable, ...]) -> str:
     """The line of a seat."""
     words = ["seat", dotted(seat.address)]
-    for name, word in (
+    written: tuple[tuple[str, Callable[..., str]], ...] = (
         ("offset", str),
         ("clock_host", str),
         ("hold", str),
         ("date", written_date),
         ("time", written_time),
         ("tick", written_tick),
-    ):
+    )
+    for name, word in written:
         value = getattr(seat, name)
         if value != SEAT_DEFAULTS[name]:
             words += [SEAT_WORDS.get(name, name), word(value)]
@@ -46,12 +50,12 @@ def seat_line(number, seat, cables):
     return " ".join(words)
 
 
-def written_date(date):
+def written_date(date: tuple[int, int, int]) -> str:
     """A date as it is written."""
     return "{:04}-{:02}-{:02}".format(*date)
 
 
-def written_time(time):
+def written_time(time: int) -> str:
     """A time of day as it is written."""
     seconds, ms = divmod(time, 1_000)
     minutes, seconds = divmod(seconds, 60)
@@ -59,19 +63,19 @@ def written_time(time):
     return f"{word}.{ms:03}" if ms else word
 
 
-def written_tick(units):
+def written_tick(units: int) -> str:
     """A CLOCK-TICK as it is written."""
     ms, rest = divmod(units, UNITS_PER_MS)
     return f"{units}/{UNITS_PER_MS}" if rest else str(ms)
 
 
-def written_ends(cable):
+def written_ends(cable: Cable) -> str:
     """The ends of a cable as they are written."""
     return " ".join(f"{seat}.{link}" for seat, link in cable.ends)
 
 
-def event_line(event, times):
-    """The line of an event that is carried out so many times."""
+def event_line(event: Event, times: int) -> str:
+    """The line of an event that is carried out `times` times."""
     words = [event.kind]
     for part in KINDS[event.kind].parts:
         if part not in ("seat", "amount"):

@@ -1,6 +1,8 @@
 """A bench file in parts, and which values of them a bench takes (answers 18 and 19)."""
 
-from typing import NamedTuple, Optional
+from __future__ import annotations
+
+from typing import NamedTuple, Optional, Sequence
 
 from .faults import Fault, in_range, there
 
@@ -35,22 +37,22 @@ class Seat(NamedTuple):
     also        the ids of further hosts that live here, beside the own one
     """
 
-    address: tuple
+    address: tuple[int, ...]
     nhosts: int
     offset: int
     clock_host: int
     hold: int
-    date: tuple
+    date: tuple[int, int, int]
     time: int
     tick: int
-    links: tuple
-    also: frozenset
+    links: tuple[Optional[tuple[int, ...]], ...]
+    also: frozenset[int]
 
-    def own_id(self):
-        """The id that LOCAL-ADDRESS gives, which may be none that there is."""
+    def own_id(self) -> int:
+        """The id that LOCAL-ADDRESS gives, which may be out of range."""
         return self.address[2 if self.address[0] < 128 else 3] - self.offset
 
-    def test(self):
+    def test(self) -> None:
         """Finds fault with settings that answer 1 refuses."""
         if not 1 <= self.address[0] <= 223:
             raise Fault(f"the address {dotted(self.address)} begins with no octet from 1 to 223")
@@ -73,24 +75,24 @@ class Seat(NamedTuple):
                 raise Fault(f"host {id} lives here, and is not there: {ids(self.nhosts)}")
 
 
-def ids(nhosts):
+def ids(nhosts: int) -> str:
     """Which ids there are."""
     return "the one id is 0" if nhosts == 1 else f"ids are 0 to {nhosts - 1}"
 
 
-def dotted(address):
+def dotted(address: Sequence[int]) -> str:
     """An address as it is written."""
     return ".".join(map(str, address))
 
 
-def last_day(year, month):
+def last_day(year: int, month: int) -> int:
     """The last day of a month."""
     if month == 2:
         return 29 if year % 4 == 0 else 28
     return 30 + (month + month // 8) % 2
 
 
-def test_date(date):
+def test_date(date: tuple[int, int, int]) -> None:
     """Finds fault with a date that is not real."""
     year, month, day = date
     real = FIRST_YEAR <= year <= LAST_YEAR and 1 <= month <= 12 and 1 <= day <= last_day(year, month)
@@ -104,9 +106,9 @@ def test_date(date):
 class Cable(NamedTuple):
     """A cable by its two ends, each the number of a seat and of its link."""
 
-    ends: tuple
+    ends: tuple[tuple[int, int], ...]
 
-    def test(self, links):
+    def test(self, links: Sequence[int]) -> None:
         """Finds fault with an end that is not there; `links` has each seat's number of them."""
         for seat, link in self.ends:
             there("seat", seat, len(links))
@@ -128,11 +130,11 @@ class Event(NamedTuple):
     end: Optional[int] = None
     tray: Optional[int] = None
     amount: Optional[int] = None
-    count: int = 0
+    count: int = 0  # type: ignore[assignment]
     again: Optional[int] = None
 
-    def test(self, seats, cables):
-        """Finds fault with what is not there, in a file with so many seats and cables."""
+    def test(self, seats: int, cables: int) -> None:
+        """Finds fault with what is not there, in a file with that many seats and cables."""
         if self.seat is not None:
             there("seat", self.seat, seats)
         if self.cable is not None:
@@ -153,8 +155,8 @@ class Kind(NamedTuple):
     again."""
 
     number: int
-    parts: tuple
-    counts: tuple
+    parts: tuple[str, ...]
+    counts: tuple[str, ...]
 
 
 READS = ("count", "again")
@@ -172,11 +174,11 @@ KINDS = {
 class File(NamedTuple):
     """An exercise: all seats have one NHOSTS, that of the class's table."""
 
-    seats: tuple
-    cables: tuple
-    events: tuple
+    seats: tuple[Seat, ...]
+    cables: tuple[Cable, ...]
+    events: tuple[Event, ...]
 
-    def test(self):
+    def test(self) -> None:
         """Finds fault with what answers 18 and 19 refuse."""
         for what, records, most in (
             ("seats", self.seats, MOST_SEATS),

@@ -1,10 +1,10 @@
-"""Tests of the module hello_ntp."""
+"""Tests of the module hello.ntp."""
 
 import struct
 import unittest
 
-import hello_ntp
-from hello_ntp import Association, Header, Outcome, Refused
+from hello import Refused, ntp
+from hello.ntp import Association, Header, Outcome
 
 SECOND = 1 << 32
 TIME = 0xE8F1A2B4 * SECOND
@@ -23,13 +23,13 @@ HEADER = Header(
     transmit=TIME + 3,
 )
 TABLE = [
-    [hello_ntp.NEWPS, hello_ntp.DSCRD, hello_ntp.FXMIT, hello_ntp.MANY, hello_ntp.NEWBC],
-    [hello_ntp.PROC, hello_ntp.PROC, hello_ntp.DSCRD, hello_ntp.DSCRD, hello_ntp.DSCRD],
-    [hello_ntp.PROC, hello_ntp.ERR, hello_ntp.DSCRD, hello_ntp.DSCRD, hello_ntp.DSCRD],
-    [hello_ntp.DSCRD, hello_ntp.DSCRD, hello_ntp.DSCRD, hello_ntp.PROC, hello_ntp.DSCRD],
-    [hello_ntp.DSCRD] * 5,
-    [hello_ntp.DSCRD] * 5,
-    [hello_ntp.DSCRD, hello_ntp.DSCRD, hello_ntp.DSCRD, hello_ntp.DSCRD, hello_ntp.PROC],
+    [ntp.NEWPS, ntp.DSCRD, ntp.FXMIT, ntp.MANY, ntp.NEWBC],
+    [ntp.PROC, ntp.PROC, ntp.DSCRD, ntp.DSCRD, ntp.DSCRD],
+    [ntp.PROC, ntp.ERR, ntp.DSCRD, ntp.DSCRD, ntp.DSCRD],
+    [ntp.DSCRD, ntp.DSCRD, ntp.DSCRD, ntp.PROC, ntp.DSCRD],
+    [ntp.DSCRD] * 5,
+    [ntp.DSCRD] * 5,
+    [ntp.DSCRD, ntp.DSCRD, ntp.DSCRD, ntp.DSCRD, ntp.PROC],
 ]
 
 
@@ -43,31 +43,34 @@ class Ntp(unittest.TestCase):
         octets = struct.pack(
             ">BBbbIIIQQQQ", 3 << 6 | 4 << 3 | 4, 1, 6, -20, 2621, 7936, 0x47505300, *HEADER[9:]
         )
-        self.assertEqual(hello_ntp.write(HEADER), octets)
-        self.assertEqual(hello_ntp.read(octets), HEADER)
+        self.assertEqual(ntp.write(HEADER), octets)
+        self.assertEqual(ntp.read(octets), HEADER)
 
     def test_refusals(self):
-        octets = hello_ntp.write(HEADER)
+        octets = ntp.write(HEADER)
         for wrong in (b"", octets[:47], octets + b"\0"):
-            self.refused(23, hello_ntp.read, wrong)
-        self.refused(24, hello_ntp.read, bytes([3 << 6 | 3 << 3]) + octets[1:])
+            self.refused(23, ntp.read, wrong)
+        self.refused(24, ntp.read, bytes([3 << 6 | 3 << 3]) + octets[1:])
         for mode in (0, 6, 7):
-            self.refused(25, hello_ntp.read, bytes([4 << 3 | mode]) + octets[1:])
-            self.refused(25, hello_ntp.write, HEADER._replace(mode=mode))
-        self.refused(24, hello_ntp.write, HEADER._replace(version=3, mode=0, leap=4))
-        self.refused(25, hello_ntp.write, HEADER._replace(leap=4))
-        self.refused(25, hello_ntp.receive, Association(7), octets, 0)
+            self.refused(25, ntp.read, bytes([4 << 3 | mode]) + octets[1:])
+            self.refused(25, ntp.write, HEADER._replace(mode=mode))
+        self.refused(24, ntp.write, HEADER._replace(version=3, mode=0, leap=4))
+        self.refused(25, ntp.write, HEADER._replace(leap=4))
+        self.refused(25, ntp.receive, Association(7), octets, 0)
         with self.assertRaises(OverflowError):
-            hello_ntp.write(HEADER._replace(poll=128))
+            ntp.write(HEADER._replace(poll=128))
+        for wrong in (48, "header", None):
+            with self.assertRaises(TypeError):
+                ntp.read(wrong)
 
     def test_dispatch(self):
         for number in range(7):
             for mode in range(1, 6):
                 association = Association(number, TIME, 0)
                 header = HEADER._replace(mode=mode, origin=TIME, receive=TIME, transmit=TIME)
-                outcome = hello_ntp.receive(association, hello_ntp.write(header), TIME + 2)
+                outcome = ntp.receive(association, ntp.write(header), TIME + 2)
                 self.assertEqual(outcome.action, TABLE[number][mode - 1])
-                if outcome.action == hello_ntp.PROC:
+                if outcome.action == ntp.PROC:
                     self.assertEqual((outcome.offset, outcome.delay), (-1, 2))
                     self.assertEqual(association.saved, TIME)
                 else:
@@ -79,10 +82,10 @@ class Ntp(unittest.TestCase):
         header = HEADER._replace(
             origin=TIME, receive=TIME + 7 * SECOND, transmit=TIME + 11 * SECOND
         )
-        outcome = hello_ntp.receive(association, hello_ntp.write(header), TIME + 7 * SECOND)
-        self.assertEqual(outcome, Outcome(hello_ntp.PROC, 11 * SECOND // 2, 3 * SECOND))
+        outcome = ntp.receive(association, ntp.write(header), TIME + 7 * SECOND)
+        self.assertEqual(outcome, Outcome(ntp.PROC, 11 * SECOND // 2, 3 * SECOND))
         self.assertEqual(association.saved, header.transmit)
-        self.refused(26, hello_ntp.receive, association, hello_ntp.write(header), TIME + 7 * SECOND)
+        self.refused(26, ntp.receive, association, ntp.write(header), TIME + 7 * SECOND)
 
     def test_timestamp_tests(self):
         good = dict(origin=TIME, receive=TIME, transmit=TIME + 1)
@@ -96,19 +99,19 @@ class Ntp(unittest.TestCase):
         ]
         for fields, destination in tests:
             association = Association(3, TIME, 7)
-            octets = hello_ntp.write(HEADER._replace(**fields))
-            self.refused(26, hello_ntp.receive, association, octets, destination)
+            octets = ntp.write(HEADER._replace(**fields))
+            self.refused(26, ntp.receive, association, octets, destination)
             self.assertEqual(association.saved, 7)
-        octets = hello_ntp.write(HEADER._replace(**good))
-        hello_ntp.receive(Association(3, TIME, 7), octets, (TIME + (1 << 63) - 1) % (1 << 64))
+        octets = ntp.write(HEADER._replace(**good))
+        ntp.receive(Association(3, TIME, 7), octets, (TIME + (1 << 63) - 1) % (1 << 64))
 
     def test_ends(self):
         # T2 - T1 and T3 - T4 are both -2^63: their sum is halved whole.
         half = 1 << 63
         association = Association(3, 1, 0)
         header = HEADER._replace(origin=1, receive=1 + half, transmit=2 + half)
-        outcome = hello_ntp.receive(association, hello_ntp.write(header), 2)
-        self.assertEqual(outcome, Outcome(hello_ntp.PROC, -half, 0))
+        outcome = ntp.receive(association, ntp.write(header), 2)
+        self.assertEqual(outcome, Outcome(ntp.PROC, -half, 0))
 
 
 if __name__ == "__main__":

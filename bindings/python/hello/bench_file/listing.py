@@ -1,5 +1,7 @@
 """The octets of a bench file with a name for each: place, octets in hex, what they are."""
 
+from __future__ import annotations
+
 import re
 
 from . import layout
@@ -11,7 +13,7 @@ from .writer import event_line, seat_line, written_date, written_ends, written_t
 LINE = re.compile(r"^ *([0-9]+)  (.*?)(?:  .*)?$")
 
 
-def listing(octets):
+def listing(octets: bytes) -> str:
     """A line for each number of a file; octets_of_listing reads them back."""
     file = from_octets(octets)
     starts = sections(octets)
@@ -32,13 +34,16 @@ def listing(octets):
     return "".join(f"{line}\n" for line in lines)
 
 
-def octets_of_listing(text):
+def octets_of_listing(text: str) -> bytes:
     """The octets of a listing, each in its place."""
     octets = bytearray()
     for line in text.split("\n"):
         if not line or line.startswith("#"):
             continue
-        place, part = LINE.fullmatch(line).groups()
+        found = LINE.fullmatch(line)
+        if not found:
+            raise Fault(f"this is no line of a listing: {line}")
+        place, part = found.groups()
         octet, _, times = part.partition(" x ")
         if int(place) != len(octets):
             raise Fault(f"octet {place} stands at {len(octets)}")

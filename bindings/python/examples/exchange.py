@@ -4,7 +4,7 @@ B's clock is 500 ms ahead of A's. A sends at 40,000 by its clock; B gets it at 4
 and answers at 45,530; A gets the answer at 45,081. So the way there and back took 81 ms, and A
 takes B to be 489 ms ahead.
 
-Run bindings/python/make_library once, then python3 bindings/python/example.py.
+Run bindings/python/make_library once, then PYTHONPATH=bindings/python python3 bindings/python/examples/exchange.py.
 """
 
 import hello

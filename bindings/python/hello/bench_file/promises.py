@@ -1,6 +1,8 @@
 """What an exercise promises at a place among its events; no octet of the file says it."""
 
-from typing import NamedTuple, Optional
+from __future__ import annotations
+
+from typing import Mapping, NamedTuple, Optional, Sequence
 
 DOWN = 30_000
 """The DELAY of an entry that is down."""
@@ -27,8 +29,8 @@ class Held(NamedTuple):
     ttl: Optional[int] = None
     pid: Optional[int] = None
 
-    def broken(self, tables, answers):
-        """What is otherwise, in words; None where the promise is kept.
+    def broken(self, tables: Mapping[tuple[int, int], Entry], answers: Sequence[int]) -> Optional[str]:
+        """What is otherwise, in words; None if the promise is kept.
 
         `tables` gives the Entry of (seat, host); `answers` are those of the events done."""
         entry = tables[self.seat, self.host]
@@ -49,8 +51,8 @@ class Answered(NamedTuple):
     after: int
     answer: int
 
-    def broken(self, tables, answers):
-        """What is otherwise, in words; None where the promise is kept."""
+    def broken(self, tables: Mapping[tuple[int, int], Entry], answers: Sequence[int]) -> Optional[str]:
+        """What is otherwise, in words; None if the promise is kept."""
         answer = answers[self.after - 1]
         if answer == self.answer:
             return None

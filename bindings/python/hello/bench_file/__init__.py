@@ -1,12 +1,11 @@
-"""Bench files: a whole exercise in one file, as octets and as text; docs/BENCH.md tells of both.
+"""Bench files: an exercise in one file, as octets and as text; docs/BENCH.md describes both.
 
     file, promises = bench_file.read_text(text)     # str to a File; raises Wrong
     octets = bench_file.to_octets(file)             # a File to bytes
     file = bench_file.from_octets(octets)           # bytes to a File; raises Fault
     text = bench_file.to_text(file)                 # a File to str
 
-No file that these make is one that answers 18 and 19 refuse, where the class's table has its NHOSTS.
-The package asks nothing of the library.
+Answers 18 and 19 refuse no file that these make, if the class's table has its NHOSTS. No library is needed.
 """
 
 from .faults import Fault, Wrong
@@ -16,3 +15,8 @@ from .octets import from_octets, to_octets
 from .promises import Answered, Entry, Held
 from .reader import read_text
 from .writer import to_text
+
+__all__ = [
+    "Answered", "Cable", "Entry", "Event", "Fault", "File", "Held", "Seat", "Wrong", "from_octets", "listing",
+    "octets_of_listing", "read_text", "to_octets", "to_text",
+]

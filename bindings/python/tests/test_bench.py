@@ -5,11 +5,11 @@ import pathlib
 import random
 import unittest
 
-import bench_file
+from hello import bench_file
 import hello
 from hello import Answer, library
 
-ROOT = pathlib.Path(__file__).resolve().parents[2]
+ROOT = pathlib.Path(__file__).resolve().parents[3]
 SMALL = ROOT / "docs" / "bench" / "small.txt"
 EXERCISES = sorted((ROOT / "apps" / "exercises").glob("*.txt"))
 GHOST = 15
@@ -37,7 +37,7 @@ def held(bench):
     clocks = [(h.clock.clock, h.clock.delta, h.clock.hold, h.clock.date) for h in hosts]
     links = [tuple(h.links) for h in hosts]
     walks = [(h.walk.opened, h.walk.length, h.walk.copy) for h in hosts]
-    entries = tuple(bench.run_of_entries[place] for place in range(len(bench.run_of_entries)))
+    entries = tuple(bench.entries[place] for place in range(len(bench.entries)))
     return clocks, links, walks, entries, bench.slots, bench.answers, bench.done
 
 
@@ -132,7 +132,7 @@ class Lent:
         }
         self.hosts = hello.BenchHosts(length["hosts"])
         self.copies = bytearray(length["copies"])
-        self.run = hello.Run(length["run"])
+        self.run = hello.HostTable(length["run"])
         self.slots = bytearray(length["slots"])
         self.answers = bytearray(length["answers"])
         self.progress = hello.Progress()

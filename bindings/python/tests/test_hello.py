@@ -71,7 +71,7 @@ class Fields(unittest.TestCase):
         for link in (hello.Link(keep_alive=256), hello.Link(tsp=1 << 15)):
             with self.assertRaises(OverflowError, msg=link):
                 hello.Links([link])
-        run = hello.Run(1)
+        run = hello.HostTable(1)
         for entry in (
             hello.Entry(delay=1 << 63),
             hello.Entry(offset=-(1 << 15) - 1),
@@ -85,7 +85,7 @@ class Fields(unittest.TestCase):
         self.assertEqual(run[0], hello.Entry())
 
     def test_places(self):
-        run = hello.Run(2)
+        run = hello.HostTable(2)
         run[-1] = hello.Entry(delay=7)
         self.assertEqual(run[1].delay, 7)
         for index in (2, -3):
@@ -133,13 +133,13 @@ class Types(unittest.TestCase):
 
     def test_lent(self):
         for place in ("settings", "clock", "links"):
-            for value in (None, hello.Run(1)):
+            for value in (None, hello.HostTable(1)):
                 host = fresh()
                 setattr(host, place, value)
                 with self.assertRaises(TypeError, msg=place):
                     host.tick()
         host = fresh()
-        host.room.run = host.clock
+        host.room.entries = host.clock
         with self.assertRaises(TypeError):
             host.tick()
 
@@ -177,7 +177,7 @@ class Answers(unittest.TestCase):
         host.number = 16
         self.assertIs(host.tick(), Answer.OUT_OF_RANGE)
         host = fresh()
-        host.room.run[0] = hello.Entry(delay=-1)
+        host.room.entries[0] = hello.Entry(delay=-1)
         self.assertIs(host.tick(), Answer.OUT_OF_RANGE)
         self.assertEqual(host.read(), hello.Time(Answer.OUT_OF_RANGE, 0, 0))
         self.assertEqual(host.send(1), hello.Sent(Answer.OUT_OF_RANGE, b""))
@@ -192,7 +192,7 @@ class Answers(unittest.TestCase):
         self.assertEqual(host.links[0], hello.Link(hello.Address(192, 0, 2, 2)))
         fresh_entry = hello.Entry(delay=30_000)
         self.assertEqual(host.table, [fresh_entry._replace(here=1), *3 * [fresh_entry]])
-        self.assertEqual(host.room.run[4], hello.Entry())
+        self.assertEqual(host.room.entries[4], hello.Entry())
 
     def test_octets_behind_a_message_stay(self):
         host = fresh()
@@ -224,10 +224,10 @@ class Answers(unittest.TestCase):
     def test_plain_calls(self):
         host = fresh()
         table = hello.ClassTable(4)
-        lent = (host.settings, table, 0, host.clock, host.links, host.walk, host.room.run)
+        lent = (host.settings, table, 0, host.clock, host.links, host.walk, host.room.entries)
         self.assertEqual(library.tick(*lent), 0)
         self.assertEqual(library.read(*lent), (0, 1, host.clock.date))
-        self.assertEqual(library.tick(*lent[:6], hello.Run(0)), 12)
+        self.assertEqual(library.tick(*lent[:6], hello.HostTable(0)), 12)
         self.assertEqual(library.net_add(table, (10, 0, 0), 1), (0, 1))
         self.assertEqual(library.net_change(table, 1, 4), 1)
         self.assertEqual(library.net_remove(table, 2), 22)
@@ -253,7 +253,7 @@ class NetTables(unittest.TestCase):
         self.assertIs(table.remove(1), Answer.DONE)
         self.assertEqual(table.rows, (hello.Row(self.B, 2), rows[2]))
         self.assertEqual(table.slots[2:], 30 * (hello.Row(),))
-        self.assertIs(table.set_afresh(9), Answer.DONE)
+        self.assertIs(table.initialize(9), Answer.DONE)
         self.assertEqual((table.nhosts, table.rows), (9, ()))
 
     def test_refused(self):
@@ -268,7 +268,7 @@ class NetTables(unittest.TestCase):
         self.assertEqual(table.add(self.B, 9), hello.Added(Answer.TABLE_FULL, 0))
         self.assertIs(table.change(32, 4), Answer.SETTING)
         for nhosts in (0, 256):
-            self.assertIs(table.set_afresh(nhosts), Answer.SETTING)
+            self.assertIs(table.initialize(nhosts), Answer.SETTING)
         self.assertEqual((table.nhosts, table.rows), (4, 32 * (hello.Row(self.B, 1),)))
 
     def test_bad_tables(self):
@@ -308,7 +308,7 @@ class NetTables(unittest.TestCase):
 
     def test_another_nhosts(self):
         host = fresh()
-        self.assertIs(host.room.net_table.set_afresh(5), Answer.DONE)
+        self.assertIs(host.room.net_table.initialize(5), Answer.DONE)
         self.assertIs(host.tick(), Answer.SETTING)
         self.assertIs(host.initialize(), Answer.SETTING)
         host.settings.nhosts = 5
@@ -320,7 +320,7 @@ class NetTables(unittest.TestCase):
         with self.assertRaises(TypeError):
             library.net_remove(host.settings, 1)
         with self.assertRaises(TypeError):
-            library.tick(host.settings, host.settings, 0, host.clock, host.links, host.walk, host.room.run)
+            library.tick(host.settings, host.settings, 0, host.clock, host.links, host.walk, host.room.entries)
         for wrong in (-1, 1 << 64):
             with self.assertRaises(OverflowError):
                 host.room.net_table.remove(wrong)
@@ -463,23 +463,23 @@ class Marks(unittest.TestCase):
     def test_refused_with_12(self):
         host = fresh(marks={0, 2})
         for id, here in ((0, 0), (1, 1), (2, 0), (2, 2), (3, 255)):
-            kept = host.room.run[id]
-            host.room.run[id] = kept._replace(here=here)
+            kept = host.room.entries[id]
+            host.room.entries[id] = kept._replace(here=here)
             self.assertIs(host.second(), Answer.OUT_OF_RANGE)
             self.assertIs(host.self_report(), Answer.OUT_OF_RANGE)
-            host.room.run[id] = kept
+            host.room.entries[id] = kept
             self.assertIs(host.second(), Answer.DONE)
-        host.room.run[4] = hello.Entry(here=1)
+        host.room.entries[4] = hello.Entry(here=1)
         self.assertIs(host.second(), Answer.DONE)
         host.settings.marks = {0, 1, 2}
         self.assertIs(host.second(), Answer.OUT_OF_RANGE)
         self.assertIs(host.initialize(), Answer.DONE)
         self.assertEqual(self.marks(host), [1, 1, 1, 0])
-        self.assertEqual(host.room.run[4], hello.Entry(here=1))
+        self.assertEqual(host.room.entries[4], hello.Entry(here=1))
 
     def test_reported(self):
         host = fresh(marks={0, 2, 3}, time=5)
-        host.room.run[3] = self.FRESH._replace(ttl=9, here=1)
+        host.room.entries[3] = self.FRESH._replace(ttl=9, here=1)
         self.assertIs(host.self_report(hello.Counter(2)), Answer.DONE)
         reported = hello.Entry(ttl=120, here=1, time=7)
         held = self.FRESH._replace(ttl=9, here=1)

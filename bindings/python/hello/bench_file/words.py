@@ -1,6 +1,7 @@
 """The words of a line, one after the other, as values."""
 
 import difflib
+import ipaddress
 import re
 
 from .faults import Fault
@@ -79,9 +80,10 @@ def number(word):
 
 def address(word):
     """Four octets with dots."""
-    parts = [number(part) for part in word.split(".")]
-    good = len(parts) == 4 and all(part is not None and 0 <= part <= 255 for part in parts)
-    return tuple(parts) if good else None
+    try:
+        return tuple(ipaddress.IPv4Address(word).packed)
+    except ValueError:
+        return None
 
 
 def time(word):

@@ -1,6 +1,8 @@
 """A bench file from its text."""
 
-from typing import NamedTuple
+from __future__ import annotations
+
+from typing import Any, NamedTuple, Union
 
 from . import words
 from .faults import Fault, Wrong, in_range, there
@@ -12,7 +14,7 @@ from .words import Words
 OVERFLOW = 65_536
 """The milliseconds in which a crystal's counter overflows."""
 MOST_TIMES = 2_048
-SEAT_DEFAULTS = {
+SEAT_DEFAULTS: dict[str, Any] = {
     "offset": 1,
     "clock_host": CLOCK_SETTING_OFF,
     "hold": 10,
@@ -318,16 +320,17 @@ class Reader:
         ends = [end for cable in self.cables for end in cable.ends]
         named = [link for seat, link in ends if seat == number]
         links = given.pop("links", max([1, *named, *broadcast]))
+        parts: dict[str, Any] = {**SEAT_DEFAULTS, **given, "also": frozenset(given.get("also", ()))}
         seat = Seat(
             address=draft.address,
             nhosts=self._given_nhosts(),
-            **{**SEAT_DEFAULTS, **given, "also": frozenset(given.get("also", ()))},
+            **parts,
             links=tuple(broadcast.get(link) for link in range(1, links + 1)),
         )
         return seat._replace(also=seat.also - {seat.own_id()})
 
 
-def read_text(text):
+def read_text(text: str) -> tuple[File, list[Union[Answered, Held]]]:
     """The file of a text, and what it promises; raises Wrong with each line that is wrong."""
     reader = Reader()
     reader.read(text)

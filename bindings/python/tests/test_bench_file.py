@@ -7,11 +7,11 @@ import sys
 import tempfile
 import unittest
 
-import bench_file
-from bench_file import Cable, Event, Fault, File, Seat, Wrong
-from bench_file.file import KINDS, LONGEST_TICK, MOST_EVENTS, last_day
+from hello import bench_file
+from hello.bench_file import Cable, Event, Fault, File, Seat, Wrong
+from hello.bench_file.file import KINDS, LONGEST_TICK, MOST_EVENTS, last_day
 
-TOOL = pathlib.Path(__file__).resolve().parents[2] / "tools" / "bench"
+TOOL = pathlib.Path(__file__).resolve().parents[3] / "tools" / "bench"
 PAIR = "seat 192.0.2.1\nseat 192.0.2.2\ncable 0.1 1.1\n"
 
 

@@ -4,6 +4,8 @@ A field is the place of its first octet in the record, and how many octets it ha
 high octet first.
 """
 
+from __future__ import annotations
+
 from typing import NamedTuple
 
 
@@ -13,19 +15,19 @@ class Field(NamedTuple):
     at: int
     octets: int
 
-    def of(self, record):
+    def of(self, record: bytes) -> int:
         """The number in a record."""
         return int.from_bytes(self.part(record), "big")
 
-    def part(self, record):
+    def part(self, record: bytes) -> bytes:
         """The octets in a record."""
         return record[self.at : self.at + self.octets]
 
-    def put(self, record, number):
+    def put(self, record: bytearray, number: int) -> None:
         """Puts a number there."""
         record[self.at : self.at + self.octets] = number.to_bytes(self.octets, "big")
 
-    def behind(self, place):
+    def behind(self, place: int) -> Field:
         """The same number in a record that starts there."""
         return Field(place + self.at, self.octets)
 
@@ -78,8 +80,8 @@ class Sections(NamedTuple):
     end: int
 
 
-def sections(seats, cables, events):
-    """The sections of a file with so many records of each sort."""
+def sections(seats: int, cables: int, events: int) -> Sections:
+    """The sections of a file with that many records of each sort."""
     cables_start = HEADER_LENGTH + SEAT_LENGTH * seats
     events_start = cables_start + CABLE_LENGTH * cables
     return Sections(cables_start, events_start, events_start + EVENT_LENGTH * events)

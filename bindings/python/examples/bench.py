@@ -3,10 +3,10 @@
 Messages 1 and 2 make the hosts known to each other; message 3 is the first that is believed. Each
 takes 30 ms, and seat 1's clock is 500 ms ahead, so that it has seat 0 with OFFSET -500.
 
-Run bindings/python/make_library once, then python3 bindings/python/example_bench.py.
+Run bindings/python/make_library once, then PYTHONPATH=bindings/python python3 bindings/python/examples/bench.py.
 """
 
-import bench_file
+from hello import bench_file
 import hello
 from hello import Answer
 

@@ -1,5 +1,9 @@
 """A bench file as octets, and back."""
 
+from __future__ import annotations
+
+from typing import Any
+
 from . import layout
 from .faults import Fault, in_range
 from .file import FIRST_YEAR, KINDS, MARKS, MOST_CABLES, MOST_EVENTS, MOST_LINKS, MOST_SEATS
@@ -15,8 +19,8 @@ PART_FIELDS = {
 }
 
 
-def to_octets(file):
-    """The octets of a file; raises Fault where answers 18 and 19 would refuse them."""
+def to_octets(file: File) -> bytes:
+    """The octets of a file; raises Fault if answers 18 and 19 would refuse them."""
     file.test()
     counts = (len(file.seats), len(file.cables), len(file.events))
     sections = layout.sections(*counts)
@@ -93,8 +97,8 @@ def _event_record(event):
     return bytes(record)
 
 
-def from_octets(octets):
-    """The file of these octets; raises Fault where answers 18 and 19 would refuse them.
+def from_octets(octets: bytes) -> File:
+    """The file of these octets; raises Fault if answers 18 and 19 would refuse them.
 
     What no rule looks at is left out: numbers that an event's kind has no use for, links above a
     seat's count, the address of a point-to-point link, bit 15 of a date.
@@ -112,7 +116,7 @@ def from_octets(octets):
     return file
 
 
-def sections(octets):
+def sections(octets: bytes) -> layout.Sections:
     """Where the sections start, by a header that answer 18 takes."""
     if len(octets) < layout.HEADER_LENGTH:
         raise Fault(f"there are {len(octets)} octets: the header alone has {layout.HEADER_LENGTH}")
@@ -208,7 +212,7 @@ def _event(record, seats, cables):
     if name is None:
         raise Fault(f"there is no kind {number}: kinds are 1 to {len(KINDS)}")
     kind = KINDS[name]
-    parts = {part: field.of(record) for part, field in PART_FIELDS.items() if part in kind.parts}
+    parts: dict[str, Any] = {part: field.of(record) for part, field in PART_FIELDS.items() if part in kind.parts}
     if "amount" in kind.parts:
         parts["amount"] = int.from_bytes(layout.AMOUNT.part(record), "big", signed=True)
     if "count" in kind.counts:
