@@ -5,23 +5,18 @@ use lib.Dec.{eqb}
 use lib.IntN.{pos}
 use Rattle.quantity.specs.declared.Millis.{Millis}
 use Rattle.quantity.specs.declared.Seconds.{Seconds}
-use Rattle.quantity.specs.declared.Count.{Count}
 use Rattle.quantity.specs.declared.Word.{Word}
 use Rattle.quantity.specs.Quantity.{millis, addMillis, subMillis, halfMillis, lessMillis}
 use Rattle.quantity.specs.Words.{word, toWord, ofWord, zeroWord}
-use Rattle.clock.specs.declared.Clock.{Clock}
 use Rattle.wire.specs.declared.Packet.{Packet}
 use Rattle.wire.specs.declared.Report.{Report}
 use Rattle.wire.specs.Octets.{sameAddress}
-use Rattle.table.specs.declared.Entry.{Entry}
 use Rattle.table.specs.declared.Update.{Update}
-use Rattle.table.specs.declared.Updated.{Updated}
 use Rattle.table.specs.Forms.{Stage, on, end}
 use Rattle.table.specs.Entry.{maxDelay, minDelay}
-use Rattle.table.specs.Update.{plusReport, update}
+use Rattle.table.specs.Update.{plusReport}
 use Rattle.host.specs.declared.Link.{Link}
 use Rattle.arrival.specs.declared.Flight.{Flight}
-use Rattle.host.specs.declared.Settings.{Settings}
 use Rattle.host.specs.State.{keepAliveInterval}
 
 -- ARRIVE-2: KEEP-ALIVE becomes 4
@@ -95,7 +90,3 @@ neighborUpdate i f =
 -- UPDATE-1, UPDATE-2: the update with a report
 abbrev pub reportUpdate : (link : ℕ) → Flight → Report → Update
 reportUpdate i f r = plusReport (neighborUpdate i f) r
-
--- UPDATE-d: the update of the entry of one id; line (d) for the clock host
-abbrev pub updateId : Settings → Count → Packet → Update → (id : ℕ) → Clock → Entry → Updated
-updateId s n p u id c e = update (eqb id (s .«clock_host»)) (s .«hold_interval») n (p .date) u c e

@@ -1,5 +1,5 @@
 -- BENCH-8, ANSWER-19: a record that names a host, link, cable, end, slot or kind that is not there, or a mark other than 0 and 1.
-use mathlib.Core.Bool.{Bool, false, not, _&&_}
+use mathlib.Core.Bool.{Bool, false, _&&_}
 use mathlib.Core.List.{List}
 use Prim.Native.Nat.{ℕ}
 use lib.Dec.{ltb, leb}
@@ -9,7 +9,6 @@ use Rattle.bench_file.specs.declared.Header.{Header}
 use Rattle.bench_file.specs.declared.End.{End}
 use Rattle.bench_file.specs.declared.Event.{Event}
 use Rattle.bench_file.specs.declared.Event.the-variants.{Tick, Adjust, Set, Second, SelfReport, Send, Arrival, Unknown}
-use Rattle.bench_file.specs.Header.{headerOf}
 use Rattle.bench_file.specs.Records.{linkCountAt, endAt, eventAt}
 
 -- BENCH-4: how many slots there are
@@ -52,7 +51,3 @@ cablesGood file h = every (cableGood file h) (upFrom 0 (h .cables))
 -- BENCH-8: are all events good?
 unfoldable pub eventsGood : List ℕ → Header → Bool
 eventsGood file h = every (λ (k : ℕ). eventGood h (eventAt file h k)) (upFrom 0 (h .events))
-
--- BENCH-8, ANSWER-19: does a cable or event name something absent?
-abbrev pub namesAbsent : List ℕ → Bool
-namesAbsent file = not (cablesGood file (headerOf file) && eventsGood file (headerOf file))

@@ -261,8 +261,8 @@ module _ (file : List ℕ) (t : ClassTable) (first : Bench) (f : ℕ → ℤ) (c
 
     pub moves : Wired file t cable → (ms : ℤ) (e : Event) → eventGood h e ≡ true → OnTime file u r ms since e b → Moved ms e
     moves wired ms (Tick k n) g on-time = quiet-call k (ltb-true k (h .hosts) g) (rooms.ticks n) (plain _ refl) (λ v. refl) tt
-    moves wired ms (Adjust k n) g on-time = absurd on-time
-    moves wired ms (Set k by n) g on-time = absurd on-time
+    moves wired ms (Adjust k n) g on-time = quiet-call k (ltb-true k (h .hosts) g) (rooms.adjusts n) (plain _ refl) (λ v. refl) tt
+    moves wired ms (Set k by n) g on-time = quiet-call k (ltb-true k (h .hosts) g) (rooms.sets by n) (plain _ refl) (λ v. refl) tt
     moves wired ms (Second k) g on-time = quiet-call k (ltb-true k (h .hosts) g) rooms.seconds (plain _ refl) (λ v. refl) tt
     moves wired ms (SelfReport k n) g on-time =
         quiet-call k (ltb-true k (h .hosts) (both (ltb k (h .hosts)) (markGood n) g .0)) (rooms.reports n) (plain _ refl) (λ v. refl) tt

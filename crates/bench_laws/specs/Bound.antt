@@ -95,11 +95,11 @@ module _ (file : List ℕ) (t : ClassTable) where
       pub short : way ≤ r .longest
       pub later : ms ≡ sent +ℤ pos way
 
-    -- ROOM-4, ROOM-6: an event of demand 3's kinds, on time; other readings are free
+    -- ROOM-4, ROOM-6: a send answered 0, and an arrival answered 0, 10 or 11, is on time. Other events are free, adjusts and sets too. `since` has each slot's time of sending.
     abbrev pub OnTime : (ms : ℤ) → (since : ℕ → ℤ) → Event → Bench → Type 0
     OnTime ms since (Tick k n) b = Unit {0}
-    OnTime ms since (Adjust k n) b = ⊥
-    OnTime ms since (Set k by n) b = ⊥
+    OnTime ms since (Adjust k n) b = Unit {0}
+    OnTime ms since (Set k by n) b = Unit {0}
     OnTime ms since (Second k) b = Unit {0}
     OnTime ms since (SelfReport k n) b = Unit {0}
     OnTime ms since (Send c i n k) b =

@@ -73,7 +73,7 @@ unfoldable pub classAfterAll : Class → List ClassEvent → Class
 classAfterAll w [] = w
 classAfterAll w (e ∷ es) = classAfterAll (classAfter w e) es
 
--- ISOLATION-3: a host's call gets the state after that host's last one
+-- ISOLATION-3: a call of host k gets the state after host k's last call; other hosts' calls are free
 abbrev pub LentIn : (number : ℕ) → Class → ClassEvent → Type 0
 LentIn k w (seat e) = e .number ≡ k → LendsWhole (w .left k) (given (w .table) e .lent)
 LentIn k w (tutor c) = Unit {0}

@@ -1,6 +1,6 @@
--- ROOM-4 to ROOM-10: demand 3, one theorem about every list of calls in a network.
+-- ROOM-4 to ROOM-10: demand 3, one claim about every list of the calls that it names; and the same claim for every call except initialize.
 use mathlib.Core.Path.{_≡_}
-use mathlib.Core.Bool.{Bool, true, cond, _||_}
+use mathlib.Core.Bool.{Bool, true, false, cond, _||_}
 use mathlib.Core.List.{List, [], _∷_, List·Memᴰ}
 use Prim.Native.Nat.{ℕ, _*_, _≤_, _<_}
 use lib.Dec.{T, eqb}
@@ -20,6 +20,7 @@ use Rattle.clock.specs.Clock.{reading}
 use Rattle.class_table.specs.declared.ClassTable.{ClassTable}
 use Rattle.table.specs.declared.Entry.{Entry}
 use Rattle.table.specs.Entry.{freshEntry, up}
+use Rattle.table.specs.Forms.{every}
 use Rattle.host.specs.declared.Links.{Links}
 use Rattle.host.specs.declared.walk.Walk.{Walk}
 use Rattle.host.specs.declared.walk.Place.the-variants.{Step1}
@@ -34,7 +35,7 @@ use Rattle.network.specs.Room.{longestWay, errorParts, delayParts, Room,
 
 -- ---- the calls of the list
 
--- ROOM-4: the calls of the list. Send and arrival have the network's millisecond; a walk counts as an arrival at its first box.
+-- ROOM-4: every call on a host except initialize. Send and arrival have the network's millisecond. An action is an arrival, and so is a walk, at its first box.
 pub data RoomCall : Type 0 where
   ticks : Count → RoomCall
   seconds : RoomCall
@@ -66,6 +67,22 @@ callOf (sets ms n) = ask (Set ms n)
 callOf (clocks k) = ask (Read k)
 callOf (looks a) = ask (Lookup a)
 
+-- ROOM-4: the calls that demand 3 names, with the forms of an arrival: action, walk and inspection. Adjust, set, read and lookup are not named.
+abbrev pub named : RoomCall → Bool
+named (ticks n) = true
+named seconds = true
+named (reports k) = true
+named (sends i k buffer t) = true
+named (arrives i k packet t) = true
+named (acts i k packet t) = true
+named (inspects i packet) = true
+named (opens i packet) = true
+named (steps k t) = true
+named (adjusts n) = false
+named (sets ms n) = false
+named (clocks k) = false
+named (looks a) = false
+
 -- ROOM-4, NET-10: a call at a host with the state that it gets. The net table may be any.
 pub record Step : Type 0 where
   pub seat : ℕ
@@ -74,6 +91,10 @@ pub record Step : Type 0 where
   pub copy : List ℕ
   pub run : List Entry
   pub call : RoomCall
+
+-- ROOM-4: every call of the list is one that demand 3 names
+abbrev pub AllNamed : List Step → Type 0
+AllNamed xs = every (λ (x : Step). named (x .call)) xs ≡ true
 
 -- ---- the room after a list of calls
 
@@ -214,10 +235,20 @@ Claim r w =
     (b i : ℕ) → b < r .seats → i < r .settings b .layout .nhosts → up (entryOf r w b i) ≡ true
     → Right r b i (entryOf r w b i)
 
--- ROOM-10: for every network, start and allowed list, if messages take at most n ms
+-- ROOM-10: for every network, start and allowed list of all these calls, if messages take at most n ms
+unfoldable pub AllCallsWithin : (longest : ℕ) → Type 0
+AllCallsWithin n =
+    (r : Room) → Proper r → r .longest ≤ n → (w : World) → Starts r w → (xs : List Step) → Allows r w xs
+    → Claim r (history r w xs)
+
+-- ROOM-10, ROOM-9: for at most 16,383 ms
+abbrev pub Demand3AllCalls : Type 0
+Demand3AllCalls = AllCallsWithin longestWay
+
+-- ROOM-10: the same for the calls that demand 3 names
 unfoldable pub Demand3Within : (longest : ℕ) → Type 0
 Demand3Within n =
-    (r : Room) → Proper r → r .longest ≤ n → (w : World) → Starts r w → (xs : List Step) → Allows r w xs
+    (r : Room) → Proper r → r .longest ≤ n → (w : World) → Starts r w → (xs : List Step) → AllNamed xs → Allows r w xs
     → Claim r (history r w xs)
 
 -- ROOM-10, ROOM-9: for at most 16,383 ms

@@ -1,12 +1,13 @@
 -- ROOM-10: a history of two hosts that meets every condition and ends with entries of DELAY 101 and an error of -51 ms. Host 1 is 500 ms ahead and carries ids 1 and 2.
+-- It has an action, an arrival, an inspection and a walk. During the walk the tutor adds a row, and a tick is refused. A set, an adjust, a read and a lookup follow, for the theorem over all calls.
 use mathlib.Core.Path.{_≡_}
 use mathlib.Core.Bool.{cond}
-use mathlib.Core.List.{List, [], _∷_}
+use mathlib.Core.List.{List, [], _∷_, _++_}
 use Prim.Native.Nat.{ℕ, _*_, _≤_, _<_}
 use lib.Dec.{eqb}
 use lib.IntN.{pos, negsuc, _-ℤ_}
 use lib.ListN.{replicate}
-use Rattle.answer.specs.declared.Answer.the-variants.{InWalk}
+use Rattle.answer.specs.declared.Answer.the-variants.{Done, InWalk}
 use Rattle.quantity.specs.Quantity.{millis, counts, toUnits}
 use Rattle.quantity.specs.Words.{word}
 use Rattle.clock.specs.Crystal.{counting}
@@ -18,7 +19,7 @@ use Rattle.network.specs.Left.{messageOf}
 use Rattle.network.specs.Room.{longestWay, Room, Proper}
 use Rattle.route.specs.declared.Row.{Row}
 use Rattle.class_table.specs.Table.{tableOf}
-use Rattle.network.specs.Demand3.{reports, sends, arrives, inspects, opens, steps, ticks, Step, World, result, step, history, Allows, Starts, entryOf}
+use Rattle.network.specs.Demand3.{reports, sends, arrives, acts, inspects, opens, steps, ticks, adjusts, sets, clocks, looks, Step, World, result, step, history, AllNamed, Allows, Starts, entryOf}
 use Rattle.network.specs.TwoSeats.{pair, begun, call, runFor}
 
 -- MARK-5: ids 1 and 2
@@ -60,9 +61,9 @@ x₂ = call near w₁ 0 (sends 1 (counting (counts 65500)) (replicate 32 0) (pos
 unfoldable pub w₂ : World
 w₂ = step near w₁ x₂
 
--- ROOM-10: at once host 1 has it
+-- ROOM-10: seat 1 acts on it at once
 unfoldable pub x₃ : Step
-x₃ = call near w₂ 1 (arrives 1 noCounter (messageOf (result near w₁ x₂)) (pos 65500))
+x₃ = call near w₂ 1 (acts 1 noCounter (messageOf (result near w₁ x₂)) (pos 65500))
 
 -- ROOM-10: the network after call 3
 unfoldable pub w₃ : World
@@ -84,11 +85,7 @@ x₅ = call near w₄ 0 (arrives 1 record { count = counts 65535; overflow = 1; 
 unfoldable pub w₅ : World
 w₅ = step near w₄ x₅
 
--- NET-10: a row, added in the middle
-abbrev pub net10 : Row
-net10 = record { net = record { first = 10; second = 0; third = 0 }; host = 1 }
-
--- ROOM-10: call 6
+-- ROOM-10: seat 0 inspects the answer again
 unfoldable pub x₆ : Step
 x₆ = call near w₅ 0 (inspects 1 (messageOf (result near w₃ x₄)))
 
@@ -96,7 +93,7 @@ x₆ = call near w₅ 0 (inspects 1 (messageOf (result near w₃ x₄)))
 unfoldable pub w₆ : World
 w₆ = step near w₅ x₆
 
--- ROOM-10: call 7
+-- ROOM-10: seat 0 opens a walk for it
 unfoldable pub x₇ : Step
 x₇ = call near w₆ 0 (opens 1 (messageOf (result near w₃ x₄)))
 
@@ -104,7 +101,11 @@ x₇ = call near w₆ 0 (opens 1 (messageOf (result near w₃ x₄)))
 unfoldable pub w₇ : World
 w₇ = step near w₆ x₇
 
--- ROOM-10: call 8
+-- NET-10: the row that the tutor adds before box 1
+abbrev pub net10 : Row
+net10 = record { net = record { first = 10; second = 0; third = 0 }; host = 1 }
+
+-- ROOM-10: box 1, 101 ms after the answer was sent
 unfoldable pub x₈ : Step
 x₈ = record { seat = 0; nets = tableOf 3 (net10 ∷ []); links = w₇ .state 0 .links; copy = w₇ .state 0 .copy; run = runFor w₇ 0; call = steps (counting (counts 65)) (pos 65601) }
 
@@ -112,7 +113,7 @@ x₈ = record { seat = 0; nets = tableOf 3 (net10 ∷ []); links = w₇ .state 0
 unfoldable pub w₈ : World
 w₈ = step near w₇ x₈
 
--- ROOM-10: call 9
+-- ROOM-10: a tick, which is refused
 unfoldable pub x₉ : Step
 x₉ = call near w₈ 0 (ticks (counts 0))
 
@@ -120,7 +121,7 @@ x₉ = call near w₈ 0 (ticks (counts 0))
 unfoldable pub w₉ : World
 w₉ = step near w₈ x₉
 
--- ROOM-10: call 10
+-- ROOM-10: boxes 2 to 5, and the lines of the ids, to the end of the walk
 unfoldable pub x₁₀ : Step
 x₁₀ = call near w₉ 0 (steps noCounter (pos 0))
 
@@ -216,11 +217,53 @@ story = x₁ ∷ x₂ ∷ x₃ ∷ x₄ ∷ x₅ ∷ x₆ ∷ x₇ ∷ x₈ ∷ 
 abbrev pub learnt : (id : ℕ) → Entry
 learnt id = entryOf near (history near w₀ story) 0 id
 
--- ROOM-10: the list meets every condition, and the bound is nearly reached
+-- ---- four calls that demand 3 does not name
+
+-- ROOM-4: a set that slews
+unfoldable pub x₂₁ : Step
+x₂₁ = call near w₂₀ 0 (sets (pos 100) (counts 66))
+
+-- ROOM-4: the network after it
+unfoldable pub w₂₁ : World
+w₂₁ = step near w₂₀ x₂₁
+
+-- ROOM-4: an adjust
+unfoldable pub x₂₂ : Step
+x₂₂ = call near w₂₁ 0 (adjusts (counts 66))
+
+-- ROOM-4: the network after it
+unfoldable pub w₂₂ : World
+w₂₂ = step near w₂₁ x₂₂
+
+-- ROOM-4: a read
+unfoldable pub x₂₃ : Step
+x₂₃ = call near w₂₂ 0 (clocks (counting (counts 66)))
+
+-- ROOM-4: the network after it
+unfoldable pub w₂₃ : World
+w₂₃ = step near w₂₂ x₂₃
+
+-- ROOM-4: a lookup
+unfoldable pub x₂₄ : Step
+x₂₄ = call near w₂₃ 0 (looks (near .settings 1 .address))
+
+-- ROOM-4: the network after it
+unfoldable pub w₂₄ : World
+w₂₄ = step near w₂₃ x₂₄
+
+-- ROOM-4: all four
+abbrev pub four : List Step
+four = x₂₁ ∷ x₂₂ ∷ x₂₃ ∷ x₂₄ ∷ []
+
+-- ROOM-10: what seat 0 has of id 1 after them
+abbrev pub later : Entry
+later = entryOf near (history near w₀ (story ++ four)) 0 1
+
 pub record Example : Type 0 where
   pub proper : Proper near
   pub ways : near .longest ≤ longestWay
   pub starts : Starts near w₀
+  pub all-named : AllNamed story
   pub allowed : Allows near w₀ story
   -- WALK-4: a tick between the boxes of the walk gives 16
   pub refused : result near w₈ x₉ .reply .answer ≡ InWalk
@@ -231,3 +274,11 @@ pub record Example : Type 0 where
   -- ROOM-9: the error is -51, more than half of the delay
   pub error : learnt 1 .offset .0 -ℤ (near .fixed 1 -ℤ near .fixed 0) ≡ negsuc 50
   pub more-than-half : 101 < 2 * 51
+  -- ROOM-10: the four calls are done, and the entry is the same after them
+  pub also-allowed : Allows near w₀ (story ++ four)
+  pub set-done : result near w₂₀ x₂₁ .reply .answer ≡ Done
+  pub adjust-done : result near w₂₁ x₂₂ .reply .answer ≡ Done
+  pub read-done : result near w₂₂ x₂₃ .reply .answer ≡ Done
+  pub lookup-done : result near w₂₃ x₂₄ .reply .answer ≡ Done
+  pub same-delay : later .delay ≡ millis (pos 101)
+  pub same-offset : later .offset ≡ word (pos 449)

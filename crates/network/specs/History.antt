@@ -87,7 +87,7 @@ unfoldable pub afterAll : State → List Event → State
 afterAll w [] = w
 afterAll w (e ∷ es) = afterAll (after w e) es
 
--- ISOLATION-3: each call at number k gets the state after the one before it; other calls are free
+-- ISOLATION-3: each event of host k gets the state after host k's last one; other hosts' events are free
 unfoldable pub LendsAll : (number : ℕ) → (Left → Lent → Type 0) → State → List Event → Type 0
 LendsAll k L w [] = Unit {0}
 LendsAll k L w (e ∷ es) = (numberOf e ≡ k → L (w k) (e .lent)) × LendsAll k L (after w e) es

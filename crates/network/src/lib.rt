@@ -15,7 +15,7 @@ ghost use Rattle.network.specs.TutorSeen.{TutorSeen};
 ghost use Rattle.network.specs.MidWalk.{MidWalk};
 ghost use Rattle.network.specs.EachBox.{EachBox};
 ghost use Rattle.network.specs.HalfDelay.{HelloHalfDelay};
-ghost use Rattle.network.specs.Demand3.{Demand3};
+ghost use Rattle.network.specs.Demand3.{Demand3, Demand3AllCalls};
 ghost use Rattle.network.specs.NeverAlive.{NeverAlive};
 ghost use Rattle.network.specs.MarkedOnce.{MarkedOnce};
 ghost use Rattle.network.specs.SharedRun.{SharedDemand3};
@@ -112,9 +112,14 @@ pub fn hello_half_delay()
     ensures { λ _. ⌜ HelloHalfDelay ⌝ }
 {}
 
-// Demand 3: after every list of calls in a room, every live entry is for a host of the room, and its OFFSET is right to within 101/200 of its DELAY.
+// Demand 3: after every list of the calls that it names, every live entry is for a host of the room, and its OFFSET is right to within 101/200 of its DELAY.
 pub fn demand_3()
     ensures { λ _. ⌜ Demand3 ⌝ }
+{}
+
+// The same after every list of calls except initialize: adjust, set, read and lookup too, and the tutor's calls between them. Demand 3 follows from it.
+pub fn demand_3_all_calls()
+    ensures { λ _. ⌜ Demand3AllCalls ⌝ }
 {}
 
 // An id that no seat of the room marks is down in every table.
@@ -127,12 +132,12 @@ pub fn marked_once()
     ensures { λ _. ⌜ MarkedOnce ⌝ }
 {}
 
-// Demand 3 for one run that all seats share.
+// Demand 3, for all calls, if all seats share one host table.
 pub fn shared_demand_3()
     ensures { λ _. ⌜ SharedDemand3 ⌝ }
 {}
 
-// A history in which a table comes alive, with an OFFSET that is wrong by more than half of the DELAY.
+// A history that meets every condition: a table comes alive, with an OFFSET that is wrong by more than half of the DELAY.
 pub fn example()
     ensures { λ _. ⌜ Example ⌝ }
 {}

@@ -41,7 +41,7 @@ use Rattle.network.specs.Frame.{Elsewhere}
 use Rattle.network.specs.History.{Left, leftBy, after}
 use Rattle.network.specs.Room.{longestWay, Room, lentAt, afresh, Proper}
 use Rattle.network.proofs.Performs.{performs, there}
-use Rattle.network.specs.Demand3.{RoomCall, ticks, seconds, reports, sends, arrives, acts, inspects, opens, steps, adjusts, sets, clocks, looks, callOf, Step, Message, World, readingAt, result, mailAfter, step, history, timed, Later, Delivered, Allowed, Allows, Starts, Claim, Demand3Within, Demand3}
+use Rattle.network.specs.Demand3.{RoomCall, ticks, seconds, reports, sends, arrives, acts, inspects, opens, steps, adjusts, sets, clocks, looks, callOf, Step, Message, World, readingAt, result, mailAfter, step, history, timed, Later, Delivered, Allowed, Allows, Starts, Claim, AllCallsWithin, Demand3AllCalls, Demand3Within, Demand3}
 use Rattle.network.proofs.Lists.{All, all-at}
 use Rattle.network.proofs.Demand3.Near.{near-close}
 use Rattle.network.proofs.Demand3.Invariant.{RightEntry, RightMessage, Taken, RightWalk, RightSeat, RightWorld}
@@ -275,7 +275,12 @@ module _ (r : Room) (proper : Proper r) (ways : r .longest ≤ longestWay) where
       good : (a : ℕ) → a < r .seats → Sound (r .settings a)
       good a inside = sound (r .settings a) (set-good r a (proper .set-afresh a inside))
 
-pub demand-3 : Demand3
-unfolding Demand3Within
-demand-3 r proper ways w start xs ok =
+pub all-calls : Demand3AllCalls
+unfolding AllCallsWithin
+all-calls r proper ways w start xs ok =
     right-claim r proper ways (history r w xs) (history-right r proper ways w xs ok (starts-right r proper ways w start))
+
+-- the calls that demand 3 names are some of all calls
+pub demand-3 : Demand3
+unfolding Demand3Within AllCallsWithin
+demand-3 r proper ways w start xs named ok = all-calls r proper ways w start xs ok

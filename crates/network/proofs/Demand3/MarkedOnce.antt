@@ -8,10 +8,10 @@ use Rattle.route.specs.Find.{isFound}
 use Rattle.host.specs.Settings.{ownId}
 use Rattle.host.proofs.Sound.{sound}
 use Rattle.network.specs.Room.{Room, Proper}
-use Rattle.network.specs.Demand3.{history, entryOf, Claim, Demand3Within}
+use Rattle.network.specs.Demand3.{history, entryOf, Claim, AllCallsWithin}
 use Rattle.network.specs.MarkedOnce.{RightBy, MarkedOnce}
 use Rattle.network.proofs.Demand3.Seats.{set-good, own-host}
-use Rattle.network.proofs.Demand3.Histories.{demand-3}
+use Rattle.network.proofs.Demand3.Histories.{all-calls}
 
 own-ids : (r : Room) → Proper r → (a b : ℕ) → a < r .seats → b < r .seats → ownId (r .settings a) ≡ ownId (r .settings b) → a ≡ b
 own-ids r proper a b ha hb same = go (ownId (r .settings a)) refl
@@ -21,11 +21,11 @@ own-ids r proper a b ha hb same = go (ownId (r .settings a)) refl
     go Nothing is = absurd (false≢true (ap isFound (sym is) ∙ sound (r .settings a) (set-good r a (proper .set-afresh a ha)) .own-id))
 
 pub marked-once-holds : MarkedOnce
-unfolding Demand3Within Claim
+unfolding AllCallsWithin Claim
 marked-once-holds =
     record {
       own-ids-differ = own-ids;
       true-difference = λ r proper ways w starts xs ok a b i ha hb hi here alive.
-          let e = demand-3 r proper ways w starts xs ok b i hb hi alive in
+          let e = all-calls r proper ways w starts xs ok b i hb hi alive in
           subst (λ (c : ℕ). RightBy r c b (entryOf r (history r w xs) b i)) (proper .marked-once (e .seat) a i (e .seat-in) ha (e .host-there) here) (e .close);
     }

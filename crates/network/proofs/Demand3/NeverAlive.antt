@@ -3,16 +3,16 @@ use mathlib.Core.Path.{_≡_, refl}
 use mathlib.Core.Bool.{Bool, true, false}
 use Rattle.table.specs.Entry.{up}
 use Rattle.network.specs.Room.{Room}
-use Rattle.network.specs.Demand3.{World, entryOf, history, Demand3Within, Claim}
+use Rattle.network.specs.Demand3.{World, entryOf, history, AllCallsWithin, Claim}
 use Rattle.network.specs.NeverAlive.{NeverAlive}
-use Rattle.network.proofs.Demand3.Histories.{demand-3}
+use Rattle.network.proofs.Demand3.Histories.{all-calls}
 
 pub never-alive-holds : NeverAlive
-unfolding NeverAlive Demand3Within Claim
+unfolding NeverAlive AllCallsWithin Claim
 never-alive-holds r proper short w starts xs allows i nowhere b inside below = go (up (entryOf r (history r w xs) b i)) refl
   where
     go : (t : Bool) → up (entryOf r (history r w xs) b i) ≡ t → t ≡ false
     go false e = refl
     go true e =
-        let known = demand-3 r proper short w starts xs allows b i inside below e in
+        let known = all-calls r proper short w starts xs allows b i inside below e in
         absurd (nowhere (known .seat) (known .seat-in) (known .host-there))

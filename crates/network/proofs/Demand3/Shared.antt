@@ -20,12 +20,12 @@ use Rattle.calls.specs.Perform.{ask, Outcome, perform}
 use Rattle.network.specs.Frame.{Kept}
 use Rattle.network.specs.History.{Left, places, Holds, leftBy, after}
 use Rattle.network.specs.Room.{Room, lentAt, afresh, Proper}
-use Rattle.network.specs.Demand3.{Step, World, eventOf, result, step, history, Allows, entryOf, Right, Claim, Demand3Within}
+use Rattle.network.specs.Demand3.{Step, World, eventOf, result, step, history, Allows, entryOf, Right, Claim, AllCallsWithin}
 use Rattle.network.specs.SharedRun.{SharedStep, SharedWorld, lent, sharedStep, sharedHistory, SharedAllows, OneRun, sharedEntry, SharedDemand3}
 use Rattle.network.proofs.Performs.{performs, there}
 use Rattle.network.proofs.HostPlaces.{entries-first, elsewhere}
 use Rattle.network.proofs.Demand1.Frame.{kept-places}
-use Rattle.network.proofs.Demand3.Histories.{demand-3}
+use Rattle.network.proofs.Demand3.Histories.{all-calls}
 
 -- a setting afresh that is answered 0 was lent all the places
 set-holds : (x : Lent) → perform (ask Initialize) x .reply .answer ≡ Done → Holds (x .number) (x .run)
@@ -161,11 +161,11 @@ module _ (r : Room) (proper : Proper r) where
           )
 
 pub shared-demand-3 : SharedDemand3
-unfolding SharedDemand3 Demand3Within Claim
+unfolding SharedDemand3 AllCallsWithin Claim
 shared-demand-3 r proper ways w one xs ok b i hb hi up =
     let t = start-tracks r proper w one in
     let e : sharedEntry r (sharedHistory r w xs) b i ≡ entryOf r (history r (w .world) (lents r proper w xs)) b i =
     ap (λ (l : List Entry). getD l i freshEntry) (all-tracks r proper w xs t ok b hb .1 ∙ ap (λ (v : World). v .state (r .number b) .places) (same-world r proper w xs)) in
     subst (Right r b i) (sym e)
-    (demand-3 r proper ways (w .world) (one .starts) (lents r proper w xs) (allowed r proper w xs t ok) b i hb hi
+    (all-calls r proper ways (w .world) (one .starts) (lents r proper w xs) (allowed r proper w xs t ok) b i hb hi
     (ap entry.up (sym e) ∙ up))

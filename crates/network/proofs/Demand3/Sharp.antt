@@ -45,7 +45,7 @@ use Rattle.calls.specs.Perform.{ask, Outcome, perform}
 use Rattle.network.specs.Left.{messageOf}
 use Rattle.network.specs.History.{Left, leftBy, put, after}
 use Rattle.network.specs.Room.{errorParts, delayParts, Room, afresh, HostAt, Proper}
-use Rattle.network.specs.Demand3.{ticks, Message, World, Step, result, step, history, Allows, Starts, entryOf, Claim, Demand3Within}
+use Rattle.network.specs.Demand3.{ticks, Message, World, Step, result, step, history, Allows, Starts, entryOf, Claim, AllNamed, Demand3Within}
 use Rattle.network.specs.TwoSeats.{settingsFor, netsFor, placesOf}
 use Rattle.network.specs.Sharp.{lateness, late, early, w₀, x₁, w₁, x₂, w₂, x₃, w₃, x₄, w₄, wait, w₅, x₆, x₇, story, learnt, Sharp}
 use Rattle.network.proofs.Opened.{opened}
@@ -263,6 +263,10 @@ unfolding opened
 broken = below-2 (λ (seat : ℕ). HostAt late 1 seat → pos (delayParts * natAbs (negsuc 32267 -ℤ (late .fixed seat -ℤ late .fixed 0))) ≤ℤ (pos 100 *ℤ pos errorParts) → ⊥)
     (λ e _. let z : _≡_ {A = ℕ} 0 1 = cc in omega arith) (λ _ c. c .le)
 
+all-named : AllNamed story
+unfolding x₁ x₂ x₃ x₄ x₆ x₇
+all-named = refl
+
 pub sharp : Sharp
 unfolding Demand3Within Claim
 sharp =
@@ -273,7 +277,7 @@ sharp =
       delay = ap (λ e. e .delay) learnt-is ∙ ap millis (stored-is .0);
       error = ap (λ e. e .offset .0 -ℤ (late .fixed 1 -ℤ late .fixed 0)) learnt-is ∙ ap (λ (z : ℤ). z -ℤ (late .fixed 1 -ℤ late .fixed 0)) (stored-is .1);
       false-then = λ claim.
-          let r = claim late proper (omega arith) w₀ start story allowed 0 1 (omega arith) (omega arith) (ap up learnt-is ∙ alive) in
+          let r = claim late proper (omega arith) w₀ start story all-named allowed 0 1 (omega arith) (omega arith) (ap up learnt-is ∙ alive) in
           let close = subst₂ (λ (d o : ℤ). pos (delayParts * natAbs (o -ℤ (late .fixed (r .seat) -ℤ late .fixed 0))) ≤ℤ (d *ℤ pos errorParts))
           (ap (λ e. e .delay .0) learnt-is ∙ stored-is .0) (ap (λ e. e .offset .0) learnt-is ∙ stored-is .1) (r .close) in
           broken (r .seat) (r .seat-in) (r .host-there) close;

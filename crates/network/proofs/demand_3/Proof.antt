@@ -1,4 +1,4 @@
--- Every call keeps tables, messages and links right: Demand3/Histories.antt.
+-- The calls that demand 3 names are some of all calls: Demand3/Histories.antt.
 use Rattle.network.proofs.Demand3.Histories.{demand-3}
 use Rattle.network.proofs.demand_3.Statement.{statement}
 use Rattle.network.proofs.demand_3.Tie as tie
