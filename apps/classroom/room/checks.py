@@ -1,6 +1,12 @@
 """The form of what a page sends. Each part is checked; Refused says in words what is wrong."""
 
 import math
+import unicodedata
+
+CONTROLS = ("Cc", "Cf", "Zl", "Zp")
+"""The Unicode categories of controls, of marks that turn the direction of a text, and of line ends."""
+JOINERS = "\u200c\u200d"
+"""Of those, letters are joined by these in some scripts."""
 
 
 class Refused(Exception):
@@ -28,13 +34,25 @@ def switch(what, value):
     return value
 
 
-def words(what, value, longest):
-    """A text of at most so many characters, none of them half of a pair."""
+def words(what, value, longest, lines=False):
+    """A text of at most so many characters, normalised (NFC), without control characters; `lines`: it
+    may have several, and tabs."""
     if type(value) is not str or len(value) > longest:
         raise Refused(f"{what} must be a text of at most {longest:,} characters")
     if any("\ud800" <= character <= "\udfff" for character in value):
         raise Refused(f"{what} has a character that is none")
+    if lines:
+        value = value.replace("\r\n", "\n").replace("\r", "\n")
+    value = unicodedata.normalize("NFC", value)
+    kept = JOINERS + "\n\t" if lines else JOINERS
+    if any(unicodedata.category(each) in CONTROLS and each not in kept for each in value):
+        raise Refused(f"{what} has a control character")
     return value
+
+
+def name(what, value, longest):
+    """A name: such a text in which single spaces alone part the words."""
+    return " ".join(words(what, value, longest).split())
 
 
 def one_of(what, value, choices):

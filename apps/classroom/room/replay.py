@@ -40,8 +40,10 @@ def replay(lines):
             if difference:
                 return Report(made, f"line {line['line']}: {difference}")
         return Report(made, "the file has no end")
-    except (Refused, ValueError, TypeError, LookupError, StopIteration, OverflowError) as wrong:
-        return Report(made, f"behind {made} calls the file has another form: {wrong}")
+    except RecursionError:
+        return Report(made, f"after {made} calls the file has another form: a line is nested too deeply")
+    except (Refused, ValueError, TypeError, LookupError, StopIteration, OverflowError, AttributeError) as wrong:
+        return Report(made, f"after {made} calls the file has another form: {wrong}")
 
 
 def _again(table, hosts, line):

@@ -2,7 +2,7 @@
 
 import hello
 
-from .checks import Refused, keys, members, switch, whole, words
+from .checks import Refused, keys, members, name, switch, whole
 
 SEATS = hello.HOSTS
 CABLES = 32
@@ -52,7 +52,7 @@ def _seat(number, given, time, nhosts):
     keys("a seat", given, (), ("name", "difference", "crystal", "by_hand", "clock_host", "also"))
     clock_host = given.get("clock_host")
     seat = {
-        "name": words("name", given.get("name", f"seat {number}"), 24),
+        "name": name("name", given.get("name", f"seat {number}"), 24),
         "difference": whole("difference", given.get("difference", 0), -DAY, DAY),
         "crystal": switch("crystal", given.get("crystal", False)),
         "by_hand": switch("by_hand", given.get("by_hand", False)),

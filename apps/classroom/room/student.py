@@ -122,7 +122,7 @@ def _step(room, seat, message):
 
 
 def _write(room, seat, message):
-    link, text = _link(seat, message), words("text", message["text"], LONGEST_TEXT)
+    link, text = _link(seat, message), words("text", message["text"], LONGEST_TEXT, lines=True)
     far = room.cables.far(seat.number, link)
     source = address_of(far.seat if far else seat.number)
     if "source" in message:

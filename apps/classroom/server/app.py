@@ -23,6 +23,7 @@ class Addresses:
         self._hall = hall
         self._keys = keys
         self._files = pages
+        self.door = None
 
     def routes(self):
         """Every address there is, each for GET alone."""
@@ -48,24 +49,36 @@ class Addresses:
             response = web.Response(text=COME_BACK.format(place=place), content_type="text/html")
             self._keys.give(place, response)
             return response
-        if not self._keys.holds(place, request):
+        if not self._holds(place, request):
             return _no_key()
         return self._sent("teacher.html" if place == "/teacher" else "student.html")
 
     async def socket(self, request):
         """The socket of a page. A browser always says from which origin it opens one."""
         place = _place(request)
-        if not self._keys.holds(place, request):
+        if not self._holds(place, request):
             return _no_key()
         if "Origin" not in request.headers:
             return refused(403, "A socket is opened by a page of the class.")
         if not self._hall.has_room_for(place):
             return refused(429, "This place is open in too many pages.")
-        return await sockets.serve(request, self._hall, place)
+        return await sockets.serve(request, self._hall, place, self._connection(request))
+
+    def _connection(self, request):
+        """The request's connection, or None where there is no door."""
+        return self.door and self.door.of(request)
+
+    def _holds(self, place, request):
+        """Whether the request has the place's cookie; its connection may then take its time."""
+        holds = self._keys.holds(place, request)
+        connection = self._connection(request)
+        if connection is not None:
+            connection.keyed = holds
+        return holds
 
     async def calls(self, request):
         """The list of calls as a file."""
-        if not self._keys.holds("/teacher", request):
+        if not self._holds("/teacher", request):
             return _no_key()
         response = web.StreamResponse()
         response.content_type = "application/jsonl"
@@ -79,7 +92,7 @@ class Addresses:
 
     async def bench(self, request):
         """The bench file that is loaded, as octets or as text."""
-        if not self._keys.holds("/teacher", request):
+        if not self._holds("/teacher", request):
             return _no_key()
         loaded, form = self._hall.bench_file(), request.match_info["form"]
         if loaded is None:
@@ -118,10 +131,24 @@ def _no_key():
     return refused(403, "The key is missing or wrong: open the address as the teacher gave it.")
 
 
-def application(hall, keys, hosts, pages=None):
-    """The class as an aiohttp application, for requests to these host names."""
-    addresses = Addresses(hall, keys, files.read_all() if pages is None else pages)
-    app = web.Application(middlewares=[guard(hosts)])
+class Application:
+    """The class as an aiohttp application, for requests to these host names; `door` is given later."""
+
+    def __init__(self, hall, keys, hosts):
+        self._addresses = Addresses(hall, keys, files.read_all())
+        self.app = _app(hall, self._addresses, guard(hosts, self))
+
+    def enter_by(self, door):
+        """The door by which requests come."""
+        self._addresses.door = door
+
+    def of(self, request):
+        """The connection of a request, or None."""
+        return self._addresses.door and self._addresses.door.of(request)
+
+
+def _app(hall, addresses, middleware):
+    app = web.Application(middlewares=[middleware])
     app.add_routes(addresses.routes())
     app.on_response_prepare.append(say)
 

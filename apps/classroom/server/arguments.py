@@ -46,7 +46,8 @@ def parser():
         prog="./class",
         allow_abbrev=False,
         add_help=False,
-        usage="./class [--new] [--store FILE] [--port N] [--seats N] [--open-to-the-net]\n"
+        usage="./class [--new] [--store FILE] [--port N] [--seats N]\n"
+        "               [--open-to-the-net [--certificate FILE | --plain]]\n"
         "       ./class --replay FILE",
         description="A class of HELLO hosts in browsers: prints the teacher's address and one for "
         "each seat, and serves until it is stopped (Ctrl-C). Everything is kept in a store, and the "
@@ -79,8 +80,19 @@ def parser():
     made.add_argument(
         "--open-to-the-net",
         action="store_true",
-        help="other machines may come too; without it, this machine alone. The keys go over the "
-        "net as they are: use it in a net that you trust",
+        help="other machines may come too, by TLS; without it, this machine alone. A certificate is "
+        "made at the first start, and its fingerprint is printed",
+    )
+    made.add_argument(
+        "--certificate",
+        type=file_to_read,
+        metavar="FILE",
+        help="a certificate of your own for --open-to-the-net: a PEM file with its chain and its key",
+    )
+    made.add_argument(
+        "--plain",
+        action="store_true",
+        help="--open-to-the-net without TLS: anyone in the net can read the keys",
     )
     made.add_argument(
         "--replay",
@@ -92,8 +104,15 @@ def parser():
 
 
 def read(arguments):
-    """The arguments as an object with port, seats, new, store, open_to_the_net, replay, help."""
-    return parser().parse_args(arguments)
+    """The arguments as an object with port, seats, new, store, open_to_the_net, certificate, plain,
+    replay, help."""
+    made = parser()
+    asked = made.parse_args(arguments)
+    if (asked.plain or asked.certificate) and not asked.open_to_the_net:
+        made.error("--plain and --certificate are for --open-to-the-net")
+    if asked.plain and asked.certificate:
+        made.error("--plain has no certificate")
+    return asked
 
 
 def main():

@@ -15,20 +15,32 @@ def refused(status, why):
 def _from_here(request):
     """Whether the request has no origin, or this server's own."""
     origins = request.headers.getall("Origin", [])
-    return origins in ([], [f"http://{request.headers['Host']}"])
+    return origins in ([], [f"{request.scheme}://{request.headers['Host']}"])
 
 
-def guard(hosts):
-    """Lets through what is a GET to one of these host names, from no other origin.
+def guard(hosts, door=None, posts=()):
+    """Lets through what is a GET to one of these host names, from no other origin; to the paths of
+    `posts` a POST. The door is told when a request begins and ends.
 
     The host names keep away a page elsewhere that has its own name point at this machine.
     """
 
     @web.middleware
+    async def counted(request, handler):
+        connection = door and door.of(request)
+        if connection is None:
+            return await look(request, handler)
+        connection.ask(waits=False)
+        try:
+            return await look(request, handler)
+        finally:
+            connection.ask(waits=True)
+
     async def look(request, handler):
-        if request.method != "GET":
-            response = refused(405, "Only GET is answered here.")
-            response.headers["Allow"] = "GET"
+        wanted = "POST" if request.path in posts else "GET"
+        if request.method != wanted:
+            response = refused(405, f"Only {wanted} is answered here.")
+            response.headers["Allow"] = wanted
             return response
         named = request.headers.getall("Host", [])
         if len(named) != 1 or named[0].lower() not in hosts:
@@ -44,14 +56,15 @@ def guard(hosts):
             LOG.error("%s: %s", type(slip).__name__, slip)
             return refused(500, "The server could not do this.")
 
-    return look
+    return counted
 
 
 async def say(request, response):
     """Puts the headers on a response that keep a browser from more than the class needs."""
     headers = response.headers
     # 'self' does not mean the socket in every browser.
-    socket = f"ws://{request['host']}" if "host" in request else ""
+    scheme = "wss" if request.secure else "ws"
+    socket = f"{scheme}://{request['host']}" if "host" in request else ""
     headers["Content-Security-Policy"] = (
         f"default-src 'self'; connect-src 'self' {socket}; object-src 'none'; base-uri 'none'; "
         "form-action 'none'; frame-ancestors 'none'"

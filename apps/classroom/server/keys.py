@@ -17,14 +17,15 @@ def new_keys(seats):
 class Keys:
     """A random key for each place: "/teacher" and "/seat/0" and so on."""
 
-    def __init__(self, keys, port):
+    def __init__(self, keys, port, secure=False):
         self._keys = keys
+        self._secure = secure
         # Cookies know no port: with one name, two servers on a machine would overwrite each other's.
         self._cookie = f"hello-{port}"
 
-    def addresses(self, host):
-        """The places in order, each with its whole address under a host name."""
-        return {place: f"http://{host}{place}?key={key}" for place, key in self._keys.items()}
+    def addresses(self, origin):
+        """The places in order, each with its full address at an origin."""
+        return {place: f"{origin}{place}?key={key}" for place, key in self._keys.items()}
 
     def right(self, place, key):
         """Whether this is the key of the place. No place and no key are wrong."""
@@ -39,6 +40,5 @@ class Keys:
 
     def give(self, place, response):
         """Puts the place's key into a cookie of that path alone, until the browser ends."""
-        response.set_cookie(
-            self._cookie, self._keys[place], path=place, httponly=True, samesite="Strict"
-        )
+        cookie = {"path": place, "httponly": True, "samesite": "Strict", "secure": self._secure or None}
+        response.set_cookie(self._cookie, self._keys[place], **cookie)

@@ -10,14 +10,20 @@ import sys
 from aiohttp import web
 from aiohttp.http_exceptions import HttpProcessingError
 
-from . import arguments, which
-from .app import application
-from .hall import Hall
+from . import arguments, tls, which
+from .app import Application
+from .door import Door
+from .hall import MOST_PAGES, Hall
 from .keys import Keys, new_keys
 from .record import Record
 from .store import StoreError
 
 LOOPBACK = "127.0.0.1"
+BACKLOG = 128
+PLAIN = (
+    "Warning: --plain sends keys and all that is written as plain text. Anyone in the net can read it, "
+    "and act as the teacher. Leave --plain out for TLS."
+)
 
 
 class OneLine(logging.Formatter):
@@ -55,19 +61,19 @@ def own_addresses():
 def listening(port, to_the_net):
     """The sockets that listen: on the loopback, or on every address of either sort."""
     if not to_the_net:
-        return [socket.create_server((LOOPBACK, port))]
-    four = socket.create_server(("0.0.0.0", port))
+        return [socket.create_server((LOOPBACK, port), backlog=BACKLOG)]
+    four = socket.create_server(("0.0.0.0", port), backlog=BACKLOG)
     try:
-        six = socket.create_server(("::", four.getsockname()[1]), family=socket.AF_INET6)
+        six = socket.create_server(("::", four.getsockname()[1]), family=socket.AF_INET6, backlog=BACKLOG)
     except OSError:
         return [four]
     return [four, six]
 
 
-def with_port(name, port):
-    """A host name as a browser names it: an IPv6 address in brackets, port 80 left out."""
+def with_port(name, port, scheme):
+    """A host name as a browser names it: an IPv6 address in brackets, the usual port left out."""
     name = f"[{name}]" if ":" in name else name
-    return name if port == 80 else f"{name}:{port}"
+    return name if port == {"http": 80, "https": 443}[scheme] else f"{name}:{port}"
 
 
 def names_of(to_the_net):
@@ -85,7 +91,6 @@ def tell(addresses, others):
         print(f"{place[1:].replace('/', ' '):8} {address}")
     if others:
         print("The same is at", ", ".join(others))
-    print("Stop with Ctrl-C.", flush=True)
 
 
 def class_of(store, asked):
@@ -114,22 +119,38 @@ async def serve(asked, store):
         raise StoreError(f"Port {wanted} cannot be had: {why.strerror}.") from None
     port = sockets[0].getsockname()[1]
     store.tell(port=port)
-    told, also = ([with_port(name, port) for name in names] for names in names_of(asked.open_to_the_net))
-    keys = Keys(keys, port)
-    addresses = keys.addresses(told[0])
+    names, others = names_of(asked.open_to_the_net)
+    secured, fingerprint = None, None
+    if asked.open_to_the_net and not asked.plain:
+        secured, fingerprint = tls.context(store, asked.certificate, names + others)
+    scheme = "http" if secured is None else "https"
+    told, also = ([with_port(name, port, scheme) for name in each] for each in (names, others))
+    keys = Keys(keys, port, secure=secured is not None)
+    addresses = keys.addresses(f"{scheme}://{told[0]}")
     hall = Hall(record, list(addresses.values())[1:])
-    app = application(hall, keys, {host.lower() for host in told + also})
+    app = Application(hall, keys, {host.lower() for host in told + also})
 
     stop = asyncio.Event()
     for number in (signal.SIGINT, signal.SIGTERM):
         asyncio.get_running_loop().add_signal_handler(number, stop.set)
-    runner = web.AppRunner(app, access_log=None)
+    runner = web.AppRunner(app.app, access_log=None)
     await runner.setup()
-    for each in sockets:
-        await web.SockSite(runner, each, shutdown_timeout=2).start()
+    door = Door(runner.server, MOST_PAGES * (seats + 1), secured)
+    app.enter_by(door)
+    door.open(sockets)
     print(f"{'Resumed' if resumed else 'A new class,'} {store.path}")
     tell(addresses, told[1:])
+    if fingerprint:
+        print(f"The certificate's SHA-256 fingerprint: {fingerprint}")
+    if asked.plain:
+        print(PLAIN, file=sys.stderr)
+    print("Stop with Ctrl-C.", flush=True)
     await stop.wait()
+    await door.close()
+    for each in sockets:
+        each.close()
+    await runner.shutdown()
+    await runner.server.shutdown(2)
     await runner.cleanup()
     hall.end()
     return 0

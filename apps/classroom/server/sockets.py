@@ -20,8 +20,8 @@ GREATEST_N = 2**53
 WEIGHED = 512
 
 
-async def serve(request, hall, place):
-    """Talks with the page until it goes."""
+async def serve(request, hall, place, connection=None):
+    """Talks with the page until it goes. Its connection counts as a page's from the upgrade on."""
     longest = LONGEST_OF_THE_TEACHER if place == "/teacher" else LONGEST
     socket = web.WebSocketResponse(
         timeout=GOODBYE, heartbeat=HEARTBEAT, max_msg_size=longest, compress=False
@@ -30,6 +30,8 @@ async def serve(request, hall, place):
     hall.enter(page, socket)
     try:
         await socket.prepare(request)
+        if connection is not None:
+            connection.page = True
         await _talk(socket, hall, page)
     except ConnectionError:
         pass

@@ -18,8 +18,10 @@ ROOT = Path(__file__).resolve().parents[3]
 class Class:
     """A class that is served until stop. Its store is in a folder of its own, unless one is named."""
 
-    def __init__(self, seats, *more, folder=None):
+    def __init__(self, seats, *more, folder=None, files=None):
         command = [ROOT / "class", *more]
+        if files is not None:
+            command = ["/bin/sh", "-c", f'ulimit -n {files}; exec "$@"', "sh", *command]
         if seats is not None:
             command += ["--port", "0", "--seats", str(seats)]
         self._own = None if folder else tempfile.TemporaryDirectory(prefix="class-")
@@ -33,7 +35,11 @@ class Class:
             env={**os.environ, "HELLO_CLASSES": str(self.folder)},
         )
         self.address = {}
+        self.fingerprint = self.ssl = None
         for line in self.process.stdout:
+            if "fingerprint: " in line:
+                self.fingerprint = line.strip().rpartition(" ")[2]
+                self.ssl = aiohttp.Fingerprint(bytes.fromhex(self.fingerprint.replace(":", "")))
             if line.startswith("Stop with Ctrl-C"):
                 break
             if "key=" not in line:
@@ -45,7 +51,7 @@ class Class:
             self.process.wait()
             raise AssertionError("./class did not start: " + said)
         parts = urlsplit(self.address["/teacher"])
-        self.origin = f"http://{parts.netloc}"
+        self.origin = f"{parts.scheme}://{parts.netloc}"
         self.host, self.port = parts.hostname, parts.port
 
     def key(self, place):
@@ -87,6 +93,19 @@ class Quiet(unittest.IsolatedAsyncioTestCase):
         asyncio.get_running_loop().set_debug(False)
 
 
+def run_class(folder, *arguments):
+    """How ./class ends that does not start, and what it says to standard error."""
+    done = subprocess.run(
+        [ROOT / "class", *arguments],
+        capture_output=True,
+        text=True,
+        timeout=60,
+        env={**os.environ, "HELLO_CLASSES": str(folder)},
+    )
+    assert done.stdout == "", done.stdout
+    return done.returncode, done.stderr
+
+
 def replayed(path):
     """How ./class --replay ends for a file, and what it says."""
     done = subprocess.run([ROOT / "class", "--replay", path], capture_output=True, text=True)
@@ -120,12 +139,13 @@ class Page:
 
     async def _open(self):
         """The page, which gives the cookie, then its socket."""
-        async with self._session.get(self._served.address[self._place]) as entered:
+        async with self._session.get(self._served.address[self._place], ssl=self._served.ssl) as entered:
             assert entered.status == 200, await entered.text()
         self.socket = await self._session.ws_connect(
             f"{self._served.origin}{self._place}/socket",
             origin=self._served.origin,
             max_msg_size=64 * 1024 * 1024,
+            ssl=self._served.ssl,
         )
 
     async def __aexit__(self, *_):
@@ -206,5 +226,5 @@ class Page:
 
     async def octets(self, path):
         """The same: status, octets."""
-        async with self._session.get(self._served.origin + path) as answer:
+        async with self._session.get(self._served.origin + path, ssl=self._served.ssl) as answer:
             return answer.status, await answer.read()

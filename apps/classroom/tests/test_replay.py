@@ -94,6 +94,15 @@ class Replay(unittest.TestCase):
         for lines in ([], ["x"], ["{}"], ["[]"], ['{"room": 5}'], first, first + ['{"seat": 0}']):
             self.assertFalse(replay(lines).equal)
 
+    def test_nested_deeply(self):
+        for line in (100_000 * "[", 100_000 * '{"room":', '{"room": ' + 100_000 * "["):
+            report = replay([line])
+            self.assertEqual(
+                report.first_difference, "after 0 calls the file has another form: a line is nested too deeply"
+            )
+            report = replay([*self.lines[:3], line])
+            self.assertIn("after 2 calls", report.first_difference)
+
 
 if __name__ == "__main__":
     unittest.main()

@@ -274,9 +274,9 @@ class Net(Quiet):
         async with aiohttp.ClientSession() as session:
             for at in (*self.own, "127.0.0.1"):
                 for name, status in (*((name, 200) for name in names), ("evil.example", 403)):
-                    address = f"http://{at}:{opened.port}{path}"
+                    address = f"https://{at}:{opened.port}{path}"
                     host = {"Host": f"{name}:{opened.port}"}
-                    async with session.get(address, headers=host) as answer:
+                    async with session.get(address, headers=host, ssl=opened.ssl) as answer:
                         self.assertEqual(answer.status, status, (at, name))
         if self.own:
             self.assertIn(opened.host, self.own)

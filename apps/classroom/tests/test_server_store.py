@@ -2,28 +2,14 @@
 file, a damaged file, a disk that takes nothing more."""
 
 import asyncio
-import os
 import resource
-import subprocess
 import tempfile
 import unittest
 from pathlib import Path
 
-from classroom.tests.serving import ROOT, Class, Page, Quiet
+from classroom.tests.serving import Class, Page, Quiet, run_class
 
 TEACHER, SEAT = "/teacher", "/seat/1"
-
-
-def started(folder, *arguments):
-    """How ./class ends that does not start, and what it says."""
-    done = subprocess.run(
-        [ROOT / "class", *arguments],
-        capture_output=True,
-        text=True,
-        timeout=60,
-        env={**os.environ, "HELLO_CLASSES": str(folder)},
-    )
-    return done.returncode, done.stdout, done.stderr
 
 
 class Resuming(Quiet):
@@ -85,21 +71,21 @@ class Resuming(Quiet):
     async def test_other_number_of_seats(self):
         first = await self.served(2)
         await asyncio.to_thread(first.stop)
-        ended, _, said = await asyncio.to_thread(started, self.folder, "--seats", "5", "--port", "0")
+        ended, said = await asyncio.to_thread(run_class, self.folder, "--seats", "5", "--port", "0")
         self.assertEqual(ended, 1)
         self.assertIn("has 2 seats, and not 5: leave out --seats to resume it", said)
 
     async def test_new_over_a_class(self):
         first = await self.served(2)
         await asyncio.to_thread(first.stop)
-        ended, _, said = await asyncio.to_thread(started, self.folder, "--new", "--store", str(self.file()))
+        ended, said = await asyncio.to_thread(run_class, self.folder, "--new", "--store", str(self.file()))
         self.assertEqual(ended, 1)
         self.assertIn("leave out --new to resume it", said)
 
     async def test_two_servers(self):
         first = await self.served(1)
-        ended, told, said = await asyncio.to_thread(started, self.folder, "--port", "0")
-        self.assertEqual((ended, told), (1, ""))
+        ended, said = await asyncio.to_thread(run_class, self.folder, "--port", "0")
+        self.assertEqual(ended, 1)
         self.assertEqual(
             said, f"The class in {self.file()} is being served already, by process {first.process.pid}.\n"
         )
@@ -111,8 +97,8 @@ class Resuming(Quiet):
         await asyncio.to_thread(first.stop)
         octets = self.file().read_bytes()
         self.file().write_bytes(octets[:100] + bytes(len(octets) - 100))
-        ended, told, said = await asyncio.to_thread(started, self.folder, "--port", "0")
-        self.assertEqual((ended, told), (1, ""))
+        ended, said = await asyncio.to_thread(run_class, self.folder, "--port", "0")
+        self.assertEqual(ended, 1)
         self.assertIn("is damaged, or is no store of a class", said)
         self.assertEqual(len(said.splitlines()), 1)
         self.assertEqual(self.file().read_bytes(), octets[:100] + bytes(len(octets) - 100))

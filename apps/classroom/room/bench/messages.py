@@ -3,6 +3,7 @@
 import base64
 import binascii
 
+from .. import checks
 from ..checks import Refused, one_of, whole, words
 from . import loaded, of_room
 
@@ -17,11 +18,11 @@ def _told(room):
 
 
 def _load(room, message):
-    name = words("name", message["name"], LONGEST_NAME)
+    name = checks.name("name", message["name"], LONGEST_NAME)
     if ("octets" in message) == ("text" in message):
         raise Refused("a bench file has octets or a text")
     if "text" in message:
-        file = loaded.read_text(name, words("text", message["text"], loaded.LONGEST_TEXT))
+        file = loaded.read_text(name, words("text", message["text"], loaded.LONGEST_TEXT, lines=True))
     else:
         file = loaded.read_octets(name, _octets(message["octets"]))
     room.bench.load(file)
