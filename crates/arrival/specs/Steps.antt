@@ -87,6 +87,6 @@ abbrev pub neighborUpdate : (link : ℕ) → Flight → Update
 neighborUpdate i f =
     record { pid = i; delay = atLeastMin (f .delay); offset = f .offset; reading = f .reading }
 
--- UPDATE-1, UPDATE-2: the update with a report
+-- helper: the update with a report
 abbrev pub reportUpdate : (link : ℕ) → Flight → Report → Update
 reportUpdate i f r = plusReport (neighborUpdate i f) r

@@ -126,7 +126,7 @@ work (openWalk i packet) x = openedBy (opening i packet (x .host .settings) (x .
 
 -- ---- the call
 
--- CALL-4, CALL-2, REPLY-1: the call: the guard's refusal, or the work
+-- CALL-4, CALL-2, REPLY-1, EXACT-1: the call: the guard's refusal, or the work
 unfoldable pub perform : Call → Lent → Outcome
 perform call x =
     cond (not (done (guard (scopeOfCall call) x))) (refused (guard (scopeOfCall call) x) call x) (work call x)

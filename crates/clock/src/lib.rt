@@ -46,7 +46,7 @@ ghost use Rattle.clock.specs.LineClock.{noCounter, LineClock};
 ghost use Rattle.clock.specs.Slew.{OneMilli};
 ghost use Rattle.clock.specs.code.Near.{Near};
 
-// CLK.CLOCK and CLK.DELTA in units, HOLD in seconds, and DATE.
+// CLOCK-1: the clock of a host.
 #[repr(C)]
 pub struct Clock {
     pub clock: Units,

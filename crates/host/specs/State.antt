@@ -73,7 +73,7 @@ firstPlace k = placesPerHost * k
 abbrev pub hostCount : Settings → ℕ
 hostCount s = min (s .layout .nhosts) placesPerHost
 
--- TABLE-8: has a found id a place?
+-- helper: has a found id a place?
 abbrev pub hasPlace : Found → Bool
 hasPlace Nothing = true
 hasPlace (Id id) = ltb id placesPerHost

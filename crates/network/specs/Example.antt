@@ -205,7 +205,7 @@ w₁₉ = step near w₁₈ x₁₉
 unfoldable pub x₂₀ : Step
 x₂₀ = call near w₁₉ 0 (steps noCounter (pos 0))
 
--- ROOM-10: the network after call 20
+-- helper: the network after call 20
 unfoldable pub w₂₀ : World
 w₂₀ = step near w₁₉ x₂₀
 

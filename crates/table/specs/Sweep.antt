@@ -20,6 +20,6 @@ sweep i update c (e ∷ es) =
     let rest : Swept = sweep (suc i) update (u .clock) es in
     record { clock = rest .clock; entries = u .entry ∷ rest .entries }
 
--- ARRIVE-5: the update of one id only
+-- helper: the update of one id only
 abbrev pub only : (id : ℕ) (update : Clock → Entry → Updated) → (ℕ → Clock → Entry → Updated)
 only id update i c e = cond (eqb i id) (update c e) record { clock = c; entry = e }

@@ -23,7 +23,7 @@ pub const MIN_DELAY: Millis = Millis(100);
 
 pub const HOLD_DOWN: Seconds = Seconds(120);
 
-// An entry of the host table: DELAY, OFFSET, TTL, PID, the mark (1: the host lives here, 0: elsewhere), and the time of its last update.
+// TABLE-1: an entry of the host table. The mark `here` is 1 if its host lives here, else 0; `time` is that of its last update.
 #[repr(C)]
 pub struct Entry {
     pub delay: Millis,

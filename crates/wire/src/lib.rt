@@ -141,7 +141,7 @@ pub fn put_report(buffer: &mut [u8], i: usize, r: Report)
     hello::put_report(&mut buffer[ip::LENGTH..], i, r);
 }
 
-// The packet completed around its reports, which stand in their places. Octets beyond the message stay.
+// SEND-5, SEND-4: completes a packet around its reports: the HELLO from octet 20 on, then the IP header. Octets after the message stay.
 pub fn seal(buffer: &mut [u8], destination: Address, p: Packet)
     requires { ⌜ packetLength (p .nhosts) ≤ length (now buffer) ⌝ }
     requires { ⌜ Four (p .time .0) ⌝ }
