@@ -205,7 +205,7 @@ w₁₉ = step near w₁₈ x₁₉
 unfoldable pub x₂₀ : Step
 x₂₀ = call near w₁₉ 0 (steps noCounter (pos 0))
 
--- helper: the network after call 20
+-- ROOM-10: the network after call 20
 unfoldable pub w₂₀ : World
 w₂₀ = step near w₁₉ x₂₀
 
@@ -247,7 +247,7 @@ w₂₃ = step near w₂₂ x₂₃
 unfoldable pub x₂₄ : Step
 x₂₄ = call near w₂₃ 0 (looks (near .settings 1 .address))
 
--- ROOM-4: the network after it
+-- helper: the network after it
 unfoldable pub w₂₄ : World
 w₂₄ = step near w₂₃ x₂₄
 
@@ -259,6 +259,7 @@ four = x₂₁ ∷ x₂₂ ∷ x₂₃ ∷ x₂₄ ∷ []
 abbrev pub later : Entry
 later = entryOf near (history near w₀ (story ++ four)) 0 1
 
+-- ROOM-10: the list meets every condition, and the bound is nearly reached
 pub record Example : Type 0 where
   pub proper : Proper near
   pub ways : near .longest ≤ longestWay
