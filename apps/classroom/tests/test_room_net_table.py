@@ -199,7 +199,7 @@ class LookUp(unittest.TestCase):
 
 
 class InAWalk(unittest.TestCase):
-    """A walk uses the table as it stands at the box that looks it up, step 5."""
+    """A walk looks an address up in the table of that moment, step 5."""
 
     def at_step_5(self, *nets):
         room = room_of()

@@ -464,8 +464,8 @@ hello_route hello_lookup(const hello_settings *settings, const hello_class_table
                          size_t run_length, hello_address address);
 
 /*
- * Gives a packet to the one point-to-point link of a fresh host (192.0.2.1, ADDRESS-OFFSET 1,
- * NHOSTS 4, no net rows, clock setting off, time 0, 1 January 1972) and answers the number.
+ * Passes a packet to the host of the packet programs, which has one point-to-point link and the
+ * address 192.0.2.1 (rule PROGRAM-1 in docs/RULES.md), and returns the number of its answer.
  */
 uint8_t hello_packet(const uint8_t *packet, size_t packet_length);
 

@@ -1,11 +1,11 @@
 /*
  * The mender of damaged captures: a call of the proved library libhello.a.
  *
- * A capture is a number of packets, each packet's place from octet 0, 32 bits each, high octet
- * first, then the packets. The mender ignores those places. It looks from octet 0 for a packet
+ * A capture has 32-bit numbers, high octet first: the number of packets and the place of each from
+ * octet 0. The packets follow. Recovery ignores the places. It searches from octet 0 for a packet
  * that the tests of answers 3 to 7 pass, with the total length of its own IP header, wholly
- * within the input; a packet found is kept and the search goes on behind it, otherwise one octet
- * further.
+ * within the input; a packet found is kept and the search continues after it, if not,
+ * with the next octet.
  *
  *   no.  meaning                             changes
  *   0    done                                both outputs
@@ -42,7 +42,7 @@ typedef struct hello_mended {
 } hello_mended;
 
 /*
- * Writes a capture of the packets found in order, and a list of the stretches passed over: start
+ * Writes a capture of the packets found in order, and a list of the stretches between them: start
  * and length of each, 32 bits each, high octet first. Octets beyond what is written stay.
  */
 hello_mended hello_mend(const uint8_t *input, size_t input_length, uint8_t *capture,

@@ -2,7 +2,7 @@
  * The net table of a class: calls of the proved library libhello.a that only the tutor makes.
  *
  * The table, a hello_class_table of hello.h, holds the class's NHOSTS and up to 32 rows. Rows keep
- * their order and are numbered from 1 without gaps; a row that is added goes at the end, and those
+ * their order, and their numbers are 1, 2, 3 and so on; a row that is added goes at the end, and those
  * behind one that is removed move up. Nets may be any, the same ones twice and several of net zero
  * too. The places behind the rows are zero in what a call leaves that was done.
  *
@@ -12,7 +12,7 @@
  *
  *   no.  meaning                                                             changes
  *   0    done                                                                the table
- *   1    an id not below NHOSTS, or NHOSTS not 1 to 255                      nothing
+ *   1    an id from NHOSTS on, or an NHOSTS not 1 to 255                     nothing
  *   12   a table with over 32 rows, NHOSTS not 1 to 255 or a row's id not    nothing
  *        below it, also behind a row of net zero; not when it is set afresh
  *   21   32 rows stand                                                       nothing

@@ -1,7 +1,7 @@
 """Recovery of damaged captures.
 
-A capture is a number of packets, each packet's place from octet 0, 32 bits each, high octet first,
-then the packets. Recovery ignores those places and looks for the packets themselves.
+A capture has 32-bit numbers, high octet first: the number of packets and the place of each from
+octet 0. The packets follow. Recovery ignores the places and looks for the packets themselves.
 
     recovered = hello.capture.recover(octets)
     recovered.capture, recovered.stretches, recovered.places_true
@@ -36,8 +36,8 @@ class Stretch(NamedTuple):
 
 
 class Recovered(NamedTuple):
-    """The capture of the packets that were found, the stretches passed over, and whether the input's own
-    number and places are those of the packets."""
+    """The capture of the packets that were found, the stretches passed over, and whether number and
+    places in the input were right."""
 
     capture: bytes
     stretches: list[Stretch]

@@ -13,7 +13,7 @@ from .values import Added
 class NetTable(ClassTable):
     """The net table of a class, which all its hosts use and only the tutor changes.
 
-    Rows keep their order and are numbered from 1 without gaps. A change takes effect at the next
+    Rows keep their order, and their numbers are 1, 2, 3 and so on. A change takes effect at the next
     call of a host that looks an address up, in the middle of a walk too. If NHOSTS is not that of a host's
     settings, each of its calls answers SETTING.
     """

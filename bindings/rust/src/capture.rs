@@ -1,7 +1,7 @@
 //! The mender of damaged captures.
 //!
-//! A capture is a number of packets, each packet's place from octet 0, 32 bits each, high octet
-//! first, then the packets. The mender ignores those places and looks for the packets themselves.
+//! A capture has 32-bit numbers, high octet first: the number of packets and the place of each
+//! from octet 0. The packets follow. Recovery ignores the places and looks for the packets themselves.
 
 /// Done: both outputs are written.
 pub const DONE: u8 = 0;
@@ -29,7 +29,7 @@ pub struct Mended {
     pub capture_length: usize,
     /// The octets written to the list of stretches: two numbers, start and length, for each.
     pub stretches_length: usize,
-    /// Whether the input's own number and places are those of the packets found.
+    /// Whether number and places in the input are those of the packets found.
     pub places_true: bool,
 }
 

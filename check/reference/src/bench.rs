@@ -1,5 +1,5 @@
-//! The class bench: "a whole exercise set up from one file and run, above the
-//! seats".
+//! The class bench: an exercise from one file, set up and run over the
+//! hosts.
 //!
 //! Set-up and run are both given the file and both test all of it: 18 for its
 //! header or length, 19 for a record, then 12 for what is lent. Where they
@@ -116,8 +116,8 @@ pub fn set_up(
     Ok(())
 }
 
-/// Carries out "the next in order, each doing what its call does and its
-/// answer kept, until allowance or file ends"; how many, refused calls
+/// Carries out the next ones in order, each with its call, its
+/// answer stored, until budget or file ends; how many, refused calls
 /// included.
 pub fn run(
     file: &[u8],
@@ -155,8 +155,8 @@ impl Bench {
         answers: [0; EVENTS],
     };
 
-    /// Refused with 12 for "a tray's cable not in the file or more events done
-    /// than it has". The seats are for the events' own calls to test.
+    /// Refused with 12 for a slot's cable that the file does not have, or more
+    /// events done than there are. The seats are for the events' own calls to test.
     fn admit(&self, file: &File) -> Result<(), Refusal> {
         let in_range =
             self.done <= file.events.len() && self.trays.iter().all(|tray| tray.in_range(file));

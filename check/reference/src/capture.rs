@@ -1,7 +1,7 @@
 //! Damaged captures: finding the packets again.
 //!
-//! "A capture is a number of packets, each packet's place from octet 0, 32
-//! bits each, high octet first, then the packets."
+//! A capture has 32-bit numbers, high octet first: the number of packets
+//! and the place of each from octet 0. The packets follow.
 
 use std::ops::Range;
 
@@ -19,7 +19,7 @@ pub struct Mended {
     pub capture: Vec<u8>,
     /// Start and length of each stretch passed over.
     pub stretches: Vec<u8>,
-    /// Whether the input's own number and places are those of the packets.
+    /// Whether number and places in the input are those of the packets.
     pub places_true: bool,
 }
 
@@ -42,7 +42,7 @@ pub fn mend(input: &[u8], capture_room: usize, stretches_room: usize) -> Result<
 }
 
 /// The packets found and the stretches passed over, both in order: "a hit is
-/// kept and the search goes on behind it, otherwise one octet further".
+/// kept and the search continues after it, if not, at the next octet".
 fn search(input: &[u8]) -> (Vec<Range<usize>>, Vec<Range<usize>>) {
     let (mut hits, mut stretches) = (Vec::new(), Vec::new());
     let mut at = 0;
@@ -65,8 +65,8 @@ fn search(input: &[u8]) -> (Vec<Range<usize>>, Vec<Range<usize>>) {
     (hits, stretches)
 }
 
-/// The length of the packet at the start of the octets, if it "passes answers
-/// 3 to 7 with the length of its own IP header".
+/// The length of the packet at the start of the octets, if it "passes the
+/// tests for 3 to 7, as long as its IP header says".
 fn packet_length(octets: &[u8]) -> Option<usize> {
     let header = octets.get(..HEADER)?;
     let length = usize::from(header[2]) * 256 + usize::from(header[3]);

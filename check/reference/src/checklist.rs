@@ -117,8 +117,8 @@ impl Checklist<'_> {
         next
     }
 
-    /// "DELAY under 100 becomes 100." Then the first id, by the net table "as
-    /// it stands at the box that looks it up".
+    /// "DELAY under 100 becomes 100." Then the first id, by the net table of
+    /// the box that looks an address up.
     fn step_5(&mut self) -> Outcome {
         self.walk.delay = self.walk.delay.max(MIN_DELAY as i16);
         let id = if self.message.has_table() {
@@ -166,7 +166,7 @@ impl Checklist<'_> {
         self.at_line(LINE_C)
     }
 
-    /// "Store DELAY, OFFSET, TTL 120, PID and our reading." The mark stays.
+    /// Stores DELAY, OFFSET, TTL 120, PID and the reading. The mark stays.
     fn line_c(&mut self) -> Option<Place> {
         let (delay, offset) = self.walk.report(&self.message);
         let here = self.entry().here;

@@ -120,8 +120,8 @@ impl Clock {
             && self.date.is_real()
     }
 
-    /// Reads the clock. "With the mark, CLOCK-TICK is added first and the
-    /// second count is used."
+    /// Reads the clock. With the mark it adds CLOCK-TICK, and uses the
+    /// second count.
     pub fn read(&mut self, counter: Counter, clock_tick: Units, hold_interval: u16) -> Sample {
         let count = if counter.overflow == 0 {
             counter.count

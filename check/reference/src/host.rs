@@ -5,10 +5,10 @@
 //! walk is open, then 1, then the others. Setting afresh and the step of a
 //! walk do not give 16.
 //!
-//! "Every call that reads or alters CLOCK takes the count, tick, adjust and
-//! set without a mark". Calls refused with 1 to 9 or 12 do not read; the
-//! others read once, "before DATE or HOLD is used", and 10, and 11 at an
-//! arrival, keep what the reading did.
+//! A call that reads or changes CLOCK takes the count; tick, adjust and set
+//! take no mark. Calls refused with 1 to 9 or 12 do not read; the
+//! others read once, "before DATE or HOLD is used", and 10 and an
+//! arrival's 11 keep the changes of the reading.
 
 // What is lent to a call makes many arguments.
 #![allow(clippy::too_many_arguments)]
@@ -155,7 +155,7 @@ pub fn second(
     Ok(())
 }
 
-/// "A self-report covers every marked id in rising order", all with the one
+/// A self-report updates each marked id, lowest first, all with the one
 /// reading.
 pub fn self_report(
     settings: &Settings,

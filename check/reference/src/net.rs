@@ -1,6 +1,6 @@
 //! One net table for the class, and the tutor's calls on it.
 //!
-//! "Rows keep their order and are numbered from 1 without gaps". The table is
+//! Rows keep their order; their numbers are 1, 2, 3 and so on. The table is
 //! lent to every call of a host, which looks up in it and changes nothing. The
 //! tutor's calls know no host; their order of answers is 12, 22, 21, 1.
 

@@ -148,8 +148,8 @@ pub fn receive(
     })
 }
 
-/// ((T2 - T1) + (T3 - T4))/2, "the sum whole before it is halved and rounded
-/// down".
+/// ((T2 - T1) + (T3 - T4))/2, "all bits of the sum kept before it is halved,
+/// rounded down".
 pub fn offset(t1: u64, t2: u64, t3: u64, t4: u64) -> i64 {
     let sum = i128::from(difference(t2, t1)) + i128::from(difference(t3, t4));
     sum.div_euclid(2) as i64

@@ -61,7 +61,7 @@ impl Settings {
     }
 
     /// Whether 1 lets the settings pass beside the class's table, which
-    /// "holds the class's NHOSTS; a seat set with another gives 1".
+    /// must have the same NHOSTS.
     pub fn suit(&self, net: &NetTable) -> bool {
         self.are_sound() && self.nhosts == net.nhosts
     }

@@ -1,7 +1,7 @@
 //! Messages on paper: a HELLO, without its IP header, as text and back.
 //!
-//! First line `hello DATE TIME TSP BASE N`, then N lines `DELAY OFFSET`; each
-//! line ends in a newline. "no leading zeros, no `-0`".
+//! First line `hello DATE TIME TSP BASE N`, then N lines `DELAY OFFSET`; a
+//! newline ends each line. There are no leading zeros and no `-0`.
 
 use crate::date::Date;
 use crate::packet::{self, Heading, HELLO, HOST};

@@ -111,7 +111,7 @@ pub fn set_up(
     p.answer
 }
 
-// The next events are carried out, each doing what its call does and its answer kept, until the allowance or the file ends.
+// BENCH-6: does the next events, each by its call, and stores their answers, until the budget or the file ends.
 pub fn run(
     file: &[u8],
     nets: &ClassTable,

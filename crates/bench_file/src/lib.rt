@@ -16,7 +16,7 @@ use quantity::Count;
 pub mod hosts;
 pub mod octets;
 
-// The counts of hosts (the file's seats), cables and events, and where cables and events start.
+// BENCH-2: how many hosts, cables and events, and the octets at which cables and events begin.
 pub struct Header {
     pub hosts: usize,
     pub cables: usize,

@@ -11,7 +11,7 @@ pub fn stays()
     ensures { λ _. ⌜ Stays ⌝ }
 {}
 
-// A run cut in two by allowances ends as one run.
+// Two runs equal one run with the sum of their budgets.
 pub fn joins()
     ensures { λ _. ⌜ Joins ⌝ }
 {}

@@ -72,7 +72,7 @@ pub fn survey(input: &[u8]) -> Survey
     }
 }
 
-// Whether the input's own number and places are those of its hits.
+// CAPTURE-5: are number and places in the input those of the packets found?
 pub fn marked(input: &[u8], s: Survey) -> bool
     ensures { λ r. ⌜ r ≡ marked (now (input .entry)) s ⌝ }
 {

@@ -25,7 +25,7 @@ pub enum Answer {
     CaptureLength,
 }
 
-// What the mender answers: the octets written to the two outputs, and whether the input's own number and places are those of its hits.
+// CAPTURE-5: what recovery returns: how many octets it wrote to each output, and whether number and places in the input are those of the packets found.
 pub struct Mended {
     pub answer: Answer,
     pub capture_length: usize,

@@ -38,7 +38,7 @@ all (t ∷ ts) = t && all ts
 
 -- ---- the law
 
--- NTP-6: twice the offset's error is at most the delay plus one
+-- NTP-6: the error of the offset, doubled, is at most the delay plus one
 abbrev pub halfDelay : (θ delay offset : ℤ) → Bool
 halfDelay θ delay offset = leZ (pos (2 * natAbs (offset -ℤ θ))) (delay +ℤ pos 1)
 

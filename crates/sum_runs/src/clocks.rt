@@ -53,7 +53,7 @@ fn set(c: Clock, ms: i32, n: u16) -> Clock {
     c
 }
 
-// "86,400,000 stays; one unit more leaves 1 unit on the next day."
+// SUM-7: a full day stays; a unit more is 1 unit of the next day.
 pub fn midnight() {
     let late = Clock::fresh(Millis(86_399_999), Date::FIRST);
     let stays = ticked(late, Units::of_millis(Millis(1)), NO_COUNT);
@@ -88,7 +88,7 @@ pub fn deltas() {
     after_adjusts(b"DELTA +128 after 1000 adjusts", 1000, 128, 1000);
 }
 
-// "Adjust at CLOCK 0 with DELTA -1 steps the date back and loads HOLD."
+// CLOCK-6: an adjust at CLOCK 0 with DELTA -1 goes back a day and loads HOLD.
 pub fn below_zero() {
     after_adjusts(b"DELTA -1 at CLOCK 0", 0, -1, 1);
 }
@@ -100,7 +100,7 @@ pub fn far_sets() {
     show::clock(b"a Set by -2^31", set(start, -2_147_483_648, NO_COUNT));
 }
 
-// A Set slews from -128 to +127 ms and steps otherwise, and an adjust then moves the clock by a millisecond at most.
+// CLOCK-4, CLOCK-15: -128 to +127 ms slew, other sets step; an adjust moves CLOCK by a millisecond at most.
 pub fn slew_limits() {
     let start = clock_of(Units(65_536_000), Units(0));
     show::clock(b"a Set by 127", set(start, 127, NO_COUNT));
@@ -144,7 +144,7 @@ fn marked(n: u16, again: u16) -> Counter {
     }
 }
 
-// "Both midnight rules now test the sum, so a reading may move the date and load HOLD, and CLOCK alone may stand up to 65,535 ms below zero"
+// CLOCK-9: a reading can change DATE and HOLD, and CLOCK alone can be below zero.
 pub fn crystal_midnights() {
     let tick = Units(1);
     let late = clock_of(Units::of_millis(Millis(86_399_000)), Units(0));
@@ -167,7 +167,7 @@ pub fn crystal_midnights() {
     );
 }
 
-// "With the mark, CLOCK-TICK is added first and the second count is used." "CLOCK-TICK may now be up to 65,536 ms."
+// CLOCK-8, CLOCK-13: readings with the mark, with the longest CLOCK-TICK.
 pub fn crystal_overflow() {
     let most = Units::of_millis(Millis(65_536));
     let start = clock_of(Units(0), Units(0));
@@ -182,7 +182,7 @@ pub fn crystal_overflow() {
     );
 }
 
-// "Every call that reads or alters CLOCK takes the count, tick, adjust and set without a mark"
+// CLOCK-14: tick, adjust and set take a count without a mark.
 pub fn crystal_changes() {
     let tick = Units::of_millis(Millis(1));
     let late = clock_of(Units::of_millis(Millis(86_399_000)), Units(128));

@@ -2,7 +2,7 @@
 use super::show;
 use calendar::Date;
 
-// "date 302B hex, time 3,600,000, TSP 1234 hex, ADDRESS-OFFSET 1, no hosts: checksum CDE9. date 8000, all else 0: 7FFF."
+// SUM-1: the two checksums of a HELLO without hosts.
 pub fn checksums() {
     show::hex(
         b"checksum of 302B, 3,600,000, 1234, 1",

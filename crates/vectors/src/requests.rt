@@ -61,7 +61,7 @@ fn second(name: &[u8], delay: i64, ttl: u16) {
     end();
 }
 
-// "Each TTL that isn't zero falls by one; if it thereby reaches zero and DELAY is under 30,000, DELAY becomes 30,000 and TTL 120."
+// TABLE-5: TTL decreases, and an entry that is up goes down at zero.
 pub fn ageing() {
     second(b"a second, live entry, TTL 2", 500, 2);
     second(b"a second, live entry, TTL 1", 500, 1);
@@ -134,7 +134,7 @@ fn message(name: &[u8], keep_alive: u8) {
     end();
 }
 
-// "B, 500 ahead, gets it at 40,530 and answers at 45,530 with TSP 45,000"; "if KEEP-ALIVE isn't zero, which then falls by one; else 0"
+// SUM-6, SEND-3: B's answer has TSP 45,000 if KEEP-ALIVE is not zero, and else 0.
 pub fn tsp() {
     message(b"B answers at 45,530 where its TSP is -530", 4);
     message(b"the same where KEEP-ALIVE is 0", 0);

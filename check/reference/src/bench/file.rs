@@ -32,8 +32,8 @@ pub struct End {
     pub link: usize,
 }
 
-/// "Events hold a call's numbers and name a seat"; "but a send names a cable
-/// end and one of 32 trays", "and an arrival only a tray".
+/// "Events hold a call's numbers and name a seat"; "while a send has a cable
+/// end and one of 32 slots", "and an arrival only a tray".
 #[derive(Clone, Copy, Debug, PartialEq, Eq)]
 pub enum Event {
     Tick {

@@ -2,7 +2,7 @@
 //! number of a record stands and how wide it is.
 //!
 //! A file is a header, then the seat records, the cable records and the event
-//! records; "sections touch, in that order, and end with the file". Records
+//! records; each section begins at the end of the one before. Records
 //! have fixed sizes. Seats, cables, ends, trays and ids are numbered from 0,
 //! links from 1; starts count from octet 0 of the file. All numbers are high
 //! octet first. Fields that an event's kind has no use for are not looked at.
