@@ -78,6 +78,7 @@ use Rattle.calls.specs.Perform as calls
 use Rattle.network.specs.Refusals.{closed}
 use Rattle.network.specs.Range.{under}
 use Rattle.network.specs.WalkEnds.{Box, boxed, walkOn, boxesOn, mostBoxes, byTable, taken, countsFit, withTable, Ends, WalkEnds}
+use Rattle.network.specs.Slots.{Slots}
 use Rattle.network.specs.WalkEnds as claim
 use Rattle.network.proofs.Performs.{performs}
 use Rattle.network.proofs.Lists.{every-all, all-there}
@@ -471,14 +472,14 @@ module _ (i : ℕ) (packet : List ℕ) (x : Lent) where
           rw (fair (s x) t ok .0, fair (s x) t ok .1, b .passing .opening i refl .0, b .passing .places, lent-so, b .passing .closed, b .passing .settings)
           (ap (λ (e : Arrived). updatedBy e packet x) (one-piece i k packet t (x .host) ∙ ap (inspected₁ k t (x .host) i) (b .parsed)))
 
-      to-end : length (x .host .links .all) ≡ 8 → (n : ℕ) (ks : ℕ → Handed) → ks 0 .counter ≡ k → ks 4 .nets ≡ t → mostBoxes ≤ n
+      to-end : Slots (x .host .settings) (x .host .links) → (n : ℕ) (ks : ℕ → Handed) → ks 0 .counter ≡ k → ks 4 .nets ≡ t → mostBoxes ≤ n
           → walkFrom (s x) (b .p) packet n ks (seatOf y)
           ≡ final (acts .reply) (updates (acts .work) packet (entriesOf x) .clock) (acts .links) (updates (acts .work) packet (entriesOf x) .entries)
-      to-end eight n ks first fifth room =
+      to-end slots n ks first fifth room =
           let good = sound (s x) (b .passing .settings) in
           let c = counted (s x) i (b .passing .opening i refl .0) in
           let there = holds (x .number) (x .run) (b .passing .places) in
-          to-the-end (s x) i (b .p) packet (length packet) (x .host .clock) (x .host .links) (omega (arith, eight, c .from-one, c .to-eight)) k t (entriesOf x) n ks first fifth
+          to-the-end (s x) i (b .p) packet (length packet) (x .host .clock) (x .host .links) (omega (arith, slots, c .at-place)) k t (entriesOf x) n ks first fifth
           (omega (arith, room)) (entries-length (s x) (x .number) (x .run) there) (omega (arith, good .hosts-from))
           (λ a id e. omega (arith, below (s x) t (b .passing .settings) ok a id e, good .hosts-to))
 
@@ -501,7 +502,7 @@ module _ (i : ℕ) (packet : List ℕ) (x : Lent) where
 
     -- ---- the walk, with boxes of which these were taken
 
-    module _ (eight : length (x .host .links .all) ≡ 8) (bs : List Box) (few : countsFit bs ≡ true) where
+    module _ (slots : Slots (x .host .settings) (x .host .links)) (bs : List Box) (few : countsFit bs ≡ true) where
       ends : (b₁ b₂ b₃ b₄ b₅ : Box) (more : List Box) → taken (s x) bs ≡ b₁ ∷ b₂ ∷ b₃ ∷ b₄ ∷ b₅ ∷ more → mostBoxes ≤ length (taken (s x) bs)
           → Ends (walkOn bs (left x opens)) (perform (receive i (b₁ .counter) packet) (under (b₅ .nets) x))
       ends b₁ b₂ b₃ b₄ b₅ more is room =
@@ -509,7 +510,7 @@ module _ (i : ℕ) (packet : List ℕ) (x : Lent) where
           let ok = all-there (λ _ (c : Box). suitable (s x) c ≡ true) noBox (b₁ ∷ b₂ ∷ b₃ ∷ b₄ ∷ b₅ ∷ more) (every-all (suitable (s x)) (b₁ ∷ b₂ ∷ b₃ ∷ b₄ ∷ b₅ ∷ more) all) 4 (omega arith) in
           let k = b₁ .counter in
           let t = b₅ .nets in
-          let m = subst (Matches (b .p) packet y (walkOn bs y)) (to-end k t ok eight (length (taken (s x) bs)) _ (ap (λ (l : List Box). getD l 0 noBox .counter) is) (ap (λ (l : List Box). getD l 4 noBox .nets) is) room) (runs (b .p) packet bs few y going) in
+          let m = subst (Matches (b .p) packet y (walkOn bs y)) (to-end k t ok slots (length (taken (s x) bs)) _ (ap (λ (l : List Box). getD l 0 noBox .counter) is) (ap (λ (l : List Box). getD l 4 noBox .nets) is) room) (runs (b .p) packet bs few y going) in
           rw (b .is, arrives k t ok) record {
             reply = m .reply;
             clock = m .clock;
@@ -576,22 +577,22 @@ with-long t (k ∷ ks) = ap suc (with-long t ks)
 opening-table : (i : ℕ) (x : Lent) → Passed (scope.Opening i) x → done (byTable (s x) (x .nets)) ≡ true
 opening-table i x ok = rw (ok .table, eq-eqb (s x .layout .nhosts) (x .nets .nhosts) (fits-hosts (x .nets) (s x) (ok .fit))) refl
 
-one-table : (i : ℕ) (packet : List ℕ) (x : Lent) (k : Counter) (ks : List Counter) → length (x .host .links .all) ≡ 8 → countsFit (withTable (x .nets) (k ∷ ks)) ≡ true
+one-table : (i : ℕ) (packet : List ℕ) (x : Lent) (k : Counter) (ks : List Counter) → Slots (x .host .settings) (x .host .links) → countsFit (withTable (x .nets) (k ∷ ks)) ≡ true
     → claim.opening i packet x .reply .answer ≡ Done → mostBoxes ≤ length (k ∷ ks)
     → Ends (walkOn (withTable (x .nets) (k ∷ ks)) (left x (claim.opening i packet x))) (perform (receive i k packet) x)
-one-table i packet x k [] eight few e room = absurd (omega arith)
-one-table i packet x k (k₂ ∷ []) eight few e room = absurd (omega arith)
-one-table i packet x k (k₂ ∷ k₃ ∷ []) eight few e room = absurd (omega arith)
-one-table i packet x k (k₂ ∷ k₃ ∷ k₄ ∷ []) eight few e room = absurd (omega arith)
-one-table i packet x k (k₂ ∷ k₃ ∷ k₄ ∷ k₅ ∷ ks) eight few e room =
+one-table i packet x k [] slots few e room = absurd (omega arith)
+one-table i packet x k (k₂ ∷ []) slots few e room = absurd (omega arith)
+one-table i packet x k (k₂ ∷ k₃ ∷ []) slots few e room = absurd (omega arith)
+one-table i packet x k (k₂ ∷ k₃ ∷ k₄ ∷ []) slots few e room = absurd (omega arith)
+one-table i packet x k (k₂ ∷ k₃ ∷ k₄ ∷ k₅ ∷ ks) slots few e room =
     let b = begun i packet x e in
     let is = taken-all (s x) (x .nets) (opening-table i x (b .passing)) (k ∷ k₂ ∷ k₃ ∷ k₄ ∷ k₅ ∷ ks) in
-    ends i packet x b eight (withTable (x .nets) (k ∷ k₂ ∷ k₃ ∷ k₄ ∷ k₅ ∷ ks)) few _ _ _ _ _ _ is
+    ends i packet x b slots (withTable (x .nets) (k ∷ k₂ ∷ k₃ ∷ k₄ ∷ k₅ ∷ ks)) few _ _ _ _ _ _ is
     (rw is (rw (with-long (x .nets) ks) room))
 
 pub walk-ends-holds : WalkEnds
 walk-ends-holds = record {
-  whole = λ i packet x bs b₁ b₂ b₃ b₄ b₅ more eight few e is room. ends i packet x (begun i packet x e) eight bs few b₁ b₂ b₃ b₄ b₅ more is room;
+  whole = λ i packet x bs b₁ b₂ b₃ b₄ b₅ more slots few e is room. ends i packet x (begun i packet x e) slots bs few b₁ b₂ b₃ b₄ b₅ more is room;
   one-table = one-table;
   by-table = λ i packet x bs t few e.
       let b = begun i packet x e in

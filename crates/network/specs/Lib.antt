@@ -13,6 +13,7 @@ pub mod LineCalls
 pub mod OwnAlone
 pub mod HalfDelay
 pub mod Room
+pub mod Slots
 pub mod Demand3
 pub mod NeverAlive
 pub mod MarkedOnce

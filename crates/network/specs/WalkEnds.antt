@@ -21,6 +21,7 @@ use Rattle.host.specs.Guard.{longest, guard, done}
 use Rattle.host.specs.Walk.{isOpen}
 use Rattle.calls.specs.Perform.{Outcome, step, openWalk, receive, refused, perform, left}
 use Rattle.network.specs.Range.{under}
+use Rattle.network.specs.Slots.{Slots}
 
 -- ---- boxes
 
@@ -80,14 +81,14 @@ pub record Ends (walked arrived : Outcome) : Type 0 where
 abbrev pub opening : (link : ℕ) (packet : List ℕ) → Lent → Outcome
 opening i packet x = perform (openWalk i packet) x
 
--- WALK-5, NET-11: for every packet and host with eight link slots
+-- WALK-5, NET-11: for every packet and every host with a slot for each link
 pub record WalkEnds : Type 0 where
   -- WALK-5, WALK-6, NET-11: with the counter of the first box that was not refused, and the table of the fifth
-  pub whole : (i : ℕ) (packet : List ℕ) (x : Lent) (bs : List Box) (b₁ b₂ b₃ b₄ b₅ : Box) (more : List Box) → length (x .host .links .all) ≡ 8 → countsFit bs ≡ true
+  pub whole : (i : ℕ) (packet : List ℕ) (x : Lent) (bs : List Box) (b₁ b₂ b₃ b₄ b₅ : Box) (more : List Box) → Slots (x .host .settings) (x .host .links) → countsFit bs ≡ true
       → opening i packet x .reply .answer ≡ Done → taken (x .host .settings) bs ≡ b₁ ∷ b₂ ∷ b₃ ∷ b₄ ∷ b₅ ∷ more → mostBoxes ≤ length (taken (x .host .settings) bs)
       → Ends (walkOn bs (left x (opening i packet x))) (perform (receive i (b₁ .counter) packet) (under (b₅ .nets) x))
   -- WALK-5: with one table throughout it is the arrival with that table
-  pub one-table : (i : ℕ) (packet : List ℕ) (x : Lent) (k : Counter) (ks : List Counter) → length (x .host .links .all) ≡ 8 → countsFit (withTable (x .nets) (k ∷ ks)) ≡ true
+  pub one-table : (i : ℕ) (packet : List ℕ) (x : Lent) (k : Counter) (ks : List Counter) → Slots (x .host .settings) (x .host .links) → countsFit (withTable (x .nets) (k ∷ ks)) ≡ true
       → opening i packet x .reply .answer ≡ Done → mostBoxes ≤ length (k ∷ ks)
       → Ends (walkOn (withTable (x .nets) (k ∷ ks)) (left x (opening i packet x))) (perform (receive i k packet) x)
   -- NET-9: an open walk's box is refused only because of its table

@@ -260,7 +260,7 @@ module _ (r : Room) (proper : Proper r) (ways : r .longest ≤ longestWay) where
 
   -- ---- the claim
 
-  right-claim : (w : World) → RightWorld r w → Claim r w
+  pub right-claim : (w : World) → RightWorld r w → Claim r w
   unfolding Claim
   right-claim w right b i hb hi up =
       let few : i < hostCount (r .settings b) = omega (arith, good b hb .hosts-to) in

@@ -1,0 +1,9 @@
+pub mod Entry
+pub mod Cables
+pub mod Arrivals
+pub mod Calls
+pub mod Sends
+pub mod Worlds
+pub mod Law
+pub mod Example
+pub mod Newest

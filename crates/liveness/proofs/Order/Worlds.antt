@@ -1,0 +1,398 @@
+-- Each call of a round of any order, at its seat and in the world.
+use mathlib.Core.Path.{_≡_, refl, sym, ap, subst, subst₂, _∙_}
+use mathlib.Core.Bool.{_&&_, Bool, true, false, cond, and-false, or-true}
+use mathlib.Core.List.{List, _∷_}
+use Prim.Native.Nat.{ℕ, _+_, _-_, _≤_, _<_}
+use native.Mathlib.Omega.{arith}
+use borrow.Author.Tests.{eqb-true, eqb-false, eq-eqb, ne-eqb, ltb-false}
+use lib.Dec.{T, ltb, eqb}
+use lib.IntN.{ℤ, _+ℤ_}
+use lib.ListN.{length, getD, take, length-take}
+use lib.Seq.{getD-take}
+use Rattle.lists.proofs.Tests.{either, both}
+use Rattle.clock.specs.declared.Counter.{Counter}
+use Rattle.table.specs.declared.Entry.{Entry}
+use Rattle.table.specs.Entry.{freshEntry}
+use Rattle.table.specs.Entry as entry
+use Rattle.class_table.specs.declared.ClassTable.{ClassTable}
+use Rattle.host.specs.declared.Link.{Link}
+use Rattle.host.specs.declared.Links.{Links}
+use Rattle.host.specs.Guard.{done, noPlaces}
+use Rattle.host.specs.Settings.{linkCount}
+use Rattle.host.specs.State.{placesPerHost, firstPlace, hostCount, linkOf, freshLink, unset}
+use Rattle.host.specs.Lent.{Lent}
+use Rattle.host.specs.Walk.{isOpen}
+use Rattle.host.proofs.Guarded.{counted}
+use Rattle.host.proofs.Places.{Holds}
+use Rattle.arrival.specs.declared.Delivery.the-variants.{Act}
+use Rattle.calls.specs.Perform.{act, Outcome, perform}
+use Rattle.calls.proofs.Pair.{receive-acts}
+use Rattle.network.specs.Left.{messageOf}
+use Rattle.network.specs.History.{Left, leftBy, places, after}
+use Rattle.network.specs.Room.{longestWay, Room, at, lentAt, HostAt, Proper}
+use Rattle.network.specs.Demand3.{RoomCall, ticks, seconds, reports, sends, arrives, acts, inspects, opens, steps, adjusts, sets, clocks, looks, callOf, Step, Message, World, result, mailAfter, step, timed, Later, Delivered, Allowed, entryOf}
+use Rattle.network.proofs.Lists.{All, all-getD, all-weaken, all-there}
+use Rattle.network.proofs.HostPlaces.{entries-first}
+use Rattle.network.proofs.Performs.{perform-short}
+use Rattle.network.proofs.Demand1.Frame.{frame-holds}
+use Rattle.network.specs.Frame.{Frame}
+use Rattle.network.proofs.Demand3.Invariant.{RightWorld}
+use Rattle.liveness.specs.Numbers.{quickWay, roundSeconds}
+use Rattle.liveness.specs.Seconds.{isSecond, counts}
+use Rattle.liveness.proofs.Lines.{anyHops}
+use Rattle.liveness.specs.Order.{Next, Fresh, came, lastAfter}
+use Rattle.network.proofs.Demand3.Histories.{a-send, a-delivery}
+use Rattle.liveness.proofs.Rounds.Heard.{Mine}
+use Rattle.liveness.proofs.Rounds.Entry.{hearing}
+use Rattle.liveness.proofs.Order.Entry.{Better, better-same}
+use Rattle.liveness.proofs.Order.Cables.{Web, Arrow, Letter, Posted, none, one, web-after}
+use Rattle.liveness.proofs.Order.Arrivals.{LinkOk, LinksOk, Sure, Lends-so, Leaves-so, act-loose}
+use Rattle.liveness.proofs.Order.Sends.{send-good}
+use Rattle.liveness.proofs.Order.Calls.{tick-good, adjust-good, set-good, clock-good, look-good, inspect-good, step-good, second-good, report-good}
+use Rattle.liveness.proofs.Rounds.Worlds.{gain, flags, no-flags, full-places, flagsAfter}
+
+module _ (r : Room) (proper : Proper r) (ways : r .longest ≤ longestWay) (quick : r .longest ≤ quickWay) (c i k : ℕ) (hc : c < r .seats) (host : HostAt r i c) (few : (b : ℕ) → b < r .seats → i < hostCount (r .settings b)) where
+  pub record SeatFree (b s : ℕ) (heard : ℕ → Bool) (x : Left) : Type 0 where
+    pub shut : isOpen (x .walk) ≡ false
+    pub room : linkCount (r .settings b) ≤ length (x .links .all)
+    pub long : hostCount (r .settings b) ≤ length (x .places)
+    pub mine : Mine r c b k anyHops s heard (getD (x .places) i freshEntry)
+    pub links : LinksOk r k heard b (getD (x .places) i freshEntry) (x .links)
+
+  abbrev pub table : World → ℕ → Entry
+  table w b = entryOf r w b i
+
+  pub record FreeWorld (s : ℕ → ℕ) (heard : ℕ → ℕ → Bool) (last : ℕ → ℕ → ℕ) (w : World) : Type 0 where
+    pub seats : (b : ℕ) → b < r .seats → SeatFree b (s b) (heard b) (w .state (r .number b))
+    pub web : Web r c i k (table w) (w .mail) last
+
+  from-1 : (b j a l : ℕ) → r .cable b j ≡ at a l → 1 ≤ j
+  from-1 b j a l cord = counted (r .settings b) j (proper .cables b j a l cord .link-in) .from-one
+
+  module _ (w : World) (right : RightWorld r w) (b : ℕ) (inside : b < r .seats) (nets : ClassTable) (links : Links) (copy : List ℕ) (run : List Entry) (sd : ℕ → ℕ) (hd : ℕ → ℕ → Bool) (last : ℕ → ℕ → ℕ) (free : FreeWorld sd hd last w) where
+    abbrev now : Left
+    now = w .state (r .number b)
+
+    abbrev E : ℕ → Entry
+    E = table w
+
+    abbrev s : ℕ
+    s = sd b
+
+    abbrev heard : ℕ → Bool
+    heard = hd b
+
+    abbrev at-seat : RoomCall → Step
+    at-seat call = record { seat = b; nets = nets; links = links; copy = copy; run = run; call = call }
+
+    seat : SeatFree b s heard now
+    seat = free .seats b inside
+
+    lent : (call : RoomCall) → Allowed r w (at-seat call) → Lends-so r proper c i k E (w .mail) b (last b) s heard links run
+    lent call ok =
+        record {
+          room = omega (arith, seat .room, length-take (linkCount (r .settings b)) (links .all), length-take (linkCount (r .settings b)) (now .links .all), ap length (ok .lends .own-links));
+          now =
+              record {
+                mine = seat .mine;
+                links =
+                    λ j a n cord.
+                    let h = counted (r .settings b) j (proper .cables b j a n cord .link-in) .at-place in
+                    let same : linkOf links j ≡ linkOf (now .links) j =
+                    sym (getD-take (linkCount (r .settings b)) (links .all) (j - 1) (freshLink unset) h)
+                    ∙ ap (λ (ys : List Link). getD ys (j - 1) (freshLink unset)) (ok .lends .own-links)
+                    ∙ getD-take (linkCount (r .settings b)) (now .links .all) (j - 1) (freshLink unset) h in
+                    subst (LinkOk r k (heard j) j a (E b)) (sym same) (seat .links j a n cord);
+                better = better-same (E b);
+                arrows = λ j a n cord t at-j. let e = free .web b j a n cord in record { leads = e .leads t at-j; heads = e .heads t at-j };
+              };
+          table =
+              λ holds.
+              subst (All (λ (id : ℕ) (e : Entry). id ≡ i → e ≡ E b)) (sym (ok .lends .own-entries holds))
+              (all-weaken (λ (id : ℕ) (e : Entry). e ≡ getD (take (hostCount (r .settings b)) (now .places)) id freshEntry) (λ (id : ℕ) (e : Entry). id ≡ i → e ≡ E b)
+              (λ id e is same.
+              is ∙ ap (λ (q : ℕ). getD (take (hostCount (r .settings b)) (now .places)) q freshEntry) same ∙ getD-take (hostCount (r .settings b)) (now .places) i freshEntry (few b inside))
+              (take (hostCount (r .settings b)) (now .places)) (all-getD freshEntry (take (hostCount (r .settings b)) (now .places))));
+        }
+
+    -- what a call has to show
+    pub record Turn (call : RoomCall) (last′ : ℕ → ℕ → ℕ) : Type 0 where
+      pub grows : (p q : ℕ) → last p q ≤ last′ p q
+      pub closed : isOpen (result r w (at-seat call) .walk) ≡ false
+      pub left : Leaves-so r proper c i k E (w .mail) b (last′ b) (s + gain call (result r w (at-seat call))) (flags r c b call (done (result r w (at-seat call) .reply .answer)) heard) run
+          (result r w (at-seat call) .links) (result r w (at-seat call) .run)
+      pub post : Posted r c i k E b (w .mail) (mailAfter b (result r w (at-seat call)) call (w .mail))
+
+    none-more : {z′ : ℕ → ℕ} {heard′ : ℕ → Bool} {l′ : Links} {run′ : List Entry} → Leaves-so r proper c i k E (w .mail) b z′ s heard′ run l′ run′ → Leaves-so r proper c i k E (w .mail) b z′ (s + 0) heard′ run l′ run′
+    none-more f = let z : s + 0 ≡ s = omega arith in rw z f
+
+    tick-turn : (n : _) (ok : Allowed r w (at-seat (ticks n))) → Turn (ticks n) last
+    tick-turn n ok =
+        let t = tick-good r proper c i k E (w .mail) last (free .web) b s heard inside hc host (from-1 b) nets (now .clock) links (now .walk) copy run (lent (ticks n) ok) (seat .shut) n in
+        record { grows = λ p q. omega arith; closed = t .closed; left = none-more (t .left); post = none }
+
+    adjust-turn : (n : _) (ok : Allowed r w (at-seat (adjusts n))) → Turn (adjusts n) last
+    adjust-turn n ok =
+        let t = adjust-good r proper c i k E (w .mail) last (free .web) b s heard inside hc host (from-1 b) nets (now .clock) links (now .walk) copy run (lent (adjusts n) ok) (seat .shut) n in
+        record { grows = λ p q. omega arith; closed = t .closed; left = none-more (t .left); post = none }
+
+    set-turn : (ms : ℤ) (n : _) (ok : Allowed r w (at-seat (sets ms n))) → Turn (sets ms n) last
+    set-turn ms n ok =
+        let t = set-good r proper c i k E (w .mail) last (free .web) b s heard inside hc host (from-1 b) nets (now .clock) links (now .walk) copy run (lent (sets ms n) ok) (seat .shut) ms n in
+        record { grows = λ p q. omega arith; closed = t .closed; left = none-more (t .left); post = none }
+
+    clock-turn : (κ : Counter) (ok : Allowed r w (at-seat (clocks κ))) → Turn (clocks κ) last
+    clock-turn κ ok =
+        let t = clock-good r proper c i k E (w .mail) last (free .web) b s heard inside hc host (from-1 b) nets (now .clock) links (now .walk) copy run (lent (clocks κ) ok) (seat .shut) κ in
+        record { grows = λ p q. omega arith; closed = t .closed; left = none-more (t .left); post = none }
+
+    look-turn : (d : _) (ok : Allowed r w (at-seat (looks d))) → Turn (looks d) last
+    look-turn d ok =
+        let t = look-good r proper c i k E (w .mail) last (free .web) b s heard inside hc host (from-1 b) nets (now .clock) links (now .walk) copy run (lent (looks d) ok) (seat .shut) d in
+        record { grows = λ p q. omega arith; closed = t .closed; left = none-more (t .left); post = none }
+
+    inspect-turn : (j : ℕ) (packet : List ℕ) (ok : Allowed r w (at-seat (inspects j packet))) → Turn (inspects j packet) last
+    inspect-turn j packet ok =
+        let t = inspect-good r proper c i k E (w .mail) last (free .web) b s heard inside hc host (from-1 b) nets (now .clock) links (now .walk) copy run (lent (inspects j packet) ok) (seat .shut) j packet in
+        record { grows = λ p q. omega arith; closed = t .closed; left = none-more (t .left); post = none }
+
+    step-turn : (κ : Counter) (t : ℤ) (ok : Allowed r w (at-seat (steps κ t))) → Turn (steps κ t) last
+    step-turn κ ms ok =
+        let t = step-good r proper c i k E (w .mail) last (free .web) b s heard inside hc host (from-1 b) nets (now .clock) links (now .walk) copy run (lent (steps κ ms) ok) (seat .shut) κ in
+        record { grows = λ p q. omega arith; closed = t .closed; left = none-more (t .left); post = none }
+
+    second-turn : (ok : Allowed r w (at-seat seconds)) → s + gain seconds (result r w (at-seat seconds)) ≤ roundSeconds → Turn seconds last
+    second-turn ok short =
+        let t = second-good r proper c i k E (w .mail) last (free .web) b s heard inside hc host (from-1 b) nets (now .clock) links (now .walk) copy run (lent seconds ok) (seat .shut) short in
+        record { grows = λ p q. omega arith; closed = t .closed; left = t .left; post = none }
+
+    report-turn : (κ : Counter) (ok : Allowed r w (at-seat (reports κ))) → Turn (reports κ) last
+    report-turn κ ok =
+        let t = report-good r proper c i k E (w .mail) last (free .web) b s heard inside hc host (from-1 b) nets (now .clock) links (now .walk) copy run (lent (reports κ) ok) (seat .shut) κ in
+        record { grows = λ p q. omega arith; closed = t .closed; left = none-more (t .left); post = none }
+
+    send-turn : (j : ℕ) (κ : Counter) (buffer : List ℕ) (t : ℤ) → Allowed r w (at-seat (sends j κ buffer t)) → Turn (sends j κ buffer t) last
+    unfolding Frame
+    send-turn j κ buffer t ok =
+        let x = lentAt r b nets (now .clock) links (now .walk) copy run in
+        let sent =
+        send-good r proper c i k E (w .mail) last (free .web) sd hd (λ d hd-in. free .seats d hd-in .mine .steady) b s heard inside (few b inside) nets (now .clock) links (now .walk) copy run
+        (lent (sends j κ buffer t) ok) j κ buffer in
+        record {
+          grows = λ p q. omega arith;
+          closed = ap isOpen (frame-holds (callOf (sends j κ buffer t)) x .walk (a-send r proper ways w right b inside nets links copy run j κ buffer)) ∙ seat .shut;
+          left = none-more (sent .left);
+          post =
+              posted
+              (λ e.
+              record {
+                word = λ d n cord. let back = proper .cables d n b j cord .other-end in λ worded. sent .message e .says d n back worded .0;
+                head = λ d n cord. let back = proper .cables d n b j cord .other-end in λ worded. sent .message e .says d n back worded .1;
+                after = λ d n cord. let back = proper .cables d n b j cord .other-end in λ worded. sent .message e .says d n back worded .2;
+              })
+              (done (o .reply .answer)) refl;
+        }
+      where
+        o : Outcome
+        o = result r w (at-seat (sends j κ buffer t))
+
+        letter : Message
+        letter = record { seat = b; link = j; ms = t; octets = messageOf o }
+
+        posted : (done (o .reply .answer) ≡ true → Letter r c i k E (w .mail) letter) → (d : Bool) → done (o .reply .answer) ≡ d → Posted r c i k E b (w .mail) (cond d (letter ∷ w .mail) (w .mail))
+        posted says false e = none
+        posted says true e = one letter refl (says e)
+
+    acts-turn : (j : ℕ) (κ : Counter) (packet : List ℕ) (t : ℤ) → Allowed r w (at-seat (acts j κ packet t)) → (new : Next r w last b j packet) → Turn (acts j κ packet t) (came b j (new .number) last)
+    unfolding Frame
+    acts-turn j κ packet t ok new =
+        record {
+          grows = grow;
+          closed = ap isOpen (frame-holds (act j κ packet) x .walk (a-delivery r proper ways w right b inside nets links copy run (Act j κ) packet)) ∙ seat .shut;
+          left =
+              none-more
+              (subst (λ (o : List ℕ). Leaves-so r proper c i k E (w .mail) b (came b j (new .number) last b) s (cond (done (perform (act j κ o) x .reply .answer)) (hearing r c b j heard) heard) run (perform (act j κ o) x .links) (perform (act j κ o) x .run)) (sym (d .a-copy))
+              (act-loose r proper quick c i k E (w .mail) last (free .web) b s heard inside nets (now .clock) links (now .walk) copy run
+              (lent (acts j κ packet t) ok) j (d .message) (d .other-end) (right .mail (d .message) (d .earlier)) (new .message) (new .number) (new .stands)
+              (seat-is (new .message .seat) (new .message .link) (new .other-end)) (link-is (new .message .seat) (new .message .link) (new .other-end)) (sym (new .a-copy) ∙ d .a-copy) (new .in-order)
+              (came b j (new .number) last b) (grow b) (rw (eq-eqb b b refl, eq-eqb j j refl) refl) κ
+              (λ e.
+              let later = subst (λ (o : List ℕ). T (timed (result r w (at-seat (acts j κ o t)) .reply .answer)) → Later r w b κ t (d .message)) (d .a-copy) (d .in-time) e in
+              record { way = later .way; short = later .short; clock = later .reads .clock ∙ ap (λ (z : ℤ). z +ℤ r .fixed b) (later .later) })));
+          post = none;
+        }
+      where
+        x : Lent
+        x = lentAt r b nets (now .clock) links (now .walk) copy run
+
+        d : Delivered r w b j κ packet t (result r w (at-seat (acts j κ packet t)) .reply .answer)
+        d = ok .timely
+
+        seat-is : (p q : ℕ) → r .cable b j ≡ at p q → p ≡ d .message .seat
+        seat-is p q z = let y = d .other-end in cc
+
+        link-is : (p q : ℕ) → r .cable b j ≡ at p q → q ≡ d .message .link
+        link-is p q z = let y = d .other-end in cc
+
+        grow : (p q : ℕ) → last p q ≤ came b j (new .number) last p q
+        grow p q =
+            either (λ (v : ℕ). last p q ≤ v) (eqb p b && eqb q j) _ _
+            (λ t. let x = both _ _ t in subst₂ (λ (y z : ℕ). last y z ≤ new .number) (sym (eqb-true p b (x .0))) (sym (eqb-true q j (x .1))) (new .in-order))
+            (λ _. omega arith)
+
+    arrives-turn : (j : ℕ) (κ : Counter) (packet : List ℕ) (t : ℤ) → Allowed r w (at-seat (arrives j κ packet t)) → (new : Next r w last b j packet) → Turn (arrives j κ packet t) (came b j (new .number) last)
+    arrives-turn j κ packet t ok new =
+        let x = lentAt r b nets (now .clock) links (now .walk) copy run in
+        let same = receive-acts j κ packet x in
+        let a =
+        acts-turn j κ packet t
+        record { seat-in = ok .seat-in; lends = ok .lends; timely = subst (λ (o : Outcome). Delivered r w b j κ packet t (o .reply .answer)) same (ok .timely) } new in
+        record {
+          grows = a .grows;
+          closed = ap (λ (o : Outcome). isOpen (o .walk)) same ∙ a .closed;
+          left =
+              subst (λ (o : Outcome). Leaves-so r proper c i k E (w .mail) b (came b j (new .number) last b) (s + 0) (cond (done (o .reply .answer)) (hearing r c b j heard) heard) run (o .links) (o .run)) (sym same) (a .left);
+          post = none;
+        }
+
+    pub any-turn : (call : RoomCall) → Allowed r w (at-seat call) → (may : Fresh r w last b call) → s + gain call (result r w (at-seat call)) ≤ roundSeconds → Turn call (lastAfter r w last b call may)
+    any-turn (ticks n) ok may short = tick-turn n ok
+    any-turn seconds ok may short = second-turn ok short
+    any-turn (reports κ) ok may short = report-turn κ ok
+    any-turn (sends j κ buffer t) ok may short = send-turn j κ buffer t ok
+    any-turn (arrives j κ packet t) ok may short = arrives-turn j κ packet t ok may
+    any-turn (acts j κ packet t) ok may short = acts-turn j κ packet t ok may
+    any-turn (inspects j packet) ok may short = inspect-turn j packet ok
+    any-turn (opens j packet) ok may short = absurd may
+    any-turn (steps κ t) ok may short = step-turn κ t ok
+    any-turn (adjusts n) ok may short = adjust-turn n ok
+    any-turn (sets ms n) ok may short = set-turn ms n ok
+    any-turn (clocks κ) ok may short = clock-turn κ ok
+    any-turn (looks d) ok may short = look-turn d ok
+
+    -- ---- the seat afterwards
+
+    abbrev left-there : RoomCall → Left
+    left-there call = leftBy (r .number b) (now .places) (result r w (at-seat call))
+
+    pub left-sure : (call : RoomCall) (last′ : ℕ → ℕ → ℕ) → Allowed r w (at-seat call) → Turn call last′
+        → Sure r proper c i k E (w .mail) b (last′ b) (s + gain call (result r w (at-seat call))) (flags r c b call (done (result r w (at-seat call) .reply .answer)) heard) (result r w (at-seat call) .links)
+        (getD (left-there call .places) i freshEntry)
+    unfolding noPlaces
+    left-sure call last′ ok t =
+        either (λ (l : List Entry). Sure-now (getD l i freshEntry)) (ltb (length (o .run)) (firstPlace (r .number b) + placesPerHost)) _ _
+        (λ z. short-run (rw (t .left .same-length) at z))
+        (λ z.
+        let h = ltb-false (length (o .run)) (firstPlace (r .number b) + placesPerHost) z in
+        let held : Holds (r .number b) run = omega (arith, t .left .same-length) in
+        let all : All (λ (id : ℕ) (e : Entry). id ≡ i → Sure-now e) (take (hostCount (r .settings b)) (places (r .number b) (o .run))) =
+        subst (All (λ (id : ℕ) (e : Entry). id ≡ i → Sure-now e)) (entries-first (r .settings b) (r .number b) (o .run)) (t .left .table held) in
+        let it = all-there (λ (id : ℕ) (e : Entry). id ≡ i → Sure-now e) freshEntry (take (hostCount (r .settings b)) (places (r .number b) (o .run))) all i
+        (omega (arith, few b inside, full-places (r .settings b) (r .number b) (o .run) h, length-take (hostCount (r .settings b)) (places (r .number b) (o .run)))) refl in
+        subst Sure-now (getD-take (hostCount (r .settings b)) (places (r .number b) (o .run)) i freshEntry (few b inside)) it)
+      where
+        o : Outcome
+        o = result r w (at-seat call)
+
+        Sure-now : Entry → Type 0
+        Sure-now = Sure r proper c i k E (w .mail) b (last′ b) (s + gain call o) (flags r c b call (done (o .reply .answer)) heard) (o .links)
+
+        still : Sure r proper c i k E (w .mail) b (last′ b) s heard links (E b)
+        still =
+            let q = lent call ok .now in
+            record {
+              mine = q .mine;
+              links = q .links;
+              better = q .better;
+              arrows = λ j a n cord v at-j. let y = q .arrows j a n cord v at-j in record { leads = y .leads; heads = λ m g it late. y .heads m g it (omega (arith, late, t .grows b j)) };
+            }
+
+        -- a run that does not hold the seat's places has the call refused
+        short-run : ltb (length run) (firstPlace (r .number b) + placesPerHost) ≡ true → Sure-now (E b)
+        short-run e =
+            let x = lentAt r b nets (now .clock) links (now .walk) copy run in
+            let gone : noPlaces (r .number b) run ≡ true = rw e (or-true (ltb 15 (r .number b))) in
+            let short = perform-short (callOf call) x gone in
+            let no : done (o .reply .answer) ≡ false = ap (λ (q : Outcome). done (q .reply .answer)) short in
+            let zero-more : gain call o ≡ 0 = ap (gain call) short ∙ rw (and-false (isSecond call)) in
+            let z : s + gain call o ≡ s = omega arith in
+            let f : flags r c b call (done (o .reply .answer)) heard ≡ heard = ap (λ (q : Bool). flags r c b call q heard) no ∙ no-flags r c b call heard in
+            let l-is : o .links ≡ links = ap (λ (q : Outcome). q .links) short in
+            subst (λ (l : Links). Sure r proper c i k E (w .mail) b (last′ b) (s + gain call o) (flags r c b call (done (o .reply .answer)) heard) l (E b)) (sym l-is)
+            (subst₂ (λ (t : ℕ) (on : ℕ → Bool). Sure r proper c i k E (w .mail) b (last′ b) t on links (E b)) (sym z) (sym f) still)
+
+    pub left-free : (call : RoomCall) (last′ : ℕ → ℕ → ℕ) → Allowed r w (at-seat call) → Turn call last′
+        → SeatFree b (s + gain call (result r w (at-seat call))) (flags r c b call (done (result r w (at-seat call) .reply .answer)) heard) (left-there call)
+    left-free call last′ ok t =
+        let o = result r w (at-seat call) in
+        let sure = left-sure call last′ ok t in
+        record {
+          shut = t .closed;
+          room = t .left .room;
+          long =
+              either (λ (l : List Entry). hostCount (r .settings b) ≤ length l) (ltb (length (o .run)) (firstPlace (r .number b) + placesPerHost)) _ _ (λ _. seat .long)
+              (λ z. full-places (r .settings b) (r .number b) (o .run) (ltb-false (length (o .run)) (firstPlace (r .number b) + placesPerHost) z));
+          mine = sure .mine;
+          links = sure .links;
+        }
+
+  -- ---- the world
+
+  abbrev pub flags-then : (w : World) (x : Step) → (ℕ → ℕ → Bool) → ℕ → ℕ → Bool
+  flags-then = flagsAfter r proper ways quick c i k hc host few
+
+  pub record Then (s : ℕ → ℕ) (heard : ℕ → ℕ → Bool) (last′ : ℕ → ℕ → ℕ) (w : World) (x : Step) : Type 0 where
+    pub free : FreeWorld (λ b. s b + counts r w b x) (flags-then w x heard) last′ (step r w x)
+    pub better : (b : ℕ) → b < r .seats → Better (table w b) (table (step r w x) b)
+
+  pub world-free : (s : ℕ → ℕ) (heard : ℕ → ℕ → Bool) (last last′ : ℕ → ℕ → ℕ) (w : World) (right : RightWorld r w) (x : Step) (ok : Allowed r w x) (free : FreeWorld s heard last w)
+      → Turn w right (x .seat) (ok .seat-in) (x .nets) (x .links) (x .copy) (x .run) s heard last free (x .call) last′
+      → Then s heard last′ w x
+  unfolding step after
+  world-free s heard last last′ w right x ok free turn =
+      record { free = record { seats = seats; web = web-after r c i k proper (table w) (table (step r w x)) (w .mail) (step r w x .mail) last last′ (turn .grows) a others own-better own-arrows (turn .post) (free .web) }; better = better }
+    where
+      a : ℕ
+      a = x .seat
+
+      here : eqb a a ≡ true
+      here = eq-eqb a a refl
+
+      own : SeatFree a (s a + counts r w a x) (flags-then w x heard a) (leftBy (r .number a) (w .state (r .number a) .places) (result r w x))
+      own = rw here (left-free w right a (ok .seat-in) (x .nets) (x .links) (x .copy) (x .run) s heard last free (x .call) last′ ok turn)
+
+      seats : (b : ℕ) → b < r .seats → SeatFree b (s b + counts r w b x) (flags-then w x heard b) (step r w x .state (r .number b))
+      seats b hb =
+          either (SeatFree b (s b + counts r w b x) (flags-then w x heard b)) (eqb (r .number b) (r .number a)) _ _
+          (λ e.
+          let same : a ≡ b = proper .numbers-differ a b (ok .seat-in) hb (sym (eqb-true (r .number b) (r .number a) e)) in
+          subst (λ (d : ℕ). SeatFree d (s d + counts r w d x) (flags-then w x heard d) (leftBy (r .number a) (w .state (r .number a) .places) (result r w x))) same own)
+          (λ e.
+          let other : eqb a b ≡ false = ne-eqb a b (λ z. eqb-false (r .number b) (r .number a) e (ap (r .number) (sym z))) in
+          let no-more : counts r w b x ≡ 0 = rw other in
+          let z : s b + counts r w b x ≡ s b = omega arith in
+          rw (z, other) (free .seats b hb))
+
+      others : (q : ℕ) → q < r .seats → (q ≡ a → ⊥) → table (step r w x) q ≡ table w q
+      others q hq other =
+          let e : eqb (r .number q) (r .number a) ≡ false = ne-eqb (r .number q) (r .number a) (λ z. other (proper .numbers-differ q a hq (ok .seat-in) z)) in
+          rw e refl
+
+      own-is : table (step r w x) a ≡ getD (leftBy (r .number a) (w .state (r .number a) .places) (result r w x) .places) i freshEntry
+      own-is = rw (eq-eqb (r .number a) (r .number a) refl) refl
+
+      sure : Sure r proper c i k (table w) (w .mail) a (last′ a) (s a + gain (x .call) (result r w x)) (flags r c a (x .call) (done (result r w x .reply .answer)) (heard a)) (result r w x .links) (table (step r w x) a)
+      sure = rw own-is (left-sure w right a (ok .seat-in) (x .nets) (x .links) (x .copy) (x .run) s heard last free (x .call) last′ ok turn)
+
+      own-better : Better (table w a) (table (step r w x) a)
+      own-better = sure .better
+
+      own-arrows : (j d l : ℕ) → r .cable a j ≡ at d l → entry.up (table (step r w x) a) ≡ true → table (step r w x) a .pid ≡ j → Arrow r c i k a j d l (table (step r w x) a) (table w d) (w .mail) (last′ a j)
+      own-arrows = sure .arrows
+
+      better : (b : ℕ) → b < r .seats → Better (table w b) (table (step r w x) b)
+      better b hb = go (eqb b a) refl
+        where
+          go : (t : Bool) → eqb b a ≡ t → Better (table w b) (table (step r w x) b)
+          go true e = subst (λ (q : ℕ). Better (table w q) (table (step r w x) q)) (sym (eqb-true b a e)) own-better
+          go false e = subst (Better (table w b)) (sym (others b hb (eqb-false b a e))) (better-same (table w b))

@@ -1,0 +1,9 @@
+pub mod Entry
+pub mod Heard
+pub mod Tables
+pub mod Arrivals
+pub mod Sends
+pub mod Calls
+pub mod Worlds
+pub mod Law
+pub mod Example

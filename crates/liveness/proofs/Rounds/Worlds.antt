@@ -1,0 +1,368 @@
+-- Each call of a round, at its seat and in the world.
+use mathlib.Core.Path.{_≡_, refl, sym, ap, subst, subst₂, _∙_}
+use mathlib.Core.Bool.{Bool, true, false, true≢false, false≢true, cond, and-false, or-true, _&&_}
+use mathlib.Core.List.{List, [], _∷_, List·Memᴰ, List·Memᴰ·cases-cons}
+use mathlib.Core.Logic.{_⊎_, inl, inr}
+use Prim.Native.Nat.{ℕ, suc, _+_, _-_, _≤_, _<_, min}
+use native.Mathlib.Omega.{arith}
+use borrow.Author.Tests.{eqb-true, eqb-false, eq-eqb, ne-eqb, ltb-false}
+use lib.Dec.{T, ltb, eqb}
+use lib.IntN.{ℤ, _+ℤ_}
+use lib.ListN.{length, getD, take, drop, length-take, length-drop}
+use lib.Seq.{getD-take}
+use Rattle.lists.proofs.Tests.{either}
+use Rattle.clock.specs.declared.Counter.{Counter}
+use Rattle.table.specs.declared.Entry.{Entry}
+use Rattle.class_table.specs.declared.ClassTable.{ClassTable}
+use Rattle.host.specs.declared.Settings.{Settings}
+use Rattle.host.specs.declared.Link.{Link}
+use Rattle.host.specs.declared.Links.{Links}
+use Rattle.host.specs.Guard.{done, noPlaces}
+use Rattle.host.specs.Settings.{linkCount}
+use Rattle.host.specs.State.{placesPerHost, firstPlace, hostCount, linkOf, freshLink, unset, noLink}
+use Rattle.host.specs.Lent.{Lent}
+use Rattle.host.specs.Walk.{isOpen}
+use Rattle.host.proofs.Guarded.{counted}
+use Rattle.host.proofs.Places.{Holds}
+use Rattle.arrival.specs.declared.Delivery.the-variants.{Act}
+use Rattle.calls.specs.Perform.{act, Outcome, perform}
+use Rattle.calls.proofs.Pair.{receive-acts}
+use Rattle.network.specs.Left.{messageOf}
+use Rattle.network.specs.History.{Left, Lends, leftBy, places, after}
+use Rattle.network.specs.Room.{longestWay, Room, at, lentAt, HostAt, Proper}
+use Rattle.network.specs.Demand3.{RoomCall, ticks, seconds, reports, sends, arrives, acts, inspects, opens, steps, adjusts, sets, clocks, looks, callOf, Step, Message, World, result, mailAfter, step, history, timed, Later, Delivered, Allowed, Allows}
+use Rattle.network.proofs.Lists.{All}
+use Rattle.network.proofs.HostPlaces.{entries-first}
+use Rattle.network.proofs.Performs.{perform-short}
+use Rattle.network.proofs.Demand1.Frame.{frame-holds}
+use Rattle.network.specs.Frame.{Frame}
+use Rattle.network.proofs.Demand3.Invariant.{RightWorld, RightMessage}
+use Rattle.liveness.specs.Numbers.{quickWay, roundSeconds}
+use Rattle.liveness.specs.Seconds.{isSecond, counts}
+use Rattle.liveness.specs.Rounds.{Speaks, Listens}
+use Rattle.network.proofs.Demand3.Histories.{a-send, a-delivery}
+use Rattle.liveness.proofs.Rounds.Heard.{Mine}
+use Rattle.liveness.proofs.Rounds.Entry.{hearing}
+use Rattle.liveness.proofs.Rounds.Arrivals.{GoodLinks, GoodLink, Lent-in, Left-so, GoodMail, act-good}
+use Rattle.liveness.proofs.Rounds.Sends.{send-good}
+use Rattle.liveness.proofs.Rounds.Calls.{Turned, tick-good, adjust-good, set-good, clock-good, look-good, inspect-good, step-good, second-good, report-good}
+
+abbrev pub gain : RoomCall → Outcome → ℕ
+gain call o = cond (isSecond call && done (o .reply .answer)) 1 0
+
+-- the links heard, after a call that answered 0 or not
+abbrev pub flags : (r : Room) (c b : ℕ) → RoomCall → Bool → (ℕ → Bool) → ℕ → Bool
+flags r c b (ticks n) d heard = heard
+flags r c b seconds d heard = heard
+flags r c b (reports k) d heard = cond d (hearing r c b 0 heard) heard
+flags r c b (sends j k buffer t) d heard = heard
+flags r c b (arrives j k packet t) d heard = cond d (hearing r c b j heard) heard
+flags r c b (acts j k packet t) d heard = cond d (hearing r c b j heard) heard
+flags r c b (inspects j packet) d heard = heard
+flags r c b (opens j packet) d heard = heard
+flags r c b (steps k t) d heard = heard
+flags r c b (adjusts n) d heard = heard
+flags r c b (sets ms n) d heard = heard
+flags r c b (clocks κ) d heard = heard
+flags r c b (looks a) d heard = heard
+
+pub no-flags : (r : Room) (c b : ℕ) (call : RoomCall) (heard : ℕ → Bool) → flags r c b call false heard ≡ heard
+no-flags r c b (ticks n) heard = refl
+no-flags r c b seconds heard = refl
+no-flags r c b (reports k) heard = refl
+no-flags r c b (sends j k buffer t) heard = refl
+no-flags r c b (arrives j k packet t) heard = refl
+no-flags r c b (acts j k packet t) heard = refl
+no-flags r c b (inspects j packet) heard = refl
+no-flags r c b (opens j packet) heard = refl
+no-flags r c b (steps k t) heard = refl
+no-flags r c b (adjusts n) heard = refl
+no-flags r c b (sets ms n) heard = refl
+no-flags r c b (clocks κ) heard = refl
+no-flags r c b (looks d) heard = refl
+
+-- all places of a host, in a run that holds them
+pub full-places : (s : Settings) (n : ℕ) (run : List Entry) → firstPlace n + placesPerHost ≤ length run → hostCount s ≤ length (places n run)
+full-places s n run h = omega (arith, length-take placesPerHost (drop (firstPlace n) run), length-drop (firstPlace n) run)
+
+module _ (r : Room) (proper : Proper r) (ways : r .longest ≤ longestWay) (quick : r .longest ≤ quickWay) (c i k : ℕ) (hc : c < r .seats) (host : HostAt r i c) (few : (b : ℕ) → b < r .seats → i < hostCount (r .settings b)) where
+  pub record SeatGood (speaking : Bool) (m b s : ℕ) (heard : ℕ → Bool) (x : Left) : Type 0 where
+    pub shut : isOpen (x .walk) ≡ false
+    pub room : linkCount (r .settings b) ≤ length (x .links .all)
+    pub links : GoodLinks r k speaking heard b (x .links)
+    pub long : hostCount (r .settings b) ≤ length (x .places)
+    pub table : All (λ (id : ℕ) (e : Entry). id ≡ i → Mine r c b k m s heard e) (take (hostCount (r .settings b)) (x .places))
+
+  pub record GoodWorld (speaking : Bool) (m : ℕ) (s : ℕ → ℕ) (heard : ℕ → ℕ → Bool) (w : World) : Type 0 where
+    pub seats : (b : ℕ) → b < r .seats → SeatGood speaking m b (s b) (heard b) (w .state (r .number b))
+    pub mail : (q : Message) → List·Memᴰ q (w .mail) → GoodMail r c i k q
+
+  from-1 : (b j a l : ℕ) → r .cable b j ≡ at a l → 1 ≤ j
+  from-1 b j a l cord = counted (r .settings b) j (proper .cables b j a l cord .link-in) .from-one
+
+  module _ (speaking : Bool) (m : ℕ) (w : World) (right : RightWorld r w) (b : ℕ) (inside : b < r .seats) (nets : ClassTable) (links : Links) (copy : List ℕ) (run : List Entry) (s : ℕ) (heard : ℕ → Bool) where
+    abbrev now : Left
+    now = w .state (r .number b)
+
+    abbrev at-seat : RoomCall → Step
+    at-seat call = record { seat = b; nets = nets; links = links; copy = copy; run = run; call = call }
+
+    module _ (seat : SeatGood speaking m b s heard now) (mail : (q : Message) → List·Memᴰ q (w .mail) → GoodMail r c i k q) (some : 1 ≤ m) where
+      lent : (call : RoomCall) → Allowed r w (at-seat call) → Lent-in r proper c i k b speaking m s heard links run
+      lent call ok =
+          record {
+            room = omega (arith, seat .room, length-take (linkCount (r .settings b)) (links .all), length-take (linkCount (r .settings b)) (now .links .all), ap length (ok .lends .own-links));
+            links =
+                λ j a n cord.
+                let h = counted (r .settings b) j (proper .cables b j a n cord .link-in) .at-place in
+                let same : linkOf links j ≡ linkOf (now .links) j =
+                sym (getD-take (linkCount (r .settings b)) (links .all) (j - 1) (freshLink unset) h)
+                ∙ ap (λ (ys : List Link). getD ys (j - 1) (freshLink unset)) (ok .lends .own-links)
+                ∙ getD-take (linkCount (r .settings b)) (now .links .all) (j - 1) (freshLink unset) h in
+                subst (GoodLink r k speaking (heard j) a) (sym same) (seat .links j a n cord);
+            table = λ holds. subst (All (λ (id : ℕ) (e : Entry). id ≡ i → Mine r c b k m s heard e)) (sym (ok .lends .own-entries holds)) (seat .table);
+          }
+
+      -- what a call has to show
+      pub record Turn (call : RoomCall) : Type 0 where
+        pub closed : isOpen (result r w (at-seat call) .walk) ≡ false
+        pub left : Left-so r proper c i k b speaking m (s + gain call (result r w (at-seat call))) (flags r c b call (done (result r w (at-seat call) .reply .answer)) heard) run
+            (result r w (at-seat call) .links) (result r w (at-seat call) .run)
+        pub post : (q : Message) → List·Memᴰ q (mailAfter b (result r w (at-seat call)) call (w .mail)) → GoodMail r c i k q
+
+      none-more : {heard′ : ℕ → Bool} {l′ : Links} {run′ : List Entry} → Left-so r proper c i k b speaking m s heard′ run l′ run′ → Left-so r proper c i k b speaking m (s + 0) heard′ run l′ run′
+      none-more f = let z : s + 0 ≡ s = omega arith in rw z f
+
+      tick-turn : (n : _) (ok : Allowed r w (at-seat (ticks n))) → Turn (ticks n)
+      tick-turn n ok =
+          let t = tick-good r proper c i k m b s heard speaking inside hc host some (from-1 b) nets (now .clock) links (now .walk) copy run (lent (ticks n) ok) (seat .shut) n in
+          record { closed = t .closed; left = none-more (t .left); post = mail }
+
+      adjust-turn : (n : _) (ok : Allowed r w (at-seat (adjusts n))) → Turn (adjusts n)
+      adjust-turn n ok =
+          let t = adjust-good r proper c i k m b s heard speaking inside hc host some (from-1 b) nets (now .clock) links (now .walk) copy run (lent (adjusts n) ok) (seat .shut) n in
+          record { closed = t .closed; left = none-more (t .left); post = mail }
+
+      set-turn : (ms : ℤ) (n : _) (ok : Allowed r w (at-seat (sets ms n))) → Turn (sets ms n)
+      set-turn ms n ok =
+          let t = set-good r proper c i k m b s heard speaking inside hc host some (from-1 b) nets (now .clock) links (now .walk) copy run (lent (sets ms n) ok) (seat .shut) ms n in
+          record { closed = t .closed; left = none-more (t .left); post = mail }
+
+      clock-turn : (κ : Counter) (ok : Allowed r w (at-seat (clocks κ))) → Turn (clocks κ)
+      clock-turn κ ok =
+          let t = clock-good r proper c i k m b s heard speaking inside hc host some (from-1 b) nets (now .clock) links (now .walk) copy run (lent (clocks κ) ok) (seat .shut) κ in
+          record { closed = t .closed; left = none-more (t .left); post = mail }
+
+      look-turn : (d : _) (ok : Allowed r w (at-seat (looks d))) → Turn (looks d)
+      look-turn d ok =
+          let t = look-good r proper c i k m b s heard speaking inside hc host some (from-1 b) nets (now .clock) links (now .walk) copy run (lent (looks d) ok) (seat .shut) d in
+          record { closed = t .closed; left = none-more (t .left); post = mail }
+
+      inspect-turn : (j : ℕ) (packet : List ℕ) (ok : Allowed r w (at-seat (inspects j packet))) → Turn (inspects j packet)
+      inspect-turn j packet ok =
+          let t = inspect-good r proper c i k m b s heard speaking inside hc host some (from-1 b) nets (now .clock) links (now .walk) copy run (lent (inspects j packet) ok) (seat .shut) j packet in
+          record { closed = t .closed; left = none-more (t .left); post = mail }
+
+      step-turn : (κ : Counter) (t : ℤ) (ok : Allowed r w (at-seat (steps κ t))) → Turn (steps κ t)
+      step-turn κ ms ok =
+          let t = step-good r proper c i k m b s heard speaking inside hc host some (from-1 b) nets (now .clock) links (now .walk) copy run (lent (steps κ ms) ok) (seat .shut) κ in
+          record { closed = t .closed; left = none-more (t .left); post = mail }
+
+      second-turn : (ok : Allowed r w (at-seat seconds)) → s + gain seconds (result r w (at-seat seconds)) ≤ roundSeconds → Turn seconds
+      second-turn ok short =
+          let t = second-good r proper c i k m b s heard speaking inside hc host some (from-1 b) nets (now .clock) links (now .walk) copy run (lent seconds ok) (seat .shut) short in
+          record { closed = t .closed; left = t .left; post = mail }
+
+      report-turn : (κ : Counter) (ok : Allowed r w (at-seat (reports κ))) → Turn (reports κ)
+      report-turn κ ok =
+          let t = report-good r proper c i k m b s heard speaking inside hc host some (from-1 b) nets (now .clock) links (now .walk) copy run (lent (reports κ) ok) (seat .shut) κ in
+          record { closed = t .closed; left = none-more (t .left); post = mail }
+
+      -- ---- the seat afterwards
+
+      left-good : (call : RoomCall) → Turn call
+          → SeatGood speaking m b (s + gain call (result r w (at-seat call))) (flags r c b call (done (result r w (at-seat call) .reply .answer)) heard) (leftBy (r .number b) (now .places) (result r w (at-seat call)))
+      unfolding noPlaces
+      left-good call t =
+          record {
+            shut = t .closed;
+            room = t .left .room;
+            links = t .left .links;
+            long =
+                either (λ (l : List Entry). hostCount (r .settings b) ≤ length l) (ltb (length (o .run)) (firstPlace (r .number b) + placesPerHost)) _ _ (λ _. seat .long)
+                (λ z. full-places (r .settings b) (r .number b) (o .run) (ltb-false (length (o .run)) (firstPlace (r .number b) + placesPerHost) z));
+            table =
+                either (λ (l : List Entry). All P (take (hostCount (r .settings b)) l)) (ltb (length (o .run)) (firstPlace (r .number b) + placesPerHost)) _ _
+                (λ z. short-run (rw (t .left .same-length) at z))
+                (λ z.
+                let h = ltb-false (length (o .run)) (firstPlace (r .number b) + placesPerHost) z in
+                let held : Holds (r .number b) run = omega (arith, t .left .same-length) in
+                subst (All P) (entries-first (r .settings b) (r .number b) (o .run)) (t .left .table held));
+          }
+        where
+          o : Outcome
+          o = result r w (at-seat call)
+
+          P : ℕ → Entry → Type 0
+          P id e = id ≡ i → Mine r c b k m (s + gain call o) (flags r c b call (done (o .reply .answer)) heard) e
+
+          -- a run that does not hold the seat's places has the call refused
+          short-run : ltb (length run) (firstPlace (r .number b) + placesPerHost) ≡ true → All P (take (hostCount (r .settings b)) (now .places))
+          short-run e =
+              let x = lentAt r b nets (now .clock) links (now .walk) copy run in
+              let gone : noPlaces (r .number b) run ≡ true = rw e (or-true (ltb 15 (r .number b))) in
+              let short = perform-short (callOf call) x gone in
+              let no : done (o .reply .answer) ≡ false = ap (λ (q : Outcome). done (q .reply .answer)) short in
+              let none : gain call o ≡ 0 = ap (gain call) short ∙ rw (and-false (isSecond call)) in
+              let z : s + gain call o ≡ s = omega arith in
+              let f : flags r c b call (done (o .reply .answer)) heard ≡ heard = ap (λ (q : Bool). flags r c b call q heard) no ∙ no-flags r c b call heard in
+              subst₂ (λ (t : ℕ) (on : ℕ → Bool). All (λ (id : ℕ) (e : Entry). id ≡ i → Mine r c b k m t on e) (take (hostCount (r .settings b)) (now .places))) (sym z) (sym f) (seat .table)
+
+  -- ---- speaking
+
+  module _ (m : ℕ) (w : World) (right : RightWorld r w) (b : ℕ) (inside : b < r .seats) (nets : ClassTable) (links : Links) (copy : List ℕ) (run : List Entry) (s : ℕ) (heard : ℕ → Bool)
+      (seat : SeatGood true m b s heard (w .state (r .number b))) (mail : (q : Message) → List·Memᴰ q (w .mail) → GoodMail r c i k q) (some : 1 ≤ m) (speaks : (k ≡ 0) ⊎ (m ≤ k)) where
+    abbrev at-s : RoomCall → Step
+    at-s call = record { seat = b; nets = nets; links = links; copy = copy; run = run; call = call }
+
+    abbrev TurnS : RoomCall → Type 0
+    TurnS call = Turn true m w right b inside nets links copy run s heard seat mail some call
+
+    send-turn : (j : ℕ) (κ : Counter) (buffer : List ℕ) (t : ℤ) → Allowed r w (at-s (sends j κ buffer t)) → TurnS (sends j κ buffer t)
+    unfolding Frame
+    send-turn j κ buffer t ok =
+        let x = lentAt r b nets (w .state (r .number b) .clock) links (w .state (r .number b) .walk) copy run in
+        let sent =
+        send-good r proper c i k m b s heard inside (few b inside) speaks nets (w .state (r .number b) .clock) links (w .state (r .number b) .walk) copy run
+        (lent true m w right b inside nets links copy run s heard seat mail some (sends j κ buffer t) ok) j κ buffer in
+        record {
+          closed = ap isOpen (frame-holds (callOf (sends j κ buffer t)) x .walk (a-send r proper ways w right b inside nets links copy run j κ buffer)) ∙ seat .shut;
+          left = none-more true m w right b inside nets links copy run s heard seat mail some (sent .left);
+          post = posted (λ e. record { says = sent .message e .says }) (done (o .reply .answer)) refl;
+        }
+      where
+        o : Outcome
+        o = result r w (at-s (sends j κ buffer t))
+
+        letter : Message
+        letter = record { seat = b; link = j; ms = t; octets = messageOf o }
+
+        posted : (done (o .reply .answer) ≡ true → GoodMail r c i k letter) → (d : Bool) → done (o .reply .answer) ≡ d → (q : Message) → List·Memᴰ q (cond d (letter ∷ w .mail) (w .mail)) → GoodMail r c i k q
+        posted says false e q y = mail q y
+        posted says true e q y = one (List·Memᴰ·cases-cons y)
+          where
+            one : (q ≡ letter) ⊎ List·Memᴰ q (w .mail) → GoodMail r c i k q
+            one (inl z) = subst (GoodMail r c i k) (sym z) (says e)
+            one (inr z) = mail q z
+
+    pub speak-turn : (call : RoomCall) → Allowed r w (at-s call) → Speaks r w b call → s + gain call (result r w (at-s call)) ≤ roundSeconds → TurnS call
+    speak-turn (ticks n) ok may short = tick-turn true m w right b inside nets links copy run s heard seat mail some n ok
+    speak-turn seconds ok may short = second-turn true m w right b inside nets links copy run s heard seat mail some ok short
+    speak-turn (reports κ) ok may short = report-turn true m w right b inside nets links copy run s heard seat mail some κ ok
+    speak-turn (sends j κ buffer t) ok may short = send-turn j κ buffer t ok
+    speak-turn (arrives j κ packet t) ok may short = absurd may
+    speak-turn (acts j κ packet t) ok may short = absurd may
+    speak-turn (inspects j packet) ok may short = inspect-turn true m w right b inside nets links copy run s heard seat mail some j packet ok
+    speak-turn (opens j packet) ok may short = absurd may
+    speak-turn (steps κ t) ok may short = step-turn true m w right b inside nets links copy run s heard seat mail some κ t ok
+    speak-turn (adjusts n) ok may short = adjust-turn true m w right b inside nets links copy run s heard seat mail some n ok
+    speak-turn (sets ms n) ok may short = set-turn true m w right b inside nets links copy run s heard seat mail some ms n ok
+    speak-turn (clocks κ) ok may short = clock-turn true m w right b inside nets links copy run s heard seat mail some κ ok
+    speak-turn (looks d) ok may short = look-turn true m w right b inside nets links copy run s heard seat mail some d ok
+
+  -- ---- listening
+
+  module _ (w : World) (right : RightWorld r w) (b : ℕ) (inside : b < r .seats) (nets : ClassTable) (links : Links) (copy : List ℕ) (run : List Entry) (s : ℕ) (heard : ℕ → Bool)
+      (seat : SeatGood false (suc k) b s heard (w .state (r .number b))) (mail : (q : Message) → List·Memᴰ q (w .mail) → GoodMail r c i k q) where
+    abbrev at-l : RoomCall → Step
+    at-l call = record { seat = b; nets = nets; links = links; copy = copy; run = run; call = call }
+
+    pub some-l : 1 ≤ suc k
+    some-l = omega arith
+
+    abbrev TurnL : RoomCall → Type 0
+    TurnL call = Turn false (suc k) w right b inside nets links copy run s heard seat mail some-l call
+
+    acts-turn : (j : ℕ) (κ : Counter) (packet : List ℕ) (t : ℤ) → Allowed r w (at-l (acts j κ packet t)) → TurnL (acts j κ packet t)
+    unfolding Frame
+    acts-turn j κ packet t ok =
+        record {
+          closed = ap isOpen (frame-holds (act j κ packet) x .walk (a-delivery r proper ways w right b inside nets links copy run (Act j κ) packet)) ∙ seat .shut;
+          left =
+              none-more false (suc k) w right b inside nets links copy run s heard seat mail some-l
+              (subst (λ (o : List ℕ). Left-so r proper c i k b false (suc k) s (cond (done (perform (act j κ o) x .reply .answer)) (hearing r c b j heard) heard) run (perform (act j κ o) x .links) (perform (act j κ o) x .run)) (sym (d .a-copy))
+              (act-good r proper quick c i k b s heard inside nets (w .state (r .number b) .clock) links (w .state (r .number b) .walk) copy run
+              (lent false (suc k) w right b inside nets links copy run s heard seat mail some-l (acts j κ packet t) ok) j (d .message) (d .other-end) (right .mail (d .message) (d .earlier)) (mail (d .message) (d .earlier)) κ
+              (λ e.
+              let later = subst (λ (o : List ℕ). T (timed (result r w (at-l (acts j κ o t)) .reply .answer)) → Later r w b κ t (d .message)) (d .a-copy) (d .in-time) e in
+              record { way = later .way; short = later .short; clock = later .reads .clock ∙ ap (λ (z : ℤ). z +ℤ r .fixed b) (later .later) })));
+          post = mail;
+        }
+      where
+        x : Lent
+        x = lentAt r b nets (w .state (r .number b) .clock) links (w .state (r .number b) .walk) copy run
+
+        d : Delivered r w b j κ packet t (result r w (at-l (acts j κ packet t)) .reply .answer)
+        d = ok .timely
+
+    arrives-turn : (j : ℕ) (κ : Counter) (packet : List ℕ) (t : ℤ) → Allowed r w (at-l (arrives j κ packet t)) → TurnL (arrives j κ packet t)
+    arrives-turn j κ packet t ok =
+        let x = lentAt r b nets (w .state (r .number b) .clock) links (w .state (r .number b) .walk) copy run in
+        let same = receive-acts j κ packet x in
+        let a =
+        acts-turn j κ packet t
+        record { seat-in = ok .seat-in; lends = ok .lends; timely = subst (λ (o : Outcome). Delivered r w b j κ packet t (o .reply .answer)) same (ok .timely) } in
+        record {
+          closed = ap (λ (o : Outcome). isOpen (o .walk)) same ∙ a .closed;
+          left =
+              subst (λ (o : Outcome). Left-so r proper c i k b false (suc k) (s + 0) (cond (done (o .reply .answer)) (hearing r c b j heard) heard) run (o .links) (o .run)) (sym same) (a .left);
+          post = mail;
+        }
+
+    pub listen-turn : (call : RoomCall) → Allowed r w (at-l call) → Listens call → s + gain call (result r w (at-l call)) ≤ roundSeconds → TurnL call
+    listen-turn (ticks n) ok may short = tick-turn false (suc k) w right b inside nets links copy run s heard seat mail some-l n ok
+    listen-turn seconds ok may short = second-turn false (suc k) w right b inside nets links copy run s heard seat mail some-l ok short
+    listen-turn (reports κ) ok may short = report-turn false (suc k) w right b inside nets links copy run s heard seat mail some-l κ ok
+    listen-turn (sends j κ buffer t) ok may short = absurd may
+    listen-turn (arrives j κ packet t) ok may short = arrives-turn j κ packet t ok
+    listen-turn (acts j κ packet t) ok may short = acts-turn j κ packet t ok
+    listen-turn (inspects j packet) ok may short = inspect-turn false (suc k) w right b inside nets links copy run s heard seat mail some-l j packet ok
+    listen-turn (opens j packet) ok may short = absurd may
+    listen-turn (steps κ t) ok may short = step-turn false (suc k) w right b inside nets links copy run s heard seat mail some-l κ t ok
+    listen-turn (adjusts n) ok may short = adjust-turn false (suc k) w right b inside nets links copy run s heard seat mail some-l n ok
+    listen-turn (sets ms n) ok may short = set-turn false (suc k) w right b inside nets links copy run s heard seat mail some-l ms n ok
+    listen-turn (clocks κ) ok may short = clock-turn false (suc k) w right b inside nets links copy run s heard seat mail some-l κ ok
+    listen-turn (looks d) ok may short = look-turn false (suc k) w right b inside nets links copy run s heard seat mail some-l d ok
+
+  -- ---- the world
+
+  -- the links heard at each seat, after a call
+  abbrev pub flagsAfter : (w : World) (x : Step) → (ℕ → ℕ → Bool) → ℕ → ℕ → Bool
+  flagsAfter w x heard b = cond (eqb (x .seat) b) (flags r c b (x .call) (done (result r w x .reply .answer)) (heard b)) (heard b)
+
+  pub world-good : (speaking : Bool) (m : ℕ) (some : 1 ≤ m) (s : ℕ → ℕ) (heard : ℕ → ℕ → Bool) (w : World) (right : RightWorld r w) (x : Step) (ok : Allowed r w x) (good : GoodWorld speaking m s heard w)
+      → Turn speaking m w right (x .seat) (ok .seat-in) (x .nets) (x .links) (x .copy) (x .run) (s (x .seat)) (heard (x .seat)) (good .seats (x .seat) (ok .seat-in)) (good .mail) some (x .call)
+      → GoodWorld speaking m (λ b. s b + counts r w b x) (flagsAfter w x heard) (step r w x)
+  unfolding step after
+  world-good speaking m some s heard w right x ok good turn = record { seats = seats; mail = turn .post }
+    where
+      a : ℕ
+      a = x .seat
+
+      here : eqb a a ≡ true
+      here = eq-eqb a a refl
+
+      own : SeatGood speaking m a (s a + counts r w a x) (flagsAfter w x heard a) (leftBy (r .number a) (w .state (r .number a) .places) (result r w x))
+      own = rw here (left-good speaking m w right a (ok .seat-in) (x .nets) (x .links) (x .copy) (x .run) (s a) (heard a) (good .seats a (ok .seat-in)) (good .mail) some (x .call) turn)
+
+      seats : (b : ℕ) → b < r .seats → SeatGood speaking m b (s b + counts r w b x) (flagsAfter w x heard b) (step r w x .state (r .number b))
+      seats b hb =
+          either (SeatGood speaking m b (s b + counts r w b x) (flagsAfter w x heard b)) (eqb (r .number b) (r .number a)) _ _
+          (λ e.
+          let same : a ≡ b = proper .numbers-differ a b (ok .seat-in) hb (sym (eqb-true (r .number b) (r .number a) e)) in
+          subst (λ (d : ℕ). SeatGood speaking m d (s d + counts r w d x) (flagsAfter w x heard d) (leftBy (r .number a) (w .state (r .number a) .places) (result r w x))) same own)
+          (λ e.
+          let other : eqb a b ≡ false = ne-eqb a b (λ z. eqb-false (r .number b) (r .number a) e (ap (r .number) (sym z))) in
+          let none : counts r w b x ≡ 0 = rw other in
+          let z : s b + counts r w b x ≡ s b = omega arith in
+          rw (z, other) (good .seats b hb))

@@ -1,0 +1,10 @@
+-- While nothing of a seat is heard, its host's DELAY rises with every epoch: Epochs.antt.
+use Rattle.liveness.proofs.Silence.Epochs.{fades-holds}
+use Rattle.liveness.proofs.silent_host_fades.Statement.{statement}
+use Rattle.liveness.proofs.silent_host_fades.Tie as tie
+
+returns : tie.Need-returns
+returns c = fades-holds
+
+pub silent-host-fades-spec : {M : Type 1} → statement M
+silent-host-fades-spec = tie.close (tie.spec returns)

@@ -1,0 +1,14 @@
+pub mod Numbers
+pub mod Seconds
+pub mod Silence
+pub mod Hops
+pub mod Rounds
+pub mod TablesFill
+pub mod Handshake
+pub mod RoundsExample
+pub mod Order
+pub mod OrderClaim
+pub mod OrderExample
+pub mod Newest
+pub mod TotalCorrectness
+pub mod TotalExample

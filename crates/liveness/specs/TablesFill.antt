@@ -1,0 +1,38 @@
+-- LIVE-2: after k + 1 rounds every table has exactly the hosts up to k cables away, with a DELAY of 100 ms a cable and a PID along a shortest way.
+use mathlib.Core.Path.{_≡_}
+use mathlib.Core.Bool.{true}
+use Prim.Native.Nat.{ℕ, suc, _*_, _≤_, _<_}
+use lib.IntN.{pos}
+use lib.Signed.{_≤ℤ_}
+use Rattle.table.specs.Entry.{up}
+use Rattle.network.specs.Room.{Room, HostAt, Proper}
+use Rattle.network.specs.Slots.{EverySlot}
+use Rattle.network.specs.Demand3.{World, Starts, entryOf}
+use Rattle.liveness.specs.Numbers.{rise, quickWay, waysBelow}
+use Rattle.liveness.specs.Hops.{Hops, Shortest, Via}
+use Rattle.liveness.specs.Rounds.{Rounds}
+
+-- LIVE-2: the entry is up, with a DELAY of at most h cables
+pub record Shown (r : Room) (v : World) (b i h : ℕ) : Type 0 where
+  pub is-up : up (entryOf r v b i) ≡ true
+  pub near : entryOf r v b i .delay .0 ≤ℤ pos (rise * h)
+
+-- LIVE-2: the entry of id i at host b is right after k + 1 rounds: its DELAY is 100 ms for each cable of a shortest way, along which its PID leads
+pub record Exact (r : Room) (v : World) (k b i : ℕ) : Type 0 where
+  pub seat : ℕ
+  pub seat-in : seat < r .seats
+  pub host-there : HostAt r i seat
+  pub hops : ℕ
+  pub way : Hops r seat b hops
+  pub shortest : Shortest r seat b hops
+  pub in-time : hops ≤ k
+  pub delay : entryOf r v b i .delay .0 ≡ pos (rise * hops)
+  pub pid : Via r seat b (entryOf r v b i .pid) hops
+
+-- LIVE-2: for every network with messages of at most 50 ms, every start and all such rounds
+unfoldable pub TablesFill : Type 0
+TablesFill =
+    (r : Room) → Proper r → r .longest ≤ quickWay → EverySlot r → (w : World) → Starts r w → (k : ℕ) (v : World) → Rounds r w (suc k) v
+    → (b i : ℕ) → b < r .seats → i < r .settings b .layout .nhosts
+    → ((c h : ℕ) → c < r .seats → HostAt r i c → Hops r c b h → h ≤ k → h < waysBelow → Shown r v b i h)
+    × (up (entryOf r v b i) ≡ true → Exact r v k b i)

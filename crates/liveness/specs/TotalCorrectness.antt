@@ -1,0 +1,51 @@
+-- LIVE-6: total correctness. After one round more than the network is wide every table is right, and stays right.
+use mathlib.Core.Path.{_≡_}
+use mathlib.Core.Bool.{true}
+use mathlib.Core.List.{List}
+use Prim.Native.Nat.{ℕ, suc, _*_, _≤_, _<_}
+use lib.IntN.{pos, _-ℤ_, natAbs}
+use Rattle.table.specs.Entry.{up}
+use Rattle.network.specs.Room.{Room, HostAt, Proper}
+use Rattle.network.specs.Slots.{EverySlot}
+use Rattle.network.specs.Demand3.{Step, World, Starts, entryOf}
+use Rattle.liveness.specs.Numbers.{rise, quickWay, waysBelow}
+use Rattle.liveness.specs.Seconds.{emptied}
+use Rattle.liveness.specs.Numbers.{halfMillis}
+use Rattle.liveness.specs.Hops.{Hops, Shortest, Via, Width}
+use Rattle.liveness.specs.Rounds.{Rounds}
+use Rattle.liveness.specs.Order.{Begun, OrderedRounds}
+use Rattle.liveness.specs.OrderClaim.{SettledOn, moment}
+
+-- LIVE-6: id i of host c is right in the table of host b: up, with the length of a shortest way, a PID along it, and an OFFSET that is right to 50.5 ms a cable
+pub record Listed (r : Room) (v : World) (b i c : ℕ) : Type 0 where
+  pub is-up : up (entryOf r v b i) ≡ true
+  pub hops : ℕ
+  pub way : Hops r c b hops
+  pub shortest : Shortest r c b hops
+  pub delay : entryOf r v b i .delay .0 ≡ pos (rise * hops)
+  pub pid : Via r c b (entryOf r v b i .pid) hops
+  pub offset : 2 * natAbs (entryOf r v b i .offset .0 -ℤ (r .fixed c -ℤ r .fixed b)) ≤ halfMillis * hops
+
+-- LIVE-6: a host of the network that has the id
+pub record HostOf (r : Room) (i : ℕ) : Type 0 where
+  pub host : ℕ
+  pub host-in : host < r .seats
+  pub host-there : HostAt r i host
+
+-- LIVE-6: every table lists exactly the ids of the hosts of the network
+pub record Correct (r : Room) (v : World) : Type 0 where
+  pub every-host : (b i c : ℕ) → b < r .seats → c < r .seats → i < r .settings b .layout .nhosts → HostAt r i c → Listed r v b i c
+  pub no-other : (b i : ℕ) → b < r .seats → i < r .settings b .layout .nhosts → up (entryOf r v b i) ≡ true → HostOf r i
+
+-- LIVE-6: rounds in any order: at every moment after more rounds than the network is wide, and neither DELAY nor PID changes again
+pub record StaysCorrect (r : Room) (v : World) (xs : List Step) : Type 0 where
+  pub correct : Correct r (moment r v xs)
+  pub settled : (b i c : ℕ) → b < r .seats → c < r .seats → i < r .settings b .layout .nhosts → HostAt r i c → (h : ℕ) × Hops r c b h × SettledOn r (emptied v) b i h xs
+
+-- LIVE-6: both kinds of rounds
+pub record TotalCorrectness : Type 0 where
+  pub any-order : (r : Room) → Proper r → r .longest ≤ quickWay → EverySlot r → (d : ℕ) → Width r d → d < waysBelow → (w : World) → Starts r w
+      → (k : ℕ) (v : World) → OrderedRounds r w k v → d < k → (xs : List Step) → Begun r v xs → StaysCorrect r v xs
+  -- rounds in which all hosts send before any host hears: after each of them
+  pub in-rounds : (r : Room) → Proper r → r .longest ≤ quickWay → EverySlot r → (d : ℕ) → Width r d → d < waysBelow → (w : World) → Starts r w
+      → (k : ℕ) (v : World) → Rounds r w (suc k) v → d ≤ k → Correct r v
