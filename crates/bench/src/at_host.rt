@@ -1,8 +1,6 @@
 // A call at a host whose state is held by value: it is lent for the call, with all else that a call is lent.
-ghost use mathlib.Core.Path.{_≡_};
-ghost use Rattle.host.specs.Lent.{lent};
-ghost use Rattle.calls.specs.Perform.{ask, send, deliver, perform};
-ghost use Rattle.bench.specs.code.Left.{leftOf};
+ghost use Rattle.calls.specs.Perform.{ask, deliver};
+ghost use Rattle.bench.specs.code.Left.{WritesEntries, WritesBuffer};
 use arrival::Delivery;
 use calls::Request;
 use class_table::ClassTable;
@@ -34,7 +32,7 @@ pub fn asked(
     run: &mut [Entry],
     request: Request,
 ) -> Left
-    ensures { λ r. ⌜ (r ≡ leftOf (perform (ask request) (lent settings (now (nets .entry)) number clock links walk (now (copy .entry)) (now (run .entry))))) × (now (run .exit) ≡ perform (ask request) (lent settings (now (nets .entry)) number clock links walk (now (copy .entry)) (now (run .entry))) .run) ⌝ }
+    ensures { λ r. ⌜ WritesEntries settings nets number clock links walk copy run (ask request) r ⌝ }
 {
     let s = settings;
     let mut c = clock;
@@ -63,7 +61,7 @@ pub fn sent(
     counter: Counter,
     buffer: &mut [u8],
 ) -> Left
-    ensures { λ r. ⌜ (r ≡ leftOf (perform (send link counter (now (buffer .entry))) (lent settings (now (nets .entry)) number clock links walk (now (copy .entry)) (now (run .entry))))) × (now (buffer .exit) ≡ perform (send link counter (now (buffer .entry))) (lent settings (now (nets .entry)) number clock links walk (now (copy .entry)) (now (run .entry))) .buffer) ⌝ }
+    ensures { λ r. ⌜ WritesBuffer settings nets number clock links walk copy run link counter buffer r ⌝ }
 {
     let s = settings;
     let mut c = clock;
@@ -103,7 +101,7 @@ pub fn taken(
     delivery: Delivery,
     packet: &[u8],
 ) -> Left
-    ensures { λ r. ⌜ (r ≡ leftOf (perform (deliver delivery (now (packet .entry))) (lent settings (now (nets .entry)) number clock links walk (now (copy .entry)) (now (run .entry))))) × (now (run .exit) ≡ perform (deliver delivery (now (packet .entry))) (lent settings (now (nets .entry)) number clock links walk (now (copy .entry)) (now (run .entry))) .run) ⌝ }
+    ensures { λ r. ⌜ WritesEntries settings nets number clock links walk copy run (deliver delivery (now (packet .entry))) r ⌝ }
 {
     let s = settings;
     let mut c = clock;

@@ -1,8 +1,6 @@
 // The events of a run, one after the other.
-ghost use Prim.Native.Nat.{_-_, _<_};
-ghost use Rattle.bench.specs.Run.{next, steps};
 ghost use Rattle.bench.specs.Bench.{bench};
-ghost use Rattle.bench.specs.code.Turns.{Fits, TurnsFit, Left};
+ghost use Rattle.bench.specs.code.Turns.{NextFits, NextLeaves, TurnsFit, TurnsLeave};
 use super::HostState;
 use super::requests::ask_at;
 use super::sends::send_at;
@@ -29,8 +27,8 @@ pub fn event_at(
     i: usize,
     w: Turns,
 )
-    requires { ⌜ Fits (now file) (w .header) (now nets) (bench (now hosts) (now copies) (now run) (now slots) (now answers) i) × (i < w .header .events) ⌝ }
-    ensures { λ _. ⌜ Left (next (now (file .entry)) (now (nets .entry)) (bench (now (hosts .entry)) (now (copies .entry)) (now (run .entry)) (now (slots .entry)) (now (answers .entry)) i)) (now (hosts .exit)) (now (run .exit)) (now (slots .exit)) (now (answers .exit)) ⌝ }
+    requires { ⌜ NextFits file w nets hosts copies run slots answers i ⌝ }
+    ensures { λ _. ⌜ NextLeaves file nets hosts copies run slots answers i ⌝ }
 {
     let p = tell(file, slots, i, w);
     match p {
@@ -61,7 +59,7 @@ pub fn turns(
     w: Turns,
 )
     requires { ⌜ TurnsFit (now file) w (now nets) (bench (now hosts) (now copies) (now run) (now slots) (now answers) (w .first)) ⌝ }
-    ensures { λ _. ⌜ Left (steps (now (file .entry)) (now (nets .entry)) (w .end - w .first) (bench (now (hosts .entry)) (now (copies .entry)) (now (run .entry)) (now (slots .entry)) (now (answers .entry)) (w .first))) (now (hosts .exit)) (now (run .exit)) (now (slots .exit)) (now (answers .exit)) ⌝ }
+    ensures { λ _. ⌜ TurnsLeave file nets hosts copies run slots answers w ⌝ }
 {
     let end = w.end;
     let mut i = w.first;

@@ -94,7 +94,11 @@ pub fn set_up(
     answers: &mut [u8],
     progress: &mut Progress,
 ) -> Answer
-    ensures { λ r. ⌜ (r ≡ setUpGuard (now (nets .entry)) (now (file .entry)) (bench (now (hosts .entry)) (now (copies .entry)) (now (run .entry)) (now (slots .entry)) (now (answers .entry)) (now (progress .entry) .done))) × (bench (now (hosts .exit)) (now (copies .entry)) (now (run .exit)) (now (slots .exit)) (now (answers .exit)) (now (progress .exit) .done) ≡ afterSetUp (now (file .entry)) (now (nets .entry)) (bench (now (hosts .entry)) (now (copies .entry)) (now (run .entry)) (now (slots .entry)) (now (answers .entry)) (now (progress .entry) .done))) ⌝ }
+    ensures { λ r. ⌜ (r ≡ setUpGuard (now (nets .entry)) (now (file .entry))
+        (bench (now (hosts .entry)) (now (copies .entry)) (now (run .entry)) (now (slots .entry)) (now (answers .entry)) (now (progress .entry) .done)))
+        × (bench (now (hosts .exit)) (now (copies .entry)) (now (run .exit)) (now (slots .exit)) (now (answers .exit)) (now (progress .exit) .done)
+        ≡ afterSetUp (now (file .entry)) (now (nets .entry))
+        (bench (now (hosts .entry)) (now (copies .entry)) (now (run .entry)) (now (slots .entry)) (now (answers .entry)) (now (progress .entry) .done))) ⌝ }
 {
     let t = *nets;
     let d = *progress;
@@ -123,7 +127,11 @@ pub fn run(
     progress: &mut Progress,
     allowance: usize,
 ) -> Ran
-    ensures { λ r. ⌜ (r ≡ ran (now (file .entry)) (now (nets .entry)) allowance (bench (now (hosts .entry)) (now (copies .entry)) (now (run .entry)) (now (slots .entry)) (now (answers .entry)) (now (progress .entry) .done))) × (bench (now (hosts .exit)) (now (copies .entry)) (now (run .exit)) (now (slots .exit)) (now (answers .exit)) (now (progress .exit) .done) ≡ afterRun (now (file .entry)) (now (nets .entry)) allowance (bench (now (hosts .entry)) (now (copies .entry)) (now (run .entry)) (now (slots .entry)) (now (answers .entry)) (now (progress .entry) .done))) ⌝ }
+    ensures { λ r. ⌜ (r ≡ ran (now (file .entry)) (now (nets .entry)) allowance
+        (bench (now (hosts .entry)) (now (copies .entry)) (now (run .entry)) (now (slots .entry)) (now (answers .entry)) (now (progress .entry) .done)))
+        × (bench (now (hosts .exit)) (now (copies .entry)) (now (run .exit)) (now (slots .exit)) (now (answers .exit)) (now (progress .exit) .done)
+        ≡ afterRun (now (file .entry)) (now (nets .entry)) allowance
+        (bench (now (hosts .entry)) (now (copies .entry)) (now (run .entry)) (now (slots .entry)) (now (answers .entry)) (now (progress .entry) .done))) ⌝ }
 {
     let t = *nets;
     let d = *progress;

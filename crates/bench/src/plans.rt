@@ -1,18 +1,15 @@
 // What set-up and run are to do, by the file and by how long all is that is lent: nothing where they are refused.
 ghost use mathlib.Core.Path.{_≡_};
-ghost use mathlib.Core.Bool.{true};
 ghost use Prim.Native.Nat.{_+_, _-_, _≤_, min};
-ghost use lib.ListN.{length};
-ghost use Rattle.bench_file.specs.Header.{mostEvents, headerOf};
-ghost use Rattle.bench.specs.Guard.{runnable, tested};
+ghost use Rattle.bench_file.specs.Header.{mostEvents};
 ghost use Rattle.bench.specs.code.Plans.{
   noHeader,
   setsAll,
   setsNone,
-  setUpPlan,
+  setUpPlanOf,
   runsOn,
   runsNone,
-  runPlan,
+  runPlanOf,
 };
 use super::Answer;
 use super::Lengths;
@@ -113,7 +110,7 @@ pub fn plan_set_up(
     slots: usize,
     answers: usize,
 ) -> SetUpPlan
-    ensures { λ r. ⌜ r ≡ setUpPlan (tested true t (now (file .entry)) record { run = run; hosts = hosts; copies = copies; slots = slots; answers = answers }) (headerOf (now (file .entry))) (progress .done) ⌝ }
+    ensures { λ r. ⌜ r ≡ setUpPlanOf (now (file .entry)) t (progress .done) hosts copies run slots answers ⌝ }
 {
     let n = Lengths {
         run: run,
@@ -177,7 +174,7 @@ pub fn plan_run(
     answers: usize,
     allowance: usize,
 ) -> RunPlan
-    ensures { λ r. ⌜ r ≡ runPlan (tested (runnable (headerOf (now (file .entry))) (now (slots .entry)) (progress .done)) t (now (file .entry)) record { run = run; hosts = hosts; copies = copies; slots = length (now (slots .entry)); answers = answers }) (headerOf (now (file .entry))) (progress .done) allowance ⌝ }
+    ensures { λ r. ⌜ r ≡ runPlanOf (now (file .entry)) t (progress .done) hosts copies run (now (slots .entry)) answers allowance ⌝ }
 {
     let n = Lengths {
         run: run,

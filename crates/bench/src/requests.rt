@@ -4,7 +4,7 @@ ghost use Prim.Native.Nat.{_+_, _*_, _≤_, _<_};
 ghost use lib.ListN.{length, set};
 ghost use Rattle.answer.specs.Answer.{number};
 ghost use Rattle.host.specs.Guard.{longest};
-ghost use Rattle.bench.specs.code.Asks.{AskFits, AskLeaves};
+ghost use Rattle.bench.specs.code.Asks.{AskFits, DoesAsk};
 use super::HostState;
 use super::at_host::Left;
 use super::at_host::asked;
@@ -95,7 +95,7 @@ pub fn ask_at(
     w: Ask,
 )
     requires { ⌜ AskFits w (now hosts) (now copies) (now answers) ⌝ }
-    ensures { λ _. ⌜ AskLeaves w (now (nets .entry)) (now (hosts .entry)) (now (copies .entry)) (now (run .entry)) (now (answers .entry)) (now (hosts .exit)) (now (run .exit)) (now (answers .exit)) ⌝ }
+    ensures { λ _. ⌜ DoesAsk w nets hosts copies run answers ⌝ }
 {
     let z = seek(w);
     let q = asked_of(w);

@@ -1,14 +1,13 @@
 // A send from an end of a cable into a slot, as an event asks it of a host.
 ghost use mathlib.Core.Path.{_≡_};
-ghost use mathlib.Core.Bool.{cond};
 ghost use Prim.Native.Nat.{_+_, _*_, _≤_, _<_};
 ghost use lib.ListN.{length, set};
 ghost use Rattle.answer.specs.Answer.{number};
-ghost use Rattle.host.specs.Guard.{longest, done};
+ghost use Rattle.host.specs.Guard.{longest};
 ghost use Rattle.bench_file.specs.Header.{mostCables};
 ghost use Rattle.bench_file.specs.Absent.{slots};
-ghost use Rattle.bench.specs.Slots.{slotLength, roomPlace, withLabel};
-ghost use Rattle.bench.specs.code.Sends.{SendFits, SendLeaves};
+ghost use Rattle.bench.specs.Slots.{slotLength, roomPlace};
+ghost use Rattle.bench.specs.code.Sends.{SendFits, DoesSend, labelled};
 use super::HostState;
 use super::at_host::Left;
 use super::at_host::sent;
@@ -110,7 +109,7 @@ fn left(w: Sending, o: Left) -> Other
 // The slot has the label of what was sent; where the send was refused, it keeps the old one.
 fn label(octets: &mut [u8], w: Sending, r: Reply)
     requires { ⌜ (slotLength * slots ≤ length (now octets)) × (w .slot < slots) × (w .cable < mostCables) × (w .side ≤ 1) ⌝ }
-    ensures { λ _. ⌜ now (octets .exit) ≡ cond (done (r .answer)) (withLabel (w .slot) (r .length) (w .cable) (w .side) (now (octets .entry))) (now (octets .entry)) ⌝ }
+    ensures { λ _. ⌜ now (octets .exit) ≡ labelled w r (now (octets .entry)) ⌝ }
 {
     let a = r.answer;
     if !answer::is_done(a) {
@@ -136,7 +135,7 @@ pub fn send_at(
     w: Sending,
 )
     requires { ⌜ SendFits w (now hosts) (now copies) (now slots) (now answers) ⌝ }
-    ensures { λ _. ⌜ SendLeaves w (now (nets .entry)) (now (hosts .entry)) (now (copies .entry)) (now (run .entry)) (now (slots .entry)) (now (answers .entry)) (now (hosts .exit)) (now (slots .exit)) (now (answers .exit)) ⌝ }
+    ensures { λ _. ⌜ DoesSend w nets hosts copies run slots answers ⌝ }
 {
     let z = seek(w);
     let q = sent_of(w);

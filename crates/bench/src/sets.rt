@@ -5,7 +5,7 @@ ghost use lib.ListN.{length};
 ghost use Rattle.calls.specs.declared.Request.the-variants.{Initialize};
 ghost use Rattle.bench_file.specs.Settings.{settingsAt};
 ghost use Rattle.bench_file.specs.code.Sections.{Sections};
-ghost use Rattle.bench.specs.code.Sets.{SetFits, SetLeaves, SetsFit, SetsLeave};
+ghost use Rattle.bench.specs.code.Sets.{SetFits, SetsHost, SetsFit, SetsHosts};
 use super::HostState;
 use super::at_host::asked;
 use super::places::copy_end;
@@ -50,7 +50,7 @@ fn set_at(
     w: Setting,
 )
     requires { ⌜ SetFits (now file) w (now hosts) (now copies) i ⌝ }
-    ensures { λ _. ⌜ SetLeaves (now (file .entry)) (now (nets .entry)) (now (hosts .entry)) (now (copies .entry)) (now (run .entry)) i (now (hosts .exit)) (now (run .exit)) ⌝ }
+    ensures { λ _. ⌜ SetsHost file nets hosts copies run i ⌝ }
 {
     let q = afresh(file, i, w);
     let z = seek_host(i, q.settings);
@@ -82,7 +82,7 @@ pub fn sets(
     w: Setting,
 )
     requires { ⌜ SetsFit (now file) w (now hosts) (now copies) ⌝ }
-    ensures { λ _. ⌜ SetsLeave (now (file .entry)) w (now (nets .entry)) (now (hosts .entry)) (now (copies .entry)) (now (run .entry)) (now (hosts .exit)) (now (run .exit)) ⌝ }
+    ensures { λ _. ⌜ SetsHosts file w nets hosts copies run ⌝ }
 {
     let end = w.end;
     let mut i = w.first;

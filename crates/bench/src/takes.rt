@@ -7,7 +7,7 @@ ghost use Rattle.host.specs.Guard.{longest};
 ghost use Rattle.arrival.specs.declared.Delivery.the-variants.{Receive};
 ghost use Rattle.bench_file.specs.Absent.{slots};
 ghost use Rattle.bench.specs.Slots.{roomPlace};
-ghost use Rattle.bench.specs.code.Takes.{TakeFits, TakeLeaves};
+ghost use Rattle.bench.specs.code.Takes.{TakeFits, DoesTake};
 use super::HostState;
 use super::at_host::Left;
 use super::at_host::taken;
@@ -119,7 +119,7 @@ pub fn take_at(
     w: Taking,
 )
     requires { ⌜ TakeFits w (now hosts) (now copies) (now slots) (now answers) ⌝ }
-    ensures { λ _. ⌜ TakeLeaves w (now (nets .entry)) (now (hosts .entry)) (now (copies .entry)) (now (run .entry)) (now (slots .entry)) (now (answers .entry)) (now (hosts .exit)) (now (run .exit)) (now (answers .exit)) ⌝ }
+    ensures { λ _. ⌜ DoesTake w nets hosts copies run slots answers ⌝ }
 {
     let z = seek(w);
     let q = taken_of(w);

@@ -1,19 +1,21 @@
 // What an event asks: a call of a host, a send, an arrival, or only a note of its answer.
 ghost use mathlib.Core.Path.{_≡_};
-ghost use mathlib.Core.Bool.{true, false};
+ghost use mathlib.Core.Bool.{true};
 ghost use Prim.Native.Nat.{_*_, _≤_, _<_};
 ghost use lib.ListN.{length, set};
 ghost use Rattle.answer.specs.declared.Answer.the-variants.{IpForm};
 ghost use Rattle.answer.specs.Answer.{number};
-ghost use Rattle.bench_file.specs.Absent.{slots, cablesGood};
-ghost use Rattle.bench_file.specs.Records.{endAt, eventAt};
+ghost use Rattle.bench_file.specs.Absent.{slots};
+ghost use Rattle.bench_file.specs.Records.{eventAt};
 ghost use Rattle.bench_file.specs.code.Sections.{Sections};
-ghost use Rattle.bench.specs.Slots.{slotLength, slotsGood, empty};
+ghost use Rattle.bench.specs.Slots.{slotLength, slotsGood};
 ghost use Rattle.bench.specs.code.Told.{
   OnlyAsk,
   OnlySend,
   OnlyNote,
   TellsArrival,
+  SendNames,
+  TakeNames,
   askOf,
   sendOf,
   takeOf,
@@ -88,7 +90,7 @@ pub fn ask_of(file: &[u8], w: Turns, x: Asking) -> Ask
 
 // A send from an end of a cable into a slot.
 pub fn send_of(file: &[u8], w: Turns, x: Going) -> Sending
-    requires { ⌜ Sections (w .header) (length (now file)) × (x .cable < w .header .cables) × (x .side ≤ 1) × (endAt (now file) (w .header) (x .cable) (x .side) .host < w .header .hosts) ⌝ }
+    requires { ⌜ SendNames (now file) (w .header) (x .cable) (x .side) ⌝ }
     ensures { λ r. ⌜ r ≡ sendOf (now (file .entry)) (w .header) (x .event) (x .cable) (x .side) (x .slot) (x .counter) ⌝ }
 {
     let h = w.header;
@@ -109,7 +111,7 @@ pub fn send_of(file: &[u8], w: Turns, x: Going) -> Sending
 
 // An arrival of a slot's packet at the far end of its cable.
 pub fn take_of(file: &[u8], octets: &[u8], w: Turns, x: Coming) -> Taking
-    requires { ⌜ Sections (w .header) (length (now file)) × (cablesGood (now file) (w .header) ≡ true) × (slotLength * slots ≤ length (now octets)) × (slotsGood (w .header) (now octets) ≡ true) × (x .slot < slots) × (empty (x .slot) (now octets) ≡ false) ⌝ }
+    requires { ⌜ TakeNames (now file) (now octets) (w .header) (x .slot) ⌝ }
     ensures { λ r. ⌜ r ≡ takeOf (now (file .entry)) (now (octets .entry)) (w .header) (x .event) (x .slot) (x .counter) ⌝ }
 {
     let h = w.header;

@@ -1,11 +1,10 @@
 // The calls of a HELLO host. Each is lent all of a host, its clock, its links, its walk with the copy of a packet, and the run with its places, and the class's net table, which none changes; settings, number and what is lent are answered for first, with 12, 16 or 1.
 ghost use mathlib.Core.Path.{_≡_};
 ghost use Rattle.host.specs.declared.guard.Scope.the-variants.{All, OnLink, Opening};
-ghost use Rattle.host.specs.Lent.{lent};
 ghost use Rattle.calls.specs.declared.Request.the-variants.{Initialize, Tick, Adjust, Set, Read, Second, SelfReport, Lookup};
-ghost use Rattle.calls.specs.Perform.{perform, Leaves, ask, send, deliver, inspect, openWalk};
+ghost use Rattle.calls.specs.Perform.{ask, deliver, inspect, openWalk};
 ghost use Rattle.arrival.specs.Arrival.{onLink};
-ghost use Rattle.calls.specs.Contract.{Does};
+ghost use Rattle.calls.specs.Contract.{Does, Sends};
 use arrival::Delivery;
 use class_table::ClassTable;
 use clock::Clock;
@@ -346,8 +345,7 @@ pub fn send(
     counter: Counter,
     buffer: &mut [u8],
 ) -> Reply
-    ensures { λ r. ⌜ Leaves (perform (send link counter (now (buffer .entry))) (lent (now (settings .entry)) (now (nets .entry)) number (now (clock .entry)) (now (links .entry)) (now (walk .entry)) (now (copy .entry)) (now (run .entry)))) r (now (clock .exit)) (now (links .exit)) (now (walk .entry)) (now (copy .entry)) (now (run .entry))
-        × (now (buffer .exit) ≡ perform (send link counter (now (buffer .entry))) (lent (now (settings .entry)) (now (nets .entry)) number (now (clock .entry)) (now (links .entry)) (now (walk .entry)) (now (copy .entry)) (now (run .entry))) .buffer) ⌝ }
+    ensures { λ r. ⌜ Sends link counter buffer settings nets number clock links walk copy run r ⌝ }
 {
     let s = *settings;
     let c = *clock;

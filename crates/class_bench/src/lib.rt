@@ -40,7 +40,11 @@ pub extern "C" fn hello_bench_set_up(
     answers: &mut [u8],
     progress: &mut Progress,
 ) -> u8
-    ensures { λ r. ⌜ (r ≡ number (setUpGuard (now (nets .entry)) (now (file .entry)) (bench (now (hosts .entry)) (now (copies .entry)) (now (run .entry)) (now (slots .entry)) (now (answers .entry)) (now (progress .entry) .done)))) × (bench (now (hosts .exit)) (now (copies .entry)) (now (run .exit)) (now (slots .exit)) (now (answers .exit)) (now (progress .exit) .done) ≡ afterSetUp (now (file .entry)) (now (nets .entry)) (bench (now (hosts .entry)) (now (copies .entry)) (now (run .entry)) (now (slots .entry)) (now (answers .entry)) (now (progress .entry) .done))) ⌝ }
+    ensures { λ r. ⌜ (r ≡ number (setUpGuard (now (nets .entry)) (now (file .entry))
+        (bench (now (hosts .entry)) (now (copies .entry)) (now (run .entry)) (now (slots .entry)) (now (answers .entry)) (now (progress .entry) .done))))
+        × (bench (now (hosts .exit)) (now (copies .entry)) (now (run .exit)) (now (slots .exit)) (now (answers .exit)) (now (progress .exit) .done)
+        ≡ afterSetUp (now (file .entry)) (now (nets .entry))
+        (bench (now (hosts .entry)) (now (copies .entry)) (now (run .entry)) (now (slots .entry)) (now (answers .entry)) (now (progress .entry) .done))) ⌝ }
 {
     let a = bench::set_up(file, nets, hosts, copies, run, slots, answers, progress);
     bench::number(a)
@@ -59,7 +63,11 @@ pub extern "C" fn hello_bench_run(
     progress: &mut Progress,
     allowance: usize,
 ) -> BenchRan
-    ensures { λ r. ⌜ (r ≡ ranTold (ran (now (file .entry)) (now (nets .entry)) allowance (bench (now (hosts .entry)) (now (copies .entry)) (now (run .entry)) (now (slots .entry)) (now (answers .entry)) (now (progress .entry) .done)))) × (bench (now (hosts .exit)) (now (copies .entry)) (now (run .exit)) (now (slots .exit)) (now (answers .exit)) (now (progress .exit) .done) ≡ afterRun (now (file .entry)) (now (nets .entry)) allowance (bench (now (hosts .entry)) (now (copies .entry)) (now (run .entry)) (now (slots .entry)) (now (answers .entry)) (now (progress .entry) .done))) ⌝ }
+    ensures { λ r. ⌜ (r ≡ ranTold (ran (now (file .entry)) (now (nets .entry)) allowance
+        (bench (now (hosts .entry)) (now (copies .entry)) (now (run .entry)) (now (slots .entry)) (now (answers .entry)) (now (progress .entry) .done))))
+        × (bench (now (hosts .exit)) (now (copies .entry)) (now (run .exit)) (now (slots .exit)) (now (answers .exit)) (now (progress .exit) .done)
+        ≡ afterRun (now (file .entry)) (now (nets .entry)) allowance
+        (bench (now (hosts .entry)) (now (copies .entry)) (now (run .entry)) (now (slots .entry)) (now (answers .entry)) (now (progress .entry) .done))) ⌝ }
 {
     let a = bench::run(
         file,

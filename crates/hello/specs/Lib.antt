@@ -2,3 +2,4 @@ pub mod Told
 pub mod Mended
 pub mod Ntp
 pub mod Nets
+pub mod Contract

@@ -1,7 +1,6 @@
 // The library for programs in C, Rust and Python: the calls of a host, with the answer as its number.
 ghost use mathlib.Core.Path.{_≡_};
 ghost use Rattle.checksum.specs.Checksum.{checksumOf};
-ghost use Rattle.host.specs.Lent.{lent};
 ghost use Rattle.calls.specs.declared.Request.the-variants.{
   Initialize,
   Tick,
@@ -14,7 +13,7 @@ ghost use Rattle.calls.specs.declared.Request.the-variants.{
   Step,
 };
 ghost use Rattle.arrival.specs.declared.Delivery.the-variants.{Act, Receive};
-ghost use Rattle.calls.specs.Perform.{perform, ask, send, inspect, act, receive, openWalk};
+ghost use Rattle.calls.specs.Perform.{ask, inspect, act, receive, openWalk};
 ghost use Rattle.program.specs.Program.{programAnswer};
 ghost use Rattle.hello.specs.Told.{
   numbered,
@@ -23,8 +22,8 @@ ghost use Rattle.hello.specs.Told.{
   routeTold,
   inspectedTold,
   steppedTold,
-  Returns,
 };
+ghost use Rattle.hello.specs.Contract.{Exports, ExportsSend};
 use arrival::Delivery;
 use calls::Request;
 use class_table::ClassTable;
@@ -206,7 +205,7 @@ pub extern "C" fn hello_initialize(
     copy: &[u8],
     run: &mut [Entry],
 ) -> u8
-    ensures { λ r. ⌜ Returns numbered (perform (ask Initialize) (lent (now (settings .entry)) (now (nets .entry)) number (now (clock .entry)) (now (links .entry)) (now (walk .entry)) (now (copy .entry)) (now (run .entry)))) r (now (clock .exit)) (now (links .exit)) (now (walk .exit)) (now (copy .entry)) (now (run .exit)) ⌝ }
+    ensures { λ r. ⌜ Exports numbered (ask Initialize) settings nets number clock links walk copy run r ⌝ }
 {
     let a = calls::initialize(settings, nets, number, clock, links, walk, copy, run);
     numbered(a)
@@ -225,7 +224,7 @@ pub extern "C" fn hello_tick(
     run: &[Entry],
     count: Count,
 ) -> u8
-    ensures { λ r. ⌜ Returns numbered (perform (ask (Tick count)) (lent (now (settings .entry)) (now (nets .entry)) number (now (clock .entry)) (now (links .entry)) (now (walk .entry)) (now (copy .entry)) (now (run .entry)))) r (now (clock .exit)) (now (links .entry)) (now (walk .entry)) (now (copy .entry)) (now (run .entry)) ⌝ }
+    ensures { λ r. ⌜ Exports numbered (ask (Tick count)) settings nets number clock links walk copy run r ⌝ }
 {
     let a = calls::tick(settings, nets, number, clock, links, walk, copy, run, count);
     numbered(a)
@@ -244,7 +243,7 @@ pub extern "C" fn hello_adjust(
     run: &[Entry],
     count: Count,
 ) -> u8
-    ensures { λ r. ⌜ Returns numbered (perform (ask (Adjust count)) (lent (now (settings .entry)) (now (nets .entry)) number (now (clock .entry)) (now (links .entry)) (now (walk .entry)) (now (copy .entry)) (now (run .entry)))) r (now (clock .exit)) (now (links .entry)) (now (walk .entry)) (now (copy .entry)) (now (run .entry)) ⌝ }
+    ensures { λ r. ⌜ Exports numbered (ask (Adjust count)) settings nets number clock links walk copy run r ⌝ }
 {
     let a = calls::adjust(settings, nets, number, clock, links, walk, copy, run, count);
     numbered(a)
@@ -264,7 +263,7 @@ pub extern "C" fn hello_set(
     ms: i32,
     count: Count,
 ) -> u8
-    ensures { λ r. ⌜ Returns numbered (perform (ask (Set ms count)) (lent (now (settings .entry)) (now (nets .entry)) number (now (clock .entry)) (now (links .entry)) (now (walk .entry)) (now (copy .entry)) (now (run .entry)))) r (now (clock .exit)) (now (links .entry)) (now (walk .entry)) (now (copy .entry)) (now (run .entry)) ⌝ }
+    ensures { λ r. ⌜ Exports numbered (ask (Set ms count)) settings nets number clock links walk copy run r ⌝ }
 {
     let a = calls::set(
         settings,
@@ -294,7 +293,7 @@ pub extern "C" fn hello_read(
     run: &[Entry],
     counter: Counter,
 ) -> Time
-    ensures { λ r. ⌜ Returns timeTold (perform (ask (Read counter)) (lent (now (settings .entry)) (now (nets .entry)) number (now (clock .entry)) (now (links .entry)) (now (walk .entry)) (now (copy .entry)) (now (run .entry)))) r (now (clock .exit)) (now (links .entry)) (now (walk .entry)) (now (copy .entry)) (now (run .entry)) ⌝ }
+    ensures { λ r. ⌜ Exports timeTold (ask (Read counter)) settings nets number clock links walk copy run r ⌝ }
 {
     let a = calls::read(
         settings,
@@ -322,7 +321,7 @@ pub extern "C" fn hello_second(
     copy: &[u8],
     run: &mut [Entry],
 ) -> u8
-    ensures { λ r. ⌜ Returns numbered (perform (ask Second) (lent (now (settings .entry)) (now (nets .entry)) number (now (clock .entry)) (now (links .entry)) (now (walk .entry)) (now (copy .entry)) (now (run .entry)))) r (now (clock .exit)) (now (links .entry)) (now (walk .entry)) (now (copy .entry)) (now (run .exit)) ⌝ }
+    ensures { λ r. ⌜ Exports numbered (ask Second) settings nets number clock links walk copy run r ⌝ }
 {
     let a = calls::second(settings, nets, number, clock, links, walk, copy, run);
     numbered(a)
@@ -341,7 +340,7 @@ pub extern "C" fn hello_self_report(
     run: &mut [Entry],
     counter: Counter,
 ) -> u8
-    ensures { λ r. ⌜ Returns numbered (perform (ask (SelfReport counter)) (lent (now (settings .entry)) (now (nets .entry)) number (now (clock .entry)) (now (links .entry)) (now (walk .entry)) (now (copy .entry)) (now (run .entry)))) r (now (clock .exit)) (now (links .entry)) (now (walk .entry)) (now (copy .entry)) (now (run .exit)) ⌝ }
+    ensures { λ r. ⌜ Exports numbered (ask (SelfReport counter)) settings nets number clock links walk copy run r ⌝ }
 {
     let a = calls::self_report(
         settings,
@@ -372,8 +371,7 @@ pub extern "C" fn hello_send(
     counter: Counter,
     buffer: &mut [u8],
 ) -> Sent
-    ensures { λ r. ⌜ Returns sentTold (perform (send link counter (now (buffer .entry))) (lent (now (settings .entry)) (now (nets .entry)) number (now (clock .entry)) (now (links .entry)) (now (walk .entry)) (now (copy .entry)) (now (run .entry)))) r (now (clock .exit)) (now (links .exit)) (now (walk .entry)) (now (copy .entry)) (now (run .entry))
-        × (now (buffer .exit) ≡ perform (send link counter (now (buffer .entry))) (lent (now (settings .entry)) (now (nets .entry)) number (now (clock .entry)) (now (links .entry)) (now (walk .entry)) (now (copy .entry)) (now (run .entry))) .buffer) ⌝ }
+    ensures { λ r. ⌜ ExportsSend link counter buffer settings nets number clock links walk copy run r ⌝ }
 {
     let a = calls::send(
         settings,
@@ -405,7 +403,7 @@ pub extern "C" fn hello_inspect(
     link: usize,
     packet: &[u8],
 ) -> Inspected
-    ensures { λ r. ⌜ Returns inspectedTold (perform (inspect link (now (packet .entry))) (lent (now (settings .entry)) (now (nets .entry)) number (now (clock .entry)) (now (links .entry)) (now (walk .entry)) (now (copy .entry)) (now (run .entry)))) r (now (clock .entry)) (now (links .entry)) (now (walk .entry)) (now (copy .entry)) (now (run .entry)) ⌝ }
+    ensures { λ r. ⌜ Exports inspectedTold (inspect link (now (packet .entry))) settings nets number clock links walk copy run r ⌝ }
 {
     let a = calls::inspect(
         settings,
@@ -437,7 +435,7 @@ pub extern "C" fn hello_act(
     counter: Counter,
     packet: &[u8],
 ) -> u8
-    ensures { λ r. ⌜ Returns numbered (perform (act link counter (now (packet .entry))) (lent (now (settings .entry)) (now (nets .entry)) number (now (clock .entry)) (now (links .entry)) (now (walk .entry)) (now (copy .entry)) (now (run .entry)))) r (now (clock .exit)) (now (links .exit)) (now (walk .entry)) (now (copy .entry)) (now (run .exit)) ⌝ }
+    ensures { λ r. ⌜ Exports numbered (act link counter (now (packet .entry))) settings nets number clock links walk copy run r ⌝ }
 {
     let d = acts(link, counter);
     let a = calls::deliver(
@@ -470,7 +468,7 @@ pub extern "C" fn hello_receive(
     counter: Counter,
     packet: &[u8],
 ) -> u8
-    ensures { λ r. ⌜ Returns numbered (perform (receive link counter (now (packet .entry))) (lent (now (settings .entry)) (now (nets .entry)) number (now (clock .entry)) (now (links .entry)) (now (walk .entry)) (now (copy .entry)) (now (run .entry)))) r (now (clock .exit)) (now (links .exit)) (now (walk .entry)) (now (copy .entry)) (now (run .exit)) ⌝ }
+    ensures { λ r. ⌜ Exports numbered (receive link counter (now (packet .entry))) settings nets number clock links walk copy run r ⌝ }
 {
     let d = receives(link, counter);
     let a = calls::deliver(
@@ -501,7 +499,7 @@ pub extern "C" fn hello_lookup(
     run: &[Entry],
     address: Address,
 ) -> Route
-    ensures { λ r. ⌜ Returns routeTold (perform (ask (Lookup address)) (lent (now (settings .entry)) (now (nets .entry)) number (now (clock .entry)) (now (links .entry)) (now (walk .entry)) (now (copy .entry)) (now (run .entry)))) r (now (clock .entry)) (now (links .entry)) (now (walk .entry)) (now (copy .entry)) (now (run .entry)) ⌝ }
+    ensures { λ r. ⌜ Exports routeTold (ask (Lookup address)) settings nets number clock links walk copy run r ⌝ }
 {
     let a = calls::lookup(
         settings,
@@ -531,7 +529,7 @@ pub extern "C" fn hello_open_walk(
     link: usize,
     packet: &[u8],
 ) -> Stepped
-    ensures { λ r. ⌜ Returns steppedTold (perform (openWalk link (now (packet .entry))) (lent (now (settings .entry)) (now (nets .entry)) number (now (clock .entry)) (now (links .entry)) (now (walk .entry)) (now (copy .entry)) (now (run .entry)))) r (now (clock .entry)) (now (links .entry)) (now (walk .exit)) (now (copy .exit)) (now (run .entry)) ⌝ }
+    ensures { λ r. ⌜ Exports steppedTold (openWalk link (now (packet .entry))) settings nets number clock links walk copy run r ⌝ }
 {
     let a = calls::open_walk(
         settings,
@@ -561,7 +559,7 @@ pub extern "C" fn hello_step(
     run: &mut [Entry],
     counter: Counter,
 ) -> Stepped
-    ensures { λ r. ⌜ Returns steppedTold (perform (ask (Step counter)) (lent (now (settings .entry)) (now (nets .entry)) number (now (clock .entry)) (now (links .entry)) (now (walk .entry)) (now (copy .entry)) (now (run .entry)))) r (now (clock .exit)) (now (links .exit)) (now (walk .exit)) (now (copy .entry)) (now (run .exit)) ⌝ }
+    ensures { λ r. ⌜ Exports steppedTold (ask (Step counter)) settings nets number clock links walk copy run r ⌝ }
 {
     let q = asks_step(counter);
     let a = calls::call(settings, nets, number, clock, links, walk, copy, run, q);

@@ -37,9 +37,14 @@ pub fn set_up(
     answers: &mut [u8],
     progress: Progress,
 ) -> Up
-    ensures { λ r. ⌜ (r ≡ upOf (setUpGuard nets (now (file .entry)) (bench hosts (now (copies .entry)) run (now (slots .entry)) (now (answers .entry)) (progress .done))) (afterSetUp (now (file .entry)) nets (bench hosts (now (copies .entry)) run (now (slots .entry)) (now (answers .entry)) (progress .done))))
-        × (now (slots .exit) ≡ afterSetUp (now (file .entry)) nets (bench hosts (now (copies .entry)) run (now (slots .entry)) (now (answers .entry)) (progress .done)) .slots)
-        × (now (answers .exit) ≡ afterSetUp (now (file .entry)) nets (bench hosts (now (copies .entry)) run (now (slots .entry)) (now (answers .entry)) (progress .done)) .answers) ⌝ }
+    ensures { λ r. ⌜ (r ≡ upOf (setUpGuard nets (now (file .entry))
+        (bench hosts (now (copies .entry)) run (now (slots .entry)) (now (answers .entry)) (progress .done)))
+        (afterSetUp (now (file .entry)) nets
+        (bench hosts (now (copies .entry)) run (now (slots .entry)) (now (answers .entry)) (progress .done))))
+        × (now (slots .exit) ≡ afterSetUp (now (file .entry)) nets
+        (bench hosts (now (copies .entry)) run (now (slots .entry)) (now (answers .entry)) (progress .done)) .slots)
+        × (now (answers .exit) ≡ afterSetUp (now (file .entry)) nets
+        (bench hosts (now (copies .entry)) run (now (slots .entry)) (now (answers .entry)) (progress .done)) .answers) ⌝ }
 {
     let t = nets;
     let mut h = hosts;
@@ -65,9 +70,14 @@ pub fn run(
     progress: Progress,
     allowance: usize,
 ) -> Gone
-    ensures { λ r. ⌜ (r ≡ goneOf (ran (now (file .entry)) nets allowance (bench hosts (now (copies .entry)) run (now (slots .entry)) (now (answers .entry)) (progress .done))) (afterRun (now (file .entry)) nets allowance (bench hosts (now (copies .entry)) run (now (slots .entry)) (now (answers .entry)) (progress .done))))
-        × (now (slots .exit) ≡ afterRun (now (file .entry)) nets allowance (bench hosts (now (copies .entry)) run (now (slots .entry)) (now (answers .entry)) (progress .done)) .slots)
-        × (now (answers .exit) ≡ afterRun (now (file .entry)) nets allowance (bench hosts (now (copies .entry)) run (now (slots .entry)) (now (answers .entry)) (progress .done)) .answers) ⌝ }
+    ensures { λ r. ⌜ (r ≡ goneOf (ran (now (file .entry)) nets allowance
+        (bench hosts (now (copies .entry)) run (now (slots .entry)) (now (answers .entry)) (progress .done)))
+        (afterRun (now (file .entry)) nets allowance
+        (bench hosts (now (copies .entry)) run (now (slots .entry)) (now (answers .entry)) (progress .done))))
+        × (now (slots .exit) ≡ afterRun (now (file .entry)) nets allowance
+        (bench hosts (now (copies .entry)) run (now (slots .entry)) (now (answers .entry)) (progress .done)) .slots)
+        × (now (answers .exit) ≡ afterRun (now (file .entry)) nets allowance
+        (bench hosts (now (copies .entry)) run (now (slots .entry)) (now (answers .entry)) (progress .done)) .answers) ⌝ }
 {
     let t = nets;
     let mut h = hosts;

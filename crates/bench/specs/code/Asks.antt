@@ -9,6 +9,7 @@ use Rattle.class_table.specs.declared.ClassTable.{ClassTable}
 use Rattle.table.specs.declared.Entry.{Entry}
 use Rattle.host.specs.Guard.{longest}
 use Rattle.host.specs.Lent.{lent}
+use Rattle.calls.specs.Contract.{Ref}
 use Rattle.calls.specs.Perform.{Outcome, ask, perform}
 use Rattle.bench.specs.declared.HostState.{HostState}
 use Rattle.bench.specs.declared.requests.Ask.{Ask}
@@ -34,6 +35,11 @@ pub record AskDone (w : Ask) (t : ClassTable) (hosts : List HostState) (copies :
   pub entries : run′ ≡ outcomeOf w t hosts copies run d .run
   pub kept : answers′ ≡ set answers (w .event) (number (outcomeOf w t hosts copies run d .reply .answer))
 
--- whatever stands for a host that is not there
+-- for every state that may stand for an absent host
 abbrev pub AskLeaves : Ask → ClassTable → List HostState → (copies : List ℕ) → List Entry → (answers : List ℕ) → List HostState → List Entry → List ℕ → Type 0
 AskLeaves w t hosts copies run answers hosts′ run′ answers′ = (d : HostState) → AskDone w t hosts copies run answers hosts′ run′ answers′ d
+
+-- the contract, over the parameters
+abbrev pub DoesAsk : Ask → Ref ClassTable → Ref (List HostState) → (copies : Ref (List ℕ)) → Ref (List Entry) → (answers : Ref (List ℕ)) → Type 0
+DoesAsk w nets hosts copies run answers =
+    AskLeaves w (nets .entry .now) (hosts .entry .now) (copies .entry .now) (run .entry .now) (answers .entry .now) (hosts .exit .now) (run .exit .now) (answers .exit .now)

@@ -1,13 +1,19 @@
 -- What set-up and run are to do, by their answer and the file's header: nothing where they are refused.
-use mathlib.Core.Bool.{cond}
+use mathlib.Core.Bool.{true, cond}
+use mathlib.Core.List.{List}
+use lib.ListN.{length}
 use Prim.Native.Nat.{ℕ, _+_, _-_, _*_, min}
+use Rattle.class_table.specs.declared.ClassTable.{ClassTable}
 use Rattle.bench_file.specs.declared.Header.{Header}
+use Rattle.bench_file.specs.Header.{headerOf}
 use Rattle.bench_file.specs.Absent.{slots}
 use Rattle.bench.specs.declared.Answer.{Answer}
+use Rattle.bench.specs.declared.Lengths.{Lengths}
 use Rattle.bench.specs.declared.plans.SetUpPlan.{SetUpPlan}
 use Rattle.bench.specs.declared.plans.RunPlan.{RunPlan}
 use Rattle.bench.specs.Answer.{passes}
 use Rattle.bench.specs.Slots.{slotLength}
+use Rattle.bench.specs.Guard.{runnable, tested}
 
 -- the header of no file
 abbrev pub noHeader : Header
@@ -38,6 +44,11 @@ setsNone a n =
 abbrev pub setUpPlan : Answer → Header → (done : ℕ) → SetUpPlan
 setUpPlan a h n = cond (passes a) (setsAll a h) (setsNone a n)
 
+-- from the file and the lengths
+abbrev pub setUpPlanOf : (file : List ℕ) → ClassTable → (done hosts copies run slots answers : ℕ) → SetUpPlan
+setUpPlanOf file t n hosts copies run slots answers =
+    setUpPlan (tested true t file record { run = run; hosts = hosts; copies = copies; slots = slots; answers = answers }) (headerOf file) n
+
 -- ---- a run
 
 abbrev pub runsOn : Answer → Header → (done count : ℕ) → RunPlan
@@ -58,3 +69,8 @@ runsNone a n =
 
 abbrev pub runPlan : Answer → Header → (done allowance : ℕ) → RunPlan
 runPlan a h n m = cond (passes a) (runsOn a h n (min m (h .events - n))) (runsNone a n)
+
+-- from the file, the slots and the lengths
+abbrev pub runPlanOf : (file : List ℕ) → ClassTable → (done hosts copies run : ℕ) → (slots : List ℕ) → (answers allowance : ℕ) → RunPlan
+runPlanOf file t n hosts copies run octets answers m =
+    runPlan (tested (runnable (headerOf file) octets n) t file record { run = run; hosts = hosts; copies = copies; slots = length octets; answers = answers }) (headerOf file) n m

@@ -8,8 +8,10 @@ use Rattle.lists.specs.Lists.{part}
 use Rattle.answer.specs.Answer.{number}
 use Rattle.class_table.specs.declared.ClassTable.{ClassTable}
 use Rattle.table.specs.declared.Entry.{Entry}
+use Rattle.host.specs.declared.Reply.{Reply}
 use Rattle.host.specs.Guard.{longest, done}
 use Rattle.host.specs.Lent.{lent}
+use Rattle.calls.specs.Contract.{Ref}
 use Rattle.calls.specs.Perform.{Outcome, send, perform}
 use Rattle.bench_file.specs.Header.{mostCables}
 use Rattle.bench_file.specs.Absent as file
@@ -27,6 +29,10 @@ pub record SendFits (w : Sending) (hosts : List HostState) (copies slots answers
   pub room : slotLength * file.slots ≤ length slots
   pub event : w .event < length answers
 
+-- the label of what was sent; a refused send keeps the old one
+abbrev pub labelled : Sending → Reply → List ℕ → List ℕ
+labelled w r octets = cond (done (r .answer)) (withLabel (w .slot) (r .length) (w .cable) (w .side) octets) octets
+
 module _ (w : Sending) (t : ClassTable) (hosts : List HostState) (copies : List ℕ) (run : List Entry) (slots : List ℕ) (d : HostState) where
   -- the state that stands for the host
   abbrev pub stateOf : HostState
@@ -40,14 +46,18 @@ module _ (w : Sending) (t : ClassTable) (hosts : List HostState) (copies : List 
   -- the message in its slot, and its label where it was sent
   abbrev pub slotsOf : List ℕ
   slotsOf =
-      let put : List ℕ = withRoom (w .slot) (outcomeOf .buffer) slots in
-      cond (done (outcomeOf .reply .answer)) (withLabel (w .slot) (outcomeOf .reply .length) (w .cable) (w .side) put) put
+      labelled w (outcomeOf .reply) (withRoom (w .slot) (outcomeOf .buffer) slots)
 
 pub record SendDone (w : Sending) (t : ClassTable) (hosts : List HostState) (copies : List ℕ) (run : List Entry) (before answers : List ℕ) (hosts′ : List HostState) (slots′ answers′ : List ℕ) (d : HostState) : Type 0 where
   pub states : hosts′ ≡ set hosts (w .host) record { clock = outcomeOf w t hosts copies run before d .clock; links = outcomeOf w t hosts copies run before d .links; walk = outcomeOf w t hosts copies run before d .walk }
   pub slots : slots′ ≡ slotsOf w t hosts copies run before d
   pub kept : answers′ ≡ set answers (w .event) (number (outcomeOf w t hosts copies run before d .reply .answer))
 
--- whatever stands for a host that is not there
+-- for every state that may stand for an absent host
 abbrev pub SendLeaves : Sending → ClassTable → List HostState → (copies : List ℕ) → List Entry → (slots answers : List ℕ) → List HostState → (slots′ answers′ : List ℕ) → Type 0
 SendLeaves w t hosts copies run slots answers hosts′ slots′ answers′ = (d : HostState) → SendDone w t hosts copies run slots answers hosts′ slots′ answers′ d
+
+-- the contract, over the parameters
+abbrev pub DoesSend : Sending → Ref ClassTable → Ref (List HostState) → (copies : Ref (List ℕ)) → Ref (List Entry) → (slots answers : Ref (List ℕ)) → Type 0
+DoesSend w nets hosts copies run slots answers =
+    SendLeaves w (nets .entry .now) (hosts .entry .now) (copies .entry .now) (run .entry .now) (slots .entry .now) (answers .entry .now) (hosts .exit .now) (slots .exit .now) (answers .exit .now)

@@ -7,6 +7,7 @@ use Rattle.class_table.specs.declared.ClassTable.{ClassTable}
 use Rattle.table.specs.declared.Entry.{Entry}
 use Rattle.host.specs.Guard.{longest}
 use Rattle.calls.specs.declared.Request.the-variants.{Initialize}
+use Rattle.calls.specs.Contract.{Ref}
 use Rattle.bench_file.specs.Header.{headerOf}
 use Rattle.bench_file.specs.code.Sections.{Sections}
 use Rattle.bench.specs.declared.HostState.{HostState}
@@ -35,6 +36,11 @@ abbrev pub SetLeaves : (file : List ℕ) → ClassTable → List HostState → (
 SetLeaves file t hosts copies run k hosts′ run′ = (slots answers : List ℕ) (n : ℕ)
     → HostsLeft (asked file t (headerOf file) k Initialize (bench hosts copies run slots answers n) .bench) hosts′ run′
 
+-- the contract, over the parameters
+abbrev pub SetsHost : (file : Ref (List ℕ)) → Ref ClassTable → Ref (List HostState) → (copies : Ref (List ℕ)) → Ref (List Entry) → (host : ℕ) → Type 0
+SetsHost file nets hosts copies run k =
+    SetLeaves (file .entry .now) (nets .entry .now) (hosts .entry .now) (copies .entry .now) (run .entry .now) k (hosts .exit .now) (run .exit .now)
+
 -- ---- none, or so many of the file's
 
 pub record SetsFit (file : List ℕ) (w : Setting) (hosts : List HostState) (copies : List ℕ) : Type 0 where
@@ -44,3 +50,8 @@ pub record SetsFit (file : List ℕ) (w : Setting) (hosts : List HostState) (cop
 abbrev pub SetsLeave : (file : List ℕ) → Setting → ClassTable → List HostState → (copies : List ℕ) → List Entry → List HostState → List Entry → Type 0
 SetsLeave file w t hosts copies run hosts′ run′ = (slots answers : List ℕ) (n : ℕ)
     → HostsLeft (allSet file t (w .first) (w .end - w .first) (bench hosts copies run slots answers n)) hosts′ run′
+
+-- the contract, over the parameters
+abbrev pub SetsHosts : (file : Ref (List ℕ)) → Setting → Ref ClassTable → Ref (List HostState) → (copies : Ref (List ℕ)) → Ref (List Entry) → Type 0
+SetsHosts file w nets hosts copies run =
+    SetsLeave (file .entry .now) w (nets .entry .now) (hosts .entry .now) (copies .entry .now) (run .entry .now) (hosts .exit .now) (run .exit .now)

@@ -9,6 +9,7 @@ use Rattle.class_table.specs.declared.ClassTable.{ClassTable}
 use Rattle.table.specs.declared.Entry.{Entry}
 use Rattle.host.specs.Guard.{longest}
 use Rattle.host.specs.Lent.{lent}
+use Rattle.calls.specs.Contract.{Ref}
 use Rattle.calls.specs.Perform.{Outcome, inTurn}
 use Rattle.bench_file.specs.Absent as file
 use Rattle.bench.specs.declared.HostState.{HostState}
@@ -40,6 +41,11 @@ pub record TakeDone (w : Taking) (t : ClassTable) (hosts : List HostState) (copi
   pub entries : run′ ≡ outcomeOf w t hosts copies run slots d .run
   pub kept : answers′ ≡ set answers (w .event) (number (outcomeOf w t hosts copies run slots d .reply .answer))
 
--- whatever stands for a host that is not there
+-- for every state that may stand for an absent host
 abbrev pub TakeLeaves : Taking → ClassTable → List HostState → (copies : List ℕ) → List Entry → (slots answers : List ℕ) → List HostState → List Entry → (answers′ : List ℕ) → Type 0
 TakeLeaves w t hosts copies run slots answers hosts′ run′ answers′ = (d : HostState) → TakeDone w t hosts copies run slots answers hosts′ run′ answers′ d
+
+-- the contract, over the parameters
+abbrev pub DoesTake : Taking → Ref ClassTable → Ref (List HostState) → (copies : Ref (List ℕ)) → Ref (List Entry) → (slots answers : Ref (List ℕ)) → Type 0
+DoesTake w nets hosts copies run slots answers =
+    TakeLeaves w (nets .entry .now) (hosts .entry .now) (copies .entry .now) (run .entry .now) (slots .entry .now) (answers .entry .now) (hosts .exit .now) (run .exit .now) (answers .exit .now)

@@ -30,6 +30,15 @@ pub record EventFits (file octets : List ℕ) (i : ℕ) (h : Header) : Type 0 wh
   pub room : slotLength * slots ≤ length octets
   pub slots : slotsGood h octets ≡ true
 
+-- ---- what the settings of a send's and an arrival's host are read from
+
+abbrev pub SendNames : (file : List ℕ) → Header → (cable side : ℕ) → Type 0
+SendNames file h c i = Sections h (length file) × (c < h .cables) × (i ≤ 1) × (endAt file h c i .host < h .hosts)
+
+abbrev pub TakeNames : (file octets : List ℕ) → Header → (slot : ℕ) → Type 0
+TakeNames file octets h n =
+    Sections h (length file) × (cablesGood file h ≡ true) × (slotLength * slots ≤ length octets) × (slotsGood h octets ≡ true) × (n < slots) × (empty n octets ≡ false)
+
 -- ---- one of the four
 
 abbrev pub OnlyAsk : (event host : ℕ) → Request → Told → Type 0
