@@ -1,4 +1,4 @@
--- The contract of an export: it does its call, and returns a part of the reply.
+-- CALL-4, REPLY-5: the contract of an export: it does its call, and returns a part of the reply.
 use mathlib.Core.Path.{_≡_}
 use mathlib.Core.List.{List}
 use Prim.Native.Nat.{ℕ}
@@ -15,13 +15,13 @@ use Rattle.calls.specs.Contract.{Ref, before}
 use Rattle.hello.specs.Told.{Returns, sentTold}
 use Rattle.hello.specs.declared.Sent.{Sent}
 
--- a call without a buffer
+-- CALL-4, REPLY-5: everything that the caller passed is afterwards as `perform` says, and a part of the reply is returned
 abbrev pub Exports : {R : Type 0} → (Reply → R) → Call → Ref Settings → Ref ClassTable → ℕ → Ref Clock → Ref Links → Ref Walk → Ref (List ℕ) → Ref (List Entry) → R → Type 0
 Exports part call settings nets number clock links walk copy run r =
     Returns part (perform call (before settings nets number clock links walk copy run))
     r (clock .exit .now) (links .exit .now) (walk .exit .now) (copy .exit .now) (run .exit .now)
 
--- a send, which writes a buffer too
+-- CALL-4, REPLY-5: the same of a send, and of its buffer
 abbrev pub ExportsSend : (link : ℕ) → Counter → Ref (List ℕ) → Ref Settings → Ref ClassTable → ℕ → Ref Clock → Ref Links → Ref Walk → Ref (List ℕ) → Ref (List Entry) → Sent → Type 0
 ExportsSend link counter buffer settings nets number clock links walk copy run r =
     Exports sentTold (send link counter (buffer .entry .now)) settings nets number clock links walk copy run r
