@@ -27,7 +27,7 @@ pub fn run(exercise: &Exercise) -> std::result::Result<Ended<'_>, String> {
         added.map_err(|refusal| format!("--net: {refusal}"))?;
     }
     let mut bench = Bench::new(exercise.octets.clone(), net_table);
-    let ran = bench.set_up().ok().and_then(|()| bench.run(usize::MAX));
+    let ran = bench.set_up().and_then(|()| bench.run(usize::MAX));
     match (ran, File::read(&exercise.octets)) {
         (Ok(_), Some(file)) => Ok(Ended {
             exercise,

@@ -73,6 +73,7 @@ impl Record {
     }
 
     pub fn octets(&self) -> Vec<u8> {
-        self.file.octets()
+        let octets = self.file.octets();
+        octets.expect("the settings of a room fit their fields")
     }
 }

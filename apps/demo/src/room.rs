@@ -137,7 +137,7 @@ impl Room {
     /// What a host's clock reads now.
     pub fn read(&mut self, number: usize) -> Reading {
         let counter = self.counter(number);
-        self.hosts.host(number).read(counter).expect(WELL_LENT)
+        self.hosts.host(number).read(counter).expect(WELL_KEPT)
     }
 
     /// What a call of the host that reads its clock now is handed.
@@ -172,7 +172,7 @@ impl Room {
         }
         let counter = self.counter(from.host);
         let octets = self.hosts.host(from.host).send(from.link, counter);
-        let octets = octets.expect(WELL_LENT);
+        let octets = octets.expect(WELL_KEPT);
         self.tally.sent += 1;
         let slot = self.record.send(cable, end, counter);
         if self.random.happens(self.loss) {
@@ -192,14 +192,14 @@ impl Room {
                 return;
             }
             let message = first.remove();
-            let answer = self.take(&message);
+            let answer = self.take(&message).err().unwrap_or(Answer::Done);
             self.record.free(message.slot);
             *self.tally.answers.entry(answer).or_default() += 1;
         }
     }
 
     /// A host looks at a message and, where nothing refuses it, acts on it.
-    fn take(&mut self, message: &Message) -> Answer {
+    fn take(&mut self, message: &Message) -> Result<(), Answer> {
         let Message { to, octets, slot } = message;
         let seen = self.hosts.host(to.host).inspect(to.link, octets);
         // A message that is refused is not read the clock for.
@@ -211,7 +211,7 @@ impl Room {
         self.record.add(Event::Arrival { slot, counter });
         match seen {
             Ok(_) => self.hosts.host(to.host).act(to.link, counter, octets),
-            Err(refusal) => refusal,
+            Err(refusal) => Err(refusal),
         }
     }
 
@@ -222,10 +222,10 @@ impl Room {
 }
 
 /// Such calls are done.
-const WELL_LENT: &str = "the settings are good, and the room keeps what the last call left";
+const WELL_KEPT: &str = "the settings are good, and the room keeps the state after the last call";
 
-fn done(answer: Answer) {
-    answer.ok().expect(WELL_LENT);
+fn done(result: Result<(), Answer>) {
+    result.expect(WELL_KEPT);
 }
 
 /// How many cable ends are at the host.

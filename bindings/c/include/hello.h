@@ -42,18 +42,19 @@
  *                                                       ends; lookup: nothing
  *   12   the host's number is over 15; the link is not  nothing
  *        from 1 to the host's count (8 at most); the
- *        host's 255 places are not all in the run;
- *        where a walk is opened, its copy has no room
- *        for 1,052 octets; the class's table has over
- *        32 rows, an NHOSTS not 1 to 255 or a row's id
- *        not below it; something else lent is out of
- *        range; or the mark of one of the host's first
- *        NHOSTS entries is not that of the settings.
- *        Of a bench: something lent is shorter than
- *        its file asks; in a run also a filled slot
- *        with a length over 1,052, a cable that is not
- *        in the file or another end than 0 and 1, or
- *        more events done than the file has
+ *        host's 255 entries are not all in the host
+ *        table; if a walk is opened, its copy has no
+ *        room for 1,052 octets; the class's table has
+ *        over 32 rows, an NHOSTS not 1 to 255 or a
+ *        row's id not below it; something else that is
+ *        borrowed is out of range; or the mark of one
+ *        of the host's first NHOSTS entries is not
+ *        that of the settings. Of a bench: something
+ *        borrowed is shorter than its file needs; in a
+ *        run also a filled slot with a length over
+ *        1,052, a cable that is not in the file or
+ *        another end than 0 and 1, or more events done
+ *        than the file has
  *   13   the host looked up is down: its DELAY is       nothing
  *        30,000
  *   16   the host is in the middle of a walk            nothing

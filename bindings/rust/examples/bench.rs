@@ -68,8 +68,8 @@ fn exercise() -> File {
 
 fn main() -> Result<(), Answer> {
     let file = exercise();
-    let mut bench = Bench::new(file.octets(), ClassTable::new(LAYOUT.nhosts));
-    bench.set_up().ok()?;
+    let mut bench = Bench::new(file.octets()?, ClassTable::new(LAYOUT.nhosts));
+    bench.set_up()?;
 
     // Up to Ben's first message, which is on its way in its slot.
     assert_eq!(bench.run(5)?, 5);

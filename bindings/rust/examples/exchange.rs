@@ -40,7 +40,7 @@ fn settings(number: usize, time: i64) -> Settings {
 /// Ticks until the host's clock reads `time` ms.
 fn wait_until(mut host: Host, time: i64) -> Result<(), Answer> {
     while host.read(LINE_CLOCK)?.time < time {
-        host.tick(0).ok()?;
+        host.tick(0)?;
     }
     assert_eq!(host.read(LINE_CLOCK)?.time, time);
     Ok(())
@@ -49,14 +49,14 @@ fn wait_until(mut host: Host, time: i64) -> Result<(), Answer> {
 /// Takes a message that arrives now: looks at it, then acts on it. What it says.
 fn take(mut host: Host, message: &[u8]) -> Result<Seen, Answer> {
     let seen = host.inspect(LINK, message)?;
-    host.act(LINK, LINE_CLOCK, message).ok()?;
+    host.act(LINK, LINE_CLOCK, message)?;
     Ok(seen)
 }
 
 fn main() -> Result<(), Answer> {
     let mut room = Room::new(2, LAYOUT.nhosts);
-    room.host(A).initialize(settings(A, 39_900)).ok()?;
-    room.host(B).initialize(settings(B, 40_400)).ok()?;
+    room.host(A).initialize(settings(A, 39_900))?;
+    room.host(B).initialize(settings(B, 40_400))?;
 
     // B introduces itself, so that A knows its neighbor.
     let introduction = room.host(B).send(LINK, LINE_CLOCK)?;
@@ -78,7 +78,7 @@ fn main() -> Result<(), Answer> {
     assert_eq!(room.host(B).links.all[0].tsp, -530);
 
     wait_until(room.host(B), 45_530)?;
-    room.host(B).self_report(LINE_CLOCK).ok()?;
+    room.host(B).self_report(LINE_CLOCK)?;
     let reply = room.host(B).send(LINK, LINE_CLOCK)?;
     wait_until(room.host(A), 45_081)?;
     let seen = take(room.host(A), &reply)?;

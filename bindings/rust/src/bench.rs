@@ -1,17 +1,17 @@
 //! The class bench: a bench file that is set up and run, event by event.
 //!
-//! The plain calls here are lent a bench in its parts and answer the number of an [`Answer`]; a
-//! [`Bench`] keeps all parts, and has the calls as methods. [`bench_file`](crate::bench_file) writes
+//! A [`Bench`] keeps all parts of a bench, and has the calls as methods. A [`BenchState`] borrows them from
+//! a program that keeps them in its own way, and returns the number of an [`Answer`]. [`bench_file`](crate::bench_file) writes
 //! and reads the files.
 
-use crate::answer::given;
+use crate::answer::{given, result};
 use crate::bench_file::{MOST_EVENTS, MOST_HOSTS, SLOTS};
 use crate::{Answer, ClassTable, Clock, Entry, Links, Walk, LONGEST_MESSAGE, PLACES};
 
 /// The octets of a slot: its label, and room for the longest packet.
 pub const SLOT_LENGTH: usize = LABEL_LENGTH + LONGEST_MESSAGE;
 
-/// The length of the packet in two octets, 0 where the slot was never filled, its cable, and the end
+/// The length of the packet in two octets, 0 if the slot was never filled, its cable, and the end
 /// that it was sent from.
 const LABEL_LENGTH: usize = 4;
 
@@ -35,7 +35,7 @@ pub struct Progress {
     pub done: usize,
 }
 
-/// What a run answers.
+/// What a run returns.
 #[repr(C)]
 #[derive(Clone, Copy, Debug, PartialEq, Eq, Default)]
 pub struct Ran {
@@ -69,8 +69,8 @@ extern "C" {
         hosts_length: usize,
         copies: *const u8,
         copies_length: usize,
-        run: *mut Entry,
-        run_length: usize,
+        entries: *mut Entry,
+        entries_length: usize,
         slots: *mut u8,
         slots_length: usize,
         answers: *mut u8,
@@ -86,8 +86,8 @@ extern "C" {
         hosts_length: usize,
         copies: *const u8,
         copies_length: usize,
-        run: *mut Entry,
-        run_length: usize,
+        entries: *mut Entry,
+        entries_length: usize,
         slots: *mut u8,
         slots_length: usize,
         answers: *mut u8,
@@ -97,76 +97,81 @@ extern "C" {
     ) -> Ran;
 }
 
-/// Sets each host of the file afresh; slots, answers and events done are zero then.
-///
-/// Lent are a state for each host, 1,052 octets of copies and 255 places of the run for each, 32
-/// slots of [`SLOT_LENGTH`] octets, and a place for the answer of each event; all may be longer.
-pub fn set_up(
-    file: &[u8],
-    table: &ClassTable,
-    hosts: &mut [HostState],
-    copies: &[u8],
-    run: &mut [Entry],
-    slots: &mut [u8],
-    answers: &mut [u8],
-    progress: &mut Progress,
-) -> u8 {
-    // SAFETY: references and slices are valid, aligned and do not overlap; the same in the call below.
-    unsafe {
-        hello_bench_set_up(
-            file.as_ptr(),
-            file.len(),
-            table,
-            hosts.as_mut_ptr(),
-            hosts.len(),
-            copies.as_ptr(),
-            copies.len(),
-            run.as_mut_ptr(),
-            run.len(),
-            slots.as_mut_ptr(),
-            slots.len(),
-            answers.as_mut_ptr(),
-            answers.len(),
-            progress,
-        )
+/// All that the calls of a bench borrow: a state for each host, 1,052 octets of copies and 255 entries for
+/// each, 32 slots of [`SLOT_LENGTH`] octets, and a place for the answer of each event; all may be longer.
+#[derive(Debug)]
+pub struct BenchState<'a> {
+    /// The octets of the file.
+    pub file: &'a [u8],
+    /// The table of the class.
+    pub table: &'a ClassTable,
+    /// The hosts.
+    pub hosts: &'a mut [HostState],
+    /// The copies of their walks' packets.
+    pub copies: &'a [u8],
+    /// Their entries.
+    pub entries: &'a mut [Entry],
+    /// The slots.
+    pub slots: &'a mut [u8],
+    /// The answers of the events.
+    pub answers: &'a mut [u8],
+    /// How many events are done.
+    pub progress: &'a mut Progress,
+}
+
+impl BenchState<'_> {
+    /// Initializes each host of the file; slots, answers and events done are zero then.
+    pub fn set_up(&mut self) -> u8 {
+        // SAFETY: references and slices are valid and aligned, and do not overlap since the state
+        // borrows each of them alone; all their octets are initialized.
+        unsafe {
+            hello_bench_set_up(
+                self.file.as_ptr(),
+                self.file.len(),
+                self.table,
+                self.hosts.as_mut_ptr(),
+                self.hosts.len(),
+                self.copies.as_ptr(),
+                self.copies.len(),
+                self.entries.as_mut_ptr(),
+                self.entries.len(),
+                self.slots.as_mut_ptr(),
+                self.slots.len(),
+                self.answers.as_mut_ptr(),
+                self.answers.len(),
+                self.progress,
+            )
+        }
+    }
+
+    /// Carries out the next events of the file, as many as are allowed, and keeps their answers.
+    pub fn run(&mut self, allowance: usize) -> Ran {
+        // SAFETY: references and slices are valid and aligned, and do not overlap since the state
+        // borrows each of them alone; all their octets are initialized.
+        unsafe {
+            hello_bench_run(
+                self.file.as_ptr(),
+                self.file.len(),
+                self.table,
+                self.hosts.as_mut_ptr(),
+                self.hosts.len(),
+                self.copies.as_ptr(),
+                self.copies.len(),
+                self.entries.as_mut_ptr(),
+                self.entries.len(),
+                self.slots.as_mut_ptr(),
+                self.slots.len(),
+                self.answers.as_mut_ptr(),
+                self.answers.len(),
+                self.progress,
+                allowance,
+            )
+        }
     }
 }
 
-/// Carries out the next events of the file, as many as are allowed, and keeps their answers.
-pub fn run(
-    file: &[u8],
-    table: &ClassTable,
-    hosts: &mut [HostState],
-    copies: &[u8],
-    run: &mut [Entry],
-    slots: &mut [u8],
-    answers: &mut [u8],
-    progress: &mut Progress,
-    allowance: usize,
-) -> Ran {
-    unsafe {
-        hello_bench_run(
-            file.as_ptr(),
-            file.len(),
-            table,
-            hosts.as_mut_ptr(),
-            hosts.len(),
-            copies.as_ptr(),
-            copies.len(),
-            run.as_mut_ptr(),
-            run.len(),
-            slots.as_mut_ptr(),
-            slots.len(),
-            answers.as_mut_ptr(),
-            answers.len(),
-            progress,
-            allowance,
-        )
-    }
-}
-
-/// A class bench: a file, the net table of the class, and all that the two calls are lent, enough of
-/// it for every file.
+/// A class bench: a file, the net table of the class, and all that the two calls borrow, enough for
+/// every file.
 ///
 /// ```
 /// use hello::bench_file::{Event, File};
@@ -178,8 +183,8 @@ pub fn run(
 ///     cables: vec![],
 ///     events: vec![Event::Tick(0, 0), Event::Set(0, -5, 0)],
 /// };
-/// let mut bench = Bench::new(file.octets(), ClassTable::new(layout.nhosts));
-/// bench.set_up().ok()?;
+/// let mut bench = Bench::new(file.octets()?, ClassTable::new(layout.nhosts));
+/// bench.set_up()?;
 /// assert_eq!(bench.run(1), Ok(1));
 /// assert_eq!(bench.run(usize::MAX), Ok(1));
 /// assert_eq!(bench.answers(), [Answer::Done, Answer::Done]);
@@ -192,7 +197,7 @@ pub struct Bench {
     file: Vec<u8>,
     hosts: Vec<HostState>,
     copies: Vec<u8>,
-    run: Vec<Entry>,
+    entries: Vec<Entry>,
     slots: Vec<u8>,
     answers: Vec<u8>,
     progress: Progress,
@@ -217,43 +222,37 @@ impl Bench {
             file,
             hosts: vec![HostState::default(); MOST_HOSTS],
             copies: vec![0; MOST_HOSTS * LONGEST_MESSAGE],
-            run: vec![Entry::default(); MOST_HOSTS * PLACES],
+            entries: vec![Entry::default(); MOST_HOSTS * PLACES],
             slots: vec![0; SLOTS * SLOT_LENGTH],
             answers: vec![0; MOST_EVENTS],
             progress: Progress::default(),
         }
     }
 
-    /// Sets each host of the file afresh; no slot is filled and no event done then.
-    pub fn set_up(&mut self) -> Answer {
-        given(set_up(
-            &self.file,
-            &self.net_table,
-            &mut self.hosts,
-            &self.copies,
-            &mut self.run,
-            &mut self.slots,
-            &mut self.answers,
-            &mut self.progress,
-        ))
+    /// What the plain calls borrow of it.
+    pub fn state(&mut self) -> BenchState<'_> {
+        BenchState {
+            file: &self.file,
+            table: &self.net_table,
+            hosts: &mut self.hosts,
+            copies: &self.copies,
+            entries: &mut self.entries,
+            slots: &mut self.slots,
+            answers: &mut self.answers,
+            progress: &mut self.progress,
+        }
+    }
+
+    /// Initializes each host of the file; no slot is filled and no event done then.
+    pub fn set_up(&mut self) -> Result<(), Answer> {
+        given(self.state().set_up()).ok()
     }
 
     /// Carries out the next events, as many as are allowed; how many there were. An event whose call
     /// is refused is one of them.
     pub fn run(&mut self, allowance: usize) -> Result<usize, Answer> {
-        let ran = run(
-            &self.file,
-            &self.net_table,
-            &mut self.hosts,
-            &self.copies,
-            &mut self.run,
-            &mut self.slots,
-            &mut self.answers,
-            &mut self.progress,
-            allowance,
-        );
-        given(ran.answer).ok()?;
-        Ok(ran.count)
+        let ran = self.state().run(allowance);
+        result(ran.answer, ran.count)
     }
 
     /// Goes on with another file, of which no event is done: hosts and slots stay as they are.
@@ -278,7 +277,7 @@ impl Bench {
         numbers.map(|number| given(*number)).collect()
     }
 
-    /// The hosts, the file's first; those behind them stand as they were made.
+    /// The hosts, the file's first; those after them are as they were made.
     pub fn hosts(&self) -> &[HostState] {
         &self.hosts
     }
@@ -292,15 +291,15 @@ impl Bench {
             number < MOST_HOSTS,
             "a bench has at most {MOST_HOSTS} hosts"
         );
-        &self.run[number * PLACES..][..self.net_table.nhosts.min(PLACES)]
+        &self.entries[number * PLACES..][..self.net_table.nhosts.min(PLACES)]
     }
 
     /// The entries of all hosts: host k owns the 255 places from 255 k.
     pub fn entries(&self) -> &[Entry] {
-        &self.run
+        &self.entries
     }
 
-    /// The packet in slot `number`; none where it was never filled.
+    /// The packet in slot `number`; none if it was never filled.
     ///
     /// # Panics
     /// If the number is over 31.

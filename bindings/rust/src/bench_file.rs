@@ -1,7 +1,7 @@
-//! Bench files: a whole exercise in one file, written from its parts and read back. `docs/BENCH.md`
+//! Bench files: an exercise in one file, written from its parts and read back. `docs/BENCH.md`
 //! has the layout of each record.
 
-use crate::{Address, Counter, Layout, LinkSetting, Marks, Settings, LINKS};
+use crate::{Address, Answer, Counter, Layout, LinkSetting, Marks, Settings, LINKS};
 
 /// The hosts that a file can have.
 pub const MOST_HOSTS: usize = 16;
@@ -48,7 +48,7 @@ pub enum Event {
     Tick(u8, u16),
     /// An adjust of the host's clock, with the count.
     Adjust(u8, u16),
-    /// A set of the host's clock by so many ms, with the count.
+    /// A set of the host's clock by a number of ms, with the count.
     Set(u8, i32, u16),
     /// A second of the host.
     Second(u8),
@@ -75,8 +75,9 @@ pub enum Event {
 }
 
 impl File {
-    /// The octets of the file.
-    pub fn octets(&self) -> Vec<u8> {
+    /// The octets of the file. Refused with [`Answer::Setting`] if a number of a host's settings does not
+    /// fit its field: calls on a host with such settings are refused with the same.
+    pub fn octets(&self) -> Result<Vec<u8>, Answer> {
         let cables_start = HEADER_LENGTH + HOST_LENGTH * self.hosts.len();
         let events_start = cables_start + CABLE_LENGTH * self.cables.len();
         let header = [
@@ -88,10 +89,11 @@ impl File {
         ];
         let mut octets = Vec::new();
         for number in header {
-            octets.extend((number as u32).to_be_bytes());
+            let number = u32::try_from(number).map_err(|_| Answer::Header)?;
+            octets.extend(number.to_be_bytes());
         }
         for settings in &self.hosts {
-            put_host(&mut octets, settings);
+            put_host(&mut octets, settings)?;
         }
         for end in self.cables.iter().flatten() {
             octets.extend([end.host, end.link]);
@@ -99,11 +101,11 @@ impl File {
         for event in &self.events {
             octets.extend(event.octets());
         }
-        octets
+        Ok(octets)
     }
 
-    /// The file of these octets. None where set-up answers
-    /// [`Answer::Header`](crate::Answer::Header), or an event is of no kind; nothing else is tested.
+    /// The file of these octets. None if set-up answers
+    /// [`Answer::Header`], or an event is of no kind; nothing else is tested.
     pub fn read(octets: &[u8]) -> Option<File> {
         let header = octets.get(..HEADER_LENGTH)?;
         let mut numbers = header.chunks_exact(4).map(|four| number(four) as usize);
@@ -173,15 +175,18 @@ fn cable_of(record: &[u8]) -> [End; 2] {
     [end(record[0], record[1]), end(record[2], record[3])]
 }
 
-fn put_host(octets: &mut Vec<u8>, settings: &Settings) {
+fn put_host(octets: &mut Vec<u8>, settings: &Settings) -> Result<(), Answer> {
+    let nhosts = u16::try_from(settings.layout.nhosts).map_err(|_| Answer::Setting)?;
+    let time = u32::try_from(settings.time).map_err(|_| Answer::Setting)?;
+    let link_count = u8::try_from(settings.link_count).map_err(|_| Answer::Setting)?;
     octets.extend(address(settings.address));
     octets.extend([settings.layout.address_offset, settings.clock_host]);
-    octets.extend((settings.layout.nhosts as u16).to_be_bytes());
+    octets.extend(nhosts.to_be_bytes());
     octets.extend(settings.hold_interval.to_be_bytes());
     octets.extend(settings.date.to_be_bytes());
-    octets.extend((settings.time as u32).to_be_bytes());
+    octets.extend(time.to_be_bytes());
     octets.extend(settings.clock_tick.to_be_bytes());
-    octets.push(settings.link_count as u8);
+    octets.push(link_count);
     for LinkSetting {
         broadcast,
         neighbor,
@@ -191,6 +196,7 @@ fn put_host(octets: &mut Vec<u8>, settings: &Settings) {
         octets.extend(address(neighbor));
     }
     octets.extend((0..=u8::MAX).map(|id| u8::from(settings.marks.has(id))));
+    Ok(())
 }
 
 fn address(address: Address) -> [u8; 4] {

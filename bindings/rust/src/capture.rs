@@ -1,25 +1,21 @@
-//! The mender of damaged captures.
+//! Recovery of damaged captures.
 //!
 //! A capture has 32-bit numbers, high octet first: the number of packets and the place of each
 //! from octet 0. The packets follow. Recovery ignores the places and looks for the packets themselves.
 
-/// Done: both outputs are written.
-pub const DONE: u8 = 0;
-/// An output is too short. Both are untouched.
-pub const SHORT_BUFFER: u8 = 2;
-/// The input has over [`LONGEST`] octets. Both outputs are untouched.
-pub const CAPTURE_LENGTH: u8 = 27;
+use crate::answer::given;
+use crate::Answer;
 
 /// The longest input that is taken, in octets.
 pub const LONGEST: usize = 65_536;
 
-/// The most octets that the mended capture of an input can have.
+/// The most octets that the recovered capture of an input can have.
 pub const LONGEST_CAPTURE: usize = 73_732;
 
 /// The most octets that the list of stretches of an input can have.
 pub const LONGEST_STRETCHES: usize = 16_392;
 
-/// What the mender answers; zeros where it refuses.
+/// What [`mend`] returns; zeros if it refuses.
 #[repr(C)]
 #[derive(Clone, Copy, Debug, PartialEq, Eq, Default)]
 pub struct Mended {
@@ -31,6 +27,49 @@ pub struct Mended {
     pub stretches_length: usize,
     /// Whether number and places in the input are those of the packets found.
     pub places_true: bool,
+}
+
+/// Octets that were passed over.
+#[derive(Clone, Copy, Debug, PartialEq, Eq)]
+pub struct Stretch {
+    /// The first of them.
+    pub start: u32,
+    /// How many there are.
+    pub length: u32,
+}
+
+/// What recovery finds.
+#[derive(Clone, Debug, PartialEq, Eq)]
+pub struct Recovered {
+    /// A capture of the packets found.
+    pub capture: Vec<u8>,
+    /// The stretches passed over.
+    pub stretches: Vec<Stretch>,
+    /// Whether the input's own number and places are those of the packets found.
+    pub places_true: bool,
+}
+
+/// Finds the packets of a damaged capture. Refused with [`Answer::CaptureLength`] if the input has over
+/// [`LONGEST`] octets.
+pub fn recover(input: &[u8]) -> Result<Recovered, Answer> {
+    let mut capture = vec![0; LONGEST_CAPTURE];
+    let mut list = vec![0; LONGEST_STRETCHES];
+    let found = mend(input, &mut capture, &mut list);
+    given(found.answer).ok()?;
+    capture.truncate(found.capture_length);
+    let number = |octets: &[u8]| u32::from_be_bytes(octets.try_into().expect("four octets"));
+    let stretch = |octets: &[u8]| Stretch {
+        start: number(&octets[..4]),
+        length: number(&octets[4..]),
+    };
+    Ok(Recovered {
+        capture,
+        stretches: list[..found.stretches_length]
+            .chunks(8)
+            .map(stretch)
+            .collect(),
+        places_true: found.places_true,
+    })
 }
 
 const _: () = {
@@ -53,10 +92,10 @@ extern "C" {
     ) -> Mended;
 }
 
-/// Writes a capture of the packets that are found in the input, and a list of the stretches
-/// passed over. Octets of the outputs beyond what is written stay.
+/// Writes a capture of the packets that are found in the input, and a list of the stretches passed over,
+/// into buffers of the caller: [`recover`] without allocation. Octets of the outputs beyond what is written stay.
 pub fn mend(input: &[u8], capture: &mut [u8], stretches: &mut [u8]) -> Mended {
-    // SAFETY: the slices are valid and do not overlap.
+    // SAFETY: slices are valid for their lengths, and do not overlap since two are borrowed mutably.
     unsafe {
         hello_mend(
             input.as_ptr(),

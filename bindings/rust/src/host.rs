@@ -1,35 +1,33 @@
 //! A host of a room, with the calls as methods.
 
 use crate::answer::given;
-use crate::{Address, Answer, ClassTable, Clock, Counter, Entry, Links, Place, Settings, Walk};
-use crate::{LONGEST_MESSAGE, PLACES};
+use crate::{Address, Answer, ClassTable, Clock, Counter, Entry, Links, Place, Settings, State};
+use crate::{Walk, LONGEST_MESSAGE, PLACES};
 
 /// A host of a [`Room`](crate::Room): its settings, clock, links and walk, and the net table and
-/// the run that it shares.
-/// Whatever is written to them, each call ends with an [`Answer`].
+/// the entries that it shares. Whatever is written to them, each call ends with `Ok` or an [`Answer`].
 ///
-/// A call that reads the clock is handed the crystal's [`Counter`] as it stands then, and `tick`,
-/// `adjust` and `set` its count; the host keeps none of it. A line clock hands in
-/// [`Counter::LINE_CLOCK`], and 0. What a reading does to the clock stays, also at 10 and 11.
+/// A call that reads the clock gets the crystal's [`Counter`] as it is then, and `tick`, `adjust` and
+/// `set` its count; the host keeps none of it. A line clock passes [`Counter::LINE_CLOCK`], and 0. What a reading does to the clock stays, also at 10 and 11.
 #[derive(Debug)]
 pub struct Host<'a> {
     pub(crate) number: usize,
-    /// The settings; every call is lent them.
+    /// The settings; every call borrows them.
     pub settings: &'a mut Settings,
     /// The net table of the class, which only the tutor changes.
     pub net_table: &'a ClassTable,
-    /// The clock, as the last call left it.
+    /// The clock, as it is after the last call.
     pub clock: &'a mut Clock,
-    /// The links, as the last call left them.
+    /// The links, as they are after the last call.
     pub links: &'a mut Links,
-    /// The walk, as the last call left it; closed unless one is open.
+    /// The walk, as it is after the last call; closed unless one is open.
     pub walk: &'a mut Walk,
     /// The copy of its packet, with the longest one's room.
     pub copy: &'a mut [u8; LONGEST_MESSAGE],
-    pub(crate) run: &'a mut [Entry],
+    pub(crate) entries: &'a mut [Entry],
 }
 
-/// What a reading tells.
+/// What a reading returns.
 #[derive(Clone, Copy, Debug, PartialEq, Eq)]
 pub struct Reading {
     /// The whole milliseconds of CLOCK plus the count.
@@ -38,7 +36,7 @@ pub struct Reading {
     pub date: u16,
 }
 
-/// What an inspection tells of a packet.
+/// What an inspection returns of a packet.
 #[derive(Clone, Copy, Debug, PartialEq, Eq)]
 pub struct Seen {
     /// Its source.
@@ -68,94 +66,58 @@ impl Host<'_> {
 
     /// Its host table: an entry for each id, 255 at most.
     pub fn table(&self) -> &[Entry] {
-        &self.run[self.number * PLACES..][..self.settings.layout.nhosts.min(PLACES)]
+        &self.entries[self.number * PLACES..][..self.settings.layout.nhosts.min(PLACES)]
     }
 
     /// The same, to be written.
     pub fn table_mut(&mut self) -> &mut [Entry] {
-        &mut self.run[self.number * PLACES..][..self.settings.layout.nhosts.min(PLACES)]
+        &mut self.entries[self.number * PLACES..][..self.settings.layout.nhosts.min(PLACES)]
     }
 
-    /// Sets the host afresh by these settings: clock, links and table. A walk is dropped. Refused,
-    /// it keeps those that it had.
-    pub fn initialize(&mut self, settings: Settings) -> Answer {
-        let answer = given(crate::initialize(
-            &settings,
-            self.net_table,
-            self.number,
-            self.clock,
-            self.links,
-            self.walk,
-            self.copy,
-            self.run,
-        ));
-        if answer.is_done() {
-            *self.settings = settings;
+    /// What the plain calls borrow of it.
+    pub fn state(&mut self) -> State<'_> {
+        State {
+            settings: self.settings,
+            table: self.net_table,
+            number: self.number,
+            clock: self.clock,
+            links: self.links,
+            walk: self.walk,
+            copy: self.copy,
+            entries: self.entries,
         }
-        answer
+    }
+
+    /// Initializes the host by these settings: clock, links and table. A walk is dropped. If it is
+    /// refused, it keeps those that it had.
+    pub fn initialize(&mut self, settings: Settings) -> Result<(), Answer> {
+        let mut state = self.state();
+        state.settings = &settings;
+        given(state.initialize()).ok()?;
+        *self.settings = settings;
+        Ok(())
     }
 
     /// Adds CLOCK-TICK to the clock. Midnight is tested on CLOCK plus `count`; so also in `adjust`
     /// and `set`.
-    pub fn tick(&mut self, count: u16) -> Answer {
-        given(crate::tick(
-            self.settings,
-            self.net_table,
-            self.number,
-            self.clock,
-            self.links,
-            self.walk,
-            self.copy,
-            self.run,
-            count,
-        ))
+    pub fn tick(&mut self, count: u16) -> Result<(), Answer> {
+        given(self.state().tick(count)).ok()
     }
 
     /// Moves the clock by DELTA / 128, rounded down, which DELTA loses.
-    pub fn adjust(&mut self, count: u16) -> Answer {
-        given(crate::adjust(
-            self.settings,
-            self.net_table,
-            self.number,
-            self.clock,
-            self.links,
-            self.walk,
-            self.copy,
-            self.run,
-            count,
-        ))
+    pub fn adjust(&mut self, count: u16) -> Result<(), Answer> {
+        given(self.state().adjust(count)).ok()
     }
 
     /// Corrects the clock by `ms`: from -128 to +127 it becomes DELTA, which `adjust` spends;
     /// otherwise the clock is moved at once and HOLD is loaded.
-    pub fn set(&mut self, ms: i32, count: u16) -> Answer {
-        given(crate::set(
-            self.settings,
-            self.net_table,
-            self.number,
-            self.clock,
-            self.links,
-            self.walk,
-            self.copy,
-            self.run,
-            ms,
-            count,
-        ))
+    pub fn set(&mut self, ms: i32, count: u16) -> Result<(), Answer> {
+        given(self.state().set(ms, count)).ok()
     }
 
     /// The whole milliseconds of CLOCK plus the count, and the DATE word.
     pub fn read(&mut self, counter: Counter) -> Result<Reading, Answer> {
-        let read = crate::read(
-            self.settings,
-            self.net_table,
-            self.number,
-            self.clock,
-            self.links,
-            self.walk,
-            self.copy,
-            self.run,
-            counter,
-        );
+        let read = self.state().read(counter);
         given(read.answer).ok()?;
         Ok(Reading {
             time: read.time,
@@ -164,33 +126,14 @@ impl Host<'_> {
     }
 
     /// A second has passed: HOLD and each TTL fall by one, and an entry whose TTL ends goes down.
-    pub fn second(&mut self) -> Answer {
-        given(crate::second(
-            self.settings,
-            self.net_table,
-            self.number,
-            self.clock,
-            self.links,
-            self.walk,
-            self.copy,
-            self.run,
-        ))
+    pub fn second(&mut self) -> Result<(), Answer> {
+        given(self.state().second()).ok()
     }
 
     /// Updates the entries of the hosts that live here, which are the marked ids in rising order, with
     /// PID 0, DELAY 0 and OFFSET 0.
-    pub fn self_report(&mut self, counter: Counter) -> Answer {
-        given(crate::self_report(
-            self.settings,
-            self.net_table,
-            self.number,
-            self.clock,
-            self.links,
-            self.walk,
-            self.copy,
-            self.run,
-            counter,
-        ))
+    pub fn self_report(&mut self, counter: Counter) -> Result<(), Answer> {
+        given(self.state().self_report(counter)).ok()
     }
 
     /// The next message of link `link`, from 1.
@@ -201,27 +144,15 @@ impl Host<'_> {
         Ok(message)
     }
 
-    /// Writes the next message of link `link`, from 1, to the front of a buffer; its length.
-    /// Octets behind it stay.
+    /// Writes the next message of link `link`, from 1, to the start of a buffer; its length.
+    /// Octets after it stay.
     pub fn send_into(
         &mut self,
         link: usize,
         counter: Counter,
         buffer: &mut [u8],
     ) -> Result<usize, Answer> {
-        let sent = crate::send(
-            self.settings,
-            self.net_table,
-            self.number,
-            self.clock,
-            self.links,
-            self.walk,
-            self.copy,
-            self.run,
-            link,
-            counter,
-            buffer,
-        );
+        let sent = self.state().send(link, counter, buffer);
         given(sent.answer).ok()?;
         Ok(sent.length)
     }
@@ -229,18 +160,7 @@ impl Host<'_> {
     /// Looks at a packet, IP header first, that arrived on link `link`, from 1: what it says, or why
     /// it would not be taken. [`act`](Host::act) may still refuse it with 10 or 11.
     pub fn inspect(&mut self, link: usize, packet: &[u8]) -> Result<Seen, Answer> {
-        let inspected = crate::inspect(
-            self.settings,
-            self.net_table,
-            self.number,
-            self.clock,
-            self.links,
-            self.walk,
-            self.copy,
-            self.run,
-            link,
-            packet,
-        );
+        let inspected = self.state().inspect(link, packet);
         given(inspected.answer).ok()?;
         Ok(Seen {
             source: inspected.source,
@@ -252,94 +172,39 @@ impl Host<'_> {
 
     /// Acts on a packet, IP header first, that arrived on link `link`, from 1. Any calls may have
     /// come since [`inspect`](Host::inspect), so it tests the packet again.
-    pub fn act(&mut self, link: usize, counter: Counter, packet: &[u8]) -> Answer {
-        given(crate::act(
-            self.settings,
-            self.net_table,
-            self.number,
-            self.clock,
-            self.links,
-            self.walk,
-            self.copy,
-            self.run,
-            link,
-            counter,
-            packet,
-        ))
+    pub fn act(&mut self, link: usize, counter: Counter, packet: &[u8]) -> Result<(), Answer> {
+        given(self.state().act(link, counter, packet)).ok()
     }
 
-    /// An arrival in one piece: [`inspect`](Host::inspect) and, where that refuses nothing,
+    /// An arrival in one piece: [`inspect`](Host::inspect) and, if that refuses nothing,
     /// [`act`](Host::act).
-    pub fn receive(&mut self, link: usize, counter: Counter, packet: &[u8]) -> Answer {
-        given(crate::receive(
-            self.settings,
-            self.net_table,
-            self.number,
-            self.clock,
-            self.links,
-            self.walk,
-            self.copy,
-            self.run,
-            link,
-            counter,
-            packet,
-        ))
+    pub fn receive(&mut self, link: usize, counter: Counter, packet: &[u8]) -> Result<(), Answer> {
+        given(self.state().receive(link, counter, packet)).ok()
     }
 
     /// Opens a walk for a packet, IP header first, that arrived on link `link`, from 1: the packet is
     /// copied, and its first place, step 1, is next. Nothing else is changed.
     ///
-    /// While a walk is open, all calls but [`step`](Host::step) and [`initialize`](Host::initialize)
+    /// While a walk is open, all calls except [`step`](Host::step) and [`initialize`](Host::initialize)
     /// answer [`Answer::InWalk`].
     pub fn open_walk(&mut self, link: usize, packet: &[u8]) -> Result<Place, Answer> {
-        let opened = crate::open_walk(
-            self.settings,
-            self.net_table,
-            self.number,
-            self.clock,
-            self.links,
-            self.walk,
-            self.copy,
-            self.run,
-            link,
-            packet,
-        );
+        let opened = self.state().open_walk(link, packet);
         given(opened.answer).ok()?;
         Ok(opened.place().expect("a walk that is opened has a place"))
     }
 
-    /// Makes the changes of the place at which the walk stands, and answers the next; none where the
-    /// walk is at its end. It leaves then what [`act`](Host::act) with the counter of step 1 leaves;
-    /// at the later places the counter is not looked at. 10 and 11 end the walk too.
+    /// Makes the changes of the place that the walk is at, and returns the next; none at the end of
+    /// the walk. The state is then that after [`act`](Host::act) with the counter of step 1; at the later
+    /// places the counter is not looked at. 10 and 11 end the walk too.
     pub fn step(&mut self, counter: Counter) -> Result<Option<Place>, Answer> {
-        let stepped = crate::step(
-            self.settings,
-            self.net_table,
-            self.number,
-            self.clock,
-            self.links,
-            self.walk,
-            self.copy,
-            self.run,
-            counter,
-        );
+        let stepped = self.state().step(counter);
         given(stepped.answer).ok()?;
         Ok(stepped.place())
     }
 
     /// The id of `address`, and the link by which it is reached.
     pub fn lookup(&mut self, address: Address) -> Result<Found, Answer> {
-        let route = crate::lookup(
-            self.settings,
-            self.net_table,
-            self.number,
-            self.clock,
-            self.links,
-            self.walk,
-            self.copy,
-            self.run,
-            address,
-        );
+        let route = self.state().lookup(address);
         given(route.answer).ok()?;
         Ok(Found {
             id: route.id,

@@ -1,4 +1,4 @@
-//! The C interface of `libhello.a`. Nothing but the plain calls uses it.
+//! The C interface of `libhello.a`. Only the plain calls use it.
 
 use crate::{Address, ClassTable, Clock, Counter, Entry, Inspected, Links, Route, Sent, Settings};
 use crate::{Stepped, Time, Walk};
@@ -13,8 +13,8 @@ extern "C" {
         walk: *mut Walk,
         copy: *const u8,
         copy_length: usize,
-        run: *mut Entry,
-        run_length: usize,
+        entries: *mut Entry,
+        entries_length: usize,
     ) -> u8;
 
     pub fn hello_tick(
@@ -26,8 +26,8 @@ extern "C" {
         walk: *mut Walk,
         copy: *const u8,
         copy_length: usize,
-        run: *mut Entry,
-        run_length: usize,
+        entries: *mut Entry,
+        entries_length: usize,
         count: u16,
     ) -> u8;
 
@@ -40,8 +40,8 @@ extern "C" {
         walk: *mut Walk,
         copy: *const u8,
         copy_length: usize,
-        run: *mut Entry,
-        run_length: usize,
+        entries: *mut Entry,
+        entries_length: usize,
         count: u16,
     ) -> u8;
 
@@ -54,8 +54,8 @@ extern "C" {
         walk: *mut Walk,
         copy: *const u8,
         copy_length: usize,
-        run: *mut Entry,
-        run_length: usize,
+        entries: *mut Entry,
+        entries_length: usize,
         ms: i32,
         count: u16,
     ) -> u8;
@@ -69,8 +69,8 @@ extern "C" {
         walk: *mut Walk,
         copy: *const u8,
         copy_length: usize,
-        run: *mut Entry,
-        run_length: usize,
+        entries: *mut Entry,
+        entries_length: usize,
         counter: Counter,
     ) -> Time;
 
@@ -83,8 +83,8 @@ extern "C" {
         walk: *mut Walk,
         copy: *const u8,
         copy_length: usize,
-        run: *mut Entry,
-        run_length: usize,
+        entries: *mut Entry,
+        entries_length: usize,
     ) -> u8;
 
     pub fn hello_self_report(
@@ -96,8 +96,8 @@ extern "C" {
         walk: *mut Walk,
         copy: *const u8,
         copy_length: usize,
-        run: *mut Entry,
-        run_length: usize,
+        entries: *mut Entry,
+        entries_length: usize,
         counter: Counter,
     ) -> u8;
 
@@ -110,8 +110,8 @@ extern "C" {
         walk: *const Walk,
         copy: *const u8,
         copy_length: usize,
-        run: *mut Entry,
-        run_length: usize,
+        entries: *mut Entry,
+        entries_length: usize,
         link: usize,
         counter: Counter,
         buffer: *mut u8,
@@ -127,8 +127,8 @@ extern "C" {
         walk: *const Walk,
         copy: *const u8,
         copy_length: usize,
-        run: *mut Entry,
-        run_length: usize,
+        entries: *mut Entry,
+        entries_length: usize,
         link: usize,
         packet: *const u8,
         packet_length: usize,
@@ -143,8 +143,8 @@ extern "C" {
         walk: *const Walk,
         copy: *const u8,
         copy_length: usize,
-        run: *mut Entry,
-        run_length: usize,
+        entries: *mut Entry,
+        entries_length: usize,
         link: usize,
         counter: Counter,
         packet: *const u8,
@@ -160,8 +160,8 @@ extern "C" {
         walk: *const Walk,
         copy: *const u8,
         copy_length: usize,
-        run: *mut Entry,
-        run_length: usize,
+        entries: *mut Entry,
+        entries_length: usize,
         link: usize,
         counter: Counter,
         packet: *const u8,
@@ -177,8 +177,8 @@ extern "C" {
         walk: *mut Walk,
         copy: *mut u8,
         copy_length: usize,
-        run: *const Entry,
-        run_length: usize,
+        entries: *const Entry,
+        entries_length: usize,
         link: usize,
         packet: *const u8,
         packet_length: usize,
@@ -193,8 +193,8 @@ extern "C" {
         walk: *mut Walk,
         copy: *const u8,
         copy_length: usize,
-        run: *mut Entry,
-        run_length: usize,
+        entries: *mut Entry,
+        entries_length: usize,
         counter: Counter,
     ) -> Stepped;
 
@@ -207,8 +207,8 @@ extern "C" {
         walk: *mut Walk,
         copy: *const u8,
         copy_length: usize,
-        run: *mut Entry,
-        run_length: usize,
+        entries: *mut Entry,
+        entries_length: usize,
         address: Address,
     ) -> Route;
 

@@ -4,7 +4,7 @@
 //! methods. They know no host: a change takes effect at the next call of a host that looks an
 //! address up, in the middle of a walk too.
 
-use crate::answer::given;
+use crate::answer::{given, result};
 use crate::{Answer, ClassTable, Net, NetTable, Row, ROWS};
 
 /// What adding a row answers.
@@ -31,24 +31,27 @@ extern "C" {
     fn hello_net_change(table: *mut ClassTable, row: usize, id: usize) -> u8;
 }
 
-/// Sets a table afresh, with the class's NHOSTS and without rows. Any table may be lent.
+/// Initializes a table, with the class's NHOSTS and without rows. Any table may be passed.
 pub fn afresh(table: &mut ClassTable, nhosts: usize) -> u8 {
-    // SAFETY: a reference is valid and aligned; the same in each call below.
+    // SAFETY: a reference is valid and aligned.
     unsafe { hello_net_afresh(table, nhosts) }
 }
 
 /// Adds a row at the end.
 pub fn add(table: &mut ClassTable, net: Net, id: usize) -> NetAdded {
+    // SAFETY: a reference is valid and aligned.
     unsafe { hello_net_add(table, net, id) }
 }
 
-/// Removes the row of that number, from 1; those behind it move up.
+/// Removes the row of that number, from 1; those after it move up.
 pub fn remove(table: &mut ClassTable, row: usize) -> u8 {
+    // SAFETY: a reference is valid and aligned.
     unsafe { hello_net_remove(table, row) }
 }
 
 /// Changes the host id of the row of that number, from 1; its net stays.
 pub fn change(table: &mut ClassTable, row: usize, id: usize) -> u8 {
+    // SAFETY: a reference is valid and aligned.
     unsafe { hello_net_change(table, row, id) }
 }
 
@@ -68,30 +71,29 @@ impl ClassTable {
         }
     }
 
-    /// The rows that stand; the first is number 1.
+    /// The rows that are used; the first is number 1.
     pub fn rows(&self) -> &[Row] {
         &self.net.rows[..self.net.count.min(ROWS)]
     }
 
-    /// Sets the table afresh, with the class's NHOSTS and without rows.
-    pub fn set_afresh(&mut self, nhosts: usize) -> Answer {
-        given(afresh(self, nhosts))
+    /// Initializes the table, with the class's NHOSTS and without rows.
+    pub fn initialize(&mut self, nhosts: usize) -> Result<(), Answer> {
+        given(afresh(self, nhosts)).ok()
     }
 
     /// Adds a row at the end, a net and the id of the host that leads there; its number.
     pub fn add(&mut self, net: Net, id: usize) -> Result<usize, Answer> {
         let added = add(self, net, id);
-        given(added.answer).ok()?;
-        Ok(added.row)
+        result(added.answer, added.row)
     }
 
-    /// Removes the row of that number, from 1; those behind it move up.
-    pub fn remove(&mut self, row: usize) -> Answer {
-        given(remove(self, row))
+    /// Removes the row of that number, from 1; those after it move up.
+    pub fn remove(&mut self, row: usize) -> Result<(), Answer> {
+        given(remove(self, row)).ok()
     }
 
     /// The row of that number, from 1, leads to another host; its net stays.
-    pub fn change(&mut self, row: usize, id: usize) -> Answer {
-        given(change(self, row, id))
+    pub fn change(&mut self, row: usize, id: usize) -> Result<(), Answer> {
+        given(change(self, row, id)).ok()
     }
 }

@@ -1,23 +1,15 @@
 //! NTP beside HELLO: the 48-octet header of RFC 5905, read and written, and what an association
 //! makes of a packet.
 //!
-//! Every call ends with 0 or one of the numbers below, whatever it is given. They are tested in
-//! rising order; a refusal's values are zero, and it leaves the association as it was.
+//! A call is refused with [`Answer::NtpLength`], [`Answer::NtpVersion`], [`Answer::NtpMode`] or
+//! [`Answer::NtpTimestamp`], tested in that order. A refusal leaves the association as it was.
 
+use crate::answer::result;
+use crate::Answer;
 use std::mem::{offset_of, size_of};
 
 /// The octets of a header.
 pub const OCTETS: usize = 48;
-
-/// Not 48 octets.
-pub const NTP_LENGTH: u8 = 23;
-/// The version is not 4.
-pub const NTP_VERSION: u8 = 24;
-/// The packet mode is not 1 to 5, the association's number is over 6, or, in a header to be
-/// written, leap is over 3.
-pub const NTP_MODE: u8 = 25;
-/// One of the four timestamp tests failed.
-pub const NTP_TIMESTAMP: u8 = 26;
 
 /// Error: a passive association ends.
 pub const ERR: i8 = -1;
@@ -137,45 +129,37 @@ const _: () = {
     assert!(offset_of!(ReceiveAnswer, association) == 24);
 };
 
-/// The value where the answer is 0, and the answer otherwise.
-fn result<T>(answer: u8, value: T) -> Result<T, u8> {
-    if answer == 0 {
-        Ok(value)
-    } else {
-        Err(answer)
-    }
+/// The fields of a header.
+pub fn read(octets: &[u8]) -> Result<NtpHeader, Answer> {
+    // SAFETY: a slice is valid for its length.
+    let returned = unsafe { hello_ntp_read(octets.as_ptr(), octets.len()) };
+    result(returned.answer, returned.header)
 }
 
-/// The fields of a header; 23, 24 or 25 where it is refused.
-pub fn read(octets: &[u8]) -> Result<NtpHeader, u8> {
-    // SAFETY: a slice is valid for its length; the same below.
-    let told = unsafe { hello_ntp_read(octets.as_ptr(), octets.len()) };
-    result(told.answer, told.header)
-}
-
-/// The octets of a header; 24 or 25 where it is refused.
-pub fn write(header: &NtpHeader) -> Result<[u8; OCTETS], u8> {
+/// The octets of a header.
+pub fn write(header: &NtpHeader) -> Result<[u8; OCTETS], Answer> {
     // SAFETY: all is passed by value.
-    let told = unsafe { hello_ntp_write(*header) };
-    result(told.answer, told.octets)
+    let returned = unsafe { hello_ntp_write(*header) };
+    result(returned.answer, returned.octets)
 }
 
-/// Takes in a packet that arrives at the time `destination`, T4; 23 to 26 where it is refused.
+/// Takes in a packet that arrives at the time `destination`, T4.
 /// Only a packet that is processed changes the association: its transmit time is saved.
 pub fn receive(
     association: &mut NtpAssociation,
     octets: &[u8],
     destination: u64,
-) -> Result<NtpOutcome, u8> {
-    let told =
+) -> Result<NtpOutcome, Answer> {
+    // SAFETY: a slice is valid for its length; the association is passed by value.
+    let returned =
         unsafe { hello_ntp_receive(*association, octets.as_ptr(), octets.len(), destination) };
-    *association = told.association;
+    *association = returned.association;
     result(
-        told.answer,
+        returned.answer,
         NtpOutcome {
-            action: told.action,
-            offset: told.offset,
-            delay: told.delay,
+            action: returned.action,
+            offset: returned.offset,
+            delay: returned.delay,
         },
     )
 }

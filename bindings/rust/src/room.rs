@@ -1,4 +1,4 @@
-//! A room: hosts, and the run of entries and the net table that they share.
+//! A room: hosts, and the entries and the net table that they share.
 
 use crate::{ClassTable, Clock, Entry, Host, Links, Settings, Walk};
 use crate::{HOSTS, LONGEST_MESSAGE, PLACES};
@@ -6,24 +6,24 @@ use crate::{HOSTS, LONGEST_MESSAGE, PLACES};
 /// Up to sixteen hosts and their host tables, and the net table of their class.
 ///
 /// ```
-/// use hello::{Address, Answer, Counter, Layout, Net, Room, Settings};
+/// use hello::{Counter, Layout, Net, Room, Settings};
 ///
 /// let layout = Layout { address_offset: 1, nhosts: 4 };
 /// let mut room = Room::new(1, layout.nhosts);
 /// assert_eq!(room.net_table.add(Net::new(10, 0, 0), 2), Ok(1));
 /// let mut host = room.host(0);
-/// assert_eq!(host.initialize(Settings::new(Address::new(192, 0, 2, 1), layout)), Answer::Done);
-/// assert_eq!(host.tick(0), Answer::Done);
+/// host.initialize(Settings::new("192.0.2.1".parse()?, layout))?;
+/// host.tick(0)?;
 /// let message = host.send(1, Counter::LINE_CLOCK)?;
 /// assert_eq!(message.len(), 32);
-/// # Ok::<(), Answer>(())
+/// # Ok::<(), Box<dyn std::error::Error>>(())
 /// ```
 #[derive(Clone, Debug)]
 pub struct Room {
     /// The net table of the class; the tutor's calls are its methods.
     pub net_table: ClassTable,
     hosts: Vec<Kept>,
-    run: Vec<Entry>,
+    entries: Vec<Entry>,
 }
 
 /// What a room keeps of a host beside its entries.
@@ -37,7 +37,7 @@ struct Kept {
 }
 
 impl Kept {
-    /// Of a host that is still to be set.
+    /// Of a host that is still to be initialized.
     fn unset() -> Kept {
         Kept {
             settings: Settings::default(),
@@ -50,7 +50,7 @@ impl Kept {
 }
 
 impl Room {
-    /// A room of so many hosts, 16 at most, all still to be set by [`Host::initialize`], in a class
+    /// A room of hosts, 16 at most, all still to be initialized by [`Host::initialize`], in a class
     /// of that NHOSTS, whose net table has no rows yet.
     ///
     /// # Panics
@@ -60,7 +60,7 @@ impl Room {
         Room {
             net_table: ClassTable::new(nhosts),
             hosts: vec![Kept::unset(); hosts],
-            run: vec![Entry::default(); hosts * PLACES],
+            entries: vec![Entry::default(); hosts * PLACES],
         }
     }
 
@@ -83,17 +83,17 @@ impl Room {
             links: &mut kept.links,
             walk: &mut kept.walk,
             copy: &mut kept.copy,
-            run: &mut self.run,
+            entries: &mut self.entries,
         }
     }
 
     /// The entries of all hosts: host k owns the 255 places from 255 k.
-    pub fn run(&self) -> &[Entry] {
-        &self.run
+    pub fn entries(&self) -> &[Entry] {
+        &self.entries
     }
 
     /// The same, to be written.
-    pub fn run_mut(&mut self) -> &mut [Entry] {
-        &mut self.run
+    pub fn entries_mut(&mut self) -> &mut [Entry] {
+        &mut self.entries
     }
 }

@@ -7,5 +7,6 @@ extern "C" {
 /// The same as [`checksum`](crate::checksum), worked out two octets at a time: the plain way,
 /// which takes longer.
 pub fn checksum_plain(octets: &[u8]) -> u16 {
+    // SAFETY: a slice is valid for its length.
     unsafe { hello_checksum_plain(octets.as_ptr(), octets.len()) }
 }

@@ -1,11 +1,13 @@
-//! What is set, what is lent to the calls, and what they answer beside a number.
+//! What is set, what the calls borrow, and what they return beside a number.
 
 use std::fmt;
+use std::net::{AddrParseError, Ipv4Addr};
+use std::str::FromStr;
 
-/// The places of the run that one host owns; host k owns those from 255 k.
+/// The entries that one host owns; host k owns those from 255 k.
 pub const PLACES: usize = 255;
 
-/// The hosts that one run can hold.
+/// The hosts that one host table can have.
 pub const HOSTS: usize = 16;
 
 /// The links that a host can have.
@@ -17,7 +19,7 @@ pub const ROWS: usize = 32;
 /// The ids that can be marked, from 0.
 pub const MARKS: usize = 256;
 
-/// The clock host's id where clock setting is off.
+/// The clock host's id if clock setting is off.
 pub const NO_CLOCK_HOST: u8 = 255;
 
 /// Clock units to a millisecond.
@@ -60,13 +62,39 @@ impl Address {
 
 impl fmt::Display for Address {
     fn fmt(&self, out: &mut fmt::Formatter) -> fmt::Result {
-        let Address {
-            first,
-            second,
-            third,
-            fourth,
-        } = self;
-        out.pad(&format!("{first}.{second}.{third}.{fourth}"))
+        Ipv4Addr::from(*self).fmt(out)
+    }
+}
+
+impl From<Ipv4Addr> for Address {
+    fn from(address: Ipv4Addr) -> Address {
+        address.octets().into()
+    }
+}
+
+impl From<Address> for Ipv4Addr {
+    fn from(address: Address) -> Ipv4Addr {
+        <[u8; 4]>::from(address).into()
+    }
+}
+
+impl From<[u8; 4]> for Address {
+    fn from([first, second, third, fourth]: [u8; 4]) -> Address {
+        Address::new(first, second, third, fourth)
+    }
+}
+
+impl From<Address> for [u8; 4] {
+    fn from(address: Address) -> [u8; 4] {
+        [address.first, address.second, address.third, address.fourth]
+    }
+}
+
+impl FromStr for Address {
+    type Err = AddrParseError;
+
+    fn from_str(text: &str) -> Result<Address, AddrParseError> {
+        text.parse::<Ipv4Addr>().map(Address::from)
     }
 }
 
@@ -108,7 +136,8 @@ pub struct Layout {
     pub nhosts: usize,
 }
 
-/// The number of a net; class A has two zeros behind its first octet.
+/// The number of a net; class A has two zeros after its first octet; classes B and
+/// C have all three octets.
 #[repr(C)]
 #[derive(Clone, Copy, Debug, PartialEq, Eq, Default)]
 pub struct Net {
@@ -278,8 +307,8 @@ pub struct Clock {
     pub date: u16,
 }
 
-/// What a call that reads the clock is handed from the counter of 1,000 Hz that a crystal clock
-/// has. A line clock has none, and hands in [`Counter::LINE_CLOCK`], which is also the default.
+/// What a call that reads the clock gets from the counter of 1,000 Hz that a crystal clock has. A line
+/// clock has none, and passes [`Counter::LINE_CLOCK`], which is also the default.
 #[repr(C)]
 #[derive(Clone, Copy, Debug, PartialEq, Eq, Default)]
 pub struct Counter {
@@ -293,7 +322,7 @@ pub struct Counter {
 }
 
 impl Counter {
-    /// What a line clock hands in: zeros.
+    /// What a line clock passes: zeros.
     pub const LINE_CLOCK: Counter = Counter::of(0);
 
     /// A count without the mark.
@@ -305,7 +334,7 @@ impl Counter {
         }
     }
 
-    /// A count behind which the counter overflowed, and the count taken again.
+    /// A count after which the counter overflowed, and the count taken again.
     pub const fn overflowed(count: u16, again: u16) -> Counter {
         Counter {
             count,
@@ -335,8 +364,8 @@ pub struct Links {
     pub all: [Link; LINKS],
 }
 
-/// A walk: what is held of an arrival between two of its boxes. Its packet stands in a copy beside
-/// it. Only a walk that is open is looked at, and of it only what is held at its place.
+/// A walk: the state of an arrival between two of its boxes. Its packet is in a copy beside it. Only an
+/// open walk is looked at, and of it only what its place needs.
 #[repr(C)]
 #[derive(Clone, Copy, Debug, PartialEq, Eq, Default)]
 pub struct Walk {
@@ -346,11 +375,11 @@ pub struct Walk {
     pub link: u8,
     /// The next place: step 1 to 5.
     pub step: u8,
-    /// In step 5, behind its own box, line 1 to 4 for (a) to (d); else 0.
+    /// In step 5, after its own box, line 1 to 4 for (a) to (d); else 0.
     pub line: u8,
     /// The host id of a line, below NHOSTS.
     pub id: u8,
-    /// The octets of the packet, at the front of the copy.
+    /// The octets of the packet, at the start of the copy.
     pub length: u16,
     /// From step 1 on: the count that was used, in ms.
     pub count: u16,
@@ -383,7 +412,7 @@ impl Walk {
     }
 }
 
-/// A place in a walk: a step of the arrival, or a line of the update of a host, behind step 5.
+/// A place in a walk: a step of the arrival, or a line of the update of a host, after step 5.
 /// Shown, it is `step 4` or `host 3, line b`.
 #[derive(Clone, Copy, Debug, PartialEq, Eq, Hash)]
 pub enum Place {
@@ -425,7 +454,7 @@ pub struct Entry {
     pub time: i64,
 }
 
-/// What a send answers.
+/// What a send returns.
 #[repr(C)]
 #[derive(Clone, Copy, Debug, PartialEq, Eq, Default)]
 pub struct Sent {
@@ -435,7 +464,7 @@ pub struct Sent {
     pub length: usize,
 }
 
-/// What a lookup answers.
+/// What a lookup returns.
 #[repr(C)]
 #[derive(Clone, Copy, Debug, PartialEq, Eq, Default)]
 pub struct Route {
@@ -447,7 +476,7 @@ pub struct Route {
     pub pid: u8,
 }
 
-/// What a reading answers.
+/// What a reading returns.
 #[repr(C)]
 #[derive(Clone, Copy, Debug, PartialEq, Eq, Default)]
 pub struct Time {
@@ -459,7 +488,7 @@ pub struct Time {
     pub date: u16,
 }
 
-/// What an inspection answers.
+/// What an inspection returns.
 #[repr(C)]
 #[derive(Clone, Copy, Debug, PartialEq, Eq, Default)]
 pub struct Inspected {
@@ -475,22 +504,22 @@ pub struct Inspected {
     pub nhosts: u8,
 }
 
-/// What the opening of a walk and a step of it answer: the next place.
+/// What the opening of a walk and a step of it return: the next place.
 #[repr(C)]
 #[derive(Clone, Copy, Debug, PartialEq, Eq, Default)]
 pub struct Stepped {
     /// The answer number.
     pub answer: u8,
-    /// The step, 1 to 5; 0 when refused, and where no place is left.
+    /// The step, 1 to 5; 0 when refused, and if there is no next place.
     pub step: u8,
-    /// In step 5, behind its own box, the line, 1 to 4 for (a) to (d); else 0.
+    /// In step 5, after its own box, the line, 1 to 4 for (a) to (d); else 0.
     pub line: u8,
     /// The host id of a line; else 0.
     pub id: usize,
 }
 
 impl Stepped {
-    /// The next place, if one is left.
+    /// The next place, if there is one.
     pub fn place(&self) -> Option<Place> {
         match (self.step, self.line) {
             (0, _) => None,

@@ -1,6 +1,6 @@
 //! The class bench: files set up and run.
 
-use hello::bench::{self, HostState, Packet, Progress, Ran, SLOT_LENGTH};
+use hello::bench::{BenchState, HostState, Packet, Progress, Ran, SLOT_LENGTH};
 use hello::bench_file::{End, Event, File, MOST_EVENTS, SLOTS};
 use hello::{Address, Answer, Bench, ClassTable, Counter, Entry, Layout, Net, Room, Settings};
 use hello::{LONGEST_MESSAGE, PLACES, UNITS_PER_MS};
@@ -62,8 +62,8 @@ fn exercise() -> File {
 }
 
 fn bench_of(file: &File) -> Bench {
-    let mut bench = Bench::new(file.octets(), ClassTable::new(LAYOUT.nhosts));
-    assert_eq!(bench.set_up(), Answer::Done);
+    let mut bench = Bench::new(file.octets().unwrap(), ClassTable::new(LAYOUT.nhosts));
+    assert_eq!(bench.set_up(), Ok(()));
     bench
 }
 
@@ -71,7 +71,7 @@ fn bench_of(file: &File) -> Bench {
 fn by_calls(file: &File) -> (Vec<Answer>, Room) {
     let mut room = Room::new(file.hosts.len(), LAYOUT.nhosts);
     for (number, settings) in file.hosts.iter().enumerate() {
-        assert_eq!(room.host(number).initialize(*settings), Answer::Done);
+        assert_eq!(room.host(number).initialize(*settings), Ok(()));
     }
     let mut slots = vec![None; SLOTS];
     let answers = file.events.iter().map(|event| match *event {
@@ -88,22 +88,17 @@ fn by_calls(file: &File) -> (Vec<Answer>, Room) {
         } => {
             let [from, to] = [end, 1 - end].map(|end| file.cables[cable as usize][end as usize]);
             let sent = room.host(from.host.into()).send(from.link.into(), counter);
-            sent.map_or_else(
-                |refusal| refusal,
-                |packet| {
-                    slots[slot as usize] = Some((to, packet));
-                    Answer::Done
-                },
-            )
+            sent.map(|packet| slots[slot as usize] = Some((to, packet)))
         }
         Event::Arrival { slot, counter } => match &slots[slot as usize] {
             Some((to, packet)) => {
                 let mut host = room.host(to.host.into());
                 host.receive(to.link.into(), counter, packet)
             }
-            None => Answer::IpForm,
+            None => Err(Answer::IpForm),
         },
     });
+    let answers = answers.map(|done| done.err().unwrap_or(Answer::Done));
     (answers.collect(), room)
 }
 
@@ -131,7 +126,7 @@ fn a_run_is_its_calls() {
         let host = room.host(number);
         assert_eq!((clock, links, walk), (*host.clock, *host.links, *host.walk));
     }
-    assert_eq!(bench.entries()[..3 * PLACES], *room.run());
+    assert_eq!(bench.entries()[..3 * PLACES], *room.entries());
     // An empty slot, a message while HOLD runs, and a host that came up.
     let count = |answer| answers.iter().filter(|given| **given == answer).count();
     assert_eq!(
@@ -181,7 +176,7 @@ fn set_up_again() {
     let mut bench = bench_of(&file);
     let fresh = bench.clone();
     assert_eq!(bench.run(20), Ok(20));
-    assert_eq!(bench.set_up(), Answer::Done);
+    assert_eq!(bench.set_up(), Ok(()));
     assert_eq!(bench.answers(), []);
     assert_eq!(bench.hosts(), fresh.hosts());
     assert_eq!(bench.entries(), fresh.entries());
@@ -200,7 +195,7 @@ fn another_file_goes_on() {
     };
     let mut bench = bench_of(&part(first));
     assert_eq!(bench.run(usize::MAX), Ok(10));
-    bench.go_on_with(part(second).octets());
+    bench.go_on_with(part(second).octets().unwrap());
     assert_eq!((bench.done(), bench.answers()), (0, vec![]));
     assert_eq!(bench.run(usize::MAX), Ok(second.len()));
     assert_eq!(bench.answers(), whole.answers()[10..]);
@@ -210,7 +205,7 @@ fn another_file_goes_on() {
     let mut without = part(second);
     without.cables.pop();
     without.events.clear();
-    bench.go_on_with(without.octets());
+    bench.go_on_with(without.octets().unwrap());
     assert_eq!(bench.run(0), Err(Answer::OutOfRange));
 }
 
@@ -218,7 +213,7 @@ fn another_file_goes_on() {
 fn refused(octets: Vec<u8>, net_table: ClassTable) -> Answer {
     let mut bench = Bench::new(octets, net_table);
     let before = bench.clone();
-    let answer = bench.set_up();
+    let answer = bench.set_up().expect_err("the file is refused");
     assert_eq!(bench.run(1), Err(answer));
     assert_same(&bench, &before);
     answer
@@ -227,7 +222,7 @@ fn refused(octets: Vec<u8>, net_table: ClassTable) -> Answer {
 #[test]
 fn refusals() {
     let table = ClassTable::new(LAYOUT.nhosts);
-    let octets = exercise().octets();
+    let octets = exercise().octets().unwrap();
     assert_eq!(refused(vec![], table), Answer::Header);
     let longer = [&octets[..], &[0]].concat();
     assert_eq!(refused(longer, table), Answer::Header);
@@ -244,10 +239,10 @@ fn refusals() {
     assert_eq!(refused(octets, bad), Answer::OutOfRange);
 }
 
-/// The plain calls are lent no more than the file needs, and one thing less.
+/// The plain calls borrow no more than the file needs, and one thing less.
 #[test]
-fn lent_too_short() {
-    let octets = exercise().octets();
+fn borrowed_too_short() {
+    let octets = exercise().octets().unwrap();
     let events = exercise().events.len();
     let table = ClassTable::new(LAYOUT.nhosts);
     let lengths = [
@@ -263,35 +258,25 @@ fn lent_too_short() {
             *length -= 1;
         }
         let right = if short < lengths.len() { 12 } else { 0 };
-        let [hosts, copies, run, slots, answers] = lengths;
+        let [hosts, copies, entries, slots, answers] = lengths;
         let mut hosts = vec![HostState::default(); hosts];
         let copies = vec![0; copies];
-        let mut run = vec![Entry::default(); run];
+        let mut entries = vec![Entry::default(); entries];
         let mut slots = vec![0; slots];
         let mut answers = vec![0; answers];
         let mut progress = Progress::default();
-        let answer = bench::set_up(
-            &octets,
-            &table,
-            &mut hosts,
-            &copies,
-            &mut run,
-            &mut slots,
-            &mut answers,
-            &mut progress,
-        );
-        assert_eq!(answer, right);
-        let ran = bench::run(
-            &octets,
-            &table,
-            &mut hosts,
-            &copies,
-            &mut run,
-            &mut slots,
-            &mut answers,
-            &mut progress,
-            usize::MAX,
-        );
+        let mut state = BenchState {
+            file: &octets,
+            table: &table,
+            hosts: &mut hosts,
+            copies: &copies,
+            entries: &mut entries,
+            slots: &mut slots,
+            answers: &mut answers,
+            progress: &mut progress,
+        };
+        assert_eq!(state.set_up(), right);
+        let ran = state.run(usize::MAX);
         let count = if right == 0 { events } else { 0 };
         let expected = Ran {
             answer: right,

@@ -1,7 +1,8 @@
 //! Bench files: the small file of `docs/bench` from its parts.
 
 use hello::bench_file::{End, Event, File};
-use hello::{date_word, Address, Counter, Layout, LinkSetting, Settings, UNITS_PER_MS};
+use hello::UNITS_PER_MS;
+use hello::{date_word, Address, Answer, Counter, Layout, LinkSetting, Room, Settings};
 
 /// A host of the small file, with a crystal clock.
 fn host(id: u8, time: i64) -> Settings {
@@ -74,7 +75,7 @@ fn the_small_file() {
         ],
     };
     let small = include_str!("../../../docs/bench/small.octets");
-    assert_eq!(file.octets(), listed(small));
+    assert_eq!(file.octets().unwrap(), listed(small));
     assert_eq!(File::read(&listed(small)), Some(file));
 }
 
@@ -101,7 +102,7 @@ fn other_numbers() {
             },
         ],
     };
-    let octets = file.octets();
+    let octets = file.octets().unwrap();
     assert_eq!(octets[..8], [0, 0, 0, 1, 0, 0, 0, 0]);
     assert_eq!(octets[12..20], [0, 0, 1, 85, 0, 0, 1, 85]);
     assert_eq!(octets[20..28], [192, 0, 2, 10, 1, 7, 0, 255]);
@@ -137,4 +138,25 @@ fn no_file() {
     let last = kind.len() - 14;
     kind[last] = 0;
     assert_eq!(File::read(&kind), None);
+}
+
+/// Numbers that do not fit their fields: a host with such settings is refused, and so is the file.
+#[test]
+fn numbers_that_do_not_fit_are_refused() {
+    let good = host(0, 0);
+    let mut wrong = [good; 5];
+    wrong[0].layout.nhosts = (1 << 16) + 2;
+    wrong[1].time = 1 << 32;
+    wrong[2].time = -1;
+    wrong[3].link_count = 256 + 1;
+    wrong[4].layout.nhosts = usize::MAX;
+    for settings in wrong {
+        let mut room = Room::new(1, 2);
+        assert_eq!(room.host(0).initialize(settings), Err(Answer::Setting));
+        let file = File {
+            hosts: vec![good, settings],
+            ..File::default()
+        };
+        assert_eq!(file.octets(), Err(Answer::Setting));
+    }
 }

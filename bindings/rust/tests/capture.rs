@@ -1,6 +1,9 @@
 //! The mender: the sizes of what it writes, and its refusals.
 
 use hello::capture::*;
+use hello::Answer;
+
+const DONE: u8 = Answer::Done.number();
 
 /// A good packet without hosts.
 const PACKET: [u8; 32] = [
@@ -46,13 +49,13 @@ fn nothing_is_found_in_nothing() {
 #[test]
 fn refusals_leave_both_outputs() {
     let short = Mended {
-        answer: SHORT_BUFFER,
+        answer: Answer::ShortBuffer.number(),
         ..Mended::default()
     };
     assert_eq!(mended(&PACKET, 39, 0), (short, vec![7; 39], vec![]));
     assert_eq!(mended(&[1; 9], 4, 7), (short, vec![7; 4], vec![7; 7]));
     let long = Mended {
-        answer: CAPTURE_LENGTH,
+        answer: Answer::CaptureLength.number(),
         ..Mended::default()
     };
     assert_eq!(mended(&[0; LONGEST + 1], 3, 0), (long, vec![7; 3], vec![]));

@@ -27,7 +27,7 @@ fn with_crystal<T>(time: i64, run: impl FnOnce(Host) -> T) -> T {
         ..Settings::new(Address::new(192, 0, 2, 1), LAYOUT)
     };
     let mut room = Room::new(1, LAYOUT.nhosts);
-    assert_eq!(room.host(0).initialize(settings), Answer::Done);
+    assert_eq!(room.host(0).initialize(settings), Ok(()));
     run(room.host(0))
 }
 
@@ -41,7 +41,7 @@ fn message_of(address: Address) -> Vec<u8> {
     let mut room = Room::new(1, LAYOUT.nhosts);
     let mut host = room.host(0);
     let answer = host.initialize(Settings::new(address, LAYOUT));
-    assert_eq!(answer, Answer::Done);
+    assert_eq!(answer, Ok(()));
     host.send(1, Counter::LINE_CLOCK)
         .expect("a send that is done")
 }
@@ -98,7 +98,7 @@ fn a_reading_over_midnight_moves_the_date_and_loads_hold() {
         assert_eq!(host.read(Counter::of(11)), told(1, january(3)));
         assert_eq!((clock_ms(&host), host.clock.hold), (-10, HOLD_INTERVAL));
         // The next tick comes at the overflow.
-        assert_eq!(host.tick(0), Answer::Done);
+        assert_eq!(host.tick(0), Ok(()));
         assert_eq!(clock_ms(&host), TICK - 10);
     })
 }
@@ -118,35 +118,35 @@ fn a_reading_below_zero_moves_the_date_back() {
 fn clock_may_stand_65_535_ms_below_zero() {
     with_crystal(0, |mut host| {
         host.clock.clock = -65_535 * UNITS_PER_MS;
-        assert_eq!(host.second(), Answer::Done);
+        assert_eq!(host.second(), Ok(()));
         host.clock.clock -= 1;
-        assert_eq!(host.second(), Answer::OutOfRange);
+        assert_eq!(host.second(), Err(Answer::OutOfRange));
     })
 }
 
 #[test]
 fn a_tick_of_more_than_65_536_ms_is_refused() {
     with_crystal(0, |mut host| {
-        assert_eq!(host.tick(0), Answer::Done);
+        assert_eq!(host.tick(0), Ok(()));
         host.settings.clock_tick += 1;
-        assert_eq!(host.tick(0), Answer::Setting);
+        assert_eq!(host.tick(0), Err(Answer::Setting));
     })
 }
 
 #[test]
 fn tick_adjust_and_set_test_midnight_on_the_sum() {
     with_crystal(DAY - TICK - 10, |mut host| {
-        assert_eq!(host.tick(11), Answer::Done);
+        assert_eq!(host.tick(11), Ok(()));
         assert_eq!((clock_ms(&host), host.clock.date), (-10, january(3)));
-        assert_eq!(host.adjust(10), Answer::Done);
+        assert_eq!(host.adjust(10), Ok(()));
         assert_eq!(clock_ms(&host), -10);
-        assert_eq!(host.adjust(9), Answer::Done);
+        assert_eq!(host.adjust(9), Ok(()));
         assert_eq!((clock_ms(&host), host.clock.date), (DAY - 10, january(2)));
     });
     with_crystal(500, |mut host| {
-        assert_eq!(host.set(-600, 100), Answer::Done);
+        assert_eq!(host.set(-600, 100), Ok(()));
         assert_eq!((clock_ms(&host), host.clock.date), (-100, january(2)));
-        assert_eq!(host.set(0, 99), Answer::Done);
+        assert_eq!(host.set(0, 99), Ok(()));
         assert_eq!((clock_ms(&host), host.clock.date), (DAY - 100, january(1)));
     })
 }
@@ -156,7 +156,7 @@ fn sends_and_self_reports_read_the_sum() {
     with_crystal(1_000, |mut host| {
         let message = host.send(1, Counter::of(234)).expect("a send that is done");
         assert_eq!(message[24..28], 1_234u32.to_be_bytes());
-        assert_eq!(host.self_report(Counter::overflowed(9, 8)), Answer::Done);
+        assert_eq!(host.self_report(Counter::overflowed(9, 8)), Ok(()));
         assert_eq!(host.table()[0].time, 1_000 + TICK + 8);
         assert_eq!(clock_ms(&host), 1_000 + TICK);
     })
@@ -168,8 +168,8 @@ fn refusals_without_a_reading_leave_the_clock() {
         let (before, marked) = (*host.clock, Counter::overflowed(1, 1));
         let refused = host.send_into(1, marked, &mut [0; 31]);
         assert_eq!(refused, Err(Answer::ShortBuffer));
-        assert_eq!(host.act(1, marked, &[]), Answer::IpForm);
-        assert_eq!(host.act(2, marked, &[]), Answer::OutOfRange);
+        assert_eq!(host.act(1, marked, &[]), Err(Answer::IpForm));
+        assert_eq!(host.act(2, marked, &[]), Err(Answer::OutOfRange));
         assert_eq!(*host.clock, before);
         let sent = host.send_into(1, marked, &mut [0; LONGEST_MESSAGE]);
         assert_eq!((sent, clock_ms(&host)), (Ok(32), TICK - 1));
@@ -183,13 +183,13 @@ fn answers_10_and_11_keep_what_the_reading_did() {
     with_crystal(1_000, |mut host| {
         host.links.all[0].neighbor = neighbor;
         let (marked, packet) = (Counter::overflowed(0, 5), message_of(neighbor));
-        assert_eq!(host.act(1, marked, &packet), Answer::DelayNotValid);
+        assert_eq!(host.act(1, marked, &packet), Err(Answer::DelayNotValid));
         assert_eq!(clock_ms(&host), 1_000 + TICK);
         assert_eq!(host.links.all[0].tsp, -(1_000 + TICK + 5) as i16);
     });
     with_crystal(DAY - 5, |mut host| {
         let answer = host.receive(1, Counter::of(6), &message_of(far));
-        assert_eq!(answer, Answer::NoHost);
+        assert_eq!(answer, Err(Answer::NoHost));
         assert_eq!((clock_ms(&host), host.clock.date), (-5, january(3)));
     })
 }

@@ -3,7 +3,7 @@
 use hello::{
     Address, Answer, ClassTable, Clock, Counter, Entry, Layout, LinkSetting, Links, Room, Settings,
 };
-use hello::{Walk, HOSTS, LONGEST_MESSAGE, PLACES, UNITS_PER_MS};
+use hello::{State, Walk, HOSTS, LONGEST_MESSAGE, PLACES, UNITS_PER_MS};
 
 const LINE_CLOCK: Counter = Counter::LINE_CLOCK;
 
@@ -23,7 +23,7 @@ fn settings() -> Settings {
 fn room(hosts: usize) -> Room {
     let mut room = Room::new(hosts, 4);
     let answer = room.host(hosts - 1).initialize(settings());
-    assert_eq!(answer, Answer::Done);
+    assert_eq!(answer, Ok(()));
     room
 }
 
@@ -40,41 +40,50 @@ fn empty_slices_are_answered() {
         Err(Answer::ShortBuffer)
     );
     assert_eq!(host.inspect(1, &[]), Err(Answer::IpForm));
-    assert_eq!(host.act(1, LINE_CLOCK, &[]), Answer::IpForm);
-    assert_eq!(host.receive(1, LINE_CLOCK, &[]), Answer::IpForm);
+    assert_eq!(host.act(1, LINE_CLOCK, &[]), Err(Answer::IpForm));
+    assert_eq!(host.receive(1, LINE_CLOCK, &[]), Err(Answer::IpForm));
     assert_eq!(host.open_walk(1, &[]), Err(Answer::IpForm));
 
     let (clock, links) = (&mut Clock::default(), &mut Links::default());
     let walk = &mut Walk::default();
-    let tick = hello::tick(&settings(), &TABLE, 0, clock, links, walk, &[], &mut [], 0);
-    assert_eq!(tick, Answer::OutOfRange.number());
+    let mut state = State {
+        settings: &settings(),
+        table: &TABLE,
+        number: 0,
+        clock,
+        links,
+        walk,
+        copy: &mut [],
+        entries: &mut [],
+    };
+    assert_eq!(state.tick(0), Answer::OutOfRange.number());
 }
 
 #[test]
 fn numbers_far_out_of_range_are_answered() {
-    let mut run = vec![Entry::default(); HOSTS * PLACES];
+    let mut entries = vec![Entry::default(); HOSTS * PLACES];
     for number in [HOSTS, usize::MAX] {
         let (clock, links) = (&mut Clock::default(), &mut Links::default());
         let walk = &mut Walk::default();
-        let answer = hello::initialize(
-            &settings(),
-            &TABLE,
+        let mut state = State {
+            settings: &settings(),
+            table: &TABLE,
             number,
             clock,
             links,
             walk,
-            &[],
-            &mut run,
-        );
-        assert_eq!(answer, Answer::OutOfRange.number());
+            copy: &mut [],
+            entries: &mut entries,
+        };
+        assert_eq!(state.initialize(), Answer::OutOfRange.number());
     }
     let mut room = room(HOSTS);
     let mut host = room.host(HOSTS - 1);
     for link in [0, 2, 9, usize::MAX] {
         assert_eq!(host.send(link, LINE_CLOCK), Err(Answer::OutOfRange));
         assert_eq!(host.inspect(link, &[]), Err(Answer::OutOfRange));
-        assert_eq!(host.act(link, LINE_CLOCK, &[]), Answer::OutOfRange);
-        assert_eq!(host.receive(link, LINE_CLOCK, &[]), Answer::OutOfRange);
+        assert_eq!(host.act(link, LINE_CLOCK, &[]), Err(Answer::OutOfRange));
+        assert_eq!(host.receive(link, LINE_CLOCK, &[]), Err(Answer::OutOfRange));
         assert_eq!(host.open_walk(link, &[]), Err(Answer::OutOfRange));
     }
 }
@@ -89,7 +98,7 @@ fn settings_far_out_of_range_are_answered() {
     broken[2].links[0].broadcast = 2;
     broken[3].clock_tick = i64::MIN;
     for settings in broken {
-        assert_eq!(host.initialize(settings), Answer::Setting);
+        assert_eq!(host.initialize(settings), Err(Answer::Setting));
     }
     assert_eq!(*host.settings, self::settings());
     host.settings.layout.nhosts = usize::MAX;
@@ -102,7 +111,7 @@ fn lent_values_far_out_of_range_are_answered() {
     let mut host = room.host(0);
     for value in [i64::MIN, -65_535 * UNITS_PER_MS - 1, i64::MAX] {
         host.clock.clock = value;
-        assert_eq!(host.tick(0), Answer::OutOfRange);
+        assert_eq!(host.tick(0), Err(Answer::OutOfRange));
         assert_eq!(host.clock.clock, value);
     }
 }
@@ -110,7 +119,7 @@ fn lent_values_far_out_of_range_are_answered() {
 #[test]
 fn octets_behind_a_message_and_other_places_stay() {
     let mut room = room(2);
-    let (others, own) = room.run().split_at(PLACES);
+    let (others, own) = room.entries().split_at(PLACES);
     assert!(others.iter().all(|entry| *entry == Entry::default()));
     assert!(own[4..].iter().all(|entry| *entry == Entry::default()));
     assert!(own[..4].iter().all(|entry| entry.delay == 30_000));
@@ -124,7 +133,7 @@ fn octets_behind_a_message_and_other_places_stay() {
 fn a_host_that_is_not_set_is_refused() {
     let mut room = room(2);
     let mut host = room.host(0);
-    assert_eq!(host.tick(0), Answer::OutOfRange);
+    assert_eq!(host.tick(0), Err(Answer::OutOfRange));
     assert_eq!(host.read(LINE_CLOCK), Err(Answer::OutOfRange));
     assert_eq!(host.table().len(), 0);
 }
@@ -136,7 +145,7 @@ fn the_longest_message_is_sent_whole() {
     let mut wide = settings();
     wide.layout.nhosts = PLACES;
     wide.links[0] = LinkSetting::broadcast(Address::new(192, 0, 2, 2));
-    assert_eq!(host.initialize(wide), Answer::Done);
+    assert_eq!(host.initialize(wide), Ok(()));
     assert_eq!(
         host.send(1, LINE_CLOCK).map(|message| message.len()),
         Ok(LONGEST_MESSAGE)

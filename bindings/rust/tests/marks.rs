@@ -25,7 +25,7 @@ fn settings(id: u8, marks: &[u8]) -> Settings {
 /// A room of one host with those settings.
 fn room(settings: Settings) -> Room {
     let mut room = Room::new(1, LAYOUT.nhosts);
-    assert_eq!(room.host(0).initialize(settings), Answer::Done);
+    assert_eq!(room.host(0).initialize(settings), Ok(()));
     room
 }
 
@@ -77,15 +77,15 @@ fn the_own_id_alone_is_marked_unless_told() {
 #[test]
 fn initialize_writes_the_marks() {
     let mut room = Room::new(1, LAYOUT.nhosts);
-    room.run_mut().fill(Entry {
+    room.entries_mut().fill(Entry {
         here: 7,
         ..Entry::default()
     });
     let mut host = room.host(0);
-    assert_eq!(host.initialize(settings(0, &[3, 4])), Answer::Done);
+    assert_eq!(host.initialize(settings(0, &[3, 4])), Ok(()));
     assert_eq!(host.table(), [1, 0, 0, 1, 1, 0].map(fresh));
     // Places past NHOSTS keep theirs.
-    assert!(room.run()[6..].iter().all(|entry| entry.here == 7));
+    assert!(room.entries()[6..].iter().all(|entry| entry.here == 7));
 }
 
 #[test]
@@ -101,24 +101,24 @@ fn wrong_marks_are_refused_with_1() {
     let mut room = room(settings(0, &[5]));
     let mut host = room.host(0);
     for settings in wrong {
-        assert_eq!(host.initialize(settings), Answer::Setting);
+        assert_eq!(host.initialize(settings), Err(Answer::Setting));
         let here = |id: usize| u8::from(settings.marks.has(id as u8));
         let kept = host.table().to_vec();
         // Where the entries' marks are the settings', every call gives 1.
         (0..6).for_each(|id| host.table_mut()[id].here = here(id));
         let before = (*host.settings, host.table().to_vec());
         *host.settings = settings;
-        assert_eq!(host.tick(0), Answer::Setting);
+        assert_eq!(host.tick(0), Err(Answer::Setting));
         assert_eq!(host.read(LINE_CLOCK), Err(Answer::Setting));
-        assert_eq!(host.self_report(LINE_CLOCK), Answer::Setting);
+        assert_eq!(host.self_report(LINE_CLOCK), Err(Answer::Setting));
         assert_eq!(host.send(1, LINE_CLOCK), Err(Answer::Setting));
-        assert_eq!(host.receive(1, LINE_CLOCK, &[]), Answer::Setting);
+        assert_eq!(host.receive(1, LINE_CLOCK, &[]), Err(Answer::Setting));
         assert_eq!(host.step(LINE_CLOCK), Err(Answer::Setting));
         assert_eq!(host.table(), before.1);
         *host.settings = before.0;
         host.table_mut().copy_from_slice(&kept);
     }
-    assert_eq!(host.tick(0), Answer::Done);
+    assert_eq!(host.tick(0), Ok(()));
 }
 
 #[test]
@@ -128,26 +128,26 @@ fn an_entry_with_another_mark_is_refused_with_12() {
     for (id, here) in [(0, 0), (3, 0), (3, 2), (3, 255), (1, 1), (5, 1), (5, 2)] {
         let kept = host.table()[id];
         host.table_mut()[id].here = here;
-        assert_eq!(host.tick(0), Answer::OutOfRange, "{id} {here}");
-        assert_eq!(host.second(), Answer::OutOfRange);
-        assert_eq!(host.self_report(LINE_CLOCK), Answer::OutOfRange);
+        assert_eq!(host.tick(0), Err(Answer::OutOfRange), "{id} {here}");
+        assert_eq!(host.second(), Err(Answer::OutOfRange));
+        assert_eq!(host.self_report(LINE_CLOCK), Err(Answer::OutOfRange));
         assert_eq!(host.lookup(address(1)), Err(Answer::OutOfRange));
         assert_eq!(host.open_walk(1, &[]), Err(Answer::OutOfRange));
         // 12 comes before 1.
         host.settings.hold_interval = 0;
-        assert_eq!(host.tick(0), Answer::OutOfRange);
+        assert_eq!(host.tick(0), Err(Answer::OutOfRange));
         host.settings.hold_interval = 1;
         host.table_mut()[id] = kept;
-        assert_eq!(host.tick(0), Answer::Done);
+        assert_eq!(host.tick(0), Ok(()));
     }
     // The same where it is the settings that have changed; initialize does not ask.
     *host.settings = settings(0, &[3, 4]);
-    assert_eq!(host.tick(0), Answer::OutOfRange);
-    assert_eq!(host.initialize(settings(0, &[3, 4])), Answer::Done);
-    assert_eq!(host.tick(0), Answer::Done);
+    assert_eq!(host.tick(0), Err(Answer::OutOfRange));
+    assert_eq!(host.initialize(settings(0, &[3, 4])), Ok(()));
+    assert_eq!(host.tick(0), Ok(()));
     // Past NHOSTS no mark is looked at.
-    room.run_mut()[6].here = 9;
-    assert_eq!(room.host(0).tick(0), Answer::Done);
+    room.entries_mut()[6].here = 9;
+    assert_eq!(room.host(0).tick(0), Ok(()));
 }
 
 #[test]
@@ -164,7 +164,7 @@ fn a_self_report_covers_every_marked_id() {
     };
     host.table_mut()[3] = near;
     let counter = Counter::of(17);
-    assert_eq!(host.self_report(counter), Answer::Done);
+    assert_eq!(host.self_report(counter), Ok(()));
     let reported = Entry {
         delay: 0,
         ttl: 120,
@@ -188,7 +188,7 @@ fn one_reading_serves_all_marked_ids() {
     let mut room = room(settings);
     let mut host = room.host(0);
     let counter = Counter::overflowed(65_535, 3);
-    assert_eq!(host.self_report(counter), Answer::Done);
+    assert_eq!(host.self_report(counter), Ok(()));
     assert!(host
         .table()
         .iter()
@@ -201,7 +201,7 @@ fn one_reading_serves_all_marked_ids() {
 fn message(delay: i64) -> Vec<u8> {
     let mut room = room(settings(1, &[4]));
     let mut host = room.host(0);
-    assert_eq!(host.self_report(LINE_CLOCK), Answer::Done);
+    assert_eq!(host.self_report(LINE_CLOCK), Ok(()));
     host.table_mut()[3] = Entry {
         delay,
         offset: -5,
@@ -223,7 +223,7 @@ fn marks_stay_through_the_calls() {
     let wanted = [1, 0, 1, 1, 0, 0];
     host.links.all[0].neighbor = address(1);
     // A link may update a marked entry, host 3's here, and both of the neighbor's are learned.
-    assert_eq!(host.receive(1, LINE_CLOCK, &message(700)), Answer::Done);
+    assert_eq!(host.receive(1, LINE_CLOCK, &message(700)), Ok(()));
     let [_, first, _, marked, other, _] = host.table() else {
         panic!("six entries");
     };
@@ -232,19 +232,19 @@ fn marks_stay_through_the_calls() {
     assert_eq!((marked.delay, marked.pid), (1_000, 1));
     assert_eq!(marks(&host), wanted);
     // Line (b) takes it down, and a second an entry whose TTL ends.
-    assert_eq!(host.receive(1, LINE_CLOCK, &message(30_000)), Answer::Done);
+    assert_eq!(host.receive(1, LINE_CLOCK, &message(30_000)), Ok(()));
     assert_eq!((host.table()[3].delay, host.table()[3].ttl), (30_000, 120));
     host.table_mut()[0] = Entry {
         ttl: 1,
         delay: 0,
         ..fresh(1)
     };
-    assert_eq!(host.second(), Answer::Done);
+    assert_eq!(host.second(), Ok(()));
     assert_eq!((host.table()[0].delay, host.table()[0].ttl), (30_000, 120));
-    assert_eq!(host.self_report(LINE_CLOCK), Answer::Done);
+    assert_eq!(host.self_report(LINE_CLOCK), Ok(()));
     assert!(host.send(1, LINE_CLOCK).is_ok());
-    assert_eq!(host.set(900, 0), Answer::Done);
-    assert_eq!(host.adjust(0), Answer::Done);
+    assert_eq!(host.set(900, 0), Ok(()));
+    assert_eq!(host.adjust(0), Ok(()));
     assert_eq!(marks(&host), wanted);
 }
 
@@ -265,7 +265,7 @@ fn marks_stay_through_a_walk() {
     assert!(host.open_walk(1, &message(700)).is_ok());
     host.settings.marks.mark(5);
     assert_eq!(host.step(LINE_CLOCK), Err(Answer::OutOfRange));
-    assert_eq!(host.tick(0), Answer::OutOfRange);
+    assert_eq!(host.tick(0), Err(Answer::OutOfRange));
     host.settings.marks.unmark(5);
     assert!(host.step(LINE_CLOCK).is_ok());
 }

@@ -31,8 +31,8 @@ fn room() -> Room {
     for number in 0..2 {
         let mut host = room.host(number);
         let settings = Settings::new(address(number as u8), LAYOUT);
-        assert_eq!(host.initialize(settings), Answer::Done);
-        assert_eq!(host.self_report(LINE_CLOCK), Answer::Done);
+        assert_eq!(host.initialize(settings), Ok(()));
+        assert_eq!(host.self_report(LINE_CLOCK), Ok(()));
     }
     room
 }
@@ -44,18 +44,18 @@ fn rows_keep_their_order_and_are_numbered_from_1() {
     assert_eq!(table.add(B, 0), Ok(2));
     assert_eq!(table.add(A, 1), Ok(3));
     assert_eq!(table.rows(), [row(A, 3), row(B, 0), row(A, 1)]);
-    assert_eq!(table.change(2, 2), Answer::Done);
+    assert_eq!(table.change(2, 2), Ok(()));
     assert_eq!(table.rows(), [row(A, 3), row(B, 2), row(A, 1)]);
-    assert_eq!(table.remove(1), Answer::Done);
+    assert_eq!(table.remove(1), Ok(()));
     assert_eq!(table.rows(), [row(B, 2), row(A, 1)]);
     assert_eq!(table.add(C, 0), Ok(3));
-    assert_eq!(table.remove(3), Answer::Done);
-    assert_eq!(table.remove(2), Answer::Done);
+    assert_eq!(table.remove(3), Ok(()));
+    assert_eq!(table.remove(2), Ok(()));
     assert_eq!(table.rows(), [row(B, 2)]);
     assert!(table.net.rows[1..]
         .iter()
         .all(|slot| *slot == Row::default()));
-    assert_eq!(table.set_afresh(200), Answer::Done);
+    assert_eq!(table.initialize(200), Ok(()));
     assert_eq!(table, ClassTable::new(200));
 }
 
@@ -66,9 +66,9 @@ fn the_tutors_refusals_come_in_their_order() {
         assert_eq!(table.add(A, id), Err(Answer::Setting));
     }
     for number in [0, 1, 33, usize::MAX] {
-        assert_eq!(table.remove(number), Answer::NoRow);
+        assert_eq!(table.remove(number), Err(Answer::NoRow));
         // 22 before 1.
-        assert_eq!(table.change(number, 4), Answer::NoRow);
+        assert_eq!(table.change(number, 4), Err(Answer::NoRow));
     }
     for number in 1..=ROWS {
         assert_eq!(table.add(B, 3), Ok(number));
@@ -76,20 +76,20 @@ fn the_tutors_refusals_come_in_their_order() {
     let full = table;
     // 21 before 1, and 12 before all.
     assert_eq!(table.add(B, 4), Err(Answer::TableFull));
-    assert_eq!(table.change(32, 4), Answer::Setting);
-    assert_eq!(table.set_afresh(0), Answer::Setting);
-    assert_eq!(table.set_afresh(256), Answer::Setting);
+    assert_eq!(table.change(32, 4), Err(Answer::Setting));
+    assert_eq!(table.initialize(0), Err(Answer::Setting));
+    assert_eq!(table.initialize(256), Err(Answer::Setting));
     assert_eq!(table, full);
     table.nhosts = 3;
     let bad = table;
     let refused = NetAdded { answer: 12, row: 0 };
     assert_eq!(nets::add(&mut table, B, 9), refused);
-    assert_eq!(table.remove(0), Answer::OutOfRange);
-    assert_eq!(table.change(0, 9), Answer::OutOfRange);
+    assert_eq!(table.remove(0), Err(Answer::OutOfRange));
+    assert_eq!(table.change(0, 9), Err(Answer::OutOfRange));
     // Setting afresh makes no test of the table; refused, it leaves even a bad one.
-    assert_eq!(table.set_afresh(0), Answer::Setting);
+    assert_eq!(table.initialize(0), Err(Answer::Setting));
     assert_eq!(table, bad);
-    assert_eq!(table.set_afresh(PLACES), Answer::Done);
+    assert_eq!(table.initialize(PLACES), Ok(()));
     assert_eq!(table, ClassTable::new(PLACES));
 }
 
@@ -124,17 +124,20 @@ fn every_call_of_a_host_refuses_a_bad_table() {
         room.net_table = bad;
         let mut host = room.host(0);
         let settings = *host.settings;
-        assert_eq!(host.initialize(settings), Answer::OutOfRange);
-        assert_eq!(host.tick(0), Answer::OutOfRange);
-        assert_eq!(host.adjust(0), Answer::OutOfRange);
-        assert_eq!(host.set(500, 0), Answer::OutOfRange);
+        assert_eq!(host.initialize(settings), Err(Answer::OutOfRange));
+        assert_eq!(host.tick(0), Err(Answer::OutOfRange));
+        assert_eq!(host.adjust(0), Err(Answer::OutOfRange));
+        assert_eq!(host.set(500, 0), Err(Answer::OutOfRange));
         assert_eq!(host.read(LINE_CLOCK), Err(Answer::OutOfRange));
-        assert_eq!(host.second(), Answer::OutOfRange);
-        assert_eq!(host.self_report(LINE_CLOCK), Answer::OutOfRange);
+        assert_eq!(host.second(), Err(Answer::OutOfRange));
+        assert_eq!(host.self_report(LINE_CLOCK), Err(Answer::OutOfRange));
         assert_eq!(host.send(1, LINE_CLOCK), Err(Answer::OutOfRange));
         assert_eq!(host.inspect(1, &packet), Err(Answer::OutOfRange));
-        assert_eq!(host.act(1, LINE_CLOCK, &packet), Answer::OutOfRange);
-        assert_eq!(host.receive(1, LINE_CLOCK, &packet), Answer::OutOfRange);
+        assert_eq!(host.act(1, LINE_CLOCK, &packet), Err(Answer::OutOfRange));
+        assert_eq!(
+            host.receive(1, LINE_CLOCK, &packet),
+            Err(Answer::OutOfRange)
+        );
         assert_eq!(host.open_walk(1, &packet), Err(Answer::OutOfRange));
         assert_eq!(host.step(LINE_CLOCK), Err(Answer::OutOfRange));
         assert_eq!(host.lookup(address(0)), Err(Answer::OutOfRange));
@@ -142,13 +145,13 @@ fn every_call_of_a_host_refuses_a_bad_table() {
     // What stands behind the rows is not looked at.
     room.net_table = good;
     room.net_table.net.rows[0] = row(A, 255);
-    assert_eq!(room.host(0).tick(0), Answer::Done);
+    assert_eq!(room.host(0).tick(0), Ok(()));
 }
 
 #[test]
 fn a_host_of_another_nhosts_is_refused_with_1() {
     let mut room = room();
-    assert_eq!(room.net_table.set_afresh(5), Answer::Done);
+    assert_eq!(room.net_table.initialize(5), Ok(()));
     let mut host = room.host(0);
     let wider = Settings {
         layout: Layout {
@@ -158,12 +161,12 @@ fn a_host_of_another_nhosts_is_refused_with_1() {
         ..*host.settings
     };
     let same = *host.settings;
-    assert_eq!(host.initialize(same), Answer::Setting);
-    assert_eq!(host.tick(0), Answer::Setting);
+    assert_eq!(host.initialize(same), Err(Answer::Setting));
+    assert_eq!(host.tick(0), Err(Answer::Setting));
     assert_eq!(host.lookup(address(0)), Err(Answer::Setting));
     assert_eq!(host.step(LINE_CLOCK), Err(Answer::Setting));
-    assert_eq!(host.initialize(wider), Answer::Done);
-    assert_eq!(host.tick(0), Answer::Done);
+    assert_eq!(host.initialize(wider), Ok(()));
+    assert_eq!(host.tick(0), Ok(()));
 }
 
 #[test]
@@ -175,9 +178,9 @@ fn all_hosts_use_the_one_table() {
     assert_eq!(looked(&mut room), [Err(Answer::NoHost); 2]);
     assert_eq!(room.net_table.add(A, 0), Ok(1));
     assert_eq!(looked(&mut room), [own(0), Err(Answer::HostDown)]);
-    assert_eq!(room.net_table.change(1, 1), Answer::Done);
+    assert_eq!(room.net_table.change(1, 1), Ok(()));
     assert_eq!(looked(&mut room), [Err(Answer::HostDown), own(1)]);
-    assert_eq!(room.net_table.remove(1), Answer::Done);
+    assert_eq!(room.net_table.remove(1), Ok(()));
     assert_eq!(looked(&mut room), [Err(Answer::NoHost); 2]);
     // A row of net zero matches all; those behind it are never reached.
     assert_eq!(room.net_table.add(Net::default(), 0), Ok(1));
@@ -190,11 +193,11 @@ fn abroad() -> (Room, Vec<u8>) {
     let mut room = Room::new(1, LAYOUT.nhosts);
     let mut settings = Settings::new(address(0), LAYOUT);
     settings.links[0] = LinkSetting::broadcast(Address::new(10, 7, 8, 9));
-    assert_eq!(room.host(0).initialize(settings), Answer::Done);
+    assert_eq!(room.host(0).initialize(settings), Ok(()));
     let mut other = Room::new(1, LAYOUT.nhosts);
     let mut host = other.host(0);
     let answer = host.initialize(Settings::new(address(1), LAYOUT));
-    assert_eq!(answer, Answer::Done);
+    assert_eq!(answer, Ok(()));
     host.links.all[0] = Link::default();
     let packet = host.send(1, LINE_CLOCK).expect("a message");
     (room, packet)
@@ -217,20 +220,23 @@ fn a_walk_uses_the_table_of_the_box_that_looks_it_up() {
         assert_eq!(next, Ok(Some(Place::Step(step + 1))));
     }
     // The tutor knows no 16. Box 5 finds the new id; the lines keep it.
-    assert_eq!(room.net_table.change(1, 3), Answer::Done);
+    assert_eq!(room.net_table.change(1, 3), Ok(()));
     let next = room.host(0).step(LINE_CLOCK);
     let first = Place::Line { host: 3, line: 'a' };
     assert_eq!(next, Ok(Some(first)));
-    assert_eq!(room.net_table.remove(1), Answer::Done);
+    assert_eq!(room.net_table.remove(1), Ok(()));
     while room.host(0).walk.is_open() {
         room.host(0).step(LINE_CLOCK).expect("a step that is done");
     }
     assert_eq!(up(&room.host(0)), [3]);
     // So does the arrival made with that table, and without the row there is none.
     let (mut arrived, packet) = abroad();
-    assert_eq!(arrived.host(0).act(1, LINE_CLOCK, &packet), Answer::NoHost);
+    assert_eq!(
+        arrived.host(0).act(1, LINE_CLOCK, &packet),
+        Err(Answer::NoHost)
+    );
     assert_eq!(arrived.net_table.add(A, 3), Ok(1));
-    assert_eq!(arrived.host(0).act(1, LINE_CLOCK, &packet), Answer::Done);
+    assert_eq!(arrived.host(0).act(1, LINE_CLOCK, &packet), Ok(()));
     assert_eq!(arrived.host(0).table(), room.host(0).table());
 }
 
@@ -238,23 +244,23 @@ fn a_walk_uses_the_table_of_the_box_that_looks_it_up() {
 fn another_nhosts_in_mid_walk() {
     let (mut room, packet) = abroad();
     assert_eq!(room.host(0).open_walk(1, &packet), Ok(Place::Step(1)));
-    assert_eq!(room.net_table.set_afresh(5), Answer::Done);
+    assert_eq!(room.net_table.initialize(5), Ok(()));
     // A step gives 1 and the walk stays; other calls give 16.
     assert_eq!(room.host(0).step(LINE_CLOCK), Err(Answer::Setting));
-    assert_eq!(room.host(0).tick(0), Answer::InWalk);
+    assert_eq!(room.host(0).tick(0), Err(Answer::InWalk));
     // 12 comes before both.
     room.net_table.net.count = 33;
     assert_eq!(room.host(0).step(LINE_CLOCK), Err(Answer::OutOfRange));
-    assert_eq!(room.host(0).tick(0), Answer::OutOfRange);
+    assert_eq!(room.host(0).tick(0), Err(Answer::OutOfRange));
     // Put right, it goes on.
-    assert_eq!(room.net_table.set_afresh(4), Answer::Done);
+    assert_eq!(room.net_table.initialize(4), Ok(()));
     let next = room.host(0).step(LINE_CLOCK);
     assert_eq!(next, Ok(Some(Place::Step(2))));
     // Setting afresh with the new NHOSTS frees the host.
-    assert_eq!(room.net_table.set_afresh(5), Answer::Done);
+    assert_eq!(room.net_table.initialize(5), Ok(()));
     let mut host = room.host(0);
     let mut wider = *host.settings;
     wider.layout.nhosts = 5;
-    assert_eq!(host.initialize(wider), Answer::Done);
-    assert_eq!(host.tick(0), Answer::Done);
+    assert_eq!(host.initialize(wider), Ok(()));
+    assert_eq!(host.tick(0), Ok(()));
 }

@@ -1,6 +1,7 @@
 //! An NTP exchange, and the refusals.
 
 use hello::ntp::{read, receive, write, NtpAssociation, NtpHeader, NtpOutcome, PROC};
+use hello::Answer;
 
 const SECOND: u64 = 1 << 32;
 
@@ -32,31 +33,34 @@ fn an_exchange() {
     };
     assert_eq!(receive(&mut client, &octets, 107 * SECOND), Ok(outcome));
     assert_eq!(client.saved, answer().transmit);
-    assert_eq!(receive(&mut client, &octets, 107 * SECOND), Err(26));
+    assert_eq!(
+        receive(&mut client, &octets, 107 * SECOND),
+        Err(Answer::NtpTimestamp)
+    );
 }
 
 #[test]
 fn refusals() {
     let octets = write(&answer()).unwrap();
-    assert_eq!(read(&octets[..47]), Err(23));
-    assert_eq!(read(&[]), Err(23));
+    assert_eq!(read(&octets[..47]), Err(Answer::NtpLength));
+    assert_eq!(read(&[]), Err(Answer::NtpLength));
     assert_eq!(
         write(&NtpHeader {
             version: 3,
             ..answer()
         }),
-        Err(24)
+        Err(Answer::NtpVersion)
     );
     assert_eq!(
         write(&NtpHeader {
             leap: 4,
             ..answer()
         }),
-        Err(25)
+        Err(Answer::NtpMode)
     );
     let mut outside = NtpAssociation {
         number: 7,
         ..NtpAssociation::default()
     };
-    assert_eq!(receive(&mut outside, &octets, 0), Err(25));
+    assert_eq!(receive(&mut outside, &octets, 0), Err(Answer::NtpMode));
 }

@@ -30,7 +30,7 @@ fn with_host<T>(entry: Entry, run: impl Fn(Host) -> T) -> T {
     settings.link_count = 2;
     let mut room = Room::new(1, layout.nhosts);
     let mut host = room.host(0);
-    assert_eq!(host.initialize(settings), Answer::Done);
+    assert_eq!(host.initialize(settings), Ok(()));
     host.table_mut()[2] = entry;
     run(host)
 }
@@ -55,7 +55,7 @@ fn a_link_is_not_told_of_its_own_routes() {
 fn an_entry_goes_down_when_its_ttl_ends() {
     let later = |entry| {
         with_host(entry, |mut host| {
-            assert_eq!(host.second(), Answer::Done);
+            assert_eq!(host.second(), Ok(()));
             host.table()[2]
         })
     };
@@ -90,7 +90,7 @@ fn room_and_message() -> (Room, Vec<u8>) {
     let mut room = Room::new(2, layout.nhosts);
     for number in [A, B] {
         let settings = Settings::new(address(number), layout);
-        assert_eq!(room.host(number).initialize(settings), Answer::Done);
+        assert_eq!(room.host(number).initialize(settings), Ok(()));
     }
     let mut b = room.host(B);
     let link = &mut b.links.all[0];
@@ -127,26 +127,26 @@ fn calls_may_come_between_inspection_and_action() {
     let (mut room, message) = room_and_message();
     let mut a = room.host(A);
     let carries_both = a.settings.with_marks([B as u8]);
-    assert_eq!(a.initialize(carries_both), Answer::Done);
+    assert_eq!(a.initialize(carries_both), Ok(()));
     assert!(a.inspect(1, &message).is_ok());
-    assert_eq!(a.set(200, 0), Answer::Done);
-    assert_eq!(a.act(1, LINE_CLOCK, &message), Answer::Done);
+    assert_eq!(a.set(200, 0), Ok(()));
+    assert_eq!(a.act(1, LINE_CLOCK, &message), Ok(()));
     assert_eq!(a.links.all[0].tsp, -200);
     // Its delay is not valid while HOLD runs, and its source may become the host's own address.
     assert!(a.inspect(1, &message).is_ok());
-    assert_eq!(a.act(1, LINE_CLOCK, &message), Answer::DelayNotValid);
+    assert_eq!(a.act(1, LINE_CLOCK, &message), Err(Answer::DelayNotValid));
     a.settings.address = address(B);
-    assert_eq!(a.act(1, LINE_CLOCK, &message), Answer::LoopedLine);
+    assert_eq!(a.act(1, LINE_CLOCK, &message), Err(Answer::LoopedLine));
 }
 
 #[test]
 fn an_arrival_is_the_pair_and_the_action_alone() {
     let (room, message) = room_and_message();
     let [mut whole, mut pair, mut alone] = [room.clone(), room.clone(), room];
-    assert_eq!(whole.host(A).receive(1, LINE_CLOCK, &message), Answer::Done);
+    assert_eq!(whole.host(A).receive(1, LINE_CLOCK, &message), Ok(()));
     assert!(pair.host(A).inspect(1, &message).is_ok());
     for acting in [&mut pair, &mut alone] {
-        assert_eq!(acting.host(A).act(1, LINE_CLOCK, &message), Answer::Done);
+        assert_eq!(acting.host(A).act(1, LINE_CLOCK, &message), Ok(()));
         assert_eq!(kept(acting, A), kept(&mut whole, A));
     }
 }

@@ -2,7 +2,7 @@
 
 use hello::{
     Address, Answer, ClassTable, Clock, Counter, Entry, Host, Layout, Link, LinkSetting, Links,
-    Place, Room, Settings, Walk, LONGEST_MESSAGE, UNITS_PER_MS,
+    Place, Room, Settings, State, Walk, LONGEST_MESSAGE, UNITS_PER_MS,
 };
 
 const LINE_CLOCK: Counter = Counter::LINE_CLOCK;
@@ -28,7 +28,7 @@ fn settings(id: u8) -> Settings {
 /// A room of one host with those settings.
 fn room(settings: Settings) -> Room {
     let mut room = Room::new(1, settings.layout.nhosts);
-    assert_eq!(room.host(0).initialize(settings), Answer::Done);
+    assert_eq!(room.host(0).initialize(settings), Ok(()));
     room
 }
 
@@ -37,8 +37,8 @@ fn room(settings: Settings) -> Room {
 fn message(known: bool, heard: bool) -> Vec<u8> {
     let mut room = room(settings(1));
     let mut host = room.host(0);
-    assert_eq!(host.tick(0), Answer::Done);
-    assert_eq!(host.self_report(LINE_CLOCK), Answer::Done);
+    assert_eq!(host.tick(0), Ok(()));
+    assert_eq!(host.self_report(LINE_CLOCK), Ok(()));
     host.table_mut()[2] = Entry {
         delay: 700,
         offset: -5,
@@ -98,7 +98,7 @@ fn both(
     let mut walked = acted.clone();
     let answer = acted.host(0).act(1, counter, packet);
     let (end, places) = walk(&mut walked.host(0), packet, counter);
-    assert_eq!(answer, end);
+    assert_eq!(answer, end.ok());
     assert_eq!(left(&acted.host(0)), left(&walked.host(0)));
     (end, places)
 }
@@ -172,7 +172,7 @@ fn ten_and_eleven_end_a_walk() {
     );
     assert!(!host.walk.is_open());
     assert_eq!(host.step(LINE_CLOCK), Err(Answer::NoWalk));
-    assert_eq!(host.tick(0), Answer::Done);
+    assert_eq!(host.tick(0), Ok(()));
 }
 
 #[test]
@@ -183,22 +183,22 @@ fn an_open_walk_refuses_the_other_calls() {
     assert_eq!(host.step(LINE_CLOCK), Err(Answer::NoWalk));
     assert_eq!(host.open_walk(1, &packet), Ok(Place::Step(1)));
     let (before, walk) = (left(&host), *host.walk);
-    assert_eq!(host.tick(0), Answer::InWalk);
-    assert_eq!(host.adjust(0), Answer::InWalk);
-    assert_eq!(host.set(500, 0), Answer::InWalk);
+    assert_eq!(host.tick(0), Err(Answer::InWalk));
+    assert_eq!(host.adjust(0), Err(Answer::InWalk));
+    assert_eq!(host.set(500, 0), Err(Answer::InWalk));
     assert_eq!(host.read(LINE_CLOCK), Err(Answer::InWalk));
-    assert_eq!(host.second(), Answer::InWalk);
-    assert_eq!(host.self_report(LINE_CLOCK), Answer::InWalk);
+    assert_eq!(host.second(), Err(Answer::InWalk));
+    assert_eq!(host.self_report(LINE_CLOCK), Err(Answer::InWalk));
     assert_eq!(host.send(1, LINE_CLOCK), Err(Answer::InWalk));
     assert_eq!(host.inspect(1, &packet), Err(Answer::InWalk));
-    assert_eq!(host.act(1, LINE_CLOCK, &packet), Answer::InWalk);
-    assert_eq!(host.receive(1, LINE_CLOCK, &packet), Answer::InWalk);
+    assert_eq!(host.act(1, LINE_CLOCK, &packet), Err(Answer::InWalk));
+    assert_eq!(host.receive(1, LINE_CLOCK, &packet), Err(Answer::InWalk));
     assert_eq!(host.open_walk(1, &packet), Err(Answer::InWalk));
     assert_eq!(host.lookup(address(1)), Err(Answer::InWalk));
     // 12 comes before 16, and 16 before 1.
     assert_eq!(host.inspect(2, &packet), Err(Answer::OutOfRange));
     host.settings.hold_interval = 0;
-    assert_eq!(host.tick(0), Answer::InWalk);
+    assert_eq!(host.tick(0), Err(Answer::InWalk));
     assert_eq!(host.step(LINE_CLOCK), Err(Answer::Setting));
     assert_eq!((left(&host), *host.walk), (before, walk));
     host.settings.hold_interval = 1;
@@ -215,20 +215,20 @@ fn setting_afresh_drops_a_walk() {
         hold_interval: 0,
         ..settings(0)
     };
-    assert_eq!(host.initialize(unfit), Answer::Setting);
+    assert_eq!(host.initialize(unfit), Err(Answer::Setting));
     assert!(host.walk.is_open());
-    assert_eq!(host.initialize(settings(0)), Answer::Done);
+    assert_eq!(host.initialize(settings(0)), Ok(()));
     assert_eq!(*host.walk, Walk::CLOSED);
-    assert_eq!(host.tick(0), Answer::Done);
+    assert_eq!(host.tick(0), Ok(()));
     // It looks at nothing of the walk.
     *host.walk = Walk {
         opened: 255,
         link: 9,
         ..Walk::CLOSED
     };
-    assert_eq!(host.tick(0), Answer::OutOfRange);
+    assert_eq!(host.tick(0), Err(Answer::OutOfRange));
     assert_eq!(host.step(LINE_CLOCK), Err(Answer::OutOfRange));
-    assert_eq!(host.initialize(settings(0)), Answer::Done);
+    assert_eq!(host.initialize(settings(0)), Ok(()));
     assert_eq!(*host.walk, Walk::CLOSED);
 }
 
@@ -283,13 +283,13 @@ fn what_a_walk_holds_is_tested() {
             Err(Answer::OutOfRange),
             "{changed:?}"
         );
-        assert_eq!(host.tick(0), Answer::OutOfRange);
+        assert_eq!(host.tick(0), Err(Answer::OutOfRange));
         // A walk that is closed is not looked at.
         *host.walk = Walk {
             opened: 0,
             ..changed
         };
-        assert_eq!(host.second(), Answer::Done);
+        assert_eq!(host.second(), Ok(()));
     }
     *host.walk = walk;
     host.copy[40] ^= 1;
@@ -304,13 +304,21 @@ fn the_copy_has_room_for_the_longest_message() {
     let settings = settings(0);
     let mut room = room(settings);
     let Host { clock, links, .. } = room.host(0);
-    let (clock, links, run) = (*clock, *links, room.run().to_vec());
+    let (mut clock, mut links, mut entries) = (*clock, *links, room.entries().to_vec());
     for (length, answer) in [(LONGEST_MESSAGE - 1, 12), (LONGEST_MESSAGE, 0)] {
         let (walk, copy) = (&mut Walk::default(), &mut vec![7; length]);
         let table = ClassTable::new(4);
-        let opened = hello::open_walk(
-            &settings, &table, 0, &clock, &links, walk, copy, &run, 1, &packet,
-        );
+        let mut state = State {
+            settings: &settings,
+            table: &table,
+            number: 0,
+            clock: &mut clock,
+            links: &mut links,
+            walk,
+            copy,
+            entries: &mut entries,
+        };
+        let opened = state.open_walk(1, &packet);
         assert_eq!(opened.answer, answer);
         assert_eq!(walk.is_open(), answer == 0);
         assert_eq!(copy.starts_with(&packet), answer == 0);

@@ -1,7 +1,7 @@
 //! What is timed: the same call by both programs, on the same inputs.
 
 use crate::convert;
-use crate::host::{both, message, Ours, Theirs, COUNTER, LINK, NEIGHBOR, NO_COPY};
+use crate::host::{both, message, Theirs, COUNTER, LINK, NEIGHBOR};
 use hello::Answer;
 use reference::host;
 use std::hint::black_box;
@@ -31,27 +31,8 @@ pub fn inspect(nhosts: usize) -> Case {
     let same_packet = packet.clone();
     Case {
         library: batch(move || {
-            let Ours {
-                settings,
-                table,
-                clock,
-                links,
-                walk,
-                run,
-            } = black_box(&mut ours);
-            hello::inspect(
-                settings,
-                table,
-                0,
-                clock,
-                links,
-                walk,
-                NO_COPY,
-                run,
-                LINK,
-                black_box(&packet),
-            )
-            .answer
+            let mut state = black_box(&mut ours).state();
+            state.inspect(LINK, black_box(&packet)).answer
         }),
         reference: batch(move || {
             let Theirs {
@@ -78,18 +59,9 @@ pub fn act(nhosts: usize) -> Case {
     let same_counter = convert::counter(COUNTER);
     Case {
         library: batch(move || {
-            let Ours {
-                settings,
-                table,
-                clock,
-                links,
-                walk,
-                run,
-            } = black_box(&mut ours);
+            let mut state = black_box(&mut ours).state();
             let (counter, packet) = (black_box(COUNTER), black_box(&packet));
-            hello::act(
-                settings, table, 0, clock, links, walk, NO_COPY, run, LINK, counter, packet,
-            )
+            state.act(LINK, counter, packet)
         }),
         reference: batch(move || {
             let Theirs {
@@ -116,19 +88,9 @@ pub fn send(nhosts: usize) -> Case {
     let same_counter = convert::counter(COUNTER);
     Case {
         library: batch(move || {
-            let Ours {
-                settings,
-                table,
-                clock,
-                links,
-                walk,
-                run,
-            } = black_box(&mut ours);
+            let mut state = black_box(&mut ours).state();
             let (counter, buffer) = (black_box(COUNTER), black_box(&mut buffer));
-            hello::send(
-                settings, table, 0, clock, links, walk, NO_COPY, run, LINK, counter, buffer,
-            )
-            .answer
+            state.send(LINK, counter, buffer).answer
         }),
         reference: batch(move || {
             let Theirs {
@@ -152,25 +114,8 @@ pub fn tick(nhosts: usize) -> Case {
     let (mut ours, mut theirs) = both(nhosts);
     Case {
         library: batch(move || {
-            let Ours {
-                settings,
-                table,
-                clock,
-                links,
-                walk,
-                run,
-            } = black_box(&mut ours);
-            hello::tick(
-                settings,
-                table,
-                0,
-                clock,
-                links,
-                walk,
-                NO_COPY,
-                run,
-                black_box(COUNTER.count),
-            )
+            let mut state = black_box(&mut ours).state();
+            state.tick(black_box(COUNTER.count))
         }),
         reference: batch(move || {
             let Theirs {
@@ -195,26 +140,8 @@ pub fn lookup(nhosts: usize) -> Case {
     let address = convert::address(NEIGHBOR);
     Case {
         library: batch(move || {
-            let Ours {
-                settings,
-                table,
-                clock,
-                links,
-                walk,
-                run,
-            } = black_box(&mut ours);
-            hello::lookup(
-                settings,
-                table,
-                0,
-                clock,
-                links,
-                walk,
-                NO_COPY,
-                run,
-                black_box(NEIGHBOR),
-            )
-            .answer
+            let mut state = black_box(&mut ours).state();
+            state.lookup(black_box(NEIGHBOR)).answer
         }),
         reference: batch(move || {
             let Theirs {

@@ -2,7 +2,9 @@
 
 use crate::convert;
 use hello::PLACES;
-use hello::{Address, Answer, ClassTable, Clock, Counter, Entry, Layout, Links, Settings, Walk};
+use hello::{
+    Address, Answer, ClassTable, Clock, Counter, Entry, Layout, Links, Settings, State, Walk,
+};
 
 /// The host's one link.
 pub const LINK: usize = 1;
@@ -53,8 +55,6 @@ impl Ours {
             ..Settings::new(address, layout)
         };
         let table = ClassTable::new(nhosts);
-        let mut clock = Clock::default();
-        let mut links = Links::default();
         let entry = Entry {
             delay: 100,
             offset: 0,
@@ -63,29 +63,39 @@ impl Ours {
             here: 0,
             time: READING,
         };
-        let mut run = vec![entry; PLACES];
-        let mut walk = Walk::CLOSED;
-        let answer = hello::initialize(
-            &settings, &table, 0, &mut clock, &mut links, &mut walk, NO_COPY, &mut run,
-        );
-        assert_eq!(answer, Answer::Done.number());
-        for place in &mut run {
+        let mut ours = Ours {
+            settings,
+            table,
+            clock: Clock::default(),
+            links: Links::default(),
+            walk: Walk::CLOSED,
+            run: vec![entry; PLACES],
+        };
+        assert_eq!(ours.state().initialize(), Answer::Done.number());
+        for place in &mut ours.run {
             *place = Entry {
                 here: place.here,
                 ..entry
             };
         }
-        let link = &mut links.all[LINK - 1];
+        let link = &mut ours.links.all[LINK - 1];
         link.neighbor = neighbor;
         link.keep_alive = 4;
         link.tsp = -10;
-        Ours {
-            settings,
-            table,
-            clock,
-            links,
-            walk,
-            run,
+        ours
+    }
+
+    /// What a call borrows.
+    pub fn state(&mut self) -> State<'_> {
+        State {
+            settings: &self.settings,
+            table: &self.table,
+            number: 0,
+            clock: &mut self.clock,
+            links: &mut self.links,
+            walk: &mut self.walk,
+            copy: &mut [],
+            entries: &mut self.run,
         }
     }
 
@@ -113,19 +123,7 @@ pub fn both(nhosts: usize) -> (Ours, Theirs) {
 pub fn message(nhosts: usize) -> Vec<u8> {
     let mut neighbor = Ours::live(nhosts, NEIGHBOR, HOST, 0);
     let mut buffer = vec![0; 32 + 4 * nhosts];
-    let sent = hello::send(
-        &neighbor.settings,
-        &neighbor.table,
-        0,
-        &mut neighbor.clock,
-        &mut neighbor.links,
-        &neighbor.walk,
-        NO_COPY,
-        &mut neighbor.run,
-        LINK,
-        COUNTER,
-        &mut buffer,
-    );
+    let sent = neighbor.state().send(LINK, COUNTER, &mut buffer);
     assert_eq!(
         (sent.answer, sent.length),
         (Answer::Done.number(), buffer.len())

@@ -3,9 +3,14 @@
 //! packets and random octets, with outputs of any room, often one octet short.
 
 use crate::random::Random;
-use hello::capture::{mend, Mended, CAPTURE_LENGTH, DONE, LONGEST, SHORT_BUFFER};
+use hello::capture::{mend, Mended, LONGEST};
+use hello::Answer;
 use reference::capture::mend as expected;
 use reference::checksum::checksum;
+
+const DONE: u8 = Answer::Done.number();
+const SHORT_BUFFER: u8 = Answer::ShortBuffer.number();
+const CAPTURE_LENGTH: u8 = Answer::CaptureLength.number();
 
 const INPUTS: usize = 100_000;
 

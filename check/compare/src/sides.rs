@@ -2,7 +2,7 @@
 
 use crate::call::{Call, Octets, Outcome, Trial, Value};
 use crate::convert;
-use hello::nets;
+use hello::{nets, State};
 use reference::walk::FIRST_STEP;
 use reference::{answer, host, net, program, Place, Refusal};
 
@@ -19,62 +19,49 @@ pub struct Library {
 
 impl Library {
     pub fn perform(&mut self, trial: &Trial) -> Outcome {
-        let settings = &trial.settings;
         let table = &mut self.table;
-        let number = trial.number;
-        let clock = &mut self.clocks[trial.host];
-        let links = &mut self.links[trial.host];
-        let walk = &mut self.walks[trial.host];
-        let copy = &mut self.copies[trial.host][..trial.copy_length];
-        let run = &mut self.run[..trial.run_length];
         match &trial.call {
-            Call::Initialize => Outcome::of(hello::initialize(
-                settings, table, number, clock, links, walk, copy, run,
-            )),
-            Call::Tick { count } => Outcome::of(hello::tick(
-                settings, table, number, clock, links, walk, copy, run, *count,
-            )),
-            Call::Adjust { count } => Outcome::of(hello::adjust(
-                settings, table, number, clock, links, walk, copy, run, *count,
-            )),
-            Call::Set { ms, count } => Outcome::of(hello::set(
-                settings, table, number, clock, links, walk, copy, run, *ms, *count,
-            )),
+            Call::NetAfresh { nhosts } => return Outcome::of(nets::afresh(table, *nhosts)),
+            Call::NetAdd { net, id } => {
+                let added = nets::add(table, *net, *id);
+                return Outcome::new(added.answer, Value::Row(added.row));
+            }
+            Call::NetRemove { row } => return Outcome::of(nets::remove(table, *row)),
+            Call::NetChange { row, id } => return Outcome::of(nets::change(table, *row, *id)),
+            _ => {}
+        }
+        let mut state = State {
+            settings: &trial.settings,
+            table,
+            number: trial.number,
+            clock: &mut self.clocks[trial.host],
+            links: &mut self.links[trial.host],
+            walk: &mut self.walks[trial.host],
+            copy: &mut self.copies[trial.host][..trial.copy_length],
+            entries: &mut self.run[..trial.run_length],
+        };
+        match &trial.call {
+            Call::Initialize => Outcome::of(state.initialize()),
+            Call::Tick { count } => Outcome::of(state.tick(*count)),
+            Call::Adjust { count } => Outcome::of(state.adjust(*count)),
+            Call::Set { ms, count } => Outcome::of(state.set(*ms, *count)),
             Call::Read { counter } => {
-                let read = hello::read(
-                    settings, table, number, clock, links, walk, copy, run, *counter,
-                );
+                let read = state.read(*counter);
                 let value = Value::Time {
                     time: read.time,
                     date: read.date,
                 };
                 Outcome::new(read.answer, value)
             }
-            Call::Second => Outcome::of(hello::second(
-                settings, table, number, clock, links, walk, copy, run,
-            )),
-            Call::SelfReport { counter } => Outcome::of(hello::self_report(
-                settings, table, number, clock, links, walk, copy, run, *counter,
-            )),
+            Call::Second => Outcome::of(state.second()),
+            Call::SelfReport { counter } => Outcome::of(state.self_report(*counter)),
             Call::Send {
                 link,
                 counter,
                 buffer,
             } => {
                 let mut octets = buffer.0.clone();
-                let sent = hello::send(
-                    settings,
-                    table,
-                    number,
-                    clock,
-                    links,
-                    walk,
-                    copy,
-                    run,
-                    *link,
-                    *counter,
-                    &mut octets,
-                );
+                let sent = state.send(*link, *counter, &mut octets);
                 Outcome {
                     answer: sent.answer,
                     value: Value::Length(sent.length),
@@ -82,9 +69,7 @@ impl Library {
                 }
             }
             Call::Inspect { link, packet } => {
-                let told = hello::inspect(
-                    settings, table, number, clock, links, walk, copy, run, *link, &packet.0,
-                );
+                let told = state.inspect(*link, &packet.0);
                 let value = Value::Inspected {
                     source: convert::address(told.source),
                     time: told.time,
@@ -97,42 +82,29 @@ impl Library {
                 link,
                 counter,
                 packet,
-            } => Outcome::of(hello::act(
-                settings, table, number, clock, links, walk, copy, run, *link, *counter, &packet.0,
-            )),
+            } => Outcome::of(state.act(*link, *counter, &packet.0)),
             Call::Receive {
                 link,
                 counter,
                 packet,
-            } => Outcome::of(hello::receive(
-                settings, table, number, clock, links, walk, copy, run, *link, *counter, &packet.0,
-            )),
+            } => Outcome::of(state.receive(*link, *counter, &packet.0)),
             Call::OpenWalk { link, packet } => {
                 let packet = &packet.0;
-                next(hello::open_walk(
-                    settings, table, number, clock, links, walk, copy, run, *link, packet,
-                ))
+                next(state.open_walk(*link, packet))
             }
-            Call::Step { counter } => next(hello::step(
-                settings, table, number, clock, links, walk, copy, run, *counter,
-            )),
+            Call::Step { counter } => next(state.step(*counter)),
             Call::Lookup { address } => {
-                let route = hello::lookup(
-                    settings, table, number, clock, links, walk, copy, run, *address,
-                );
+                let route = state.lookup(*address);
                 let value = Value::Route {
                     host: route.id,
                     pid: route.pid,
                 };
                 Outcome::new(route.answer, value)
             }
-            Call::NetAfresh { nhosts } => Outcome::of(nets::afresh(table, *nhosts)),
-            Call::NetAdd { net, id } => {
-                let added = nets::add(table, *net, *id);
-                Outcome::new(added.answer, Value::Row(added.row))
-            }
-            Call::NetRemove { row } => Outcome::of(nets::remove(table, *row)),
-            Call::NetChange { row, id } => Outcome::of(nets::change(table, *row, *id)),
+            Call::NetAfresh { .. }
+            | Call::NetAdd { .. }
+            | Call::NetRemove { .. }
+            | Call::NetChange { .. } => unreachable!("the tutor's calls are made above"),
             Call::Packet { octets } => Outcome::of(hello::packet(&octets.0)),
             Call::Checksum { octets } => {
                 Outcome::new(0, Value::Checksum(hello::checksum(&octets.0)))

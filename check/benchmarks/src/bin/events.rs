@@ -6,8 +6,8 @@
 //! every 66 s. Hosts are set afresh before each turn, which is not timed. Both ways must end alike.
 
 use hello::bench_file::{End, Event, File, MOST_EVENTS, MOST_HOSTS, SLOTS};
-use hello::{Address, Bench, ClassTable, Clock, Counter, Entry, Layout, Links, Settings, Walk};
-use hello::{LONGEST_MESSAGE, PLACES, UNITS_PER_MS};
+use hello::{Address, Bench, ClassTable, Clock, Counter, Entry, Layout, Links, Settings, State};
+use hello::{Walk, LONGEST_MESSAGE, PLACES, UNITS_PER_MS};
 use std::hint::black_box;
 use std::time::Instant;
 
@@ -128,17 +128,17 @@ impl Caller {
 
     fn set_up(&mut self) {
         for (number, settings) in self.file.hosts.iter().enumerate() {
-            let answer = hello::initialize(
+            let mut state = State {
                 settings,
-                &self.table,
+                table: &self.table,
                 number,
-                &mut self.clocks[number],
-                &mut self.links[number],
-                &mut self.walks[number],
-                &self.copy,
-                &mut self.run,
-            );
-            assert_eq!(answer, 0);
+                clock: &mut self.clocks[number],
+                links: &mut self.links[number],
+                walk: &mut self.walks[number],
+                copy: &mut self.copy,
+                entries: &mut self.run,
+            };
+            assert_eq!(state.initialize(), 0);
         }
     }
 
@@ -173,22 +173,22 @@ impl Caller {
             labels,
             ..
         } = self;
-        let settings = &file.hosts[host];
-        let (clock, links, walk) = (&mut clocks[host], &mut links[host], &mut walks[host]);
+        let mut state = State {
+            settings: &file.hosts[host],
+            table,
+            number: host,
+            clock: &mut clocks[host],
+            links: &mut links[host],
+            walk: &mut walks[host],
+            copy,
+            entries: run,
+        };
         match event {
-            Event::Tick(_, count) => {
-                hello::tick(settings, table, host, clock, links, walk, copy, run, count)
-            }
-            Event::Adjust(_, count) => {
-                hello::adjust(settings, table, host, clock, links, walk, copy, run, count)
-            }
-            Event::Set(_, ms, count) => hello::set(
-                settings, table, host, clock, links, walk, copy, run, ms, count,
-            ),
-            Event::Second(_) => hello::second(settings, table, host, clock, links, walk, copy, run),
-            Event::SelfReport(_, counter) => hello::self_report(
-                settings, table, host, clock, links, walk, copy, run, counter,
-            ),
+            Event::Tick(_, count) => state.tick(count),
+            Event::Adjust(_, count) => state.adjust(count),
+            Event::Set(_, ms, count) => state.set(ms, count),
+            Event::Second(_) => state.second(),
+            Event::SelfReport(_, counter) => state.self_report(counter),
             Event::Send {
                 cable,
                 end,
@@ -201,9 +201,7 @@ impl Caller {
                 };
                 let slot = usize::from(slot);
                 let (link, buffer) = (from.link.into(), &mut slots[slot]);
-                let sent = hello::send(
-                    settings, table, host, clock, links, walk, copy, run, link, counter, buffer,
-                );
+                let sent = state.send(link, counter, buffer);
                 if sent.answer == 0 {
                     labels[slot] = (sent.length, to);
                 }
@@ -213,9 +211,7 @@ impl Caller {
                 let slot = usize::from(slot);
                 let (length, to) = labels[slot];
                 let (link, packet) = (to.link.into(), &slots[slot][..length]);
-                hello::receive(
-                    settings, table, host, clock, links, walk, copy, run, link, counter, packet,
-                )
+                state.receive(link, counter, packet)
             }
         }
     }
@@ -248,11 +244,11 @@ struct Times {
 /// The microseconds of a run by the bench and by calls, in turns.
 fn measure(ids: Ids) -> Times {
     let file = exercise(ids);
-    let mut bench = Bench::new(file.octets(), ClassTable::new(PLACES));
+    let mut bench = Bench::new(file.octets().unwrap(), ClassTable::new(PLACES));
     let mut caller = Caller::new(file);
     let mut times = [Vec::new(), Vec::new()];
     for _ in 0..TURNS {
-        assert!(bench.set_up().is_done());
+        assert_eq!(bench.set_up(), Ok(()));
         caller.set_up();
         times[0].push(time(|| {
             assert_eq!(black_box(&mut bench).run(MOST_EVENTS), Ok(MOST_EVENTS));

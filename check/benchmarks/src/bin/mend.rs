@@ -1,6 +1,7 @@
 //! Times the mender beside plain Rust that makes the same tests in the same two passes.
 
-use hello::capture::{mend, DONE, LONGEST, LONGEST_CAPTURE, LONGEST_STRETCHES};
+use hello::capture::{mend, LONGEST, LONGEST_CAPTURE, LONGEST_STRETCHES};
+use hello::Answer;
 use std::hint::black_box;
 use std::time::{Duration, Instant};
 
@@ -204,7 +205,7 @@ fn main() {
         let told = mend(input, &mut capture, &mut list);
         let right = plain(input, &mut other, &mut other_list);
         assert!(
-            told.answer == DONE
+            told.answer == Answer::Done.number()
                 && (told.capture_length, told.stretches_length, told.places_true) == right
         );
         assert!(capture == other && list == other_list);
