@@ -11,7 +11,7 @@ use lib.Dec.{ltb}
 use lib.ListN.{length, getD, drop}
 use lib.Seq.{drop-cons}
 use Rattle.checksum.specs.Checksum.{allOnes, fold, folded, checksumGood, checksumOf}
-use Rattle.checksum.specs.code.EndAround.{endAround, complementOf, summed, wordSum}
+use Rattle.checksum.specs.code.EndAround.{endAround, summed, wordSum}
 use Rattle.checksum.proofs.Octets.{Octets, joined}
 
 -- ---- carries added in on the way, and at the end
@@ -80,11 +80,6 @@ end-high (suc a) t =
     let r : suc a + t ≡ suc (a + t) = omega arith in
     rw (s, r) (omega arith)
 
--- a total to which another number is added that stands for the same sum
-pub same-complement : (t a b : ℕ) → endAround a ≡ endAround b → complementOf (t + a) ≡ complementOf (t + b)
-unfolding complementOf
-same-complement t a b e = ap (λ n. allOnes - n) (end-plus t t a b refl e)
-
 -- ---- the words of octets
 
 pub folded-sum : (xs : List ℕ) → Octets xs → folded xs ≡ endAround (wordSum xs)
@@ -123,10 +118,13 @@ folded-word xs ys hi lo e o h l p =
     ∙ sym (fold-ends (hi * 256 + lo) (wordSum (xs ++ ys)))
     ∙ ap₂ fold (end-word (hi * 256 + lo) (omega arith)) (sym (folded-sum (xs ++ ys) (joined xs ys o p)))
 
--- a total that stands for the sum of the words has their checksum
-pub sum-complement : (t : ℕ) (xs : List ℕ) → Octets xs → endAround t ≡ endAround (wordSum xs) → complementOf t ≡ checksumOf xs
-unfolding complementOf checksumOf
-sum-complement t xs o e = ap (λ n. allOnes - n) (e ∙ sym (folded-sum xs o))
+-- a word of zero at an even place changes no checksum
+pub zero-word : (xs ys : List ℕ) → length xs % 2 ≡ 0 → Octets xs → Octets ys → checksumOf (xs ++ 0 ∷ 0 ∷ ys) ≡ checksumOf (xs ++ ys)
+unfolding checksumOf
+zero-word xs ys e o p =
+    let small = folded-small (xs ++ ys) (joined xs ys o p) in
+    ap (λ n. allOnes - n)
+    (folded-word xs ys 0 0 e o (omega arith) (omega arith) p ∙ fold-small 0 (folded (xs ++ ys)) (omega arith) ∙ zero-add (folded (xs ++ ys)))
 
 -- the checksum of the others at an even place makes all good
 pub checksum-good : (xs ys : List ℕ) (hi lo : ℕ) → length xs % 2 ≡ 0 → Octets xs → hi < 256 → lo < 256 → Octets ys

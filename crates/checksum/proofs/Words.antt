@@ -51,13 +51,3 @@ odd-end s i sum w l h k e inv =
     let b : i < length s = omega arith in
     let d : drop i s ≡ getD s i 0 ∷ [] = drop-cons s i 0 b ∙ rw (l, drop-length) in
     fold-words sum w h k ∙ rw e (rw d at inv)
-
--- ---- one octet at a time
-
--- a turn: the high octet's place is worth 256 times as much
-pub one-by-one : (s : List ℕ) (i high low : ℕ) → i + 1 < length s → high * 256 + low + wordSum (drop i s) ≡ wordSum s
-    → (high + getD s i 0) * 256 + (low + getD s (i + 1) 0) + wordSum (drop (i + 2) s) ≡ wordSum s
-one-by-one s i high low h inv = omega (arith, one-more (λ x y. x * 256 + y) s i h, inv)
-
-pub no-more : (s : List ℕ) (i high low : ℕ) → i ≡ length s → high * 256 + low + wordSum (drop i s) ≡ wordSum s → high * 256 + low ≡ wordSum s
-no-more s i high low e inv = rw (e, drop-length, add-zero) at inv

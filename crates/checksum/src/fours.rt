@@ -2,7 +2,7 @@
 ghost use mathlib.Core.Path.{_≡_};
 ghost use Prim.Native.Nat.{ℕ, _+_, _*_, _%_, _≤_, _<_, _^_};
 ghost use lib.ListN.{length};
-ghost use Rattle.checksum.specs.code.EndAround.{endAround, wordSum, lowSum, lowFour, shortLength, blockLength};
+ghost use Rattle.checksum.specs.code.EndAround.{endAround, lowSum, lowFour, shortLength, blockLength};
 use crate::ALL_ONES;
 
 // Fewer octets than so many are added up by a loop that is quick to set out.
@@ -99,7 +99,7 @@ fn total(s: &[u8]) -> u64
 }
 
 // A total with its carries added in.
-pub fn end_around(t: u64) -> u16
+fn end_around(t: u64) -> u16
     ensures { λ r. ⌜ r ≡ endAround t ⌝ }
 {
     if t == 0 {
@@ -128,35 +128,6 @@ pub fn low_first(s: &[u8]) -> u16
         return end_around(short(s));
     }
     long(s)
-}
-
-// The sum of few octets' words, the high octet first, one octet at a time.
-fn octets(s: &[u8]) -> u64
-    requires { ⌜ (length (now s) < shortLength) × (length (now s) % 2 ≡ 0) ⌝ }
-    ensures { λ r. ⌜ r ≡ wordSum (now (s .entry)) ⌝ }
-    ensures { λ r. ⌜ r < 2 ^ 24 ⌝ }
-{
-    let mut high: u64 = 0;
-    let mut low: u64 = 0;
-    let mut i: usize = 0;
-    while i < s.len() {
-        high += s[i] as u64;
-        low += s[i + 1] as u64;
-        i += 2;
-    }
-    high * 0x100 + low
-}
-
-// A number that stands for the sum of octets' words, the high octet first. The octets may have been written just now, each by itself: a processor that reads such octets four at a time waits for them, so few of them are read one at a time.
-pub fn written(s: &[u8]) -> u64
-    requires { ⌜ length (now s) % 2 ≡ 0 ⌝ }
-    ensures { λ r. ⌜ endAround r ≡ endAround (wordSum (now (s .entry))) ⌝ }
-    ensures { λ r. ⌜ r < 2 ^ 24 ⌝ }
-{
-    if s.len() < SHORT {
-        return octets(s);
-    }
-    swapped(long(s)) as u64
 }
 
 // A word with its octets in each other's places: 256 times as much, with the carries added in.

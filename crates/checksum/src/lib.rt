@@ -1,9 +1,6 @@
 // The internet checksum, in two ways: four octets at a time, which all calls use, and the plain one.
 ghost use mathlib.Core.Path.{_≡_};
-ghost use Prim.Native.Nat.{_+_, _%_, _<_, _^_};
-ghost use lib.ListN.{length};
 ghost use Rattle.checksum.specs.Checksum.{folded, checksumGood, checksumOf};
-ghost use Rattle.checksum.specs.code.EndAround.{wordSum, complementOf};
 
 mod fours;
 pub mod plain;
@@ -30,19 +27,4 @@ pub fn complement(s: &[u8]) -> u16
     ensures { λ r. ⌜ r ≡ checksumOf (now (s .entry)) ⌝ }
 {
     ALL_ONES - folded(s)
-}
-
-// The checksum to send with octets whose words add up to a total.
-pub fn complement_of(total: u64) -> u16
-    ensures { λ r. ⌜ r ≡ complementOf total ⌝ }
-{
-    ALL_ONES - fours::end_around(total)
-}
-
-// The same where further octets stand behind those of the total, an even number of both. They may have been written just now.
-pub fn complement_behind(total: u64, s: &[u8]) -> u16
-    requires { ⌜ (total < 2 ^ 40) × (length (now s) % 2 ≡ 0) ⌝ }
-    ensures { λ r. ⌜ r ≡ complementOf (total + wordSum (now (s .entry))) ⌝ }
-{
-    complement_of(total + fours::written(s))
 }

@@ -2,6 +2,5 @@ pub mod Parts
 pub mod Parsing
 pub mod Messages
 pub mod Stores
-pub mod Sums
 pub mod Sealing
 pub mod ReadBack

@@ -1,8 +1,7 @@
 -- What the stores leave: stores one after the other are one run of stores.
-use mathlib.Core.Path.{_≡_, _∙_}
-use mathlib.Core.List.{List, [], _++_}
-use Prim.Native.Nat.{ℕ, _+_, _-_, _*_, _≤_}
-use native.Mathlib.Numerals.{add-two}
+use mathlib.Core.Path.{_≡_, refl, _∙_}
+use mathlib.Core.List.{List, [], _∷_, _++_}
+use Prim.Native.Nat.{ℕ, suc, _+_, _-_, _*_, _/_, _%_, _≤_, _<_, _^_}
 use native.Mathlib.Omega.{arith}
 use lib.IntN.{natAbs}
 use lib.ListN.{length, take, drop, set, take-append-drop}
@@ -11,23 +10,35 @@ use Rattle.lists.proofs.Parts.{over-behind}
 use Rattle.quantity.specs.Words.{bits16}
 use Rattle.checksum.specs.Checksum.{checksumOf}
 use Rattle.checksum.proofs.Octets.{Octets, joined, in-front, behind}
+use Rattle.checksum.proofs.Folding.{zero-word}
 use Rattle.wire.specs.declared.Address.{Address}
 use Rattle.wire.specs.declared.Packet.{Packet}
 use Rattle.wire.specs.Packet.{packetLength}
 use Rattle.wire.specs.declared.Report.{Report}
 use Rattle.wire.specs.Octets.{two, four, addressOctets}
-use Rattle.wire.specs.Ip.{headerLength, versionAndLength, helloProtocol, versionPlace, totalPlace, fragmentPlace, protocolPlace, sourcePlace, headerFront, headerBack, header}
-use Rattle.wire.specs.Hello.{fixedLength, datePlace, timePlace, tspPlace, addressOffsetPlace, nhostsPlace, reportLength, reportPlace, helloLength, reportOctets, helloBehind}
+use Rattle.wire.specs.Ip.{headerLength, versionPlace, checksumPlace, sourcePlace, headerFront, headerBack, header}
+use Rattle.wire.specs.Hello.{fixedLength, timePlace, tspPlace, reportLength, reportPlace, helloLength, reportOctets, helloBehind}
 use Rattle.wire.specs.code.Sealing.{sealedBehind, sealedHello, sealed, helloWithReport, withReport}
 use Rattle.wire.proofs.Parts.{from-on, comes-back}
 use Rattle.wire.proofs.Messages.{front-octets}
 
+-- ---- two words
+
+-- two words as one number of four octets
+pub words-put : (b m : List ℕ) (i h l n : ℕ) → h < 2 ^ 16 → l < 2 ^ 16 → n ≡ h * 0x10000 + l → m ≡ sets b i (four n) → m ≡ sets b i (two h ++ two l)
+words-put b m i h l n hh hl e f =
+    let e₁ : n / 256 / 256 / 256 % 256 ≡ h / 256 % 256 = omega arith in
+    let e₂ : n / 256 / 256 % 256 ≡ h % 256 = omega arith in
+    let e₃ : n / 256 % 256 ≡ l / 256 % 256 = omega arith in
+    let e₄ : n % 256 ≡ l % 256 = omega arith in
+    f ∙ rw (e₁, e₂, e₃, e₄)
+
 -- ---- a report
 
-pub hello-report-put : (b l₁ l₂ : List ℕ) (i d o : ℕ) (r : Report) → reportPlace i + reportLength ≤ length b
-    → d ≡ bits16 (r .delay .0) → l₁ ≡ sets b (reportPlace i) (two d) → o ≡ bits16 (r .offset .0) → l₂ ≡ sets l₁ (reportPlace i + 2) (two o)
-    → l₂ ≡ helloWithReport i r b
-hello-report-put b l₁ l₂ i d o r h e₁ e₂ e₃ e₄ = rw (e₄, e₃, e₂, e₁, add-two) (sets-eq (reportOctets r) b (reportPlace i) h)
+pub hello-report-put : (b l : List ℕ) (i d o : ℕ) (r : Report) → reportPlace i + reportLength ≤ length b
+    → d ≡ bits16 (r .delay .0) → o ≡ bits16 (r .offset .0) → l ≡ sets b (reportPlace i) (two d ++ two o)
+    → l ≡ helloWithReport i r b
+hello-report-put b l i d o r h e₁ e₂ e₃ = rw (e₃, e₂, e₁) (sets-eq (reportOctets r) b (reportPlace i) h)
 
 pub report-put : (b m : List ℕ) (i : ℕ) (r : Report)
     → m ≡ helloWithReport i r (take (length b - headerLength) (drop headerLength b))
@@ -38,54 +49,63 @@ report-put b m i r e =
 
 -- ---- the header
 
-pub front-put : (b l₁ l₂ l₃ l₄ l₅ l₆ l₇ : List ℕ) (total : ℕ)
-    → l₁ ≡ set b versionPlace versionAndLength → l₂ ≡ set l₁ 1 0 → l₃ ≡ sets l₂ totalPlace (two total) → l₄ ≡ sets l₃ 4 (two 0)
-    → l₅ ≡ sets l₄ fragmentPlace (two 0) → l₆ ≡ set l₅ 8 255 → l₇ ≡ set l₆ protocolPlace helloProtocol
-    → l₇ ≡ sets b versionPlace (headerFront total)
-front-put b l₁ l₂ l₃ l₄ l₅ l₆ l₇ total e₁ e₂ e₃ e₄ e₅ e₆ e₇ = rw (e₇, e₆, e₅, e₄, e₃, e₂, e₁)
+-- the header, with a checksum of zero
+abbrev pub bareHeader : (total : ℕ) (source destination : Address) → List ℕ
+bareHeader total source destination = headerFront total ++ two 0 ++ headerBack source destination
 
-pub back-put : (b l₁ l₂ : List ℕ) (source destination : Address)
-    → l₁ ≡ sets b sourcePlace (addressOctets source) → l₂ ≡ sets l₁ 16 (addressOctets destination)
-    → l₂ ≡ sets b sourcePlace (headerBack source destination)
-back-put b l₁ l₂ source destination e₁ e₂ = rw (e₂, e₁)
+pub fields-put : (b l₁ l₂ l₃ l₄ l₅ : List ℕ) (total : ℕ) (source destination : Address) → headerLength ≤ length b
+    → l₁ ≡ sets b versionPlace (two 0x4500 ++ two total) → l₂ ≡ sets l₁ 4 (two 0 ++ two 0) → l₃ ≡ sets l₂ 8 (two 0xff3f ++ two 0)
+    → l₄ ≡ sets l₃ sourcePlace (addressOctets source) → l₅ ≡ sets l₄ 16 (addressOctets destination)
+    → l₅ ≡ bareHeader total source destination ++ drop headerLength b
+fields-put b l₁ l₂ l₃ l₄ l₅ total source destination h e₁ e₂ e₃ e₄ e₅ =
+    rw (e₅, e₄, e₃, e₂, e₁) (sets-eq (bareHeader total source destination) b 0 h)
 
--- all of it, with any number for the checksum
-pub header-stored : (b l₁ l₂ l₃ : List ℕ) (total sum : ℕ) (source destination : Address) → headerLength ≤ length b
-    → l₁ ≡ sets b versionPlace (headerFront total) → l₂ ≡ sets l₁ 10 (two sum) → l₃ ≡ sets l₂ sourcePlace (headerBack source destination)
-    → l₃ ≡ headerFront total ++ two sum ++ headerBack source destination ++ drop headerLength b
-header-stored b l₁ l₂ l₃ total sum source destination h e₁ e₂ e₃ =
-    e₃ ∙ rw (e₂, e₁) (sets-eq (headerFront total ++ two sum ++ headerBack source destination) b 0 h)
-
--- so the octets that the checksum is of are octets
-pub header-octets : (l rest : List ℕ) (total sum : ℕ) (source destination : Address)
-    → l ≡ headerFront total ++ two sum ++ headerBack source destination ++ rest → Octets l → Octets (headerFront total ++ headerBack source destination)
-header-octets l rest total sum source destination e o =
+-- what the octets of a header say of those of its fields
+bare-octets : (total : ℕ) (source destination : Address) (rest : List ℕ) → Octets (bareHeader total source destination ++ rest)
+    → Octets (headerBack source destination)
+bare-octets total source destination rest o =
     let back = headerBack source destination in
-    joined (headerFront total) back (front-octets total) (in-front back rest (behind (headerFront total ++ two sum) (back ++ rest) (rw e at o)))
+    in-front back rest (behind (headerFront total ++ two 0) (back ++ rest) o)
 
-pub header-put : (l rest : List ℕ) (total sum : ℕ) (source destination : Address)
-    → l ≡ headerFront total ++ two sum ++ headerBack source destination ++ rest → sum ≡ checksumOf (headerFront total ++ headerBack source destination)
-    → l ≡ header total source destination ++ rest
-unfolding header
-header-put l rest total sum source destination e f = rw (← f) e
+-- the checksum of the header as it is written is that of its other fields
+pub bare-checksum : (total : ℕ) (source destination : Address) (rest : List ℕ) → Octets (bareHeader total source destination ++ rest)
+    → checksumOf (bareHeader total source destination) ≡ checksumOf (headerFront total ++ headerBack source destination)
+bare-checksum total source destination rest o =
+    zero-word (headerFront total) (headerBack source destination) refl (front-octets total) (bare-octets total source destination rest o)
 
 -- ---- the HELLO
 
-pub fixed-put : (b l₁ l₂ l₃ l₄ l₅ : List ℕ) (t w : ℕ) (p : Packet)
-    → l₁ ≡ sets b datePlace (two (p .date .0)) → t ≡ natAbs (p .time .0) → l₂ ≡ sets l₁ timePlace (four t)
-    → w ≡ bits16 (p .tsp .0) → l₃ ≡ sets l₂ tspPlace (two w)
-    → l₄ ≡ set l₃ addressOffsetPlace (p .«address_offset») → l₅ ≡ set l₄ nhostsPlace (p .nhosts)
-    → l₅ ≡ sets b datePlace (helloBehind p [])
-fixed-put b l₁ l₂ l₃ l₄ l₅ t w p e₁ e₂ e₃ e₄ e₅ e₆ e₇ = rw (e₇, e₆, e₅, e₄, e₃, e₂, e₁)
+pub fixed-put : (b l₁ l₂ l₃ : List ℕ) (t w n : ℕ) (p : Packet) → fixedLength ≤ length b → p .«address_offset» < 256 → p .nhosts < 256
+    → l₁ ≡ sets b 0 (two 0 ++ two (p .date .0)) → t ≡ natAbs (p .time .0) → l₂ ≡ sets l₁ timePlace (four t)
+    → w ≡ bits16 (p .tsp .0) → n ≡ p .«address_offset» * 256 + p .nhosts → l₃ ≡ sets l₂ tspPlace (two w ++ two n)
+    → l₃ ≡ two 0 ++ helloBehind p [] ++ drop fixedLength b
+fixed-put b l₁ l₂ l₃ t w n p h o c e₁ e₂ e₃ e₄ e₅ e₆ =
+    let high : n / 256 % 256 ≡ p .«address_offset» = omega arith in
+    let low : n % 256 ≡ p .nhosts = omega arith in
+    rw (e₆, high, low, e₄, e₃, e₂, e₁) (sets-eq (two 0 ++ helloBehind p []) b 0 h)
 
--- all of it, with any number for the checksum
-pub hello-stored : (b l₁ l₂ : List ℕ) (sum : ℕ) (p : Packet) → fixedLength ≤ length b
-    → l₁ ≡ sets b 0 (two sum) → l₂ ≡ sets l₁ datePlace (helloBehind p [])
+-- the octets over which the checksum is computed: the fixed part, and the reports as they are
+pub fixed-part : (b l : List ℕ) (k : ℕ) (p : Packet) → k ≡ helloLength (p .nhosts) → l ≡ two 0 ++ helloBehind p [] ++ drop fixedLength b
+    → take k l ≡ two 0 ++ sealedBehind p b
+fixed-part b l k p e f =
+    let n : k ≡ suc (suc (suc (suc (suc (suc (suc (suc (suc (suc (suc (suc (reportLength * p .nhosts)))))))))))) = omega arith in
+    rw (f, n)
+
+-- their checksum is the definition's
+pub hello-checksum : (b l : List ℕ) (p : Packet) → l ≡ two 0 ++ helloBehind p [] ++ drop fixedLength b → Octets l
+    → checksumOf (two 0 ++ sealedBehind p b) ≡ checksumOf (sealedBehind p b)
+hello-checksum b l p e o =
+    let all : Octets (two 0 ++ helloBehind p [] ++ drop fixedLength b) = rw e at o in
+    let front : Octets (helloBehind p []) = in-front (helloBehind p []) (drop fixedLength b) (behind (two 0) (helloBehind p [] ++ drop fixedLength b) all) in
+    let rest : Octets (drop fixedLength b) = behind (two 0 ++ helloBehind p []) (drop fixedLength b) all in
+    let reports : Octets (take (reportLength * p .nhosts) (drop fixedLength b)) =
+    in-front (take (reportLength * p .nhosts) (drop fixedLength b)) (drop (reportLength * p .nhosts) (drop fixedLength b)) (rw take-append-drop rest) in
+    zero-word [] (sealedBehind p b) refl tt (joined (helloBehind p []) (take (reportLength * p .nhosts) (drop fixedLength b)) front reports)
+
+-- the checksum put in the place of the zero
+pub checksum-put : (b l₁ l₂ : List ℕ) (sum : ℕ) (p : Packet) → l₁ ≡ two 0 ++ helloBehind p [] ++ drop fixedLength b → l₂ ≡ sets l₁ 0 (two sum)
     → l₂ ≡ two sum ++ helloBehind p [] ++ drop fixedLength b
-hello-stored b l₁ l₂ sum p h e₁ e₂ = e₂ ∙ rw e₁ (sets-eq (two sum ++ helloBehind p []) b 0 h)
-
-pub fixed-octets : (l rest : List ℕ) (sum : ℕ) (p : Packet) → l ≡ two sum ++ helloBehind p [] ++ rest → Octets l → Octets (helloBehind p [])
-fixed-octets l rest sum p e o = in-front (helloBehind p []) rest (behind (two sum) (helloBehind p [] ++ rest) (rw e at o))
+checksum-put b l₁ l₂ sum p e f = f ∙ rw e
 
 pub hello-put : (b l : List ℕ) (sum : ℕ) (p : Packet)
     → l ≡ two sum ++ helloBehind p [] ++ drop fixedLength b → sum ≡ checksumOf (sealedBehind p b)
@@ -104,10 +124,14 @@ changedBehind b m = take headerLength b ++ (m ++ drop (length b - headerLength) 
 pub behind-changed : (b m : List ℕ) → headerLength ≤ length b → drop headerLength (changedBehind b m) ≡ m
 behind-changed b m h = rw (comes-back headerLength b m) (drop-at (take headerLength b) m headerLength (length-take-le headerLength b h))
 
--- the HELLO, then the header
-pub packet-sealed : (b m b₂ : List ℕ) (n : ℕ) (destination : Address) (p : Packet) → headerLength ≤ length b → n ≡ packetLength (p .nhosts)
-    → m ≡ sealedHello p (take (length b - headerLength) (drop headerLength b))
-    → b₂ ≡ header n (p .source) destination ++ drop headerLength (changedBehind b m)
-    → b₂ ≡ sealed destination p b
-unfolding sealed
-packet-sealed b m b₂ n destination p h e e₁ e₂ = e₂ ∙ rw (behind-changed b m h, e₁, e, from-on headerLength b)
+-- the header's fields, then the HELLO, then the header's checksum
+pub packet-sealed : (b b₁ m b₂ b₃ : List ℕ) (n : ℕ) (destination : Address) (p : Packet) → headerLength ≤ length b → n ≡ packetLength (p .nhosts)
+    → b₁ ≡ bareHeader n (p .source) destination ++ drop headerLength b → Octets b₁
+    → m ≡ sealedHello p (take (length b₁ - headerLength) (drop headerLength b₁)) → b₂ ≡ changedBehind b₁ m
+    → b₃ ≡ sets b₂ checksumPlace (two (checksumOf (take headerLength b₂)))
+    → b₃ ≡ sealed destination p b
+unfolding sealed header
+packet-sealed b b₁ m b₂ b₃ n destination p h e e₁ o e₂ e₃ e₄ =
+    let front : b₂ ≡ bareHeader n (p .source) destination ++ m = e₃ ∙ comes-back headerLength b₁ m ∙ rw e₁ in
+    let same : m ≡ sealedHello p (drop headerLength b) = e₂ ∙ rw (from-on headerLength b₁, e₁) in
+    e₄ ∙ rw (front, bare-checksum n (p .source) destination (drop headerLength b) (rw e₁ at o), same, e)

@@ -38,6 +38,10 @@ fragmentPlace = 6
 abbrev pub protocolPlace : ℕ
 protocolPlace = 9
 
+-- PACKET-3: where the checksum is
+abbrev pub checksumPlace : ℕ
+checksumPlace = 10
+
 -- PACKET-3: where the source is
 abbrev pub sourcePlace : ℕ
 sourcePlace = 12

@@ -1,18 +1,17 @@
 // The HELLO behind the IP header.
 ghost use mathlib.Core.Path.{_≡_};
-ghost use Prim.Native.Nat.{_+_, _≤_, _<_, _^_};
-ghost use mathlib.Core.List.{[]};
-ghost use lib.ListN.{length};
-ghost use lib.Seq.{sets};
-ghost use Rattle.checksum.specs.code.EndAround.{endAround, wordSum};
-ghost use Rattle.wire.specs.Hello.{fixedLength, datePlace, reportLength, reportPlace, helloLength, helloForm, helloChecksum, reportAt, helloBehind};
+ghost use Prim.Native.Nat.{_+_, _≤_};
+ghost use mathlib.Core.List.{[], _++_};
+ghost use lib.ListN.{length, drop};
+ghost use Rattle.wire.specs.Octets.{two};
+ghost use Rattle.wire.specs.Hello.{fixedLength, reportLength, reportPlace, helloLength, helloForm, helloChecksum, reportAt, helloBehind};
 ghost use Rattle.wire.specs.code.Ranges.{Two, Four};
 ghost use Rattle.wire.specs.code.Sealing.{helloWithReport, sealedHello};
 use super::Packet;
 use super::Report;
 use super::octets::put_four;
-use super::octets::put_octet;
 use super::octets::put_two;
+use super::octets::put_words;
 use super::octets::two_at;
 
 // The octets in front of the reports.
@@ -80,50 +79,36 @@ pub fn put_report(hello: &mut [u8], i: usize, r: Report)
     let place = FIXED + REPORT * i;
     let delay = r.delay;
     let offset = r.offset;
-    put_two(&mut *hello, place, delay.bits());
-    put_two(&mut *hello, place + 2, offset.bits());
+    put_words(&mut *hello, place, delay.bits(), offset.bits());
 }
 
-// The fixed part behind the checksum.
+// The fixed part, with a checksum of zero.
 fn put_fixed(hello: &mut [u8], p: Packet)
     requires { ⌜ fixedLength ≤ length (now hello) ⌝ }
     requires { ⌜ Four (p .time .0) ⌝ }
-    ensures { λ _. ⌜ now (hello .exit) ≡ sets (now (hello .entry)) datePlace (helloBehind p []) ⌝ }
+    ensures { λ _. ⌜ now (hello .exit) ≡ two 0 ++ helloBehind p [] ++ drop fixedLength (now (hello .entry)) ⌝ }
 {
     let date = p.date;
     let time = p.time;
     let tsp = p.tsp;
-    put_two(&mut *hello, DATE, date.0);
+    put_words(&mut *hello, CHECKSUM, 0, date.0);
     put_four(&mut *hello, TIME, time.unsigned());
-    put_two(&mut *hello, TSP, tsp.bits());
-    put_octet(&mut *hello, ADDRESS_OFFSET, p.address_offset);
-    put_octet(&mut *hello, NHOSTS, p.nhosts);
+    put_words(
+        &mut *hello,
+        TSP,
+        tsp.bits(),
+        p.address_offset as u16 * 256 + p.nhosts as u16,
+    );
 }
 
-// A number that stands for the sum of the fixed part's words behind the checksum: the time counts as its two words.
-fn fixed_sum(p: Packet) -> u64
-    requires { ⌜ Four (p .time .0) ⌝ }
-    ensures { λ r. ⌜ endAround r ≡ endAround (wordSum (helloBehind p [])) ⌝ }
-    ensures { λ r. ⌜ r < 2 ^ 40 ⌝ }
-{
-    let date = p.date;
-    let time = p.time;
-    let tsp = p.tsp;
-    date.0 as u64
-        + time.unsigned() as u64
-        + tsp.bits() as u64
-        + p.address_offset as u64 * 256
-        + p.nhosts as u64
-}
-
-// The HELLO filled in around its reports, which stand in their places. Its fixed part goes into the checksum by its values: what is read where it was just written is waited for.
+// The HELLO filled in around its reports, which are in their places. All fields are written before the checksum is computed over their octets.
 pub fn seal(hello: &mut [u8], p: Packet)
     requires { ⌜ helloLength (p .nhosts) ≤ length (now hello) ⌝ }
     requires { ⌜ Four (p .time .0) ⌝ }
     ensures { λ _. ⌜ now (hello .exit) ≡ sealedHello p (now (hello .entry)) ⌝ }
 {
     let n = length(p.nhosts);
-    let sum = checksum::complement_behind(fixed_sum(p), &hello[FIXED..n]);
-    put_two(&mut *hello, CHECKSUM, sum);
     put_fixed(&mut *hello, p);
+    let sum = checksum::complement(&hello[..n]);
+    put_two(&mut *hello, CHECKSUM, sum);
 }

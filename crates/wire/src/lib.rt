@@ -141,7 +141,7 @@ pub fn put_report(buffer: &mut [u8], i: usize, r: Report)
     hello::put_report(&mut buffer[ip::LENGTH..], i, r);
 }
 
-// SEND-5, SEND-4: completes a packet around its reports: the HELLO from octet 20 on, then the IP header. Octets after the message stay.
+// SEND-5, SEND-4: completes a packet around its reports: the header's fields, the HELLO from octet 20 on, then the header's checksum. Octets after the message stay.
 pub fn seal(buffer: &mut [u8], destination: Address, p: Packet)
     requires { ⌜ packetLength (p .nhosts) ≤ length (now buffer) ⌝ }
     requires { ⌜ Four (p .time .0) ⌝ }
@@ -149,8 +149,9 @@ pub fn seal(buffer: &mut [u8], destination: Address, p: Packet)
 {
     let source = p.source;
     let total = length(p.nhosts);
+    ip::put_fields(&mut *buffer, total as u16, source, destination);
     hello::seal(&mut buffer[ip::LENGTH..], p);
-    ip::seal(&mut *buffer, total as u16, source, destination);
+    ip::seal(&mut *buffer);
 }
 
 // What was written is read back: a message is never refused, and its fields and reports are those that were written.

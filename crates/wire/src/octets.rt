@@ -1,5 +1,6 @@
 // Numbers and addresses in octets, the high octet first: read from a place, and written there.
 ghost use mathlib.Core.Path.{_≡_};
+ghost use mathlib.Core.List.{_++_};
 ghost use Prim.Native.Nat.{_+_, _*_, _≤_, _<_};
 ghost use lib.ListN.{length, set};
 ghost use lib.Seq.{sets};
@@ -68,6 +69,14 @@ pub fn put_four(s: &mut [u8], i: usize, n: u32)
     s[i + 1] = (n / 256 / 256 % 256) as u8;
     s[i + 2] = (n / 256 % 256) as u8;
     s[i + 3] = (n % 256) as u8;
+}
+
+// Two words, one behind the other, as one number of four octets: the processor then stores them at once, and a sum that reads four octets at a time need not wait.
+pub fn put_words(s: &mut [u8], i: usize, first: u16, second: u16)
+    requires { ⌜ i + 4 ≤ length (now s) ⌝ }
+    ensures { λ _. ⌜ now (s .exit) ≡ sets (now (s .entry)) i (two first ++ two second) ⌝ }
+{
+    put_four(s, i, first as u32 * 0x10000 + second as u32);
 }
 
 pub fn put_address(s: &mut [u8], i: usize, a: Address)

@@ -1,6 +1,6 @@
 -- How the second way works the folded sum out: words are added up whole, with the low octet first, and the carries are added in at the end.
 use mathlib.Core.List.{List, [], _∷_}
-use Prim.Native.Nat.{ℕ, zero, suc, _+_, _-_, _*_, _%_}
+use Prim.Native.Nat.{ℕ, zero, suc, _+_, _*_, _%_}
 use lib.ListN.{getD}
 use Rattle.checksum.specs.Checksum.{allOnes}
 
@@ -8,10 +8,6 @@ use Rattle.checksum.specs.Checksum.{allOnes}
 unfoldable pub endAround : ℕ → ℕ
 endAround zero = 0
 endAround (suc n) = n % allOnes + 1
-
--- the checksum of words that add up to a total
-unfoldable pub complementOf : ℕ → ℕ
-complementOf total = allOnes - endAround total
 
 -- the whole sum of words, each of which f makes of two octets; behind an odd last octet stands a zero
 abbrev pub summed : (ℕ → ℕ → ℕ) → List ℕ → ℕ

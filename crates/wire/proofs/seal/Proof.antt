@@ -1,12 +1,20 @@
--- The HELLO behind, then the header in front of it.
-use borrow.Author.Needs.{needs}
+-- The header with a checksum of zero, then the HELLO, then the checksum of the header.
+use mathlib.Core.Path.{refl}
 use native.Mathlib.Omega.{arith}
+use Rattle.checksum.proofs.Octets.{of-places}
 use Rattle.wire.proofs.Stores.{packet-sealed}
+use borrow.Author.Needs.{needs}
 use Rattle.wire.proofs.seal.Statement.{statement}
 use Rattle.wire.proofs.seal.Tie as tie
 
 length-requires : tie.Need-length-requires
 length-requires c κs = search needs
+
+cast-put-fields : tie.Need-cast-put-fields
+cast-put-fields c = search needs
+
+put-fields-requires : tie.Need-put-fields-requires
+put-fields-requires c κs = search needs
 
 sub-seal : tie.Need-sub-seal
 sub-seal c = search needs
@@ -20,9 +28,6 @@ part-seal-end c = search needs
 seal-requires : tie.Need-seal-requires
 seal-requires c κs = search needs
 
-cast-seal : tie.Need-cast-seal
-cast-seal c = search needs
-
 seal-requires-2 : tie.Need-seal-requires-2
 seal-requires-2 c κs = search needs
 
@@ -31,21 +36,22 @@ same-length c = search needs
 
 returns : tie.Need-returns
 returns c =
-    let header = c .before .before in
-    let hello = header .before .before .before .before in
-    let a = hello .before .before .before .before .before .args in
-    packet-sealed (a .buffer .now) (hello .seal .last .0) _ _ (a .destination) (a .p) (omega arith) (hello .before .before .length .ensures) (hello .seal .ensures) (header .seal2 .ensures)
+    let a = c .before .before .before .before .before .before .before .before .before .before .before .before .before .before .before .args in
+    let header = c .before .before .before .before .before .before .before .before .before .before .put-fields in
+    packet-sealed (a .buffer .now) (header .last .0) (c .before .before .before .before .before .before .seal .last .0) _ _ _ (a .destination) (a .p) (omega arith) (c .before .before .before .before .before .before .before .before .before .before .before .before .length .ensures)
+    (header .ensures) (of-places (header .last .0) (λ i. c .before .before .before .before .before .before .before .before .slice-known2 .given i .fits)) (c .before .before .before .before .before .before .seal .ensures) refl (c .before .before .seal2 .ensures)
 
 pub seal-spec : {M : Type 1} → statement M
 seal-spec =
     tie.close
     (tie.spec
     length-requires
+    cast-put-fields
+    put-fields-requires
     sub-seal
     part-seal-start
     part-seal-end
     seal-requires
-    cast-seal
     seal-requires-2
     same-length
     returns)

@@ -12,25 +12,19 @@ add-place c = search needs
 bits-requires : tie.Need-bits-requires
 bits-requires c κs = search needs
 
-put-two-requires : tie.Need-put-two-requires
-put-two-requires c κs = search needs
-
-add-put-two : tie.Need-add-put-two
-add-put-two c = search needs
-
 bits-requires-2 : tie.Need-bits-requires-2
 bits-requires-2 c κs = search needs
 
-put-two-requires-2 : tie.Need-put-two-requires-2
-put-two-requires-2 c κs = search needs
+put-words-requires : tie.Need-put-words-requires
+put-words-requires c κs = search needs
 
 same-length : tie.Need-same-length
 same-length c = search needs
 
 returns : tie.Need-returns
 returns c =
-    let a = c .before .before .before .before .before .before .before .before .before .before .before .before .before .args in
-    hello-report-put (a .hello .now) _ _ (a .i) _ _ (a .r) (c .before .before .before .before .before .before .before .before .before .before .before .before .before .pre) (c .before .before .before .before .before .before .before .before .bits .ensures) (c .before .before .before .before .before .before .before .put-two .ensures) (c .before .before .before .bits2 .ensures) (c .before .before .put-two2 .ensures)
+    let a = c .before .before .before .before .before .before .before .before .before .args in
+    hello-report-put (a .hello .now) _ (a .i) _ _ (a .r) (c .before .before .before .before .before .before .before .before .before .pre) (c .before .before .before .before .bits .ensures) (c .before .before .before .bits2 .ensures) (c .before .before .put-words .ensures)
 
 pub put-report-spec : {M : Type 1} → statement M
 put-report-spec =
@@ -39,9 +33,7 @@ put-report-spec =
     mul-place
     add-place
     bits-requires
-    put-two-requires
-    add-put-two
     bits-requires-2
-    put-two-requires-2
+    put-words-requires
     same-length
     returns)
