@@ -57,19 +57,21 @@ class Cables:
         return len(same) >= MOST
 
     def send(self, now, seat, link, message, octets, way=None):
-        """Sends a message, unless the cable loses it; `way` decides its time."""
+        """Sends a message, unless the cable loses it; `way` decides its time. What became of it: the
+        seat to which it goes and its arrival, `lost`, or no cable at all."""
         far = self.far(seat, link)
         if far is None or self.full(seat, link):
-            return
+            return {"to": None, "arrival": None, "lost": False}
         cable = self.cables[far.cable]
         lost = self._random.randrange(100) < cable["loss"][far.direction]
         took = self._random.randint(*cable["ways"][far.direction])
         if lost:
-            return
+            return {"to": far.seat, "arrival": None, "lost": True}
         arrival = now + (took if way is None else way)
         to = (far.seat, far.link)
         way = Way(arrival, message, far.cable, far.direction, now, to, octets)
         heapq.heappush(self.on_their_way, way)
+        return {"to": far.seat, "arrival": arrival, "lost": False}
 
     def next_arrival(self):
         """When the next message arrives, or None."""
@@ -80,6 +82,16 @@ class Cables:
         if self.on_their_way and self.on_their_way[0].arrival <= now:
             return heapq.heappop(self.on_their_way)
         return None
+
+    def sent_by(self, seat, now):
+        """The messages of a seat that are on their way: number, link, receiver, arrival."""
+        found = []
+        for way in sorted(self.on_their_way):
+            sender, link = self.cables[way.cable]["ends"][way.direction]
+            if sender == seat:
+                told = {"message": way.message, "link": link, "to": way.to[0]}
+                found.append({**told, "arrival": way.arrival, "left": way.arrival - now})
+        return found
 
     def shown(self, now):
         """The messages on their way as a page shows them."""

@@ -51,7 +51,12 @@ def _inspect(host, link, packet):
     return answer, told
 
 
+def _act(host, link, packet, counter):
+    return host.act(link, bytes.fromhex(packet), _counter(counter)), {}
+
+
 def _receive(host, link, packet, counter):
+    """The arrival in one piece: only lists of calls written before have it."""
     return host.receive(link, bytes.fromhex(packet), _counter(counter)), {}
 
 
@@ -84,6 +89,7 @@ _CALLS = {
     "lookup": _lookup,
     "send": _send,
     "inspect": _inspect,
+    "act": _act,
     "receive": _receive,
     "open_walk": _open_walk,
     "step": _step,
@@ -91,7 +97,7 @@ _CALLS = {
 }
 COUNTED = ("tick", "adjust", "set")
 """The calls that are handed the crystal's count."""
-READING = ("read", "self_report", "send", "receive", "step")
+READING = ("read", "self_report", "send", "act", "receive", "step")
 """The calls that are handed the counter: count, mark of an overflow, count again."""
 
 

@@ -8,12 +8,13 @@ from .answers import in_words
 from .cables import Cables
 from .log import Log
 from .paper import FilePaper
+from .promise import Promise
 from .seat import READ, Message, Seat
 from .setup import DAY, class_of
 from .state import changes, state_of, stored, ticked
 
 MOST_POINTS = 20_000
-STORING = ("receive", "step", "self_report")
+STORING = ("act", "step", "self_report")
 """The calls that may store an entry."""
 
 
@@ -37,9 +38,11 @@ class Net:
         self.seats = [Seat(number, plan, host) for number, (plan, host) in plans]
         self.tutor("net_afresh", {"nhosts": set_up["nhosts"]})
         self.tutored = None
+        self.promise = None
         for seat in self.seats:
             self.initialize(seat)
             seat.last = None
+        self.promise = Promise(self)
 
     def tutor(self, call, given):
         """Makes a call of the tutor's on the net table, after all seats' ticks that are due: the
@@ -59,7 +62,8 @@ class Net:
 
     def make(self, seat, call, given=None, times=1):
         """Makes a call of a seat, after the ticks that are due: the reply, with what changed."""
-        self.catch_up(seat, leave=1 if call in calls.READING else 0)
+        # An inspection leaves a crystal's last tick to the reading of the action after it.
+        self.catch_up(seat, leave=1 if call in calls.READING or call == "inspect" else 0)
         given = {**(given or {}), **seat.handed(call, self.now)}
         before, reads = seat.state, seat.reads(call)
         answer, told = calls.make(seat.host, call, given, times)
@@ -71,6 +75,8 @@ class Net:
             seat.given += seat.due(self.now)
         if call in STORING:
             self._point(seat, stored(before, seat.state))
+        if self.promise:
+            self.promise.call(self, seat, call, answer)
         if not seat.in_walk and call != "step":
             seat.walk = None
         moved = changes(before, seat.state)
@@ -111,8 +117,9 @@ class Net:
         """A send of a seat; the message goes on its cable, and may be there at once."""
         reply = self.make(seat, "send", {"link": link})
         if reply["answer"] == 0:
-            octets = bytes.fromhex(reply["told"]["octets"])
-            self.cables.send(self.now, seat.number, link, self.new_message(), octets, way)
+            octets, number = bytes.fromhex(reply["told"]["octets"]), self.new_message()
+            sent = self.cables.send(self.now, seat.number, link, number, octets, way)
+            reply["told"]["way"] = {"message": number, **sent}
             self.arrivals()
         return reply
 
@@ -141,8 +148,12 @@ class Net:
                 return
 
     def receive(self, seat, message):
-        """A seat takes a message that waits."""
-        reply = self.make(seat, "receive", message.given)
+        """A seat takes a message that waits: an inspection and, if that is passed, the action."""
+        inspected = self.make(seat, "inspect", message.given)
+        reply = self.make(seat, "act", message.given) if inspected["answer"] == 0 else inspected
+        if message.by_hand and inspected["answer"] == 0:
+            self.promise.written(self, seat)
         if reply["answer"] not in (1, 12, 16):
             del seat.waiting[message.number]
-        return reply
+        seat.last = {**reply, "call": "receive", "told": {}}
+        return seat.last

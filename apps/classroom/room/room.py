@@ -1,12 +1,13 @@
 """The room as the pages meet it: what they ask for, and what they are shown."""
 
-from . import net_table, views
+from . import board, net_table, views
 from .bench import Stand
 from .checks import Refused, keys
+from .lesson import Lesson
 from .paper import FilePaper
 from .setup import checked, ring
 from .state import shown
-from .student import STUDENT
+from .pupil import PUPIL
 from .teacher import TEACHER
 from .timed import Timed
 
@@ -21,6 +22,7 @@ class Room(Timed):
         self.speed = 1
         self.show = "picture"
         self.bench = Stand()
+        self.lesson = Lesson()
         self.begin(checked(set_up))
 
     @classmethod
@@ -44,7 +46,7 @@ class Room(Timed):
 
     def seat(self, number, message):
         """Does what a student's page asks for, and replies."""
-        return self._asked(STUDENT, message, self, self.at(number))
+        return self._asked(PUPIL, message, self, self.at(number))
 
     def _asked(self, commands, message, *of):
         asked = message.get("do") if type(message) is dict else None
@@ -61,13 +63,18 @@ class Room(Timed):
             raise Refused("there is no such seat in this room")
         return self.seats[number]
 
-    def teacher_view(self, since=None):
-        """What the teacher's page shows; `since` is the mark of the view before, or None."""
-        return views.teacher_view(self, since)
+    def teacher_view(self, since=None, presence=None):
+        """What the teacher's page shows; `since` is the mark of the view before, or None. `presence`
+        has, by seat, whether a student's page is open, and since when."""
+        return views.teacher_view(self, since, presence or {})
 
     def seat_view(self, number, first=False):
         """What a student's page shows."""
         return views.seat_view(self, number, first)
+
+    def marks(self, presence):
+        """The marks of the lesson as CSV; `presence` as in a view."""
+        return board.marks(self, presence)
 
     def lines(self):
         """The list of calls as a file, line by line."""

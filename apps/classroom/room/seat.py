@@ -10,7 +10,7 @@ from .setup import DAY, OVERFLOW
 from .state import state_of
 
 MOST_WAITING = 64
-"""So many messages wait at a seat; where one more arrives, the oldest is lost."""
+"""The messages that may wait at a link. If one more arrives there, the oldest of that link is lost."""
 MOST_BEHIND = 600_000
 """So many ticks may wait for the end of a walk; then the room's time stands."""
 READ = (0, 10, 11)
@@ -18,13 +18,14 @@ READ = (0, 10, 11)
 
 
 class Message:
-    """A message that waits at a link."""
+    """A message that waits at a link; one that was written by hand, no seat has sent."""
 
-    def __init__(self, number, link, octets, arrived):
+    def __init__(self, number, link, octets, arrived, by_hand=False):
         self.number = number
         self.link = link
         self.octets = octets
         self.arrived = arrived
+        self.by_hand = by_hand
 
     @property
     def given(self):
@@ -63,6 +64,9 @@ class Seat:
         self.given = 0
         self.filled = 0
         self.waiting = {}
+        self.lost = {}
+        self.trying = {}
+        self.predicted = None
         self.walk = None
         self.last = None
         self.state = state_of(host)
@@ -119,7 +123,18 @@ class Seat:
         return time if 0 <= time <= DAY else time % DAY
 
     def arrive(self, message):
-        """A message arrives, and waits at its link."""
-        if len(self.waiting) >= MOST_WAITING:
-            del self.waiting[next(iter(self.waiting))]
+        """A message arrives, and waits in the queue of its link. If that is full, its oldest message
+        is lost, and `lost` says so."""
+        queue = [waits for waits in self.waiting.values() if waits.link == message.link]
+        if len(queue) >= MOST_WAITING:
+            oldest, lost = queue[0].number, self.lost.get(message.link)
+            del self.waiting[oldest]
+            count = lost["count"] + 1 if lost else 1
+            self.lost[message.link] = {
+                "link": message.link,
+                "count": count,
+                "message": oldest,
+                "time": message.arrived,
+                "most": MOST_WAITING,
+            }
         self.waiting[message.number] = message

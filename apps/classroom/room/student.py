@@ -7,7 +7,8 @@ from .fields import dotted
 from .packet import packet
 from .seat import READ, Message
 from .setup import address_of
-from .sums import Box, sum_of
+from .sums import Box, in_english, texts_of
+from .text_faults import fault
 
 LONGEST_TEXT = 4_000
 
@@ -27,13 +28,27 @@ def call(room, seat, message):
     return make(room, seat, message)
 
 
-def own_call(room, seat, message):
-    """A call from the seat's own page, which has a part of the list to fill."""
+PREDICTED = ("step", "walk_on", "receive", "send")
+"""The calls that a student has to predict where the teacher has asked for that."""
+
+
+def own_call(room, seat, message, predicted=False):
+    """A call from the seat's own page, which has a part of the list to fill. Where predictions are
+    required, it is made only after one."""
     if seat.filled >= log.OF_A_SEAT:
         raise Refused("this seat has filled its part of the list of calls: the teacher may set up anew")
-    before = room.log.octets
+    if room.lesson.predict == "required" and not predicted and message["call"] in PREDICTED:
+        raise Refused("first write what will happen: the teacher has asked for predictions")
+    seat.predicted = None
+    before, of = room.log.octets, room.lesson.students[seat.number]
     try:
-        return call(room, seat, message)
+        reply = call(room, seat, message)
+        of.calls += 1
+        of.refusals += reply.get("answer", 0) != 0
+        return reply
+    except Refused:
+        of.refusals += 1
+        raise
     finally:
         seat.filled += room.log.octets - before
 
@@ -75,7 +90,8 @@ def _send(room, seat, message):
     return room.send(seat, link)
 
 
-def _waiting(seat, message):
+def waiting(seat, message):
+    """The message that waits at the seat by its number."""
     number = message["message"]
     if type(number) is not int or number not in seat.waiting:
         raise Refused("there is no such message at this seat")
@@ -83,23 +99,32 @@ def _waiting(seat, message):
 
 
 def _inspect(room, seat, message):
-    return room.make(seat, "inspect", _waiting(seat, message).given)
+    return room.make(seat, "inspect", waiting(seat, message).given)
 
 
 def _receive(room, seat, message):
-    return room.receive(seat, _waiting(seat, message))
+    return room.receive(seat, waiting(seat, message))
 
 
 def _open_walk(room, seat, message):
     if not seat.by_hand:
         raise Refused("this seat works by itself: a walk needs one that works by hand")
-    walked = _waiting(seat, message)
+    walked = waiting(seat, message)
     reply = room.make(seat, "open_walk", walked.given)
     if reply["answer"] == 0:
+        if walked.by_hand:
+            room.promise.written(room, seat)
         del seat.waiting[walked.number]
         first = reply["told"]["next"]
         seat.walk = {"message": walked, "next": first, "boxes": [], "ended": False}
     return reply
+
+
+def box_of(room, seat, before, after, place=None, walked=None):
+    """The box between two states of a seat: of its walk, or of another place and message."""
+    place, walked = place or seat.walk["next"], walked or seat.walk["message"]
+    own, rows = dotted(address_of(seat.number)), room.net_table.rows
+    return Box(place, own, walked.link, walked.octets, before, after, rows)
 
 
 def _step(room, seat, message):
@@ -108,16 +133,26 @@ def _step(room, seat, message):
     if walk is None:
         seat.walk = None
         return reply
-    place, walked = walk["next"], walk["message"]
     if reply["answer"] in READ:
-        own = dotted(address_of(seat.number))
-        rows = room.net_table.rows
-        box = Box(place, own, walked.link, walked.octets, before, seat.state, rows)
-        made = {**place, "sum": sum_of(box), "changes": reply["changes"]}
+        place, texts = walk["next"], texts_of(box_of(room, seat, before, seat.state))
+        made = {**place, "sum": in_english(texts), "words": texts, "changes": reply["changes"]}
         walk["boxes"].append(made)
         walk["next"] = reply["told"]["next"]
         walk["ended"] = not seat.in_walk
         reply["told"].update(box=place["name"], sum=made["sum"])
+    return reply
+
+
+def _walk_on(room, seat, message):
+    """The boxes to the end of the walk, or to the next host, in one message: the last reply."""
+    to = one_of("to", message["to"], ("end", "host"))
+    first, reply = seat.walk and seat.walk["next"], _step(room, seat, message)
+    while reply["answer"] == 0 and seat.in_walk and reply["told"]["next"]:
+        place = reply["told"]["next"]
+        same = place["id"] == first["id"] if first["line"] else not place["line"]
+        if to == "host" and not same:
+            break
+        reply = _step(room, seat, message)
     return reply
 
 
@@ -130,14 +165,16 @@ def _write(room, seat, message):
     reply = room.make(seat, "write", {"text": text})
     if reply["answer"] == 0:
         octets = packet(bytes.fromhex(reply["told"]["octets"]), source, address_of(seat.number))
-        written = Message(room.new_message(), link, octets, room.now)
+        written = Message(room.new_message(), link, octets, room.now, by_hand=True)
         seat.arrive(written)
         reply["told"]["message"] = written.number
+    elif found := fault(text, reply["answer"]):
+        reply["told"]["fault"] = found
     return reply
 
 
 def _drop(room, seat, message):
-    del seat.waiting[_waiting(seat, message).number]
+    del seat.waiting[waiting(seat, message).number]
     return {"dropped": message["message"]}
 
 
@@ -154,6 +191,7 @@ CALLS = {
     "receive": (_receive, ("message",), ()),
     "open_walk": (_open_walk, ("message",), ()),
     "step": (_step, (), ()),
+    "walk_on": (_walk_on, ("to",), ()),
     "write": (_write, ("link", "text"), ("source",)),
     "drop": (_drop, ("message",), ()),
 }

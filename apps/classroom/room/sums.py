@@ -1,9 +1,12 @@
-"""The sum that a box of a walk made, written out."""
+"""The sum that a box of a walk made, as texts: each a key of the language files and its values."""
 
 from typing import NamedTuple
 
+from hello import UNITS_PER_MS
+
 from . import fields
 from .state import DOWN, State
+from .texts import english
 
 
 class Box(NamedTuple):
@@ -30,32 +33,42 @@ class Box(NamedTuple):
 
     @property
     def delay(self):
-        """The DELAY that the update brings, and its sum."""
+        """The DELAY that the update brings, and its sum as a text."""
         _, _, delay, _ = self.before.walk
         if fields.number(self.packet, "NHOSTS") == 0:
-            return delay, f"DELAY {delay:,}"
+            return delay, _text("delay.alone", delay=delay)
         more = fields.number(self.packet, "DELAY", self.place["id"])
-        return delay + more, f"DELAY {delay:,} + the packet's {more:,} = {delay + more:,}"
+        return delay + more, _text("delay.more", delay=delay, more=more, total=delay + more)
 
 
-def sum_of(box):
-    """The box's arithmetic in words."""
+def texts_of(box):
+    """The box's arithmetic, a list of texts."""
     return _SUMS[box.place["line"] or box.place["step"]](box)
 
 
-def _low(whole, word):
-    cut = "" if whole == word else f", of which the low 16 bits, signed, are {word:,}"
-    return f"{whole:,}{cut}"
+def in_english(texts):
+    """The arithmetic in English."""
+    return "; ".join(english(text) for text in texts)
+
+
+def _text(key, **values):
+    return [f"sum.{key}", values]
+
+
+def _low(key, total, word, **values):
+    """A sum of which the low 16 bits, signed, count."""
+    cut = "" if total == word else ".cut"
+    return _text(key + cut, total=total, word=word, **values)
 
 
 def _step1(box):
     _, reading, _, _ = box.after.walk
     source = fields.source(box.packet)
-    return f"source {source} is not our {box.own}; our reading, taken once here, is {reading:,} ms"
+    return [_text("source", source=source, own=box.own), _text("reading", reading=reading)]
 
 
 def _step2(box):
-    return f"KEEP-ALIVE {box.before.links[box.link - 1].keep_alive} becomes 4"
+    return [_text("keep_alive", before=box.before.links[box.link - 1].keep_alive)]
 
 
 def _step3(box):
@@ -63,33 +76,32 @@ def _step3(box):
     tsp = box.after.links[box.link - 1].tsp
     time, echo = fields.number(box.packet, "TIME"), fields.number(box.packet, "TSP")
     half = delay // 2
-    return (
-        f"TSP: packet time {time:,} - reading {reading:,} = {_low(time - reading, tsp)}; "
-        f"DELAY: reading {reading:,} - packet TSP {echo:,} = {_low(reading - echo, delay)}; "
-        f"OFFSET: half of {delay:,}, rounded down, is {half:,}, "
-        f"and TSP {tsp:,} + {half:,} = {_low(tsp + half, offset)}"
-    )
+    return [
+        _low("tsp", time - reading, tsp, time=time, reading=reading),
+        _low("round", reading - echo, delay, reading=reading, echo=echo),
+        _low("offset", tsp + half, offset, delay=delay, half=half, tsp=tsp),
+    ]
 
 
 def _step4(box):
     source, neighbor = fields.source(box.packet), box.neighbor
     if source != neighbor:
-        stored = f"it is stored, and DELAY is {DOWN:,}"
-        return f"source {source} is not NEIGHBOR-ADDRESS {neighbor}: {stored}"
+        return [_text("stranger", source=source, neighbor=neighbor, down=DOWN)]
     echo, hold = fields.number(box.packet, "TSP"), box.before.clock[2]
-    valid = "the delay is valid" if echo and not hold else "the delay is not valid: 10"
-    return f"source {source} is NEIGHBOR-ADDRESS; packet TSP is {echo:,}, HOLD is {hold}: {valid}"
+    valid = "valid" if echo and not hold else "not_valid"
+    return [_text("neighbor", source=source), _text(valid, echo=echo, hold=hold)]
 
 
 def _step5(box):
     _, _, delay, _ = box.before.walk
-    least = f"DELAY {delay:,} " + ("is under 100: it becomes 100" if delay < 100 else "stays")
+    least = _text("raised" if delay < 100 else "stays", delay=delay)
     nhosts = fields.number(box.packet, "NHOSTS")
     if nhosts:
-        return f"{least}; NHOSTS is {nhosts}: each id from 0 to {nhosts - 1} is updated in turn"
+        return [least, _text("each", nhosts=nhosts, last=nhosts - 1)]
     by, walk = _looked_up(box), box.after.walk
-    found = f"is found {by}, and {walk[0]} is next" if walk else f"is not found {by}: 11"
-    return f"{least}; NHOSTS is 0: the id of NEIGHBOR-ADDRESS {box.neighbor} {found}"
+    if not walk:
+        return [least, _text("not_found", neighbor=box.neighbor, by=by)]
+    return [least, _text("found", neighbor=box.neighbor, by=by, next=walk[0])]
 
 
 def _looked_up(box):
@@ -97,58 +109,58 @@ def _looked_up(box):
     matches."""
     own, octets = (tuple(map(int, address.split("."))) for address in (box.own, box.neighbor))
     if octets[:3] == own[:3]:
-        return "on our net"
+        return _text("by.own_net")
     if octets[0] >= 224:
-        return "above class C"
+        return _text("by.above_c")
     net = (octets[0], 0, 0) if octets[0] < 128 else octets[:3]
     for number, row in enumerate(box.rows, 1):
         if row.net in (net, (0, 0, 0)):
-            return f"by row {number} of the net table" + ("" if any(row.net) else ", of net zero")
-    return "in the net table"
+            return _text("by.row" if any(row.net) else "by.row_zero", row=number)
+    return _text("by.table")
 
 
 def _line_a(box):
     delay, brought = box.delay
     if box.entry.pid == box.link:
-        return f"{brought}; PID {box.link} is the entry's: go on"
+        return [brought, _text("same_pid", pid=box.link)]
     over = delay + 100 > box.entry.delay
-    size, end = ("over", "nothing changes") if over else ("not over", "go on")
-    return (
-        f"{brought}; PID {box.link} is not the entry's {box.entry.pid}; "
-        f"{delay:,} + 100 = {delay + 100:,} is {size} the entry's {box.entry.delay:,}: {end}"
-    )
+    return [
+        brought,
+        _text("other_pid", pid=box.link, entry=box.entry.pid),
+        _text("over" if over else "not_over", delay=delay, more=delay + 100, entry=box.entry.delay),
+    ]
 
 
 def _line_b(box):
     delay, brought = box.delay
-    down = delay >= DOWN
-    size = f"{brought}, which is {'not ' if down else ''}under {DOWN:,}"
-    if box.entry.delay < DOWN:
-        end = f"the entry becomes {DOWN:,}, TTL 120, and the update ends" if down else "go on"
-        return f"the entry is up; {size}: {end}"
-    end = "go on" if not down and box.entry.ttl == 0 else "the update ends"
-    return f"the entry is down, TTL {box.entry.ttl}; {size}: {end}"
+    up, down = box.entry.delay < DOWN, delay >= DOWN
+    if up:
+        return [_text("up"), brought, _text("goes_down" if down else "stays_up", down=DOWN)]
+    revived = not down and box.entry.ttl == 0
+    end = "revived" if revived else "held_down" if not down else "still_down"
+    return [_text("down", ttl=box.entry.ttl), brought, _text(end, down=DOWN)]
 
 
 def _line_c(box):
     _, brought = box.delay
     _, reading, _, offset = box.before.walk
     stored = box.after.table[box.place["id"]].offset
-    total = f"OFFSET {offset:,}"
+    total = _text("store.offset", offset=offset)
     if fields.number(box.packet, "NHOSTS"):
         more = fields.number(box.packet, "OFFSET", box.place["id"])
-        total += f" + the packet's {more:,} = {_low(offset + more, stored)}"
-    return f"{brought}; {total}; stored with TTL 120, PID {box.link} and the reading {reading:,}"
+        total = _low("store.more", offset + more, stored, offset=offset, more=more)
+    return [brought, total, _text("stored", pid=box.link, reading=reading)]
 
 
 def _line_d(box):
     date, offset = fields.number(box.packet, "DATE"), box.entry.offset
     taken = date < 1 << 15 and box.after.clock[3] & 0x7FFF == date
-    dated = f"the packet's DATE {fields.day(date)} is {'' if taken else 'not '}taken"
-    if -128 <= offset <= 127:
-        return f"{dated}; OFFSET {offset:,} is from -128 to +127: it becomes DELTA"
-    moved = "CLOCK moves by it at once, and HOLD begins"
-    return f"{dated}; OFFSET {offset:,} is not from -128 to +127: {moved}"
+    # A correction that became DELTA is there afterwards; a step leaves DELTA 0.
+    slewed = box.after.clock[1] == offset * UNITS_PER_MS
+    return [
+        _text("date_taken" if taken else "date_not_taken", date=fields.day(date)),
+        _text("slewed" if slewed else "stepped", offset=offset),
+    ]
 
 
 _SUMS = {

@@ -1,6 +1,6 @@
 """What the teacher's page asks for."""
 
-from . import exercises, student
+from . import exercises, predict, student
 from .bench import BENCH
 from .checks import Refused, net, one_of, real, switch, whole
 from .fields import dotted
@@ -73,6 +73,7 @@ def _cable(room, message):
     number = whole("cable", message["cable"], 0, len(cables) - 1)
     loss = message.get("loss", cables[number]["loss"])
     room.cables.change(number, conditions(message["ways"], loss))
+    room.promise.cable(room, number)
     return {"cable": number}
 
 
@@ -112,6 +113,14 @@ def _call(room, message):
     return student.call(room, room.at(message["seat"]), message)
 
 
+def _initialize_all(room, message):
+    """All hosts with another NHOSTS than the class's are initialized, at one instant of the room's time."""
+    not_full(room)
+    others = [seat for seat in room.seats if seat.state.nhosts != room.net_table.nhosts]
+    answers = [(seat.name, room.initialize(seat)["answer"]) for seat in others]
+    return {"answers": [{"name": name, "answer": answer} for name, answer in answers]}
+
+
 _CHECKS = {
     "net": lambda value: dotted(net("net", value)),
     "nhosts": lambda value: whole("nhosts", value, 0, MOST_NUMBER),
@@ -143,10 +152,12 @@ TEACHER = {
     "by_hand": (_by_hand, ("seat", "on"), ()),
     "cable": (_cable, ("cable", "ways"), ("loss",)),
     "show": (_show, ("what",), ()),
+    "predict": (predict.set_mode, ("mode",), ()),
     "exercise": (_exercise, ("number",), ()),
     "next": (_next, (), ()),
     "to_the_end": (_to_the_end, (), ()),
     "call": (_call, ("seat", *_needed), _keys_of_calls),
+    "initialize_all": (_initialize_all, (), ()),
     "net_afresh": _tutor("net_afresh", "nhosts"),
     "net_add": _tutor("net_add", "net", "id"),
     "net_remove": _tutor("net_remove", "row"),

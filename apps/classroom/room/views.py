@@ -1,6 +1,6 @@
 """What the pages show."""
 
-from . import exercises, net_table
+from . import board, exercises, net_table, predict
 from .answers import ANSWERS
 from .bench.loaded import READY
 from .checklist import CHECKLIST
@@ -9,7 +9,7 @@ from .setup import address_of
 from .state import DOWN, ms
 
 
-def teacher_view(room, since):
+def teacher_view(room, since, presence):
     """The teacher's view; `since` is the mark of the view before, or None."""
     first = since is None or since[0] != room.number
     line, point = (0, 0) if first else since[1:3]
@@ -21,6 +21,8 @@ def teacher_view(room, since):
         "cables": _cables(room),
         "on_their_way": room.cables.shown(room.now),
         "exercise": room.exercise.shown() if room.exercise else None,
+        "board": board.rows(room, presence),
+        "promise": room.promise.broken,
         "calls": room.log.since(line),
         "points": _points(room, point),
         "mark": [room.number, room.log.count, room.pointed, room.bench.number, room.bench.version],
@@ -64,6 +66,7 @@ def _room(room):
         "waiting_for": room.waiting_for(),
         "full": room.log.full,
         "show": room.show,
+        "predict": room.lesson.predict,
         "interval": room.set_up["interval"],
     }
 
@@ -113,8 +116,14 @@ def seat_of(room, seat, teacher=False):
         "links": [_link(room, seat, link) for link in range(1, len(seat.state.links) + 1)],
         "table": _table(room, seat, teacher),
         "waiting": [message.shown(room.now) for message in seat.waiting.values()],
-        "walk": seat.walk and _walk(room, seat.walk),
+        "lost": list(seat.lost.values()),
+        "sent": room.cables.sent_by(seat.number, room.now),
+        "walk": seat.walk and _walk(room, seat),
         "last": seat.last,
+        "student": room.lesson.students[seat.number].name,
+        "asks": {"send": predict.asked_of_send(room)},
+        "trying": list(seat.trying.values()),
+        "predicted": seat.predicted,
     }
 
 
@@ -168,8 +177,12 @@ def _name(room, id):
     return home.name if id == home.number else f"at {home.name}"
 
 
-def _walk(room, walk):
-    message = walk["message"]
+def _walk(room, seat):
+    walk = seat.walk
+    message, held = walk["message"], seat.state.walk or (None, None, None, None)
     told = {part: walk[part] for part in ("next", "boxes", "ended")}
+    asks = predict.asked_of_box(room, walk["next"]) if walk["next"] else []
     packet = message.shown(room.now)
-    return {"message": message.number, "link": message.link, **told, "packet": packet}
+    held = dict(zip(("reading", "delay", "offset"), held[1:]))
+    of = {"message": message.number, "link": message.link}
+    return {**of, **told, "packet": packet, "asks": asks, "held": held}

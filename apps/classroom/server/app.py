@@ -33,6 +33,7 @@ class Addresses:
                 ("/teacher", self.page),
                 ("/teacher/socket", self.socket),
                 ("/teacher/calls.jsonl", self.calls),
+                ("/teacher/marks.csv", self.marks),
                 (r"/teacher/exercise.{form:bench|txt}", self.bench),
                 (r"/seat/{seat:0|[1-9][0-9]?}", self.page),
                 (r"/seat/{seat:0|[1-9][0-9]?}/socket", self.socket),
@@ -89,6 +90,17 @@ class Addresses:
             await asyncio.sleep(0)
         await response.write_eof()
         return response
+
+    async def marks(self, request):
+        """The marks of the lesson as a table."""
+        if not self._keys.holds("/teacher", request):
+            return _no_key()
+        headers = {
+            "Content-Type": "text/csv; charset=utf-8",
+            "Content-Disposition": 'attachment; filename="marks.csv"',
+        }
+        # The mark of UTF-8 in front, by which table programs know it.
+        return web.Response(body=("\ufeff" + self._hall.marks()).encode(), headers=headers)
 
     async def bench(self, request):
         """The bench file that is loaded, as octets or as text."""

@@ -27,6 +27,7 @@ class Hall:
         self._addresses = addresses
         self._pages = {}
         self._paces = {}
+        self._present = {}
         self._written = 0.0
         self.trouble = None
         self.over = False
@@ -66,10 +67,30 @@ class Hall:
     def enter(self, page, socket):
         """A page has come."""
         self._pages[page] = socket
+        self._moved(page, 1)
 
     def leave(self, page):
         """A page has gone."""
         del self._pages[page]
+        self._moved(page, -1)
+
+    def _moved(self, page, by):
+        """A page came or went: the board says whether a student is there, and since when."""
+        if page.place == "/teacher":
+            return
+        pages, since = self._present.get(_seat(page.place), (0, None))
+        if (pages > 0) != (pages + by > 0):
+            since = time.time()
+        self._present[_seat(page.place)] = (pages + by, since)
+        self.changed()
+
+    def _presence(self):
+        """By seat whether a page is open there, and since when it is so or not so."""
+        return {seat: (pages > 0, since) for seat, (pages, since) in self._present.items()}
+
+    def marks(self):
+        """The marks of the lesson as CSV."""
+        return self._room.marks(self._presence())
 
     def sockets(self):
         """The sockets of all pages."""
@@ -101,7 +122,7 @@ class Hall:
         if page.place != "/teacher":
             page.seen = True
             return self._room.seat_view(_seat(page.place), first)
-        view = self._room.teacher_view(page.seen)
+        view = self._room.teacher_view(page.seen, self._presence())
         page.seen = view.pop("mark")
         return {**view, "addresses": self._addresses} if first else view
 

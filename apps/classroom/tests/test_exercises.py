@@ -113,9 +113,9 @@ class Numbers(unittest.TestCase):
     def test_silence(self):
         room = begun(4)
         run(room, 2)
-        before = len(answers(room, 1, "receive"))
+        before = len(answers(room, 1, "act"))
         run(room, 7)
-        self.assertEqual(answers(room, 1, "receive")[before:], 4 * [0] + 23 * [10])
+        self.assertEqual(answers(room, 1, "act")[before:], 4 * [0] + 23 * [10])
         self.assertTrue(down(room, 1, 0))
 
     def test_crossing(self):
@@ -164,8 +164,8 @@ class Numbers(unittest.TestCase):
         room = begun(9)
         room.teacher({"do": "to_the_end"})
         for seat in (0, 1):
-            self.assertEqual(answers(room, seat, "receive"), [0] + 22 * [10])
-        packets = [line["with"]["packet"] for line in room.log.recent if line["call"] == "receive"]
+            self.assertEqual(answers(room, seat, "act"), [0] + 22 * [10])
+        packets = [line["with"]["packet"] for line in room.log.recent if line["call"] == "act"]
         self.assertEqual({packet.split()[28] + packet.split()[29] for packet in packets}, {"0000"})
 
     def test_hops(self):

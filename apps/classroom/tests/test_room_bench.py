@@ -318,6 +318,8 @@ class OfARoom(unittest.TestCase):
         lines = [json.loads(line) for line in room.lines()][2 + len(room.seats) : -1]
         lines = [line for line in lines if line["line"] <= taken.lines]
         lines = [line for line in lines if line["line"] not in taken.left_out]
+        # An inspection before its action is no event of its own.
+        lines = [line for line in lines if line["call"] != "inspect"]
         answers = [line["answer"] for line in lines for _ in range(line["times"])]
         self.assertEqual([int(answer) for answer in bench.answers], answers)
         if taken.stopped is None:
@@ -349,7 +351,7 @@ class OfARoom(unittest.TestCase):
         room.go_on(400_000)
         taken = self.taken(room)
         self.assertEqual(len(taken.file.events), 2_048)
-        words = "line 2,054: with it there are 2,049 events, and a file has 2,048 at most"
+        words = "line 2,314: with it there are 2,049 events, and a file has 2,048 at most"
         self.assertEqual(taken.stopped, words)
 
     def test_calls_without_events(self):
@@ -377,17 +379,18 @@ class OfARoom(unittest.TestCase):
     def test_what_was_written_by_hand(self):
         room = Room({"seats": [{"by_hand": True}], "cables": []})
         text = "hello 0 0 0 1 0\n"
-        message = room.seat(0, {"do": "call", "call": "write", "link": 1, "text": text})["told"]["message"]
+        write = {"do": "call", "call": "write", "link": 1, "text": text, "source": "192.0.2.9"}
+        message = room.seat(0, write)["told"]["message"]
         room.seat(0, {"do": "call", "call": "receive", "message": message})
-        words = "line 4: link 1 of seat 0 has no cable, and so receive no event"
+        words = "line 5: link 1 of seat 0 has no cable, and so act no event"
         self.assertEqual(self.taken(room).stopped, words)
         room = crystals(2)
         room.teacher({"do": "by_hand", "seat": 0, "on": True})
         message = room.seat(0, {"do": "call", "call": "write", "link": 1, "text": text})["told"]["message"]
         room.seat(0, {"do": "call", "call": "receive", "message": message})
         taken = self.taken(room)
-        self.assertEqual(taken.stopped, "line 5: the packet was written by hand, and no seat has sent it")
-        self.assertEqual((taken.lines, taken.left_out), (4, [4]))
+        self.assertEqual(taken.stopped, "line 6: the packet was written by hand, and no seat has sent it")
+        self.assertEqual((taken.lines, taken.left_out), (5, [4]))
 
     def test_trays(self):
         """So many packets on their way as there are trays; one more has none."""

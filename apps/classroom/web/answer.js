@@ -2,23 +2,33 @@
 
 import { el, headRow } from "./dom.js";
 import { changesList, changesWords, told as toldChanges } from "./marks.js";
-import { answerName, callName, number, timeOfDay } from "./words.js";
+import { t } from "./language.js";
+import { answerName, callName, number, roomTime, timeOfDay } from "./words.js";
 
-const titles = { id: "host id", pid: "by link (PID)", tsp: "TSP", nhosts: "hosts in it", date: "DATE word", went: "its packet" };
-// What a box tells stands in the walk.
+// What a box returns is shown in the walk.
 const elsewhere = new Set(["next", "box", "sum"]);
 
-function toldValue(name, value) {
+// Where a message that was sent is, and when it arrives.
+export function wayWords(way, names) {
+  const to = names[way.to] ?? t("host", { id: way.to });
+  if (way.to === null) return t("way.no_cable", { message: way.message });
+  if (way.lost) return t("way.lost", { message: way.message, to });
+  return t("way.goes", { message: way.message, to, time: roomTime(way.arrival) });
+}
+
+function toldValue(name, value, names) {
   if (name === "time") return `${number(value)} ms, ${timeOfDay(value)}`;
+  if (name === "way") return wayWords(value, names);
+  if (name === "fault") return t(...value);
   return number(value);
 }
 
-function toldList(told = {}) {
+function toldList(told = {}, names) {
   const pairs = Object.entries(told).filter(([name, value]) => !elsewhere.has(name) && value !== null);
   if (!pairs.length) return null;
   return el("dl", { class: "told" }, pairs.map(([name, value]) => [
-    el("dt", {}, titles[name] ?? name),
-    el("dd", { class: name === "octets" ? "octets" : null }, toldValue(name, value)),
+    el("dt", {}, t(`told.${name}`)),
+    el("dd", { class: name === "octets" ? "octets" : null, "data-told": name }, toldValue(name, value, names)),
   ]));
 }
 
@@ -27,9 +37,9 @@ function headline(mark, ...words) {
 }
 
 // {node, strip, show(reply), refused(words), note(words)}; `asked` is whom the calls are made of.
-export function makeAnswer(id = "answer", asked = "the host") {
+export function makeAnswer(id = "answer", asked = t("answer.host")) {
   const body = el("div", { id, class: "answer", role: "status", "aria-live": "polite", "aria-atomic": "true" });
-  const title = el("h2", { id: `${id}-title` }, "Last answer");
+  const title = el("h2", { id: `${id}-title` }, t("answer.last"));
   const node = el("section", { class: "card", "aria-labelledby": title.id }, title, body);
   // The same in a line at the foot of the page, which stays in sight; the card is what is read out.
   const strip = el("p", { class: "strip", "aria-hidden": "true", hidden: true });
@@ -43,31 +53,32 @@ export function makeAnswer(id = "answer", asked = "the host") {
     strip.replaceChildren(...(short ?? []));
   }
 
-  function show(reply) {
+  function show(reply, names = {}) {
     const call = `${callName(reply.call)}: `;
-    if (reply.answer !== 0) return showRefusal(reply, call);
-    const inWalk = reply.call === "step";
+    if (reply.answer !== 0) return showRefusal(reply, call, names);
+    const inWalk = reply.call === "step" || reply.call === "walk_on";
     const changed = toldChanges(reply.changes).length ? changesList(reply.changes)
-      : el("p", { class: "quiet" }, "Nothing changed.");
+      : el("p", { class: "quiet" }, t("answer.nothing"));
     put(0, "done", [
       headline("✓", call, el("strong", {}, answerName(reply))),
-      toldList(reply.told),
-      inWalk ? el("p", { class: "quiet" }, "What it changed stands in the walk.") : changed,
+      toldList(reply.told, names),
+      inWalk ? el("p", { class: "quiet" }, t("answer.in_walk")) : changed,
     ], inWalk ? null : [el("strong", {}, `✓ ${call}${answerName(reply)} `), changesWords(reply.changes)]);
   }
 
-  function showRefusal(reply, call) {
-    const words = `Refused: ${reply.meaning}. This answer changes: ${reply.changed_as_told}.`;
+  function showRefusal(reply, call, names) {
+    const words = t("answer.refused", { meaning: reply.meaning, changes: reply.changed_as_told });
     put(reply.answer, "refusal", [
       headline("✗", call, el("strong", {}, answerName(reply))),
       el("p", {}, words),
-      toldChanges(reply.changes).length ? changesList(reply.changes) : el("p", { class: "quiet" }, "Nothing changed."),
+      reply.told?.fault ? el("p", { class: "fault", "data-told": "fault" }, t(...reply.told.fault)) : null,
+      toldChanges(reply.changes).length ? changesList(reply.changes) : el("p", { class: "quiet" }, t("answer.nothing")),
     ], [el("strong", {}, `✗ ${call}${answerName(reply)} `), words]);
   }
 
   // A message that the room did not take: no call was made.
   function refused(words) {
-    const title = `Not asked of ${asked}`;
+    const title = t("answer.not_asked", { asked });
     put("none", "refusal", [headline("✗", el("strong", {}, title)), el("p", {}, words)],
       [el("strong", {}, `✗ ${title}: `), words]);
   }
@@ -80,7 +91,7 @@ export function makeAnswer(id = "answer", asked = "the host") {
 
 // All answers, to look up a number.
 export function answersTable(answers) {
-  return el("table", {}, el("caption", {}, "All answers"), headRow(["No.", "Name", "Meaning", "What changes"]),
+  return el("table", {}, el("caption", {}, t("answers.title")), headRow(["number", "name", "meaning", "changes"].map((part) => t(`answers.${part}`))),
     el("tbody", {}, answers.map((a) => el("tr", {}, el("th", { scope: "row" }, String(a.number)),
       [a.name, a.meaning, a.changes].map((words) => el("td", {}, words))))));
 }

@@ -2,9 +2,11 @@
 
 import { el, say, set } from "./dom.js";
 import { changesList, told } from "./marks.js";
-import { number } from "./words.js";
+import { arithmetic } from "./predict.js";
+import { glossed } from "./glossary.js";
+import { number, t } from "./language.js";
 
-const states = { done: "✓ done", next: "▶ next", later: "· to come" };
+const states = { done: t("box.done"), next: t("box.next"), later: t("box.later") };
 
 export const placeOf = (box) => `${box.step}/${box.line ?? ""}`;
 
@@ -20,9 +22,8 @@ export function takenAt(walk) {
 
 // The sum of a box and what it changed, which `none` tells where it is nothing.
 export function outcome(box, none = []) {
-  const sum = (box.sum ?? "").split("; ").filter(Boolean).map((part) => el("span", {}, part));
   const changed = told(box.changes).length ? [changesList(box.changes)] : none;
-  return sum.length ? [el("p", { class: "sum" }, sum), ...changed] : changed;
+  return box.words?.length ? [arithmetic(box.words), ...changed] : changed;
 }
 
 export function boxPart(first) {
@@ -30,13 +31,15 @@ export function boxPart(first) {
   const title = el("strong");
   const made = el("div");
   const node = el("li", { "data-box": placeOf(first.box) },
-    el("div", { class: "box-head" }, title, state), el("p", { class: "rule" }, first.box.text), made);
+    el("div", { class: "box-head" }, title, state), el("p", { class: "rule" }, glossed(t(first.box.text))),
+    el("p", { class: "quiet section" }, t("box.section", { section: first.box.section })), made);
   let shown;
   function update({ box, standing, taken, host }) {
     set(node, { class: `box ${standing}${box.line ? " line" : ""}`,
       "aria-current": standing === "next" ? "step" : null });
     say(state, states[standing]);
-    say(title, !box.line ? `Step ${box.step}` : host === undefined ? `Line ${box.line}` : `Line ${box.line}, host ${host}`);
+    say(title, !box.line ? t("box.step", { step: box.step }) : host === undefined ? t("box.line", { line: box.line })
+      : t("box.line_host", { line: box.line, host }));
     if (taken?.key === shown) return;
     shown = taken?.key;
     made.replaceChildren(...(taken ? outcome(taken) : []));
@@ -55,6 +58,7 @@ export function hostsDone(walk) {
     const changes = boxes.flatMap((box) => told(box.changes)).filter((c) => c.where !== "walk");
     const last = boxes.at(-1);
     const words = changes.map((c) => `${c.field} ${number(c.before)} → ${number(c.after)}`).join(", ");
-    return { id, words: words || `nothing, by line ${last.line}${last.sum ? `: ${last.sum}` : ""}` };
+    const sum = (last.words ?? []).map(([key, values]) => t(key, values)).join("; ");
+    return { id, words: words || t("walk.by_line", { line: last.line, sum }) };
   });
 }

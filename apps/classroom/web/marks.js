@@ -1,7 +1,7 @@
 // What the last call changed, to be marked where it stands: a value with what it was before.
 
 import { el, say, set } from "./dom.js";
-import { number } from "./words.js";
+import { number, t } from "./language.js";
 
 // Field names as the places that show them are called.
 const places = {
@@ -31,7 +31,7 @@ export function cell(tag, field) {
     set(node, { "data-value": value === undefined || value === null ? null : String(value),
       class: before === undefined ? null : "changed" });
     set(was, { hidden: before === undefined });
-    if (before !== undefined) say(was, `was ${number(before)}`);
+    if (before !== undefined) say(was, t("marks.was", { before: number(before) }));
   }
   return { node, update };
 }
@@ -48,6 +48,6 @@ export function changesWords(changes) {
 // The changes of a call or a box as a list.
 export function changesList(changes) {
   return el("ul", { class: "changes" }, told(changes).map((c) => el("li", {},
-    el("span", { class: "where" }, c.where === "walk" ? `held, ${c.field}: ` : `${c.where}, ${c.field}: `),
+    el("span", { class: "where" }, c.where === "walk" ? t("marks.held", { field: c.field }) : `${c.where}, ${c.field}: `),
     el("span", { class: "before" }, number(c.before)), " → ", el("strong", {}, number(c.after)))));
 }

@@ -3,7 +3,8 @@
 
 import { el, headRow, keyed, say } from "./dom.js";
 import { cell, marksOf } from "./marks.js";
-import { answerName, callName, count, number } from "./words.js";
+import { count, number, t } from "./language.js";
+import { answerName, callName } from "./words.js";
 
 function row(first) {
   const net = cell("td", "net"), id = cell("td", "id"), name = el("td", { "data-field": "name" });
@@ -20,10 +21,10 @@ function row(first) {
 export function makeNetTable() {
   const caption = el("caption");
   const body = el("tbody");
-  const none = el("p", { class: "quiet" }, "No rows: an address of another net has no host.");
+  const none = el("p", { class: "quiet" }, t("nets.none"));
   const last = el("p", { class: "quiet" });
-  const table = el("table", { class: "net-rows" }, caption, headRow(["Row", "Net", "Host id", "Host"]), body);
-  const rows = el("div", { class: "scroll", tabindex: 0, role: "region", "aria-label": "Net table of the class" }, table);
+  const table = el("table", { class: "net-rows" }, caption, headRow(["row", "net", "id", "host"].map((part) => t(`nets.${part}`))), body);
+  const rows = el("div", { class: "scroll", tabindex: 0, role: "region", "aria-label": t("nets.title") }, table);
   const node = el("div", {}, rows, none, last);
   let shown;
   // A row that the last call changed is brought into sight, once.
@@ -34,10 +35,10 @@ export function makeNetTable() {
     if (place) rows.scrollTop = place.offsetTop - rows.clientHeight / 2;
   }
   function update(net) {
-    say(caption, `Net table of the class: NHOSTS ${number(net.nhosts)}, ${count(net.rows.length, "row")}`);
+    say(caption, t("nets.caption", { nhosts: net.nhosts, rows: count("nets.rows", net.rows.length) }));
     none.hidden = net.rows.length > 0;
     last.hidden = !net.last;
-    if (net.last) say(last, `The teacher's last call: ${callName(net.last.call)}, ${answerName(net.last)}.`);
+    if (net.last) say(last, t("nets.last", { call: callName(net.last.call), answer: answerName(net.last) }));
     const marks = marksOf(net.last?.changes);
     keyed(body, net.rows.map((r) => ({ ...r, marks })), (r) => r.row, row);
     bring(JSON.stringify(net.last));

@@ -1,7 +1,7 @@
 // A message as text, as octets and as fields. The octets of the field in focus are lit.
 
 import { el, headRow, set } from "./dom.js";
-import { count, number } from "./words.js";
+import { number, t } from "./language.js";
 
 const ACROSS = 16;
 
@@ -14,7 +14,7 @@ function octetsPart(octets) {
   function light(field) {
     spans.forEach((span, i) => span.classList.toggle("lit", !!field && i >= field.octets[0] && i < field.octets[1]));
   }
-  const label = `${count(spans.length, "octet")}: 20 of the IP header, then the HELLO`;
+  const label = t("packet.octets", { n: spans.length });
   return { node: el("div", { class: "octets", role: "group", "aria-label": label }, rows), light };
 }
 
@@ -38,17 +38,37 @@ function fieldsPart(fields, light) {
     next.focus();
   }
   return el("div", { class: "scroll fields" }, el("table", { onkeydown: move },
-    el("caption", {}, "Fields; choose one to see its octets, arrow keys go on"),
-    headRow(["Field", "Value", "Octets"]), el("tbody", {}, rows)));
+    el("caption", {}, t("packet.fields")),
+    headRow([t("packet.field"), t("packet.value"), t("packet.of_octets")]), el("tbody", {}, rows)));
+}
+
+// What a prediction needs, in a line each: of the packet, and of the host as it is.
+export function facts(walk, seat) {
+  const of = Object.fromEntries(walk.packet.fields.map((field) => [field.name, field.value]));
+  const id = walk.next?.line ? walk.next.id : null;
+  const told = ["source", "DATE", "TIME", "TSP", "NHOSTS", ...(id === null ? [] : [`host ${id} DELAY`, `host ${id} OFFSET`])];
+  const link = seat.links[walk.link - 1];
+  const own = [["LOCAL-ADDRESS", seat.address], ["NEIGHBOR-ADDRESS", link.neighbor], ["KEEP-ALIVE", number(link.keep_alive)],
+    ["TSP", number(link.tsp)], ["HOLD", number(seat.clock.hold)], [t("predict.reading"), number(walk.held?.reading ?? seat.clock.time)]];
+  if (walk.held?.delay !== null && walk.held?.delay !== undefined) {
+    own.push(["DELAY", number(walk.held.delay)], ["OFFSET", number(walk.held.offset)]);
+  }
+  if (id !== null) {
+    const entry = seat.table[id];
+    for (const [name, value] of [["DELAY", entry.delay], ["TTL", entry.ttl], ["PID", entry.pid]]) own.push([t("predict.entry", { name }), number(value)]);
+  }
+  const list = (pairs) => el("dl", { class: "facts small" }, pairs.map(([name, value]) => el("div", {}, el("dt", {}, name), el("dd", {}, value))));
+  return el("div", { class: "known-facts" }, el("strong", {}, t("predict.packet")),
+    list(told.filter((name) => name in of).map((name) => [name, of[name]])), el("strong", {}, t("predict.here")), list(own));
 }
 
 // Made where it is first opened.
 export function inside(message, open) {
-  const node = el("details", { class: "look" }, el("summary", {}, "Inside: text, octets, fields"));
+  const node = el("details", { class: "look" }, el("summary", {}, t("packet.inside")));
   function fill() {
     if (node.childElementCount > 1) return;
     const octets = octetsPart(message.octets);
-    node.append(el("pre", { class: "text", tabindex: 0, "aria-label": "as text" }, message.text),
+    node.append(el("pre", { class: "text", tabindex: 0, "aria-label": t("packet.as_text") }, message.text),
       el("div", { class: "inside" }, octets.node, fieldsPart(message.fields, octets.light)));
   }
   if (open) fill();

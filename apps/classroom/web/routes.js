@@ -2,11 +2,13 @@
 
 import { el, button, labelled, say } from "./dom.js";
 import { makeTable } from "./table.js";
+import { t } from "./language.js";
+import { sure } from "./sure.js";
 import { answerName } from "./words.js";
 
 function found(reply) {
   if (reply.answer !== 0) return `${answerName(reply)}, ${reply.meaning}`;
-  return `host ${reply.told.id}, by ${reply.told.pid ? `link ${reply.told.pid}` : "this host itself"}`;
+  return t(reply.told.pid ? "routes.by_link" : "routes.by_itself", { id: reply.told.id, link: reply.told.pid });
 }
 
 // actions: call(name, with).
@@ -22,13 +24,14 @@ export function makeRoutes(actions) {
     said.hidden = false;
     say(said, `${address.value}: ${found(reply)}.`);
   }
+  const initialize = async () => (await sure(t("sure.initialize"), t("sure.initialize_yes"))) && actions.call("initialize");
   const node = el("section", { class: "card", id: "routes", "aria-labelledby": "routes-title" },
-    el("h2", { id: "routes-title", class: "hidden" }, "Host table"), table.node,
-    el("form", { class: "row", onsubmit: lookup }, labelled("Route to", address),
-      el("button", { type: "submit", "data-call": "lookup" }, "Look up"),
-      button("Self-report", () => actions.call("self_report"), { "data-call": "self_report" }),
-      button("Initialize", () => actions.call("initialize"),
-        { "data-call": "initialize", class: "quiet", title: "set the host afresh; an open walk is dropped" })),
+    el("h2", { id: "routes-title", class: "hidden" }, t("table.title")), table.node,
+    el("form", { class: "row", onsubmit: lookup }, labelled(t("routes.to"), address),
+      el("button", { type: "submit", "data-call": "lookup" }, t("routes.lookup")),
+      button(t("routes.self_report"), () => actions.call("self_report"), { "data-call": "self_report" }),
+      button(t("routes.initialize"), initialize,
+        { "data-call": "initialize", class: "quiet", title: t("routes.initialize_title") })),
     said);
   return { node, update: table.update };
 }

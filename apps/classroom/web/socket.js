@@ -3,9 +3,7 @@
 
 import { say, byId } from "./dom.js";
 
-const LOST = "The connection is lost. Trying again by itself; nothing you see is new until it is back.";
-const LONG = "Still no connection. If the class was started anew, open the address that it has printed now. "
-  + "A seat can be open in four pages at most.";
+import { t } from "./language.js";
 
 let noticed = false;
 
@@ -40,10 +38,10 @@ export function connect(onView) {
   }
 
   function closed() {
-    for (const waiter of asked.values()) waiter.reject(new Error("the connection is lost"));
+    for (const waiter of asked.values()) waiter.reject(new Error(t("socket.gone")));
     asked.clear();
     failed += 1;
-    notice(failed > 4 ? LONG : LOST);
+    notice(t(failed > 4 ? "socket.long" : "socket.lost"));
     setTimeout(open, pause);
     pause = Math.min(pause * 2, 5000);
   }
@@ -63,7 +61,7 @@ export function connect(onView) {
 
   open();
   return function ask(message) {
-    if (socket.readyState !== WebSocket.OPEN) return Promise.reject(new Error("the connection is lost"));
+    if (socket.readyState !== WebSocket.OPEN) return Promise.reject(new Error(t("socket.gone")));
     number += 1;
     const n = number;
     socket.send(JSON.stringify({ n, ...message }));

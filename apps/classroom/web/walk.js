@@ -1,15 +1,20 @@
-// A walk: an arrival one box at a time, by the checklist of section 3.3.3.
+// A walk: an arrival one box at a time, by the boxes of section 3.3.3. Where the teacher asks for it,
+// the student first writes what the next box will set.
 
 import { el, button, keyed, say, set } from "./dom.js";
 import { boxPart, hostsDone, outcome, placeOf, takenAt } from "./boxes.js";
 import { follow } from "./follow.js";
-import { inside } from "./packet.js";
-import { answerName, count } from "./words.js";
+import { facts, inside } from "./packet.js";
+import { makeForm, marksList, verdict } from "./predict.js";
+import { count, t } from "./language.js";
+import { answerName, placeName } from "./words.js";
 
-// actions: call(name) gives a promise of the reply; walk(message) opens another walk.
+// actions: call(name) gives a promise of the reply; walk(message) opens another walk; predict(message)
+// gives a promise of the marks, or null.
 export function makeWalk(actions) {
   let checklist = [];
   let walk = null;
+  let mode = "off";
   let busy = false;
   let behind = "";
   let calledFor = false;
@@ -20,34 +25,33 @@ export function makeWalk(actions) {
   const packet = el("div");
   const card = el("ol", { class: "checklist" });
   const hosts = el("ul", { class: "hosts-done" });
-  const hostsTitle = el("h3", {}, "Hosts done");
+  const hostsTitle = el("h3", {}, t("walk.hosts_done"));
   const isOpen = () => !!walk && !walk.ended && !!walk.next;
 
-  // Takes a box, and further ones for as long as the next place is one that `goes` allows.
-  async function steps(goes) {
-    if (busy || !isOpen()) return;
+  // One message for a box, or for all boxes to the next host or to the end.
+  async function go(name, more) {
+    if (busy || !isOpen() || mode === "required") return;
     busy = true;
     walked = walk.message;
-    let next = null;
-    do {
-      const reply = await actions.call("step");
-      next = reply?.answer === 0 ? reply.told?.next : null;
-    } while (next && goes(next));
+    await actions.call(name, more);
     busy = false;
   }
-  function toNextHost() {
-    const from = walk?.next;
-    steps((next) => (from.line ? next.id === from.id : !next.line));
-  }
-  const step = button("Next box", () => steps(() => false),
-    { class: "step primary", id: "step", "aria-describedby": "walk-place" });
-  const host = button("To the next host", toNextHost, { class: "step-host" });
-  const end = button("To the end", () => steps(() => true), { class: "step-end" });
+  const form = makeForm({
+    send: (fields) => {
+      walked = walk.message;
+      return actions.predict({ of: "step", fields });
+    },
+    skip: () => go("step"), go: () => t("predict.check_box"), without: () => t("predict.skip_box"),
+  });
+  const known = el("div", { class: "known" });
+  const step = button(t("walk.next"), () => go("step"), { class: "step primary", id: "step", "aria-describedby": "walk-place" });
+  const host = button(t("walk.to_host"), () => go("walk_on", { to: "host" }), { class: "step-host" });
+  const end = button(t("walk.to_end"), () => go("walk_on", { to: "end" }), { class: "step-end" });
   const another = button("", () => actions.walk(waiting), { class: "walk-next", hidden: true });
-  const bar = el("div", { class: "walk-bar" }, place, el("div", { class: "buttons" }, step, host, end, another), just);
+  const steps = el("div", { class: "buttons" }, step, host, end, another);
+  const bar = el("div", { class: "walk-bar" }, place, steps, known, form.node, just);
   const node = el("section", { class: "card", id: "walk", "aria-labelledby": "walk-title", hidden: true },
-    el("h2", { id: "walk-title" }, "Walk: the checklist of section 3.3.3"),
-    bar, packet, card, hostsTitle, hosts);
+    el("h2", { id: "walk-title" }, t("walk.title")), bar, packet, card, hostsTitle, hosts);
 
   function standing(box, taken) {
     if (isOpen() && placeOf(walk.next) === placeOf(box)) return "next";
@@ -59,26 +63,43 @@ export function makeWalk(actions) {
     calledFor = node.hidden;
     if (node.hidden) return;
     node.scrollIntoView({ block: "start" });
-    step.focus({ preventScroll: true });
+    if (form.node.hidden) step.focus({ preventScroll: true });
+    else form.focus();
   }
 
   function placeWords(last) {
-    const boxes = count(walk.boxes.length, "box", "boxes");
-    if (isOpen()) return `Message ${walk.message}, link ${walk.link}: ${boxes} taken, next is ${walk.next.name}.`;
-    const answer = last?.call === "step" ? ` Its answer: ${answerName(last)}.` : "";
-    return `The walk of message ${walk.message} has ended, after ${boxes}.${answer}`;
+    const boxes = count("walk.boxes", walk.boxes.length);
+    if (isOpen()) return t("walk.at", { message: walk.message, link: walk.link, boxes, next: placeName(walk.next) });
+    const answer = last?.call === "step" || last?.call === "walk_on" ? t("walk.answer", { answer: answerName(last) }) : "";
+    return `${t("walk.ended", { message: walk.message, boxes })} ${answer}`;
   }
 
-  // The box that was taken last, with its sum and changes, above the card; whether it is a new one.
-  function showJust() {
+  // The box that was taken last, with its marks, sum and changes; whether it is a new one.
+  function showJust(predicted) {
     const box = walk.boxes.at(-1);
-    const key = box ? `${walk.message}/${walk.boxes.length}` : "";
+    const key = box ? `${walk.message}/${walk.boxes.length}/${predicted ? "p" : ""}` : "";
     just.hidden = !box;
     if (key === behind || !box) return false;
     behind = key;
-    const nothing = el("p", { class: "quiet" }, "It changed nothing.");
-    just.replaceChildren(el("h3", {}, `Just done: ${box.name}`), ...outcome(box, [nothing]));
+    const nothing = el("p", { class: "quiet" }, t("walk.nothing"));
+    const marks = predicted?.of === "step" && predicted.place === box.name
+      ? [verdict(predicted), marksList(predicted.fields)] : [];
+    just.replaceChildren(el("h3", {}, t("walk.just", { box: placeName(box) })), ...marks, ...outcome(box, [nothing]));
     return true;
+  }
+
+  function showForm(seat) {
+    const asked = isOpen() && mode !== "off" && !actions.teacher;
+    known.hidden = !asked;
+    if (!asked) return form.hide();
+    known.replaceChildren(facts(walk, seat));
+    const name = placeName(walk.next);
+    const optional = walk.asks.includes("then") ? walk.asks.filter((field) => field === "DELAY") : [];
+    form.show({
+      key: `${walk.message}/${walk.boxes.length}/${walk.asks.join()}`, fields: walk.asks, optional,
+      heading: t("predict.box", { box: name }), required: true,
+      first: seat.trying?.find((tried) => tried.of === "step" && tried.place === walk.next.name),
+    });
   }
 
   function update(seat) {
@@ -86,15 +107,17 @@ export function makeWalk(actions) {
     node.hidden = !walk;
     if (!walk) return;
     const open = isOpen();
+    const held = mode === "required" && !actions.teacher;
     say(place, placeWords(seat.last));
-    say(step, open ? `Next box: ${walk.next.name}` : "Next box");
-    for (const part of [step, host, end]) set(part, { "aria-disabled": open ? null : "true" });
+    say(step, open ? t("walk.next_is", { box: placeName(walk.next) }) : t("walk.next"));
+    for (const part of [step, host, end]) set(part, { "aria-disabled": open ? null : "true", hidden: held && open });
     set(node, { class: open ? "card walking" : "card walked" });
     waiting = open ? undefined : seat.waiting[0]?.message;
     another.hidden = waiting === undefined;
-    say(another, `Walk the next: message ${waiting}`);
+    say(another, t("walk.another", { message: waiting ?? 0 }));
+    showForm(seat);
     if (open && calledFor) bring();
-    const stepped = showJust();
+    const stepped = showJust(seat.predicted);
     if (walk.packet && packet.dataset.of !== String(walk.message)) {
       packet.dataset.of = walk.message;
       packet.replaceChildren(inside(walk.packet, false));
@@ -109,8 +132,9 @@ export function makeWalk(actions) {
     hostsTitle.hidden = done.length === 0;
     keyed(hosts, done, (h) => h.id, (h) => {
       const node = el("li", { "data-host": h.id });
-      return { node, update: ({ id, words }) => say(node, `Host ${id}: ${words}`) };
+      return { node, update: ({ id, words }) => say(node, t("walk.host", { id, words })) };
     });
   }
-  return { node, update, step: () => step.click(), bring, setChecklist: (list) => { checklist = list; } };
+  const setMode = (next) => { mode = next; };
+  return { node, update, step: () => step.click(), bring, setMode, setChecklist: (list) => { checklist = list; } };
 }

@@ -1,14 +1,8 @@
 // How numbers, times and answers are written on both pages.
 
-const thousands = new Intl.NumberFormat("en-US", { maximumFractionDigits: 3 });
+import { number, t } from "./language.js";
 
-// 30000 as "30,000", -51 with a true minus sign.
-export function number(n) {
-  if (n === null || n === undefined) return "–";
-  if (typeof n !== "number") return String(n);
-  const digits = thousands.format(Math.abs(n));
-  return n < 0 ? "−" + digits : digits;
-}
+export { number };
 
 // Always with its sign, but for 0.
 export function signed(n) {
@@ -50,15 +44,13 @@ export function answerName(reply) {
 }
 
 // A call as a reader says it.
-const calls = {
-  self_report: "self-report", open_walk: "open a walk", lookup: "look up",
-  inspect: "inspection", receive: "take", step: "box", write: "write a HELLO",
-  net_afresh: "set the net table afresh", net_add: "add a row", net_remove: "remove a row",
-  net_change: "change a row's host", bench_set_up: "set up the bench", bench_run: "run the bench",
-};
-
 export function callName(name) {
-  return calls[name] ?? name;
+  return t(`call.${name}`);
+}
+
+// A place of a walk: "step 3", or "host 1, line a".
+export function placeName(place) {
+  return place.line ? t("place.line", { id: place.id, line: place.line }) : t("place.step", { step: place.step });
 }
 
 export function speedWords(factor) {

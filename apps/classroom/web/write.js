@@ -1,10 +1,8 @@
 // A HELLO written by hand in the text form, and sent to oneself.
 
 import { el, button, labelled, options, say } from "./dom.js";
+import { t } from "./language.js";
 import { answerName } from "./words.js";
-
-const FORM = "First line: hello DATE TIME TSP BASE N, numbers in decimal, single spaces. "
-  + "Then N lines: DELAY OFFSET. BASE is ADDRESS-OFFSET, here 1. The checksums are made for you.";
 
 // What the neighbor could send now: its table left out, its TSP a round trip of 100 ms ago.
 function example(seat) {
@@ -41,24 +39,24 @@ export function makeWrite(actions) {
     const reply = await actions.call("write", { link: Number(link.value), text: words, source: source.value.trim() });
     if (!reply) return;
     said.hidden = false;
-    say(said, reply.answer === 0 ? "It waits at your link now, among the messages."
-      : `${answerName(reply)}: ${reply.meaning}. Nothing waits.`);
+    const fault = reply.told?.fault ? t(...reply.told.fault) : "";
+    say(said, reply.answer === 0 ? t("write.waits") : t("write.refused", { answer: answerName(reply), meaning: reply.meaning, fault }));
   }
 
   const node = el("section", { class: "card", id: "write", "aria-labelledby": "write-title" },
-    el("h2", { id: "write-title" }, "Write a HELLO by hand"),
-    el("p", { id: "write-form", class: "quiet" }, FORM),
+    el("h2", { id: "write-title" }, t("write.title")),
+    el("p", { id: "write-form", class: "quiet" }, t("write.form")),
     el("div", { class: "buttons" },
-      button("An example for now", () => put(example(seat)), { class: "example" }),
-      button("The blackboard's", () => put(BLACKBOARD), { class: "blackboard" })),
-    labelled("Text", text, { class: "wide" }),
-    el("div", { class: "row" }, labelled("Arrives at", link), labelled("From", source),
-      button("Send it to myself", send, { class: "primary", id: "write-send" })),
+      button(t("write.example"), () => put(example(seat)), { class: "example" }),
+      button(t("write.blackboard"), () => put(BLACKBOARD), { class: "blackboard" })),
+    labelled(t("write.text"), text, { class: "wide" }),
+    el("div", { class: "row" }, labelled(t("write.at"), link), labelled(t("write.from"), source),
+      button(t("write.send"), send, { class: "primary", id: "write-send" })),
     said);
 
   function update(next) {
     seat = next;
-    options(link, seat.links.map((l) => [l.link, `link ${l.link}`]));
+    options(link, seat.links.map((l) => [l.link, t("write.link", { link: l.link })]));
   }
   // At another seat, or in a new room.
   function start(next) {

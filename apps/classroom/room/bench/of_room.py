@@ -19,8 +19,10 @@ EVENTS = {
     "second": "second",
     "self_report": "self-report",
     "send": "send",
+    "act": "arrival",
     "receive": "arrival",
 }
+ARRIVALS = ("act", "receive")
 """The calls that have an event, each with its kind."""
 CHANGE_NOTHING = ("inspect", "lookup", "write")
 """Calls without an event that change nothing at a host."""
@@ -86,6 +88,7 @@ def _calls(room, lines):
     calls, left_out, count = [], [], 0
     # The set-up of a bench does what a room's does: the first lines set all afresh.
     afresh = 1 + len(room.seats)
+    before = None
     for line in lines:
         if "end" in line:
             return calls, left_out, None
@@ -98,15 +101,27 @@ def _calls(room, lines):
             if line["call"] not in EVENTS:
                 _without_event(room, line)
                 left_out.append(number)
+                before = line
                 continue
             _with_cable(room, line)
+            if line["call"] == "act" and left_out and _inspected(before, line):
+                # The inspection of the same arrival.
+                left_out.pop()
             count += line["times"]
             if count > MOST_EVENTS:
                 most = f"and a file has {MOST_EVENTS:,} at most"
                 raise _Stopped(f"with it there are {count:,} events, {most}")
             calls.append(line)
+            before = line
         except _Stopped as why:
             return calls, left_out, (number, str(why))
+
+
+def _inspected(before, line):
+    """Whether the line before is the inspection of the packet on which this line's call acts."""
+    if (before["line"], before["seat"], before["call"]) != (line["line"] - 1, line["seat"], "inspect"):
+        return False
+    return all(before["with"][part] == line["with"][part] for part in ("link", "packet"))
 
 
 def _without_event(room, line):
@@ -121,7 +136,7 @@ def _without_event(room, line):
 def _with_cable(room, line):
     """That a send and an arrival are at a link with a cable."""
     call, seat = line["call"], line["seat"]
-    if call in ("send", "receive") and not room.cables.far(seat, link := line["with"]["link"]):
+    if call in ("send", *ARRIVALS) and not room.cables.far(seat, link := line["with"]["link"]):
         raise _Stopped(f"link {link} of {room.seats[seat].name} has no cable, and so {call} no event")
 
 
@@ -136,7 +151,7 @@ def _way(cables, line):
 def _events(cables, calls):
     """The events of calls, how many calls they are, and why the next has none, or None. A packet has
     its tray from its send to its last arrival."""
-    last = {_way(cables, line): place for place, line in enumerate(calls) if line["call"] == "receive"}
+    last = {_way(cables, line): place for place, line in enumerate(calls) if line["call"] in ARRIVALS}
     events, trays, free = [], {}, list(range(TRAYS))
     for place, line in enumerate(calls):
         parts = {}
@@ -149,7 +164,7 @@ def _events(cables, calls):
             parts = {"cable": way[0], "end": way[1], "tray": trays.get(way, free[0] if free else 0)}
             if sent and way not in trays and last.get(way, -1) > place:
                 trays[way] = free.pop(0)
-        elif line["call"] == "receive":
+        elif line["call"] in ARRIVALS:
             way = _way(cables, line)
             if way not in trays:
                 return events, place, "the packet was written by hand, and no seat has sent it"
