@@ -22,7 +22,7 @@ def copied(host):
     copy.walk.copy = host.walk.copy
     first = host.number * hello.PLACES
     for id, entry in enumerate(host.table):
-        room.run[first + id] = entry
+        room.entries[first + id] = entry
     return copy
 
 

@@ -3,25 +3,25 @@ rule of the form is written here again."""
 
 import re
 
-import hello_text
+from hello import Answer, Refused, text as reader
 
 NUMBER = re.compile(r"-?[0-9]+")
 
 
 def fault(text, answer):
     """What 14 or 15 found and where: a text of the language files, or None."""
-    if answer == hello_text.FIELD_RANGE:
+    if answer == Answer.FIELD_RANGE:
         return _range(text)
-    return _form(text) if answer == hello_text.TEXT_FORM else None
+    return _form(text) if answer == Answer.TEXT_FORM else None
 
 
 def _answer(text):
     """The library's answer to a text."""
     try:
-        hello_text.from_text(text)
+        reader.from_text(text)
         return 0
-    except hello_text.Refused as refused:
-        return refused.answer
+    except Refused as refused:
+        return refused.number
 
 
 def _range(text):
@@ -30,7 +30,7 @@ def _range(text):
     lines = [first, *rest.splitlines()]
     for row, line in enumerate(lines):
         for place, found in enumerate(NUMBER.finditer(line), 1):
-            if _answer(_alone(row, place, found.group())) == hello_text.FIELD_RANGE:
+            if _answer(_alone(row, place, found.group())) == Answer.FIELD_RANGE:
                 told = {"line": row + 1, "number": found.group(), "place": place}
                 return ["fault.range", told]
     return None
@@ -49,10 +49,10 @@ def _form(text):
         return ["fault.no_end", {"line": text.count("\n") + 1}]
     first, *rest = text[:-1].split("\n")
     words = first.split(" ")
-    if _answer(" ".join([*words[:-1], "0"]) + "\n") == hello_text.TEXT_FORM:
+    if _answer(" ".join([*words[:-1], "0"]) + "\n") == Answer.TEXT_FORM:
         return ["fault.first", {"line": 1, "text": first[:60]}]
     for row, line in enumerate(rest, 2):
-        if _answer(f"hello 0 0 0 0 1\n{line}\n") == hello_text.TEXT_FORM:
+        if _answer(f"hello 0 0 0 0 1\n{line}\n") == Answer.TEXT_FORM:
             return ["fault.line", {"line": row, "text": line[:60]}]
     if words[-1].isdigit() and int(words[-1]) != len(rest):
         return ["fault.count", {"n": int(words[-1]), "lines": len(rest)}]

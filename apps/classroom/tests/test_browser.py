@@ -63,8 +63,14 @@ class Story(unittest.TestCase):
                 for direction in ("there", "back"):
                     teacher.type(f'{at} [data-name="{direction}-{name}"]', str(ms))
         teacher.click("#setup-do")
+        self.agree(teacher)
         teacher.until(lambda: teacher.told("#room", "data-number") == before + 1, "a new room")
         self.assertEqual(teacher.told("#room", "data-time"), 0)
+
+    def agree(self, browser):
+        """Says yes, where the page asks before something is lost."""
+        for yes in browser.all("dialog.sure .sure-yes"):
+            yes.click()
 
     def second_passes(self):
         """The teacher lets the room's time go on by a second."""
@@ -90,6 +96,7 @@ class Story(unittest.TestCase):
         """Clicks for a call, and waits until it is made."""
         before = self.calls(browser, call)
         browser.click(css)
+        self.agree(browser)
         browser.until(lambda: self.calls(browser, call) == before + 1, call)
 
     def send(self, browser, *links):

@@ -27,6 +27,7 @@ export function makeControls(send) {
     byId(ids[name] ?? name).addEventListener("click", actions[name]);
   }
   byId("waits").addEventListener("change", (event) => send({ do: "waits", on: event.target.checked }));
+  byId("predict").addEventListener("change", (event) => send({ do: "predict", mode: event.target.value }));
   byId("show").addEventListener("change", (event) => send({ do: "show", what: event.target.value }));
 
   function state(names) {
@@ -44,6 +45,7 @@ export function makeControls(send) {
     set(byId("run"), { class: room.running ? null : "primary" });
     set(byId("pause"), { class: room.running ? "primary" : null });
     set(byId("waits"), { checked: room.waits });
+    if (document.activeElement !== byId("predict")) set(byId("predict"), { value: room.predict });
     if (document.activeElement !== byId("show")) set(byId("show"), { value: room.show });
   }
   return { update, actions };

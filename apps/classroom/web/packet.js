@@ -46,7 +46,7 @@ function fieldsPart(fields, light) {
 export function facts(walk, seat) {
   const of = Object.fromEntries(walk.packet.fields.map((field) => [field.name, field.value]));
   const id = walk.next?.line ? walk.next.id : null;
-  const told = ["source", "DATE", "TIME", "TSP", "NHOSTS", ...(id === null ? [] : [`host ${id} DELAY`, `host ${id} OFFSET`])];
+  const told = ["source", ...(walk.next?.line === "d" ? ["DATE"] : []), "TIME", "TSP", "NHOSTS", ...(id === null ? [] : [`host ${id} DELAY`, `host ${id} OFFSET`])];
   const link = seat.links[walk.link - 1];
   const own = [["LOCAL-ADDRESS", seat.address], ["NEIGHBOR-ADDRESS", link.neighbor], ["KEEP-ALIVE", number(link.keep_alive)],
     ["TSP", number(link.tsp)], ["HOLD", number(seat.clock.hold)], [t("predict.reading"), number(walk.held?.reading ?? seat.clock.time)]];

@@ -2,9 +2,13 @@
 // there is a hint and a second try, and then the call is made and the answers are shown.
 
 import { button, el, say } from "./dom.js";
+import { glossed } from "./glossary.js";
 import { number, t } from "./language.js";
 
-const labelOf = (field) => t(`field.${field.replaceAll(" ", "_")}`);
+function labelOf(field) {
+  const [, id, of] = field.match(/^host (\d+) (.*)$/) ?? [];
+  return id === undefined ? t(`field.${field.replaceAll(" ", "_")}`) : t("field.host_entry", { id, field: of });
+}
 
 // A number as people write it, "30,000" too; else the text itself.
 function read(field, words) {
@@ -50,10 +54,11 @@ export function verdict(made) {
 }
 
 // A form. `send(fields)` asks the room; `skip()` makes the call without a prediction, where it may be.
-export function makeForm({ send, skip, words, go, without }) {
+export function makeForm({ send, skip, go, without }) {
   let shown = null;
   let inputs = new Map();
   const title = el("h3", {});
+  const about = el("p", { class: "predict-rule" });
   const body = el("div", { class: "predict-fields" });
   const said = el("div", { class: "predict-said", role: "status" });
   const check = el("button", { type: "submit", class: "primary predict-check" }, go());
@@ -78,7 +83,7 @@ export function makeForm({ send, skip, words, go, without }) {
       check.disabled = false;
     }
   }
-  const node = el("form", { class: "predict", onsubmit: submit, hidden: true }, title, body,
+  const node = el("form", { class: "predict", onsubmit: submit, hidden: true }, title, about, body,
     el("div", { class: "buttons" }, check, past), said);
 
   // What a first try found: the marks, hints, and that there is one more try.
@@ -90,12 +95,13 @@ export function makeForm({ send, skip, words, go, without }) {
   }
 
   // Shows the form for these fields; `key` says of what, so that what was written stays.
-  function show({ key, fields, heading, required, first, optional = [], layout }) {
+  function show({ key, fields, heading, required, first, rule = null, optional = [], layout }) {
     node.hidden = false;
     past.hidden = required;
     if (key === shown) return;
     shown = key;
     say(title, heading);
+    about.replaceChildren(...(rule ? glossed(t(rule)) : []));
     inputs = new Map(fields.map((field) => [field, inputOf(field)]));
     for (const field of optional) inputs.get(field).dataset.optional = "yes";
     body.replaceChildren(...(layout ? layout(inputs) : [...inputs].map(([field, input]) =>
@@ -109,5 +115,5 @@ export function makeForm({ send, skip, words, go, without }) {
     node.hidden = true;
     shown = null;
   }
-  return { node, show, hide, focus: () => body.querySelector("input, select")?.focus(), words };
+  return { node, show, hide, focus: () => body.querySelector("input, select")?.focus() };
 }

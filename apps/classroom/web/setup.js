@@ -2,7 +2,9 @@
 
 import { byId, options, say } from "./dom.js";
 import { cableOf, cableRow, numeric, renumber, seatOf, seatRow, value, wayOf } from "./setuprows.js";
+import { t } from "./language.js";
 import { plainCable, roomOf, seatName, shapes } from "./shapes.js";
+import { sure } from "./sure.js";
 
 // "12:00:30" in ms.
 function timeOf(words) {
@@ -81,6 +83,8 @@ export function makeSetup(send) {
   byId("setup").addEventListener("submit", async (event) => {
     event.preventDefault();
     say(byId("setup-said"), "");
+    // A room in which nothing has happened yet is no loss.
+    if (view?.room.time > 0 && !await sure(t("sure.set_up"), t("sure.set_up_yes"))) return;
     if (await send(told())) say(byId("setup-said"), "The room is set up, and paused.");
   });
 

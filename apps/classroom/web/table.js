@@ -58,7 +58,7 @@ export function makeTable({ teacher = false } = {}) {
   const caption = el("caption");
   const body = el("tbody");
   const head = el("tr", {}, el("th", { scope: "col" }, t("table.host")),
-    columns.map((field) => el("th", { scope: "col", title: hinted.has(field) ? t(`table.${field}.hint`) : null }, t(`table.${field}`))));
+    columns.map((field) => el("th", { scope: "col", title: hinted.has(field) ? t(`table.${field}.hint`) : null }, t(field === "within" ? "table.kept" : `table.${field}`))));
   const table = el("table", { class: "hosts-table" }, caption, el("thead", {}, head), body);
   const folded = el("p", { class: "folded row", hidden: true });
   const node = el("div", { class: "scroll", tabindex: 0, role: "region" }, table, folded);

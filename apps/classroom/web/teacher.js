@@ -14,23 +14,37 @@ import { makeStart } from "./start.js";
 import { makeSeat } from "./seat.js";
 import { makeTutor } from "./tutor.js";
 import { makeBench } from "./bench.js";
+import { makeBoard } from "./board.js";
+import { makeMatrix } from "./matrix.js";
+import { offerLanguages, t, translate } from "./language.js";
 import { makeTabs } from "./tabs.js";
 import { answersTable } from "./answer.js";
 import { listen } from "./keys.js";
+
+translate();
+offerLanguages(byId("language"));
 
 let view = null;
 let room = null;
 
 // Sends a message. Gives its reply; where it is refused, that is shown in words, and it gives false.
+// It is shown until the next action, and only on the tab on which that was.
+let refusal = null;
 async function send(message) {
+  const tab = document.body.dataset.tab;
+  refusal = null;
   try {
-    const reply = await ask(message);
-    say(byId("refused"), "");
-    return reply;
+    return await ask(message);
   } catch (error) {
-    say(byId("refused"), `Not done: ${error.message}`);
+    refusal = { tab, words: t("teacher.not_done", { why: error.message }) };
     return false;
+  } finally {
+    showRefusal();
   }
+}
+
+function showRefusal() {
+  say(byId("refused"), refusal && refusal.tab === document.body.dataset.tab ? refusal.words : "");
 }
 
 const chosen = byId("seat-choice");
@@ -47,8 +61,20 @@ const bench = makeBench((message) => ask(message));
 const seat = makeSeat(byId("seat"), {
   ask: (message) => ask({ ...message, seat: seatNumber() }),
   byHand: (on) => ask({ do: "by_hand", seat: seatNumber(), on }),
+  teacher: true,
 });
-const choose = makeTabs(byId("tabs"), () => view && show(view));
+const choose = makeTabs(byId("tabs"), () => {
+  showRefusal();
+  if (view) show(view);
+});
+const board = makeBoard(byId("board"), atSeat);
+const matrix = makeMatrix();
+
+// Which conditions of the bound no longer hold, and since when.
+function showPromise(broken = []) {
+  byId("promise").hidden = broken.length === 0;
+  say(byId("promise"), broken.length ? t("promise.not", { why: broken.map(([key, values]) => t(key, values)).join("; ") }) : "");
+}
 const picture = makePicture(byId("picture"), atSeat);
 
 function atSeat(number) {
@@ -76,17 +102,20 @@ const panels = {
   tables: () => {
     options(byId("tables-seat"), [["", "all"], ...view.seats.map((s) => [s.number, s.name])]);
     const wanted = byId("tables-seat").value;
-    tables(view.seats.filter((s) => wanted === "" || String(s.number) === wanted));
+    showPromise(view.promise);
+    tables(view.seats.filter((s) => wanted === "" || String(s.number) === wanted), !view.promise?.length);
   },
   plot: () => plot.update(view),
   calls: () => calls.update(view),
   setup: () => setup.update(view),
   nets: () => tutor.update(view),
   bench: () => bench.update(),
+  board: () => board.update(view),
+  matrix: () => matrix.update(view),
   seat: () => {
     const now = view.seats.find((s) => s.number === seatNumber()) ?? view.seats[0];
     say(byId("seat-title"), `At seat ${now.name}`);
-    seat.update(now, view.room.number, view.net_table);
+    seat.update(now, view.room, view.net_table, view.seats);
   },
 };
 

@@ -35,14 +35,11 @@ export function makeTutor(ask) {
   }
 
   byId("net-initialize").addEventListener("click", async () => {
-    const names = { done: [], refused: [] };
     try {
-      for (const seat of others) {
-        const reply = await ask({ do: "call", call: "initialize", seat: seat.number });
-        names[reply.answer === 0 ? "done" : "refused"].push(`${seat.name} (${reply.answer})`);
-      }
-      const refused = names.refused.length ? ` Refused: ${names.refused.join(", ")}.` : "";
-      answer.note(`Set afresh: ${names.done.join(", ") || "none"}.${refused}`);
+      const { answers } = await ask({ do: "initialize_all" });
+      const names = (done) => answers.filter((a) => (a.answer === 0) === done).map((a) => `${a.name} (${a.answer})`).join(", ");
+      const refused = names(false) ? ` Refused: ${names(false)}.` : "";
+      answer.note(`Initialized: ${names(true) || "none"}.${refused}`);
     } catch (error) {
       answer.refused(error.message);
     }

@@ -97,7 +97,7 @@ export function makeWalk(actions) {
     const optional = walk.asks.includes("then") ? walk.asks.filter((field) => field === "DELAY") : [];
     form.show({
       key: `${walk.message}/${walk.boxes.length}/${walk.asks.join()}`, fields: walk.asks, optional,
-      heading: t("predict.box", { box: name }), required: true,
+      heading: t("predict.box", { box: name }), required: true, rule: checklist.find((box) => placeOf(box) === placeOf(walk.next))?.text,
       first: seat.trying?.find((tried) => tried.of === "step" && tried.place === walk.next.name),
     });
   }
@@ -111,7 +111,7 @@ export function makeWalk(actions) {
     say(place, placeWords(seat.last));
     say(step, open ? t("walk.next_is", { box: placeName(walk.next) }) : t("walk.next"));
     for (const part of [step, host, end]) set(part, { "aria-disabled": open ? null : "true", hidden: held && open });
-    set(node, { class: open ? "card walking" : "card walked" });
+    set(node, { class: `card ${open ? "walking" : "walked"}${open && mode !== "off" && !actions.teacher ? " predicting" : ""}` });
     waiting = open ? undefined : seat.waiting[0]?.message;
     another.hidden = waiting === undefined;
     say(another, t("walk.another", { message: waiting ?? 0 }));
