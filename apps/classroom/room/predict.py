@@ -5,7 +5,7 @@ first miss the reply has a hint, and the call waits for a second try; after that
 and the reply has the answers.
 """
 
-from . import fields, student
+from . import calls, fields, student
 from .checks import Refused, keys, one_of, whole, words
 from .copied import Made, copied
 from .seat import READ
@@ -100,6 +100,15 @@ class _Expected:
         self.changing = changing
 
 
+def _copy(room, seat):
+    """A copy of the seat's host, with the ticks that a call of the host is given first."""
+    copy = copied(seat.host)
+    due = seat.due(room.now) - (1 if seat.crystal else 0)
+    if due > 0 and not seat.in_walk:
+        calls.make(copy, "tick", {"count": seat.count(room.now)}, due)
+    return copy
+
+
 def _mark(expected, field, given):
     return {"field": field, "given": given, "right": given == expected.fields[field]}
 
@@ -134,8 +143,7 @@ def _box(room, seat, message):
     if not seat.in_walk or seat.walk is None:
         raise Refused("no walk is open")
     walk, place = seat.walk, seat.walk["next"]
-    room.catch_up(seat, leave=1)
-    made = Made(copied(seat.host), "step", seat.handed("step", room.now))
+    made = Made(_copy(room, seat), "step", seat.handed("step", room.now))
     if made.answer not in READ:
         raise Refused("this box cannot be carried out now")
     box = box_of(room, seat, made.before, made.after)
@@ -192,9 +200,8 @@ def _arrival(room, seat, message):
     waits = student.waiting(seat, message)
     if seat.in_walk:
         raise Refused("a walk is open: it has to be ended first")
-    room.catch_up(seat, leave=1)
     handed, link = seat.handed("act", room.now), {"link": waits.link, "packet": waits.given["packet"]}
-    copy = copied(seat.host)
+    copy = _copy(room, seat)
     inspected = Made(copy, "inspect", link)
     made = Made(copy, "act", {**link, **handed}) if inspected.answer == 0 else inspected
     found, changing = {"answer": made.answer}, ["answer"]
@@ -213,7 +220,7 @@ def _arrival(room, seat, message):
 
 def _walked(room, seat, waits, handed):
     """The arithmetic of the arrival, box by box, from a walk on another copy."""
-    copy, texts = copied(seat.host), []
+    copy, texts = _copy(room, seat), []
     made = Made(copy, "open_walk", waits.given)
     while made.answer == 0 and made.told["next"]:
         place = made.told["next"]
@@ -230,8 +237,7 @@ def _walked(room, seat, waits, handed):
 def _sending(room, seat, message):
     keys("a prediction", message, ("do", "of", "fields", "link"), ("n",))
     link = whole("link", message["link"], 1, seat.host.settings.link_count)
-    room.catch_up(seat, leave=1)
-    made = Made(copied(seat.host), "send", {"link": link, **seat.handed("send", room.now)})
+    made = Made(_copy(room, seat), "send", {"link": link, **seat.handed("send", room.now)})
     if made.answer != 0:
         raise Refused("this send cannot be carried out now")
     packet = bytes.fromhex(made.told["octets"])

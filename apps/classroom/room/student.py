@@ -46,9 +46,6 @@ def own_call(room, seat, message, predicted=False):
         of.calls += 1
         of.refusals += reply.get("answer", 0) != 0
         return reply
-    except Refused:
-        of.refusals += 1
-        raise
     finally:
         seat.filled += room.log.octets - before
 

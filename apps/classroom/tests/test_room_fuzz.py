@@ -44,6 +44,11 @@ CALLS = [
     {"do": "call", "call": "write", "link": 1, "text": HELLO, "source": "192.0.2.2"},
     *({"do": "call", "call": name, "message": 1} for name in ("inspect", "receive")),
     *({"do": "call", "call": name, "message": 1} for name in ("open_walk", "drop")),
+    {"do": "call", "call": "walk_on", "to": "end"},
+    {"do": "predict", "of": "step", "fields": {"reading": 1}},
+    {"do": "predict", "of": "send", "link": 1, "fields": {"NHOSTS": 0, "KEEP-ALIVE": 0}},
+    {"do": "predict", "of": "receive", "message": 1, "fields": {"answer": 0, "host 0 DELAY": 5}},
+    {"do": "name", "name": "Ada"},
 ]
 ODD = [
     *(None, True, False, -1, 0, 1, 17, 2**31, 2**63, 10**30, -(10**30), 0.5, 1e308),
