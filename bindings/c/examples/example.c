@@ -8,33 +8,20 @@
 #undef NDEBUG
 #include <assert.h>
 #include <stdio.h>
-#include <string.h>
 
-#include "hello.h"
+#include "hello_host.h"
 
 enum {
     LINK = 1, /* both hosts have one link */
-    RUN = 2 * HELLO_PLACES,
+    ENTRIES = 2 * HELLO_PLACES,
     MESSAGE = 64 /* octets, enough for two hosts' table */
 };
 
-/* A host: its settings, its number, and what it lends to each call beside the run. */
-typedef struct host {
-    hello_settings settings;
-    size_t number;
-    hello_clock clock;
-    hello_links links;
-    hello_walk walk; /* closed: neither host walks, and the copy is empty */
-} host;
-
-/* The run of both hosts' entries. */
-static hello_entry run[RUN];
+/* The entries of both hosts. */
+static hello_entry entries[ENTRIES];
 
 /* The table of the class, which both hosts use: its NHOSTS, and no rows. */
 static const hello_class_table table = {.nhosts = 2};
-
-/* The copy of a walk's packet, of length 0 here. */
-static uint8_t copy[1];
 
 /* The address of host `number`: 192.0.2.1 and 192.0.2.2; the ids are 0 and 1. */
 static hello_address address_of(size_t number)
@@ -43,71 +30,55 @@ static hello_address address_of(size_t number)
     return address;
 }
 
-/* Makes host `number` fresh, with its clock at `time` ms. */
-static void set_up(host *h, size_t number, int64_t time)
+/* Initializes host `number`, with its clock at `time` ms. */
+static void set_up(hello_host *h, size_t number, int64_t time)
 {
-    memset(h, 0, sizeof *h);
-    h->number = number;
-    h->settings.address = address_of(number);
-    h->settings.layout.address_offset = 1;
-    h->settings.layout.nhosts = 2;
-    h->settings.clock_host = HELLO_NO_CLOCK_HOST;
-    h->settings.hold_interval = 1;
-    h->settings.clock_tick = HELLO_UNITS_PER_MS;
+    hello_address address = {192, 0, 2, (uint8_t)(1 + number)};
+    *h = hello_host_at(address, 1, &table, number, entries, ENTRIES);
     h->settings.time = time;
-    h->settings.date = 1 << 10 | 1 << 5; /* 1 January 1972 */
-    h->settings.link_count = 1;
-    hello_mark_own(&h->settings);
-    uint8_t answer = hello_initialize(&h->settings, &table, number, &h->clock, &h->links, &h->walk,
-                                      copy, 0, run, RUN);
+    uint8_t answer = hello_host_initialize(h);
     assert(answer == HELLO_DONE);
 }
 
 /* The clock's whole milliseconds. */
-static int64_t reading(host *h)
+static int64_t reading(hello_host *h)
 {
-    hello_time time = hello_read(&h->settings, &table, h->number, &h->clock, &h->links, &h->walk,
-                                 copy, 0, run, RUN, HELLO_LINE_CLOCK);
+    hello_time time = hello_host_read(h);
     assert(time.answer == HELLO_DONE);
     return time.time;
 }
 
 /* Ticks until the clock reads `time` ms. */
-static void wait_until(host *h, int64_t time)
+static void wait_until(hello_host *h, int64_t time)
 {
     while (reading(h) < time) {
-        uint8_t answer = hello_tick(&h->settings, &table, h->number, &h->clock, &h->links, &h->walk,
-                                    copy, 0, run, RUN, 0);
+        uint8_t answer = hello_host_tick(h);
         assert(answer == HELLO_DONE);
     }
     assert(reading(h) == time);
 }
 
 /* Reports the host itself in its own table. */
-static void self_report(host *h)
+static void self_report(hello_host *h)
 {
-    uint8_t answer = hello_self_report(&h->settings, &table, h->number, &h->clock, &h->links,
-                                       &h->walk, copy, 0, run, RUN, HELLO_LINE_CLOCK);
+    uint8_t answer = hello_host_self_report(h);
     assert(answer == HELLO_DONE);
 }
 
 /* Writes the message that the host sends now; answers its length. */
-static size_t send_now(host *h, uint8_t *message)
+static size_t send_now(hello_host *h, uint8_t *message)
 {
-    hello_sent sent = hello_send(&h->settings, &table, h->number, &h->clock, &h->links, &h->walk,
-                                 copy, 0, run, RUN, LINK, HELLO_LINE_CLOCK, message, MESSAGE);
+    hello_sent sent = hello_host_send(h, LINK, message, MESSAGE);
     assert(sent.answer == HELLO_DONE);
     return sent.length;
 }
 
 /* Takes a message that arrives now: looks at it, then acts on it. Answers what it says. */
-static hello_inspected take_now(host *h, const uint8_t *message, size_t length)
+static hello_inspected take_now(hello_host *h, const uint8_t *message, size_t length)
 {
-    hello_inspected said = hello_inspect(&h->settings, &table, h->number, &h->clock, &h->links,
-                                         &h->walk, copy, 0, run, RUN, LINK, message, length);
+    hello_inspected said = hello_host_inspect(h, LINK, message, length);
     assert(said.answer == HELLO_DONE);
-    uint8_t answer = hello_act(&h->settings, &table, h->number, &h->clock, &h->links, &h->walk,
-                               copy, 0, run, RUN, LINK, HELLO_LINE_CLOCK, message, length);
+    uint8_t answer = hello_host_act(h, LINK, message, length);
     assert(answer == HELLO_DONE);
     return said;
 }
@@ -119,7 +90,7 @@ static int same_address(hello_address x, hello_address y)
 
 int main(void)
 {
-    host a, b;
+    hello_host a, b;
     uint8_t message[MESSAGE];
     size_t length;
     hello_inspected said;
@@ -150,15 +121,14 @@ int main(void)
     assert(said.time == 45530 && said.tsp == 45000 && said.nhosts == 2);
 
     /* DELAY 81 counts as the least one, 100; OFFSET is 449 + 81 / 2. */
-    hello_entry b_at_a = run[1];
+    hello_entry b_at_a = entries[1];
     assert(b_at_a.delay == 100);
     assert(b_at_a.offset == 489);
     assert(b_at_a.ttl == 120);
     assert(b_at_a.pid == LINK);
     assert(b_at_a.time == 45081);
 
-    hello_route route = hello_lookup(&a.settings, &table, a.number, &a.clock, &a.links, &a.walk,
-                                     copy, 0, run, RUN, address_of(1));
+    hello_route route = hello_host_lookup(&a, address_of(1));
     assert(route.answer == HELLO_DONE && route.id == 1 && route.pid == LINK);
 
     printf("A has for B: DELAY %d ms, OFFSET %d ms.\n", (int)b_at_a.delay, (int)b_at_a.offset);

@@ -9,92 +9,56 @@
 #include <stdio.h>
 #include <string.h>
 
-#include "hello.h"
+#include "hello_host.h"
 
 enum {
     A = 0, /* numbers of the hosts, and their own ids */
     B = 1,
     LINK = 1, /* both have one link */
-    RUN = 2 * HELLO_PLACES,
+    ENTRIES = 2 * HELLO_PLACES,
     NHOSTS = 5,
     AHEAD = 500
 };
 
-/* A host: its settings, its number, and what it lends to each call beside the run. */
-typedef struct host {
-    hello_settings settings;
-    size_t number;
-    hello_clock clock;
-    hello_links links;
-    hello_walk walk; /* closed: neither host walks, and the copy is empty */
-} host;
-
-/* The run of both hosts' entries, and the copy of a walk's packet, of length 0 here. */
-static hello_entry run[RUN];
-static uint8_t copy[1];
-
+/* The entries of both hosts. */
+static hello_entry entries[ENTRIES];
 /* The table of the class, which both hosts use: its NHOSTS, and no rows. */
 static const hello_class_table table = {.nhosts = NHOSTS};
 
-/* Sets the host afresh; answers the number. */
-static uint8_t initialize(host *h)
-{
-    return hello_initialize(&h->settings, &table, h->number, &h->clock, &h->links, &h->walk, copy,
-                            0, run, RUN);
-}
+/* Initializes the host; returns the number. */
+static uint8_t initialize(hello_host *h) { return hello_host_initialize(h); }
 
 /* The settings of host `number`, with its own id marked and its clock at `time` ms. */
-static void set_up(host *h, size_t number, int64_t time)
+static void set_up(hello_host *h, size_t number, int64_t time)
 {
     hello_address address = {192, 0, 2, (uint8_t)(1 + number)};
-    memset(h, 0, sizeof *h);
-    h->number = number;
-    h->settings.address = address;
-    h->settings.layout.address_offset = 1;
-    h->settings.layout.nhosts = NHOSTS;
-    h->settings.clock_host = HELLO_NO_CLOCK_HOST;
-    h->settings.hold_interval = 1;
-    h->settings.clock_tick = HELLO_UNITS_PER_MS;
+    *h = hello_host_at(address, 1, &table, number, entries, ENTRIES);
     h->settings.time = time;
-    h->settings.date = 1 << 10 | 1 << 5; /* 1 January 1972 */
-    h->settings.link_count = 1;
-    hello_mark_own(&h->settings);
 }
 
-static uint8_t second(host *h)
-{
-    return hello_second(&h->settings, &table, h->number, &h->clock, &h->links, &h->walk, copy, 0,
-                        run, RUN);
-}
+static uint8_t second(hello_host *h) { return hello_host_second(h); }
 
 /* Reports the hosts that live at the host, in its own table. */
-static void self_report(host *h)
-{
-    assert(hello_self_report(&h->settings, &table, h->number, &h->clock, &h->links, &h->walk, copy,
-                             0, run, RUN, HELLO_LINE_CLOCK) == HELLO_DONE);
-}
+static void self_report(hello_host *h) { assert(hello_host_self_report(h) == HELLO_DONE); }
 
 /* One host sends, and the other takes the message at once; what the action answers. */
-static uint8_t tells(host *from, host *to)
+static uint8_t tells(hello_host *from, hello_host *to)
 {
     uint8_t message[HELLO_LONGEST_MESSAGE];
-    hello_sent sent =
-        hello_send(&from->settings, &table, from->number, &from->clock, &from->links, &from->walk,
-                   copy, 0, run, RUN, LINK, HELLO_LINE_CLOCK, message, sizeof message);
+    hello_sent sent = hello_host_send(from, LINK, message, sizeof message);
     assert(sent.answer == HELLO_DONE);
-    return hello_act(&to->settings, &table, to->number, &to->clock, &to->links, &to->walk, copy, 0,
-                     run, RUN, LINK, HELLO_LINE_CLOCK, message, sent.length);
+    return hello_host_act(to, LINK, message, sent.length);
 }
 
 /* The entry of an id in the host's table. */
-static hello_entry *entry_of(const host *h, size_t id)
+static hello_entry *entry_of(const hello_host *h, size_t id)
 {
-    return &run[HELLO_PLACES * h->number + id];
+    return &entries[HELLO_PLACES * h->number + id];
 }
 
 int main(void)
 {
-    host a, b;
+    hello_host a, b;
     set_up(&a, A, 40000 + AHEAD);
     set_up(&b, B, 40000);
 

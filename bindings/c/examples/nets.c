@@ -7,81 +7,47 @@
 #undef NDEBUG
 #include <assert.h>
 #include <stdio.h>
-#include <string.h>
 
-#include "hello.h"
+#include "hello_host.h"
 #include "hello_nets.h"
 
 enum {
     A = 0, /* numbers of the hosts, and their ids */
     B = 1,
     LINK = 1, /* both have one link */
-    RUN = 2 * HELLO_PLACES,
+    ENTRIES = 2 * HELLO_PLACES,
     NHOSTS = 4
 };
 
-/* A host: its settings, its number, and what it lends to each call beside the table and the run. */
-typedef struct host {
-    hello_settings settings;
-    size_t number;
-    hello_clock clock;
-    hello_links links;
-    hello_walk walk;
-    uint8_t copy[HELLO_LONGEST_MESSAGE];
-} host;
-
-/* The run of both hosts' entries, and the table of the class, still to be set afresh. */
-static hello_entry run[RUN];
+/* The entries of both hosts, and the table of the class, still to be initialized. */
+static hello_entry entries[ENTRIES];
 static hello_class_table table;
 
 /* The net of class A that is looked up, and an address there. */
 static const hello_net net10 = {10, 0, 0};
 static const hello_address there = {10, 1, 2, 3};
 
-static uint8_t initialize(host *h)
-{
-    return hello_initialize(&h->settings, &table, h->number, &h->clock, &h->links, &h->walk,
-                            h->copy, sizeof h->copy, run, RUN);
-}
+static uint8_t initialize(hello_host *h) { return hello_host_initialize(h); }
 
-static hello_route lookup(host *h)
-{
-    return hello_lookup(&h->settings, &table, h->number, &h->clock, &h->links, &h->walk, h->copy,
-                        sizeof h->copy, run, RUN, there);
-}
+static hello_route lookup(hello_host *h) { return hello_host_lookup(h, there); }
 
-static hello_stepped step(host *h)
-{
-    return hello_step(&h->settings, &table, h->number, &h->clock, &h->links, &h->walk, h->copy,
-                      sizeof h->copy, run, RUN, HELLO_LINE_CLOCK);
-}
+static hello_stepped step(hello_host *h) { return hello_host_step(h); }
 
-/* Makes host `number` fresh: its one link is a broadcast link to an address of net 10, and it is up
+/* Initializes host `number`: its one link is a broadcast link to an address of net 10, and it is up
  * in its own table. */
-static void set_up(host *h, size_t number)
+static void set_up(hello_host *h, size_t number)
 {
     hello_address address = {192, 0, 2, (uint8_t)(1 + number)};
-    memset(h, 0, sizeof *h);
-    h->number = number;
-    h->settings.address = address;
-    h->settings.layout.address_offset = 1;
-    h->settings.layout.nhosts = NHOSTS;
-    h->settings.clock_host = HELLO_NO_CLOCK_HOST;
-    h->settings.hold_interval = 1;
-    h->settings.clock_tick = HELLO_UNITS_PER_MS;
-    h->settings.date = 1 << 10 | 1 << 5; /* 1 January 1972 */
-    h->settings.link_count = 1;
+    *h = hello_host_at(address, 1, &table, number, entries, ENTRIES);
     h->settings.links[0].broadcast = 1;
     h->settings.links[0].neighbor = there;
-    hello_mark_own(&h->settings);
     assert(initialize(h) == HELLO_DONE);
-    assert(hello_self_report(&h->settings, &table, number, &h->clock, &h->links, &h->walk, h->copy,
-                             sizeof h->copy, run, RUN, HELLO_LINE_CLOCK) == HELLO_DONE);
+    assert(hello_host_self_report(h) == HELLO_DONE);
 }
 
 int main(void)
 {
-    static host a, b;
+    static hello_host a, b;
     static uint8_t message[HELLO_LONGEST_MESSAGE];
 
     /* The tutor's calls come first: a table of NHOSTS 0 is refused. */
@@ -103,13 +69,9 @@ int main(void)
     assert(hello_net_change(&table, 2, B) == HELLO_NO_ROW);
 
     /* A walk uses the table of the box that looks it up, which is step 5. */
-    hello_sent sent =
-        hello_send(&b.settings, &table, B, &b.clock, &b.links, &b.walk, b.copy, sizeof b.copy, run,
-                   RUN, LINK, HELLO_LINE_CLOCK, message, sizeof message);
+    hello_sent sent = hello_host_send(&b, LINK, message, sizeof message);
     assert(sent.answer == HELLO_DONE);
-    hello_stepped next =
-        hello_open_walk(&a.settings, &table, A, &a.clock, &a.links, &a.walk, a.copy, sizeof a.copy,
-                        run, RUN, LINK, message, sent.length);
+    hello_stepped next = hello_host_open_walk(&a, LINK, message, sent.length);
     while (next.step != 5)
         next = step(&a);
     assert(hello_net_change(&table, 1, B) == HELLO_DONE);

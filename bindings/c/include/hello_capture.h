@@ -12,8 +12,8 @@
  *   2    an output is too short              nothing
  *   27   the input has over 65,536 octets    nothing
  *
- * 27 is tested before 2. What a caller owes stands in hello.h: valid pointers that are not null,
- * lengths in octets, nothing lent twice.
+ * 27 is tested before 2. What a caller owes is in hello.h: valid pointers that are not null,
+ * lengths in octets, nothing passed twice.
  */
 #ifndef HELLO_CAPTURE_H
 #define HELLO_CAPTURE_H
@@ -33,7 +33,7 @@ extern "C" {
 #define HELLO_LONGEST_CAPTURE 73732
 #define HELLO_LONGEST_STRETCHES 16392
 
-/* What the mender answers; zeros where it refuses. */
+/* What recovery returns; zeros if it refuses. */
 typedef struct hello_mended {
     uint8_t answer;
     size_t capture_length;   /* octets written to the capture */

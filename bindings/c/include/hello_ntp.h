@@ -3,7 +3,7 @@
  * makes of a packet. Calls of the proved library libhello.a.
  *
  * Every call ends with one of the numbers below, whatever it is given, and asks nothing
- * beforehand. A refusal's values are zero, and it leaves the association as it was.
+ * beforehand. A refusal's values are zero, and the association stays as it was.
  *
  *   no.  meaning
  *   0    done
@@ -68,19 +68,19 @@ typedef struct hello_ntp_association {
     uint64_t saved;    /* the transmit time that was last taken in */
 } hello_ntp_association;
 
-/* What reading a header answers. */
+/* What reading a header returns. */
 typedef struct hello_ntp_read_answer {
     uint8_t answer;
     hello_ntp_header header; /* all zero when refused */
 } hello_ntp_read_answer;
 
-/* What writing a header answers. */
+/* What writing a header returns. */
 typedef struct hello_ntp_written {
     uint8_t answer;
     uint8_t octets[HELLO_NTP_OCTETS]; /* all zero when refused */
 } hello_ntp_written;
 
-/* What receiving a packet answers. */
+/* What receiving a packet returns. */
 typedef struct hello_ntp_outcome {
     uint8_t answer;
     int8_t action;                     /* 0 when refused; the answer tells the two apart */
