@@ -5,6 +5,7 @@ mod conditions;
 mod drive;
 mod exercise;
 mod host;
+mod laws;
 mod progress;
 mod random;
 mod record;

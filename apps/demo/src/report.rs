@@ -3,6 +3,7 @@
 use crate::conditions;
 use crate::drive::Drive;
 use crate::host::address;
+use crate::laws;
 use crate::room::Room;
 use demo::plan::{Plan, Shape, MINUTE, SECOND};
 use hello::{Address, Answer, Entry, Host, Link, Net, Reading};
@@ -144,6 +145,32 @@ pub fn result(out: &mut impl Write, plan: &Plan, room: &mut Room) -> Result<()> 
             out,
             "{live} live entries: {beyond} of the errors are beyond the bound."
         ),
+    }?;
+    print_laws(out, plan, room)
+}
+
+/// Which conditions of total correctness the run met, and whether the tables are as it says.
+fn print_laws(out: &mut impl Write, plan: &Plan, room: &mut Room) -> Result<()> {
+    writeln!(
+        out,
+        "\nTotal correctness: every table lists exactly the hosts of the room, each with a DELAY of 100 ms\n\
+         for each cable of a shortest way, a link along it, and an error of at most 50.5 ms a cable.\n\
+         It is promised if:"
+    )?;
+    let conditions = laws::conditions(plan, &room.rounds);
+    for condition in &conditions {
+        let met = if condition.met { "met" } else { "NOT met" };
+        writeln!(out, "  {met:<8} {}", condition.text)?;
+    }
+    let promised = conditions.iter().all(|condition| condition.met);
+    let (right, all) = laws::right_entries(plan, room);
+    match (promised, right == all) {
+        (true, true) => writeln!(out, "It is promised, and the tables are so: {all} entries."),
+        (true, false) => writeln!(
+            out,
+            "It is promised, but only {right} of {all} entries are so. This must not happen."
+        ),
+        (false, _) => writeln!(out, "It is not promised; {right} of {all} entries are so."),
     }
 }
 

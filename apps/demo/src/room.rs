@@ -2,6 +2,7 @@
 
 use crate::drive::{Crystal, Drive, OVERFLOW};
 use crate::host::{settings, Place};
+use crate::laws::Rounds;
 use crate::random::Random;
 use crate::record::Record;
 use demo::plan::{Cable, End, NetRow, Plan, SECOND, START};
@@ -33,6 +34,7 @@ pub struct Tally {
 pub struct Room {
     pub hosts: hello::Room,
     pub tally: Tally,
+    pub rounds: Rounds,
     /// What drives each host's clock.
     pub drives: Vec<Drive>,
     /// The calls so far, as a bench file has them.
@@ -80,9 +82,11 @@ impl Room {
             all_settings.push(settings);
             drives.push(drive);
         }
+        let rounds = Rounds::new(all_settings.iter().map(|host| host.link_count));
         Room {
             hosts,
             tally: Tally::default(),
+            rounds,
             drives,
             record: Record::of(plan, all_settings),
             cables: plan.cables.clone(),
@@ -120,6 +124,9 @@ impl Room {
             self.each_second(self.now / SECOND);
         }
         self.arrivals();
+        if self.on_the_way.is_empty() {
+            self.rounds.pause();
+        }
         self.now += self.step;
         self.ticks();
     }
@@ -150,10 +157,12 @@ impl Room {
         for number in 0..self.hosts.count() {
             done(self.hosts.host(number).second());
             self.record.add(Event::Second(number as u8));
+            self.rounds.second(number);
             if second % SELF_REPORT_INTERVAL == 0 {
                 let counter = self.counter(number);
                 done(self.hosts.host(number).self_report(counter));
                 self.record.add(Event::SelfReport(number as u8, counter));
+                self.rounds.reported(number);
             }
         }
         for cable in 0..self.cables.len() {
@@ -193,6 +202,9 @@ impl Room {
             }
             let message = first.remove();
             let answer = self.take(&message).err().unwrap_or(Answer::Done);
+            if answer == Answer::Done {
+                self.rounds.heard(message.to);
+            }
             self.record.free(message.slot);
             *self.tally.answers.entry(answer).or_default() += 1;
         }

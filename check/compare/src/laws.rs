@@ -214,7 +214,9 @@ fn rounds(random: &mut Random, counts: &mut Counts) -> Result<(), String> {
         for host in 0..trial.network.count() {
             trial.complete(host, trial.rounds)?;
             for id in 0..trial.network.ids() {
-                let near = trial.distance(host, id).is_some_and(|far| far < trial.rounds);
+                let near = trial
+                    .distance(host, id)
+                    .is_some_and(|far| far < trial.rounds);
                 if trial.network.entry(host, id).is_up() != near {
                     return Err(trial.broken("up, or down, in the wrong round", host, id));
                 }
@@ -382,9 +384,14 @@ fn one_ordered_round(
 /// A message for an end that is still on its way and not older than the last that arrived.
 fn in_order(random: &mut Random, trial: &Trial, to: End, last: usize) -> Option<usize> {
     let from = trial.network.other_end(to);
-    let on_its_way = trial.network.mail.iter().enumerate().filter(|(number, message)| {
-        *number >= last && message.from == from && message.ms + QUICK_WAY >= trial.network.now
-    });
+    let on_its_way = trial
+        .network
+        .mail
+        .iter()
+        .enumerate()
+        .filter(|(number, message)| {
+            *number >= last && message.from == from && message.ms + QUICK_WAY >= trial.network.now
+        });
     let numbers: Vec<usize> = on_its_way.map(|(number, _)| number).collect();
     (!numbers.is_empty()).then(|| random.pick(&numbers))
 }
@@ -468,7 +475,9 @@ fn ten_hours(random: &mut Random, counts: &mut Counts) -> Result<(), String> {
 fn one_epoch(random: &mut Random, trial: &mut Trial, silent: usize, seldom: usize) {
     trial.begin_round();
     let ends = trial.network.ends();
-    while (0..trial.network.count()).any(|host| host != silent && trial.seconds[host] < EPOCH_SECONDS) {
+    while (0..trial.network.count())
+        .any(|host| host != silent && trial.seconds[host] < EPOCH_SECONDS)
+    {
         let host = random.below(trial.network.count());
         if host == silent && !random.one_in(10) {
             continue;
