@@ -1,5 +1,5 @@
-"""The small file of docs/ and the ten exercises, each run to the end that it promises; and that the tool
-takes the files that answers 18 and 19 take."""
+"""The small file of docs/ and the exercises, each run to the end that it promises; and that the tool takes
+the files that answers 18 and 19 take."""
 
 import pathlib
 import random
@@ -11,9 +11,8 @@ from bench_runs import EXERCISES, ROOT, broken, told
 from test_bench_file import any_file
 
 SMALL = ROOT / "docs" / "bench"
-GHOST = 15
-RING = 15
-DOWN = 30_000
+COUNT = 15
+"""The number of exercises."""
 
 
 def octets(path):
@@ -33,25 +32,45 @@ class Small(unittest.TestCase):
         self.assertEqual(broken(SMALL / "small.txt"), [])
 
 
+def for_bench():
+    """The exercises that a bench can run: one with walks is for the room alone."""
+    paths = sorted(EXERCISES.glob("*.txt"))
+    return [path for path in paths if bench_file.read_exercise(path.read_text("utf-8")).only_room is None]
+
+
 class Exercises(unittest.TestCase):
     def test_all_are_there(self):
-        numbers = {path.name[:2] for path in EXERCISES.glob("*.txt")}
-        self.assertEqual(numbers, {f"{number:02}" for number in range(1, 11)})
+        numbers = [path.name[:2] for path in sorted(EXERCISES.glob("*.txt"))]
+        self.assertEqual(numbers, [f"{number:02}" for number in range(1, COUNT + 1)])
+        self.assertEqual(len(for_bench()), COUNT - 1)
+
+    def test_words(self):
+        """Each has what people read, and no stage gives its end away before it is done."""
+        for path in EXERCISES.glob("*.txt"):
+            exercise = bench_file.read_exercise(path.read_text("utf-8"))
+            for name in ("title", "task", "question", "explanation"):
+                self.assertTrue(exercise.said(name), path.name)
+            self.assertNotEqual(exercise.said("title", "de"), exercise.said("title"), path.name)
+            self.assertEqual(exercise.said("title", "fr"), exercise.said("title"))
+            self.assertTrue(exercise.hints, path.name)
+            self.assertTrue(any(stage.predictions for stage in exercise.stages), path.name)
+            for stage in exercise.stages:
+                self.assertNotIn(" up", stage.words["en"].replace("up to", ""), path.name)
+                self.assertNotIn("down", stage.words["en"].replace("took him down", ""), path.name)
 
     def test_the_page_tells_their_events(self):
         rows = (ROOT / "docs" / "BENCH.md").read_text("utf-8").split("\n| no. | file |")[1].splitlines()
         for path in EXERCISES.glob("*.txt"):
-            number, events = int(path.name[:2]), len(bench_file.read_text(path.read_text("utf-8"))[0].events)
+            number = int(path.name[:2])
+            events = len(bench_file.read_exercise(path.read_text("utf-8")).file.events)
             told_events = next(row.split(" | ")[2] for row in rows if row.startswith(f"| {number} | "))
-            self.assertIn(f"{events:,}", told_events.split("; "), path.name)
+            self.assertEqual(f"{events:,}", told_events, path.name)
 
     def test_promises(self):
-        for path in sorted(EXERCISES.glob("*.txt")):
-            file, promises = bench_file.read_text(path.read_text("utf-8"))
+        for path in for_bench():
+            file, promises, _ = bench_file.read_long_text(path.read_text("utf-8"))
             self.assertEqual(broken(path), [], path.name)
-            # The end is promised, but for the rounds of exercise 7, which test_ghost runs.
-            if not path.name.startswith("07-ghost-"):
-                self.assertEqual(max(promise.after for promise in promises), len(file.events))
+            self.assertEqual(max(promise.after for promise in promises), len(file.events))
 
     def test_a_broken_promise_is_found(self):
         with tempfile.TemporaryDirectory() as folder:
@@ -59,37 +78,33 @@ class Exercises(unittest.TestCase):
                 (1, "01-handshake", "delay 100 offset 500", "delay 100 offset 501"),
                 (2, "02-half-delay", "offset 449", "offset 450"),
                 (4, "04-silence", "promise answer 10", "promise answer 0"),
+                (5, "04-silence", "promise answer 10\n", "\n"),
+                (7, "07-ghost", "least 10200", "least 10300"),
                 (10, "10-hops", "0,100,200,200,100,300,400,500", "0,100,200,200,100,300,400,down"),
+                (11, "11-three-rounds", "wait 9950", "wait 9950\n    second all times 110"),
+                (13, "13-fifty-one", "wait 51", "wait 50"),
             ):
                 text = (EXERCISES / f"{name}.txt").read_text("utf-8")
                 path = pathlib.Path(folder) / f"{number}.txt"
                 path.write_text(text.replace(kept, other), "utf-8")
+                self.assertNotEqual(text, path.read_text("utf-8"))
                 self.assertNotEqual(broken(path), [], name)
 
-    def test_ghost(self):
-        """Three files on one bench: the second three times, the third 298 times."""
-        learn, silent, ring = (
-            EXERCISES / f"07-ghost-{name}.txt" for name in ("1-learn", "2-silent", "3-round")
-        )
-        with tempfile.TemporaryDirectory() as folder:
-            files = []
-            for path in (learn, silent, ring):
-                files.append(pathlib.Path(folder) / path.with_suffix(".bench").name)
-                files[-1].write_bytes(octets(path))
-            words = [files[0], "all", "show"]
-            words += 3 * [files[1], "all", "show"]
-            words += 298 * [files[2], "all", "show"]
-            set_up, runs, shown = told(*words)
-        self.assertEqual((set_up, {run.answer for run in runs}), (0, {0}))
-        self.assertEqual(len(runs), 1 + 3 + 298)
-        least = [
-            min(each.tables[seat, GHOST].delay for seat in range(RING)) for each in shown
-        ]
-        # The first host has the ghost down in the third silent round; then the rounds are counted.
-        self.assertEqual(least[:4], [100, 100, 100, 200])
-        rounds = least[3:]
-        self.assertEqual([rounds[n] for n in (1, 20, 100, 297, 298)], [300, 2_200, 10_200, 29_900, DOWN])
-        self.assertEqual(rounds.index(DOWN), 298)
+    def test_no_ghost_in_a_closed_ring(self):
+        """In a ring that is closed from the start the ghost is gone after 7 rounds."""
+        text = (EXERCISES / "07-ghost.txt").read_text("utf-8").replace("send all except 14\n", "send all\n")
+        text = text.replace("send all except 14,15", "send all except 15")
+        set_up, silent = text.partition("\nstage ")[0], "do silent-round times 2\n"
+        for rounds, words in ((6, []), (7, ["DELAY"])):
+            with tempfile.TemporaryDirectory() as folder:
+                path = pathlib.Path(folder) / "ghost.txt"
+                path.write_text(
+                    f"{set_up}\ndo open-round times 17\n{silent}do round times {rounds}\n"
+                    "promise host 15 least 29999\n"
+                )
+                told_of = broken(path)
+            self.assertEqual(len(told_of), 1)
+            self.assertEqual("is 30,000" in told_of[0], bool(words), told_of)
 
 
 class Refusals(unittest.TestCase):

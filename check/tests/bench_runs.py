@@ -57,25 +57,38 @@ def told(*words):
 
 def broken(path):
     """What the text at a path promises and the run does not keep, in words."""
-    file, promises = bench_file.read_text(path.read_text("utf-8"))
+    file, promises, named = bench_file.read_long_text(path.read_text("utf-8"))
     with tempfile.TemporaryDirectory() as folder:
-        octets = pathlib.Path(folder) / "file.bench"
-        octets.write_bytes(bench_file.to_octets(file))
-        return list(_broken(octets, len(file.events), promises))
+        paths = []
+        for number, piece in enumerate(bench_file.pieces(file)):
+            paths.append((pathlib.Path(folder) / f"{number}.bench", len(piece.events)))
+            paths[-1][0].write_bytes(bench_file.to_octets(piece))
+        return list(_broken(paths, promises, named))
 
 
-def _broken(octets, events, promises):
-    cuts = sorted({promise.after for promise in promises} | {events})
-    words = [word for start, end in zip([0, *cuts], cuts) for word in (end - start, "show")]
-    set_up, runs, shown = told(octets, *words)
+def _broken(paths, promises, named):
+    """The same of files that are run one after the other, each with the number of its events."""
+    events = sum(count for _, count in paths)
+    wanted = {promise.after for promise in promises} | {events}
+    words, cuts, start = [], [], 0
+    for path, count in paths:
+        ends = sorted({cut for cut in wanted if start < cut <= start + count} | {start + count})
+        words.append(path)
+        words += [word for first, end in zip([start, *ends], ends) for word in (end - first, "show")]
+        cuts += ends
+        start += count
+    set_up, runs, shown = told(*words)
     if set_up != 0 or any(run.answer != 0 for run in runs):
         yield "the file is refused"
         return
     answers = [answer for run in runs for answer in run.answers]
     if len(answers) != events:
-        yield f"{len(answers)} events were carried out, and the file has {events}"
-    if told(octets, "all", "show")[2][-1] != shown[-1]:
+        yield f"{len(answers)} events were carried out, and there are {events}"
+    in_one_piece = [word for path, _ in paths for word in (path, "all")]
+    if told(*in_one_piece, "show")[2][-1] != shown[-1]:
         yield "the run in one piece ends otherwise"
+    for event, answer, name in bench_file.unlike(named, answers):
+        yield f"event {event} was answered {answer}, and the text names {name}"
     tables = {cut: each.tables for cut, each in zip(cuts, shown, strict=True)}
     for promise in promises:
         wrong = promise.broken(tables[promise.after], answers)

@@ -52,7 +52,7 @@ class Lesson:
 
 def exercise_of(room):
     """The number of the exercise that is set up, or None."""
-    return room.exercise.exercise.number if room.exercise else None
+    return room.exercise.listed.number if room.exercise else None
 
 
 def name(room, seat, message):

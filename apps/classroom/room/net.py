@@ -117,11 +117,19 @@ class Net:
         """A send of a seat; the message goes on its cable, and may be there at once."""
         reply = self.make(seat, "send", {"link": link})
         if reply["answer"] == 0:
-            octets, number = bytes.fromhex(reply["told"]["octets"]), self.new_message()
-            sent = self.cables.send(self.now, seat.number, link, number, octets, way)
-            reply["told"]["way"] = {"message": number, **sent}
+            octets = bytes.fromhex(reply["told"]["octets"])
+            reply["told"]["way"] = {"message": None, "to": None, "arrival": None, "lost": True}
+            for way in self.ways(way):
+                number = self.new_message()
+                sent = self.cables.send(self.now, seat.number, link, number, octets, way)
+                reply["told"]["way"] = {"message": number, **sent}
             self.arrivals()
         return reply
+
+    def ways(self, way):
+        """The times of the message that was just sent, one for each of its arrivals; None if its cable
+        decides."""
+        return [way]
 
     def new_message(self):
         """The number of a new message."""

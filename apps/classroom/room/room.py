@@ -1,6 +1,6 @@
 """The room as the pages meet it: what they ask for, and what they are shown."""
 
-from . import board, net_table, views
+from . import board, exercises, net_table, views
 from .bench import Stand
 from .checks import Refused, keys
 from .lesson import Lesson
@@ -8,6 +8,7 @@ from .paper import FilePaper
 from .setup import checked, ring
 from .state import shown
 from .pupil import PUPIL
+from .student import CALLS
 from .teacher import TEACHER
 from .timed import Timed
 
@@ -23,7 +24,11 @@ class Room(Timed):
         self.show = "picture"
         self.bench = Stand()
         self.lesson = Lesson()
-        self.begin(checked(set_up))
+        self.own_exercises = exercises.OWN()
+        self.exercise_lists = 0
+        set_up = checked(set_up)
+        self.places = len(set_up["seats"])
+        self.begin(set_up)
 
     @classmethod
     def fresh(cls, seats=4, paper=FilePaper):
@@ -35,10 +40,41 @@ class Room(Timed):
 
     def begin(self, set_up, exercise=None):
         """A new room by a checked set-up, paused."""
+        self.exercise = None
         super().begin(set_up)
         self.number += 1
         self.running = False
         self.exercise = exercise
+
+    def make(self, seat, call, given=None, times=1):
+        """Makes a call of a seat; an exercise sees it, whoever asked for it."""
+        in_walk = seat.in_walk
+        reply = super().make(seat, call, given, times)
+        self._saw(seat, call, given or {}, reply["answer"], times, in_walk and not seat.in_walk)
+        return reply
+
+    def receive(self, seat, message):
+        """A seat takes a message; an exercise sees it."""
+        reply = super().receive(seat, message)
+        self._saw(seat, "receive", message.given, reply["answer"])
+        return reply
+
+    def _saw(self, seat, call, given, answer, times=1, ended=False):
+        if self.exercise:
+            self.exercise.saw(self, seat, call, given, answer, times, ended)
+
+    def ways(self, way):
+        """An exercise decides how long its messages take."""
+        ways = self.exercise.ways(self.messages + 1) if self.exercise else None
+        return super().ways(way) if ways is None else ways
+
+    def called(self, seat, call, **given):
+        """A call of a seat as its student would make it."""
+        return CALLS[call][0](self, seat, given)
+
+    def student_name(self, place):
+        """The name of the student at a place, or None."""
+        return self.lesson.students[place].name if place < len(self.lesson.students) else None
 
     def teacher(self, message):
         """Does what the teacher's page asks for, and replies."""

@@ -1,8 +1,9 @@
 """What the teacher's page asks for."""
 
-from . import exercises, predict, student
+from . import predict, student
 from .bench import BENCH
 from .checks import Refused, net, one_of, real, switch, whole
+from .exercises import EXERCISE_MESSAGES
 from .fields import dotted
 from .setup import checked, conditions
 from .student import not_full
@@ -11,9 +12,6 @@ from .timed import SECOND
 MINUTE = 60 * SECOND
 MOST_NUMBER = 2**32 - 1
 """So great a number the tutor's calls are given; the library answers whether it fits."""
-MOST_CALLS = 50_000
-"""An exercise is run to its end at once unless it takes more calls than these, as one of seats
-that work by themselves may."""
 
 
 def _set_up(room, message):
@@ -82,33 +80,6 @@ def _show(room, message):
     return {"show": room.show}
 
 
-def _exercise(room, message):
-    found = exercises.EXERCISES[whole("number", message["number"], 1, len(exercises.EXERCISES)) - 1]
-    room.begin(checked(found.set_up), exercises.Course(found))
-    return {"exercise": found.number}
-
-
-def _course(room):
-    if room.exercise is None:
-        raise Refused("no exercise is set up")
-    if room.exercise.ended:
-        raise Refused("the exercise has come to its end")
-    not_full(room)
-    return room.exercise
-
-
-def _next(room, message):
-    return _course(room).next(room)
-
-
-def _to_the_end(room, message):
-    course, most = _course(room), room.log.count + MOST_CALLS
-    reply = course.next(room)
-    while not course.ended and room.log.count < most:
-        reply = course.next(room)
-    return reply
-
-
 def _call(room, message):
     return student.call(room, room.at(message["seat"]), message)
 
@@ -153,9 +124,7 @@ TEACHER = {
     "cable": (_cable, ("cable", "ways"), ("loss",)),
     "show": (_show, ("what",), ()),
     "predict": (predict.set_mode, ("mode",), ()),
-    "exercise": (_exercise, ("number",), ()),
-    "next": (_next, (), ()),
-    "to_the_end": (_to_the_end, (), ()),
+    **EXERCISE_MESSAGES,
     "call": (_call, ("seat", *_needed), _keys_of_calls),
     "initialize_all": (_initialize_all, (), ()),
     "net_afresh": _tutor("net_afresh", "nhosts"),

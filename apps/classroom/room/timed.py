@@ -85,3 +85,11 @@ class Timed(Net):
         for seat in self.seats:
             if not seat.crystal:
                 self.catch_up(seat)
+
+
+def go_by(room, ms):
+    """Milliseconds go by, whatever waits."""
+    to = room.now + ms
+    while room.now < to:
+        room.go(to)
+    room.tick()

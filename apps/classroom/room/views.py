@@ -13,25 +13,31 @@ def teacher_view(room, since, presence):
     """The teacher's view; `since` is the mark of the view before, or None."""
     first = since is None or since[0] != room.number
     line, point = (0, 0) if first else since[1:3]
-    bench = since[3:] if since else None
+    bench = since[3:5] if since else None
     view = {
         "room": _room(room),
         "net_table": _net_table(room),
         "seats": [seat_of(room, seat, teacher=True) for seat in room.seats],
         "cables": _cables(room),
         "on_their_way": room.cables.shown(room.now),
-        "exercise": room.exercise.shown() if room.exercise else None,
         "board": board.rows(room, presence),
         "promise": room.promise.broken,
         "calls": room.log.since(line),
         "points": _points(room, point),
-        "mark": [room.number, room.log.count, room.pointed, room.bench.number, room.bench.version],
+        "mark": [
+            *(room.number, room.log.count, room.pointed, room.bench.number, room.bench.version),
+            *(room.exercise.version if room.exercise else None, room.exercise_lists),
+        ],
     }
+    if first or since[5:6] != view["mark"][5:6]:
+        view["exercise"] = exercises.for_teacher(room) if room.exercise else None
+    if since is None or since[6:7] != view["mark"][6:7]:
+        view["exercises"] = exercises.listed(room)
     if not bench or bench[1] != room.bench.version:
         view["bench"] = room.bench.shown(bench)
     if since is not None:
         return view
-    return {**view, **_once(), "exercises": exercises.listed(), "bench_files": list(READY)}
+    return {**view, **_once(), "bench_files": list(READY)}
 
 
 def seat_view(room, number, first):
@@ -42,8 +48,22 @@ def seat_view(room, number, first):
         "room": _room(room),
         "net_table": _net_table(room),
         "others": None if room.show == "nothing" else _others(room),
+        "exercise": exercises.for_student(room, number),
     }
+    if view["exercise"] and view["exercise"]["observes"]:
+        view["observed"] = _observed(room, number)
     return {**view, **_once()} if first else view
+
+
+def _observed(room, number):
+    """The hosts of the copy that a student observes, with their tables."""
+    copy, _ = room.exercise.copy_of(number)
+    return [_other(room, room.seats[seat], True) for seat in copy.seats]
+
+
+def _other(room, seat, tables):
+    shown = {"number": seat.number, "name": seat.name}
+    return {**shown, "clock": _clock(room, seat), "table": _table(room, seat)} if tables else shown
 
 
 def _once():
@@ -68,6 +88,7 @@ def _room(room):
         "show": room.show,
         "predict": room.lesson.predict,
         "interval": room.set_up["interval"],
+        "places": room.places,
     }
 
 
@@ -86,14 +107,7 @@ def _others(room):
     """What a student sees of the others."""
     tables = room.show == "tables"
     return {
-        "seats": [
-            {
-                "number": seat.number,
-                "name": seat.name,
-                **({"clock": _clock(room, seat), "table": _table(room, seat)} if tables else {}),
-            }
-            for seat in room.seats
-        ],
+        "seats": [_other(room, seat, tables) for seat in room.seats],
         "cables": _cables(room),
         "on_their_way": room.cables.shown(room.now),
     }

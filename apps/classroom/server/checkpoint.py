@@ -12,10 +12,10 @@ import zlib
 from functools import cache
 from pathlib import Path
 
-from ..room.exercises.course import Exercise
+from ..room.exercises.catalog import EXERCISES, Listed
 
 _ROOT = Path(__file__).resolve().parents[3]
-_PARTS = ("apps/classroom/room", "bindings/python")
+_PARTS = ("apps/classroom/room", "apps/exercises", "bindings/python")
 """What a room is made by: with another one a checkpoint is not read."""
 _MODULES = ("classroom.room.", "hello.", "bench_file.", "hello_")
 _OTHERS = {
@@ -53,19 +53,11 @@ def _array(kind, length, octets):
     return (kind * length).from_buffer_copy(octets)
 
 
-def _exercises():
-    """The exercises by their numbers: what they do is code, and is not kept."""
-    from ..room.exercises import EXERCISES
-
-    return EXERCISES
-
-
 class _Writer(pickle.Pickler):
     def persistent_id(self, what):
-        if isinstance(what, Exercise):
-            for place, exercise in enumerate(_exercises()):
-                if exercise is what:
-                    return place
+        # An exercise that is ready is kept by its number, one of the teacher's own in full.
+        if isinstance(what, Listed) and EXERCISES.get(what.number) is what:
+            return what.number
         return None
 
     def reducer_override(self, what):
@@ -75,8 +67,8 @@ class _Writer(pickle.Pickler):
 
 
 class _Reader(pickle.Unpickler):
-    def persistent_load(self, place):
-        return _exercises()[place]
+    def persistent_load(self, number):
+        return EXERCISES[number]
 
     def find_class(self, module, name):
         if "." in name:

@@ -47,7 +47,7 @@ class StorePaper:
 def title_of(room):
     """A room in a few words, for the list of rooms."""
     if room.exercise:
-        return f"exercise {room.exercise.exercise.number}: {room.exercise.exercise.title}"
+        return f"exercise {room.exercise.listed.number}: {room.exercise.exercise.said('title')}"
     count = len(room.seats)
     return "one host" if count == 1 else f"{count} hosts"
 

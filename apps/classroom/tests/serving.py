@@ -123,6 +123,7 @@ class Page:
         self._new = asyncio.Event()
         self._first = None
         self._newest = None
+        self._card = None
         self.each_view = None
         self.unasked = lambda told: None
 
@@ -171,6 +172,8 @@ class Page:
     def _take_view(self, text):
         """A view is read only where someone looks at it."""
         self._newest = text
+        if '"exercise":' in text:
+            self._card = text
         self._first = self._first or json.loads(text)["view"]
         if self.each_view:
             self.each_view(json.loads(text)["view"])
@@ -178,8 +181,9 @@ class Page:
 
     @property
     def view(self):
-        """The newest view, with what stands in the first alone."""
-        return {**self._first, **json.loads(self._newest)["view"]}
+        """The newest view, with what is in the first alone, and the exercise, which comes when it changes."""
+        card = {"exercise": json.loads(self._card)["view"]["exercise"]} if self._card else {}
+        return {**self._first, **card, **json.loads(self._newest)["view"]}
 
     async def ended(self):
         """Waits until the server has closed the socket."""

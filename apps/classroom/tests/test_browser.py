@@ -403,7 +403,7 @@ class Story(unittest.TestCase):
         teacher.until(lambda: teacher.told("#exercise", "data-at") == 1, "the first event")
         teacher.click("#exercise-end")
         teacher.until(lambda: teacher.text("#exercise-explained"), "the explanation")
-        teacher.until(lambda: "as promised" in teacher.text("#exercise-held"), "the promise")
+        teacher.until(lambda: "as the exercise says" in teacher.text("#exercise-held"), "the promise")
         self.assertIn("✓", teacher.text("#exercise-held"))
         self.replays()
 

@@ -210,9 +210,13 @@ class Messages(Quiet):
         told = await self.teacher.ask("bench_load", name='né/w" 7', text=text)
         self.assertEqual((told["octets"], told["fault"]), (20 + 321 + 2_048 * 14, None))
         status, had = await self.teacher.get("/teacher/exercise.txt")
-        self.assertEqual((status, had), (200, "seat 192.0.2.1\n\ntick 0 count 7 times 2048\n"))
+        self.assertEqual((status, had), (200, text))
         status, octets = await self.teacher.octets("/teacher/exercise.bench")
         self.assertEqual((status, len(octets)), (200, told["octets"]))
+        # A file of octets is had back as the text that it makes.
+        await self.teacher.ask("bench_load", name="octets", octets=base64.b64encode(octets).decode())
+        status, had = await self.teacher.get("/teacher/exercise.txt")
+        self.assertEqual((status, had), (200, "seat 192.0.2.1\n\ntick 0 count 7 times 2048\n"))
         self.assertEqual((await student.get("/teacher/exercise.bench"))[0], 403)
         self.assertEqual((await self.teacher.ask("bench_set_up", net="own"))["answer"], 0)
         done = 0

@@ -7,15 +7,16 @@ import { makeBenchList, meaningOf } from "./benchlist.js";
 import { makeBenchSeats } from "./benchseats.js";
 import { count, number } from "./words.js";
 
-// So many events are asked for at once, so that progress is seen and nobody has to wait.
-const AT_ONCE = 64;
+// So many events are asked for at once; the room carries out fewer, so that progress is seen and nobody has to wait.
+const AT_ONCE = 2048;
 
 function fileWords(view) {
   if (!view) return "No file is loaded.";
   const octets = count(view.octets, "octet");
   if (view.fault) return `${view.name}: ${octets}.`;
   const parts = [count(view.seats_of_file, "seat"), count(view.cables_of_file, "cable"), count(view.of, "event")];
-  return `${view.name}: ${parts.join(", ")}, NHOSTS ${number(view.nhosts)}, ${octets}. `
+  const files = view.pieces > 1 ? `${count(view.pieces, "file")}, one after the other` : octets;
+  return `${view.name}: ${parts.join(", ")}, NHOSTS ${number(view.nhosts)}, ${files}. `
     + (view.ready ? "" : "It is not set up yet.");
 }
 
@@ -27,10 +28,13 @@ function roomWords(reply) {
   return `The list of calls up to ${lines}.${out}${end}`;
 }
 
-function ranWords(first, answers) {
-  if (first === answers.length) return "No event was left.";
-  const refused = number(answers.slice(first).filter((answer) => answer !== 0).length);
-  return `Events ${number(first)} to ${number(answers.length - 1)} are carried out, ${refused} of them refused.`;
+// Of a long text the answers of the file that is run now are here.
+function ranWords(start, view) {
+  if (start === view.done) return "No event was left.";
+  const here = Math.max(start - view.first, 0);
+  const refused = number(view.answers.slice(here).filter((answer) => answer !== 0).length);
+  const which = start < view.first ? "of those in this file" : "of them";
+  return `Events ${number(start)} to ${number(view.done - 1)} are carried out, ${refused} ${which} refused.`;
 }
 
 // What the text promises, as far as it was looked at.
@@ -130,9 +134,9 @@ export function makeBench(ask) {
     if (last.call !== "bench_event" && last.answer === 0) {
       if (last.call === "bench_set_up") return answer.note("All seats are set afresh, and all trays are empty.");
       // Of a run in pieces the last one is told: it began where this page began it.
-      return answer.note(ranWords(Math.min(ran ?? last.told.first, last.told.first), view.answers));
+      return answer.note(ranWords(Math.min(ran ?? last.told.first, last.told.first), view));
     }
-    const [kind, words] = events[last.event] ?? [];
+    const [kind, words] = events[last.event - view.first] ?? [];
     const changes = last.changes.map((c) => ({ ...c, where: `seat ${c.seat}, ${c.where}` }));
     const call = kind ? `event ${last.event}, ${words}` : last.call;
     answer.show({ ...last, call, meaning: meaningOf(kind, last), changes });
@@ -145,7 +149,7 @@ export function makeBench(ask) {
     if (!next?.events) return;
     events = next.events;
     names = next.hosts;
-    list.load(events);
+    list.load(events, next.first);
   }
 
   function update() {

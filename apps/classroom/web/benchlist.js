@@ -18,6 +18,7 @@ export function makeBenchList() {
   let rows = [];
   let answers = new Map();
   let next = null;
+  let first = 0;
   byId("bench-refused").addEventListener("change", (event) => {
     set(byId("bench-events"), { class: event.target.checked ? "refusals" : null });
   });
@@ -25,11 +26,14 @@ export function makeBenchList() {
   function row([, words], i) {
     const cell = el("td", { "data-field": "answer" });
     const event = el("td", { "data-field": "call" }, words);
-    return { node: el("tr", { "data-event": i }, el("th", { scope: "row" }, number(i)), event, cell), cell };
+    const place = first + i;
+    return { node: el("tr", { "data-event": place }, el("th", { scope: "row" }, number(place)), event, cell), cell };
   }
 
-  function load(file) {
+  // `before` is how many events of a long text come before those of this file.
+  function load(file, before = 0) {
     events = file;
+    first = before;
     rows = events.map(row);
     next = null;
     body.replaceChildren(...rows.map((r) => r.node));

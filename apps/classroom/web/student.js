@@ -6,6 +6,7 @@ import { makeSeat } from "./seat.js";
 import { makePicture } from "./picture.js";
 import { makeTraffic } from "./traffic.js";
 import { makeTables } from "./table.js";
+import { makeExerciseCard } from "./exercisecard.js";
 import { answersTable } from "./answer.js";
 import { glossary } from "./glossary.js";
 import { listen } from "./keys.js";
@@ -19,6 +20,8 @@ const seat = makeSeat(byId("seat"), { ask: (message) => ask(message), byHand: (o
 const picture = makePicture(byId("picture"));
 const traffic = makeTraffic();
 const tables = makeTables(byId("tables"));
+const exercise = makeExerciseCard();
+const observed = makeTables(byId("observed-tables"));
 
 function roomWords(room, own) {
   const time = t("student.time", { time: roomTime(room.time) });
@@ -41,7 +44,10 @@ function showName(seat) {
 }
 
 const show = paced((view) => {
-  byId("none").hidden = !!view.seat;
+  byId("none").hidden = !!view.seat || !!view.observed;
+  exercise(view.exercise, view.room.number);
+  byId("observed").hidden = !view.observed;
+  if (view.observed) observed(view.observed);
   byId("seat").hidden = !view.seat;
   say(byId("room-state"), roomWords(view.room, view.seat?.number));
   set(byId("room-state"), { class: view.room.waiting_for?.includes(view.seat?.number) ? "your-turn" : null });

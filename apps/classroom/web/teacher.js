@@ -26,6 +26,7 @@ offerLanguages(byId("language"));
 
 let view = null;
 let room = null;
+let exercise = null;
 
 // Sends a message. Gives its reply; where it is refused, that is shown in words, and it gives false.
 // It is shown until the next action, and only on the tab on which that was.
@@ -54,7 +55,7 @@ const tables = makeTables(byId("tables"), { teacher: true });
 const plot = makePlot();
 const calls = makeCalls();
 const traffic = makeTraffic();
-const exercises = makeExercises(send, () => choose("tables", true));
+const exercises = makeExercises(send, () => choose("tables", true), (message) => ask(message));
 const setup = makeSetup(send);
 const tutor = makeTutor((message) => ask(message));
 const bench = makeBench((message) => ask(message));
@@ -126,7 +127,7 @@ function show(next) {
   controls.update(view.room, names);
   picture(view, traffic.busy);
   start.update(view);
-  exercises.update(view.exercise);
+  exercises.update(exercise);
   panels[document.body.dataset.tab]?.();
 }
 
@@ -144,6 +145,8 @@ const ask = connect((next, first) => {
   plot.add(next.points ?? []);
   if (next.checklist) seat.setChecklist(next.checklist);
   if (next.exercises) exercises.list(next.exercises);
+  if (next.exercise !== undefined) exercise = next.exercise;
+  if (first) exercises.setPlaces(next.room.places);
   if (next.bench_files) bench.setFiles(next.bench_files);
   if (next.answers) bench.setAnswers(next.answers);
   if (next.bench !== undefined) bench.take(next.bench);

@@ -1,4 +1,4 @@
-"""Tests of a bench: the small file of docs/ and the ten exercises, each run by the library to the end that
+"""Tests of a bench: the small file of docs/ and the exercises, each run by the library to the end that
 it promises, in one run and cut in pieces; and what set-up and run refuse."""
 
 import pathlib
@@ -11,10 +11,11 @@ from hello import Answer, library
 
 ROOT = pathlib.Path(__file__).resolve().parents[3]
 SMALL = ROOT / "docs" / "bench" / "small.txt"
-EXERCISES = sorted((ROOT / "apps" / "exercises").glob("*.txt"))
-GHOST = 15
-RING = 15
-DOWN = 30_000
+WALKS, LONG = "14-open-walk", "07-ghost"
+"""An exercise with walks, which no bench file has, and one that is several files."""
+EXERCISES = sorted(
+    path for path in (ROOT / "apps" / "exercises").glob("*.txt") if path.stem not in (WALKS, LONG)
+)
 
 
 def read(path):
@@ -97,21 +98,43 @@ class Exercises(unittest.TestCase):
             self.assertEqual(whole.run(), (Answer.DONE, events))
             self.assertEqual(held(whole), end, path.name)
 
-    def test_ghost(self):
-        """Three files on one bench: the second three times, the third 298 times."""
-        learn, silent, ring = (path for path in EXERCISES if path.name.startswith("07-ghost-"))
-        file, octets, _ = read(learn)
-        bench = bench_of(octets, file.seats[0].nhosts)
-        least = []
-        for path, times in ((learn, 1), (silent, 3), (ring, 298)):
-            bench.file = read(path)[1]
-            for _ in range(times):
-                bench.done = 0
-                self.assertEqual(bench.run(), (Answer.DONE, bench.events))
-                least.append(min(bench.host(seat).table[GHOST].delay for seat in range(RING)))
-        self.assertEqual(least[:4], [100, 100, 100, 200])
-        rounds = least[3:]
-        self.assertEqual([rounds[n] for n in (1, 20, 100, 297, 298)], [300, 2_200, 10_200, 29_900, DOWN])
+    def test_named_answers(self):
+        """Each event gets the answer that its exercise names: 0 if it names none."""
+        for path in EXERCISES:
+            file, _, named = bench_file.read_long_text(path.read_text("utf-8"))
+            bench = bench_of(bench_file.to_octets(file), file.seats[0].nhosts)
+            bench.run()
+            self.assertEqual(bench_file.unlike(named, bench.answers), [], path.name)
+
+    def test_long(self):
+        """An exercise of many files, which are run one after the other on the same hosts."""
+        text = (ROOT / "apps" / "exercises" / f"{LONG}.txt").read_text("utf-8")
+        exercise = bench_file.read_exercise(text)
+        self.assertGreater(len(exercise.pieces()), 100)
+        with self.assertRaisesRegex(bench_file.Wrong, "a file has 2,048 at most"):
+            bench_file.read_text(text)
+        bench = bench_of(bench_file.to_octets(exercise.pieces()[0]), exercise.file.seats[0].nhosts)
+        places = {}
+        for promise in exercise.promises:
+            places.setdefault(promise.after, []).append(promise)
+        answers = []
+        for piece in exercise.pieces():
+            bench.file, bench.done = bench_file.to_octets(piece), 0
+            start, end = len(answers), len(answers) + len(piece.events)
+            for cut in sorted({place for place in places if start < place <= end} | {end}):
+                self.assertEqual(bench.run(cut - start - bench.done).answer, Answer.DONE)
+                now = tables(bench, len(exercise.file.seats))
+                for promise in places.get(cut, ()):
+                    self.assertIsNone(promise.broken(now, ()))
+            answers += bench.answers
+        self.assertEqual(len(answers), len(exercise.file.events))
+        self.assertEqual(bench_file.unlike(exercise.answers, answers), [])
+
+    def test_walks_are_for_the_room(self):
+        text = (ROOT / "apps" / "exercises" / f"{WALKS}.txt").read_text("utf-8")
+        with self.assertRaisesRegex(bench_file.Wrong, "a bench file has no event for a walk"):
+            bench_file.read_long_text(text)
+        self.assertIsNotNone(bench_file.read_exercise(text).only_room)
 
 
 PAIR = "seat 192.0.2.1\nseat 192.0.2.2\ncable 0.1 1.1\n"

@@ -304,6 +304,121 @@ class Text(unittest.TestCase):
         self.wrong(slow + "wait 30", 4, "'wait' is for crystals, whose clock-tick is 65536: that of seat 1")
 
 
+SAID = "title A pair\ntask Send.\nquestion What?\nexplanation So.\n"
+ENDED = "stage One\nself-report all\npromise seat 0 host 0 delay 0\n"
+
+
+class Exercises(unittest.TestCase):
+    """The lines that make a text an exercise."""
+
+    def wrong(self, text, line, words):
+        with self.assertRaises(Wrong) as caught:
+            bench_file.read_exercise(text)
+        faults = caught.exception.faults
+        self.assertTrue(any(at == line and words in fault for at, fault in faults), faults)
+
+    def test_words(self):
+        read = bench_file.read_exercise(
+            SAID + "title.de Ein Paar\ntask Then take.\nhint Look.\nhint.de Sieh.\nlaw It ends.\n"
+            + PAIR.replace("192.0.2.1", "192.0.2.1 name Ada") + ENDED + "stage.de Eins\noutcome Done\noutcome.de Fertig\n"
+        )
+        self.assertEqual((read.said("title"), read.said("title", "de")), ("A pair", "Ein Paar"))
+        self.assertEqual((read.said("task"), read.said("task", "de")), ("Send. Then take.", "Send. Then take."))
+        self.assertEqual(read.hints, ({"en": "Look.", "de": "Sieh."},))
+        self.assertEqual((read.said("law"), read.names), ("It ends.", ("Ada", "seat-1")))
+        self.assertEqual(read.stages[0].words, {"en": "One", "de": "Eins"})
+        self.assertEqual(read.stages[0].outcome, {"en": "Done", "de": "Fertig"})
+        # A bench takes the same text, and asks for nothing of this.
+        self.assertEqual(read.file, bench_file.read_text(SAID + PAIR + ENDED)[0])
+
+    def test_calls_and_ways(self):
+        read = bench_file.read_exercise(
+            SAID + PAIR + "stage One\nsend cable 0 end 0 tray 0\nsend cable 0 end 1 tray 1\nwait 30\narrival tray 0\n"
+            "wait 5\narrival tray 0 answer 10\nsecond all times 3\npromise answer 16\npromise seat 1 host 0 down\n"
+            "predict seat 1 host 0 delay ttl\n"
+        )
+        calls = read.stages[0].calls
+        self.assertEqual([call.kind for call in calls], ["send", "send", "arrival", "arrival", "second", "second"])
+        self.assertEqual([call.ways for call in calls[:2]], [[30, 35], []])
+        self.assertEqual([(call.seat, call.link) for call in calls[2:4]], 2 * [(1, 1)])
+        self.assertEqual([call.answer for call in calls], [0, 0, 0, 10, 0, 16])
+        self.assertEqual([call.times for call in calls], [1, 1, 1, 1, 3, 3])
+        self.assertEqual(read.answers, (0, 0, 0, 10, 0, 0, 0, 0, 0, 16))
+        self.assertEqual(read.stages[0].predictions[0][1:], (1, 0, ("delay", "ttl")))
+
+    def test_blocks_and_all(self):
+        line = "seat 192.0.2.1\nseat 192.0.2.2\nseat 192.0.2.3\ncable 0.1 1.1\ncable 1.2 2.1\n"
+        text = "block pair\nsend all except 0\narrival all\nend\nblock both\ndo pair times 2\nsend all\narrival trays 0,2-3\nend\n"
+        file = read(line + text + "repeat 2\ndo both\nend\n")
+        sent = [(event.cable, event.end, event.tray) for event in file.events if event.kind == "send"]
+        pair = [(1, 0, 2), (1, 1, 3)]
+        self.assertEqual(sent, 2 * (2 * pair + [(0, 0, 0), (0, 1, 1), *pair]))
+        arrived = [event.tray for event in file.events if event.kind == "arrival"]
+        self.assertEqual(arrived, 2 * [2, 3, 2, 3, 0, 2, 3])
+
+    def test_long(self):
+        long = bench_file.read_exercise(SAID + PAIR + ENDED + "second all times 2048\npromise seat 0 host 0 down\n")
+        self.assertEqual([len(piece.events) for piece in long.pieces()], [2_048, 2_048, 2])
+        text = PAIR + "repeat 2\nsecond all times 2048\nend\n"
+        file, _, named = bench_file.read_long_text(text)
+        self.assertEqual((len(file.events), named), (8_192, None))
+        self.wrong(SAID + PAIR + "stage One\nrepeat 200\nsecond all times 2048\nend\n", 10, "has 400,000 at most")
+
+    def test_least(self):
+        _, promises = bench_file.read_text(PAIR + "tick 0\npromise host 1 least down\npromise host 0 least 100\n")
+        entry = bench_file.Entry(200, 0, 0, 0)
+        self.assertEqual([promise.seats for promise in promises], [(0,), (1,)])
+        told = [promise.broken({(0, 1): entry, (1, 0): entry._replace(delay=100)}, ()) for promise in promises]
+        self.assertEqual(told, ["after 1 events, host 1: the least DELAY is 200, not 30,000", None])
+
+    def test_unlike(self):
+        self.assertEqual(bench_file.unlike((0, 0, 10), (0, 16, 10)), [(1, 16, 0)])
+        self.assertEqual(bench_file.unlike((0, 0, 10), (10, 10), 1), [(1, 10, 0)])
+        self.assertEqual(bench_file.unlike(None, (1, 2)), [])
+
+    def test_wrong_lines(self):
+        for line, words in (
+            ("titel A pair", "Did you mean 'title'?"),
+            ("title", "'title' says nothing"),
+            ("title Once more", "the title stands there twice"),
+            ("hint.de Sieh.", "comes after the English one"),
+            ("stage.de Eins", "'stage' comes before the first stage"),
+            ("outcome So", "'outcome' comes before the first stage"),
+            ("predict seat 0 host 1 delay", "'predict' comes before the first stage"),
+            ("seat 192.0.2.3 name A-name-of-17-letters", "a seat behind a cable"),
+            ("do round", "there is no block 'round'"),
+            ("block a\nend\nblock a\nend", None),
+            ("arrival all", "'arrival all' comes after 'send all'"),
+            ("arrival trays 3-1", "'3-1' is not a list of trays"),
+            ("send all except 1", "cable 1 is not there"),
+            ("send all except 0", "there is no cable to send on"),
+            ("open-walk tray 3", "tray 3 is empty"),
+            ("step 2", "seat 2 is not there"),
+            ("end-walk", "the seat's number is missing"),
+            ("promise host 0 most 3", "'most' stands where 'least' belongs"),
+        ):
+            text = f"{SAID}{PAIR}{line}\n{ENDED}"
+            if words:
+                self.wrong(text, 8, words)
+            else:
+                self.wrong(text, 10, "there are two blocks of the name 'a'")
+        self.wrong(PAIR + ENDED, 1, "an exercise has a line 'title'")
+        self.wrong(SAID + PAIR + "self-report 0\n" + ENDED, 9, "events come before the first stage")
+        self.wrong(SAID + PAIR + "stage One\nstage Two\n" + ENDED, 9, "this stage has no call")
+        self.wrong(SAID + PAIR + "stage One\nself-report 0\n", 8, "the last stage promises nothing")
+        self.wrong(SAID + PAIR.replace("\nseat 192.0.2.2", " name A\nseat 192.0.2.2 name A") + ENDED, 6, "one name")
+        self.wrong(SAID + PAIR + ENDED + "repeat 2\nstage Two\nend\n", 12, "only events are repeated")
+        lines = "block a\nwait 1\nend\nblock b\ndo a times 2048\nend\nrepeat 2048\ndo b\nend\n"
+        self.wrong(SAID + PAIR + ENDED + lines, 12, "more than 50,000 lines")
+
+    def test_a_walk_is_for_the_room(self):
+        text = SAID + PAIR + "stage One\nsend cable 0 end 0 tray 0\nopen-walk tray 0\nstep 1\nend-walk 1\n"
+        text += "promise seat 1 host 0 down\n"
+        self.assertEqual(bench_file.read_exercise(text).only_room, 10)
+        with self.assertRaisesRegex(Wrong, "line 10: a bench file has no event for a walk"):
+            bench_file.read_text(text)
+
+
 class Tool(unittest.TestCase):
     def tool(self, *paths):
         return subprocess.run([sys.executable, TOOL, *paths], capture_output=True, text=True)
@@ -328,6 +443,16 @@ class Tool(unittest.TestCase):
             self.assertIn("the header alone has 20", self.tool(octets, again).stderr)
             self.assertIn("No such file", self.tool(folder / "none.txt", octets).stderr)
             self.assertEqual(self.tool(text, again).returncode, 2)
+
+    def test_long_text(self):
+        with tempfile.TemporaryDirectory() as name:
+            folder = pathlib.Path(name)
+            text = folder / "a.txt"
+            text.write_text(PAIR + "second all times 2000\n")
+            self.assertEqual(self.tool(text, folder / "a.bench").returncode, 0)
+            made = [path.read_bytes() for path in (folder / "a-001.bench", folder / "a-002.bench")]
+            self.assertEqual([len(bench_file.from_octets(octets).events) for octets in made], [2_048, 1_952])
+            self.assertFalse((folder / "a.bench").exists())
 
 
 if __name__ == "__main__":

@@ -19,7 +19,17 @@ _ROOT = Path(__file__).resolve().parents[4]
 
 def _ready():
     paths = [_ROOT / "docs" / "bench" / "small.txt", *sorted((_ROOT / "apps" / "exercises").glob("*.txt"))]
-    return {path.stem: path.read_text("utf-8") for path in paths}
+    texts = {path.stem: path.read_text("utf-8") for path in paths}
+    return {name: text for name, text in texts.items() if _for_bench(text)}
+
+
+def _for_bench(text):
+    """Whether the bench can run a text; an exercise with walks is for the room alone."""
+    try:
+        bench_file.read_long_text(text)
+    except bench_file.Wrong:
+        return False
+    return True
 
 
 READY = _ready()
@@ -28,13 +38,19 @@ READY = _ready()
 
 class Loaded(NamedTuple):
     """A file: its name without the ending, its octets, its parts, or what is at fault with it, and what
-    its text promises."""
+    its text promises: numbers in tables, and the answers of the events, if it names any.
+
+    A text with more events than a file may have is several files, `pieces`, run one after the other;
+    `octets` and `file` are the first of them. `source` is the text that it was read from."""
 
     name: str
     octets: bytes
     file: Optional[bench_file.File]
     fault: Optional[str]
     promises: tuple = ()
+    answers: Optional[tuple] = None
+    pieces: tuple = ()
+    source: Optional[str] = None
 
     @property
     def nhosts(self):
@@ -45,7 +61,12 @@ class Loaded(NamedTuple):
     @property
     def text(self):
         """The file as text; None where it is at fault."""
-        return self.file and bench_file.to_text(self.file)
+        return self.source or self.file and bench_file.to_text(self.file)
+
+    @property
+    def events(self):
+        """The number of its events, of all pieces."""
+        return sum(len(piece.events) for piece in self.pieces)
 
 
 def read_octets(name, octets):
@@ -53,7 +74,8 @@ def read_octets(name, octets):
     if len(octets) > LONGEST:
         raise Refused(f"there are {len(octets):,} octets: a bench file has {LONGEST:,} at most")
     try:
-        return Loaded(name, octets, bench_file.from_octets(octets), None)
+        file = bench_file.from_octets(octets)
+        return Loaded(name, octets, file, None, pieces=(file,))
     except bench_file.Fault as fault:
         return Loaded(name, octets, None, str(fault))
 
@@ -61,12 +83,13 @@ def read_octets(name, octets):
 def read_text(name, text):
     """The file of a text; Refused tells its wrong lines."""
     try:
-        file, promises = bench_file.read_text(text)
+        file, promises, answers = bench_file.read_long_text(text)
     except bench_file.Wrong as wrong:
         told = [f"line {line}: {fault}" for line, fault in wrong.faults[:MOST_FAULTS]]
         more = len(wrong.faults) - len(told)
         raise Refused("\n".join(told + ([f"and {more} lines more"] if more else []))) from None
-    return of_file(name, file, promises)
+    loaded = of_file(name, file, promises)
+    return loaded._replace(answers=answers, source=text)
 
 
 def read_ready(name):
@@ -76,4 +99,6 @@ def read_ready(name):
 
 def of_file(name, file, promises=()):
     """The file of these parts, which are not at fault."""
-    return Loaded(name, bench_file.to_octets(file), file, None, tuple(promises))
+    pieces = tuple(bench_file.pieces(file))
+    octets = bench_file.to_octets(pieces[0])
+    return Loaded(name, octets, pieces[0], None, tuple(promises), pieces=pieces)

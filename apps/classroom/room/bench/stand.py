@@ -1,6 +1,7 @@
 """The bench as it stands: the file that is loaded, its hosts, and what the last call came to."""
 
 import hello
+from hello import bench_file
 
 from ..answers import in_words
 from ..checks import Refused
@@ -12,10 +13,13 @@ from .promised import Promised
 
 AT_ONCE = 64
 """So many events are carried out at once; a page asks again for more, so that nobody has to wait."""
+AT_ONCE_OF_LONG = 1_024
+"""So many of a text that is several files."""
 
 
 class Stand:
-    """The teacher's bench. `number` counts the files that were loaded, `version` all that changed."""
+    """The teacher's bench. `number` counts the files that were loaded, each piece of a long text among
+    them, `version` all that changed."""
 
     def __init__(self):
         self.number = 0
@@ -28,17 +32,37 @@ class Stand:
         self._states = []
         self._promised = Promised(())
         self._last = None
+        self._at = 0
+        self._octets = b""
 
     def load(self, loaded):
         """Another file takes the place of the one before. Hosts stay as they are, and are run by it
         where its seats and cables are the same; no event of it is done."""
-        self.number += 1
         self.loaded = loaded
-        self._words = words.in_words(loaded.file) if loaded.file else []
+        self._promised = Promised(())
+        self._take_piece(0)
+        self._changed(None)
+
+    @property
+    def _file_now(self):
+        """The piece that is run, or None where the file is at fault."""
+        return self.loaded.pieces[self._at] if self.loaded.pieces else None
+
+    @property
+    def _first(self):
+        """How many events come before this piece."""
+        return sum(len(piece.events) for piece in self.loaded.pieces[: self._at])
+
+    def _take_piece(self, number):
+        """A piece of the file is the one that is run; no event of it is done."""
+        self.number += 1
+        self._at = number
+        file = self._file_now
+        self._octets = bench_file.to_octets(file) if number else self.loaded.octets
+        self._words = words.in_words(file) if file else []
+        self._promised.base = self._first
         if self._bench is not None:
             self._bench.done = 0
-        self._promised = Promised(())
-        self._changed(None)
 
     def set_up(self, class_table, net):
         """Sets all hosts afresh, with a net table of the bench's own, without rows, or with the
@@ -50,7 +74,9 @@ class Stand:
         if answer == 0:
             self.net, self._bench, self._set_up = net, bench, loaded.file
             self._states = self._now()
-            self._promised = Promised(loaded.promises)
+            if self._at:
+                self._take_piece(0)
+            self._promised = Promised(loaded.promises, loaded.answers)
             self._promised.look(bench)
         self._changed({"call": "bench_set_up", **self._told(answer, table), "changes": [], "told": {}})
         return self._last
@@ -58,27 +84,33 @@ class Stand:
     def back(self):
         """No event is done any more, and the hosts stay as they are."""
         self._ready()
-        self._bench.done = 0
         self._promised = Promised(())
+        if self._at:
+            self._take_piece(0)
+        self._bench.done = 0
         self._changed(None)
 
     def run(self, class_table, allowance):
-        """Carries out the next events, at most so many and at most AT_ONCE: the reply."""
+        """Carries out the next events of a piece, at most so many and at most AT_ONCE: the reply."""
         bench = self._ready()
-        bench.file = self.loaded.octets
+        if bench.done == len(self._file_now.events) and self._at + 1 < len(self.loaded.pieces):
+            self._take_piece(self._at + 1)
+        bench.file = self._octets
         if self.net == "class":
             bench.net_table = class_table
         first, slots, before = bench.done, bench.slots, self._states
-        ran = self._carry_out(min(allowance, AT_ONCE))
+        most = AT_ONCE if len(self.loaded.pieces) == 1 else AT_ONCE_OF_LONG
+        ran = self._carry_out(min(allowance, most))
         if ran.count:
             self._states = self._now()
         if ran.count == 1:
             last = self._event(first, slots, _changes(before, self._states))
         else:
             last = {"call": "bench_run", **self._told(int(ran.answer), bench.net_table)}
-            last.update(changes=[], told={"first": first, "count": ran.count})
+            last.update(changes=[], told={"first": self._first + first, "count": ran.count})
         self._changed(last)
-        return {**in_words(int(ran.answer)), "count": ran.count, "done": bench.done, "of": bench.events}
+        done = {"done": self._first + bench.done, "of": self.loaded.events}
+        return {**in_words(int(ran.answer)), "count": ran.count, **done}
 
     def _carry_out(self, allowance):
         """Runs the bench, and looks wherever its text promises something: a Ran."""
@@ -87,8 +119,9 @@ class Stand:
             before = bench.done
             ran = bench.run(self._promised.piece(before, allowance - (before - first)))
             if bench.done > before:
-                self._promised.look(bench)
-            if bench.done == before or bench.done == first + allowance:
+                self._promised.look(bench, before)
+            ended = bench.done in (before, first + allowance, len(self._file_now.events))
+            if ended:
                 return ran._replace(count=bench.done - first)
 
     def _changed(self, last):
@@ -126,9 +159,10 @@ class Stand:
 
     def _event(self, number, slots, moved):
         """What an event came to; `slots` are those before it."""
-        event, answer = self.loaded.file.events[number], int(self._bench.answers[number])
+        event, answer = self._file_now.events[number], int(self._bench.answers[number])
         slot = slots[event.tray] if event.kind == "arrival" else None
         told = {"went": words.arrived(self.loaded.file, slot)} if slot and slot.packet else {}
+        number += self._first
         return {"call": "bench_event", "event": number, **in_words(answer), "changes": moved, "told": told}
 
     def _now(self):
@@ -149,19 +183,21 @@ class Stand:
             "fault": loaded.fault,
             "seats_of_file": len(loaded.file.seats) if loaded.file else None,
             "cables_of_file": len(loaded.file.cables) if loaded.file else None,
-            "of": len(loaded.file.events) if loaded.file else None,
+            "of": loaded.events if loaded.file else None,
+            "pieces": len(loaded.pieces),
+            "first": self._first,
             "nhosts": loaded.nhosts,
             "net": self.net,
             "ready": self.ready,
             "last": self._last,
         }
         if known is None or known[0] != self.number:
-            kinds = (event.kind for event in loaded.file.events) if loaded.file else ()
+            kinds = (event.kind for event in self._file_now.events) if loaded.file else ()
             view["events"] = [list(event) for event in zip(kinds, self._words)]
             view["hosts"] = words.host_names(loaded.file) if loaded.file else []
         if self.ready:
             answers = [int(answer) for answer in self._bench.answers]
-            view.update(done=self._bench.done, answers=answers, promised=self._promised.shown())
+            view.update(done=self._first + self._bench.done, answers=answers, promised=self._promised.shown())
             view.update(seats=self._seats(), trays=self._trays())
         return view
 

@@ -1,23 +1,14 @@
-"""The exercises, each set up with one click; the tests run each to the end that it promises."""
+"""The exercises of a class, each read from its text in apps/exercises/, or from one of the teacher's.
 
-from . import crossing, ghost, half_delay, handshake, hops
-from . import last_hundred, no_tsp, overtaken, silence, stays
+    exercise = catalog.EXERCISES[1]             # by its number
+    course = Course(exercise, students=16)      # eight pairs
+    room.begin(course.set_up(), course)
+    course.next(room)                           # one stage, at all copies
+"""
+
+from .catalog import EXERCISES, OWN, sheet
 from .course import Course
+from .messages import EXERCISE_MESSAGES
+from .shown import for_student, for_teacher, listed
 
-EXERCISES = [
-    handshake.EXERCISE,
-    half_delay.EXERCISE,
-    overtaken.EXERCISE,
-    silence.EXERCISE,
-    crossing.EXERCISE,
-    stays.EXERCISE,
-    ghost.EXERCISE,
-    last_hundred.EXERCISE,
-    no_tsp.EXERCISE,
-    hops.EXERCISE,
-]
-
-
-def listed():
-    """Numbers and titles."""
-    return [{"number": each.number, "title": each.title} for each in EXERCISES]
+__all__ = ["EXERCISES", "EXERCISE_MESSAGES", "OWN", "Course", "for_student", "for_teacher", "listed", "sheet"]

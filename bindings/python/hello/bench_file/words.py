@@ -132,6 +132,23 @@ def delays(word):
     return found if good else None
 
 
+def delay(word):
+    """A delay: a number, or `down`."""
+    return DOWN if word == "down" else number(word)
+
+
+def ranges(word):
+    """Numbers with commas, some of them from one to another: 0,3,8-15."""
+    found: list[int] = []
+    for part in word.split(","):
+        first, dash, last = part.partition("-")
+        first, last = number(first), number(last if dash else first)
+        if first is None or last is None or not first <= last <= first + 255:
+            return None
+        found += range(first, last + 1)
+    return found
+
+
 def broadcast(word):
     """Links with the addresses that are set for them: 2=192.0.2.9,3=192.0.2.7."""
     found = {}

@@ -1,0 +1,122 @@
+"""What the pages show of an exercise. What comes of a stage is shown after it alone."""
+
+from hello.bench_file import in_language
+
+from .catalog import EXERCISES
+
+MOST_SHOWN = 16
+"""So many checks of a stage are shown: the wrong ones first."""
+
+
+def listed(room):
+    """The exercises with their numbers, titles and numbers of hosts; own ones last."""
+    every = {**EXERCISES, **room.own_exercises}
+    return [
+        {
+            "number": number,
+            "title": every[number].exercise.said("title"),
+            "hosts": len(every[number].exercise.file.seats),
+            "own": number not in EXERCISES,
+        }
+        for number in sorted(every)
+    ]
+
+
+def for_teacher(room):
+    """The exercise as the teacher's page shows it, with the results of every copy."""
+    course = room.exercise
+    view = _words(course, course.stage, course.ended)
+    left = course.students - len(course.copies) * len(course.exercise.file.seats)
+    view.update(
+        students=course.students,
+        observers=max(0, left),
+        copies=[
+            {
+                "copy": copy.number,
+                "seats": list(copy.seats),
+                "names": copy.names,
+                "stage": copy.stage,
+                "right": copy.right,
+                "results": _results(copy),
+            }
+            for copy in course.copies
+        ],
+        stages=[_stage(course, number, number < course.stage) for number in range(course.stage + 1)],
+    )
+    return view
+
+
+def for_student(room, place):
+    """The exercise as a student's page shows it; None if she has no part in one."""
+    course = room.exercise
+    found = course and course.copy_of(place)
+    if not found:
+        return None
+    copy, observes = found
+    view = _words(course, copy.stage, copy.ended)
+    partners = [
+        {"seat": seat, "part": course.exercise.names[seat - copy.numbers.base], "name": room.student_name(seat)}
+        for seat in copy.seats
+    ]
+    view.update(
+        copy=copy.number,
+        copies=len(course.copies),
+        observes=observes,
+        part=None if observes else course.exercise.names[place - copy.numbers.base],
+        partners=[partner for partner in partners if partner["seat"] != place],
+        right=copy.right,
+        results=_results(copy),
+        stages=[_stage(course, number, number < copy.stage) for number in range(copy.stage + 1)],
+        predict=asked(course, copy),
+    )
+    return view
+
+
+def asked(course, copy):
+    """What students of a copy are asked to predict of the stage that is under way."""
+    stage = None if copy.ended else course.exercise.stages[copy.stage]
+    return [
+        {
+            "seat": copy.numbers.seat(each.seat),
+            "host": copy.numbers.host(each.host),
+            "seat_name": copy.names[each.seat],
+            "host_name": copy.names[each.host] if each.host < len(copy.names) else f"host {each.host}",
+            "fields": [field.upper() for field in each.fields],
+        }
+        for each in (stage.predictions if stage else ())
+    ]
+
+
+def _words(course, stage, ended):
+    exercise = course.exercise
+    return {
+        "number": course.listed.number,
+        **{name: exercise.said(name) for name in ("title", "task", "question", "law")},
+        "hints": [in_language(hint, "en") for hint in exercise.hints],
+        "at": stage,
+        "of": len(exercise.stages),
+        "ended": ended,
+        "explanation": exercise.said("explanation") if ended else None,
+    }
+
+
+def _stage(course, number, done):
+    """A stage in words; what comes of it only where it is done. None behind the last one."""
+    if number >= len(course.exercise.stages):
+        return None
+    stage = course.exercise.stages[number]
+    return {
+        "words": in_language(stage.words, "en"),
+        "outcome": in_language(stage.outcome, "en") if done else None,
+    }
+
+
+def _results(copy):
+    """Of each stage that is done, and of the one under way as far as it is: right, and the checks."""
+    shown = []
+    for number, result in enumerate(copy.results[: copy.stage + 1]):
+        done = number < copy.stage
+        checks = sorted(result.checks, key=lambda check: check["right"]) if done else result.checks
+        more = result.left_out + max(0, len(checks) - MOST_SHOWN)
+        shown.append({"right": result.right, "checks": checks[:MOST_SHOWN], "more": more})
+    return shown
