@@ -72,7 +72,7 @@ class Shape:
         self.name, self.result, self.requires, self.given = g.group(1), g.group(3) or "()", g.group(4) == " requires", g.group(4) == " given"
         self.text = " ".join(" ".join([head] + [t for _, t in lines] + ["}"]).split())
         self.heads = []
-        for text in g.group(2).split(", ") if g.group(2) else []:
+        for text in re.split(r", (?![^(]*\))", g.group(2)) if g.group(2) else []:
             h = re.fullmatch(r"(\w+): (\S.*)", text)
             if not h:
                 raise Wrong(line, "not a parameter: `%s`" % text)
@@ -105,6 +105,7 @@ class Straight(Shape):
 
     def __init__(self, *heading):
         super().__init__(*heading)
+        self.parts = {}
         self.params = [self.param(name, text) for name, text in self.heads]
         if not self.params:
             raise Wrong(self.line, "a function without parameters has no law here")
@@ -112,17 +113,32 @@ class Straight(Shape):
             self.name_type(self.line, self.result, STRAIGHT_TYPES, ("usize",))
         self.by_name = {p.name: p for p in self.params}
         self.types = {p.name: p.type for p in self.params if not p.ref}
-        self.body, self.parts, self.stored = [], {}, set()
+        self.body, self.stored = [], set()
         for line, text in self.lines:
             self.statement(line, text)
         self.ends()
 
     def param(self, name, text):
+        g = re.fullmatch(r"(\w+)\((.*)\)", text)
+        if g:
+            text = g.group(1)
+            self.fields(self.line, text, g.group(2))
         if not re.fullmatch(r"\w+|&(mut )?(\w+|\[\w+\])", text):
-            raise Wrong(self.line, "not a type of a parameter: `%s` (T, &T, &mut T, &[T] or &mut [T])" % text)
+            raise Wrong(self.line, "not a type of a parameter: `%s` (T, T(A, B), &T, &mut T, &[T] or &mut [T])" % text)
         p = Param(name, text)
         self.name_type(self.line, p.type, self.RESERVED, ("u8",) if p.slice else () if p.ref else ("usize",))
         return p
+
+    def fields(self, line, type_, parts):
+        """the types of the first fields of a struct"""
+        ts = parts.split(", ")
+        for t in ts:
+            if not re.fullmatch(r"\w+", t):
+                raise Wrong(line, "not a list of types: `%s`" % parts)
+            self.name_type(line, t, STRAIGHT_TYPES, ("usize", "bool"))
+        if self.parts.get(type_, ts) != ts:
+            raise Wrong(line, "`%s` has other fields above" % type_)
+        self.parts[type_] = ts
 
     def statement(self, line, text):
         if self.body and self.body[-1][0] == "return" or self.body and self.body[-1][0] == "call" and self.body[-1][1].let == "result":
@@ -153,16 +169,9 @@ class Straight(Shape):
     def let(self, line, let, type_, parts, name, args):
         self.name_type(line, type_, STRAIGHT_TYPES, self.LETS)
         if parts is not None:
-            ts = parts.split(", ")
-            for t in ts:
-                if not re.fullmatch(r"\w+", t):
-                    raise Wrong(line, "not a list of types: `%s`" % parts)
-                self.name_type(line, t, STRAIGHT_TYPES, ("usize", "bool"))
-            if self.parts.get(type_, ts) != ts:
-                raise Wrong(line, "`%s` has other fields above" % type_)
             if type_ in [p.type for p in self.params]:
                 raise Wrong(line, "`%s` has fields that are read, so no parameter is of this type" % type_)
-            self.parts[type_] = ts
+            self.fields(line, type_, parts)
         call = Call(let, type_, name, self.args(line, args))
         self.name_value(line, let)
         self.types[let] = type_
@@ -289,10 +298,11 @@ class Branches(Straight):
             raise Wrong(self.line, "a function that branches hands nothing back, or returns early; and asks by ` given`")
         if self.result != "()":
             self.name_type(self.line, self.result, STRAIGHT_TYPES, ("usize",))
+        self.parts = {}
         self.params = [self.param(name, text) for name, text in self.heads]
         self.by_name = {p.name: p for p in self.params}
         self.types = {p.name: p.type for p in self.params if not p.ref}
-        self.body, self.parts, self.stored, self.choices = [], {}, set(), {}
+        self.body, self.stored, self.choices = [], set(), {}
         at = next(i for i, (_, t) in enumerate(self.lines) if re.fullmatch(r"(if|match) \w+ \{", t))
         for line, text in self.lines[:at]:
             self.statement(line, text)

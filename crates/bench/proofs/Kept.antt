@@ -13,6 +13,7 @@ use Rattle.class_table.specs.declared.ClassTable.{ClassTable}
 use Rattle.host.specs.Guard.{longest, done}
 use Rattle.host.specs.Lent.{Lent}
 use Rattle.calls.specs.Perform.{Outcome, send, perform}
+use Rattle.calls.proofs.SendKeeps.{keeps as send-keeps}
 use Rattle.bench_file.specs.declared.Header.{Header}
 use Rattle.bench_file.specs.declared.End.{End}
 use Rattle.bench_file.specs.declared.Event.{Event}
@@ -23,7 +24,6 @@ use Rattle.bench.specs.Bench.{Bench, lentAt}
 use Rattle.bench.specs.Slots.{slotLength, roomPlace, roomOf, empty, farEnd, withRoom, withLabel, slotsGood}
 use Rattle.bench.specs.Event.{After, sent, taken, carried}
 use Rattle.bench.proofs.Labels as labels
-use Rattle.bench.proofs.Sent.{fits}
 use Rattle.bench.proofs.Named.{send-names}
 
 pub record SlotsKept (h : Header) (o p : List ℕ) : Type 0 where
@@ -38,7 +38,7 @@ module _ (file : List ℕ) (t : ClassTable) (h : Header) (b : Bench) (long : slo
   sends e c i n k cable end slot =
       let x : Lent = lentAt file t (e .host) b in
       let o : Outcome = perform (send (e .link) k (roomOf n (b .slots))) x in
-      let f = fits x (e .link) k (roomOf n (b .slots)) in
+      let f = send-keeps x (e .link) k (roomOf n (b .slots)) in
       let room : length (roomOf n (b .slots)) ≡ longest = part-length (roomPlace n) longest (b .slots) (omega arith) in
       let put : List ℕ = withRoom n (o .buffer) (b .slots) in
       let full : length (o .buffer) ≡ longest = f .room ∙ room in
@@ -51,7 +51,7 @@ module _ (file : List ℕ) (t : ClassTable) (h : Header) (b : Bench) (long : slo
             (λ d. labels.label-length put n slot more (o .reply .length) c i ∙ same) (λ d. same);
         good = λ g.
             either (λ (s : List ℕ). slotsGood h s ≡ true) (done (o .reply .answer)) (withLabel n (o .reply .length) c i put) put
-            (λ d. labels.label-good put n slot more (o .reply .length) c i h (keeps g) (rw room at (f .told d)) cable end) (λ d. keeps g);
+            (λ d. labels.label-good put n slot more (o .reply .length) c i h (keeps g) (rw room at (f .fits d)) cable end) (λ d. keeps g);
       }
 
   pub slots-kept : (e : Event) → eventGood h e ≡ true → SlotsKept h (b .slots) (carried file t h e b .bench .slots)

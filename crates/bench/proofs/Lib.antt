@@ -4,13 +4,13 @@ pub mod Runs
 pub mod Afresh
 pub mod Zeros
 pub mod Defaults
-pub mod Sent
 pub mod Each
 pub mod Overs
 pub mod Labels
 pub mod Named
 pub mod Kept
 pub mod Types
+pub mod AtSlot
 pub mod Which
 pub mod Stages
 pub mod Turned

@@ -11,12 +11,9 @@ use Rattle.answer.specs.declared.Answer.the-variants.{IpForm}
 use Rattle.clock.specs.declared.Counter.{Counter}
 use Rattle.class_table.specs.declared.ClassTable.{ClassTable}
 use Rattle.table.specs.declared.Entry.{Entry}
-use Rattle.host.specs.declared.guard.Scope.the-variants.{OnLink}
-use Rattle.host.specs.Lent.{Lent}
-use Rattle.host.specs.Guard.{guard}
-use Rattle.host.proofs.Guarded.{either}
+use Rattle.host.specs.declared.Reply.{Reply}
 use Rattle.calls.specs.declared.Request.{Request}
-use Rattle.calls.specs.Perform.{Outcome, send, perform}
+use Rattle.calls.proofs.SendKeeps.{keeps}
 use Rattle.bench_file.specs.declared.Header.{Header}
 use Rattle.bench_file.specs.Records.{endAt, eventAt}
 use Rattle.bench.specs.declared.HostState.{HostState}
@@ -37,7 +34,7 @@ use Rattle.bench.specs.Guard.{lengthsOf}
 use Rattle.bench.specs.Run.{next}
 use Rattle.bench.specs.code.Asks.{AskFits, AskDone, AskLeaves}
 use Rattle.bench.specs.code.Sends.{SendFits, SendDone, SendLeaves}
-use Rattle.bench.specs.code.Takes.{TakeFits, TakeDone, TakeLeaves}
+use Rattle.bench.specs.code.Takes.{TakeFits, TakeLeaves}
 use Rattle.bench.specs.code.Told.{EventFits, OnlyAsk, OnlySend, OnlyTake, OnlyNote, askOf, sendOf, takeOf, Tells}
 use Rattle.bench.specs.code.Turns.{Fits, Left}
 use Rattle.bench.proofs.Guards.{Long, long-of}
@@ -50,7 +47,7 @@ abbrev number : Told → ℕ
 number (told.Ask w) = 0
 number (told.Send w) = 1
 number (told.Take w) = 2
-number (told.Note n) = 3
+number told.Note = 3
 
 -- two that differ
 abbrev Same : Told → Told → Type 0
@@ -60,7 +57,7 @@ same : (p : Told) → Same p p
 same (told.Ask w) = tt
 same (told.Send w) = tt
 same (told.Take w) = tt
-same (told.Note n) = tt
+same told.Note = tt
 
 apart : {p q : Told} → p ≡ q → Same p q
 apart {p} {q} e = subst (Same p) e (same p)
@@ -69,30 +66,19 @@ abbrev ask-in : Asking → Told → Asking
 ask-in d (told.Ask w) = w
 ask-in d (told.Send w) = d
 ask-in d (told.Take w) = d
-ask-in d (told.Note n) = d
+ask-in d told.Note = d
 
 abbrev send-in : Going → Told → Going
 send-in d (told.Ask w) = d
 send-in d (told.Send w) = w
 send-in d (told.Take w) = d
-send-in d (told.Note n) = d
+send-in d told.Note = d
 
 abbrev take-in : Coming → Told → Coming
 take-in d (told.Ask w) = d
 take-in d (told.Send w) = d
 take-in d (told.Take w) = w
-take-in d (told.Note n) = d
-
-abbrev note-in : ℕ → Told → ℕ
-note-in d (told.Ask w) = d
-note-in d (told.Send w) = d
-note-in d (told.Take w) = d
-note-in d (told.Note n) = n
-
--- a send leaves the entries
-send-run : (i : ℕ) (k : Counter) (buffer : List ℕ) (x : Lent) → perform (send i k buffer) x .run ≡ x .run
-unfolding perform
-send-run i k buffer x = either (λ (o : Outcome). o .run ≡ x .run) (guard (OnLink i) x) (λ _. refl) (λ _. refl)
+take-in d told.Note = d
 
 module _ (file : List ℕ) (t : ClassTable) (h : Header) (b : Bench) (f : Fits file h t b) (more : b .done < h .events) where
   long : Long h (lengthsOf b)
@@ -112,16 +98,15 @@ module _ (file : List ℕ) (t : ClassTable) (h : Header) (b : Bench) (f : Fits f
 
   -- ---- one asks what there is
 
-  asks-there : (k : ℕ) (q : Request) → k < h .hosts → AskFits (askOf file (b .done) k q) (b .hosts) (b .copies) (b .answers)
+  asks-there : (k : ℕ) (q : Request) → k < h .hosts → AskFits (askOf file k q) (b .hosts) (b .copies)
   asks-there k q l =
       record {
         host = omega (arith, l, f .sections .few-hosts);
         there = omega (arith, l, long .hosts);
         copy = omega (arith, l, long .copies);
-        event = omega (arith, more, long .answers);
       }
 
-  sends-there : (c i n : ℕ) (k : Counter) → Sendable file h c i n → SendFits (sendOf file h (b .done) c i n k) (b .hosts) (b .copies) (b .slots) (b .answers)
+  sends-there : (c i n : ℕ) (k : Counter) → Sendable file h c i n → SendFits (sendOf file h c i n k) (b .hosts) (b .copies) (b .slots)
   sends-there c i n k s =
       record {
         host = omega (arith, s .host, f .sections .few-hosts);
@@ -131,10 +116,9 @@ module _ (file : List ℕ) (t : ClassTable) (h : Header) (b : Bench) (f : Fits f
         side = s .side;
         slot = s .slot;
         room = long .slots;
-        event = omega (arith, more, long .answers);
       }
 
-  takes-there : (n : ℕ) (k : Counter) → Takable file h (b .slots) n → TakeFits (takeOf file (b .slots) h (b .done) n k) (b .hosts) (b .copies) (b .slots) (b .answers)
+  takes-there : (n : ℕ) (k : Counter) → Takable file h (b .slots) n → TakeFits (takeOf file (b .slots) h n k) (b .hosts) (b .copies) (b .slots)
   takes-there n k s =
       record {
         host = omega (arith, s .host, f .sections .few-hosts);
@@ -143,18 +127,17 @@ module _ (file : List ℕ) (t : ClassTable) (h : Header) (b : Bench) (f : Fits f
         slot = s .slot;
         size = s .size;
         room = long .slots;
-        event = omega (arith, more, long .answers);
       }
 
   -- by which of the four it is
-  by-which : (p : Told) → Tells (b .slots) (b .done) (eventAt file h (b .done)) p → (P : After → Type 0)
-      → ((k : ℕ) (q : Request) → k < h .hosts → OnlyAsk (b .done) k q p → P (asked file t h k q b))
-      → ((c s n : ℕ) (k : Counter) → Sendable file h c s n → OnlySend (b .done) c s n k p → P (sent file t h (endAt file h c s) c s n k b))
-      → ((n : ℕ) (k : Counter) → empty n (b .slots) ≡ false → Takable file h (b .slots) n → OnlyTake (b .done) n k p → P (taken file t h (farEnd file h n (b .slots)) n k b))
-      → (OnlyNote (b .done) p → P record { bench = b; answer = IpForm })
+  by-which : (p : Told) → Tells (b .slots) (eventAt file h (b .done)) p → (P : After → Type 0)
+      → ((k : ℕ) (q : Request) → k < h .hosts → OnlyAsk k q p → P (asked file t h k q b))
+      → ((c s n : ℕ) (k : Counter) → Sendable file h c s n → OnlySend c s n k p → P (sent file t h (endAt file h c s) c s n k b))
+      → ((n : ℕ) (k : Counter) → empty n (b .slots) ≡ false → Takable file h (b .slots) n → OnlyTake n k p → P (taken file t h (farEnd file h n (b .slots)) n k b))
+      → (OnlyNote p → P record { bench = b; answer = IpForm })
       → P (carried file t h (eventAt file h (b .done)) b)
   by-which p o P asks sends takes notes =
-      which file t h (event-fits .cables) b (f .slots) (b .done) p P asks sends takes notes (eventAt file h (b .done)) (event-fits .good) o
+      which file t h (event-fits .cables) b (f .slots) p P asks sends takes notes (eventAt file h (b .done)) (event-fits .good) o
 
   -- what is left, of the header that the file has
   left-of : {hosts′ : List HostState} {run′ : List Entry} {slots′ answers′ : List ℕ} → Left (kept (carried file t h (eventAt file h (b .done)) b)) hosts′ run′ slots′ answers′ → Left (next file t b) hosts′ run′ slots′ answers′
@@ -162,15 +145,15 @@ module _ (file : List ℕ) (t : ClassTable) (h : Header) (b : Bench) (f : Fits f
   left-of {hosts′} {run′} {slots′} {answers′} l = subst (λ (g : Header). Left (kept (carried file t g (eventAt file g (b .done)) b)) hosts′ run′ slots′ answers′) (f .header) l
 
   abbrev ask-made : Asking → Ask
-  ask-made x = askOf file (x .event) (x .host) (x .request)
+  ask-made x = askOf file (x .host) (x .request)
 
   abbrev send-made : Going → Sending
-  send-made x = sendOf file h (x .event) (x .cable) (x .side) (x .slot) (x .counter)
+  send-made x = sendOf file h (x .cable) (x .side) (x .slot) (x .counter)
 
   abbrev take-made : Coming → Taking
-  take-made x = takeOf file (b .slots) h (x .event) (x .slot) (x .counter)
+  take-made x = takeOf file (b .slots) h (x .slot) (x .counter)
 
-  module _ (x : Asking) (o : Tells (b .slots) (b .done) (eventAt file h (b .done)) (told.Ask x)) where
+  module _ (x : Asking) (o : Tells (b .slots) (eventAt file h (b .done)) (told.Ask x)) where
     pub ask-named : Sections h (length file) × (x .host < h .hosts)
     ask-named =
         by-which (told.Ask x) o (λ _. Sections h (length file) × (x .host < h .hosts))
@@ -180,23 +163,23 @@ module _ (file : List ℕ) (t : ClassTable) (h : Header) (b : Bench) (f : Fits f
         (λ e. absurd (apart e))
 
     module _ (w : Ask) (w-is : w ≡ ask-made x) where
-      pub ask-fits : AskFits w (b .hosts) (b .copies) (b .answers)
+      pub ask-fits : AskFits w (b .hosts) (b .copies)
       ask-fits =
-          by-which (told.Ask x) o (λ _. AskFits w (b .hosts) (b .copies) (b .answers))
-          (λ k q l e. subst⁻¹ (λ (z : Ask). AskFits z (b .hosts) (b .copies) (b .answers)) (w-is ∙ ap ask-made (ap (ask-in x) e)) (asks-there k q l))
+          by-which (told.Ask x) o (λ _. AskFits w (b .hosts) (b .copies))
+          (λ k q l e. subst⁻¹ (λ (z : Ask). AskFits z (b .hosts) (b .copies)) (w-is ∙ ap ask-made (ap (ask-in x) e)) (asks-there k q l))
           (λ c s n k l e. absurd (apart e))
           (λ n k em l e. absurd (apart e))
           (λ e. absurd (apart e))
 
-      pub ask-left : (hosts′ : List HostState) (run′ : List Entry) (answers′ : List ℕ) → AskLeaves w t (b .hosts) (b .copies) (b .run) (b .answers) hosts′ run′ answers′ → Left (next file t b) hosts′ run′ (b .slots) answers′
-      ask-left hosts′ run′ answers′ did =
+      pub ask-left : (hosts′ : List HostState) (run′ : List Entry) (r : Reply) (answers′ : List ℕ) → AskLeaves w t (b .hosts) (b .copies) (b .run) hosts′ run′ r → answers′ ≡ set (b .answers) (b .done) (answered (r .answer)) → Left (next file t b) hosts′ run′ (b .slots) answers′
+      ask-left hosts′ run′ r answers′ did is =
           left-of (by-which (told.Ask x) o (λ (a : After). Left (kept a) hosts′ run′ (b .slots) answers′)
-          (λ k q l e. let d = subst (λ (z : Ask). AskDone z t (b .hosts) (b .copies) (b .run) (b .answers) hosts′ run′ answers′ (freshHost file k)) (w-is ∙ ap ask-made (ap (ask-in x) e)) (did (freshHost file k)) in record { hosts = d .states; run = d .entries; slots = refl; answers = d .kept })
+          (λ k q l e. let d = subst (λ (z : Ask). AskDone z t (b .hosts) (b .copies) (b .run) hosts′ run′ r (freshHost file k)) (w-is ∙ ap ask-made (ap (ask-in x) e)) (did (freshHost file k)) in record { hosts = d .states; run = d .entries; slots = refl; answers = is ∙ ap (λ (q : Reply). set (b .answers) (b .done) (answered (q .answer))) (d .reply) })
           (λ c s n k l e. absurd (apart e))
           (λ n k em l e. absurd (apart e))
           (λ e. absurd (apart e)))
 
-  module _ (x : Going) (o : Tells (b .slots) (b .done) (eventAt file h (b .done)) (told.Send x)) where
+  module _ (x : Going) (o : Tells (b .slots) (eventAt file h (b .done)) (told.Send x)) where
     pub send-named : Sections h (length file) × (x .cable < h .cables) × (x .side ≤ 1) × (endAt file h (x .cable) (x .side) .host < h .hosts)
     send-named =
         by-which (told.Send x) o (λ _. Sections h (length file) × (x .cable < h .cables) × (x .side ≤ 1) × (endAt file h (x .cable) (x .side) .host < h .hosts))
@@ -206,23 +189,23 @@ module _ (file : List ℕ) (t : ClassTable) (h : Header) (b : Bench) (f : Fits f
         (λ e. absurd (apart e))
 
     module _ (w : Sending) (w-is : w ≡ send-made x) where
-      pub send-fits : SendFits w (b .hosts) (b .copies) (b .slots) (b .answers)
+      pub send-fits : SendFits w (b .hosts) (b .copies) (b .slots)
       send-fits =
-          by-which (told.Send x) o (λ _. SendFits w (b .hosts) (b .copies) (b .slots) (b .answers))
+          by-which (told.Send x) o (λ _. SendFits w (b .hosts) (b .copies) (b .slots))
           (λ k q l e. absurd (apart e))
-          (λ c s n k l e. subst⁻¹ (λ (z : Sending). SendFits z (b .hosts) (b .copies) (b .slots) (b .answers)) (w-is ∙ ap send-made (ap (send-in x) e)) (sends-there c s n k l))
+          (λ c s n k l e. subst⁻¹ (λ (z : Sending). SendFits z (b .hosts) (b .copies) (b .slots)) (w-is ∙ ap send-made (ap (send-in x) e)) (sends-there c s n k l))
           (λ n k em l e. absurd (apart e))
           (λ e. absurd (apart e))
 
-      pub send-left : (hosts′ : List HostState) (slots′ answers′ : List ℕ) → SendLeaves w t (b .hosts) (b .copies) (b .run) (b .slots) (b .answers) hosts′ slots′ answers′ → Left (next file t b) hosts′ (b .run) slots′ answers′
-      send-left hosts′ slots′ answers′ did =
+      pub send-left : (hosts′ : List HostState) (slots′ : List ℕ) (r : Reply) (answers′ : List ℕ) → SendLeaves w t (b .hosts) (b .copies) (b .run) (b .slots) hosts′ slots′ r → answers′ ≡ set (b .answers) (b .done) (answered (r .answer)) → Left (next file t b) hosts′ (b .run) slots′ answers′
+      send-left hosts′ slots′ r answers′ did is =
           left-of (by-which (told.Send x) o (λ (a : After). Left (kept a) hosts′ (b .run) slots′ answers′)
           (λ k q l e. absurd (apart e))
-          (λ c s n k l e. let d = subst (λ (z : Sending). SendDone z t (b .hosts) (b .copies) (b .run) (b .slots) (b .answers) hosts′ slots′ answers′ (freshHost file (endAt file h c s .host))) (w-is ∙ ap send-made (ap (send-in x) e)) (did (freshHost file (endAt file h c s .host))) in record { hosts = d .states; run = sym (send-run (endAt file h c s .link) k (roomOf n (b .slots)) (lentAt file t (endAt file h c s .host) b)); slots = d .slots; answers = d .kept })
+          (λ c s n k l e. let d = subst (λ (z : Sending). SendDone z t (b .hosts) (b .copies) (b .run) (b .slots) hosts′ slots′ r (freshHost file (endAt file h c s .host))) (w-is ∙ ap send-made (ap (send-in x) e)) (did (freshHost file (endAt file h c s .host))) in record { hosts = d .states; run = sym (keeps (lentAt file t (endAt file h c s .host) b) (endAt file h c s .link) k (roomOf n (b .slots)) .entries); slots = d .slots; answers = is ∙ ap (λ (q : Reply). set (b .answers) (b .done) (answered (q .answer))) (d .reply) })
           (λ n k em l e. absurd (apart e))
           (λ e. absurd (apart e)))
 
-  module _ (x : Coming) (o : Tells (b .slots) (b .done) (eventAt file h (b .done)) (told.Take x)) where
+  module _ (x : Coming) (o : Tells (b .slots) (eventAt file h (b .done)) (told.Take x)) where
     pub take-named : Sections h (length file) × (cablesGood file h ≡ true) × (slotLength * slots ≤ length (b .slots)) × (slotsGood h (b .slots) ≡ true) × (x .slot < slots) × (empty (x .slot) (b .slots) ≡ false)
     take-named =
         by-which (told.Take x) o (λ _. Sections h (length file) × (cablesGood file h ≡ true) × (slotLength * slots ≤ length (b .slots)) × (slotsGood h (b .slots) ≡ true) × (x .slot < slots) × (empty (x .slot) (b .slots) ≡ false))
@@ -232,31 +215,28 @@ module _ (file : List ℕ) (t : ClassTable) (h : Header) (b : Bench) (f : Fits f
         (λ e. absurd (apart e))
 
     module _ (w : Taking) (w-is : w ≡ take-made x) where
-      pub take-fits : TakeFits w (b .hosts) (b .copies) (b .slots) (b .answers)
+      pub take-fits : TakeFits w (b .hosts) (b .copies) (b .slots)
       take-fits =
-          by-which (told.Take x) o (λ _. TakeFits w (b .hosts) (b .copies) (b .slots) (b .answers))
+          by-which (told.Take x) o (λ _. TakeFits w (b .hosts) (b .copies) (b .slots))
           (λ k q l e. absurd (apart e))
           (λ c s n k l e. absurd (apart e))
-          (λ n k em l e. subst⁻¹ (λ (z : Taking). TakeFits z (b .hosts) (b .copies) (b .slots) (b .answers)) (w-is ∙ ap take-made (ap (take-in x) e)) (takes-there n k l))
+          (λ n k em l e. subst⁻¹ (λ (z : Taking). TakeFits z (b .hosts) (b .copies) (b .slots)) (w-is ∙ ap take-made (ap (take-in x) e)) (takes-there n k l))
           (λ e. absurd (apart e))
 
-      pub take-left : (hosts′ : List HostState) (run′ : List Entry) (answers′ : List ℕ) → TakeLeaves w t (b .hosts) (b .copies) (b .run) (b .slots) (b .answers) hosts′ run′ answers′ → Left (next file t b) hosts′ run′ (b .slots) answers′
-      take-left hosts′ run′ answers′ did =
+      pub take-left : (hosts′ : List HostState) (run′ : List Entry) (r : Reply) (answers′ : List ℕ) → TakeLeaves w t (b .hosts) (b .copies) (b .run) (b .slots) hosts′ run′ r → answers′ ≡ set (b .answers) (b .done) (answered (r .answer)) → Left (next file t b) hosts′ run′ (b .slots) answers′
+      take-left hosts′ run′ r answers′ did is =
           left-of (by-which (told.Take x) o (λ (a : After). Left (kept a) hosts′ run′ (b .slots) answers′)
           (λ k q l e. absurd (apart e))
           (λ c s n k l e. absurd (apart e))
-          (λ n k em l e. let d = subst (λ (z : Taking). TakeDone z t (b .hosts) (b .copies) (b .run) (b .slots) (b .answers) hosts′ run′ answers′ (freshHost file (farEnd file h n (b .slots) .host))) (w-is ∙ ap take-made (ap (take-in x) e)) (did (freshHost file (farEnd file h n (b .slots) .host))) in record { hosts = d .states; run = d .entries; slots = refl; answers = d .kept })
+          (λ n k em l e. let d = subst (λ (z : Taking). TakeLeaves z t (b .hosts) (b .copies) (b .run) (b .slots) hosts′ run′ r) (w-is ∙ ap take-made (ap (take-in x) e)) did (freshHost file (farEnd file h n (b .slots) .host)) in record { hosts = d .states; run = d .entries; slots = refl; answers = is ∙ ap (λ (q : Reply). set (b .answers) (b .done) (answered (q .answer))) (d .reply) })
           (λ e. absurd (apart e)))
 
-  module _ (n : ℕ) (o : Tells (b .slots) (b .done) (eventAt file h (b .done)) (told.Note n)) where
-    noted : n ≡ b .done
-    noted = by-which (told.Note n) o (λ _. n ≡ b .done) (λ k q l e. absurd (apart e)) (λ c s m k l e. absurd (apart e)) (λ m k em l e. absurd (apart e)) (λ e. ap (note-in n) e)
+  -- the event's answer has a place
+  pub answer-fits : b .done < length (b .answers)
+  answer-fits = omega (arith, more, long .answers)
 
-    pub note-fits : n < length (b .answers)
-    note-fits = omega (arith, noted, more, long .answers)
-
-    pub note-left : (answers′ : List ℕ) → answers′ ≡ set (b .answers) n (answered IpForm) → Left (next file t b) (b .hosts) (b .run) (b .slots) answers′
-    note-left answers′ is =
-        left-of (by-which (told.Note n) o (λ (a : After). Left (kept a) (b .hosts) (b .run) (b .slots) answers′)
-        (λ k q l e. absurd (apart e)) (λ c s m k l e. absurd (apart e)) (λ m k em l e. absurd (apart e))
-        (λ e. record { hosts = refl; run = refl; slots = refl; answers = is ∙ ap (λ (m : ℕ). set (b .answers) m (answered IpForm)) (ap (note-in n) e) }))
+  pub note-left : Tells (b .slots) (eventAt file h (b .done)) told.Note → (answers′ : List ℕ) → answers′ ≡ set (b .answers) (b .done) (answered IpForm) → Left (next file t b) (b .hosts) (b .run) (b .slots) answers′
+  note-left o answers′ is =
+      left-of (by-which told.Note o (λ (a : After). Left (kept a) (b .hosts) (b .run) (b .slots) answers′)
+      (λ k q l e. absurd (apart e)) (λ c s m k l e. absurd (apart e)) (λ m k em l e. absurd (apart e))
+      (λ e. record { hosts = refl; run = refl; slots = refl; answers = is }))

@@ -2,30 +2,20 @@
 use mathlib.Core.List.{[], _∷_}
 use Rattle.lent.proofs.Words.{Data, struct-part, enum-part, usize-part}
 use Rattle.lent.proofs.Choices.{Choices}
-use Rattle.lent.proofs.Outcomes.{Outcome, behind, whole}
+use Rattle.lent.proofs.Outcomes.{Outcome, behind}
 use Rattle.clock.proofs.Types.{clock, counter}
 use Rattle.host.proofs.Types.{settings, links, walk, reply}
-use Rattle.calls.proofs.Types.{request, delivery}
+use Rattle.calls.proofs.Types.{request}
 use Rattle.bench.proofs.at_host.Left as Left
 use Rattle.bench.proofs.at_host.Left.Laws as Left′
 use Rattle.bench.proofs.requests.Ask as Ask
 use Rattle.bench.proofs.requests.Ask.Laws as Ask′
-use Rattle.bench.proofs.requests.Asked as Asked
-use Rattle.bench.proofs.requests.Asked.Laws as Asked′
-use Rattle.bench.proofs.takes.Taken as Taken
-use Rattle.bench.proofs.takes.Taken.Laws as Taken′
 use Rattle.bench.proofs.takes.Taking as Taking
 use Rattle.bench.proofs.takes.Taking.Laws as Taking′
 use Rattle.bench.proofs.sends.Sending as Sending
 use Rattle.bench.proofs.sends.Sending.Laws as Sending′
-use Rattle.bench.proofs.sends.Sent as Sent
-use Rattle.bench.proofs.sends.Sent.Laws as Sent′
 use Rattle.bench.proofs.HostState as HostState
 use Rattle.bench.proofs.HostState.Laws as HostState′
-use Rattle.bench.proofs.states.Seek as Seek
-use Rattle.bench.proofs.states.Seek.Laws as Seek′
-use Rattle.bench.proofs.states.Other as Other
-use Rattle.bench.proofs.states.Other.Laws as Other′
 use Rattle.bench.proofs.told.Turns as Turns
 use Rattle.bench.proofs.told.Turns.Laws as Turns′
 use Rattle.bench.proofs.told.Asking as Asking
@@ -39,38 +29,6 @@ use Rattle.bench.proofs.told.Told.Laws as Told′
 
 abbrev pub state : Data
 state = record { S = HostState.the-type; L = HostState′.the-laws; P = HostState′.the-plain; low = HostState′.lowers; copies = HostState′.the-copy }
-
-abbrev pub seek : Outcome (usize-part ∷ usize-part ∷ struct-part state ∷ [])
-seek = record {
-  form = record {
-    name = Seek.the-type .name;
-    D = Seek.the-type .D;
-    read = λ w. (w .first, (w .end, (w .state, tt)));
-    behind = [];
-    rest = λ w. tt;
-    one = Seek.the-type .to-one;
-  };
-  behind-laws = tt;
-  behind-plain = tt;
-  low = Seek′.lowers;
-  copies = Seek′.the-copy;
-}
-
-abbrev pub other : Outcome (usize-part ∷ usize-part ∷ [])
-other = record {
-  form = record {
-    name = Other.the-type .name;
-    D = Other.the-type .D;
-    read = λ w. (w .first, (w .end, tt));
-    behind = behind (Other.the-type .parts) 2;
-    rest = λ w. Other.the-type .to w .1 .1;
-    one = Other.the-type .to-one;
-  };
-  behind-laws = Other′.the-laws .1 .1;
-  behind-plain = Other′.the-plain .1 .1;
-  low = Other′.lowers;
-  copies = Other′.the-copy;
-}
 
 abbrev pub standing : Outcome (struct-part clock ∷ struct-part links ∷ struct-part walk ∷ [])
 standing = record {
@@ -104,62 +62,53 @@ left = record {
   copies = Left′.the-copy;
 }
 
-abbrev pub sending : Data
-sending = record { S = Sending.the-type; L = Sending′.the-laws; P = Sending′.the-plain; low = Sending′.lowers; copies = Sending′.the-copy }
-
-abbrev pub sent : Outcome (struct-part settings ∷ usize-part ∷ usize-part ∷ struct-part counter ∷ [])
-sent = record {
+abbrev pub ask : Outcome (usize-part ∷ struct-part settings ∷ enum-part request ∷ [])
+ask = record {
   form = record {
-    name = Sent.the-type .name;
-    D = Sent.the-type .D;
-    read = λ q. (q .settings, (q .number, (q .link, (q .counter, tt))));
+    name = Ask.the-type .name;
+    D = Ask.the-type .D;
+    read = λ w. (w .host, (w .settings, (w .request, tt)));
     behind = [];
     rest = λ w. tt;
-    one = Sent.the-type .to-one;
+    one = Ask.the-type .to-one;
   };
   behind-laws = tt;
   behind-plain = tt;
-  low = Sent′.lowers;
-  copies = Sent′.the-copy;
+  low = Ask′.lowers;
+  copies = Ask′.the-copy;
 }
 
-abbrev pub asked : Outcome (struct-part settings ∷ usize-part ∷ enum-part request ∷ [])
-asked = record {
+abbrev pub sending : Outcome (usize-part ∷ usize-part ∷ struct-part settings ∷ usize-part ∷ struct-part counter ∷ [])
+sending = record {
   form = record {
-    name = Asked.the-type .name;
-    D = Asked.the-type .D;
-    read = λ q. (q .settings, (q .number, (q .request, tt)));
+    name = Sending.the-type .name;
+    D = Sending.the-type .D;
+    read = λ w. (w .host, (w .slot, (w .settings, (w .link, (w .counter, tt)))));
+    behind = behind (Sending.the-type .parts) 5;
+    rest = λ w. Sending.the-type .to w .1 .1 .1 .1 .1;
+    one = Sending.the-type .to-one;
+  };
+  behind-laws = Sending′.the-laws .1 .1 .1 .1 .1;
+  behind-plain = Sending′.the-plain .1 .1 .1 .1 .1;
+  low = Sending′.lowers;
+  copies = Sending′.the-copy;
+}
+
+abbrev pub taking : Outcome (usize-part ∷ usize-part ∷ usize-part ∷ struct-part settings ∷ usize-part ∷ struct-part counter ∷ [])
+taking = record {
+  form = record {
+    name = Taking.the-type .name;
+    D = Taking.the-type .D;
+    read = λ w. (w .host, (w .slot, (w .size, (w .settings, (w .link, (w .counter, tt))))));
     behind = [];
     rest = λ w. tt;
-    one = Asked.the-type .to-one;
+    one = Taking.the-type .to-one;
   };
   behind-laws = tt;
   behind-plain = tt;
-  low = Asked′.lowers;
-  copies = Asked′.the-copy;
+  low = Taking′.lowers;
+  copies = Taking′.the-copy;
 }
-
-abbrev pub ask : Data
-ask = record { S = Ask.the-type; L = Ask′.the-laws; P = Ask′.the-plain; low = Ask′.lowers; copies = Ask′.the-copy }
-
-abbrev pub taken : Outcome (struct-part settings ∷ usize-part ∷ enum-part delivery ∷ [])
-taken = record {
-  form = record {
-    name = Taken.the-type .name;
-    D = Taken.the-type .D;
-    read = λ q. (q .settings, (q .number, (q .delivery, tt)));
-    behind = [];
-    rest = λ w. tt;
-    one = Taken.the-type .to-one;
-  };
-  behind-laws = tt;
-  behind-plain = tt;
-  low = Taken′.lowers;
-  copies = Taken′.the-copy;
-}
-
-abbrev pub taking : Data
-taking = record { S = Taking.the-type; L = Taking′.the-laws; P = Taking′.the-plain; low = Taking′.lowers; copies = Taking′.the-copy }
 
 -- ---- events
 
@@ -188,7 +137,7 @@ going = record { S = Going.the-type; L = Going′.the-laws; P = Going′.the-pla
 abbrev pub coming : Data
 coming = record { S = Coming.the-type; L = Coming′.the-laws; P = Coming′.the-plain; low = Coming′.lowers; copies = Coming′.the-copy }
 
-abbrev pub told : Choices ((struct-part asking ∷ []) ∷ (struct-part going ∷ []) ∷ (struct-part coming ∷ []) ∷ (usize-part ∷ []) ∷ [])
+abbrev pub told : Choices ((struct-part asking ∷ []) ∷ (struct-part going ∷ []) ∷ (struct-part coming ∷ []) ∷ [] ∷ [])
 told = record {
   form = record {
     name = Told.the-type .name;

@@ -25,8 +25,8 @@ use Rattle.bench.specs.code.Told.{OnlyAsk, OnlySend, OnlyTake, OnlyNote,
 use Rattle.bench.proofs.Named.{end-host, filled, send-names, arrival-names}
 
 -- one event for another
-pub tells-as : (octets : List ℕ) (i : ℕ) (p : Told) {e f : Event} → e ≡ f → Tells octets i f p → Tells octets i e p
-tells-as octets i p is o = subst⁻¹ (λ (x : Event). Tells octets i x p) is o
+pub tells-as : (octets : List ℕ) (p : Told) {e f : Event} → e ≡ f → Tells octets f p → Tells octets e p
+tells-as octets p is o = subst⁻¹ (λ (x : Event). Tells octets x p) is o
 
 -- a send's numbers, and an arrival's, where the file passes
 pub record Sendable (file : List ℕ) (h : Header) (c i n : ℕ) : Type 0 where
@@ -51,12 +51,12 @@ module _ (file : List ℕ) (t : ClassTable) (h : Header) (cables : cablesGood fi
       let f = filled h (b .slots) labels n l e in
       record { slot = l; size = f .0; host = end-host file h cables (labelOf n (b .slots) .cable) (1 - labelOf n (b .slots) .end) (f .1) (omega arith) }
 
-  module _ (i : ℕ) (p : Told) (P : After → Type 0)
-      (asks : (k : ℕ) (q : Request) → k < h .hosts → OnlyAsk i k q p → P (asked file t h k q b))
-      (sends : (c s n : ℕ) (k : Counter) → Sendable file h c s n → OnlySend i c s n k p → P (sent file t h (endAt file h c s) c s n k b))
-      (takes : (n : ℕ) (k : Counter) → empty n (b .slots) ≡ false → Takable file h (b .slots) n → OnlyTake i n k p → P (taken file t h (farEnd file h n (b .slots)) n k b))
-      (notes : OnlyNote i p → P record { bench = b; answer = IpForm }) where
-    pub which : (e : Event) → eventGood h e ≡ true → Tells (b .slots) i e p → P (carried file t h e b)
+  module _ (p : Told) (P : After → Type 0)
+      (asks : (k : ℕ) (q : Request) → k < h .hosts → OnlyAsk k q p → P (asked file t h k q b))
+      (sends : (c s n : ℕ) (k : Counter) → Sendable file h c s n → OnlySend c s n k p → P (sent file t h (endAt file h c s) c s n k b))
+      (takes : (n : ℕ) (k : Counter) → empty n (b .slots) ≡ false → Takable file h (b .slots) n → OnlyTake n k p → P (taken file t h (farEnd file h n (b .slots)) n k b))
+      (notes : OnlyNote p → P record { bench = b; answer = IpForm }) where
+    pub which : (e : Event) → eventGood h e ≡ true → Tells (b .slots) e p → P (carried file t h e b)
     which (Tick k n) g o = asks k _ (ltb-true k (h .hosts) g) o
     which (Adjust k n) g o = asks k _ (ltb-true k (h .hosts) g) o
     which (Set k ms n) g o = asks k _ (ltb-true k (h .hosts) g) o

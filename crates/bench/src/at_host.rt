@@ -1,6 +1,6 @@
 // A call at a host whose state is held by value: it is lent for the call, with all else that a call is lent.
 ghost use Rattle.calls.specs.Perform.{ask, deliver};
-ghost use Rattle.bench.specs.code.Left.{WritesEntries, WritesBuffer};
+ghost use Rattle.bench.specs.code.Left.{Inspects, WritesEntries, WritesBuffer};
 use arrival::Delivery;
 use calls::Request;
 use class_table::ClassTable;
@@ -80,6 +80,34 @@ pub fn sent(
         counter,
         buffer,
     );
+    Left {
+        reply: a,
+        clock: c,
+        links: l,
+        walk: v,
+    }
+}
+
+// A packet is inspected.
+pub fn inspected(
+    settings: Settings,
+    nets: &ClassTable,
+    number: usize,
+    clock: Clock,
+    links: Links,
+    walk: Walk,
+    copy: &[u8],
+    run: &[Entry],
+    link: usize,
+    packet: &[u8],
+) -> Left
+    ensures { λ r. ⌜ Inspects settings nets number clock links walk copy run link packet r ⌝ }
+{
+    let s = settings;
+    let c = clock;
+    let l = links;
+    let v = walk;
+    let a = calls::inspect(&s, nets, number, &c, &l, &v, copy, run, link, packet);
     Left {
         reply: a,
         clock: c,

@@ -2,13 +2,14 @@
 ghost use Rattle.bench.specs.Bench.{bench};
 ghost use Rattle.bench.specs.code.Turns.{NextFits, NextLeaves, TurnsFit, TurnsLeave};
 use super::HostState;
+use super::places::keep_answer;
+use super::places::note;
 use super::requests::ask_at;
 use super::sends::send_at;
 use super::takes::take_at;
 use super::told::Told;
 use super::told::Turns;
 use super::told::ask_of;
-use super::told::keep;
 use super::told::send_of;
 use super::told::take_of;
 use super::told::tell;
@@ -34,17 +35,20 @@ pub fn event_at(
     match p {
         Told::Ask(x) => {
             let a = ask_of(file, w, x);
-            ask_at(nets, hosts, copies, run, answers, a);
+            let r = ask_at(nets, hosts, copies, run, a);
+            keep_answer(answers, i, r);
         }
         Told::Send(y) => {
             let s = send_of(file, w, y);
-            send_at(nets, hosts, copies, run, slots, answers, s);
+            let r = send_at(nets, hosts, copies, run, slots, s);
+            keep_answer(answers, i, r);
         }
         Told::Take(z) => {
             let t = take_of(file, slots, w, z);
-            take_at(nets, hosts, copies, run, slots, answers, t);
+            let r = take_at(nets, hosts, copies, run, slots, t);
+            keep_answer(answers, i, r);
         }
-        Told::Note(n) => keep(answers, n),
+        Told::Note => note(answers, i),
     }
 }
 

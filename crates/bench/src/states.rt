@@ -1,58 +1,35 @@
 // The states of the hosts, of which one is read, and one replaced.
 ghost use mathlib.Core.Path.{_≡_};
-ghost use lib.ListN.{getD, set};
-ghost use Rattle.bench.specs.code.States.{OneOf};
+ghost use Prim.Native.Nat.{_<_};
+ghost use lib.ListN.{length, set};
+ghost use Rattle.bench.specs.code.States.{StateAt};
 use super::HostState;
+use super::at_host::Left;
 
-// The place of a state, and what stands for it where there is none.
-pub struct Seek {
-    pub first: usize,
-    pub end: usize,
-    pub state: HostState,
-}
-
-// The place of a state, and another.
-pub struct Other {
-    pub first: usize,
-    pub end: usize,
-    pub state: HostState,
-}
-
-fn latest(known: HostState, state: HostState, i: usize, w: Seek) -> HostState
-    ensures { λ r. ⌜ r ≡ state ⌝ }
+pub fn state_at(hosts: &[HostState], i: usize) -> HostState
+    requires { ⌜ i < length (now hosts) ⌝ }
+    ensures { λ r. ⌜ StateAt (now (hosts .entry)) i r ⌝ }
 {
-    state
+    hosts[i]
 }
 
-pub fn state_of(hosts: &[HostState], w: Seek) -> HostState
-    requires { ⌜ OneOf (w .first) (w .end) (now hosts) ⌝ }
-    ensures { λ r. ⌜ r ≡ getD (now (hosts .entry)) (w .first) (w .state) ⌝ }
+pub fn put_state(hosts: &mut [HostState], i: usize, state: HostState)
+    requires { ⌜ i < length (now hosts) ⌝ }
+    ensures { λ _. ⌜ now (hosts .exit) ≡ set (now (hosts .entry)) i state ⌝ }
 {
-    let end = w.end;
-    let mut i = w.first;
-    let mut state = w.state;
-    while i < end {
-        state = latest(state, hosts[i], i, w);
-        i = i + 1;
-    }
-    state
+    hosts[i] = state;
 }
 
-fn replaced(state: HostState, i: usize, w: Other) -> HostState
-    ensures { λ r. ⌜ r ≡ w .state ⌝ }
+// The host after a call.
+pub fn state_after(o: Left) -> HostState
+    ensures { λ r. ⌜ r ≡ record { clock = o .clock; links = o .links; walk = o .walk } ⌝ }
 {
-    w.state
-}
-
-pub fn replace(hosts: &mut [HostState], w: Other)
-    requires { ⌜ OneOf (w .first) (w .end) (now hosts) ⌝ }
-    ensures { λ _. ⌜ now (hosts .exit) ≡ set (now (hosts .entry)) (w .first) (w .state) ⌝ }
-{
-    let end = w.end;
-    let mut i = w.first;
-    while i < end {
-        let state = replaced(hosts[i], i, w);
-        hosts[i] = state;
-        i = i + 1;
+    let c = o.clock;
+    let l = o.links;
+    let v = o.walk;
+    HostState {
+        clock: c,
+        links: l,
+        walk: v,
     }
 }

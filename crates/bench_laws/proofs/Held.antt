@@ -38,7 +38,7 @@ use Rattle.network.proofs.Pair.{pair-holds}
 use Rattle.bench_laws.specs.Bound.{fileRoom, Wired, ReadsAt, LaterThan, OnTime, sinceThen}
 use Rattle.bench_laws.proofs.Guards.{Ready}
 use Rattle.bench.proofs.Named.{cables-good, end-host, filled}
-use Rattle.bench.proofs.Sent.{fits}
+use Rattle.calls.proofs.SendKeeps.{keeps}
 use Rattle.bench_laws.proofs.Called.{Plain, plain}
 use Rattle.bench_laws.proofs.Packets as packets
 use Rattle.bench_laws.proofs.Tracks as tracking
@@ -130,10 +130,10 @@ module _ (file : List ℕ) (t : ClassTable) (first : Bench) (f : ℕ → ℤ) (c
       room = part-length (roomPlace n) guards.longest (b .slots) (omega (arith, ready .long .slots))
 
       full : length (o .buffer) ≡ guards.longest
-      full = fits (lentAt file u (e .host) b) (e .link) k (roomOf n (b .slots)) .room ∙ room
+      full = keeps (lentAt file u (e .host) b) (e .link) k (roomOf n (b .slots)) .room ∙ room
 
       few : done (o .reply .answer) ≡ true → o .reply .length ≤ guards.longest
-      few d = omega (arith, fits (lentAt file u (e .host) b) (e .link) k (roomOf n (b .slots)) .told d, room)
+      few d = omega (arith, keeps (lentAt file u (e .host) b) (e .link) k (roomOf n (b .slots)) .fits d, room)
 
       -- refused: the slots are as they were
       slots-kept : done (o .reply .answer) ≡ false → put-there ≡ b .slots

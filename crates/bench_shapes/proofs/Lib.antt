@@ -1,1 +1,3 @@
 pub mod made
+pub mod Gets
+pub mod Puts

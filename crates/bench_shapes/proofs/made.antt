@@ -1,5 +1,7 @@
+pub mod ActsAt
 pub mod AsksAt
 pub mod Events
+pub mod LooksAt
 pub mod RepeatsEvents
 pub mod RepeatsSets
 pub mod Runs
@@ -8,5 +10,6 @@ pub mod SetsAt
 pub mod SetsUp
 pub mod TakesAt
 pub mod WholeAsksAt
+pub mod WholeLooksAt
 pub mod WholeSendsAt
 pub mod WholeTakesAt

@@ -5,6 +5,7 @@ ghost use Rattle.calls.specs.declared.Request.the-variants.{Initialize, 
 ghost use Rattle.calls.specs.Perform.{ask, deliver, inspect, openWalk};
 ghost use Rattle.arrival.specs.Arrival.{onLink};
 ghost use Rattle.calls.specs.Contract.{Does, Sends};
+ghost use Rattle.calls.specs.Laws.{EverySendKeeps};
 use arrival::Delivery;
 use class_table::ClassTable;
 use clock::Clock;
@@ -362,6 +363,11 @@ pub fn send(
     *links = p.links;
     p.reply
 }
+
+// Every send keeps the entries and the buffer's length, and the length that it returns fits the buffer.
+pub fn send_keeps()
+    ensures { λ _. ⌜ EverySendKeeps ⌝ }
+{}
 
 // A packet is inspected; nothing changes.
 pub fn inspect(

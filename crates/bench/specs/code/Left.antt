@@ -10,7 +10,7 @@ use Rattle.host.specs.declared.Settings.{Settings}
 use Rattle.host.specs.declared.Links.{Links}
 use Rattle.host.specs.declared.walk.Walk.{Walk}
 use Rattle.host.specs.Lent.{Lent, lent}
-use Rattle.calls.specs.Perform.{Outcome, Call, send, perform}
+use Rattle.calls.specs.Perform.{Outcome, Call, send, inspect, perform}
 use Rattle.calls.specs.Contract.{Ref}
 use Rattle.bench.specs.declared.at_host.Left.{Left}
 
@@ -21,6 +21,10 @@ module _ (settings : Settings) (nets : Ref ClassTable) (number : ℕ) (clock : C
   -- the host at entry
   abbrev pub before : Lent
   before = lent settings (nets .entry .now) number clock links walk (copy .entry .now) (run .entry .now)
+
+  -- an inspection, which writes nothing
+  abbrev pub Inspects : (link : ℕ) → Ref (List ℕ) → Left → Type 0
+  Inspects link packet r = r ≡ leftOf (perform (inspect link (packet .entry .now)) before)
 
   -- a call that writes entries
   abbrev pub WritesEntries : Call → Left → Type 0

@@ -5,7 +5,6 @@ use mathlib.Core.List.{List}
 use Prim.Native.Nat.{ℕ, _+_, _*_, _≤_, _<_}
 use lib.ListN.{length, getD, set}
 use Rattle.lists.specs.Lists.{part}
-use Rattle.answer.specs.Answer.{number}
 use Rattle.class_table.specs.declared.ClassTable.{ClassTable}
 use Rattle.table.specs.declared.Entry.{Entry}
 use Rattle.host.specs.declared.Reply.{Reply}
@@ -19,7 +18,7 @@ use Rattle.bench.specs.declared.HostState.{HostState}
 use Rattle.bench.specs.declared.sends.Sending.{Sending}
 use Rattle.bench.specs.Slots.{slotLength, roomOf, withRoom, withLabel}
 
-pub record SendFits (w : Sending) (hosts : List HostState) (copies slots answers : List ℕ) : Type 0 where
+pub record SendFits (w : Sending) (hosts : List HostState) (copies slots : List ℕ) : Type 0 where
   pub host : w .host ≤ 15
   pub there : w .host < length hosts
   pub copy : longest * w .host + longest ≤ length copies
@@ -27,7 +26,6 @@ pub record SendFits (w : Sending) (hosts : List HostState) (copies slots answers
   pub side : w .side ≤ 1
   pub slot : w .slot < file.slots
   pub room : slotLength * file.slots ≤ length slots
-  pub event : w .event < length answers
 
 -- the label of what was sent; a refused send keeps the old one
 abbrev pub labelled : Sending → Reply → List ℕ → List ℕ
@@ -48,16 +46,16 @@ module _ (w : Sending) (t : ClassTable) (hosts : List HostState) (copies : List 
   slotsOf =
       labelled w (outcomeOf .reply) (withRoom (w .slot) (outcomeOf .buffer) slots)
 
-pub record SendDone (w : Sending) (t : ClassTable) (hosts : List HostState) (copies : List ℕ) (run : List Entry) (before answers : List ℕ) (hosts′ : List HostState) (slots′ answers′ : List ℕ) (d : HostState) : Type 0 where
+pub record SendDone (w : Sending) (t : ClassTable) (hosts : List HostState) (copies : List ℕ) (run : List Entry) (before : List ℕ) (hosts′ : List HostState) (slots′ : List ℕ) (r : Reply) (d : HostState) : Type 0 where
   pub states : hosts′ ≡ set hosts (w .host) record { clock = outcomeOf w t hosts copies run before d .clock; links = outcomeOf w t hosts copies run before d .links; walk = outcomeOf w t hosts copies run before d .walk }
   pub slots : slots′ ≡ slotsOf w t hosts copies run before d
-  pub kept : answers′ ≡ set answers (w .event) (number (outcomeOf w t hosts copies run before d .reply .answer))
+  pub reply : r ≡ outcomeOf w t hosts copies run before d .reply
 
 -- for every state that may stand for an absent host
-abbrev pub SendLeaves : Sending → ClassTable → List HostState → (copies : List ℕ) → List Entry → (slots answers : List ℕ) → List HostState → (slots′ answers′ : List ℕ) → Type 0
-SendLeaves w t hosts copies run slots answers hosts′ slots′ answers′ = (d : HostState) → SendDone w t hosts copies run slots answers hosts′ slots′ answers′ d
+abbrev pub SendLeaves : Sending → ClassTable → List HostState → (copies : List ℕ) → List Entry → (slots : List ℕ) → List HostState → (slots′ : List ℕ) → Reply → Type 0
+SendLeaves w t hosts copies run slots hosts′ slots′ r = (d : HostState) → SendDone w t hosts copies run slots hosts′ slots′ r d
 
 -- the contract, over the parameters
-abbrev pub DoesSend : Sending → Ref ClassTable → Ref (List HostState) → (copies : Ref (List ℕ)) → Ref (List Entry) → (slots answers : Ref (List ℕ)) → Type 0
-DoesSend w nets hosts copies run slots answers =
-    SendLeaves w (nets .entry .now) (hosts .entry .now) (copies .entry .now) (run .entry .now) (slots .entry .now) (answers .entry .now) (hosts .exit .now) (slots .exit .now) (answers .exit .now)
+abbrev pub DoesSend : Sending → Ref ClassTable → Ref (List HostState) → (copies : Ref (List ℕ)) → Ref (List Entry) → (slots : Ref (List ℕ)) → Reply → Type 0
+DoesSend w nets hosts copies run slots r =
+    SendLeaves w (nets .entry .now) (hosts .entry .now) (copies .entry .now) (run .entry .now) (slots .entry .now) (hosts .exit .now) (slots .exit .now) r

@@ -1,10 +1,9 @@
--- One place of the hosts' states.
+-- The state of one host, for every state that may stand for an absent one.
 use mathlib.Core.Path.{_≡_}
 use mathlib.Core.List.{List}
-use Prim.Native.Nat.{ℕ, _+_, _<_}
-use lib.ListN.{length}
+use Prim.Native.Nat.{ℕ}
+use lib.ListN.{getD}
 use Rattle.bench.specs.declared.HostState.{HostState}
 
-pub record OneOf (first end : ℕ) (hosts : List HostState) : Type 0 where
-  pub one : end ≡ first + 1
-  pub there : first < length hosts
+abbrev pub StateAt : List HostState → ℕ → HostState → Type 0
+StateAt hosts i r = (d : HostState) → r ≡ getD hosts i d

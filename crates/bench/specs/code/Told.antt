@@ -41,29 +41,28 @@ TakeNames file octets h n =
 
 -- ---- one of the four
 
-abbrev pub OnlyAsk : (event host : ℕ) → Request → Told → Type 0
-OnlyAsk event k q p = p ≡ told.Ask record { host = k; event = event; request = q }
+abbrev pub OnlyAsk : (host : ℕ) → Request → Told → Type 0
+OnlyAsk k q p = p ≡ told.Ask record { host = k; request = q }
 
-abbrev pub OnlySend : (event cable end slot : ℕ) → Counter → Told → Type 0
-OnlySend event c i n k p = p ≡ told.Send record { event = event; cable = c; side = i; slot = n; counter = k }
+abbrev pub OnlySend : (cable end slot : ℕ) → Counter → Told → Type 0
+OnlySend c i n k p = p ≡ told.Send record { cable = c; side = i; slot = n; counter = k }
 
-abbrev pub OnlyTake : (event slot : ℕ) → Counter → Told → Type 0
-OnlyTake event n k p = p ≡ told.Take record { event = event; slot = n; counter = k }
+abbrev pub OnlyTake : (slot : ℕ) → Counter → Told → Type 0
+OnlyTake n k p = p ≡ told.Take record { slot = n; counter = k }
 
-abbrev pub OnlyNote : ℕ → Told → Type 0
-OnlyNote event p = p ≡ told.Note event
+abbrev pub OnlyNote : Told → Type 0
+OnlyNote p = p ≡ told.Note
 
 -- ---- by the event
 
-abbrev pub askOf : (file : List ℕ) → (event host : ℕ) → Request → Ask
-askOf file event k q =
-    record { host = k; event = event; settings = settingsAt file k; request = q }
+abbrev pub askOf : (file : List ℕ) → (host : ℕ) → Request → Ask
+askOf file k q =
+    record { host = k; settings = settingsAt file k; request = q }
 
-abbrev pub sendOf : (file : List ℕ) → Header → (event cable end slot : ℕ) → Counter → Sending
-sendOf file h event c i n k =
+abbrev pub sendOf : (file : List ℕ) → Header → (cable end slot : ℕ) → Counter → Sending
+sendOf file h c i n k =
     record {
       host = endAt file h c i .host;
-      event = event;
       settings = settingsAt file (endAt file h c i .host);
       link = endAt file h c i .link;
       counter = k;
@@ -72,11 +71,10 @@ sendOf file h event c i n k =
       slot = n;
     }
 
-abbrev pub takeOf : (file octets : List ℕ) → Header → (event slot : ℕ) → Counter → Taking
-takeOf file octets h event n k =
+abbrev pub takeOf : (file octets : List ℕ) → Header → (slot : ℕ) → Counter → Taking
+takeOf file octets h n k =
     record {
       host = farEnd file h n octets .host;
-      event = event;
       settings = settingsAt file (farEnd file h n octets .host);
       link = farEnd file h n octets .link;
       counter = k;
@@ -85,16 +83,16 @@ takeOf file octets h event n k =
     }
 
 -- a slot that was never filled is only noted
-pub record TellsArrival (octets : List ℕ) (event n : ℕ) (k : Counter) (p : Told) : Type 0 where
-  pub unfilled : empty n octets ≡ true → OnlyNote event p
-  pub filled : empty n octets ≡ false → OnlyTake event n k p
+pub record TellsArrival (octets : List ℕ) (n : ℕ) (k : Counter) (p : Told) : Type 0 where
+  pub unfilled : empty n octets ≡ true → OnlyNote p
+  pub filled : empty n octets ≡ false → OnlyTake n k p
 
-abbrev pub Tells : (octets : List ℕ) → (event : ℕ) → Event → Told → Type 0
-Tells octets event (Tick k n) p = OnlyAsk event k (request.Tick n) p
-Tells octets event (Adjust k n) p = OnlyAsk event k (request.Adjust n) p
-Tells octets event (Set k ms n) p = OnlyAsk event k (request.Set ms n) p
-Tells octets event (Second k) p = OnlyAsk event k request.Second p
-Tells octets event (SelfReport k n) p = OnlyAsk event k (request.SelfReport n) p
-Tells octets event (Send c i n k) p = OnlySend event c i n k p
-Tells octets event (Arrival n k) p = TellsArrival octets event n k p
-Tells octets event Unknown p = OnlyNote event p
+abbrev pub Tells : (octets : List ℕ) → Event → Told → Type 0
+Tells octets (Tick k n) p = OnlyAsk k (request.Tick n) p
+Tells octets (Adjust k n) p = OnlyAsk k (request.Adjust n) p
+Tells octets (Set k ms n) p = OnlyAsk k (request.Set ms n) p
+Tells octets (Second k) p = OnlyAsk k request.Second p
+Tells octets (SelfReport k n) p = OnlyAsk k (request.SelfReport n) p
+Tells octets (Send c i n k) p = OnlySend c i n k p
+Tells octets (Arrival n k) p = TellsArrival octets n k p
+Tells octets Unknown p = OnlyNote p

@@ -1,103 +1,87 @@
--- The law of a thin function: `fn SendsAt(nets: &Nets, hosts: &mut [S], octets: &[u8], run: &[E], slots: &mut [u8], answers: &mut [u8], w: J) given { let z: Z = seek(w); let q: Q(D, N, I, G) = asked(w); let low: usize = from(w); let high: usize = to(w); let here: usize = room_from(w); let there: usize = room_to(w); let v: B(C, L, F) = look(&hosts, z); let o: P(K, C, L, F) = send(q.0, nets, q.1, v.0, v.1, v.2, &octets[low..high], run, q.2, q.3, &mut slots[here..there]); let y: Y = stored(w, o); store(hosts, y); label(slots, w, o.0); keep(answers, w, o.0); }`.
+-- The law of a thin function: `fn SendsAt(nets: &Nets, hosts: &mut [S], octets: &[u8], run: &[E], slots: &mut [u8], w: J(usize, usize, D, usize, G)) -> K given { let low: usize = from(w.0); let high: usize = to(w.0); let here: usize = room_from(w.1); let there: usize = room_to(w.1); let v: B(C, L, F) = state(&hosts, w.0); let o: P(K, C, L, F) = send(w.2, nets, w.0, v.0, v.1, v.2, &octets[low..high], run, w.3, w.4, &mut slots[here..there]); let y: S = after(o); put(hosts, w.0, y); label(slots, w, o.0); o.0 }`.
 -- It is one walk of that MIR, for any types and any contracts of the functions that are called. The author shows that each of them is asked for no more than what is known (`ok`), and that what they say comes to what the function says (`then`).
 -- Made by tools/laws/make. Assumes nothing.
-use Rattle.lent.proofs.Thin.{refl, ℕ, _-_, _≤_, List, [], _∷_, length, URA, Name, Fn, opdUnit, tyUnit, tyInt, tyPtr, tyRef, erased, imm, mut, w8, w64, ent, emp, Model, Routine, Env, Heap, GhostRules, Running, !, midOf, putMid, u8, pointee, sliceTy, row, Word, Data, Part, by-value, unsigned, Outcome, whole, Form, form, silent, by, ref, slice, slicemut, Over, is-part, owed-of, is-unit, part, unit, sets, points, slices, begins, counts, pairs, fewer, cuts, joined, recuts, rejoined, lends, back, learns, nothing-more, value, val, share, shares, gives, calls, goes, finish, takes, Asking, Giving, Saying, Each, callee, given-that, thin, loc, fld, set, invoke, point, point-in, slice-of, begin-at, count-to, slice-with, Job, Proven, lawful}
+use Rattle.lent.proofs.Thin.{refl, ℕ, _-_, _≤_, List, [], _∷_, length, URA, Name, Fn, tyUnit, tyInt, tyPtr, tyRef, erased, imm, mut, w8, w64, ent, emp, Model, Routine, Env, Heap, GhostRules, Running, !, midOf, putMid, u8, pointee, sliceTy, row, Data, Part, by-value, unsigned, usize-part, Outcome, whole, Form, form, silent, by, ref, slice, slicemut, Over, is-part, owed-of, typed-of, part, sets, points, slices, begins, counts, pairs, fewer, cuts, joined, recuts, rejoined, lends, back, learns, nothing-more, value, val, share, shares, gives, calls, goes, finish, takes, Asking, Giving, Saying, Each, callee, given-that, thin, loc, fld, set, invoke, point, point-in, slice-of, begin-at, count-to, slice-with, Job, Proven, lawful}
 
-module _ (J Z Y : Word) (Nets S E : Data) (D N I G C L F K : Part) (Q : Outcome (D ∷ N ∷ I ∷ G ∷ [])) (B : Outcome (C ∷ L ∷ F ∷ [])) (P : Outcome (K ∷ C ∷ L ∷ F ∷ [])) where
+module _ (Nets S E : Data) (D G C L F K : Part) (J : Outcome (usize-part ∷ usize-part ∷ D ∷ usize-part ∷ G ∷ [])) (B : Outcome (C ∷ L ∷ F ∷ [])) (P : Outcome (K ∷ C ∷ L ∷ F ∷ [])) where
   abbrev form₁ : Form
-  form₁ = form (by J ∷ []) Z
+  form₁ = form (by (unsigned w64) ∷ []) (unsigned w64)
 
   abbrev form₂ : Form
-  form₂ = form (by J ∷ []) (by-value (whole Q))
+  form₂ = form (by (unsigned w64) ∷ []) (unsigned w64)
 
   abbrev form₃ : Form
-  form₃ = form (by J ∷ []) (unsigned w64)
+  form₃ = form (by (unsigned w64) ∷ []) (unsigned w64)
 
   abbrev form₄ : Form
-  form₄ = form (by J ∷ []) (unsigned w64)
+  form₄ = form (by (unsigned w64) ∷ []) (unsigned w64)
 
   abbrev form₅ : Form
-  form₅ = form (by J ∷ []) (unsigned w64)
+  form₅ = form (slice (row (S .S)) ∷ by (unsigned w64) ∷ []) (by-value (whole B))
 
   abbrev form₆ : Form
-  form₆ = form (by J ∷ []) (unsigned w64)
+  form₆ = form (by (D .word) ∷ ref Nets ∷ by (unsigned w64) ∷ by (C .word) ∷ by (L .word) ∷ by (F .word) ∷ slice u8 ∷ slice (row (E .S)) ∷ by (unsigned w64) ∷ by (G .word) ∷ slicemut u8 ∷ []) (by-value (whole P))
 
   abbrev form₇ : Form
-  form₇ = form (slice (row (S .S)) ∷ by Z ∷ []) (by-value (whole B))
+  form₇ = form (by (by-value (whole P)) ∷ []) (by-value S)
 
   abbrev form₈ : Form
-  form₈ = form (by (D .word) ∷ ref Nets ∷ by (N .word) ∷ by (C .word) ∷ by (L .word) ∷ by (F .word) ∷ slice u8 ∷ slice (row (E .S)) ∷ by (I .word) ∷ by (G .word) ∷ slicemut u8 ∷ []) (by-value (whole P))
+  form₈ = silent (slicemut (row (S .S)) ∷ by (unsigned w64) ∷ by (by-value S) ∷ [])
 
   abbrev form₉ : Form
-  form₉ = form (by J ∷ by (by-value (whole P)) ∷ []) Y
-
-  abbrev form₁₀ : Form
-  form₁₀ = silent (slicemut (row (S .S)) ∷ by Y ∷ [])
-
-  abbrev form₁₁ : Form
-  form₁₁ = silent (slicemut u8 ∷ by J ∷ by (K .word) ∷ [])
-
-  abbrev form₁₂ : Form
-  form₁₂ = silent (slicemut u8 ∷ by J ∷ by (K .word) ∷ [])
+  form₉ = silent (slicemut u8 ∷ by (by-value (whole J)) ∷ by (K .word) ∷ [])
 
   abbrev form₀ : Form
-  form₀ = silent (ref Nets ∷ slicemut (row (S .S)) ∷ slice u8 ∷ slice (row (E .S)) ∷ slicemut u8 ∷ slicemut u8 ∷ by J ∷ [])
+  form₀ = form (ref Nets ∷ slicemut (row (S .S)) ∷ slice u8 ∷ slice (row (E .S)) ∷ slicemut u8 ∷ by (by-value (whole J)) ∷ []) (K .word)
 
-  abbrev code : Name → Name → Name → Name → Name → Name → Name → Name → Name → Name → Name → Name → Fn
-  code g₁ g₂ g₃ g₄ g₅ g₆ g₇ g₈ g₉ g₁₀ g₁₁ g₁₂ = thin form₀ (Z .ty ∷ (by-value (whole Q)) .ty ∷ (unsigned w64) .ty ∷ (unsigned w64) .ty ∷ (unsigned w64) .ty ∷ (unsigned w64) .ty ∷ (by-value (whole B)) .ty ∷ (by-value (whole P)) .ty ∷ Y .ty ∷ tyRef erased imm (pointee (row (S .S) .written)) ∷ sliceTy (tyRef erased imm (pointee (row (S .S) .written))) ∷ tyPtr ∷ tyInt w64 ∷ tyRef erased imm (tyInt w8) ∷ sliceTy (tyRef erased imm (tyInt w8)) ∷ tyPtr ∷ tyInt w64 ∷ tyRef erased mut (tyInt w8) ∷ sliceTy (tyRef erased mut (tyInt w8)) ∷ tyUnit ∷ tyRef erased mut (pointee (row (S .S) .written)) ∷ sliceTy (tyRef erased mut (pointee (row (S .S) .written))) ∷ tyRef erased mut (tyInt w8) ∷ sliceTy (tyRef erased mut (tyInt w8)) ∷ tyRef erased mut (tyInt w8) ∷ sliceTy (tyRef erased mut (tyInt w8)) ∷ [])
-      (invoke g₁ (loc 7 ∷ []) 8 ∷ invoke g₂ (loc 7 ∷ []) 9 ∷ invoke g₃ (loc 7 ∷ []) 10 ∷ invoke g₄ (loc 7 ∷ []) 11 ∷ invoke g₅ (loc 7 ∷ []) 12 ∷ invoke g₆ (loc 7 ∷ []) 13 ∷
-      point-in 17 2 (by-value S .ty) ∷ slice-of 18 17 2 ∷ invoke g₇ (loc 18 ∷ loc 8 ∷ []) 14 ∷ begin-at 19 3 10 ∷ count-to 20 11 10 ∷ point 21 19 (tyInt w8) ∷ slice-with 22 21 20 ∷
-      begin-at 23 5 12 ∷ count-to 24 13 12 ∷ point 25 23 (tyInt w8) ∷ slice-with 26 25 24 ∷
-      invoke g₈ (fld 9 0 ∷ loc 1 ∷ fld 9 1 ∷ fld 14 0 ∷ fld 14 1 ∷ fld 14 2 ∷ loc 22 ∷ loc 4 ∷ fld 9 2 ∷ fld 9 3 ∷ loc 26 ∷ []) 15 ∷ invoke g₉ (loc 7 ∷ loc 15 ∷ []) 16 ∷
-      point-in 28 2 (by-value S .ty) ∷ slice-of 29 28 2 ∷ invoke g₁₀ (loc 29 ∷ loc 16 ∷ []) 27 ∷ point-in 30 5 (tyInt w8) ∷ slice-of 31 30 5 ∷ invoke g₁₁ (loc 31 ∷ loc 7 ∷ fld 15 0 ∷ []) 27 ∷
-      point-in 32 6 (tyInt w8) ∷ slice-of 33 32 6 ∷ invoke g₁₂ (loc 33 ∷ loc 7 ∷ fld 15 0 ∷ []) 27 ∷ set 0 opdUnit ∷ [])
+  abbrev code : Name → Name → Name → Name → Name → Name → Name → Name → Name → Fn
+  code g₁ g₂ g₃ g₄ g₅ g₆ g₇ g₈ g₉ = thin form₀ ((unsigned w64) .ty ∷ (unsigned w64) .ty ∷ (unsigned w64) .ty ∷ (unsigned w64) .ty ∷ (by-value (whole B)) .ty ∷ (by-value (whole P)) .ty ∷ (by-value S) .ty ∷ tyRef erased imm (pointee (row (S .S) .written)) ∷ sliceTy (tyRef erased imm (pointee (row (S .S) .written))) ∷ tyPtr ∷ tyInt w64 ∷ tyRef erased imm (tyInt w8) ∷ sliceTy (tyRef erased imm (tyInt w8)) ∷ tyPtr ∷ tyInt w64 ∷ tyRef erased mut (tyInt w8) ∷ sliceTy (tyRef erased mut (tyInt w8)) ∷ tyUnit ∷ tyRef erased mut (pointee (row (S .S) .written)) ∷ sliceTy (tyRef erased mut (pointee (row (S .S) .written))) ∷ tyRef erased mut (tyInt w8) ∷ sliceTy (tyRef erased mut (tyInt w8)) ∷ [])
+      (invoke g₁ (fld 6 0 ∷ []) 7 ∷ invoke g₂ (fld 6 0 ∷ []) 8 ∷ invoke g₃ (fld 6 1 ∷ []) 9 ∷ invoke g₄ (fld 6 1 ∷ []) 10 ∷ point-in 14 2 (by-value S .ty) ∷ slice-of 15 14 2 ∷
+      invoke g₅ (loc 15 ∷ fld 6 0 ∷ []) 11 ∷ begin-at 16 3 7 ∷ count-to 17 8 7 ∷ point 18 16 (tyInt w8) ∷ slice-with 19 18 17 ∷
+      begin-at 20 5 9 ∷ count-to 21 10 9 ∷ point 22 20 (tyInt w8) ∷ slice-with 23 22 21 ∷
+      invoke g₆ (fld 6 2 ∷ loc 1 ∷ fld 6 0 ∷ fld 11 0 ∷ fld 11 1 ∷ fld 11 2 ∷ loc 19 ∷ loc 4 ∷ fld 6 3 ∷ fld 6 4 ∷ loc 23 ∷ []) 12 ∷ invoke g₇ (loc 12 ∷ []) 13 ∷
+      point-in 25 2 (by-value S .ty) ∷ slice-of 26 25 2 ∷ invoke g₈ (loc 26 ∷ fld 6 0 ∷ loc 13 ∷ []) 24 ∷ point-in 27 5 (tyInt w8) ∷ slice-of 28 27 5 ∷ invoke g₉ (loc 28 ∷ loc 6 ∷ fld 12 0 ∷ []) 24 ∷
+      set 0 (fld 12 0) ∷ [])
 
-  module _ {M : Type 1} (𝓤 : URA M) (H : Heap 𝓤) (𝓜 : Model 𝓤 H) (𝓖 : GhostRules 𝓤 H) (𝓡 : Running 𝓤 H 𝓜) (asks₁ : Asking form₁ 𝓤) (gives₁ : Giving form₁) (asks₂ : Asking form₂ 𝓤) (gives₂ : Giving form₂) (asks₃ : Asking form₃ 𝓤) (gives₃ : Giving form₃) (asks₄ : Asking form₄ 𝓤) (gives₄ : Giving form₄) (asks₅ : Asking form₅ 𝓤) (gives₅ : Giving form₅) (asks₆ : Asking form₆ 𝓤) (gives₆ : Giving form₆) (asks₇ : Asking form₇ 𝓤) (gives₇ : Giving form₇) (asks₈ : Asking form₈ 𝓤) (gives₈ : Giving form₈) (asks₉ : Asking form₉ 𝓤) (gives₉ : Giving form₉) (asks₁₀ : Asking form₁₀ 𝓤) (gives₁₀ : Giving form₁₀) (asks₁₁ : Asking form₁₁ 𝓤) (gives₁₁ : Giving form₁₁) (asks₁₂ : Asking form₁₂ 𝓤) (gives₁₂ : Giving form₁₂) (Asks : Over (takes form₀) (Type 0)) (Says : Saying form₀)
-      (ok₁ : Each (takes form₀) (λ nets hosts octets run slots answers w. Asks nets hosts octets run slots answers w → ent 𝓤 (emp 𝓤) (asks₁ w)))
-      (ok₂ : Each (takes form₀) (λ nets hosts octets run slots answers w. Asks nets hosts octets run slots answers w → (z : Z .row .Denot) → gives₁ w z → ent 𝓤 (emp 𝓤) (asks₂ w)))
-      (ok₃ : Each (takes form₀) (λ nets hosts octets run slots answers w. Asks nets hosts octets run slots answers w → (z : Z .row .Denot) (q : (by-value (whole Q)) .row .Denot) → gives₁ w z → gives₂ w q → ent 𝓤 (emp 𝓤) (asks₃ w)))
-      (ok₄ : Each (takes form₀) (λ nets hosts octets run slots answers w. Asks nets hosts octets run slots answers w → (z : Z .row .Denot) (q : (by-value (whole Q)) .row .Denot) (low : (unsigned w64) .row .Denot) → gives₁ w z → gives₂ w q → gives₃ w low → ent 𝓤 (emp 𝓤) (asks₄ w)))
-      (ok₅ : Each (takes form₀) (λ nets hosts octets run slots answers w. Asks nets hosts octets run slots answers w → (z : Z .row .Denot) (q : (by-value (whole Q)) .row .Denot) (low : (unsigned w64) .row .Denot) (high : (unsigned w64) .row .Denot) → gives₁ w z → gives₂ w q → gives₃ w low → gives₄ w high → ent 𝓤 (emp 𝓤) (asks₅ w)))
-      (ok₆ : Each (takes form₀) (λ nets hosts octets run slots answers w. Asks nets hosts octets run slots answers w → (z : Z .row .Denot) (q : (by-value (whole Q)) .row .Denot) (low : (unsigned w64) .row .Denot) (high : (unsigned w64) .row .Denot) (here : (unsigned w64) .row .Denot) → gives₁ w z → gives₂ w q → gives₃ w low → gives₄ w high → gives₅ w here → ent 𝓤 (emp 𝓤) (asks₆ w)))
-      (ok₇ : Each (takes form₀) (λ nets hosts octets run slots answers w. Asks nets hosts octets run slots answers w → (z : Z .row .Denot) (q : (by-value (whole Q)) .row .Denot) (low : (unsigned w64) .row .Denot) (high : (unsigned w64) .row .Denot) (here : (unsigned w64) .row .Denot) (there : (unsigned w64) .row .Denot) → gives₁ w z → gives₂ w q → gives₃ w low → gives₄ w high → gives₅ w here → gives₆ w there → ent 𝓤 (emp 𝓤) (asks₇ hosts z)))
-      (within₈ : Each (takes form₀) (λ nets hosts octets run slots answers w. Asks nets hosts octets run slots answers w → (z : Z .row .Denot) (q : (by-value (whole Q)) .row .Denot) (low : (unsigned w64) .row .Denot) (high : (unsigned w64) .row .Denot) (here : (unsigned w64) .row .Denot) (there : (unsigned w64) .row .Denot) (v : (by-value (whole B)) .row .Denot) → gives₁ w z → gives₂ w q → gives₃ w low → gives₄ w high → gives₅ w here → gives₆ w there → gives₇ hosts z v → (low ≤ high) × (high ≤ length octets)))
-      (within₈′ : Each (takes form₀) (λ nets hosts octets run slots answers w. Asks nets hosts octets run slots answers w → (z : Z .row .Denot) (q : (by-value (whole Q)) .row .Denot) (low : (unsigned w64) .row .Denot) (high : (unsigned w64) .row .Denot) (here : (unsigned w64) .row .Denot) (there : (unsigned w64) .row .Denot) (v : (by-value (whole B)) .row .Denot) → gives₁ w z → gives₂ w q → gives₃ w low → gives₄ w high → gives₅ w here → gives₆ w there → gives₇ hosts z v → (here ≤ there) × (there ≤ length slots)))
-      (ok₈ : Each (takes form₀) (λ nets hosts octets run slots answers w. Asks nets hosts octets run slots answers w → (z : Z .row .Denot) (q : (by-value (whole Q)) .row .Denot) (low : (unsigned w64) .row .Denot) (high : (unsigned w64) .row .Denot) (here : (unsigned w64) .row .Denot) (there : (unsigned w64) .row .Denot) (v : (by-value (whole B)) .row .Denot) → gives₁ w z → gives₂ w q → gives₃ w low → gives₄ w high → gives₅ w here → gives₆ w there → gives₇ hosts z v → ent 𝓤 (emp 𝓤) (asks₈ (D .res (Q .form .read q .0)) nets (N .res (Q .form .read q .1 .0)) (C .res (B .form .read v .0)) (L .res (B .form .read v .1 .0)) (F .res (B .form .read v .1 .1 .0)) (midOf low (high - low) octets) run (I .res (Q .form .read q .1 .1 .0)) (G .res (Q .form .read q .1 .1 .1 .0)) (midOf here (there - here) slots))))
-      (ok₉ : Each (takes form₀) (λ nets hosts octets run slots answers w. Asks nets hosts octets run slots answers w → (z : Z .row .Denot) (q : (by-value (whole Q)) .row .Denot) (low : (unsigned w64) .row .Denot) (high : (unsigned w64) .row .Denot) (here : (unsigned w64) .row .Denot) (there : (unsigned w64) .row .Denot) (v : (by-value (whole B)) .row .Denot) (o : (by-value (whole P)) .row .Denot) (slots′ : List (ℕ)) → gives₁ w z → gives₂ w q → gives₃ w low → gives₄ w high → gives₅ w here → gives₆ w there → gives₇ hosts z v → gives₈ (D .res (Q .form .read q .0)) nets (N .res (Q .form .read q .1 .0)) (C .res (B .form .read v .0)) (L .res (B .form .read v .1 .0)) (F .res (B .form .read v .1 .1 .0)) (midOf low (high - low) octets) run (I .res (Q .form .read q .1 .1 .0)) (G .res (Q .form .read q .1 .1 .1 .0)) (midOf here (there - here) slots) o slots′ → ent 𝓤 (emp 𝓤) (asks₉ w o)))
-      (ok₁₀ : Each (takes form₀) (λ nets hosts octets run slots answers w. Asks nets hosts octets run slots answers w → (z : Z .row .Denot) (q : (by-value (whole Q)) .row .Denot) (low : (unsigned w64) .row .Denot) (high : (unsigned w64) .row .Denot) (here : (unsigned w64) .row .Denot) (there : (unsigned w64) .row .Denot) (v : (by-value (whole B)) .row .Denot) (o : (by-value (whole P)) .row .Denot) (slots′ : List (ℕ)) (y : Y .row .Denot) → gives₁ w z → gives₂ w q → gives₃ w low → gives₄ w high → gives₅ w here → gives₆ w there → gives₇ hosts z v → gives₈ (D .res (Q .form .read q .0)) nets (N .res (Q .form .read q .1 .0)) (C .res (B .form .read v .0)) (L .res (B .form .read v .1 .0)) (F .res (B .form .read v .1 .1 .0)) (midOf low (high - low) octets) run (I .res (Q .form .read q .1 .1 .0)) (G .res (Q .form .read q .1 .1 .1 .0)) (midOf here (there - here) slots) o slots′ → gives₉ w o y → ent 𝓤 (emp 𝓤) (asks₁₀ hosts y)))
-      (ok₁₁ : Each (takes form₀) (λ nets hosts octets run slots answers w. Asks nets hosts octets run slots answers w → (z : Z .row .Denot) (q : (by-value (whole Q)) .row .Denot) (low : (unsigned w64) .row .Denot) (high : (unsigned w64) .row .Denot) (here : (unsigned w64) .row .Denot) (there : (unsigned w64) .row .Denot) (v : (by-value (whole B)) .row .Denot) (o : (by-value (whole P)) .row .Denot) (slots′ : List (ℕ)) (y : Y .row .Denot) (hosts′ : List (S .S .D)) → gives₁ w z → gives₂ w q → gives₃ w low → gives₄ w high → gives₅ w here → gives₆ w there → gives₇ hosts z v → gives₈ (D .res (Q .form .read q .0)) nets (N .res (Q .form .read q .1 .0)) (C .res (B .form .read v .0)) (L .res (B .form .read v .1 .0)) (F .res (B .form .read v .1 .1 .0)) (midOf low (high - low) octets) run (I .res (Q .form .read q .1 .1 .0)) (G .res (Q .form .read q .1 .1 .1 .0)) (midOf here (there - here) slots) o slots′ → gives₉ w o y → gives₁₀ hosts y hosts′ → ent 𝓤 (emp 𝓤) (asks₁₁ (putMid here (there - here) slots slots′) w (K .res (P .form .read o .0)))))
-      (ok₁₂ : Each (takes form₀) (λ nets hosts octets run slots answers w. Asks nets hosts octets run slots answers w → (z : Z .row .Denot) (q : (by-value (whole Q)) .row .Denot) (low : (unsigned w64) .row .Denot) (high : (unsigned w64) .row .Denot) (here : (unsigned w64) .row .Denot) (there : (unsigned w64) .row .Denot) (v : (by-value (whole B)) .row .Denot) (o : (by-value (whole P)) .row .Denot) (slots′ : List (ℕ)) (y : Y .row .Denot) (hosts′ : List (S .S .D)) (slots′′ : List (ℕ)) → gives₁ w z → gives₂ w q → gives₃ w low → gives₄ w high → gives₅ w here → gives₆ w there → gives₇ hosts z v → gives₈ (D .res (Q .form .read q .0)) nets (N .res (Q .form .read q .1 .0)) (C .res (B .form .read v .0)) (L .res (B .form .read v .1 .0)) (F .res (B .form .read v .1 .1 .0)) (midOf low (high - low) octets) run (I .res (Q .form .read q .1 .1 .0)) (G .res (Q .form .read q .1 .1 .1 .0)) (midOf here (there - here) slots) o slots′ → gives₉ w o y → gives₁₀ hosts y hosts′ → gives₁₁ (putMid here (there - here) slots slots′) w (K .res (P .form .read o .0)) slots′′ → ent 𝓤 (emp 𝓤) (asks₁₂ answers w (K .res (P .form .read o .0)))))
-      (then : Each (takes form₀) (λ nets hosts octets run slots answers w. Asks nets hosts octets run slots answers w → (z : Z .row .Denot) (q : (by-value (whole Q)) .row .Denot) (low : (unsigned w64) .row .Denot) (high : (unsigned w64) .row .Denot) (here : (unsigned w64) .row .Denot) (there : (unsigned w64) .row .Denot) (v : (by-value (whole B)) .row .Denot) (o : (by-value (whole P)) .row .Denot) (slots′ : List (ℕ)) (y : Y .row .Denot) (hosts′ : List (S .S .D)) (slots′′ : List (ℕ)) (answers′ : List (ℕ)) → gives₁ w z → gives₂ w q → gives₃ w low → gives₄ w high → gives₅ w here → gives₆ w there → gives₇ hosts z v → gives₈ (D .res (Q .form .read q .0)) nets (N .res (Q .form .read q .1 .0)) (C .res (B .form .read v .0)) (L .res (B .form .read v .1 .0)) (F .res (B .form .read v .1 .1 .0)) (midOf low (high - low) octets) run (I .res (Q .form .read q .1 .1 .0)) (G .res (Q .form .read q .1 .1 .1 .0)) (midOf here (there - here) slots) o slots′ → gives₉ w o y → gives₁₀ hosts y hosts′ → gives₁₁ (putMid here (there - here) slots slots′) w (K .res (P .form .read o .0)) slots′′ → gives₁₂ answers w (K .res (P .form .read o .0)) answers′ → Says nets hosts octets run slots answers w hosts′ slots′′ answers′))
-      (γ : Env) (f g₁ g₂ g₃ g₄ g₅ g₆ g₇ g₈ g₉ g₁₀ g₁₁ g₁₂ : Name) (r₁ r₂ r₃ r₄ r₅ r₆ r₇ r₈ r₉ r₁₀ r₁₁ r₁₂ : Routine) where
+  module _ {M : Type 1} (𝓤 : URA M) (H : Heap 𝓤) (𝓜 : Model 𝓤 H) (𝓖 : GhostRules 𝓤 H) (𝓡 : Running 𝓤 H 𝓜) (asks₁ : Asking form₁ 𝓤) (gives₁ : Giving form₁) (asks₂ : Asking form₂ 𝓤) (gives₂ : Giving form₂) (asks₃ : Asking form₃ 𝓤) (gives₃ : Giving form₃) (asks₄ : Asking form₄ 𝓤) (gives₄ : Giving form₄) (asks₅ : Asking form₅ 𝓤) (gives₅ : Giving form₅) (asks₆ : Asking form₆ 𝓤) (gives₆ : Giving form₆) (asks₇ : Asking form₇ 𝓤) (gives₇ : Giving form₇) (asks₈ : Asking form₈ 𝓤) (gives₈ : Giving form₈) (asks₉ : Asking form₉ 𝓤) (gives₉ : Giving form₉) (Asks : Over (takes form₀) (Type 0)) (Says : Saying form₀)
+      (ok₁ : Each (takes form₀) (λ nets hosts octets run slots w. Asks nets hosts octets run slots w → ent 𝓤 (emp 𝓤) (asks₁ (usize-part .res (J .form .read w .0)))))
+      (ok₂ : Each (takes form₀) (λ nets hosts octets run slots w. Asks nets hosts octets run slots w → (low : (unsigned w64) .row .Denot) → gives₁ (usize-part .res (J .form .read w .0)) low → ent 𝓤 (emp 𝓤) (asks₂ (usize-part .res (J .form .read w .0)))))
+      (ok₃ : Each (takes form₀) (λ nets hosts octets run slots w. Asks nets hosts octets run slots w → (low : (unsigned w64) .row .Denot) (high : (unsigned w64) .row .Denot) → gives₁ (usize-part .res (J .form .read w .0)) low → gives₂ (usize-part .res (J .form .read w .0)) high → ent 𝓤 (emp 𝓤) (asks₃ (usize-part .res (J .form .read w .1 .0)))))
+      (ok₄ : Each (takes form₀) (λ nets hosts octets run slots w. Asks nets hosts octets run slots w → (low : (unsigned w64) .row .Denot) (high : (unsigned w64) .row .Denot) (here : (unsigned w64) .row .Denot) → gives₁ (usize-part .res (J .form .read w .0)) low → gives₂ (usize-part .res (J .form .read w .0)) high → gives₃ (usize-part .res (J .form .read w .1 .0)) here → ent 𝓤 (emp 𝓤) (asks₄ (usize-part .res (J .form .read w .1 .0)))))
+      (ok₅ : Each (takes form₀) (λ nets hosts octets run slots w. Asks nets hosts octets run slots w → (low : (unsigned w64) .row .Denot) (high : (unsigned w64) .row .Denot) (here : (unsigned w64) .row .Denot) (there : (unsigned w64) .row .Denot) → gives₁ (usize-part .res (J .form .read w .0)) low → gives₂ (usize-part .res (J .form .read w .0)) high → gives₃ (usize-part .res (J .form .read w .1 .0)) here → gives₄ (usize-part .res (J .form .read w .1 .0)) there → ent 𝓤 (emp 𝓤) (asks₅ hosts (usize-part .res (J .form .read w .0)))))
+      (within₆ : Each (takes form₀) (λ nets hosts octets run slots w. Asks nets hosts octets run slots w → (low : (unsigned w64) .row .Denot) (high : (unsigned w64) .row .Denot) (here : (unsigned w64) .row .Denot) (there : (unsigned w64) .row .Denot) (v : (by-value (whole B)) .row .Denot) → gives₁ (usize-part .res (J .form .read w .0)) low → gives₂ (usize-part .res (J .form .read w .0)) high → gives₃ (usize-part .res (J .form .read w .1 .0)) here → gives₄ (usize-part .res (J .form .read w .1 .0)) there → gives₅ hosts (usize-part .res (J .form .read w .0)) v → (low ≤ high) × (high ≤ length octets)))
+      (within₆′ : Each (takes form₀) (λ nets hosts octets run slots w. Asks nets hosts octets run slots w → (low : (unsigned w64) .row .Denot) (high : (unsigned w64) .row .Denot) (here : (unsigned w64) .row .Denot) (there : (unsigned w64) .row .Denot) (v : (by-value (whole B)) .row .Denot) → gives₁ (usize-part .res (J .form .read w .0)) low → gives₂ (usize-part .res (J .form .read w .0)) high → gives₃ (usize-part .res (J .form .read w .1 .0)) here → gives₄ (usize-part .res (J .form .read w .1 .0)) there → gives₅ hosts (usize-part .res (J .form .read w .0)) v → (here ≤ there) × (there ≤ length slots)))
+      (ok₆ : Each (takes form₀) (λ nets hosts octets run slots w. Asks nets hosts octets run slots w → (low : (unsigned w64) .row .Denot) (high : (unsigned w64) .row .Denot) (here : (unsigned w64) .row .Denot) (there : (unsigned w64) .row .Denot) (v : (by-value (whole B)) .row .Denot) → gives₁ (usize-part .res (J .form .read w .0)) low → gives₂ (usize-part .res (J .form .read w .0)) high → gives₃ (usize-part .res (J .form .read w .1 .0)) here → gives₄ (usize-part .res (J .form .read w .1 .0)) there → gives₅ hosts (usize-part .res (J .form .read w .0)) v → ent 𝓤 (emp 𝓤) (asks₆ (D .res (J .form .read w .1 .1 .0)) nets (usize-part .res (J .form .read w .0)) (C .res (B .form .read v .0)) (L .res (B .form .read v .1 .0)) (F .res (B .form .read v .1 .1 .0)) (midOf low (high - low) octets) run (usize-part .res (J .form .read w .1 .1 .1 .0)) (G .res (J .form .read w .1 .1 .1 .1 .0)) (midOf here (there - here) slots))))
+      (ok₇ : Each (takes form₀) (λ nets hosts octets run slots w. Asks nets hosts octets run slots w → (low : (unsigned w64) .row .Denot) (high : (unsigned w64) .row .Denot) (here : (unsigned w64) .row .Denot) (there : (unsigned w64) .row .Denot) (v : (by-value (whole B)) .row .Denot) (o : (by-value (whole P)) .row .Denot) (slots′ : List (ℕ)) → gives₁ (usize-part .res (J .form .read w .0)) low → gives₂ (usize-part .res (J .form .read w .0)) high → gives₃ (usize-part .res (J .form .read w .1 .0)) here → gives₄ (usize-part .res (J .form .read w .1 .0)) there → gives₅ hosts (usize-part .res (J .form .read w .0)) v → gives₆ (D .res (J .form .read w .1 .1 .0)) nets (usize-part .res (J .form .read w .0)) (C .res (B .form .read v .0)) (L .res (B .form .read v .1 .0)) (F .res (B .form .read v .1 .1 .0)) (midOf low (high - low) octets) run (usize-part .res (J .form .read w .1 .1 .1 .0)) (G .res (J .form .read w .1 .1 .1 .1 .0)) (midOf here (there - here) slots) o slots′ → ent 𝓤 (emp 𝓤) (asks₇ o)))
+      (ok₈ : Each (takes form₀) (λ nets hosts octets run slots w. Asks nets hosts octets run slots w → (low : (unsigned w64) .row .Denot) (high : (unsigned w64) .row .Denot) (here : (unsigned w64) .row .Denot) (there : (unsigned w64) .row .Denot) (v : (by-value (whole B)) .row .Denot) (o : (by-value (whole P)) .row .Denot) (slots′ : List (ℕ)) (y : (by-value S) .row .Denot) → gives₁ (usize-part .res (J .form .read w .0)) low → gives₂ (usize-part .res (J .form .read w .0)) high → gives₃ (usize-part .res (J .form .read w .1 .0)) here → gives₄ (usize-part .res (J .form .read w .1 .0)) there → gives₅ hosts (usize-part .res (J .form .read w .0)) v → gives₆ (D .res (J .form .read w .1 .1 .0)) nets (usize-part .res (J .form .read w .0)) (C .res (B .form .read v .0)) (L .res (B .form .read v .1 .0)) (F .res (B .form .read v .1 .1 .0)) (midOf low (high - low) octets) run (usize-part .res (J .form .read w .1 .1 .1 .0)) (G .res (J .form .read w .1 .1 .1 .1 .0)) (midOf here (there - here) slots) o slots′ → gives₇ o y → ent 𝓤 (emp 𝓤) (asks₈ hosts (usize-part .res (J .form .read w .0)) y)))
+      (ok₉ : Each (takes form₀) (λ nets hosts octets run slots w. Asks nets hosts octets run slots w → (low : (unsigned w64) .row .Denot) (high : (unsigned w64) .row .Denot) (here : (unsigned w64) .row .Denot) (there : (unsigned w64) .row .Denot) (v : (by-value (whole B)) .row .Denot) (o : (by-value (whole P)) .row .Denot) (slots′ : List (ℕ)) (y : (by-value S) .row .Denot) (hosts′ : List (S .S .D)) → gives₁ (usize-part .res (J .form .read w .0)) low → gives₂ (usize-part .res (J .form .read w .0)) high → gives₃ (usize-part .res (J .form .read w .1 .0)) here → gives₄ (usize-part .res (J .form .read w .1 .0)) there → gives₅ hosts (usize-part .res (J .form .read w .0)) v → gives₆ (D .res (J .form .read w .1 .1 .0)) nets (usize-part .res (J .form .read w .0)) (C .res (B .form .read v .0)) (L .res (B .form .read v .1 .0)) (F .res (B .form .read v .1 .1 .0)) (midOf low (high - low) octets) run (usize-part .res (J .form .read w .1 .1 .1 .0)) (G .res (J .form .read w .1 .1 .1 .1 .0)) (midOf here (there - here) slots) o slots′ → gives₇ o y → gives₈ hosts (usize-part .res (J .form .read w .0)) y hosts′ → ent 𝓤 (emp 𝓤) (asks₉ (putMid here (there - here) slots slots′) w (K .res (P .form .read o .0)))))
+      (then : Each (takes form₀) (λ nets hosts octets run slots w. Asks nets hosts octets run slots w → (low : (unsigned w64) .row .Denot) (high : (unsigned w64) .row .Denot) (here : (unsigned w64) .row .Denot) (there : (unsigned w64) .row .Denot) (v : (by-value (whole B)) .row .Denot) (o : (by-value (whole P)) .row .Denot) (slots′ : List (ℕ)) (y : (by-value S) .row .Denot) (hosts′ : List (S .S .D)) (slots′′ : List (ℕ)) → gives₁ (usize-part .res (J .form .read w .0)) low → gives₂ (usize-part .res (J .form .read w .0)) high → gives₃ (usize-part .res (J .form .read w .1 .0)) here → gives₄ (usize-part .res (J .form .read w .1 .0)) there → gives₅ hosts (usize-part .res (J .form .read w .0)) v → gives₆ (D .res (J .form .read w .1 .1 .0)) nets (usize-part .res (J .form .read w .0)) (C .res (B .form .read v .0)) (L .res (B .form .read v .1 .0)) (F .res (B .form .read v .1 .1 .0)) (midOf low (high - low) octets) run (usize-part .res (J .form .read w .1 .1 .1 .0)) (G .res (J .form .read w .1 .1 .1 .1 .0)) (midOf here (there - here) slots) o slots′ → gives₇ o y → gives₈ hosts (usize-part .res (J .form .read w .0)) y hosts′ → gives₉ (putMid here (there - here) slots slots′) w (K .res (P .form .read o .0)) slots′′ → Says nets hosts octets run slots w hosts′ slots′′ (K .res (P .form .read o .0))))
+      (γ : Env) (f g₁ g₂ g₃ g₄ g₅ g₆ g₇ g₈ g₉ : Name) (r₁ r₂ r₃ r₄ r₅ r₆ r₇ r₈ r₉ : Routine) where
     abbrev job : Job 𝓤
-    job = record { code = code g₁ g₂ g₃ g₄ g₅ g₆ g₇ g₈ g₉ g₁₀ g₁₁ g₁₂; itself = given-that 𝓤 form₀ Asks Says; calls = (g₁, r₁, callee 𝓤 form₁ asks₁ gives₁) ∷ (g₂, r₂, callee 𝓤 form₂ asks₂ gives₂) ∷ (g₃, r₃, callee 𝓤 form₃ asks₃ gives₃) ∷ (g₄, r₄, callee 𝓤 form₄ asks₄ gives₄) ∷ (g₅, r₅, callee 𝓤 form₅ asks₅ gives₅) ∷ (g₆, r₆, callee 𝓤 form₆ asks₆ gives₆) ∷ (g₇, r₇, callee 𝓤 form₇ asks₇ gives₇) ∷ (g₈, r₈, callee 𝓤 form₈ asks₈ gives₈) ∷ (g₉, r₉, callee 𝓤 form₉ asks₉ gives₉) ∷ (g₁₀, r₁₀, callee 𝓤 form₁₀ asks₁₀ gives₁₀) ∷ (g₁₁, r₁₁, callee 𝓤 form₁₁ asks₁₁ gives₁₁) ∷ (g₁₂, r₁₂, callee 𝓤 form₁₂ asks₁₂ gives₁₂) ∷ [] }
+    job = record { code = code g₁ g₂ g₃ g₄ g₅ g₆ g₇ g₈ g₉; itself = given-that 𝓤 form₀ Asks Says; calls = (g₁, r₁, callee 𝓤 form₁ asks₁ gives₁) ∷ (g₂, r₂, callee 𝓤 form₂ asks₂ gives₂) ∷ (g₃, r₃, callee 𝓤 form₃ asks₃ gives₃) ∷ (g₄, r₄, callee 𝓤 form₄ asks₄ gives₄) ∷ (g₅, r₅, callee 𝓤 form₅ asks₅ gives₅) ∷ (g₆, r₆, callee 𝓤 form₆ asks₆ gives₆) ∷ (g₇, r₇, callee 𝓤 form₇ asks₇ gives₇) ∷ (g₈, r₈, callee 𝓤 form₈ asks₈ gives₈) ∷ (g₉, r₉, callee 𝓤 form₉ asks₉ gives₉) ∷ [] }
 
     pub proof : Proven 𝓤 H 𝓜 𝓖 𝓡 γ f job
-    proof = lawful 𝓤 H 𝓜 𝓖 𝓡 γ f job _ refl (λ W T Λ fm (known₁, (known₂, (known₃, (known₄, (known₅, (known₆, (known₇, (known₈, (known₉, (known₁₀, (known₁₁, (known₁₂, _)))))))))))) κs qs (nets, (hosts, (octets, (run, (slots, (answers, (w, _))))))) (_, (is-hosts, (is-octets, (is-run, (is-slots, (is-answers, (is-w, _))))))) β Kf done.
-        learns ! 6 (Asks (nets .now) (hosts .now) (octets .now) (run .now) (slots .now) (answers .now) w) refl (λ asked.
-        calls ! fm (callee 𝓤 form₁ asks₁ gives₁) known₁ (val ! tt refl is-w (nothing-more !)) (ok₁ (nets .now) (hosts .now) (octets .now) (run .now) (slots .now) (answers .now) w asked) tt refl (λ z ws₁ φ₁ is-z.
-        calls ! fm (callee 𝓤 form₂ asks₂ gives₂) known₂ (val ! tt refl is-w (nothing-more !)) (ok₂ (nets .now) (hosts .now) (octets .now) (run .now) (slots .now) (answers .now) w asked z φ₁) tt refl (λ q ws₂ φ₂ is-q.
-        calls ! fm (callee 𝓤 form₃ asks₃ gives₃) known₃ (val ! tt refl is-w (nothing-more !)) (ok₃ (nets .now) (hosts .now) (octets .now) (run .now) (slots .now) (answers .now) w asked z q φ₁ φ₂) tt refl (λ low ws₃ φ₃ is-low.
-        calls ! fm (callee 𝓤 form₄ asks₄ gives₄) known₄ (val ! tt refl is-w (nothing-more !)) (ok₄ (nets .now) (hosts .now) (octets .now) (run .now) (slots .now) (answers .now) w asked z q low φ₁ φ₂ φ₃) tt refl (λ high ws₄ φ₄ is-high.
-        calls ! fm (callee 𝓤 form₅ asks₅ gives₅) known₅ (val ! tt refl is-w (nothing-more !)) (ok₅ (nets .now) (hosts .now) (octets .now) (run .now) (slots .now) (answers .now) w asked z q low high φ₁ φ₂ φ₃ φ₄) tt refl (λ here ws₅ φ₅ is-here.
-        calls ! fm (callee 𝓤 form₆ asks₆ gives₆) known₆ (val ! tt refl is-w (nothing-more !)) (ok₆ (nets .now) (hosts .now) (octets .now) (run .now) (slots .now) (answers .now) w asked z q low high here φ₁ φ₂ φ₃ φ₄ φ₅) tt refl (λ there ws₆ φ₆ is-there.
-        slices ! refl tt tt tt tt refl (is-hosts .0) (lends ! 1 refl (λ α₇ δ₇.
-        calls ! fm (callee 𝓤 form₇ asks₇ gives₇) known₇ (shares ! 1 tt refl (val ! tt refl is-z (nothing-more !))) (ok₇ (nets .now) (hosts .now) (octets .now) (run .now) (slots .now) (answers .now) w asked z q low high here there φ₁ φ₂ φ₃ φ₄ φ₅ φ₆) tt refl (λ v ws₇ φ₇ is-v.
+    proof = lawful 𝓤 H 𝓜 𝓖 𝓡 γ f job _ refl (λ W T Λ fm (known₁, (known₂, (known₃, (known₄, (known₅, (known₆, (known₇, (known₈, (known₉, _))))))))) κs qs (nets, (hosts, (octets, (run, (slots, (w, _)))))) (_, (is-hosts, (is-octets, (is-run, (is-slots, (is-w, _)))))) β Kf done.
+        learns ! 5 (Asks (nets .now) (hosts .now) (octets .now) (run .now) (slots .now) w) refl (λ asked.
+        calls ! fm (callee 𝓤 form₁ asks₁ gives₁) known₁ (value ! (part ! tt refl refl) (is-part usize-part (J .form .read w .0) (owed-of J is-w .0)) (nothing-more !)) (ok₁ (nets .now) (hosts .now) (octets .now) (run .now) (slots .now) w asked) tt refl (λ low ws₁ φ₁ is-low.
+        calls ! fm (callee 𝓤 form₂ asks₂ gives₂) known₂ (value ! (part ! tt refl refl) (is-part usize-part (J .form .read w .0) (owed-of J is-w .0)) (nothing-more !)) (ok₂ (nets .now) (hosts .now) (octets .now) (run .now) (slots .now) w asked low φ₁) tt refl (λ high ws₂ φ₂ is-high.
+        calls ! fm (callee 𝓤 form₃ asks₃ gives₃) known₃ (value ! (part ! tt refl refl) (is-part usize-part (J .form .read w .1 .0) (owed-of J is-w .1 .0)) (nothing-more !)) (ok₃ (nets .now) (hosts .now) (octets .now) (run .now) (slots .now) w asked low high φ₁ φ₂) tt refl (λ here ws₃ φ₃ is-here.
+        calls ! fm (callee 𝓤 form₄ asks₄ gives₄) known₄ (value ! (part ! tt refl refl) (is-part usize-part (J .form .read w .1 .0) (owed-of J is-w .1 .0)) (nothing-more !)) (ok₄ (nets .now) (hosts .now) (octets .now) (run .now) (slots .now) w asked low high here φ₁ φ₂ φ₃) tt refl (λ there ws₄ φ₄ is-there.
+        slices ! refl tt tt tt tt refl (is-hosts .0) (lends ! 1 refl (λ α₅ δ₅.
+        calls ! fm (callee 𝓤 form₅ asks₅ gives₅) known₅ (shares ! 1 tt refl (value ! (part ! tt refl refl) (is-part usize-part (J .form .read w .0) (owed-of J is-w .0)) (nothing-more !))) (ok₅ (nets .now) (hosts .now) (octets .now) (run .now) (slots .now) w asked low high here there φ₁ φ₂ φ₃ φ₄) tt refl (λ v ws₅ φ₅ is-v.
         back ! 1 refl refl (begins ! refl tt tt tt (
-        counts ! refl tt tt tt (is-high .is .1) ((within₈ (nets .now) (hosts .now) (octets .now) (run .now) (slots .now) (answers .now) w asked z q low high here there v φ₁ φ₂ φ₃ φ₄ φ₅ φ₆ φ₇) .0) (
+        counts ! refl tt tt tt (is-high .is .1) ((within₆ (nets .now) (hosts .now) (octets .now) (run .now) (slots .now) w asked low high here there v φ₁ φ₂ φ₃ φ₄ φ₅) .0) (
         points ! refl tt tt (tt, tt) (pairs ! refl tt tt tt (fewer low high (is-high .is .1)) (begins ! refl tt tt tt (
-        counts ! refl tt tt tt (is-there .is .1) ((within₈′ (nets .now) (hosts .now) (octets .now) (run .now) (slots .now) (answers .now) w asked z q low high here there v φ₁ φ₂ φ₃ φ₄ φ₅ φ₆ φ₇) .0) (
+        counts ! refl tt tt tt (is-there .is .1) ((within₆′ (nets .now) (hosts .now) (octets .now) (run .now) (slots .now) w asked low high here there v φ₁ φ₂ φ₃ φ₄ φ₅) .0) (
         points ! refl tt tt (tt, tt) (pairs ! refl tt tt tt (fewer here there (is-there .is .1)) (
-        cuts ! 2 refl low high (within₈ (nets .now) (hosts .now) (octets .now) (run .now) (slots .now) (answers .now) w asked z q low high here there v φ₁ φ₂ φ₃ φ₄ φ₅ φ₆ φ₇) (λ δ₈.
-        recuts ! 5 refl here there (within₈′ (nets .now) (hosts .now) (octets .now) (run .now) (slots .now) (answers .now) w asked z q low high here there v φ₁ φ₂ φ₃ φ₄ φ₅ φ₆ φ₇) (λ α₈′ δ₈′.
-        calls ! fm (callee 𝓤 form₈ asks₈ gives₈) known₈ (value ! (part ! tt refl refl) (is-part D (Q .form .read q .0) (owed-of Q is-q .0)) (share ! 0 tt refl (value ! (part ! tt refl refl) (is-part N (Q .form .read q .1 .0) (owed-of Q is-q .1 .0)) (value ! (part ! tt refl refl) (is-part C (B .form .read v .0) (owed-of B is-v .0)) (value ! (part ! tt refl refl) (is-part L (B .form .read v .1 .0) (owed-of B is-v .1 .0)) (value ! (part ! tt refl refl) (is-part F (B .form .read v .1 .1 .0) (owed-of B is-v .1 .1 .0)) (shares ! 1 tt refl (shares ! 2 tt refl (value ! (part ! tt refl refl) (is-part I (Q .form .read q .1 .1 .0) (owed-of Q is-q .1 .1 .0)) (value ! (part ! tt refl refl) (is-part G (Q .form .read q .1 .1 .1 .0) (owed-of Q is-q .1 .1 .1 .0)) (gives ! 2 tt refl (nothing-more !)))))))))))) (ok₈ (nets .now) (hosts .now) (octets .now) (run .now) (slots .now) (answers .now) w asked z q low high here there v φ₁ φ₂ φ₃ φ₄ φ₅ φ₆ φ₇) tt refl (λ o ws₈ φ₈ is-o.
+        cuts ! 2 refl low high (within₆ (nets .now) (hosts .now) (octets .now) (run .now) (slots .now) w asked low high here there v φ₁ φ₂ φ₃ φ₄ φ₅) (λ δ₆.
+        recuts ! 5 refl here there (within₆′ (nets .now) (hosts .now) (octets .now) (run .now) (slots .now) w asked low high here there v φ₁ φ₂ φ₃ φ₄ φ₅) (λ α₆′ δ₆′.
+        calls ! fm (callee 𝓤 form₆ asks₆ gives₆) known₆ (value ! (part ! tt refl refl) (is-part D (J .form .read w .1 .1 .0) (owed-of J is-w .1 .1 .0)) (share ! 0 tt refl (value ! (part ! tt refl refl) (is-part usize-part (J .form .read w .0) (owed-of J is-w .0)) (value ! (part ! tt refl refl) (is-part C (B .form .read v .0) (owed-of B is-v .0)) (value ! (part ! tt refl refl) (is-part L (B .form .read v .1 .0) (owed-of B is-v .1 .0)) (value ! (part ! tt refl refl) (is-part F (B .form .read v .1 .1 .0) (owed-of B is-v .1 .1 .0)) (shares ! 1 tt refl (shares ! 2 tt refl (value ! (part ! tt refl refl) (is-part usize-part (J .form .read w .1 .1 .1 .0) (owed-of J is-w .1 .1 .1 .0)) (value ! (part ! tt refl refl) (is-part G (J .form .read w .1 .1 .1 .1 .0) (owed-of J is-w .1 .1 .1 .1 .0)) (gives ! 2 tt refl (nothing-more !)))))))))))) (ok₆ (nets .now) (hosts .now) (octets .now) (run .now) (slots .now) w asked low high here there v φ₁ φ₂ φ₃ φ₄ φ₅) tt refl (λ o ws₆ φ₆ is-o.
         joined ! 2 refl refl (rejoined ! 4 refl refl (
-        calls ! fm (callee 𝓤 form₉ asks₉ gives₉) known₉ (val ! tt refl is-w (val ! tt refl is-o (nothing-more !))) (ok₉ (nets .now) (hosts .now) (octets .now) (run .now) (slots .now) (answers .now) w asked z q low high here there v o (ws₈ .1 .1 .1 .1 .1 .1 .1 .1 .1 .1 .0) φ₁ φ₂ φ₃ φ₄ φ₅ φ₆ φ₇ φ₈) tt refl (λ y ws₉ φ₉ is-y.
+        calls ! fm (callee 𝓤 form₇ asks₇ gives₇) known₇ (val ! tt refl is-o (nothing-more !)) (ok₇ (nets .now) (hosts .now) (octets .now) (run .now) (slots .now) w asked low high here there v o (ws₆ .1 .1 .1 .1 .1 .1 .1 .1 .1 .1 .0) φ₁ φ₂ φ₃ φ₄ φ₅ φ₆) tt refl (λ y ws₇ φ₇ is-y.
         slices ! refl tt tt tt tt refl (is-hosts .0) (
-        calls ! fm (callee 𝓤 form₁₀ asks₁₀ gives₁₀) known₁₀ (gives ! 1 tt refl (val ! tt refl is-y (nothing-more !))) (ok₁₀ (nets .now) (hosts .now) (octets .now) (run .now) (slots .now) (answers .now) w asked z q low high here there v o (ws₈ .1 .1 .1 .1 .1 .1 .1 .1 .1 .1 .0) y φ₁ φ₂ φ₃ φ₄ φ₅ φ₆ φ₇ φ₈ φ₉) tt refl (λ u₁₀ ws₁₀ φ₁₀ is-u₁₀.
+        calls ! fm (callee 𝓤 form₈ asks₈ gives₈) known₈ (gives ! 1 tt refl (value ! (part ! tt refl refl) (is-part usize-part (J .form .read w .0) (owed-of J is-w .0)) (val ! tt refl is-y (nothing-more !)))) (ok₈ (nets .now) (hosts .now) (octets .now) (run .now) (slots .now) w asked low high here there v o (ws₆ .1 .1 .1 .1 .1 .1 .1 .1 .1 .1 .0) y φ₁ φ₂ φ₃ φ₄ φ₅ φ₆ φ₇) tt refl (λ u₈ ws₈ φ₈ is-u₈.
         slices ! refl tt tt tt tt refl (is-slots .0) (
-        calls ! fm (callee 𝓤 form₁₁ asks₁₁ gives₁₁) known₁₁ (gives ! 4 tt refl (val ! tt refl is-w (value ! (part ! tt refl refl) (is-part K (P .form .read o .0) (owed-of P is-o .0)) (nothing-more !)))) (ok₁₁ (nets .now) (hosts .now) (octets .now) (run .now) (slots .now) (answers .now) w asked z q low high here there v o (ws₈ .1 .1 .1 .1 .1 .1 .1 .1 .1 .1 .0) y (ws₁₀ .0) φ₁ φ₂ φ₃ φ₄ φ₅ φ₆ φ₇ φ₈ φ₉ φ₁₀) tt refl (λ u₁₁ ws₁₁ φ₁₁ is-u₁₁.
-        slices ! refl tt tt tt tt refl (is-answers .0) (
-        calls ! fm (callee 𝓤 form₁₂ asks₁₂ gives₁₂) known₁₂ (gives ! 5 tt refl (val ! tt refl is-w (value ! (part ! tt refl refl) (is-part K (P .form .read o .0) (owed-of P is-o .0)) (nothing-more !)))) (ok₁₂ (nets .now) (hosts .now) (octets .now) (run .now) (slots .now) (answers .now) w asked z q low high here there v o (ws₈ .1 .1 .1 .1 .1 .1 .1 .1 .1 .1 .0) y (ws₁₀ .0) (ws₁₁ .0) φ₁ φ₂ φ₃ φ₄ φ₅ φ₆ φ₇ φ₈ φ₉ φ₁₀ φ₁₁) tt refl (λ u₁₂ ws₁₂ φ₁₂ is-u₁₂.
-        sets ! (unit !) tt (tt, tt) (
-        finish ! done tt refl is-unit (goes ∷ goes ∷ goes ∷ []) _ _ refl (then (nets .now) (hosts .now) (octets .now) (run .now) (slots .now) (answers .now) w asked z q low high here there v o (ws₈ .1 .1 .1 .1 .1 .1 .1 .1 .1 .1 .0) y (ws₁₀ .0) (ws₁₁ .0) (ws₁₂ .0) φ₁ φ₂ φ₃ φ₄ φ₅ φ₆ φ₇ φ₈ φ₉ φ₁₀ φ₁₁ φ₁₂))))))))))))))))))))))))))))))))))
+        calls ! fm (callee 𝓤 form₉ asks₉ gives₉) known₉ (gives ! 4 tt refl (val ! tt refl is-w (value ! (part ! tt refl refl) (is-part K (P .form .read o .0) (owed-of P is-o .0)) (nothing-more !)))) (ok₉ (nets .now) (hosts .now) (octets .now) (run .now) (slots .now) w asked low high here there v o (ws₆ .1 .1 .1 .1 .1 .1 .1 .1 .1 .1 .0) y (ws₈ .0) φ₁ φ₂ φ₃ φ₄ φ₅ φ₆ φ₇ φ₈) tt refl (λ u₉ ws₉ φ₉ is-u₉.
+        sets ! (part ! tt refl refl) tt (typed-of W (is-part K (P .form .read o .0) (owed-of P is-o .0))) (
+        finish ! done tt refl (is-part K (P .form .read o .0) (owed-of P is-o .0)) (goes ∷ goes ∷ []) _ _ refl (then (nets .now) (hosts .now) (octets .now) (run .now) (slots .now) w asked low high here there v o (ws₆ .1 .1 .1 .1 .1 .1 .1 .1 .1 .1 .0) y (ws₈ .0) (ws₉ .0) φ₁ φ₂ φ₃ φ₄ φ₅ φ₆ φ₇ φ₈ φ₉))))))))))))))))))))))))))))))

@@ -9,7 +9,7 @@ returns : tie.Need-returns
 returns c =
     let x = c .before .before .before .args .x in
     let settings = c .settings-at .ensures in
-    λ i. record { host = x .host; event = x .event; settings = settings i; request = x .request }
+    λ i. record { host = x .host; settings = settings i; request = x .request }
 
 pub ask-of-spec : {M : Type 1} → statement M
 ask-of-spec = tie.close (tie.spec settings-at-requires returns)

@@ -19,7 +19,7 @@ returns c =
     let a = c .before .before .before .before .before .args in
     let end = c .before .end-at .ensures in
     let settings = c .settings-at .ensures ∙ ap (λ (e : End). settingsAt (a .file .now) (e .host)) end in
-    λ i. record { host = end i .host; event = a .x .event; settings = settings i; link = end i .link; counter = a .x .counter; cable = a .x .cable; side = a .x .side; slot = a .x .slot }
+    λ i. record { host = end i .host; settings = settings i; link = end i .link; counter = a .x .counter; cable = a .x .cable; side = a .x .side; slot = a .x .slot }
 
 pub send-of-spec : {M : Type 1} → statement M
 send-of-spec = tie.close (tie.spec end-at-requires settings-at-requires returns)

@@ -53,7 +53,7 @@ returns c =
     let label = c .before .before .before .label-at in
     let end = c .before .end-at .ensures ∙ ap (λ (l : Label). endAt (a .file .now) (a .w .header) (l .cable) (1 - l .end)) (label .ensures) in
     let settings = c .settings-at .ensures ∙ ap (λ (e : End). settingsAt (a .file .now) (e .host)) end in
-    λ i. record { host = end i .host; event = a .x .event; settings = settings i; link = end i .link; counter = a .x .counter; slot = a .x .slot; size = label .ensures i .length }
+    λ i. record { host = end i .host; settings = settings i; link = end i .link; counter = a .x .counter; slot = a .x .slot; size = label .ensures i .length }
 
 pub take-of-spec : {M : Type 1} → statement M
 take-of-spec = tie.close (tie.spec label-at-requires sub-end-at end-at-requires settings-at-requires returns)

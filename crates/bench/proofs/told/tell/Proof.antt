@@ -75,13 +75,13 @@ returns : tie.Need-returns
 returns c =
     let a = c .before .before .before .before .before .before .before .before .args in
     let is = sym (c .before .before .before .before .event-at .ensures) ∙ c .before .before .e .given .1 in
-    tells-as (a .octets .now) (a .i) (c .ask .result) is (c .ask .ensures)
+    tells-as (a .octets .now) (c .ask .result) is (c .ask .ensures)
 
 returns-2 : tie.Need-returns-2
 returns-2 c =
     let a = c .before .before .before .before .before .before .before .before .args in
     let is = sym (c .before .before .before .before .event-at .ensures) ∙ c .before .before .e2 .given .1 in
-    tells-as (a .octets .now) (a .i) (c .ask2 .result) is (c .ask2 .ensures)
+    tells-as (a .octets .now) (c .ask2 .result) is (c .ask2 .ensures)
 
 returns-3 : tie.Need-returns-3
 returns-3 c =
@@ -89,38 +89,38 @@ returns-3 c =
     let is = sym (c .before .before .before .before .event-at .ensures) ∙ c .before .before .e3 .given .1 in
     let v = c .before .before .e3 .given .0 in
     let f : SFits w32 (v .1 .0) = search needs in
-    tells-as (a .octets .now) (a .i) (c .ask3 .result) is
-    (subst (λ (ms : ℤ). OnlyAsk (a .i) (v .0) (request.Set ms (v .1 .1 .0)) (c .ask3 .result)) (toZ-ofZ w32 (v .1 .0) f) (c .ask3 .ensures))
+    tells-as (a .octets .now) (c .ask3 .result) is
+    (subst (λ (ms : ℤ). OnlyAsk (v .0) (request.Set ms (v .1 .1 .0)) (c .ask3 .result)) (toZ-ofZ w32 (v .1 .0) f) (c .ask3 .ensures))
 
 returns-4 : tie.Need-returns-4
 returns-4 c =
     let a = c .before .before .before .before .before .before .before .before .args in
     let is = sym (c .before .before .before .before .event-at .ensures) ∙ c .before .before .e4 .given .1 in
-    tells-as (a .octets .now) (a .i) (c .ask4 .result) is (c .ask4 .ensures)
+    tells-as (a .octets .now) (c .ask4 .result) is (c .ask4 .ensures)
 
 returns-5 : tie.Need-returns-5
 returns-5 c =
     let a = c .before .before .before .before .before .before .before .before .args in
     let is = sym (c .before .before .before .before .event-at .ensures) ∙ c .before .before .e5 .given .1 in
-    tells-as (a .octets .now) (a .i) (c .ask5 .result) is (c .ask5 .ensures)
+    tells-as (a .octets .now) (c .ask5 .result) is (c .ask5 .ensures)
 
 returns-6 : tie.Need-returns-6
 returns-6 c =
     let a = c .before .before .before .before .before .before .before .before .args in
     let is = sym (c .before .before .before .before .event-at .ensures) ∙ c .before .before .e6 .given .1 in
-    tells-as (a .octets .now) (a .i) (c .send .result) is (c .send .ensures)
+    tells-as (a .octets .now) (c .send .result) is (c .send .ensures)
 
 returns-7 : tie.Need-returns-7
 returns-7 c =
     let a = c .before .before .before .before .before .before .before .before .args in
     let is = sym (c .before .before .before .before .event-at .ensures) ∙ c .before .before .e7 .given .1 in
-    tells-as (a .octets .now) (a .i) (c .take .result) is (c .take .ensures)
+    tells-as (a .octets .now) (c .take .result) is (c .take .ensures)
 
 returns-8 : tie.Need-returns-8
 returns-8 c =
     let a = c .before .before .before .before .before .before .before .args in
     let is = sym (c .before .before .before .event-at .ensures) ∙ c .before .enum-told .given .1 in
-    tells-as (a .octets .now) (a .i) (c .only-note .result) is (c .only-note .ensures)
+    tells-as (a .octets .now) (c .only-note .result) is (c .only-note .ensures)
 
 pub tell-spec : {M : Type 1} → statement M
 tell-spec =

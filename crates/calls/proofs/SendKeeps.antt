@@ -1,4 +1,4 @@
--- A send leaves its buffer as long as it was, and tells no length beyond it.
+-- A send keeps the entries and the buffer's length, and the length that it returns fits the buffer.
 use mathlib.Core.Path.{_≡_, refl, sym, _∙_, ap}
 use mathlib.Core.Bool.{Bool, true, false, cond, false≢true}
 use mathlib.Core.List.{List, map}
@@ -23,11 +23,12 @@ use Rattle.host.proofs.Places.{Holds, entries-length}
 use Rattle.host.proofs.Guarded.{either, passed, holds}
 use Rattle.sending.specs.Message.{tableGoes}
 use Rattle.sending.specs.Send.{reportCount, unsent, sends}
 use Rattle.calls.specs.Perform.{Outcome, send, sentBy, perform}
+use Rattle.calls.specs.Laws.{SendKeeps, EverySendKeeps}
 
 module _ (x : Lent) (i : ℕ) (k : Counter) (buffer : List ℕ) where
   -- what is claimed of an outcome
-  pub record Fits (o : Outcome) : Type 0 where
+  record Fits (o : Outcome) : Type 0 where
     pub room : length (o .buffer) ≡ length buffer
     pub told : done (o .reply .answer) ≡ true → o .reply .length ≤ length buffer
 
@@ -50,7 +51,7 @@ module _ (x : Lent) (i : ℕ) (k : Counter) (buffer : List ℕ) where
   abbrev sentMessage : List ℕ
   sentMessage = message (sends i k (x .host) .destination) (sends i k (x .host) .packet) reports
 
-  pub fits : Fits (perform (send i k buffer) x)
+  fits : Fits (perform (send i k buffer) x)
   unfolding perform
   fits =
       either Fits (guard (OnLink i) x) (λ e. record { room = refl; told = λ d. absurd (false≢true (sym e ∙ d)) })
@@ -64,3 +65,14 @@ module _ (x : Lent) (i : ℕ) (k : Counter) (buffer : List ℕ) where
           let m : length sentMessage ≡ packetLength n = message-length _ _ reports ∙ ap packetLength (counted h) in
           let whole : length sentMessage + length (drop (packetLength n) buffer) ≡ length buffer = omega (arith, m, enough, length-drop (packetLength n) buffer) in
           record { room = length-append sentMessage (drop (packetLength n) buffer) ∙ whole; told = λ d. enough }
+
+  same-entries : perform (send i k buffer) x .run ≡ x .run
+  unfolding perform
+  same-entries = either (λ (o : Outcome). o .run ≡ x .run) (guard (OnLink i) x) (λ _. refl) (λ _. refl)
+
+  pub keeps : SendKeeps x i k buffer
+  keeps = record { entries = same-entries; room = fits .room; fits = fits .told }
+
+pub every-send-keeps : EverySendKeeps
+unfolding EverySendKeeps
+every-send-keeps = keeps

@@ -1,8 +1,8 @@
 use borrow.Author.Needs.{needs}
 use mathlib.Core.Path.{ap}
 use lib.ListN.{set}
-use Rattle.bench.proofs.told.keep.Statement.{statement}
-use Rattle.bench.proofs.told.keep.Tie as tie
+use Rattle.bench.proofs.places.note.Statement.{statement}
+use Rattle.bench.proofs.places.note.Tie as tie
 
 number-requires : tie.Need-number-requires
 number-requires c κs = search needs
@@ -18,5 +18,5 @@ returns c =
     let a = c .before .before .args in
     ap (set (a .answers .now) (a .event)) (c .number .ensures)
 
-pub keep-spec : {M : Type 1} → statement M
-keep-spec = tie.close (tie.spec number-requires slice-write-answers same-length returns)
+pub note-spec : {M : Type 1} → statement M
+note-spec = tie.close (tie.spec number-requires slice-write-answers same-length returns)
