@@ -74,10 +74,10 @@ def _of_ethernet(dpkt: Any, frame: bytes) -> bytes | None:
         ethernet = dpkt.ethernet.Ethernet(frame)
     except dpkt.Error:
         return None
-    if ethernet.type != _IPV4:
+    tags = getattr(ethernet, "vlan_tags", [])
+    if (tags[-1] if tags else ethernet).type != _IPV4:
         return None
-    tags = len(getattr(ethernet, "vlan_tags", ()))
-    return bytes(frame[_ETHERNET_OCTETS + _TAG_OCTETS * tags :])
+    return bytes(frame[_ETHERNET_OCTETS + _TAG_OCTETS * len(tags) :])
 
 
 def write(packets: Iterable[Timed], pcapng: bool = False, ethernet: bool = False) -> bytes:
