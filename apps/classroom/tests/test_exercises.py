@@ -55,12 +55,12 @@ class All(unittest.TestCase):
             for at, stage in enumerate(exercise.stages):
                 view = room.teacher_view()["exercise"]
                 self.assertEqual((view["at"], view["explanation"]), (at, None))
-                self.assertEqual(view["stages"][at:], [{"words": stage.words["en"], "outcome": None}])
+                self.assertEqual(view["stages"][at:], [{"words": stage.words, "outcome": None}])
                 self.assertEqual({len(copy["results"][at]["checks"]) for copy in view["copies"]}, {0})
                 reply = room.teacher({"do": "next"})
                 self.assertEqual((reply["stage"], reply["holds"]), (at, True), (number, at))
             view = room.teacher_view()["exercise"]
-            self.assertEqual(view["explanation"], exercise.said("explanation"))
+            self.assertEqual(view["explanation"], exercise.words["explanation"])
             self.assertEqual({copy["right"] for copy in view["copies"]}, {True})
             self.assertEqual(len(view["copies"]), 16 // len(exercise.file.seats))
             self.assertTrue(replay(room.lines()).equal, number)
@@ -139,8 +139,8 @@ class Copies(unittest.TestCase):
         self.assertEqual((view["part"], view["copy"], view["observes"]), ("Cleo", 1, False))
         self.assertEqual([(p["part"], p["seat"]) for p in view["partners"]], [("Ada", 5), ("Ben", 6), ("Dan", 8), ("Eva", 9)])
         for name in ("title", "task", "question", "law"):
-            self.assertEqual(view[name], EXERCISES[11].exercise.said(name))
-        self.assertEqual(view["stages"], [{"words": "Round 1.", "outcome": None}])
+            self.assertEqual(view[name]["en"], EXERCISES[11].exercise.said(name))
+        self.assertEqual([(stage["words"]["en"], stage["outcome"]) for stage in view["stages"]], [("Round 1.", None)])
         self.assertNotIn("observed", room.seat_view(7))
         self.assertEqual(view["predict"], [])
         room.teacher({"do": "next"})
@@ -201,10 +201,12 @@ class ByHand(unittest.TestCase):
             self.assertEqual(self.stage(room, 3), at + 1)
         view = room.seat_view(3)["exercise"]
         self.assertEqual((view["right"], view["ended"]), (True, True))
-        self.assertEqual(view["explanation"], EXERCISES[1].exercise.said("explanation"))
+        self.assertEqual(view["explanation"]["en"], EXERCISES[1].exercise.said("explanation"))
         checks = view["results"][4]["checks"]
-        self.assertIn({"what": "Ben 2: send on link 1: answer", "expected": 0, "actual": 0, "right": True}, checks)
-        self.assertIn({"what": "Ben 2 in Ada 2's table: OFFSET", "expected": 500, "actual": 500, "right": True}, checks)
+        sent = ["exercise.call.send", {"name": "Ben 2", "link": 1}]
+        self.assertIn({"what": sent, "expected": 0, "actual": 0, "right": True}, checks)
+        entry = ["exercise.entry", {"host": "Ben 2", "seat": "Ada 2", "field": "OFFSET"}]
+        self.assertIn({"what": entry, "expected": 500, "actual": 500, "right": True}, checks)
         # The other copy is where it was, and the teacher can carry its stages out.
         self.assertEqual((self.stage(room, 0), room.teacher_view()["exercise"]["at"]), (0, 0))
         room.teacher({"do": "to_the_end"})
@@ -288,8 +290,9 @@ class Verdicts(unittest.TestCase):
         self.assertEqual(reply["holds"], False)
         result = room.teacher_view()["exercise"]["copies"][0]["results"][1]
         self.assertEqual(result["right"], False)
-        self.assertEqual(result["checks"][0], {"what": "Ben: take on link 1: answer", "expected": 0, "actual": 16, "right": False})
-        promised = [check for check in result["checks"] if "table" in check["what"]]
+        taken = ["exercise.call.arrival", {"name": "Ben", "link": 1}]
+        self.assertEqual(result["checks"][0], {"what": taken, "expected": 0, "actual": 16, "right": False})
+        promised = [check for check in result["checks"] if check["what"][0] == "exercise.entry"]
         self.assertEqual([check["right"] for check in promised], [True, True])
         # Later stages do not change it, and a page that is loaded again is shown it again.
         room.teacher({"do": "next"})
@@ -323,8 +326,10 @@ class Verdicts(unittest.TestCase):
         by_hand(room, 0, "set", ms=400)
         reply = room.teacher({"do": "next"})
         self.assertEqual(reply["holds"], False)
-        wrong = [check for check in room.exercise.copies[0].results[3].checks if not check["right"]]
-        self.assertEqual(wrong, [{"what": "Ada in Ben's table: OFFSET", "expected": -500, "actual": -300, "right": False}])
+        result = room.exercise.copies[0].results[3]
+        self.assertEqual((result.calls.wrong, result.promises.count), ([], 3))
+        entry = ["exercise.entry", {"host": "Ada", "seat": "Ben", "field": "OFFSET"}]
+        self.assertEqual(result.promises.wrong, [{"what": entry, "expected": -500, "actual": -300, "right": False}])
         self.assertEqual(room.teacher({"do": "to_the_end"})["ended"], True)
         self.assertEqual(room.seat_view(0)["exercise"]["right"], False)
         self.assertTrue(room.seat_view(0)["exercise"]["explanation"])
@@ -336,15 +341,19 @@ class Verdicts(unittest.TestCase):
         room.go_on(room.now + 1_000)
         by_hand(room, 1, "drop", message=next(iter(room.seats[1].waiting)))
         self.assertEqual(room.teacher({"do": "next"})["holds"], False)
-        check = room.exercise.copies[0].results[1].checks[1]
-        self.assertEqual((check["expected"], check["actual"]), (0, "not made"))
+        (check,) = room.exercise.copies[0].results[1].calls.wrong
+        self.assertEqual((check["expected"], check["actual"]), (0, None))
 
     def test_another_answer(self):
         """The fifth message of exercise 4 gets 10, as the text names; another text would be wrong."""
         room = begun(4, 2)
         room.teacher({"do": "to_the_end"})
         checks = room.teacher_view()["exercise"]["copies"][0]["results"][2]["checks"]
-        self.assertIn({"what": "Ben: take on link 1: answer", "expected": 10, "actual": 10, "right": True}, checks)
+        taken = ["exercise.call.arrival", {"name": "Ben", "link": 1}]
+        self.assertIn({"what": taken, "expected": 10, "actual": 10, "right": True}, checks)
+        # Of many calls that are right the number is shown.
+        checks = room.teacher_view()["exercise"]["copies"][0]["results"][3]["checks"]
+        self.assertEqual((checks[0]["what"][0], checks[0]["expected"], checks[0]["right"]), ("exercise.calls", 88, True))
         other = text_of("04-silence").replace("promise answer 10", "promise answer 0")
         loaded = room.teacher({"do": "exercise_load", "name": "other", "text": other})
         room.teacher({"do": "exercise", "number": loaded["number"]})
@@ -378,7 +387,8 @@ class Own(unittest.TestCase):
         reply = self.load(self.text.replace("title The handshake", "title My own"))
         self.assertEqual((reply["number"], reply["faults"]), (FIRST_OWN, []))
         after = self.room.teacher_view(before["mark"])
-        self.assertEqual(after["exercises"][-1], {"number": FIRST_OWN, "title": "My own", "hosts": 2, "own": True})
+        self.assertEqual(after["exercises"][-1], {**after["exercises"][-1], "number": FIRST_OWN, "hosts": 2, "own": True})
+        self.assertEqual(after["exercises"][-1]["title"]["en"], "My own")
         self.assertNotIn("exercises", self.room.teacher_view(after["mark"]))
         self.room.teacher({"do": "exercise", "number": FIRST_OWN})
         self.assertTrue(self.room.teacher({"do": "to_the_end"})["holds"])
@@ -527,7 +537,7 @@ class Numbers(unittest.TestCase):
 
     def test_texts(self):
         """The texts are the one source: what the room lists is what the folder has."""
-        listed = {row["number"]: row["title"] for row in Room.fresh(2).teacher_view()["exercises"]}
+        listed = {row["number"]: row["title"]["en"] for row in Room.fresh(2).teacher_view()["exercises"]}
         for path in FOLDER.glob("*.txt"):
             exercise = bench_file.read_exercise(path.read_text("utf-8"))
             self.assertEqual(listed[int(path.name[:2])], exercise.said("title"))

@@ -2,28 +2,25 @@
 // results. What comes of a stage is shown after it.
 
 import { byId, button, el, keyed, options, say, set } from "./dom.js";
-import { makeVerdicts, markOf } from "./verdicts.js";
-import { count } from "./words.js";
+import { count, t } from "./language.js";
+import { makeVerdicts, markOf, said } from "./verdicts.js";
 
 const LONGEST_TEXT = 150000;
 
-function headWords(exercise) {
-  const hosts = exercise.copies[0].seats.length;
-  const copies = exercise.copies.length === 1 ? `${hosts} hosts, one copy` : `${exercise.copies.length} copies of ${hosts} hosts`;
-  const over = exercise.observers ? `; ${count(exercise.observers, "student")} observe${exercise.observers === 1 ? "s" : ""}` : "";
-  return `For ${count(exercise.students, "student")}: ${copies}${over}.`;
+function headWords({ copies, students, observers }) {
+  const words = t(copies.length === 1 ? "exercise.for.one" : "exercise.for.many", { students, copies: copies.length, hosts: copies[0].seats.length });
+  return observers ? `${words} ${count("exercise.observers", observers)}` : words;
 }
 
 // Whether it came out as the exercise says, as far as it was carried out.
 function verdictWords({ copies, ended }) {
   const wrong = copies.filter((copy) => copy.results.some((result) => result.right === false));
   const done = copies.some((copy) => copy.results.some((result) => result.right !== null));
-  const many = copies.length > 1 ? `, in all ${copies.length} copies` : "";
+  const many = copies.length > 1 ? "many" : "one";
   if (!done) return "";
-  if (!wrong.length) return ended ? `✓ It came out as the exercise says${many}.` : `✓ As the exercise says so far${many}.`;
-  const first = wrong[0], stage = first.results.findIndex((result) => result.right === false) + 1;
-  const where = copies.length > 1 ? `copy ${first.copy + 1}, ` : "";
-  return `✗ Not as the exercise says: ${where}stage ${stage}. See what was expected.`;
+  if (!wrong.length) return t(`exercise.${ended ? "right" : "right_so_far"}.${many}`, { copies: copies.length });
+  const stage = wrong[0].results.findIndex((result) => result.right === false) + 1;
+  return t(`exercise.wrong.${many}`, { copy: wrong[0].copy + 1, stage });
 }
 
 // send(message) tells what is refused; ask(message) gives a promise of the reply; chosen() is called when one is set up.
@@ -38,7 +35,7 @@ export function makeExercises(send, chosen, ask) {
     busy = true;
     let reply;
     do {
-      say(byId("exercise-count"), `Working: ${current.at} of ${current.of} stages done …`);
+      say(byId("exercise-count"), t("exercise.working", { at: current.at, of: current.of }));
       reply = await send({ do: "next" });
     } while (all && reply && !reply.ended);
     busy = false;
@@ -55,28 +52,28 @@ export function makeExercises(send, chosen, ask) {
 
   function list(exercises) {
     byId("exercise-list").replaceChildren(...exercises.map(({ number, title, hosts, own }) => el("li", { "data-exercise": number },
-      button("Set up", () => setUp(number), { "aria-label": `Set up exercise ${number}, ${title}` }),
-      el("span", {}, `${number}. ${title}`), el("span", { class: "quiet" }, `${hosts} hosts${own ? ", your own" : ""}`))));
+      button(t("exercise.set_up"), () => setUp(number), { "aria-label": t("exercise.set_up_this", { number, title: said(title) }) }),
+      el("span", {}, `${number}. ${said(title)}`), el("span", { class: "quiet" }, t(own ? "exercise.hosts.own" : "exercise.hosts", { hosts })))));
   }
 
   // The faults of a text, each with its line.
-  function told(words, faults = [], more = 0) {
+  function told(words, faults = [], more = 0, refused = false) {
     say(byId("exercise-said"), words);
-    set(byId("exercise-said"), { hidden: !words, class: faults.length ? "said refusal" : "said" });
-    const rows = faults.map(({ line, words: fault }) => el("li", { "data-line": line }, el("strong", {}, `line ${line}: `), fault));
-    if (more) rows.push(el("li", {}, `and ${count(more, "line")} more`));
+    set(byId("exercise-said"), { hidden: !words, class: refused ? "said refusal" : "said" });
+    const rows = faults.map(({ line, words: fault }) => el("li", { "data-line": line }, el("strong", {}, `${t("exercise.line", { line })} `), fault));
+    if (more) rows.push(el("li", {}, count("exercise.more_lines", more)));
     byId("exercise-faults").replaceChildren(...rows);
   }
 
   async function load(file) {
-    if (file.size > LONGEST_TEXT) return told("Not loaded: the file is too long for an exercise.");
+    if (file.size > LONGEST_TEXT) return told(t("exercise.too_long"), [], 0, true);
     try {
       const text = new TextDecoder("utf-8", { fatal: true }).decode(await file.arrayBuffer());
       const reply = await ask({ do: "exercise_load", name: file.name.replace(/\.txt$/, "").slice(0, 100), text });
-      if (reply.faults.length) return told(`Not loaded: ${count(reply.faults.length + reply.more, "line")} of ${file.name} to correct.`, reply.faults, reply.more);
-      return told(`${file.name} is exercise ${reply.number} of the list.`);
+      if (reply.faults.length) return told(count("exercise.faults", reply.faults.length + reply.more, { file: file.name }), reply.faults, reply.more, true);
+      return told(t("exercise.loaded", { file: file.name, number: reply.number }));
     } catch (error) {
-      return told(`Not loaded: ${error instanceof TypeError ? "the text is not UTF-8" : error.message}`);
+      return told(error instanceof TypeError ? t("exercise.no_utf8") : t("exercise.not_loaded", { why: error.message }), [], 0, true);
     }
   }
   byId("exercise-choose").addEventListener("change", async (event) => {
@@ -93,7 +90,7 @@ export function makeExercises(send, chosen, ask) {
       set(node, { "data-stage": stage, class: on ? "chosen" : null, "data-right": String(results.every((r) => r.right !== false)) });
       say(name, `${copy + 1}: ${names.join(", ")}`);
       say(marks, results.filter((r) => r.right !== null).map((r) => markOf(r.right)).join(""));
-      say(state, stage === of ? "done" : `stage ${stage + 1}`);
+      say(state, stage === of ? t("exercise.copy_done") : t("exercise.copy_stage", { stage: stage + 1 }));
     }
     return { node, update: next };
   }
@@ -104,16 +101,17 @@ export function makeExercises(send, chosen, ask) {
     if (!exercise) return;
     key = `${exercise.number}`;
     set(byId("exercise"), { "data-exercise": exercise.number, "data-at": exercise.at });
-    say(byId("exercise-title"), `${exercise.number}. ${exercise.title}`);
-    for (const name of ["task", "question", "law"]) say(byId(`exercise-${name}`), exercise[name] ?? "");
+    say(byId("exercise-title"), `${exercise.number}. ${said(exercise.title)}`);
+    for (const name of ["task", "question", "law"]) say(byId(`exercise-${name}`), said(exercise[name]));
     for (const part of document.querySelectorAll("#exercise .law")) part.hidden = !exercise.law;
     say(byId("exercise-for"), headWords(exercise));
     say(byId("exercise-held"), verdictWords(exercise));
-    const next = exercise.ended ? "" : ` Next: ${exercise.stages[exercise.at].words}`;
-    if (!busy) say(byId("exercise-count"), `${exercise.at} of ${exercise.of} stages done.${next}`);
+    const { at, of } = exercise;
+    const next = exercise.ended ? t("exercise.count", { at, of }) : t("exercise.count_next", { at, of, words: said(exercise.stages[at].words) });
+    if (!busy) say(byId("exercise-count"), next);
     for (const id of ["exercise-next", "exercise-end"]) set(byId(id), { "aria-disabled": exercise.ended || busy ? "true" : null });
     byId("exercise-after").hidden = !exercise.explanation;
-    say(byId("exercise-explained"), exercise.explanation ?? "");
+    say(byId("exercise-explained"), said(exercise.explanation));
     options(byId("exercise-copy"), exercise.copies.map(({ copy, names }) => [copy, `${copy + 1}: ${names.join(", ")}`]));
     const shown = exercise.copies.find(({ copy }) => String(copy) === byId("exercise-copy").value) ?? exercise.copies[0];
     byId("exercise-copies").hidden = exercise.copies.length === 1;

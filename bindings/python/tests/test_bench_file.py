@@ -408,8 +408,39 @@ class Exercises(unittest.TestCase):
         self.wrong(SAID + PAIR + "stage One\nself-report 0\n", 8, "the last stage promises nothing")
         self.wrong(SAID + PAIR.replace("\nseat 192.0.2.2", " name A\nseat 192.0.2.2 name A") + ENDED, 6, "one name")
         self.wrong(SAID + PAIR + ENDED + "repeat 2\nstage Two\nend\n", 12, "only events are repeated")
+        self.wrong(SAID + PAIR + ENDED + "block a\ndo a\nend\ndo a\n", 12, "is carried out within itself")
         lines = "block a\nwait 1\nend\nblock b\ndo a times 2048\nend\nrepeat 2048\ndo b\nend\n"
         self.wrong(SAID + PAIR + ENDED + lines, 12, "more than 50,000 lines")
+
+    def test_any_text(self):
+        """Whatever is written, it is read, or each wrong line is told."""
+        choose = random.Random(38)
+        folder = TOOL.parent.parent / "apps" / "exercises"
+        texts = [path.read_text("utf-8").splitlines() for path in sorted(folder.glob("*.txt")) if "ghost" not in path.name]
+        words = sorted({word for lines in texts for line in lines for word in line.split()})
+        read, wrong = 0, 0
+        for _ in range(300):
+            lines = list(choose.choice(texts))
+            for _ in range(choose.randint(1, 4)):
+                at = choose.randrange(len(lines))
+                line = lines[at].split() or ["wait"]
+                place = choose.randrange(len(line))
+                change = choose.randrange(5)
+                if change == 0:
+                    del lines[at]
+                elif change == 1:
+                    lines.insert(choose.randrange(len(lines)), lines[at])
+                else:
+                    line[place : place + choose.randint(0, 1)] = [choose.choice(words)]
+                    lines[at] = " ".join(line)
+            for reader in (bench_file.read_exercise, bench_file.read_long_text, bench_file.read_text):
+                try:
+                    reader("\n".join(lines))
+                    read += 1
+                except Wrong as told:
+                    self.assertTrue(all(1 <= line <= len(lines) for line, _ in told.faults), told)
+                    wrong += 1
+        self.assertGreater(min(read, wrong), 100)
 
     def test_a_walk_is_for_the_room(self):
         text = SAID + PAIR + "stage One\nsend cable 0 end 0 tray 0\nopen-walk tray 0\nstep 1\nend-walk 1\n"

@@ -7,44 +7,46 @@ from .segments import key_of
 
 AHEAD = 4
 """So many segments ahead calls count, if the calls before them are still to be made."""
-MOST_CHECKS = 400
-"""So many checks of a stage are kept."""
-WORDS = {
-    "self-report": "self-report",
-    "second": "second",
-    "adjust": "adjust",
-    "set": "set",
-    "send": "send",
-    "arrival": "take",
-    "open-walk": "open walk",
-    "step": "next box",
-    "end-walk": "walk to its end",
-}
-"""The kinds of calls as the pages name them."""
+MOST_CALLS = 6
+MOST_PROMISES = 24
+"""So many right calls and promises of a stage are kept; the others are counted."""
+MOST_WRONG = 100
+"""So many wrong ones."""
+
+
+class Checks:
+    """Some checks of a stage: how many there were and how many were right, and some of them. A check is
+    what, expected, actual, right; `what` is a text by its key, with its values."""
+
+    def __init__(self, most):
+        self._most = most
+        self.count = 0
+        self.right = 0
+        self.kept = []
+        self.wrong = []
+
+    def add(self, what, expected, actual):
+        """Takes a check."""
+        right = expected == actual
+        self.count += 1
+        self.right += right
+        kept, most = (self.kept, self._most) if right else (self.wrong, MOST_WRONG)
+        if len(kept) < most:
+            kept.append({"what": what, "expected": expected, "actual": actual, "right": right})
 
 
 class Result:
-    """What came of a stage. A check is what, expected, actual, right; a call's is its answer, a promise's
-    a number of a table. `right` is None while the stage is under way."""
+    """What came of a stage: the answers of its calls, and the numbers that it promises. `right` is None
+    while the stage is under way."""
 
     def __init__(self):
-        self.checks = []
-        self.left_out = 0
+        self.calls = Checks(MOST_CALLS)
+        self.promises = Checks(MOST_PROMISES)
         self.right = None
-        self._wrong = False
-
-    def add(self, what, expected, actual):
-        """Takes a check; of many right ones not all are kept."""
-        right = expected == actual
-        self._wrong |= not right
-        if right and len(self.checks) >= MOST_CHECKS:
-            self.left_out += 1
-            return
-        self.checks.append({"what": what, "expected": expected, "actual": actual, "right": right})
 
     def end(self):
         """The stage is over."""
-        self.right = not self._wrong
+        self.right = all(checks.right == checks.count for checks in (self.calls, self.promises))
 
 
 class Copy:
@@ -107,14 +109,14 @@ class Copy:
 
     def _note(self, call, segment, times, answer):
         result = self.results[self.segments[segment].stage]
-        result.add(self.words(call, times), call.answer, answer)
+        result.calls.add(self.words(call, times), call.answer, answer)
 
     def words(self, call, times=1):
-        """A call in words."""
-        link = f" on link {call.link}" if call.kind in ("send", "arrival", "open-walk") else ""
-        amount = f" by {call.amount:,} ms" if call.kind == "set" else ""
-        many = f", {times} times" if times > 1 else ""
-        return f"{self.names[call.seat]}: {WORDS[call.kind]}{link}{amount}{many}: answer"
+        """A call as a text by its key."""
+        values = {"name": self.names[call.seat], "link": call.link, "amount": call.amount}
+        given = {name: value for name, value in values.items() if value is not None}
+        text = [f"exercise.call.{call.kind}", given]
+        return ["exercise.times", {"call": text, "times": times}] if times > 1 else text
 
     def advance(self, room):
         """Goes past each segment whose calls are all made, and looks at what it promises."""
@@ -131,8 +133,9 @@ class Copy:
             missing = min(call.times, before + call.times - self.made(self.at, key_of(call)))
             if missing > 0:
                 other = self._others.get(key_of(call))
-                actual = "not made" if other is None or other == call.answer else other
-                result.add(self.words(call, missing), call.answer, actual)
+                # None is a call that was not made, or not with this answer.
+                actual = None if other == call.answer else other
+                result.calls.add(self.words(call, missing), call.answer, actual)
         self._pass(room)
 
     def _pass(self, room):
@@ -141,17 +144,20 @@ class Copy:
         tables = _Tables(room, self.numbers)
         for promise in segment.promises:
             for each in promise.compared(tables):
-                result.add(f"{self._of(promise)}: {each.field}", each.expected, each.actual)
+                result.promises.add(self._of(promise, each.field), each.expected, each.actual)
         self._made.pop(self.at, None)
         self._others.clear()
         self.at += 1
         if self.ended or self.segments[self.at].stage != segment.stage:
             result.end()
 
-    def _of(self, promise):
+    def _of(self, promise, field):
+        """A value of a table as a text by its key."""
         host = self.names[promise.host] if promise.host < len(self.names) else f"host {promise.host}"
         seat = getattr(promise, "seat", None)
-        return f"{host} in any other table" if seat is None else f"{host} in {self.names[seat]}'s table"
+        if seat is None:
+            return ["exercise.least", {"host": host}]
+        return ["exercise.entry", {"host": host, "seat": self.names[seat], "field": field}]
 
 
 class _Tables:

@@ -1,12 +1,7 @@
-"""What the pages show of an exercise. What comes of a stage is shown after it alone."""
-
-from hello.bench_file import in_language
+"""What the pages show of an exercise. What comes of a stage is shown after it alone. What people read is sent in
+all languages that the text has, by their two letters."""
 
 from .catalog import EXERCISES
-
-MOST_SHOWN = 16
-"""So many checks of a stage are shown: the wrong ones first."""
-
 
 def listed(room):
     """The exercises with their numbers, titles and numbers of hosts; own ones last."""
@@ -14,7 +9,7 @@ def listed(room):
     return [
         {
             "number": number,
-            "title": every[number].exercise.said("title"),
+            "title": every[number].exercise.words["title"],
             "hosts": len(every[number].exercise.file.seats),
             "own": number not in EXERCISES,
         }
@@ -91,32 +86,37 @@ def _words(course, stage, ended):
     exercise = course.exercise
     return {
         "number": course.listed.number,
-        **{name: exercise.said(name) for name in ("title", "task", "question", "law")},
-        "hints": [in_language(hint, "en") for hint in exercise.hints],
+        **{name: exercise.words.get(name) for name in ("title", "task", "question", "law")},
+        "hints": list(exercise.hints),
         "at": stage,
         "of": len(exercise.stages),
         "ended": ended,
-        "explanation": exercise.said("explanation") if ended else None,
+        "explanation": exercise.words["explanation"] if ended else None,
     }
 
 
 def _stage(course, number, done):
-    """A stage in words; what comes of it only where it is done. None behind the last one."""
+    """A stage in words; what comes of it only if it is done. None after the last one."""
     if number >= len(course.exercise.stages):
         return None
     stage = course.exercise.stages[number]
-    return {
-        "words": in_language(stage.words, "en"),
-        "outcome": in_language(stage.outcome, "en") if done else None,
-    }
+    return {"words": stage.words, "outcome": stage.outcome if done and stage.outcome else None}
 
 
 def _results(copy):
     """Of each stage that is done, and of the one under way as far as it is: right, and the checks."""
-    shown = []
-    for number, result in enumerate(copy.results[: copy.stage + 1]):
-        done = number < copy.stage
-        checks = sorted(result.checks, key=lambda check: check["right"]) if done else result.checks
-        more = result.left_out + max(0, len(checks) - MOST_SHOWN)
-        shown.append({"right": result.right, "checks": checks[:MOST_SHOWN], "more": more})
-    return shown
+    return [_result(result) for result in copy.results[: copy.stage + 1]]
+
+
+def _result(result):
+    calls, promises = result.calls, result.promises
+    shown = [*calls.wrong, *promises.wrong]
+    if calls.right > len(calls.kept):
+        right = calls.right == calls.count
+        shown.append({"what": ["exercise.calls", {}], "expected": calls.count, "actual": calls.right, "right": right})
+    else:
+        shown += calls.kept
+    shown += promises.kept
+    more = promises.right - len(promises.kept)
+    more += sum(checks.count - checks.right - len(checks.wrong) for checks in (calls, promises))
+    return {"right": result.right, "checks": shown, "more": more}

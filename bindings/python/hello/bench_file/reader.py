@@ -90,6 +90,7 @@ class Reader:
         self.sent = {}
         self.all_sent = None
         self.blocks = {}
+        self.within = []
         self.carried_out = 0
         self.line = 0
         self.faults = []
@@ -237,7 +238,12 @@ class Reader:
         if name not in self.blocks:
             raise Fault(words.unknown(name, self.blocks, "names") if self.blocks else f"there is no block '{name}'")
         given = line.options({"times": EVENT_OPTIONS["times"]})
-        self._carry_out(self.blocks[name], in_range("how many times", given.get("times", 1), 1, MOST_TIMES))
+        times = in_range("how many times", given.get("times", 1), 1, MOST_TIMES)
+        if name in self.within:
+            raise Fault(f"the block '{name}' is carried out within itself")
+        self.within.append(name)
+        self._carry_out(self.blocks[name], times)
+        self.within.pop()
 
     def _carry_out(self, kept, times):
         here, known = self.line, len(self.faults)
@@ -335,7 +341,9 @@ class Reader:
                 self.promises.append(Answered(self.line, number + 1, answer))
 
     def _call(self, event, times, answer):
-        """The call that an event is."""
+        """The call that an event is; none at a cable whose line is wrong."""
+        if event.kind == "send" and not self.cables[event.cable].ends:
+            return
         seat, link = event.seat, None
         if event.kind == "send":
             seat, link = self.cables[event.cable].ends[event.end]
@@ -472,7 +480,8 @@ class Reader:
                 raise Fault("no event stands before the answer that is promised")
             self.promises.append(Answered(self.line, len(self.events), answer))
             self.named[len(self.events) - 1] = answer
-            self.calls[-1].answer = answer
+            if self.calls:
+                self.calls[-1].answer = answer
         elif what == "seat":
             self._promise_of_seat(line)
         elif what == "host":
