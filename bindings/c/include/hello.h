@@ -41,8 +41,8 @@
  *   no.  meaning                                        changes
  *   0    done                                           as the call's rule says
  *   1    a setting is out of its range, the own id is   nothing
- *        not marked, a mark lies at NHOSTS or above,
- *        or NHOSTS is not that of the class's table
+ *        not marked, an id from NHOSTS on is marked,
+ *        or NHOSTS is not that of the net table
  *   2    the buffer is shorter than the message         nothing
  *   3    the IP header is not in form                   nothing
  *   4    the IP checksum is not good                    nothing
@@ -62,19 +62,17 @@
  *                                                       ends; lookup: nothing
  *   12   the host's number is over 15; the link is not  nothing
  *        from 1 to the host's count (8 at most); the
- *        host's 255 entries are not all in the host
- *        table; if a walk is opened, its copy has no
- *        room for 1,052 octets; the class's table has
+ *        host's 255 places are not all in the host
+ *        table; the copy of a walk to open has no
+ *        space for 1,052 octets; the net table is bad:
  *        over 32 rows, an NHOSTS not 1 to 255 or a
- *        row's id not below it; something else that is
- *        borrowed is out of range; or the mark of one
- *        of the host's first NHOSTS entries is not
- *        that of the settings. Of a bench: something
- *        borrowed is shorter than its file needs; in a
- *        run also a filled slot with a length over
- *        1,052, a cable that is not in the file or
- *        another end than 0 and 1, or more events done
- *        than the file has
+ *        row's id not below it; other state of the
+ *        caller is out of range; or an entry's mark is
+ *        not the settings'. Of a bench: state smaller
+ *        than the file needs; in a run also a filled
+ *        slot with a length over 1,052, an absent
+ *        cable or an end other than 0 and 1, or more
+ *        events done than the file has
  *   13   the host looked up is down: its DELAY is       nothing
  *        30,000
  *   16   the host is in the middle of a walk            nothing
@@ -189,7 +187,7 @@ static inline const char *hello_answer_text(uint8_t answer)
     /* clang-format off */
     switch (answer) {
     case 0: return "done";
-    case 1: return "a setting is out of its range, the own id is not marked, a mark lies at NHOSTS or above, or NHOSTS is not that of the class's table";
+    case 1: return "a setting is out of its range, the own id is not marked, an id from NHOSTS on is marked, or NHOSTS is not that of the net table";
     case 2: return "the buffer is shorter than the message";
     case 3: return "the IP header is not in form";
     case 4: return "the IP checksum is not good";
@@ -200,7 +198,7 @@ static inline const char *hello_answer_text(uint8_t answer)
     case 9: return "the source is our own LOCAL-ADDRESS, on a point-to-point link";
     case 10: return "the delay is not valid: from the neighbor on a point-to-point link, the packet's TSP is 0 or HOLD is not 0";
     case 11: return "the address has no id";
-    case 12: return "the host's number is over 15; the link is not from 1 to the host's count (8 at most); the host's 255 entries are not all in the host table; if a walk is opened, its copy has no room for 1,052 octets; the class's table has over 32 rows, an NHOSTS not 1 to 255 or a row's id not below it; something else that is borrowed is out of range; or the mark of one of the host's first NHOSTS entries is not that of the settings. Of a bench: something borrowed is shorter than its file needs; in a run also a filled slot with a length over 1,052, a cable that is not in the file or another end than 0 and 1, or more events done than the file has";
+    case 12: return "the host's number is over 15; the link is not from 1 to the host's count (8 at most); the host's 255 places are not all in the host table; the copy of a walk to open has no space for 1,052 octets; the net table is bad: over 32 rows, an NHOSTS not 1 to 255 or a row's id not below it; other state of the caller is out of range; or an entry's mark is not the settings'. Of a bench: state smaller than the file needs; in a run also a filled slot with a length over 1,052, an absent cable or an end other than 0 and 1, or more events done than the file has";
     case 13: return "the host looked up is down: its DELAY is 30,000";
     case 14: return "the text has another form, its number of lines included";
     case 15: return "a number of the text does not fit its field";
@@ -208,13 +206,13 @@ static inline const char *hello_answer_text(uint8_t answer)
     case 17: return "no walk is open";
     case 18: return "the file's header or length: a count over its most, a start that is not where the section before it ends, or another length";
     case 19: return "a record of the file names something that is not there, or has settings that 1 refuses";
-    case 21: return "the class's table has 32 rows";
+    case 21: return "the net table has 32 rows";
     case 22: return "there is no row of that number; none is number 0";
     case 23: return "the header has not 48 octets";
     case 24: return "the version is not 4";
     case 25: return "the packet mode or the association is outside the table, or the leap is over 3";
     case 26: return "one of the four tests of the times failed";
-    case 27: return "the capture to mend has over 65,536 octets";
+    case 27: return "the capture has over 65,536 octets";
     default: return "no answer of the library";
     }
     /* clang-format on */

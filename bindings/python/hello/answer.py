@@ -52,7 +52,7 @@ class Answer(enum.IntEnum):
 # The meanings; check/tests/answers --write makes them from docs/answers.txt.
 _WORDS = {
     Answer.DONE: "done",
-    Answer.SETTING: "a setting is out of its range, the own id is not marked, a mark lies at NHOSTS or above, or NHOSTS is not that of the class's table",
+    Answer.SETTING: "a setting is out of its range, the own id is not marked, an id from NHOSTS on is marked, or NHOSTS is not that of the net table",
     Answer.SHORT_BUFFER: "the buffer is shorter than the message",
     Answer.IP_FORM: "the IP header is not in form",
     Answer.IP_CHECKSUM: "the IP checksum is not good",
@@ -63,7 +63,7 @@ _WORDS = {
     Answer.LOOPED_LINE: "the source is our own LOCAL-ADDRESS, on a point-to-point link",
     Answer.DELAY_NOT_VALID: "the delay is not valid: from the neighbor on a point-to-point link, the packet's TSP is 0 or HOLD is not 0",
     Answer.NO_HOST: "the address has no id",
-    Answer.OUT_OF_RANGE: "the host's number is over 15; the link is not from 1 to the host's count (8 at most); the host's 255 entries are not all in the host table; if a walk is opened, its copy has no room for 1,052 octets; the class's table has over 32 rows, an NHOSTS not 1 to 255 or a row's id not below it; something else that is borrowed is out of range; or the mark of one of the host's first NHOSTS entries is not that of the settings. Of a bench: something borrowed is shorter than its file needs; in a run also a filled slot with a length over 1,052, a cable that is not in the file or another end than 0 and 1, or more events done than the file has",
+    Answer.OUT_OF_RANGE: "the host's number is over 15; the link is not from 1 to the host's count (8 at most); the host's 255 places are not all in the host table; the copy of a walk to open has no space for 1,052 octets; the net table is bad: over 32 rows, an NHOSTS not 1 to 255 or a row's id not below it; other state of the caller is out of range; or an entry's mark is not the settings'. Of a bench: state smaller than the file needs; in a run also a filled slot with a length over 1,052, an absent cable or an end other than 0 and 1, or more events done than the file has",
     Answer.HOST_DOWN: "the host looked up is down: its DELAY is 30,000",
     Answer.TEXT_FORM: "the text has another form, its number of lines included",
     Answer.FIELD_RANGE: "a number of the text does not fit its field",
@@ -71,13 +71,13 @@ _WORDS = {
     Answer.NO_WALK: "no walk is open",
     Answer.HEADER: "the file's header or length: a count over its most, a start that is not where the section before it ends, or another length",
     Answer.ABSENT: "a record of the file names something that is not there, or has settings that 1 refuses",
-    Answer.TABLE_FULL: "the class's table has 32 rows",
+    Answer.TABLE_FULL: "the net table has 32 rows",
     Answer.NO_ROW: "there is no row of that number; none is number 0",
     Answer.NTP_LENGTH: "the header has not 48 octets",
     Answer.NTP_VERSION: "the version is not 4",
     Answer.NTP_MODE: "the packet mode or the association is outside the table, or the leap is over 3",
     Answer.NTP_TIMESTAMP: "one of the four tests of the times failed",
-    Answer.CAPTURE_LENGTH: "the capture to mend has over 65,536 octets",
+    Answer.CAPTURE_LENGTH: "the capture has over 65,536 octets",
 }
 
 

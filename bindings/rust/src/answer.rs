@@ -128,7 +128,7 @@ impl Answer {
     pub const fn words(self) -> &'static str {
         match self {
             Answer::Done => "done",
-            Answer::Setting => "a setting is out of its range, the own id is not marked, a mark lies at NHOSTS or above, or NHOSTS is not that of the class's table",
+            Answer::Setting => "a setting is out of its range, the own id is not marked, an id from NHOSTS on is marked, or NHOSTS is not that of the net table",
             Answer::ShortBuffer => "the buffer is shorter than the message",
             Answer::IpForm => "the IP header is not in form",
             Answer::IpChecksum => "the IP checksum is not good",
@@ -139,7 +139,7 @@ impl Answer {
             Answer::LoopedLine => "the source is our own LOCAL-ADDRESS, on a point-to-point link",
             Answer::DelayNotValid => "the delay is not valid: from the neighbor on a point-to-point link, the packet's TSP is 0 or HOLD is not 0",
             Answer::NoHost => "the address has no id",
-            Answer::OutOfRange => "the host's number is over 15; the link is not from 1 to the host's count (8 at most); the host's 255 entries are not all in the host table; if a walk is opened, its copy has no room for 1,052 octets; the class's table has over 32 rows, an NHOSTS not 1 to 255 or a row's id not below it; something else that is borrowed is out of range; or the mark of one of the host's first NHOSTS entries is not that of the settings. Of a bench: something borrowed is shorter than its file needs; in a run also a filled slot with a length over 1,052, a cable that is not in the file or another end than 0 and 1, or more events done than the file has",
+            Answer::OutOfRange => "the host's number is over 15; the link is not from 1 to the host's count (8 at most); the host's 255 places are not all in the host table; the copy of a walk to open has no space for 1,052 octets; the net table is bad: over 32 rows, an NHOSTS not 1 to 255 or a row's id not below it; other state of the caller is out of range; or an entry's mark is not the settings'. Of a bench: state smaller than the file needs; in a run also a filled slot with a length over 1,052, an absent cable or an end other than 0 and 1, or more events done than the file has",
             Answer::HostDown => "the host looked up is down: its DELAY is 30,000",
             Answer::TextForm => "the text has another form, its number of lines included",
             Answer::FieldRange => "a number of the text does not fit its field",
@@ -147,13 +147,13 @@ impl Answer {
             Answer::NoWalk => "no walk is open",
             Answer::Header => "the file's header or length: a count over its most, a start that is not where the section before it ends, or another length",
             Answer::Absent => "a record of the file names something that is not there, or has settings that 1 refuses",
-            Answer::TableFull => "the class's table has 32 rows",
+            Answer::TableFull => "the net table has 32 rows",
             Answer::NoRow => "there is no row of that number; none is number 0",
             Answer::NtpLength => "the header has not 48 octets",
             Answer::NtpVersion => "the version is not 4",
             Answer::NtpMode => "the packet mode or the association is outside the table, or the leap is over 3",
             Answer::NtpTimestamp => "one of the four tests of the times failed",
-            Answer::CaptureLength => "the capture to mend has over 65,536 octets",
+            Answer::CaptureLength => "the capture has over 65,536 octets",
         }
     }
 
