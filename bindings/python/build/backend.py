@@ -22,7 +22,8 @@ def build_wheel(wheel_directory, config_settings=None, metadata_directory=None):
     sys.path.append(DEBIAN)
     try:
         from setuptools import build_meta
-        import wheel  # noqa: F401
+
+        __import__("wheel")
     except ImportError:
         sys.exit("hello891: the Debian packages python3-setuptools and python3-wheel are needed to install it")
     with tempfile.TemporaryDirectory() as scratch:
