@@ -489,7 +489,13 @@ fn internet_checksum() {
     let octets = [0x00, 0x01, 0xF2, 0x03, 0xF4, 0xF5, 0xF6, 0xF7];
     assert_eq!(checksum::folded_sum(&octets), 0xDDF2);
     assert_eq!(checksum::checksum(&octets), 0x220D);
+    let swapped = [0x01, 0x00, 0x03, 0xF2, 0xF5, 0xF4, 0xF7, 0xF6];
+    assert_eq!(checksum::folded_sum(&swapped), 0xF2DD);
+    let reversed = [0x03, 0xF2, 0x01, 0x00, 0xF7, 0xF6, 0xF5, 0xF4];
+    assert_eq!(checksum::folded_sum(&reversed), 0xF2DD);
     assert_eq!(checksum::folded_sum(&octets[..3]), 0xF201);
+    assert_eq!(checksum::folded_sum(&octets[3..]), 0xF0EB);
+    assert_eq!(checksum::folded_sum(&[0xF2, 0x01, 0xEB, 0xF0]), 0xDDF2);
     assert_eq!(checksum::folded_sum(&[]), 0);
     assert!(checksum::is_good(&[0xDD, 0xF2, 0x22, 0x0D]));
     assert!(!checksum::is_good(&[0; 12]));
