@@ -576,6 +576,12 @@ uint16_t hello_checksum(const uint8_t *octets, size_t length);
 /* The same, two octets at a time: the plain way, which takes longer. */
 uint16_t hello_checksum_plain(const uint8_t *octets, size_t length);
 
+/*
+ * The DATE word of a calendar day, as 29 February 1984, with bit 15 zero. Returns 0 if there is no
+ * such day from 1 January 1972 to 31 December 2003.
+ */
+uint16_t hello_date(uint16_t year, uint16_t month, uint16_t day);
+
 #ifdef __cplusplus
 }
 #endif

@@ -2,6 +2,8 @@
 use mathlib.Core.Path.{_≡_}
 use mathlib.Core.List.{List}
 use Prim.Native.Nat.{ℕ}
+use Rattle.calendar.specs.declared.MadeDate.{MadeDate}
+use Rattle.calendar.specs.declared.MadeDate.the-variants.{Made, NoDate}
 use Rattle.answer.specs.Answer.{number}
 use Rattle.clock.specs.declared.Clock.{Clock}
 use Rattle.table.specs.declared.Entry.{Entry}
@@ -22,6 +24,11 @@ numbered r = number (r .answer)
 -- REPLY-5: a read: time and DATE
 abbrev pub timeTold : Reply → Time
 timeTold r = record { answer = number (r .answer); time = r .time; date = r .date }
+
+-- DATE-1, DATE-2: the word of a date that was made; 0 if there is no such day
+abbrev pub dateTold : MadeDate → ℕ
+dateTold (Made d) = d .0
+dateTold NoDate = 0
 
 -- REPLY-5: a send: the length
 abbrev pub sentTold : Reply → Sent

@@ -38,6 +38,7 @@ use table::Entry;
 use wire::Address;
 
 mod captures;
+mod dates;
 mod nets;
 mod ntp_calls;
 mod paper;

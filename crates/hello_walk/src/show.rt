@@ -23,7 +23,7 @@ fn line(id: u8, letter: u8) {
 }
 
 // Where a walk stands.
-pub fn place(w: Walk) {
+pub(crate) fn place(w: Walk) {
     match host::walk::place_of(w) {
         Place::Nowhere => text(b"nowhere:"),
         Place::Step1 => step(1),
@@ -82,7 +82,7 @@ fn neighbor(empty: bool, before: Address, after: Address) -> bool {
 }
 
 // Step 1 tells our reading.
-pub fn reading(before: Walk, after: Walk) -> bool {
+pub(crate) fn reading(before: Walk, after: Walk) -> bool {
     if before.step != 1 {
         return true;
     }
@@ -91,7 +91,7 @@ pub fn reading(before: Walk, after: Walk) -> bool {
     false
 }
 
-pub fn link(empty: bool, before: Link, after: Link) -> bool {
+pub(crate) fn link(empty: bool, before: Link, after: Link) -> bool {
     let a = change(
         empty,
         b"KEEP-ALIVE",
@@ -103,7 +103,7 @@ pub fn link(empty: bool, before: Link, after: Link) -> bool {
 }
 
 // What a walk holds, unless the box ended it.
-pub fn held(empty: bool, before: Walk, after: Walk) -> bool {
+pub(crate) fn held(empty: bool, before: Walk, after: Walk) -> bool {
     if !host::walk::is_open(after) {
         return empty;
     }
@@ -112,7 +112,7 @@ pub fn held(empty: bool, before: Walk, after: Walk) -> bool {
 }
 
 // The entry of a host id.
-pub fn entry(empty: bool, before: Entry, after: Entry) -> bool {
+pub(crate) fn entry(empty: bool, before: Entry, after: Entry) -> bool {
     let a = millis(empty, b"DELAY", before.delay, after.delay);
     let b = word(a, b"OFFSET", before.offset, after.offset);
     let c = change(b, b"TTL", before.ttl.0 as i64, after.ttl.0 as i64);
@@ -121,7 +121,7 @@ pub fn entry(empty: bool, before: Entry, after: Entry) -> bool {
 }
 
 // The line's end.
-pub fn end(empty: bool) {
+pub(crate) fn end(empty: bool) {
     if empty {
         text(b" nothing");
     }

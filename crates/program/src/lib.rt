@@ -228,7 +228,7 @@ pub fn settings() -> host::Settings
         hold_interval: Seconds(1),
         clock_tick: Units(1),
         time: Millis(0),
-        date: Date(1056),
+        date: Date::FIRST,
         link_count: 1,
         links: links,
         marks: Marks { words: words },

@@ -102,7 +102,7 @@ pub fn far_sets() {
 
 // CLOCK-4, CLOCK-15: -128 to +127 ms slew, other sets step; an adjust moves CLOCK by a millisecond at most.
 pub fn slew_limits() {
-    let start = clock_of(Units(65_536_000), Units(0));
+    let start = clock_of(Units::of_millis(Millis(1_000)), Units(0));
     show::clock(b"a Set by 127", set(start, 127, NO_COUNT));
     show::clock(b"a Set by 128", set(start, 128, NO_COUNT));
     show::clock(b"a Set by -128", set(start, -128, NO_COUNT));

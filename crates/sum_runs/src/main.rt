@@ -15,6 +15,7 @@ fn main() {
     clocks::crystal_changes();
     sums::checksums();
     sums::dates();
+    sums::made_dates();
     rfc1071::normal();
     rfc1071::swapped_order();
     rfc1071::reversed_order();

@@ -20,6 +20,13 @@ pub fn date(name: &[u8], d: Date) {
     end();
 }
 
+// A line of a day that there is not.
+pub fn no_date(name: &[u8]) {
+    text(name);
+    text(b": no such day");
+    end();
+}
+
 // A line of a clock: CLOCK and DELTA in units.
 pub fn clock(name: &[u8], c: Clock) {
     text(name);

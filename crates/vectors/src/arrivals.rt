@@ -58,7 +58,7 @@ fn clock_at(time: Millis, hold: Seconds) -> Clock {
 }
 
 // The entries of a host whose own id alone is marked, otherwise all the same.
-pub fn entries(own: usize, e: Entry) -> [Entry; 255] {
+pub(crate) fn entries(own: usize, e: Entry) -> [Entry; 255] {
     let mut x = e;
     x.here = 1;
     let mut run = [e; 255];
