@@ -29,6 +29,8 @@ pub struct Ours {
     pub clock: Clock,
     pub links: Links,
     pub walk: Walk,
+    /// The copy of a walk's packet: empty if no walk is opened.
+    pub copy: Vec<u8>,
     pub run: Vec<Entry>,
 }
 
@@ -69,6 +71,7 @@ impl Ours {
             clock: Clock::default(),
             links: Links::default(),
             walk: Walk::CLOSED,
+            copy: Vec::new(),
             run: vec![entry; PLACES],
         };
         assert_eq!(ours.state().initialize(), Answer::Done.number());
@@ -94,7 +97,7 @@ impl Ours {
             clock: &mut self.clock,
             links: &mut self.links,
             walk: &mut self.walk,
-            copy: &mut [],
+            copy: &mut self.copy,
             entries: &mut self.run,
         }
     }

@@ -158,6 +158,14 @@ fn room(random: &mut Random, length: usize) -> usize {
 fn compare(number: usize, octets: &[u8], rooms: [usize; 2]) -> Result<u8, String> {
     let [mut capture, mut stretches] = rooms.map(|room| vec![FILL; room]);
     let told = mend(octets, &mut capture, &mut stretches);
+    let [mut fast_capture, mut fast_stretches] = rooms.map(|room| vec![FILL; room]);
+    let fast = tuned::recover::recover(octets, &mut fast_capture, &mut fast_stretches);
+    if told != fast || capture != fast_capture || stretches != fast_stretches {
+        return Err(format!(
+            "recovery of {octets:02x?}\ndifference at call {number} in the fast program\n  \
+             library: {told:?}\n  fast: {fast:?}"
+        ));
+    }
     let [mut right_capture, mut right_stretches] = rooms.map(|room| vec![FILL; room]);
     let right = match expected(octets, rooms[0], rooms[1]) {
         Err(answer) => Mended {

@@ -114,7 +114,7 @@ impl Library {
 }
 
 /// The next place, with all that is told of it.
-fn next(stepped: hello::Stepped) -> Outcome {
+pub fn next(stepped: hello::Stepped) -> Outcome {
     let id = u8::try_from(stepped.id).expect("an id is an octet");
     let next = match (stepped.step, stepped.line, id) {
         (0, 0, 0) => None,
