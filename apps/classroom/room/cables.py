@@ -83,25 +83,25 @@ class Cables:
             return heapq.heappop(self.on_their_way)
         return None
 
-    def sent_by(self, seat, now):
+    def sent_by(self, seat):
         """The messages of a seat that are on their way: number, link, receiver, arrival."""
         found = []
         for way in sorted(self.on_their_way):
             sender, link = self.cables[way.cable]["ends"][way.direction]
             if sender == seat:
                 told = {"message": way.message, "link": link, "to": way.to[0]}
-                found.append({**told, "arrival": way.arrival, "left": way.arrival - now})
+                found.append({**told, "arrival": way.arrival})
         return found
 
-    def shown(self, now):
-        """The messages on their way as a page shows them."""
+    def shown(self):
+        """The messages on their way as a page shows them, each with the room ms at which it arrives."""
         return [
             {
                 "message": way.message,
                 "cable": way.cable,
                 "from": self.cables[way.cable]["ends"][way.direction][0],
                 "to": way.to[0],
-                "left": way.arrival - now,
+                "arrives": way.arrival,
                 "of": way.arrival - way.sent,
             }
             for way in sorted(self.on_their_way)

@@ -44,9 +44,12 @@ class Message:
             "text": fields.text(self.octets),
         }
 
-    def shown(self, now):
-        """The message as a page shows it."""
-        return {**self._shown, "waited": now - self.arrived}
+    def shown(self):
+        """The message as a page shows it; how long it has waited the page knows by the room's time."""
+        return self._shown
+
+    def __getstate__(self):
+        return {name: value for name, value in self.__dict__.items() if name != "_shown"}
 
 
 class Seat:

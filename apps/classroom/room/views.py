@@ -19,7 +19,7 @@ def teacher_view(room, since, presence):
         "net_table": _net_table(room),
         "seats": [seat_of(room, seat, teacher=True) for seat in room.seats],
         "cables": _cables(room),
-        "on_their_way": room.cables.shown(room.now),
+        "on_their_way": room.cables.shown(),
         "board": board.rows(room, presence),
         "promise": room.promise.broken,
         "calls": room.log.since(line),
@@ -109,7 +109,7 @@ def _others(room):
     return {
         "seats": [_other(room, seat, tables) for seat in room.seats],
         "cables": _cables(room),
-        "on_their_way": room.cables.shown(room.now),
+        "on_their_way": room.cables.shown(),
     }
 
 
@@ -129,9 +129,9 @@ def seat_of(room, seat, teacher=False):
         "clock": _clock(room, seat),
         "links": [_link(room, seat, link) for link in range(1, len(seat.state.links) + 1)],
         "table": _table(room, seat, teacher),
-        "waiting": [message.shown(room.now) for message in seat.waiting.values()],
+        "waiting": [message.shown() for message in seat.waiting.values()],
         "lost": list(seat.lost.values()),
-        "sent": room.cables.sent_by(seat.number, room.now),
+        "sent": room.cables.sent_by(seat.number),
         "walk": seat.walk and _walk(room, seat),
         "last": seat.last,
         "student": room.lesson.students[seat.number].name,
@@ -196,7 +196,7 @@ def _walk(room, seat):
     message, held = walk["message"], seat.state.walk or (None, None, None, None)
     told = {part: walk[part] for part in ("next", "boxes", "ended")}
     asks = predict.asked_of_box(room, walk["next"]) if walk["next"] else []
-    packet = message.shown(room.now)
+    packet = message.shown()
     held = dict(zip(("reading", "delay", "offset"), held[1:]))
     of = {"message": message.number, "link": message.link}
     return {**of, **told, "packet": packet, "asks": asks, "held": held}

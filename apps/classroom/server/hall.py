@@ -117,7 +117,10 @@ class Hall:
             page.changed()
 
     def view(self, page):
-        """What a page is shown now, after what it has been shown."""
+        """What a page is shown now, after what it has been shown: a message of Versions."""
+        return page.versions.message(self._view(page))
+
+    def _view(self, page):
         first = page.seen is None
         if page.place != "/teacher":
             page.seen = True

@@ -1,7 +1,7 @@
 """What a page is shown, and when: after its own change at once, after others' soon.
 
-A page has one view on its way at most. One that is slow to take it is given the newest next, and
-none of those between.
+A page has one view on its way at most. One that is slow to take it is given what has changed since,
+in one, and none of the views between.
 """
 
 import asyncio
@@ -11,29 +11,40 @@ import time
 
 from .guard import LOG
 from .pace import Window
+from .patch import Versions
 
 MOST_A_SECOND = 20
 # Of those, so many after what others or the room's time changed: the rest are for the page's own.
 AFTER_OTHERS = 10
 # A page that does not take a view in so many seconds is gone.
 LONGEST_WAIT = 60
+# A page is shown nothing more while so many octets for it wait to be sent; the system holds others.
+MOST_UNSENT = 16 * 1024
+SEND_BUFFER = 64 * 1024
+LOOK_AGAIN = 0.02
 # The part of the server's time that views after others' changes may take, all pages together.
 PART_FOR_VIEWS = 0.25
 
 
 class Page:
-    """A page at a place, with its socket, and what gives the page up."""
+    """A page at a place, with its socket, what gives the page up, and how many octets are unsent."""
 
-    def __init__(self, hall, place, socket, give_up):
+    def __init__(self, hall, place, socket, give_up, unsent=lambda: 0):
         self._hall = hall
         self._socket = socket
+        self._unsent = unsent
         self.give_up = give_up
         self.place = place
-        self.seen = None
+        self.begin()
         self.cost = 0.0
         self._changed = asyncio.Event()
         self._own = asyncio.Event()
         self._window = Window(MOST_A_SECOND)
+
+    def begin(self):
+        """The next view is a full one."""
+        self.seen = None
+        self.versions = Versions()
 
     def changed(self, own=False):
         """Something that the page shows has changed, by a message of its own or not."""
@@ -56,6 +67,9 @@ class Page:
                     with after(rest, self._own.set):
                         await self._own.wait()
             await self._window.take()
+            with after(LONGEST_WAIT, self.give_up):
+                while self._unsent() > MOST_UNSENT:
+                    await asyncio.sleep(LOOK_AGAIN)
             shown_at = time.monotonic()
             self._changed.clear()
             self._own.clear()
@@ -65,12 +79,14 @@ class Page:
                     await self._socket.send_str(text)
 
     def _view(self):
-        """The view as text; None where it could not be made."""
+        """The view as text; None where it could not be made, or shows nothing new."""
         began = time.monotonic()
         try:
-            return json.dumps({"view": self._hall.view(self)}, separators=(",", ":"))
+            view = self._hall.view(self)
+            return None if view == {"patch": {}} else json.dumps(view, separators=(",", ":"))
         except Exception as slip:
             LOG.error("a view of %s: %s: %s", self.place, type(slip).__name__, slip)
+            self.begin()
             return None
         finally:
             self.cost = 0.8 * self.cost + 0.2 * (time.monotonic() - began)

@@ -2,12 +2,13 @@
 
 import asyncio
 import json
+from socket import SO_SNDBUF, SOL_SOCKET
 
 from aiohttp import WSCloseCode, WSMsgType, web
 
 from ..room import Refused
 from .guard import LOG
-from .push import Page
+from .push import SEND_BUFFER, Page
 
 # The longest message, in octets; the teacher's may hold a bench file.
 LONGEST, LONGEST_OF_THE_TEACHER = 16 * 1024, 256 * 1024
@@ -24,15 +25,17 @@ async def serve(request, hall, place, connection=None):
     """Talks with the page until it goes. Its connection counts as a page's from the upgrade on."""
     longest = LONGEST_OF_THE_TEACHER if place == "/teacher" else LONGEST
     socket = web.WebSocketResponse(
-        timeout=GOODBYE, heartbeat=HEARTBEAT, max_msg_size=longest, compress=False
+        timeout=GOODBYE, heartbeat=HEARTBEAT, max_msg_size=longest, compress=True
     )
-    page = Page(hall, place, socket, give_up=lambda: request.transport and request.transport.abort())
+    transport = request.transport
+    page = Page(hall, place, socket, transport.abort, transport.get_write_buffer_size)
     hall.enter(page, socket)
     try:
         await socket.prepare(request)
         if connection is not None:
             connection.page = True
-        await _talk(socket, hall, page)
+        transport.get_extra_info("socket").setsockopt(SOL_SOCKET, SO_SNDBUF, SEND_BUFFER)
+        await _talk(socket, hall, page, longest)
     except ConnectionError:
         pass
     finally:
@@ -42,7 +45,7 @@ async def serve(request, hall, place, connection=None):
     return socket
 
 
-async def _talk(socket, hall, page):
+async def _talk(socket, hall, page, longest):
     """Answers messages and shows views for as long as the socket is open."""
     showing = asyncio.create_task(_show(page))
     try:
@@ -50,10 +53,14 @@ async def _talk(socket, hall, page):
         async for message in socket:
             if message.type is WSMsgType.ERROR:
                 break
+            # The library looks at the length of what is compressed a little less strictly.
+            if len(message.data) >= longest or len(octets_of(message.data)) >= longest:
+                await socket.close(code=WSCloseCode.MESSAGE_TOO_BIG)
+                break
             await hall.pace(page.place).take(1 + len(message.data) // WEIGHED)
             if hall.trouble is not None:
                 await hall.stored()
-            reply = answer(hall, page.place, message)
+            reply = answer(hall, page, message)
             await hall.stored()
             await socket.send_str(reply)
             page.changed(own=True)
@@ -78,15 +85,19 @@ async def _say_goodbye(socket):
         await socket.close(code=WSCloseCode.GOING_AWAY, message=b"the class is over")
 
 
-def answer(hall, place, message):
-    """The text of the reply to a message, whatever it holds."""
-    n = None
+def answer(hall, page, message):
+    """The text of the reply to a message, whatever it holds. A page that has lost its view asks for a
+    full one; that is no business of the room."""
+    n, place = None, page.place
     try:
         told = read(message)
         n = told.pop("n", None)
         if not _is_number(n):
             n = None
             raise Refused("a message has a number n of the page's choice")
+        if told == {"do": "view"}:
+            page.begin()
+            return json.dumps({"n": n, "reply": {}})
         said = {"n": n, "reply": hall.take(place, told)}
         return json.dumps(said, separators=(",", ":"), allow_nan=False)
     except Refused as why:
@@ -94,6 +105,11 @@ def answer(hall, place, message):
     except Exception as slip:
         LOG.error("a message of %s: %s: %s", place, type(slip).__name__, ascii(str(slip))[:200])
         return json.dumps({"n": n, "refused": "the server could not do this"})
+
+
+def octets_of(data):
+    """The octets of a message."""
+    return data.encode("utf-8", "surrogatepass") if type(data) is str else data
 
 
 def _is_number(n):

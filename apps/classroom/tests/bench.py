@@ -1,21 +1,27 @@
-"""How long a call takes from a click to the table, with sixteen seats running. No test: it only prints.
+"""How long a call takes from a click to the table, with sixteen seats running, and how many octets a page
+is sent. No test: it only prints.
 
-    PYTHONPATH=python:. HELLO_SO=target/lib/libhello.so /usr/bin/python3 -m classroom.tests.bench
+    PYTHONPATH=bindings/python:apps HELLO_SO=target/lib/libhello.so /usr/bin/python3 -m classroom.tests.bench
 
 The room runs, all pages are open, and each of fifteen students makes a call about twice a second.
+Octets are those of the connection, as the system counts them, after compression.
 """
 
 import asyncio
 import os
 import random
+import socket
 import statistics
+import struct
+import sys
 import time
 
 from classroom.tests.browsing import Browser
 from classroom.tests.serving import Class, Page
 from classroom.tests.test_server_load import SEATS, room
 
-SAMPLES = 200
+SAMPLES = int(sys.argv[1]) if sys.argv[1:] else 200
+ENTRIES = 20
 # The seat of the browser. It works by hand, so that nothing but the click changes its table.
 CLICKED = 0
 
@@ -78,6 +84,34 @@ async def lively(page):
         await page.call(random.choice(("read", "second", "self_report")))
 
 
+def received(page):
+    """The octets that a page's connection has received so far."""
+    connection = page.socket.get_extra_info("socket")
+    return struct.unpack_from("<Q", connection.getsockopt(socket.IPPROTO_TCP, socket.TCP_INFO, 192), 128)[0]
+
+
+async def entries(teacher, student):
+    """The octets that the teacher's page and a student's are sent for one changed entry, in a room that
+    stands: a self-report, which stores the seat's own entry."""
+    await teacher.ask("pause")
+    await asyncio.sleep(1)
+    octets = []
+    for _ in range(ENTRIES):
+        await teacher.ask("one_second")
+        await asyncio.sleep(0.3)
+        before = counts(teacher, student)
+        await student.call("self_report")
+        await asyncio.sleep(0.3)
+        octets.append([now - start for now, start in zip(counts(teacher, student), before)])
+    await teacher.ask("run")
+    return [statistics.median(each) for each in zip(*octets)]
+
+
+def counts(*pages):
+    """Of each page the octets received, and the characters that they are."""
+    return [count for page in pages for count in (received(page), page.characters)]
+
+
 def worked(served):
     """The processor time of the server so far, in s."""
     with open(f"/proc/{served.process.pid}/stat") as stat:
@@ -105,9 +139,19 @@ async def main():
                 await page.__aenter__()
             working = [group.create_task(lively(page)) for page in pages[1:]]
             began, before = time.monotonic(), worked(served)
+            sent = [received(page) for page in (teacher, pages[0])]
             tell("message to view", await asks(pages[0]))
-            part = (worked(served) - before) / (time.monotonic() - began)
+            seconds = time.monotonic() - began
+            part = (worked(served) - before) / seconds
             print(f"the server took {100 * part:.0f} per cent of one processor")
+            for whose, page, start in zip(("teacher", "student"), (teacher, pages[0]), sent):
+                print(f"a {whose}'s page: {(received(page) - start) / seconds / 1000:.1f} kB/s")
+            for work in working:
+                work.cancel()
+            measured = await entries(teacher, pages[0])
+            for whose, sent, text in (("teacher", *measured[:2]), ("student", *measured[2:])):
+                print(f"one changed entry, to a {whose}'s page: {sent:.0f} octets, uncompressed {text:.0f}")
+            working = [group.create_task(lively(page)) for page in pages[1:]]
             working.append(group.create_task(lively(pages[0])))
             browser.open(served.address[f"/seat/{CLICKED}"])
             tell("click to table", await asyncio.to_thread(clicks, browser))

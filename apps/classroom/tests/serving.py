@@ -12,6 +12,8 @@ from urllib.parse import urlsplit
 
 import aiohttp
 
+from classroom.server.patch import Patched
+
 ROOT = Path(__file__).resolve().parents[3]
 
 
@@ -122,8 +124,8 @@ class Page:
         self._n = 0
         self._new = asyncio.Event()
         self._first = None
-        self._newest = None
-        self._card = None
+        self._patched = Patched()
+        self.characters = 0
         self.each_view = None
         self.unasked = lambda told: None
 
@@ -146,6 +148,7 @@ class Page:
             f"{self._served.origin}{self._place}/socket",
             origin=self._served.origin,
             max_msg_size=64 * 1024 * 1024,
+            compress=15,
             ssl=self._served.ssl,
         )
 
@@ -158,7 +161,8 @@ class Page:
         async for message in self.socket:
             if message.type is aiohttp.WSMsgType.ERROR:
                 break
-            if message.data.startswith('{"view":'):
+            self.characters += len(message.data)
+            if message.data.startswith(('{"view":', '{"patch":')):
                 self._take_view(message.data)
                 continue
             told = message.json()
@@ -170,20 +174,18 @@ class Page:
             left.cancel()
 
     def _take_view(self, text):
-        """A view is read only where someone looks at it."""
-        self._newest = text
-        if '"exercise":' in text:
-            self._card = text
-        self._first = self._first or json.loads(text)["view"]
+        """A view, or what has changed since the one before."""
+        if not self._patched.take(json.loads(text)):
+            raise AssertionError(f"a patch that does not fit: {text[:300]}")
+        self._first = self._first or self._patched.view
         if self.each_view:
-            self.each_view(json.loads(text)["view"])
+            self.each_view(self._patched.view)
         self._new.set()
 
     @property
     def view(self):
-        """The newest view, with what is in the first alone, and the exercise, which comes when it changes."""
-        card = {"exercise": json.loads(self._card)["view"]["exercise"]} if self._card else {}
-        return {**self._first, **card, **json.loads(self._newest)["view"]}
+        """The newest view, with what is in the first alone."""
+        return {**self._first, **self._patched.view}
 
     async def ended(self):
         """Waits until the server has closed the socket."""
@@ -219,7 +221,7 @@ class Page:
         """The first view, from the newest on, that is as wanted."""
         while True:
             self._new.clear()
-            if self._newest and wanted(view := self.view):
+            if self._first and wanted(view := self.view):
                 return view
             await self._new.wait()
 

@@ -243,7 +243,7 @@ class Sent(unittest.TestCase):
         room = Room({"seats": 2 * [{"by_hand": True}], "cables": [cable]})
         way = call(room, 0, "send", link=1)["told"]["way"]
         self.assertEqual(way, {"message": 1, "to": 1, "arrival": 30, "lost": False})
-        sent = {"message": 1, "link": 1, "to": 1, "arrival": 30, "left": 30}
+        sent = {"message": 1, "link": 1, "to": 1, "arrival": 30}
         self.assertEqual(room.seat_view(0)["seat"]["sent"], [sent])
         self.assertTrue(call(room, 1, "send", link=1)["told"]["way"]["lost"])
         self.assertEqual(room.seat_view(1)["seat"]["sent"], [])

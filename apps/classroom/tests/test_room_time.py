@@ -102,7 +102,7 @@ class Arrivals(unittest.TestCase):
     def test_way(self):
         room = pair()
         call(room, 0, "send", link=1)
-        self.assertEqual(room.teacher_view()["on_their_way"][0]["left"], 30)
+        self.assertEqual(room.teacher_view()["on_their_way"][0]["arrives"] - room.now, 30)
         room.go_on(29)
         self.assertEqual(room.seats[1].waiting, {})
         room.go_on(30)

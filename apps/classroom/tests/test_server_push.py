@@ -18,7 +18,7 @@ class Hall:
         self.number = 0
 
     def view(self, page):
-        return self.number
+        return {"view": self.number}
 
     def between_views(self):
         return 0.01

@@ -2,6 +2,7 @@
 // A lost connection is opened again, with a notice that stays until it is back.
 
 import { say, byId } from "./dom.js";
+import { makeViews } from "./patch.js";
 
 import { t } from "./language.js";
 
@@ -14,9 +15,10 @@ function notice(words) {
   node.hidden = words === "";
 }
 
-// onView(view, first): first is true for the first view of each connection.
+// onView(view, first): first is true for a view that follows no other.
 export function connect(onView) {
   const asked = new Map();
+  const views = makeViews();
   let socket = null;
   let number = 0;
   let pause = 500;
@@ -25,9 +27,12 @@ export function connect(onView) {
 
   function take(message) {
     if (message.notice !== undefined) notice(message.notice);
-    if (message.view) {
+    if (message.view || message.patch) {
       if (noticed) notice("");
-      onView(message.view, first);
+      if (message.view) first = true;
+      const view = views(message);
+      if (view) onView(view, first);
+      else ask({ do: "view" });
       first = false;
     }
     const waiter = asked.get(message.n);
@@ -59,14 +64,16 @@ export function connect(onView) {
     socket.addEventListener("close", closed);
   }
 
-  open();
-  return function ask(message) {
+  function ask(message) {
     if (socket.readyState !== WebSocket.OPEN) return Promise.reject(new Error(t("socket.gone")));
     number += 1;
     const n = number;
     socket.send(JSON.stringify({ n, ...message }));
     return new Promise((resolve, reject) => asked.set(n, { resolve, reject }));
-  };
+  }
+
+  open();
+  return ask;
 }
 
 // Shows views at the pace of the screen, and only the last one where several came.
