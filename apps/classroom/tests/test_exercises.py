@@ -247,7 +247,7 @@ class ByHand(unittest.TestCase):
         by_hand(room, 1, "self_report")
         room.go_on(room.now + 10)
         by_hand(room, 1, "send", link=1)
-        self.assertEqual([way["left"] for way in room.cables.shown(room.now)], [5, 30])
+        self.assertEqual([way["arrives"] - room.now for way in room.cables.shown()], [5, 30])
         room = begun(12, 3)
         room.teacher({"do": "next"})
         for seat in range(3):
@@ -303,7 +303,7 @@ class Verdicts(unittest.TestCase):
         room = begun(1, 2)
         by_hand(room, 0, "send", link=1)
         room.go_on(room.now + 1_000)
-        return next(iter(room.seats[1].waiting.values())).shown(room.now)["text"]
+        return next(iter(room.seats[1].waiting.values())).shown()["text"]
 
     def test_refused_by_hand(self):
         """By hand a refused call is no call of the stage: it is made again, and then counts."""
