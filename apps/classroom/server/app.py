@@ -5,8 +5,10 @@ import contextlib
 
 from aiohttp import web
 
-from . import clock, files, sockets
+from ..room import Refused
+from . import clock, files, paper, sockets
 from .guard import guard, refused, say
+from .join import Join
 
 # A page that does nothing but come back without the key. The cookie is for requests from this
 # server's own pages alone; a redirect would still count as a request from where the link was.
@@ -19,10 +21,11 @@ COME_BACK = (
 class Addresses:
     """The handlers, over a hall, its keys and the pages' files."""
 
-    def __init__(self, hall, keys, pages):
+    def __init__(self, hall, keys, pages, slips):
         self._hall = hall
         self._keys = keys
         self._files = pages
+        self._slips = slips
         self.door = None
 
     def routes(self):
@@ -37,6 +40,7 @@ class Addresses:
                 (r"/teacher/exercise.{form:bench|txt}", self.bench),
                 (r"/seat/{seat:0|[1-9][0-9]?}", self.page),
                 (r"/seat/{seat:0|[1-9][0-9]?}/socket", self.socket),
+                (r"/teacher/print/{sheet:slips|checklist|worksheet|tables}", self.printed),
                 (r"/web/{name:[a-z0-9_.-]+}", self.file),
             )
         ]
@@ -102,6 +106,27 @@ class Addresses:
         # The mark of UTF-8 in front, by which table programs know it.
         return web.Response(body=("\ufeff" + self._hall.marks()).encode(), headers=headers)
 
+    async def printed(self, request):
+        """A sheet to be printed."""
+        if not self._holds("/teacher", request):
+            return _no_key()
+        made = {
+            "slips": lambda: self._slips(self._hall.names()),
+            "checklist": paper.checklist,
+            "tables": lambda: paper.tables(self._hall.room),
+            "worksheet": lambda: self._worksheet(request.query),
+        }[request.match_info["sheet"]]
+        try:
+            return web.Response(text=made(), content_type="text/html")
+        except (Refused, ValueError) as why:
+            return refused(404, f"There is no such sheet: {why}.")
+
+    def _worksheet(self, asked):
+        seat, message = asked.get("seat", "0"), asked.get("message")
+        if not all(text.isascii() and text.isdigit() and len(text) < 10 for text in (seat, message or "0")):
+            raise Refused("seat and message are numbers")
+        return paper.worksheet(self._hall.room, int(seat), None if message is None else int(message))
+
     async def bench(self, request):
         """The bench file that is loaded, as octets or as text."""
         if not self._holds("/teacher", request):
@@ -146,9 +171,12 @@ def _no_key():
 class Application:
     """The class as an aiohttp application, for requests to these host names; `door` is given later."""
 
-    def __init__(self, hall, keys, hosts):
-        self._addresses = Addresses(hall, keys, files.read_all())
-        self.app = _app(hall, self._addresses, guard(hosts, self))
+    def __init__(self, hall, keys, hosts, codes, slips):
+        pages = files.read_all()
+        self._addresses = Addresses(hall, keys, pages, slips)
+        joining = Join(hall, keys, codes, pages["join.html"][1])
+        routes = [*joining.routes(), *self._addresses.routes()]
+        self.app = _app(hall, routes, guard(hosts, self, posts=("/join",)))
 
     def enter_by(self, door):
         """The door by which requests come."""
@@ -159,9 +187,9 @@ class Application:
         return self._addresses.door and self._addresses.door.of(request)
 
 
-def _app(hall, addresses, middleware):
+def _app(hall, routes, middleware):
     app = web.Application(middlewares=[middleware])
-    app.add_routes(addresses.routes())
+    app.add_routes(routes)
     app.on_response_prepare.append(say)
 
     async def time_goes_on(_app):

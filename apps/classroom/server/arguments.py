@@ -53,8 +53,8 @@ def parser():
         "each seat, and serves until it is stopped (Ctrl-C). Everything is kept in a store, and the "
         "last class is resumed, with its addresses and keys.",
         epilog="HELLO_SO names a ready libhello.so, HELLO_LIB the folder of libhello.a and libclass_bench.a. "
-        "Without them, rt proves and builds the library in target/, in some minutes. The Debian package "
-        "python3-aiohttp is installed if it is missing.",
+        "Without them, rt proves and builds the library in target/, in some minutes. The Debian packages "
+        "python3-aiohttp and python3-qrcode are installed if they are missing.",
     )
     made.add_argument("-h", "--help", action="store_true", help="prints this")
     made.add_argument(

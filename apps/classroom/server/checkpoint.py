@@ -13,6 +13,7 @@ from functools import cache
 from pathlib import Path
 
 from ..room.exercises.catalog import EXERCISES, Listed
+from ..room.paper import NoPaper
 
 _ROOT = Path(__file__).resolve().parents[3]
 _PARTS = ("apps/classroom/room", "apps/exercises", "bindings/python")
@@ -99,3 +100,10 @@ def load(octets):
         return _Reader(io.BytesIO(zlib.decompress(octets))).load()
     except Exception as why:
         raise NotKept(f"{type(why).__name__}: {why}") from None
+
+
+def copied(room):
+    """A copy of a room, whose list of calls is not kept."""
+    copy = load(dump(room))
+    copy.paper, copy.log.paper = NoPaper, NoPaper()
+    return copy

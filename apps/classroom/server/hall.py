@@ -33,8 +33,15 @@ class Hall:
         self.over = False
 
     @property
-    def _room(self):
+    def room(self):
+        """The room, to be looked at."""
         return self._record.room
+
+    _room = room
+
+    def names(self):
+        """The names of the hosts, by seat."""
+        return [seat.name for seat in self.room.seats]
 
     async def stored(self):
         """Waits until all that was changed is in the store."""

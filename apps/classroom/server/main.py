@@ -10,8 +10,9 @@ import sys
 from aiohttp import web
 from aiohttp.http_exceptions import HttpProcessingError
 
-from . import arguments, tls, which
+from . import arguments, paper, tls, which
 from .app import Application
+from .codes import Codes, new_codes
 from .door import Door
 from .hall import MOST_PAGES, Hall
 from .keys import Keys, new_keys
@@ -98,7 +99,7 @@ def class_of(store, asked):
     seats = store.told("seats")
     if seats is None:
         seats = asked.seats or arguments.SEATS
-        store.tell(seats=seats, keys=new_keys(seats))
+        store.tell(seats=seats, keys=new_keys(seats), codes=new_codes(seats))
     elif asked.seats not in (None, seats):
         raise StoreError(
             f"The class in {store.path} has {seats} seats, and not {asked.seats}: leave out --seats to "
@@ -126,9 +127,16 @@ async def serve(asked, store):
     scheme = "http" if secured is None else "https"
     told, also = ([with_port(name, port, scheme) for name in each] for each in (names, others))
     keys = Keys(keys, port, secure=secured is not None)
-    addresses = keys.addresses(f"{scheme}://{told[0]}")
-    hall = Hall(record, list(addresses.values())[1:])
-    app = Application(hall, keys, {host.lower() for host in told + also})
+    origin = f"{scheme}://{told[0]}"
+    addresses = keys.addresses(origin)
+    seats_at = list(addresses.values())[1:]
+    hall = Hall(record, seats_at)
+    codes = Codes(store.told("codes"))
+
+    def slips(names):
+        return paper.slips(origin, seats_at, codes, names, fingerprint)
+
+    app = Application(hall, keys, {host.lower() for host in told + also}, codes, slips)
 
     stop = asyncio.Event()
     for number in (signal.SIGINT, signal.SIGTERM):
@@ -140,6 +148,7 @@ async def serve(asked, store):
     door.open(sockets)
     print(f"{'Resumed' if resumed else 'A new class,'} {store.path}")
     tell(addresses, told[1:])
+    print(f"Students may join at {origin}/ with the codes of their slips: {origin}/teacher/print/slips")
     if fingerprint:
         print(f"The certificate's SHA-256 fingerprint: {fingerprint}")
     if asked.plain:
