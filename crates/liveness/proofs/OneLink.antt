@@ -1,4 +1,4 @@
--- One link: steps 2 to 4 of an arrival by their three ways, and a send.
+-- Steps 2 to 4 of an arrival go one of three ways, a send writes its own link, and lines (a) to (c) of an update go one of five ways.
 use mathlib.Core.Path.{_≡_, refl, sym, ap, subst, _∙_}
 use mathlib.Core.Bool.{Bool, true, false, true≢false, false≢true, cond, not, _||_, _&&_}
 use mathlib.Core.List.{List}
@@ -36,7 +36,7 @@ use Rattle.host.specs.Inspection.{otherLayout, looped, inspect}
 use Rattle.host.specs.Inspection as inspection
 use Rattle.host.specs.Lent.{Host, Lent, host, ourReading}
 use Rattle.host.specs.Settings.{foundFor, settingsFit}
-use Rattle.host.specs.State.{hostCount, broadcast, linkOf, withLink, freshLink, unset}
+use Rattle.host.specs.State.{hostCount, broadcast, linkOf, noLink, withLink, freshLink, unset}
 use Rattle.arrival.specs.declared.Flight.{Flight}
 use Rattle.arrival.specs.declared.Arrived.{Arrived}
 use Rattle.arrival.specs.Steps.{step2, step3, step4, steps2to4, tspOf}
@@ -46,6 +46,14 @@ use Rattle.calls.proofs.Pair.{receive-acts}
 use Rattle.network.specs.Demand3.{timed}
 use Rattle.network.proofs.Arrivals.{same-address}
 use Rattle.network.specs.Left.{messageOf}
+use Rattle.quantity.specs.Quantity.{addMillis, lessMillis}
+use Rattle.table.specs.declared.Entry.{Entry}
+use Rattle.table.specs.declared.Update.{Update}
+use Rattle.table.specs.Entry.{minDelay}
+use Rattle.table.specs.Entry as entry
+use Rattle.table.specs.Update.{lineA, lineB, lineC, lines, left}
+use Rattle.host.proofs.Guarded.{Passed, passed, counted}
+use Rattle.network.specs.Slots.{Slots}
 use Rattle.network.proofs.Performs.{performs, there}
 use Rattle.network.proofs.Sends.{reports, sent-message}
 use Rattle.network.proofs.Demand3.Near.{Fits16}
@@ -55,7 +63,7 @@ use Rattle.sending.specs.Send.{reportCount}
 use Rattle.wire.proofs.ReadBack.{nhosts-back, tsp-back}
 use Rattle.quantity.specs.declared.Word.{Word}
 use Rattle.quantity.proofs.Wrap.{wrap-range}
-use Rattle.liveness.specs.Handshake.{Slot, Hears, Speaks, Believes, Handshake}
+use Rattle.liveness.specs.Handshake.{Hears, Speaks, Believes, accepts, storing, Learns, Handshake}
 
 -- no answer of the inspection, and none of the guard but 0, has a time
 parse-untimed : (P : Parsed → Type 0) (octets : List ℕ) → ((x : Answer) → timed x ≡ false → P (Bad x)) → P (Good (fields octets)) → P (parse octets)
@@ -84,6 +92,10 @@ guard-untimed a x =
     Q : Answer → Type 0
     Q z = done z ≡ false → timed z ≡ false
 
+-- a link that is in range has a slot
+slot-of : (i : ℕ) (x : Lent) → Slots (x .host .settings) (x .host .links) → noLink (x .host .settings) i ≡ false → i - 1 < length (x .host .links .all)
+slot-of i x slots linked = omega (arith, slots, counted (x .host .settings) i linked .at-place)
+
 module _ (i : ℕ) (k : Counter) (packet : List ℕ) (x : Lent) (point : broadcast (x .host .settings) i ≡ false) where
   abbrev p : Packet
   p = fields packet
@@ -98,26 +110,27 @@ module _ (i : ℕ) (k : Counter) (packet : List ℕ) (x : Lent) (point : broadca
   clock = ourReading k (x .host) .clock
 
   -- what is so of the ways that an arrival can go that has a time
-  module _ (P : Outcome → Type 0) (goes : P (updatedBy (action k (x .nets) (x .host) i p) packet x)) where
+  module _ (P : Outcome → Type 0) (goes : noLink (x .host .settings) i ≡ false → P (updatedBy (action k (x .nets) (x .host) i p) packet x)) where
     timed-cases : (T (timed (perform (receive i k packet) x .reply .answer)) → P (perform (receive i k packet) x))
     timed-cases =
         subst (λ (o : Outcome). T (timed (o .reply .answer)) → P o) (sym (receive-acts i k packet x))
         (performs (act i k packet) x (λ (o : Outcome). T (timed (o .reply .answer)) → P o)
         (λ no t. absurd (subst T (guard-untimed (OnLink i) x no) t))
-        (λ _.
+        (λ d.
         inspect-untimed (λ (q : Parsed). T (timed (inspected k (x .nets) (x .host) i q .reply .answer)) → P (updatedBy (inspected k (x .nets) (x .host) i q) packet x)) (x .host .settings) i packet
-        (λ z no t. absurd (subst T no t)) (λ _. goes)))
+        (λ z no t. absurd (subst T no t)) (λ _. goes (passed (OnLink i) x d .link i refl))))
 
   -- H1
-  hears : Slot i x → T (timed (perform (receive i k packet) x .reply .answer)) → linkOf (perform (receive i k packet) x .links) i ≡ learnt
+  hears : Slots (x .host .settings) (x .host .links) → T (timed (perform (receive i k packet) x .reply .answer)) → linkOf (perform (receive i k packet) x .links) i ≡ learnt
   unfolding steps2to4 step2 step3 step4
-  hears slot =
+  hears slots =
       timed-cases (λ (o : Outcome). linkOf (o .links) i ≡ learnt)
-      (rw point
-      (either Kept (not (sameAddress (p .source) (l .neighbor))) _ _ (λ _. stored-on _ refl)
+      (λ linked.
+      rw point
+      (either Kept (not (sameAddress (p .source) (l .neighbor))) _ _ (λ _. stored-on linked _ refl)
       (λ t.
       let same = same-address (p .source) (l .neighbor) (is-so _ t) in
-      either Kept (zeroWord (p .tsp) || not (eqb (clock .hold .0) 0)) _ _ (λ _. stored _ ∙ ap named (sym same)) (λ _. stored-on _ (ap named (sym same))))))
+      either Kept (zeroWord (p .tsp) || not (eqb (clock .hold .0) 0)) _ _ (λ _. stored linked _ ∙ ap named (sym same)) (λ _. stored-on linked _ (ap named (sym same))))))
     where
       named : Address → Link
       named n = record { neighbor = n; «keep_alive» = 4; tsp = tspOf (p .time) (ourReading k (x .host) .time) }
@@ -125,8 +138,8 @@ module _ (i : ℕ) (k : Counter) (packet : List ℕ) (x : Lent) (point : broadca
       Kept : Stage Flight → Type 0
       Kept g = linkOf (concluded (x .nets) (host (x .host .settings) clock (x .host .links)) i (countUsed k) p g .links) i ≡ learnt
 
-      stored : (z : Link) → linkOf (withLink i z (x .host .links)) i ≡ z
-      stored z = getD-set-same (x .host .links .all) (i - 1) z (freshLink unset) slot
+      stored : noLink (x .host .settings) i ≡ false → (z : Link) → linkOf (withLink i z (x .host .links)) i ≡ z
+      stored linked z = getD-set-same (x .host .links .all) (i - 1) z (freshLink unset) (slot-of i x slots linked)
 
       fifth-links : (g : Host) (f : Flight) → step5 (x .nets) g i (countUsed k) p f .links ≡ g .links
       fifth-links g f = either (λ (e : Arrived). e .links ≡ g .links) (eqb (p .nhosts) 0) _ _ (λ _. found (foundFor (x .nets) (g .settings) (f .link .neighbor))) (λ _. refl)
@@ -135,8 +148,8 @@ module _ (i : ℕ) (k : Counter) (packet : List ℕ) (x : Lent) (point : broadca
           found Nothing = refl
           found (Id id) = refl
 
-      stored-on : (f : Flight) → f .link ≡ learnt → Kept (on f)
-      stored-on f is = ap (λ ls. linkOf ls i) (fifth-links (host (x .host .settings) clock (withLink i (f .link) (x .host .links))) f) ∙ stored (f .link) ∙ is
+      stored-on : noLink (x .host .settings) i ≡ false → (f : Flight) → f .link ≡ learnt → Kept (on f)
+      stored-on linked f is = ap (λ ls. linkOf ls i) (fifth-links (host (x .host .settings) clock (withLink i (f .link) (x .host .links))) f) ∙ stored linked (f .link) ∙ is
 
   -- H3
   module _ (some : eqb (p .nhosts) 0 ≡ false) (known : sameAddress (p .source) (l .neighbor) ≡ true) where
@@ -145,7 +158,7 @@ module _ (i : ℕ) (k : Counter) (packet : List ℕ) (x : Lent) (point : broadca
     unfolding steps2to4 step2 step3 step4
     answer-is =
         timed-cases (λ (o : Outcome). o .reply .answer ≡ cond (zeroWord (p .tsp) || not (eqb (clock .hold .0) 0)) DelayNotValid Done)
-        (rw (point, known) (go (zeroWord (p .tsp) || not (eqb (clock .hold .0) 0)) _))
+        (λ _. rw (point, known) (go (zeroWord (p .tsp) || not (eqb (clock .hold .0) 0)) _))
       where
         go : (t : Bool) (f : Flight) → concluded (x .nets) (host (x .host .settings) clock (x .host .links)) i (countUsed k) p (cond t (end f) (on f)) .reply .answer ≡ cond t DelayNotValid Done
         go true f = refl
@@ -166,14 +179,29 @@ module _ (i : ℕ) (k : Counter) (packet : List ℕ) (x : Lent) (point : broadca
 
 pub hears-hold : Hears
 unfolding Hears
-hears-hold i k packet x slot point t = hears i k packet x point slot t
+hears-hold i k packet x slots point t = hears i k packet x point slots t
 
 pub believes-hold : Believes
 unfolding Believes
 believes-hold i k packet x point t some known = believes i k packet x point some known t
 
+-- H4: the entry after lines (a) to (c), by the four tests that they make
+pub learns-hold : Learns
+unfolding Learns lines lineA lineB lineC
+learns-hold u e low = go (eqb (u .pid) (e .pid)) (lessMillis (e .delay) (addMillis (u .delay) minDelay)) (entry.up e) (eqb (e .ttl .0) 0) refl refl refl refl
+  where
+    go : (p q v z : Bool) → eqb (u .pid) (e .pid) ≡ p → lessMillis (e .delay) (addMillis (u .delay) minDelay) ≡ q → entry.up e ≡ v → eqb (e .ttl .0) 0 ≡ z
+        → left (lines u e) ≡ cond (accepts u e) (storing u e) e
+    go true q true z a b c d = rw (a, c, low) refl
+    go true q false true a b c d = rw (a, c, d, low) refl
+    go true q false false a b c d = rw (a, c, d, low) refl
+    go false true v z a b c d = rw (a, b) refl
+    go false false true z a b c d = rw (a, b, c, low) refl
+    go false false false true a b c d = rw (a, b, c, d, low) refl
+    go false false false false a b c d = rw (a, b, c, d, low) refl
+
 -- H2
-module _ (i : ℕ) (k : Counter) (buffer : List ℕ) (x : Lent) (slot : Slot i x) where
+module _ (i : ℕ) (k : Counter) (buffer : List ℕ) (x : Lent) (slots : Slots (x .host .settings) (x .host .links)) where
   abbrev y : Link
   y = linkOf (x .host .links) i
 
@@ -197,7 +225,7 @@ module _ (i : ℕ) (k : Counter) (buffer : List ℕ) (x : Lent) (slot : Slot i x
       either (λ (q : Sending). sentBy q buffer x .reply .answer ≡ Done → Out (sentBy q buffer x)) (ltb (length buffer) (packetLength (reportCount (x .host .settings) y))) _ _
       (λ _ z. absurd (false≢true (ap done z)))
       (λ _ _.
-      let stored = getD-set-same (x .host .links .all) (i - 1) (linkSent y) (freshLink unset) slot in
+      let stored = getD-set-same (x .host .links .all) (i - 1) (linkSent y) (freshLink unset) (slot-of i x slots (passed (OnLink i) x d .link i refl)) in
       let message-is = sent-message x held i k buffer in
       record {
         tsp = ap (λ (o : List ℕ). fields o .tsp) message-is ∙ tsp-back (y .neighbor) (packet-of) (reports x held i) (tsp-fits .high) (tsp-fits .low);
@@ -218,6 +246,7 @@ unfolding Speaks
 handshake-holds =
     record {
       hears = hears-hold;
-      speaks = λ i k buffer x slot is. let o = says i k buffer x slot is in record { tsp = o .tsp; falls = o .falls; keeps = o .keeps; table = o .table };
+      speaks = λ i k buffer x slots is. let o = says i k buffer x slots is in record { tsp = o .tsp; falls = o .falls; keeps = o .keeps; table = o .table };
       believes = believes-hold;
+      learns = learns-hold;
     }
