@@ -20,8 +20,8 @@ use Rattle.liveness.specs.Numbers.{rise, quickWay, waysBelow}
 use Rattle.liveness.specs.Seconds.{emptied}
 use Rattle.liveness.specs.Numbers.{halfMillis}
 use Rattle.liveness.specs.Hops.{Hops, there, over, Shortest, Via, own, by, Width}
-use Rattle.liveness.specs.TablesFill.{Shown, Exact, TablesFill}
-use Rattle.liveness.specs.Rounds.{Rounds}
+use Rattle.liveness.specs.TablesFill.{Shown, Exact, Filled, TablesFill}
+use Rattle.liveness.specs.Rounds.{Underway, Rounds, meanwhile}
 use Rattle.liveness.specs.Order.{Begun, OrderedRounds}
 use Rattle.liveness.specs.OrderClaim.{Measured, Leads, Follows, here, on, Led, SettledOn, moment, OrderClaim, AnyOrder}
 use Rattle.liveness.specs.TotalCorrectness.{Listed, HostOf, Correct, StaysCorrect, TotalCorrectness}
@@ -162,32 +162,45 @@ module _ (r : Room) (proper : Proper r) (quick : r .longest ≤ quickWay) (slots
   right-v : RightWorld r v
   right-v = in-rounds.rounds-right r proper short-ways w (starts-right r proper short-ways w start) (suc k) v rounds
 
-  pub correct : Correct r v
+  -- at a moment at which every host within d cables is listed, and every entry that is up is exact
+  module _ (u : World) (right : RightWorld r u) (n : ℕ) (shown : (b i : ℕ) → b < r .seats → i < r .settings b .layout .nhosts → (c h : ℕ) → c < r .seats → HostAt r i c → Hops r c b h → h ≤ k → h < waysBelow → Shown r u b i h)
+      (exact : (b i : ℕ) → b < r .seats → i < r .settings b .layout .nhosts → entry.up (entryOf r u b i) ≡ true → Exact r u n b i) where
+    correct-at : Correct r u
+    correct-at =
+        record {
+          every-host =
+              λ b i c hb hc below host.
+              let way = wide b c hb hc in
+              let o = shown b i hb below c (way .0) hc host (way .1) (omega (arith, way .2)) (omega (arith, way .2)) in
+              let e = exact b i hb below (o .is-up) in
+              let same : e .seat ≡ c = proper .marked-once (e .seat) c i (e .seat-in) hc (e .host-there) host in
+              record {
+                is-up = o .is-up;
+                hops = e .hops;
+                way = subst (λ (s : ℕ). Hops r s b (e .hops)) same (e .way);
+                shortest = subst (λ (s : ℕ). Shortest r s b (e .hops)) same (e .shortest);
+                delay = e .delay;
+                pid = subst (λ (s : ℕ). Via r s b (entryOf r u b i .pid) (e .hops)) same (e .pid);
+                offset = offset-right r proper short-ways u right b i c (e .hops) hb hc below host (o .is-up) (e .delay);
+              };
+          no-other = λ b i hb below t. other-host r proper short-ways u right b i hb below t;
+        }
+
+  fill : (b i : ℕ) → b < r .seats → i < r .settings b .layout .nhosts → Filled r v k b i
   unfolding TablesFill
-  correct =
-      record {
-        every-host =
-            λ b i c hb hc below host.
-            let way = wide b c hb hc in
-            let fill = in-rounds.tables-fill r proper quick slots w start k v rounds b i hb below in
-            let o = fill .0 c (way .0) hc host (way .1) (omega (arith, way .2)) (omega (arith, way .2)) in
-            let e = fill .1 (o .is-up) in
-            let same : e .seat ≡ c = proper .marked-once (e .seat) c i (e .seat-in) hc (e .host-there) host in
-            record {
-              is-up = o .is-up;
-              hops = e .hops;
-              way = subst (λ (s : ℕ). Hops r s b (e .hops)) same (e .way);
-              shortest = subst (λ (s : ℕ). Shortest r s b (e .hops)) same (e .shortest);
-              delay = e .delay;
-              pid = subst (λ (s : ℕ). Via r s b (entryOf r v b i .pid) (e .hops)) same (e .pid);
-              offset = offset-right r proper short-ways v right-v b i c (e .hops) hb hc below host (o .is-up) (e .delay);
-            };
-        no-other = λ b i hb below t. other-host r proper short-ways v right-v b i hb below t;
-      }
+  fill b i hb below = in-rounds.tables-fill r proper quick slots w start k v rounds b i hb below
+
+  pub correct : Correct r v
+  correct = correct-at v right-v k (λ b i hb below. fill b i hb below .complete) (λ b i hb below. fill b i hb below .exact)
+
+  pub correct-on : (xs ys : List Step) → Underway r v xs ys → Correct r (meanwhile r v xs ys)
+  correct-on xs ys e =
+      correct-at (meanwhile r v xs ys) (in-rounds.meanwhile-right r proper short-ways v xs ys e right-v) (suc k)
+      (λ b i hb below. fill b i hb below .complete-on xs ys e) (λ b i hb below. fill b i hb below .exact-on xs ys e)
 
 pub total-correctness : TotalCorrectness
 total-correctness =
     record {
       any-order = λ r proper quick slots d wide near w start k v rounds enough xs run. stays-correct r proper quick slots d wide near w start k v rounds enough xs run;
-      in-rounds = λ r proper quick slots d wide near w start k v rounds enough. correct r proper quick slots d wide near w start k v rounds enough;
+      in-rounds = λ r proper quick slots d wide near w start k v rounds enough. (correct r proper quick slots d wide near w start k v rounds enough, correct-on r proper quick slots d wide near w start k v rounds enough);
     }

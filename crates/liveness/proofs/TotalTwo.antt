@@ -23,7 +23,7 @@ one-wide b c hb hc =
 right : Correct two last
 right =
     let e = example-holds in
-    total-correctness .in-rounds two (e .proper) (omega arith) (e .slots) 1 one-wide (omega arith) start (e .starts) 1 last (e .rounds) (omega arith)
+    total-correctness .in-rounds two (e .proper) (omega arith) (e .slots) 1 one-wide (omega arith) start (e .starts) 1 last (e .rounds) (omega arith) .0
 
 delay-0 : entryOf two last 0 1 .delay .0 ≡ pos 100
 unfolding opened after step start between last

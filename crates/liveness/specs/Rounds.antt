@@ -99,15 +99,23 @@ Heard r w b j (x ∷ xs) = HearsNow r w b j x (x .call) ⊎ Heard r (step r w x)
 abbrev pub spoken : Room → World → List Step → World
 spoken r w xs = history r (emptied w) xs
 
--- LIVE-2: a round: all send, then all hear
-pub record Round (r : Room) (w : World) (xs ys : List Step) : Type 0 where
+-- LIVE-2: the network after the calls so far of a round that has begun
+abbrev pub meanwhile : Room → World → (xs ys : List Step) → World
+meanwhile r w xs ys = history r (spoken r w xs) ys
+
+-- LIVE-2: a round that has begun: hosts send, and then hear; xs and ys are the calls so far
+pub record Underway (r : Room) (w : World) (xs ys : List Step) : Type 0 where
   pub allowed : Allows r (emptied w) xs
   pub allowed-then : Allows r (spoken r w xs) ys
   pub speak : Speaking r (emptied w) xs
   pub listen : Listening ys
+  pub short : (b : ℕ) → b < r .seats → secondsAt r (emptied w) b xs + secondsAt r (spoken r w xs) b ys ≤ roundSeconds
+
+-- LIVE-2: a round: every host reports itself, and hears every cable
+pub record Round (r : Room) (w : World) (xs ys : List Step) : Type 0 where
+  pub underway : Underway r w xs ys
   pub reported : (b : ℕ) → b < r .seats → Reported r (emptied w) b xs ⊎ Reported r (spoken r w xs) b ys
   pub heard : (b j a i : ℕ) → r .cable b j ≡ at a i → Heard r (spoken r w xs) b j ys
-  pub short : (b : ℕ) → b < r .seats → secondsAt r (emptied w) b xs + secondsAt r (spoken r w xs) b ys ≤ roundSeconds
 
 -- LIVE-2: `count` rounds, one after another
 pub data Rounds (r : Room) (w : World) : (count : ℕ) → World → Type 0 where

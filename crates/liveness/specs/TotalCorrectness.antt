@@ -12,7 +12,7 @@ use Rattle.liveness.specs.Numbers.{rise, quickWay, waysBelow}
 use Rattle.liveness.specs.Seconds.{emptied}
 use Rattle.liveness.specs.Numbers.{halfMillis}
 use Rattle.liveness.specs.Hops.{Hops, Shortest, Via, Width}
-use Rattle.liveness.specs.Rounds.{Rounds}
+use Rattle.liveness.specs.Rounds.{Underway, Rounds, meanwhile}
 use Rattle.liveness.specs.Order.{Begun, OrderedRounds}
 use Rattle.liveness.specs.OrderClaim.{SettledOn, moment}
 
@@ -46,6 +46,6 @@ pub record StaysCorrect (r : Room) (v : World) (xs : List Step) : Type 0 where
 pub record TotalCorrectness : Type 0 where
   pub any-order : (r : Room) → Proper r → r .longest ≤ quickWay → EverySlot r → (d : ℕ) → Width r d → d < waysBelow → (w : World) → Starts r w
       → (k : ℕ) (v : World) → OrderedRounds r w k v → d < k → (xs : List Step) → Begun r v xs → StaysCorrect r v xs
-  -- rounds in which all hosts send before any host hears: after each of them
+  -- rounds in which all hosts send before any host hears: after each of them, and at every moment of the next
   pub in-rounds : (r : Room) → Proper r → r .longest ≤ quickWay → EverySlot r → (d : ℕ) → Width r d → d < waysBelow → (w : World) → Starts r w
-      → (k : ℕ) (v : World) → Rounds r w (suc k) v → d ≤ k → Correct r v
+      → (k : ℕ) (v : World) → Rounds r w (suc k) v → d ≤ k → Correct r v × ((xs ys : List Step) → Underway r v xs ys → Correct r (meanwhile r v xs ys))

@@ -91,13 +91,16 @@ round-1 : Round two start (xs e₀ 32) (ys e₀ 32)
 unfolding history Speaking Listening secondsAt
 round-1 =
     record {
-      allowed = allowed-1;
-      allowed-then = listened-1;
-      speak = (tt, (tt, (tt, (tt, tt))));
-      listen = (tt, (tt, tt));
+      underway =
+          record {
+            allowed = allowed-1;
+            allowed-then = listened-1;
+            speak = (tt, (tt, (tt, (tt, tt))));
+            listen = (tt, (tt, tt));
+            short = below-2 (λ (b : ℕ). secondsAt two e₀ b (xs e₀ 32) + secondsAt two (w₄ e₀ 32) b (ys e₀ 32) ≤ roundSeconds) (omega arith) (omega arith);
+          };
       reported = λ b hb. inl (reported-1 b hb);
       heard = heard-1;
-      short = below-2 (λ (b : ℕ). secondsAt two e₀ b (xs e₀ 32) + secondsAt two (w₄ e₀ 32) b (ys e₀ 32) ≤ roundSeconds) (omega arith) (omega arith);
     }
 
 abbrev e₁ : World
@@ -141,13 +144,16 @@ round-2 : Round two between (xs e₁ 40) (ys e₁ 40)
 unfolding history Speaking Listening secondsAt
 round-2 =
     record {
-      allowed = allowed-2;
-      allowed-then = listened-2;
-      speak = (tt, (tt, (tt, (tt, tt))));
-      listen = (tt, (tt, tt));
+      underway =
+          record {
+            allowed = allowed-2;
+            allowed-then = listened-2;
+            speak = (tt, (tt, (tt, (tt, tt))));
+            listen = (tt, (tt, tt));
+            short = below-2 (λ (b : ℕ). secondsAt two e₁ b (xs e₁ 40) + secondsAt two (w₄ e₁ 40) b (ys e₁ 40) ≤ roundSeconds) (omega arith) (omega arith);
+          };
       reported = λ b hb. inl (reported-2 b hb);
       heard = heard-2;
-      short = below-2 (λ (b : ℕ). secondsAt two e₁ b (xs e₁ 40) + secondsAt two (w₄ e₁ 40) b (ys e₁ 40) ≤ roundSeconds) (omega arith) (omega arith);
     }
 
 -- ---- all of it

@@ -48,7 +48,7 @@ use Rattle.liveness.specs.Seconds.{emptied, counts, secondsAt}
 use Rattle.liveness.specs.Hops.{Hops, Via, own, by}
 use Rattle.liveness.specs.TablesFill as claim
 use Rattle.liveness.specs.TablesFill.{TablesFill}
-use Rattle.liveness.specs.Rounds.{Speaking, Listening, ReportsNow, HearsNow, Reported, Heard, spoken, Round, Rounds, begin, next}
+use Rattle.liveness.specs.Rounds.{Speaking, Listening, ReportsNow, HearsNow, Reported, Heard, spoken, Underway, meanwhile, Round, Rounds, begin, next}
 use Rattle.network.proofs.Demand3.Histories.{world-right, history-right, starts-right}
 use Rattle.liveness.proofs.Rounds.Heard.{Mine}
 use Rattle.liveness.proofs.Rounds.Entry.{Shown, hearing, next-entry, least}
@@ -310,6 +310,15 @@ module _ (r : Room) (proper : Proper r) (ways : r .longest ≤ longestWay) (quic
             home = λ no. absurd (false≢true no);
           }
 
+  -- the entry of id i in a good world
+  pub mine-at : (speaking : Bool) (k m : ℕ) (s : ℕ → ℕ) (heard : ℕ → ℕ → Bool) (u : World) → Good k speaking m s heard u → (b : ℕ) → b < r .seats → Mine r c b k m (s b) (heard b) (entryOf r u b i)
+  mine-at speaking k m s heard u good b hb =
+      let places = u .state (r .number b) .places in
+      let n = hostCount (r .settings b) in
+      let g = good .seats b hb in
+      subst (Mine r c b k m (s b) (heard b)) (getD-take n places i freshEntry (few b hb))
+      (all-there (λ (id : ℕ) (e : Entry). id ≡ i → Mine r c b k m (s b) (heard b) e) freshEntry (take n places) (g .table) i (omega (arith, few b hb, g .long, length-take n places)) refl)
+
   -- ---- rounds
 
   pub record Ready (k : ℕ) (w : World) : Type 0 where
@@ -323,21 +332,29 @@ module _ (r : Room) (proper : Proper r) (ways : r .longest ≤ longestWay) (quic
   emptied-right : (w : World) → RightWorld r w → RightWorld r (emptied w)
   emptied-right w right = record { seats = right .seats; mail = λ q y. absurd (List·Memᴰ·not-nil y) }
 
-  one-round : (k : ℕ) (w : World) (xs ys : List Step) → Round r w xs ys → Ready k w → Ready (suc k) (history r (spoken r w xs) ys)
-  one-round k w xs ys e g =
+  -- a round that has begun
+  right-then : (w : World) (xs ys : List Step) → Underway r w xs ys → RightWorld r w → RightWorld r (spoken r w xs)
+  right-then w xs ys e right = history-right r proper ways (emptied w) xs (e .allowed) (emptied-right w right)
+
+  pub meanwhile-good : (k : ℕ) (w : World) (xs ys : List Step) → Underway r w xs ys → Ready k w
+      → Good k false (suc k) (λ b. 0 + secondsAt r (emptied w) b xs + secondsAt r (spoken r w xs) b ys) (flagsAll k (spoken r w xs) ys (flagsAll k (emptied w) xs (λ b q. false))) (meanwhile r w xs ys)
+  meanwhile-good k w xs ys e g =
       let right = emptied-right w (g .right) in
-      let right-then = history-right r proper ways (emptied w) xs (e .allowed) right in
       let said =
       speak-list k (g .m) (g .some) (g .speaks) (λ b. 0) (λ b q. false) (emptied w) xs (e .allowed) (e .speak) right (λ b hb. omega (arith, e .short b hb)) (g .good) in
-      let heard = listen-list k (λ b. 0 + secondsAt r (emptied w) b xs) (flagsAll k (emptied w) xs (λ b q. false)) (spoken r w xs) ys (e .allowed-then) (e .listen) right-then (λ b hb. omega (arith, e .short b hb)) (turns k (g .m) (g .less) _ _ (spoken r w xs) said) in
+      listen-list k (λ b. 0 + secondsAt r (emptied w) b xs) (flagsAll k (emptied w) xs (λ b q. false)) (spoken r w xs) ys (e .allowed-then) (e .listen) (right-then w xs ys e (g .right)) (λ b hb. omega (arith, e .short b hb)) (turns k (g .m) (g .less) _ _ (spoken r w xs) said)
+
+  one-round : (k : ℕ) (w : World) (xs ys : List Step) → Round r w xs ys → Ready k w → Ready (suc k) (history r (spoken r w xs) ys)
+  one-round k w xs ys e g =
+      let heard = meanwhile-good k w xs ys (e .underway) g in
       record {
-        right = history-right r proper ways (spoken r w xs) ys (e .allowed-then) right-then;
+        right = history-right r proper ways (spoken r w xs) ys (e .underway .allowed-then) (right-then w xs ys (e .underway) (g .right));
         m = suc k;
         some = omega arith;
         less = omega arith;
         speaks = inr (omega arith);
         good =
-            ends k _ (flagsAll k (spoken r w xs) ys (flagsAll k (emptied w) xs (λ b q. false))) (history r (spoken r w xs) ys) (λ b hb. omega (arith, e .short b hb))
+            ends k _ (flagsAll k (spoken r w xs) ys (flagsAll k (emptied w) xs (λ b q. false))) (history r (spoken r w xs) ys) (λ b hb. omega (arith, e .underway .short b hb))
             (λ b j a n cord. heard-on k (spoken r w xs) ys (flagsAll k (emptied w) xs (λ b q. false)) b j (e .heard b j a n cord))
             (λ b hb.
             elim (e .reported b hb) [
@@ -357,76 +374,116 @@ pub rounds-right : (r : Room) → Proper r → r .longest ≤ longestWay → (w 
 rounds-right r proper ways w right zero v begin = right
 rounds-right r proper ways w right (suc k) v (next {v = u} before xs ys e) =
     let was = rounds-right r proper ways w right k u before in
-    history-right r proper ways (spoken r u xs) ys (e .allowed-then)
-    (history-right r proper ways (emptied u) xs (e .allowed) record { seats = was .seats; mail = λ q y. absurd (List·Memᴰ·not-nil y) })
+    history-right r proper ways (spoken r u xs) ys (e .underway .allowed-then)
+    (history-right r proper ways (emptied u) xs (e .underway .allowed) record { seats = was .seats; mail = λ q y. absurd (List·Memᴰ·not-nil y) })
 
-pub tables-fill : TablesFill
-unfolding TablesFill
-tables-fill r proper quick slots w start k v es b i hb below = (complete, exact)
-  where
-    ways : r .longest ≤ longestWay
-    ways = omega (arith, quick)
+pub meanwhile-right : (r : Room) → Proper r → r .longest ≤ longestWay → (v : World) (xs ys : List Step) → Underway r v xs ys → RightWorld r v → RightWorld r (meanwhile r v xs ys)
+meanwhile-right r proper ways v xs ys e right =
+    history-right r proper ways (spoken r v xs) ys (e .allowed-then)
+    (history-right r proper ways (emptied v) xs (e .allowed) record { seats = right .seats; mail = λ q y. absurd (List·Memᴰ·not-nil y) })
 
-    sized : (a : ℕ) → a < r .seats → i < hostCount (r .settings a)
-    sized a ha =
-        let same = ap (λ (l : Layout). l .nhosts) (proper .one-layout a b ha hb) in
-        let few = sound (r .settings a) (set-good r a (proper .set-afresh a ha)) .hosts-to in
-        omega arith
+-- ---- the claim, for id i in the table of host b
 
-    first : (c : ℕ) (hc : c < r .seats) (host : HostAt r i c) → Ready r proper ways quick c i hc host sized 0 w
-    first c hc host =
-        record {
-          right = starts-right r proper ways w start;
-          m = 1;
-          some = omega arith;
-          less = omega arith;
-          speaks = inl refl;
-          good =
-              record {
-                seats = λ a ha. subst (SeatGood r proper ways quick c i 0 hc host sized true 1 a 0 (λ q. false)) (sym (start .set-afresh a ha)) (afresh-good r proper ways quick c i hc host sized slots a ha);
-                mail = λ q y. absurd (List·Memᴰ·not-nil y);
-              };
-        }
+module _ (r : Room) (proper : Proper r) (quick : r .longest ≤ quickWay) (slots : EverySlot r) (w : World) (start : Starts r w) (k : ℕ) (v : World) (es : Rounds r w (suc k) v)
+    (b i : ℕ) (hb : b < r .seats) (below : i < r .settings b .layout .nhosts) where
+  ways : r .longest ≤ longestWay
+  ways = omega (arith, quick)
 
-    last : (c : ℕ) (hc : c < r .seats) (host : HostAt r i c) → Ready r proper ways quick c i hc host sized (suc k) v
-    last c hc host = rounds r proper ways quick c i hc host sized w (first c hc host) (suc k) v es
+  sized : (a : ℕ) → a < r .seats → i < hostCount (r .settings a)
+  sized a ha =
+      let same = ap (λ (l : Layout). l .nhosts) (proper .one-layout a b ha hb) in
+      let few = sound (r .settings a) (set-good r a (proper .set-afresh a ha)) .hosts-to in
+      omega arith
 
-    places : List Entry
-    places = v .state (r .number b) .places
+  first : (c : ℕ) (hc : c < r .seats) (host : HostAt r i c) → Ready r proper ways quick c i hc host sized 0 w
+  first c hc host =
+      record {
+        right = starts-right r proper ways w start;
+        m = 1;
+        some = omega arith;
+        less = omega arith;
+        speaks = inl refl;
+        good =
+            record {
+              seats = λ a ha. subst (SeatGood r proper ways quick c i 0 hc host sized true 1 a 0 (λ q. false)) (sym (start .set-afresh a ha)) (afresh-good r proper ways quick c i hc host sized slots a ha);
+              mail = λ q y. absurd (List·Memᴰ·not-nil y);
+            };
+      }
 
-    same-entry : getD (take (hostCount (r .settings b)) places) i freshEntry ≡ getD places i freshEntry
-    same-entry = getD-take (hostCount (r .settings b)) places i freshEntry (sized b hb)
+  last : (c : ℕ) (hc : c < r .seats) (host : HostAt r i c) → Ready r proper ways quick c i hc host sized (suc k) v
+  last c hc host = rounds r proper ways quick c i hc host sized w (first c hc host) (suc k) v es
 
-    mine : (c : ℕ) (hc : c < r .seats) (host : HostAt r i c) → Mine r c b (suc k) (last c hc host .m) 0 (λ q. false) (getD places i freshEntry)
-    mine c hc host =
-        let there = all-there (λ (id : ℕ) (e : Entry). id ≡ i → Mine r c b (suc k) (last c hc host .m) 0 (λ q. false) e) freshEntry (take (hostCount (r .settings b)) places) (last c hc host .good .seats b hb .table) i (omega (arith, sized b hb, last c hc host .good .seats b hb .long, length-take (hostCount (r .settings b)) places)) in
-        rw same-entry at (there refl)
+  ready : (c : ℕ) (hc : c < r .seats) (host : HostAt r i c) → Mine r c b (suc k) (last c hc host .m) 0 (λ q. false) (entryOf r v b i)
+  ready c hc host = mine-at r proper ways quick c i hc host sized true (suc k) (last c hc host .m) (λ b. 0) (λ b q. false) (emptied v) (last c hc host .good) b hb
 
-    complete : (c h : ℕ) → c < r .seats → HostAt r i c → Hops r c b h → h ≤ k → h < waysBelow → claim.Shown r v b i h
-    complete c h hc host way less short =
-        let o = mine c hc host .steady .complete h way (omega arith) (omega arith) in
-        record { is-up = o .is-up; near = to-≤ℤ (entryOf r v b i .delay .0) (pos (rise * h)) (omega (arith, o .near)) }
+  right-v : RightWorld r v
+  right-v = rounds-right r proper ways w (starts-right r proper ways w start) (suc k) v es
 
-    exact : entry.up (entryOf r v b i) ≡ true → claim.Exact r v k b i
-    exact t =
-        let known = right-entry .known t in
-        let f = mine (known .seat) (known .seat-in) (known .host-there) .steady .sound t in
+  right-entry : (u : World) → RightWorld r u → RightEntry r b i (entryOf r u b i)
+  right-entry u right =
+      let places = u .state (r .number b) .places in
+      subst (RightEntry r b i) (getD-take (hostCount (r .settings b)) places i freshEntry (sized b hb))
+      (all-at (RightEntry r b) freshEntry (fresh-right r b) (take (hostCount (r .settings b)) places) (right .seats b hb .table) i)
+
+  -- what the invariant says of an entry, at any moment
+  module _ (u : World) (right : RightWorld r u) (n : ℕ) (m : (c : ℕ) → c < r .seats → HostAt r i c → ℕ) (s : ℕ) (heard : (c : ℕ) → c < r .seats → HostAt r i c → ℕ → Bool)
+      (few : (c : ℕ) (hc : c < r .seats) (host : HostAt r i c) → m c hc host ≤ suc n)
+      (mine : (c : ℕ) (hc : c < r .seats) (host : HostAt r i c) → Mine r c b n (m c hc host) s (heard c hc host) (entryOf r u b i)) where
+    shown-at : (c h : ℕ) → c < r .seats → HostAt r i c → Hops r c b h → h < n → h < waysBelow → claim.Shown r u b i h
+    shown-at c h hc host way less short =
+        let o = mine c hc host .steady .complete h way less (omega arith) in
+        record { is-up = o .is-up; near = to-≤ℤ (entryOf r u b i .delay .0) (pos (rise * h)) (omega (arith, o .near)) }
+
+    exact-at : (q : ℕ) → ((c : ℕ) (hc : c < r .seats) (host : HostAt r i c) (h : ℕ) → h < m c hc host → h ≤ q) → entry.up (entryOf r u b i) ≡ true → claim.Exact r u q b i
+    exact-at q soon t =
+        let known = right-entry u right .known t in
+        let it = mine (known .seat) (known .seat-in) (known .host-there) in
+        let f = it .steady .sound t in
         record {
           seat = known .seat;
           seat-in = known .seat-in;
           host-there = known .host-there;
           hops = f .hops;
           way = f .way;
-          shortest = λ g way. least r (known .seat) b (suc k) (last (known .seat) (known .seat-in) (known .host-there) .m) 0 (λ q. false) (getD places i freshEntry) (omega (arith, last (known .seat) (known .seat-in) (known .host-there) .less)) (mine (known .seat) (known .seat-in) (known .host-there) .steady) t g way f;
-          in-time = (let g = last (known .seat) (known .seat-in) (known .host-there) in soon (f .hops) (g .m) (f .below) (g .speaks));
+          shortest = λ g way. least r (known .seat) b n (m (known .seat) (known .seat-in) (known .host-there)) s (heard (known .seat) (known .seat-in) (known .host-there)) (entryOf r u b i) (few (known .seat) (known .seat-in) (known .host-there)) (it .steady) t g way f;
+          in-time = soon (known .seat) (known .seat-in) (known .host-there) (f .hops) (f .below);
           delay = f .delay;
           pid = f .via;
         }
-      where
-        right-entry : RightEntry r b i (getD places i freshEntry)
-        right-entry =
-            rw same-entry at (all-at (RightEntry r b) freshEntry (fresh-right r b) (take (hostCount (r .settings b)) places) (rounds-right r proper ways w (starts-right r proper ways w start) (suc k) v es .seats b hb .table) i)
 
-        soon : (h m : ℕ) → h < m → (suc k ≡ 0) ⊎ (m ≤ suc k) → h ≤ k
-        soon h m z (inl x) = absurd (omega arith)
-        soon h m z (inr x) = omega arith
+  soon : (h m : ℕ) → h < m → (suc k ≡ 0) ⊎ (m ≤ suc k) → h ≤ k
+  soon h m z (inl x) = absurd (omega arith)
+  soon h m z (inr x) = omega arith
+
+  complete : (c h : ℕ) → c < r .seats → HostAt r i c → Hops r c b h → h ≤ k → h < waysBelow → claim.Shown r v b i h
+  complete c h hc host way less short = shown-at v right-v (suc k) (λ c hc host. last c hc host .m) 0 (λ c hc host q. false) (λ c hc host. last c hc host .less) ready c h hc host way (omega arith) short
+
+  exact : entry.up (entryOf r v b i) ≡ true → claim.Exact r v k b i
+  exact = exact-at v right-v (suc k) (λ c hc host. last c hc host .m) 0 (λ c hc host q. false) (λ c hc host. last c hc host .less) ready k (λ c hc host h below-m. soon h (last c hc host .m) below-m (last c hc host .speaks))
+
+  -- in the middle of the next round
+  module _ (xs ys : List Step) (e : Underway r v xs ys) where
+    right-u : RightWorld r (meanwhile r v xs ys)
+    right-u = meanwhile-right r proper ways v xs ys e right-v
+
+    abbrev heard-now : (c : ℕ) → c < r .seats → HostAt r i c → ℕ → Bool
+    heard-now c hc host = flagsAll r proper ways quick c i hc host sized (suc k) (spoken r v xs) ys (flagsAll r proper ways quick c i hc host sized (suc k) (emptied v) xs (λ b q. false)) b
+
+    mine-u : (c : ℕ) (hc : c < r .seats) (host : HostAt r i c) → Mine r c b (suc k) (suc (suc k)) (0 + secondsAt r (emptied v) b xs + secondsAt r (spoken r v xs) b ys) (heard-now c hc host) (entryOf r (meanwhile r v xs ys) b i)
+    mine-u c hc host = mine-at r proper ways quick c i hc host sized false (suc k) (suc (suc k)) _ _ (meanwhile r v xs ys) (meanwhile-good r proper ways quick c i hc host sized (suc k) v xs ys e (last c hc host)) b hb
+
+    complete-on : (c h : ℕ) → c < r .seats → HostAt r i c → Hops r c b h → h ≤ k → h < waysBelow → claim.Shown r (meanwhile r v xs ys) b i h
+    complete-on c h hc host way less short = shown-at (meanwhile r v xs ys) right-u (suc k) (λ c hc host. suc (suc k)) _ heard-now (λ c hc host. omega arith) mine-u c h hc host way (omega arith) short
+
+    exact-on : entry.up (entryOf r (meanwhile r v xs ys) b i) ≡ true → claim.Exact r (meanwhile r v xs ys) (suc k) b i
+    exact-on = exact-at (meanwhile r v xs ys) right-u (suc k) (λ c hc host. suc (suc k)) _ heard-now (λ c hc host. omega arith) mine-u (suc k) (λ c hc host h below-m. omega arith)
+
+pub tables-fill : TablesFill
+unfolding TablesFill
+tables-fill r proper quick slots w start k v es b i hb below =
+    record {
+      complete = complete r proper quick slots w start k v es b i hb below;
+      exact = exact r proper quick slots w start k v es b i hb below;
+      complete-on = complete-on r proper quick slots w start k v es b i hb below;
+      exact-on = exact-on r proper quick slots w start k v es b i hb below;
+    }
