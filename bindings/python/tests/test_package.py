@@ -2,6 +2,7 @@
 lengths that nobody can lie about."""
 
 import copy
+import inspect
 import ipaddress
 import os
 import pathlib
@@ -247,6 +248,28 @@ class Surface(unittest.TestCase):
         for name in hello.__all__:
             self.assertTrue(hasattr(hello, name), name)
         self.assertTrue((pathlib.Path(hello.__file__).parent / "py.typed").exists())
+
+    def test_every_public_function_has_types(self):
+        modules = [hello, *(getattr(hello, name) for name in ("bench_file", "capture", "library", "loader", "ntp", "text"))]
+        found = 0
+        for module in modules:
+            for name in getattr(module, "__all__", None) or vars(module):
+                made = getattr(module, name)
+                if name.startswith("_") or not getattr(made, "__module__", "").startswith("hello"):
+                    continue
+                members = vars(made).items() if inspect.isclass(made) else [(name, made)]
+                for member, function in members:
+                    function = function.fget if isinstance(function, property) else function
+                    if member.startswith("_") and member != "__init__" or not inspect.isfunction(function):
+                        continue
+                    if function.__code__.co_filename.startswith("<"):
+                        continue
+                    parameters = inspect.signature(function).parameters
+                    untyped = [one for one in parameters if one != "self" and one != "cls" and one not in function.__annotations__]
+                    self.assertEqual(untyped, [], f"{module.__name__}.{name}.{member}")
+                    self.assertIn("return", function.__annotations__, f"{module.__name__}.{name}.{member}")
+                    found += 1
+        self.assertGreater(found, 100)
 
     def test_plain_calls_check_kinds(self):
         with self.assertRaises(TypeError):
