@@ -45,7 +45,7 @@ pub struct Recovered {
     pub capture: Vec<u8>,
     /// The stretches passed over.
     pub stretches: Vec<Stretch>,
-    /// Whether the input's own number and places are those of the packets found.
+    /// Whether number and places in the input are those of the packets found.
     pub places_true: bool,
 }
 

@@ -1,3 +1,4 @@
+-- LIVE-3: what the proofs about rounds in any order have, each file after those that it cites.
 pub mod Entry
 pub mod Cables
 pub mod Arrivals

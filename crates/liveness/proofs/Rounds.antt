@@ -1,3 +1,4 @@
+-- LIVE-2: what the proofs about rounds have, each file after those that it cites.
 pub mod Entry
 pub mod Heard
 pub mod Tables

@@ -1,3 +1,4 @@
+-- LIVE-4: what the proofs about silence have, each file after those that it cites.
 pub mod Entry
 pub mod Invariant
 pub mod Calls

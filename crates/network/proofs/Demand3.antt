@@ -1,3 +1,4 @@
+-- ROOM-9: the proofs of demand 3, each file after those that it cites.
 pub mod Near
 pub mod Invariant
 pub mod Outcomes

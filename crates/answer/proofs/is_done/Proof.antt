@@ -1,3 +1,4 @@
+-- One way through `is_done`: rewriting by the contract of `number` gives the definition.
 use borrow.Author.Needs.{needs}
 use Rattle.answer.proofs.is_done.Statement.{statement}
 use Rattle.answer.proofs.is_done.Tie as tie

@@ -1,3 +1,4 @@
+-- Two ways through `at_least_min`: in each, the branches taken decide the tests of the definition, with the contract of `less`.
 use mathlib.Core.Path.{_∙_, sym}
 use borrow.Author.Needs.{needs}
 use Rattle.arrival.proofs.at_least_min.Statement.{statement}

@@ -1,3 +1,4 @@
+-- One way through `neighbor_update`: rewriting by the contract of `at_least_min` gives the definition.
 use borrow.Author.Needs.{needs}
 use Rattle.arrival.proofs.neighbor_update.Statement.{statement}
 use Rattle.arrival.proofs.neighbor_update.Tie as tie

@@ -1,3 +1,4 @@
+-- One way through `passes`: rewriting by the contract of `number` gives the definition.
 use borrow.Author.Needs.{needs}
 use Rattle.bench.proofs.passes.Statement.{statement}
 use Rattle.bench.proofs.passes.Tie as tie

@@ -1,3 +1,4 @@
+-- Two ways through `cable_good`: in each, the branches taken decide the tests of the definition, with the contracts of `end_at`, `end_good`.
 use borrow.Author.Needs.{needs}
 use Rattle.lists.proofs.Tests.{is-not, is-so}
 use mathlib.Core.Path.{_≡_, refl, sym, ap, _∙_}

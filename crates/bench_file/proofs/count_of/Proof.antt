@@ -1,3 +1,4 @@
+-- One way through `count_of`: rewriting by the contract of `two_at` gives the definition.
 use borrow.Author.Needs.{needs}
 use Rattle.bench_file.proofs.count_of.Statement.{statement}
 use Rattle.bench_file.proofs.count_of.Tie as tie

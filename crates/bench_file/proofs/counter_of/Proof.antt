@@ -1,3 +1,4 @@
+-- One way through `counter_of`: rewriting by the contracts of `count_of`, `two_at` gives the definition.
 use borrow.Author.Needs.{needs}
 use Rattle.bench_file.proofs.counter_of.Statement.{statement}
 use Rattle.bench_file.proofs.counter_of.Tie as tie

@@ -1,3 +1,4 @@
+-- One way through `end_at`: rewriting by the contract of `octet_at` gives the definition.
 use borrow.Author.Needs.{needs}
 use Rattle.bench_file.proofs.end_at.Statement.{statement}
 use Rattle.bench_file.proofs.end_at.Tie as tie

@@ -1,3 +1,4 @@
+-- Three ways through `end_good`: in each, the branches taken decide the tests of the definition, with the contract of `link_count`. Bounds follow by linear arithmetic.
 use borrow.Author.Needs.{needs}
 use mathlib.Core.Path.{_≡_, refl, sym, ap, _∙_}
 use mathlib.Core.Bool.{true, false}

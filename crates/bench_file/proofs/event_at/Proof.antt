@@ -1,3 +1,4 @@
+-- One way through `event_at`: rewriting by the contract of `event_of` gives the definition. Bounds follow by linear arithmetic.
 use borrow.Author.Needs.{needs}
 use mathlib.Core.Path.{_≡_, refl, sym, ap, _∙_}
 use native.Mathlib.Omega.{arith}

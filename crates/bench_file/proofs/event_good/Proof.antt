@@ -1,3 +1,4 @@
+-- Eight ways through `event_good`: in each, the branches taken decide the tests of the definition, with the contract of `mark_good`.
 use borrow.Author.Needs.{needs}
 use Rattle.bench_file.proofs.event_good.Statement.{statement}
 use Rattle.bench_file.proofs.event_good.Tie as tie

@@ -1,3 +1,4 @@
+-- Eight ways through `event_of`: in each, the branches taken decide the tests of the definition, with the contracts of `octet_at`, `count_of`, `four_at`, `signed` and others. Bounds follow by linear arithmetic.
 use borrow.Author.Needs.{needs}
 use native.Mathlib.Omega.{arith}
 use borrow.Author.Tests.{lt-ltb, le-ltb, le-leb, lt-leb, eq-eqb, ne-eqb}

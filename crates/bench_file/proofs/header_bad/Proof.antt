@@ -1,3 +1,4 @@
+-- Two ways through `header_bad`: in each, the branches taken decide the tests of the definition, with the contracts of `read_header`, `header_fits`. Bounds follow by linear arithmetic.
 use borrow.Author.Needs.{needs}
 use native.Mathlib.Omega.{arith}
 use borrow.Author.Tests.{lt-ltb, le-ltb, le-leb, lt-leb, eq-eqb, ne-eqb}

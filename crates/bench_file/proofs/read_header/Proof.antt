@@ -1,3 +1,4 @@
+-- One way through `read_header`: rewriting by the contract of `four_at` gives the definition.
 use borrow.Author.Needs.{needs}
 use Rattle.bench_file.proofs.read_header.Statement.{statement}
 use Rattle.bench_file.proofs.read_header.Tie as tie

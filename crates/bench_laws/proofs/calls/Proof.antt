@@ -1,3 +1,4 @@
+-- The statement of `calls` is the lemma `calls-hold`; the function has no body.
 use Rattle.bench_laws.proofs.CallsHold.{calls-hold}
 use Rattle.bench_laws.proofs.calls.Statement.{statement}
 use Rattle.bench_laws.proofs.calls.Tie as tie

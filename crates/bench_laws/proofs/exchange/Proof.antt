@@ -1,3 +1,4 @@
+-- The statement of `exchange` is the lemma `exchange-holds`; the function has no body.
 use Rattle.bench_laws.proofs.Exchanged.{exchange-holds}
 use Rattle.bench_laws.proofs.exchange.Statement.{statement}
 use Rattle.bench_laws.proofs.exchange.Tie as tie

@@ -1,3 +1,4 @@
+-- The statement of `stays` is the lemma `stays-hold`; the function has no body.
 use Rattle.bench_laws.proofs.Joined.{stays-hold}
 use Rattle.bench_laws.proofs.stays.Statement.{statement}
 use Rattle.bench_laws.proofs.stays.Tie as tie

@@ -1,3 +1,4 @@
+-- The statement of `again` is the lemma `again`; the function has no body.
 use Rattle.capture.proofs.Remended.{again}
 use Rattle.capture.proofs.again.Statement.{statement}
 use Rattle.capture.proofs.again.Tie as tie

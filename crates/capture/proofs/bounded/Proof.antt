@@ -1,3 +1,4 @@
+-- The statement of `bounded` is the lemma `bounded`; the function has no body.
 use Rattle.capture.proofs.Mending.{bounded}
 use Rattle.capture.proofs.bounded.Statement.{statement}
 use Rattle.capture.proofs.bounded.Tie as tie

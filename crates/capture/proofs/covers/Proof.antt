@@ -1,3 +1,4 @@
+-- The statement of `covers` is the lemma `covers`; the function has no body.
 use Rattle.capture.proofs.Covering.{covers}
 use Rattle.capture.proofs.covers.Statement.{statement}
 use Rattle.capture.proofs.covers.Tie as tie

@@ -1,3 +1,4 @@
+-- The statement of `damage` is the lemma `damage`; the function has no body.
 use Rattle.capture.proofs.Damaged.{damage}
 use Rattle.capture.proofs.damage.Statement.{statement}
 use Rattle.capture.proofs.damage.Tie as tie

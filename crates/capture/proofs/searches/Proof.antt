@@ -1,3 +1,4 @@
+-- The statement of `searches` is the lemma `searches`; the function has no body.
 use Rattle.capture.proofs.Steps.{searches}
 use Rattle.capture.proofs.searches.Statement.{statement}
 use Rattle.capture.proofs.searches.Tie as tie

@@ -1,3 +1,4 @@
+-- The statement of `straddled_damaged` is the lemma `damaged`; the function has no body.
 use Rattle.capture.proofs.Straddling.{damaged}
 use Rattle.capture.proofs.straddled_damaged.Statement.{statement}
 use Rattle.capture.proofs.straddled_damaged.Tie as tie

@@ -1,3 +1,4 @@
+-- The statement of `straddled_undamaged` is the lemma `undamaged`; the function has no body.
 use Rattle.capture.proofs.Straddling.{undamaged}
 use Rattle.capture.proofs.straddled_undamaged.Statement.{statement}
 use Rattle.capture.proofs.straddled_undamaged.Tie as tie

@@ -1,3 +1,4 @@
+-- One way through `good`: rewriting by the contract of `folded` gives the definition.
 use mathlib.Core.Path.{ap}
 use lib.Dec.{eqb}
 use Rattle.checksum.specs.Checksum.{allOnes, checksumGood}

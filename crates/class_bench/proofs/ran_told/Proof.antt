@@ -1,3 +1,4 @@
+-- One way through `ran_told`: rewriting by the contract of `number` gives the definition.
 use borrow.Author.Needs.{needs}
 use Rattle.class_bench.proofs.ran_told.Statement.{statement}
 use Rattle.class_bench.proofs.ran_told.Tie as tie

@@ -1,3 +1,4 @@
+-- The statement of `conditions_needed` is the lemma `needed`; the function has no body.
 use Rattle.exchange.proofs.Needed.{needed}
 use Rattle.exchange.proofs.conditions_needed.Statement.{statement}
 use Rattle.exchange.proofs.conditions_needed.Tie as tie

@@ -1,3 +1,4 @@
+-- The statement of `half_delay` is the lemma `half-delay`; the function has no body.
 use Rattle.exchange.proofs.HalfDelay.{half-delay}
 use Rattle.exchange.proofs.half_delay.Statement.{statement}
 use Rattle.exchange.proofs.half_delay.Tie as tie

@@ -1,3 +1,4 @@
+-- One way through `numbered`: rewriting by the contract of `number` gives the definition.
 use borrow.Author.Needs.{needs}
 use Rattle.hello.proofs.numbered.Statement.{statement}
 use Rattle.hello.proofs.numbered.Tie as tie

@@ -1,3 +1,4 @@
+-- One way through `print_stretches`: rewriting by the contracts of `number`, `print_decimal`, `write_all` gives the definition. Bounds follow by linear arithmetic.
 use borrow.Author.Needs.{needs}
 use Prim.Native.Nat.{_-_, _≤_}
 use native.Mathlib.Omega.{arith}

@@ -1,3 +1,4 @@
+-- Two ways through `clock_host_good`: in each, the branches taken decide the tests of the definition.
 use borrow.Author.Tests.{eq-eqb, ne-eqb}
 use Rattle.host.proofs.clock_host_good.Statement.{statement}
 use Rattle.host.proofs.clock_host_good.Tie as tie

@@ -1,3 +1,4 @@
+-- Two ways through `from_to`: in each, the branches taken decide the tests of the definition.
 use borrow.Author.Tests.{lt-leb, le-leb}
 use Rattle.host.proofs.from_to.Statement.{statement}
 use Rattle.host.proofs.from_to.Tie as tie

@@ -1,3 +1,4 @@
+-- Two ways through `time_good`: in each, the branches taken decide the tests of the definition, with the contract of `less`.
 use mathlib.Core.Path.{_∙_, sym}
 use borrow.Author.Needs.{needs}
 use Rattle.host.proofs.time_good.Statement.{statement}

@@ -1,3 +1,4 @@
+-- The statement of `read_back` is the lemma `read-back`; the function has no body.
 use Rattle.ntp.proofs.Back.{read-back}
 use Rattle.ntp.proofs.read_back.Statement.{statement}
 use Rattle.ntp.proofs.read_back.Tie as tie

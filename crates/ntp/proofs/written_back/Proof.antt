@@ -1,3 +1,4 @@
+-- The statement of `written_back` is the lemma `written-back`; the function has no body.
 use Rattle.ntp.proofs.Back.{written-back}
 use Rattle.ntp.proofs.written_back.Statement.{statement}
 use Rattle.ntp.proofs.written_back.Tie as tie

@@ -1,3 +1,4 @@
+-- Two ways through `low_bits`: in each, the branches taken decide the tests of the definition.
 use borrow.Author.Needs.{needs}
 use Rattle.quantity.proofs.Bits.{low-up, low-down}
 use Rattle.quantity.proofs.low_bits.Statement.{statement}

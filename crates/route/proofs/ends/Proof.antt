@@ -1,3 +1,4 @@
+-- Two ways through `ends`: in each, the branches taken decide the tests of the definition, with the contract of `same_octets`.
 use mathlib.Core.Path.{_∙_, sym}
 use borrow.Author.Needs.{needs}
 use Rattle.route.proofs.ends.Statement.{statement}

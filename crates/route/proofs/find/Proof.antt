@@ -1,3 +1,4 @@
+-- Three ways through `find`: in each, the branches taken decide the tests of the definition, with the contracts of `above_c`, `same_net`, `local_id`, `net_of` and others.
 use mathlib.Core.Path.{_∙_, sym}
 use Rattle.route.specs.Find.{find}
 use borrow.Author.Needs.{needs}

@@ -1,3 +1,4 @@
+-- Two ways through `host_octet`: in each, the branches taken decide the tests of the definition, with the contract of `class_a`.
 use mathlib.Core.Path.{_∙_, sym}
 use borrow.Author.Needs.{needs}
 use Rattle.route.proofs.host_octet.Statement.{statement}

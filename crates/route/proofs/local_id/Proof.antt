@@ -1,3 +1,4 @@
+-- Three ways through `local_id`: in each, the branches taken decide the tests of the definition, with the contract of `host_octet`.
 use borrow.Author.Tests.{le-leb, lt-leb, lt-ltb, le-ltb}
 use Rattle.route.specs.Find.{localId}
 use borrow.Author.Needs.{needs}

@@ -1,3 +1,4 @@
+-- Two ways through `row_count`: in each, the branches taken decide the tests of the definition. Bounds follow by linear arithmetic.
 use mathlib.Core.Path.{_≡_}
 use native.Mathlib.Omega.{arith}
 use lib.ListN.{length, length-take}

@@ -1,3 +1,4 @@
+-- Four ways through `same_net`: in each, the branches taken decide the tests of the definition, with the contract of `class_a`.
 use Rattle.route.specs.Find.{sameNet}
 use mathlib.Core.Path.{_∙_, sym}
 use borrow.Author.Tests.{eq-eqb, ne-eqb}

@@ -1,3 +1,4 @@
+-- Three ways through `same_octets`: in each, the branches taken decide the tests of the definition.
 use borrow.Author.Tests.{eq-eqb, ne-eqb}
 use Rattle.route.proofs.same_octets.Statement.{statement}
 use Rattle.route.proofs.same_octets.Tie as tie

@@ -1,3 +1,4 @@
+-- Two ways through `search`: in each, the branches taken decide the tests of the definition, with the contracts of `row_count`, `ends`, `id_of`. Bounds follow by linear arithmetic.
 use borrow.Author.Needs.{needs}
 use mathlib.Core.Path.{_≡_, _∙_, sym, ap, refl}
 use Prim.Native.Nat.{_≤_, _-_}

@@ -1,3 +1,4 @@
+-- Two ways through `finish`: in each, the branches taken decide the tests of the definition, with the contract of `seal`.
 use borrow.Author.Needs.{needs}
 use Rattle.lists.proofs.Tests.{is-not, is-so}
 use Rattle.sending.proofs.finish.Statement.{statement}

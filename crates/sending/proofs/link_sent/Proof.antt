@@ -1,3 +1,4 @@
+-- Two ways through `link_sent`: in each, the branches taken decide the tests of the definition. Bounds follow by linear arithmetic.
 use mathlib.Core.Path.{_≡_, ap}
 use Prim.Native.Nat.{ℕ, _-_}
 use native.Mathlib.Omega.{arith}

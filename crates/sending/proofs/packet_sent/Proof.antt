@@ -1,3 +1,4 @@
+-- One way through `packet_sent`: rewriting by the contract of `sent_tsp` gives the definition.
 use borrow.Author.Needs.{needs}
 use Rattle.sending.proofs.packet_sent.Statement.{statement}
 use Rattle.sending.proofs.packet_sent.Tie as tie

@@ -1,3 +1,4 @@
+-- Two ways through `report_count`: in each, the branches taken decide the tests of the definition, with the contracts of `table_goes`, `host_count`.
 use mathlib.Core.Path.{_∙_, sym}
 use borrow.Author.Needs.{needs}
 use Rattle.sending.proofs.report_count.Statement.{statement}

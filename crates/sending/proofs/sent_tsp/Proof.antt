@@ -1,3 +1,4 @@
+-- Two ways through `sent_tsp`: in each, the branches taken decide the tests of the definition, with the contracts of `of_word`, `plus`, `of_millis`. Bounds follow by linear arithmetic.
 use native.Mathlib.Omega.{arith}
 use borrow.Author.Tests.{eq-eqb, ne-eqb}
 use borrow.Author.Needs.{needs}

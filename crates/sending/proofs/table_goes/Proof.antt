@@ -1,3 +1,4 @@
+-- Two ways through `table_goes`: in each, the branches taken decide the tests of the definition, with the contracts of `is_zero`, `same_net`.
 use mathlib.Core.Path.{_∙_, sym}
 use borrow.Author.Needs.{needs}
 use Rattle.sending.proofs.table_goes.Statement.{statement}

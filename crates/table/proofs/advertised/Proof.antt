@@ -1,3 +1,4 @@
+-- Two ways through `advertised`: in each, the branches taken decide the tests of the definition.
 use borrow.Author.Tests.{eq-eqb, ne-eqb}
 use Rattle.table.specs.Entry.{advertised}
 use Rattle.table.proofs.advertised.Statement.{statement}

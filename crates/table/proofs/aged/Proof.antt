@@ -1,3 +1,4 @@
+-- Four ways through `aged`: in each, the branches taken decide the tests of the definition, with the contracts of `fall`, `with_ttl`, `up`, `taken_down`.
 use Rattle.quantity.specs.declared.Seconds.{Seconds}
 use mathlib.Core.Path.{_∙_, sym, ap}
 use borrow.Author.Tests.{eq-eqb, ne-eqb}

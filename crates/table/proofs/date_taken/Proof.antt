@@ -1,3 +1,4 @@
+-- Three ways through `date_taken`: in each, the branches taken decide the tests of the definition, with the contracts of `is_real`, `awaited`.
 use mathlib.Core.Path.{_∙_, sym}
 use borrow.Author.Tests.{not-true, not-false}
 use borrow.Author.Needs.{needs}

@@ -1,3 +1,4 @@
+-- The statement of `fresh` is the lemma `refl`; the function has no body.
 use mathlib.Core.Path.{refl}
 use Rattle.table.specs.Entry.{freshEntry}
 use Rattle.table.proofs.fresh.Statement.{statement}

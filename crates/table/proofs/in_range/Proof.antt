@@ -1,3 +1,4 @@
+-- Four ways through `in_range`: in each, the branches taken decide the tests of the definition, with the contract of `up_to`.
 use mathlib.Core.Path.{_∙_, sym}
 use borrow.Author.Tests.{le-leb, lt-leb, not-true, not-false}
 use Rattle.table.specs.Entry.{entryInRange}

@@ -1,3 +1,4 @@
+-- Three ways through `line_a`: in each, the branches taken decide the tests of the definition, with the contracts of `plus`, `less`. Bounds follow by linear arithmetic.
 use mathlib.Core.Path.{_∙_, sym, ap}
 use native.Mathlib.Omega.{arith}
 use borrow.Author.Tests.{eq-eqb, ne-eqb}

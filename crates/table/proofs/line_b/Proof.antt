@@ -1,3 +1,4 @@
+-- Five ways through `line_b`: in each, the branches taken decide the tests of the definition, with the contracts of `less`, `up`, `taken_down`.
 use mathlib.Core.Path.{_∙_, sym, ap}
 use borrow.Author.Tests.{eq-eqb, ne-eqb, not-true, not-false}
 use Rattle.table.specs.declared.Line.the-variants.{End}

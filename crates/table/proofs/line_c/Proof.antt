@@ -1,3 +1,4 @@
+-- The statement of `line_c` is the lemma `refl`; the function has no body.
 use mathlib.Core.Path.{refl}
 use Rattle.table.specs.Update.{lineC}
 use Rattle.table.proofs.line_c.Statement.{statement}

@@ -1,3 +1,4 @@
+-- One way through `line_d`: rewriting by the contracts of `date_taken`, `of_word`, `set_by` gives the definition. Bounds follow by linear arithmetic.
 use native.Mathlib.Omega.{arith}
 use lib.IntN.{ℤ}
 use mir.Syntax.{w16, w32}

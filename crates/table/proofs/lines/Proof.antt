@@ -1,3 +1,4 @@
+-- Three ways through `lines`: in each, the branches taken decide the tests of the definition, with the contracts of `line_a`, `line_b`, `line_c`.
 use mathlib.Core.Path.{_∙_, sym}
 use Rattle.table.proofs.Stages.{ends-at-a, ends-at-b, stored-at-c}
 use borrow.Author.Needs.{needs}

@@ -1,3 +1,4 @@
+-- Two ways through `reported_here`: in each, the branches taken decide the tests of the definition, with the contracts of `lives_here`, `self_reported`.
 use mathlib.Core.Path.{_∙_, sym}
 use borrow.Author.Needs.{needs}
 use Rattle.table.specs.Update.{reportedHere}

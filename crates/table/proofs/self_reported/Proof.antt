@@ -1,3 +1,4 @@
+-- Two ways through `self_reported`: in each, the branches taken decide the tests of the definition, with the contract of `lines`.
 use mathlib.Core.Path.{_∙_, sym}
 use Rattle.table.specs.Update.{lines, ownUpdate}
 use Rattle.table.proofs.Stages.{left-on, left-end}

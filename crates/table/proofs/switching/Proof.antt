@@ -1,3 +1,4 @@
+-- The statement of `switching` is the lemma `switching-holds`; the function has no body.
 use Rattle.table.proofs.LineA.{switching-holds}
 use Rattle.table.proofs.switching.Statement.{statement}
 use Rattle.table.proofs.switching.Tie as tie

@@ -1,3 +1,4 @@
+-- Two ways through `up_to`: in each, the branches taken decide the tests of the definition, with the contract of `less`.
 use mathlib.Core.Path.{_∙_, sym, ap}
 use mathlib.Core.Bool.{not}
 use borrow.Author.Needs.{needs}

@@ -1,3 +1,4 @@
+-- Three ways through `update_entry`: in each, the branches taken decide the tests of the definition, with the contracts of `lines`, `line_d`.
 use mathlib.Core.Path.{_∙_, sym}
 use Rattle.table.proofs.Stages.{ended, stored-unset, stored-set}
 use borrow.Author.Needs.{needs}

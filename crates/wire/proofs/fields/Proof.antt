@@ -1,3 +1,4 @@
+-- One way through `fields`: rewriting by the contracts of `address_at`, `two_at`, `four_at`, `of_unsigned` and others gives the definition.
 use Rattle.wire.proofs.Parsing.{fields-read, four-octets}
 use lib.ListN.{length, take, drop}
 use Prim.Native.Nat.{_-_, _<_, _^_}

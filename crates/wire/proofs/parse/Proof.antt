@@ -1,3 +1,4 @@
+-- Six ways through `parse`: in each, the branches taken decide the tests of the definition, with the contracts of `form`, `checksum`, `protocol`, `fields`. Bounds follow by linear arithmetic.
 use borrow.Author.Needs.{needs}
 use borrow.Author.Tests.{not-true, not-false}
 use mathlib.Core.Path.{_≡_, sym, ap, _∙_}

@@ -1,3 +1,4 @@
+-- One way through `put_report`: rewriting by the contract of `put_report` gives the definition.
 use Rattle.wire.proofs.Stores.{report-put}
 use borrow.Author.Needs.{needs}
 use Rattle.wire.proofs.put_report.Statement.{statement}

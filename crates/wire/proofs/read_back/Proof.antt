@@ -1,3 +1,4 @@
+-- The statement of `read_back` is the lemma `message-is-back`; the function has no body.
 use Rattle.wire.proofs.ReadBack.{message-is-back}
 use Rattle.wire.proofs.read_back.Statement.{statement}
 use Rattle.wire.proofs.read_back.Tie as tie

@@ -1,3 +1,4 @@
+-- One way through `report_at`: rewriting by the contract of `report` gives the definition.
 use Rattle.wire.proofs.Parts.{from-on}
 use borrow.Author.Needs.{needs}
 use Rattle.wire.proofs.report_at.Statement.{statement}

@@ -1,3 +1,4 @@
+-- Two ways through `delay_of`: in each, the branches taken decide the tests of the definition, with the contracts of `of_word`, `minus`, `of_millis`. Bounds follow by linear arithmetic.
 use mathlib.Core.Path.{_≡_, _∙_, sym, ap, subst}
 use native.Mathlib.Omega.{arith}
 use borrow.Author.Needs.{needs}

@@ -1,3 +1,4 @@
+-- One way through `measured`: rewriting by the contracts of `tsp_of`, `delay_of`, `offset_of` gives the definition.
 use borrow.Author.Needs.{needs}
 use Rattle.arrival.specs.Steps.{step2, step3}
 use Rattle.arrival.proofs.steps.measured.Statement.{statement}

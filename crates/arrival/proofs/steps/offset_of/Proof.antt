@@ -1,3 +1,4 @@
+-- One way through `offset_of`: rewriting by the contracts of `of_word`, `half`, `plus`, `of_millis` gives the definition. Bounds follow by linear arithmetic.
 use mathlib.Core.Path.{_∙_, ap}
 use native.Mathlib.Omega.{arith}
 use borrow.Author.Needs.{needs}

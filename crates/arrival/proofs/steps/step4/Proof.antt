@@ -1,3 +1,4 @@
+-- Five ways through `step4`: in each, the branches taken decide the tests of the definition, with the contracts of `same`, `new_neighbor`, `is_zero`.
 use mathlib.Core.Path.{_∙_, sym, ap}
 use borrow.Author.Tests.{eq-eqb, ne-eqb}
 use borrow.Author.Needs.{needs}

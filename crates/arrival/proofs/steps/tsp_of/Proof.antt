@@ -1,3 +1,4 @@
+-- One way through `tsp_of`: rewriting by the contracts of `minus`, `of_millis` gives the definition. Bounds follow by linear arithmetic.
 use mathlib.Core.Path.{_∙_, ap}
 use native.Mathlib.Omega.{arith}
 use borrow.Author.Needs.{needs}

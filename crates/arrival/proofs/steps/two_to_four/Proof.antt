@@ -1,3 +1,4 @@
+-- One way through `two_to_four`: rewriting by the contracts of `measured`, `step4` gives the definition.
 use borrow.Author.Needs.{needs}
 use Rattle.arrival.specs.Steps.{steps2to4}
 use Rattle.arrival.proofs.steps.two_to_four.Statement.{statement}

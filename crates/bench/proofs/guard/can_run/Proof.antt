@@ -1,3 +1,4 @@
+-- Two ways through `can_run`: in each, the branches taken decide the tests of the definition, with the contract of `slots_good`.
 use borrow.Author.Needs.{needs}
 use mathlib.Core.Path.{_≡_, refl, sym, ap, _∙_}
 use mathlib.Core.Bool.{true, false}

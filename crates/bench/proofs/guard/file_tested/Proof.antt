@@ -1,3 +1,4 @@
+-- Three ways through `file_tested`: in each, the branches taken decide the tests of the definition, with the contracts of `header_bad`, `read_header`, `records_good`.
 use borrow.Author.Needs.{needs}
 use mathlib.Core.Path.{_≡_, refl, sym, ap, _∙_}
 use mathlib.Core.Bool.{true, false}

@@ -1,3 +1,4 @@
+-- Three ways through `records_good`: in each, the branches taken decide the tests of the definition, with the contracts of `hosts_good`, `cables_good`, `events_good`.
 use borrow.Author.Needs.{needs}
 use mathlib.Core.Path.{_≡_, refl, sym, ap, _∙_}
 use mathlib.Core.Bool.{true, false}

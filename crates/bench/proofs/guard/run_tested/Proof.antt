@@ -1,3 +1,4 @@
+-- Three ways through `run_tested`: in each, the branches taken decide the tests of the definition, with the contracts of `file_tested`, `passes`, `read_header`, `can_run` and others. Bounds follow by linear arithmetic.
 use borrow.Author.Needs.{needs}
 use mathlib.Core.Path.{_≡_, refl, sym, ap, _∙_}
 use mathlib.Core.Bool.{true, false}

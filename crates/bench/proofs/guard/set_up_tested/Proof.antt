@@ -1,3 +1,4 @@
+-- Two ways through `set_up_tested`: in each, the branches taken decide the tests of the definition, with the contracts of `file_tested`, `passes`, `read_header`, `rest_tested`.
 use borrow.Author.Needs.{needs}
 use mathlib.Core.Path.{_≡_, refl, sym, ap, _∙_}
 use mathlib.Core.Bool.{true, false}

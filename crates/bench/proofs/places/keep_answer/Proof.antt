@@ -1,3 +1,4 @@
+-- One way through `keep_answer`: rewriting by the contract of `number` gives the definition.
 use borrow.Author.Needs.{needs}
 use Rattle.bench.proofs.places.keep_answer.Statement.{statement}
 use Rattle.bench.proofs.places.keep_answer.Tie as tie

@@ -1,3 +1,4 @@
+-- One way through `note`: rewriting by the contract of `number` gives the definition.
 use borrow.Author.Needs.{needs}
 use mathlib.Core.Path.{ap}
 use lib.ListN.{set}

@@ -1,3 +1,4 @@
+-- One way through `runs_none`: rewriting by the contract of `no_header` gives the definition.
 use borrow.Author.Needs.{needs}
 use Rattle.bench.proofs.plans.runs_none.Statement.{statement}
 use Rattle.bench.proofs.plans.runs_none.Tie as tie

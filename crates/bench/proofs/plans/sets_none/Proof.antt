@@ -1,3 +1,4 @@
+-- One way through `sets_none`: rewriting by the contract of `no_header` gives the definition.
 use borrow.Author.Needs.{needs}
 use Rattle.bench.proofs.plans.sets_none.Statement.{statement}
 use Rattle.bench.proofs.plans.sets_none.Tie as tie

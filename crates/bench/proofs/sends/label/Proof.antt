@@ -1,3 +1,4 @@
+-- Two ways through `label`: in each, the branches taken decide the tests of the definition, with the contracts of `is_done`, `put_label`.
 use mathlib.Core.Path.{_≡_, sym, _∙_}
 use mathlib.Core.Bool.{true, false}
 use borrow.Author.Needs.{needs}

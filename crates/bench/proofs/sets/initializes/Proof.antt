@@ -1,3 +1,4 @@
+-- One way through `initializes`: rewriting by the contract of `settings_at` gives the definition.
 use borrow.Author.Needs.{needs}
 use Rattle.bench.proofs.sets.initializes.Statement.{statement}
 use Rattle.bench.proofs.sets.initializes.Tie as tie

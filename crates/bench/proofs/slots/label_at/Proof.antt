@@ -1,3 +1,4 @@
+-- One way through `label_at`: rewriting by the contracts of `two_at`, `octet_at` gives the definition.
 use borrow.Author.Needs.{needs}
 use Rattle.bench.proofs.slots.label_at.Statement.{statement}
 use Rattle.bench.proofs.slots.label_at.Tie as tie

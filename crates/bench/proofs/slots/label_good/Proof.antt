@@ -1,3 +1,4 @@
+-- Four ways through `label_good`: in each, the branches taken decide the tests of the definition. Bounds follow by linear arithmetic.
 use native.Mathlib.Omega.{arith}
 use borrow.Author.Tests.{lt-ltb, le-ltb, le-leb, lt-leb, eq-eqb, ne-eqb}
 use Rattle.bench.proofs.slots.label_good.Statement.{statement}

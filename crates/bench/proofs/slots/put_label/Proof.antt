@@ -1,3 +1,4 @@
+-- One way through `put_label`: its result is the definition by computing. Bounds follow by linear arithmetic.
 use borrow.Author.Needs.{needs}
 use native.Mathlib.Omega.{arith}
 use lib.ListN.{length-set}

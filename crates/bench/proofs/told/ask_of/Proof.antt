@@ -1,3 +1,4 @@
+-- One way through `ask_of`: rewriting by the contract of `settings_at` gives the definition.
 use borrow.Author.Needs.{needs}
 use Rattle.bench.proofs.told.ask_of.Statement.{statement}
 use Rattle.bench.proofs.told.ask_of.Tie as tie

@@ -1,3 +1,4 @@
+-- One way through `send_of`: rewriting by the contracts of `end_at`, `settings_at` gives the definition.
 use borrow.Author.Needs.{needs}
 use mathlib.Core.Path.{_∙_, ap, subst⁻¹}
 use Prim.Native.Nat.{_<_}

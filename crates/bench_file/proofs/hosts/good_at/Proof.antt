@@ -1,3 +1,4 @@
+-- One way through `good_at`: rewriting by the contract of `host_good` gives the definition. Bounds follow by linear arithmetic.
 use borrow.Author.Needs.{needs}
 use mathlib.Core.Path.{_≡_}
 use native.Mathlib.Omega.{arith}

@@ -1,3 +1,4 @@
+-- Two ways through `host_good`: in each, the branches taken decide the tests of the definition, with the contracts of `marks_good`, `settings_of`, `fit`.
 use borrow.Author.Needs.{needs}
 use Rattle.lists.proofs.Tests.{is-not, is-so}
 use Rattle.bench_file.proofs.hosts.host_good.Statement.{statement}

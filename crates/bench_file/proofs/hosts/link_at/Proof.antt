@@ -1,3 +1,4 @@
+-- One way through `link_at`: rewriting by the contract of `address_at` gives the definition.
 use borrow.Author.Needs.{needs}
 use Rattle.bench_file.proofs.hosts.link_at.Statement.{statement}
 use Rattle.bench_file.proofs.hosts.link_at.Tie as tie

@@ -1,3 +1,4 @@
+-- One way through `links_of`: rewriting by the contract of `link_at` gives the definition.
 use borrow.Author.Needs.{needs}
 use Rattle.bench_file.specs.Settings.{settingsOf}
 use Rattle.bench_file.proofs.hosts.links_of.Statement.{statement}

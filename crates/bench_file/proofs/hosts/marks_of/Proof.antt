@@ -1,3 +1,4 @@
+-- One way through `marks_of`: rewriting by the contract of `word_at` gives the definition.
 use borrow.Author.Needs.{needs}
 use Rattle.bench_file.proofs.hosts.marks_of.Statement.{statement}
 use Rattle.bench_file.proofs.hosts.marks_of.Tie as tie

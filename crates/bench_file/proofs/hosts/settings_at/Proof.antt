@@ -1,3 +1,4 @@
+-- One way through `settings_at`: rewriting by the contract of `settings_of` gives the definition. Bounds follow by linear arithmetic.
 use borrow.Author.Needs.{needs}
 use mathlib.Core.Path.{_≡_, refl, sym, ap, _∙_}
 use native.Mathlib.Omega.{arith}

@@ -1,3 +1,4 @@
+-- One way through `settings_of`: rewriting by the contracts of `address_at`, `two_at`, `number_at`, `tick_of` and others gives the definition.
 use borrow.Author.Needs.{needs}
 use Rattle.bench_file.specs.Settings.{settingsOf}
 use Rattle.bench_file.proofs.hosts.settings_of.Statement.{statement}

@@ -1,3 +1,4 @@
+-- Two ways through `tick_of`: in each, the branches taken decide the tests of the definition. Bounds follow by linear arithmetic.
 use borrow.Author.Needs.{needs}
 use native.Mathlib.Omega.{arith}
 use mathlib.Core.Path.{_≡_, ap}

@@ -1,3 +1,4 @@
+-- Two ways through `signed`: in each, the branches taken decide the tests of the definition.
 use borrow.Author.Needs.{needs}
 use Rattle.bench_file.proofs.Powers.{turned-back}
 use Rattle.bench_file.proofs.octets.signed.Statement.{statement}

@@ -1,3 +1,4 @@
+-- One way through `counted`: rewriting by the contracts of `stretch_count`, `stands` gives the definition. Bounds follow by linear arithmetic.
 use native.Mathlib.Omega.{arith}
 use borrow.Author.Needs.{needs}
 use Rattle.capture.proofs.counting.counted.Statement.{statement}

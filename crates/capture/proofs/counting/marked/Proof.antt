@@ -1,3 +1,4 @@
+-- Three ways through `marked`: in each, the branches taken decide the tests of the definition, with the contract of `four_at`.
 use mathlib.Core.Path.{sym, _∙_}
 use borrow.Author.Needs.{needs}
 use borrow.Author.Tests.{lt-leb, le-leb, eq-eqb, ne-eqb}

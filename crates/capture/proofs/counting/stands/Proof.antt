@@ -1,3 +1,4 @@
+-- Three ways through `stands`: in each, the branches taken decide the tests of the definition, with the contract of `four_at`.
 use borrow.Author.Needs.{needs}
 use borrow.Author.Tests.{not-true, not-false, le-leb, lt-leb}
 use Rattle.capture.proofs.counting.stands.Statement.{statement}

@@ -1,3 +1,4 @@
+-- Two ways through `stretch_count`: in each, the branches taken decide the tests of the definition. Bounds follow by linear arithmetic.
 use borrow.Author.Tests.{lt-ltb, le-ltb}
 use native.Mathlib.Omega.{arith}
 use Rattle.capture.proofs.counting.stretch_count.Statement.{statement}

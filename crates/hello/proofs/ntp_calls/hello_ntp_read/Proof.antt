@@ -1,3 +1,4 @@
+-- One way through `hello_ntp_read`: rewriting by the contracts of `read`, `read_told` gives the definition.
 use mathlib.Core.Path.{ap, _∙_}
 use borrow.Author.Needs.{needs}
 use Rattle.hello.specs.Ntp.{readTold}

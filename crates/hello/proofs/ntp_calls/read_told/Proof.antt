@@ -1,3 +1,4 @@
+-- Two ways through `read_told`: in each, the branches taken decide the tests of the definition, with the contracts of `number`, `zero_header`.
 use borrow.Author.Needs.{needs}
 use Rattle.hello.proofs.ntp_calls.read_told.Statement.{statement}
 use Rattle.hello.proofs.ntp_calls.read_told.Tie as tie

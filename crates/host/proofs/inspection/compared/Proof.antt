@@ -1,3 +1,4 @@
+-- Three ways through `compared`: in each, the branches taken decide the tests of the definition, with the contracts of `other_layout`, `looped`.
 use mathlib.Core.Path.{_∙_, sym}
 use borrow.Author.Needs.{needs}
 use Rattle.host.proofs.inspection.compared.Statement.{statement}

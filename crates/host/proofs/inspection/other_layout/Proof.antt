@@ -1,3 +1,4 @@
+-- Three ways through `other_layout`: in each, the branches taken decide the tests of the definition.
 use borrow.Author.Tests.{eq-eqb, ne-eqb}
 use borrow.Author.Needs.{needs}
 use Rattle.host.specs.Inspection.{otherLayout}

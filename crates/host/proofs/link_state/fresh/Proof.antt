@@ -1,3 +1,4 @@
+-- One way through `fresh`: rewriting by the contract of `fresh_link` gives the definition. Bounds follow by linear arithmetic.
 use mathlib.Core.Path.{_≡_, _∙_, refl, ap}
 use mathlib.Core.List.{List, map}
 use Prim.Native.Nat.{_-_, _≤_}

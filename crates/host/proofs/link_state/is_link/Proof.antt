@@ -1,3 +1,4 @@
+-- Two ways through `is_link`: in each, the branches taken decide the tests of the definition.
 use mathlib.Core.Path.{_≡_, refl}
 use mathlib.Core.Bool.{Bool, true, false, not}
 use Prim.Native.Nat.{ℕ, _≤_, _<_}

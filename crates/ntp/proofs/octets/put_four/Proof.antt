@@ -1,3 +1,4 @@
+-- One way through `put_four`: its result is the definition by computing.
 use native.Mathlib.Numerals.{add-one, add-two, add-three}
 use borrow.Author.Needs.{needs}
 use Rattle.ntp.proofs.octets.put_four.Statement.{statement}

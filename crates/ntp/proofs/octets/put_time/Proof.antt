@@ -1,3 +1,4 @@
+-- One way through `put_time`: rewriting by the contract of `put_four` gives the definition.
 use native.Mathlib.Numerals.{add-four}
 use borrow.Author.Needs.{needs}
 use Rattle.ntp.proofs.octets.put_time.Statement.{statement}

@@ -1,3 +1,4 @@
+-- Two ways through `signed_octet`: in each, the branches taken decide the tests of the definition.
 use borrow.Author.Needs.{needs}
 use Rattle.ntp.proofs.Words.{octet-up, octet-down}
 use Rattle.ntp.proofs.octets.signed_octet.Statement.{statement}

@@ -1,3 +1,4 @@
+-- One way through `time_at`: rewriting by the contract of `four_at` gives the definition.
 use borrow.Author.Needs.{needs}
 use Rattle.ntp.proofs.octets.time_at.Statement.{statement}
 use Rattle.ntp.proofs.octets.time_at.Tie as tie

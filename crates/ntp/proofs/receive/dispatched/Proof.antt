@@ -1,3 +1,4 @@
+-- Four ways through `dispatched`: in each, the branches taken decide the tests of the definition, with the contracts of `refused`, `dispatch`, `is_proc`, `idle` and others.
 use mathlib.Core.Path.{sym, _∙_}
 use borrow.Author.Needs.{needs}
 use borrow.Author.Tests.{lt-leb, not-true, not-false}

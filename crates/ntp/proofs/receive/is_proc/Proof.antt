@@ -1,3 +1,4 @@
+-- One way through `is_proc`: its result is the definition by computing.
 use borrow.Author.Needs.{needs}
 use Rattle.ntp.proofs.Words.{proc-bits}
 use Rattle.ntp.proofs.receive.is_proc.Statement.{statement}

@@ -1,3 +1,4 @@
+-- Four ways through `passes`: in each, the branches taken decide the tests of the definition, with the contract of `later`.
 use borrow.Author.Needs.{needs}
 use borrow.Author.Tests.{eq-eqb, ne-eqb}
 use Rattle.ntp.specs.Receive.{passes}

@@ -1,3 +1,4 @@
+-- One way through `processed`: rewriting by the contracts of `offset`, `delay` gives the definition.
 use borrow.Author.Needs.{needs}
 use Rattle.ntp.proofs.receive.processed.Statement.{statement}
 use Rattle.ntp.proofs.receive.processed.Tie as tie

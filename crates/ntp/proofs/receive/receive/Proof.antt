@@ -1,3 +1,4 @@
+-- Two ways through `receive`: in each, the branches taken decide the tests of the definition, with the contracts of `read`, `dispatched`, `refused`.
 use mathlib.Core.Path.{_∙_, sym}
 use borrow.Author.Needs.{needs}
 use Rattle.ntp.specs.Receive.{receive}

@@ -1,3 +1,4 @@
+-- One way through `delay`: rewriting by the contracts of `since`, `wrapping_sub_u64`, `signed` gives the definition.
 use mathlib.Core.Path.{_∙_, ap}
 use borrow.Author.Needs.{needs}
 use Rattle.ntp.specs.Times.{interval}

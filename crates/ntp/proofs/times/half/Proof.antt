@@ -1,3 +1,4 @@
+-- Two ways through `half`: in each, the branches taken decide the tests of the definition.
 use borrow.Author.Needs.{needs}
 use Rattle.ntp.proofs.Words.{half-low, half-high}
 use Rattle.ntp.proofs.times.half.Statement.{statement}

@@ -1,3 +1,4 @@
+-- Two ways through `later`: in each, the branches taken decide the tests of the definition, with the contract of `since`.
 use mathlib.Core.Path.{_∙_, ap}
 use borrow.Author.Needs.{needs}
 use lib.IntN.{pos}

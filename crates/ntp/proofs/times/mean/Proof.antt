@@ -1,3 +1,4 @@
+-- One way through `mean`: rewriting by the contracts of `half`, `wrapping_add_u64`, `common_bit`, `signed` gives the definition.
 use mathlib.Core.Path.{_∙_, ap}
 use borrow.Author.Needs.{needs}
 use Rattle.ntp.specs.Times.{interval}

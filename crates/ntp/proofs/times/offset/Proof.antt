@@ -1,3 +1,4 @@
+-- One way through `offset`: rewriting by the contracts of `since`, `mean` gives the definition.
 use borrow.Author.Needs.{needs}
 use Rattle.ntp.proofs.times.offset.Statement.{statement}
 use Rattle.ntp.proofs.times.offset.Tie as tie

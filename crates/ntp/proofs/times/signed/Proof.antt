@@ -1,3 +1,4 @@
+-- Two ways through `signed`: in each, the branches taken decide the tests of the definition.
 use mathlib.Core.Path.{ap}
 use borrow.Author.Needs.{needs}
 use Rattle.ntp.specs.Times.{interval}

@@ -1,3 +1,4 @@
+-- One way through `since`: rewriting by the contract of `wrapping_sub_u64` gives the definition.
 use borrow.Author.Needs.{needs}
 use Rattle.ntp.proofs.Words.{since-word}
 use Rattle.ntp.proofs.times.since.Statement.{statement}

@@ -1,3 +1,4 @@
+-- One way through `fields`: rewriting by the contracts of `signed_at`, `four_at`, `time_at` gives the definition.
 use borrow.Author.Needs.{needs}
 use Rattle.ntp.specs.Header.{fields}
 use Rattle.ntp.proofs.wire.fields.Statement.{statement}

@@ -1,3 +1,4 @@
+-- Two ways through `mode_good`: in each, the branches taken decide the tests of the definition.
 use borrow.Author.Tests.{lt-leb, le-leb}
 use Rattle.ntp.proofs.wire.mode_good.Statement.{statement}
 use Rattle.ntp.proofs.wire.mode_good.Tie as tie

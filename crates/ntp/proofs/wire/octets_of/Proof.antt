@@ -1,3 +1,4 @@
+-- One way through `octets_of`: rewriting by the contracts of `signed_octet`, `put_four`, `put_time` gives the definition. Bounds follow by linear arithmetic.
 use native.Mathlib.Omega.{arith}
 use borrow.Author.Needs.{needs}
 use Rattle.ntp.proofs.Headers.{front-range, stored}

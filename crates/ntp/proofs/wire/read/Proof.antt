@@ -1,3 +1,4 @@
+-- Four ways through `read`: in each, the branches taken decide the tests of the definition, with the contracts of `fields`, `version_good`, `mode_good`.
 use mathlib.Core.Path.{sym, _∙_}
 use borrow.Author.Needs.{needs}
 use borrow.Author.Tests.{ne-eqb, not-true, not-false}

@@ -1,3 +1,4 @@
+-- One way through `bits`: rewriting by the contract of `low_bits` gives the definition.
 use mathlib.Core.Path.{_∙_, ap}
 use borrow.Author.Needs.{needs}
 use lib.IntN.{ℤ}

@@ -1,3 +1,4 @@
+-- One way through `of_count`: its result is the definition by computing.
 use mathlib.Core.Path.{ap}
 use mir.Syntax.{w32}
 use Rattle.quantity.specs.Quantity.{millis}

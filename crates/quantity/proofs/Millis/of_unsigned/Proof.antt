@@ -1,3 +1,4 @@
+-- One way through `of_unsigned`: its result is the definition by computing. Bounds follow by linear arithmetic.
 use mathlib.Core.Path.{ap}
 use borrow.Author.Needs.{needs}
 use native.Mathlib.Omega.{arith}

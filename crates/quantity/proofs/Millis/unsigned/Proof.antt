@@ -1,3 +1,4 @@
+-- One way through `unsigned`: its result is the definition by computing.
 use borrow.Author.Needs.{needs}
 use Rattle.quantity.proofs.Bits.{unsigned32}
 use Rattle.quantity.proofs.Millis.unsigned.Statement.{statement}

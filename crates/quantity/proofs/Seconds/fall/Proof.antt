@@ -1,3 +1,4 @@
+-- Two ways through `fall`: in each, the branches taken decide the tests of the definition. Bounds follow by linear arithmetic.
 use mathlib.Core.Path.{ap}
 use borrow.Author.Needs.{needs}
 use native.Mathlib.Omega.{arith}

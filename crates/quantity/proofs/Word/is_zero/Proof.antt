@@ -1,3 +1,4 @@
+-- One way through `is_zero`: its result is the definition by computing.
 use borrow.Author.Needs.{needs}
 use Rattle.quantity.proofs.Bits.{zero-bits}
 use Rattle.quantity.proofs.Word.is_zero.Statement.{statement}

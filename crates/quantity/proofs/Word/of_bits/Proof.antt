@@ -1,3 +1,4 @@
+-- Two ways through `of_bits`: in each, the branches taken decide the tests of the definition.
 use mathlib.Core.Path.{ap}
 use borrow.Author.Needs.{needs}
 use Rattle.quantity.specs.Words.{word}

@@ -1,3 +1,4 @@
+-- One way through `of_millis`: rewriting by the contracts of `low_bits`, `of_bits` gives the definition.
 use mathlib.Core.Path.{_∙_, ap}
 use borrow.Author.Needs.{needs}
 use Prim.Native.Nat.{ℕ}

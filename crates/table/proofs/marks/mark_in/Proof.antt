@@ -1,3 +1,4 @@
+-- The statement of `mark_in` is the lemma `refl`; the function has no body.
 use mathlib.Core.Path.{refl}
 use borrow.Author.Needs.{needs}
 use Rattle.table.proofs.marks.mark_in.Statement.{statement}

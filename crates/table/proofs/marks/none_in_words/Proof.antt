@@ -1,3 +1,4 @@
+-- One way through `none_in_words`: rewriting by the contracts of `zero_from`, `less` gives the definition.
 use mathlib.Core.Path.{_≡_}
 use lib.ListN.{length}
 use borrow.Author.Needs.{needs}

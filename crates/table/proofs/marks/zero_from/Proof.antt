@@ -1,3 +1,4 @@
+-- Two ways through `zero_from`: in each, the branches taken decide the tests of the definition.
 use Prim.Native.Nat.{_<_, _^_}
 use borrow.Author.Needs.{needs}
 use Rattle.table.proofs.Bits.{no-bits, word-zero}

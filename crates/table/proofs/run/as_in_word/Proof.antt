@@ -1,3 +1,4 @@
+-- Two ways through `as_in_word`: in each, the branches taken decide the tests of the definition, with the contracts of `mark_in`, `in_range`.
 use mathlib.Core.Path.{refl}
 use borrow.Author.Needs.{needs}
 use borrow.Author.Tests.{eq-eqb, ne-eqb}

@@ -1,3 +1,4 @@
+-- Two ways through `by_words`: in each, the branches taken decide the tests of the definition.
 use mathlib.Core.Path.{_≡_, refl}
 use mathlib.Core.Bool.{true, false}
 use borrow.Author.Needs.{needs}

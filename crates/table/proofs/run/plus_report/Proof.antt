@@ -1,3 +1,4 @@
+-- One way through `plus_report`: rewriting by the contracts of `of_word`, `plus`, `of_millis` gives the definition. Bounds follow by linear arithmetic.
 use mathlib.Core.Path.{_≡_, refl, sym, subst}
 use Rattle.quantity.specs.declared.Millis.{Millis}
 use Rattle.quantity.specs.declared.Word.{Word}

@@ -1,3 +1,4 @@
+-- One way through `put`: rewriting by the contracts of `advertised`, `put_report` gives the definition.
 use borrow.Author.Needs.{needs}
 use Rattle.table.proofs.run.put.Statement.{statement}
 use Rattle.table.proofs.run.put.Tie as tie

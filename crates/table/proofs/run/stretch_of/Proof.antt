@@ -1,3 +1,4 @@
+-- Two ways through `stretch_of`: in each, the branches taken decide the tests of the definition, with the contract of `word_of`.
 use mathlib.Core.Path.{refl}
 use borrow.Author.Needs.{needs}
 use borrow.Author.Tests.{lt-ltb, le-ltb}

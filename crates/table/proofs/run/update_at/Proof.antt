@@ -1,3 +1,4 @@
+-- Two ways through `update_at`: in each, the branches taken decide the tests of the definition, with the contracts of `report_at`, `plus_report`.
 use mathlib.Core.Path.{_≡_}
 use mathlib.Core.Bool.{true, false}
 use borrow.Author.Tests.{not-true, not-false}

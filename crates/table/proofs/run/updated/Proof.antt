@@ -1,3 +1,4 @@
+-- One way through `updated`: rewriting by the contracts of `update_at`, `update_entry` gives the definition.
 use borrow.Author.Needs.{needs}
 use Rattle.table.proofs.run.updated.Statement.{statement}
 use Rattle.table.proofs.run.updated.Tie as tie

@@ -1,3 +1,4 @@
+-- Three ways through `read_rows`: in each, the branches taken decide the tests of the definition, with the contracts of `find`, `read_row`, `put_row`. Bounds follow by linear arithmetic.
 use borrow.Author.Needs.{needs}
 -- The lines read are rows, counted, and in their places while all fit.
 use mathlib.Core.Path.{_≡_, refl}

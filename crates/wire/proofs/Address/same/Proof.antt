@@ -1,3 +1,4 @@
+-- Four ways through `same`: in each, the branches taken decide the tests of the definition.
 use borrow.Author.Tests.{eq-eqb, ne-eqb}
 use Rattle.wire.proofs.Address.same.Statement.{statement}
 use Rattle.wire.proofs.Address.same.Tie as tie

@@ -1,3 +1,4 @@
+-- One way through `checksum`: rewriting by the contract of `good` gives the definition.
 use Rattle.wire.specs.Hello.{helloChecksum}
 use borrow.Author.Needs.{needs}
 use Rattle.wire.proofs.hello.checksum.Statement.{statement}

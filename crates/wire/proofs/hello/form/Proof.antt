@@ -1,3 +1,4 @@
+-- Two ways through `form`: in each, the branches taken decide the tests of the definition, with the contract of `length`.
 use Rattle.wire.specs.Hello.{helloForm}
 use borrow.Author.Tests.{lt-leb, le-leb}
 use borrow.Author.Needs.{needs}

@@ -1,3 +1,4 @@
+-- One way through `put_fixed`: rewriting by the contracts of `put_words`, `unsigned`, `put_four`, `bits` gives the definition. Bounds follow by linear arithmetic.
 use mathlib.Core.Path.{refl}
 use native.Mathlib.Omega.{arith}
 use Rattle.wire.proofs.Stores.{fixed-put}

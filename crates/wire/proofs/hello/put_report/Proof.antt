@@ -1,3 +1,4 @@
+-- One way through `put_report`: rewriting by the contracts of `bits`, `put_words` gives the definition.
 use Rattle.wire.proofs.Stores.{hello-report-put}
 use borrow.Author.Needs.{needs}
 use Rattle.wire.proofs.hello.put_report.Statement.{statement}

@@ -1,3 +1,4 @@
+-- One way through `report`: rewriting by the contracts of `two_at`, `of_unsigned`, `of_bits` gives the definition. Bounds follow by linear arithmetic.
 use mathlib.Core.Path.{_≡_}
 use Prim.Native.Nat.{ℕ, _<_, _^_}
 use native.Mathlib.Omega.{arith}

@@ -1,3 +1,4 @@
+-- One way through `checksum`: rewriting by the contract of `good` gives the definition.
 use Rattle.wire.specs.Ip.{ipChecksum}
 use lib.Seq.{length-take-le}
 use mathlib.Core.Path.{sym}

@@ -1,3 +1,4 @@
+-- Four ways through `form`: in each, the branches taken decide the tests of the definition, with the contract of `two_at`.
 use mathlib.Core.Path.{sym, _∙_}
 use Rattle.wire.specs.Ip.{ipForm}
 use borrow.Author.Tests.{lt-leb, le-leb, eq-eqb, ne-eqb}

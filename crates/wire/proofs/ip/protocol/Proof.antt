@@ -1,3 +1,4 @@
+-- One way through `protocol`: its result is the definition by computing.
 use Rattle.wire.specs.Ip.{protocol}
 use borrow.Author.Needs.{needs}
 use Rattle.wire.proofs.ip.protocol.Statement.{statement}

@@ -1,3 +1,4 @@
+-- One way through `put_fields`: rewriting by the contracts of `put_words`, `put_address` gives the definition. Bounds follow by linear arithmetic.
 use native.Mathlib.Omega.{arith}
 use Rattle.wire.proofs.Stores.{fields-put}
 use borrow.Author.Needs.{needs}

@@ -1,3 +1,4 @@
+-- One way through `seal`: rewriting by the contracts of `complement`, `put_two` gives the definition. Bounds follow by linear arithmetic.
 use mathlib.Core.Path.{sym, _∙_}
 use native.Mathlib.Omega.{arith}
 use lib.Seq.{length-take-le}
