@@ -5,7 +5,7 @@
  * In the first round they hear of each other; what Ada gets in the second is believed. Her OFFSET
  * for Ben is then 449: off by half of the way there and back.
  *
- * The file is written here, record by record; docs/BENCH.md has what stands in each octet. A
+ * The file is written here, record by record; docs/BENCH.md has what is in each octet. A
  * program that is given a file, as tools/bench and ./run --save write them, reads it into an array
  * as it is.
  */
@@ -34,7 +34,7 @@ typedef struct file {
     size_t length;
 } file;
 
-/* Writes a number of so many octets, the high one first. */
+/* Writes a number of that many octets, the high one first. */
 static void put(file *f, uint64_t number, int octets)
 {
     for (int i = octets - 1; i >= 0; i--)

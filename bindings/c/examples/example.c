@@ -40,7 +40,7 @@ static void set_up(hello_host *h, size_t number, int64_t time)
     assert(answer == HELLO_DONE);
 }
 
-/* The clock's whole milliseconds. */
+/* The clock's integer milliseconds. */
 static int64_t reading(hello_host *h)
 {
     hello_time time = hello_host_read(h);

@@ -42,7 +42,7 @@ static uint8_t second(hello_host *h) { return hello_host_second(h); }
 static void self_report(hello_host *h) { assert(hello_host_self_report(h) == HELLO_DONE); }
 
 /* One host sends, and the other takes the message at once; what the action answers. */
-static uint8_t tells(hello_host *from, hello_host *to)
+static uint8_t exchange(hello_host *from, hello_host *to)
 {
     uint8_t message[HELLO_LONGEST_MESSAGE];
     hello_sent sent = hello_host_send(from, LINK, message, sizeof message);
@@ -90,9 +90,9 @@ int main(void)
         assert(entry_of(&a, id)->delay == (entry_of(&a, id)->here ? 0 : 30000));
 
     /* Both hear the other, then each other's times, then A's table. */
-    assert(tells(&a, &b) == HELLO_DONE);
-    assert(tells(&b, &a) == HELLO_DONE);
-    assert(tells(&a, &b) == HELLO_DONE);
+    assert(exchange(&a, &b) == HELLO_DONE);
+    assert(exchange(&b, &a) == HELLO_DONE);
+    assert(exchange(&a, &b) == HELLO_DONE);
     for (size_t id = 0; id < NHOSTS; id++) {
         hello_entry e = *entry_of(&b, id);
         assert(e.here == (id == B));

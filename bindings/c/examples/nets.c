@@ -2,7 +2,7 @@
  * The net table of a class, which the tutor changes and both hosts use.
  *
  * A, host 0, leads to net 10; then B, host 1, does, also in the middle of a walk. Then the class gets
- * another NHOSTS, and a host must be set afresh by it.
+ * another NHOSTS, and a host must be initialized by it.
  */
 #undef NDEBUG
 #include <assert.h>

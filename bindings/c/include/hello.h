@@ -397,7 +397,7 @@ typedef struct hello_route {
 /* What a reading returns. */
 typedef struct hello_time {
     uint8_t answer;
-    int64_t time;  /* the whole milliseconds of CLOCK plus the count; 0 when refused */
+    int64_t time;  /* the integer milliseconds of CLOCK plus the count; 0 when refused */
     uint16_t date; /* the DATE word; 0 when refused */
 } hello_time;
 
@@ -455,7 +455,7 @@ uint8_t hello_set(const hello_settings *settings, const hello_class_table *table
                   size_t entries_length, int32_t ms, uint16_t count);
 
 /*
- * Reads the whole milliseconds of CLOCK plus the count, and DATE. With the mark, CLOCK-TICK is added
+ * Reads the integer milliseconds of CLOCK plus the count, and DATE. With the mark, CLOCK-TICK is added
  * to CLOCK first, and stays. Midnight is tested on the sum as after a tick, so that a reading may
  * move DATE and load HOLD. Returns 0, 1, 12, 16.
  */

@@ -25,7 +25,7 @@ def address(number):
 
 
 def fresh(room, number, time):
-    """Host `number`, set afresh, with its clock at `time` ms."""
+    """Host `number`, initialized, with its clock at `time` ms."""
     host = room.host(number, hello.Settings(address(number), address_offset=1, nhosts=2, time=time))
     expect(host.initialize(), Answer.DONE)
     return host

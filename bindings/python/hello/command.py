@@ -347,8 +347,8 @@ def parser() -> argparse.ArgumentParser:
     for one in (given, changed):
         one.add_argument("--format", choices=("pcap", "pcapng"), default="pcap", help="of the file that is written (pcap)")
         one.add_argument("--link", choices=("raw", "ethernet"), default="raw", help="link type of the file that is written (raw)")
-    commands.add_parser("room", add_help=False, help="runs a room of hosts, as ./run does; hello891 room --help tells more")
-    commands.add_parser("class", add_help=False, help="serves a class in browsers, as ./class does; hello891 class --help tells more")
+    commands.add_parser("room", add_help=False, help="runs a room of hosts, as ./run does; see hello891 room --help")
+    commands.add_parser("class", add_help=False, help="serves a class in browsers, as ./class does; see hello891 class --help")
     return made
 
 

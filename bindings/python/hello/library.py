@@ -186,7 +186,7 @@ def read(
     settings: Settings, table: ClassTable, number: SupportsIndex, clock: Clock, links: Links, walk: Walk, entries: HostTable,
     counter: Counter = LINE_CLOCK,
 ) -> tuple[int, int, int]:
-    """The whole milliseconds of CLOCK plus the count, and the DATE word: answer, time, date.
+    """The integer milliseconds of CLOCK plus the count, and the DATE word: answer, time, date.
 
     What a mark adds to the clock stays, and midnight is tested on the sum; so at every reading.
     """

@@ -99,7 +99,7 @@ class Host:
         return Answer(library.set(*self._borrowed(), ms, count))
 
     def read(self, counter: Counter = LINE_CLOCK) -> Time:
-        """The whole milliseconds of CLOCK plus the count, and the DATE word, as a Time."""
+        """The integer milliseconds of CLOCK plus the count, and the DATE word, as a Time."""
         answer, time, date = library.read(*self._borrowed(), counter)
         return Time(Answer(answer), time, date)
 

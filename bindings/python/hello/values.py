@@ -169,7 +169,7 @@ class Inspected(NamedTuple):
 
 
 class Place(NamedTuple):
-    """A place in a walk: a step of the arrival, 1 to 5; in step 5, behind its own box, the line of
+    """A place in a walk: a step of the arrival, 1 to 5; in step 5, after its own box, the line of
     a host's update, "a" to "d", and the host's id. Its str is "step 4" or "host 3, line b"."""
 
     step: int

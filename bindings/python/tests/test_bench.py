@@ -32,7 +32,7 @@ def bench_of(octets, nhosts):
     return bench
 
 
-def held(bench):
+def state_of(bench):
     """All that a bench holds."""
     hosts = [bench.host(number) for number in range(hello.HOSTS)]
     clocks = [(h.clock.clock, h.clock.delta, h.clock.hold, h.clock.date) for h in hosts]
@@ -55,7 +55,7 @@ class Exercises(unittest.TestCase):
     """Files that are run to the end that they promise."""
 
     def pieces(self, bench, cuts):
-        """Runs a bench in pieces that end there, and looks at it behind each."""
+        """Runs a bench in pieces that end there, and looks at it after each."""
         for cut in cuts:
             before = bench.done
             self.assertEqual(bench.run(cut - before), (Answer.DONE, cut - before))
@@ -79,10 +79,10 @@ class Exercises(unittest.TestCase):
         for path in (SMALL, *EXERCISES):
             file, octets, _ = read(path)
             nhosts, events = file.seats[0].nhosts, len(file.events)
-            whole = bench_of(octets, nhosts)
-            self.assertEqual(whole.run(), (Answer.DONE, events))
-            self.assertEqual(whole.run(), (Answer.DONE, 0))
-            end = held(whole)
+            one = bench_of(octets, nhosts)
+            self.assertEqual(one.run(), (Answer.DONE, events))
+            self.assertEqual(one.run(), (Answer.DONE, 0))
+            end = state_of(one)
             for most in (1, 100, 1_000):
                 cut = bench_of(octets, nhosts)
                 count = 0
@@ -91,12 +91,12 @@ class Exercises(unittest.TestCase):
                     self.assertEqual(ran.answer, Answer.DONE)
                     count += ran.count
                     self.assertEqual(cut.done, count)
-                self.assertEqual(held(cut), end, path.name)
-            # Set up again, a bench that has run is as a fresh one, but behind the file's own part.
-            self.assertEqual(whole.set_up(), Answer.DONE)
-            self.assertEqual((whole.done, whole.answers), (0, ()))
-            self.assertEqual(whole.run(), (Answer.DONE, events))
-            self.assertEqual(held(whole), end, path.name)
+                self.assertEqual(state_of(cut), end, path.name)
+            # Set up again, a bench that has run is as a fresh one, except after the file's own part.
+            self.assertEqual(one.set_up(), Answer.DONE)
+            self.assertEqual((one.done, one.answers), (0, ()))
+            self.assertEqual(one.run(), (Answer.DONE, events))
+            self.assertEqual(state_of(one), end, path.name)
 
     def test_named_answers(self):
         """Each event gets the answer that its exercise names: 0 if it names none."""
@@ -141,8 +141,8 @@ PAIR = "seat 192.0.2.1\nseat 192.0.2.2\ncable 0.1 1.1\n"
 KINDS = "tick 0\nadjust 1\nset 0 -500\nsecond 1\nself-report 0\nsend cable 0 end 0 tray 7\narrival tray 7\n"
 
 
-class Lent:
-    """What the plain calls are lent, with as much as a file of two hosts and seven events needs."""
+class Borrowed:
+    """What the plain calls borrow, with as much as a file of two hosts and seven events needs."""
 
     def __init__(self, **lengths):
         length = {
@@ -171,11 +171,11 @@ class Refusals(unittest.TestCase):
 
     def both(self, bench, answer):
         """Set-up and run both answer so, and change nothing."""
-        before = held(bench)
+        before = state_of(bench)
         for allowance in (0, 1, hello.EVENTS):
             self.assertEqual(bench.run(allowance), (answer, 0))
         self.assertEqual(bench.set_up(), answer)
-        self.assertEqual(held(bench), before)
+        self.assertEqual(state_of(bench), before)
 
     def spoiled(self, *changes):
         octets = bytearray(self.octets)
@@ -220,38 +220,38 @@ class Refusals(unittest.TestCase):
             self.both(bench, answer)
 
     def test_short(self):
-        """Each thing that is lent one too short is 12; as long as it needs, none is."""
+        """Each thing that is borrowed and one too short is 12; as long as it needs, none is."""
         for short in ("hosts", "copies", "run", "slots", "answers"):
             length = {"hosts": 2, "answers": 7, "run": 2 * hello.PLACES}.get(short)
-            length = length or len(getattr(Lent(), short))
-            lent = Lent(**{short: length - 1})
-            self.assertEqual(library.bench_set_up(self.octets, hello.ClassTable(2), *lent.all()), 12, short)
-            ran = library.bench_run(self.octets, hello.ClassTable(2), *lent.all(), 1)
+            length = length or len(getattr(Borrowed(), short))
+            borrowed = Borrowed(**{short: length - 1})
+            self.assertEqual(library.bench_set_up(self.octets, hello.ClassTable(2), *borrowed.all()), 12, short)
+            ran = library.bench_run(self.octets, hello.ClassTable(2), *borrowed.all(), 1)
             self.assertEqual(ran, (12, 0), short)
-        lent = Lent()
-        self.assertEqual(library.bench_set_up(self.octets, hello.ClassTable(2), *lent.all()), 0)
-        self.assertEqual(library.bench_run(self.octets, hello.ClassTable(2), *lent.all(), 9), (0, 7))
+        borrowed = Borrowed()
+        self.assertEqual(library.bench_set_up(self.octets, hello.ClassTable(2), *borrowed.all()), 0)
+        self.assertEqual(library.bench_run(self.octets, hello.ClassTable(2), *borrowed.all(), 9), (0, 7))
 
     def test_slots_and_progress(self):
-        lent = Lent()
+        borrowed = Borrowed()
         table = hello.ClassTable(2)
-        self.assertEqual(library.bench_set_up(self.octets, table, *lent.all()), 0)
-        self.assertEqual(library.bench_run(self.octets, table, *lent.all(), 6), (0, 6))
+        self.assertEqual(library.bench_set_up(self.octets, table, *borrowed.all()), 0)
+        self.assertEqual(library.bench_run(self.octets, table, *borrowed.all(), 6), (0, 6))
         label = slice(7 * hello.SLOT_LENGTH, 7 * hello.SLOT_LENGTH + 4)
-        good = bytes(lent.slots[label])
+        good = bytes(borrowed.slots[label])
         self.assertEqual(good, bytes((0, 32, 0, 0)))
         for bad in (bytes((0, 32, 1, 0)), bytes((0, 32, 0, 2)), bytes((4, 29, 0, 0))):
-            lent.slots[label] = bad
-            before = bytes(lent.slots)
-            self.assertEqual(library.bench_run(self.octets, table, *lent.all(), 1), (12, 0))
-            self.assertEqual((bytes(lent.slots), lent.progress.done), (before, 6))
+            borrowed.slots[label] = bad
+            before = bytes(borrowed.slots)
+            self.assertEqual(library.bench_run(self.octets, table, *borrowed.all(), 1), (12, 0))
+            self.assertEqual((bytes(borrowed.slots), borrowed.progress.done), (before, 6))
         # Of a slot that was never filled nothing more is looked at.
-        lent.slots[label] = bytes((0, 0, 99, 99))
-        self.assertEqual(library.bench_run(self.octets, table, *lent.all(), 0), (0, 0))
-        lent.slots[label] = good
+        borrowed.slots[label] = bytes((0, 0, 99, 99))
+        self.assertEqual(library.bench_run(self.octets, table, *borrowed.all(), 0), (0, 0))
+        borrowed.slots[label] = good
         for done, ran in ((8, (12, 0)), (7, (0, 0)), (6, (0, 1))):
-            lent.progress.done = done
-            self.assertEqual(library.bench_run(self.octets, table, *lent.all(), 5), ran)
+            borrowed.progress.done = done
+            self.assertEqual(library.bench_run(self.octets, table, *borrowed.all(), 5), ran)
 
     def test_an_event_of_its_own(self):
         """A host that is put out of range refuses its own events, which count."""
@@ -279,9 +279,9 @@ class Refusals(unittest.TestCase):
         bench.net_table = None
         with self.assertRaises(TypeError):
             bench.set_up()
-        lent = Lent()
-        for place, value in ((0, lent.run), (1, b"copies"), (2, lent.hosts), (5, 0)):
-            wrong = list(lent.all())
+        borrowed = Borrowed()
+        for place, value in ((0, borrowed.run), (1, b"copies"), (2, borrowed.hosts), (5, 0)):
+            wrong = list(borrowed.all())
             wrong[place] = value
             with self.assertRaises(TypeError, msg=place):
                 library.bench_set_up(self.octets, hello.ClassTable(2), *wrong)

@@ -16,8 +16,8 @@ def folded(octets):
 
 def packet(hosts=b"", time=0):
     """A good packet: its hosts are given as octets, four for each."""
-    behind = b"\x30\x2b" + time.to_bytes(4, "big") + bytes(2) + bytes((1, len(hosts) // 4)) + hosts
-    body = (0xFFFF - folded(behind)).to_bytes(2, "big") + behind
+    rest = b"\x30\x2b" + time.to_bytes(4, "big") + bytes(2) + bytes((1, len(hosts) // 4)) + hosts
+    body = (0xFFFF - folded(rest)).to_bytes(2, "big") + rest
     front = b"\x45\0" + (20 + len(body)).to_bytes(2, "big") + bytes(4) + b"\xff\x3f"
     back = bytes((192, 0, 2, 1, 192, 0, 2, 2))
     return front + (0xFFFF - folded(front + back)).to_bytes(2, "big") + back + body

@@ -1,4 +1,4 @@
-"""Tests of the package's own checks: nothing is cut off, nothing unfit is lent."""
+"""Tests of the package's own checks: nothing is cut off, nothing unfit is passed."""
 
 import unittest
 
@@ -40,10 +40,10 @@ class Fields(unittest.TestCase):
                     settings(**{field: value})
 
     def test_counts(self):
-        for lent, field in ((settings(), "link_count"), (hello.ClassTable(4), "count")):
+        for borrowed, field in ((settings(), "link_count"), (hello.ClassTable(4), "count")):
             for value in (-1, 1 << 64):
                 with self.assertRaises(OverflowError, msg=field):
-                    setattr(lent, field, value)
+                    setattr(borrowed, field, value)
         for hosts in (-1, 17):
             with self.assertRaises(OverflowError):
                 hello.Room(hosts, 4)
@@ -224,10 +224,10 @@ class Answers(unittest.TestCase):
     def test_plain_calls(self):
         host = fresh()
         table = hello.ClassTable(4)
-        lent = (host.settings, table, 0, host.clock, host.links, host.walk, host.room.entries)
-        self.assertEqual(library.tick(*lent), 0)
-        self.assertEqual(library.read(*lent), (0, 1, host.clock.date))
-        self.assertEqual(library.tick(*lent[:6], hello.HostTable(0)), 12)
+        borrowed = (host.settings, table, 0, host.clock, host.links, host.walk, host.room.entries)
+        self.assertEqual(library.tick(*borrowed), 0)
+        self.assertEqual(library.read(*borrowed), (0, 1, host.clock.date))
+        self.assertEqual(library.tick(*borrowed[:6], hello.HostTable(0)), 12)
         self.assertEqual(library.net_add(table, (10, 0, 0), 1), (0, 1))
         self.assertEqual(library.net_change(table, 1, 4), 1)
         self.assertEqual(library.net_remove(table, 2), 22)
@@ -249,7 +249,7 @@ class NetTables(unittest.TestCase):
         self.assertEqual(table.rows, rows)
         self.assertIs(table.change(2, 2), Answer.DONE)
         self.assertEqual(table.rows[1], hello.Row(self.B, 2))
-        # Those behind a removed row move up.
+        # Those after a removed row move up.
         self.assertIs(table.remove(1), Answer.DONE)
         self.assertEqual(table.rows, (hello.Row(self.B, 2), rows[2]))
         self.assertEqual(table.slots[2:], 30 * (hello.Row(),))
@@ -482,8 +482,8 @@ class Marks(unittest.TestCase):
         host.room.entries[3] = self.FRESH._replace(ttl=9, here=1)
         self.assertIs(host.self_report(hello.Counter(2)), Answer.DONE)
         reported = hello.Entry(ttl=120, here=1, time=7)
-        held = self.FRESH._replace(ttl=9, here=1)
-        self.assertEqual(host.table, [reported, self.FRESH, reported, held])
+        stays = self.FRESH._replace(ttl=9, here=1)
+        self.assertEqual(host.table, [reported, self.FRESH, reported, stays])
 
     def test_stay(self):
         neighbor = fresh(address=(192, 0, 2, 2), marks={1, 3})

@@ -77,7 +77,7 @@ class Ntp(unittest.TestCase):
                     self.assertEqual((outcome.offset, outcome.delay, association.saved), (0, 0, 0))
 
     def test_exchange(self):
-        # The server is 5 s ahead; the ways take 2 s and 1 s, and it held the packet for 4 s.
+        # The server is 5 s ahead; the ways take 2 s and 1 s, and it kept the packet for 4 s.
         association = Association(3, TIME, 9)
         header = HEADER._replace(
             origin=TIME, receive=TIME + 7 * SECOND, transmit=TIME + 11 * SECOND
@@ -106,7 +106,7 @@ class Ntp(unittest.TestCase):
         ntp.receive(Association(3, TIME, 7), octets, (TIME + (1 << 63) - 1) % (1 << 64))
 
     def test_ends(self):
-        # T2 - T1 and T3 - T4 are both -2^63: their sum is halved whole.
+        # T2 - T1 and T3 - T4 are both -2^63: their full sum is halved.
         half = 1 << 63
         association = Association(3, 1, 0)
         header = HEADER._replace(origin=1, receive=1 + half, transmit=2 + half)

@@ -30,7 +30,7 @@ pub struct Host<'a> {
 /// What a reading returns.
 #[derive(Clone, Copy, Debug, PartialEq, Eq)]
 pub struct Reading {
-    /// The whole milliseconds of CLOCK plus the count.
+    /// The integer milliseconds of CLOCK plus the count.
     pub time: i64,
     /// The DATE word.
     pub date: u16,
@@ -115,7 +115,7 @@ impl Host<'_> {
         given(self.state().set(ms, count)).ok()
     }
 
-    /// The whole milliseconds of CLOCK plus the count, and the DATE word.
+    /// The integer milliseconds of CLOCK plus the count, and the DATE word.
     pub fn read(&mut self, counter: Counter) -> Result<Reading, Answer> {
         let read = self.state().read(counter);
         given(read.answer).ok()?;

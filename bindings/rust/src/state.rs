@@ -118,7 +118,7 @@ impl State<'_> {
         }
     }
 
-    /// The whole milliseconds of CLOCK plus the count, and the DATE word. What a mark adds to the clock
+    /// The integer milliseconds of CLOCK plus the count, and the DATE word. What a mark adds to the clock
     /// stays, and midnight is tested on the sum; so at every reading.
     pub fn read(&mut self, counter: Counter) -> Time {
         // SAFETY: references and slices are valid and aligned, and do not overlap since the state

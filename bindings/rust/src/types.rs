@@ -482,7 +482,7 @@ pub struct Route {
 pub struct Time {
     /// The answer number.
     pub answer: u8,
-    /// The whole milliseconds of CLOCK plus the count; 0 when refused.
+    /// The integer milliseconds of CLOCK plus the count; 0 when refused.
     pub time: i64,
     /// The DATE word; 0 when refused.
     pub date: u16,

@@ -156,18 +156,18 @@ fn slots() {
 #[test]
 fn cut_in_two_it_ends_as_one() {
     let file = exercise();
-    let mut whole = bench_of(&file);
-    assert_eq!(whole.run(usize::MAX), Ok(file.events.len()));
+    let mut complete = bench_of(&file);
+    assert_eq!(complete.run(usize::MAX), Ok(file.events.len()));
     for cut in 0..=file.events.len() {
         let mut bench = bench_of(&file);
         assert_eq!(bench.run(cut), Ok(cut));
         assert_eq!(bench.done(), cut);
-        assert_eq!(bench.answers(), whole.answers()[..cut]);
+        assert_eq!(bench.answers(), complete.answers()[..cut]);
         assert_eq!(bench.run(MOST_EVENTS), Ok(file.events.len() - cut));
-        assert_same(&bench, &whole);
+        assert_same(&bench, &complete);
     }
     // At the end no event is left.
-    assert_eq!(whole.run(1), Ok(0));
+    assert_eq!(complete.run(1), Ok(0));
 }
 
 #[test]
@@ -186,8 +186,8 @@ fn set_up_again() {
 #[test]
 fn another_file_goes_on() {
     let file = exercise();
-    let mut whole = bench_of(&file);
-    assert_eq!(whole.run(usize::MAX), Ok(file.events.len()));
+    let mut complete = bench_of(&file);
+    assert_eq!(complete.run(usize::MAX), Ok(file.events.len()));
     let (first, second) = file.events.split_at(10);
     let part = |events: &[Event]| File {
         events: events.to_vec(),
@@ -198,9 +198,9 @@ fn another_file_goes_on() {
     bench.go_on_with(part(second).octets().unwrap());
     assert_eq!((bench.done(), bench.answers()), (0, vec![]));
     assert_eq!(bench.run(usize::MAX), Ok(second.len()));
-    assert_eq!(bench.answers(), whole.answers()[10..]);
-    assert_eq!(bench.hosts(), whole.hosts());
-    assert_eq!(bench.entries(), whole.entries());
+    assert_eq!(bench.answers(), complete.answers()[10..]);
+    assert_eq!(bench.hosts(), complete.hosts());
+    assert_eq!(bench.entries(), complete.entries());
     // A file without the cable of a packet on its way is refused.
     let mut without = part(second);
     without.cables.pop();

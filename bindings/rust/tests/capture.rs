@@ -21,9 +21,9 @@ fn mended(input: &[u8], room: usize, list_room: usize) -> (Mended, Vec<u8>, Vec<
 #[test]
 fn a_whole_capture_mends_to_itself() {
     let capture = [&[0, 0, 0, 1, 0, 0, 0, 8][..], &PACKET].concat();
-    let (told, output, stretches) = mended(&capture, 41, 9);
+    let (returned, output, stretches) = mended(&capture, 41, 9);
     assert_eq!(
-        told,
+        returned,
         Mended {
             answer: DONE,
             capture_length: 40,
@@ -37,12 +37,16 @@ fn a_whole_capture_mends_to_itself() {
 
 #[test]
 fn nothing_is_found_in_nothing() {
-    let (told, output, _) = mended(&[], 4, 0);
+    let (returned, output, _) = mended(&[], 4, 0);
     assert_eq!(
-        (told.answer, told.capture_length, told.stretches_length),
+        (
+            returned.answer,
+            returned.capture_length,
+            returned.stretches_length
+        ),
         (DONE, 4, 0)
     );
-    assert!(!told.places_true);
+    assert!(!returned.places_true);
     assert_eq!(output, [0; 4]);
 }
 
@@ -65,6 +69,9 @@ fn refusals_leave_both_outputs() {
 #[test]
 fn the_outputs_have_the_room_that_they_can_need() {
     let input = PACKET.repeat(LONGEST / PACKET.len());
-    let (told, ..) = mended(&input, LONGEST_CAPTURE, LONGEST_STRETCHES);
-    assert_eq!((told.answer, told.capture_length), (DONE, LONGEST_CAPTURE));
+    let (returned, ..) = mended(&input, LONGEST_CAPTURE, LONGEST_STRETCHES);
+    assert_eq!(
+        (returned.answer, returned.capture_length),
+        (DONE, LONGEST_CAPTURE)
+    );
 }

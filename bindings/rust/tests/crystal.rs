@@ -85,17 +85,17 @@ fn without_a_mark_the_second_count_is_not_looked_at() {
             again: 9,
             ..Counter::of(5)
         };
-        assert_eq!(host.read(counter).map(|told| told.time), Ok(1_005));
+        assert_eq!(host.read(counter).map(|returned| returned.time), Ok(1_005));
     })
 }
 
 #[test]
 fn a_reading_over_midnight_moves_the_date_and_loads_hold() {
     with_crystal(DAY - 10, |mut host| {
-        let told = |time, date| Ok(Reading { time, date });
-        assert_eq!(host.read(Counter::of(10)), told(DAY, january(2)));
+        let returned = |time, date| Ok(Reading { time, date });
+        assert_eq!(host.read(Counter::of(10)), returned(DAY, january(2)));
         assert_eq!(host.clock.hold, 0);
-        assert_eq!(host.read(Counter::of(11)), told(1, january(3)));
+        assert_eq!(host.read(Counter::of(11)), returned(1, january(3)));
         assert_eq!((clock_ms(&host), host.clock.hold), (-10, HOLD_INTERVAL));
         // The next tick comes at the overflow.
         assert_eq!(host.tick(0), Ok(()));
@@ -107,9 +107,12 @@ fn a_reading_over_midnight_moves_the_date_and_loads_hold() {
 fn a_reading_below_zero_moves_the_date_back() {
     with_crystal(0, |mut host| {
         host.clock.clock = -65_535 * UNITS_PER_MS;
-        let told = |time, date| Ok(Reading { time, date });
-        assert_eq!(host.read(Counter::of(u16::MAX)), told(0, january(2)));
-        assert_eq!(host.read(Counter::of(5)), told(DAY - 65_530, january(1)));
+        let returned = |time, date| Ok(Reading { time, date });
+        assert_eq!(host.read(Counter::of(u16::MAX)), returned(0, january(2)));
+        assert_eq!(
+            host.read(Counter::of(5)),
+            returned(DAY - 65_530, january(1))
+        );
         assert_eq!(host.clock.hold, HOLD_INTERVAL);
     })
 }

@@ -19,7 +19,7 @@ fn settings() -> Settings {
     Settings::new(Address::new(192, 0, 2, 1), layout)
 }
 
-/// A room of so many hosts, of which the last is set afresh.
+/// A room of hosts, of which the last is initialized.
 fn room(hosts: usize) -> Room {
     let mut room = Room::new(hosts, 4);
     let answer = room.host(hosts - 1).initialize(settings());

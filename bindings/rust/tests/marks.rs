@@ -171,13 +171,13 @@ fn a_self_report_covers_every_marked_id() {
         time: 40_017,
         ..fresh(1)
     };
-    let held = Entry {
+    let waiting = Entry {
         ttl: 60,
         ..fresh(1)
     };
     assert_eq!(
         host.table(),
-        [reported, fresh(0), held, near, fresh(0), reported]
+        [reported, fresh(0), waiting, near, fresh(0), reported]
     );
 }
 
@@ -196,7 +196,7 @@ fn one_reading_serves_all_marked_ids() {
     assert_eq!(host.clock.clock, (40_000 + 65_536) * hello::UNITS_PER_MS);
 }
 
-/// A message of the neighbor, at which the ids 1 and 4 live; it has heard the host, and tells that DELAY
+/// A message of the neighbor, at which the ids 1 and 4 live; it has heard the host, and reports that DELAY
 /// of host 3.
 fn message(delay: i64) -> Vec<u8> {
     let mut room = room(settings(1, &[4]));
@@ -253,8 +253,8 @@ fn marks_stay_through_a_walk() {
     let mut room = room(settings(0, &[2, 3]));
     let mut host = room.host(0);
     host.links.all[0].neighbor = address(1);
-    for (told, kept) in [(700, 1_000), (30_000, 30_000)] {
-        let mut next = host.open_walk(1, &message(told)).ok();
+    for (returned, kept) in [(700, 1_000), (30_000, 30_000)] {
+        let mut next = host.open_walk(1, &message(returned)).ok();
         while next.is_some() {
             next = host.step(LINE_CLOCK).expect("a step that is done");
             assert_eq!(marks(&host), [1, 0, 1, 1, 0, 0]);

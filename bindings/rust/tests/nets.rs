@@ -86,7 +86,7 @@ fn the_tutors_refusals_come_in_their_order() {
     assert_eq!(nets::add(&mut table, B, 9), refused);
     assert_eq!(table.remove(0), Err(Answer::OutOfRange));
     assert_eq!(table.change(0, 9), Err(Answer::OutOfRange));
-    // Setting afresh makes no test of the table; refused, it leaves even a bad one.
+    // Initializing makes no test of the table; refused, it keeps even a bad one.
     assert_eq!(table.initialize(0), Err(Answer::Setting));
     assert_eq!(table, bad);
     assert_eq!(table.initialize(PLACES), Ok(()));
@@ -105,7 +105,7 @@ fn bad_tables() -> Vec<ClassTable> {
         table.net.count = count;
         tables.push(table);
     }
-    // An id not below NHOSTS, in the first row, in the last, and behind a row of net zero.
+    // An id not below NHOSTS, in the first row, in the last, and after a row of net zero.
     for place in [0, 1, 31] {
         let mut table = ClassTable::new(4);
         table.net.count = 32;
@@ -142,7 +142,7 @@ fn every_call_of_a_host_refuses_a_bad_table() {
         assert_eq!(host.step(LINE_CLOCK), Err(Answer::OutOfRange));
         assert_eq!(host.lookup(address(0)), Err(Answer::OutOfRange));
     }
-    // What stands behind the rows is not looked at.
+    // What is after the rows is not looked at.
     room.net_table = good;
     room.net_table.net.rows[0] = row(A, 255);
     assert_eq!(room.host(0).tick(0), Ok(()));
@@ -182,7 +182,7 @@ fn all_hosts_use_the_one_table() {
     assert_eq!(looked(&mut room), [Err(Answer::HostDown), own(1)]);
     assert_eq!(room.net_table.remove(1), Ok(()));
     assert_eq!(looked(&mut room), [Err(Answer::NoHost); 2]);
-    // A row of net zero matches all; those behind it are never reached.
+    // A row of net zero matches all; those after it are never reached.
     assert_eq!(room.net_table.add(Net::default(), 0), Ok(1));
     assert_eq!(room.net_table.add(A, 1), Ok(2));
     assert_eq!(looked(&mut room), [own(0), Err(Answer::HostDown)]);
@@ -256,7 +256,7 @@ fn another_nhosts_in_mid_walk() {
     assert_eq!(room.net_table.initialize(4), Ok(()));
     let next = room.host(0).step(LINE_CLOCK);
     assert_eq!(next, Ok(Some(Place::Step(2))));
-    // Setting afresh with the new NHOSTS frees the host.
+    // Initializing with the new NHOSTS frees the host.
     assert_eq!(room.net_table.initialize(5), Ok(()));
     let mut host = room.host(0);
     let mut wider = *host.settings;

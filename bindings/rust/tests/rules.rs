@@ -1,5 +1,5 @@
-//! Rules that are seen at whole calls only: what a send tells of a route, how an entry ages, what a
-//! lookup tells, and how a packet is inspected and acted on.
+//! Rules that are seen at full calls only: what a send says of a route, how an entry ages, what a
+//! lookup returns, and how a packet is inspected and acted on.
 
 use hello::{
     Address, Answer, Counter, Entry, Found, Host, Layout, LinkSetting, Room, Seen, Settings,
@@ -142,11 +142,11 @@ fn calls_may_come_between_inspection_and_action() {
 #[test]
 fn an_arrival_is_the_pair_and_the_action_alone() {
     let (room, message) = room_and_message();
-    let [mut whole, mut pair, mut alone] = [room.clone(), room.clone(), room];
-    assert_eq!(whole.host(A).receive(1, LINE_CLOCK, &message), Ok(()));
+    let [mut complete, mut pair, mut alone] = [room.clone(), room.clone(), room];
+    assert_eq!(complete.host(A).receive(1, LINE_CLOCK, &message), Ok(()));
     assert!(pair.host(A).inspect(1, &message).is_ok());
     for acting in [&mut pair, &mut alone] {
         assert_eq!(acting.host(A).act(1, LINE_CLOCK, &message), Ok(()));
-        assert_eq!(kept(acting, A), kept(&mut whole, A));
+        assert_eq!(kept(acting, A), kept(&mut complete, A));
     }
 }
