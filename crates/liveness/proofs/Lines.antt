@@ -1,4 +1,4 @@
--- An update by the ways that lines (a) to (c) can go, with what is known on each.
+-- An update changes an entry in one of five ways, because lines (a) and (b) each make one test.
 use mathlib.Core.Path.{_≡_, refl}
 use mathlib.Core.Bool.{Bool, true, false, not, _&&_}
 use Prim.Native.Nat.{ℕ}

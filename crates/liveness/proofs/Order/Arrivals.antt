@@ -1,4 +1,4 @@
--- An arrival in rounds of any order, of the newest message on its cable: at a link that knows no neighbour yet nothing is believed, at the others the sender's report, with a DELAY of exactly 100 ms.
+-- An arrival keeps the invariant: a link without a neighbour believes nothing, and any other stores the sender's report plus exactly 100 ms, because two ways take at most 100 ms.
 use mathlib.Core.Path.{_≡_, refl, sym, ap, subst, _∙_}
 use mathlib.Core.Bool.{Bool, true, false, true≢false, false≢true, cond, not, _||_, _&&_}
 use mathlib.Core.List.{List}
@@ -77,7 +77,7 @@ use Rattle.liveness.proofs.Rounds.Tables.{updates-turn, updated-entry}
 
 -- ---- links
 
--- link j of a seat, cabled to seat a, with the seat's entry e
+-- link j of a host, cabled to host a, with the host's entry e
 pub record LinkOk (r : Room) (k : ℕ) (heard : Bool) (j a : ℕ) (e : Entry) (x : Link) : Type 0 where
   pub spoke : eqb (x .«keep_alive») 0 ≡ false → x .neighbor ≡ r .settings a .address
   pub known : (1 ≤ k) ⊎ (heard ≡ true) → x .neighbor ≡ r .settings a .address
@@ -87,7 +87,7 @@ abbrev pub LinksOk : (r : Room) (k : ℕ) (heard : ℕ → Bool) (b : ℕ) → E
 LinksOk r k heard b e l = (j a n : ℕ) → r .cable b j ≡ at a n → LinkOk r k (heard j) j a e (linkOf l j)
 
 module _ (r : Room) (proper : Proper r) (c i k : ℕ) (E : ℕ → Entry) (mail : List Message) (b : ℕ) (last-b : ℕ → ℕ) where
-  -- the entry of seat b that a call leaves
+  -- the entry of host b after a call
   pub record Sure (s : ℕ) (heard : ℕ → Bool) (l : Links) (f : Entry) : Type 0 where
     pub mine : Mine r c b k anyHops s heard f
     pub links : LinksOk r k heard b f l
@@ -240,13 +240,13 @@ module _ (r : Room) (proper : Proper r) (quick : r .longest ≤ quickWay) (c i k
   -- ---- the entry, at a link that knows its neighbour now
 
   module _ (z : Link) (known : z .neighbor ≡ r .settings a .address) where
-    -- left as it was, and the link not heard
+    -- unchanged, and the link not heard
     stayed : Good-now heard (withLink j z l) (E b)
     stayed =
         let o = lent .now in
         record { mine = o .mine; links = relinked heard (λ q _ w. w) z known (E b) (λ t _. (t, refl)); better = o .better; arrows = o .arrows }
 
-    -- left as it was, in the first round, by a link that no entry came by
+    -- unchanged, in the first round, by a link that no entry came by
     deaf : k ≡ 0 → (entry.up (E b) ≡ true → E b .pid ≡ j → ⊥) → Good-now on-now (withLink j z l) (E b)
     deaf first other =
         let o = lent .now in
@@ -489,7 +489,7 @@ module _ (r : Room) (proper : Proper r) (quick : r .longest ≤ quickWay) (c i k
           Stay : Stage Flight → Type 0
           Stay q = By (concluded nets (host (r .settings b) carried-on l) j (countUsed κ) p q)
 
-  -- ---- the whole call
+  -- ---- the call
 
   pub act-loose : (κ : Counter) → (T (timed (perform (act j κ (m .octets)) x .reply .answer)) → Came r b cl κ m)
       → Leaves-so r proper c i k E mail b next-b s (cond (done (perform (act j κ (m .octets)) x .reply .answer)) (hearing r c b j heard) heard) run (perform (act j κ (m .octets)) x .links) (perform (act j κ (m .octets)) x .run)

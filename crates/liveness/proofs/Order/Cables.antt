@@ -1,4 +1,4 @@
--- What the entries of one host are to each other across the cables, and to the newest messages on them: in rounds of any order.
+-- Entries at the two ends of a cable, and the messages on it, are ordered: a PID points to a smaller DELAY, because reports of one sender only fall.
 use mathlib.Core.Path.{_≡_, refl, sym, ap, subst, subst₂, _∙_}
 use mathlib.Core.Bool.{Bool, true, false, cond}
 use mathlib.Core.List.{List, [], _∷_}
@@ -34,7 +34,7 @@ told i o = up (reportAt (helloOf o) i .delay .0)
 abbrev pub Worded : (octets : List ℕ) → Type 0
 Worded o = zeroWord (fields o .tsp) ≡ false
 
--- such a message stands in the mail, of link l of seat a
+-- such a message is in the mail, of link l of host a
 pub record On (a l : ℕ) (mail : List Message) (m : Message) (n : ℕ) : Type 0 where
   pub stands : Stands m n mail
   pub seat : m .seat ≡ a
@@ -48,25 +48,25 @@ stands-below m n (y ∷ ms) (inl x) = omega (arith, x .1)
 stands-below m n (y ∷ ms) (inr x) = omega (arith, stands-below m n ms x)
 
 module _ (r : Room) (c i k : ℕ) where
-  -- what such a message of seat a, for seat b, is to the entry of seat a
+  -- what such a message of host a, for host b, is to the entry of host a
   pub record Word (b a : ℕ) (o : List ℕ) (d : Entry) : Type 0 where
     pub counted : eqb (fields o .nhosts) 0 ≡ false
     pub said : Said r c b k a (told i o)
     pub has : told i o < 30000 → (entry.up d ≡ true) × (up (d .delay .0) ≤ told i o)
 
-  -- the cable from link j of seat b to link l of seat a, with their entries e and d; the last message that came had number z
+  -- the cable from link j of host b to link l of host a, with their entries e and d; the last message that arrived had number z
   pub record Edge (b j a l : ℕ) (e d : Entry) (mail : List Message) (z : ℕ) : Type 0 where
     pub leads : entry.up e ≡ true → e .pid ≡ j → Below d e
     pub words : (m : Message) (n : ℕ) → On a l mail m n → Word b a (m .octets) d
     pub heads : entry.up e ≡ true → e .pid ≡ j → (m : Message) (n : ℕ) → On a l mail m n → z ≤ n → rise + told i (m .octets) ≤ up (e .delay .0)
-    -- a later message says no more, or seat b is nearer than the earlier says
+    -- a later message says no more, or host b is nearer than the earlier says
     pub order : (m : Message) (n : ℕ) (m′ : Message) (n′ : ℕ) → On a l mail m n → On a l mail m′ n′ → n ≤ n′
         → (told i (m′ .octets) ≤ told i (m .octets)) ⊎ ((entry.up e ≡ true) × (rise + up (e .delay .0) ≤ told i (m .octets)))
 
   abbrev pub Web : (E : ℕ → Entry) → List Message → (last : ℕ → ℕ → ℕ) → Type 0
   Web E mail last = (b j a l : ℕ) → r .cable b j ≡ at a l → Edge b j a l (E b) (E a) mail (last b j)
 
-  -- ---- one seat's entry moves
+  -- ---- one host's entry moves
 
   pub record Arrow (b j a l : ℕ) (f d : Entry) (mail : List Message) (z : ℕ) : Type 0 where
     pub leads : Below d f
@@ -146,7 +146,7 @@ module _ (r : Room) (c i k : ℕ) where
           }
       go (inr x) = absurd (omega (arith, x, at-j, from-1))
 
-  -- ---- a message is sent, from link l of seat a
+  -- ---- a message is sent, from link l of host a
 
   pub record Letter (E : ℕ → Entry) (mail : List Message) (m : Message) : Type 0 where
     pub word : (b j : ℕ) → r .cable b j ≡ at (m .seat) (m .link) → Worded (m .octets) → Word b (m .seat) (m .octets) (E (m .seat))
@@ -267,7 +267,7 @@ aged-better r c b k m s heard e early good = go (entry.up e) refl
         let long = good .lasts t in
         rw (ticking r c b e t (omega (arith, long))) (record { is-up = λ v. v; near = λ _. omega arith; turns = λ _. inl refl }, λ v. (v, refl, refl))
 
--- an entry that is shown at its own seat is its own
+-- an entry that is shown at its own host has PID 0
 pub home-better : (r : Room) (c b k m s : ℕ) (heard heard′ : ℕ → Bool) (e f : Entry) → Steady r c b k m s heard′ e → Steady r c b k m s heard f → Shown r c b 0 f → Better e f × (f .pid ≡ 0)
 home-better r c b k m s heard heard′ e f was good o = (
   record { is-up = λ _. o .is-up; near = λ _. omega (arith, o .near); turns = λ t. let x = was .sound t in from (x .hops) (x .via) (ap up (x .delay)) },
@@ -285,7 +285,7 @@ home-better r c b k m s heard heard′ e f was good o = (
     from h (own z) is = inl (own-pid ∙ sym z)
     from h (by z way) is = inr (omega (arith, is, o .near))
 
--- ---- what is in the mail after a call of seat b
+-- ---- what is in the mail after a call of host b
 
 pub data Posted (r : Room) (c i k : ℕ) (E : ℕ → Entry) (b : ℕ) (mail : List Message) : List Message → Type 0 where
   none : Posted r c i k E b mail mail

@@ -1,4 +1,4 @@
--- The calls of a round of any order that are neither send nor arrival.
+-- Every call that is neither send nor arrival keeps the invariant, because it changes no DELAY except by a self-report.
 use mathlib.Core.Path.{_≡_, refl, sym, ap, subst, _∙_}
 use mathlib.Core.Bool.{Bool, true, false, true≢false, cond, not}
 use mathlib.Core.List.{List}
@@ -61,7 +61,7 @@ module _ (r : Room) (proper : Proper r) (c i k : ℕ) (E : ℕ → Entry) (mail 
   abbrev x : Lent
   x = lentAt r b nets cl l walk copy run
 
-  -- it leaves the seat so, and no walk open
+  -- the host afterwards, with no walk open
   pub record Turned (t : ℕ) (on : ℕ → Bool) (o : Outcome) : Type 0 where
     pub closed : isOpen (o .walk) ≡ false
     pub left : Leaves-so r proper c i k E mail b (last b) t on run (o .links) (o .run)

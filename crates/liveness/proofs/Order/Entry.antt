@@ -1,4 +1,4 @@
--- The entry of a host in rounds of any order, through one update: what S's Steady says (with fewer than 300 cables), of a report that is not below what the sender has.
+-- One update keeps an entry up and its DELAY no longer, because a report on the entry's own link is at least 100 ms below its DELAY.
 use mathlib.Core.Path.{_≡_, refl, sym, ap, subst, _∙_}
 use mathlib.Core.Bool.{Bool, true, false, true≢false, false≢true, not, _&&_}
 use mathlib.Core.Logic.{_⊎_, inl, inr}
@@ -23,7 +23,7 @@ use Rattle.liveness.specs.Hops.{Hops, over, by}
 use Rattle.liveness.proofs.Lines.{stays, revives, lines-cases}
 use Rattle.liveness.proofs.Rounds.Entry.{Shown, Steady, hearing}
 
--- it is up if it was, and not longer; its PID is another one only where its DELAY fell by 100 at least
+-- it is up if it was, and not longer; its PID is another one only if its DELAY fell by at least 100
 pub record Better (e f : Entry) : Type 0 where
   pub is-up : entry.up e ≡ true → entry.up f ≡ true
   pub near : entry.up e ≡ true → up (f .delay .0) ≤ up (e .delay .0)
@@ -41,7 +41,7 @@ module _ (r : Room) (c b : ℕ) where
   pub better-shown : (e f : Entry) → Better e f → (n : ℕ) → Shown r c b n e → Shown r c b n f
   better-shown e f x n o = record { is-up = x .is-up (o .is-up); near = omega (arith, x .near (o .is-up), o .near) }
 
-  -- what a message of seat a says, of y ms
+  -- what a message of host a says, of y ms
   pub record Said (k a y : ℕ) : Type 0 where
     pub sound : y < 30000 → (g : ℕ) × (y ≡ rise * g) × Hops r c a g
     pub complete : (h : ℕ) → Hops r c a h → h < k → h ≤ farthest → (y ≤ rise * h) ⊎ ((g : ℕ) × (g < h) × Hops r c b g)
@@ -88,7 +88,7 @@ module _ (r : Room) (c b : ℕ) where
     shorter : stays u e ≡ false → entry.up e ≡ true → rise + y ≤ up (e .delay .0)
     shorter t v = elim (goes t) [ inl z ↦ near v z | inr z ↦ omega (arith, z) ]
 
-    -- ---- left as it was
+    -- ---- unchanged
 
     kept : (entry.up e ≡ true → e .pid ≡ j → ⊥) → Hears e → Told e
     kept other hears =

@@ -1,4 +1,4 @@
--- The rounds of specs/AnyOrderExample.antt, by computing.
+-- The two rounds of specs/OrderExample.antt meet every condition; each call is computed.
 use mathlib.Core.Path.{_≡_, refl, ap}
 use mathlib.Core.List.{List, [], _∷_, List·Memᴰ·head}
 use mathlib.Core.Logic.{inl, inr}

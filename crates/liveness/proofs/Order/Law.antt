@@ -1,4 +1,4 @@
--- Rounds of any order, one after another, and the claim.
+-- Each round in any order brings every table one cable further, because every cable was heard in it and no DELAY rises.
 use mathlib.Core.Path.{_≡_, refl, sym, ap, subst, _∙_}
 use mathlib.Core.Bool.{Bool, true, false, true≢false, false≢true}
 use mathlib.Core.List.{List, [], _∷_, List·Memᴰ·not-nil}
@@ -163,7 +163,7 @@ module _ (r : Room) (proper : Proper r) (ways : r .longest ≤ longestWay) (quic
       ran-lower a n way t =
           lower (λ b. s b + secondsAt r w b xs) (flagsAll r proper ways quick c i hc host few k w xs heard) (ran .last) (history r w xs) (ran .free) a b n way t .1
 
-    -- ---- the end of a round: every link was heard, and every seat reported
+    -- ---- the end of a round: every link was heard, and every host reported
 
     next-mine : (b s : ℕ) (heard : ℕ → Bool) (e : Entry) → s ≤ roundSeconds → ((j a n : ℕ) → r .cable b j ≡ at a n → heard j ≡ true) → heard 0 ≡ true → Mine r c b k anyHops s heard e → Mine r c b (suc k) 300 0 (λ q. false) e
     next-mine b s heard e short all own-too q =

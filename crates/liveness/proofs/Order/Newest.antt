@@ -1,4 +1,4 @@
--- The number of the newest message of a link never falls: so what is given the newest is in order.
+-- The number of a link's newest message never falls; so arrivals that take the newest are in order.
 use mathlib.Core.Path.{_≡_, refl, sym, ap, subst, subst₂, _∙_}
 use mathlib.Core.Bool.{Bool, true, false, true≢false, cond, _&&_}
 use mathlib.Core.List.{List, [], _∷_}
@@ -18,7 +18,7 @@ use Rattle.liveness.specs.Order.{Stands, Next, Fresh, came, lastAfter, A
 use Rattle.liveness.specs.Newest.{isFrom, newestFrom, Newest, GivenNewest, AllNewest, NewestInOrder}
 use Rattle.liveness.proofs.Order.Cables.{stands-below}
 
--- the newest of a link stands in the mail, and no other of the link has a higher number
+-- the newest of a link is in the mail, and no other of the link has a higher number
 record Top (a l : ℕ) (mail : List Message) (m : Message) : Type 0 where
   pub number : ℕ
   pub stands : Stands m number mail
@@ -49,7 +49,7 @@ top a l (x ∷ ms) m e = go (λ z. top a l ms m z) (isFrom a l x) refl
         old o q g (inr z) seat link = o .most q g z seat link
 
 module _ (r : Room) where
-  -- the last message that came stands in the mail
+  -- the last message that arrived is in the mail
   pub record Came (mail : List Message) (a l n : ℕ) : Type 0 where
     pub message : Message
     pub stands : Stands message n mail

@@ -1,4 +1,4 @@
--- What a send says in a round of any order, and what it makes of the links.
+-- A send reports what the invariant asks, because split horizon hides only an entry whose PID is this link.
 use mathlib.Core.Path.{_≡_, refl, sym, ap, subst, _∙_}
 use mathlib.Core.Bool.{Bool, true, false, true≢false, false≢true, cond}
 use mathlib.Core.List.{List, map}
@@ -97,7 +97,7 @@ module _ (r : Room) (proper : Proper r) (c i k : ℕ) (E : ℕ → Entry) (mail 
           let there : getD (withLink link (linkSent y) l .all) (q - 1) (freshLink unset) ≡ linkOf l q = getD-set-other (l .all) (link - 1) (q - 1) (linkSent y) (freshLink unset) (λ z. other (omega (arith, z, from, from′))) in
           subst (LinkOk r k (heard q) q d (E b)) (sym there) g
 
-  -- ---- the message, to the seat at the other end
+  -- ---- the message, to the host at the other end
 
   module _ (held : Holds (r .number b) run) (ranged : All (λ (id : ℕ) (e : Entry). entryInRange e ≡ true) (entriesOf x)) (d n : ℕ) (cord : r .cable b link ≡ at d n) where
     abbrev octets : List ℕ

@@ -1,4 +1,4 @@
--- Each call of a round of any order, at its seat and in the world.
+-- Every call of a round in any order keeps the invariant of the network, because it changes one host and adds at most one message.
 use mathlib.Core.Path.{_≡_, refl, sym, ap, subst, subst₂, _∙_}
 use mathlib.Core.Bool.{_&&_, Bool, true, false, cond, and-false, or-true}
 use mathlib.Core.List.{List, _∷_}
@@ -270,7 +270,7 @@ module _ (r : Room) (proper : Proper r) (ways : r .longest ≤ longestWay) (quic
     any-turn (clocks κ) ok may short = clock-turn κ ok
     any-turn (looks d) ok may short = look-turn d ok
 
-    -- ---- the seat afterwards
+    -- ---- the host afterwards
 
     abbrev left-there : RoomCall → Left
     left-there call = leftBy (r .number b) (now .places) (result r w (at-seat call))
@@ -307,7 +307,7 @@ module _ (r : Room) (proper : Proper r) (ways : r .longest ≤ longestWay) (quic
               arrows = λ j a n cord v at-j. let y = q .arrows j a n cord v at-j in record { leads = y .leads; heads = λ m g it late. y .heads m g it (omega (arith, late, t .grows b j)) };
             }
 
-        -- a run that does not hold the seat's places has the call refused
+        -- if the run does not have the host's places, the call is refused
         short-run : ltb (length run) (firstPlace (r .number b) + placesPerHost) ≡ true → Sure-now (E b)
         short-run e =
             let x = lentAt r b nets (now .clock) links (now .walk) copy run in

@@ -1,4 +1,4 @@
--- An arrival in a round, at link j of seat b, of a message of seat a: in the first round its neighbour is learnt, and from then on it is believed, with a DELAY of exactly 100 ms, or refused with 10.
+-- An arrival keeps the invariant: in the first round a link learns its neighbour, later it stores the report plus exactly 100 ms, because two ways take at most 100 ms.
 use mathlib.Core.Path.{_≡_, refl, sym, ap, subst, _∙_}
 use mathlib.Core.Bool.{Bool, true, false, true≢false, false≢true, cond, not, _||_, _&&_}
 use mathlib.Core.List.{List}
@@ -129,7 +129,7 @@ module _ (r : Room) (proper : Proper r) (c i k : ℕ) (b : ℕ) (speaking : Bool
     pub table : Holds (r .number b) before → Table m s heard run
     pub same-length : length run ≡ length before
 
--- what is known of a message in a round: what it says is the law's report, for the seat at the other end; in the first round it has no TSP
+-- what is known of a message in a round: what it says is the law's report, for the host at the other end; in the first round it has no TSP
 pub record GoodMail (r : Room) (c i k : ℕ) (m : Message) : Type 0 where
   pub says : (b j : ℕ) → r .cable (m .seat) (m .link) ≡ at b j → zeroWord (fields (m .octets) .tsp) ≡ false
       → (1 ≤ k) × (eqb (fields (m .octets) .nhosts) 0 ≡ false) × steady.Report r c b k (m .seat) (up (reportAt (helloOf (m .octets)) i .delay .0))
@@ -346,7 +346,7 @@ module _ (r : Room) (proper : Proper r) (quick : r .longest ≤ quickWay) (c i k
           Stay : Stage Flight → Type 0
           Stay q = By (concluded nets (host (r .settings b) carried-on l) j (countUsed κ) p q)
 
-  -- ---- the whole call
+  -- ---- the call
 
   pub act-good : (κ : Counter) → (T (timed (perform (act j κ (m .octets)) x .reply .answer)) → Came r b cl κ m)
       → Left-so r proper c i k b false (suc k) s (cond (done (perform (act j κ (m .octets)) x .reply .answer)) (hearing r c b j heard) heard) run (perform (act j κ (m .octets)) x .links) (perform (act j κ (m .octets)) x .run)

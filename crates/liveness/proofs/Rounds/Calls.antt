@@ -1,4 +1,4 @@
--- The calls of a round that are neither send nor arrival.
+-- Every call of a round that is neither send nor arrival keeps the invariant, because it changes no entry that is up except its TTL.
 use mathlib.Core.Path.{_≡_, refl, sym, ap, subst, _∙_}
 use mathlib.Core.Bool.{Bool, true, false, true≢false, false≢true, cond, not}
 use mathlib.Core.List.{List}
@@ -58,7 +58,7 @@ module _ (r : Room) (proper : Proper r) (c i k m b s : ℕ) (heard : ℕ → Boo
   abbrev x : Lent
   x = lentAt r b nets cl l walk copy run
 
-  -- it leaves the seat so, and no walk open
+  -- the host afterwards, with no walk open
   pub record Turned (t : ℕ) (on : ℕ → Bool) (o : Outcome) : Type 0 where
     pub closed : isOpen (o .walk) ≡ false
     pub left : Left-so r proper c i k b speaking m t on run (o .links) (o .run)

@@ -1,4 +1,4 @@
--- The entry of a host at seat c, in the table of seat b, while rounds go on: k are over, s seconds of this one, and the links that were heard in it. An entry that is up is never changed but for its TTL.
+-- An entry that is up keeps its DELAY and PID, because it has the DELAY of a shortest way and no report is shorter. k rounds are over, and s seconds of this one.
 use mathlib.Core.Path.{_≡_, refl, sym, ap, subst, _∙_}
 use mathlib.Core.Bool.{Bool, true, false, true≢false, false≢true, cond, not, _&&_}
 use mathlib.Core.Logic.{_⊎_, inl, inr}
@@ -46,7 +46,7 @@ module _ (r : Room) (c b : ℕ) where
     pub below : hops < m
     pub via : Via r c b (e .pid) hops
 
-  -- up, with so many cables at most
+  -- up, with at most h cables
   pub record Shown (h : ℕ) (e : Entry) : Type 0 where
     pub is-up : entry.up e ≡ true
     pub near : up (e .delay .0) ≤ rise * h
@@ -73,7 +73,7 @@ module _ (r : Room) (c b : ℕ) where
       go true false p q = omega (arith, leb-false h farthest q, low)
       go false y p q = omega (arith, ltb-false h k p, f .below)
 
-  -- ---- an update by link j, from seat a, of 100 ms and a report of y ms
+  -- ---- an update by link j, from host a, of 100 ms and a report of y ms
 
   pub record Report (k a : ℕ) (y : ℕ) : Type 0 where
     pub sound : y < 30000 → (g : ℕ) × (y ≡ rise * g) × (g < k) × Hops r c a g
@@ -99,7 +99,7 @@ module _ (r : Room) (c b : ℕ) where
     delay-dn : dn (u .delay .0) ≡ 0
     delay-dn = ap dn is
 
-    -- the same seat at the other end
+    -- the same host at the other end
     same-end : (a′ l′ : ℕ) → r .cable b j ≡ at a′ l′ → a′ ≡ a
     same-end a′ l′ z = cc
 
@@ -138,7 +138,7 @@ module _ (r : Room) (c b : ℕ) where
         go false true x z v = (λ w. eqb-false (u .pid) (e .pid) x (pid ∙ sym w), (let n = lt-yes (e .delay .0) (u .delay .0 +ℤ pos 100) z in omega (arith, n, sum (u .delay .0) (pos 100), delay-up, delay-dn)))
         go false false x z v = absurd (false≢true v)
 
-    -- ---- it is left as it was
+    -- ---- it is unchanged
 
     farther : (h n : ℕ) (f : Entry) → h ≤ n → Shown h f → Shown n f
     farther h n f x o = record { is-up = o .is-up; near = omega (arith, o .near) }
@@ -217,7 +217,7 @@ module _ (r : Room) (c b : ℕ) where
         (λ t v high. absurd (not-down t v (good .sound v) high))
         -- stored, of an entry that is down
         (λ t v w. store (both _ _ w .0) (λ h way few′ short. absurd (false≢true (sym v ∙ good .complete h way few′ short .is-up))) (λ n o. absurd (false≢true (sym v ∙ o .is-up))))
-        -- down, and left
+        -- down, and unchanged
         (λ t v w. kept (λ z. absurd (false≢true (sym v ∙ z))) (λ h way few′ short. absurd (down-still v w h few′ short (report .complete h way few′ (omega arith)))))
       where
         as-known : (h : ℕ) → h < k → h < farthest → up (e .delay .0) < rise + rise + y + dn (e .delay .0) → (y ≤ rise * h) ⊎ ((q : ℕ) × (q < h) × Hops r c b q) → Shown (suc h) e
@@ -317,7 +317,7 @@ module _ (r : Room) (c b : ℕ) where
             better = λ n o. record { is-up = o .is-up; near = o .near };
           }
 
-  -- ---- a self-report, at the host's own seat
+  -- ---- a self-report, at the host itself
 
   pub reported-entry : (k m s : ℕ) (heard : ℕ → Bool) (e : Entry) → 1 ≤ m → b ≡ c → Steady k m s heard e → (t : Millis)
       → Steady k m s (hearing 0 heard) (left (lines (ownUpdate t) e)) × ((n : ℕ) → Shown n (left (lines (ownUpdate t) e)))
@@ -389,7 +389,7 @@ module _ (r : Room) (c b : ℕ) where
           go (inl z) = subst (λ (q : ℕ). Shown q e) (sym (z .1)) (home (z .0))
           go (inr z) = subst (λ (q : ℕ). Shown q e) (sym (z .is)) (hears (z .link) (z .seat) (z .other) (z .cable) (z .rest) (z .way) (omega (arith, z .is)) (omega (arith, z .is)))
 
-  -- ---- what a send of seat b says of the entry, to the seat at the other end: the report of the law
+  -- ---- what a send of host b says of the entry, to the host at the other end: the report of the law
 
   pub said-entry : (k m s : ℕ) (heard : ℕ → Bool) (e : Entry) → m ≤ k → Steady k m s heard e → (link d l : ℕ) → 1 ≤ link → r .cable b link ≡ at d l
       → dn (e .delay .0) ≤ 0 → up (e .delay .0) ≤ 30000

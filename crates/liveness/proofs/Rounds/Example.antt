@@ -1,4 +1,4 @@
--- The rounds of specs/RoundsExample.antt, by computing.
+-- The two rounds of specs/RoundsExample.antt meet every condition; each call is computed.
 use mathlib.Core.Path.{_≡_, refl, ap}
 use mathlib.Core.Bool.{Bool, true, false, cond}
 use mathlib.Core.List.{List, [], _∷_, List·Memᴰ·head, List·Memᴰ·tail}

@@ -1,4 +1,4 @@
--- The entry with what the links heard in this round have made of it, through each kind of call.
+-- A link that was heard in this round has brought the hosts of its neighbour, because the entry after its update is up and no longer.
 use mathlib.Core.Path.{_≡_, refl, sym, ap, subst, _∙_}
 use mathlib.Core.Bool.{Bool, true, false, true≢false, false≢true, cond, not, _&&_}
 use mathlib.Core.Logic.{_⊎_, inl, inr}

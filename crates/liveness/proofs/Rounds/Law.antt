@@ -1,4 +1,4 @@
--- Round after round, and the claim.
+-- Each round brings every table one cable further, because every host heard what its neighbours had at the round's beginning.
 use mathlib.Core.Path.{_≡_, refl, sym, ap, subst, _∙_}
 use mathlib.Core.Bool.{Bool, true, false, true≢false, false≢true, cond}
 use mathlib.Core.List.{List, [], _∷_, map, List·Memᴰ, List·Memᴰ·not-nil}
@@ -155,7 +155,7 @@ module _ (r : Room) (proper : Proper r) (ways : r .longest ≤ longestWay) (quic
     same-seconds speaking m s t heard same w f =
         record { seats = λ b hb. subst (λ (q : ℕ). SeatGood r proper ways quick c i k hc host few speaking m b q (heard b) (w .state (r .number b))) (same b) (f .seats b hb); mail = f .mail }
 
-    -- what a call of a seat adds is within what the whole list adds
+    -- what a call of a host adds is within what the list adds
     pub own-gain : (w : World) (x : Step) → gain (x .call) (result r w x) ≡ counts r w (x .seat) x
     own-gain w x = rw (eq-eqb (x .seat) (x .seat) refl) refl
 
@@ -218,7 +218,7 @@ module _ (r : Room) (proper : Proper r) (ways : r .longest ≤ longestWay) (quic
               home = q .home;
             }
 
-    -- the end of a round: every link was heard, and every seat reported
+    -- the end of a round: every link was heard, and every host reported
     ends : (s : ℕ → ℕ) (heard : ℕ → ℕ → Bool) (w : World) → ((b : ℕ) → b < r .seats → s b ≤ roundSeconds) → ((b j a n : ℕ) → r .cable b j ≡ at a n → heard b j ≡ true) → ((b : ℕ) → b < r .seats → heard b 0 ≡ true)
         → Good false (suc k) s heard w → GoodWorld r proper ways quick c i (suc k) hc host few true (suc k) (λ b. 0) (λ b q. false) (emptied w)
     ends s heard w short all own-too f =

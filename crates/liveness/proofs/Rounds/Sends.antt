@@ -1,4 +1,4 @@
--- What a send says in a round, and what it makes of the links.
+-- A send reports the DELAY of a shortest way or 30,000, because split horizon hides only an entry whose way begins with this link.
 use mathlib.Core.Path.{_≡_, refl, sym, ap, subst, _∙_}
 use mathlib.Core.Bool.{Bool, true, false, true≢false, false≢true, cond, not, _&&_}
 use mathlib.Core.List.{List, map}
@@ -98,7 +98,7 @@ module _ (r : Room) (proper : Proper r) (c i k m b s : ℕ) (heard : ℕ → Boo
             known = λ w. ap (λ (v : Link). v .neighbor) there ∙ g .known w;
           }
 
-  -- ---- the message, to the seat at the other end
+  -- ---- the message, to the host at the other end
 
   module _ (held : Holds (r .number b) run) (ranged : All (λ (id : ℕ) (e : Entry). entryInRange e ≡ true) (entriesOf x)) (d n : ℕ) (cord : r .cable b link ≡ at d n) where
     abbrev octets : List ℕ

@@ -1,4 +1,4 @@
--- What each kind of call makes of a seat's table, of the id i, in a round.
+-- A second, a self-report and an update keep the invariant of a table, because each changes an entry by itself.
 use mathlib.Core.Path.{_≡_, refl, sym, ap, subst, _∙_}
 use mathlib.Core.Bool.{Bool, true, false, true≢false, false≢true, cond}
 use mathlib.Core.List.{List, [], _∷_, _++_, append-nil}

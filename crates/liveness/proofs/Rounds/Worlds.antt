@@ -1,4 +1,4 @@
--- Each call of a round, at its seat and in the world.
+-- Every call of a round keeps the invariant of the network, because it changes one host and adds at most one message.
 use mathlib.Core.Path.{_≡_, refl, sym, ap, subst, subst₂, _∙_}
 use mathlib.Core.Bool.{Bool, true, false, true≢false, false≢true, cond, and-false, or-true, _&&_}
 use mathlib.Core.List.{List, [], _∷_, List·Memᴰ, List·Memᴰ·cases-cons}
@@ -178,7 +178,7 @@ module _ (r : Room) (proper : Proper r) (ways : r .longest ≤ longestWay) (quic
           let t = report-good r proper c i k m b s heard speaking inside hc host some (from-1 b) nets (now .clock) links (now .walk) copy run (lent (reports κ) ok) (seat .shut) κ in
           record { closed = t .closed; left = none-more (t .left); post = mail }
 
-      -- ---- the seat afterwards
+      -- ---- the host afterwards
 
       left-good : (call : RoomCall) → Turn call
           → SeatGood speaking m b (s + gain call (result r w (at-seat call))) (flags r c b call (done (result r w (at-seat call) .reply .answer)) heard) (leftBy (r .number b) (now .places) (result r w (at-seat call)))
@@ -206,7 +206,7 @@ module _ (r : Room) (proper : Proper r) (ways : r .longest ≤ longestWay) (quic
           P : ℕ → Entry → Type 0
           P id e = id ≡ i → Mine r c b k m (s + gain call o) (flags r c b call (done (o .reply .answer)) heard) e
 
-          -- a run that does not hold the seat's places has the call refused
+          -- if the run does not have the host's places, the call is refused
           short-run : ltb (length run) (firstPlace (r .number b) + placesPerHost) ≡ true → All P (take (hostCount (r .settings b)) (now .places))
           short-run e =
               let x = lentAt r b nets (now .clock) links (now .walk) copy run in
@@ -336,7 +336,7 @@ module _ (r : Room) (proper : Proper r) (ways : r .longest ≤ longestWay) (quic
 
   -- ---- the world
 
-  -- the links heard at each seat, after a call
+  -- the links heard at each host, after a call
   abbrev pub flagsAfter : (w : World) (x : Step) → (ℕ → ℕ → Bool) → ℕ → ℕ → Bool
   flagsAfter w x heard b = cond (eqb (x .seat) b) (flags r c b (x .call) (done (result r w x .reply .answer)) (heard b)) (heard b)
 

@@ -191,7 +191,7 @@ module _ (r : Room) (proper : Proper r) (c i n b s : ℕ) (inside : b < r .seats
   pub inspect-fades : (link : ℕ) (packet : List ℕ) → Elsewhere (inspect link packet) → FadeLeft r c i n b s run (perform (inspect link packet) x)
   inspect-fades link packet else = plain (inspect link packet) else (λ held d. updated-table held (inspection link packet (x .host)) packet (λ id y low high small. absurd (omega arith)))
 
-  -- ---- an arrival at a link, of a message of seat a
+  -- ---- an arrival at a link, of a message of host a
 
   module _ (link : ℕ) (m : Message) (cable : r .cable b link ≡ at (m .seat) (m .link)) (right : RightMessage r m)
       (never : NotFrom r c b link → HostAt r i (m .seat) → ⊥) (now : Arriving r c i n b s link (m .octets)) where

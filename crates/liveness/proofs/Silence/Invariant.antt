@@ -43,7 +43,7 @@ begun LineB = true
 begun LineC = true
 begun LineD = true
 
--- where the packet reports id i as up, its report and m more is n at least
+-- if the packet reports id i as up, its report plus m is at least n
 abbrev pub Reports : (i n m : ℕ) → List ℕ → Type 0
 Reports i n m octets =
     eqb (fields octets .nhosts) 0 ≡ false → lessMillis (reportAt (helloOf octets) i .delay) maxDelay ≡ true
@@ -65,7 +65,7 @@ module _ (r : Room) (c i n : ℕ) where
     pub walk : FadeWalk b s (x .walk) (x .copy)
     pub table : All (Ours s) (take (hostCount (r .settings b)) (x .places))
 
-  -- what a call is lent, and what it leaves
+  -- what a call borrows, and the state afterwards
   pub record FadeLent (b s : ℕ) (w : Walk) (copy : List ℕ) (run : List Entry) : Type 0 where
     pub walk : FadeWalk b s w copy
     pub table : Holds (r .number b) run → All (Ours s) (entries (r .settings b) (r .number b) run)
@@ -75,7 +75,7 @@ module _ (r : Room) (c i n : ℕ) where
     pub table : Holds (r .number b) before → All (Ours s) (entries (r .settings b) (r .number b) (o .run))
     pub same-length : length (o .run) ≡ length before
 
-  -- the other seats, and their messages
+  -- the other hosts, and their messages
   pub record FadeWorld (s : ℕ → ℕ) (w : World) : Type 0 where
     pub seats : (b : ℕ) → b < r .seats → (b ≡ c → ⊥) → FadeSeat b (s b) (w .state (r .number b))
     pub mail : (m : Message) → List·Memᴰ m (w .mail) → (m .seat ≡ c → ⊥) → Reports i n 0 (m .octets)

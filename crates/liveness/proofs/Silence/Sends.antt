@@ -1,4 +1,4 @@
--- What a send reports of id i, where it is up, is n at least.
+-- A send reports id i with a DELAY of at least n or as down, because it copies the entry or hides it.
 use mathlib.Core.Path.{_≡_, refl, sym, ap, subst, _∙_}
 use mathlib.Core.Bool.{Bool, true, false, true≢false, false≢true, cond}
 use mathlib.Core.List.{List, map}
@@ -68,7 +68,7 @@ module _ (r : Room) (c i n b s : ℕ) (few : i < hostCount (r .settings b))
     abbrev octets : List ℕ
     octets = sentMessage x held link k
 
-    -- the reports, where the table goes
+    -- the reports, if the table goes
     count : eqb (fields octets .nhosts) 0 ≡ false → tableGoes (r .settings b) (linkOf l link) ≡ true
     count some = go (tableGoes (r .settings b) (linkOf l link)) refl
       where

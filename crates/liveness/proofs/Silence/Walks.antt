@@ -233,14 +233,14 @@ module _ (r : Room) (proper : Proper r) (c i n b s : ℕ) (inside : b < r .seats
       box-fades LineC is time right fits = line-c (lent .walk opened (ap begun is)) right (both (readingInRange w && idInRange set w) _ fits .1)
       box-fades LineD is time right fits = next (lent .walk opened (ap begun is)) (clockSet p octets h w) nothing none
 
-  -- ---- the whole step
+  -- ---- the step
 
   hand-ours : Holds (r .number b) run → Ours r c i n s (w .id) (entryAt (atHand w) x)
   hand-ours held =
       either (λ (f : Found). Ours r c i n s (w .id) (entryAt f x)) (isOpen w && not (eqb (w .line) 0)) (Id (w .id)) Nothing
       (λ _. all-at (Ours r c i n s) freshEntry (λ j _. fresh-fades n s) (entriesOf x) (lent .table held) (w .id)) (λ _ _. fresh-fades n s)
 
-  -- of a seat that is right; box 1 takes a message
+  -- of a host that is right; box 1 takes a message
   pub step-fades : SeatLent r b w copy l run → (k : Counter) → ((a : ℕ) → a < r .seats → (a ≡ c → ⊥) → HostAt r i a → ⊥)
       → (isOpen w ≡ true → placeOf w ≡ Step1 → Arriving r c i n b s (w .link) octets)
       → FadeLeft r c i n b s run (perform (ask (request.Step k)) x)

@@ -45,7 +45,7 @@ use Rattle.liveness.proofs.Silence.Calls.{tick-fades, adjust-fades, set
 use Rattle.liveness.proofs.Silence.Sends.{send-reports}
 use Rattle.liveness.proofs.Silence.Walks.{open-fades, step-fades}
 
--- the seconds that a call adds at its seat
+-- the seconds that a call adds at its host
 abbrev gain : RoomCall → Outcome → ℕ
 gain call o = cond (isSecond call && done (o .reply .answer)) 1 0
 
@@ -55,7 +55,7 @@ module _ (r : Room) (proper : Proper r) (ways : r .longest ≤ longestWay) (c i 
   abbrev pub Silent : (s : ℕ) → Type 0 → Type 0
   Silent s unheard = unheard ⊎ ((s ≡ 0) × (n ≤ rise))
 
-  -- ---- a call at another seat
+  -- ---- a call at another host
 
   module _ (w : World) (right : RightWorld r w) (b : ℕ) (inside : b < r .seats) (nets : ClassTable) (links : Links) (copy : List ℕ) (run : List Entry) (s : ℕ) where
     abbrev now : Left
@@ -126,7 +126,7 @@ module _ (r : Room) (proper : Proper r) (ways : r .longest ≤ longestWay) (c i 
         call-fades (clocks κ) ok away = no-more (clock-fades r proper c i n b s inside nets (now .clock) links (now .walk) copy run (lent (clocks κ) ok) κ (a-request r proper ways w right b inside nets links copy run (Read κ) (λ e. unlike cc) (λ j e. unlike cc)))
         call-fades (looks d) ok away = no-more (look-fades r proper c i n b s inside nets (now .clock) links (now .walk) copy run (lent (looks d) ok) d (a-request r proper ways w right b inside nets links copy run (Lookup d) (λ e. unlike cc) (λ j e. unlike cc)))
 
-        -- a run that does not hold the seat's places has the call refused
+        -- if the run does not have the host's places, the call is refused
         short : (call : RoomCall) → ltb (length run) (firstPlace (r .number b) + placesPerHost) ≡ true → gain call (result r w (at-seat call)) ≡ 0
         unfolding noPlaces
         short call e =

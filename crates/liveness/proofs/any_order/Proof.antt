@@ -1,4 +1,4 @@
--- Every call of a round in any order keeps what the entries are to each other across the cables, and at its end one cable more is known: AnyHolds.antt.
+-- Every call of a round in any order keeps what the entries are to each other across the cables, and at its end one cable more is known: Order/Law.antt.
 use Rattle.liveness.proofs.Order.Law.{any-order}
 use Rattle.liveness.proofs.any_order.Statement.{statement}
 use Rattle.liveness.proofs.any_order.Tie as tie

@@ -1,4 +1,4 @@
--- Two rounds of eight calls, computed: AnyExample.antt.
+-- Two rounds of eight calls, computed: Order/Example.antt.
 use Rattle.liveness.proofs.Order.Example.{any-example-holds}
 use Rattle.liveness.proofs.any_order_example.Statement.{statement}
 use Rattle.liveness.proofs.any_order_example.Tie as tie

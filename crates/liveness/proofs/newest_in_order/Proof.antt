@@ -1,4 +1,4 @@
--- The number of the newest message of a link never falls: InOrder.antt.
+-- The number of the newest message of a link never falls: Order/Newest.antt.
 use Rattle.liveness.proofs.Order.Newest.{newest-in-order}
 use Rattle.liveness.proofs.newest_in_order.Statement.{statement}
 use Rattle.liveness.proofs.newest_in_order.Tie as tie

@@ -1,4 +1,4 @@
--- By computing: Example.antt.
+-- By computing: Rounds/Example.antt.
 use Rattle.liveness.proofs.Rounds.Example.{example-holds}
 use Rattle.liveness.proofs.rounds_example.Statement.{statement}
 use Rattle.liveness.proofs.rounds_example.Tie as tie

@@ -1,4 +1,4 @@
--- Every call of a round keeps what is known of an entry, and at its end one cable more is known: RoundsHold.antt.
+-- Every call of a round keeps what is known of an entry, and at its end one cable more is known: Rounds/Law.antt.
 use Rattle.liveness.proofs.Rounds.Law.{tables-fill}
 use Rattle.liveness.proofs.tables_fill.Statement.{statement}
 use Rattle.liveness.proofs.tables_fill.Tie as tie
