@@ -56,7 +56,7 @@ in hello.library. hello.loader says where the shared library is looked for.
 from . import bench_file, capture, library, ntp, text
 from .answer import Answer, Refused
 from .bench import Bench, BenchHost
-from .library import checksum, checksum_plain
+from .library import checksum, checksum_plain, date
 from .net_table import NetTable
 from .room import Host, Room
 from .state import BenchHosts, ClassTable, Clock, HostTable, Links, Progress, Settings, Walk, date_word
@@ -72,7 +72,7 @@ __all__ = [
     "LINKS", "LONGEST_MESSAGE", "Link", "LinkSetting", "Links", "MARKS", "NO_CLOCK_HOST", "Net",
     "NetTable", "PLACES", "Place", "Progress", "ROWS", "Ran", "Refused", "Room", "Route", "Row",
     "SLOTS", "SLOT_LENGTH", "Sent", "Settings", "Slot", "Stepped", "Time", "UNITS_PER_MS", "Walk",
-    "address", "bench_file", "capture", "checksum", "checksum_plain", "date_word", "library", "ntp",
+    "address", "bench_file", "capture", "checksum", "checksum_plain", "date", "date_word", "library", "ntp",
     "packet", "text",
 ]
 

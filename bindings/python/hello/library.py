@@ -68,6 +68,7 @@ _BENCH = (
 )
 _BENCH_SET_UP = Function("hello_bench_set_up", c_uint8, *_BENCH)
 _BENCH_RUN = Function("hello_bench_run", CBenchRan, *_BENCH, c_size_t)
+_DATE = Function("hello_date", c_uint16, c_uint16, c_uint16, c_uint16)
 _PACKET = Function("hello_packet", c_uint8, c_char_p, c_size_t)
 _CHECKSUM = Function("hello_checksum", c_uint16, c_char_p, c_size_t)
 _CHECKSUM_PLAIN = Function("hello_checksum_plain", c_uint16, c_char_p, c_size_t)
@@ -390,3 +391,13 @@ def checksum(octets: bytes) -> int:
 def checksum_plain(octets: bytes) -> int:
     """The same, worked out two octets at a time: the plain way, which takes longer."""
     return _CHECKSUM_PLAIN(*_given(octets, "octets"))
+
+
+def date(year: SupportsIndex, month: SupportsIndex, day: SupportsIndex) -> int:
+    """The DATE word of a calendar day, with bit 15 zero; ValueError if there is no such day from 1 January 1972 to
+    31 December 2003."""
+    names = (("year", year), ("month", month), ("day", day))
+    word: int = _DATE(*(fitting_number(c_uint16, name, value) for name, value in names))
+    if word == 0:
+        raise ValueError(f"{year}-{month}-{day} is no day from 1972-01-01 to 2003-12-31")
+    return word

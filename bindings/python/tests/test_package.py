@@ -170,6 +170,17 @@ class Addresses(unittest.TestCase):
                 hello.Settings(wrong, 1, 4)
 
 
+class Dates(unittest.TestCase):
+    def test_dates(self):
+        self.assertEqual(hello.date(1984, 2, 29), 2 << 10 | 29 << 5 | 12)
+        self.assertEqual((hello.date(1972, 1, 1), hello.date(2003, 12, 31)), (1 << 10 | 1 << 5, 12 << 10 | 31 << 5 | 31))
+        for day in ((1983, 2, 29), (1971, 12, 31), (2004, 1, 1), (1983, 13, 1), (1983, 0, 1), (1983, 4, 31), (1983, 1, 0)):
+            with self.assertRaises(ValueError):
+                hello.date(*day)
+        with self.assertRaises(OverflowError):
+            hello.date(1 << 16, 1, 1)
+
+
 class Lengths(unittest.TestCase):
     """The lengths that the library gets are those of the memory, whatever a subclass says."""
 

@@ -50,6 +50,19 @@ pub fn packet(octets: &[u8]) -> u8 {
     unsafe { library::hello_packet(octets.as_ptr(), octets.len()) }
 }
 
+/// The DATE word of a calendar day with bit 15 zero; none if there is no such day from 1 January 1972 to
+/// 31 December 2003.
+///
+/// ```
+/// assert_eq!(hello::date(1984, 2, 29), Some(2 << 10 | 29 << 5 | 12));
+/// assert_eq!(hello::date(1983, 2, 29), None);
+/// ```
+pub fn date(year: u16, month: u16, day: u16) -> Option<u16> {
+    // SAFETY: all is passed by value.
+    let word = unsafe { library::hello_date(year, month, day) };
+    (word != 0).then_some(word)
+}
+
 /// The internet checksum (RFC 1071): the complement of the folded one's complement sum of all
 /// words of `octets`, high octet first.
 pub fn checksum(octets: &[u8]) -> u16 {

@@ -215,4 +215,6 @@ extern "C" {
     pub fn hello_packet(packet: *const u8, packet_length: usize) -> u8;
 
     pub fn hello_checksum(octets: *const u8, length: usize) -> u16;
+
+    pub fn hello_date(year: u16, month: u16, day: u16) -> u16;
 }
