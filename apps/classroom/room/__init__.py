@@ -11,3 +11,5 @@ messages and views.
 
 from .checks import Refused
 from .room import Room
+
+__all__ = ["Refused", "Room"]

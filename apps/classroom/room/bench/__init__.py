@@ -10,3 +10,5 @@ seats of the room. Every event is a call of the proved library; docs/BENCH.md te
 from .loaded import read_octets, read_ready, read_text
 from .messages import BENCH
 from .stand import Stand
+
+__all__ = ["BENCH", "Stand", "read_octets", "read_ready", "read_text"]
