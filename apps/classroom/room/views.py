@@ -49,16 +49,15 @@ def seat_view(room, number, first):
         "net_table": _net_table(room),
         "others": None if room.show == "nothing" else _others(room),
         "exercise": exercises.for_student(room, number),
+        "observed": _observed(room, number),
     }
-    if view["exercise"] and view["exercise"]["observes"]:
-        view["observed"] = _observed(room, number)
     return {**view, **_once()} if first else view
 
 
 def _observed(room, number):
-    """The hosts of the copy that a student observes, with their tables."""
-    copy, _ = room.exercise.copy_of(number)
-    return [_other(room, room.seats[seat], True) for seat in copy.seats]
+    """The hosts of the copy that a student observes, with their tables; None if she observes none."""
+    copy, observes = room.exercise and room.exercise.copy_of(number) or (None, False)
+    return [_other(room, room.seats[seat], True) for seat in copy.seats] if observes else None
 
 
 def _other(room, seat, tables):

@@ -141,7 +141,7 @@ class Copies(unittest.TestCase):
         for name in ("title", "task", "question", "law"):
             self.assertEqual(view[name]["en"], EXERCISES[11].exercise.said(name))
         self.assertEqual([(stage["words"]["en"], stage["outcome"]) for stage in view["stages"]], [("Round 1.", None)])
-        self.assertNotIn("observed", room.seat_view(7))
+        self.assertIsNone(room.seat_view(7)["observed"])
         self.assertEqual(view["predict"], [])
         room.teacher({"do": "next"})
         asked = room.seat_view(7)["exercise"]["predict"]
@@ -157,7 +157,9 @@ class Copies(unittest.TestCase):
         copy = view["exercise"]["copy"]
         self.assertEqual([seat["number"] for seat in view["observed"]], list(range(5 * copy, 5 * copy + 5)))
         self.assertIn("table", view["observed"][0])
-        self.assertEqual(room.seat_view(16)["exercise"], None)
+        self.assertEqual((room.seat_view(16)["exercise"], room.seat_view(16)["observed"]), (None, None))
+        room.teacher({"do": "set_up", "seats": [{}], "cables": []})
+        self.assertEqual((room.seat_view(15)["exercise"], room.seat_view(15)["observed"]), (None, None))
         json.dumps(view)
 
     def test_nothing_is_given_away(self):
