@@ -114,7 +114,7 @@ fn ends(a: Answer, s: Settings, c: Clock, l: Links) -> Arrived
     }
 }
 
-// "DELAY under 100 becomes 100."
+// ARRIVE-5: a DELAY of less than 100 becomes 100.
 pub fn at_least_min(delay: Millis) -> Millis
     ensures { λ r. ⌜ r ≡ atLeastMin delay ⌝ }
 {

@@ -76,7 +76,7 @@ fn after_adjusts(name: &[u8], clock: i64, delta: i64, times: u32) {
     show::clock(name, adjusts(clock_of(Units(clock), Units(delta)), times));
 }
 
-// "A DELTA of -1 to -128 units moves by one unit at each adjust until it is 0: -127 takes 127 adjusts. One of +1 to +127 never moves."
+// CLOCK-3: a DELTA of -1 to -128 units loses one unit at each adjust until it is 0; one of +1 to +127 never changes.
 pub fn deltas() {
     after_adjusts(b"DELTA -1 after 1 adjust", 1000, -1, 1);
     after_adjusts(b"DELTA -127 after 1 adjust", 1000, -127, 1);

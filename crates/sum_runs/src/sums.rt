@@ -1,4 +1,4 @@
-// "Sums on the blackboard": checksums and dates.
+// SUM-1, SUM-2: checksums and dates.
 use super::show;
 use calendar::Date;
 use calendar::MadeDate;
@@ -19,7 +19,7 @@ pub fn checksums() {
     );
 }
 
-// "28 Feb 1984, 2956, steps to 2988. 2955 to 3115. 13311 to 1056." And back.
+// SUM-2: three steps of dates, and back.
 pub fn dates() {
     show::date(b"the day after 2956", Date(2956).next());
     show::date(b"the day after 2955", Date(2955).next());

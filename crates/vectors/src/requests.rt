@@ -87,7 +87,7 @@ fn lookup(name: &[u8], pid: u8, delay: i64) {
     end();
 }
 
-// "a lookup its host id and PID", "lookup: host is down (DELAY 30,000)"
+// CALL-3: what a lookup returns, and 13 for a host that is down.
 pub fn lookups() {
     lookup(b"lookup, route by link 1:", 1, 500);
     lookup(b"lookup, route by link 8:", 8, 29_999);

@@ -35,7 +35,7 @@ sealedBehind p b = helloBehind p [] ++ take (reportLength * p .nhosts) (drop fix
 unfoldable pub sealedHello : Packet → List ℕ → List ℕ
 sealedHello p b = two (checksumOf (sealedBehind p b)) ++ sealedBehind p b ++ drop (helloLength (p .nhosts)) b
 
--- "octets beyond the message stay"
+-- SEND-4: the octets after the message stay
 unfoldable pub sealed : (destination : Address) → Packet → List ℕ → List ℕ
 sealed destination p b =
     header (packetLength (p .nhosts)) (p .source) destination ++ sealedHello p (helloOf b)
