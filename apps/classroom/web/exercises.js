@@ -4,6 +4,7 @@
 import { byId, button, el, keyed, options, say, set } from "./dom.js";
 import { count, t } from "./language.js";
 import { makeVerdicts, markOf, said } from "./verdicts.js";
+import { sure } from "./sure.js";
 
 const LONGEST_TEXT = 150000;
 
@@ -46,6 +47,9 @@ export function makeExercises(send, chosen, ask) {
   byId("exercise-copy").addEventListener("change", () => current && update(current));
 
   async function setUp(number) {
+    // A room in which nothing has happened yet is no loss.
+    const lost = Number(byId("room").dataset.time) > 0;
+    if (lost && !await sure(t("sure.set_up"), t("sure.set_up_yes"))) return;
     const students = Math.trunc(Number(byId("exercise-students").value));
     if (await send({ do: "exercise", number, ...(students ? { students } : {}) })) chosen();
   }

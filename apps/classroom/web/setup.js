@@ -3,7 +3,7 @@
 import { byId, options, say } from "./dom.js";
 import { cableOf, cableRow, numeric, renumber, seatOf, seatRow, value, wayOf } from "./setuprows.js";
 import { t } from "./language.js";
-import { plainCable, roomOf, seatName, shapes } from "./shapes.js";
+import { plainCable, roomOf, seatName, shapes, unjoined } from "./shapes.js";
 import { sure } from "./sure.js";
 
 // "12:00:30" in ms.
@@ -69,8 +69,18 @@ export function makeSetup(send) {
   }
 
   options(byId("setup-shape"), shapes);
-  byId("setup-fill").addEventListener("click", () => {
-    fill(roomOf(byId("setup-shape").value, Number(byId("setup-count").value)));
+  // Says which hosts got no cable, and offers a shape that joins all.
+  function fillIn() {
+    const made = roomOf(byId("setup-shape").value, Number(byId("setup-count").value));
+    const alone = unjoined(made);
+    fill(made);
+    byId("setup-alone").hidden = alone.length === 0;
+    say(byId("setup-alone").firstElementChild, alone.length ? t("setup.alone", { names: alone.join(", ") }) : "");
+  }
+  byId("setup-fill").addEventListener("click", fillIn);
+  byId("setup-tree").addEventListener("click", () => {
+    byId("setup-shape").value = "tree";
+    fillIn();
   });
   byId("setup-now").addEventListener("click", fromNow);
   byId("setup-add-seat").addEventListener("click", () => {

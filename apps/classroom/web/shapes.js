@@ -1,8 +1,8 @@
 // Rooms to begin with: names and cables for a number of hosts.
 
-export const shapes = [
-  ["line", "a line"], ["ring", "a ring"], ["star", "a star round the first"], ["all", "each with each"],
-];
+import { t } from "./language.js";
+
+export const shapes = ["line", "ring", "star", "tree", "all"].map((shape) => [shape, t(`shape.${shape}`)]);
 
 export const seatName = (i) => String.fromCharCode(65 + i);
 
@@ -14,8 +14,16 @@ function pairs(shape, n) {
   const line = Array.from({ length: n - 1 }, (_, i) => [i, i + 1]);
   if (shape === "ring" && n > 2) return [...line, [n - 1, 0]];
   if (shape === "star") return line.map(([i]) => [0, i + 1]);
+  // Each host has up to seven below it, so that all are joined.
+  if (shape === "tree") return line.map(([i]) => [Math.floor(i / 7), i + 1]);
   if (shape === "all") return line.flatMap(([i]) => Array.from({ length: n - 1 - i }, (_, k) => [i, i + 1 + k]));
   return line;
+}
+
+// The seats without a cable, by name.
+export function unjoined({ seats, cables }) {
+  const joined = new Set(cables.flatMap(({ ends }) => ends.map(([seat]) => seat)));
+  return seats.length < 2 ? [] : seats.filter((_, i) => !joined.has(i)).map((seat) => seat.name);
 }
 
 // The seats and cables of a room of this shape; no host has more than 8 links, no room more than 32 cables.
