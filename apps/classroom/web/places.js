@@ -2,7 +2,7 @@
 // Each part of the net has its own area: a ring with its tails outside, a tree with its centre in the
 // middle, a line in a row. What is none of these begins as a round and is moved until no cable is hidden.
 
-const GAP = 14;
+const GAP = 8;
 
 // The neighbors of each host, by seat numbers.
 function neighborsOf(seats, cables) {
@@ -168,12 +168,15 @@ function arranged(spots, part, edges, area, box) {
 const ROUND = 8;
 
 function sides(list, area, box) {
-  const [w, h] = [area[0] - box[0], area[1] - box[1]];
-  const around = 2 * (w + h);
+  const last = list.length > 12 ? 4 : 3;
+  const slots = [];
+  for (let k = 0; k < last; k += 1) slots.push([k, 0]);
+  for (let k = 0; k < last; k += 1) slots.push([last, k]);
+  for (let k = last; k > 0; k -= 1) slots.push([k, last]);
+  for (let k = last; k > 0; k -= 1) slots.push([0, k]);
   return new Map(list.map((seat, i) => {
-    let at = (around * i) / list.length;
-    const [x, y] = at <= w ? [at, 0] : (at -= w) <= h ? [w, at] : (at -= h) <= w ? [w - at, h] : [0, h - (at - w)];
-    return [seat, [box[0] / 2 + x, box[1] / 2 + y]];
+    const slot = slots[Math.floor((i * slots.length) / list.length)];
+    return [seat, slot.map((at, axis) => box[axis] / 2 + (at * (area[axis] - box[axis])) / last)];
   }));
 }
 
