@@ -30,7 +30,7 @@ def _row(room, seat, connected, since):
         "connected": connected,
         "since": since,
         "by_hand": seat.by_hand,
-        "exercise": exercise_of(room),
+        "exercise_number": exercise_of(room),
         "box": seat.walk["next"] and seat.walk["next"]["name"] if seat.walk else None,
         "waiting": len(seat.waiting),
         "calls": student.calls,
@@ -107,7 +107,7 @@ def distances(room, start, most):
 
 
 COLUMNS = (
-    *("seat", "name", "host", "connected", "exercise", "calls", "refusals"),
+    *("seat", "name", "host", "connected", "exercise_number", "calls", "refusals"),
     *("tried", "right", "second", "missed", "table_right"),
 )
 

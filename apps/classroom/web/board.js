@@ -17,7 +17,7 @@ const words = {
   name: (row) => row.name ?? t("board.no_name"),
   here: hereWords,
   by_hand: (row) => t(row.by_hand ? "board.hand" : "board.itself"),
-  at: (row) => [row.exercise && t("board.exercise", { number: row.exercise }), row.box].filter(Boolean).join(", ") || "–",
+  at: (row) => [row.exercise_number && t("board.exercise", { number: row.exercise_number }), row.box].filter(Boolean).join(", ") || "–",
   waiting: (row) => number(row.waiting),
   calls: (row) => t("board.refused", { calls: row.calls, refusals: row.refusals }),
   marks: (row) => (row.tried ? t(row.second ? "board.of_second" : "board.of", row) : "–"),

@@ -175,7 +175,7 @@ export function makePicture(root, choose) {
     last = [view, isBusy, mine];
     const { seats, cables, on_their_way: ways } = view;
     [busy, own] = [isBusy, mine];
-    const wide = Math.max(280, Math.floor(root.clientWidth));
+    const wide = Math.max(280, Math.floor(root.getBoundingClientRect().width));
     const edges = cables.map((c) => c.ends.map(([seat]) => seat));
     const key = JSON.stringify([wide, seats.map((s) => s.number), edges]);
     if (key !== drawn) {
