@@ -2,6 +2,7 @@
 
 from __future__ import annotations
 
+import calendar
 from typing import NamedTuple, Optional, Sequence
 
 from .faults import Fault, in_range, there
@@ -87,9 +88,7 @@ def dotted(address: Sequence[int]) -> str:
 
 def last_day(year: int, month: int) -> int:
     """The last day of a month."""
-    if month == 2:
-        return 29 if year % 4 == 0 else 28
-    return 30 + (month + month // 8) % 2
+    return calendar.monthrange(year, month)[1]
 
 
 def test_date(date: tuple[int, int, int]) -> None:
