@@ -116,7 +116,7 @@ int main(int count, char **names)
             fprintf(stderr, "%s\n", dlerror());
             return 1;
         }
-        memcpy(&sends[i], &found, sizeof found);
+        *(void **)&sends[i] = found;
     }
     for (size_t s = 0; s < sizeof sizes / sizeof *sizes; s++) {
         set_up(sizes[s]);
