@@ -16,7 +16,7 @@ from ..room.exercises.catalog import EXERCISES, Listed
 from ..room.paper import NoPaper
 
 _ROOT = Path(__file__).resolve().parents[3]
-_PARTS = ("apps/classroom/room", "apps/exercises", "bindings/python")
+_PARTS = ("apps/classroom/room", "apps/exercises", "bindings/python/hello")
 """What a room is made by: with another one a checkpoint is not read."""
 _MODULES = ("classroom.room.", "hello.", "bench_file.", "hello_")
 _OTHERS = {
