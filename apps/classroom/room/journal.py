@@ -7,7 +7,9 @@ replies. So nothing in a room reads the machine's clock, and every chance has a 
 TEACHER = "/teacher"
 SEAT = "/seat/"
 TIME = "time"
-"""By whom an input is: the teacher's page, a seat's page, or the room's time."""
+BRANCH = "branch"
+"""By whom an input is: the teacher's page, a seat's page, the room's time, or the server, that lets an
+earlier room go on from one of its calls."""
 
 
 def make(room, by, asked):
@@ -27,3 +29,13 @@ def again(room, by, asked):
         return make(room, by, asked)
     except Exception:
         return None
+
+
+def branched(room, before):
+    """An earlier room that goes on in place of the one before: paused, as a new room. What the lesson
+    knows of the students stays, and so do the bench and the number of the rooms."""
+    room.number = before.number + 1
+    room.running = False
+    room.lesson = before.lesson
+    room.bench = before.bench
+    return room

@@ -21,8 +21,9 @@ COME_BACK = (
 class Addresses:
     """The handlers, over a hall, its keys and the pages' files."""
 
-    def __init__(self, hall, keys, pages, slips):
+    def __init__(self, hall, keys, pages, slips, history):
         self._hall = hall
+        self._history = history
         self._keys = keys
         self._files = pages
         self._slips = slips
@@ -40,6 +41,8 @@ class Addresses:
                 (r"/teacher/exercise.{form:bench|txt}", self.bench),
                 (r"/seat/{seat:0|[1-9][0-9]?}", self.page),
                 (r"/seat/{seat:0|[1-9][0-9]?}/socket", self.socket),
+                ("/teacher/rooms", self.rooms),
+                (r"/teacher/rooms/{room:[1-9][0-9]{0,8}}/{line:0|[1-9][0-9]{0,8}}", self.past),
                 (r"/teacher/print/{sheet:slips|checklist|worksheet|tables}", self.printed),
                 (r"/web/{name:[a-z0-9_.-]+}", self.file),
             )
@@ -106,6 +109,21 @@ class Addresses:
         # The mark of UTF-8 in front, by which table programs know it.
         return web.Response(body=("\ufeff" + self._hall.marks()).encode(), headers=headers)
 
+    async def rooms(self, request):
+        """The rooms of the class."""
+        if not self._holds("/teacher", request):
+            return _no_key()
+        return web.json_response({"rooms": self._hall.earlier(), "undo": self._hall.undo_allowed})
+
+    async def past(self, request):
+        """A room as it was after a line of its list."""
+        if not self._holds("/teacher", request):
+            return _no_key()
+        told = await self._history.ask(int(request.match_info["room"]), int(request.match_info["line"]))
+        if told == "null\n":
+            return refused(404, "There is no such call.")
+        return web.Response(text=told, content_type="application/json")
+
     async def printed(self, request):
         """A sheet to be printed."""
         if not self._holds("/teacher", request):
@@ -171,9 +189,9 @@ def _no_key():
 class Application:
     """The class as an aiohttp application, for requests to these host names; `door` is given later."""
 
-    def __init__(self, hall, keys, hosts, codes, slips):
+    def __init__(self, hall, keys, hosts, codes, slips, history):
         pages = files.read_all()
-        self._addresses = Addresses(hall, keys, pages, slips)
+        self._addresses = Addresses(hall, keys, pages, slips, history)
         joining = Join(hall, keys, codes, pages["join.html"][1])
         routes = [*joining.routes(), *self._addresses.routes()]
         self.app = _app(hall, routes, guard(hosts, self, posts=("/join",)))

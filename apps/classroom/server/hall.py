@@ -3,10 +3,12 @@
 import asyncio
 import time
 
+from ..room import Refused
 from .guard import LOG
 from .pace import Pace
 from .push import AFTER_OTHERS, PART_FOR_VIEWS
-from .store import StoreError
+from .record import rebuilt
+from .store import Store, StoreError
 
 # Messages of a place: some at once, then so many a second; more of them wait.
 AT_ONCE, A_SECOND = 100, 50
@@ -30,6 +32,7 @@ class Hall:
         self._present = {}
         self._written = 0.0
         self.trouble = None
+        self.undo_allowed = record.store.told("undo", False)
         self.over = False
 
     @property
@@ -38,6 +41,56 @@ class Hall:
         return self._record.room
 
     _room = room
+
+    def earlier(self):
+        """The rooms of the class, each with the number of its calls."""
+        store = self._record.store
+        return [
+            {"number": row.number, "title": row.title, "lines": store.lines_of(row.number)}
+            | {"parent": row.parent, "line": row.line}
+            for row in store.rooms()
+        ]
+
+    async def go_on_from(self, number, line):
+        """The room goes on from a line of a room's list: from the end of the step of the class that made
+        this call. The room as it is now stays in the list of rooms."""
+        await self.stored()
+        input = self._record.store.input_of_line(number, line)
+        if input is None:
+            raise Refused("there is no such call")
+        room = await asyncio.to_thread(made_again, self._record.store.path, input)
+        await self.stored()
+        self._record.branch(room, number, line, input, f"room {number} from call {line:,} on")
+        await self._branched()
+        return {"room": self.room.number}
+
+    async def undo(self, place):
+        """The last call of the class is as if it had never been made, if it was one of this place."""
+        if not self.undo_allowed:
+            raise Refused("the teacher has not allowed to step back")
+        await self.stored()
+        last, by = self._record.last()
+        if by != place:
+            raise Refused("something else has happened since your last call")
+        number, line = self.room.number, self.room.log.count
+        room = await asyncio.to_thread(made_again, self._record.store.path, last - 1)
+        if self._record.last() != (last, by) or room.number != number:
+            raise Refused("something else has happened since your last call")
+        self._record.branch(room, number, line, last - 1, f"room {number} without call {line:,}")
+        await self._branched()
+        return {"room": self.room.number}
+
+    async def _branched(self):
+        await self.stored()
+        self._record.keep()
+        self.changed()
+
+    def allow_undo(self, on):
+        """Students may step back, or not."""
+        self._record.store.tell(undo=on)
+        self.undo_allowed = on
+        self.changed()
+        return {"undo": on}
 
     def names(self):
         """The names of the hosts, by seat."""
@@ -125,7 +178,7 @@ class Hall:
 
     def view(self, page):
         """What a page is shown now, after what it has been shown: a message of Versions."""
-        return page.versions.message(self._view(page))
+        return page.versions.message({**self._view(page), "undo": self.undo_allowed})
 
     def _view(self, page):
         first = page.seen is None
@@ -167,6 +220,15 @@ class Hall:
                 yield "".join(f"{each}\n" for each in part)
                 part, length = [], 0
         yield "".join(f"{each}\n" for each in part)
+
+
+def made_again(path, input):
+    """The room after an input, by a connection of its own: for a thread."""
+    store = Store(path, alone=False)
+    try:
+        return rebuilt(store, input)
+    finally:
+        store.close()
 
 
 def _seat(place):

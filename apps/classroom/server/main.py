@@ -15,6 +15,7 @@ from .app import Application
 from .codes import Codes, new_codes
 from .door import Door
 from .hall import MOST_PAGES, Hall
+from .history import History
 from .keys import Keys, new_keys
 from .record import Record
 from .store import StoreError
@@ -132,11 +133,12 @@ async def serve(asked, store):
     seats_at = list(addresses.values())[1:]
     hall = Hall(record, seats_at)
     codes = Codes(store.told("codes"))
+    history = History(store.path)
 
     def slips(names):
         return paper.slips(origin, seats_at, codes, names, fingerprint)
 
-    app = Application(hall, keys, {host.lower() for host in told + also}, codes, slips)
+    app = Application(hall, keys, {host.lower() for host in told + also}, codes, slips, history)
 
     stop = asyncio.Event()
     for number in (signal.SIGINT, signal.SIGTERM):
@@ -161,6 +163,7 @@ async def serve(asked, store):
     await runner.shutdown()
     await runner.server.shutdown(2)
     await runner.cleanup()
+    await history.close()
     hall.end()
     return 0
 

@@ -56,9 +56,11 @@ class Record:
     """The room of a class and its store."""
 
     def __init__(self, store, seats):
-        self._store = store
+        self.store = self._store = store
         self._inputs, self._calls, self._rooms = [], [], []
         self._steps = []
+        self._title = None
+        self._by = None
         self._since = (0, 0)
         self._complained = False
         if store.begun():
@@ -105,6 +107,25 @@ class Record:
             self._end_steps()
         return True
 
+    def branch(self, room, number, line, input, title):
+        """Goes on from a room as it was after an input, which is that of a line of an earlier room's
+        list. Its list so far is the new room's too."""
+        self._end_steps()
+        self.room = journal.branched(room, self.room)
+        count = self.room.log.count
+        paper = StorePaper(self._store, self._calls, self.room.number)
+        for text in self._store.calls(number, most=count):
+            paper.write(text.encode() + b"\n")
+        self.room.paper, self.room.log.paper = self._paper, paper
+        self._title = (title, number, line)
+        self._note(journal.BRANCH, {"room": number, "line": line, "input": input}, None)
+
+    def last(self):
+        """The last input: its number, and by whom it was. Steps of time count."""
+        if self._steps:
+            return self._next, journal.TIME
+        return self._next - 1, self._by
+
     def _end_steps(self):
         if self._steps:
             steps, self._steps = self._steps, []
@@ -117,8 +138,11 @@ class Record:
         self._inputs.append(Input(self._next, room.number, room.log.count, by, asked, reply))
         if room.number != self._number:
             self._number = room.number
-            self._rooms.append(RoomRow(room.number, title_of(room), room.set_up, self._next))
+            title, parent, line = self._title or (title_of(room), None, None)
+            self._title = None
+            self._rooms.append(RoomRow(room.number, title, room.set_up, self._next, parent, line))
         self._next += 1
+        self._by = by
 
     def write(self):
         """Writes all that is noted; StoreError if that cannot be done, and it stays noted."""
@@ -153,6 +177,7 @@ class Record:
     def _resumed(self):
         """The room as the store has it."""
         self._next = self._store.last_input() + 1
+        self._by = next((each.by for each in self._store.inputs(self._next - 2)), None)
         room = rebuilt(self._store)
         self._number = room.number
         room.log.paper = StorePaper(self._store, self._calls, room.number, room.log.count)
@@ -189,11 +214,14 @@ def rebuilt(store, most=2**62, checkpoints=True):
     """The room after the input of that number, from the last checkpoint before it, or from the first
     set-up. Every call that is made again must be the one in the store; else StoreError."""
     room, after = _start(store, most, checkpoints)
-    room.paper = lambda: _Compared(store, room.number + 1)
-    room.log.paper = _Compared(store, room.number, room.log.count)
+    _compare(room, store)
     try:
         for each in store.inputs(after, most):
-            journal.again(room, each.by, each.asked)
+            if each.by == journal.BRANCH:
+                room = journal.branched(rebuilt(store, each.asked["input"], checkpoints), room)
+                _compare(room, store)
+            else:
+                journal.again(room, each.by, each.asked)
             if (room.number, room.log.count) != (each.room, each.line):
                 place = f"room {room.number}, line {room.log.count:,}"
                 raise Differs(f"it ends at {place}, and not at room {each.room}, line {each.line:,}")
@@ -203,6 +231,12 @@ def rebuilt(store, most=2**62, checkpoints=True):
             "It stays as it is; begin another class with --new, or use the program that wrote it."
         ) from None
     return room
+
+
+def _compare(room, store):
+    """Each line of the room's list, and of later ones, is compared with the store's."""
+    room.paper = lambda: _Compared(store, room.number + 1)
+    room.log.paper = _Compared(store, room.number, room.log.count)
 
 
 def _start(store, most, checkpoints):

@@ -7,6 +7,7 @@ from socket import SO_SNDBUF, SOL_SOCKET
 from aiohttp import WSCloseCode, WSMsgType, web
 
 from ..room import Refused
+from ..room.checks import keys, switch, whole
 from .guard import LOG
 from .push import SEND_BUFFER, Page
 
@@ -60,7 +61,7 @@ async def _talk(socket, hall, page, longest):
             await hall.pace(page.place).take(1 + len(message.data) // WEIGHED)
             if hall.trouble is not None:
                 await hall.stored()
-            reply = answer(hall, page, message)
+            reply = await answer(hall, page, message)
             await hall.stored()
             await socket.send_str(reply)
             page.changed(own=True)
@@ -85,7 +86,7 @@ async def _say_goodbye(socket):
         await socket.close(code=WSCloseCode.GOING_AWAY, message=b"the class is over")
 
 
-def answer(hall, page, message):
+async def answer(hall, page, message):
     """The text of the reply to a message, whatever it holds. A page that has lost its view asks for a
     full one; that is no business of the room."""
     n, place = None, page.place
@@ -98,13 +99,30 @@ def answer(hall, page, message):
         if told == {"do": "view"}:
             page.begin()
             return json.dumps({"n": n, "reply": {}})
-        said = {"n": n, "reply": hall.take(place, told)}
+        past = await _past(hall, place, told)
+        said = {"n": n, "reply": hall.take(place, told) if past is None else past}
         return json.dumps(said, separators=(",", ":"), allow_nan=False)
     except Refused as why:
         return json.dumps({"n": n, "refused": str(why)})
     except Exception as slip:
         LOG.error("a message of %s: %s: %s", place, type(slip).__name__, ascii(str(slip))[:200])
         return json.dumps({"n": n, "refused": "the server could not do this"})
+
+
+async def _past(hall, place, told):
+    """The reply to a message that goes back in time, which is for the store; None to another."""
+    do = told.get("do")
+    if place == "/teacher" and do == "go_on_from":
+        keys("the message", told, ("do", "room", "line"))
+        room = whole("room", told["room"], 1, 2**31)
+        return await hall.go_on_from(room, whole("line", told["line"], 0, 2**31))
+    if place == "/teacher" and do == "allow_undo":
+        keys("the message", told, ("do", "on"))
+        return hall.allow_undo(switch("on", told["on"]))
+    if place != "/teacher" and do == "undo":
+        keys("the message", told, ("do",))
+        return await hall.undo(place)
+    return None
 
 
 def octets_of(data):

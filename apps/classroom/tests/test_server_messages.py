@@ -273,7 +273,7 @@ class Messages(Quiet):
 
         message = aiohttp.WSMessage(aiohttp.WSMsgType.TEXT, '{"n": 5, "do": "x"}', None)
         with self.assertLogs("class"):
-            told = json.loads(sockets.answer(Hall(), types.SimpleNamespace(place="/seat/0"), message))
+            told = json.loads(await sockets.answer(Hall(), types.SimpleNamespace(place="/seat/0"), message))
         self.assertEqual(told, {"n": 5, "refused": "the server could not do this"})
 
     async def test_students_see_their_own_seat(self):

@@ -49,6 +49,7 @@ const show = paced((view) => {
   byId("observed").hidden = !view.observed;
   if (view.observed) observed(view.observed);
   byId("seat").hidden = !view.seat;
+  byId("undo").hidden = !view.undo;
   say(byId("room-state"), roomWords(view.room, view.seat?.number));
   set(byId("room-state"), { class: view.room.waiting_for?.includes(view.seat?.number) ? "your-turn" : null });
   byId("predict-asked").hidden = view.room.predict !== "required";
@@ -71,6 +72,15 @@ const ask = connect((view) => {
   if (view.answers) byId("answers").replaceChildren(el("summary", {}, t("student.answers")), answersTable(view.answers));
   if (view.others) traffic.add(view.others);
   show(view);
+});
+
+byId("undo").addEventListener("click", async () => {
+  try {
+    await ask({ do: "undo" });
+    say(byId("undo-said"), t("undo.done"));
+  } catch (error) {
+    say(byId("undo-said"), error.message);
+  }
 });
 
 listen({

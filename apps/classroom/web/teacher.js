@@ -17,6 +17,7 @@ import { makeBench } from "./bench.js";
 import { makeBoard } from "./board.js";
 import { makeMatrix } from "./matrix.js";
 import { offerLanguages, t, translate } from "./language.js";
+import { makeHistory } from "./history.js";
 import { makeTabs } from "./tabs.js";
 import { answersTable } from "./answer.js";
 import { listen } from "./keys.js";
@@ -64,8 +65,10 @@ const seat = makeSeat(byId("seat"), {
   byHand: (on) => ask({ do: "by_hand", seat: seatNumber(), on }),
   teacher: true,
 });
-const choose = makeTabs(byId("tabs"), () => {
+const past = makeHistory((message) => ask(message));
+const choose = makeTabs(byId("tabs"), (name) => {
   showRefusal();
+  if (name === "history") past.open();
   if (view) show(view);
 });
 const board = makeBoard(byId("board"), atSeat);
