@@ -28,6 +28,7 @@ typedef hello_sent send_call(const hello_settings *, const hello_class_table *, 
                              size_t, const hello_entry *, size_t, size_t, hello_counter, uint8_t *,
                              size_t);
 
+static send_call *sends[MOST];
 static hello_settings settings;
 static hello_class_table table;
 static hello_clock host_clock;
@@ -103,7 +104,6 @@ static double round_of(send_call *send, uint8_t *buffer)
 int main(int count, char **names)
 {
     static const size_t sizes[] = {4, 16, 64, 255};
-    send_call *sends[MOST] = {0};
     int versions = count - 1;
     if (versions < 1 || versions > MOST) {
         fprintf(stderr, "usage: sends BEFORE.so AFTER.so..\n");
