@@ -63,7 +63,7 @@ fn second(second: usize) -> Vec<Event> {
     }
     for host in hosts.clone() {
         events.push(Event::Second(host));
-        if second % 10 == 0 {
+        if second.is_multiple_of(10) {
             events.push(Event::SelfReport(host, at(0)));
         }
     }

@@ -1,9 +1,10 @@
-//! Times the mender beside plain Rust that makes the same tests in the same two passes.
+//! Times the recovery of captures beside the fast program of `check/tuned`, in turns.
 
 use hello::capture::{mend, LONGEST, LONGEST_CAPTURE, LONGEST_STRETCHES};
 use hello::Answer;
 use std::hint::black_box;
 use std::time::{Duration, Instant};
+use tuned::recover::recover;
 
 const ROUNDS: usize = 101;
 
@@ -21,89 +22,6 @@ fn folded(octets: &[u8]) -> u32 {
     sum
 }
 
-fn two(octets: &[u8], at: usize) -> usize {
-    usize::from(octets[at]) * 256 + usize::from(octets[at + 1])
-}
-
-fn hit(octets: &[u8]) -> usize {
-    if octets.len() < 32 {
-        return 0;
-    }
-    let total = two(octets, 2);
-    if octets[9] != 63 || octets.len() < total || total != 32 + 4 * usize::from(octets[31]) {
-        return 0;
-    }
-    if two(octets, 6) % 0x4000 != 0 {
-        return 0;
-    }
-    let packet = &octets[..total];
-    if folded(&packet[..20]) == 0xFFFF && folded(&packet[20..]) == 0xFFFF {
-        total
-    } else {
-        0
-    }
-}
-
-fn next(input: &[u8], mut at: usize) -> (usize, usize) {
-    loop {
-        while at < input.len() && input[at] != 0x45 {
-            at += 1;
-        }
-        if at >= input.len() {
-            return (at, 0);
-        }
-        let size = hit(&input[at..]);
-        if size > 0 {
-            return (at, size);
-        }
-        at += 1;
-    }
-}
-
-fn put(octets: &mut [u8], at: usize, number: usize) {
-    octets[at..at + 4].copy_from_slice(&(number as u32).to_be_bytes());
-}
-
-fn plain(input: &[u8], capture: &mut [u8], stretches: &mut [u8]) -> (usize, usize, bool) {
-    let (mut hits, mut octets, mut gaps, mut at, mut placed) = (0, 0, 0, 0, true);
-    loop {
-        let (start, size) = next(input, at);
-        gaps += usize::from(at < start);
-        if size == 0 {
-            break;
-        }
-        let place = 4 + 4 * hits;
-        placed = placed && input.get(place..place + 4) == Some(&(start as u32).to_be_bytes());
-        hits += 1;
-        octets += size;
-        at = start + size;
-    }
-    let (length, list) = (4 + 4 * hits + octets, 8 * gaps);
-    if capture.len() < length || stretches.len() < list {
-        return (0, 0, false);
-    }
-    put(capture, 0, hits);
-    let (mut at, mut place, mut to, mut end) = (0, 4, 4 + 4 * hits, 0);
-    loop {
-        let (start, size) = next(input, at);
-        if at < start {
-            put(stretches, end, at);
-            put(stretches, end + 4, start - at);
-            end += 8;
-        }
-        if size == 0 {
-            break;
-        }
-        at = start + size;
-        put(capture, place, to);
-        capture[to..to + size].copy_from_slice(&input[start..at]);
-        place += 4;
-        to += size;
-    }
-    let number = input.get(..4) == Some(&(hits as u32).to_be_bytes());
-    (length, list, number && placed)
-}
-
 fn seal(packet: &mut [u8]) {
     for (from, to, at) in [(20, packet.len(), 20), (0, 20, 10)] {
         packet[at..at + 2].fill(0);
@@ -112,7 +30,7 @@ fn seal(packet: &mut [u8]) {
     }
 }
 
-/// A capture of packets of so many hosts, as many as fit.
+/// A capture of packets of `nhosts` hosts, as many as fit.
 fn captured(nhosts: usize) -> Vec<u8> {
     let length = 32 + 4 * nhosts;
     let mut packet = vec![1; length];
@@ -189,37 +107,32 @@ fn main() {
             "a candidate at every fourth octet",
             repeated(&[0x45, 63, 0x02, 0xA0]),
         ),
-        ("a whole header at every tenth octet", headers()),
-        ("a whole capture, NHOSTS 0", captured(0)),
-        ("a whole capture, NHOSTS 4", captured(4)),
-        ("a whole capture, NHOSTS 255", captured(255)),
+        ("a full header at every tenth octet", headers()),
+        ("a capture, NHOSTS 0", captured(0)),
+        ("a capture, NHOSTS 4", captured(4)),
+        ("a capture, NHOSTS 255", captured(255)),
     ];
     println!("The quickest of {ROUNDS} rounds, microseconds for one call on 65,536 octets.\n");
     println!(
         "{:<36} {:>9} {:>9} {:>6}",
-        "input", "library", "plain", "ratio"
+        "input", "library", "tuned", "ratio"
     );
     for (name, input) in &inputs {
         let [mut capture, mut other] = [(); 2].map(|()| vec![0; LONGEST_CAPTURE]);
         let [mut list, mut other_list] = [(); 2].map(|()| vec![0; LONGEST_STRETCHES]);
-        let told = mend(input, &mut capture, &mut list);
-        let right = plain(input, &mut other, &mut other_list);
-        assert!(
-            told.answer == Answer::Done.number()
-                && (told.capture_length, told.stretches_length, told.places_true) == right
-        );
+        let found = mend(input, &mut capture, &mut list);
+        assert_eq!(found.answer, Answer::Done.number());
+        assert_eq!(found, recover(input, &mut other, &mut other_list));
         assert!(capture == other && list == other_list);
-        let [library, plain] = measure(
+        let [library, tuned] = measure(
             || {
                 black_box(mend(black_box(input), &mut capture, &mut list));
             },
             || {
-                black_box(plain(black_box(input), &mut other, &mut other_list));
+                black_box(recover(black_box(input), &mut other, &mut other_list));
             },
         );
-        println!(
-            "{name:<36} {library:>9.1} {plain:>9.1} {:>6.2}",
-            library / plain
-        );
+        let ratio = library / tuned;
+        println!("{name:<36} {library:>9.1} {tuned:>9.1} {ratio:>6.2}");
     }
 }
