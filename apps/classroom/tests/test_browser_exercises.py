@@ -224,6 +224,27 @@ class Exercises(unittest.TestCase):
         self.set_up(1)
         self.assertEqual(self.teacher.all('#exercise-list [data-exercise="1"] span')[0].get_attribute("textContent"), "1. The handshake")
 
+    def test_what_a_student_expects(self):
+        """She writes what she expects of a stage; when it is over, it is marked, and stays after a reload."""
+        self.teacher.choose("#predict", "offered")
+        self.set_up(1)
+        self.next()
+        for browser, words in ((self.ada, "down"), (self.ben, "100")):
+            self.at(browser, 1)
+            browser.type('#exercise-predict input[data-field="0"]', words)
+            browser.click("#exercise-predict button")
+            browser.until(lambda: browser.text("#exercise-expected"), "what is expected")
+            self.assertFalse(browser.all("#exercise-marked")[0].is_displayed())
+        self.next()
+        self.ada.until(lambda: self.ada.told("#exercise-marked", "data-right") is True, "Ada is right")
+        self.ben.until(lambda: self.ben.told("#exercise-marked", "data-right") is False, "Ben is not")
+        self.assertIn("100, and it is 30,000", self.ben.text("#exercise-marked"))
+        self.ben.driver.refresh()
+        self.ben.until(lambda: "100, and it is 30,000" in self.ben.text("#exercise-marked"), "the mark is kept")
+        self.ben.picture(PICTURES / "exercise-expected.png")
+        self.teacher.choose("#predict", "off")
+        self.ben.until(lambda: not self.ben.all("#exercise-predict")[0].is_displayed(), "nothing is asked")
+
     def test_nothing_is_cut(self):
         """At both widths the card's words are seen whole, and no page is wider than its window."""
         self.set_up(12)

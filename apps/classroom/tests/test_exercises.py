@@ -143,9 +143,6 @@ class Copies(unittest.TestCase):
         self.assertEqual([(stage["words"]["en"], stage["outcome"]) for stage in view["stages"]], [("Round 1.", None)])
         self.assertIsNone(room.seat_view(7)["observed"])
         self.assertEqual(view["predict"], [])
-        room.teacher({"do": "next"})
-        asked = room.seat_view(7)["exercise"]["predict"]
-        self.assertEqual([(each["seat"], each["host"], each["fields"]) for each in asked], [(5, 6, ["DELAY"]), (5, 7, ["DELAY"])])
 
     def test_observers(self):
         """Who has no seat is told so, and sees the tables of a copy."""
@@ -372,6 +369,60 @@ class Verdicts(unittest.TestCase):
         self.assertEqual(room.teacher_view()["exercise"], second["exercise"])
         room.teacher({"do": "set_up", "seats": [{}], "cables": []})
         self.assertIsNone(room.teacher_view(second["mark"])["exercise"])
+
+
+class Foretold(unittest.TestCase):
+    """What students write that they expect of a stage."""
+
+    def setUp(self):
+        self.room = begun(11, 16)
+        self.room.teacher({"do": "predict", "mode": "offered"})
+        self.room.teacher({"do": "next"})
+
+    def view(self, place):
+        return self.room.seat_view(place)["exercise"]
+
+    def foretell(self, place, *values, stage=1):
+        return self.room.seat(place, {"do": "foretell", "stage": stage, "values": list(values)})
+
+    def test_marks(self):
+        asked = [(each["seat"], each["host"], each["field"]) for each in self.view(7)["predict"]]
+        self.assertEqual(asked, [(5, 6, "DELAY"), (5, 7, "DELAY")])
+        self.foretell(7, 100, DOWN)
+        self.foretell(8, 100, 200)
+        self.assertEqual((self.view(7)["foretold"], self.view(7)["marks"]), ([100, DOWN], []))
+        self.assertIsNone(self.view(6)["foretold"])
+        self.room.teacher({"do": "next"})
+        marks = self.view(8)["marks"]
+        self.assertEqual([(each["given"], each["actual"], each["right"]) for each in marks[0]["fields"]], [(100, 100, True), (200, DOWN, False)])
+        self.assertEqual((marks[0]["stage"], marks[0]["fields"][1]["host"]), (1, "Cleo 2"))
+        self.assertEqual([each["right"] for each in self.view(7)["marks"][0]["fields"]], [True, True])
+        self.assertEqual(self.view(6)["marks"], [])
+        students = self.room.lesson.students
+        self.assertEqual([(students[place].tried, students[place].right) for place in (6, 7, 8)], [(0, 0), (1, 1), (1, 0)])
+        json.dumps(self.view(8))
+
+    def test_nothing_is_given_away(self):
+        """Before the stage is over no page is sent a value of it, whatever is written."""
+        before = json.dumps(self.view(7)["results"])
+        self.foretell(7, 1, 2)
+        self.assertEqual(json.dumps(self.view(7)["results"]), before)
+        self.assertNotIn("actual\": 30000", json.dumps(self.view(7)["marks"]))
+
+    def test_refused(self):
+        self.foretell(7, 100, DOWN)
+        for values, stage in (((100, DOWN), 1), ((100, DOWN), 0), ((100, DOWN), 2), ((100,), 1), (("100", 1), 1), ((10**7, 1), 1)):
+            with self.assertRaises(Refused):
+                self.foretell(7, *values, stage=stage)
+        self.room.teacher({"do": "predict", "mode": "off"})
+        self.assertEqual(self.view(8)["predict"], [])
+        with self.assertRaisesRegex(Refused, "no predictions are asked for now"):
+            self.foretell(8, 100, DOWN)
+        self.room.teacher({"do": "predict", "mode": "required"})
+        self.assertEqual(len(self.view(8)["predict"]), 2)
+        self.room.teacher({"do": "set_up", "seats": [{}], "cables": []})
+        with self.assertRaisesRegex(Refused, "no exercise"):
+            self.foretell(0, 100, DOWN)
 
 
 class Own(unittest.TestCase):

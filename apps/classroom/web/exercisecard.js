@@ -2,7 +2,7 @@
 // came of those before, and at the end the explanation.
 
 import { byId, el, keyed, say, set } from "./dom.js";
-import { t } from "./language.js";
+import { number, t } from "./language.js";
 import { makeVerdicts, markOf, said } from "./verdicts.js";
 
 function nameOf({ name, part, seat }) {
@@ -34,8 +34,64 @@ function hint(first) {
   return { node, update: ({ words }) => say(text, said(words)) };
 }
 
-export function makeExerciseCard() {
+const DOWN = 30000;
+
+// A value as a student writes it: a whole number, or "down".
+function valueOf(text) {
+  const words = text.trim().toLowerCase().replaceAll(",", "");
+  return words === t("exercise.down") || words === "down" ? DOWN : Number(words);
+}
+
+function field(first) {
+  const input = el("input", { type: "text", size: 7, required: true, autocomplete: "off", "data-field": first.i });
+  const words = el("span");
+  const update = ({ seat_name: seat, host_name: host, field: name }) => say(words, t("exercise.entry", { seat, host, field: name }));
+  return { node: el("label", {}, words, input), update };
+}
+
+// What was expected of a stage that is over: each value, and what it was.
+function marksWords({ stage, fields }) {
+  const each = fields.map(({ seat, host, field: name, given, actual, right }) => {
+    const values = { entry: ["exercise.entry", { seat, host, field: name }], given, actual };
+    return t(right ? "exercise.foretold.right" : "exercise.foretold.wrong", values);
+  });
+  return `${t("exercise.foretold", { stage: stage + 1 })} ${each.join("; ")}`;
+}
+
+// The form in which a student writes what she expects of the stage under way, and the marks of the one before.
+function makeForetold(ask) {
+  const form = byId("exercise-predict"), fields = byId("exercise-fields");
+  let now = null;
+  form.addEventListener("submit", async (event) => {
+    event.preventDefault();
+    const values = [...fields.querySelectorAll("input")].map((input) => valueOf(input.value));
+    if (values.some((value) => !Number.isInteger(value))) return say(byId("exercise-predict-said"), t("exercise.whole"));
+    try {
+      await ask({ do: "foretell", stage: now, values });
+      say(byId("exercise-predict-said"), "");
+    } catch (error) {
+      say(byId("exercise-predict-said"), error.message);
+    }
+    return null;
+  });
+  return (exercise, key) => {
+    const asked = !exercise.observes && exercise.predict.length > 0;
+    now = exercise.at;
+    form.hidden = !asked || !!exercise.foretold;
+    keyed(fields, asked ? exercise.predict.map((each, i) => ({ ...each, i })) : [], (each) => `${key}/${exercise.at}/${each.i}`, field);
+    byId("exercise-expected").hidden = !asked || !exercise.foretold;
+    say(byId("exercise-expected"), exercise.foretold ? t("exercise.you_expect", { values: exercise.foretold.map((value) => number(value)).join(", ") }) : "");
+    const last = exercise.marks.at(-1);
+    byId("exercise-marked").hidden = !last;
+    set(byId("exercise-marked"), { "data-right": last ? String(last.fields.every((each) => each.right)) : null });
+    say(byId("exercise-marked"), last ? marksWords(last) : "");
+  };
+}
+
+// ask(message) gives a promise of the reply.
+export function makeExerciseCard(ask) {
   const card = byId("exercise");
+  const foretold = makeForetold(ask);
   const verdicts = makeVerdicts(byId("exercise-stages"), { now: false });
   let shown = null;
   return (exercise, room) => {
@@ -65,5 +121,6 @@ export function makeExerciseCard() {
     }
     say(byId("exercise-marks"), doneWords(exercise));
     verdicts(key, exercise.stages, exercise.results);
+    foretold(exercise, key);
   };
 }

@@ -20,7 +20,7 @@ const seat = makeSeat(byId("seat"), { ask: (message) => ask(message), byHand: (o
 const picture = makePicture(byId("picture"));
 const traffic = makeTraffic();
 const tables = makeTables(byId("tables"));
-const exercise = makeExerciseCard();
+const exercise = makeExerciseCard((message) => ask(message));
 const observed = makeTables(byId("observed-tables"));
 
 function roomWords(room, own) {

@@ -8,7 +8,8 @@
 
 from .catalog import EXERCISES, OWN, sheet
 from .course import Course
+from .foretold import FORETELL
 from .messages import EXERCISE_MESSAGES
 from .shown import for_student, for_teacher, listed
 
-__all__ = ["EXERCISES", "EXERCISE_MESSAGES", "OWN", "Course", "for_student", "for_teacher", "listed", "sheet"]
+__all__ = ["EXERCISES", "EXERCISE_MESSAGES", "FORETELL", "OWN", "Course", "for_student", "for_teacher", "listed", "sheet"]

@@ -2,6 +2,7 @@
 
 from hello.bench_file import Entry
 
+from . import foretold
 from .fitting import Numbers, name_of
 from .segments import key_of
 
@@ -64,6 +65,7 @@ class Copy:
         self.at = 0
         self.results = [Result() for _ in exercise.stages]
         self.trays = {}
+        self.foretold = {}
         self._made = {}
         self._others = {}
 
@@ -150,10 +152,15 @@ class Copy:
         self.at += 1
         if self.ended or self.segments[self.at].stage != segment.stage:
             result.end()
+            foretold.mark(room, self, segment.stage, segment.predictions, tables)
+
+    def host_name(self, host):
+        """The name of a host of the exercise, in this copy."""
+        return self.names[host] if host < len(self.names) else f"host {host}"
 
     def _of(self, promise, field):
         """A value of a table as a text by its key."""
-        host = self.names[promise.host] if promise.host < len(self.names) else f"host {promise.host}"
+        host = self.host_name(promise.host)
         seat = getattr(promise, "seat", None)
         if seat is None:
             return ["exercise.least", {"host": host}]

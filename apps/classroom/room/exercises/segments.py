@@ -29,10 +29,12 @@ class Segment:
     asked   by its key the calls, in their order
     before  of each call how many times calls of its key come before it
     total   by its key how many times calls are asked for
+    predictions  what students are asked to predict of the stage
     """
 
-    def __init__(self, stage):
+    def __init__(self, stage, predictions):
         self.stage = stage
+        self.predictions = predictions
         self.steps = []
         self.promises = []
         self.asked = {}
@@ -68,12 +70,12 @@ def segments(exercise):
     """The segments of all stages, in their order."""
     found = []
     for number, stage in enumerate(exercise.stages):
-        found.append(Segment(number))
+        found.append(Segment(number, stage.predictions))
         for step in stage.steps:
             if not isinstance(step, (Call, Wait)):
                 found[-1].promises.append(step)
                 continue
             if found[-1].promises:
-                found.append(Segment(number))
+                found.append(Segment(number, stage.predictions))
             found[-1].add(step)
     return found

@@ -1,6 +1,7 @@
 """What the pages show of an exercise. What comes of a stage is shown after it alone. What people read is sent in
 all languages that the text has, by their two letters."""
 
+from . import foretold
 from .catalog import EXERCISES
 
 def listed(room):
@@ -62,24 +63,9 @@ def for_student(room, place):
         right=copy.right,
         results=_results(copy),
         stages=[_stage(course, number, number < copy.stage) for number in range(copy.stage + 1)],
-        predict=asked(course, copy),
+        **foretold.shown(room, copy, place),
     )
     return view
-
-
-def asked(course, copy):
-    """What students of a copy are asked to predict of the stage that is under way."""
-    stage = None if copy.ended else course.exercise.stages[copy.stage]
-    return [
-        {
-            "seat": copy.numbers.seat(each.seat),
-            "host": copy.numbers.host(each.host),
-            "seat_name": copy.names[each.seat],
-            "host_name": copy.names[each.host] if each.host < len(copy.names) else f"host {each.host}",
-            "fields": [field.upper() for field in each.fields],
-        }
-        for each in (stage.predictions if stage else ())
-    ]
 
 
 def _words(course, stage, ended):
