@@ -2,7 +2,7 @@
 import re
 from script import thin_names
 
-CRATES = ("lent", "shapes", "exports", "wholes", "class_table", "bench_shapes", "bench_wholes")
+CRATES = ("lent", "shapes", "exports", "class_table")
 LOOPS = ("Folds", "Maps", "Applies", "Writes", "Tests", "Surveys")
 
 # What the made text binds or cites itself, beside the names of Thin.antt. A type of the same name would be taken for it, or it for the type.
@@ -431,8 +431,8 @@ class Whole(Shape):
         lists = [p for p in self.params if p.kind == "list"]
         if len({p.size for p in lists}) < len(lists) or len({p.type for p in lists}) < len(lists):
             raise Wrong(self.line, "a call by value has at most two arrays, `[T; n]` and `[T; m]`, of different types")
-        if self.crate != "bench_wholes" and [p for p in lists if p.size == "m"]:
-            raise Wrong(self.line, "`[T; m]` stands in crate `bench_wholes` alone, which has the law of its length")
+        if self.crate != "exports":
+            raise Wrong(self.line, "a call by value is in crate `exports` alone, which has the steps of its locals")
         held = [p.name for p in self.params if p.kind in ("struct", "list")]
         if list(homes) != held:
             raise Wrong(self.line, "the locals hold %s, in this order" % ", ".join(held))

@@ -18,7 +18,7 @@ LAWS = {"struct": "LL.field-laws (%s .S) (%s .L) (%s .low)", "list": "list-laws 
 PLAIN = {"struct": "LL.field-plain (%s .S) (%s .P)", "list": "list-plain %s %n"}
 INTO = {"struct": "%s .S .to ", "list": "map (%s .S .to) "}
 PASSED = ("slice", "ref")
-# what a law cites of `Homes.antt` in crate `wholes`
+# what a law cites of `Homes.antt` in crate `exports`
 HOMES = (
     "map T ltb Sym int Val Denots Is mem Array Plains rows Declared fields at-type listed list-field list-laws list-plain"
     " addressed shared-home shared-home-back lent-home lent-home-back shared-homes shared-homes-back lent-homes lent-homes-back handed handed-is answer-field array-field has-room"
@@ -253,9 +253,9 @@ class Whole(Law):
 
     def cites(self):
         """the names that the text uses"""
-        own = "Rattle.wholes.proofs" if self.shape.crate == "wholes" else "Rattle.wholes.proofs"
+        own = "Rattle.exports.proofs"
         self.out[self.uses_at] = thin_uses(
             "\n".join(self.out[self.uses_at:]),
             self.shape.crate,
-            [(own + ".Homes", HOMES), ("Rattle.bench_wholes.proofs.Long", ["big-literal", "intBig"])],
+            [(own + ".Homes", HOMES), (own + ".Long", ["big-literal", "intBig"])],
         ) + "use denote.Struct.Declared as declared\nuse denote.Struct.Laws as LL\n"

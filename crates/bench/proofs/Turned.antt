@@ -11,7 +11,7 @@ use Rattle.class_table.specs.declared.ClassTable.{ClassTable}
 use Rattle.class_table.proofs.Types.{table}
 use Rattle.table.specs.declared.Entry.{Entry}
 use Rattle.table.proofs.Types.{entry}
-use Rattle.bench_shapes.proofs.made.RepeatsEvents.{After}
+use Rattle.exports.proofs.made.RepeatsEvents.{After}
 use Rattle.bench_file.specs.declared.Header.{Header}
 use Rattle.bench_file.specs.Records.{eventAt}
 use Rattle.bench_file.specs.Absent.{slots}

@@ -1,3 +1,6 @@
+pub mod ActsAt
+pub mod AsksAt
+pub mod Events
 pub mod ExportAges
 pub mod ExportAgesAlone
 pub mod ExportAsksWith
@@ -11,3 +14,20 @@ pub mod ExportSends
 pub mod ExportSetsUp
 pub mod ExportTimes
 pub mod ExportTimesTwo
+pub mod LooksAt
+pub mod RepeatsEvents
+pub mod RepeatsSets
+pub mod Runs
+pub mod SendsAt
+pub mod SetsAt
+pub mod SetsUp
+pub mod TakesAt
+pub mod WholeAsks
+pub mod WholeAsksAt
+pub mod WholeDelivers
+pub mod WholeLooksAt
+pub mod WholeOpens
+pub mod WholeRuns
+pub mod WholeSendsAt
+pub mod WholeSetsUp
+pub mod WholeTakesAt

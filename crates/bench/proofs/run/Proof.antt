@@ -6,7 +6,7 @@ use contract.Monad.{fact, factI}
 use lib.ListN.{length}
 use Rattle.lent.proofs.Words.{struct-part}
 use Rattle.lent.proofs.Outcomes.{whole}
-use Rattle.bench_shapes.proofs.made.Runs.{proof}
+use Rattle.exports.proofs.made.Runs.{proof}
 use Rattle.class_table.proofs.Types.{table}
 use Rattle.table.proofs.Types.{entry}
 use Rattle.bench_file.specs.Header.{headerOf}

@@ -7,7 +7,7 @@ use contract.Monad.{fact, factI}
 use lib.ListN.{length}
 use Rattle.lent.proofs.Words.{struct-part, enum-part, usize-part}
 use Rattle.lent.proofs.Outcomes.{whole}
-use Rattle.bench_shapes.proofs.made.SetsUp.{proof}
+use Rattle.exports.proofs.made.SetsUp.{proof}
 use Rattle.class_table.proofs.Types.{table}
 use Rattle.table.proofs.Types.{entry}
 use Rattle.bench_file.specs.Header.{headerOf}

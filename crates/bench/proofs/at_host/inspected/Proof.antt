@@ -1,7 +1,7 @@
 -- The host's state is in locals, borrowed by the call, and returned.
 use mathlib.Core.Path.{_≡_, refl}
 use Rattle.lent.proofs.Words.{struct-part}
-use Rattle.bench_shapes.proofs.made.WholeLooksAt.{proof}
+use Rattle.exports.proofs.made.WholeLooksAt.{proof}
 use Rattle.clock.proofs.Types.{clock}
 use Rattle.class_table.proofs.Types.{table}
 use Rattle.table.proofs.Types.{entry}

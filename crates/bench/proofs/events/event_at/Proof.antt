@@ -7,7 +7,7 @@ use Rattle.lent.proofs.Words.{by-value, struct-part}
 use Rattle.lent.proofs.Outcomes.{whole}
 use Rattle.answer.specs.declared.Answer.the-variants.{IpForm}
 use Rattle.answer.specs.Answer.{number}
-use Rattle.bench_shapes.proofs.made.Events.{proof}
+use Rattle.exports.proofs.made.Events.{proof}
 use Rattle.class_table.proofs.Types.{table}
 use Rattle.table.proofs.Types.{entry}
 use Rattle.host.proofs.Types.{reply}

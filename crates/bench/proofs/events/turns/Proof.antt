@@ -1,7 +1,7 @@
 -- A turn is the next event; after so many turns there is what so many steps leave.
 use Prim.Native.Nat.{_-_, _<_}
 use contract.Monad.{fact, factI}
-use Rattle.bench_shapes.proofs.made.RepeatsEvents.{proof}
+use Rattle.exports.proofs.made.RepeatsEvents.{proof}
 use Rattle.class_table.proofs.Types.{table}
 use Rattle.table.proofs.Types.{entry}
 use Rattle.bench.specs.Run.{next, steps}

@@ -7,7 +7,7 @@ use base.Logic.{emp, id⊢}
 use contract.Monad.{fact, factI}
 use lib.ListN.{length, getD, set}
 use Rattle.lent.proofs.Words.{struct-part, enum-part}
-use Rattle.bench_shapes.proofs.made.AsksAt.{proof}
+use Rattle.exports.proofs.made.AsksAt.{proof}
 use Rattle.clock.proofs.Types.{clock}
 use Rattle.class_table.specs.declared.ClassTable.{ClassTable}
 use Rattle.class_table.proofs.Types.{table}

@@ -10,7 +10,7 @@ use base.Logic.{emp, id⊢}
 use contract.Monad.{fact, factI}
 use lib.ListN.{length, getD, set}
 use Rattle.lent.proofs.Words.{struct-part}
-use Rattle.bench_shapes.proofs.made.SendsAt.{proof}
+use Rattle.exports.proofs.made.SendsAt.{proof}
 use Rattle.clock.proofs.Types.{clock, counter}
 use Rattle.class_table.specs.declared.ClassTable.{ClassTable}
 use Rattle.class_table.proofs.Types.{table}

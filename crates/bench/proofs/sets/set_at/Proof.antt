@@ -7,7 +7,7 @@ use contract.Monad.{fact, factI}
 use lib.ListN.{length}
 use Rattle.lent.proofs.Words.{by-value}
 use Rattle.lent.proofs.Outcomes.{whole}
-use Rattle.bench_shapes.proofs.made.SetsAt.{proof}
+use Rattle.exports.proofs.made.SetsAt.{proof}
 use Rattle.class_table.proofs.Types.{table}
 use Rattle.table.proofs.Types.{entry}
 use Rattle.host.proofs.Types.{reply}

@@ -6,7 +6,7 @@ use native.Mathlib.Omega.{arith}
 use base.Logic.{id⊢}
 use contract.Monad.{fact, factI}
 use lib.ListN.{length}
-use Rattle.bench_shapes.proofs.made.RepeatsSets.{After, proof}
+use Rattle.exports.proofs.made.RepeatsSets.{After, proof}
 use Rattle.class_table.specs.declared.ClassTable.{ClassTable}
 use Rattle.class_table.proofs.Types.{table}
 use Rattle.table.specs.declared.Entry.{Entry}

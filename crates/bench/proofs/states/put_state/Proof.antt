@@ -2,7 +2,7 @@
 use mathlib.Core.Path.{_≡_, refl}
 use Prim.Native.Nat.{_<_}
 use lib.ListN.{length, set}
-use Rattle.bench_shapes.proofs.Puts.{proof}
+use Rattle.exports.proofs.Puts.{proof}
 use Rattle.bench.proofs.Types.{state}
 use Rattle.bench.proofs.states.put_state.Key.{name as #put-state}
 use Rattle.bench.proofs.states.put_state.Statement as stated

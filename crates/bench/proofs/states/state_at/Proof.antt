@@ -1,7 +1,7 @@
 -- One read of a slice of structs.
 use Prim.Native.Nat.{_<_}
 use lib.ListN.{length}
-use Rattle.bench_shapes.proofs.Gets.{proof}
+use Rattle.exports.proofs.Gets.{proof}
 use Rattle.bench.specs.code.States.{StateAt}
 use Rattle.bench.proofs.Defaults.{any-default, nobody}
 use Rattle.bench.proofs.Types.{state}

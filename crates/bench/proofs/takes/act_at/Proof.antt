@@ -7,7 +7,7 @@ use base.Logic.{emp, id⊢}
 use contract.Monad.{fact, factI}
 use lib.ListN.{length, set}
 use Rattle.lent.proofs.Words.{chosen-by-value, struct-part}
-use Rattle.bench_shapes.proofs.made.ActsAt.{proof}
+use Rattle.exports.proofs.made.ActsAt.{proof}
 use Rattle.clock.proofs.Types.{clock, counter}
 use Rattle.class_table.proofs.Types.{table}
 use Rattle.table.proofs.Types.{entry}

@@ -8,7 +8,7 @@ use contract.Monad.{fact, factI}
 use lib.ListN.{length}
 use Rattle.lent.proofs.Words.{by-value, struct-part}
 use Rattle.lent.proofs.Outcomes.{whole}
-use Rattle.bench_shapes.proofs.made.LooksAt.{proof}
+use Rattle.exports.proofs.made.LooksAt.{proof}
 use Rattle.clock.proofs.Types.{clock, counter}
 use Rattle.class_table.proofs.Types.{table}
 use Rattle.table.proofs.Types.{entry}

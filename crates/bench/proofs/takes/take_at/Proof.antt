@@ -10,7 +10,7 @@ use lib.ListN.{set}
 use lib.Seq.{set-getD}
 use Rattle.lent.proofs.Words.{by-value, struct-part}
 use Rattle.lent.proofs.Outcomes.{whole}
-use Rattle.bench_shapes.proofs.made.TakesAt.{proof}
+use Rattle.exports.proofs.made.TakesAt.{proof}
 use Rattle.clock.specs.declared.Counter.{Counter}
 use Rattle.clock.proofs.Types.{clock}
 use Rattle.class_table.specs.declared.ClassTable.{ClassTable}

@@ -2,7 +2,7 @@
 use mathlib.Core.Path.{_≡_, refl}
 use mir.Syntax.{w64}
 use Rattle.lent.proofs.Words.{struct-part, unsigned}
-use Rattle.bench_wholes.proofs.made.WholeRuns.{proof}
+use Rattle.exports.proofs.made.WholeRuns.{proof}
 use Rattle.class_table.proofs.Types.{table}
 use Rattle.table.proofs.Types.{entry}
 use Rattle.bench.specs.Run.{afterRun}

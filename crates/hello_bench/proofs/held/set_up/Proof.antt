@@ -1,7 +1,7 @@
 -- Hosts, run and progress are held in locals, lent to set-up, and handed back; slots and answers are lent on.
 use mathlib.Core.Path.{_≡_, refl}
 use Rattle.lent.proofs.Words.{enum-part}
-use Rattle.bench_wholes.proofs.made.WholeSetsUp.{proof}
+use Rattle.exports.proofs.made.WholeSetsUp.{proof}
 use Rattle.class_table.proofs.Types.{table}
 use Rattle.table.proofs.Types.{entry}
 use Rattle.bench.specs.Guard.{setUpGuard}

@@ -18,7 +18,7 @@ pub use denote.Struct.Struct.{Plains}
 pub use denote.Struct.Field.{rows}
 pub use denote.Struct.Declared.{Declared, fields}
 pub use Rattle.lent.proofs.Words.{at-type}
-pub use Rattle.wholes.proofs.Lists.{listed, list-field, list-laws, list-plain}
+pub use Rattle.exports.proofs.Lists.{listed, list-field, list-laws, list-plain}
 use mathlib.Core.Path.{_≡_, refl, sym, ap, subst}
 use Prim.Native.Nat.{ℕ, zero, _*_, _^_}
 use mathlib.Core.List.{List, [], _∷_}
@@ -50,7 +50,7 @@ use denote.Struct.Laws as LL
 use Rattle.lent.proofs.Words.{Word, Data, Part, by-value}
 use Rattle.lent.proofs.Frame.{Place, full, away, frame, Has, Free, local-at, held, put, set, lent-out, back-in}
 use Rattle.lent.proofs.Holds.{Known, Hold, shr, mut, shrs, muts, gave, gaves, lender, items, nth, del, Walk, opened-two, resumed}
-use Rattle.wholes.proofs.Lists.{in-field, counted, lends-local, local-back, shares-local, shared-local-back, lends-array, array-back, shares-array, shared-array-back}
+use Rattle.exports.proofs.Lists.{in-field, counted, lends-local, local-back, shares-local, shared-local-back, lends-array, array-back, shares-array, shared-array-back}
 
 -- a struct that is handed back: a contract reads what it owns alone
 abbrev pub handed : (O : Declared) → LL.Laws O → Plains (fields O) → Word

@@ -1,3 +1,0 @@
-pub mod made
-pub mod Gets
-pub mod Puts

@@ -1,2 +1,0 @@
-pub mod Long
-pub mod made

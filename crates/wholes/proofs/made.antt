@@ -1,3 +1,0 @@
-pub mod WholeAsks
-pub mod WholeDelivers
-pub mod WholeOpens
