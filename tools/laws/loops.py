@@ -1,63 +1,53 @@
 """Write the law of one shape of loop over a run of entries: one walk of its MIR, for any types and any contract of the function that does a turn.
 
-    fn Folds(run: &[E], w: J) -> B {                    fn Applies(run: &mut [E], w: J, packet: &[u8]) -> B {
+    fn Maps(run: &mut [E], w: J) {                      fn Applies(run: &mut [E], w: J, packet: &[u8]) -> B {
         let end = w.end;                                    let end = w.end;
         let mut i = w.first;                                let mut i = w.first;
-        let mut x = w.start;                                let mut x = w.start;
-        while i < end {                                     while i < end {
-            x = turn(x, run[i], i, w);                          let t = turn(x, run[i], i, w, packet);
+        while i < end {                                     let mut x = w.start;
+            let t = turn(run[i], i, w);                     while i < end {
+            run[i] = t;                                         let t = turn(x, run[i], i, w, packet);
             i = i + 1;                                          run[i] = t.1;
         }                                                       x = t.0;
-        x                                                       i = i + 1;
-    }                                                       }
+    }                                                           i = i + 1;
+                                                            }
                                                             x
-    fn Maps(run: &mut [E], w: J) {                      }
-        let end = w.end;
-        let mut i = w.first;                            fn Writes(buffer: &mut [u8], run: &[E], w: J) {
-        while i < end {                                     let end = w.end;
-            let t = turn(run[i], i, w);                     let mut i = w.first;
-            run[i] = t;                                     while i < end {
-            i = i + 1;                                          turn(buffer, run[i], i, w);
-        }                                                       i = i + 1;
-    }                                                       }
                                                         }
 
-    fn Tests(run: &[E], w: J) -> bool {                 fn Surveys(run: &[E], w: J) -> bool {
-        let end = w.end;                                    the same, but for
-        let mut i = w.first;                                    x = turn(run, i, w);
-        let mut x = w.start;                            }
-        while i < end {
-            x = turn(run[i], i, w);
-            if !x {
-                break;
+    fn Tests(run: &[E], w: J) -> bool {                 fn Writes(buffer: &mut [u8], run: &[E], w: J) {
+        let end = w.end;                                    let end = w.end;
+        let mut i = w.first;                                let mut i = w.first;
+        let mut x = w.start;                                while i < end {
+        while i < end {                                         turn(buffer, run[i], i, w);
+            x = turn(run[i], i, w);                             i = i + 1;
+            if !x {                                         }
+                break;                                  }
             }
-            i = i + 1;
-        }
-        x
-    }
+            i = i + 1;                                  fn Surveys(run: &[E], w: J) -> bool {
+        }                                                   the same as Tests, except
+        x                                                       x = turn(run, i, w);
+    }                                                   }
 
 J is a struct that begins with first, end and, where there is an x, start.
 The checker checks what is written: nothing here is trusted."""
 from script import Law, items, nest, proj, thin_uses, tuple_of, wrapped
 
 TEXT = {
-    "Folds": "fn f(run: &[E], w: J) -> B { let end = w.end; let mut i = w.first; let mut x = w.start; while i < end { x = turn(x, run[i], i, w); i = i + 1; } x }",
     "Maps": "fn f(run: &mut [E], w: J) { let end = w.end; let mut i = w.first; while i < end { let t = turn(run[i], i, w); run[i] = t; i = i + 1; } }",
     "Applies": "fn f(run: &mut [E], w: J, packet: &[u8]) -> B { let end = w.end; let mut i = w.first; let mut x = w.start; while i < end { let t = turn(x, run[i], i, w, packet); run[i] = t.1; x = t.0; i = i + 1; } x }",
     "Writes": "fn f(buffer: &mut [u8], run: &[E], w: J) { let end = w.end; let mut i = w.first; while i < end { turn(buffer, run[i], i, w); i = i + 1; } }",
     "Tests": "fn f(run: &[E], w: J) -> bool { let end = w.end; let mut i = w.first; let mut x = w.start; while i < end { x = turn(run[i], i, w); if !x { break; } i = i + 1; } x }",
     "Surveys": "fn f(run: &[E], w: J) -> bool { let end = w.end; let mut i = w.first; let mut x = w.start; while i < end { x = turn(run, i, w); if !x { break; } i = i + 1; } x }",
 }
-PARAMS = {"Folds": "run w", "Maps": "run w", "Applies": "run w packet", "Writes": "buffer run w", "Tests": "run w", "Surveys": "run w"}
+PARAMS = {"Maps": "run w", "Applies": "run w packet", "Writes": "buffer run w", "Tests": "run w", "Surveys": "run w"}
 # the arguments of a turn
-TURN = {"Folds": "x e i w", "Maps": "e i w", "Applies": "x e i w packet", "Writes": "buffer e i w", "Tests": "e i w", "Surveys": "run i w"}
+TURN = {"Maps": "e i w", "Applies": "x e i w packet", "Writes": "buffer e i w", "Tests": "e i w", "Surveys": "run i w"}
 WAY = {"x": "by (B .word)", "run": "slice (row (E .S))", "e": "by (by-value E)", "i": "by (unsigned w64)", "w": "by (by-value (whole J))", "packet": "slice u8", "buffer": "slicemut u8"}
 SEEN = {"buffer": "List ℕ", "run": "List (E .S .D)", "packet": "List ℕ", "w": "J .form .D"}
 SIZE = "(mem (row (E .S)) .size)"
 
 
 class Loop(Law):
-    """the law of one of the six loops"""
+    """the law of one of the five loops"""
 
     PARTS = "kind heading forms mir turns_as_function hypotheses job walk cites".split()
 
@@ -65,7 +55,7 @@ class Loop(Law):
         """which of the six it is"""
         self.lent = self.shape in ("Maps", "Applies")  # the run is `&mut`, and a turn stores an entry
         self.tests = self.shape in ("Tests", "Surveys")  # a turn is a test, and one that fails is the last
-        self.folds = self.tests or self.shape in ("Folds", "Applies")  # a value x is handed from turn to turn
+        self.folds = self.tests or self.shape == "Applies"  # a value x is handed from turn to turn
         self.B, self.X = ("bool-part", "Bool") if self.tests else ("B", "B .word .row .Denot")  # its type
         self.packet, self.buffer = self.shape == "Applies", self.shape == "Writes"
         self.params, self.turn = PARAMS[self.shape].split(), TURN[self.shape].split()

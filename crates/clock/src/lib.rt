@@ -438,7 +438,8 @@ pub fn set(c: &mut Clock, hold_interval: Seconds, n: Count, ms: Millis)
 pub fn read(c: &mut Clock, clock_tick: Units, hold_interval: Seconds, k: Counter) -> Millis
     requires { ⌜ clockInRange (now c) ≡ true ⌝ }
     requires { ⌜ tickInRange «clock_tick» ≡ true ⌝ }
-    ensures { λ r. ⌜ (now (c .exit) ≡ reading «clock_tick» «hold_interval» k (now (c .entry)) .clock) × (r ≡ reading «clock_tick» «hold_interval» k (now (c .entry)) .time) ⌝ }
+    ensures { λ r. ⌜ (now (c .exit) ≡ reading «clock_tick» «hold_interval» k (now (c .entry)) .clock)
+        × (r ≡ reading «clock_tick» «hold_interval» k (now (c .entry)) .time) ⌝ }
 {
     let before = *c;
     let r = before.reading(clock_tick, hold_interval, k);

@@ -1,5 +1,4 @@
 pub mod Applies
-pub mod Folds
 pub mod Maps
 pub mod Moves
 pub mod Moves3
