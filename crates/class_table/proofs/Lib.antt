@@ -3,4 +3,3 @@ pub mod Padded
 pub mod Rebuilt
 pub mod Tables
 pub mod Types
-pub mod made

@@ -1,4 +1,6 @@
 pub mod Applies
+pub mod ExportTurns
+pub mod ExportTurns2
 pub mod Maps
 pub mod Moves
 pub mod Moves3
@@ -7,4 +9,6 @@ pub mod PlansPart
 pub mod Reads
 pub mod Surveys
 pub mod Tests
+pub mod Turns
+pub mod Turns2
 pub mod Writes

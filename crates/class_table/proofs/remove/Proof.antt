@@ -4,7 +4,7 @@ use base.Logic.{emp, id⊢}
 use Rattle.lent.proofs.Words.{by-value, struct-part, enum-part}
 use Rattle.class_table.specs.declared.Outcome.{Outcome}
 use Rattle.class_table.specs.Tutor.{remove}
-use Rattle.class_table.proofs.made.Turns.{proof}
+use Rattle.lent.proofs.made.Turns.{proof}
 use Rattle.class_table.proofs.Types as types
 use Rattle.class_table.proofs.planned.without_row.Symbol as plans
 use Rattle.class_table.proofs.planned.without_row.Met as known
