@@ -7,12 +7,63 @@ use crate::random::Random;
 use network::{End, Message, Network};
 use reference::Entry;
 
-/// The numbers of the laws, in ms and seconds.
+/// A cable adds this many ms to a DELAY; after this many epochs a silent host is down.
 const RISE: i64 = 100;
-const QUICK_WAY: i64 = 50;
-const ROUND_SECONDS: usize = 59;
-const EPOCH_SECONDS: usize = 120;
 const GONE_EPOCHS: i64 = 299;
+
+/// Conditions of the laws.
+#[derive(Clone, Copy)]
+struct Conditions {
+    /// A message takes at most this many ms.
+    way: i64,
+    /// A host has at most this many seconds in a round, and at least this many in an epoch.
+    round_seconds: usize,
+    epoch_seconds: usize,
+    /// No message overtakes another on its cable.
+    in_order: bool,
+}
+
+const MET: Conditions = Conditions {
+    way: 50,
+    round_seconds: 59,
+    epoch_seconds: 120,
+    in_order: true,
+};
+
+/// A law: it makes calls in a network, under its conditions.
+type Law = fn(&mut Random, &mut Counts, Conditions) -> Result<(), String>;
+
+/// Each condition by itself broken, with the law that then does not hold.
+const BROKEN: [(&str, Law, Conditions); 4] = [
+    ("ways of 51 ms", rounds, Conditions { way: 51, ..MET }),
+    (
+        "rounds of 90 seconds",
+        rounds,
+        Conditions {
+            round_seconds: 90,
+            ..MET
+        },
+    ),
+    (
+        "a message that overtakes",
+        any_order,
+        Conditions {
+            in_order: false,
+            ..MET
+        },
+    ),
+    (
+        "epochs of 60 seconds",
+        silence,
+        Conditions {
+            epoch_seconds: 60,
+            ..MET
+        },
+    ),
+];
+
+/// Networks in which a law with a broken condition has to fail.
+const TRIES: usize = 300;
 
 /// What was seen; a law whose claim never had to hold of anything is not tested.
 #[derive(Default)]
@@ -27,6 +78,8 @@ pub struct Counts {
     ghosts: u64,
     /// Networks given up, since a TSP was 0 by chance.
     given_up: u64,
+    /// Each broken condition, and in which network its law failed.
+    needed: Vec<(&'static str, Option<usize>)>,
 }
 
 impl Counts {
@@ -39,6 +92,11 @@ impl Counts {
             "  {} tables right, {} entries longer at first, {} before their round, {} up in silence; {} networks given up",
             self.right_tables, self.longer_first, self.sooner, self.ghosts, self.given_up
         );
+        for (name, tries) in &self.needed {
+            if let Some(tries) = tries {
+                println!("  with {name} a law fails in network {tries}");
+            }
+        }
     }
 
     pub fn complaints(&self) -> Vec<String> {
@@ -49,7 +107,10 @@ impl Counts {
             (self.ghosts, "no entry of a silent host was ever still up"),
         ];
         let missing = seen.iter().filter(|(count, _)| *count == 0);
-        missing.map(|(_, text)| format!("laws: {text}")).collect()
+        let unneeded = self.needed.iter().filter(|(_, tries)| tries.is_none());
+        let unneeded = unneeded.map(|(name, _)| format!("laws: with {name} none fails"));
+        let missing = missing.map(|(_, text)| format!("laws: {text}"));
+        missing.chain(unneeded).collect()
     }
 }
 
@@ -59,10 +120,15 @@ pub fn run(seed: u64, calls: u64) -> Result<Counts, String> {
     let mut counts = Counts::default();
     while counts.calls < calls {
         for law in [rounds, any_order, silence] {
-            law(&mut random, &mut counts)?;
+            law(&mut random, &mut counts, MET)?;
         }
     }
     ten_hours(&mut random, &mut counts)?;
+    for (name, law, conditions) in BROKEN {
+        let mut none = Counts::default();
+        let tries = (1..=TRIES).find(|_| law(&mut random, &mut none, conditions).is_err());
+        counts.needed.push((name, tries));
+    }
     Ok(counts)
 }
 
@@ -70,6 +136,7 @@ pub fn run(seed: u64, calls: u64) -> Result<Counts, String> {
 struct Trial {
     network: Network,
     law: &'static str,
+    conditions: Conditions,
     /// From each host, how many cables away each host is.
     distances: Vec<Vec<Option<usize>>>,
     /// Rounds that are over.
@@ -82,10 +149,11 @@ struct Trial {
 }
 
 impl Trial {
-    fn new(law: &'static str, network: Network) -> Trial {
+    fn new(law: &'static str, network: Network, conditions: Conditions) -> Trial {
         let hosts = 0..network.count();
         Trial {
             law,
+            conditions,
             distances: hosts.map(|host| network.distances(host)).collect(),
             rounds: 0,
             seconds: vec![0; network.count()],
@@ -201,9 +269,9 @@ impl Trial {
 // ---- rounds: all send, then all hear
 
 /// Tables have exactly the hosts nearer than the number of rounds, and an entry that is up never changes.
-fn rounds(random: &mut Random, counts: &mut Counts) -> Result<(), String> {
+fn rounds(random: &mut Random, counts: &mut Counts, conditions: Conditions) -> Result<(), String> {
     let network = Network::random(random, 8);
-    let mut trial = Trial::new("rounds", network);
+    let mut trial = Trial::new("rounds", network, conditions);
     for _ in 0..3 + random.below(6) {
         if !one_round(random, &mut trial)? {
             counts.given_up += 1;
@@ -232,8 +300,8 @@ fn rounds(random: &mut Random, counts: &mut Counts) -> Result<(), String> {
 /// One round; whether every cable was heard.
 fn one_round(random: &mut Random, trial: &mut Trial) -> Result<bool, String> {
     trial.begin_round();
-    let half = QUICK_WAY / 2;
-    let end_of_sends = trial.network.now + half;
+    let end_of_sends = trial.network.now + trial.conditions.way / 2;
+    let last_arrival = trial.network.now + trial.conditions.way;
     let mut ends = trial.network.ends();
     ends.extend(trial.network.ends());
     shuffle(random, &mut ends);
@@ -244,8 +312,8 @@ fn one_round(random: &mut Random, trial: &mut Trial) -> Result<bool, String> {
         others(random, trial)?;
         trial.network.send(from);
     }
-    let first_arrival = trial.network.now.max(end_of_sends);
-    trial.network.wait(first_arrival - trial.network.now);
+    let arrivals_at = random.pick(&[end_of_sends, last_arrival]);
+    trial.network.wait((arrivals_at - trial.network.now).max(0));
     let mut arrivals: Vec<usize> = (0..trial.network.mail.len()).collect();
     for _ in 0..random.below(arrivals.len() + 1) {
         arrivals.push(random.below(trial.network.mail.len()));
@@ -274,7 +342,7 @@ fn others(random: &mut Random, trial: &mut Trial) -> Result<(), String> {
         report_unchanged(trial, host)?;
     }
     for _ in 0..random.below(12) {
-        if trial.seconds[host] < ROUND_SECONDS {
+        if trial.seconds[host] < trial.conditions.round_seconds {
             let before = trial.network.entries(host);
             trial.second(host);
             unchanged(trial, host, &before)?;
@@ -304,9 +372,13 @@ fn unchanged(trial: &Trial, host: usize, before: &[Entry]) -> Result<(), String>
 
 /// At every moment an entry stays up, its DELAY never rises, and PIDs lead nearer; after k rounds the
 /// hosts nearer than k cables have the DELAY of a shortest way.
-fn any_order(random: &mut Random, counts: &mut Counts) -> Result<(), String> {
+fn any_order(
+    random: &mut Random,
+    counts: &mut Counts,
+    conditions: Conditions,
+) -> Result<(), String> {
     let network = Network::random(random, 8);
-    let mut trial = Trial::new("any order", network);
+    let mut trial = Trial::new("any order", network, conditions);
     for _ in 0..3 + random.below(5) {
         if !one_ordered_round(random, &mut trial, counts)? {
             counts.given_up += 1;
@@ -344,7 +416,7 @@ fn one_ordered_round(
                 trial.self_report(host);
                 improved(trial, host, &before, counts)?;
             }
-            1 if trial.seconds[host] < ROUND_SECONDS => {
+            1 if trial.seconds[host] < trial.conditions.round_seconds => {
                 let before = trial.network.entries(host);
                 trial.second(host);
                 improved(trial, host, &before, counts)?;
@@ -390,7 +462,9 @@ fn in_order(random: &mut Random, trial: &Trial, to: End, last: usize) -> Option<
         .iter()
         .enumerate()
         .filter(|(number, message)| {
-            *number >= last && message.from == from && message.ms + QUICK_WAY >= trial.network.now
+            (*number >= last || !trial.conditions.in_order)
+                && message.from == from
+                && message.ms + trial.conditions.way >= trial.network.now
         });
     let numbers: Vec<usize> = on_its_way.map(|(number, _)| number).collect();
     (!numbers.is_empty()).then(|| random.pick(&numbers))
@@ -437,9 +511,9 @@ fn improved(
 // ---- silence
 
 /// After k epochs of 120 seconds an id of the silent host is down elsewhere, or has at least 100 (k + 1) ms.
-fn silence(random: &mut Random, counts: &mut Counts) -> Result<(), String> {
+fn silence(random: &mut Random, counts: &mut Counts, conditions: Conditions) -> Result<(), String> {
     let network = Network::random(random, 6);
-    let mut trial = Trial::new("silence", network);
+    let mut trial = Trial::new("silence", network, conditions);
     for _ in 0..3 {
         one_round(random, &mut trial)?;
         trial.network.wait(random.between(0, 1_000));
@@ -457,7 +531,7 @@ fn silence(random: &mut Random, counts: &mut Counts) -> Result<(), String> {
 /// Four hosts, each joined to each: after 299 epochs the silent one is down everywhere.
 fn ten_hours(random: &mut Random, counts: &mut Counts) -> Result<(), String> {
     let network = Network::complete(random, 4);
-    let mut trial = Trial::new("silence of ten hours", network);
+    let mut trial = Trial::new("silence of ten hours", network, MET);
     for _ in 0..3 {
         one_round(random, &mut trial)?;
     }
@@ -476,7 +550,7 @@ fn one_epoch(random: &mut Random, trial: &mut Trial, silent: usize, seldom: usiz
     trial.begin_round();
     let ends = trial.network.ends();
     while (0..trial.network.count())
-        .any(|host| host != silent && trial.seconds[host] < EPOCH_SECONDS)
+        .any(|host| host != silent && trial.seconds[host] < trial.conditions.epoch_seconds)
     {
         let host = random.below(trial.network.count());
         if host == silent && !random.one_in(10) {
