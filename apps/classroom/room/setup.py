@@ -118,7 +118,7 @@ def _settings(set_up, number):
         hold_interval=HOLD_INTERVAL,
         clock_tick=tick_of(seat),
         time=set_up["time"] + seat["difference"],
-        date=hello.date_word(*FIRST_DAY),
+        date=hello.date(*FIRST_DAY),
         links=links_of(set_up, number) * (hello.LinkSetting(),),
     )
 

@@ -1,6 +1,6 @@
 //! The hosts of the room: their addresses and settings.
 
-use hello::{date_word, Address, Layout, Settings, UNITS_PER_MS};
+use hello::{date, Address, Layout, Settings, UNITS_PER_MS};
 
 /// What sets a host of the room apart, or is the same at all.
 pub struct Place {
@@ -28,7 +28,7 @@ pub fn settings(place: Place) -> Settings {
         hold_interval: 10,
         clock_tick: place.tick * UNITS_PER_MS,
         time: place.time,
-        date: date_word(1983, 12, 1),
+        date: date(1983, 12, 1).expect("1 December 1983 is a day"),
         link_count: place.link_count,
         ..Settings::new(address(place.number), layout).with_marks(place.guests)
     }

@@ -59,7 +59,7 @@ from .bench import Bench, BenchHost
 from .library import checksum, checksum_plain, date
 from .net_table import NetTable
 from .room import Host, Room
-from .state import BenchHosts, ClassTable, Clock, HostTable, Links, Progress, Settings, Walk, date_word
+from .state import BenchHosts, ClassTable, Clock, HostTable, Links, Progress, Settings, Walk
 from .values import (
     EVENTS, HOSTS, LINE_CLOCK, LINKS, LONGEST_MESSAGE, MARKS, NO_CLOCK_HOST, PLACES, ROWS, SLOTS,
     SLOT_LENGTH, UNITS_PER_MS, Added, Address, AddressLike, Counter, Entry, Inspected, Link,
@@ -72,7 +72,7 @@ __all__ = [
     "LINKS", "LONGEST_MESSAGE", "Link", "LinkSetting", "Links", "MARKS", "NO_CLOCK_HOST", "Net",
     "NetTable", "PLACES", "Place", "Progress", "ROWS", "Ran", "Refused", "Room", "Route", "Row",
     "SLOTS", "SLOT_LENGTH", "Sent", "Settings", "Slot", "Stepped", "Time", "UNITS_PER_MS", "Walk",
-    "address", "bench_file", "capture", "checksum", "checksum_plain", "date", "date_word", "library", "ntp",
+    "address", "bench_file", "capture", "checksum", "checksum_plain", "date", "library", "ntp",
     "packet", "text",
 ]
 

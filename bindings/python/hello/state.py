@@ -16,10 +16,8 @@ from .values import LINKS, LONGEST_MESSAGE, MARKS, NO_CLOCK_HOST, UNITS_PER_MS
 from .values import Address, AddressLike, Entry, Link, LinkSetting, Net, Row
 
 
-def date_word(year: int, month: int, day: int) -> int:
-    """The DATE word of a day, 1972 to 2003, with bits 14 and 15 zero."""
-    years = fitting("year", year, 1972, 2003) - 1972
-    return fitting("month", month, 0, 15) << 10 | fitting("day", day, 0, 31) << 5 | years
+FIRST_DATE = 1 << 10 | 1 << 5
+"""The DATE word of 1 January 1972."""
 
 
 def address_of(c: Any) -> Address:
@@ -119,7 +117,7 @@ class Settings(State):
     hold_interval   HOLD-INTERVAL, 1 to 255 s
     clock_tick      CLOCK-TICK, up to 65,536 ms: 1 to 4,294,967,296 units of 1/65,536 ms
     time            starting time, 0 to 86,399,999 ms
-    date            starting date, a real one; see date_word
+    date            starting date, a real one, by hello.date
     links           LinkSettings, link 1 first; link_count, 1 to 8, becomes their count
     marks           the ids, 0 to 255, whose hosts live here: the own one and any others below
                     NHOSTS; at first the own one alone
@@ -149,7 +147,7 @@ class Settings(State):
         hold_interval: SupportsIndex = 1,
         clock_tick: SupportsIndex = UNITS_PER_MS,
         time: SupportsIndex = 0,
-        date: SupportsIndex = date_word(1972, 1, 1),
+        date: SupportsIndex = FIRST_DATE,
         links: Iterable[LinkSetting] = (LinkSetting(),),
         marks: Iterable[SupportsIndex] | None = None,
     ) -> None:

@@ -363,7 +363,7 @@ class CrystalClock(unittest.TestCase):
     def crystal(self, time):
         """A host with a crystal clock, that many ms after midnight of 2 January 1972."""
         return fresh(
-            clock_tick=self.TICK * hello.UNITS_PER_MS, time=time, date=hello.date_word(1972, 1, 2)
+            clock_tick=self.TICK * hello.UNITS_PER_MS, time=time, date=hello.date(1972, 1, 2)
         )
 
     def state(self, host):

@@ -28,11 +28,8 @@ pub const UNITS_PER_MS: i64 = 65_536;
 /// The octets of the longest message, with the table of 255 hosts.
 pub const LONGEST_MESSAGE: usize = 32 + 4 * PLACES;
 
-/// The DATE word of a day of 1972 to 2003, bits 14 and 15 zero: bits 0-4 year less 1972, 5-9 day,
-/// 10-13 month.
-pub const fn date_word(year: u16, month: u16, day: u16) -> u16 {
-    (month & 15) << 10 | (day & 31) << 5 | (year - 1972) & 31
-}
+/// The DATE word of 1 January 1972, the first day that there is. [`date`](crate::date) has the others.
+pub const FIRST_DATE: u16 = 1 << 10 | 1 << 5;
 
 /// An internet address, first octet first.
 #[repr(C)]
@@ -266,7 +263,7 @@ impl Settings {
             clock_host: NO_CLOCK_HOST,
             hold_interval: 1,
             clock_tick: UNITS_PER_MS,
-            date: date_word(1972, 1, 1),
+            date: FIRST_DATE,
             link_count: 1,
             marks: Marks::of(own_id(address, layout)),
             ..Settings::default()

@@ -2,7 +2,7 @@
 
 use hello::bench_file::{End, Event, File};
 use hello::UNITS_PER_MS;
-use hello::{date_word, Address, Answer, Counter, Layout, LinkSetting, Room, Settings};
+use hello::{date, Address, Answer, Counter, Layout, LinkSetting, Room, Settings};
 
 /// A host of the small file, with a crystal clock.
 fn host(id: u8, time: i64) -> Settings {
@@ -14,7 +14,7 @@ fn host(id: u8, time: i64) -> Settings {
         hold_interval: 10,
         clock_tick: 65_536 * UNITS_PER_MS,
         time,
-        date: date_word(1983, 12, 1),
+        date: date(1983, 12, 1).unwrap(),
         ..Settings::new(Address::new(192, 0, 2, 1 + id), layout)
     }
 }

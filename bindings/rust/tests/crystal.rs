@@ -1,6 +1,6 @@
 //! The crystal clock: a reading is CLOCK plus the count of a counter of 1,000 Hz.
 
-use hello::{date_word, Address, Answer, Counter, Host, Layout, Reading, Room, Settings};
+use hello::{date, Address, Answer, Counter, Host, Layout, Reading, Room, Settings};
 use hello::{LONGEST_MESSAGE, UNITS_PER_MS};
 
 const DAY: i64 = 86_400_000;
@@ -14,7 +14,7 @@ const LAYOUT: Layout = Layout {
 
 /// The day of January 1972, while a master's date is awaited.
 fn january(day: u16) -> u16 {
-    date_word(1972, 1, day) | 0x8000
+    date(1972, 1, day).unwrap() | 0x8000
 }
 
 /// A host of two, that many ms after midnight of 2 January, with a crystal clock.
@@ -23,7 +23,7 @@ fn with_crystal<T>(time: i64, run: impl FnOnce(Host) -> T) -> T {
         clock_tick: TICK * UNITS_PER_MS,
         hold_interval: HOLD_INTERVAL,
         time,
-        date: date_word(1972, 1, 2),
+        date: date(1972, 1, 2).unwrap(),
         ..Settings::new(Address::new(192, 0, 2, 1), LAYOUT)
     };
     let mut room = Room::new(1, LAYOUT.nhosts);
