@@ -14,6 +14,8 @@ OVERFLOW = 65_536
 """The ms after which a crystal's counter overflows."""
 HOLD_INTERVAL = 10
 FIRST_DAY = (1984, 1, 31)
+FIRST_DATE = 1 << 10 | 31 << 5 | 12
+"""The DATE word of FIRST_DAY."""
 
 
 def checked(given):
@@ -118,7 +120,7 @@ def _settings(set_up, number):
         hold_interval=HOLD_INTERVAL,
         clock_tick=tick_of(seat),
         time=set_up["time"] + seat["difference"],
-        date=hello.date(*FIRST_DAY),
+        date=FIRST_DATE,
         links=links_of(set_up, number) * (hello.LinkSetting(),),
     )
 

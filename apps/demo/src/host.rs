@@ -1,6 +1,6 @@
 //! The hosts of the room: their addresses and settings.
 
-use hello::{date, Address, Layout, Settings, UNITS_PER_MS};
+use hello::{Address, Layout, Settings, UNITS_PER_MS};
 
 /// What sets a host of the room apart, or is the same at all.
 pub struct Place {
@@ -13,6 +13,9 @@ pub struct Place {
     pub tick: i64,
     pub time: i64,
 }
+
+/// The DATE word of 1 December 1983.
+const START_DATE: u16 = 12 << 10 | 1 << 5 | 11;
 
 /// The address of the host of that id, which is its number in the room unless it is a further one.
 pub fn address(id: usize) -> Address {
@@ -28,7 +31,7 @@ pub fn settings(place: Place) -> Settings {
         hold_interval: 10,
         clock_tick: place.tick * UNITS_PER_MS,
         time: place.time,
-        date: date(1983, 12, 1).expect("1 December 1983 is a day"),
+        date: START_DATE,
         link_count: place.link_count,
         ..Settings::new(address(place.number), layout).with_marks(place.guests)
     }
