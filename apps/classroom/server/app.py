@@ -6,7 +6,7 @@ import contextlib
 from aiohttp import web
 
 from ..room import Refused
-from . import clock, files, paper, sockets
+from . import clock, exercise_paper, files, paper, sockets
 from .guard import guard, refused, say
 from .join import Join
 
@@ -43,7 +43,7 @@ class Addresses:
                 (r"/seat/{seat:0|[1-9][0-9]?}/socket", self.socket),
                 ("/teacher/rooms", self.rooms),
                 (r"/teacher/rooms/{room:[1-9][0-9]{0,8}}/{line:0|[1-9][0-9]{0,8}}", self.past),
-                (r"/teacher/print/{sheet:slips|checklist|worksheet|tables}", self.printed),
+                (r"/teacher/print/{sheet:slips|checklist|worksheet|tables|exercise}", self.printed),
                 (r"/web/{name:[a-z0-9_.-]+}", self.file),
             )
         ]
@@ -133,6 +133,7 @@ class Addresses:
             "checklist": paper.checklist,
             "tables": lambda: paper.tables(self._hall.room),
             "worksheet": lambda: self._worksheet(request.query),
+            "exercise": lambda: self._exercise(request.query),
         }[request.match_info["sheet"]]
         try:
             return web.Response(text=made(), content_type="text/html")
@@ -144,6 +145,12 @@ class Addresses:
         if not all(text.isascii() and text.isdigit() and len(text) < 10 for text in (seat, message or "0")):
             raise Refused("seat and message are numbers")
         return paper.worksheet(self._hall.room, int(seat), None if message is None else int(message))
+
+    def _exercise(self, asked):
+        number, language = asked.get("number", ""), asked.get("language", "en")
+        if not (number.isascii() and number.isdigit() and len(number) < 10):
+            raise Refused("an exercise has a number")
+        return exercise_paper.exercise(self._hall.room, int(number), language)
 
     async def bench(self, request):
         """The bench file that is loaded, as octets or as text."""

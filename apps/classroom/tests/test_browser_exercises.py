@@ -1,5 +1,6 @@
 """Exercises in real browsers: a class of five, in which two pairs work and one student observes."""
 
+import html
 import tempfile
 import unittest
 
@@ -219,10 +220,14 @@ class Exercises(unittest.TestCase):
         self.at(self.ada, 5)
         self.assertEqual(self.ada.text("#exercise-title"), f"{number}. My own pair")
 
-    def test_in_another_language(self):
-        """A title in the reader's language, if the text has one."""
-        self.set_up(1)
-        self.assertEqual(self.teacher.all('#exercise-list [data-exercise="1"] span')[0].get_attribute("textContent"), "1. The handshake")
+    def test_on_paper(self):
+        """The teacher prints an exercise: the task, and the solution on another sheet."""
+        self.teacher.click('[data-tab="exercises"]')
+        address = self.teacher.one('#exercise-list [data-exercise="12"] a').get_attribute("href")
+        said = EXERCISES[12].exercise
+        page = self.teacher.run("fetch(arguments[0]).then((r) => r.text()).then(done)", address)
+        self.assertIn(html.escape(said.said("task")), page)
+        self.assertEqual(page.count('<section class="sheet">'), 2)
 
     def test_what_a_student_expects(self):
         """She writes what she expects of a stage; when it is over, it is marked, and stays after a reload."""

@@ -1,6 +1,7 @@
 """The exercises in the room: each run to the end that its text promises, in as many copies as there are students
 for; by the teacher and by hand; and what counts as right."""
 
+import html
 import json
 import random
 import unittest
@@ -11,6 +12,7 @@ from classroom.room import Refused, Room
 from classroom.room.exercises import EXERCISES, sheet
 from classroom.room.exercises.catalog import FIRST_OWN, FOLDER
 from classroom.room.replay import replay
+from classroom.server.exercise_paper import exercise
 
 LONG = 7
 """The exercise with the most calls."""
@@ -51,8 +53,8 @@ class All(unittest.TestCase):
             if number == LONG:
                 continue
             room = begun(number, 16)
-            exercise = listed.exercise
-            for at, stage in enumerate(exercise.stages):
+            said = listed.exercise
+            for at, stage in enumerate(said.stages):
                 view = room.teacher_view()["exercise"]
                 self.assertEqual((view["at"], view["explanation"]), (at, None))
                 self.assertEqual(view["stages"][at:], [{"words": stage.words, "outcome": None}])
@@ -60,9 +62,9 @@ class All(unittest.TestCase):
                 reply = room.teacher({"do": "next"})
                 self.assertEqual((reply["stage"], reply["holds"]), (at, True), (number, at))
             view = room.teacher_view()["exercise"]
-            self.assertEqual(view["explanation"], exercise.words["explanation"])
+            self.assertEqual(view["explanation"], said.words["explanation"])
             self.assertEqual({copy["right"] for copy in view["copies"]}, {True})
-            self.assertEqual(len(view["copies"]), 16 // len(exercise.file.seats))
+            self.assertEqual(len(view["copies"]), 16 // len(said.file.seats))
             self.assertTrue(replay(room.lines()).equal, number)
 
     def test_same_as_the_bench(self):
@@ -90,6 +92,31 @@ class All(unittest.TestCase):
         self.assertEqual(sheet(1, "de")["title"], "Der Handschlag")
         self.assertEqual(sheet(1)["hosts"][1]["difference"], 500)
         self.assertIsNone(sheet(99))
+
+
+class Paper(unittest.TestCase):
+    """An exercise on paper, from the same text."""
+
+    def test_paper(self):
+        room = Room.fresh(2)
+        for number, listed in EXERCISES.items():
+            first, second = exercise(room, number).split('<section class="sheet">')[1:]
+            said = listed.exercise
+            for name in ("title", "task", "question"):
+                self.assertIn(html.escape(said.said(name)), first)
+            self.assertIn(html.escape(said.said("explanation")), second)
+            for stage in said.stages:
+                self.assertIn(html.escape(stage.words["en"]), first)
+                if stage.outcome:
+                    self.assertNotIn(html.escape(stage.outcome["en"]), first)
+                    self.assertIn(html.escape(stage.outcome["en"]), second)
+        self.assertIn("Der Handschlag", exercise(room, 1, "de"))
+        with self.assertRaisesRegex(Refused, "there is no exercise 99"):
+            exercise(room, 99)
+        text = text_of("01-handshake").replace("title The handshake", "title <b>Mine</b>")
+        number = room.teacher({"do": "exercise_load", "name": "mine", "text": text})["number"]
+        self.assertIn("&lt;b&gt;Mine", exercise(room, number))
+        self.assertNotIn("<b>", exercise(room, number))
 
 
 class Copies(unittest.TestCase):
@@ -592,8 +619,8 @@ class Numbers(unittest.TestCase):
         """The texts are the one source: what the room lists is what the folder has."""
         listed = {row["number"]: row["title"]["en"] for row in Room.fresh(2).teacher_view()["exercises"]}
         for path in FOLDER.glob("*.txt"):
-            exercise = bench_file.read_exercise(path.read_text("utf-8"))
-            self.assertEqual(listed[int(path.name[:2])], exercise.said("title"))
+            said = bench_file.read_exercise(path.read_text("utf-8"))
+            self.assertEqual(listed[int(path.name[:2])], said.said("title"))
         self.assertEqual(len(listed), len(list(FOLDER.glob("*.txt"))))
 
 

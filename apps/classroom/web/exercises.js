@@ -2,7 +2,7 @@
 // results. What comes of a stage is shown after it.
 
 import { byId, button, el, keyed, options, say, set } from "./dom.js";
-import { count, t } from "./language.js";
+import { count, language, t } from "./language.js";
 import { makeVerdicts, markOf, said } from "./verdicts.js";
 import { sure } from "./sure.js";
 
@@ -57,7 +57,8 @@ export function makeExercises(send, chosen, ask) {
   function list(exercises) {
     byId("exercise-list").replaceChildren(...exercises.map(({ number, title, hosts, own }) => el("li", { "data-exercise": number },
       button(t("exercise.set_up"), () => setUp(number), { "aria-label": t("exercise.set_up_this", { number, title: said(title) }) }),
-      el("span", {}, `${number}. ${said(title)}`), el("span", { class: "quiet" }, t(own ? "exercise.hosts.own" : "exercise.hosts", { hosts })))));
+      el("span", {}, `${number}. ${said(title)}`), el("span", { class: "quiet" }, t(own ? "exercise.hosts.own" : "exercise.hosts", { hosts })),
+      el("a", { href: `/teacher/print/exercise?number=${number}&language=${language}`, target: "_blank", rel: "noopener" }, t("exercise.print")))));
   }
 
   // The faults of a text, each with its line.
