@@ -38,7 +38,7 @@ fragmentPlace = 6
 abbrev pub protocolPlace : ℕ
 protocolPlace = 9
 
--- PACKET-3: where the checksum is
+-- helper: where the checksum is
 abbrev pub checksumPlace : ℕ
 checksumPlace = 10
 
