@@ -54,6 +54,9 @@ static int64_t reads(hello_counter counter, int64_t time, uint16_t date)
 
 int main(void)
 {
+    assert(hello_date(1972, 1, 1) == FIRST);
+    assert(hello_date(1972, 1, 2) == SECOND);
+    assert(hello_date(2004, 1, 1) == 0);
     set_up();
     assert(reads(at(59999), 86399999, FIRST) == 86340000);
     assert(host.clock.hold == 0);

@@ -150,3 +150,24 @@ fn an_arrival_is_the_pair_and_the_action_alone() {
         assert_eq!(kept(acting, A), kept(&mut complete, A));
     }
 }
+
+/// The DATE word of days that there are, and of days that there are not.
+#[test]
+fn dates_of_the_calendar() {
+    assert_eq!(hello::date(1972, 1, 1), Some(hello::FIRST_DATE));
+    assert_eq!(hello::date(1984, 2, 28), Some(2956));
+    assert_eq!(hello::date(1984, 2, 29), Some(2988));
+    assert_eq!(hello::date(2003, 12, 31), Some(13_311));
+    for (year, month, day) in [
+        (1971, 12, 31),
+        (2004, 1, 1),
+        (1985, 2, 29),
+        (1985, 4, 31),
+        (1984, 13, 1),
+        (1984, 0, 1),
+        (1984, 1, 0),
+        (1984, 1, 32),
+    ] {
+        assert_eq!(hello::date(year, month, day), None);
+    }
+}
