@@ -9,6 +9,8 @@ A view's parts are its keys. A patch of a part is a list of changes, each one of
 A path is a list of keys and places. Some parts are news: they are sent as they are, when there are any.
 """
 
+import json
+
 NEWS = frozenset(
     ("calls", "points", "bench", "checklist", "answers", "exercises", "bench_files", "addresses")
 )
@@ -83,6 +85,8 @@ class Versions:
     def message(self, view):
         """What brings the page to this view: at first all of it, then what has changed; a part that the
         view does not have is as it was."""
+        # A copy: the room goes on to change lists that a view shows.
+        view = json.loads(json.dumps(view))
         news = {key: value for key, value in view.items() if key in NEWS}
         parts = {key: value for key, value in view.items() if key not in NEWS}
         if not self._parts:

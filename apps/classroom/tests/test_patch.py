@@ -78,6 +78,13 @@ class Patches(unittest.TestCase):
             for part in view:
                 self.assertEqual(page.view[part], json.loads(json.dumps(view[part])), part)
 
+    def test_a_list_that_grows_in_its_place(self):
+        versions, page, boxes = Versions(), Patched(), []
+        for box in range(4):
+            boxes.append({"box": box})
+            self.assertTrue(page.take(versions.message({"walk": {"boxes": boxes}})))
+            self.assertEqual(page.view["walk"]["boxes"], boxes)
+
     def test_a_gap(self):
         versions, page = Versions(), Patched()
         self.assertTrue(page.take(versions.message({"room": {"time": 1}})))
