@@ -44,9 +44,10 @@ for (const line of document.querySelectorAll('#picture [data-cable]')) {
 return faults;
 """
 PLACES = """
+const frame = document.querySelector('#picture svg').getBoundingClientRect();
 return Object.fromEntries([...document.querySelectorAll('#picture [data-host]')].map((host) => {
   const r = host.querySelector('rect').getBoundingClientRect();
-  return [host.dataset.host, [(r.left + r.right) / 2, (r.top + r.bottom) / 2]];
+  return [host.dataset.host, [(r.left + r.right) / 2 - frame.left, (r.top + r.bottom) / 2 - frame.top]];
 }));
 """
 

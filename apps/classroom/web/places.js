@@ -216,7 +216,7 @@ export function places(seats, cables, wide) {
   const widest = Math.max(76, Math.min(150, Math.floor(wide / columns / across) - 16));
   // Where a net is too dense for its area, that grows, and the boxes become narrower.
   for (const [taller, narrower] of [[1, 1], [1.3, 0.9], [1.7, 0.8], [2.2, 0.7]]) {
-    const box = [Math.max(76, Math.floor(widest * narrower)), 64];
+    const box = [Math.max(76, Math.floor(widest * narrower)), 70];
     const made = arrangement(all, near, wide, columns, box, taller);
     if (made.free || taller > 2) return made;
   }
