@@ -25,7 +25,7 @@ def used():
         found |= set(re.findall(r'data-(?:text|title|label|placeholder)="([^"]+)"', path.read_text()))
     for path in Path(ROOM).rglob("*.py"):
         found |= set(re.findall(r'"((?:needs|fault|sum\.send)\.[a-z_.]+)"', path.read_text()))
-    return {key for key in found if re.fullmatch(r"[\w.-]+", key)}
+    return {key for key in found if re.fullmatch(r"\w+\.[\w.-]+", key)}
 
 
 class Languages(unittest.TestCase):

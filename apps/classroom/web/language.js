@@ -12,7 +12,9 @@ function chosen() {
 }
 
 export const language = chosen();
-const words = await (await fetch(`/web/words-${language}.json`)).json();
+const read = async (code) => (await fetch(`/web/words-${code}.json`)).json();
+// A text that another language lacks is shown in English.
+const words = language === "en" ? await read("en") : { ...await read("en"), ...await read(language) };
 document.documentElement.lang = language;
 
 const numbers = new Intl.NumberFormat(language === "de" ? "de-DE" : "en-US", { maximumFractionDigits: 3 });

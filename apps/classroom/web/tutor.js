@@ -3,6 +3,7 @@
 
 import { byId, say } from "./dom.js";
 import { makeAnswer } from "./answer.js";
+import { t } from "./language.js";
 import { makeNetTable } from "./nettable.js";
 
 const calls = { "net-add": "net_add", "net-change": "net_change", "net-remove": "net_remove", "net-afresh": "net_afresh" };
@@ -16,7 +17,7 @@ function given(form) {
 // ask(message) gives a promise of the reply.
 export function makeTutor(ask) {
   const table = makeNetTable();
-  const answer = makeAnswer("net-answer", "the library");
+  const answer = makeAnswer("net-answer", t("answer.library"));
   const left = byId("net-left");
   let room = null;
   let others = [];
