@@ -21,7 +21,7 @@ def teacher_view(room, since, presence):
         "cables": _cables(room),
         "on_their_way": room.cables.shown(),
         "board": board.rows(room, presence),
-        "promise": room.promise.broken,
+        "promise": list(room.promise.broken),
         "calls": room.log.since(line),
         "points": _points(room, point),
         "mark": [
@@ -193,7 +193,8 @@ def _name(room, id):
 def _walk(room, seat):
     walk = seat.walk
     message, held = walk["message"], seat.state.walk or (None, None, None, None)
-    told = {part: walk[part] for part in ("next", "boxes", "ended")}
+    # A copy: what a view shows is compared with the next one.
+    told = {"next": walk["next"], "boxes": list(walk["boxes"]), "ended": walk["ended"]}
     asks = predict.asked_of_box(room, walk["next"]) if walk["next"] else []
     packet = message.shown()
     held = dict(zip(("reading", "delay", "offset"), held[1:]))

@@ -59,6 +59,7 @@ class Lesson(unittest.TestCase):
         self.marks = {seat: {"tried": 0, "right": 0, "second": 0} for seat in range(STUDENTS)}
         self.teacher.open(self.served.address["/teacher"])
         self.teacher.one("#room[data-time]")
+        self.teacher.click("#start-close")
         self.join()
         self.give_the_exercise()
         for seat in range(STUDENTS):
