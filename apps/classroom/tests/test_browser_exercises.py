@@ -53,8 +53,15 @@ class Exercises(unittest.TestCase):
         before = self.teacher.told("#room", "data-number")
         self.teacher.click('[data-tab="exercises"]')
         self.teacher.click(f'#exercise-list [data-exercise="{number}"] button')
-        self.teacher.until(lambda: self.teacher.told("#room", "data-number") == before + 1, "a new room")
+        self.teacher.until(lambda: self.agreed(before + 1), "a new room")
         self.at(self.teacher, 0)
+
+    def agreed(self, number):
+        """Whether the room of that number is there; a question before the loss of the other is agreed to."""
+        for button in self.teacher.all(".sure-yes"):
+            if button.is_displayed():
+                button.click()
+        return self.teacher.told("#room", "data-number") == number
 
     def next(self):
         """The teacher lets the next stage be carried out."""
