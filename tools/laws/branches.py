@@ -1,6 +1,6 @@
 """Write the law of a thin function that ends in a branch: an `if` on a value of type bool, or a `match` on an enum that a call hands back. Its arms are straight statements.
 
-Each way through the function, the statements before the branch and then an arm, is a straight function, whose hypotheses and walk `straight.py` writes; what is known on a way is said besides: that the test holds or fails, or that what was handed back is this variant. The ways share the hypotheses of the calls before the branch. `crates/lent/proofs/Choosing.antt` and `Matching.antt` have the steps."""
+Each way through the function, the statements before the branch and then an arm, is a straight function, whose hypotheses and walk `straight.py` writes; what is known on a way is said besides: that the test holds or fails, or that what was handed back is this variant. The ways share the hypotheses of the calls before the branch. `crates/references/proofs/Choosing.antt` and `Matching.antt` have the steps."""
 from script import digits, items, thin_uses, tuple_of, wrapped
 from straight import Straight, Value
 

@@ -289,4 +289,4 @@ class Loop(Law):
 
     def cites(self):
         """the names that the text uses"""
-        self.out[self.uses_at] = thin_uses("\n".join(self.out[self.uses_at:]), "lent", [("mathlib.Core.Bool", ["Bool", "true", "_&&_"]), ("native.Mathlib.Omega", ["arith"]), ("lib.Dec", ["T", "ltb"]), ("lib.ListN", ["getD", "set as set-at", "length-set"]), ("denote.Memory", ["mem"])])
+        self.out[self.uses_at] = thin_uses("\n".join(self.out[self.uses_at:]), "references", [("mathlib.Core.Bool", ["Bool", "true", "_&&_"]), ("native.Mathlib.Omega", ["arith"]), ("lib.Dec", ["T", "ltb"]), ("lib.ListN", ["getD", "set as set-at", "length-set"]), ("denote.Memory", ["mem"])])

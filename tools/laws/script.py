@@ -2,7 +2,7 @@
 import os
 import re
 
-PROOFS = os.path.join(os.path.dirname(os.path.abspath(__file__)), "..", "..", "crates/lent/proofs")
+PROOFS = os.path.join(os.path.dirname(os.path.abspath(__file__)), "..", "..", "crates/references/proofs")
 
 
 def digits(n):
@@ -88,4 +88,4 @@ def thin_uses(text, crate, modules=()):
 
 def lib(crate):
     """what the laws of a crate call the proofs of crate `lent`"""
-    return "Rattle.lent.proofs" if crate == "lent" else "Rattle.lent.proofs"
+    return "Rattle.references.proofs" if crate == "references" else "Rattle.references.proofs"

@@ -2,7 +2,7 @@
 import re
 from script import thin_names
 
-CRATES = ("lent", "shapes", "exports")
+CRATES = ("references", "shapes", "exports")
 LOOPS = ("Maps", "Applies", "Writes", "Tests", "Surveys")
 
 # What the made text binds or cites itself, beside the names of Thin.antt. A type of the same name would be taken for it, or it for the type.

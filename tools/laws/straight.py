@@ -13,7 +13,7 @@ A shape is the text of a function of straight statements, in which a type is a n
     }
 
 P(A, C, J) is a struct whose first fields are of these types. Of a `&mut` slice that is passed, `&run` is lent as a `&` and comes back, `&mut run` is lent again and comes back, and `run` is given up for good.
-The walk is one step of `crates/lent/proofs` for each statement; what a step asks for is computed, and shown by `refl` or `tt`.
+The walk is one step of `crates/references/proofs` for each statement; what a step asks for is computed, and shown by `refl` or `tt`.
 The checker checks what is written: nothing here is trusted."""
 from script import Law, arrows, bound, digits, items, proj, thin_uses, tuple_of, wrapped
 

@@ -21,7 +21,7 @@ def laws(path):
     with open(path) as f:
         read = shapes.read(f.read())
     made = [(s.crate, s.name, LAWS[type(s)](s).text()) for s in read]
-    return made + [("lent", name, Loop(name).text()) for name in shapes.LOOPS]
+    return made + [("references", name, Loop(name).text()) for name in shapes.LOOPS]
 
 
 def put(path, text):

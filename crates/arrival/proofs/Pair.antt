@@ -7,14 +7,14 @@ use Rattle.answer.specs.declared.Answer.{Answer}
 use Rattle.clock.specs.declared.Counter.{Counter}
 use Rattle.wire.specs.declared.Parsed.{Parsed}
 use Rattle.wire.specs.declared.Parsed.the-variants.{Good, Bad}
-use Rattle.class_table.specs.declared.ClassTable.{ClassTable}
-use Rattle.host.specs.Lent.{Host}
+use Rattle.net_table.specs.declared.NetTable.{NetTable}
+use Rattle.host.specs.CallState.{Host}
 use Rattle.host.specs.Guard.{done}
 use Rattle.arrival.specs.declared.Arrived.{Arrived}
 use Rattle.host.specs.Inspection.{inspect, tells}
 use Rattle.arrival.specs.Arrival.{quiet, ends, inspected, act, arrival}
 
-pub one-piece : (i : ℕ) (k : Counter) (octets : List ℕ) (t : ClassTable) (h : Host) → arrival i k octets t h ≡ act i k octets t h
+pub one-piece : (i : ℕ) (k : Counter) (octets : List ℕ) (t : NetTable) (h : Host) → arrival i k octets t h ≡ act i k octets t h
 one-piece i k octets t h = go (inspect (h .settings) i octets)
   where
     same : (b : Bool) (a : Arrived) → cond b a a ≡ a

@@ -19,12 +19,12 @@ use Rattle.wire.specs.declared.Parsed.the-variants.{Good, Bad}
 use Rattle.route.specs.declared.Found.{Found}
 use Rattle.route.specs.declared.Found.the-variants.{Id, Nothing}
 use Rattle.table.specs.declared.Update.{Update}
-use Rattle.table.specs.declared.run.Updates.{Updates}
+use Rattle.table.specs.declared.entries.Updates.{Updates}
 use Rattle.table.specs.Forms.{Stage, on, end}
-use Rattle.class_table.specs.declared.ClassTable.{ClassTable}
+use Rattle.net_table.specs.declared.NetTable.{NetTable}
 use Rattle.host.specs.Settings.{foundFor}
 use Rattle.host.specs.State.{hostCount, broadcast, linkOf, withLink}
-use Rattle.host.specs.Lent.{Host, host, ourReading}
+use Rattle.host.specs.CallState.{Host, host, ourReading}
 use Rattle.host.specs.Guard.{done}
 use Rattle.host.specs.declared.Reply.{Reply}
 use Rattle.host.specs.Reply.{plainly}
@@ -89,22 +89,22 @@ abbrev pub withTable : Host → (link : ℕ) → Count → Packet → Flight →
 withTable h i n p f = updated h n p (neighborUpdate i f) 0 (hostCount (h .settings)) true
 
 -- ARRIVE-5: step 5
-abbrev pub step5 : ClassTable → Host → (link : ℕ) → Count → Packet → Flight → Arrived
+abbrev pub step5 : NetTable → Host → (link : ℕ) → Count → Packet → Flight → Arrived
 step5 t h i n p f = cond (eqb (p .nhosts) 0) (noTable h i n p f (foundFor t (h .settings) (f .link .neighbor))) (withTable h i n p f)
 
 -- ARRIVE-4, ANSWER-10, CLOCK-16: the link is stored as steps 2 to 4 make it, then 10 or step 5
-abbrev pub concluded : ClassTable → Host → (link : ℕ) → Count → Packet → Stage Flight → Arrived
+abbrev pub concluded : NetTable → Host → (link : ℕ) → Count → Packet → Stage Flight → Arrived
 concluded t h i n p (end f) = ends DelayNotValid (host (h .settings) (h .clock) (withLink i (f .link) (h .links)))
 concluded t h i n p (on f) = step5 t (host (h .settings) (h .clock) (withLink i (f .link) (h .links))) i n p f
 
 -- CLOCK-16, INSPECT-3: steps 2 to 5 with a reading, whose clock they keep
-abbrev pub actionAt : Reading → Count → ClassTable → Host → (link : ℕ) → Packet → Arrived
+abbrev pub actionAt : Reading → Count → NetTable → Host → (link : ℕ) → Packet → Arrived
 actionAt r n t h i p =
     concluded t (host (h .settings) (r .clock) (h .links)) i n p
     (steps2to4 (broadcast (h .settings) i) (r .clock .hold) p (r .time) (linkOf (h .links) i))
 
 -- INSPECT-3, CLOCK-16: steps 2 to 5 with one reading
-abbrev pub action : Counter → ClassTable → Host → (link : ℕ) → Packet → Arrived
+abbrev pub action : Counter → NetTable → Host → (link : ℕ) → Packet → Arrived
 action k t h i p = actionAt (ourReading k h) (countUsed k) t h i p
 
 -- ---- the three calls
@@ -114,20 +114,20 @@ abbrev pub inspection : (link : ℕ) (packet : List ℕ) → Host → Arrived
 inspection i octets h = quiet (tells (inspect (h .settings) i octets)) h
 
 -- INSPECT-3, CLOCK-16: a packet that passes is acted on; a refused one is not, and no clock is read
-abbrev pub inspected : Counter → ClassTable → Host → (link : ℕ) → Parsed → Arrived
+abbrev pub inspected : Counter → NetTable → Host → (link : ℕ) → Parsed → Arrived
 inspected k t h i (Bad a) = ends a h
 inspected k t h i (Good p) = action k t h i p
 
 -- INSPECT-3, INSPECT-5: the action: it inspects again
-abbrev pub act : (link : ℕ) → Counter → (packet : List ℕ) → ClassTable → Host → Arrived
+abbrev pub act : (link : ℕ) → Counter → (packet : List ℕ) → NetTable → Host → Arrived
 act i k octets t h = inspected k t h i (inspect (h .settings) i octets)
 
 -- INSPECT-4: the arrival in one call: the inspection and, if it answers 0, the action
-abbrev pub arrival : (link : ℕ) → Counter → (packet : List ℕ) → ClassTable → Host → Arrived
+abbrev pub arrival : (link : ℕ) → Counter → (packet : List ℕ) → NetTable → Host → Arrived
 arrival i k octets t h = cond (done (inspection i octets h .reply .answer)) (act i k octets t h) (inspection i octets h)
 
 -- INSPECT-4: one of the three calls
-abbrev pub delivered : Delivery → (packet : List ℕ) → ClassTable → Host → Arrived
+abbrev pub delivered : Delivery → (packet : List ℕ) → NetTable → Host → Arrived
 delivered (Inspect i) octets t h = inspection i octets h
 delivered (Act i k) octets t h = act i k octets t h
 delivered (Receive i k) octets t h = arrival i k octets t h

@@ -8,8 +8,8 @@ ghost use Rattle.table.specs.Entry.{upTo};
 ghost use Rattle.host.specs.Settings.{settingsGood};
 ghost use Rattle.host.specs.State.{hasPlace};
 ghost use Rattle.host.specs.declared.guard.Scope.the-variants.{OnLink};
-ghost use Rattle.host.specs.Lent.{host};
-ghost use Rattle.host.specs.code.Told.{RowsBelow, Told, TableTold};
+ghost use Rattle.host.specs.CallState.{host};
+ghost use Rattle.host.specs.code.Returned.{RowsBelow, Returned, TableReturned};
 ghost use Rattle.clock.specs.Clock.{clockInRange};
 ghost use Rattle.arrival.specs.Steps.{atLeastMin, neighborUpdate};
 ghost use Rattle.arrival.specs.Arrival.{
@@ -27,7 +27,6 @@ ghost use Rattle.arrival.specs.Arrival.{
 ghost use Rattle.arrival.specs.code.Plan.{planned};
 use answer::Answer;
 use calendar::Date;
-use class_table::ClassTable;
 use clock::Clock;
 use clock::Counter;
 use host::Links;
@@ -39,19 +38,20 @@ use host::link_state::broadcast;
 use host::link_state::link_of;
 use host::link_state::with_link;
 use host::replies::plainly;
+use net_table::NetTable;
 use quantity::Count;
 use quantity::Millis;
 use quantity::Seconds;
 use quantity::Word;
 use route::Found;
 use table::Update;
-use table::run::Updates;
+use table::entries::Updates;
 use wire::Packet;
 use wire::Parsed;
 
 pub mod steps;
 
-// An arrival between its steps: our reading, the link as the steps leave it, DELAY and OFFSET.
+// An arrival between its steps: our reading, the link after the steps so far, DELAY and OFFSET.
 pub struct Flight {
     pub reading: quantity::Millis,
     pub link: host::Link,
@@ -72,7 +72,7 @@ pub enum Delivery {
     Receive(usize, Counter),
 }
 
-// What a packet that arrives comes to: the reply, the links afterwards, and the updates of which ids, with the clock that they start from.
+// The result of an arriving packet: the reply, the links afterwards, and the updates of which ids, with the clock that they start from.
 pub struct Arrived {
     pub reply: Reply,
     pub links: Links,
@@ -139,7 +139,7 @@ fn neighbor_update(link: usize, f: Flight) -> Update
     }
 }
 
-// So many ids from one on are updated.
+// n ids from one on are updated.
 fn updated(
     s: Settings,
     c: Clock,
@@ -199,7 +199,7 @@ fn no_table(
 
 fn step5(
     s: Settings,
-    t: ClassTable,
+    t: NetTable,
     c: Clock,
     l: Links,
     link: usize,
@@ -233,7 +233,7 @@ fn step5(
 // Steps 2 to 5, with one reading.
 fn action(
     s: Settings,
-    t: ClassTable,
+    t: NetTable,
     c: Clock,
     l: Links,
     link: usize,
@@ -270,7 +270,7 @@ fn look(s: Settings, c: Clock, l: Links, link: usize, packet: &[u8]) -> Arrived
 // Answers 3 to 9 by the inspection, then the action.
 fn act(
     s: Settings,
-    t: ClassTable,
+    t: NetTable,
     c: Clock,
     l: Links,
     link: usize,
@@ -297,8 +297,8 @@ pub fn on_link(d: Delivery) -> usize
     }
 }
 
-// The arrival in one piece is what the action alone comes to, since that inspects too.
-fn deliver(s: Settings, t: ClassTable, c: Clock, l: Links, d: Delivery, packet: &[u8]) -> Arrived
+// The arrival in one piece equals the action alone, since the action inspects too.
+fn deliver(s: Settings, t: NetTable, c: Clock, l: Links, d: Delivery, packet: &[u8]) -> Arrived
     requires { ⌜ (1 ≤ onLink d) × (onLink d ≤ 8) ⌝ }
     requires { ⌜ (settingsGood s ≡ true) × RowsBelow t s × (clockInRange c ≡ true) ⌝ }
     ensures { λ a. ⌜ a ≡ delivered d (now (packet .entry)) t (host s c l) ⌝ }
@@ -310,17 +310,17 @@ fn deliver(s: Settings, t: ClassTable, c: Clock, l: Links, d: Delivery, packet: 
     }
 }
 
-// A refusal of the guard's, or what the delivery comes to.
+// The guard's refusal, or the result of the delivery.
 pub fn plan(
     g: Answer,
     s: Settings,
-    t: ClassTable,
+    t: NetTable,
     c: Clock,
     l: Links,
     d: Delivery,
     packet: &[u8],
 ) -> Arrived
-    requires { ⌜ Told g (OnLink (onLink d)) s c × TableTold g t s ⌝ }
+    requires { ⌜ Returned g (OnLink (onLink d)) s c × TableReturned g t s ⌝ }
     ensures { λ p. ⌜ (p ≡ planned g d (now (packet .entry)) t (host s c l)) × (p .work .count .0 < 2 ^ 16) ⌝ }
 {
     if !answer::is_done(g) {

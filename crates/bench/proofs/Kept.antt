@@ -9,9 +9,9 @@ use Rattle.lists.proofs.Tests.{either}
 use Rattle.lists.proofs.Parts.{part-length}
 use Rattle.answer.specs.declared.Answer.the-variants.{IpForm}
 use Rattle.clock.specs.declared.Counter.{Counter}
-use Rattle.class_table.specs.declared.ClassTable.{ClassTable}
+use Rattle.net_table.specs.declared.NetTable.{NetTable}
 use Rattle.host.specs.Guard.{longest, done}
-use Rattle.host.specs.Lent.{Lent}
+use Rattle.host.specs.CallState.{CallState}
 use Rattle.calls.specs.Perform.{Outcome, send, perform}
 use Rattle.calls.proofs.SendKeeps.{keeps as send-keeps}
 use Rattle.bench_file.specs.declared.Header.{Header}
@@ -20,7 +20,7 @@ use Rattle.bench_file.specs.declared.Event.{Event}
 use Rattle.bench_file.specs.declared.Event.the-variants.{Tick, Adjust, Set, Second, SelfReport, Send, Arrival, Unknown}
 use Rattle.bench_file.specs.Records.{endAt}
 use Rattle.bench_file.specs.Absent.{slots, eventGood}
-use Rattle.bench.specs.Bench.{Bench, lentAt}
+use Rattle.bench.specs.Bench.{Bench, stateAt}
 use Rattle.bench.specs.Slots.{slotLength, roomPlace, roomOf, empty, farEnd, withRoom, withLabel, slotsGood}
 use Rattle.bench.specs.Event.{After, sent, taken, carried}
 use Rattle.bench.proofs.Labels as labels
@@ -30,13 +30,13 @@ pub record SlotsKept (h : Header) (o p : List ℕ) : Type 0 where
   pub long : length p ≡ length o
   pub good : slotsGood h o ≡ true → slotsGood h p ≡ true
 
-module _ (file : List ℕ) (t : ClassTable) (h : Header) (b : Bench) (long : slotLength * slots ≤ length (b .slots)) where
+module _ (file : List ℕ) (t : NetTable) (h : Header) (b : Bench) (long : slotLength * slots ≤ length (b .slots)) where
   stays : SlotsKept h (b .slots) (b .slots)
   stays = record { long = refl; good = λ g. g }
 
   sends : (e : End) (c i n : ℕ) (k : Counter) → c < h .cables → i ≤ 1 → n < slots → SlotsKept h (b .slots) (sent file t h e c i n k b .bench .slots)
   sends e c i n k cable end slot =
-      let x : Lent = lentAt file t (e .host) b in
+      let x : CallState = stateAt file t (e .host) b in
       let o : Outcome = perform (send (e .link) k (roomOf n (b .slots))) x in
       let f = send-keeps x (e .link) k (roomOf n (b .slots)) in
       let room : length (roomOf n (b .slots)) ≡ longest = part-length (roomPlace n) longest (b .slots) (omega arith) in

@@ -1,7 +1,7 @@
 pub mod Files
 pub mod Guards
 pub mod Runs
-pub mod Afresh
+pub mod Initialized
 pub mod Zeros
 pub mod Defaults
 pub mod Each

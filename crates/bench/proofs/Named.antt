@@ -7,7 +7,7 @@ use native.Mathlib.Omega.{arith}
 use borrow.Author.Tests.{ltb-true, leb-true, ne-eqb}
 use lib.Dec.{ltb, leb}
 use Rattle.lists.proofs.Tests.{both}
-use Rattle.class_table.specs.declared.ClassTable.{ClassTable}
+use Rattle.net_table.specs.declared.NetTable.{NetTable}
 use Rattle.host.specs.Guard.{longest}
 use Rattle.clock.specs.declared.Counter.{Counter}
 use Rattle.bench_file.specs.declared.Header.{Header}
@@ -21,7 +21,7 @@ use Rattle.bench.specs.Slots.{labelOf, slotGood, slotsGood, empty}
 use Rattle.bench.specs.Guard.{recordsGood}
 use Rattle.bench.proofs.Each.{one-of}
 
-module _ (t : ClassTable) (file : List ℕ) (h : Header) (good : recordsGood t file h ≡ true) where
+module _ (t : NetTable) (file : List ℕ) (h : Header) (good : recordsGood t file h ≡ true) where
   pub cables-good : cablesGood file h ≡ true
   unfolding recordsGood
   cables-good = both (cablesGood file h) (eventsGood file h) (both (hostsGood t file h) (cablesGood file h && eventsGood file h) good .1) .0

@@ -1,7 +1,7 @@
 -- The structs that set-up and run plan by, as the laws of thin functions take them.
 use mathlib.Core.List.{[], _∷_}
-use Rattle.lent.proofs.Words.{Data, Choice, struct-part, enum-part, usize-part}
-use Rattle.lent.proofs.Outcomes.{Outcome, behind, whole}
+use Rattle.references.proofs.Words.{Data, Choice, struct-part, enum-part, usize-part}
+use Rattle.references.proofs.Outcomes.{Outcome, behind, whole}
 use Rattle.bench.proofs.Answer as Answer
 use Rattle.bench.proofs.Answer.Laws as Answer′
 use Rattle.bench.proofs.Progress as Progress

@@ -8,7 +8,7 @@ use native.Mathlib.Omega.{arith}
 use borrow.Author.Tests.{ltb-true, ltb-false, le-ltb, leb-true, leb-false}
 use lib.Dec.{ltb, leb}
 use Rattle.lists.proofs.Tests.{either}
-use Rattle.class_table.specs.declared.ClassTable.{ClassTable}
+use Rattle.net_table.specs.declared.NetTable.{NetTable}
 use Rattle.bench_file.specs.declared.Header.{Header}
 use Rattle.bench_file.specs.declared.Event.{Event}
 use Rattle.bench_file.specs.declared.Event.the-variants.{Tick, Adjust, Set, Second, SelfReport, Send, Arrival, Unknown}
@@ -19,7 +19,7 @@ use Rattle.bench.specs.Event.{After, carried}
 use Rattle.bench.specs.Run.{header, next, steps}
 
 -- an event leaves the copies and how many are done
-module _ (file : List ℕ) (t : ClassTable) (h : Header) where
+module _ (file : List ℕ) (t : NetTable) (h : Header) where
   pub same-done : (e : Event) (b : Bench) → carried file t h e b .bench .done ≡ b .done
   same-done (Tick k n) b = refl
   same-done (Adjust k n) b = refl
@@ -40,7 +40,7 @@ module _ (file : List ℕ) (t : ClassTable) (h : Header) where
   same-copies (Arrival n k) b = either (λ (a : After). a .bench .copies ≡ b .copies) (empty n (b .slots)) _ _ (λ _. refl) (λ _. refl)
   same-copies Unknown b = refl
 
-module _ (file : List ℕ) (t : ClassTable) where
+module _ (file : List ℕ) (t : NetTable) where
   abbrev more : Bench → Bool
   more b = ltb (b .done) (header file t .events)
 

@@ -6,7 +6,7 @@ use Prim.Native.Nat.{ℕ, _-_, _*_, _≤_}
 use native.Mathlib.Omega.{arith}
 use lib.ListN.{length}
 use Rattle.lists.proofs.Tests.{either}
-use Rattle.class_table.specs.declared.ClassTable.{ClassTable}
+use Rattle.net_table.specs.declared.NetTable.{NetTable}
 use Rattle.table.specs.declared.Entry.{Entry}
 use Rattle.bench_file.specs.declared.Header.{Header}
 use Rattle.bench_file.specs.Header.{headerOf}
@@ -23,11 +23,11 @@ use Rattle.bench.specs.Run.{allSet, setUp, afterSetUp}
 use Rattle.bench.specs.code.Sets.{SetsFit, SetsLeave}
 use Rattle.bench.specs.code.Plans.{setsAll, setsNone, setUpPlan}
 use Rattle.bench.proofs.Guards.{Long, long-of, Passed, passed-all}
-use Rattle.bench.proofs.Afresh.{beside}
+use Rattle.bench.proofs.Initialized.{beside}
 
-module _ (file : List ℕ) (t : ClassTable) (hosts : List HostState) (copies : List ℕ) (run : List Entry) (slots answers : List ℕ) (done : ℕ) where
+module _ (file : List ℕ) (t : NetTable) (hosts : List HostState) (copies : List ℕ) (entries : List Entry) (slots answers : List ℕ) (done : ℕ) where
   abbrev b : Bench
-  b = bench hosts copies run slots answers done
+  b = bench hosts copies entries slots answers done
 
   abbrev h : Header
   h = headerOf file
@@ -43,7 +43,7 @@ module _ (file : List ℕ) (t : ClassTable) (hosts : List HostState) (copies : L
     tests = passed-all true t file (lengthsOf b) e
 
     long : Long h (lengthsOf b)
-    long = long-of h (lengthsOf b) (tests .lent)
+    long = long-of h (lengthsOf b) (tests .callState)
 
   -- ---- what the parts ask
 
@@ -64,11 +64,11 @@ module _ (file : List ℕ) (t : ClassTable) (hosts : List HostState) (copies : L
 
   -- ---- what they leave
 
-  module _ (hosts′ : List HostState) (run′ : List Entry) where
+  module _ (hosts′ : List HostState) (entries′ : List Entry) where
     abbrev Says : SetUpPlan → Bench → Type 0
     Says p c =
-        SetsLeave file (p .sets) t hosts copies run hosts′ run′
-        → (p .answer ≡ a) × (bench hosts′ copies run′ (zeros (p .slots) slots) (zeros (p .answers) answers) (p .progress .done) ≡ c)
+        SetsLeave file (p .sets) t hosts copies entries hosts′ entries′
+        → (p .answer ≡ a) × (bench hosts′ copies entries′ (zeros (p .slots) slots) (zeros (p .answers) answers) (p .progress .done) ≡ c)
 
     set : Says (setsAll a h) (setUp file t b)
     unfolding setUp
@@ -80,7 +80,7 @@ module _ (file : List ℕ) (t : ClassTable) (hosts : List HostState) (copies : L
           λ i. record {
             hosts = (left .hosts ∙ ap (λ (m : ℕ). allSet file t 0 m b .hosts) n) i;
             copies = sym (k .copies) i;
-            run = (left .run ∙ ap (λ (m : ℕ). allSet file t 0 m b .run) n) i;
+            entries = (left .entries ∙ ap (λ (m : ℕ). allSet file t 0 m b .entries) n) i;
             slots = zeros (slotLength * file′.slots) (sym (k .slots) i);
             answers = zeros (h .events) (sym (k .answers) i);
             done = 0;
@@ -91,7 +91,7 @@ module _ (file : List ℕ) (t : ClassTable) (hosts : List HostState) (copies : L
     unfolding allSet
     none l =
         let left = l slots answers done in
-        (refl, λ i. record { hosts = left .hosts i; copies = copies; run = left .run i; slots = slots; answers = answers; done = done })
+        (refl, λ i. record { hosts = left .hosts i; copies = copies; entries = left .entries i; slots = slots; answers = answers; done = done })
 
     pub carried-out : Says plan (afterSetUp file t b)
     carried-out = go (passes a)

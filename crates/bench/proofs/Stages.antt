@@ -9,7 +9,7 @@ use lib.ListN.{length, set}
 use Rattle.answer.specs.Answer.{number as answered}
 use Rattle.answer.specs.declared.Answer.the-variants.{IpForm}
 use Rattle.clock.specs.declared.Counter.{Counter}
-use Rattle.class_table.specs.declared.ClassTable.{ClassTable}
+use Rattle.net_table.specs.declared.NetTable.{NetTable}
 use Rattle.table.specs.declared.Entry.{Entry}
 use Rattle.host.specs.declared.Reply.{Reply}
 use Rattle.calls.specs.declared.Request.{Request}
@@ -20,12 +20,12 @@ use Rattle.bench.specs.declared.HostState.{HostState}
 use Rattle.bench.specs.declared.requests.Ask.{Ask}
 use Rattle.bench.specs.declared.sends.Sending.{Sending}
 use Rattle.bench.specs.declared.takes.Taking.{Taking}
-use Rattle.bench.specs.declared.told.Asking.{Asking}
-use Rattle.bench.specs.declared.told.Going.{Going}
-use Rattle.bench.specs.declared.told.Coming.{Coming}
-use Rattle.bench.specs.declared.told.Told.{Told}
-use Rattle.bench.specs.declared.told.Told.the-variants as told
-use Rattle.bench.specs.Bench.{Bench, freshHost, lentAt}
+use Rattle.bench.specs.declared.returned.Asking.{Asking}
+use Rattle.bench.specs.declared.returned.Going.{Going}
+use Rattle.bench.specs.declared.returned.Coming.{Coming}
+use Rattle.bench.specs.declared.returned.Returned.{Returned}
+use Rattle.bench.specs.declared.returned.Returned.the-variants as returned
+use Rattle.bench.specs.Bench.{Bench, freshHost, stateAt}
 use Rattle.bench.specs.Slots.{slotLength, roomOf, farEnd, empty, slotsGood}
 use Rattle.bench_file.specs.Absent.{slots, cablesGood}
 use Rattle.bench_file.specs.code.Sections.{Sections}
@@ -35,54 +35,54 @@ use Rattle.bench.specs.Run.{next}
 use Rattle.bench.specs.code.Asks.{AskFits, AskDone, AskLeaves}
 use Rattle.bench.specs.code.Sends.{SendFits, SendDone, SendLeaves}
 use Rattle.bench.specs.code.Takes.{TakeFits, TakeLeaves}
-use Rattle.bench.specs.code.Told.{EventFits, OnlyAsk, OnlySend, OnlyTake, OnlyNote, askOf, sendOf, takeOf, Tells}
-use Rattle.bench.specs.code.Turns.{Fits, Left}
+use Rattle.bench.specs.code.Returned.{EventFits, OnlyAsk, OnlySend, OnlyTake, OnlyNote, askOf, sendOf, takeOf, Tells}
+use Rattle.bench.specs.code.Turns.{Fits, HostAfter}
 use Rattle.bench.proofs.Guards.{Long, long-of}
 use Rattle.bench.proofs.Named.{cables-good, event-good}
 use Rattle.bench.proofs.Which.{Sendable, Takable, which}
 
 -- ---- which it is
 
-abbrev number : Told → ℕ
-number (told.Ask w) = 0
-number (told.Send w) = 1
-number (told.Take w) = 2
-number told.Note = 3
+abbrev number : Returned → ℕ
+number (returned.Ask w) = 0
+number (returned.Send w) = 1
+number (returned.Take w) = 2
+number returned.Note = 3
 
 -- two that differ
-abbrev Same : Told → Told → Type 0
+abbrev Same : Returned → Returned → Type 0
 Same p q = T (eqb (number p) (number q))
 
-same : (p : Told) → Same p p
-same (told.Ask w) = tt
-same (told.Send w) = tt
-same (told.Take w) = tt
-same told.Note = tt
+same : (p : Returned) → Same p p
+same (returned.Ask w) = tt
+same (returned.Send w) = tt
+same (returned.Take w) = tt
+same returned.Note = tt
 
-apart : {p q : Told} → p ≡ q → Same p q
+apart : {p q : Returned} → p ≡ q → Same p q
 apart {p} {q} e = subst (Same p) e (same p)
 
-abbrev ask-in : Asking → Told → Asking
-ask-in d (told.Ask w) = w
-ask-in d (told.Send w) = d
-ask-in d (told.Take w) = d
-ask-in d told.Note = d
+abbrev ask-in : Asking → Returned → Asking
+ask-in d (returned.Ask w) = w
+ask-in d (returned.Send w) = d
+ask-in d (returned.Take w) = d
+ask-in d returned.Note = d
 
-abbrev send-in : Going → Told → Going
-send-in d (told.Ask w) = d
-send-in d (told.Send w) = w
-send-in d (told.Take w) = d
-send-in d told.Note = d
+abbrev send-in : Going → Returned → Going
+send-in d (returned.Ask w) = d
+send-in d (returned.Send w) = w
+send-in d (returned.Take w) = d
+send-in d returned.Note = d
 
-abbrev take-in : Coming → Told → Coming
-take-in d (told.Ask w) = d
-take-in d (told.Send w) = d
-take-in d (told.Take w) = w
-take-in d told.Note = d
+abbrev take-in : Coming → Returned → Coming
+take-in d (returned.Ask w) = d
+take-in d (returned.Send w) = d
+take-in d (returned.Take w) = w
+take-in d returned.Note = d
 
-module _ (file : List ℕ) (t : ClassTable) (h : Header) (b : Bench) (f : Fits file h t b) (more : b .done < h .events) where
+module _ (file : List ℕ) (t : NetTable) (h : Header) (b : Bench) (f : Fits file h t b) (more : b .done < h .events) where
   long : Long h (lengthsOf b)
-  long = long-of h (lengthsOf b) (f .lent)
+  long = long-of h (lengthsOf b) (f .callState)
 
   -- what the event is read with
   pub event-fits : EventFits file (b .slots) (b .done) h
@@ -130,7 +130,7 @@ module _ (file : List ℕ) (t : ClassTable) (h : Header) (b : Bench) (f : Fits f
       }
 
   -- by which of the four it is
-  by-which : (p : Told) → Tells (b .slots) (eventAt file h (b .done)) p → (P : After → Type 0)
+  by-which : (p : Returned) → Tells (b .slots) (eventAt file h (b .done)) p → (P : After → Type 0)
       → ((k : ℕ) (q : Request) → k < h .hosts → OnlyAsk k q p → P (asked file t h k q b))
       → ((c s n : ℕ) (k : Counter) → Sendable file h c s n → OnlySend c s n k p → P (sent file t h (endAt file h c s) c s n k b))
       → ((n : ℕ) (k : Counter) → empty n (b .slots) ≡ false → Takable file h (b .slots) n → OnlyTake n k p → P (taken file t h (farEnd file h n (b .slots)) n k b))
@@ -140,9 +140,9 @@ module _ (file : List ℕ) (t : ClassTable) (h : Header) (b : Bench) (f : Fits f
       which file t h (event-fits .cables) b (f .slots) p P asks sends takes notes (eventAt file h (b .done)) (event-fits .good) o
 
   -- what is left, of the header that the file has
-  left-of : {hosts′ : List HostState} {run′ : List Entry} {slots′ answers′ : List ℕ} → Left (kept (carried file t h (eventAt file h (b .done)) b)) hosts′ run′ slots′ answers′ → Left (next file t b) hosts′ run′ slots′ answers′
+  after-of : {hosts′ : List HostState} {entries′ : List Entry} {slots′ answers′ : List ℕ} → HostAfter (kept (carried file t h (eventAt file h (b .done)) b)) hosts′ entries′ slots′ answers′ → HostAfter (next file t b) hosts′ entries′ slots′ answers′
   unfolding next
-  left-of {hosts′} {run′} {slots′} {answers′} l = subst (λ (g : Header). Left (kept (carried file t g (eventAt file g (b .done)) b)) hosts′ run′ slots′ answers′) (f .header) l
+  after-of {hosts′} {entries′} {slots′} {answers′} l = subst (λ (g : Header). HostAfter (kept (carried file t g (eventAt file g (b .done)) b)) hosts′ entries′ slots′ answers′) (f .header) l
 
   abbrev ask-made : Asking → Ask
   ask-made x = askOf file (x .host) (x .request)
@@ -153,10 +153,10 @@ module _ (file : List ℕ) (t : ClassTable) (h : Header) (b : Bench) (f : Fits f
   abbrev take-made : Coming → Taking
   take-made x = takeOf file (b .slots) h (x .slot) (x .counter)
 
-  module _ (x : Asking) (o : Tells (b .slots) (eventAt file h (b .done)) (told.Ask x)) where
+  module _ (x : Asking) (o : Tells (b .slots) (eventAt file h (b .done)) (returned.Ask x)) where
     pub ask-named : Sections h (length file) × (x .host < h .hosts)
     ask-named =
-        by-which (told.Ask x) o (λ _. Sections h (length file) × (x .host < h .hosts))
+        by-which (returned.Ask x) o (λ _. Sections h (length file) × (x .host < h .hosts))
         (λ k q l e. (f .sections, subst⁻¹ (λ (y : Asking). y .host < h .hosts) (ap (ask-in x) e) l))
         (λ c s n k l e. absurd (apart e))
         (λ n k em l e. absurd (apart e))
@@ -165,24 +165,24 @@ module _ (file : List ℕ) (t : ClassTable) (h : Header) (b : Bench) (f : Fits f
     module _ (w : Ask) (w-is : w ≡ ask-made x) where
       pub ask-fits : AskFits w (b .hosts) (b .copies)
       ask-fits =
-          by-which (told.Ask x) o (λ _. AskFits w (b .hosts) (b .copies))
+          by-which (returned.Ask x) o (λ _. AskFits w (b .hosts) (b .copies))
           (λ k q l e. subst⁻¹ (λ (z : Ask). AskFits z (b .hosts) (b .copies)) (w-is ∙ ap ask-made (ap (ask-in x) e)) (asks-there k q l))
           (λ c s n k l e. absurd (apart e))
           (λ n k em l e. absurd (apart e))
           (λ e. absurd (apart e))
 
-      pub ask-left : (hosts′ : List HostState) (run′ : List Entry) (r : Reply) (answers′ : List ℕ) → AskLeaves w t (b .hosts) (b .copies) (b .run) hosts′ run′ r → answers′ ≡ set (b .answers) (b .done) (answered (r .answer)) → Left (next file t b) hosts′ run′ (b .slots) answers′
-      ask-left hosts′ run′ r answers′ did is =
-          left-of (by-which (told.Ask x) o (λ (a : After). Left (kept a) hosts′ run′ (b .slots) answers′)
-          (λ k q l e. let d = subst (λ (z : Ask). AskDone z t (b .hosts) (b .copies) (b .run) hosts′ run′ r (freshHost file k)) (w-is ∙ ap ask-made (ap (ask-in x) e)) (did (freshHost file k)) in record { hosts = d .states; run = d .entries; slots = refl; answers = is ∙ ap (λ (q : Reply). set (b .answers) (b .done) (answered (q .answer))) (d .reply) })
+      pub ask-after : (hosts′ : List HostState) (entries′ : List Entry) (r : Reply) (answers′ : List ℕ) → AskLeaves w t (b .hosts) (b .copies) (b .entries) hosts′ entries′ r → answers′ ≡ set (b .answers) (b .done) (answered (r .answer)) → HostAfter (next file t b) hosts′ entries′ (b .slots) answers′
+      ask-after hosts′ entries′ r answers′ did is =
+          after-of (by-which (returned.Ask x) o (λ (a : After). HostAfter (kept a) hosts′ entries′ (b .slots) answers′)
+          (λ k q l e. let d = subst (λ (z : Ask). AskDone z t (b .hosts) (b .copies) (b .entries) hosts′ entries′ r (freshHost file k)) (w-is ∙ ap ask-made (ap (ask-in x) e)) (did (freshHost file k)) in record { hosts = d .states; entries = d .ownEntries; slots = refl; answers = is ∙ ap (λ (q : Reply). set (b .answers) (b .done) (answered (q .answer))) (d .reply) })
           (λ c s n k l e. absurd (apart e))
           (λ n k em l e. absurd (apart e))
           (λ e. absurd (apart e)))
 
-  module _ (x : Going) (o : Tells (b .slots) (eventAt file h (b .done)) (told.Send x)) where
+  module _ (x : Going) (o : Tells (b .slots) (eventAt file h (b .done)) (returned.Send x)) where
     pub send-named : Sections h (length file) × (x .cable < h .cables) × (x .side ≤ 1) × (endAt file h (x .cable) (x .side) .host < h .hosts)
     send-named =
-        by-which (told.Send x) o (λ _. Sections h (length file) × (x .cable < h .cables) × (x .side ≤ 1) × (endAt file h (x .cable) (x .side) .host < h .hosts))
+        by-which (returned.Send x) o (λ _. Sections h (length file) × (x .cable < h .cables) × (x .side ≤ 1) × (endAt file h (x .cable) (x .side) .host < h .hosts))
         (λ k q l e. absurd (apart e))
         (λ c s n k l e. subst⁻¹ (λ (y : Going). Sections h (length file) × (y .cable < h .cables) × (y .side ≤ 1) × (endAt file h (y .cable) (y .side) .host < h .hosts)) (ap (send-in x) e) (f .sections, l .cable, l .side, l .host))
         (λ n k em l e. absurd (apart e))
@@ -191,24 +191,24 @@ module _ (file : List ℕ) (t : ClassTable) (h : Header) (b : Bench) (f : Fits f
     module _ (w : Sending) (w-is : w ≡ send-made x) where
       pub send-fits : SendFits w (b .hosts) (b .copies) (b .slots)
       send-fits =
-          by-which (told.Send x) o (λ _. SendFits w (b .hosts) (b .copies) (b .slots))
+          by-which (returned.Send x) o (λ _. SendFits w (b .hosts) (b .copies) (b .slots))
           (λ k q l e. absurd (apart e))
           (λ c s n k l e. subst⁻¹ (λ (z : Sending). SendFits z (b .hosts) (b .copies) (b .slots)) (w-is ∙ ap send-made (ap (send-in x) e)) (sends-there c s n k l))
           (λ n k em l e. absurd (apart e))
           (λ e. absurd (apart e))
 
-      pub send-left : (hosts′ : List HostState) (slots′ : List ℕ) (r : Reply) (answers′ : List ℕ) → SendLeaves w t (b .hosts) (b .copies) (b .run) (b .slots) hosts′ slots′ r → answers′ ≡ set (b .answers) (b .done) (answered (r .answer)) → Left (next file t b) hosts′ (b .run) slots′ answers′
-      send-left hosts′ slots′ r answers′ did is =
-          left-of (by-which (told.Send x) o (λ (a : After). Left (kept a) hosts′ (b .run) slots′ answers′)
+      pub send-after : (hosts′ : List HostState) (slots′ : List ℕ) (r : Reply) (answers′ : List ℕ) → SendLeaves w t (b .hosts) (b .copies) (b .entries) (b .slots) hosts′ slots′ r → answers′ ≡ set (b .answers) (b .done) (answered (r .answer)) → HostAfter (next file t b) hosts′ (b .entries) slots′ answers′
+      send-after hosts′ slots′ r answers′ did is =
+          after-of (by-which (returned.Send x) o (λ (a : After). HostAfter (kept a) hosts′ (b .entries) slots′ answers′)
           (λ k q l e. absurd (apart e))
-          (λ c s n k l e. let d = subst (λ (z : Sending). SendDone z t (b .hosts) (b .copies) (b .run) (b .slots) hosts′ slots′ r (freshHost file (endAt file h c s .host))) (w-is ∙ ap send-made (ap (send-in x) e)) (did (freshHost file (endAt file h c s .host))) in record { hosts = d .states; run = sym (keeps (lentAt file t (endAt file h c s .host) b) (endAt file h c s .link) k (roomOf n (b .slots)) .entries); slots = d .slots; answers = is ∙ ap (λ (q : Reply). set (b .answers) (b .done) (answered (q .answer))) (d .reply) })
+          (λ c s n k l e. let d = subst (λ (z : Sending). SendDone z t (b .hosts) (b .copies) (b .entries) (b .slots) hosts′ slots′ r (freshHost file (endAt file h c s .host))) (w-is ∙ ap send-made (ap (send-in x) e)) (did (freshHost file (endAt file h c s .host))) in record { hosts = d .states; entries = sym (keeps (stateAt file t (endAt file h c s .host) b) (endAt file h c s .link) k (roomOf n (b .slots)) .ownEntries); slots = d .slots; answers = is ∙ ap (λ (q : Reply). set (b .answers) (b .done) (answered (q .answer))) (d .reply) })
           (λ n k em l e. absurd (apart e))
           (λ e. absurd (apart e)))
 
-  module _ (x : Coming) (o : Tells (b .slots) (eventAt file h (b .done)) (told.Take x)) where
+  module _ (x : Coming) (o : Tells (b .slots) (eventAt file h (b .done)) (returned.Take x)) where
     pub take-named : Sections h (length file) × (cablesGood file h ≡ true) × (slotLength * slots ≤ length (b .slots)) × (slotsGood h (b .slots) ≡ true) × (x .slot < slots) × (empty (x .slot) (b .slots) ≡ false)
     take-named =
-        by-which (told.Take x) o (λ _. Sections h (length file) × (cablesGood file h ≡ true) × (slotLength * slots ≤ length (b .slots)) × (slotsGood h (b .slots) ≡ true) × (x .slot < slots) × (empty (x .slot) (b .slots) ≡ false))
+        by-which (returned.Take x) o (λ _. Sections h (length file) × (cablesGood file h ≡ true) × (slotLength * slots ≤ length (b .slots)) × (slotsGood h (b .slots) ≡ true) × (x .slot < slots) × (empty (x .slot) (b .slots) ≡ false))
         (λ k q l e. absurd (apart e))
         (λ c s n k l e. absurd (apart e))
         (λ n k em l e. subst⁻¹ (λ (y : Coming). Sections h (length file) × (cablesGood file h ≡ true) × (slotLength * slots ≤ length (b .slots)) × (slotsGood h (b .slots) ≡ true) × (y .slot < slots) × (empty (y .slot) (b .slots) ≡ false)) (ap (take-in x) e) (f .sections, event-fits .cables, long .slots, f .slots, l .slot, em))
@@ -217,26 +217,26 @@ module _ (file : List ℕ) (t : ClassTable) (h : Header) (b : Bench) (f : Fits f
     module _ (w : Taking) (w-is : w ≡ take-made x) where
       pub take-fits : TakeFits w (b .hosts) (b .copies) (b .slots)
       take-fits =
-          by-which (told.Take x) o (λ _. TakeFits w (b .hosts) (b .copies) (b .slots))
+          by-which (returned.Take x) o (λ _. TakeFits w (b .hosts) (b .copies) (b .slots))
           (λ k q l e. absurd (apart e))
           (λ c s n k l e. absurd (apart e))
           (λ n k em l e. subst⁻¹ (λ (z : Taking). TakeFits z (b .hosts) (b .copies) (b .slots)) (w-is ∙ ap take-made (ap (take-in x) e)) (takes-there n k l))
           (λ e. absurd (apart e))
 
-      pub take-left : (hosts′ : List HostState) (run′ : List Entry) (r : Reply) (answers′ : List ℕ) → TakeLeaves w t (b .hosts) (b .copies) (b .run) (b .slots) hosts′ run′ r → answers′ ≡ set (b .answers) (b .done) (answered (r .answer)) → Left (next file t b) hosts′ run′ (b .slots) answers′
-      take-left hosts′ run′ r answers′ did is =
-          left-of (by-which (told.Take x) o (λ (a : After). Left (kept a) hosts′ run′ (b .slots) answers′)
+      pub take-after : (hosts′ : List HostState) (entries′ : List Entry) (r : Reply) (answers′ : List ℕ) → TakeLeaves w t (b .hosts) (b .copies) (b .entries) (b .slots) hosts′ entries′ r → answers′ ≡ set (b .answers) (b .done) (answered (r .answer)) → HostAfter (next file t b) hosts′ entries′ (b .slots) answers′
+      take-after hosts′ entries′ r answers′ did is =
+          after-of (by-which (returned.Take x) o (λ (a : After). HostAfter (kept a) hosts′ entries′ (b .slots) answers′)
           (λ k q l e. absurd (apart e))
           (λ c s n k l e. absurd (apart e))
-          (λ n k em l e. let d = subst (λ (z : Taking). TakeLeaves z t (b .hosts) (b .copies) (b .run) (b .slots) hosts′ run′ r) (w-is ∙ ap take-made (ap (take-in x) e)) did (freshHost file (farEnd file h n (b .slots) .host)) in record { hosts = d .states; run = d .entries; slots = refl; answers = is ∙ ap (λ (q : Reply). set (b .answers) (b .done) (answered (q .answer))) (d .reply) })
+          (λ n k em l e. let d = subst (λ (z : Taking). TakeLeaves z t (b .hosts) (b .copies) (b .entries) (b .slots) hosts′ entries′ r) (w-is ∙ ap take-made (ap (take-in x) e)) did (freshHost file (farEnd file h n (b .slots) .host)) in record { hosts = d .states; entries = d .ownEntries; slots = refl; answers = is ∙ ap (λ (q : Reply). set (b .answers) (b .done) (answered (q .answer))) (d .reply) })
           (λ e. absurd (apart e)))
 
   -- the event's answer has a place
   pub answer-fits : b .done < length (b .answers)
   answer-fits = omega (arith, more, long .answers)
 
-  pub note-left : Tells (b .slots) (eventAt file h (b .done)) told.Note → (answers′ : List ℕ) → answers′ ≡ set (b .answers) (b .done) (answered IpForm) → Left (next file t b) (b .hosts) (b .run) (b .slots) answers′
-  note-left o answers′ is =
-      left-of (by-which told.Note o (λ (a : After). Left (kept a) (b .hosts) (b .run) (b .slots) answers′)
+  pub note-after : Tells (b .slots) (eventAt file h (b .done)) returned.Note → (answers′ : List ℕ) → answers′ ≡ set (b .answers) (b .done) (answered IpForm) → HostAfter (next file t b) (b .hosts) (b .entries) (b .slots) answers′
+  note-after o answers′ is =
+      after-of (by-which returned.Note o (λ (a : After). HostAfter (kept a) (b .hosts) (b .entries) (b .slots) answers′)
       (λ k q l e. absurd (apart e)) (λ c s m k l e. absurd (apart e)) (λ m k em l e. absurd (apart e))
-      (λ e. record { hosts = refl; run = refl; slots = refl; answers = is }))
+      (λ e. record { hosts = refl; entries = refl; slots = refl; answers = is }))

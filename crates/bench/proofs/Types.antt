@@ -1,13 +1,13 @@
 -- The structs that the bench passes, as the laws of thin functions take them.
 use mathlib.Core.List.{[], _∷_}
-use Rattle.lent.proofs.Words.{Data, struct-part, enum-part, usize-part}
-use Rattle.lent.proofs.Choices.{Choices}
-use Rattle.lent.proofs.Outcomes.{Outcome, behind}
+use Rattle.references.proofs.Words.{Data, struct-part, enum-part, usize-part}
+use Rattle.references.proofs.Choices.{Choices}
+use Rattle.references.proofs.Outcomes.{Outcome, behind}
 use Rattle.clock.proofs.Types.{clock, counter}
 use Rattle.host.proofs.Types.{settings, links, walk, reply}
 use Rattle.calls.proofs.Types.{request}
-use Rattle.bench.proofs.at_host.Left as Left
-use Rattle.bench.proofs.at_host.Left.Laws as Left′
+use Rattle.bench.proofs.at_host.HostAfter as HostAfter
+use Rattle.bench.proofs.at_host.HostAfter.Laws as After′
 use Rattle.bench.proofs.requests.Ask as Ask
 use Rattle.bench.proofs.requests.Ask.Laws as Ask′
 use Rattle.bench.proofs.takes.Taking as Taking
@@ -16,16 +16,16 @@ use Rattle.bench.proofs.sends.Sending as Sending
 use Rattle.bench.proofs.sends.Sending.Laws as Sending′
 use Rattle.bench.proofs.HostState as HostState
 use Rattle.bench.proofs.HostState.Laws as HostState′
-use Rattle.bench.proofs.told.Turns as Turns
-use Rattle.bench.proofs.told.Turns.Laws as Turns′
-use Rattle.bench.proofs.told.Asking as Asking
-use Rattle.bench.proofs.told.Asking.Laws as Asking′
-use Rattle.bench.proofs.told.Going as Going
-use Rattle.bench.proofs.told.Going.Laws as Going′
-use Rattle.bench.proofs.told.Coming as Coming
-use Rattle.bench.proofs.told.Coming.Laws as Coming′
-use Rattle.bench.proofs.told.Told as Told
-use Rattle.bench.proofs.told.Told.Laws as Told′
+use Rattle.bench.proofs.returned.Turns as Turns
+use Rattle.bench.proofs.returned.Turns.Laws as Turns′
+use Rattle.bench.proofs.returned.Asking as Asking
+use Rattle.bench.proofs.returned.Asking.Laws as Asking′
+use Rattle.bench.proofs.returned.Going as Going
+use Rattle.bench.proofs.returned.Going.Laws as Going′
+use Rattle.bench.proofs.returned.Coming as Coming
+use Rattle.bench.proofs.returned.Coming.Laws as Coming′
+use Rattle.bench.proofs.returned.Returned as Returned
+use Rattle.bench.proofs.returned.Returned.Laws as Returned′
 
 abbrev pub state : Data
 state = record { S = HostState.the-type; L = HostState′.the-laws; P = HostState′.the-plain; low = HostState′.lowers; copies = HostState′.the-copy }
@@ -49,17 +49,17 @@ standing = record {
 abbrev pub left : Outcome (struct-part reply ∷ struct-part clock ∷ struct-part links ∷ struct-part walk ∷ [])
 left = record {
   form = record {
-    name = Left.the-type .name;
-    D = Left.the-type .D;
+    name = HostAfter.the-type .name;
+    D = HostAfter.the-type .D;
     read = λ o. (o .reply, (o .clock, (o .links, (o .walk, tt))));
     behind = [];
     rest = λ w. tt;
-    one = Left.the-type .to-one;
+    one = HostAfter.the-type .to-one;
   };
   behind-laws = tt;
   behind-plain = tt;
-  low = Left′.lowers;
-  copies = Left′.the-copy;
+  low = After′.lowers;
+  copies = After′.the-copy;
 }
 
 abbrev pub ask : Outcome (usize-part ∷ struct-part settings ∷ enum-part request ∷ [])
@@ -137,17 +137,17 @@ going = record { S = Going.the-type; L = Going′.the-laws; P = Going′.the-pla
 abbrev pub coming : Data
 coming = record { S = Coming.the-type; L = Coming′.the-laws; P = Coming′.the-plain; low = Coming′.lowers; copies = Coming′.the-copy }
 
-abbrev pub told : Choices ((struct-part asking ∷ []) ∷ (struct-part going ∷ []) ∷ (struct-part coming ∷ []) ∷ [] ∷ [])
-told = record {
+abbrev pub returned : Choices ((struct-part asking ∷ []) ∷ (struct-part going ∷ []) ∷ (struct-part coming ∷ []) ∷ [] ∷ [])
+returned = record {
   form = record {
-    name = Told.the-type .name;
-    D = Told.the-type .D;
-    pick = Told.as-values;
-    make = Told.make;
-    eta = Told.eta;
-    one = Told.the-type .to-one;
+    name = Returned.the-type .name;
+    D = Returned.the-type .D;
+    pick = Returned.as-values;
+    make = Returned.make;
+    eta = Returned.eta;
+    one = Returned.the-type .to-one;
   };
   few = tt;
-  low = Told′.lowers;
-  copies = Told′.the-copy;
+  low = Returned′.lowers;
+  copies = Returned′.the-copy;
 }

@@ -9,7 +9,7 @@ use lib.Dec.{ltb}
 use Rattle.lists.proofs.Tests.{either, both}
 use Rattle.answer.specs.declared.Answer.the-variants.{IpForm}
 use Rattle.clock.specs.declared.Counter.{Counter}
-use Rattle.class_table.specs.declared.ClassTable.{ClassTable}
+use Rattle.net_table.specs.declared.NetTable.{NetTable}
 use Rattle.host.specs.Guard.{longest}
 use Rattle.calls.specs.declared.Request.{Request}
 use Rattle.bench_file.specs.declared.Header.{Header}
@@ -17,16 +17,16 @@ use Rattle.bench_file.specs.declared.Event.{Event}
 use Rattle.bench_file.specs.declared.Event.the-variants.{Tick, Adjust, Set, Second, SelfReport, Send, Arrival, Unknown}
 use Rattle.bench_file.specs.Records.{endAt}
 use Rattle.bench_file.specs.Absent.{slots, markGood, cablesGood, eventGood}
-use Rattle.bench.specs.declared.told.Told.{Told}
+use Rattle.bench.specs.declared.returned.Returned.{Returned}
 use Rattle.bench.specs.Bench.{Bench}
 use Rattle.bench.specs.Slots.{labelOf, slotsGood, empty, farEnd}
 use Rattle.bench.specs.Event.{After, asked, sent, taken, carried}
-use Rattle.bench.specs.code.Told.{OnlyAsk, OnlySend, OnlyTake, OnlyNote, Tells}
+use Rattle.bench.specs.code.Returned.{OnlyAsk, OnlySend, OnlyTake, OnlyNote, Tells}
 use Rattle.bench.proofs.Named.{end-host, filled, send-names, arrival-names}
 
 -- one event for another
-pub tells-as : (octets : List ℕ) (p : Told) {e f : Event} → e ≡ f → Tells octets f p → Tells octets e p
-tells-as octets p is o = subst⁻¹ (λ (x : Event). Tells octets x p) is o
+pub returns-as : (octets : List ℕ) (p : Returned) {e f : Event} → e ≡ f → Tells octets f p → Tells octets e p
+returns-as octets p is o = subst⁻¹ (λ (x : Event). Tells octets x p) is o
 
 -- a send's numbers, and an arrival's, where the file passes
 pub record Sendable (file : List ℕ) (h : Header) (c i n : ℕ) : Type 0 where
@@ -40,7 +40,7 @@ pub record Takable (file : List ℕ) (h : Header) (octets : List ℕ) (n : ℕ) 
   pub size : labelOf n octets .length ≤ longest
   pub host : farEnd file h n octets .host < h .hosts
 
-module _ (file : List ℕ) (t : ClassTable) (h : Header) (cables : cablesGood file h ≡ true) (b : Bench) (labels : slotsGood h (b .slots) ≡ true) where
+module _ (file : List ℕ) (t : NetTable) (h : Header) (cables : cablesGood file h ≡ true) (b : Bench) (labels : slotsGood h (b .slots) ≡ true) where
   pub sendable : (c i n : ℕ) (k : Counter) → eventGood h (Send c i n k) ≡ true → Sendable file h c i n
   sendable c i n k g =
       let s = send-names h c i n k g in
@@ -51,7 +51,7 @@ module _ (file : List ℕ) (t : ClassTable) (h : Header) (cables : cablesGood fi
       let f = filled h (b .slots) labels n l e in
       record { slot = l; size = f .0; host = end-host file h cables (labelOf n (b .slots) .cable) (1 - labelOf n (b .slots) .end) (f .1) (omega arith) }
 
-  module _ (p : Told) (P : After → Type 0)
+  module _ (p : Returned) (P : After → Type 0)
       (asks : (k : ℕ) (q : Request) → k < h .hosts → OnlyAsk k q p → P (asked file t h k q b))
       (sends : (c s n : ℕ) (k : Counter) → Sendable file h c s n → OnlySend c s n k p → P (sent file t h (endAt file h c s) c s n k b))
       (takes : (n : ℕ) (k : Counter) → empty n (b .slots) ≡ false → Takable file h (b .slots) n → OnlyTake n k p → P (taken file t h (farEnd file h n (b .slots)) n k b))

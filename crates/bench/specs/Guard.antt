@@ -4,8 +4,8 @@ use mathlib.Core.List.{List}
 use Prim.Native.Nat.{ℕ, _*_}
 use lib.Dec.{ltb, leb}
 use lib.ListN.{length}
-use Rattle.class_table.specs.declared.ClassTable.{ClassTable}
-use Rattle.class_table.specs.Table.{tableBad}
+use Rattle.net_table.specs.declared.NetTable.{NetTable}
+use Rattle.net_table.specs.Table.{tableBad}
 use Rattle.host.specs.State.{placesPerHost}
 use Rattle.host.specs.Guard.{longest}
 use Rattle.bench_file.specs.declared.Header as declared
@@ -20,14 +20,14 @@ use Rattle.bench.specs.Bench.{Bench}
 use Rattle.bench.specs.Slots.{slotLength, slotsGood}
 
 -- BENCH-8, ANSWER-19: are all records good?
-unfoldable pub recordsGood : ClassTable → (file : List ℕ) → declared.Header → Bool
+unfoldable pub recordsGood : NetTable → (file : List ℕ) → declared.Header → Bool
 recordsGood t file h = hostsGood t file h && (cablesGood file h && eventsGood file h)
 
 -- BENCH-8: the lengths of a bench's state
 abbrev pub lengthsOf : Bench → Lengths
 lengthsOf b =
     record {
-      run = length (b .run);
+      entries = length (b .entries);
       hosts = length (b .hosts);
       copies = length (b .copies);
       slots = length (b .slots);
@@ -35,9 +35,9 @@ lengthsOf b =
     }
 
 -- BENCH-8: is the state large enough for the file?
-unfoldable pub allLent : declared.Header → Lengths → Bool
-allLent h n =
-    leb (placesPerHost * h .hosts) (n .run)
+unfoldable pub lengthsFit : declared.Header → Lengths → Bool
+lengthsFit h n =
+    leb (placesPerHost * h .hosts) (n .entries)
     && (leb (h .hosts) (n .hosts)
     && (leb (longest * h .hosts) (n .copies) && (leb (slotLength * slots) (n .slots) && leb (h .events) (n .answers))))
 
@@ -46,19 +46,19 @@ abbrev pub runnable : declared.Header → (slots : List ℕ) → (done : ℕ) �
 runnable h o n = slotsGood h o && leb n (h .events)
 
 -- BENCH-8, ANSWER-18, ANSWER-19: 18, then 19
-unfoldable pub fileTested : ClassTable → (file : List ℕ) → Answer
+unfoldable pub fileTested : NetTable → (file : List ℕ) → Answer
 fileTested t file = cond (headerBad file) Header (cond (not (recordsGood t file (headerOf file))) Absent Done)
 
 -- BENCH-8: 18, 19, then 12
-abbrev pub tested : (besides : Bool) → ClassTable → (file : List ℕ) → Lengths → Answer
+abbrev pub tested : (besides : Bool) → NetTable → (file : List ℕ) → Lengths → Answer
 tested besides t file n =
     cond (not (passes (fileTested t file))) (fileTested t file)
-    (cond (allLent (headerOf file) n && (besides && not (tableBad t))) Done OutOfRange)
+    (cond (lengthsFit (headerOf file) n && (besides && not (tableBad t))) Done OutOfRange)
 
 -- BENCH-8: the answer of set-up
-abbrev pub setUpGuard : ClassTable → (file : List ℕ) → Bench → Answer
+abbrev pub setUpGuard : NetTable → (file : List ℕ) → Bench → Answer
 setUpGuard t file b = tested true t file (lengthsOf b)
 
 -- BENCH-8: the answer of a run
-abbrev pub runGuard : ClassTable → (file : List ℕ) → Bench → Answer
+abbrev pub runGuard : NetTable → (file : List ℕ) → Bench → Answer
 runGuard t file b = tested (runnable (headerOf file) (b .slots) (b .done)) t file (lengthsOf b)

@@ -3,7 +3,7 @@ use mathlib.Core.Bool.{cond}
 use mathlib.Core.List.{List}
 use Prim.Native.Nat.{ℕ, zero, suc, _-_, _*_}
 use lib.Dec.{ltb}
-use Rattle.class_table.specs.declared.ClassTable.{ClassTable}
+use Rattle.net_table.specs.declared.NetTable.{NetTable}
 use Rattle.calls.specs.declared.Request.the-variants.{Initialize}
 use Rattle.bench_file.specs.declared.Header.{Header}
 use Rattle.bench_file.specs.Header.{headerOf}
@@ -16,12 +16,12 @@ use Rattle.bench.specs.Slots.{slotLength, zeros}
 use Rattle.bench.specs.Guard.{setUpGuard, runGuard}
 use Rattle.bench.specs.Event.{asked, carried, kept}
 
-module _ (file : List ℕ) (t : ClassTable) where
+module _ (file : List ℕ) (t : NetTable) where
   -- BENCH-2: the header of the file
   abbrev pub header : Header
   header = headerOf file
 
-  -- ---- set-up: each host set afresh from its record, in rising order; slots, answers and events done zero
+  -- ---- set-up: each host is initialized from its record, in rising order; slots, answers and events done are zero
 
   -- BENCH-1: hosts initialized in rising order
   unfoldable pub allSet : (first count : ℕ) → Bench → Bench
@@ -35,7 +35,7 @@ module _ (file : List ℕ) (t : ClassTable) where
       record {
         hosts = c .hosts;
         copies = c .copies;
-        run = c .run;
+        entries = c .entries;
         slots = zeros (slotLength * slots) (c .slots);
         answers = zeros (header .events) (c .answers);
         done = 0;

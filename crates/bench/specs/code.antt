@@ -1,10 +1,10 @@
 -- What only the code needs.
-pub mod Left
+pub mod HostAfter
 pub mod States
 pub mod Asks
 pub mod Sends
 pub mod Takes
-pub mod Told
+pub mod Returned
 pub mod Turns
 pub mod Sets
 pub mod Plans

@@ -1,19 +1,19 @@
-// A call at a host whose state is held by value: it is lent for the call, with all else that a call is lent.
+// A call at a host whose state is a value: the call borrows it, with everything else a call borrows.
 ghost use Rattle.calls.specs.Perform.{ask, deliver};
-ghost use Rattle.bench.specs.code.Left.{Inspects, WritesEntries, WritesBuffer};
+ghost use Rattle.bench.specs.code.HostAfter.{Inspects, WritesEntries, WritesBuffer};
 use arrival::Delivery;
 use calls::Request;
-use class_table::ClassTable;
 use clock::Clock;
 use clock::Counter;
 use host::Links;
 use host::Reply;
 use host::Settings;
 use host::walk::Walk;
+use net_table::NetTable;
 use table::Entry;
 
-// What a call leaves of a host, and what it answers.
-pub struct Left {
+// A host after a call, and the call's answer.
+pub struct HostAfter {
     pub reply: Reply,
     pub clock: Clock,
     pub links: Links,
@@ -23,23 +23,33 @@ pub struct Left {
 // A request.
 pub fn asked(
     settings: Settings,
-    nets: &ClassTable,
+    net_table: &NetTable,
     number: usize,
     clock: Clock,
     links: Links,
     walk: Walk,
     copy: &[u8],
-    run: &mut [Entry],
+    entries: &mut [Entry],
     request: Request,
-) -> Left
-    ensures { λ r. ⌜ WritesEntries settings nets number clock links walk copy run (ask request) r ⌝ }
+) -> HostAfter
+    ensures { λ r. ⌜ WritesEntries settings «net_table» number clock links walk copy entries (ask request) r ⌝ }
 {
     let s = settings;
     let mut c = clock;
     let mut l = links;
     let mut v = walk;
-    let a = calls::call(&s, nets, number, &mut c, &mut l, &mut v, copy, run, request);
-    Left {
+    let a = calls::call(
+        &s,
+        net_table,
+        number,
+        &mut c,
+        &mut l,
+        &mut v,
+        copy,
+        entries,
+        request,
+    );
+    HostAfter {
         reply: a,
         clock: c,
         links: l,
@@ -50,18 +60,18 @@ pub fn asked(
 // A send into a buffer.
 pub fn sent(
     settings: Settings,
-    nets: &ClassTable,
+    net_table: &NetTable,
     number: usize,
     clock: Clock,
     links: Links,
     walk: Walk,
     copy: &[u8],
-    run: &[Entry],
+    entries: &[Entry],
     link: usize,
     counter: Counter,
     buffer: &mut [u8],
-) -> Left
-    ensures { λ r. ⌜ WritesBuffer settings nets number clock links walk copy run link counter buffer r ⌝ }
+) -> HostAfter
+    ensures { λ r. ⌜ WritesBuffer settings «net_table» number clock links walk copy entries link counter buffer r ⌝ }
 {
     let s = settings;
     let mut c = clock;
@@ -69,18 +79,18 @@ pub fn sent(
     let v = walk;
     let a = calls::send(
         &s,
-        nets,
+        net_table,
         number,
         &mut c,
         &mut l,
         &v,
         copy,
-        run,
+        entries,
         link,
         counter,
         buffer,
     );
-    Left {
+    HostAfter {
         reply: a,
         clock: c,
         links: l,
@@ -91,24 +101,35 @@ pub fn sent(
 // A packet is inspected.
 pub fn inspected(
     settings: Settings,
-    nets: &ClassTable,
+    net_table: &NetTable,
     number: usize,
     clock: Clock,
     links: Links,
     walk: Walk,
     copy: &[u8],
-    run: &[Entry],
+    entries: &[Entry],
     link: usize,
     packet: &[u8],
-) -> Left
-    ensures { λ r. ⌜ Inspects settings nets number clock links walk copy run link packet r ⌝ }
+) -> HostAfter
+    ensures { λ r. ⌜ Inspects settings «net_table» number clock links walk copy entries link packet r ⌝ }
 {
     let s = settings;
     let c = clock;
     let l = links;
     let v = walk;
-    let a = calls::inspect(&s, nets, number, &c, &l, &v, copy, run, link, packet);
-    Left {
+    let a = calls::inspect(
+        &s,
+        net_table,
+        number,
+        &c,
+        &l,
+        &v,
+        copy,
+        entries,
+        link,
+        packet,
+    );
+    HostAfter {
         reply: a,
         clock: c,
         links: l,
@@ -119,17 +140,17 @@ pub fn inspected(
 // A packet that arrives.
 pub fn taken(
     settings: Settings,
-    nets: &ClassTable,
+    net_table: &NetTable,
     number: usize,
     clock: Clock,
     links: Links,
     walk: Walk,
     copy: &[u8],
-    run: &mut [Entry],
+    entries: &mut [Entry],
     delivery: Delivery,
     packet: &[u8],
-) -> Left
-    ensures { λ r. ⌜ WritesEntries settings nets number clock links walk copy run (deliver delivery (now (packet .entry))) r ⌝ }
+) -> HostAfter
+    ensures { λ r. ⌜ WritesEntries settings «net_table» number clock links walk copy entries (deliver delivery (now (packet .entry))) r ⌝ }
 {
     let s = settings;
     let mut c = clock;
@@ -137,17 +158,17 @@ pub fn taken(
     let v = walk;
     let a = calls::deliver(
         &s,
-        nets,
+        net_table,
         number,
         &mut c,
         &mut l,
         &v,
         copy,
-        run,
+        entries,
         delivery,
         packet,
     );
-    Left {
+    HostAfter {
         reply: a,
         clock: c,
         links: l,

@@ -3,25 +3,25 @@ ghost use mathlib.Core.Path.{_≡_};
 ghost use mathlib.Core.Bool.{true, cond, not, _&&_};
 ghost use Prim.Native.Nat.{_*_, _≤_};
 ghost use lib.ListN.{length};
-ghost use Rattle.class_table.specs.Table.{tableBad};
+ghost use Rattle.net_table.specs.Table.{tableBad};
 ghost use Rattle.bench_file.specs.Header.{headerOf};
 ghost use Rattle.bench_file.specs.Absent.{slots};
 ghost use Rattle.bench_file.specs.code.Sections.{Sections};
 ghost use Rattle.bench.specs.declared.Answer.the-variants.{Done, OutOfRange};
 ghost use Rattle.bench.specs.Slots.{slotLength};
-ghost use Rattle.bench.specs.Guard.{recordsGood, allLent, runnable, fileTested, tested};
+ghost use Rattle.bench.specs.Guard.{recordsGood, lengthsFit, runnable, fileTested, tested};
 use super::Answer;
 use super::Lengths;
 use super::slots::SLOTS_LENGTH;
 use super::slots::slots_good;
 use bench_file::Header;
-use class_table::ClassTable;
 use host::PLACES;
+use net_table::NetTable;
 
 // The octets of the longest packet.
 const LONGEST: usize = 1052;
 
-fn records_good(t: ClassTable, file: &[u8], h: Header) -> bool
+fn records_good(t: NetTable, file: &[u8], h: Header) -> bool
     requires { ⌜ Sections h (length (now file)) ⌝ }
     ensures { λ r. ⌜ r ≡ recordsGood t (now (file .entry)) h ⌝ }
 {
@@ -34,12 +34,12 @@ fn records_good(t: ClassTable, file: &[u8], h: Header) -> bool
     bench_file::events_good(file, h)
 }
 
-// Is all that is lent as long as the file asks?
-fn all_lent(h: Header, n: Lengths, file: usize) -> bool
+// Are all borrowed slices as long as the file needs?
+fn lengths_fit(h: Header, n: Lengths, file: usize) -> bool
     requires { ⌜ Sections h file ⌝ }
-    ensures { λ r. ⌜ r ≡ allLent h n ⌝ }
+    ensures { λ r. ⌜ r ≡ lengthsFit h n ⌝ }
 {
-    if n.run < PLACES * h.hosts {
+    if n.entries < PLACES * h.hosts {
         return false;
     }
     if n.hosts < h.hosts {
@@ -55,7 +55,7 @@ fn all_lent(h: Header, n: Lengths, file: usize) -> bool
 }
 
 // 18 and 19, or none.
-fn file_tested(t: ClassTable, file: &[u8]) -> Answer
+fn file_tested(t: NetTable, file: &[u8]) -> Answer
     ensures { λ r. ⌜ r ≡ fileTested t (now (file .entry)) ⌝ }
 {
     if bench_file::header_bad(file) {
@@ -67,24 +67,24 @@ fn file_tested(t: ClassTable, file: &[u8]) -> Answer
     Answer::Done
 }
 
-// 12, where the file passes: anything lent too short, or a bad table.
-fn rest_tested(t: ClassTable, h: Header, n: Lengths, file: usize, besides: bool) -> Answer
+// 12, if the file passes: a borrowed slice is too short, or the net table is bad.
+fn rest_tested(t: NetTable, h: Header, n: Lengths, file: usize, besides: bool) -> Answer
     requires { ⌜ Sections h file ⌝ }
-    ensures { λ r. ⌜ r ≡ cond (allLent h n && (besides && not (tableBad t))) Done OutOfRange ⌝ }
+    ensures { λ r. ⌜ r ≡ cond (lengthsFit h n && (besides && not (tableBad t))) Done OutOfRange ⌝ }
 {
-    if !all_lent(h, n, file) {
+    if !lengths_fit(h, n, file) {
         return Answer::OutOfRange;
     }
     if !besides {
         return Answer::OutOfRange;
     }
-    if class_table::is_bad(t) {
+    if net_table::is_bad(t) {
         return Answer::OutOfRange;
     }
     Answer::Done
 }
 
-pub fn set_up_tested(t: ClassTable, file: &[u8], n: Lengths) -> Answer
+pub fn set_up_tested(t: NetTable, file: &[u8], n: Lengths) -> Answer
     ensures { λ r. ⌜ r ≡ tested true t (now (file .entry)) n ⌝ }
 {
     let a = file_tested(t, file);
@@ -94,7 +94,7 @@ pub fn set_up_tested(t: ClassTable, file: &[u8], n: Lengths) -> Answer
     rest_tested(t, bench_file::read_header(file), n, file.len(), true)
 }
 
-// May the slots stand, and is no more done than the file has?
+// Are the slots valid, and is no more done than the file has?
 fn can_run(h: Header, octets: &[u8], done: usize) -> bool
     requires { ⌜ slotLength * slots ≤ length (now octets) ⌝ }
     ensures { λ r. ⌜ r ≡ runnable h (now (octets .entry)) done ⌝ }
@@ -105,7 +105,7 @@ fn can_run(h: Header, octets: &[u8], done: usize) -> bool
     done <= h.events
 }
 
-pub fn run_tested(t: ClassTable, file: &[u8], n: Lengths, octets: &[u8], done: usize) -> Answer
+pub fn run_tested(t: NetTable, file: &[u8], n: Lengths, octets: &[u8], done: usize) -> Answer
     requires { ⌜ n .slots ≡ length (now octets) ⌝ }
     ensures { λ r. ⌜ r ≡ tested (runnable (headerOf (now (file .entry))) (now (octets .entry)) done) t (now (file .entry)) n ⌝ }
 {

@@ -4,11 +4,11 @@ ghost use Rattle.bench.specs.Answer.{number, passes};
 ghost use Rattle.bench.specs.Guard.{setUpGuard};
 ghost use Rattle.bench.specs.Run.{afterSetUp, afterRun, ran};
 ghost use Rattle.bench.specs.Bench.{bench};
-use class_table::ClassTable;
 use clock::Clock;
 use events::turns;
 use host::Links;
 use host::walk::Walk;
+use net_table::NetTable;
 use plans::plan_run;
 use plans::plan_set_up;
 use sets::sets;
@@ -21,12 +21,12 @@ mod guard;
 mod places;
 mod plans;
 mod requests;
+mod returned;
 mod sends;
 mod sets;
 mod slots;
 mod states;
 mod takes;
-mod told;
 
 // A host of the bench: its clock, its links and its walk.
 #[repr(C)]
@@ -42,9 +42,9 @@ pub struct Progress {
     pub done: usize,
 }
 
-// How long what is lent is: the run of entries, the hosts, the copies of their walks' packets, the slots and the answers.
+// The lengths of the borrowed slices: the host table, the hosts, the copies of their walks' packets, the slots and the answers.
 pub struct Lengths {
-    pub run: usize,
+    pub entries: usize,
     pub hosts: usize,
     pub copies: usize,
     pub slots: usize,
@@ -83,32 +83,32 @@ fn passes(a: Answer) -> bool
     number(a) == 0
 }
 
-// All hosts are set afresh from the file, slots and answers are emptied, and no event is done.
+// All hosts are initialized from the file, slots and answers are cleared, and no event is done.
 pub fn set_up(
     file: &[u8],
-    nets: &ClassTable,
+    net_table: &NetTable,
     hosts: &mut [HostState],
     copies: &[u8],
-    run: &mut [Entry],
+    entries: &mut [Entry],
     slots: &mut [u8],
     answers: &mut [u8],
     progress: &mut Progress,
 ) -> Answer
-    ensures { λ r. ⌜ (r ≡ setUpGuard (now (nets .entry)) (now (file .entry))
-        (bench (now (hosts .entry)) (now (copies .entry)) (now (run .entry)) (now (slots .entry)) (now (answers .entry)) (now (progress .entry) .done)))
-        × (bench (now (hosts .exit)) (now (copies .entry)) (now (run .exit)) (now (slots .exit)) (now (answers .exit)) (now (progress .exit) .done)
-        ≡ afterSetUp (now (file .entry)) (now (nets .entry))
-        (bench (now (hosts .entry)) (now (copies .entry)) (now (run .entry)) (now (slots .entry)) (now (answers .entry)) (now (progress .entry) .done))) ⌝ }
+    ensures { λ r. ⌜ (r ≡ setUpGuard (now («net_table» .entry)) (now (file .entry))
+        (bench (now (hosts .entry)) (now (copies .entry)) (now (entries .entry)) (now (slots .entry)) (now (answers .entry)) (now (progress .entry) .done)))
+        × (bench (now (hosts .exit)) (now (copies .entry)) (now (entries .exit)) (now (slots .exit)) (now (answers .exit)) (now (progress .exit) .done)
+        ≡ afterSetUp (now (file .entry)) (now («net_table» .entry))
+        (bench (now (hosts .entry)) (now (copies .entry)) (now (entries .entry)) (now (slots .entry)) (now (answers .entry)) (now (progress .entry) .done))) ⌝ }
 {
-    let t = *nets;
+    let t = *net_table;
     let d = *progress;
     let a = hosts.len();
     let b = copies.len();
-    let c = run.len();
+    let c = entries.len();
     let e = slots.len();
     let f = answers.len();
     let p = plan_set_up(file, t, d, a, b, c, e, f);
-    sets(file, nets, hosts, copies, run, p.sets);
+    sets(file, net_table, hosts, copies, entries, p.sets);
     clear(slots, p.slots);
     clear(answers, p.answers);
     *progress = p.progress;
@@ -118,29 +118,38 @@ pub fn set_up(
 // BENCH-6: does the next events, each by its call, and stores their answers, until the budget or the file ends.
 pub fn run(
     file: &[u8],
-    nets: &ClassTable,
+    net_table: &NetTable,
     hosts: &mut [HostState],
     copies: &[u8],
-    run: &mut [Entry],
+    entries: &mut [Entry],
     slots: &mut [u8],
     answers: &mut [u8],
     progress: &mut Progress,
     allowance: usize,
 ) -> Ran
-    ensures { λ r. ⌜ (r ≡ ran (now (file .entry)) (now (nets .entry)) allowance
-        (bench (now (hosts .entry)) (now (copies .entry)) (now (run .entry)) (now (slots .entry)) (now (answers .entry)) (now (progress .entry) .done)))
-        × (bench (now (hosts .exit)) (now (copies .entry)) (now (run .exit)) (now (slots .exit)) (now (answers .exit)) (now (progress .exit) .done)
-        ≡ afterRun (now (file .entry)) (now (nets .entry)) allowance
-        (bench (now (hosts .entry)) (now (copies .entry)) (now (run .entry)) (now (slots .entry)) (now (answers .entry)) (now (progress .entry) .done))) ⌝ }
+    ensures { λ r. ⌜ (r ≡ ran (now (file .entry)) (now («net_table» .entry)) allowance
+        (bench (now (hosts .entry)) (now (copies .entry)) (now (entries .entry)) (now (slots .entry)) (now (answers .entry)) (now (progress .entry) .done)))
+        × (bench (now (hosts .exit)) (now (copies .entry)) (now (entries .exit)) (now (slots .exit)) (now (answers .exit)) (now (progress .exit) .done)
+        ≡ afterRun (now (file .entry)) (now («net_table» .entry)) allowance
+        (bench (now (hosts .entry)) (now (copies .entry)) (now (entries .entry)) (now (slots .entry)) (now (answers .entry)) (now (progress .entry) .done))) ⌝ }
 {
-    let t = *nets;
+    let t = *net_table;
     let d = *progress;
     let a = hosts.len();
     let b = copies.len();
-    let c = run.len();
+    let c = entries.len();
     let e = answers.len();
     let p = plan_run(file, t, d, a, b, c, slots, e, allowance);
-    turns(file, nets, hosts, copies, run, slots, answers, p.turns);
+    turns(
+        file,
+        net_table,
+        hosts,
+        copies,
+        entries,
+        slots,
+        answers,
+        p.turns,
+    );
     *progress = p.progress;
     p.ran
 }

@@ -1,4 +1,4 @@
-// What set-up and run are to do, by the file and by how long all is that is lent: nothing where they are refused.
+// What set-up and run do, by the file and the lengths of the borrowed slices: nothing if they are refused.
 ghost use mathlib.Core.Path.{_≡_};
 ghost use Prim.Native.Nat.{_+_, _-_, _≤_, min};
 ghost use Rattle.bench_file.specs.Header.{mostEvents};
@@ -18,14 +18,14 @@ use super::Ran;
 use super::guard::run_tested;
 use super::guard::set_up_tested;
 use super::passes;
+use super::returned::Turns;
 use super::sets::Setting;
 use super::slots::SLOTS_LENGTH;
-use super::told::Turns;
 use bench_file::Header;
 use bench_file::read_header;
-use class_table::ClassTable;
+use net_table::NetTable;
 
-// The answer, the events done afterwards, the hosts that are set afresh, and how many octets of slots and how many answers are emptied.
+// The answer, the events done afterwards, the hosts that are initialized, and how many octets of slots and how many answers are cleared.
 pub struct SetUpPlan {
     pub answer: Answer,
     pub progress: Progress,
@@ -102,18 +102,18 @@ fn sets_all(a: Answer, h: Header) -> SetUpPlan
 
 pub fn plan_set_up(
     file: &[u8],
-    t: ClassTable,
+    t: NetTable,
     progress: Progress,
     hosts: usize,
     copies: usize,
-    run: usize,
+    entries: usize,
     slots: usize,
     answers: usize,
 ) -> SetUpPlan
-    ensures { λ r. ⌜ r ≡ setUpPlanOf (now (file .entry)) t (progress .done) hosts copies run slots answers ⌝ }
+    ensures { λ r. ⌜ r ≡ setUpPlanOf (now (file .entry)) t (progress .done) hosts copies entries slots answers ⌝ }
 {
     let n = Lengths {
-        run: run,
+        entries: entries,
         hosts: hosts,
         copies: copies,
         slots: slots,
@@ -144,7 +144,7 @@ fn runs_none(a: Answer, progress: Progress) -> RunPlan
     }
 }
 
-// The next events, so many.
+// The next n events.
 fn runs_on(a: Answer, h: Header, done: usize, count: usize) -> RunPlan
     requires { ⌜ done + count ≤ mostEvents ⌝ }
     ensures { λ r. ⌜ r ≡ runsOn a h done count ⌝ }
@@ -165,19 +165,19 @@ fn runs_on(a: Answer, h: Header, done: usize, count: usize) -> RunPlan
 
 pub fn plan_run(
     file: &[u8],
-    t: ClassTable,
+    t: NetTable,
     progress: Progress,
     hosts: usize,
     copies: usize,
-    run: usize,
+    entries: usize,
     slots: &[u8],
     answers: usize,
     allowance: usize,
 ) -> RunPlan
-    ensures { λ r. ⌜ r ≡ runPlanOf (now (file .entry)) t (progress .done) hosts copies run (now (slots .entry)) answers allowance ⌝ }
+    ensures { λ r. ⌜ r ≡ runPlanOf (now (file .entry)) t (progress .done) hosts copies entries (now (slots .entry)) answers allowance ⌝ }
 {
     let n = Lengths {
-        run: run,
+        entries: entries,
         hosts: hosts,
         copies: copies,
         slots: slots.len(),

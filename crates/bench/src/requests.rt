@@ -8,9 +8,9 @@ use super::states::put_state;
 use super::states::state_after;
 use super::states::state_at;
 use calls::Request;
-use class_table::ClassTable;
 use host::Reply;
 use host::Settings;
+use net_table::NetTable;
 use table::Entry;
 
 // The host, its settings, and what is asked.
@@ -21,27 +21,27 @@ pub struct Ask {
 }
 
 pub fn ask_at(
-    nets: &ClassTable,
+    net_table: &NetTable,
     hosts: &mut [HostState],
     copies: &[u8],
-    run: &mut [Entry],
+    entries: &mut [Entry],
     w: Ask,
 ) -> Reply
     requires { ⌜ AskFits w (now hosts) (now copies) ⌝ }
-    ensures { λ r. ⌜ DoesAsk w nets hosts copies run r ⌝ }
+    ensures { λ r. ⌜ DoesAsk w «net_table» hosts copies entries r ⌝ }
 {
     let low = copy_start(w.host);
     let high = copy_end(w.host);
     let v = state_at(hosts, w.host);
     let o = asked(
         w.settings,
-        nets,
+        net_table,
         w.host,
         v.clock,
         v.links,
         v.walk,
         &copies[low..high],
-        run,
+        entries,
         w.request,
     );
     let s = state_after(o);

@@ -16,10 +16,10 @@ use super::slots::room_start;
 use super::states::put_state;
 use super::states::state_after;
 use super::states::state_at;
-use class_table::ClassTable;
 use clock::Counter;
 use host::Reply;
 use host::Settings;
+use net_table::NetTable;
 use table::Entry;
 
 // The host, the slot for the message, the host's settings, the link and the counter, and the cable's end that the message goes from.
@@ -46,15 +46,15 @@ fn label(octets: &mut [u8], w: Sending, r: Reply)
 }
 
 pub fn send_at(
-    nets: &ClassTable,
+    net_table: &NetTable,
     hosts: &mut [HostState],
     copies: &[u8],
-    run: &[Entry],
+    entries: &[Entry],
     slots: &mut [u8],
     w: Sending,
 ) -> Reply
     requires { ⌜ SendFits w (now hosts) (now copies) (now slots) ⌝ }
-    ensures { λ r. ⌜ DoesSend w nets hosts copies run slots r ⌝ }
+    ensures { λ r. ⌜ DoesSend w «net_table» hosts copies entries slots r ⌝ }
 {
     let low = copy_start(w.host);
     let high = copy_end(w.host);
@@ -63,13 +63,13 @@ pub fn send_at(
     let v = state_at(hosts, w.host);
     let o = sent(
         w.settings,
-        nets,
+        net_table,
         w.host,
         v.clock,
         v.links,
         v.walk,
         &copies[low..high],
-        run,
+        entries,
         w.link,
         w.counter,
         &mut slots[here..there],

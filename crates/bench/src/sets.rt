@@ -4,7 +4,7 @@ ghost use Prim.Native.Nat.{_<_};
 ghost use lib.ListN.{length};
 ghost use Rattle.calls.specs.declared.Request.the-variants.{Initialize};
 ghost use Rattle.bench_file.specs.code.Sections.{Sections};
-ghost use Rattle.bench.specs.code.Told.{askOf};
+ghost use Rattle.bench.specs.code.Returned.{askOf};
 ghost use Rattle.bench.specs.code.Sets.{SetFits, SetsHost, SetsFit, SetsHosts};
 use super::HostState;
 use super::requests::Ask;
@@ -12,7 +12,7 @@ use super::requests::ask_at;
 use bench_file::Header;
 use bench_file::hosts::settings_at;
 use calls::Request;
-use class_table::ClassTable;
+use net_table::NetTable;
 use table::Entry;
 
 // The hosts from first to end, of a file with this header.
@@ -36,36 +36,36 @@ fn initializes(file: &[u8], host: usize, w: Setting) -> Ask
 
 fn set_at(
     file: &[u8],
-    nets: &ClassTable,
+    net_table: &NetTable,
     hosts: &mut [HostState],
     copies: &[u8],
-    run: &mut [Entry],
+    entries: &mut [Entry],
     i: usize,
     w: Setting,
 )
     requires { ⌜ SetFits (now file) w (now hosts) (now copies) i ⌝ }
-    ensures { λ _. ⌜ SetsHost file nets hosts copies run i ⌝ }
+    ensures { λ _. ⌜ SetsHost file «net_table» hosts copies entries i ⌝ }
 {
     let a = initializes(file, i, w);
-    let r = ask_at(nets, hosts, copies, run, a);
+    let r = ask_at(net_table, hosts, copies, entries, a);
 }
 
 // In rising order.
 pub fn sets(
     file: &[u8],
-    nets: &ClassTable,
+    net_table: &NetTable,
     hosts: &mut [HostState],
     copies: &[u8],
-    run: &mut [Entry],
+    entries: &mut [Entry],
     w: Setting,
 )
     requires { ⌜ SetsFit (now file) w (now hosts) (now copies) ⌝ }
-    ensures { λ _. ⌜ SetsHosts file w nets hosts copies run ⌝ }
+    ensures { λ _. ⌜ SetsHosts file w «net_table» hosts copies entries ⌝ }
 {
     let end = w.end;
     let mut i = w.first;
     while i < end {
-        set_at(file, nets, hosts, copies, run, i, w);
+        set_at(file, net_table, hosts, copies, entries, i, w);
         i = i + 1;
     }
 }

@@ -1,4 +1,4 @@
-// The slots: the label of each, and the packets behind them.
+// The slots: the label of each, then the packets.
 ghost use mathlib.Core.Path.{_≡_};
 ghost use Prim.Native.Nat.{_+_, _*_, _≤_, _<_};
 ghost use lib.ListN.{length, set};
@@ -89,7 +89,7 @@ pub fn slots_good(h: Header, octets: &[u8]) -> bool
     true
 }
 
-// A packet of so many octets, sent from an end of a cable.
+// A packet of n octets, sent from an end of a cable.
 pub fn put_label(octets: &mut [u8], slot: usize, size: usize, cable: u8, end: u8)
     requires { ⌜ (slotLength * slots ≤ length (now octets)) × (slot < slots) ⌝ }
     ensures { λ _. ⌜ now (octets .exit) ≡ withLabel slot size cable end (now (octets .entry)) ⌝ }
@@ -101,7 +101,7 @@ pub fn put_label(octets: &mut [u8], slot: usize, size: usize, cable: u8, end: u8
     octets[at + 3] = end;
 }
 
-// So many octets zero.
+// n zero octets.
 pub fn clear(octets: &mut [u8], n: usize)
     requires { ⌜ n ≤ length (now octets) ⌝ }
     ensures { λ _. ⌜ now (octets .exit) ≡ zeros n (now (octets .entry)) ⌝ }

@@ -4,7 +4,7 @@ ghost use Prim.Native.Nat.{_<_};
 ghost use lib.ListN.{length, set};
 ghost use Rattle.bench.specs.code.States.{StateAt};
 use super::HostState;
-use super::at_host::Left;
+use super::at_host::HostAfter;
 
 pub fn state_at(hosts: &[HostState], i: usize) -> HostState
     requires { ⌜ i < length (now hosts) ⌝ }
@@ -21,7 +21,7 @@ pub fn put_state(hosts: &mut [HostState], i: usize, state: HostState)
 }
 
 // The host after a call.
-pub fn state_after(o: Left) -> HostState
+pub fn state_after(o: HostAfter) -> HostState
     ensures { λ r. ⌜ r ≡ record { clock = o .clock; links = o .links; walk = o .walk } ⌝ }
 {
     let c = o.clock;

@@ -7,7 +7,7 @@ ghost use Rattle.bench_file.specs.Absent.{slots};
 ghost use Rattle.bench.specs.Slots.{roomPlace};
 ghost use Rattle.bench.specs.code.Takes.{TakeFits, DoesLook, DoesAct, DoesTake};
 use super::HostState;
-use super::at_host::Left;
+use super::at_host::HostAfter;
 use super::at_host::inspected;
 use super::at_host::taken;
 use super::places::copy_end;
@@ -17,10 +17,10 @@ use super::states::put_state;
 use super::states::state_after;
 use super::states::state_at;
 use arrival::Delivery;
-use class_table::ClassTable;
 use clock::Counter;
 use host::Reply;
 use host::Settings;
+use net_table::NetTable;
 use table::Entry;
 
 // The host, the slot and the length of its packet, the host's settings, the link and the counter.
@@ -55,15 +55,15 @@ fn passes(r: Reply) -> bool
 }
 
 fn look_at(
-    nets: &ClassTable,
+    net_table: &NetTable,
     hosts: &[HostState],
     copies: &[u8],
-    run: &[Entry],
+    entries: &[Entry],
     slots: &[u8],
     w: Taking,
-) -> Left
+) -> HostAfter
     requires { ⌜ TakeFits w (now hosts) (now copies) (now slots) ⌝ }
-    ensures { λ r. ⌜ DoesLook w nets hosts copies run slots r ⌝ }
+    ensures { λ r. ⌜ DoesLook w «net_table» hosts copies entries slots r ⌝ }
 {
     let low = copy_start(w.host);
     let high = copy_end(w.host);
@@ -72,28 +72,28 @@ fn look_at(
     let v = state_at(hosts, w.host);
     inspected(
         w.settings,
-        nets,
+        net_table,
         w.host,
         v.clock,
         v.links,
         v.walk,
         &copies[low..high],
-        run,
+        entries,
         w.link,
         &slots[here..there],
     )
 }
 
 fn act_at(
-    nets: &ClassTable,
+    net_table: &NetTable,
     hosts: &mut [HostState],
     copies: &[u8],
-    run: &mut [Entry],
+    entries: &mut [Entry],
     slots: &[u8],
     w: Taking,
 ) -> Reply
     requires { ⌜ TakeFits w (now hosts) (now copies) (now slots) ⌝ }
-    ensures { λ r. ⌜ DoesAct w nets hosts copies run slots r ⌝ }
+    ensures { λ r. ⌜ DoesAct w «net_table» hosts copies entries slots r ⌝ }
 {
     let low = copy_start(w.host);
     let high = copy_end(w.host);
@@ -103,13 +103,13 @@ fn act_at(
     let v = state_at(hosts, w.host);
     let o = taken(
         w.settings,
-        nets,
+        net_table,
         w.host,
         v.clock,
         v.links,
         v.walk,
         &copies[low..high],
-        run,
+        entries,
         d,
         &slots[here..there],
     );
@@ -119,20 +119,20 @@ fn act_at(
 }
 
 pub fn take_at(
-    nets: &ClassTable,
+    net_table: &NetTable,
     hosts: &mut [HostState],
     copies: &[u8],
-    run: &mut [Entry],
+    entries: &mut [Entry],
     slots: &[u8],
     w: Taking,
 ) -> Reply
     requires { ⌜ TakeFits w (now hosts) (now copies) (now slots) ⌝ }
-    ensures { λ r. ⌜ DoesTake w nets hosts copies run slots r ⌝ }
+    ensures { λ r. ⌜ DoesTake w «net_table» hosts copies entries slots r ⌝ }
 {
-    let o = look_at(nets, hosts, copies, run, slots, w);
+    let o = look_at(net_table, hosts, copies, entries, slots, w);
     let b = passes(o.reply);
     if b {
-        return act_at(nets, hosts, copies, run, slots, w);
+        return act_at(net_table, hosts, copies, entries, slots, w);
     }
     o.reply
 }

@@ -15,7 +15,7 @@ use Rattle.bench_file.specs.declared.Event.the-variants.{Tick, Adjust, S
 use Rattle.bench_file.specs.Octets.{octetAt, numberAt}
 use Rattle.bench_file.specs.Header.{headerLength, hostLength, cableLength, eventLength}
 
--- ---- where the records stand; record k is host k, cable k, event k
+-- ---- the places of the records; record k is host k, cable k, event k
 
 -- BENCH-2: where the record of host k is
 abbrev pub hostPlace : (host : ℕ) → ℕ

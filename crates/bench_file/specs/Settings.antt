@@ -10,7 +10,7 @@ use Rattle.quantity.specs.Quantity.{units, millis}
 use Rattle.wire.specs.Octets.{addressAt}
 use Rattle.table.specs.declared.marks.Marks.{Marks}
 use Rattle.table.specs.Forms.{every, upFrom}
-use Rattle.class_table.specs.declared.ClassTable.{ClassTable}
+use Rattle.net_table.specs.declared.NetTable.{NetTable}
 use Rattle.host.specs.declared.LinkSetting.{LinkSetting}
 use Rattle.host.specs.declared.Settings.{Settings}
 use Rattle.host.specs.Settings.{settingsFit}
@@ -79,9 +79,9 @@ unfoldable pub marksGood : (octets : List ℕ) → Bool
 marksGood r = every (λ (mark : ℕ). leb mark 1) (part marksPlace 256 r)
 
 -- BENCH-8, NET-12: are the marks good, and the settings with the table's NHOSTS?
-abbrev pub hostGood : ClassTable → (octets : List ℕ) → Bool
+abbrev pub hostGood : NetTable → (octets : List ℕ) → Bool
 hostGood t r = marksGood r && settingsFit t (settingsOf r)
 
 -- BENCH-8, ANSWER-19: are all host records good?
-unfoldable pub hostsGood : ClassTable → List ℕ → Header → Bool
+unfoldable pub hostsGood : NetTable → List ℕ → Header → Bool
 hostsGood t file h = every (λ (k : ℕ). hostGood t (hostRecord file k)) (upFrom 0 (h .hosts))

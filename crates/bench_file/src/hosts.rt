@@ -1,4 +1,4 @@
-// The records of hosts: the settings that each says, and whether they may stand.
+// The records of hosts: the settings of each, and whether they are valid.
 ghost use mathlib.Core.Path.{_≡_};
 ghost use Prim.Native.Nat.{_+_, _≤_, _<_, min};
 ghost use lib.ListN.{length};
@@ -26,9 +26,9 @@ use super::octets::four_at;
 use super::octets::number_at;
 use super::octets::octet_at;
 use super::octets::two_at;
-use class_table::ClassTable;
 use host::LinkSetting;
 use host::Settings;
+use net_table::NetTable;
 use quantity::Millis;
 use quantity::Seconds;
 use quantity::Units;
@@ -61,7 +61,7 @@ const MARKS: usize = 65;
 // One unit more than the longest tick.
 const OVER: u64 = 4294967297;
 
-// A tick of so many units.
+// A tick of n units.
 fn tick_of(n: u64) -> Units
     ensures { λ r. ⌜ r ≡ tickOf n ⌝ }
 {
@@ -195,7 +195,7 @@ fn marks_good(octets: &[u8]) -> bool
 }
 
 // May a host of the class be set so?
-fn host_good(t: ClassTable, octets: &[u8]) -> bool
+fn host_good(t: NetTable, octets: &[u8]) -> bool
     requires { ⌜ hostLength ≤ length (now octets) ⌝ }
     ensures { λ r. ⌜ r ≡ hostGood t (now (octets .entry)) ⌝ }
 {
@@ -205,7 +205,7 @@ fn host_good(t: ClassTable, octets: &[u8]) -> bool
     host::fit(t, settings_of(octets))
 }
 
-fn good_at(t: ClassTable, file: &[u8], h: Header, host: usize) -> bool
+fn good_at(t: NetTable, file: &[u8], h: Header, host: usize) -> bool
     requires { ⌜ Sections h (length (now file)) × (host < h .hosts) ⌝ }
     ensures { λ r. ⌜ r ≡ hostGood t (hostRecord (now (file .entry)) host) ⌝ }
 {
@@ -213,7 +213,7 @@ fn good_at(t: ClassTable, file: &[u8], h: Header, host: usize) -> bool
     host_good(t, &file[at..at + HOST])
 }
 
-pub fn hosts_good(t: ClassTable, file: &[u8], h: Header) -> bool
+pub fn hosts_good(t: NetTable, file: &[u8], h: Header) -> bool
     requires { ⌜ Sections h (length (now file)) ⌝ }
     ensures { λ r. ⌜ r ≡ hostsGood t (now (file .entry)) h ⌝ }
 {

@@ -31,7 +31,7 @@ pub struct End {
     pub link: usize,
 }
 
-// A call that an event makes. A send names a cable, one of its ends and a slot, which the file calls a tray; an arrival names a slot alone.
+// A call that an event makes. A send names a cable, one of its ends and a slot; an arrival names a slot only.
 pub enum Event {
     Tick(usize, Count),
     Adjust(usize, Count),

@@ -24,7 +24,7 @@ pub fn octet_at(s: &[u8], at: usize) -> usize
     index(s[at])
 }
 
-// The number in so many octets from a place on: the reader of every record.
+// The number in n octets from a place on: every record is read by it.
 pub fn number_at(s: &[u8], at: usize, n: usize) -> u64
     requires { ⌜ at + n ≤ length (now s) ⌝ }
     requires { ⌜ n ≤ 8 ⌝ }

@@ -10,7 +10,7 @@ use lib.Dec.{ltb, eqb}
 use lib.IntN.{ℤ, pos}
 use lib.ListN.{length, getD}
 use lib.Seq.{getD-set-same, getD-set-other}
-use Rattle.class_table.specs.declared.ClassTable.{ClassTable}
+use Rattle.net_table.specs.declared.NetTable.{NetTable}
 use Rattle.table.specs.declared.Entry.{Entry}
 use Rattle.table.specs.Entry.{freshEntry, up}
 use Rattle.calls.specs.declared.Request.the-variants.{Initialize}
@@ -19,27 +19,27 @@ use Rattle.bench_file.specs.declared.Header.{Header}
 use Rattle.bench_file.specs.Records.{eventAt}
 use Rattle.bench.specs.declared.HostState.{HostState}
 use Rattle.bench.specs.Answer.{passes}
-use Rattle.bench.specs.Bench.{Bench, freshHost, copyOf, lentAt}
+use Rattle.bench.specs.Bench.{Bench, freshHost, copyOf, stateAt}
 use Rattle.bench.specs.Guard.{setUpGuard, runGuard}
 use Rattle.bench.specs.Event.{After, asked, carried, kept}
 use Rattle.bench.specs.Run.{header, allSet, setUp, next, steps, afterSetUp}
-use Rattle.network.specs.History.{places, leftBy}
-use Rattle.network.specs.Room.{Room, End, afresh, longestWay, Proper}
-use Rattle.network.specs.Demand3.{Right}
-use Rattle.network.specs.SharedRun.{SharedStep, SharedWorld, sharedStep, sharedHistory, SharedAllowed, SharedAllows, OneRun, SharedDemand3, sharedEntry}
-use Rattle.network.proofs.Demand3.Shared.{shared-demand-3}
+use Rattle.network_laws.specs.History.{places, afterOutcome}
+use Rattle.network_laws.specs.Network.{Network, End, initialized, longestWay, Proper}
+use Rattle.network_laws.specs.Demand3.{Right}
+use Rattle.network_laws.specs.SharedTable.{SharedStep, SharedWorld, sharedStep, sharedHistory, SharedAllowed, SharedAllows, OneTable, SharedDemand3, sharedEntry}
+use Rattle.network_laws.proofs.Demand3.Shared.{shared-demand-3}
 use Rattle.bench_laws.specs.Calls.{hostAt}
-use Rattle.bench_laws.specs.Bound.{fileRoom, Wired, sinceThen, sinceAll, AllOnTime, Lot, afterRuns, RunsOnTime, entryAt, Bound}
+use Rattle.bench_laws.specs.Bound.{fileNetwork, Wired, sinceThen, sinceAll, AllOnTime, Lot, afterRuns, RunsOnTime, entryAt, Bound}
 use Rattle.bench_laws.proofs.Guards.{Ready, next-ready}
 use Rattle.bench_laws.proofs.Guards as guards
 use Rattle.bench_laws.proofs.Called.{plain, same-copy}
 use Rattle.bench.proofs.Named.{event-good}
-use Rattle.bench.proofs.Afresh.{beside}
+use Rattle.bench.proofs.Initialized.{beside}
 use Rattle.bench_laws.proofs.SetUp.{set-up-ready, all-long, zeros-empty}
 use Rattle.bench_laws.proofs.Held as holding
 use Rattle.bench_laws.proofs.Held.{stayed, went}
 
-module _ (file : List ℕ) (t : ClassTable) where
+module _ (file : List ℕ) (t : NetTable) where
   abbrev h : Header
   h = header file t
 
@@ -56,13 +56,13 @@ module _ (file : List ℕ) (t : ClassTable) where
   set-next n b = set-last 0 n b ∙ ap (λ (j : ℕ). asked file t h j Initialize (allSet file t 0 n b) .bench) (zero-add n)
 
   module _ (first : Bench) (f : ℕ → ℤ) (cable : ℕ → ℕ → End) (longest : ℕ) where
-    abbrev r : Room
-    r = fileRoom file t first f cable longest
+    abbrev r : Network
+    r = fileNetwork file t first f cable longest
 
     -- ---- the beginning
 
     abbrev set : ℕ → HostState
-    set a = record { clock = afresh r a .clock; links = afresh r a .links; walk = afresh r a .walk }
+    set a = record { clock = initialized r a .clock; links = initialized r a .links; walk = initialized r a .walk }
 
     -- a host that is set stays so, while the others are set
     stays-set : (a n : ℕ) → a < n → n ≤ length (first .hosts) → hostAt file (allSet file t 0 n first) a ≡ set a
@@ -82,24 +82,24 @@ module _ (file : List ℕ) (t : ClassTable) where
             getD-set-other (allSet file t 0 n first .hosts) n a _ (freshHost file a) other ∙ before (omega (arith)) (omega arith)
 
     abbrev start : SharedWorld
-    start = record { world = record { state = λ (k : ℕ). leftBy k [] (afresh r k); mail = [] }; run = setUp file t first .run }
+    start = record { world = record { state = λ (k : ℕ). afterOutcome k [] (initialized r k); mail = [] }; entries = setUp file t first .entries }
 
-    one-run : OneRun r start
+    one-run : OneTable r start
     unfolding setUp
     one-run =
         record {
-          starts = record { set-afresh = λ a l. refl; no-mail = refl };
-          in-turn = λ a l. ap (λ (c : Bench). c .run) (set-next a first);
-          last-left = λ a e. ap (λ (n : ℕ). allSet file t 0 n first .run) (sym e) ∙ ap (λ (c : Bench). c .run) (set-next a first);
+          starts = record { was-initialized = λ a l. refl; no-mail = refl };
+          in-turn = λ a l. ap (λ (c : Bench). c .entries) (set-next a first);
+          last-after = λ a e. ap (λ (n : ℕ). allSet file t 0 n first .entries) (sym e) ∙ ap (λ (c : Bench). c .entries) (set-next a first);
         }
 
     module _ (passed-by : passes (setUpGuard t file first) ≡ true) where
       ready : Ready t file (setUp file t first)
       ready = set-up-ready file t first passed-by
 
-      hosts-lent : h .hosts ≤ length (first .hosts)
+      hosts-state : h .hosts ≤ length (first .hosts)
       unfolding setUp
-      hosts-lent = omega (arith, ready .long .hosts, all-long file t 0 (h .hosts) first .hosts)
+      hosts-state = omega (arith, ready .long .hosts, all-long file t 0 (h .hosts) first .hosts)
 
       begins : holding.Stands file t first f cable longest (setUp file t first) start (λ (s : ℕ). pos 0)
       unfolding setUp
@@ -107,13 +107,13 @@ module _ (file : List ℕ) (t : ClassTable) where
           record {
             tracks =
                 record {
-                  clock = λ a l. ap (λ (s : HostState). s .clock) (sym (stays-set a (h .hosts) l hosts-lent));
-                  links = λ a l. ap (λ (s : HostState). s .links) (sym (stays-set a (h .hosts) l hosts-lent));
-                  walk = λ a l. ap (λ (s : HostState). s .walk) (sym (stays-set a (h .hosts) l hosts-lent));
+                  clock = λ a l. ap (λ (s : HostState). s .clock) (sym (stays-set a (h .hosts) l hosts-state));
+                  links = λ a l. ap (λ (s : HostState). s .links) (sym (stays-set a (h .hosts) l hosts-state));
+                  walk = λ a l. ap (λ (s : HostState). s .walk) (sym (stays-set a (h .hosts) l hosts-state));
                   copy = λ a l.
-                      same-copy (ask Initialize) (lentAt file t a (allSet file t 0 a first)) (plain (ask Initialize) refl)
+                      same-copy (ask Initialize) (stateAt file t a (allSet file t 0 a first)) (plain (ask Initialize) refl)
                       ∙ ap (copyOf a) (beside file t 0 a first .copies ∙ sym (beside file t 0 (h .hosts) first .copies));
-                  run = refl;
+                  entries = refl;
                 };
             held = λ s l e. absurd (true≢false (sym (zeros-empty (allSet file t 0 (h .hosts) first .slots) s l) ∙ e));
           }
@@ -149,7 +149,7 @@ module _ (file : List ℕ) (t : ClassTable) where
 
     module _ (wired : Wired file t cable) (ms : ℕ → ℤ) where
       -- one event, and the run behind it
-      behind : (u : ClassTable) (b : Bench) (w : SharedWorld) (since : ℕ → ℤ) (P : SharedWorld → Type 0)
+      behind : (u : NetTable) (b : Bench) (w : SharedWorld) (since : ℕ → ℤ) (P : SharedWorld → Type 0)
           → ((v : SharedWorld) → Stands (next file u b) v since → Going v P)
           → holding.Went file t first f cable longest w (carried file u h (eventAt file h (b .done)) b .bench) since → Going w P
       unfolding next
@@ -157,7 +157,7 @@ module _ (file : List ℕ) (t : ClassTable) where
       behind u b w since P rest (went x ok st) =
           more x ok (rest (sharedStep r w x) (keep (carried file u h (eventAt file h (b .done)) b) (sharedStep r w x) since st))
 
-      going : (u : ClassTable) (n : ℕ) (b : Bench) (w : SharedWorld) (since : ℕ → ℤ) → Ready u file b → Stands b w since → AllOnTime file u r ms n since b
+      going : (u : NetTable) (n : ℕ) (b : Bench) (w : SharedWorld) (since : ℕ → ℤ) → Ready u file b → Stands b w since → AllOnTime file u r ms n since b
           → Going w (λ (v : SharedWorld). Stands (steps file u n b) v (sinceAll file u ms n since b))
       unfolding steps AllOnTime sinceAll
       going u zero b w since ready st on-time = still st
@@ -177,14 +177,14 @@ module _ (file : List ℕ) (t : ClassTable) where
 
       -- run after run
       goings : (runs : List Lot) (b : Bench) (w : SharedWorld) (since : ℕ → ℤ) → Stands b w since → RunsOnTime file r ms since runs b
-          → Going w (λ (v : SharedWorld). v .run ≡ afterRuns file runs b .run)
-      goings [] b w since st on-time = still (st .tracks .run)
+          → Going w (λ (v : SharedWorld). v .entries ≡ afterRuns file runs b .entries)
+      goings [] b w since st on-time = still (st .tracks .entries)
       goings (x ∷ xs) b w since st on-time = go (passes (runGuard (x .nets) file b)) refl (λ c v s. goings xs c v s) (on-time .1)
         where
           go : (c : Bool) → passes (runGuard (x .nets) file b) ≡ c
-              → ((d : Bench) (v : SharedWorld) (s : ℕ → ℤ) → Stands d v s → RunsOnTime file r ms s xs d → Going v (λ (z : SharedWorld). z .run ≡ afterRuns file xs d .run))
+              → ((d : Bench) (v : SharedWorld) (s : ℕ → ℤ) → Stands d v s → RunsOnTime file r ms s xs d → Going v (λ (z : SharedWorld). z .entries ≡ afterRuns file xs d .entries))
               → RunsOnTime file r ms (cond c (sinceAll file (x .nets) ms (x .allowance) since b) since) xs (cond c (steps file (x .nets) (x .allowance) b) b)
-              → Going w (λ (v : SharedWorld). v .run ≡ afterRuns file xs (cond c (steps file (x .nets) (x .allowance) b) b) .run)
+              → Going w (λ (v : SharedWorld). v .entries ≡ afterRuns file xs (cond c (steps file (x .nets) (x .allowance) b) b) .entries)
           go true e rest later =
               let g = going (x .nets) (x .allowance) b w since (guards.ready (x .nets) file b e) st (on-time .0 e) in
               goes-on w (g .taken) (g .allows) (g .ends) (λ v st′. rest (steps file (x .nets) (x .allowance) b) v _ st′ later)
@@ -214,5 +214,5 @@ bound-holds file t b e f cable longest proper ways wired ms runs on-time a i ha 
 
     P : Bench → Type 0
     P c =
-        RunsOnTime file (fileRoom file t b f cable longest) ms (λ (slot : ℕ). pos 0) runs c → up (entryAt (afterRuns file runs c) a i) ≡ true
-        → Right (fileRoom file t b f cable longest) a i (entryAt (afterRuns file runs c) a i)
+        RunsOnTime file (fileNetwork file t b f cable longest) ms (λ (slot : ℕ). pos 0) runs c → up (entryAt (afterRuns file runs c) a i) ≡ true
+        → Right (fileNetwork file t b f cable longest) a i (entryAt (afterRuns file runs c) a i)

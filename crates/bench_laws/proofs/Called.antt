@@ -9,23 +9,23 @@ use lib.ListN.{length, getD, set, length-set}
 use lib.Seq.{getD-set-same, getD-set-other, set-set}
 use Rattle.answer.specs.declared.Answer.the-variants.{IpForm}
 use Rattle.clock.specs.declared.Counter.{Counter}
-use Rattle.class_table.specs.declared.ClassTable.{ClassTable}
+use Rattle.net_table.specs.declared.NetTable.{NetTable}
 use Rattle.host.specs.Guard.{done}
-use Rattle.host.specs.Lent.{Lent, lent}
+use Rattle.host.specs.CallState.{CallState, callState}
 use Rattle.calls.specs.Perform.{Call, Outcome, ask, send, deliver, openWalk, inspect, act, perform, left, inTurn}
 use Rattle.bench_file.specs.declared.End.{End}
 use Rattle.bench_file.specs.declared.Event.{Event}
 use Rattle.bench_file.specs.declared.Event.the-variants.{Tick, Adjust, Set, Second, SelfReport, Send, Arrival, Unknown}
 use Rattle.bench_file.specs.Records.{endAt}
 use Rattle.bench.specs.declared.HostState.{HostState}
-use Rattle.bench.specs.Bench.{Bench, freshHost, copyOf, lentAt}
+use Rattle.bench.specs.Bench.{Bench, freshHost, copyOf, stateAt}
 use Rattle.bench.specs.Slots.{packetOf, empty, farEnd}
-use Rattle.bench.specs.Event.{After, leftAt, taken, carried}
+use Rattle.bench.specs.Event.{After, afterAt, taken, carried}
 use Rattle.bench.specs.Run.{header}
-use Rattle.network.specs.Frame.{Frame}
-use Rattle.network.specs.History.{put}
-use Rattle.network.specs.Isolation.{SharedEvent, Shared, sharedOutcome, sharedAfter, sharedAfterAll}
-use Rattle.network.proofs.Demand1.Frame.{frame-holds}
+use Rattle.network_laws.specs.Frame.{Frame}
+use Rattle.network_laws.specs.History.{put}
+use Rattle.network_laws.specs.Isolation.{SharedEvent, Shared, sharedOutcome, sharedAfter, sharedAfterAll}
+use Rattle.network_laws.proofs.Demand1.Frame.{frame-holds}
 use Rattle.bench_laws.specs.Calls.{sharedOf, callAt, pairOf, pairAt, callsOf, lastAnswer}
 
 -- a call that opens no walk
@@ -42,7 +42,7 @@ pub plain : (c : Call) → opens c ≡ false → Plain c
 plain c e = record { no-opening = λ i packet p. absurd (false≢true (sym e ∙ ap opens p)) }
 
 -- and leaves the copy of a packet
-pub same-copy : (c : Call) (x : Lent) → Plain c → perform c x .copy ≡ x .copy
+pub same-copy : (c : Call) (x : CallState) → Plain c → perform c x .copy ≡ x .copy
 unfolding Frame
 same-copy c x p = frame-holds c x .copy (p .no-opening)
 
@@ -65,51 +65,51 @@ put-same f k a e = fun-ext (λ (j : ℕ). go j (eqb j k) refl)
     go j true q = e ∙ ap f (sym (eqb-true j k q))
     go j false q = refl
 
-module _ (file : List ℕ) (t : ClassTable) where
+module _ (file : List ℕ) (t : NetTable) where
   -- ---- one call
 
   module _ (k : ℕ) (c : Call) (b : Bench) (there : k < length (b .hosts)) (p : Plain c) where
     abbrev o : Outcome
-    o = perform c (lentAt file t k b)
+    o = perform c (stateAt file t k b)
 
-    pub one-call : sharedAfter (sharedOf file b) (callAt file t k c) ≡ sharedOf file (leftAt k o b)
+    pub one-call : sharedAfter (sharedOf file b) (callAt file t k c) ≡ sharedOf file (afterAt k o b)
     unfolding sharedAfter
     one-call =
         let y : HostState = record { clock = o .clock; links = o .links; walk = o .walk } in
         let clocks = sym (as-put (λ (s : HostState). s .clock) (b .hosts) (freshHost file) k y there) in
         let links = sym (as-put (λ (s : HostState). s .links) (b .hosts) (freshHost file) k y there) in
         let walks = sym (as-put (λ (s : HostState). s .walk) (b .hosts) (freshHost file) k y there) in
-        let copies = put-same (λ (j : ℕ). copyOf j (b .copies)) k (o .copy) (same-copy c (lentAt file t k b) p) in
-        λ i. record { clock = clocks i; links = links i; walk = walks i; copy = copies i; run = o .run }
+        let copies = put-same (λ (j : ℕ). copyOf j (b .copies)) k (o .copy) (same-copy c (stateAt file t k b) p) in
+        λ i. record { clock = clocks i; links = links i; walk = walks i; copy = copies i; entries = o .entries }
 
     -- what is lent next at the host is what the call left
-    pub lent-left : lentAt file t k (leftAt k o b) ≡ left (lentAt file t k b) o
-    lent-left =
+    pub state-after : stateAt file t k (afterAt k o b) ≡ left (stateAt file t k b) o
+    state-after =
         let y : HostState = record { clock = o .clock; links = o .links; walk = o .walk } in
         let e = getD-set-same (b .hosts) k y (freshHost file k) there in
-        let m = sym (same-copy c (lentAt file t k b) p) in
-        λ i. lent (lentAt file t k b .host .settings) t k (e i .clock) (e i .links) (e i .walk) (m i) (o .run)
+        let m = sym (same-copy c (stateAt file t k b) p) in
+        λ i. callState (stateAt file t k b .host .settings) t k (e i .clock) (e i .links) (e i .walk) (m i) (o .entries)
 
   -- ---- an event
 
   -- that it left, and answered, what its calls do
   pub record Made (es : List SharedEvent) (b : Bench) (a : After) : Type 0 where
-    pub left-same : sharedOf file (a .bench) ≡ sharedAfterAll (sharedOf file b) es
+    pub after-same : sharedOf file (a .bench) ≡ sharedAfterAll (sharedOf file b) es
     pub answer-same : a .answer ≡ lastAnswer IpForm (sharedOf file b) es
 
   module _ (b : Bench) where
     made-one : (k : ℕ) (c : Call) → k < length (b .hosts) → Plain c → (slots : List ℕ)
         → Made (callAt file t k c ∷ []) b
         record {
-          bench = record { hosts = leftAt k (perform c (lentAt file t k b)) b .hosts; copies = b .copies; run = perform c (lentAt file t k b) .run; slots = slots; answers = b .answers; done = b .done };
-          answer = perform c (lentAt file t k b) .reply .answer;
+          bench = record { hosts = afterAt k (perform c (stateAt file t k b)) b .hosts; copies = b .copies; entries = perform c (stateAt file t k b) .entries; slots = slots; answers = b .answers; done = b .done };
+          answer = perform c (stateAt file t k b) .reply .answer;
         }
     unfolding sharedAfterAll
-    made-one k c there p slots = record { left-same = sym (one-call k c b there p); answer-same = refl }
+    made-one k c there p slots = record { after-same = sym (one-call k c b there p); answer-same = refl }
 
     module _ (e : End) (k : Counter) (packet : List ℕ) (there : e .host < length (b .hosts)) where
-      abbrev x : Lent
-      x = lentAt file t (e .host) b
+      abbrev x : CallState
+      x = stateAt file t (e .host) b
 
       abbrev looked : Outcome
       looked = perform (inspect (e .link) packet) x
@@ -118,7 +118,7 @@ module _ (file : List ℕ) (t : ClassTable) where
       acted = perform (act (e .link) k packet) (left x looked)
 
       abbrev between : Bench
-      between = leftAt (e .host) looked b
+      between = afterAt (e .host) looked b
 
       inspection : Plain (inspect (e .link) packet)
       inspection = plain (inspect (e .link) packet) refl
@@ -130,45 +130,45 @@ module _ (file : List ℕ) (t : ClassTable) where
       in-between = rw (length-set) there
 
       -- the action, after the inspection
-      then-acts : sharedAfter (sharedOf file between) (callAt file t (e .host) (act (e .link) k packet)) ≡ sharedOf file (leftAt (e .host) acted b)
+      then-acts : sharedAfter (sharedOf file between) (callAt file t (e .host) (act (e .link) k packet)) ≡ sharedOf file (afterAt (e .host) acted b)
       then-acts =
           one-call (e .host) (act (e .link) k packet) between in-between action
-          ∙ ap (λ (y : Lent). sharedOf file (leftAt (e .host) (perform (act (e .link) k packet) y) between)) (lent-left (e .host) (inspect (e .link) packet) b there inspection)
+          ∙ ap (λ (y : CallState). sharedOf file (afterAt (e .host) (perform (act (e .link) k packet) y) between)) (state-after (e .host) (inspect (e .link) packet) b there inspection)
           ∙ ap
-          (λ (hs : List HostState). sharedOf file record { hosts = hs; copies = b .copies; run = acted .run; slots = b .slots; answers = b .answers; done = b .done })
+          (λ (hs : List HostState). sharedOf file record { hosts = hs; copies = b .copies; entries = acted .entries; slots = b .slots; answers = b .answers; done = b .done })
           (set-set (b .hosts) (e .host) _ _)
 
       then-answers : sharedOutcome (sharedOf file between) (callAt file t (e .host) (act (e .link) k packet)) .reply .answer ≡ acted .reply .answer
       then-answers =
-          ap (λ (y : Lent). perform (act (e .link) k packet) y .reply .answer) (lent-left (e .host) (inspect (e .link) packet) b there inspection)
+          ap (λ (y : CallState). perform (act (e .link) k packet) y .reply .answer) (state-after (e .host) (inspect (e .link) packet) b there inspection)
 
-      made-pair : Made (pairAt file t e k packet b) b record { bench = leftAt (e .host) (inTurn (e .link) k packet x) b; answer = inTurn (e .link) k packet x .reply .answer }
+      made-pair : Made (pairAt file t e k packet b) b record { bench = afterAt (e .host) (inTurn (e .link) k packet x) b; answer = inTurn (e .link) k packet x .reply .answer }
       unfolding sharedAfterAll
       made-pair = go (done (looked .reply .answer))
         where
           first : sharedAfter (sharedOf file b) (callAt file t (e .host) (inspect (e .link) packet)) ≡ sharedOf file between
           first = one-call (e .host) (inspect (e .link) packet) b there inspection
 
-          go : (d : Bool) → Made (pairOf file t d e k packet) b record { bench = leftAt (e .host) (cond d acted looked) b; answer = cond d acted looked .reply .answer }
+          go : (d : Bool) → Made (pairOf file t d e k packet) b record { bench = afterAt (e .host) (cond d acted looked) b; answer = cond d acted looked .reply .answer }
           go true =
               record {
-                left-same = sym (ap (λ (w : Shared). sharedAfter w (callAt file t (e .host) (act (e .link) k packet))) first ∙ then-acts);
+                after-same = sym (ap (λ (w : Shared). sharedAfter w (callAt file t (e .host) (act (e .link) k packet))) first ∙ then-acts);
                 answer-same = sym (ap (λ (w : Shared). sharedOutcome w (callAt file t (e .host) (act (e .link) k packet)) .reply .answer) first ∙ then-answers);
               }
-          go false = record { left-same = sym first; answer-same = refl }
+          go false = record { after-same = sym first; answer-same = refl }
 
     -- the hosts of an event's calls are lent
-    abbrev pub Lent-hosts : Event → Type 0
-    Lent-hosts (Tick k n) = k < length (b .hosts)
-    Lent-hosts (Adjust k n) = k < length (b .hosts)
-    Lent-hosts (Set k ms n) = k < length (b .hosts)
-    Lent-hosts (Second k) = k < length (b .hosts)
-    Lent-hosts (SelfReport k n) = k < length (b .hosts)
-    Lent-hosts (Send c i n k) = endAt file (header file t) c i .host < length (b .hosts)
-    Lent-hosts (Arrival n k) = empty n (b .slots) ≡ false → farEnd file (header file t) n (b .slots) .host < length (b .hosts)
-    Lent-hosts Unknown = Unit {0}
+    abbrev pub State-hosts : Event → Type 0
+    State-hosts (Tick k n) = k < length (b .hosts)
+    State-hosts (Adjust k n) = k < length (b .hosts)
+    State-hosts (Set k ms n) = k < length (b .hosts)
+    State-hosts (Second k) = k < length (b .hosts)
+    State-hosts (SelfReport k n) = k < length (b .hosts)
+    State-hosts (Send c i n k) = endAt file (header file t) c i .host < length (b .hosts)
+    State-hosts (Arrival n k) = empty n (b .slots) ≡ false → farEnd file (header file t) n (b .slots) .host < length (b .hosts)
+    State-hosts Unknown = Unit {0}
 
-    pub made : (e : Event) → Lent-hosts e → Made (callsOf file t e b) b (carried file t (header file t) e b)
+    pub made : (e : Event) → State-hosts e → Made (callsOf file t e b) b (carried file t (header file t) e b)
     unfolding sharedAfterAll
     made (Tick k n) h = made-one k _ h (plain _ refl) (b .slots)
     made (Adjust k n) h = made-one k _ h (plain _ refl) (b .slots)
@@ -181,6 +181,6 @@ module _ (file : List ℕ) (t : ClassTable) where
         go : (d : Bool) → empty n (b .slots) ≡ d
             → Made (cond d [] (pairAt file t (farEnd file (header file t) n (b .slots)) k (packetOf n (b .slots)) b)) b
             (cond d record { bench = b; answer = IpForm } (taken file t (header file t) (farEnd file (header file t) n (b .slots)) n k b))
-        go true e = record { left-same = refl; answer-same = refl }
+        go true e = record { after-same = refl; answer-same = refl }
         go false e = made-pair (farEnd file (header file t) n (b .slots)) k (packetOf n (b .slots)) (h e)
-    made Unknown h = record { left-same = refl; answer-same = refl }
+    made Unknown h = record { after-same = refl; answer-same = refl }

@@ -7,19 +7,19 @@ use native.Mathlib.Omega.{arith}
 use lib.ListN.{length}
 use Rattle.lists.specs.Lists.{over}
 use Rattle.lists.proofs.Parts.{over-nothing}
-use Rattle.class_table.specs.declared.ClassTable.{ClassTable}
+use Rattle.net_table.specs.declared.NetTable.{NetTable}
 use Rattle.bench.specs.Answer.{passes}
 use Rattle.bench.specs.Bench.{Bench}
 use Rattle.bench.specs.Guard.{setUpGuard, runGuard}
 use Rattle.bench.specs.Run.{afterSetUp, afterRun, ran}
-use Rattle.network.specs.Isolation.{SharedEvent, Shared, sharedAfterAll, alone, SharedAlike, Alone}
-use Rattle.network.proofs.Demand1.Alone.{alone-holds}
+use Rattle.network_laws.specs.Isolation.{SharedEvent, Shared, sharedAfterAll, alone, SharedAlike, Alone}
+use Rattle.network_laws.proofs.Demand1.Alone.{alone-holds}
 use Rattle.bench_laws.specs.Calls.{sharedOf, runTurns, runCalls, setUpCalls, answersOf, Called, Calls}
 use Rattle.bench_laws.proofs.Guards.{ready}
 use Rattle.bench_laws.proofs.Turns.{turned}
-use Rattle.bench_laws.proofs.SetUp.{set-up-calls, set-afresh}
+use Rattle.bench_laws.proofs.SetUp.{set-up-calls, was-initialized}
 
-module _ (file : List ℕ) (t : ClassTable) (n : ℕ) (b : Bench) where
+module _ (file : List ℕ) (t : NetTable) (n : ℕ) (b : Bench) where
   record Ran : Type 0 where
     left : sharedOf file (afterRun file t n b) ≡ sharedAfterAll (sharedOf file b) (runCalls file t n b)
     answers : afterRun file t n b .answers ≡ over (b .answers) (b .done) (answersOf (sharedOf file b) (runTurns file t n b))
@@ -32,7 +32,7 @@ module _ (file : List ℕ) (t : ClassTable) (n : ℕ) (b : Bench) where
       go : (c : Bool) → passes (runGuard t file b) ≡ c → Ran
       go true e =
           let r = turned file t n b (ready t file b e) in
-          record { left = rw e (r .left-same); answers = rw e (r .answers-same); count = rw e (omega (arith, r .count-same)) }
+          record { left = rw e (r .after-same); answers = rw e (r .answers-same); count = rw e (omega (arith, r .count-same)) }
       go false e = record { left = rw e refl; answers = rw e (sym (over-nothing (b .done) (b .answers))); count = rw e (omega arith) }
 
   sets-up : sharedOf file (afterSetUp file t b) ≡ sharedAfterAll (sharedOf file b) (setUpCalls file t b)
@@ -56,7 +56,7 @@ module _ (file : List ℕ) (t : ClassTable) (n : ℕ) (b : Bench) where
 
   called : Called file t n b
   called =
-      record { left = run-calls .left; answers = run-calls .answers; count = run-calls .count; set-up = sets-up; afresh = set-afresh file t b; elsewhere = others; own = own-calls }
+      record { left = run-calls .left; answers = run-calls .answers; count = run-calls .count; set-up = sets-up; initialized = was-initialized file t b; elsewhere = others; own = own-calls }
 
 pub calls-hold : Calls
 unfolding Calls

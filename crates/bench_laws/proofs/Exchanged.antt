@@ -17,32 +17,32 @@ use Rattle.bench_file.specs.Records.{endAt, eventOf}
 use Rattle.bench_file.specs.Settings.{settingsOf, marksGood, hostsGood}
 use Rattle.bench_file.specs.Absent.{endGood, cableGood, cablesGood, eventsGood}
 use Rattle.bench.specs.Slots.{slotsGood}
-use Rattle.bench.specs.Guard.{recordsGood, allLent, fileTested}
+use Rattle.bench.specs.Guard.{recordsGood, lengthsFit, fileTested}
 use Rattle.bench.specs.Run.{allSet, setUp, next, steps, afterSetUp}
-use Rattle.network.specs.Room.{loose, at, clockSpread, afresh, HostAt, Cabled, Proper}
-use Rattle.network.specs.TwoSeats.{wire}
-use Rattle.network.proofs.Opened.{opened}
-use Rattle.network.proofs.Demand3.TwoSeats.{below-2, apart}
+use Rattle.network_laws.specs.Network.{loose, at, clockSpread, initialized, HostAt, Cabled, Proper}
+use Rattle.network_laws.specs.TwoNodes.{wire}
+use Rattle.network_laws.proofs.Opened.{opened}
+use Rattle.network_laws.proofs.Demand3.TwoNodes.{below-2, apart}
 use Rattle.bench_laws.specs.Bound.{Wired, sinceAll, AllOnTime, RunsOnTime}
 use Rattle.bench_laws.specs.Exchange.{file, room, runs, Exchange}
 use Rattle.bench_laws.specs.Exchange as exchange
-use Rattle.bench_laws.specs.Example.{class, lentFirst}
+use Rattle.bench_laws.specs.Example.{class, firstState}
 
 pairs : (P : ℕ → ℕ → Type 0) → P 0 0 → P 0 1 → P 1 0 → P 1 1 → (a b : ℕ) → a < 2 → b < 2 → P a b
 pairs P p q s t a b l m = below-2 (λ (x : ℕ). P x b) (below-2 (P 0) p q b m) (below-2 (P 1) s t b m) a l
 
-two : room .seats ≡ 2
+two : room .nodes ≡ 2
 two = refl
 
 -- ---- the one cable, from both ends
 
 from-0 : Cabled room 0 1 1 1
 unfolding opened settingsOf
-from-0 = record { seat-in = omega (arith, two); link-in = refl; point-to-point = refl; two-seats = λ e. omega arith; other-end = refl }
+from-0 = record { node-in = omega (arith, two); link-in = refl; point-to-point = refl; two-nodes = λ e. omega arith; other-end = refl }
 
 from-1 : Cabled room 1 1 0 1
 unfolding opened settingsOf
-from-1 = record { seat-in = omega (arith, two); link-in = refl; point-to-point = refl; two-seats = λ e. omega arith; other-end = refl }
+from-1 = record { node-in = omega (arith, two); link-in = refl; point-to-point = refl; two-nodes = λ e. omega arith; other-end = refl }
 
 wires : (a i b j : ℕ) → wire a i ≡ at b j → Cabled room a i b j
 wires a i b j = go (eqb i 1) (eqb a 0) (eqb a 1) refl refl refl
@@ -61,7 +61,7 @@ proper =
     record {
       sixteen = omega (arith, two);
       numbers-differ = λ a b l m e. e;
-      set-afresh = below-2 (λ (a : ℕ). afresh room a .reply .answer ≡ Done) refl refl;
+      was-initialized = below-2 (λ (a : ℕ). initialized room a .reply .answer ≡ Done) refl refl;
       one-net = pairs (λ (a b : ℕ). sameNet (room .settings a .address) (room .settings b .address) ≡ true) refl refl refl refl;
       marked-once = λ a b id l m.
           pairs (λ (a b : ℕ). HostAt room id a → HostAt room id b → a ≡ b) (λ _ _. refl)
@@ -83,13 +83,13 @@ wired c i lc li = rw (one-cable) (below-2 (λ (j : ℕ). wire (endAt file (heade
     one-cable = omega (arith, lc, cables)
 
 -- each event at its millisecond
-on-time : RunsOnTime file room exchange.at (λ (slot : ℕ). pos 0) runs (afterSetUp file class lentFirst)
-unfolding AllOnTime sinceAll opened clock.holdSecond aged effects.second headerFits eventOf settingsOf marksGood hostsGood endGood cableGood cablesGood eventsGood slotsGood recordsGood allLent fileTested allSet setUp next steps
+on-time : RunsOnTime file room exchange.at (λ (slot : ℕ). pos 0) runs (afterSetUp file class firstState)
+unfolding AllOnTime sinceAll opened clock.holdSecond aged effects.second headerFits eventOf settingsOf marksGood hostsGood endGood cableGood cablesGood eventsGood slotsGood recordsGood lengthsFit fileTested allSet setUp next steps
 on-time = (
   λ _ _. (tt, λ _. (λ _. record { clock = refl; no-midnight = record { lt = tt } }, λ _. (λ _ _. record { reads = record { clock = refl; no-midnight = record { lt = tt } }; way = 0; short = omega arith; later = refl }, λ _. (λ _. record { clock = refl; no-midnight = record { lt = tt } }, λ _. (λ _ _. record { reads = record { clock = refl; no-midnight = record { lt = tt } }; way = 0; short = omega arith; later = refl }, tt))))),
   (λ _ _. (λ _. record { clock = refl; no-midnight = record { lt = tt } }, λ _. (λ _ _. record { reads = record { clock = refl; no-midnight = record { lt = tt } }; way = 101; short = omega arith; later = refl }, λ _. (tt, λ none. absurd (false≢true none)))), tt),
 )
 
 pub exchange-holds : Exchange
-unfolding opened clock.holdSecond aged effects.second headerFits eventOf settingsOf marksGood hostsGood endGood cableGood cablesGood eventsGood slotsGood recordsGood allLent fileTested allSet setUp next steps
+unfolding opened clock.holdSecond aged effects.second headerFits eventOf settingsOf marksGood hostsGood endGood cableGood cablesGood eventsGood slotsGood recordsGood lengthsFit fileTested allSet setUp next steps
 exchange-holds = record { passed = refl; proper = proper; ways = omega arith; wired = wired; on-time = on-time; delay = refl; error = refl }

@@ -8,8 +8,8 @@ use borrow.Author.Tests.{ltb-true, leb-true, le-leb}
 use lib.Dec.{ltb, leb}
 use lib.ListN.{length-set}
 use Rattle.lists.proofs.Tests.{both}
-use Rattle.class_table.specs.declared.ClassTable.{ClassTable}
-use Rattle.class_table.specs.Table.{tableBad}
+use Rattle.net_table.specs.declared.NetTable.{NetTable}
+use Rattle.net_table.specs.Table.{tableBad}
 use Rattle.bench_file.specs.declared.Header as declared
 use Rattle.bench_file.specs.Header.{headerBad}
 use Rattle.bench_file.specs.Records.{eventAt}
@@ -23,7 +23,7 @@ use Rattle.bench.proofs.Runs.{same-done}
 use Rattle.bench.proofs.Named.{event-good}
 use Rattle.bench_laws.proofs.Events.{carries}
 
-pub record Ready (t : ClassTable) (file : List ℕ) (b : Bench) : Type 0 where
+pub record Ready (t : NetTable) (file : List ℕ) (b : Bench) : Type 0 where
   pub header-good : headerBad file ≡ false
   pub records : recordsGood t file (header file t) ≡ true
   pub long : Long (header file t) (lengthsOf b)
@@ -31,7 +31,7 @@ pub record Ready (t : ClassTable) (file : List ℕ) (b : Bench) : Type 0 where
   pub done : b .done ≤ header file t .events
   pub table : tableBad t ≡ false
 
-module _ (t : ClassTable) (file : List ℕ) where
+module _ (t : NetTable) (file : List ℕ) where
   abbrev h : declared.Header
   h = header file t
 
@@ -42,7 +42,7 @@ module _ (t : ClassTable) (file : List ℕ) where
       record {
         header-good = p .header-good;
         records = p .records;
-        long = long-of h (lengthsOf b) (p .lent);
+        long = long-of h (lengthsOf b) (p .callState);
         slots-good = more .0;
         done = leb-true (b .done) (h .events) (more .1);
         table = p .table;
@@ -63,7 +63,7 @@ module _ (t : ClassTable) (file : List ℕ) where
         header-good = r .header-good;
         records = r .records;
         long = record {
-          run = rw (same .run) (r .long .run);
+          entries = rw (same .entries) (r .long .entries);
           hosts = rw (same .hosts) (r .long .hosts);
           copies = rw (same .copies) (r .long .copies);
           slots = rw (same .slots) (r .long .slots);

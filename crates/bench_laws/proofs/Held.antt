@@ -13,7 +13,7 @@ use Rattle.lists.proofs.Tests.{both}
 use Rattle.lists.proofs.Parts.{part-length}
 use Rattle.answer.specs.declared.Answer.the-variants.{Done, IpForm}
 use Rattle.clock.specs.declared.Counter.{Counter}
-use Rattle.class_table.specs.declared.ClassTable.{ClassTable}
+use Rattle.net_table.specs.declared.NetTable.{NetTable}
 use Rattle.host.specs.Guard.{done}
 use Rattle.host.specs.Guard as guards
 use Rattle.calls.specs.Perform.{Outcome, send, perform, inTurn}
@@ -24,18 +24,18 @@ use Rattle.bench_file.specs.declared.Event.the-variants.{Tick, Adjust, Set, Sec
 use Rattle.bench_file.specs.Records.{endAt}
 use Rattle.bench_file.specs.Absent.{slots, markGood, eventGood}
 use Rattle.bench.specs.declared.slots.Label.{Label}
-use Rattle.bench.specs.Bench.{Bench, lentAt}
+use Rattle.bench.specs.Bench.{Bench, stateAt}
 use Rattle.bench.specs.Slots.{roomPlace, labelOf, packetOf, roomOf, empty, farEnd, withRoom, withLabel}
-use Rattle.bench.specs.Event.{leftAt, sent, taken, carried}
+use Rattle.bench.specs.Event.{afterAt, sent, taken, carried}
 use Rattle.bench.specs.Run.{header}
-use Rattle.network.specs.Left.{messageOf}
-use Rattle.network.specs.History.{put}
-use Rattle.network.specs.Room.{Room, End, at}
-use Rattle.network.specs.Demand3.{RoomCall, callOf, Message, mailAfter, result, step, timed, Timely}
-use Rattle.network.specs.Demand3 as rooms
-use Rattle.network.specs.SharedRun.{SharedStep, SharedWorld, lent, sharedStep, SharedAllowed}
-use Rattle.network.proofs.Pair.{pair-holds}
-use Rattle.bench_laws.specs.Bound.{fileRoom, Wired, ReadsAt, LaterThan, OnTime, sinceThen}
+use Rattle.network_laws.specs.HostAfter.{messageOf}
+use Rattle.network_laws.specs.History.{put}
+use Rattle.network_laws.specs.Network.{Network, End, at}
+use Rattle.network_laws.specs.Demand3.{NetworkCall, callOf, Message, mailAfter, result, step, timed, Timely}
+use Rattle.network_laws.specs.Demand3 as rooms
+use Rattle.network_laws.specs.SharedTable.{SharedStep, SharedWorld, callState, sharedStep, SharedAllowed}
+use Rattle.network_laws.proofs.Pair.{pair-holds}
+use Rattle.bench_laws.specs.Bound.{fileNetwork, Wired, ReadsAt, LaterThan, OnTime, sinceThen}
 use Rattle.bench_laws.proofs.Guards.{Ready}
 use Rattle.bench.proofs.Named.{cables-good, end-host, filled}
 use Rattle.calls.proofs.SendKeeps.{keeps}
@@ -43,9 +43,9 @@ use Rattle.bench_laws.proofs.Called.{Plain, plain}
 use Rattle.bench_laws.proofs.Packets as packets
 use Rattle.bench_laws.proofs.Tracks as tracking
 
-module _ (file : List ℕ) (t : ClassTable) (first : Bench) (f : ℕ → ℤ) (cable : ℕ → ℕ → End) (longest : ℕ) where
-  abbrev r : Room
-  r = fileRoom file t first f cable longest
+module _ (file : List ℕ) (t : NetTable) (first : Bench) (f : ℕ → ℤ) (cable : ℕ → ℕ → End) (longest : ℕ) where
+  abbrev r : Network
+  r = fileNetwork file t first f cable longest
 
   abbrev h : Header
   h = header file t
@@ -61,7 +61,7 @@ module _ (file : List ℕ) (t : ClassTable) (first : Bench) (f : ℕ → ℤ) (c
     pub message : Message
     pub earlier : List·Memᴰ message mail
     pub a-copy : packetOf s o ≡ message .octets
-    pub from-seat : nearEnd o s .host ≡ message .seat
+    pub from-node : nearEnd o s .host ≡ message .node
     pub from-link : nearEnd o s .link ≡ message .link
     pub sent-at : since s ≡ message .ms
 
@@ -74,30 +74,30 @@ module _ (file : List ℕ) (t : ClassTable) (first : Bench) (f : ℕ → ℤ) (c
 
   -- slots, answers and what is done are not tracked
   pub again : (b : Bench) (w : SharedWorld) (slots answers : List ℕ) (done : ℕ) → Tracks b w
-      → Tracks record { hosts = b .hosts; copies = b .copies; run = b .run; slots = slots; answers = answers; done = done } w
-  again b w slots answers done tr = record { clock = tr .clock; links = tr .links; walk = tr .walk; copy = tr .copy; run = tr .run }
+      → Tracks record { hosts = b .hosts; copies = b .copies; entries = b .entries; slots = slots; answers = answers; done = done } w
+  again b w slots answers done tr = record { clock = tr .clock; links = tr .links; walk = tr .walk; copy = tr .copy; entries = tr .entries }
 
   -- an event that was no call, or was one that the room allows
   pub data Went (w : SharedWorld) (b : Bench) (since : ℕ → ℤ) : Type 0 where
     stayed : Stands b w since → Went w b since
     went : (x : SharedStep) → SharedAllowed r w x → Stands b (sharedStep r w x) since → Went w b since
 
-  module _ (u : ClassTable) (b : Bench) (ready : Ready u file b) (w : SharedWorld) (since : ℕ → ℤ) (st : Stands b w since) where
+  module _ (u : NetTable) (b : Bench) (ready : Ready u file b) (w : SharedWorld) (since : ℕ → ℤ) (st : Stands b w since) where
     there : {k : ℕ} → k < h .hosts → k < length (b .hosts)
     there l = omega (arith, l, ready .long .hosts)
 
     -- ---- a call that sends nothing
 
-    module _ (k : ℕ) (here : k < h .hosts) (q : RoomCall) (p : Plain (callOf q)) where
+    module _ (k : ℕ) (here : k < h .hosts) (q : NetworkCall) (p : Plain (callOf q)) where
       abbrev x : SharedStep
       x = tracking.taken file t first f cable longest u b w (st .tracks) k here (there here) q p
 
       silent : ((z : Outcome) → mailAfter k z q (w .world .mail) ≡ w .world .mail) → AllHeld (b .slots) (sharedStep r w x .world .mail) since
       unfolding sharedStep step
-      silent quiet s l e = subst (λ (m : List Message). Held (b .slots) m since s) (sym (quiet (result r (w .world) (lent w x)))) (st .held s l e)
+      silent quiet s l e = subst (λ (m : List Message). Held (b .slots) m since s) (sym (quiet (result r (w .world) (callState w x)))) (st .held s l e)
 
-      quiet-call : ((z : Outcome) → mailAfter k z q (w .world .mail) ≡ w .world .mail) → Timely r (w .world) k (result r (w .world) (lent w x)) q
-          → Went w (leftAt k (perform (callOf q) (lentAt file u k b)) b) since
+      quiet-call : ((z : Outcome) → mailAfter k z q (w .world .mail) ≡ w .world .mail) → Timely r (w .world) k (result r (w .world) (callState w x)) q
+          → Went w (afterAt k (perform (callOf q) (stateAt file u k b)) b) since
       quiet-call quiet timely =
           went x (tracking.allowed file t first f cable longest u b w (st .tracks) k here (there here) q p timely)
           record { tracks = tracking.tracks file t first f cable longest u b w (st .tracks) k here (there here) q p; held = silent quiet }
@@ -111,34 +111,34 @@ module _ (file : List ℕ) (t : ClassTable) (first : Bench) (f : ℕ → ℤ) (c
       here : e .host < h .hosts
       here = end-host file h (cables-good u file h (ready .records)) c i lc li
 
-      abbrev q : RoomCall
+      abbrev q : NetworkCall
       q = rooms.sends (e .link) k (roomOf n (b .slots)) ms
 
       abbrev y : SharedStep
       y = tracking.taken file t first f cable longest u b w (st .tracks) (e .host) here (there here) q (plain (callOf q) refl)
 
       abbrev o : Outcome
-      o = perform (send (e .link) k (roomOf n (b .slots))) (lentAt file u (e .host) b)
+      o = perform (send (e .link) k (roomOf n (b .slots))) (stateAt file u (e .host) b)
 
       abbrev put-there : List ℕ
       put-there = withRoom n (o .buffer) (b .slots)
 
       abbrev new : Message
-      new = record { seat = e .host; link = e .link; ms = ms; octets = messageOf o }
+      new = record { node = e .host; link = e .link; ms = ms; octets = messageOf o }
 
       room : length (roomOf n (b .slots)) ≡ guards.longest
       room = part-length (roomPlace n) guards.longest (b .slots) (omega (arith, ready .long .slots))
 
       full : length (o .buffer) ≡ guards.longest
-      full = keeps (lentAt file u (e .host) b) (e .link) k (roomOf n (b .slots)) .room ∙ room
+      full = keeps (stateAt file u (e .host) b) (e .link) k (roomOf n (b .slots)) .room ∙ room
 
       few : done (o .reply .answer) ≡ true → o .reply .length ≤ guards.longest
-      few d = omega (arith, keeps (lentAt file u (e .host) b) (e .link) k (roomOf n (b .slots)) .fits d, room)
+      few d = omega (arith, keeps (stateAt file u (e .host) b) (e .link) k (roomOf n (b .slots)) .fits d, room)
 
       -- refused: the slots are as they were
       slots-kept : done (o .reply .answer) ≡ false → put-there ≡ b .slots
       slots-kept d =
-          ap (λ (z : List ℕ). withRoom n z (b .slots)) (packets.refused-keeps (lentAt file u (e .host) b) (e .link) k (roomOf n (b .slots)) d)
+          ap (λ (z : List ℕ). withRoom n z (b .slots)) (packets.refused-keeps (stateAt file u (e .host) b) (e .link) k (roomOf n (b .slots)) d)
           ∙ packets.room-back (b .slots) n ln (ready .long .slots)
 
       -- sent: its slot holds it
@@ -157,7 +157,7 @@ module _ (file : List ℕ) (t : ClassTable) (first : Bench) (f : ℕ → ℤ) (c
               a-copy =
                   ap (λ (l : Label). part (roomPlace n) (l .length) after) label
                   ∙ packets.own-packet (b .slots) n ln (ready .long .slots) (o .buffer) full (o .reply .length) c i (few d);
-              from-seat = ap (λ (l : Label). endAt file h (l .cable) (l .end) .host) label;
+              from-node = ap (λ (l : Label). endAt file h (l .cable) (l .end) .host) label;
               from-link = ap (λ (l : Label). endAt file h (l .cable) (l .end) .link) label;
               sent-at = rw (eq-eqb n n refl);
             }
@@ -173,7 +173,7 @@ module _ (file : List ℕ) (t : ClassTable) (first : Bench) (f : ℕ → ℤ) (c
               a-copy =
                   packets.packet-kept (b .slots) n ln (ready .long .slots) (o .buffer) full (o .reply .length) c i (few d) s apart l (filled h (b .slots) (ready .slots-good) s l was .0)
                   ∙ old .a-copy;
-              from-seat = ap (λ (z : Label). endAt file h (z .cable) (z .end) .host) lab ∙ old .from-seat;
+              from-node = ap (λ (z : Label). endAt file h (z .cable) (z .end) .host) lab ∙ old .from-node;
               from-link = ap (λ (z : Label). endAt file h (z .cable) (z .end) .link) lab ∙ old .from-link;
               sent-at = rw (ne-eqb s n apart) (old .sent-at);
             }
@@ -212,7 +212,7 @@ module _ (file : List ℕ) (t : ClassTable) (first : Bench) (f : ℕ → ℤ) (c
       abbrev packet : List ℕ
       packet = packetOf n (b .slots)
 
-      abbrev arrive : RoomCall
+      abbrev arrive : NetworkCall
       arrive = rooms.arrives (far .link) k packet ms
 
       far-here : far .host < h .hosts
@@ -221,10 +221,10 @@ module _ (file : List ℕ) (t : ClassTable) (first : Bench) (f : ℕ → ℤ) (c
       abbrev z : SharedStep
       z = tracking.taken file t first f cable longest u b w (st .tracks) (far .host) far-here (there far-here) arrive (plain (callOf arrive) refl)
 
-      in-turn : result r (w .world) (lent w z) ≡ inTurn (far .link) k packet (lentAt file u (far .host) b)
+      in-turn : result r (w .world) (callState w z) ≡ inTurn (far .link) k packet (stateAt file u (far .host) b)
       in-turn =
           tracking.same-result file t first f cable longest u b w (st .tracks) (far .host) far-here (there far-here) arrive (plain (callOf arrive) refl)
-          ∙ pair-holds .one-piece (far .link) k packet (lentAt file u (far .host) b)
+          ∙ pair-holds .one-piece (far .link) k packet (stateAt file u (far .host) b)
 
       leads : cable (far .host) (far .link) ≡ at (nearEnd (b .slots) n .host) (nearEnd (b .slots) n .link)
       leads =
@@ -233,17 +233,17 @@ module _ (file : List ℕ) (t : ClassTable) (first : Bench) (f : ℕ → ℤ) (c
           wired (labelOf n (b .slots) .cable) (1 - labelOf n (b .slots) .end) (g .1) (omega arith)
           ∙ ap (λ (j : ℕ). at (endAt file h (labelOf n (b .slots) .cable) j .host) (endAt file h (labelOf n (b .slots) .cable) j .link)) back
 
-      arrives : (T (timed (inTurn (far .link) k packet (lentAt file u (far .host) b) .reply .answer)) → LaterThan file u r b (far .host) k ms (since n))
+      arrives : (T (timed (inTurn (far .link) k packet (stateAt file u (far .host) b) .reply .answer)) → LaterThan file u r b (far .host) k ms (since n))
           → Went w (taken file u h far n k b .bench) since
       arrives on-time =
           let old = st .held n ln is-full in
-          subst (λ (v : Outcome). Went w (leftAt (far .host) v b) since) (pair-holds .one-piece (far .link) k packet (lentAt file u (far .host) b))
+          subst (λ (v : Outcome). Went w (afterAt (far .host) v b) since) (pair-holds .one-piece (far .link) k packet (stateAt file u (far .host) b))
           (quiet-call (far .host) far-here arrive (plain (callOf arrive) refl) (λ v. refl)
           record {
             message = old .message;
             earlier = old .earlier;
             a-copy = old .a-copy;
-            other-end = leads ∙ (λ v. at (old .from-seat v) (old .from-link v));
+            other-end = leads ∙ (λ v. at (old .from-node v) (old .from-link v));
             in-time = λ timely.
                 let l = on-time (subst (λ (v : Outcome). T (timed (v .reply .answer))) in-turn timely) in
                 record {

@@ -4,7 +4,7 @@ use mathlib.Core.Bool.{Bool, true, false, cond, true≢false, false≢true}
 use mathlib.Core.List.{List}
 use Prim.Native.Nat.{ℕ, _+_, _-_, _≤_, min}
 use native.Mathlib.Omega.{arith}
-use Rattle.class_table.specs.declared.ClassTable.{ClassTable}
+use Rattle.net_table.specs.declared.NetTable.{NetTable}
 use Rattle.bench.specs.declared.Answer.{Answer}
 use Rattle.bench.specs.declared.Answer.the-variants.{Done, OutOfRange, Header, Absent}
 use Rattle.bench.specs.Bench.{Bench}
@@ -25,7 +25,7 @@ done-alone Absent e = absurd (false≢true e)
 added : (a b c : ℕ) → a ≤ b → b ≤ c → b - a + (c - b) ≡ c - a
 added a b c h l = omega arith
 
-module _ (file : List ℕ) (t : ClassTable) where
+module _ (file : List ℕ) (t : NetTable) where
   steps-ready : (n : ℕ) (b : Bench) → Ready t file b → Ready t file (steps file t n b)
   steps-ready n b r = keeps file t (Ready t file) (λ c p e. next-ready t file c p e) n b r
 

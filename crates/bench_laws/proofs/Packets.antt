@@ -13,13 +13,13 @@ use Rattle.lists.proofs.Parts.{part-length, over-nothing, over-part}
 use Rattle.wire.specs.Octets.{two}
 use Rattle.clock.specs.declared.Counter.{Counter}
 use Rattle.host.specs.Guard.{longest, done}
-use Rattle.host.specs.Lent.{Lent}
+use Rattle.host.specs.CallState.{CallState}
 use Rattle.calls.specs.Perform.{Call, Outcome, ask, send, deliver, openWalk, perform}
 use Rattle.bench_file.specs.Octets.{octetAt}
 use Rattle.bench_file.specs.Absent.{slots}
 use Rattle.bench.specs.declared.slots.Label.{Label}
 use Rattle.bench.specs.Slots.{slotLength, slotPlace, roomPlace, labelOf, packetOf, roomOf, withRoom, withLabel}
-use Rattle.network.proofs.Demand1.Refusals.{refusals-hold}
+use Rattle.network_laws.proofs.Demand1.Refusals.{refusals-hold}
 use Rattle.bench.proofs.Overs as overs
 use Rattle.bench.proofs.Labels.{room-length, label-length}
 
@@ -40,7 +40,7 @@ isSend (send i k buffer) = true
 isSend (deliver d packet) = false
 isSend (openWalk i packet) = false
 
-pub refused-keeps : (x : Lent) (i : ℕ) (k : Counter) (buffer : List ℕ) → done (perform (send i k buffer) x .reply .answer) ≡ false
+pub refused-keeps : (x : CallState) (i : ℕ) (k : Counter) (buffer : List ℕ) → done (perform (send i k buffer) x .reply .answer) ≡ false
     → perform (send i k buffer) x .buffer ≡ buffer
 refused-keeps x i k buffer e =
     ap (λ (o : Outcome). o .buffer)

@@ -9,7 +9,7 @@ use lib.Dec.{ltb}
 use lib.ListN.{length, getD, take, drop, length-set, length-append, length-map, length-take, length-drop, List·getD-append}
 use Rattle.lists.proofs.Tests.{both, neither, is-so}
 use Rattle.answer.specs.declared.Answer.the-variants.{Done}
-use Rattle.class_table.specs.declared.ClassTable.{ClassTable}
+use Rattle.net_table.specs.declared.NetTable.{NetTable}
 use Rattle.table.specs.Forms.{upFrom}
 use Rattle.host.specs.Settings.{settingsFit}
 use Rattle.host.specs.State.{placesPerHost, firstPlace}
@@ -23,15 +23,15 @@ use Rattle.bench_file.specs.Header.{headerLength, mostHosts, headerFits}
 use Rattle.bench_file.specs.Settings.{hostRecord, settingsAt, marksGood, hostGood, hostsGood}
 use Rattle.bench_file.specs.Absent.{slots, cablesGood, eventsGood}
 use Rattle.bench.specs.Answer.{passes}
-use Rattle.bench.specs.Bench.{Bench, lentAt}
+use Rattle.bench.specs.Bench.{Bench, stateAt}
 use Rattle.bench.specs.Slots.{slotLength, slotPlace, slotGood, slotsGood, empty, zeros}
 use Rattle.bench.specs.Guard.{recordsGood, setUpGuard}
 use Rattle.bench.specs.Event.{asked}
 use Rattle.bench.specs.Run.{header, allSet, setUp}
-use Rattle.network.specs.Isolation.{sharedAfterAll, Shared}
-use Rattle.network.proofs.Demand1.Frame.{kept-places}
+use Rattle.network_laws.specs.Isolation.{sharedAfterAll, Shared}
+use Rattle.network_laws.proofs.Demand1.Frame.{kept-places}
 use Rattle.bench_laws.specs.Calls.{sharedOf, callAt}
-use Rattle.bench.proofs.Afresh.{beside}
+use Rattle.bench.proofs.Initialized.{beside}
 use Rattle.bench.proofs.Each.{one-of, all-of}
 use Rattle.bench_laws.proofs.Guards.{Ready, ready}
 use Rattle.bench_laws.proofs.Called.{plain, one-call}
@@ -73,14 +73,14 @@ zeros-good : (h : Header) (o : List ℕ) → slotsGood h (zeros (slotLength * sl
 unfolding slotsGood
 zeros-good h o = all-of (slotGood h (zeros (slotLength * slots) o)) 0 slots (λ s l i. rw (zeros-empty o s i))
 
-module _ (file : List ℕ) (t : ClassTable) where
+module _ (file : List ℕ) (t : NetTable) where
   abbrev h : Header
   h = header file t
 
   -- ---- what set-up does not refuse a run does not refuse, with empty slots and nothing done
 
   abbrev emptied : Bench → Bench
-  emptied b = record { hosts = b .hosts; copies = b .copies; run = b .run; slots = zeros (slotLength * slots) (b .slots); answers = b .answers; done = 0 }
+  emptied b = record { hosts = b .hosts; copies = b .copies; entries = b .entries; slots = zeros (slotLength * slots) (b .slots); answers = b .answers; done = 0 }
 
   emptied-ready : (b : Bench) → passes (setUpGuard t file b) ≡ true → Ready t file (emptied b)
   emptied-ready b e =
@@ -90,14 +90,14 @@ module _ (file : List ℕ) (t : ClassTable) where
 
   pub record Longs (b c : Bench) : Type 0 where
     pub hosts : length (c .hosts) ≡ length (b .hosts)
-    pub run : length (c .run) ≡ length (b .run)
+    pub entries : length (c .entries) ≡ length (b .entries)
 
   pub all-long : (k n : ℕ) (b : Bench) → Longs b (allSet file t k n b)
   unfolding allSet
-  all-long k zero b = record { hosts = refl; run = refl }
+  all-long k zero b = record { hosts = refl; entries = refl }
   all-long k (suc n) b =
       let l = all-long (suc k) n (asked file t h k Initialize b .bench) in
-      record { hosts = l .hosts ∙ simp length-set; run = l .run ∙ kept-places (ask Initialize) (lentAt file t k b) .same-length }
+      record { hosts = l .hosts ∙ simp length-set; entries = l .entries ∙ kept-places (ask Initialize) (stateAt file t k b) .same-length }
 
   pub set-up-ready : (b : Bench) → passes (setUpGuard t file b) ≡ true → Ready t file (setUp file t b)
   unfolding setUp
@@ -109,7 +109,7 @@ module _ (file : List ℕ) (t : ClassTable) where
         header-good = r .header-good;
         records = r .records;
         long = record {
-          run = rw (l .run) (r .long .run);
+          entries = rw (l .entries) (r .long .entries);
           hosts = rw (l .hosts) (r .long .hosts);
           copies = rw (k .copies) (r .long .copies);
           slots = rw (k .slots) (r .long .slots);
@@ -153,10 +153,10 @@ module _ (file : List ℕ) (t : ClassTable) where
         let all = both (hostsGood t file h) (cablesGood file h && eventsGood file h) (r .records) .0 in
         both (marksGood (hostRecord file k)) (settingsFit t (settingsAt file k)) (one-of (λ (j : ℕ). hostGood t (hostRecord file j)) 0 (h .hosts) k all (omega arith) (omega arith)) .1
 
-    pub set-afresh : (k : ℕ) → k < h .hosts → perform (ask Initialize) (lentAt file t k (allSet file t 0 k b)) .reply .answer ≡ Done
+    pub was-initialized : (k : ℕ) → k < h .hosts → perform (ask Initialize) (stateAt file t k (allSet file t 0 k b)) .reply .answer ≡ Done
     unfolding perform guard noPlaces initialize
-    set-afresh k l =
-        let long : length (allSet file t 0 k b .run) ≡ length (b .run) = all-long 0 k b .run in
-        let there : ltb (length (allSet file t 0 k b .run)) (firstPlace k + placesPerHost) ≡ false = le-ltb (length (allSet file t 0 k b .run)) (firstPlace k + placesPerHost) (omega (arith, long, r .long .run)) in
+    was-initialized k l =
+        let long : length (allSet file t 0 k b .entries) ≡ length (b .entries) = all-long 0 k b .entries in
+        let there : ltb (length (allSet file t 0 k b .entries)) (firstPlace k + placesPerHost) ≡ false = le-ltb (length (allSet file t 0 k b .entries)) (firstPlace k + placesPerHost) (omega (arith, long, r .long .entries)) in
         let few : ltb 15 k ≡ false = le-ltb 15 k (omega (arith, sixteen)) in
         rw (r .table, few, there, fit k l) refl

@@ -13,7 +13,7 @@ use Rattle.lists.proofs.Parts.{over-nothing}
 use Rattle.lists.proofs.Tests.{both}
 use Rattle.answer.specs.Answer.{number}
 use Rattle.answer.specs.declared.Answer.the-variants.{IpForm}
-use Rattle.class_table.specs.declared.ClassTable.{ClassTable}
+use Rattle.net_table.specs.declared.NetTable.{NetTable}
 use Rattle.bench_file.specs.declared.Header.{Header}
 use Rattle.bench_file.specs.declared.Event.{Event}
 use Rattle.bench_file.specs.declared.Event.the-variants.{Tick, Adjust, Set, Second, SelfReport, Send, Arrival, Unknown}
@@ -23,13 +23,13 @@ use Rattle.bench.specs.Bench.{Bench}
 use Rattle.bench.specs.Slots.{labelOf}
 use Rattle.bench.specs.Event.{After, carried}
 use Rattle.bench.specs.Run.{header, next, steps}
-use Rattle.network.specs.Isolation.{SharedEvent, Shared, sharedAfterAll}
+use Rattle.network_laws.specs.Isolation.{SharedEvent, Shared, sharedAfterAll}
 use Rattle.bench_laws.specs.Calls.{sharedOf, callsOf, turns, answersOf, lastAnswer}
 use Rattle.bench.proofs.Named.{cables-good, event-good, end-host, filled, send-names, arrival-names}
 use Rattle.bench.proofs.Runs.{same-done}
 use Rattle.bench_laws.proofs.Events.{carries}
 use Rattle.bench_laws.proofs.Guards.{Ready, next-ready}
-use Rattle.bench_laws.proofs.Called.{Made, Lent-hosts, made}
+use Rattle.bench_laws.proofs.Called.{Made, State-hosts, made}
 
 -- calls of two lists, one behind the other
 after-both : (w : Shared) (es fs : List SharedEvent) → sharedAfterAll w (es ++ fs) ≡ sharedAfterAll (sharedAfterAll w es) fs
@@ -43,7 +43,7 @@ over-cons l d a r h =
     let m : suc d + length r ≡ d + suc (length r) = omega arith in
     rw (take-suc-set l d a h, drop-set-lt (suc d + length r) l d a (omega arith), m) (simp append-assoc)
 
-module _ (file : List ℕ) (t : ClassTable) where
+module _ (file : List ℕ) (t : NetTable) where
   abbrev h : Header
   h = header file t
 
@@ -53,7 +53,7 @@ module _ (file : List ℕ) (t : ClassTable) where
     inside : {k : ℕ} → k < h .hosts → k < length (b .hosts)
     inside l = omega (arith, l, r .long .hosts)
 
-    pub hosts-there : (e : Event) → eventGood h e ≡ true → Lent-hosts file t b e
+    pub hosts-there : (e : Event) → eventGood h e ≡ true → State-hosts file t b e
     hosts-there (Tick k n) g = inside (ltb-true k (h .hosts) g)
     hosts-there (Adjust k n) g = inside (ltb-true k (h .hosts) g)
     hosts-there (Set k ms n) g = inside (ltb-true k (h .hosts) g)
@@ -70,7 +70,7 @@ module _ (file : List ℕ) (t : ClassTable) where
   -- ---- a run
 
   pub record Turned (n : ℕ) (b : Bench) : Type 0 where
-    pub left-same : sharedOf file (steps file t n b) ≡ sharedAfterAll (sharedOf file b) (flatten (turns file t n b))
+    pub after-same : sharedOf file (steps file t n b) ≡ sharedAfterAll (sharedOf file b) (flatten (turns file t n b))
     pub answers-same : steps file t n b .answers ≡ over (b .answers) (b .done) (answersOf (sharedOf file b) (turns file t n b))
     pub count-same : steps file t n b .done ≡ b .done + length (turns file t n b)
 
@@ -94,7 +94,7 @@ module _ (file : List ℕ) (t : ClassTable) where
     lefts : sharedOf file (steps file t n (next file t b)) ≡ sharedAfterAll (sharedOf file b) (callsOf file t e b ++ flatten behind)
     unfolding next
     lefts =
-        rest .left-same ∙ ap (λ (w : Shared). sharedAfterAll w (flatten behind)) (m .left-same)
+        rest .after-same ∙ ap (λ (w : Shared). sharedAfterAll w (flatten behind)) (m .after-same)
         ∙ sym (after-both (sharedOf file b) (callsOf file t e b) (flatten behind))
 
     -- the answer kept
@@ -112,21 +112,21 @@ module _ (file : List ℕ) (t : ClassTable) where
         ≡ over (b .answers) (b .done) (number (lastAnswer IpForm (sharedOf file b) (callsOf file t e b)) ∷ answersOf (sharedAfterAll (sharedOf file b) (callsOf file t e b)) behind)
     unfolding next
     answers =
-        let w : sharedOf file (next file t b) ≡ sharedAfterAll (sharedOf file b) (callsOf file t e b) = m .left-same in
+        let w : sharedOf file (next file t b) ≡ sharedAfterAll (sharedOf file b) (callsOf file t e b) = m .after-same in
         rest .answers-same ∙ (λ i. over (kept-answer i) (one-done i) (answersOf (w i) behind))
         ∙ over-cons (b .answers) (b .done) _ (answersOf (sharedAfterAll (sharedOf file b) (callsOf file t e b)) behind)
         (omega (arith, ltb-true (b .done) (h .events) q, r .long .answers))
 
   pub turned : (n : ℕ) (b : Bench) → Ready t file b → Turned n b
   unfolding steps turns flatten sharedAfterAll answersOf
-  turned zero b r = record { left-same = refl; answers-same = sym (over-nothing (b .done) (b .answers)); count-same = omega arith }
+  turned zero b r = record { after-same = refl; answers-same = sym (over-nothing (b .done) (b .answers)); count-same = omega arith }
   turned (suc n) b r = go (ltb (b .done) (h .events)) refl (λ q. turned n (next file t b) (next-ready t file b r q))
     where
       go : (c : Bool) → ltb (b .done) (h .events) ≡ c → (ltb (b .done) (h .events) ≡ true → Turned n (next file t b)) → Turned (suc n) b
-      go false q rest = record { left-same = rw q refl; answers-same = rw q (sym (over-nothing (b .done) (b .answers))); count-same = rw q (omega arith) }
+      go false q rest = record { after-same = rw q refl; answers-same = rw q (sym (over-nothing (b .done) (b .answers))); count-same = rw q (omega arith) }
       go true q rest =
           record {
-            left-same = rw q (lefts n b r q (rest q));
+            after-same = rw q (lefts n b r q (rest q));
             answers-same = rw q (answers n b r q (rest q));
             count-same = rw q (rest q .count-same ∙ omega (arith, one-done n b r q (rest q)));
           }

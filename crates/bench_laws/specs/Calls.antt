@@ -10,7 +10,7 @@ use Rattle.answer.specs.declared.Answer.{Answer}
 use Rattle.answer.specs.declared.Answer.the-variants.{Done, IpForm}
 use Rattle.answer.specs.Answer.{number}
 use Rattle.clock.specs.declared.Counter.{Counter}
-use Rattle.class_table.specs.declared.ClassTable.{ClassTable}
+use Rattle.net_table.specs.declared.NetTable.{NetTable}
 use Rattle.table.specs.Forms.{upFrom}
 use Rattle.host.specs.Guard.{done}
 use Rattle.calls.specs.declared.Request.the-variants as request
@@ -22,13 +22,13 @@ use Rattle.bench_file.specs.Settings.{settingsAt}
 use Rattle.bench_file.specs.Records.{endAt, eventAt}
 use Rattle.bench.specs.declared.HostState.{HostState}
 use Rattle.bench.specs.Answer.{passes}
-use Rattle.bench.specs.Bench.{Bench, freshHost, copyOf, lentAt}
+use Rattle.bench.specs.Bench.{Bench, freshHost, copyOf, stateAt}
 use Rattle.bench.specs.Slots.{packetOf, roomOf, empty, farEnd}
 use Rattle.bench.specs.Guard.{setUpGuard, runGuard}
 use Rattle.bench.specs.Run.{header, allSet, next, afterSetUp, afterRun, ran}
-use Rattle.network.specs.Isolation.{SharedEvent, Shared, sharedOutcome, sharedAfter, sharedAfterAll, alone, SharedAlike}
+use Rattle.network_laws.specs.Isolation.{SharedEvent, Shared, sharedOutcome, sharedAfter, sharedAfterAll, alone, SharedAlike}
 
--- ---- a bench as lists of calls have it: what each host has, and the run that all share
+-- ---- a bench as lists of calls have it: each host's state, and the host table that all share
 
 -- BENCH-1: the state of a host
 abbrev pub hostAt : (file : List ℕ) → Bench → (host : ℕ) → HostState
@@ -42,10 +42,10 @@ sharedOf file b =
       links = λ (k : ℕ). hostAt file b k .links;
       walk = λ (k : ℕ). hostAt file b k .walk;
       copy = λ (k : ℕ). copyOf k (b .copies);
-      run = b .run;
+      entries = b .entries;
     }
 
-module _ (file : List ℕ) (t : ClassTable) where
+module _ (file : List ℕ) (t : NetTable) where
   -- BENCH-1: a call at a host, with the settings of the file
   abbrev pub callAt : (host : ℕ) → Call → SharedEvent
   callAt k c = record { number = k; settings = settingsAt file k; nets = t; call = c }
@@ -59,7 +59,7 @@ module _ (file : List ℕ) (t : ClassTable) where
 
   -- INSPECT-4: the same, if the inspection answers 0
   abbrev pub pairAt : End → Counter → (packet : List ℕ) → Bench → List SharedEvent
-  pairAt e k packet b = pairOf (done (perform (inspect (e .link) packet) (lentAt file t (e .host) b) .reply .answer)) e k packet
+  pairAt e k packet b = pairOf (done (perform (inspect (e .link) packet) (stateAt file t (e .host) b) .reply .answer)) e k packet
 
   -- BENCH-4: the calls of an event: one; for an arrival two, one that is refused, or none for an empty slot
   abbrev pub callsOf : Event → Bench → List SharedEvent
@@ -111,7 +111,7 @@ answersOf w (es ∷ rest) = number (lastAnswer IpForm w es) ∷ answersOf (share
 -- ---- the theorem
 
 -- BENCH-6: what a run is
-pub record Called (file : List ℕ) (t : ClassTable) (n : ℕ) (b : Bench) : Type 0 where
+pub record Called (file : List ℕ) (t : NetTable) (n : ℕ) (b : Bench) : Type 0 where
   -- BENCH-6: the state after it is the state after its calls, in order
   pub left : sharedOf file (afterRun file t n b) ≡ sharedAfterAll (sharedOf file b) (runCalls file t n b)
   -- BENCH-6: their answers are stored, from the first event not done on
@@ -121,8 +121,8 @@ pub record Called (file : List ℕ) (t : ClassTable) (n : ℕ) (b : Bench) : Typ
   -- BENCH-1: set-up is the initializing of each host in turn
   pub set-up : sharedOf file (afterSetUp file t b) ≡ sharedAfterAll (sharedOf file b) (setUpCalls file t b)
   -- BENCH-1: and each answers 0, if set-up is not refused
-  pub afresh : passes (setUpGuard t file b) ≡ true → (k : ℕ) → k < header file t .hosts
-      → perform (ask request.Initialize) (lentAt file t k (allSet file t 0 k b)) .reply .answer ≡ Done
+  pub initialized : passes (setUpGuard t file b) ≡ true → (k : ℕ) → k < header file t .hosts
+      → perform (ask request.Initialize) (stateAt file t k (allSet file t 0 k b)) .reply .answer ≡ Done
   -- ISOLATION-2: a host without calls keeps its clock, links, walk and all 255 places
   pub elsewhere : (k : ℕ) → alone k (runCalls file t n b) ≡ [] → SharedAlike k (sharedOf file (afterRun file t n b)) (sharedOf file b)
   -- ISOLATION-3: the state of each host depends on its own calls only
@@ -131,4 +131,4 @@ pub record Called (file : List ℕ) (t : ClassTable) (n : ℕ) (b : Bench) : Typ
 
 -- BENCH-6, ISOLATION-2: for every file, table, budget and bench
 unfoldable pub Calls : Type 0
-Calls = (file : List ℕ) (t : ClassTable) (n : ℕ) (b : Bench) → Called file t n b
+Calls = (file : List ℕ) (t : NetTable) (n : ℕ) (b : Bench) → Called file t n b

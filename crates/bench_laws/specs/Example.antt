@@ -8,8 +8,8 @@ use lib.ListN.{replicate}
 use Rattle.quantity.specs.declared.Count.{Count}
 use Rattle.clock.specs.declared.Counter.{Counter}
 use Rattle.route.specs.declared.Net.{Net}
-use Rattle.class_table.specs.declared.ClassTable.{ClassTable}
-use Rattle.class_table.specs.Table.{tableOf}
+use Rattle.net_table.specs.declared.NetTable.{NetTable}
+use Rattle.net_table.specs.Table.{tableOf}
 use Rattle.table.specs.Forms.{upFrom}
 use Rattle.table.specs.Entry.{freshEntry}
 use Rattle.bench_file.specs.declared.Event.{Event}
@@ -35,7 +35,7 @@ file =
     ++ (0 ∷ 1 ∷ 1 ∷ 1 ∷ 5 ∷ 0 ∷ 0 ∷ 0 ∷ 0 ∷ 0 ∷ 0 ∷ 0 ∷ 0 ∷ 0 ∷ 0 ∷ 0 ∷ 0 ∷ 0 ∷ 1 ∷ 0 ∷ 0 ∷ 0 ∷ 0 ∷ 0 ∷ 0 ∷ 0 ∷ 0 ∷ 0 ∷ 0 ∷ 0 ∷ 0 ∷ 0 ∷ 6 ∷ 0 ∷ 0 ∷ 0 ∷ 0 ∷ 0 ∷ 0 ∷ 0 ∷ 0 ∷ 0 ∷ 0 ∷ 0 ∷ 0 ∷ 0 ∷ 7 ∷ 0 ∷ 0 ∷ 0 ∷ 0 ∷ 0 ∷ 0 ∷ 0 ∷ 0 ∷ 0 ∷ 0 ∷ 0 ∷ 0 ∷ 0 ∷ 7 ∷ 0 ∷ 0 ∷ 0 ∷ 5 ∷ 0 ∷ 0 ∷ 0 ∷ 0 ∷ 0 ∷ 0 ∷ 0 ∷ 0 ∷ 0 ∷ 4 ∷ 1 ∷ 0 ∷ 0 ∷ 0 ∷ 0 ∷ 0 ∷ 0 ∷ 0 ∷ 0 ∷ 0 ∷ 0 ∷ 0 ∷ 0 ∷ 2 ∷ 1 ∷ 0 ∷ 0 ∷ 0 ∷ 0 ∷ 0 ∷ 0 ∷ 0 ∷ 0 ∷ 0 ∷ 0 ∷ 0 ∷ 0 ∷ 3 ∷ 0 ∷ 0 ∷ 0 ∷ 0 ∷ 0 ∷ 0 ∷ 0 ∷ 0 ∷ 0 ∷ 255 ∷ 255 ∷ 255 ∷ 156 ∷ [])
 
 -- NET-1: a class of two hosts without rows
-abbrev pub class : ClassTable
+abbrev pub class : NetTable
 class = tableOf 2 []
 
 -- CLOCK-14: the count of a line clock
@@ -60,12 +60,12 @@ events =
     ∷ []
 
 -- BENCH-1: the state before
-abbrev pub lentFirst : Bench
-lentFirst =
+abbrev pub firstState : Bench
+firstState =
     record {
       hosts = freshHost file 0 ∷ freshHost file 1 ∷ [];
       copies = replicate 2104 0;
-      run = replicate 510 freshEntry;
+      entries = replicate 510 freshEntry;
       slots = replicate 33792 0;
       answers = replicate 8 255;
       done = 0;
@@ -73,7 +73,7 @@ lentFirst =
 
 -- BENCH-1: the state after set-up
 abbrev pub ready : Bench
-ready = afterSetUp file class lentFirst
+ready = afterSetUp file class firstState
 
 -- BENCH-6: what the run results in
 pub record Example : Type 0 where

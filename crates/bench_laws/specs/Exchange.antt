@@ -8,14 +8,14 @@ use lib.IntN.{ℤ, pos, negsuc, _-ℤ_}
 use lib.ListN.{take}
 use Rattle.quantity.specs.Quantity.{millis}
 use Rattle.route.specs.declared.Row.{Row}
-use Rattle.class_table.specs.Table.{tableOf}
+use Rattle.net_table.specs.Table.{tableOf}
 use Rattle.table.specs.declared.Entry.{Entry}
 use Rattle.bench.specs.Answer.{passes}
 use Rattle.bench.specs.Guard.{setUpGuard}
 use Rattle.bench.specs.Run.{afterSetUp}
-use Rattle.network.specs.Room.{Room, longestWay, Proper}
-use Rattle.network.specs.TwoSeats.{wire}
-use Rattle.bench_laws.specs.Bound.{fileRoom, Wired, Lot, afterRuns, RunsOnTime, entryAt}
+use Rattle.network_laws.specs.Network.{Network, longestWay, Proper}
+use Rattle.network_laws.specs.TwoNodes.{wire}
+use Rattle.bench_laws.specs.Bound.{fileNetwork, Wired, Lot, afterRuns, RunsOnTime, entryAt}
 use Rattle.bench_laws.specs.Example as small
 
 -- BENCH-4: an event of cable 0
@@ -38,8 +38,8 @@ file =
     ++ event 4 0 0 0 0
 
 -- ROOM-1: its network: host 1 is 500 ms ahead
-abbrev pub room : Room
-room = fileRoom file small.class small.lentFirst (λ (a : ℕ). pos (500 * a)) wire 101
+abbrev pub room : Network
+room = fileNetwork file small.class small.firstState (λ (a : ℕ). pos (500 * a)) wire 101
 
 -- ROOM-6: the millisecond of each event
 abbrev pub at : (event : ℕ) → ℤ
@@ -55,14 +55,14 @@ runs = record { nets = small.class; allowance = 5 } ∷ record { nets = tableOf 
 
 -- ROOM-9: the entry that host 0 has of host 1
 abbrev pub learnt : Entry
-learnt = entryAt (afterRuns file runs (afterSetUp file small.class small.lentFirst)) 0 1
+learnt = entryAt (afterRuns file runs (afterSetUp file small.class small.firstState)) 0 1
 
 -- ROOM-10: it meets every condition, and its error is near the bound
 pub record Exchange : Type 0 where
-  pub passed : passes (setUpGuard small.class file small.lentFirst) ≡ true
+  pub passed : passes (setUpGuard small.class file small.firstState) ≡ true
   pub proper : Proper room
   pub ways : 101 ≤ longestWay
   pub wired : Wired file small.class wire
-  pub on-time : RunsOnTime file room at (λ (slot : ℕ). pos 0) runs (afterSetUp file small.class small.lentFirst)
+  pub on-time : RunsOnTime file room at (λ (slot : ℕ). pos 0) runs (afterSetUp file small.class small.firstState)
   pub delay : learnt .delay ≡ millis (pos 101)
   pub error : learnt .offset .0 -ℤ (room .fixed 1 -ℤ room .fixed 0) ≡ negsuc 50

@@ -6,7 +6,7 @@ ghost use Rattle.bench_laws.specs.Bound.{Bound};
 ghost use Rattle.bench_laws.specs.Example.{Example};
 ghost use Rattle.bench_laws.specs.Exchange.{Exchange};
 
-// Events leave a bench that a run does not refuse, and the count is the allowance, or what the file still has.
+// After events a run does not refuse the bench, and the count is the budget or the number of events that remain.
 pub fn stays()
     ensures { λ _. ⌜ Stays ⌝ }
 {}
@@ -16,7 +16,7 @@ pub fn joins()
     ensures { λ _. ⌜ Joins ⌝ }
 {}
 
-// Set-up and run are lists of calls, whatever the octets of the file are. That they end is their form: set-up counts the file's hosts, and a run the allowance.
+// Set-up and run are lists of calls, whatever the octets of the file are. They end by their form: set-up counts the file's hosts, and a run its budget.
 pub fn calls()
     ensures { λ _. ⌜ Calls ⌝ }
 {}

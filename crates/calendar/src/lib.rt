@@ -21,7 +21,7 @@ const FIRST_YEAR: u16 = 1972;
 
 const LAST_YEAR: u16 = 2003;
 
-// A month's last day, in a year given as years after 1972. But for February, 31 and 30 by turns, anew from August.
+// A month's last day, in a year given as years after 1972. Except for February, 31 and 30 alternate, starting again in August.
 pub fn last_day(year: u16, month: u16) -> u16
     requires { ⌜ month ≤ 12 ⌝ }
     ensures { λ r. ⌜ r ≡ lastDay year month ⌝ }

@@ -8,17 +8,17 @@ use Rattle.lists.specs.Lists.{part, over}
 use Rattle.lists.proofs.Parts.{part-length, over-part}
 use Rattle.clock.specs.declared.Clock.{Clock}
 use Rattle.table.specs.declared.Entry.{Entry}
-use Rattle.table.specs.declared.run.Updates.{Updates}
+use Rattle.table.specs.declared.entries.Updates.{Updates}
 use Rattle.table.specs.Sweep.{Swept, sweep}
 use Rattle.table.specs.Runs.{updatedAt, updates}
 use Rattle.table.proofs.Sweeps.{sweep-from, sweep-length}
 use Rattle.host.specs.declared.Settings.{Settings}
-use Rattle.host.specs.State.{firstPlace, hostCount, entries, withEntries}
+use Rattle.host.specs.State.{firstPlace, hostCount, ownEntries, withEntries}
 use Rattle.host.proofs.Places.{Holds}
 use Rattle.calls.specs.code.Places.{placedUpdates}
 use Rattle.calls.proofs.Carried.{part-part}
 
-module _ (s : Settings) (k : ℕ) (run : List Entry) (h : Holds k run) (w : Updates) (rising : w .first ≤ w .end) (below : w .end ≤ hostCount s) (octets : List ℕ) where
+module _ (s : Settings) (k : ℕ) (entries : List Entry) (h : Holds k entries) (w : Updates) (rising : w .first ≤ w .end) (below : w .end ≤ hostCount s) (octets : List ℕ) where
   abbrev F : ℕ
   F = firstPlace k
 
@@ -26,27 +26,27 @@ module _ (s : Settings) (k : ℕ) (run : List Entry) (h : Holds k run) (w : Upda
   n = w .end - w .first
 
   abbrev swept : Swept
-  swept = sweep (w .first) (updatedAt w octets) (w .clock) (part (F + w .first) n run)
+  swept = sweep (w .first) (updatedAt w octets) (w .clock) (part (F + w .first) n entries)
 
   abbrev put : Swept
-  put = record { clock = swept .clock; entries = over run (F + w .first) (swept .entries) }
+  put = record { clock = swept .clock; ownEntries = over entries (F + w .first) (swept .ownEntries) }
 
-  at-places : updates (placedUpdates k w) octets run ≡ put
+  at-places : updates (placedUpdates k w) octets entries ≡ put
   unfolding updates
   at-places =
       let m : F + w .end - (F + w .first) ≡ n = omega arith in
       let same : (i : ℕ) (c : Clock) (e : Entry) → updatedAt (placedUpdates k w) octets (F + i) c e ≡ updatedAt w octets i c e =
       λ i c e. (let back : F + i - (F + w .base) ≡ i - w .base = omega arith in rw back refl) in
-      rw (m, sweep-from F (updatedAt (placedUpdates k w) octets) (updatedAt w octets) same (w .first) (w .clock) (part (F + w .first) n run)) refl
+      rw (m, sweep-from F (updatedAt (placedUpdates k w) octets) (updatedAt w octets) same (w .first) (w .clock) (part (F + w .first) n entries)) refl
 
   on-entries : put
-      ≡ record { clock = updates w octets (entries s k run) .clock; entries = withEntries k (updates w octets (entries s k run) .entries) run }
-  unfolding updates entries withEntries
+      ≡ record { clock = updates w octets (ownEntries s k entries) .clock; ownEntries = withEntries k (updates w octets (ownEntries s k entries) .ownEntries) entries }
+  unfolding updates ownEntries withEntries
   on-entries =
-      let inner : part (w .first) n (part F (hostCount s) run) ≡ part (F + w .first) n run = part-part F (hostCount s) (w .first) n run (omega arith) (omega arith) in
-      let long : length (swept .entries) ≡ n = sweep-length (w .first) (updatedAt w octets) (w .clock) (part (F + w .first) n run) ∙ part-length (F + w .first) n run (omega arith) in
-      rw (inner, over-part run F (hostCount s) (w .first) (swept .entries) (omega arith) (omega arith)) refl
+      let inner : part (w .first) n (part F (hostCount s) entries) ≡ part (F + w .first) n entries = part-part F (hostCount s) (w .first) n entries (omega arith) (omega arith) in
+      let long : length (swept .ownEntries) ≡ n = sweep-length (w .first) (updatedAt w octets) (w .clock) (part (F + w .first) n entries) ∙ part-length (F + w .first) n entries (omega arith) in
+      rw (inner, over-part entries F (hostCount s) (w .first) (swept .ownEntries) (omega arith) (omega arith)) refl
 
-  pub carried : updates (placedUpdates k w) octets run
-      ≡ record { clock = updates w octets (entries s k run) .clock; entries = withEntries k (updates w octets (entries s k run) .entries) run }
+  pub carried : updates (placedUpdates k w) octets entries
+      ≡ record { clock = updates w octets (ownEntries s k entries) .clock; ownEntries = withEntries k (updates w octets (ownEntries s k entries) .ownEntries) entries }
   carried = at-places ∙ on-entries

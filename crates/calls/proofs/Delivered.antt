@@ -25,24 +25,24 @@ use Rattle.route.specs.declared.Found.{Found}
 use Rattle.route.specs.declared.Found.the-variants.{Id, Nothing}
 use Rattle.route.proofs.Ids.{found-below}
 use Rattle.table.specs.declared.Entry.{Entry}
-use Rattle.table.specs.declared.run.Updates.{Updates}
+use Rattle.table.specs.declared.entries.Updates.{Updates}
 use Rattle.table.specs.Entry.{upTo}
 use Rattle.table.specs.Update.{ownMost}
 use Rattle.table.specs.Sweep.{Swept, sweep}
 use Rattle.table.specs.Runs.{updates}
 use Rattle.table.specs.code.Loops.{UpdatesFit}
-use Rattle.class_table.specs.declared.ClassTable.{ClassTable}
+use Rattle.net_table.specs.declared.NetTable.{NetTable}
 use Rattle.host.specs.declared.Settings.{Settings}
 use Rattle.host.specs.declared.Links.{Links}
-use Rattle.host.specs.State.{firstPlace, hostCount, broadcast, linkOf, withLink, entries, withEntries}
+use Rattle.host.specs.State.{firstPlace, hostCount, broadcast, linkOf, withLink, ownEntries, withEntries}
 use Rattle.host.specs.declared.guard.Scope.the-variants.{OnLink}
 use Rattle.host.specs.Settings.{foundFor}
-use Rattle.host.specs.Lent.{Host, host, Lent, ourReading}
+use Rattle.host.specs.CallState.{Host, host, CallState, ourReading}
 use Rattle.host.specs.Guard.{guard, done}
-use Rattle.host.specs.code.Told.{RowsBelow}
+use Rattle.host.specs.code.Returned.{RowsBelow}
 use Rattle.host.proofs.Places.{Holds}
 use Rattle.host.proofs.Sound.{Sound, sound}
-use Rattle.host.proofs.Guarded.{passed, holds, number-lent, clock-lent}
+use Rattle.host.proofs.Guarded.{passed, holds, number-state, clock-state}
 use Rattle.arrival.specs.declared.Flight.{Flight}
 use Rattle.arrival.specs.declared.Arrived.{Arrived}
 use Rattle.arrival.specs.declared.Delivery.{Delivery}
@@ -73,14 +73,14 @@ pub record Asked (s : Settings) (octets : List ℕ) (w : Updates) : Type 0 where
 
 -- ---- ids and places
 
-module _ (s : Settings) (k : ℕ) (run : List Entry) (h : Holds k run) (octets : List ℕ) (w : Updates) (a : Asked s octets w) where
+module _ (s : Settings) (k : ℕ) (entries : List Entry) (h : Holds k entries) (octets : List ℕ) (w : Updates) (a : Asked s octets w) where
   abbrev spot : Bool → Updates
   spot b = cond b (placedUpdates k w) (noUpdates (w .clock))
 
-  fits : UpdatesFit (updatesAt k w) run octets
+  fits : UpdatesFit (updatesAt k w) entries octets
   fits = go (ltb (w .first) (w .end)) refl
     where
-      go : (b : Bool) → ltb (w .first) (w .end) ≡ b → UpdatesFit (spot b) run octets
+      go : (b : Bool) → ltb (w .first) (w .end) ≡ b → UpdatesFit (spot b) entries octets
       go true e =
           let some = ltb-true (w .first) (w .end) e in
           let r = a .rising in
@@ -96,26 +96,26 @@ module _ (s : Settings) (k : ℕ) (run : List Entry) (h : Holds k run) (octets :
   abbrev left : Swept
   left =
       record {
-        clock = updates w octets (entries s k run) .clock;
-        entries = withEntries k (updates w octets (entries s k run) .entries) run;
+        clock = updates w octets (ownEntries s k entries) .clock;
+        ownEntries = withEntries k (updates w octets (ownEntries s k entries) .ownEntries) entries;
       }
 
-  none : w .end ≤ w .first → updates (noUpdates (w .clock)) octets run ≡ left
+  none : w .end ≤ w .first → updates (noUpdates (w .clock)) octets entries ≡ left
   unfolding updates sweep
   none e =
       let n : w .end - w .first ≡ 0 = omega arith in
-      rw (n, over-nothing 0 run, over-nothing (w .first) (entries s k run), entries-put s k run h) refl
+      rw (n, over-nothing 0 entries, over-nothing (w .first) (ownEntries s k entries), entries-put s k entries h) refl
 
-  carried : updates (updatesAt k w) octets run ≡ left
+  carried : updates (updatesAt k w) octets entries ≡ left
   carried = go (ltb (w .first) (w .end)) refl
     where
-      go : (b : Bool) → ltb (w .first) (w .end) ≡ b → updates (spot b) octets run ≡ left
-      go true e = by-places.carried s k run h w (a .rising) (a .below) octets
+      go : (b : Bool) → ltb (w .first) (w .end) ≡ b → updates (spot b) octets entries ≡ left
+      go true e = by-places.carried s k entries h w (a .rising) (a .below) octets
       go false e = none (ltb-false (w .first) (w .end) e)
 
 -- ---- what an arrival's updates have
 
-module _ (s : Settings) (good : Sound s) (t : ClassTable) (rows : RowsBelow t s) (i : ℕ) (octets : List ℕ) where
+module _ (s : Settings) (good : Sound s) (t : NetTable) (rows : RowsBelow t s) (i : ℕ) (octets : List ℕ) where
   -- a count has 16 bits
   abbrev Fine : Arrived → Type 0
   Fine p = p .work .count .0 < 2 ^ 16 → Asked s octets (p .work)
@@ -179,7 +179,7 @@ module _ (s : Settings) (good : Sound s) (t : ClassTable) (rows : RowsBelow t s)
     acted = fine (inspect s i octets) (inspected-fits s i octets)
 
 -- what each delivery's updates have
-delivered-fine : (s : Settings) (good : Sound s) (t : ClassTable) (rows : RowsBelow t s) (d : Delivery) (octets : List ℕ) (c : Clock) (l : Links) → clockInRange c ≡ true
+delivered-fine : (s : Settings) (good : Sound s) (t : NetTable) (rows : RowsBelow t s) (d : Delivery) (octets : List ℕ) (c : Clock) (l : Links) → clockInRange c ≡ true
     → Fine s good t rows (onLink d) octets (definition.delivered d octets t (host s c l))
 delivered-fine s good t rows (Inspect i) octets c l ok = λ few. quiet s good t rows i octets c
 delivered-fine s good t rows (Act i k) octets c l ok = acted s good t rows i octets c l ok k
@@ -187,14 +187,14 @@ delivered-fine s good t rows (Receive i k) octets c l ok = rw (one-piece i k oct
 
 -- ---- the call
 
-pub record Delivered (x : Lent) (octets : List ℕ) (p : Arrived) (o : Outcome) : Type 0 where
+pub record Delivered (x : CallState) (octets : List ℕ) (p : Arrived) (o : Outcome) : Type 0 where
   pub ids : Placeable (x .number) (p .work .first) (p .work .end) × (p .work .base ≤ p .work .first)
-  pub there : UpdatesFit (updatesAt (x .number) (p .work)) (x .run) octets
+  pub there : UpdatesFit (updatesAt (x .number) (p .work)) (x .entries) octets
   pub left :
-      Leaves o (p .reply) (updates (updatesAt (x .number) (p .work)) octets (x .run) .clock) (p .links) (x .walk) (x .copy)
-      (updates (updatesAt (x .number) (p .work)) octets (x .run) .entries)
+      Leaves o (p .reply) (updates (updatesAt (x .number) (p .work)) octets (x .entries) .clock) (p .links) (x .walk) (x .copy)
+      (updates (updatesAt (x .number) (p .work)) octets (x .entries) .ownEntries)
 
-module _ (x : Lent) (d : Delivery) (octets : List ℕ) where
+module _ (x : CallState) (d : Delivery) (octets : List ℕ) where
   abbrev g : Answer
   g = guard (OnLink (onLink d)) x
 
@@ -204,7 +204,7 @@ module _ (x : Lent) (d : Delivery) (octets : List ℕ) where
       record {
         ids = (record { number = λ h. absurd (omega (arith, h)); ids = λ h. absurd (omega (arith, h)) }, omega arith);
         there = record { places = record { rising = omega arith; inside = omega arith }; sound = λ h. absurd (omega (arith, h)) };
-        left = record { reply = refl; clock = refl; links = refl; walk = refl; copy = refl; run = over-nothing 0 (x .run) };
+        left = record { reply = refl; clock = refl; links = refl; walk = refl; copy = refl; entries = over-nothing 0 (x .entries) };
       }
 
   goes-on : done g ≡ true → definition.delivered d octets (x .nets) (x .host) .work .count .0 < 2 ^ 16
@@ -212,14 +212,14 @@ module _ (x : Lent) (d : Delivery) (octets : List ℕ) where
   goes-on e few =
       let s = x .host .settings in
       let q = passed (OnLink (onLink d)) x e in
-      let h = holds (x .number) (x .run) (q .places) in
-      let k-in = number-lent (x .number) (x .run) (q .places) in
+      let h = holds (x .number) (x .entries) (q .places) in
+      let k-in = number-state (x .number) (x .entries) (q .places) in
       let p = definition.delivered d octets (x .nets) (x .host) in
-      let a = delivered-fine s (sound s (q .settings)) (x .nets) (q .rows) d octets (x .host .clock) (x .host .links) (clock-lent x (q .lent refl)) few in
+      let a = delivered-fine s (sound s (q .settings)) (x .nets) (q .rows) d octets (x .host .clock) (x .host .links) (clock-state x (q .callState refl)) few in
       record {
         ids = (record { number = λ _. k-in; ids = λ _. omega (arith, a .below) }, omega (arith, a .base));
-        there = fits s (x .number) (x .run) h octets (p .work) a;
-        left = rw (carried s (x .number) (x .run) h octets (p .work) a) record { reply = refl; clock = refl; links = refl; walk = refl; copy = refl; run = refl };
+        there = fits s (x .number) (x .entries) h octets (p .work) a;
+        left = rw (carried s (x .number) (x .entries) h octets (p .work) a) record { reply = refl; clock = refl; links = refl; walk = refl; copy = refl; entries = refl };
       }
 
   pub delivered : planned g d octets (x .nets) (x .host) .work .count .0 < 2 ^ 16 → Delivered x octets (planned g d octets (x .nets) (x .host)) (perform (deliver d octets) x)

@@ -11,7 +11,7 @@ use Rattle.answer.specs.declared.Answer.{Answer}
 use Rattle.wire.specs.declared.Parsed.{Parsed}
 use Rattle.wire.specs.declared.Parsed.the-variants.{Good, Bad}
 use Rattle.host.specs.declared.guard.Scope.the-variants as scope
-use Rattle.host.specs.Lent.{Lent}
+use Rattle.host.specs.CallState.{CallState}
 use Rattle.host.specs.Inspection.{inspect}
 use Rattle.host.specs.Guard.{guard, longest, done}
 use Rattle.host.specs.Reply.{plainly}
@@ -23,7 +23,7 @@ use Rattle.walk.specs.code.Plan.{Openable, planned}
 use Rattle.calls.specs.Perform.{Outcome, Leaves, openWalk, refused, perform}
 use Rattle.calls.specs.Perform as definition
 
-module _ (x : Lent) (i : ℕ) (packet : List ℕ) where
+module _ (x : CallState) (i : ℕ) (packet : List ℕ) where
   abbrev g : Answer
   g = guard (scope.Opening i) x
 
@@ -35,7 +35,7 @@ module _ (x : Lent) (i : ℕ) (packet : List ℕ) where
 
   pub record Opened (p : Opening) (o : Outcome) : Type 0 where
     pub room : (p .octets ≤ length packet) × (p .octets ≤ length (x .copy))
-    pub left : Leaves o (p .reply) (x .host .clock) (x .host .links) (p .walk) (copied (p .octets) packet (x .copy)) (x .run)
+    pub left : Leaves o (p .reply) (x .host .clock) (x .host .links) (p .walk) (copied (p .octets) packet (x .copy)) (x .entries)
 
   nothing-copied : copied 0 packet (x .copy) ≡ x .copy
   unfolding copied
@@ -56,11 +56,11 @@ module _ (x : Lent) (i : ℕ) (packet : List ℕ) where
       go true e few =
           record {
             room = (omega arith, omega arith);
-            left = record { reply = refl; clock = refl; links = refl; walk = refl; copy = nothing-copied; run = refl };
+            left = record { reply = refl; clock = refl; links = refl; walk = refl; copy = nothing-copied; entries = refl };
           }
       go false e few =
           let p = passed (scope.Opening i) x (is-so _ e) in
           record {
             room = (whole (inspect (x .host .settings) i packet) (inspected-fits (x .host .settings) i packet), omega (arith, few, p .opening i refl .1));
-            left = record { reply = refl; clock = refl; links = refl; walk = refl; copy = refl; run = refl };
+            left = record { reply = refl; clock = refl; links = refl; walk = refl; copy = refl; entries = refl };
           }

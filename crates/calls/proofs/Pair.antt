@@ -13,7 +13,7 @@ use Rattle.table.specs.Sweep.{sweep}
 use Rattle.table.specs.Runs.{updates}
 use Rattle.host.specs.declared.guard.Scope.the-variants.{OnLink}
 use Rattle.host.specs.declared.Reply.{Reply}
-use Rattle.host.specs.Lent.{Host, Lent, entriesOf}
+use Rattle.host.specs.CallState.{Host, CallState, entriesOf}
 use Rattle.host.specs.Guard.{guard, done}
 use Rattle.host.specs.Inspection.{tells}
 use Rattle.host.specs.Inspection as inspecting
@@ -28,24 +28,24 @@ use Rattle.calls.proofs.Carried.{entries-put}
 
 -- ---- an inspection changes nothing
 
-pub quieted : (x : Lent) → Holds (x .number) (x .run) → (r : Reply) (h : Host) (octets : List ℕ)
-    → updatedBy (quiet r h) octets x ≡ record { reply = r; clock = h .clock; links = h .links; walk = x .walk; copy = x .copy; run = x .run; buffer = [] }
+pub quieted : (x : CallState) → Holds (x .number) (x .entries) → (r : Reply) (h : Host) (octets : List ℕ)
+    → updatedBy (quiet r h) octets x ≡ record { reply = r; clock = h .clock; links = h .links; walk = x .walk; copy = x .copy; entries = x .entries; buffer = [] }
 unfolding updates sweep
 quieted x there r h octets =
-    ap (λ (run : List Entry). record { reply = r; clock = h .clock; links = h .links; walk = x .walk; copy = x .copy; run = run; buffer = [] })
-    (rw (over-nothing 0 (entriesOf x)) (entries-put (x .host .settings) (x .number) (x .run) there))
+    ap (λ (entries : List Entry). record { reply = r; clock = h .clock; links = h .links; walk = x .walk; copy = x .copy; entries = entries; buffer = [] })
+    (rw (over-nothing 0 (entriesOf x)) (entries-put (x .host .settings) (x .number) (x .entries) there))
 
-module _ (i : ℕ) (octets : List ℕ) (x : Lent) where
-  pub leaves : perform (inspect i octets) x ≡ record { reply = perform (inspect i octets) x .reply; clock = x .host .clock; links = x .host .links; walk = x .walk; copy = x .copy; run = x .run; buffer = [] }
+module _ (i : ℕ) (octets : List ℕ) (x : CallState) where
+  pub leaves : perform (inspect i octets) x ≡ record { reply = perform (inspect i octets) x .reply; clock = x .host .clock; links = x .host .links; walk = x .walk; copy = x .copy; entries = x .entries; buffer = [] }
   unfolding perform
   leaves =
-      either (λ (o : Outcome). o ≡ record { reply = o .reply; clock = x .host .clock; links = x .host .links; walk = x .walk; copy = x .copy; run = x .run; buffer = [] }) (guard (OnLink i) x) (λ _. refl)
-      (λ e. quieted x (holds (x .number) (x .run) (passed (OnLink i) x e .places)) (tells (inspecting.inspect (x .host .settings) i octets)) (x .host) octets)
+      either (λ (o : Outcome). o ≡ record { reply = o .reply; clock = x .host .clock; links = x .host .links; walk = x .walk; copy = x .copy; entries = x .entries; buffer = [] }) (guard (OnLink i) x) (λ _. refl)
+      (λ e. quieted x (holds (x .number) (x .entries) (passed (OnLink i) x e .places)) (tells (inspecting.inspect (x .host .settings) i octets)) (x .host) octets)
 
   pub looks : left x (perform (inspect i octets) x) ≡ x
   looks = ap (left x) leaves
 
-module _ (i : ℕ) (k : Counter) (octets : List ℕ) (x : Lent) where
+module _ (i : ℕ) (k : Counter) (octets : List ℕ) (x : CallState) where
   abbrev h : Host
   h = x .host
 
@@ -85,4 +85,4 @@ module _ (i : ℕ) (k : Counter) (octets : List ℕ) (x : Lent) where
   pub one-piece : perform (receive i k octets) x ≡ inTurn i k octets x
   one-piece =
       receive-acts ∙ in-turn
-      ∙ ap (λ (y : Lent). cond (done (perform (inspect i octets) x .reply .answer)) (perform (act i k octets) y) (perform (inspect i octets) x)) (sym (looks i octets x))
+      ∙ ap (λ (y : CallState). cond (done (perform (inspect i octets) x .reply .answer)) (perform (act i k octets) y) (perform (inspect i octets) x)) (sym (looks i octets x))

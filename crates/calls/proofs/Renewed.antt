@@ -6,17 +6,17 @@ use lib.Dec.{ltb}
 use lib.ListN.{length}
 use Rattle.lists.proofs.Tests.{either}
 use Rattle.answer.specs.declared.Answer.{Answer}
-use Rattle.table.specs.declared.run.Change.the-variants.{Fresh}
-use Rattle.table.specs.declared.run.Changes.{Changes}
-use Rattle.table.specs.code.Loops.{InRun}
+use Rattle.table.specs.declared.entries.Change.the-variants.{Fresh}
+use Rattle.table.specs.declared.entries.Changes.{Changes}
+use Rattle.table.specs.code.Loops.{InEntries}
 use Rattle.host.specs.declared.Effect.{Effect}
 use Rattle.host.specs.declared.guard.Scope.the-variants.{Places}
 use Rattle.host.specs.Effect.{answers}
 use Rattle.host.specs.Guard.{guard, done}
-use Rattle.host.specs.Lent.{Lent}
+use Rattle.host.specs.CallState.{CallState}
 use Rattle.host.specs.Reply.{plainly}
-use Rattle.host.specs.code.Held.{judgedAfresh}
-use Rattle.host.proofs.Judged.{guarded-afresh}
+use Rattle.host.specs.code.Held.{judgedInitialize}
+use Rattle.host.proofs.Judged.{guarded-initialized}
 use Rattle.calls.specs.declared.Request.the-variants.{Initialize}
 use Rattle.calls.specs.Effects.{initialize}
 use Rattle.calls.specs.Perform.{ask, perform}
@@ -26,7 +26,7 @@ use Rattle.calls.proofs.Performed.{Performed, performed}
 placed-fresh : (k : ℕ) (w : Changes) → w .change ≡ Fresh → placed k w .change ≡ Fresh
 placed-fresh k w is = either (λ (z : Changes). z .change ≡ Fresh) (ltb (w .first) (w .end)) _ _ (λ _. is) (λ _. refl)
 
-module _ (x : Lent) where
+module _ (x : CallState) where
   abbrev g : Answer
   g = guard Places x
 
@@ -37,11 +37,11 @@ module _ (x : Lent) where
   unfolding initialize
   fresh = either (λ (p : Effect). p .work .change ≡ Fresh) (not (done g)) _ _ (λ _. refl) (λ _. refl)
 
-  pub guard-is : (a : Answer) → a ≡ judgedAfresh (x .host .settings) (x .nets) (x .number) (length (x .run)) → a ≡ g
-  guard-is a is = is ∙ guarded-afresh x
+  pub guard-is : (a : Answer) → a ≡ judgedInitialize (x .host .settings) (x .nets) (x .number) (length (x .entries)) → a ≡ g
+  guard-is a is = is ∙ guarded-initialized x
 
   pub renewed : Performed x Initialize plan (perform (ask Initialize) x)
   renewed = performed x Initialize
 
-  pub places-fresh : InRun (placed (x .number) (plan .work) .first) (placed (x .number) (plan .work) .end) (x .run) × (placed (x .number) (plan .work) .change ≡ Fresh)
+  pub places-fresh : InEntries (placed (x .number) (plan .work) .first) (placed (x .number) (plan .work) .end) (x .entries) × (placed (x .number) (plan .work) .change ≡ Fresh)
   places-fresh = (renewed .places, placed-fresh (x .number) (plan .work) fresh)

@@ -27,18 +27,18 @@ use Rattle.wire.specs.code.Sealing.{withReports, sealed}
 use Rattle.wire.proofs.Messages.{reports-length}
 use Rattle.wire.proofs.Sealing.{all-put, put-and-sealed}
 use Rattle.table.specs.declared.Entry.{Entry}
-use Rattle.table.specs.declared.run.Reports.{Reports}
+use Rattle.table.specs.declared.entries.Reports.{Reports}
 use Rattle.table.specs.Entry.{upTo, advertised}
 use Rattle.table.specs.code.Loops.{readOut, ReportsFit}
 use Rattle.table.proofs.Ranges.{within, reading-in}
 use Rattle.host.specs.declared.Settings.{Settings}
 use Rattle.host.specs.declared.Link.{Link}
 use Rattle.host.specs.declared.guard.Scope.the-variants.{OnLink}
-use Rattle.host.specs.State.{firstPlace, hostCount, linkOf, entries}
-use Rattle.host.specs.Lent.{Lent, entriesOf, ourReading}
+use Rattle.host.specs.State.{firstPlace, hostCount, linkOf, ownEntries}
+use Rattle.host.specs.CallState.{CallState, entriesOf, ourReading}
 use Rattle.host.specs.Guard.{guard, done}
 use Rattle.host.proofs.Places.{Holds}
-use Rattle.host.proofs.Guarded.{passed, holds, number-lent}
+use Rattle.host.proofs.Guarded.{passed, holds, number-state}
 use Rattle.sending.specs.declared.Sending.{Sending}
 use Rattle.sending.specs.Message.{tableGoes}
 use Rattle.sending.specs.Send.{reportCount, unsent, sends, sendIn}
@@ -47,12 +47,12 @@ use Rattle.calls.specs.Perform.{Outcome, Leaves, send, refused, sentBy, 
 use Rattle.calls.specs.code.Places.{Placeable, noReports, reportsAt}
 use Rattle.calls.proofs.Carried.{part-part}
 
-pub record Sent (x : Lent) (buffer : List ℕ) (p : Sending) (o : Outcome) : Type 0 where
+pub record Sent (x : CallState) (buffer : List ℕ) (p : Sending) (o : Outcome) : Type 0 where
   pub ids : Placeable (x .number) (p .work .first) (p .work .end)
-  pub fits : ReportsFit (reportsAt (x .number) (p .work)) (x .run) buffer
-  pub ready : Finishable p (readOut (reportsAt (x .number) (p .work)) (x .run) buffer)
-  pub left : Leaves o (p .reply) (p .clock) (p .links) (x .walk) (x .copy) (x .run)
-  pub octets : finished p (readOut (reportsAt (x .number) (p .work)) (x .run) buffer) ≡ o .buffer
+  pub fits : ReportsFit (reportsAt (x .number) (p .work)) (x .entries) buffer
+  pub ready : Finishable p (readOut (reportsAt (x .number) (p .work)) (x .entries) buffer)
+  pub left : Leaves o (p .reply) (p .clock) (p .links) (x .walk) (x .copy) (x .entries)
+  pub octets : finished p (readOut (reportsAt (x .number) (p .work)) (x .entries) buffer) ≡ o .buffer
 
 -- a time of the day fits its four octets
 four : (m : Millis) → upTo dayMillis m ≡ true → Four (m .0)
@@ -60,7 +60,7 @@ four m e =
     let w = within 86400000 (m .0) e in
     record { not-below = to-≤ℤ _ (m .0) (omega arith); below = to-<ℤ (m .0) _ (omega arith) }
 
-module _ (x : Lent) (i : ℕ) (counter : Counter) (buffer : List ℕ) where
+module _ (x : CallState) (i : ℕ) (counter : Counter) (buffer : List ℕ) where
   abbrev s : Settings
   s = x .host .settings
 
@@ -78,7 +78,7 @@ module _ (x : Lent) (i : ℕ) (counter : Counter) (buffer : List ℕ) where
         ids = record { number = λ h. absurd (omega (arith, h)); ids = λ h. absurd (omega (arith, h)) };
         fits = record { places = record { rising = omega arith; inside = omega arith }; room = λ h. absurd (omega (arith, h)) };
         ready = record { room = λ e. absurd (false≢true e); time = λ e. absurd (false≢true e) };
-        left = record { reply = refl; clock = refl; links = refl; walk = refl; copy = refl; run = refl };
+        left = record { reply = refl; clock = refl; links = refl; walk = refl; copy = refl; entries = refl };
         octets = refl;
       }
 
@@ -86,7 +86,7 @@ module _ (x : Lent) (i : ℕ) (counter : Counter) (buffer : List ℕ) where
   y = linkOf (x .host .links) i
 
   -- so many reports
-  module _ (n : ℕ) (few : n ≤ hostCount s) (h : Holds k (x .run)) (room : packetLength n ≤ length buffer) where
+  module _ (n : ℕ) (few : n ≤ hostCount s) (h : Holds k (x .entries)) (room : packetLength n ≤ length buffer) where
     abbrev w : Reports
     w = record { first = 0; end = n; pid = i }
 
@@ -96,19 +96,19 @@ module _ (x : Lent) (i : ℕ) (counter : Counter) (buffer : List ℕ) where
     abbrev spot : Bool → Reports
     spot b = cond b record { first = F + 0; end = F + n; pid = i } noReports
 
-    same-part : part 0 n (entriesOf x) ≡ part (F + 0) n (x .run)
-    unfolding entries
-    same-part = part-part F (hostCount s) 0 n (x .run) (omega arith) (omega arith)
+    same-part : part 0 n (entriesOf x) ≡ part (F + 0) n (x .entries)
+    unfolding ownEntries
+    same-part = part-part F (hostCount s) 0 n (x .entries) (omega arith) (omega arith)
 
     how-many : length rs ≡ n
-    how-many = length-map (part 0 n (entriesOf x)) (advertised i) ∙ rw same-part (part-length (F + 0) n (x .run) (omega arith))
+    how-many = length-map (part 0 n (entriesOf x)) (advertised i) ∙ rw same-part (part-length (F + 0) n (x .entries) (omega arith))
 
-    put : readOut (reportsAt k w) (x .run) buffer ≡ withReports 0 rs buffer
+    put : readOut (reportsAt k w) (x .entries) buffer ≡ withReports 0 rs buffer
     unfolding readOut
     put = go (ltb 0 n) refl
       where
         go : (b : Bool) → ltb 0 n ≡ b
-            → withReports 0 (map (advertised (spot b .pid)) (part (spot b .first) (spot b .end - spot b .first) (x .run))) buffer ≡ withReports 0 rs buffer
+            → withReports 0 (map (advertised (spot b .pid)) (part (spot b .first) (spot b .end - spot b .first) (x .entries))) buffer ≡ withReports 0 rs buffer
         go true e =
             let m : F + n - (F + 0) ≡ n = omega arith in
             rw (m, same-part) refl
@@ -116,10 +116,10 @@ module _ (x : Lent) (i : ℕ) (counter : Counter) (buffer : List ℕ) where
             let z : n ≡ 0 = omega (arith, ltb-false 0 n e) in
             rw z refl
 
-    fitting : ReportsFit (reportsAt k w) (x .run) buffer
+    fitting : ReportsFit (reportsAt k w) (x .entries) buffer
     fitting = go (ltb 0 n)
       where
-        go : (b : Bool) → ReportsFit (spot b) (x .run) buffer
+        go : (b : Bool) → ReportsFit (spot b) (x .entries) buffer
         go true = record { places = record { rising = omega arith; inside = omega arith }; room = λ _. (let m : F + n - (F + 0) ≡ n = omega arith in rw m room) }
         go false = record { places = record { rising = omega arith; inside = omega arith }; room = λ l. absurd (omega (arith, l)) }
 
@@ -140,7 +140,7 @@ module _ (x : Lent) (i : ℕ) (counter : Counter) (buffer : List ℕ) where
       go true = omega arith
       go false = omega arith
 
-  went : Holds k (x .run) → k ≤ 15 → packetLength (reportCount s y) ≤ length buffer
+  went : Holds k (x .entries) → k ≤ 15 → packetLength (reportCount s y) ≤ length buffer
       → Sent x buffer (sends i counter (x .host)) (sentBy (sends i counter (x .host)) buffer x)
   went h k-in room =
       let n = reportCount s y in
@@ -153,7 +153,7 @@ module _ (x : Lent) (i : ℕ) (counter : Counter) (buffer : List ℕ) where
           room = λ _. rw (put n few h room, put-length n few h room) room;
           time = λ _. four (ourReading counter (x .host) .time) (reading-in (s .«clock_tick») (s .«hold_interval») counter (x .host .clock));
         };
-        left = record { reply = refl; clock = refl; links = refl; walk = refl; copy = refl; run = refl };
+        left = record { reply = refl; clock = refl; links = refl; walk = refl; copy = refl; entries = refl };
         octets = rw (put n few h room, z) (sealed-is n few h room (y .neighbor) (p .packet) refl);
       }
 
@@ -164,9 +164,9 @@ module _ (x : Lent) (i : ℕ) (counter : Counter) (buffer : List ℕ) where
   goes-on : done g ≡ true → Sent x buffer (sendIn i counter (length buffer) (x .host)) (sentBy (sendIn i counter (length buffer) (x .host)) buffer x)
   goes-on e =
       let q = passed (OnLink i) x e in
-      go (holds k (x .run) (q .places)) (number-lent k (x .run) (q .places)) (ltb (length buffer) (packetLength (reportCount s y))) refl
+      go (holds k (x .entries) (q .places)) (number-state k (x .entries) (q .places)) (ltb (length buffer) (packetLength (reportCount s y))) refl
     where
-      go : Holds k (x .run) → k ≤ 15 → (short : Bool) → ltb (length buffer) (packetLength (reportCount s y)) ≡ short
+      go : Holds k (x .entries) → k ≤ 15 → (short : Bool) → ltb (length buffer) (packetLength (reportCount s y)) ≡ short
           → Sent x buffer (cond short (unsent ShortBuffer (x .host)) (sends i counter (x .host))) (sentBy (cond short (unsent ShortBuffer (x .host)) (sends i counter (x .host))) buffer x)
       go h k-in true e = refuses ShortBuffer
       go h k-in false e = went h k-in (ltb-false _ _ e)

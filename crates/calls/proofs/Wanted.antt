@@ -8,13 +8,13 @@ use borrow.Author.Tests.{lt-ltb}
 use Rattle.route.specs.declared.Found.{Found}
 use Rattle.route.specs.declared.Found.the-variants.{Id, Nothing}
 use Rattle.route.proofs.Ids.{found-below}
-use Rattle.class_table.specs.declared.ClassTable.{ClassTable}
+use Rattle.net_table.specs.declared.NetTable.{NetTable}
 use Rattle.host.specs.declared.Settings.{Settings}
 use Rattle.host.specs.Settings.{settingsGood}
 use Rattle.host.specs.declared.walk.Walk.{Walk}
 use Rattle.host.specs.State.{placesPerHost, hostCount, hasPlace}
 use Rattle.host.specs.Walk.{walkInRange}
-use Rattle.host.specs.code.Told.{afresh, RowsBelow}
+use Rattle.host.specs.code.Returned.{initialized, RowsBelow}
 use Rattle.host.proofs.Sound.{sound}
 use Rattle.walk.proofs.Work.{at-hand-in}
 use Rattle.calls.specs.declared.Request.{Request}
@@ -24,9 +24,9 @@ use Rattle.calls.specs.Effects.{scopeOf, wanted}
 none : {A : Type 0} → _≡_ {A = ℕ} 0 1 → A
 none z = absurd (omega arith)
 
-module _ (t : ClassTable) (s : Settings) (w : Walk) (copy : List ℕ) (good : settingsGood s ≡ true) (rows : RowsBelow t s) where
+module _ (t : NetTable) (s : Settings) (w : Walk) (copy : List ℕ) (good : settingsGood s ≡ true) (rows : RowsBelow t s) where
   abbrev InRange : Request → Type 0
-  InRange q = afresh (scopeOf q) ≡ false → walkInRange s w copy ≡ true
+  InRange q = initialized (scopeOf q) ≡ false → walkInRange s w copy ≡ true
 
   pub wanted-below : (q : Request) → InRange q → (id : ℕ) → wanted q t s w ≡ Id id → id < hostCount s
   wanted-below Initialize r id e = none cc

@@ -14,7 +14,7 @@ use Rattle.wire.specs.declared.Address.{Address}
 use Rattle.route.specs.declared.Found.{Found}
 use Rattle.route.specs.declared.Found.the-variants.{Id, Nothing}
 use Rattle.table.specs.declared.Entry.{Entry}
-use Rattle.table.specs.declared.run.Change.the-variants.{Fresh, Aged, Reported}
+use Rattle.table.specs.declared.entries.Change.the-variants.{Fresh, Aged, Reported}
 use Rattle.table.specs.Entry.{up}
 use Rattle.host.specs.declared.Settings.{Settings}
 use Rattle.host.specs.declared.walk.Walk.{Walk}
@@ -22,13 +22,13 @@ use Rattle.host.specs.declared.Reply.{Reply}
 use Rattle.host.specs.declared.Effect.{Effect}
 use Rattle.host.specs.declared.guard.Scope.{Scope}
 use Rattle.host.specs.declared.guard.Scope.the-variants.{Places, All, Walking}
-use Rattle.class_table.specs.declared.ClassTable.{ClassTable}
+use Rattle.net_table.specs.declared.NetTable.{NetTable}
 use Rattle.host.specs.Settings.{foundFor}
 use Rattle.host.specs.State.{freshLinks}
 use Rattle.host.specs.Walk.{noWalk}
 use Rattle.host.specs.Effect.{each, answers}
-use Rattle.host.specs.Lent.{Host, ourReading}
-use Rattle.host.specs.Reply.{plainly, tellsRoute, tellsTime}
+use Rattle.host.specs.CallState.{Host, ourReading}
+use Rattle.host.specs.Reply.{plainly, returnsRoute, returnsTime}
 use Rattle.walk.specs.Boxes.{atHand, step}
 use Rattle.calls.specs.declared.Request.{Request}
 use Rattle.calls.specs.declared.Request.the-variants.{Initialize, Tick, Adjust, Set, Read, Second, SelfReport, Lookup, Step}
@@ -56,7 +56,7 @@ setBy ms n h w = answers (plainly Done) (clock.setBy (h .settings .«hold_interv
 unfoldable pub read : Counter → Host → Walk → Effect
 read k h w =
     let r : Reading = ourReading k h in
-    answers (tellsTime (r .time) (r .clock .date)) (r .clock) (h .links) w
+    answers (returnsTime (r .time) (r .clock .date)) (r .clock) (h .links) w
 
 -- CLOCK-10, TABLE-5: second: HOLD and the entries
 unfoldable pub second : Host → Walk → Effect
@@ -72,14 +72,14 @@ selfReport k h w =
 -- CALL-3, ANSWER-11, ANSWER-13: 11 without an id, 13 if its entry is down; else id and PID
 abbrev pub looked : Found → Entry → Reply
 looked Nothing e = plainly NoHost
-looked (Id id) e = cond (not (up e)) (plainly HostDown) (tellsRoute id (e .pid))
+looked (Id id) e = cond (not (up e)) (plainly HostDown) (returnsRoute id (e .pid))
 
 -- CALL-3: lookup; nothing changes
-unfoldable pub lookup : Address → ClassTable → Host → Walk → Entry → Effect
+unfoldable pub lookup : Address → NetTable → Host → Walk → Entry → Effect
 lookup a t h w e = answers (looked (foundFor t (h .settings) a) e) (h .clock) (h .links) w
 
 -- CALL-1: what a request results in, given the entry that it uses
-abbrev pub effect : Request → ClassTable → Host → Walk → (copy : List ℕ) → Entry → Effect
+abbrev pub effect : Request → NetTable → Host → Walk → (copy : List ℕ) → Entry → Effect
 effect Initialize t h w copy e = initialize (h .settings)
 effect (Tick n) t h w copy e = tick n h w
 effect (Adjust n) t h w copy e = adjust n h w
@@ -105,7 +105,7 @@ scopeOf (Lookup a) = All
 scopeOf (Step k) = Walking
 
 -- CALL-3, WALK-3: the id whose entry a request uses
-abbrev pub wanted : Request → ClassTable → Settings → Walk → Found
+abbrev pub wanted : Request → NetTable → Settings → Walk → Found
 wanted Initialize t s w = Nothing
 wanted (Tick n) t s w = Nothing
 wanted (Adjust n) t s w = Nothing

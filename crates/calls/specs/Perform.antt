@@ -20,53 +20,18 @@ use Rattle.host.specs.declared.Effect.{Effect}
 use Rattle.host.specs.declared.guard.Scope.{Scope}
 use Rattle.host.specs.declared.guard.Scope.the-variants.{OnLink, Opening}
 use Rattle.host.specs.State.{withEntries}
-use Rattle.host.specs.Lent.{Lent, lent, entriesOf}
+use Rattle.host.specs.CallState.{CallState, callState, entriesOf}
 use Rattle.host.specs.Guard.{guard, done}
 use Rattle.host.specs.Reply.{plainly}
 use Rattle.sending.specs.declared.Sending.{Sending}
 use Rattle.sending.specs.Send.{sendIn, written}
 use Rattle.arrival.specs.declared.Arrived.{Arrived}
-use Rattle.arrival.specs.declared.Delivery.{Delivery}
-use Rattle.arrival.specs.declared.Delivery.the-variants.{Inspect, Act, Receive}
 use Rattle.arrival.specs.Arrival.{onLink, delivered}
 use Rattle.walk.specs.declared.Opening as declared
 use Rattle.walk.specs.Opening.{opening, copied}
-use Rattle.calls.specs.declared.Request.{Request}
-use Rattle.calls.specs.declared.Request.the-variants.{Step}
 use Rattle.calls.specs.Effects.{scopeOf, wanted, effect}
-
--- CALL-1, CALL-4: a call with its input
-pub data Call : Type 0 where
-  ask : Request → Call
-  send : (link : ℕ) → Counter → (buffer : List ℕ) → Call
-  deliver : Delivery → (packet : List ℕ) → Call
-  openWalk : (link : ℕ) (packet : List ℕ) → Call
-
--- INSPECT-1: the inspection of a packet
-abbrev pub inspect : (link : ℕ) (packet : List ℕ) → Call
-inspect i packet = deliver (Inspect i) packet
-
--- INSPECT-3: the action on a packet
-abbrev pub act : (link : ℕ) → Counter → (packet : List ℕ) → Call
-act i k packet = deliver (Act i k) packet
-
--- INSPECT-4: the arrival in one call
-abbrev pub receive : (link : ℕ) → Counter → (packet : List ℕ) → Call
-receive i k packet = deliver (Receive i k) packet
-
--- WALK-3: one box of a walk
-abbrev pub step : Counter → Call
-step k = ask (Step k)
-
--- CALL-4: the reply, and everything that the caller passed, afterwards
-pub record Outcome : Type 0 where
-  pub reply : Reply
-  pub clock : Clock
-  pub links : Links
-  pub walk : Walk
-  pub copy : List ℕ
-  pub run : List Entry
-  pub buffer : List ℕ
+pub use Rattle.calls.specs.Calls.{Call, ask, send, deliver, openWalk, Outcome}
+unfoldable pub use Rattle.calls.specs.Calls.{inspect, act, receive, step}
 
 -- ---- the guard
 
@@ -85,40 +50,40 @@ bufferOf (deliver d packet) = []
 bufferOf (openWalk i packet) = []
 
 -- CALL-2, REPLY-3, CLOCK-16: a refusal changes nothing
-abbrev pub refused : Answer → Call → Lent → Outcome
+abbrev pub refused : Answer → Call → CallState → Outcome
 refused a call x =
-    record { reply = plainly a; clock = x .host .clock; links = x .host .links; walk = x .walk; copy = x .copy; run = x .run; buffer = bufferOf call }
+    record { reply = plainly a; clock = x .host .clock; links = x .host .links; walk = x .walk; copy = x .copy; entries = x .entries; buffer = bufferOf call }
 
 -- ---- the work
 
 -- CALL-3: the entry of a found id
-abbrev pub entryAt : Found → Lent → Entry
+abbrev pub entryAt : Found → CallState → Entry
 entryAt Nothing x = freshEntry
 entryAt (Id id) x = getD (entriesOf x) id freshEntry
 
 -- CALL-4: the changes of a request
-abbrev pub carriedOut : Effect → Lent → Outcome
+abbrev pub carriedOut : Effect → CallState → Outcome
 carriedOut e x =
-    record { reply = e .reply; clock = e .clock; links = e .links; walk = e .walk; copy = x .copy; run = withEntries (x .number) (changes (e .work) (entriesOf x)) (x .run); buffer = [] }
+    record { reply = e .reply; clock = e .clock; links = e .links; walk = e .walk; copy = x .copy; entries = withEntries (x .number) (changes (e .work) (entriesOf x)) (x .entries); buffer = [] }
 
 -- SEND-4: the changes of a send
-abbrev pub sentBy : Sending → (buffer : List ℕ) → Lent → Outcome
+abbrev pub sentBy : Sending → (buffer : List ℕ) → CallState → Outcome
 sentBy p buffer x =
-    record { reply = p .reply; clock = p .clock; links = p .links; walk = x .walk; copy = x .copy; run = x .run; buffer = written p (entriesOf x) buffer }
+    record { reply = p .reply; clock = p .clock; links = p .links; walk = x .walk; copy = x .copy; entries = x .entries; buffer = written p (entriesOf x) buffer }
 
 -- UPDATE-2: the changes of an arrival: updates in rising order
-abbrev pub updatedBy : Arrived → (packet : List ℕ) → Lent → Outcome
+abbrev pub updatedBy : Arrived → (packet : List ℕ) → CallState → Outcome
 updatedBy e octets x =
     let w : Swept = updates (e .work) octets (entriesOf x) in
-    record { reply = e .reply; clock = w .clock; links = e .links; walk = x .walk; copy = x .copy; run = withEntries (x .number) (w .entries) (x .run); buffer = [] }
+    record { reply = e .reply; clock = w .clock; links = e .links; walk = x .walk; copy = x .copy; entries = withEntries (x .number) (w .ownEntries) (x .entries); buffer = [] }
 
 -- WALK-1: the changes of opening a walk
-abbrev pub openedBy : declared.Opening → (packet : List ℕ) → Lent → Outcome
+abbrev pub openedBy : declared.Opening → (packet : List ℕ) → CallState → Outcome
 openedBy o packet x =
-    record { reply = o .reply; clock = x .host .clock; links = x .host .links; walk = o .walk; copy = copied (o .octets) packet (x .copy); run = x .run; buffer = [] }
+    record { reply = o .reply; clock = x .host .clock; links = x .host .links; walk = o .walk; copy = copied (o .octets) packet (x .copy); entries = x .entries; buffer = [] }
 
 -- CALL-4: the work of each call
-abbrev pub work : Call → Lent → Outcome
+abbrev pub work : Call → CallState → Outcome
 work (ask q) x = carriedOut (effect q (x .nets) (x .host) (x .walk) (x .copy) (entryAt (wanted q (x .nets) (x .host .settings) (x .walk)) x)) x
 work (send i k buffer) x = sentBy (sendIn i k (length buffer) (x .host)) buffer x
 work (deliver d packet) x = updatedBy (delivered d packet (x .nets) (x .host)) packet x
@@ -127,16 +92,16 @@ work (openWalk i packet) x = openedBy (opening i packet (x .host .settings) (x .
 -- ---- the call
 
 -- CALL-4, CALL-2, REPLY-1, EXACT-1: the call: the guard's refusal, or the work
-unfoldable pub perform : Call → Lent → Outcome
+unfoldable pub perform : Call → CallState → Outcome
 perform call x =
     cond (not (done (guard (scopeOfCall call) x))) (refused (guard (scopeOfCall call) x) call x) (work call x)
 
 -- ISOLATION-3: the state after a call, as the next call takes it
-abbrev pub left : Lent → Outcome → Lent
-left x o = lent (x .host .settings) (x .nets) (x .number) (o .clock) (o .links) (o .walk) (o .copy) (o .run)
+abbrev pub left : CallState → Outcome → CallState
+left x o = callState (x .host .settings) (x .nets) (x .number) (o .clock) (o .links) (o .walk) (o .copy) (o .entries)
 
 -- INSPECT-4: the inspection and, if it answers 0, the action
-abbrev pub inTurn : (link : ℕ) → Counter → (packet : List ℕ) → Lent → Outcome
+abbrev pub inTurn : (link : ℕ) → Counter → (packet : List ℕ) → CallState → Outcome
 inTurn i k packet x =
     let o : Outcome = perform (inspect i packet) x in
     cond (done (o .reply .answer)) (perform (act i k packet) (left x o)) o
@@ -148,4 +113,4 @@ pub record Leaves (o : Outcome) (r : Reply) (c : Clock) (l : Links) (w : Walk) (
   pub links : l ≡ o .links
   pub walk : w ≡ o .walk
   pub copy : octets ≡ o .copy
-  pub run : es ≡ o .run
+  pub entries : es ≡ o .entries

@@ -1,12 +1,12 @@
-// What each request comes to, by value.
+// The result of each request, by value.
 ghost use mathlib.Core.Path.{_≡_};
 ghost use mathlib.Core.Bool.{true, false};
 ghost use Rattle.clock.specs.Clock.{clockInRange};
 ghost use Rattle.host.specs.Settings.{settingsGood};
 ghost use Rattle.host.specs.Effect.{answers};
-ghost use Rattle.host.specs.Lent.{host};
+ghost use Rattle.host.specs.CallState.{host};
 ghost use Rattle.host.specs.Walk.{walkInRange};
-ghost use Rattle.host.specs.code.Told.{afresh, Ready, RowsBelow, Told, TableTold};
+ghost use Rattle.host.specs.code.Returned.{initialized, Ready, RowsBelow, Returned, TableReturned};
 ghost use Rattle.calls.specs.Effects.{
   looked,
   initialize,
@@ -14,13 +14,12 @@ ghost use Rattle.calls.specs.Effects.{
   scopeOf,
   effect,
 };
-ghost use Rattle.calls.specs.code.Planned.{planned, WalkTold};
+ghost use Rattle.calls.specs.code.Planned.{planned, WalkReturned};
 use super::Request;
 use super::plans;
 use super::plans::Aged;
 use super::plans::Timed;
 use answer::Answer;
-use class_table::ClassTable;
 use clock::Clock;
 use clock::Counter;
 use host::Effect;
@@ -31,13 +30,14 @@ use host::effects::answers;
 use host::effects::each;
 use host::guard::Scope;
 use host::replies::plainly;
-use host::replies::tells_route;
+use host::replies::returns_route;
 use host::walk::Walk;
+use net_table::NetTable;
 use route::Found;
 use table::Entry;
-use table::run::Change;
+use table::entries::Change;
 
-// How much of what is lent is tested.
+// How much of the borrowed state is tested.
 pub(crate) fn scope_of(q: Request) -> Scope
     ensures { λ r. ⌜ r ≡ scopeOf q ⌝ }
 {
@@ -118,14 +118,14 @@ pub(crate) fn looked(found: Found, e: Entry) -> Reply
             if !table::up(e) {
                 return plainly(Answer::HostDown);
             }
-            tells_route(id, e.pid)
+            returns_route(id, e.pid)
         }
     }
 }
 
 fn effect(
     s: Settings,
-    t: ClassTable,
+    t: NetTable,
     c: Clock,
     l: Links,
     w: Walk,
@@ -134,7 +134,7 @@ fn effect(
     q: Request,
 ) -> Effect
     requires { ⌜ Ready (scopeOf q) s c × RowsBelow t s ⌝ }
-    requires { ⌜ (afresh (scopeOf q) ≡ false → walkInRange s w (now copy) ≡ true) ⌝ }
+    requires { ⌜ (initialized (scopeOf q) ≡ false → walkInRange s w (now copy) ≡ true) ⌝ }
     ensures { λ p. ⌜ p ≡ effect q t (host s c l) w (now (copy .entry)) e ⌝ }
 {
     match q {
@@ -154,7 +154,7 @@ fn effect(
 pub(crate) fn plan(
     g: Answer,
     s: Settings,
-    t: ClassTable,
+    t: NetTable,
     c: Clock,
     l: Links,
     w: Walk,
@@ -162,7 +162,7 @@ pub(crate) fn plan(
     e: Entry,
     q: Request,
 ) -> Effect
-    requires { ⌜ Told g (scopeOf q) s c × TableTold g t s × WalkTold g q s w (now copy) ⌝ }
+    requires { ⌜ Returned g (scopeOf q) s c × TableReturned g t s × WalkReturned g q s w (now copy) ⌝ }
     ensures { λ p. ⌜ p ≡ planned g q t (host s c l) w (now (copy .entry)) e ⌝ }
 {
     if !answer::is_done(g) {

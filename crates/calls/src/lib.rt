@@ -1,4 +1,4 @@
-// The calls of a HELLO host. Each is lent all of a host, its clock, its links, its walk with the copy of a packet, and the run with its places, and the class's net table, which none changes; settings, number and what is lent are answered for first, with 12, 16 or 1.
+// The calls of a HELLO host. Each borrows the host's clock, links, walk with its copy of a packet, the host table, and the net table, which no call changes. The guard comes first: 12, 16 or 1 for bad settings, number or borrowed state.
 ghost use mathlib.Core.Path.{_≡_};
 ghost use Rattle.host.specs.declared.guard.Scope.the-variants.{All, OnLink, Opening};
 ghost use Rattle.calls.specs.declared.Request.the-variants.{Initialize, Tick, Adjust, Set, Read, Second, SelfReport, Lookup};
@@ -7,7 +7,6 @@ ghost use Rattle.arrival.specs.Arrival.{onLink};
 ghost use Rattle.calls.specs.Contract.{Does, Sends};
 ghost use Rattle.calls.specs.Laws.{EverySendKeeps};
 use arrival::Delivery;
-use class_table::ClassTable;
 use clock::Clock;
 use clock::Counter;
 use host::Links;
@@ -15,15 +14,16 @@ use host::Reply;
 use host::Settings;
 use host::guard::Scope;
 use host::guard::guard;
-use host::guard::guard_afresh;
+use host::guard::guard_initialize;
 use host::walk::Walk;
+use net_table::NetTable;
 use quantity::Count;
 use table::Entry;
-use table::run::change_all;
-use table::run::entry_of;
-use table::run::fresh_all;
-use table::run::read_out;
-use table::run::update_all;
+use table::entries::change_all;
+use table::entries::entry_of;
+use table::entries::fresh_all;
+use table::entries::read_out;
+use table::entries::update_all;
 
 mod effects;
 mod places;
@@ -31,7 +31,7 @@ mod plans;
 
 // What is asked of a host, with its input.
 pub enum Request {
-    // setting afresh
+    // initialization
     Initialize,
     Tick(Count),
     Adjust(Count),
@@ -45,61 +45,61 @@ pub enum Request {
     Step(Counter),
 }
 
-// A request: the calls that are lent no octets but the copy of a walk's packet.
+// A request: the calls that borrow no octets except the copy of a walk's packet.
 pub fn call(
     settings: &Settings,
-    nets: &ClassTable,
+    net_table: &NetTable,
     number: usize,
     clock: &mut Clock,
     links: &mut Links,
     walk: &mut Walk,
     copy: &[u8],
-    run: &mut [Entry],
+    entries: &mut [Entry],
     request: Request,
 ) -> Reply
-    ensures { λ r. ⌜ Does (ask request) settings nets number clock links walk copy run r ⌝ }
+    ensures { λ r. ⌜ Does (ask request) settings «net_table» number clock links walk copy entries r ⌝ }
 {
     let s = *settings;
-    let t = *nets;
+    let t = *net_table;
     let c = *clock;
     let l = *links;
     let v = *walk;
     let a = effects::scope_of(request);
-    let g = guard(settings, nets, number, c, l, v, copy, a, run);
+    let g = guard(settings, net_table, number, c, l, v, copy, a, entries);
     let z = places::sought(g, s, t, v, number, request);
-    let e = entry_of(run, z);
+    let e = entry_of(entries, z);
     let p = effects::plan(g, s, t, c, l, v, copy, e, request);
     let w = places::placed(number, p.work);
-    change_all(run, w);
+    change_all(entries, w);
     *clock = p.clock;
     *links = p.links;
     *walk = p.walk;
     p.reply
 }
 
-// The host is set afresh.
+// The host is initialized.
 pub fn initialize(
     settings: &Settings,
-    nets: &ClassTable,
+    net_table: &NetTable,
     number: usize,
     clock: &mut Clock,
     links: &mut Links,
     walk: &mut Walk,
     copy: &[u8],
-    run: &mut [Entry],
+    entries: &mut [Entry],
 ) -> Reply
-    ensures { λ r. ⌜ Does (ask Initialize) settings nets number clock links walk copy run r ⌝ }
+    ensures { λ r. ⌜ Does (ask Initialize) settings «net_table» number clock links walk copy entries r ⌝ }
 {
     let s = *settings;
-    let t = *nets;
+    let t = *net_table;
     let c = *clock;
     let l = *links;
     let v = *walk;
-    let n = run.len();
-    let g = guard_afresh(s, t, number, n);
+    let n = entries.len();
+    let g = guard_initialize(s, t, number, n);
     let p = plans::initialize(g, s, c, l, v);
     let w = places::placed(number, p.work);
-    fresh_all(run, w);
+    fresh_all(entries, w);
     *clock = p.clock;
     *links = p.links;
     *walk = p.walk;
@@ -115,23 +115,23 @@ fn all() -> Scope
 // CLOCK-TICK is added to the clock.
 pub fn tick(
     settings: &Settings,
-    nets: &ClassTable,
+    net_table: &NetTable,
     number: usize,
     clock: &mut Clock,
     links: &Links,
     walk: &Walk,
     copy: &[u8],
-    run: &[Entry],
+    entries: &[Entry],
     count: Count,
 ) -> Reply
-    ensures { λ r. ⌜ Does (ask (Tick count)) settings nets number clock links walk copy run r ⌝ }
+    ensures { λ r. ⌜ Does (ask (Tick count)) settings «net_table» number clock links walk copy entries r ⌝ }
 {
     let s = *settings;
     let c = *clock;
     let l = *links;
     let v = *walk;
     let a = all();
-    let g = guard(settings, nets, number, c, l, v, copy, a, run);
+    let g = guard(settings, net_table, number, c, l, v, copy, a, entries);
     let p = plans::tick(g, s, c, count);
     *clock = p.clock;
     p.reply
@@ -140,23 +140,23 @@ pub fn tick(
 // A share of DELTA goes into the clock.
 pub fn adjust(
     settings: &Settings,
-    nets: &ClassTable,
+    net_table: &NetTable,
     number: usize,
     clock: &mut Clock,
     links: &Links,
     walk: &Walk,
     copy: &[u8],
-    run: &[Entry],
+    entries: &[Entry],
     count: Count,
 ) -> Reply
-    ensures { λ r. ⌜ Does (ask (Adjust count)) settings nets number clock links walk copy run r ⌝ }
+    ensures { λ r. ⌜ Does (ask (Adjust count)) settings «net_table» number clock links walk copy entries r ⌝ }
 {
     let s = *settings;
     let c = *clock;
     let l = *links;
     let v = *walk;
     let a = all();
-    let g = guard(settings, nets, number, c, l, v, copy, a, run);
+    let g = guard(settings, net_table, number, c, l, v, copy, a, entries);
     let p = plans::adjust(g, s, c, count);
     *clock = p.clock;
     p.reply
@@ -165,24 +165,24 @@ pub fn adjust(
 // The clock is set by a signed count of ms.
 pub fn set(
     settings: &Settings,
-    nets: &ClassTable,
+    net_table: &NetTable,
     number: usize,
     clock: &mut Clock,
     links: &Links,
     walk: &Walk,
     copy: &[u8],
-    run: &[Entry],
+    entries: &[Entry],
     ms: i32,
     count: Count,
 ) -> Reply
-    ensures { λ r. ⌜ Does (ask (Set ms count)) settings nets number clock links walk copy run r ⌝ }
+    ensures { λ r. ⌜ Does (ask (Set ms count)) settings «net_table» number clock links walk copy entries r ⌝ }
 {
     let s = *settings;
     let c = *clock;
     let l = *links;
     let v = *walk;
     let a = all();
-    let g = guard(settings, nets, number, c, l, v, copy, a, run);
+    let g = guard(settings, net_table, number, c, l, v, copy, a, entries);
     let p = plans::set(g, s, c, ms, count);
     *clock = p.clock;
     p.reply
@@ -191,23 +191,23 @@ pub fn set(
 // The time and DATE.
 pub fn read(
     settings: &Settings,
-    nets: &ClassTable,
+    net_table: &NetTable,
     number: usize,
     clock: &mut Clock,
     links: &Links,
     walk: &Walk,
     copy: &[u8],
-    run: &[Entry],
+    entries: &[Entry],
     counter: Counter,
 ) -> Reply
-    ensures { λ r. ⌜ Does (ask (Read counter)) settings nets number clock links walk copy run r ⌝ }
+    ensures { λ r. ⌜ Does (ask (Read counter)) settings «net_table» number clock links walk copy entries r ⌝ }
 {
     let s = *settings;
     let c = *clock;
     let l = *links;
     let v = *walk;
     let a = all();
-    let g = guard(settings, nets, number, c, l, v, copy, a, run);
+    let g = guard(settings, net_table, number, c, l, v, copy, a, entries);
     let p = plans::read(g, s, c, counter);
     *clock = p.clock;
     p.reply
@@ -216,25 +216,25 @@ pub fn read(
 // A second has gone by: HOLD and the entries age.
 pub fn second(
     settings: &Settings,
-    nets: &ClassTable,
+    net_table: &NetTable,
     number: usize,
     clock: &mut Clock,
     links: &Links,
     walk: &Walk,
     copy: &[u8],
-    run: &mut [Entry],
+    entries: &mut [Entry],
 ) -> Reply
-    ensures { λ r. ⌜ Does (ask Second) settings nets number clock links walk copy run r ⌝ }
+    ensures { λ r. ⌜ Does (ask Second) settings «net_table» number clock links walk copy entries r ⌝ }
 {
     let s = *settings;
     let c = *clock;
     let l = *links;
     let v = *walk;
     let a = all();
-    let g = guard(settings, nets, number, c, l, v, copy, a, run);
+    let g = guard(settings, net_table, number, c, l, v, copy, a, entries);
     let p = plans::second(g, s, c);
     let w = places::placed(number, p.work);
-    change_all(run, w);
+    change_all(entries, w);
     *clock = p.clock;
     p.reply
 }
@@ -242,26 +242,26 @@ pub fn second(
 // Each host that lives here reports itself.
 pub fn self_report(
     settings: &Settings,
-    nets: &ClassTable,
+    net_table: &NetTable,
     number: usize,
     clock: &mut Clock,
     links: &Links,
     walk: &Walk,
     copy: &[u8],
-    run: &mut [Entry],
+    entries: &mut [Entry],
     counter: Counter,
 ) -> Reply
-    ensures { λ r. ⌜ Does (ask (SelfReport counter)) settings nets number clock links walk copy run r ⌝ }
+    ensures { λ r. ⌜ Does (ask (SelfReport counter)) settings «net_table» number clock links walk copy entries r ⌝ }
 {
     let s = *settings;
     let c = *clock;
     let l = *links;
     let v = *walk;
     let a = all();
-    let g = guard(settings, nets, number, c, l, v, copy, a, run);
+    let g = guard(settings, net_table, number, c, l, v, copy, a, entries);
     let p = plans::self_report(g, s, c, counter);
     let w = places::placed(number, p.work);
-    change_all(run, w);
+    change_all(entries, w);
     *clock = p.clock;
     p.reply
 }
@@ -269,27 +269,27 @@ pub fn self_report(
 // The host id of an address, and the link of its route.
 pub fn lookup(
     settings: &Settings,
-    nets: &ClassTable,
+    net_table: &NetTable,
     number: usize,
     clock: &Clock,
     links: &Links,
     walk: &Walk,
     copy: &[u8],
-    run: &[Entry],
+    entries: &[Entry],
     address: wire::Address,
 ) -> Reply
-    ensures { λ r. ⌜ Does (ask (Lookup address)) settings nets number clock links walk copy run r ⌝ }
+    ensures { λ r. ⌜ Does (ask (Lookup address)) settings «net_table» number clock links walk copy entries r ⌝ }
 {
     let s = *settings;
-    let t = *nets;
+    let t = *net_table;
     let c = *clock;
     let l = *links;
     let v = *walk;
     let a = all();
-    let g = guard(settings, nets, number, c, l, v, copy, a, run);
+    let g = guard(settings, net_table, number, c, l, v, copy, a, entries);
     let f = plans::found(g, s, t, address);
     let z = places::seek_at(number, f);
-    let e = entry_of(run, z);
+    let e = entry_of(entries, z);
     plans::route_of(g, f, e)
 }
 
@@ -302,24 +302,24 @@ fn opening(link: usize) -> Scope
 // A walk is opened for a packet on a link: the packet is copied, and the first box is next.
 pub fn open_walk(
     settings: &Settings,
-    nets: &ClassTable,
+    net_table: &NetTable,
     number: usize,
     clock: &Clock,
     links: &Links,
     walk: &mut Walk,
     copy: &mut [u8],
-    run: &[Entry],
+    entries: &[Entry],
     link: usize,
     packet: &[u8],
 ) -> Reply
-    ensures { λ r. ⌜ Does (openWalk link (now (packet .entry))) settings nets number clock links walk copy run r ⌝ }
+    ensures { λ r. ⌜ Does (openWalk link (now (packet .entry))) settings «net_table» number clock links walk copy entries r ⌝ }
 {
     let s = *settings;
     let c = *clock;
     let l = *links;
     let v = *walk;
     let a = opening(link);
-    let g = guard(settings, nets, number, c, l, v, copy, a, run);
+    let g = guard(settings, net_table, number, c, l, v, copy, a, entries);
     let p = walk::plan(g, s, v, link, packet);
     walk::keep(copy, packet, p.octets);
     *walk = p.walk;
@@ -335,18 +335,18 @@ fn on_link(link: usize) -> Scope
 // A message for the neighbor of a link, written to the front of the buffer.
 pub fn send(
     settings: &Settings,
-    nets: &ClassTable,
+    net_table: &NetTable,
     number: usize,
     clock: &mut Clock,
     links: &mut Links,
     walk: &Walk,
     copy: &[u8],
-    run: &[Entry],
+    entries: &[Entry],
     link: usize,
     counter: Counter,
     buffer: &mut [u8],
 ) -> Reply
-    ensures { λ r. ⌜ Sends link counter buffer settings nets number clock links walk copy run r ⌝ }
+    ensures { λ r. ⌜ Sends link counter buffer settings «net_table» number clock links walk copy entries r ⌝ }
 {
     let s = *settings;
     let c = *clock;
@@ -354,10 +354,10 @@ pub fn send(
     let v = *walk;
     let n = buffer.len();
     let a = on_link(link);
-    let g = guard(settings, nets, number, c, l, v, copy, a, run);
+    let g = guard(settings, net_table, number, c, l, v, copy, a, entries);
     let p = sending::plan(g, s, c, l, link, counter, n);
     let w = places::reports_at(number, p.work);
-    read_out(buffer, run, w);
+    read_out(buffer, entries, w);
     sending::finish(buffer, p);
     *clock = p.clock;
     *links = p.links;
@@ -372,24 +372,24 @@ pub fn send_keeps()
 // A packet is inspected; nothing changes.
 pub fn inspect(
     settings: &Settings,
-    nets: &ClassTable,
+    net_table: &NetTable,
     number: usize,
     clock: &Clock,
     links: &Links,
     walk: &Walk,
     copy: &[u8],
-    run: &[Entry],
+    entries: &[Entry],
     link: usize,
     packet: &[u8],
 ) -> Reply
-    ensures { λ r. ⌜ Does (inspect link (now (packet .entry))) settings nets number clock links walk copy run r ⌝ }
+    ensures { λ r. ⌜ Does (inspect link (now (packet .entry))) settings «net_table» number clock links walk copy entries r ⌝ }
 {
     let s = *settings;
     let c = *clock;
     let l = *links;
     let v = *walk;
     let a = on_link(link);
-    let g = guard(settings, nets, number, c, l, v, copy, a, run);
+    let g = guard(settings, net_table, number, c, l, v, copy, a, entries);
     plans::inspect(g, s, link, packet)
 }
 
@@ -402,28 +402,28 @@ fn on_its_link(delivery: Delivery) -> Scope
 // A packet that arrives on a link: it is inspected, acted on, or received, which is both in turn.
 pub fn deliver(
     settings: &Settings,
-    nets: &ClassTable,
+    net_table: &NetTable,
     number: usize,
     clock: &mut Clock,
     links: &mut Links,
     walk: &Walk,
     copy: &[u8],
-    run: &mut [Entry],
+    entries: &mut [Entry],
     delivery: Delivery,
     packet: &[u8],
 ) -> Reply
-    ensures { λ r. ⌜ Does (deliver delivery (now (packet .entry))) settings nets number clock links walk copy run r ⌝ }
+    ensures { λ r. ⌜ Does (deliver delivery (now (packet .entry))) settings «net_table» number clock links walk copy entries r ⌝ }
 {
     let s = *settings;
-    let t = *nets;
+    let t = *net_table;
     let c = *clock;
     let l = *links;
     let v = *walk;
     let a = on_its_link(delivery);
-    let g = guard(settings, nets, number, c, l, v, copy, a, run);
+    let g = guard(settings, net_table, number, c, l, v, copy, a, entries);
     let p = arrival::plan(g, s, t, c, l, delivery, packet);
     let w = places::updates_at(number, p.work);
-    let k = update_all(run, w, packet);
+    let k = update_all(entries, w, packet);
     *clock = k;
     *links = p.links;
     p.reply

@@ -1,4 +1,4 @@
-// Where the ids of a host stand in the run. Where there is no id, there is no place.
+// The places of a host's ids in the host table. If there is no id, there is no place.
 ghost use mathlib.Core.Path.{_≡_};
 ghost use mathlib.Core.Bool.{true};
 ghost use Prim.Native.Nat.{_≤_, _<_};
@@ -18,19 +18,19 @@ ghost use Rattle.calls.specs.code.Places.{
 };
 use super::Request;
 use answer::Answer;
-use class_table::ClassTable;
 use host::Settings;
 use host::first_place;
 use host::walk::Walk;
+use net_table::NetTable;
 use route::Found;
-use table::run::Change;
-use table::run::Changes;
-use table::run::Reports;
-use table::run::Seek;
-use table::run::Updates;
+use table::entries::Change;
+use table::entries::Changes;
+use table::entries::Reports;
+use table::entries::Seek;
+use table::entries::Updates;
 
 // The id whose entry is looked at.
-fn wanted(s: Settings, t: ClassTable, w: Walk, q: Request) -> Found
+fn wanted(s: Settings, t: NetTable, w: Walk, q: Request) -> Found
     ensures { λ r. ⌜ r ≡ wanted q t s w ⌝ }
 {
     match q {
@@ -77,7 +77,7 @@ pub(crate) fn seek_at(number: usize, found: Found) -> Seek
 pub(crate) fn sought(
     g: Answer,
     s: Settings,
-    t: ClassTable,
+    t: NetTable,
     w: Walk,
     number: usize,
     q: Request,

@@ -1,4 +1,4 @@
-// What setting afresh and the calls that leave links and walk alone come to, by value: a refusal of the guard's, or their work.
+// The result of initialization and of the calls that change neither links nor walk, by value: the guard's refusal, or their work.
 ghost use mathlib.Core.Path.{_≡_};
 ghost use mathlib.Core.Bool.{cond, not};
 ghost use Rattle.route.specs.declared.Found.the-variants.{Nothing};
@@ -7,14 +7,13 @@ ghost use Rattle.host.specs.Settings.{foundFor};
 ghost use Rattle.host.specs.Effect.{answers};
 ghost use Rattle.host.specs.Guard.{done};
 ghost use Rattle.host.specs.Reply.{plainly};
-ghost use Rattle.host.specs.code.Told.{Told};
+ghost use Rattle.host.specs.code.Returned.{Returned};
 ghost use Rattle.calls.specs.declared.Request.the-variants.{Tick, Adjust, Set, Read, Second, SelfReport};
 ghost use Rattle.calls.specs.Effects.{initialize, looked};
-ghost use Rattle.calls.specs.code.Planned.{Timely, Aging, LinkTold, inspects};
+ghost use Rattle.calls.specs.code.Planned.{Timely, Aging, LinkReturned, inspects};
 use super::effects;
 use super::effects::looked;
 use answer::Answer;
-use class_table::ClassTable;
 use clock::Clock;
 use clock::Counter;
 use host::Effect;
@@ -26,14 +25,15 @@ use host::effects::each;
 use host::effects::nothing;
 use host::inspection;
 use host::replies::plainly;
-use host::replies::tells_time;
+use host::replies::returns_time;
 use host::walk::Walk;
+use net_table::NetTable;
 use quantity::Count;
 use quantity::Millis;
 use route::Found;
 use table::Entry;
-use table::run::Change;
-use table::run::Changes;
+use table::entries::Change;
+use table::entries::Changes;
 use wire::Address;
 
 // The reply and the clock; the entries stay.
@@ -50,7 +50,7 @@ pub struct Aged {
 }
 
 pub(crate) fn initialize(g: Answer, s: Settings, c: Clock, l: Links, w: Walk) -> Effect
-    requires { ⌜ Told g Places s c ⌝ }
+    requires { ⌜ Returned g Places s c ⌝ }
     ensures { λ p. ⌜ p ≡ cond (not (done g)) (answers (plainly g) c l w) (initialize s) ⌝ }
 {
     if !answer::is_done(g) {
@@ -60,7 +60,7 @@ pub(crate) fn initialize(g: Answer, s: Settings, c: Clock, l: Links, w: Walk) ->
 }
 
 pub(crate) fn tick(g: Answer, s: Settings, c: Clock, n: Count) -> Timed
-    requires { ⌜ Told g All s c ⌝ }
+    requires { ⌜ Returned g All s c ⌝ }
     ensures { λ p. ⌜ Timely p g (Tick n) s c ⌝ }
 {
     if !answer::is_done(g) {
@@ -76,7 +76,7 @@ pub(crate) fn tick(g: Answer, s: Settings, c: Clock, n: Count) -> Timed
 }
 
 pub(crate) fn adjust(g: Answer, s: Settings, c: Clock, n: Count) -> Timed
-    requires { ⌜ Told g All s c ⌝ }
+    requires { ⌜ Returned g All s c ⌝ }
     ensures { λ p. ⌜ Timely p g (Adjust n) s c ⌝ }
 {
     if !answer::is_done(g) {
@@ -92,7 +92,7 @@ pub(crate) fn adjust(g: Answer, s: Settings, c: Clock, n: Count) -> Timed
 }
 
 pub(crate) fn set(g: Answer, s: Settings, c: Clock, ms: i32, n: Count) -> Timed
-    requires { ⌜ Told g All s c ⌝ }
+    requires { ⌜ Returned g All s c ⌝ }
     ensures { λ p. ⌜ Timely p g (Set ms n) s c ⌝ }
 {
     if !answer::is_done(g) {
@@ -108,7 +108,7 @@ pub(crate) fn set(g: Answer, s: Settings, c: Clock, ms: i32, n: Count) -> Timed
 }
 
 pub(crate) fn read(g: Answer, s: Settings, c: Clock, k: Counter) -> Timed
-    requires { ⌜ Told g All s c ⌝ }
+    requires { ⌜ Returned g All s c ⌝ }
     ensures { λ p. ⌜ Timely p g (Read k) s c ⌝ }
 {
     if !answer::is_done(g) {
@@ -121,7 +121,7 @@ pub(crate) fn read(g: Answer, s: Settings, c: Clock, k: Counter) -> Timed
     let clock = r.clock;
     let date = clock.date;
     Timed {
-        reply: tells_time(r.time, date),
+        reply: returns_time(r.time, date),
         clock: clock,
     }
 }
@@ -144,7 +144,7 @@ pub(crate) fn second(g: Answer, s: Settings, c: Clock) -> Aged
 }
 
 pub(crate) fn self_report(g: Answer, s: Settings, c: Clock, k: Counter) -> Aged
-    requires { ⌜ Told g All s c ⌝ }
+    requires { ⌜ Returned g All s c ⌝ }
     ensures { λ p. ⌜ Aging p g (SelfReport k) s c ⌝ }
 {
     if !answer::is_done(g) {
@@ -165,7 +165,7 @@ pub(crate) fn self_report(g: Answer, s: Settings, c: Clock, k: Counter) -> Aged
 }
 
 // The id that a lookup finds.
-pub(crate) fn found(g: Answer, s: Settings, t: ClassTable, a: Address) -> Found
+pub(crate) fn found(g: Answer, s: Settings, t: NetTable, a: Address) -> Found
     ensures { λ r. ⌜ r ≡ cond (not (done g)) Nothing (foundFor t s a) ⌝ }
 {
     if !answer::is_done(g) {
@@ -174,7 +174,7 @@ pub(crate) fn found(g: Answer, s: Settings, t: ClassTable, a: Address) -> Found
     host::found_for(t, s, a)
 }
 
-// What a lookup tells of the id that it found, and of its entry.
+// What a lookup returns for the id that it found, and for its entry.
 pub(crate) fn route_of(g: Answer, found: Found, e: Entry) -> Reply
     ensures { λ r. ⌜ r ≡ cond (not (done g)) (plainly g) (looked found e) ⌝ }
 {
@@ -185,7 +185,7 @@ pub(crate) fn route_of(g: Answer, found: Found, e: Entry) -> Reply
 }
 
 pub(crate) fn inspect(g: Answer, s: Settings, link: usize, packet: &[u8]) -> Reply
-    requires { ⌜ LinkTold g s link ⌝ }
+    requires { ⌜ LinkReturned g s link ⌝ }
     ensures { λ r. ⌜ r ≡ inspects g s link (now (packet .entry)) ⌝ }
 {
     if !answer::is_done(g) {

@@ -20,10 +20,10 @@ taken-octets zero s o = tt
 taken-octets (suc n) [] o = tt
 taken-octets (suc n) (x ∷ s) o = (o .0, taken-octets n s (o .1))
 
-left-octets : (n : ℕ) (s : List ℕ) → Octets s → Octets (drop n s)
-left-octets zero s o = o
-left-octets (suc n) [] o = tt
-left-octets (suc n) (x ∷ s) o = left-octets n s (o .1)
+after-octets : (n : ℕ) (s : List ℕ) → Octets s → Octets (drop n s)
+after-octets zero s o = o
+after-octets (suc n) [] o = tt
+after-octets (suc n) (x ∷ s) o = after-octets n s (o .1)
 
 pub octet-small : (s : List ℕ) (i : ℕ) → Octets s → getD s i 0 < 256
 octet-small [] i o = omega arith
@@ -47,7 +47,7 @@ module _ (input : List ℕ) (octets : Octets input) where
   found-good at zero hs e g = g
   found-good at (suc n) hs e g =
       rw (found-some at (suc n) (omega arith))
-      (kept-one at (suc n) e (omega arith), taken-octets (suc n) (drop at input) (left-octets at input octets), g)
+      (kept-one at (suc n) e (omega arith), taken-octets (suc n) (drop at input) (after-octets at input octets), g)
 
   kept-from : (at n : ℕ) (s : List ℕ) → s ≡ drop at input → GoodPackets (packetsOf input (hitsFrom at n s))
   unfolding hitsFrom

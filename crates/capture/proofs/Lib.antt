@@ -1,6 +1,6 @@
 pub mod Hits
 pub mod Steps
-pub mod Left
+pub mod HostAfter
 pub mod Order
 pub mod Over
 pub mod Outputs

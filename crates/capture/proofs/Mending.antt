@@ -10,11 +10,11 @@ use lib.ListN.{length, length-append}
 use Rattle.lists.proofs.Tests.{either, neither}
 use Rattle.wire.specs.Octets.{four}
 use Rattle.capture.specs.declared.Answer.the-variants.{ShortBuffer, CaptureLength}
-use Rattle.capture.specs.declared.Mended.{Mended}
+use Rattle.capture.specs.declared.Recovered.{Recovered}
 use Rattle.capture.specs.declared.Survey.{Survey}
 use Rattle.capture.specs.Search.{Span, hits, stretches}
-use Rattle.capture.specs.Capture.{mendedCapture, spanOctets, stretchList, placesTrue}
-use Rattle.capture.specs.Mend.{longestInput, Outcome, refused, written, mend, Leaves, Bounded}
+use Rattle.capture.specs.Capture.{recoveredCapture, spanOctets, stretchList, placesTrue}
+use Rattle.capture.specs.Recover.{longestInput, Outcome, refused, written, recover, Leaves, Bounded}
 use Rattle.capture.specs.code.Survey.{surveyOf, captureLength, stretchesLength, marked}
 use Rattle.capture.proofs.Order.{hits-few}
 use Rattle.capture.proofs.Outputs.{capture-long}
@@ -26,62 +26,62 @@ spans-long (h ∷ hs) = omega (arith, length-append (four (h .start) ++ four (h 
 -- ---- what the first pass told
 
 module _ (input : List ℕ) (s : Survey) (e : s ≡ surveyOf input) where
-  pub hits-told : s .hits ≡ length (hits input)
+  pub hits-returned : s .hits ≡ length (hits input)
   unfolding surveyOf
-  hits-told = ap (λ (x : Survey). x .hits) e
+  hits-returned = ap (λ (x : Survey). x .hits) e
 
-  pub capture-told : captureLength s ≡ length (mendedCapture input)
+  pub capture-returned : captureLength s ≡ length (recoveredCapture input)
   unfolding surveyOf
-  capture-told = rw e (sym (capture-long input))
+  capture-returned = rw e (sym (capture-long input))
 
-  pub stretches-told : stretchesLength s ≡ length (stretchList input)
+  pub stretches-returned : stretchesLength s ≡ length (stretchList input)
   unfolding surveyOf stretchList
-  stretches-told = rw e (sym (spans-long (stretches input)))
+  stretches-returned = rw e (sym (spans-long (stretches input)))
 
-  pub mark-told : marked input s ≡ placesTrue input
+  pub mark-returned : marked input s ≡ placesTrue input
   unfolding surveyOf placesTrue
-  mark-told = rw e
+  mark-returned = rw e
 
-  pub told-small : length input ≤ longestInput → (s .hits ≤ longestInput) × (s .octets ≤ longestInput) × (s .stretches ≤ longestInput + 1)
+  pub returned-small : length input ≤ longestInput → (s .hits ≤ longestInput) × (s .octets ≤ longestInput) × (s .stretches ≤ longestInput + 1)
   unfolding surveyOf
-  told-small h =
+  returned-small h =
       let f = hits-few input in
       rw e (omega (arith, f .0, f .1), omega (arith, f .1), omega (arith, f .0, f .1, f .2))
 
 -- ---- the tests
 
 module _ (input c s : List ℕ) where
-  pub mend-long : longestInput < length input → mend input c s ≡ refused CaptureLength c s
-  unfolding mend
-  mend-long h = rw (lt-ltb longestInput (length input) h)
+  pub recover-long : longestInput < length input → recover input c s ≡ refused CaptureLength c s
+  unfolding recover
+  recover-long h = rw (lt-ltb longestInput (length input) h)
 
   module _ (short : length input ≤ longestInput) where
-    pub mend-capture : length c < length (mendedCapture input) → mend input c s ≡ refused ShortBuffer c s
-    unfolding mend
-    mend-capture h = rw (le-ltb longestInput (length input) short, lt-ltb (length c) (length (mendedCapture input)) h)
+    pub recover-capture : length c < length (recoveredCapture input) → recover input c s ≡ refused ShortBuffer c s
+    unfolding recover
+    recover-capture h = rw (le-ltb longestInput (length input) short, lt-ltb (length c) (length (recoveredCapture input)) h)
 
-    pub mend-stretches : length (mendedCapture input) ≤ length c → length s < length (stretchList input) → mend input c s ≡ refused ShortBuffer c s
-    unfolding mend
-    mend-stretches h k = rw (le-ltb longestInput (length input) short, le-ltb (length c) (length (mendedCapture input)) h, lt-ltb (length s) (length (stretchList input)) k)
+    pub recover-stretches : length (recoveredCapture input) ≤ length c → length s < length (stretchList input) → recover input c s ≡ refused ShortBuffer c s
+    unfolding recover
+    recover-stretches h k = rw (le-ltb longestInput (length input) short, le-ltb (length c) (length (recoveredCapture input)) h, lt-ltb (length s) (length (stretchList input)) k)
 
-    pub mend-written : length (mendedCapture input) ≤ length c → length (stretchList input) ≤ length s → mend input c s ≡ written input c s
-    unfolding mend
-    mend-written h k = rw (le-ltb longestInput (length input) short, le-ltb (length c) (length (mendedCapture input)) h, le-ltb (length s) (length (stretchList input)) k)
+    pub recover-written : length (recoveredCapture input) ≤ length c → length (stretchList input) ≤ length s → recover input c s ≡ written input c s
+    unfolding recover
+    recover-written h k = rw (le-ltb longestInput (length input) short, le-ltb (length c) (length (recoveredCapture input)) h, le-ltb (length s) (length (stretchList input)) k)
 
 -- an outcome as a caller sees it
-pub leaves : (o p : Outcome) (m : Mended) (c s : List ℕ) → o ≡ p → m ≡ p .mended → c ≡ p .capture → s ≡ p .stretches → Leaves o m c s
-leaves o p m c s e e₁ e₂ e₃ = rw e (record { mended = e₁; capture = e₂; stretches = e₃ })
+pub leaves : (o p : Outcome) (m : Recovered) (c s : List ℕ) → o ≡ p → m ≡ p .recovered → c ≡ p .capture → s ≡ p .stretches → Leaves o m c s
+leaves o p m c s e e₁ e₂ e₃ = rw e (record { recovered = e₁; capture = e₂; stretches = e₃ })
 
 -- the lengths answered are those of octets that the outputs have
 abbrev Fits : (c s : List ℕ) → Outcome → Type 0
-Fits c s o = (o .mended .«capture_length» ≤ length c) × (o .mended .«stretches_length» ≤ length s)
+Fits c s o = (o .recovered .«capture_length» ≤ length c) × (o .recovered .«stretches_length» ≤ length s)
 
-pub told-fits : (input c s c₁ s₁ : List ℕ) (m : Mended) → Leaves (mend input c s) m c₁ s₁ → (m .«capture_length» ≤ length c) × (m .«stretches_length» ≤ length s)
-unfolding mend
+pub told-fits : (input c s c₁ s₁ : List ℕ) (m : Recovered) → Leaves (recover input c s) m c₁ s₁ → (m .«capture_length» ≤ length c) × (m .«stretches_length» ≤ length s)
+unfolding recover
 told-fits input c s c₁ s₁ m l =
-    rw (l .mended)
+    rw (l .recovered)
     (either (Fits c s) (ltb longestInput (length input)) (refused CaptureLength c s) _ (λ e. (omega arith, omega arith))
-    (λ e. either (Fits c s) (ltb (length c) (length (mendedCapture input)) || ltb (length s) (length (stretchList input))) (refused ShortBuffer c s) (written input c s) (λ f. (omega arith, omega arith))
+    (λ e. either (Fits c s) (ltb (length c) (length (recoveredCapture input)) || ltb (length s) (length (stretchList input))) (refused ShortBuffer c s) (written input c s) (λ f. (omega arith, omega arith))
     (λ f.
     let n = neither _ _ f in
     (ltb-false _ _ (n .0), ltb-false _ _ (n .1)))))

@@ -11,10 +11,10 @@ use Rattle.lists.proofs.Parts.{part-length, over-twice, over-nothing, over-leng
 use Rattle.wire.specs.Octets.{four}
 use Rattle.capture.specs.declared.Next.{Next}
 use Rattle.capture.specs.Search.{Span, span, hits, gap, gaps, stretches, hitsAt}
-use Rattle.capture.specs.Capture.{numberLength, headingLength, places, captureOf, octetsOf, packetsOf, mendedCapture, spanOctets, stretchList}
+use Rattle.capture.specs.Capture.{numberLength, headingLength, places, captureOf, octetsOf, packetsOf, recoveredCapture, spanOctets, stretchList}
 use Rattle.capture.specs.code.Next.{IsNext}
 use Rattle.capture.specs.code.Survey.{totalSize}
-use Rattle.capture.proofs.Left.{next-more, next-last}
+use Rattle.capture.proofs.HostAfter.{next-more, next-last}
 use Rattle.capture.proofs.Order.{Order, order-le, hits-order}
 use Rattle.capture.proofs.Over.{over-apart}
 
@@ -48,16 +48,16 @@ spans-append (h ∷ a) b = rw (spans-append a b) (sym (append-assoc (four (h .st
 
 -- ---- the list of stretches, of which those from a place on are left
 
-pub record StretchesLeft (input l₀ l : List ℕ) (at place : ℕ) : Type 0 where
+pub record StretchesAfter (input l₀ l : List ℕ) (at place : ℕ) : Type 0 where
   pub same : length l ≡ length l₀
   pub fits : place + length (spanOctets (gaps at (length input) (hitsAt at input))) ≡ length (stretchList input)
   pub left : over l place (spanOctets (gaps at (length input) (hitsAt at input))) ≡ over l₀ 0 (stretchList input)
 
-pub stretches-all : (input l : List ℕ) → StretchesLeft input l l 0 0
+pub stretches-all : (input l : List ℕ) → StretchesAfter input l l 0 0
 unfolding stretchList stretches hits
 stretches-all input l = record { same = refl; fits = zero-add _; left = refl }
 
-module _ (input l₀ l : List ℕ) (at place : ℕ) (left : StretchesLeft input l₀ l at place) (room : length (stretchList input) ≤ length l₀) (n : Next) (is : IsNext input at n) where
+module _ (input l₀ l : List ℕ) (at place : ℕ) (left : StretchesAfter input l₀ l at place) (room : length (stretchList input) ≤ length l₀) (n : Next) (is : IsNext input at n) where
   abbrev put : List ℕ
   put = spanOctets (gap at (n .at))
 
@@ -78,7 +78,7 @@ module _ (input l₀ l : List ℕ) (at place : ℕ) (left : StretchesLeft input 
       elim-size (suc m) z = omega (arith, left .fits, ap length (some (omega arith)), length-append put behind, left .same)
 
   module _ (l₁ : List ℕ) (e : l₁ ≡ over l place put) where
-    pub stretches-more : 0 < n .size → StretchesLeft input l₀ l₁ (n .at + n .size) (place + length put)
+    pub stretches-more : 0 < n .size → StretchesAfter input l₀ l₁ (n .at + n .size) (place + length put)
     stretches-more h =
         record {
           same = ap length e ∙ over-length place l put stretch-fits ∙ left .same;
@@ -91,15 +91,15 @@ module _ (input l₀ l : List ℕ) (at place : ℕ) (left : StretchesLeft input 
 
 -- ---- the capture, of which the packets from a place on are left
 
-abbrev captureLeft : (input : List ℕ) → List Span → (place to : ℕ) → List ℕ → List ℕ
-captureLeft input hs place to c = over (over c place (places to (packetsOf input hs))) to (flatten (packetsOf input hs))
+abbrev captureAfter : (input : List ℕ) → List Span → (place to : ℕ) → List ℕ → List ℕ
+captureAfter input hs place to c = over (over c place (places to (packetsOf input hs))) to (flatten (packetsOf input hs))
 
-pub record CaptureLeft (input c₀ c : List ℕ) (at place to : ℕ) : Type 0 where
+pub record CaptureAfter (input c₀ c : List ℕ) (at place to : ℕ) : Type 0 where
   pub same : length c ≡ length c₀
   pub heading : place + 4 * length (hitsAt at input) ≡ headingLength (length (hits input))
-  pub behind-heading : headingLength (length (hits input)) ≤ to
+  pub after-heading : headingLength (length (hits input)) ≤ to
   pub fits : to + totalSize (hitsAt at input) ≤ length c₀
-  pub left : captureLeft input (hitsAt at input) place to c ≡ captureLeft input (hits input) numberLength (headingLength (length (hits input))) c₀
+  pub left : captureAfter input (hitsAt at input) place to c ≡ captureAfter input (hits input) numberLength (headingLength (length (hits input))) c₀
 
 pub places-long : (at : ℕ) (ps : List (List ℕ)) → length (places at ps) ≡ 4 * length ps
 places-long at [] = refl
@@ -113,27 +113,27 @@ packets-long input from end (x ∷ hs) h o =
     let i : x .start + x .size ≤ length input = omega (arith, order-le _ end hs (o .2)) in
     omega (arith, length-append p (flatten (packetsOf input hs)), part-length (x .start) (x .size) input i, packets-long input _ end hs h (o .2))
 
-pub capture-long : (input : List ℕ) → length (mendedCapture input) ≡ headingLength (length (hits input)) + totalSize (hits input)
-unfolding mendedCapture captureOf
+pub capture-long : (input : List ℕ) → length (recoveredCapture input) ≡ headingLength (length (hits input)) + totalSize (hits input)
+unfolding recoveredCapture captureOf
 capture-long input =
     let ps = packetsOf input (hits input) in
     let m : length ps ≡ length (hits input) = length-map (hits input) (octetsOf input) in
     let a = places (headingLength (length ps)) ps in
     omega (arith, m, length-append (four (length ps) ++ a) (flatten ps), length-append (four (length ps)) a, places-long (headingLength (length ps)) ps, packets-long input 0 (length input) (hits input) (omega arith) (hits-order input))
 
-pub capture-all : (input c : List ℕ) → length (mendedCapture input) ≤ length c → CaptureLeft input c c 0 numberLength (headingLength (length (hits input)))
+pub capture-all : (input c : List ℕ) → length (recoveredCapture input) ≤ length c → CaptureAfter input c c 0 numberLength (headingLength (length (hits input)))
 unfolding hits
 capture-all input c h =
     record {
       same = refl;
       heading = refl;
-      behind-heading = omega arith;
+      after-heading = omega arith;
       fits = omega (arith, capture-long input);
       left = refl;
     }
 
-module _ (input c₀ c : List ℕ) (at place to : ℕ) (left : CaptureLeft input c₀ c at place to) (n : Next) (is : IsNext input at n) where
-  pub capture-last : n .size ≡ 0 → c ≡ captureLeft input (hits input) numberLength (headingLength (length (hits input))) c₀
+module _ (input c₀ c : List ℕ) (at place to : ℕ) (left : CaptureAfter input c₀ c at place to) (n : Next) (is : IsNext input at n) where
+  pub capture-last : n .size ≡ 0 → c ≡ captureAfter input (hits input) numberLength (headingLength (length (hits input))) c₀
   unfolding flatten
   capture-last z =
       let e = next-last input at n is z in
@@ -160,7 +160,7 @@ module _ (input c₀ c : List ℕ) (at place to : ℕ) (left : CaptureLeft input
         let f = left .fits in
         let e = ap (λ hs. length hs) more in
         let t = ap totalSize more in
-        (omega (arith, left .heading, left .behind-heading, e), omega (arith, f, t, left .same))
+        (omega (arith, left .heading, left .after-heading, e), omega (arith, f, t, left .same))
 
     module _ (c₁ c₂ : List ℕ) (e₁ : c₁ ≡ over c place (four to)) (e₂ : c₂ ≡ over c₁ to packet) where
       long₁ : length c₁ ≡ length c
@@ -169,29 +169,29 @@ module _ (input c₀ c : List ℕ) (at place to : ℕ) (left : CaptureLeft input
       long₂ : length c₂ ≡ length c
       long₂ = ap length e₂ ∙ over-length to c₁ packet (omega (arith, long₁, packet-long, capture-fits .1)) ∙ long₁
 
-      places-behind : place + 4 + length laterPlaces ≤ to
-      places-behind =
-          omega (arith, places-long (to + n .size) later, length-map (hitsAt (n .at + n .size) input) (octetsOf input), left .heading, left .behind-heading, ap (λ hs. length hs) more)
+      places-after : place + 4 + length laterPlaces ≤ to
+      places-after =
+          omega (arith, places-long (to + n .size) later, length-map (hitsAt (n .at + n .size) input) (octetsOf input), left .heading, left .after-heading, ap (λ hs. length hs) more)
 
       placed : over c₂ (place + 4) laterPlaces ≡ over (over c place (four to ++ laterPlaces)) to packet
       placed =
           ap (λ z. over z (place + 4) laterPlaces) e₂
-          ∙ over-apart c₁ laterPlaces packet (place + 4) to places-behind (omega (arith, long₁, packet-long, capture-fits .1))
+          ∙ over-apart c₁ laterPlaces packet (place + 4) to places-after (omega (arith, long₁, packet-long, capture-fits .1))
           ∙ ap (λ z. over (over z (place + 4) laterPlaces) to packet) e₁
           ∙ ap (λ z. over z to packet) (over-twice place c (four to) (omega (arith, capture-fits .0, capture-fits .1)) laterPlaces)
 
-      joined : captureLeft input (hitsAt at input) place to c ≡ over (over c place (four to ++ laterPlaces)) to (packet ++ flatten later)
+      joined : captureAfter input (hitsAt at input) place to c ≡ over (over c place (four to ++ laterPlaces)) to (packet ++ flatten later)
       unfolding flatten
       joined = rw (more, packet-long)
 
-      pub capture-more : CaptureLeft input c₀ c₂ (n .at + n .size) (place + 4) (to + n .size)
+      pub capture-more : CaptureAfter input c₀ c₂ (n .at + n .size) (place + 4) (to + n .size)
       capture-more =
           let x = over c place (four to ++ laterPlaces) in
-          let long : length x ≡ length c = over-length place c (four to ++ laterPlaces) (omega (arith, length-append (four to) laterPlaces, places-behind, capture-fits .1)) in
+          let long : length x ≡ length c = over-length place c (four to ++ laterPlaces) (omega (arith, length-append (four to) laterPlaces, places-after, capture-fits .1)) in
           record {
             same = long₂ ∙ left .same;
             heading = omega (arith, left .heading, ap (λ hs. length hs) more);
-            behind-heading = omega (arith, left .behind-heading);
+            after-heading = omega (arith, left .after-heading);
             fits = omega (arith, left .fits, ap totalSize more);
             left =
                 ap (λ z. over z (to + n .size) (flatten later)) placed
@@ -203,9 +203,9 @@ module _ (input c₀ c : List ℕ) (at place to : ℕ) (left : CaptureLeft input
 
 -- ---- the whole of it
 
-pub capture-whole : (input c c₁ : List ℕ) → length (mendedCapture input) ≤ length c → c₁ ≡ over c 0 (four (length (hits input)))
-    → captureLeft input (hits input) numberLength (headingLength (length (hits input))) c₁ ≡ over c 0 (mendedCapture input)
-unfolding mendedCapture captureOf
+pub capture-whole : (input c c₁ : List ℕ) → length (recoveredCapture input) ≤ length c → c₁ ≡ over c 0 (four (length (hits input)))
+    → captureAfter input (hits input) numberLength (headingLength (length (hits input))) c₁ ≡ over c 0 (recoveredCapture input)
+unfolding recoveredCapture captureOf
 capture-whole input c c₁ h e =
     let ps = packetsOf input (hits input) in
     let n = length (hits input) in

@@ -12,8 +12,8 @@ use lib.Seq.{take-append-seam, drop-append-seam, getD-append-add}
 use Rattle.wire.specs.Octets.{four, octetAt, fourAt}
 use Rattle.wire.specs.Packet.{packetLength}
 use Rattle.capture.specs.Search.{Span, span, passes, hit, hitsFrom, hits}
-use Rattle.capture.specs.Capture.{numberLength, headingLength, places, captureOf, packetsOf, octetsOf, mendedCapture, placesAre, placesTrue}
-use Rattle.capture.specs.Mend.{longestInput}
+use Rattle.capture.specs.Capture.{numberLength, headingLength, places, captureOf, packetsOf, octetsOf, recoveredCapture, placesAre, placesTrue}
+use Rattle.capture.specs.Recover.{longestInput}
 use Rattle.capture.specs.Again.{Again}
 use Rattle.capture.proofs.Hits.{Shows, packet-shows, packet-total, hit-none, hit-is}
 use Rattle.capture.proofs.Steps.{step-miss, from-hit}
@@ -201,8 +201,8 @@ module _ (ps : List (List ℕ)) (good : GoodPackets ps) (short : length (capture
   unfolding captureOf
   packets-same = packets-back heading first ps heading-long
 
-  same-capture : mendedCapture (captureOf ps) ≡ captureOf ps
-  unfolding mendedCapture
+  same-capture : recoveredCapture (captureOf ps) ≡ captureOf ps
+  unfolding recoveredCapture
   same-capture = rw hits-back (ap captureOf packets-same)
 
   apart : captureOf ps ≡ four n ++ (places first ps ++ flatten ps)
@@ -223,7 +223,7 @@ module _ (ps : List (List ℕ)) (good : GoodPackets ps) (short : length (capture
       rw (le-leb numberLength (length (captureOf ps)) l, hits-back, eq-eqb _ _ number-same, places-same)
 
 pub again : Again
-unfolding Again mendedCapture
+unfolding Again recoveredCapture
 again input octets short =
     let ps = packetsOf input (hits input) in
     let good = kept-good input octets in

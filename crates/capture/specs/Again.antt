@@ -4,8 +4,8 @@ use mathlib.Core.Bool.{true}
 use mathlib.Core.List.{List, [], _∷_}
 use Prim.Native.Nat.{ℕ, _≤_, _<_}
 use lib.ListN.{length}
-use Rattle.capture.specs.Capture.{mendedCapture, placesTrue}
-use Rattle.capture.specs.Mend.{longestInput}
+use Rattle.capture.specs.Capture.{recoveredCapture, placesTrue}
+use Rattle.capture.specs.Recover.{longestInput}
 
 -- CAPTURE-5: each number is an octet
 abbrev pub Octets : List ℕ → Type 0
@@ -15,5 +15,5 @@ Octets (o ∷ rest) = (o < 256) × Octets rest
 -- CAPTURE-5: for every input whose output has at most 65,536 octets
 unfoldable pub Again : Type 0
 Again =
-    (input : List ℕ) → Octets input → length (mendedCapture input) ≤ longestInput
-    → (mendedCapture (mendedCapture input) ≡ mendedCapture input) × (placesTrue (mendedCapture input) ≡ true)
+    (input : List ℕ) → Octets input → length (recoveredCapture input) ≤ longestInput
+    → (recoveredCapture (recoveredCapture input) ≡ recoveredCapture input) × (placesTrue (recoveredCapture input) ≡ true)

@@ -38,8 +38,8 @@ abbrev pub packetsOf : List ℕ → List Span → List (List ℕ)
 packetsOf input hs = map (octetsOf input) hs
 
 -- CAPTURE-4: the capture of the packets found, in order
-unfoldable pub mendedCapture : List ℕ → List ℕ
-mendedCapture input = captureOf (packetsOf input (hits input))
+unfoldable pub recoveredCapture : List ℕ → List ℕ
+recoveredCapture input = captureOf (packetsOf input (hits input))
 
 -- ----
 

@@ -1,7 +1,7 @@
 pub mod Search
 pub mod Capture
 pub mod Answer
-pub mod Mend
+pub mod Recover
 pub mod Cover
 pub mod Damage
 pub mod Straddle

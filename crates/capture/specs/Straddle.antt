@@ -20,15 +20,15 @@ inner =
     0xc0 ∷ 0x00 ∷ 0x02 ∷ 0x02 ∷ 0xca ∷ 0xec ∷ 0x30 ∷ 0x2b ∷ 0x00 ∷ 0x00 ∷ 0x03 ∷ 0xe8 ∷ 0x00 ∷ 0x00 ∷ 0x01 ∷ 0x00 ∷ []
 
 -- CAPTURE-6: header and fixed part of a packet whose eight reports are that packet
-abbrev pub outerFront : List ℕ
-outerFront =
+abbrev pub outerStart : List ℕ
+outerStart =
     0x45 ∷ 0x00 ∷ 0x00 ∷ 0x40 ∷ 0x00 ∷ 0x00 ∷ 0x00 ∷ 0x00 ∷ 0xff ∷ 0x3f ∷ 0x37 ∷ 0x79 ∷ 0xc0 ∷ 0x00 ∷ 0x02 ∷ 0x03 ∷
     0xc0 ∷ 0x00 ∷ 0x02 ∷ 0x02 ∷ 0xc6 ∷ 0xfc ∷ 0x30 ∷ 0x2b ∷ 0x00 ∷ 0x00 ∷ 0x07 ∷ 0xd0 ∷ 0x00 ∷ 0x00 ∷ 0x01 ∷ 0x08 ∷ []
 
 -- CAPTURE-6: without the beginning, the packet inside is kept, which was part of another before
 unfoldable pub StraddledUndamaged : Type 0
 StraddledUndamaged =
-    (0 < hit inner) × Unstraddled 0 (hits ([] ++ inner)) × (ReadAlike [] outerFront inner → ⊥)
+    (0 < hit inner) × Unstraddled 0 (hits ([] ++ inner)) × (ReadAlike [] outerStart inner → ⊥)
 
 -- ---- a chain of packets, each ending inside the next
 

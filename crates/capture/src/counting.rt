@@ -4,7 +4,7 @@ ghost use Prim.Native.Nat.{_≤_};
 ghost use lib.ListN.{length};
 ghost use Rattle.capture.specs.Search.{gap};
 ghost use Rattle.capture.specs.Capture.{headingLength};
-ghost use Rattle.capture.specs.Mend.{longestInput};
+ghost use Rattle.capture.specs.Recover.{longestInput};
 ghost use Rattle.capture.specs.code.Survey.{surveyOf, standsAt, counted, marked};
 use super::NUMBER;
 use super::Next;
@@ -22,7 +22,7 @@ fn stretch_count(from: usize, to: usize) -> usize
     0
 }
 
-// Whether a number stands at a place of the input, where so far all stood.
+// Whether a number is at a place of the input, if all were so far.
 fn stands(input: &[u8], so_far: bool, place: usize, number: usize) -> bool
     requires { ⌜ place ≤ headingLength longestInput ⌝ }
     ensures { λ r. ⌜ r ≡ standsAt (now (input .entry)) «so_far» place number ⌝ }

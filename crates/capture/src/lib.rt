@@ -6,7 +6,7 @@ ghost use Rattle.capture.specs.Cover.{Covers};
 ghost use Rattle.capture.specs.Damage.{Damage};
 ghost use Rattle.capture.specs.Straddle.{StraddledUndamaged, StraddledDamaged};
 ghost use Rattle.capture.specs.Again.{Again};
-ghost use Rattle.capture.specs.Mend.{refusal, mend, Leaves, Bounded};
+ghost use Rattle.capture.specs.Recover.{refusal, recover, Leaves, Bounded};
 
 mod counting;
 mod octets;
@@ -26,7 +26,7 @@ pub enum Answer {
 }
 
 // CAPTURE-5: what recovery returns: how many octets it wrote to each output, and whether number and places in the input are those of the packets found.
-pub struct Mended {
+pub struct Recovered {
     pub answer: Answer,
     pub capture_length: usize,
     pub stretches_length: usize,
@@ -59,10 +59,10 @@ pub fn number(a: Answer) -> u8
 }
 
 // A refusal: zeros.
-fn refused(a: Answer) -> Mended
+fn refused(a: Answer) -> Recovered
     ensures { λ r. ⌜ r ≡ refusal a ⌝ }
 {
-    Mended {
+    Recovered {
         answer: a,
         capture_length: 0,
         stretches_length: 0,
@@ -72,8 +72,8 @@ fn refused(a: Answer) -> Mended
 
 // The mender: writes a capture of the packets that it finds in the input, and a list of the stretches that it passed over.
 // Octets beyond what is written stay; where it refuses, both outputs stay as they are.
-pub fn mend(input: &[u8], capture: &mut [u8], stretches: &mut [u8]) -> Mended
-    ensures { λ r. ⌜ Leaves (mend (now (input .entry)) (now (capture .entry)) (now (stretches .entry))) r (now (capture .exit)) (now (stretches .exit)) ⌝ }
+pub fn recover(input: &[u8], capture: &mut [u8], stretches: &mut [u8]) -> Recovered
+    ensures { λ r. ⌜ Leaves (recover (now (input .entry)) (now (capture .entry)) (now (stretches .entry))) r (now (capture .exit)) (now (stretches .exit)) ⌝ }
 {
     if LONGEST < input.len() {
         return refused(Answer::CaptureLength);
@@ -88,7 +88,7 @@ pub fn mend(input: &[u8], capture: &mut [u8], stretches: &mut [u8]) -> Mended
         return refused(Answer::ShortBuffer);
     }
     writing::write(input, &mut *capture, &mut *stretches, s.hits);
-    Mended {
+    Recovered {
         answer: Answer::Done,
         capture_length,
         stretches_length,

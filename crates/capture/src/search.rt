@@ -15,7 +15,7 @@ const VERSION_AND_LENGTH: u8 = 0x45;
 
 const HELLO: u8 = 63;
 
-// The places of the fields that tell most packets from other octets at little cost.
+// The places of the fields that distinguish most packets from other octets cheaply.
 const TOTAL: usize = 2;
 
 const FRAGMENT: usize = 6;
@@ -50,7 +50,7 @@ fn hit(octets: &[u8]) -> usize
     }
 }
 
-// The next hit from a place on. The search is nested, and is left by its label.
+// The next hit from a place on. The search is nested, and exits by its label.
 pub fn next(input: &[u8], from: usize) -> Next
     requires { ⌜ from ≤ length (now input) ⌝ }
     ensures { λ r. ⌜ IsNext (now (input .entry)) from r ⌝ }

@@ -4,14 +4,14 @@ ghost use Prim.Native.Nat.{_+_, _≤_};
 ghost use lib.ListN.{length};
 ghost use Rattle.lists.specs.Lists.{over};
 ghost use Rattle.capture.specs.Search.{gap, hits};
-ghost use Rattle.capture.specs.Capture.{spanOctets, mendedCapture, stretchList};
-ghost use Rattle.capture.specs.Mend.{longestInput};
+ghost use Rattle.capture.specs.Capture.{spanOctets, recoveredCapture, stretchList};
+ghost use Rattle.capture.specs.Recover.{longestInput};
 ghost use Rattle.capture.specs.code.Writing.{Room};
 use super::NUMBER;
 use super::octets::put_four;
 use super::search::next;
 
-// The stretch from one octet to another put at a place of the list, where it has octets; the place behind it.
+// Writes the stretch from one octet to another to a place of the list, if it has octets; returns the place after it.
 fn put_stretch(list: &mut [u8], place: usize, from: usize, to: usize) -> usize
     requires { ⌜ place + length (spanOctets (gap from to)) ≤ length (now list) ⌝ }
     ensures { λ r. ⌜ (r ≡ place + length (spanOctets (gap from to))) × (now (list .exit) ≡ over (now (list .entry)) place (spanOctets (gap from to))) ⌝ }
@@ -24,10 +24,10 @@ fn put_stretch(list: &mut [u8], place: usize, from: usize, to: usize) -> usize
     place
 }
 
-// Both outputs, of an input with so many hits.
+// Both outputs, of an input with n hits.
 pub fn write(input: &[u8], capture: &mut [u8], stretches: &mut [u8], hits: usize)
     requires { ⌜ Room (now input) (now capture) (now stretches) hits ⌝ }
-    ensures { λ _. ⌜ (now (capture .exit) ≡ over (now (capture .entry)) 0 (mendedCapture (now (input .entry))))
+    ensures { λ _. ⌜ (now (capture .exit) ≡ over (now (capture .entry)) 0 (recoveredCapture (now (input .entry))))
         × (now (stretches .exit) ≡ over (now (stretches .entry)) 0 (stretchList (now (input .entry)))) ⌝ }
 {
     put_four(&mut *capture, 0, hits);

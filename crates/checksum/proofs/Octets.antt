@@ -16,9 +16,9 @@ pub joined : (xs ys : List ℕ) → Octets xs → Octets ys → Octets (xs ++ ys
 joined [] ys o p = p
 joined (x ∷ xs) ys o p = (o .0, joined xs ys (o .1) p)
 
-pub in-front : (xs ys : List ℕ) → Octets (xs ++ ys) → Octets xs
-in-front [] ys o = tt
-in-front (x ∷ xs) ys o = (o .0, in-front xs ys (o .1))
+pub before-places : (xs ys : List ℕ) → Octets (xs ++ ys) → Octets xs
+before-places [] ys o = tt
+before-places (x ∷ xs) ys o = (o .0, before-places xs ys (o .1))
 
 pub behind : (xs ys : List ℕ) → Octets (xs ++ ys) → Octets ys
 behind [] ys o = o

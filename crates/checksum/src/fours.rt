@@ -5,10 +5,10 @@ ghost use lib.ListN.{length};
 ghost use Rattle.checksum.specs.code.EndAround.{endAround, lowSum, lowFour, shortLength, blockLength};
 use crate::ALL_ONES;
 
-// Fewer octets than so many are added up by a loop that is quick to set out.
+// Fewer octets than this are summed by a loop with little setup.
 const SHORT: usize = 64;
 
-// So many octets are added up within 32 bits.
+// This many octets are summed within 32 bits.
 const BLOCK: usize = 0x40000;
 
 fn wide(x: u8) -> u32
@@ -53,7 +53,7 @@ fn last(s: &[u8]) -> u64
     first + word(s[2], 0)
 }
 
-// A number that stands for the sum of few octets' words: eight octets at a time, then four, then the last ones.
+// A number congruent to the sum of a few octets' words: eight octets at a time, then four, then the rest.
 fn short(s: &[u8]) -> u64
     requires { ⌜ length (now s) < shortLength ⌝ }
     ensures { λ r. ⌜ endAround r ≡ endAround (lowSum (now (s .entry))) ⌝ }

@@ -1,5 +1,5 @@
 -- What a run tells, as the laws of thin functions take it.
-use Rattle.lent.proofs.Words.{Data}
+use Rattle.references.proofs.Words.{Data}
 use Rattle.class_bench.proofs.BenchRan as BenchRan
 use Rattle.class_bench.proofs.BenchRan.Laws as BenchRan′
 

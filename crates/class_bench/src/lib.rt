@@ -4,11 +4,11 @@ ghost use Rattle.bench.specs.Answer.{number};
 ghost use Rattle.bench.specs.Guard.{setUpGuard};
 ghost use Rattle.bench.specs.Run.{afterSetUp, afterRun, ran};
 ghost use Rattle.bench.specs.Bench.{bench};
-ghost use Rattle.class_bench.specs.Told.{ranTold};
+ghost use Rattle.class_bench.specs.Returned.{ranReturned};
 use bench::HostState;
 use bench::Progress;
 use bench::Ran;
-use class_table::ClassTable;
+use net_table::NetTable;
 use table::Entry;
 
 // What a run answers: the number of the answer, and how many events it carried out, 0 where it refuses.
@@ -18,8 +18,8 @@ pub struct BenchRan {
     pub count: usize,
 }
 
-fn ran_told(o: Ran) -> BenchRan
-    ensures { λ r. ⌜ r ≡ ranTold o ⌝ }
+fn ran_returned(o: Ran) -> BenchRan
+    ensures { λ r. ⌜ r ≡ ranReturned o ⌝ }
 {
     let a = o.answer;
     BenchRan {
@@ -28,25 +28,34 @@ fn ran_told(o: Ran) -> BenchRan
     }
 }
 
-// All hosts are set afresh from the file; slots, answers and events done are zero.
+// All hosts are initialized from the file; slots, answers and the number of events done are zero.
 #[no_mangle]
 pub extern "C" fn hello_bench_set_up(
     file: &[u8],
-    nets: &ClassTable,
+    net_table: &NetTable,
     hosts: &mut [HostState],
     copies: &[u8],
-    run: &mut [Entry],
+    entries: &mut [Entry],
     slots: &mut [u8],
     answers: &mut [u8],
     progress: &mut Progress,
 ) -> u8
-    ensures { λ r. ⌜ (r ≡ number (setUpGuard (now (nets .entry)) (now (file .entry))
-        (bench (now (hosts .entry)) (now (copies .entry)) (now (run .entry)) (now (slots .entry)) (now (answers .entry)) (now (progress .entry) .done))))
-        × (bench (now (hosts .exit)) (now (copies .entry)) (now (run .exit)) (now (slots .exit)) (now (answers .exit)) (now (progress .exit) .done)
-        ≡ afterSetUp (now (file .entry)) (now (nets .entry))
-        (bench (now (hosts .entry)) (now (copies .entry)) (now (run .entry)) (now (slots .entry)) (now (answers .entry)) (now (progress .entry) .done))) ⌝ }
+    ensures { λ r. ⌜ (r ≡ number (setUpGuard (now («net_table» .entry)) (now (file .entry))
+        (bench (now (hosts .entry)) (now (copies .entry)) (now (entries .entry)) (now (slots .entry)) (now (answers .entry)) (now (progress .entry) .done))))
+        × (bench (now (hosts .exit)) (now (copies .entry)) (now (entries .exit)) (now (slots .exit)) (now (answers .exit)) (now (progress .exit) .done)
+        ≡ afterSetUp (now (file .entry)) (now («net_table» .entry))
+        (bench (now (hosts .entry)) (now (copies .entry)) (now (entries .entry)) (now (slots .entry)) (now (answers .entry)) (now (progress .entry) .done))) ⌝ }
 {
-    let a = bench::set_up(file, nets, hosts, copies, run, slots, answers, progress);
+    let a = bench::set_up(
+        file,
+        net_table,
+        hosts,
+        copies,
+        entries,
+        slots,
+        answers,
+        progress,
+    );
     bench::number(a)
 }
 
@@ -54,31 +63,31 @@ pub extern "C" fn hello_bench_set_up(
 #[no_mangle]
 pub extern "C" fn hello_bench_run(
     file: &[u8],
-    nets: &ClassTable,
+    net_table: &NetTable,
     hosts: &mut [HostState],
     copies: &[u8],
-    run: &mut [Entry],
+    entries: &mut [Entry],
     slots: &mut [u8],
     answers: &mut [u8],
     progress: &mut Progress,
     allowance: usize,
 ) -> BenchRan
-    ensures { λ r. ⌜ (r ≡ ranTold (ran (now (file .entry)) (now (nets .entry)) allowance
-        (bench (now (hosts .entry)) (now (copies .entry)) (now (run .entry)) (now (slots .entry)) (now (answers .entry)) (now (progress .entry) .done))))
-        × (bench (now (hosts .exit)) (now (copies .entry)) (now (run .exit)) (now (slots .exit)) (now (answers .exit)) (now (progress .exit) .done)
-        ≡ afterRun (now (file .entry)) (now (nets .entry)) allowance
-        (bench (now (hosts .entry)) (now (copies .entry)) (now (run .entry)) (now (slots .entry)) (now (answers .entry)) (now (progress .entry) .done))) ⌝ }
+    ensures { λ r. ⌜ (r ≡ ranReturned (ran (now (file .entry)) (now («net_table» .entry)) allowance
+        (bench (now (hosts .entry)) (now (copies .entry)) (now (entries .entry)) (now (slots .entry)) (now (answers .entry)) (now (progress .entry) .done))))
+        × (bench (now (hosts .exit)) (now (copies .entry)) (now (entries .exit)) (now (slots .exit)) (now (answers .exit)) (now (progress .exit) .done)
+        ≡ afterRun (now (file .entry)) (now («net_table» .entry)) allowance
+        (bench (now (hosts .entry)) (now (copies .entry)) (now (entries .entry)) (now (slots .entry)) (now (answers .entry)) (now (progress .entry) .done))) ⌝ }
 {
     let a = bench::run(
         file,
-        nets,
+        net_table,
         hosts,
         copies,
-        run,
+        entries,
         slots,
         answers,
         progress,
         allowance,
     );
-    ran_told(a)
+    ran_returned(a)
 }

@@ -41,9 +41,9 @@ module _ (h : Seconds) (n : Count) where
   Behind : Clock → Type 0
   Behind c = up (plusCount n c .0) ≤ up (day .0)
 
-  behind-back : (c : Clock) → belowZero n c ≡ true → Behind c → Behind (dayBack h c)
+  after-back : (c : Clock) → belowZero n c ≡ true → Behind c → Behind (dayBack h c)
   unfolding Behind
-  behind-back c e b =
+  after-back c e b =
       let l = lt-yes (plusCount n c .0) (pos 0) e in
       let s = sum (plusCount n c .0) (day .0) in
       rw (sum-back h n c) (omega (arith, one (plusCount n c .0)))
@@ -54,7 +54,7 @@ module _ (h : Seconds) (n : Count) where
       let d : Clock = daysOn h n c in
       let high = lt-no (day .0) (plusCount n d .0) (while.ends (daysAway n) (exceedsDay n) (dayOn h) (dayOn-nearer h n) c) in
       let low = lt-no (plusCount n (midnight h n c) .0) (pos 0) (while.ends (daysAway n) (belowZero n) (dayBack h) (dayBack-nearer h n) d) in
-      record { sum-low = omega arith; sum-high = while.keeps Behind (daysAway n) (belowZero n) (dayBack h) behind-back d (omega arith) }
+      record { sum-low = omega arith; sum-high = while.keeps Behind (daysAway n) (belowZero n) (dayBack h) after-back d (omega arith) }
 
 -- then CLOCK alone is at most a count below its day
 summed-ranged : (n : Count) → n .0 < 2 ^ 16 → (c : Clock) → Summed n c → Ranged c

@@ -1,7 +1,7 @@
 -- The structs that a lent call passes, lends and answers, as the laws of crate `lent` take them.
 use mathlib.Core.List.{[], _∷_}
-use Rattle.lent.proofs.Words.{Data, struct-part}
-use Rattle.lent.proofs.Outcomes.{Outcome}
+use Rattle.references.proofs.Words.{Data, struct-part}
+use Rattle.references.proofs.Outcomes.{Outcome}
 use Rattle.quantity.proofs.Units as Units
 use Rattle.quantity.proofs.Units.Laws as Units′
 use Rattle.quantity.proofs.Millis as Millis

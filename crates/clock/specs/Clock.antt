@@ -108,7 +108,7 @@ tickMost = millis (pos 65536)
 unfoldable pub tickInRange : Units → Bool
 tickInRange t = within (units (pos 1)) (toUnits tickMost) t
 
--- ---- ranges of what is lent
+-- ---- ranges of the borrowed state
 
 -- CLOCK-9: the least CLOCK: 65,535 ms below zero
 abbrev pub clockLeast : Millis

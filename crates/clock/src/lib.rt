@@ -174,7 +174,7 @@ impl Clock {
         }
     }
 
-    // Whether CLOCK, DELTA, HOLD and DATE are in the ranges of what may be lent.
+    // Whether CLOCK, DELTA, HOLD and DATE are in their ranges.
     pub fn in_range(self) -> bool
         ensures { λ r. ⌜ r ≡ clockInRange self ⌝ }
     {
@@ -400,7 +400,7 @@ impl Clock {
     }
 }
 
-// The same in place, of a clock that is lent.
+// The same in place, on a borrowed clock.
 
 // The clock ticks.
 pub fn tick(c: &mut Clock, clock_tick: Units, hold_interval: Seconds, n: Count)
@@ -447,7 +447,7 @@ pub fn read(c: &mut Clock, clock_tick: Units, hold_interval: Seconds, k: Counter
     r.time
 }
 
-// The midnight rule is made of the paper's whiles, and leaves a CLOCK within its day alone.
+// The midnight rule is the paper's loops, and does not change a CLOCK within its day.
 pub fn whiles()
     ensures { λ _. ⌜ Whiles ⌝ }
 {}

@@ -1,7 +1,7 @@
 -- The law of a thin function: `fn Gets(list: &[E], i: usize) -> E given { list[i] }`.
 -- It is one trace of that MIR, for any type. The author shows that the index lies in the list (`fits`), and that what there is then is what the function says (`then`).
 -- Written by hand. Assumes nothing.
-use Rattle.lent.proofs.Thin.{refl, ℕ, _<_, _^_, List, [], _∷_, length, URA, Fn, tyInt, tyPtr, w64, Model, Env, Name, Heap, GhostRules, Running, !, row, Data, by-value, unsigned, Form, form, by, slice, Over, typed-of, plain, sets, begins, learns, scaled, reads-element, bytes, finish, takes, Saying, Each, given-that, thin, loc, set, take, begin-at, scale, Job, Proven, lawful-over}
+use Rattle.references.proofs.Thin.{refl, ℕ, _<_, _^_, List, [], _∷_, length, URA, Fn, tyInt, tyPtr, w64, Model, Env, Name, Heap, GhostRules, Running, !, row, Data, by-value, unsigned, Form, form, by, slice, Over, typed-of, plain, sets, begins, learns, scaled, reads-element, bytes, finish, takes, Saying, Each, given-that, thin, loc, set, take, begin-at, scale, Job, Proven, lawful-over}
 use lib.Dec.{T, ltb}
 use lib.ListN.{getD}
 use denote.Memory.{mem}

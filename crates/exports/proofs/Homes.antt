@@ -17,7 +17,7 @@ pub use denote.Array.{Array}
 pub use denote.Struct.Struct.{Plains}
 pub use denote.Struct.Field.{rows}
 pub use denote.Struct.Declared.{Declared, fields}
-pub use Rattle.lent.proofs.Words.{at-type}
+pub use Rattle.references.proofs.Words.{at-type}
 pub use Rattle.exports.proofs.Lists.{listed, list-field, list-laws, list-plain}
 use mathlib.Core.Path.{_≡_, refl, sym, ap, subst}
 use Prim.Native.Nat.{ℕ, zero, _*_, _^_}
@@ -47,9 +47,9 @@ use denote.Steps.{only}
 use denote.Struct.Struct.{layout, Struct, AreAll}
 use denote.Struct.Declared.{row, shape}
 use denote.Struct.Laws as LL
-use Rattle.lent.proofs.Words.{Word, Data, Part, by-value}
-use Rattle.lent.proofs.Frame.{Place, full, away, frame, Has, Free, local-at, held, put, set, lent-out, back-in}
-use Rattle.lent.proofs.Holds.{Known, Hold, shr, mut, shrs, muts, gave, gaves, lender, items, nth, del, Walk, opened-two, resumed}
+use Rattle.references.proofs.Words.{Word, Data, Part, by-value}
+use Rattle.references.proofs.Frame.{Place, full, away, frame, Has, Free, local-at, held, put, set, lent-out, back-in}
+use Rattle.references.proofs.Holds.{Known, Hold, shr, mut, shrs, muts, gave, gaves, lender, items, nth, del, Walk, opened-two, resumed}
 use Rattle.exports.proofs.Lists.{in-field, counted, lends-local, local-back, shares-local, shared-local-back, lends-array, array-back, shares-array, shared-array-back}
 
 -- a struct that is handed back: a contract reads what it owns alone

@@ -43,7 +43,7 @@ use denote.Struct.Declared as declared
 use denote.Struct.Laws as LL
 use denote.Exit.{Exit, yes, Last, left, each-of}
 use borrow.Rule.Slice.Shared.{parts-cells}
-use Rattle.lent.proofs.Words.{Word, Data}
+use Rattle.references.proofs.Words.{Word, Data}
 
 -- ---- an array by value
 module _ (d : Data) where

@@ -9,8 +9,8 @@ use base.Logic.{via, guardI}
 use prog.Wp.{Heap}
 use ghost.Atoms.{Atoms}
 use types.Kit.{Given}
-use Rattle.lent.proofs.Frame.{Place}
-use Rattle.lent.proofs.Holds.{Gets}
+use Rattle.references.proofs.Frame.{Place}
+use Rattle.references.proofs.Holds.{Gets}
 
 module _ {M : Type 1} {𝓤 : URA M} {H : Heap 𝓤} {A : Atoms 𝓤} {K : Type 0} {W : Given 𝓤 H A} {E : List (Ty × ℕ)} {os : List Place} where
   pub big-literal : K → {w : Width} {n : ℕ} → Fits w n → Gets K W E os (intBig w n) (vint w n)

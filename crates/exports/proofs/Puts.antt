@@ -1,7 +1,7 @@
 -- The law of a thin function: `fn Puts(list: &mut [E], i: usize, e: E) given { list[i] = e; }`.
 -- It is one trace of that MIR, for any type. The author shows that the index lies in the list (`fits`), and that what there is then is what the function says (`then`).
 -- Written by hand. Assumes nothing.
-use Rattle.lent.proofs.Thin.{refl, ℕ, _<_, _^_, List, [], _∷_, length, URA, Fn, opdUnit, tyInt, tyPtr, w64, Model, Env, Name, Heap, GhostRules, Running, !, row, Data, by-value, unsigned, Form, silent, by, slicemut, Over, is-unit, typed-of, plain, unit, sets, begins, learns, scaled, writes-element, bytes, stays, finish, takes, Saying, Each, given-that, thin, loc, set, store, begin-at, scale, Job, Proven, lawful-over}
+use Rattle.references.proofs.Thin.{refl, ℕ, _<_, _^_, List, [], _∷_, length, URA, Fn, opdUnit, tyInt, tyPtr, w64, Model, Env, Name, Heap, GhostRules, Running, !, row, Data, by-value, unsigned, Form, silent, by, slicemut, Over, is-unit, typed-of, plain, unit, sets, begins, learns, scaled, writes-element, bytes, stays, finish, takes, Saying, Each, given-that, thin, loc, set, store, begin-at, scale, Job, Proven, lawful-over}
 use lib.Dec.{T, ltb}
 use lib.ListN.{set as set-at}
 use denote.Memory.{mem}

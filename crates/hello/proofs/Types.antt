@@ -1,5 +1,5 @@
 -- The structs that the exported calls are given and answer, as the laws of crate `shapes` take them.
-use Rattle.lent.proofs.Words.{Data}
+use Rattle.references.proofs.Words.{Data}
 use Rattle.hello.proofs.Sent as Sent
 use Rattle.hello.proofs.Sent.Laws as Sent′
 use Rattle.hello.proofs.Route as Route
@@ -10,8 +10,8 @@ use Rattle.hello.proofs.Inspected as Inspected
 use Rattle.hello.proofs.Inspected.Laws as Inspected′
 use Rattle.hello.proofs.Stepped as Stepped
 use Rattle.hello.proofs.Stepped.Laws as Stepped′
-use Rattle.hello.proofs.nets.NetAdded as NetAdded
-use Rattle.hello.proofs.nets.NetAdded.Laws as NetAdded′
+use Rattle.hello.proofs.tutor.NetAdded as NetAdded
+use Rattle.hello.proofs.tutor.NetAdded.Laws as NetAdded′
 
 abbrev pub sent : Data
 sent = record { S = Sent.the-type; L = Sent′.the-laws; P = Sent′.the-plain; low = Sent′.lowers; copies = Sent′.the-copy }

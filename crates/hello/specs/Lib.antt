@@ -1,5 +1,5 @@
-pub mod Told
-pub mod Mended
+pub mod Returned
+pub mod Recovered
 pub mod Ntp
 pub mod Nets
 pub mod Contract

@@ -31,15 +31,15 @@ zeroHeader =
     }
 
 -- REPLY-5: what reading returns
-abbrev pub readTold : Read → NtpRead
-readTold (Good h) = record { answer = 0; header = h }
-readTold (Bad a) = record { answer = number a; header = zeroHeader }
+abbrev pub readReturned : Read → NtpRead
+readReturned (Good h) = record { answer = 0; header = h }
+readReturned (Bad a) = record { answer = number a; header = zeroHeader }
 
 -- REPLY-5: what writing returns
-abbrev pub writtenTold : Written → NtpWritten
-writtenTold w = record { answer = number (w .answer); octets = w .octets }
+abbrev pub writtenReturned : Written → NtpWritten
+writtenReturned w = record { answer = number (w .answer); octets = w .octets }
 
 -- REPLY-5: what receiving returns
-abbrev pub outcomeTold : Outcome → NtpOutcome
-outcomeTold o =
+abbrev pub outcomeReturned : Outcome → NtpOutcome
+outcomeReturned o =
     record { answer = number (o .answer); action = o .action; offset = o .offset; delay = o .delay; association = o .association }

@@ -14,35 +14,35 @@ ghost use Rattle.calls.specs.declared.Request.the-variants.{
 };
 ghost use Rattle.arrival.specs.declared.Delivery.the-variants.{Act, Receive};
 ghost use Rattle.calls.specs.Perform.{ask, inspect, act, receive, openWalk};
-ghost use Rattle.program.specs.Program.{programAnswer};
-ghost use Rattle.hello.specs.Told.{
+ghost use Rattle.owned_host.specs.Program.{programAnswer};
+ghost use Rattle.hello.specs.Returned.{
   numbered,
-  timeTold,
-  sentTold,
-  routeTold,
-  inspectedTold,
-  steppedTold,
+  timeReturned,
+  sentReturned,
+  routeReturned,
+  inspectedReturned,
+  steppedReturned,
 };
 ghost use Rattle.hello.specs.Contract.{Exports, ExportsSend};
 use arrival::Delivery;
 use calls::Request;
-use class_table::ClassTable;
 use clock::Clock;
 use clock::Counter;
 use host::Links;
 use host::Reply;
 use host::Settings;
 use host::walk::Walk;
+use net_table::NetTable;
 use quantity::Count;
 use table::Entry;
 use wire::Address;
 
 mod captures;
 mod dates;
-mod nets;
 mod ntp_calls;
 mod paper;
 mod sums;
+mod tutor;
 
 // What a send answers: the number of the answer, and the length of the message.
 #[repr(C)]
@@ -77,7 +77,7 @@ pub struct Inspected {
     pub nhosts: u8,
 }
 
-// What the opening of a walk and a step of it answer: the number of the answer, and the next place: the step, in step 5 the line, 1 to 4 for (a) to (d), of a host id; zeros where none is left.
+// What opening a walk and a step of it return: the number of the answer and the next place: the step, and in step 5 the line, 1 to 4 for (a) to (d), and the host id; zeros if none remains.
 #[repr(C)]
 pub struct Stepped {
     pub answer: u8,
@@ -86,7 +86,7 @@ pub struct Stepped {
     pub id: usize,
 }
 
-// ---- what a reply tells
+// ---- the values of a reply
 
 fn numbered(t: Reply) -> u8
     ensures { λ r. ⌜ r ≡ numbered t ⌝ }
@@ -95,8 +95,8 @@ fn numbered(t: Reply) -> u8
     answer::number(a)
 }
 
-fn time_told(t: Reply) -> Time
-    ensures { λ r. ⌜ r ≡ timeTold t ⌝ }
+fn time_returned(t: Reply) -> Time
+    ensures { λ r. ⌜ r ≡ timeReturned t ⌝ }
 {
     let a = t.answer;
     let time = t.time;
@@ -108,8 +108,8 @@ fn time_told(t: Reply) -> Time
     }
 }
 
-fn sent_told(t: Reply) -> Sent
-    ensures { λ r. ⌜ r ≡ sentTold t ⌝ }
+fn sent_returned(t: Reply) -> Sent
+    ensures { λ r. ⌜ r ≡ sentReturned t ⌝ }
 {
     let a = t.answer;
     Sent {
@@ -118,8 +118,8 @@ fn sent_told(t: Reply) -> Sent
     }
 }
 
-fn route_told(t: Reply) -> Route
-    ensures { λ r. ⌜ r ≡ routeTold t ⌝ }
+fn route_returned(t: Reply) -> Route
+    ensures { λ r. ⌜ r ≡ routeReturned t ⌝ }
 {
     let a = t.answer;
     Route {
@@ -129,8 +129,8 @@ fn route_told(t: Reply) -> Route
     }
 }
 
-fn inspected_told(t: Reply) -> Inspected
-    ensures { λ r. ⌜ r ≡ inspectedTold t ⌝ }
+fn inspected_returned(t: Reply) -> Inspected
+    ensures { λ r. ⌜ r ≡ inspectedReturned t ⌝ }
 {
     let a = t.answer;
     let source = t.source;
@@ -144,8 +144,8 @@ fn inspected_told(t: Reply) -> Inspected
     }
 }
 
-fn stepped_told(t: Reply) -> Stepped
-    ensures { λ r. ⌜ r ≡ steppedTold t ⌝ }
+fn stepped_returned(t: Reply) -> Stepped
+    ensures { λ r. ⌜ r ≡ steppedReturned t ⌝ }
 {
     let a = t.answer;
     Stepped {
@@ -191,24 +191,33 @@ pub extern "C" fn hello_checksum(octets: &[u8]) -> u16
 pub extern "C" fn hello_packet(octets: &[u8]) -> u8
     ensures { λ r. ⌜ r ≡ programAnswer (now (octets .entry)) ⌝ }
 {
-    program::answer(octets)
+    owned_host::answer(octets)
 }
 
-// The host is set afresh.
+// The host is initialized.
 #[no_mangle]
 pub extern "C" fn hello_initialize(
     settings: &Settings,
-    nets: &ClassTable,
+    net_table: &NetTable,
     number: usize,
     clock: &mut Clock,
     links: &mut Links,
     walk: &mut Walk,
     copy: &[u8],
-    run: &mut [Entry],
+    entries: &mut [Entry],
 ) -> u8
-    ensures { λ r. ⌜ Exports numbered (ask Initialize) settings nets number clock links walk copy run r ⌝ }
+    ensures { λ r. ⌜ Exports numbered (ask Initialize) settings «net_table» number clock links walk copy entries r ⌝ }
 {
-    let a = calls::initialize(settings, nets, number, clock, links, walk, copy, run);
+    let a = calls::initialize(
+        settings,
+        net_table,
+        number,
+        clock,
+        links,
+        walk,
+        copy,
+        entries,
+    );
     numbered(a)
 }
 
@@ -216,18 +225,28 @@ pub extern "C" fn hello_initialize(
 #[no_mangle]
 pub extern "C" fn hello_tick(
     settings: &Settings,
-    nets: &ClassTable,
+    net_table: &NetTable,
     number: usize,
     clock: &mut Clock,
     links: &Links,
     walk: &Walk,
     copy: &[u8],
-    run: &[Entry],
+    entries: &[Entry],
     count: Count,
 ) -> u8
-    ensures { λ r. ⌜ Exports numbered (ask (Tick count)) settings nets number clock links walk copy run r ⌝ }
+    ensures { λ r. ⌜ Exports numbered (ask (Tick count)) settings «net_table» number clock links walk copy entries r ⌝ }
 {
-    let a = calls::tick(settings, nets, number, clock, links, walk, copy, run, count);
+    let a = calls::tick(
+        settings,
+        net_table,
+        number,
+        clock,
+        links,
+        walk,
+        copy,
+        entries,
+        count,
+    );
     numbered(a)
 }
 
@@ -235,18 +254,28 @@ pub extern "C" fn hello_tick(
 #[no_mangle]
 pub extern "C" fn hello_adjust(
     settings: &Settings,
-    nets: &ClassTable,
+    net_table: &NetTable,
     number: usize,
     clock: &mut Clock,
     links: &Links,
     walk: &Walk,
     copy: &[u8],
-    run: &[Entry],
+    entries: &[Entry],
     count: Count,
 ) -> u8
-    ensures { λ r. ⌜ Exports numbered (ask (Adjust count)) settings nets number clock links walk copy run r ⌝ }
+    ensures { λ r. ⌜ Exports numbered (ask (Adjust count)) settings «net_table» number clock links walk copy entries r ⌝ }
 {
-    let a = calls::adjust(settings, nets, number, clock, links, walk, copy, run, count);
+    let a = calls::adjust(
+        settings,
+        net_table,
+        number,
+        clock,
+        links,
+        walk,
+        copy,
+        entries,
+        count,
+    );
     numbered(a)
 }
 
@@ -254,27 +283,27 @@ pub extern "C" fn hello_adjust(
 #[no_mangle]
 pub extern "C" fn hello_set(
     settings: &Settings,
-    nets: &ClassTable,
+    net_table: &NetTable,
     number: usize,
     clock: &mut Clock,
     links: &Links,
     walk: &Walk,
     copy: &[u8],
-    run: &[Entry],
+    entries: &[Entry],
     ms: i32,
     count: Count,
 ) -> u8
-    ensures { λ r. ⌜ Exports numbered (ask (Set ms count)) settings nets number clock links walk copy run r ⌝ }
+    ensures { λ r. ⌜ Exports numbered (ask (Set ms count)) settings «net_table» number clock links walk copy entries r ⌝ }
 {
     let a = calls::set(
         settings,
-        nets,
+        net_table,
         number,
         clock,
         links,
         walk,
         copy,
-        run,
+        entries,
         ms,
         count,
     );
@@ -285,46 +314,55 @@ pub extern "C" fn hello_set(
 #[no_mangle]
 pub extern "C" fn hello_read(
     settings: &Settings,
-    nets: &ClassTable,
+    net_table: &NetTable,
     number: usize,
     clock: &mut Clock,
     links: &Links,
     walk: &Walk,
     copy: &[u8],
-    run: &[Entry],
+    entries: &[Entry],
     counter: Counter,
 ) -> Time
-    ensures { λ r. ⌜ Exports timeTold (ask (Read counter)) settings nets number clock links walk copy run r ⌝ }
+    ensures { λ r. ⌜ Exports timeReturned (ask (Read counter)) settings «net_table» number clock links walk copy entries r ⌝ }
 {
     let a = calls::read(
         settings,
-        nets,
+        net_table,
         number,
         clock,
         links,
         walk,
         copy,
-        run,
+        entries,
         counter,
     );
-    time_told(a)
+    time_returned(a)
 }
 
 // A second passes.
 #[no_mangle]
 pub extern "C" fn hello_second(
     settings: &Settings,
-    nets: &ClassTable,
+    net_table: &NetTable,
     number: usize,
     clock: &mut Clock,
     links: &Links,
     walk: &Walk,
     copy: &[u8],
-    run: &mut [Entry],
+    entries: &mut [Entry],
 ) -> u8
-    ensures { λ r. ⌜ Exports numbered (ask Second) settings nets number clock links walk copy run r ⌝ }
+    ensures { λ r. ⌜ Exports numbered (ask Second) settings «net_table» number clock links walk copy entries r ⌝ }
 {
-    let a = calls::second(settings, nets, number, clock, links, walk, copy, run);
+    let a = calls::second(
+        settings,
+        net_table,
+        number,
+        clock,
+        links,
+        walk,
+        copy,
+        entries,
+    );
     numbered(a)
 }
 
@@ -332,26 +370,26 @@ pub extern "C" fn hello_second(
 #[no_mangle]
 pub extern "C" fn hello_self_report(
     settings: &Settings,
-    nets: &ClassTable,
+    net_table: &NetTable,
     number: usize,
     clock: &mut Clock,
     links: &Links,
     walk: &Walk,
     copy: &[u8],
-    run: &mut [Entry],
+    entries: &mut [Entry],
     counter: Counter,
 ) -> u8
-    ensures { λ r. ⌜ Exports numbered (ask (SelfReport counter)) settings nets number clock links walk copy run r ⌝ }
+    ensures { λ r. ⌜ Exports numbered (ask (SelfReport counter)) settings «net_table» number clock links walk copy entries r ⌝ }
 {
     let a = calls::self_report(
         settings,
-        nets,
+        net_table,
         number,
         clock,
         links,
         walk,
         copy,
-        run,
+        entries,
         counter,
     );
     numbered(a)
@@ -361,93 +399,93 @@ pub extern "C" fn hello_self_report(
 #[no_mangle]
 pub extern "C" fn hello_send(
     settings: &Settings,
-    nets: &ClassTable,
+    net_table: &NetTable,
     number: usize,
     clock: &mut Clock,
     links: &mut Links,
     walk: &Walk,
     copy: &[u8],
-    run: &[Entry],
+    entries: &[Entry],
     link: usize,
     counter: Counter,
     buffer: &mut [u8],
 ) -> Sent
-    ensures { λ r. ⌜ ExportsSend link counter buffer settings nets number clock links walk copy run r ⌝ }
+    ensures { λ r. ⌜ ExportsSend link counter buffer settings «net_table» number clock links walk copy entries r ⌝ }
 {
     let a = calls::send(
         settings,
-        nets,
+        net_table,
         number,
         clock,
         links,
         walk,
         copy,
-        run,
+        entries,
         link,
         counter,
         buffer,
     );
-    sent_told(a)
+    sent_returned(a)
 }
 
 // A packet that arrives on a link is looked at; nothing changes.
 #[no_mangle]
 pub extern "C" fn hello_inspect(
     settings: &Settings,
-    nets: &ClassTable,
+    net_table: &NetTable,
     number: usize,
     clock: &Clock,
     links: &Links,
     walk: &Walk,
     copy: &[u8],
-    run: &[Entry],
+    entries: &[Entry],
     link: usize,
     packet: &[u8],
 ) -> Inspected
-    ensures { λ r. ⌜ Exports inspectedTold (inspect link (now (packet .entry))) settings nets number clock links walk copy run r ⌝ }
+    ensures { λ r. ⌜ Exports inspectedReturned (inspect link (now (packet .entry))) settings «net_table» number clock links walk copy entries r ⌝ }
 {
     let a = calls::inspect(
         settings,
-        nets,
+        net_table,
         number,
         clock,
         links,
         walk,
         copy,
-        run,
+        entries,
         link,
         packet,
     );
-    inspected_told(a)
+    inspected_returned(a)
 }
 
 // A packet that arrives on a link is acted on.
 #[no_mangle]
 pub extern "C" fn hello_act(
     settings: &Settings,
-    nets: &ClassTable,
+    net_table: &NetTable,
     number: usize,
     clock: &mut Clock,
     links: &mut Links,
     walk: &Walk,
     copy: &[u8],
-    run: &mut [Entry],
+    entries: &mut [Entry],
     link: usize,
     counter: Counter,
     packet: &[u8],
 ) -> u8
-    ensures { λ r. ⌜ Exports numbered (act link counter (now (packet .entry))) settings nets number clock links walk copy run r ⌝ }
+    ensures { λ r. ⌜ Exports numbered (act link counter (now (packet .entry))) settings «net_table» number clock links walk copy entries r ⌝ }
 {
     let d = acts(link, counter);
     let a = calls::deliver(
         settings,
-        nets,
+        net_table,
         number,
         clock,
         links,
         walk,
         copy,
-        run,
+        entries,
         d,
         packet,
     );
@@ -458,29 +496,29 @@ pub extern "C" fn hello_act(
 #[no_mangle]
 pub extern "C" fn hello_receive(
     settings: &Settings,
-    nets: &ClassTable,
+    net_table: &NetTable,
     number: usize,
     clock: &mut Clock,
     links: &mut Links,
     walk: &Walk,
     copy: &[u8],
-    run: &mut [Entry],
+    entries: &mut [Entry],
     link: usize,
     counter: Counter,
     packet: &[u8],
 ) -> u8
-    ensures { λ r. ⌜ Exports numbered (receive link counter (now (packet .entry))) settings nets number clock links walk copy run r ⌝ }
+    ensures { λ r. ⌜ Exports numbered (receive link counter (now (packet .entry))) settings «net_table» number clock links walk copy entries r ⌝ }
 {
     let d = receives(link, counter);
     let a = calls::deliver(
         settings,
-        nets,
+        net_table,
         number,
         clock,
         links,
         walk,
         copy,
-        run,
+        entries,
         d,
         packet,
     );
@@ -491,78 +529,88 @@ pub extern "C" fn hello_receive(
 #[no_mangle]
 pub extern "C" fn hello_lookup(
     settings: &Settings,
-    nets: &ClassTable,
+    net_table: &NetTable,
     number: usize,
     clock: &Clock,
     links: &Links,
     walk: &Walk,
     copy: &[u8],
-    run: &[Entry],
+    entries: &[Entry],
     address: Address,
 ) -> Route
-    ensures { λ r. ⌜ Exports routeTold (ask (Lookup address)) settings nets number clock links walk copy run r ⌝ }
+    ensures { λ r. ⌜ Exports routeReturned (ask (Lookup address)) settings «net_table» number clock links walk copy entries r ⌝ }
 {
     let a = calls::lookup(
         settings,
-        nets,
+        net_table,
         number,
         clock,
         links,
         walk,
         copy,
-        run,
+        entries,
         address,
     );
-    route_told(a)
+    route_returned(a)
 }
 
 // A walk is opened for a packet on a link: the packet is copied, and the first box is next.
 #[no_mangle]
 pub extern "C" fn hello_open_walk(
     settings: &Settings,
-    nets: &ClassTable,
+    net_table: &NetTable,
     number: usize,
     clock: &Clock,
     links: &Links,
     walk: &mut Walk,
     copy: &mut [u8],
-    run: &[Entry],
+    entries: &[Entry],
     link: usize,
     packet: &[u8],
 ) -> Stepped
-    ensures { λ r. ⌜ Exports steppedTold (openWalk link (now (packet .entry))) settings nets number clock links walk copy run r ⌝ }
+    ensures { λ r. ⌜ Exports steppedReturned (openWalk link (now (packet .entry))) settings «net_table» number clock links walk copy entries r ⌝ }
 {
     let a = calls::open_walk(
         settings,
-        nets,
+        net_table,
         number,
         clock,
         links,
         walk,
         copy,
-        run,
+        entries,
         link,
         packet,
     );
-    stepped_told(a)
+    stepped_returned(a)
 }
 
 // One box of a walk.
 #[no_mangle]
 pub extern "C" fn hello_step(
     settings: &Settings,
-    nets: &ClassTable,
+    net_table: &NetTable,
     number: usize,
     clock: &mut Clock,
     links: &mut Links,
     walk: &mut Walk,
     copy: &[u8],
-    run: &mut [Entry],
+    entries: &mut [Entry],
     counter: Counter,
 ) -> Stepped
-    ensures { λ r. ⌜ Exports steppedTold (ask (Step counter)) settings nets number clock links walk copy run r ⌝ }
+    ensures { λ r. ⌜ Exports steppedReturned (ask (Step counter)) settings «net_table» number clock links walk copy entries r ⌝ }
 {
     let q = asks_step(counter);
-    let a = calls::call(settings, nets, number, clock, links, walk, copy, run, q);
-    stepped_told(a)
+    let a = calls::call(
+        settings,
+        net_table,
+        number,
+        clock,
+        links,
+        walk,
+        copy,
+        entries,
+        q,
+    );
+    stepped_returned(a)
 }

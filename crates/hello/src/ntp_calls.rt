@@ -2,7 +2,7 @@
 ghost use mathlib.Core.Path.{_≡_};
 ghost use Rattle.ntp.specs.Header.{read, write};
 ghost use Rattle.ntp.specs.Receive.{receive};
-ghost use Rattle.hello.specs.Ntp.{zeroHeader, readTold, writtenTold, outcomeTold};
+ghost use Rattle.hello.specs.Ntp.{zeroHeader, readReturned, writtenReturned, outcomeReturned};
 
 // What reading a header answers: the number of the answer, and the fields, all zero where it refuses.
 #[repr(C)]
@@ -48,8 +48,8 @@ fn zero_header() -> ntp::Header
     }
 }
 
-fn read_told(r: ntp::Read) -> NtpRead
-    ensures { λ t. ⌜ t ≡ readTold r ⌝ }
+fn read_returned(r: ntp::Read) -> NtpRead
+    ensures { λ t. ⌜ t ≡ readReturned r ⌝ }
 {
     match r {
         ntp::Read::Good(h) => NtpRead {
@@ -66,15 +66,15 @@ fn read_told(r: ntp::Read) -> NtpRead
 // The fields of an NTP header.
 #[no_mangle]
 pub extern "C" fn hello_ntp_read(octets: &[u8]) -> NtpRead
-    ensures { λ r. ⌜ r ≡ readTold (read (now (octets .entry))) ⌝ }
+    ensures { λ r. ⌜ r ≡ readReturned (read (now (octets .entry))) ⌝ }
 {
-    read_told(ntp::wire::read(octets))
+    read_returned(ntp::wire::read(octets))
 }
 
 // The octets of an NTP header.
 #[no_mangle]
 pub extern "C" fn hello_ntp_write(header: ntp::Header) -> NtpWritten
-    ensures { λ r. ⌜ r ≡ writtenTold (write header) ⌝ }
+    ensures { λ r. ⌜ r ≡ writtenReturned (write header) ⌝ }
 {
     let w = ntp::wire::write(header);
     let a = w.answer;
@@ -92,7 +92,7 @@ pub extern "C" fn hello_ntp_receive(
     octets: &[u8],
     destination: ntp::Timestamp,
 ) -> NtpOutcome
-    ensures { λ r. ⌜ r ≡ outcomeTold (receive association (now (octets .entry)) destination) ⌝ }
+    ensures { λ r. ⌜ r ≡ outcomeReturned (receive association (now (octets .entry)) destination) ⌝ }
 {
     let o = ntp::receive::receive(association, octets, destination);
     let a = o.answer;

@@ -7,8 +7,8 @@ use Rattle.hello_bench.specs.declared.held.Gone.{Gone}
 
 -- BENCH-1: the answer of set-up, and the state
 abbrev pub upOf : Answer → Bench → Up
-upOf a b = record { answer = a; hosts = b .hosts; run = b .run; progress = record { done = b .done } }
+upOf a b = record { answer = a; hosts = b .hosts; entries = b .entries; progress = record { done = b .done } }
 
 -- BENCH-6: what a run returns, and the state
 abbrev pub goneOf : Ran → Bench → Gone
-goneOf a b = record { ran = a; hosts = b .hosts; run = b .run; progress = record { done = b .done } }
+goneOf a b = record { ran = a; hosts = b .hosts; entries = b .entries; progress = record { done = b .done } }

@@ -1,5 +1,5 @@
-// Reads a bench file from standard input, to its end, sets a bench up from it and runs it, event by event: it prints each event with its answer, and at the end each seat's clock and its entries of the hosts that are up. Of a file that is refused it prints the answer alone.
-// The class's net table has no rows, and the NHOSTS of the file's first seat. The buffer is longer than any bench file: of a longer input it is full, and the answer is 18.
+// Reads a bench file from standard input, sets a bench up from it and runs it, event by event. Prints each event with its answer, and at the end each host's clock and live entries. For a refused file it prints only the answer.
+// The net table has no rows, and the NHOSTS of the file's first host. The buffer is longer than any bench file: a longer input fills it, and the answer is 18.
 ghost use Prim.Native.Nat.{_≤_, _<_};
 ghost use lib.ListN.{length};
 ghost use Rattle.bench_file.specs.code.Sections.{Sections};
@@ -8,12 +8,12 @@ use bench::Progress;
 use bench::Ran;
 use bench_file::Header;
 use calendar::Date;
-use class_table::ClassTable;
 use clock::Clock;
 use held::Gone;
 use held::Up;
 use host::Link;
 use host::Links;
+use net_table::NetTable;
 use quantity::Millis;
 use quantity::Word;
 use table::Entry;
@@ -22,10 +22,10 @@ use wire::Address;
 mod held;
 mod show;
 
-// The places of the run that a host has.
+// The places of the host table that a host has.
 const PLACES: usize = 255;
 
-// NHOSTS of the file's first seat, or 1 where it has none.
+// NHOSTS of the file's first host, or 1 if it has none.
 fn nhosts(file: &[u8]) -> usize {
     if bench_file::header_bad(file) {
         return 1;
@@ -65,23 +65,23 @@ fn nobody() -> HostState {
 // The next event.
 fn next(
     file: &[u8],
-    t: ClassTable,
+    t: NetTable,
     b: Gone,
     copies: &[u8],
     slots: &mut [u8],
     answers: &mut [u8],
 ) -> Gone {
     let hosts = b.hosts;
-    let run = b.run;
+    let entries = b.entries;
     let p = b.progress;
-    held::run(file, t, hosts, copies, run, slots, answers, p, 1)
+    held::run(file, t, hosts, copies, entries, slots, answers, p, 1)
 }
 
 // All events of the file, each with its line.
 fn events(
     file: &[u8],
     h: Header,
-    t: ClassTable,
+    t: NetTable,
     start: Gone,
     copies: &[u8],
     slots: &mut [u8],
@@ -100,7 +100,7 @@ fn events(
     b
 }
 
-// The clocks of so many seats.
+// The clocks of n hosts.
 fn clocks(hosts: [HostState; 16], n: usize)
     requires { ⌜ n ≤ 16 ⌝ }
 {
@@ -113,34 +113,34 @@ fn clocks(hosts: [HostState; 16], n: usize)
     }
 }
 
-// A seat's entries.
-fn entries_of(run: [Entry; 4080], seat: usize)
-    requires { ⌜ seat < 16 ⌝ }
+// A host's entries.
+fn entries_of(entries: [Entry; 4080], node: usize)
+    requires { ⌜ node < 16 ⌝ }
 {
     let mut id: usize = 0;
     while id < PLACES {
-        show::entry(seat, id, run[PLACES * seat + id]);
+        show::entry(node, id, entries[PLACES * node + id]);
         id += 1;
     }
 }
 
-// The entries of so many seats.
-fn entries(run: [Entry; 4080], n: usize)
+// The entries of n hosts.
+fn own_entries(entries: [Entry; 4080], n: usize)
     requires { ⌜ n ≤ 16 ⌝ }
 {
-    show::entries();
+    show::own_entries();
     let mut k: usize = 0;
     while k < n {
-        entries_of(run, k);
+        entries_of(entries, k);
         k += 1;
     }
 }
 
-// All of the file's events, and what the seats hold then.
+// All events of the file, and the hosts' state after them.
 fn exercise(
     file: &[u8],
     h: Header,
-    t: ClassTable,
+    t: NetTable,
     start: Gone,
     copies: &[u8],
     slots: &mut [u8],
@@ -150,16 +150,16 @@ fn exercise(
 {
     let end = events(file, h, t, start, copies, slots, answers);
     let hosts = end.hosts;
-    let run = end.run;
+    let entries = end.entries;
     clocks(hosts, h.hosts);
-    entries(run, h.hosts);
+    own_entries(entries, h.hosts);
 }
 
 // The bench as it was set up, with no event run.
 fn start(up: Up) -> Gone {
     let a = up.answer;
     let hosts = up.hosts;
-    let run = up.run;
+    let entries = up.entries;
     let p = up.progress;
     Gone {
         ran: Ran {
@@ -167,7 +167,7 @@ fn start(up: Up) -> Gone {
             count: 0,
         },
         hosts: hosts,
-        run: run,
+        entries: entries,
         progress: p,
     }
 }
@@ -177,14 +177,14 @@ fn bench(file: &[u8]) {
     let mut slots = [0u8; 33792];
     let mut answers = [0u8; 2048];
     let hosts = [nobody(); 16];
-    let run = [table::fresh(); 4080];
-    let t = class_table::without_rows(nhosts(file));
+    let entries = [table::fresh(); 4080];
+    let t = net_table::without_rows(nhosts(file));
     let up = held::set_up(
         file,
         t,
         hosts,
         &copies,
-        run,
+        entries,
         &mut slots,
         &mut answers,
         Progress { done: 0 },

@@ -53,38 +53,38 @@ pub fn answer(n: u8) {
 
 // ---- events
 
-fn of_seat(call: &[u8], seat: usize) {
+fn of_node(call: &[u8], node: usize) {
     text(call);
-    number(b" seat ", seat);
+    number(b" seat ", node);
 }
 
-fn set(seat: usize, amount: Millis) {
-    of_seat(b"set", seat);
+fn set(node: usize, amount: Millis) {
+    of_node(b"set", node);
     printing::number(b" by ", amount.0);
     text(b" ms");
 }
 
-fn send(cable: usize, side: usize, tray: usize) {
+fn send(cable: usize, side: usize, slot: usize) {
     number(b"send cable ", cable);
     number(b" end ", side);
-    number(b" tray ", tray);
+    number(b" tray ", slot);
 }
 
-// An event, as the text of a bench file has it, but for counts.
+// An event, as the text of a bench file has it, except for counts.
 fn call(e: Event) {
     match e {
-        Event::Tick(seat, _) => of_seat(b"tick", seat),
-        Event::Adjust(seat, _) => of_seat(b"adjust", seat),
-        Event::Set(seat, ms, _) => set(seat, Millis::of_count(ms)),
-        Event::Second(seat) => of_seat(b"second", seat),
-        Event::SelfReport(seat, _) => of_seat(b"self-report", seat),
-        Event::Send(cable, side, tray, _) => send(cable, side, tray),
-        Event::Arrival(tray, _) => number(b"arrival tray ", tray),
+        Event::Tick(node, _) => of_node(b"tick", node),
+        Event::Adjust(node, _) => of_node(b"adjust", node),
+        Event::Set(node, ms, _) => set(node, Millis::of_count(ms)),
+        Event::Second(node) => of_node(b"second", node),
+        Event::SelfReport(node, _) => of_node(b"self-report", node),
+        Event::Send(cable, side, slot, _) => send(cable, side, slot),
+        Event::Arrival(slot, _) => number(b"arrival tray ", slot),
         Event::Unknown => text(b"none"),
     }
 }
 
-// The number of an event and the event, in front of its answer.
+// The number of an event and the event, before its answer.
 pub fn event(i: usize, e: Event) {
     number(b"event ", i);
     text(b": ");
@@ -119,25 +119,25 @@ pub fn clocks() {
     text(b"seat\tCLOCK ms\tDATE\n");
 }
 
-// A seat's clock, without what a crystal's counter shows.
-pub fn clock(seat: usize, c: Clock) {
-    io::print_decimal(1, seat as u64);
+// A host's clock, without the count of a crystal.
+pub fn clock(node: usize, c: Clock) {
+    io::print_decimal(1, node as u64);
     column(Millis::whole(c.clock).0);
     text(b"\t");
     date(c.date);
     end();
 }
 
-pub fn entries() {
+pub fn own_entries() {
     text(b"seat\thost\tDELAY ms\tOFFSET ms\tTTL s\tPID\n");
 }
 
-// A seat's entry of a host, where that is up.
-pub fn entry(seat: usize, id: usize, e: Entry) {
+// A host's entry of another host, if that is up.
+pub fn entry(node: usize, id: usize, e: Entry) {
     if !table::up(e) {
         return;
     }
-    io::print_decimal(1, seat as u64);
+    io::print_decimal(1, node as u64);
     number(b"\t", id);
     column(e.delay.0);
     column(Millis::of_word(e.offset).0);

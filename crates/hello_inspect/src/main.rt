@@ -20,7 +20,7 @@ fn line(name: &[u8], n: i64) {
 }
 
 // What a packet that passes has in it.
-fn told(r: Reply) {
+fn returned(r: Reply) {
     source(r.source);
     line(b"time ", r.time.0);
     line(b"TSP ", r.tsp as i64);
@@ -30,10 +30,10 @@ fn told(r: Reply) {
 fn main() {
     let mut octets = io::large_buffer();
     let n = io::read_full(0, &mut octets);
-    let r = program::inspection(&octets[..n]);
+    let r = owned_host::inspection(&octets[..n]);
     let a = r.answer;
     line(b"", answer::number(a) as i64);
     if answer::is_done(a) {
-        told(r);
+        returned(r);
     }
 }

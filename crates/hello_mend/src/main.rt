@@ -1,4 +1,4 @@
-// Mends the capture on standard input. The mended one goes to standard output. To standard error goes a line `START LENGTH`
+// Recovers the capture on standard input. The recovered one goes to standard output. To standard error goes a line `START LENGTH`
 // for each stretch that was passed over, and then whether the input's own number and places were those of its packets.
 // The input buffer holds one octet more than the mender takes: of a longer input it is full, and the answer is 27.
 ghost use Prim.Native.Nat.{_+_, _≤_};
@@ -49,7 +49,7 @@ fn main() {
     let mut output = [0u8; 73732];
     let mut stretches = [0u8; 16392];
     let n = io::read_full(0, &mut input);
-    let m = capture::mend(&input[..n], &mut output, &mut stretches);
+    let m = capture::recover(&input[..n], &mut output, &mut stretches);
     let a = m.answer;
     let answer = capture::number(a);
     if answer != 0 {

@@ -3,7 +3,7 @@
 fn main() {
     let mut octets = io::large_buffer();
     let n = io::read_full(0, &mut octets);
-    let number = program::answer(&octets[..n]);
+    let number = owned_host::answer(&octets[..n]);
     io::print_decimal(1, number as u64);
     io::write_all(1, b"\n");
 }

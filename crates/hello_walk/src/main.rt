@@ -2,7 +2,7 @@
 // The buffer holds one octet more than any IP packet has: of a longer input it is full, and the answer is 3.
 use calls::Request;
 use clock::Counter;
-use program::Whole;
+use owned_host::HostReply;
 use table::Entry;
 
 mod show;
@@ -11,39 +11,39 @@ mod show;
 const BOXES: u32 = 1025;
 
 // The entry of an id.
-fn entry_of(run: [Entry; 255], id: u8) -> Entry {
+fn entry_of(entries: [Entry; 255], id: u8) -> Entry {
     if id < 255 {
-        return run[id as usize];
+        return entries[id as usize];
     }
     table::fresh()
 }
 
 // The line of a box: the host before it and after it.
-fn line(before: Whole, after: Whole) {
+fn line(before: HostReply, after: HostReply) {
     let w = before.walk;
-    let run = before.run;
-    let left = after.run;
+    let entries = before.entries;
+    let left = after.entries;
     show::place(w);
     let a = show::reading(w, after.walk);
     let x = host::link_state::link_of(before.links, 1);
     let b = show::link(a, x, host::link_state::link_of(after.links, 1));
     let c = show::held(b, w, after.walk);
-    show::end(show::entry(c, entry_of(run, w.id), entry_of(left, w.id)));
+    show::end(show::entry(c, entry_of(entries, w.id), entry_of(left, w.id)));
 }
 
 // The next box. The host's clock is a line clock.
-fn next(h: Whole, copy: &[u8]) -> Whole {
-    let run = h.run;
+fn next(h: HostReply, copy: &[u8]) -> HostReply {
+    let entries = h.entries;
     let q = Request::Step(Counter::zero());
-    let after = program::call(
-        program::settings(),
-        program::nets(),
+    let after = owned_host::call(
+        owned_host::settings(),
+        owned_host::net_table(),
         0,
         h.clock,
         h.links,
         h.walk,
         copy,
-        run,
+        entries,
         q,
     );
     line(h, after);
@@ -51,7 +51,7 @@ fn next(h: Whole, copy: &[u8]) -> Whole {
 }
 
 // The boxes from an opened walk on, to its end.
-fn boxes(start: Whole, copy: &[u8]) -> Whole {
+fn boxes(start: HostReply, copy: &[u8]) -> HostReply {
     let mut h = start;
     let mut i: u32 = 0;
     while i < BOXES {
@@ -64,18 +64,18 @@ fn boxes(start: Whole, copy: &[u8]) -> Whole {
 }
 
 // The walk is opened, on link 1.
-fn opened(copy: &mut [u8], packet: &[u8]) -> Whole {
-    let h = program::fresh_host(packet);
-    let run = h.run;
-    program::open_walk(
-        program::settings(),
-        program::nets(),
+fn opened(copy: &mut [u8], packet: &[u8]) -> HostReply {
+    let h = owned_host::fresh_host(packet);
+    let entries = h.entries;
+    owned_host::open_walk(
+        owned_host::settings(),
+        owned_host::net_table(),
         0,
         h.clock,
         h.links,
         h.walk,
         copy,
-        run,
+        entries,
         1,
         packet,
     )

@@ -22,7 +22,7 @@ fn line(id: u8, letter: u8) {
     text(&[letter, b':']);
 }
 
-// Where a walk stands.
+// The place of a walk.
 pub(crate) fn place(w: Walk) {
     match host::walk::place_of(w) {
         Place::Nowhere => text(b"nowhere:"),
@@ -38,7 +38,7 @@ pub(crate) fn place(w: Walk) {
     }
 }
 
-// The name of a field, behind what the line has already, if anything.
+// The name of a field, after what the line already has.
 fn field(empty: bool, name: &[u8]) {
     if !empty {
         text(b",");
@@ -81,7 +81,7 @@ fn neighbor(empty: bool, before: Address, after: Address) -> bool {
     false
 }
 
-// Step 1 tells our reading.
+// Step 1 finds our reading.
 pub(crate) fn reading(before: Walk, after: Walk) -> bool {
     if before.step != 1 {
         return true;

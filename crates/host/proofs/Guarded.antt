@@ -12,7 +12,7 @@ use Rattle.lists.proofs.Tests as tests
 use Rattle.answer.specs.declared.Answer.{Answer}
 use Rattle.answer.specs.declared.Answer.the-variants.{Done, Setting, OutOfRange, InWalk}
 use Rattle.clock.specs.Clock.{clockInRange}
-use Rattle.class_table.specs.Table.{tableBad}
+use Rattle.net_table.specs.Table.{tableBad}
 use Rattle.table.specs.declared.Entry.{Entry}
 use Rattle.table.specs.Forms.{every}
 use Rattle.table.specs.Entry.{entryInRange}
@@ -21,9 +21,9 @@ use Rattle.host.specs.declared.guard.Scope.{Scope}
 use Rattle.host.specs.declared.guard.Scope.the-variants.{Places, All, OnLink, Opening, Walking}
 use Rattle.host.specs.Settings.{linkCount, settingsGood, settingsFit}
 use Rattle.host.specs.State.{placesPerHost, firstPlace, noLink}
-use Rattle.host.specs.Lent.{Lent, entriesOf, hostInRange, ownWalkInRange, marksAsSet, lentInRange}
+use Rattle.host.specs.CallState.{CallState, entriesOf, hostInRange, ownWalkInRange, marksAsSet, stateInRange}
 use Rattle.host.specs.Guard.{noPlaces, longest, ownOutOfRange, outOfRange, inWalk, guard, done}
-use Rattle.host.specs.code.Told.{afresh, Ready, Told, RowsBelow, TableTold, NumberTold}
+use Rattle.host.specs.code.Returned.{initialized, Ready, Returned, RowsBelow, TableReturned, NumberReturned}
 use Rattle.host.proofs.Places.{Holds}
 use Rattle.host.proofs.Fits.{fits-good, rows-below}
 
@@ -35,13 +35,13 @@ either P a {refusal} {work} refuses goes-on =
 
 -- ---- what a call that goes on has
 
-pub record Passed (a : Scope) (x : Lent) : Type 0 where
-  pub places : noPlaces (x .number) (x .run) ≡ false
+pub record Passed (a : Scope) (x : CallState) : Type 0 where
+  pub places : noPlaces (x .number) (x .entries) ≡ false
   pub settings : settingsGood (x .host .settings) ≡ true
   pub table : tableBad (x .nets) ≡ false
   pub fit : settingsFit (x .nets) (x .host .settings) ≡ true
   pub rows : RowsBelow (x .nets) (x .host .settings)
-  pub lent : afresh a ≡ false → lentInRange x ≡ true
+  pub callState : initialized a ≡ false → stateInRange x ≡ true
   pub link : (i : ℕ) → a ≡ OnLink i → noLink (x .host .settings) i ≡ false
   pub opening : (i : ℕ) → a ≡ Opening i → (noLink (x .host .settings) i ≡ false) × (longest ≤ length (x .copy))
   pub closed : inWalk a (x .walk) ≡ false
@@ -57,21 +57,21 @@ past false false false e = absurd (false≢true e)
 unlike : {A : Type 0} → _≡_ {A = ℕ} 0 1 → A
 unlike z = absurd (omega arith)
 
-module _ (x : Lent) (fair : tableBad (x .nets) ≡ false) (fit : settingsFit (x .nets) (x .host .settings) ≡ true) where
+module _ (x : CallState) (fair : tableBad (x .nets) ≡ false) (fit : settingsFit (x .nets) (x .host .settings) ≡ true) where
   abbrev missing : Bool
-  missing = noPlaces (x .number) (x .run)
+  missing = noPlaces (x .number) (x .entries)
 
   -- with what the table and the settings have
-  and-fits : (a : Scope) → missing ≡ false → (afresh a ≡ false → lentInRange x ≡ true) → ((i : ℕ) → a ≡ OnLink i → noLink (x .host .settings) i ≡ false)
+  and-fits : (a : Scope) → missing ≡ false → (initialized a ≡ false → stateInRange x ≡ true) → ((i : ℕ) → a ≡ OnLink i → noLink (x .host .settings) i ≡ false)
       → ((i : ℕ) → a ≡ Opening i → (noLink (x .host .settings) i ≡ false) × (longest ≤ length (x .copy))) → inWalk a (x .walk) ≡ false → Passed a x
-  and-fits a there lent link opening shut =
+  and-fits a there callState link opening shut =
       record {
         places = there;
         settings = fits-good (x .nets) (x .host .settings) fit;
         table = fair;
         fit = fit;
         rows = rows-below (x .nets) (x .host .settings) fair fit;
-        lent = lent;
+        callState = callState;
         link = link;
         opening = opening;
         closed = shut;
@@ -80,22 +80,22 @@ module _ (x : Lent) (fair : tableBad (x .nets) ≡ false) (fit : settingsFit (x 
   within : (a : Scope) → ownOutOfRange a x ≡ false → inWalk a (x .walk) ≡ false → Passed a x
   within Places e shut = and-fits Places e (λ f. absurd (false≢true (sym f))) (λ i f. unlike cc) (λ i f. unlike cc) shut
   within All e shut =
-      let n = neither missing (not (lentInRange x)) e in
+      let n = neither missing (not (stateInRange x)) e in
       and-fits All (n .0) (λ _. is-so _ (n .1)) (λ i f. unlike cc) (λ i f. unlike cc) shut
   within Walking e shut =
-      let n = neither missing (not (lentInRange x)) e in
+      let n = neither missing (not (stateInRange x)) e in
       and-fits Walking (n .0) (λ _. is-so _ (n .1)) (λ i f. unlike cc) (λ i f. unlike cc) shut
   within (OnLink i) e shut =
-      let o = neither (noLink (x .host .settings) i) (missing || not (lentInRange x)) e in
-      let n = neither missing (not (lentInRange x)) (o .1) in
+      let o = neither (noLink (x .host .settings) i) (missing || not (stateInRange x)) e in
+      let n = neither missing (not (stateInRange x)) (o .1) in
       and-fits (OnLink i) (n .0) (λ _. is-so _ (n .1)) (λ j f. (let same : i ≡ j = cc in rw (sym same) (o .0))) (λ j f. unlike cc) shut
   within (Opening i) e shut =
-      let r = neither (ltb (length (x .copy)) longest) (noLink (x .host .settings) i || (missing || not (lentInRange x))) e in
-      let o = neither (noLink (x .host .settings) i) (missing || not (lentInRange x)) (r .1) in
-      let n = neither missing (not (lentInRange x)) (o .1) in
+      let r = neither (ltb (length (x .copy)) longest) (noLink (x .host .settings) i || (missing || not (stateInRange x))) e in
+      let o = neither (noLink (x .host .settings) i) (missing || not (stateInRange x)) (r .1) in
+      let n = neither missing (not (stateInRange x)) (o .1) in
       and-fits (Opening i) (n .0) (λ _. is-so _ (n .1)) (λ j f. unlike cc) (λ j f. (let same : i ≡ j = cc in (rw (sym same) (o .0), ltb-false _ _ (r .0)))) shut
 
-pub passed : (a : Scope) (x : Lent) → done (guard a x) ≡ true → Passed a x
+pub passed : (a : Scope) (x : CallState) → done (guard a x) ≡ true → Passed a x
 unfolding guard
 passed a x e =
     let p = past (outOfRange a x) (inWalk a (x .walk)) (settingsFit (x .nets) (x .host .settings)) e in
@@ -104,13 +104,13 @@ passed a x e =
 
 -- ---- what the tests say in numbers
 
-pub holds : (k : ℕ) (run : List Entry) → noPlaces k run ≡ false → Holds k run
+pub holds : (k : ℕ) (entries : List Entry) → noPlaces k entries ≡ false → Holds k entries
 unfolding noPlaces
-holds k run e = ltb-false _ _ (neither (ltb 15 k) (ltb (length run) (firstPlace k + placesPerHost)) e .1)
+holds k entries e = ltb-false _ _ (neither (ltb 15 k) (ltb (length entries) (firstPlace k + placesPerHost)) e .1)
 
-pub number-lent : (k : ℕ) (run : List Entry) → noPlaces k run ≡ false → k ≤ 15
+pub number-state : (k : ℕ) (entries : List Entry) → noPlaces k entries ≡ false → k ≤ 15
 unfolding noPlaces
-number-lent k run e = ltb-false 15 k (neither (ltb 15 k) _ e .0)
+number-state k entries e = ltb-false 15 k (neither (ltb 15 k) _ e .0)
 
 -- a link that the host has
 pub record Counted (s : Settings) (i : ℕ) : Type 0 where
@@ -126,37 +126,37 @@ counted s i e =
     let most = ltb-false (linkCount s) i (n .1) in
     omega arith
 
-module _ (x : Lent) (in-range : lentInRange x ≡ true) where
-  pub clock-lent : clockInRange (x .host .clock) ≡ true
-  unfolding lentInRange
-  clock-lent = both (clockInRange (x .host .clock)) _ (both (hostInRange (x .host)) _ (both (hostInRange (x .host) && ownWalkInRange x) _ (both (hostInRange (x .host) && ownWalkInRange x && every entryInRange (entriesOf x)) _ in-range .0) .0) .0) .0
+module _ (x : CallState) (in-range : stateInRange x ≡ true) where
+  pub clock-state : clockInRange (x .host .clock) ≡ true
+  unfolding stateInRange
+  clock-state = both (clockInRange (x .host .clock)) _ (both (hostInRange (x .host)) _ (both (hostInRange (x .host) && ownWalkInRange x) _ (both (hostInRange (x .host) && ownWalkInRange x && every entryInRange (entriesOf x)) _ in-range .0) .0) .0) .0
 
-  pub walk-lent : ownWalkInRange x ≡ true
-  unfolding lentInRange
-  walk-lent = both (hostInRange (x .host)) _ (both (hostInRange (x .host) && ownWalkInRange x) _ (both (hostInRange (x .host) && ownWalkInRange x && every entryInRange (entriesOf x)) _ in-range .0) .0) .1
+  pub walk-state : ownWalkInRange x ≡ true
+  unfolding stateInRange
+  walk-state = both (hostInRange (x .host)) _ (both (hostInRange (x .host) && ownWalkInRange x) _ (both (hostInRange (x .host) && ownWalkInRange x && every entryInRange (entriesOf x)) _ in-range .0) .0) .1
 
-  pub entries-lent : every entryInRange (entriesOf x) ≡ true
-  unfolding lentInRange
-  entries-lent = both (hostInRange (x .host) && ownWalkInRange x) _ (both (hostInRange (x .host) && ownWalkInRange x && every entryInRange (entriesOf x)) _ in-range .0) .1
+  pub entries-state : every entryInRange (entriesOf x) ≡ true
+  unfolding stateInRange
+  entries-state = both (hostInRange (x .host) && ownWalkInRange x) _ (both (hostInRange (x .host) && ownWalkInRange x && every entryInRange (entriesOf x)) _ in-range .0) .1
 
-  pub marks-lent : marksAsSet x ≡ true
-  unfolding lentInRange
-  marks-lent = both (hostInRange (x .host) && ownWalkInRange x && every entryInRange (entriesOf x)) _ in-range .1
+  pub marks-state : marksAsSet x ≡ true
+  unfolding stateInRange
+  marks-state = both (hostInRange (x .host) && ownWalkInRange x && every entryInRange (entriesOf x)) _ in-range .1
 
 -- what its answer tells the work behind it
-module _ (a : Scope) (x : Lent) where
-  pub told : Told (guard a x) a (x .host .settings) (x .host .clock)
-  told = record {
+module _ (a : Scope) (x : CallState) where
+  pub returned : Returned (guard a x) a (x .host .settings) (x .host .clock)
+  returned = record {
     ready = λ d.
         (let p = passed a x d in
-        record { settings = p .settings; clock = λ f. clock-lent x (p .lent f); link = p .link });
+        record { settings = p .settings; clock = λ f. clock-state x (p .callState f); link = p .link });
   }
 
-  pub number-told : NumberTold (guard a x) (x .host .settings) (x .number)
-  number-told = record {
+  pub number-returned : NumberReturned (guard a x) (x .host .settings) (x .number)
+  number-returned = record {
     settings = λ d. passed a x d .settings;
-    number = λ d. number-lent (x .number) (x .run) (passed a x d .places);
+    number = λ d. number-state (x .number) (x .entries) (passed a x d .places);
   }
 
-  pub table-told : TableTold (guard a x) (x .nets) (x .host .settings)
-  table-told = record { rows = λ d. passed a x d .rows }
+  pub table-returned : TableReturned (guard a x) (x .nets) (x .host .settings)
+  table-returned = record { rows = λ d. passed a x d .rows }

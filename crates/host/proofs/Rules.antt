@@ -7,7 +7,7 @@ use Rattle.quantity.specs.Quantity.{millis, lessMillis}
 use Rattle.calendar.specs.Date.{real}
 use Rattle.clock.specs.Midnight.{dayMillis}
 use Rattle.clock.specs.Clock.{tickInRange}
-use Rattle.class_table.specs.declared.ClassTable.{ClassTable}
+use Rattle.net_table.specs.declared.NetTable.{NetTable}
 use Rattle.host.specs.declared.Settings.{Settings}
 use Rattle.host.specs.Settings.{fromTo, clockSettingOff, switchesGood, numbersGood, marksGood, settingsGood, settingsFit}
 
@@ -38,7 +38,7 @@ in-pairs s = simp and-assoc
 
 -- ---- with the class's NHOSTS
 
-module _ (t : ClassTable) (s : Settings) where
+module _ (t : NetTable) (s : Settings) where
   all : (a b c : Bool) → numbersGood s ≡ a → marksGood s ≡ b → eqb (s .layout .nhosts) (t .nhosts) ≡ c → settingsFit t s ≡ (a && b && c)
   unfolding settingsGood
   all a b c n m h = rw (n, m, h) refl

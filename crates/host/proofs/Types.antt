@@ -1,6 +1,6 @@
 -- The structs that make up a host, and those of its guard, as the laws of thin functions take them.
 use mir.Syntax.{w64}
-use Rattle.lent.proofs.Words.{Word, Data, Choice, unsigned}
+use Rattle.references.proofs.Words.{Word, Data, Choice, unsigned}
 use Rattle.answer.proofs.Answer as Answer
 use Rattle.answer.proofs.Answer.Laws as Answer′
 use Rattle.host.proofs.Settings as Settings

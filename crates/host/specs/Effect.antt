@@ -1,9 +1,9 @@
 -- CALL-4: what a call results in: the reply, the clock, the links and the walk, and what changes in which entries.
 use Prim.Native.Nat.{ℕ, _+_}
 use Rattle.clock.specs.declared.Clock.{Clock}
-use Rattle.table.specs.declared.run.Change.{Change}
-use Rattle.table.specs.declared.run.Change.the-variants.{Fresh}
-use Rattle.table.specs.declared.run.Changes.{Changes}
+use Rattle.table.specs.declared.entries.Change.{Change}
+use Rattle.table.specs.declared.entries.Change.the-variants.{Fresh}
+use Rattle.table.specs.declared.entries.Changes.{Changes}
 use Rattle.table.specs.Marks.{noMarks}
 use Rattle.host.specs.declared.Settings.{Settings}
 use Rattle.host.specs.declared.Links.{Links}

@@ -8,7 +8,7 @@ use Rattle.answer.specs.declared.Answer.{Answer}
 use Rattle.answer.specs.declared.Answer.the-variants.{Done, Setting, OutOfRange, InWalk}
 use Rattle.answer.specs.Answer.{number}
 use Rattle.wire.specs.Packet.{packetLength}
-use Rattle.class_table.specs.Table.{tableBad}
+use Rattle.net_table.specs.Table.{tableBad}
 use Rattle.table.specs.declared.Entry.{Entry}
 use Rattle.host.specs.declared.walk.Walk.{Walk}
 use Rattle.host.specs.declared.guard.Scope.{Scope}
@@ -16,30 +16,30 @@ use Rattle.host.specs.declared.guard.Scope.the-variants.{Places, All, On
 use Rattle.host.specs.Settings.{settingsFit}
 use Rattle.host.specs.State.{placesPerHost, firstPlace, noLink}
 use Rattle.host.specs.Walk.{isOpen}
-use Rattle.host.specs.Lent.{Lent, lentInRange}
+use Rattle.host.specs.CallState.{CallState, stateInRange}
 
 -- ---- 12
 
 -- ANSWER-12, TABLE-8: is the host's number over 15, or are its places not all in the host table?
 unfoldable pub noPlaces : (number : ℕ) → List Entry → Bool
-noPlaces k run = ltb 15 k || ltb (length run) (firstPlace k + placesPerHost)
+noPlaces k entries = ltb 15 k || ltb (length entries) (firstPlace k + placesPerHost)
 
 -- WALK-1: the octets of the longest packet
 abbrev pub longest : ℕ
 longest = packetLength 255
 
 -- ANSWER-12, HOST-6, HOST-7: is the host's state out of range, or the link not there? Initialize tests number and places only.
-abbrev pub ownOutOfRange : Scope → Lent → Bool
-ownOutOfRange Places x = noPlaces (x .number) (x .run)
-ownOutOfRange All x = noPlaces (x .number) (x .run) || not (lentInRange x)
-ownOutOfRange Walking x = noPlaces (x .number) (x .run) || not (lentInRange x)
-ownOutOfRange (OnLink i) x = noLink (x .host .settings) i || (noPlaces (x .number) (x .run) || not (lentInRange x))
+abbrev pub ownOutOfRange : Scope → CallState → Bool
+ownOutOfRange Places x = noPlaces (x .number) (x .entries)
+ownOutOfRange All x = noPlaces (x .number) (x .entries) || not (stateInRange x)
+ownOutOfRange Walking x = noPlaces (x .number) (x .entries) || not (stateInRange x)
+ownOutOfRange (OnLink i) x = noLink (x .host .settings) i || (noPlaces (x .number) (x .entries) || not (stateInRange x))
 ownOutOfRange (Opening i) x =
     ltb (length (x .copy)) longest
-    || (noLink (x .host .settings) i || (noPlaces (x .number) (x .run) || not (lentInRange x)))
+    || (noLink (x .host .settings) i || (noPlaces (x .number) (x .entries) || not (stateInRange x)))
 
 -- ANSWER-12, NET-8: that, or a bad net table
-abbrev pub outOfRange : Scope → Lent → Bool
+abbrev pub outOfRange : Scope → CallState → Bool
 outOfRange a x = tableBad (x .nets) || ownOutOfRange a x
 
 -- ---- 16
@@ -52,7 +52,7 @@ inWalk (OnLink i) w = isOpen w
 inWalk (Opening i) w = isOpen w
 
 -- CALL-2, REPLY-1, ANSWER-1, NET-9: 12, then 16, then 1, else Done
-unfoldable pub guard : Scope → Lent → Answer
+unfoldable pub guard : Scope → CallState → Answer
 guard a x =
     cond (outOfRange a x) OutOfRange
     (cond (inWalk a (x .walk)) InWalk

@@ -13,7 +13,7 @@ use Rattle.wire.specs.Packet.{parse}
 use Rattle.host.specs.declared.Settings.{Settings}
 use Rattle.host.specs.State.{broadcast}
 use Rattle.host.specs.declared.Reply.{Reply}
-use Rattle.host.specs.Reply.{plainly, tellsPacket}
+use Rattle.host.specs.Reply.{plainly, returnsPacket}
 
 -- PACKET-10, ANSWER-8: has the packet a table of another layout?
 unfoldable pub otherLayout : Settings → Packet → Bool
@@ -37,4 +37,4 @@ inspect s i octets = inspected s i (parse octets)
 -- INSPECT-2: what an inspection returns; zeros at a refusal
 abbrev pub tells : Parsed → Reply
 tells (Bad a) = plainly a
-tells (Good p) = tellsPacket (p .source) (p .time) (bits16 (p .tsp .0)) (p .nhosts)
+tells (Good p) = returnsPacket (p .source) (p .time) (bits16 (p .tsp .0)) (p .nhosts)

@@ -4,6 +4,6 @@ pub mod Reply
 pub mod Inspection
 pub mod Walk
 pub mod Effect
-pub mod Lent
+pub mod CallState
 pub mod Guard
 pub mod code

@@ -28,8 +28,8 @@ plainly a =
     }
 
 -- REPLY-2, SEND-4: a send's length
-abbrev pub tellsLength : ℕ → Reply
-tellsLength n =
+abbrev pub returnsLength : ℕ → Reply
+returnsLength n =
     record {
       answer = Done;
       length = n;
@@ -45,8 +45,8 @@ tellsLength n =
     }
 
 -- REPLY-2, CALL-3: a lookup's id and PID
-abbrev pub tellsRoute : (id pid : ℕ) → Reply
-tellsRoute i p =
+abbrev pub returnsRoute : (id pid : ℕ) → Reply
+returnsRoute i p =
     record {
       answer = Done;
       length = 0;
@@ -62,8 +62,8 @@ tellsRoute i p =
     }
 
 -- REPLY-2, CLOCK-8: a reading and DATE
-abbrev pub tellsTime : Millis → Date → Reply
-tellsTime t d =
+abbrev pub returnsTime : Millis → Date → Reply
+returnsTime t d =
     record {
       answer = Done;
       length = 0;
@@ -79,8 +79,8 @@ tellsTime t d =
     }
 
 -- REPLY-2, INSPECT-2: what an inspection returns, TSP unsigned
-abbrev pub tellsPacket : (source : Address) → Millis → (tsp nhosts : ℕ) → Reply
-tellsPacket a t v n =
+abbrev pub returnsPacket : (source : Address) → Millis → (tsp nhosts : ℕ) → Reply
+returnsPacket a t v n =
     record {
       answer = Done;
       length = 0;
@@ -96,8 +96,8 @@ tellsPacket a t v n =
     }
 
 -- REPLY-2, WALK-7: a place: step 1 to 5, line 1 to 4 for (a) to (d), host id; zeros for none
-abbrev pub tellsPlace : (step line id : ℕ) → Reply
-tellsPlace n m i =
+abbrev pub returnsPlace : (step line id : ℕ) → Reply
+returnsPlace n m i =
     record {
       answer = Done;
       length = 0;

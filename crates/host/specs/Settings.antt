@@ -15,7 +15,7 @@ use Rattle.wire.specs.declared.Address.{Address}
 use Rattle.route.specs.declared.Found.{Found}
 use Rattle.route.specs.declared.Found.the-variants.{Id, Nothing}
 use Rattle.route.specs.Find.{isFound, localId, find}
-use Rattle.class_table.specs.declared.ClassTable.{ClassTable}
+use Rattle.net_table.specs.declared.NetTable.{NetTable}
 use Rattle.host.specs.declared.LinkSetting.{LinkSetting}
 use Rattle.host.specs.declared.Settings.{Settings}
 
@@ -32,7 +32,7 @@ abbrev pub ownId : Settings → Found
 ownId s = localId (s .layout) (s .address)
 
 -- ROUTE-6, NET-1: the id of an address, by our net or by the class's net table
-abbrev pub foundFor : ClassTable → Settings → Address → Found
+abbrev pub foundFor : NetTable → Settings → Address → Found
 foundFor t s a = find (s .address) (s .layout) (t .net) a
 
 -- HOST-2: how many links the host has, 8 at most
@@ -74,5 +74,5 @@ unfoldable pub settingsGood : Settings → Bool
 settingsGood s = numbersGood s && marksGood s
 
 -- NET-9, ANSWER-1: are the settings good, with the table's NHOSTS?
-abbrev pub settingsFit : ClassTable → Settings → Bool
+abbrev pub settingsFit : NetTable → Settings → Bool
 settingsFit t s = settingsGood s && eqb (s .layout .nhosts) (t .nhosts)

@@ -79,9 +79,9 @@ hasPlace Nothing = true
 hasPlace (Id id) = ltb id placesPerHost
 
 -- TABLE-8: the host's entries
-unfoldable pub entries : Settings → (number : ℕ) → List Entry → List Entry
-entries s k run = part (firstPlace k) (hostCount s) run
+unfoldable pub ownEntries : Settings → (number : ℕ) → List Entry → List Entry
+ownEntries s k entries = part (firstPlace k) (hostCount s) entries
 
 -- TABLE-9: the host table with these entries in the host's first places; all others stay
 unfoldable pub withEntries : (number : ℕ) → List Entry → List Entry → List Entry
-withEntries k es run = over run (firstPlace k) es
+withEntries k es entries = over entries (firstPlace k) es

@@ -76,16 +76,16 @@ placeOf w = placeIn (w .step) (w .line)
 abbrev pub packetOf : Walk → (copy : List ℕ) → List ℕ
 packetOf w copy = take (w .length) copy
 
--- ---- what the lines of an id update it with: DELAY and OFFSET as they are held, with the packet's report where it has a table
+-- ---- the update of an id by its lines: the walk's DELAY and OFFSET, with the packet's report if it has a table
 
 -- WALK-2: the update with the walk's DELAY, OFFSET and reading
-abbrev pub heldUpdate : Walk → Update
-heldUpdate w = record { pid = w .link; delay = ofWord (w .delay); offset = w .offset; reading = w .reading }
+abbrev pub walkUpdate : Walk → Update
+walkUpdate w = record { pid = w .link; delay = ofWord (w .delay); offset = w .offset; reading = w .reading }
 
 -- WALK-3, UPDATE-1: the update of the walk's id: with its report if the packet has a table
 abbrev pub lineUpdate : Walk → Packet → (packet : List ℕ) → Update
 lineUpdate w p octets =
-    cond (eqb (p .nhosts) 0) (heldUpdate w) (plusReport (heldUpdate w) (reportAt (helloOf octets) (w .id)))
+    cond (eqb (p .nhosts) 0) (walkUpdate w) (plusReport (walkUpdate w) (reportAt (helloOf octets) (w .id)))
 
 -- ---- 12
 
@@ -102,26 +102,26 @@ abbrev pub storable : Update → Bool
 storable u = not (lessMillis (u .delay) minDelay) && lessMillis (u .delay) maxDelay
 
 -- WALK-9: is everything in range that the walk's place uses?
-abbrev pub heldAt : Place → Settings → Walk → Packet → (packet : List ℕ) → Bool
-heldAt Nowhere s w p octets = false
-heldAt Step1 s w p octets = true
-heldAt Step2 s w p octets = readingInRange w
-heldAt Step3 s w p octets = readingInRange w
-heldAt Step4 s w p octets = readingInRange w
-heldAt Step5 s w p octets = readingInRange w
-heldAt LineA s w p octets = readingInRange w && idInRange s w
-heldAt LineB s w p octets = readingInRange w && idInRange s w
-heldAt LineC s w p octets = readingInRange w && idInRange s w && storable (lineUpdate w p octets)
-heldAt LineD s w p octets = readingInRange w && idInRange s w
+abbrev pub walkFieldsAt : Place → Settings → Walk → Packet → (packet : List ℕ) → Bool
+walkFieldsAt Nowhere s w p octets = false
+walkFieldsAt Step1 s w p octets = true
+walkFieldsAt Step2 s w p octets = readingInRange w
+walkFieldsAt Step3 s w p octets = readingInRange w
+walkFieldsAt Step4 s w p octets = readingInRange w
+walkFieldsAt Step5 s w p octets = readingInRange w
+walkFieldsAt LineA s w p octets = readingInRange w && idInRange s w
+walkFieldsAt LineB s w p octets = readingInRange w && idInRange s w
+walkFieldsAt LineC s w p octets = readingInRange w && idInRange s w && storable (lineUpdate w p octets)
+walkFieldsAt LineD s w p octets = readingInRange w && idInRange s w
 
 -- WALK-9: does the walk's packet pass the tests for 3 to 9, and is its place in range?
-abbrev pub packetHeld : Settings → Walk → (packet : List ℕ) → Parsed → Bool
-packetHeld s w octets (Bad a) = false
-packetHeld s w octets (Good p) = heldAt (placeOf w) s w p octets
+abbrev pub packetFits : Settings → Walk → (packet : List ℕ) → Parsed → Bool
+packetFits s w octets (Bad a) = false
+packetFits s w octets (Good p) = walkFieldsAt (placeOf w) s w p octets
 
 -- WALK-9: is a walk closed, or in range with the settings of the call?
 unfoldable pub walkInRange : Settings → Walk → (copy : List ℕ) → Bool
 walkInRange s w copy =
     not (isOpen w)
     || (not (noLink s (w .link)) && leb (w .length) (length copy)
-    && packetHeld s w (packetOf w copy) (inspect s (w .link) (packetOf w copy)))
+    && packetFits s w (packetOf w copy) (inspect s (w .link) (packetOf w copy)))

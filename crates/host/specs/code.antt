@@ -1,3 +1,3 @@
 pub mod Walks
-pub mod Told
+pub mod Returned
 pub mod Held

@@ -1,4 +1,4 @@
-// What becomes of the entries, and an effect that leaves them.
+// The change of the entries, and an effect that does not change them.
 ghost use mathlib.Core.Path.{_≡_};
 ghost use Prim.Native.Nat.{_≤_};
 ghost use Rattle.host.specs.Effect.{nothing, each, one, answers};
@@ -9,8 +9,8 @@ use super::Settings;
 use super::host_count;
 use super::walk::Walk;
 use clock::Clock;
-use table::run::Change;
-use table::run::Changes;
+use table::entries::Change;
+use table::entries::Changes;
 
 pub fn nothing() -> Changes
     ensures { λ w. ⌜ w ≡ nothing ⌝ }

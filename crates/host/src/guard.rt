@@ -1,10 +1,10 @@
 // The guard: answers 12, 16 and 1, before anything else in every call.
 ghost use mathlib.Core.Path.{_≡_};
 ghost use Prim.Native.Nat.{_≤_};
-ghost use Rattle.host.specs.Lent.{host, lent};
+ghost use Rattle.host.specs.CallState.{host, callState};
 ghost use Rattle.host.specs.Guard.{inWalk, guard};
-ghost use Rattle.host.specs.code.Told.{afresh};
-ghost use Rattle.host.specs.code.Held.{placesMissing, settled, wholeScan, namesLink, held, judged, judgedAfresh};
+ghost use Rattle.host.specs.code.Returned.{initialized};
+ghost use Rattle.host.specs.code.Held.{placesMissing, settled, fullScan, namesLink, held, judged, judgedInitialize};
 use super::HOSTS;
 use super::Links;
 use super::PLACES;
@@ -14,16 +14,16 @@ use super::host_count;
 use super::walk::Walk;
 use super::walk::is_open;
 use answer::Answer;
-use class_table::ClassTable;
 use clock::Clock;
+use net_table::NetTable;
 use table::Entry;
+use table::entries::Scan;
+use table::entries::all_in_range;
 use table::marks::Marks;
-use table::run::Scan;
-use table::run::all_in_range;
 
-// How much of what it is lent a call tests for 12.
+// How much of the borrowed state a call tests for 12.
 pub enum Scope {
-    // setting afresh: the table, numbers and places only
+    // initialization: the table, numbers and places only
     Places,
     All,
     // all, and that this is a link of the host
@@ -37,7 +37,7 @@ pub enum Scope {
 // The octets of the longest packet.
 const LONGEST: usize = 1052;
 
-// Are the host's places not all in a run of n entries?
+// Are the host's places not all among n entries?
 fn places_missing(number: usize, n: usize) -> bool
     ensures { λ r. ⌜ r ≡ placesMissing number n ⌝ }
 {
@@ -58,18 +58,18 @@ fn settled(good: bool) -> Scan
     }
 }
 
-// So many entries and their marks, where the clock, so many links and the walk are within their ranges.
-fn whole_scan(
+// The first n entries and their marks, if the clock, the host's links and the walk are within their ranges.
+fn full_scan(
     number: usize,
-    entries: usize,
+    count: usize,
     c: Clock,
     l: Links,
     links: usize,
     walk: bool,
     marks: Marks,
 ) -> Scan
-    requires { ⌜ (number ≤ 15) × (entries ≤ 255) × (links ≤ 8) ⌝ }
-    ensures { λ w. ⌜ w ≡ wholeScan number entries c l links walk marks ⌝ }
+    requires { ⌜ (number ≤ 15) × (count ≤ 255) × (links ≤ 8) ⌝ }
+    ensures { λ w. ⌜ w ≡ fullScan number count c l links walk marks ⌝ }
 {
     if !c.in_range() {
         return settled(false);
@@ -81,7 +81,7 @@ fn whole_scan(
         return settled(false);
     }
     let first = first_place(number);
-    let end = first + entries;
+    let end = first + count;
     Scan {
         first: first,
         end: end,
@@ -91,8 +91,8 @@ fn whole_scan(
 }
 
 // Does the scope name no more than numbers and places?
-fn afresh(scope: Scope) -> bool
-    ensures { λ r. ⌜ r ≡ afresh scope ⌝ }
+fn initialized(scope: Scope) -> bool
+    ensures { λ r. ⌜ r ≡ initialized scope ⌝ }
 {
     match scope {
         Scope::Places => true,
@@ -103,7 +103,7 @@ fn afresh(scope: Scope) -> bool
     }
 }
 
-// Is the link that the scope names, if it names one, a link of a host with so many, and has a copy of so many octets room where a walk is opened?
+// Is the link that the scope names, if any, a link of a host with n links? If a walk is opened, does the copy have room for the packet?
 fn names_link(links: usize, octets: usize, scope: Scope) -> bool
     ensures { λ r. ⌜ r ≡ namesLink links octets scope ⌝ }
 {
@@ -132,7 +132,7 @@ fn in_walk(w: Walk, scope: Scope) -> bool
 // What is known before the entries are looked at, and which of them to look at.
 fn held(
     s: Settings,
-    t: ClassTable,
+    t: NetTable,
     number: usize,
     c: Clock,
     l: Links,
@@ -143,20 +143,20 @@ fn held(
 ) -> Scan
     ensures { λ r. ⌜ r ≡ held scope t number (host s c l) w (now (copy .entry)) n ⌝ }
 {
-    if class_table::is_bad(t) {
+    if net_table::is_bad(t) {
         return settled(false);
     }
     if places_missing(number, n) {
         return settled(false);
     }
-    if afresh(scope) {
+    if initialized(scope) {
         return settled(true);
     }
     let links = super::link_state::count(s);
     if !names_link(links, copy.len(), scope) {
         return settled(false);
     }
-    whole_scan(
+    full_scan(
         number,
         host_count(s),
         c,
@@ -167,8 +167,8 @@ fn held(
     )
 }
 
-// 12 where something lent is out of range, 16 in a walk, then 1. The settings are tested in parts, here and in `guard_afresh`: each part is small enough to be compiled into both, and their test in one, `fit`, is not.
-fn judged(s: Settings, t: ClassTable, w: Walk, scope: Scope, good: bool) -> Answer
+// 12 if a borrowed value is out of range, 16 during a walk, then 1. The settings are tested in parts, here and in `guard_initialize`: each part is small enough to be inlined into both, and one test of all, `fit`, is not.
+fn judged(s: Settings, t: NetTable, w: Walk, scope: Scope, good: bool) -> Answer
     ensures { λ r. ⌜ r ≡ judged s t w scope good ⌝ }
 {
     let layout = s.layout;
@@ -193,31 +193,31 @@ fn judged(s: Settings, t: ClassTable, w: Walk, scope: Scope, good: bool) -> Answ
 // The answer that refuses the call, or Done.
 pub fn guard(
     settings: &Settings,
-    nets: &ClassTable,
+    net_table: &NetTable,
     number: usize,
     clock: Clock,
     links: Links,
     walk: Walk,
     copy: &[u8],
     scope: Scope,
-    run: &[Entry],
+    entries: &[Entry],
 ) -> Answer
-    ensures { λ r. ⌜ r ≡ guard scope (lent (now (settings .entry)) (now (nets .entry)) number clock links walk (now (copy .entry)) (now (run .entry))) ⌝ }
+    ensures { λ r. ⌜ r ≡ guard scope (callState (now (settings .entry)) (now («net_table» .entry)) number clock links walk (now (copy .entry)) (now (entries .entry))) ⌝ }
 {
     let s = *settings;
-    let t = *nets;
-    let n = run.len();
+    let t = *net_table;
+    let n = entries.len();
     let w = held(s, t, number, clock, links, walk, copy, scope, n);
-    let good = all_in_range(run, w);
+    let good = all_in_range(entries, w);
     judged(s, t, walk, scope, good)
 }
 
-// The same of a call that sets afresh: clock, links, walk and entries may be anything, in a run of n.
-pub fn guard_afresh(s: Settings, t: ClassTable, number: usize, n: usize) -> Answer
-    ensures { λ r. ⌜ r ≡ judgedAfresh s t number n ⌝ }
+// The same for initialization: clock, links, walk and entries may be anything; the host table has n places.
+pub fn guard_initialize(s: Settings, t: NetTable, number: usize, n: usize) -> Answer
+    ensures { λ r. ⌜ r ≡ judgedInitialize s t number n ⌝ }
 {
     let layout = s.layout;
-    let bad = class_table::is_bad(t);
+    let bad = net_table::is_bad(t);
     if bad {
         return Answer::OutOfRange;
     }

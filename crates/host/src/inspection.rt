@@ -8,7 +8,7 @@ use super::Reply;
 use super::Settings;
 use super::link_state::broadcast;
 use super::replies::plainly;
-use super::replies::tells_packet;
+use super::replies::returns_packet;
 use answer::Answer;
 use wire::Packet;
 use wire::Parsed;
@@ -64,7 +64,7 @@ pub fn inspect(s: Settings, link: usize, packet: &[u8]) -> Parsed
     }
 }
 
-// What an inspection tells.
+// What an inspection returns.
 pub fn tells(q: Parsed) -> Reply
     ensures { λ r. ⌜ r ≡ tells q ⌝ }
 {
@@ -74,7 +74,7 @@ pub fn tells(q: Parsed) -> Reply
             let source = p.source;
             let time = p.time;
             let tsp = p.tsp;
-            tells_packet(source, time, tsp.bits(), p.nhosts)
+            returns_packet(source, time, tsp.bits(), p.nhosts)
         }
     }
 }

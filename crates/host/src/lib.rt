@@ -1,4 +1,4 @@
-// A host: its settings and their test, answer 1, its links, and its places in the run.
+// A host: its settings and their test (answer 1), its links, and its places in the host table.
 ghost use mathlib.Core.Path.{_≡_};
 ghost use mathlib.Core.Bool.{true, not, _&&_, _||_};
 ghost use lib.Dec.{ltb, eqb};
@@ -20,8 +20,8 @@ ghost use Rattle.host.specs.Settings.{
   settingsFit,
 };
 ghost use Rattle.host.specs.State.{firstPlace, hostCount};
-use class_table::ClassTable;
 use link_state::MAX_LINKS;
+use net_table::NetTable;
 
 pub mod effects;
 pub mod guard;
@@ -74,7 +74,7 @@ pub struct Links {
     pub all: [Link; 8],
 }
 
-// The answer of a call and its values: a send tells the length of its message, a lookup the host id and PID of the route, a read the time and DATE, an inspection the packet's source, time, TSP and NHOSTS, a step the next place of its walk: step, line and host id.
+// The answer of a call and its values: a send returns the length of its message, a lookup the host id and PID of the route, a read the time and DATE, an inspection the packet's source, time, TSP and NHOSTS, a step the next place of its walk (step, line and host id).
 pub struct Reply {
     pub answer: answer::Answer,
     pub length: usize,
@@ -89,13 +89,13 @@ pub struct Reply {
     pub line: u8,
 }
 
-// What a call comes to: the reply, the clock, the links and the walk afterwards, and what becomes of the entries of which ids.
+// The result of a call: the reply, the clock, the links and the walk afterwards, and the change of the entries of which ids.
 pub struct Effect {
     pub reply: Reply,
     pub clock: clock::Clock,
     pub links: Links,
     pub walk: walk::Walk,
-    pub work: table::run::Changes,
+    pub work: table::entries::Changes,
 }
 
 // The most hosts, and the most seconds of HOLD-INTERVAL.
@@ -149,7 +149,7 @@ pub fn own_id(s: Settings) -> route::Found
 }
 
 // The id of an address, by the host's own net or the class's net table.
-pub fn found_for(t: ClassTable, s: Settings, a: wire::Address) -> route::Found
+pub fn found_for(t: NetTable, s: Settings, a: wire::Address) -> route::Found
     ensures { λ r. ⌜ r ≡ foundFor t s a ⌝ }
 {
     route::find(s.address, s.layout, t.net, a)
@@ -217,7 +217,7 @@ pub fn good(s: Settings) -> bool
 }
 
 // Are they, and is the class's NHOSTS theirs?
-pub fn fit(t: ClassTable, s: Settings) -> bool
+pub fn fit(t: NetTable, s: Settings) -> bool
     ensures { λ r. ⌜ r ≡ settingsFit t s ⌝ }
 {
     let layout = s.layout;
@@ -227,7 +227,7 @@ pub fn fit(t: ClassTable, s: Settings) -> bool
     layout.nhosts == t.nhosts
 }
 
-// The hosts of one net, and the places of each in the run.
+// The hosts of one net, and the places of each in the host table.
 pub const HOSTS: usize = 16;
 
 pub const PLACES: usize = 255;

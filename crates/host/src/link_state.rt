@@ -32,7 +32,7 @@ pub fn count(s: Settings) -> usize
     MAX_LINKS
 }
 
-// Is this the number of a link of a host with so many?
+// Is this the number of a link of a host with n links?
 pub fn is_link(count: usize, i: usize) -> bool
     ensures { λ r. ⌜ r ≡ isLink count i ⌝ }
 {
@@ -102,7 +102,7 @@ fn fresh_link(x: LinkSetting) -> Link
     }
 }
 
-// The links as they are set afresh.
+// The links as initialization sets them.
 pub fn fresh(s: Settings) -> Links
     ensures { λ r. ⌜ r ≡ freshLinks s ⌝ }
 {
@@ -123,7 +123,7 @@ fn link_in_range(x: Link) -> bool
     x.keep_alive <= KEEP_ALIVE_INTERVAL
 }
 
-// Are so many links within their ranges?
+// Are the first n links within their ranges?
 pub fn in_range(count: usize, l: Links) -> bool
     requires { ⌜ count ≤ 8 ⌝ }
     ensures { λ r. ⌜ r ≡ every linkInRange (take count (l .all)) ⌝ }

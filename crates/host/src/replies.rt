@@ -1,6 +1,6 @@
 // The replies of calls.
 ghost use mathlib.Core.Path.{_≡_};
-ghost use Rattle.host.specs.Reply.{plainly, tellsLength, tellsRoute, tellsTime, tellsPacket, tellsPlace};
+ghost use Rattle.host.specs.Reply.{plainly, returnsLength, returnsRoute, returnsTime, returnsPacket, returnsPlace};
 use super::Reply;
 use answer::Answer;
 use calendar::Date;
@@ -27,8 +27,8 @@ pub fn plainly(a: Answer) -> Reply
 }
 
 // The length of a message.
-pub fn tells_length(n: usize) -> Reply
-    ensures { λ r. ⌜ r ≡ tellsLength n ⌝ }
+pub fn returns_length(n: usize) -> Reply
+    ensures { λ r. ⌜ r ≡ returnsLength n ⌝ }
 {
     Reply {
         answer: Answer::Done,
@@ -46,8 +46,8 @@ pub fn tells_length(n: usize) -> Reply
 }
 
 // A route: a host id and the link to it.
-pub fn tells_route(id: usize, pid: u8) -> Reply
-    ensures { λ r. ⌜ r ≡ tellsRoute id pid ⌝ }
+pub fn returns_route(id: usize, pid: u8) -> Reply
+    ensures { λ r. ⌜ r ≡ returnsRoute id pid ⌝ }
 {
     Reply {
         answer: Answer::Done,
@@ -65,8 +65,8 @@ pub fn tells_route(id: usize, pid: u8) -> Reply
 }
 
 // The time and DATE.
-pub fn tells_time(time: Millis, date: Date) -> Reply
-    ensures { λ r. ⌜ r ≡ tellsTime time date ⌝ }
+pub fn returns_time(time: Millis, date: Date) -> Reply
+    ensures { λ r. ⌜ r ≡ returnsTime time date ⌝ }
 {
     Reply {
         answer: Answer::Done,
@@ -83,9 +83,9 @@ pub fn tells_time(time: Millis, date: Date) -> Reply
     }
 }
 
-// What an inspection tells of a packet.
-pub fn tells_packet(source: Address, time: Millis, tsp: u16, nhosts: u8) -> Reply
-    ensures { λ r. ⌜ r ≡ tellsPacket source time tsp nhosts ⌝ }
+// What an inspection returns for a packet.
+pub fn returns_packet(source: Address, time: Millis, tsp: u16, nhosts: u8) -> Reply
+    ensures { λ r. ⌜ r ≡ returnsPacket source time tsp nhosts ⌝ }
 {
     Reply {
         answer: Answer::Done,
@@ -103,8 +103,8 @@ pub fn tells_packet(source: Address, time: Millis, tsp: u16, nhosts: u8) -> Repl
 }
 
 // The next place of a walk: step, line and host id.
-pub fn tells_place(step: u8, line: u8, id: u8) -> Reply
-    ensures { λ r. ⌜ r ≡ tellsPlace step line id ⌝ }
+pub fn returns_place(step: u8, line: u8, id: u8) -> Reply
+    ensures { λ r. ⌜ r ≡ returnsPlace step line id ⌝ }
 {
     Reply {
         answer: Answer::Done,

@@ -1,4 +1,4 @@
-// A walk: an arrival that is held as a place in section 3.3.3, with what its steps have found. The copy of its packet stands beside it.
+// A walk: an arrival in progress, as a place in section 3.3.3 with the values that its steps found. The copy of its packet is separate.
 ghost use mathlib.Core.Path.{_≡_};
 ghost use mathlib.Core.Bool.{true, _&&_};
 ghost use Prim.Native.Nat.{_≤_};
@@ -9,13 +9,13 @@ ghost use Rattle.host.specs.Walk.{
   stepPlace,
   linePlace,
   placeOf,
-  heldUpdate,
+  walkUpdate,
   lineUpdate,
   readingInRange,
   idInRange,
   storable,
-  heldAt,
-  packetHeld,
+  walkFieldsAt,
+  packetFits,
   walkInRange,
 };
 ghost use Rattle.host.specs.declared.walk.Place.the-variants.{LineC};
@@ -28,7 +28,7 @@ use quantity::Count;
 use quantity::Millis;
 use quantity::Word;
 use table::Update;
-use table::run::plus_report;
+use table::entries::plus_report;
 use wire::Packet;
 use wire::Parsed;
 
@@ -51,7 +51,7 @@ pub struct Walk {
     pub offset: Word,
 }
 
-// Where a walk stands; nowhere, where its numbers are no place.
+// The place of a walk; none if its numbers are no place.
 pub enum Place {
     Nowhere,
     Step1,
@@ -141,8 +141,8 @@ pub fn place_of(w: Walk) -> Place
 }
 
 // What a walk holds of an update: DELAY and OFFSET.
-fn held_update(w: Walk) -> Update
-    ensures { λ u. ⌜ (u ≡ heldUpdate w) × (ownInRange u ≡ true) ⌝ }
+fn walk_update(w: Walk) -> Update
+    ensures { λ u. ⌜ (u ≡ walkUpdate w) × (ownInRange u ≡ true) ⌝ }
 {
     let reading = w.reading;
     let offset = w.offset;
@@ -160,7 +160,7 @@ pub fn line_update(s: Settings, w: Walk, p: Packet, packet: &[u8]) -> Update
     requires { ⌜ idInRange s w ≡ true ⌝ }
     ensures { λ u. ⌜ (u ≡ lineUpdate w p (now (packet .entry))) × (delayInRange u ≡ true) ⌝ }
 {
-    let u = held_update(w);
+    let u = walk_update(w);
     if p.nhosts == 0 {
         return u;
     }
@@ -200,7 +200,7 @@ fn id_good(s: Settings, w: Walk) -> bool
 // Our reading, the id, and what line (c) would store.
 fn line_c_good(s: Settings, w: Walk, p: Packet, packet: &[u8]) -> bool
     requires { ⌜ Reported s p (now packet) ⌝ }
-    ensures { λ r. ⌜ r ≡ heldAt LineC s w p (now (packet .entry)) ⌝ }
+    ensures { λ r. ⌜ r ≡ walkFieldsAt LineC s w p (now (packet .entry)) ⌝ }
 {
     if !id_good(s, w) {
         return false;
@@ -208,10 +208,10 @@ fn line_c_good(s: Settings, w: Walk, p: Packet, packet: &[u8]) -> bool
     storable(line_update(s, w, p, packet))
 }
 
-// Is what is held by its place within its ranges?
-fn held_good(s: Settings, w: Walk, p: Packet, packet: &[u8]) -> bool
+// Are the values that a walk has at its place within their ranges?
+fn fields_good(s: Settings, w: Walk, p: Packet, packet: &[u8]) -> bool
     requires { ⌜ Reported s p (now packet) ⌝ }
-    ensures { λ r. ⌜ r ≡ heldAt (placeOf w) s w p (now (packet .entry)) ⌝ }
+    ensures { λ r. ⌜ r ≡ walkFieldsAt (placeOf w) s w p (now (packet .entry)) ⌝ }
 {
     match place_of(w) {
         Place::Nowhere => false,
@@ -227,14 +227,14 @@ fn held_good(s: Settings, w: Walk, p: Packet, packet: &[u8]) -> bool
     }
 }
 
-// Is the packet one that the inspection passes, and what is held beside it within its ranges?
+// Does the inspection pass the packet, and are the walk's other values within their ranges?
 fn packet_good(s: Settings, w: Walk, packet: &[u8]) -> bool
     requires { ⌜ (1 ≤ w .link) × (w .link ≤ 8) ⌝ }
-    ensures { λ r. ⌜ r ≡ packetHeld s w (now (packet .entry)) (inspect s (w .link) (now (packet .entry))) ⌝ }
+    ensures { λ r. ⌜ r ≡ packetFits s w (now (packet .entry)) (inspect s (w .link) (now (packet .entry))) ⌝ }
 {
     match inspection::inspect(s, w.link as usize, packet) {
         Parsed::Bad(_) => false,
-        Parsed::Good(p) => held_good(s, w, p, packet),
+        Parsed::Good(p) => fields_good(s, w, p, packet),
     }
 }
 

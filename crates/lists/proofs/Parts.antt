@@ -45,8 +45,8 @@ module _ {A : Type 0} where
   pub over-length : (k : ℕ) (b r : List A) → k + length r ≤ length b → length (over b k r) ≡ length b
   over-length k b r h = simp (length-append, length-take, length-drop) (omega arith)
 
-  pub over-behind : (n k : ℕ) (b r : List A) → take n b ++ over (drop n b) k r ≡ over b (n + k) r
-  over-behind n k b r =
+  pub over-after : (n k : ℕ) (b r : List A) → take n b ++ over (drop n b) k r ≡ over b (n + k) r
+  over-after n k b r =
       let e : n + (k + length r) ≡ n + k + length r = omega arith in
       rw (drop-drop (k + length r) n b, e, take-add n k b) (simp append-assoc)
 
@@ -88,4 +88,4 @@ module _ {A : Type 0} where
     pub over-part : over l first (over (part first n l) i xs) ≡ over l (first + i) xs
     over-part =
         let m : length (over (take n d) i xs) ≡ n = over-length i (take n d) xs (omega (arith, long)) ∙ long in
-        rw (m, ← drop-drop n first l) (append-assoc (take first l) (over (take n d) i xs) (drop n d) ∙ ap (λ z. take first l ++ z) put ∙ over-behind first i l xs)
+        rw (m, ← drop-drop n first l) (append-assoc (take first l) (over (take n d) i xs) (drop n d) ∙ ap (λ z. take first l ++ z) put ∙ over-after first i l xs)

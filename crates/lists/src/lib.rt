@@ -1,1 +1,1 @@
-// Laws of lists and of tests, for all types. They stand in proofs/; there is no code.
+// Laws of lists and of tests, for all types. They are in proofs/; there is no code.

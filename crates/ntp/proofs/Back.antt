@@ -110,15 +110,15 @@ places : (i n : ℕ) → List ℕ → List ℕ
 places i zero s = []
 places i (suc n) s = getD s i 0 ∷ places (suc i) n s
 
-places-behind : (i n x : ℕ) (s : List ℕ) → places (suc i) n (x ∷ s) ≡ places i n s
+places-after : (i n x : ℕ) (s : List ℕ) → places (suc i) n (x ∷ s) ≡ places i n s
 unfolding places
-places-behind i zero x s = refl
-places-behind i (suc n) x s = ap (λ (l : List ℕ). getD s i 0 ∷ l) (places-behind (suc i) n x s)
+places-after i zero x s = refl
+places-after i (suc n) x s = ap (λ (l : List ℕ). getD s i 0 ∷ l) (places-after (suc i) n x s)
 
 whole : (s : List ℕ) → places 0 (length s) s ≡ s
 unfolding places
 whole [] = refl
-whole (x ∷ s) = ap (λ (l : List ℕ). x ∷ l) (places-behind 0 (length s) x s ∙ whole s)
+whole (x ∷ s) = ap (λ (l : List ℕ). x ∷ l) (places-after 0 (length s) x s ∙ whole s)
 
 octet-at : (s : List ℕ) → Octets s → (i : ℕ) → getD s i 0 < 256
 octet-at [] o i = omega arith

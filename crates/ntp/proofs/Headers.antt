@@ -10,7 +10,7 @@ use Rattle.lists.proofs.Tests.{both}
 use Rattle.ntp.specs.declared.Answer.the-variants.{Done, NtpVersion, NtpMode}
 use Rattle.ntp.specs.declared.Header.{Header}
 use Rattle.ntp.specs.declared.Read.the-variants.{Good, Bad}
-use Rattle.ntp.specs.Header.{headerLength, versionGood, modeGood, leapGood, frontOf, fields, read, octetsOf, refusedOctets, write}
+use Rattle.ntp.specs.Header.{headerLength, versionGood, modeGood, leapGood, firstOctetOf, fields, read, octetsOf, refusedOctets, write}
 use Rattle.ntp.specs.Octets.{four, eight, signedOctet}
 use Rattle.ntp.specs.code.Passed.{HeaderPasses}
 
@@ -51,7 +51,7 @@ module _ (h : Header) (version : versionGood (h .version) ≡ true) where
 
 -- the stores one after the other
 pub stored : (h : Header) (p q : ℕ) (l₁ l₂ l₃ l₄ l₅ l₆ l₇ : List ℕ) → p ≡ signedOctet (h .poll) → q ≡ signedOctet (h .precision)
-    → l₁ ≡ sets (set (set (set (set (replicate 48 0) 0 (frontOf h)) 1 (h .stratum)) 2 p) 3 q) 4 (four (h .«root_delay»))
+    → l₁ ≡ sets (set (set (set (set (replicate 48 0) 0 (firstOctetOf h)) 1 (h .stratum)) 2 p) 3 q) 4 (four (h .«root_delay»))
     → l₂ ≡ sets l₁ 8 (four (h .«root_dispersion»)) → l₃ ≡ sets l₂ 12 (four (h .«reference_id»))
     → l₄ ≡ sets l₃ 16 (eight (h .reference .0)) → l₅ ≡ sets l₄ 24 (eight (h .origin .0))
     → l₆ ≡ sets l₅ 32 (eight (h .receive .0)) → l₇ ≡ sets l₆ 40 (eight (h .transmit .0))
@@ -64,4 +64,4 @@ stored h p q l₁ l₂ l₃ l₄ l₅ l₆ l₇ ep eq e₁ e₂ e₃ e₄ e₅ e
     (e₄ ∙ ap (λ (l : List ℕ). sets l 16 (eight (h .reference .0)))
     (e₃ ∙ ap (λ (l : List ℕ). sets l 12 (four (h .«reference_id»)))
     (e₂ ∙ ap (λ (l : List ℕ). sets l 8 (four (h .«root_dispersion»)))
-    (e₁ ∙ ap₂ (λ (x y : ℕ). sets (set (set (set (set (replicate 48 0) 0 (frontOf h)) 1 (h .stratum)) 2 x) 3 y) 4 (four (h .«root_delay»))) ep eq))))))
+    (e₁ ∙ ap₂ (λ (x y : ℕ). sets (set (set (set (set (replicate 48 0) 0 (firstOctetOf h)) 1 (h .stratum)) 2 x) 3 y) 4 (four (h .«root_delay»))) ep eq))))))

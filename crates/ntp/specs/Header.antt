@@ -23,8 +23,8 @@ ntpVersion = 4
 -- ---- the places of the fields
 
 -- NTP-1: where leap, version and mode are
-abbrev pub frontPlace : ℕ
-frontPlace = 0
+abbrev pub firstOctetPlace : ℕ
+firstOctetPlace = 0
 
 -- NTP-1: where the stratum is
 abbrev pub stratumPlace : ℕ
@@ -66,7 +66,7 @@ receivePlace = 32
 abbrev pub transmitPlace : ℕ
 transmitPlace = 40
 
--- ---- what stands in octet 0
+-- ---- the fields of octet 0
 
 -- NTP-1: the two high bits
 abbrev pub leapOf : (front : ℕ) → ℕ
@@ -81,8 +81,8 @@ abbrev pub modeOf : (front : ℕ) → ℕ
 modeOf front = front % 8
 
 -- NTP-1: the first octet of a header
-abbrev pub frontOf : Header → ℕ
-frontOf h = h .leap * 64 + h .version * 8 + h .mode
+abbrev pub firstOctetOf : Header → ℕ
+firstOctetOf h = h .leap * 64 + h .version * 8 + h .mode
 
 -- ---- the tests, of a header that is read and of one that is to be written
 
@@ -104,9 +104,9 @@ leapGood leap = leb leap 3
 unfoldable pub fields : List ℕ → Header
 fields octets =
     record {
-      leap = leapOf (octetAt octets frontPlace);
-      version = versionOf (octetAt octets frontPlace);
-      mode = modeOf (octetAt octets frontPlace);
+      leap = leapOf (octetAt octets firstOctetPlace);
+      version = versionOf (octetAt octets firstOctetPlace);
+      mode = modeOf (octetAt octets firstOctetPlace);
       stratum = octetAt octets stratumPlace;
       poll = signedAt octets pollPlace;
       precision = signedAt octets precisionPlace;
@@ -132,7 +132,7 @@ read octets =
 -- NTP-1: the octets of a header
 unfoldable pub octetsOf : Header → List ℕ
 octetsOf h =
-    frontOf h ∷ h .stratum ∷ signedOctet (h .poll) ∷ signedOctet (h .precision) ∷ []
+    firstOctetOf h ∷ h .stratum ∷ signedOctet (h .poll) ∷ signedOctet (h .precision) ∷ []
     ++ four (h .«root_delay») ++ four (h .«root_dispersion») ++ four (h .«reference_id»)
     ++ eight (h .reference .0) ++ eight (h .origin .0) ++ eight (h .receive .0) ++ eight (h .transmit .0)
 

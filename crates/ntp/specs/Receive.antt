@@ -25,8 +25,8 @@ action z = record { 0 = z }
 
 -- NTP-5: an answer and an action; the association stays, offset and delay are zero
 abbrev pub idle : Answer → ℤ → Association → Outcome
-idle answer told a =
-    record { answer = answer; action = action told; offset = interval (pos 0); delay = interval (pos 0); association = a }
+idle answer returned a =
+    record { answer = answer; action = action returned; offset = interval (pos 0); delay = interval (pos 0); association = a }
 
 -- NTP-7: a refusal: no action either
 abbrev pub refused : Answer → Association → Outcome

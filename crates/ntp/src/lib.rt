@@ -113,7 +113,7 @@ pub fn written_back()
     ensures { λ _. ⌜ WrittenBack ⌝ }
 {}
 
-// The half-delay law of what a packet that is processed tells.
+// The half-delay law for a packet that is processed.
 pub fn ntp_half_delay()
     ensures { λ _. ⌜ NtpHalfDelay ⌝ }
 {}

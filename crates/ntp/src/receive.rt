@@ -20,19 +20,19 @@ use super::wire;
 const LAST: u8 = 6;
 
 // Whether a packet is to be processed.
-fn is_proc(told: Action) -> bool
-    ensures { λ r. ⌜ r ≡ same (told .0) PROC ⌝ }
+fn is_proc(returned: Action) -> bool
+    ensures { λ r. ⌜ r ≡ same (returned .0) PROC ⌝ }
 {
-    told.0 == dispatch::PROC
+    returned.0 == dispatch::PROC
 }
 
-// An action is told, and nothing is done.
-fn idle(answer: Answer, told: Action, a: Association) -> Outcome
-    ensures { λ r. ⌜ r ≡ idle answer (told .0) a ⌝ }
+// An action is printed, and nothing is done.
+fn idle(answer: Answer, returned: Action, a: Association) -> Outcome
+    ensures { λ r. ⌜ r ≡ idle answer (returned .0) a ⌝ }
 {
     Outcome {
         answer: answer,
-        action: told,
+        action: returned,
         offset: Interval(0),
         delay: Interval(0),
         association: a,
@@ -96,9 +96,9 @@ fn dispatched(a: Association, h: Header, destination: Timestamp) -> Outcome
     if a.number > LAST {
         return refused(Answer::NtpMode, a);
     }
-    let told = dispatch::dispatch(a.number, h.mode);
-    if !is_proc(told) {
-        return idle(Answer::Done, told, a);
+    let returned = dispatch::dispatch(a.number, h.mode);
+    if !is_proc(returned) {
+        return idle(Answer::Done, returned, a);
     }
     if !passes(a, h, destination) {
         return refused(Answer::NtpTimestamp, a);

@@ -56,7 +56,7 @@ fn common_bit(a: u64, b: u64) -> u64
     b % 2
 }
 
-// Half of the whole sum of two words, rounded down: half of each, and the bit that both have.
+// Half of the full sum of two words, rounded down: half of each, and the bit that both have.
 fn mean(a: u64, b: u64) -> Interval
     ensures { λ r. ⌜ r ≡ interval (shrZ (signedBits 64 a +ℤ signedBits 64 b) 2) ⌝ }
 {

@@ -20,7 +20,7 @@ pub const LENGTH: usize = 48;
 const VERSION: u8 = 4;
 
 // The places of the fields. Octet 0 has leap, version and mode.
-const FRONT: usize = 0;
+const FIRST_OCTET: usize = 0;
 
 const STRATUM: usize = 1;
 
@@ -68,7 +68,7 @@ fn fields(octets: &[u8]) -> Header
     requires { ⌜ headerLength ≤ length (now octets) ⌝ }
     ensures { λ r. ⌜ r ≡ fields (now (octets .entry)) ⌝ }
 {
-    let front = octets[FRONT];
+    let front = octets[FIRST_OCTET];
     let poll = signed_at(octets, POLL);
     let precision = signed_at(octets, PRECISION);
     Header {
@@ -111,7 +111,7 @@ fn octets_of(h: Header) -> [u8; 48]
     ensures { λ r. ⌜ r ≡ octetsOf h ⌝ }
 {
     let mut octets = [0u8; 48];
-    octets[FRONT] = h.leap * 64 + h.version * 8 + h.mode;
+    octets[FIRST_OCTET] = h.leap * 64 + h.version * 8 + h.mode;
     octets[STRATUM] = h.stratum;
     octets[POLL] = signed_octet(h.poll);
     octets[PRECISION] = signed_octet(h.precision);

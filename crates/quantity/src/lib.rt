@@ -1,5 +1,5 @@
 // The sorts of quantity that a host counts in. They are never added to each other unconverted.
-// All signed arithmetic of the library stands here.
+// All signed arithmetic of the library is here.
 ghost use mathlib.Core.Path.{_≡_};
 ghost use Prim.Native.Nat.{_^_};
 ghost use lib.IntN.{pos, natAbs, _+ℤ_, _-ℤ_, _*ℤ_};

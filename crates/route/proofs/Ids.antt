@@ -10,7 +10,7 @@ use Rattle.wire.specs.declared.Address.{Address}
 use Rattle.route.specs.declared.Layout.{Layout}
 use Rattle.route.specs.declared.Net.{Net}
 use Rattle.route.specs.declared.Row.{Row}
-use Rattle.route.specs.declared.NetTable.{NetTable}
+use Rattle.route.specs.declared.NetRows.{NetRows}
 use Rattle.route.specs.declared.Found.{Found}
 use Rattle.route.specs.declared.Found.the-variants.{Id, Nothing}
 use Rattle.route.specs.Find.{aboveC, sameNet, hostOctet, localId, netOf, ends, search, rowsOf, find, idsBelow}
@@ -36,7 +36,7 @@ search-below n net (r ∷ rows) e =
     either (Below n) (ends net r) (Id (r .host)) (search net rows) (λ t. ltb-true _ _ (ids .0))
     (λ t. search-below n net rows (ids .1))
 
-find-below : (ours : Address) (y : Layout) (t : NetTable) (a : Address) → idsBelow (y .nhosts) (rowsOf t) ≡ true
+find-below : (ours : Address) (y : Layout) (t : NetRows) (a : Address) → idsBelow (y .nhosts) (rowsOf t) ≡ true
     → Below (y .nhosts) (find ours y t a)
 unfolding find
 find-below ours y t a e =
@@ -49,6 +49,6 @@ find-below ours y t a e =
 pub local-id-below : (y : Layout) (a : Address) (i : ℕ) → localId y a ≡ Id i → i < y .nhosts
 local-id-below y a i f = rw f at (local-below y a)
 
-pub found-below : (ours : Address) (y : Layout) (t : NetTable) (a : Address) (i : ℕ) → idsBelow (y .nhosts) (rowsOf t) ≡ true
+pub found-below : (ours : Address) (y : Layout) (t : NetRows) (a : Address) (i : ℕ) → idsBelow (y .nhosts) (rowsOf t) ≡ true
     → find ours y t a ≡ Id i → i < y .nhosts
 found-below ours y t a i e f = rw f at (find-below ours y t a e)

@@ -8,7 +8,7 @@ use Rattle.wire.specs.declared.Address.{Address}
 use Rattle.route.specs.declared.Layout.{Layout}
 use Rattle.route.specs.declared.Net.{Net}
 use Rattle.route.specs.declared.Row.{Row}
-use Rattle.route.specs.declared.NetTable.{NetTable}
+use Rattle.route.specs.declared.NetRows.{NetRows}
 use Rattle.route.specs.declared.Found.{Found}
 use Rattle.route.specs.declared.Found.the-variants.{Id, Nothing}
 
@@ -71,13 +71,13 @@ search n [] = Nothing
 search n (r ∷ rows) = cond (ends n r) (Id (r .host)) (search n rows)
 
 -- ROUTE-5, NET-6: the rows of a table, in order
-abbrev pub rowsOf : NetTable → List Row
+abbrev pub rowsOf : NetRows → List Row
 rowsOf t = take (t .count) (t .rows)
 
 -- ---- the id of an address
 
 -- ROUTE-6, ROUTE-1: the id of an address: by our net or by the net table
-unfoldable pub find : (ours : Address) → Layout → NetTable → Address → Found
+unfoldable pub find : (ours : Address) → Layout → NetRows → Address → Found
 find ours y t a =
     cond (aboveC a) Nothing (cond (sameNet ours a) (localId y a) (search (netOf a) (rowsOf t)))
 

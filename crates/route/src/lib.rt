@@ -42,7 +42,7 @@ pub struct Row {
 
 // The net table: its first `count` rows.
 #[repr(C)]
-pub struct NetTable {
+pub struct NetRows {
     pub count: usize,
     pub rows: [Row; 32],
 }
@@ -93,7 +93,7 @@ pub fn same_net(ours: Address, a: Address) -> bool
     ours.third == a.third
 }
 
-// The octet that tells the host.
+// The octet that names the host.
 fn host_octet(a: Address) -> u8
     ensures { λ r. ⌜ r ≡ hostOctet a ⌝ }
 {
@@ -177,7 +177,7 @@ fn id_of(r: Row) -> usize
 }
 
 // How many rows the table has: no more than there are places.
-fn row_count(t: NetTable) -> usize
+fn row_count(t: NetRows) -> usize
     ensures { λ r. ⌜ r ≡ length (rowsOf t) ⌝ }
 {
     let n = t.count;
@@ -188,7 +188,7 @@ fn row_count(t: NetTable) -> usize
 }
 
 // The id of the first row at which the search for a net ends.
-fn search(t: NetTable, n: Net) -> Found
+fn search(t: NetRows, n: Net) -> Found
     ensures { λ r. ⌜ r ≡ search n (rowsOf t) ⌝ }
 {
     let count = row_count(t);
@@ -208,7 +208,7 @@ fn search(t: NetTable, n: Net) -> Found
 }
 
 // The host id of an address, as a host of the address ours finds it.
-pub fn find(ours: Address, layout: Layout, t: NetTable, a: Address) -> Found
+pub fn find(ours: Address, layout: Layout, t: NetRows, a: Address) -> Found
     ensures { λ r. ⌜ r ≡ find ours layout t a ⌝ }
 {
     if above_c(a) {
@@ -221,7 +221,7 @@ pub fn find(ours: Address, layout: Layout, t: NetTable, a: Address) -> Found
 }
 
 // Is the id of every row below n?
-pub fn ids_below(t: NetTable, n: usize) -> bool
+pub fn ids_below(t: NetRows, n: usize) -> bool
     ensures { λ r. ⌜ r ≡ idsBelow n (rowsOf t) ⌝ }
 {
     if t.count == 0 {
@@ -230,7 +230,7 @@ pub fn ids_below(t: NetTable, n: usize) -> bool
     rows_below(t, n)
 }
 
-fn rows_below(t: NetTable, n: usize) -> bool
+fn rows_below(t: NetRows, n: usize) -> bool
     ensures { λ r. ⌜ r ≡ idsBelow n (rowsOf t) ⌝ }
 {
     let count = row_count(t);

@@ -20,8 +20,8 @@ use Rattle.table.specs.Entry.{advertised}
 use Rattle.host.specs.declared.Settings.{Settings}
 use Rattle.host.specs.declared.Link.{Link}
 use Rattle.host.specs.State.{hostCount, linkOf, withLink}
-use Rattle.host.specs.Lent.{Host, ourReading}
-use Rattle.host.specs.Reply.{plainly, tellsLength}
+use Rattle.host.specs.CallState.{Host, ourReading}
+use Rattle.host.specs.Reply.{plainly, returnsLength}
 use Rattle.sending.specs.declared.Sending.{Sending}
 use Rattle.sending.specs.Message.{tableGoes, linkSent, packetSent}
 
@@ -60,7 +60,7 @@ sentAt r i h =
     let x : Link = linkOf (h .links) i in
     let n : ℕ = reportCount (h .settings) x in
     record {
-      reply = tellsLength (packetLength n);
+      reply = returnsLength (packetLength n);
       clock = r .clock;
       links = withLink i (linkSent x) (h .links);
       work = record { first = 0; end = n; pid = i };

@@ -1,4 +1,4 @@
-// A send by value: what it comes to, and how the message is completed.
+// A send by value: its result, and how the message is completed.
 ghost use mathlib.Core.Path.{_≡_};
 ghost use mathlib.Core.Bool.{true};
 ghost use Prim.Native.Nat.{_≤_};
@@ -8,8 +8,8 @@ ghost use Rattle.clock.specs.Clock.{clockInRange};
 ghost use Rattle.host.specs.Settings.{settingsGood};
 ghost use Rattle.host.specs.declared.guard.Scope.the-variants.{OnLink};
 ghost use Rattle.host.specs.State.{linkOf};
-ghost use Rattle.host.specs.Lent.{host};
-ghost use Rattle.host.specs.code.Told.{Told};
+ghost use Rattle.host.specs.CallState.{host};
+ghost use Rattle.host.specs.code.Returned.{Returned};
 ghost use Rattle.sending.specs.Message.{tableGoes, sentTsp, linkSent, packetSent};
 ghost use Rattle.sending.specs.Send.{noPacket, unsent, reportCount, sends, sendIn};
 ghost use Rattle.sending.specs.code.Finish.{planned, Finishable, finished};
@@ -25,14 +25,14 @@ use host::host_count;
 use host::link_state::link_of;
 use host::link_state::with_link;
 use host::replies::plainly;
-use host::replies::tells_length;
+use host::replies::returns_length;
 use quantity::Millis;
 use quantity::Word;
-use table::run::Reports;
+use table::entries::Reports;
 use wire::Address;
 use wire::Packet;
 
-// What a send comes to: the reply, the clock and the links afterwards, of which ids a report goes out; and, if one goes, where the message goes and what it says.
+// The result of a send: the reply, the clock and the links afterwards, the ids that are reported; and, if a message goes, where it goes and what it says.
 pub struct Sending {
     pub reply: Reply,
     pub clock: Clock,
@@ -136,7 +136,7 @@ fn packet_sent(s: Settings, x: Link, time: Millis, date: Date, count: u8) -> Pac
     }
 }
 
-// A send of so many reports on a link of this state.
+// A send of n reports on a link in this state.
 fn sends(s: Settings, c: Clock, l: Links, link: usize, k: Counter, x: Link, count: u8) -> Sending
     requires { ⌜ (1 ≤ link) × (link ≤ 8) ⌝ }
     requires { ⌜ (settingsGood s ≡ true) × (clockInRange c ≡ true) ⌝ }
@@ -155,7 +155,7 @@ fn sends(s: Settings, c: Clock, l: Links, link: usize, k: Counter, x: Link, coun
     let date = clock.date;
     let neighbor = x.neighbor;
     Sending {
-        reply: tells_length(wire::length(count)),
+        reply: returns_length(wire::length(count)),
         clock: clock,
         links: with_link(l, link, link_sent(x)),
         work: work,
@@ -165,7 +165,7 @@ fn sends(s: Settings, c: Clock, l: Links, link: usize, k: Counter, x: Link, coun
     }
 }
 
-// A send into a buffer of so many octets.
+// A send into a buffer of n octets.
 fn send_in(s: Settings, c: Clock, l: Links, link: usize, k: Counter, room: usize) -> Sending
     requires { ⌜ (1 ≤ link) × (link ≤ 8) ⌝ }
     requires { ⌜ (settingsGood s ≡ true) × (clockInRange c ≡ true) ⌝ }
@@ -189,7 +189,7 @@ pub fn plan(
     k: Counter,
     room: usize,
 ) -> Sending
-    requires { ⌜ Told g (OnLink link) s c ⌝ }
+    requires { ⌜ Returned g (OnLink link) s c ⌝ }
     ensures { λ p. ⌜ p ≡ planned g link k room (host s c l) ⌝ }
 {
     if !answer::is_done(g) {

@@ -1,1 +1,1 @@
-// The laws of the shapes that guard and lent calls have. They stand in proofs/; there is no code.
+// The laws of the shapes of the guard and of calls over references. They are in proofs/; there is no code.

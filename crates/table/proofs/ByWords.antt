@@ -11,11 +11,11 @@ use lib.Seq.{take-add, drop-drop}
 use Rattle.lists.specs.Lists.{part}
 use Rattle.lists.proofs.Parts.{part-length}
 use Rattle.table.specs.declared.Entry.{Entry}
-use Rattle.table.specs.declared.run.Scan.{Scan}
+use Rattle.table.specs.declared.entries.Scan.{Scan}
 use Rattle.table.specs.Forms.{every, everyFrom}
 use Rattle.table.specs.Marks.{mark}
 use Rattle.table.specs.Entry.{asMarked, entryInRange}
-use Rattle.table.specs.code.Loops.{InRun, allInRange}
+use Rattle.table.specs.code.Loops.{InEntries, allInRange}
 use Rattle.table.specs.code.Words.{wordOf, byWords, InWord, stretchOf, StretchFits, asInWord, allAsInWord}
 use Rattle.table.proofs.Loops.{both-lists}
 
@@ -52,7 +52,7 @@ two-parts first a b l = rw (← drop-drop a first l) (take-add a b (drop first l
 
 -- ---- the entries of a word
 
-module _ (run : List Entry) (w : Scan) (h : InRun (w .first) (w .end) run) where
+module _ (entries : List Entry) (w : Scan) (h : InEntries (w .first) (w .end) entries) where
   abbrev pub N : ℕ
   N = w .end - w .first
 
@@ -61,7 +61,7 @@ module _ (run : List Entry) (w : Scan) (h : InRun (w .first) (w .end) run) where
 
   -- the first n ids
   abbrev pub good : (n : ℕ) → Bool
-  good n = everyFrom 0 test (part (w .first) n run)
+  good n = everyFrom 0 test (part (w .first) n entries)
 
   -- an id's mark is the bit of its word
   in-word : (k n : ℕ) (e : Entry) → n < 64 → asInWord (wordOf (w .marks) (64 * k)) n e ≡ test (64 * k + n) e
@@ -73,36 +73,36 @@ module _ (run : List Entry) (w : Scan) (h : InRun (w .first) (w .end) run) where
 
   -- the ids of one word more, up to m
   word-more : (k m : ℕ) → 64 * k ≤ m → m ≤ 64 * k + 64 → m ≤ N → stretchOf k w .end ≡ w .first + m
-      → (good (64 * k) && allAsInWord (stretchOf k w) run) ≡ good m
+      → (good (64 * k) && allAsInWord (stretchOf k w) entries) ≡ good m
   word-more k m from to inside ends =
       let first = w .first + 64 * k in
       let count : stretchOf k w .end - first ≡ m - 64 * k = omega (arith, ends) in
-      let long : length (part first (m - 64 * k) run) ≡ m - 64 * k = part-length first (m - 64 * k) run (omega (arith, from, to, inside, h .rising, h .inside)) in
-      let before : length (part (w .first) (64 * k) run) ≡ 64 * k = part-length (w .first) (64 * k) run (omega (arith, from, to, inside, h .rising, h .inside)) in
-      let here : everyFrom 0 (asInWord (wordOf (w .marks) (64 * k))) (part first (m - 64 * k) run) ≡ everyFrom (64 * k + 0) test (part first (m - 64 * k) run) =
-      alike (asInWord (wordOf (w .marks) (64 * k))) test (64 * k) 0 (part first (m - 64 * k) run) (λ n e l. in-word k n e (omega (arith, l, long, to))) in
+      let long : length (part first (m - 64 * k) entries) ≡ m - 64 * k = part-length first (m - 64 * k) entries (omega (arith, from, to, inside, h .rising, h .inside)) in
+      let before : length (part (w .first) (64 * k) entries) ≡ 64 * k = part-length (w .first) (64 * k) entries (omega (arith, from, to, inside, h .rising, h .inside)) in
+      let here : everyFrom 0 (asInWord (wordOf (w .marks) (64 * k))) (part first (m - 64 * k) entries) ≡ everyFrom (64 * k + 0) test (part first (m - 64 * k) entries) =
+      alike (asInWord (wordOf (w .marks) (64 * k))) test (64 * k) 0 (part first (m - 64 * k) entries) (λ n e l. in-word k n e (omega (arith, l, long, to))) in
       let all : 64 * k + (m - 64 * k) ≡ m = omega (arith, from) in
-      let at : 64 * k + 0 ≡ 0 + length (part (w .first) (64 * k) run) = omega (arith, before) in
-      rw (count, here, at) (both-lists 0 test (part (w .first) (64 * k) run) (part first (m - 64 * k) run)
-      ∙ ap (everyFrom 0 test) (sym (two-parts (w .first) (64 * k) (m - 64 * k) run)) ∙ ap good all)
+      let at : 64 * k + 0 ≡ 0 + length (part (w .first) (64 * k) entries) = omega (arith, before) in
+      rw (count, here, at) (both-lists 0 test (part (w .first) (64 * k) entries) (part first (m - 64 * k) entries)
+      ∙ ap (everyFrom 0 test) (sym (two-parts (w .first) (64 * k) (m - 64 * k) entries)) ∙ ap good all)
 
   -- a word that is full, and the last
-  pub full-word : (k : ℕ) → 64 * suc k ≤ N → (good (64 * k) && allAsInWord (stretchOf k w) run) ≡ good (64 * suc k)
+  pub full-word : (k : ℕ) → 64 * suc k ≤ N → (good (64 * k) && allAsInWord (stretchOf k w) entries) ≡ good (64 * suc k)
   full-word k l =
       let many : 64 ≤ w .end - (w .first + 64 * k) = omega (arith, l) in
       word-more k (64 * suc k) (omega arith) (omega arith) l (rw (le-ltb _ _ many) (omega arith))
 
-  pub last-word : (k : ℕ) → 64 * k ≤ N → N < 64 * suc k → (good (64 * k) && allAsInWord (stretchOf k w) run) ≡ good N
+  pub last-word : (k : ℕ) → 64 * k ≤ N → N < 64 * suc k → (good (64 * k) && allAsInWord (stretchOf k w) entries) ≡ good N
   last-word k l m =
       let few : w .end - (w .first + 64 * k) < 64 = omega (arith, m) in
       word-more k N l (omega (arith, m)) (omega arith) (rw (lt-ltb _ _ few) (omega (arith, h .rising)))
 
   -- and all
-  pub all-good : w .good ≡ true → good N ≡ allInRange w run
+  pub all-good : w .good ≡ true → good N ≡ allInRange w entries
   unfolding allInRange
-  all-good so = rw (so) (sym (at-once 0 entryInRange (asMarked (w .marks)) (part (w .first) N run)))
+  all-good so = rw (so) (sym (at-once 0 entryInRange (asMarked (w .marks)) (part (w .first) N entries)))
 
-  pub none-good : w .good ≡ false → false ≡ allInRange w run
+  pub none-good : w .good ≡ false → false ≡ allInRange w entries
   unfolding allInRange
   none-good is = rw (is) refl
 
@@ -119,8 +119,8 @@ word-inside w up k = go (w .good) where
   go true l = record { rising = up; before = omega (arith, l) }
   go false l = absurd (omega (arith, l))
 
-pub stretch-fits : (run : List Entry) (k : ℕ) (w : Scan) → InRun (w .first) (w .end) run → InWord k w → StretchFits (stretchOf k w) run
-stretch-fits run k w h i = record { places = go (ltb (w .end - (w .first + 64 * k)) 64) refl; good = refl } where
-  go : (b : Bool) → ltb (w .end - (w .first + 64 * k)) 64 ≡ b → InRun (w .first + 64 * k) (cond b (w .end) (w .first + 64 * k + 64)) run
+pub stretch-fits : (entries : List Entry) (k : ℕ) (w : Scan) → InEntries (w .first) (w .end) entries → InWord k w → StretchFits (stretchOf k w) entries
+stretch-fits entries k w h i = record { places = go (ltb (w .end - (w .first + 64 * k)) 64) refl; good = refl } where
+  go : (b : Bool) → ltb (w .end - (w .first + 64 * k)) 64 ≡ b → InEntries (w .first + 64 * k) (cond b (w .end) (w .first + 64 * k + 64)) entries
   go true e = record { rising = omega (arith, i .before, i .rising); inside = h .inside }
   go false e = let many = ltb-false (w .end - (w .first + 64 * k)) 64 e in record { rising = omega arith; inside = omega (arith, many, h .inside) }

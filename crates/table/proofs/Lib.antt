@@ -8,3 +8,4 @@ pub mod Cases
 pub mod Kept
 pub mod Sweeps
 pub mod Loops
+pub mod Changing

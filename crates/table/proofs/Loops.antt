@@ -50,69 +50,69 @@ reports-more i (x ∷ rs) r b = let s : i + suc (length rs) ≡ suc i + length r
 
 -- ---- one turn more, at the place first + n
 
-module _ (run : List Entry) (first n : ℕ) (none : Entry) (inside : first + n < length run) where
+module _ (entries : List Entry) (first n : ℕ) (none : Entry) (inside : first + n < length entries) where
   abbrev e : Entry
-  e = getD run (first + n) none
+  e = getD entries (first + n) none
 
   abbrev done : List Entry
-  done = part first n run
+  done = part first n entries
 
   done-length : length done ≡ n
-  done-length = part-length first n run (omega arith)
+  done-length = part-length first n entries (omega arith)
 
-  pub test-turn : (test : ℕ → Entry → Bool) → (everyFrom 0 test done && test (first + n - first) e) ≡ everyFrom 0 test (part first (suc n) run)
+  pub test-turn : (test : ℕ → Entry → Bool) → (everyFrom 0 test done && test (first + n - first) e) ≡ everyFrom 0 test (part first (suc n) entries)
   test-turn test =
       let at : first + n - first ≡ 0 + length done = omega (arith, done-length) in
-      rw (part-more first n run none inside, at)
+      rw (part-more first n entries none inside, at)
       (ap (λ (b : Bool). everyFrom 0 test done && b) (sym (and-true (test (0 + length done) e))) ∙ both-lists 0 test done (e ∷ []))
 
-  pub seek-turn : (known : Entry) → e ≡ latest known (part first (suc n) run)
-  seek-turn known = rw (part-more first n run none inside) (sym (latest-more known done e))
+  pub seek-turn : (known : Entry) → e ≡ latest known (part first (suc n) entries)
+  seek-turn known = rw (part-more first n entries none inside) (sym (latest-more known done e))
 
   -- an entry put in its place behind those that were made
   pub put-turn : (es : List Entry) → length es ≡ n → (f : Entry → Entry)
-      → set (over run first es) (first + n) (f (getD (over run first es) (first + n) none)) ≡ over run first (es ++ (f e ∷ []))
-  put-turn es l f = rw (over-next first n run es l inside none) (over-more first n run es l inside (f e))
+      → set (over entries first es) (first + n) (f (getD (over entries first es) (first + n) none)) ≡ over entries first (es ++ (f e ∷ []))
+  put-turn es l f = rw (over-next first n entries es l inside none) (over-more first n entries es l inside (f e))
 
   pub map-turn : (f : ℕ → Entry → Entry)
-      → set (over run first (mapFrom 0 f done)) (first + n) (f (first + n - first) (getD (over run first (mapFrom 0 f done)) (first + n) none))
-      ≡ over run first (mapFrom 0 f (part first (suc n) run))
+      → set (over entries first (mapFrom 0 f done)) (first + n) (f (first + n - first) (getD (over entries first (mapFrom 0 f done)) (first + n) none))
+      ≡ over entries first (mapFrom 0 f (part first (suc n) entries))
   map-turn f =
       let id : first + n - first ≡ n = omega arith in
       let at : 0 + length done ≡ n = omega (arith, done-length) in
-      let more = ap (mapFrom 0 f) (part-more first n run none inside) ∙ map-more 0 f done e ∙ ap (λ m. mapFrom 0 f done ++ (f m e ∷ [])) at in
-      rw (id) (put-turn (mapFrom 0 f done) (map-length 0 f done ∙ done-length) (f n) ∙ ap (over run first) (sym more))
+      let more = ap (mapFrom 0 f) (part-more first n entries none inside) ∙ map-more 0 f done e ∙ ap (λ m. mapFrom 0 f done ++ (f m e ∷ [])) at in
+      rw (id) (put-turn (mapFrom 0 f done) (map-length 0 f done ∙ done-length) (f n) ∙ ap (over entries first) (sym more))
 
   pub report-turn : (f : Entry → Report) (b : List ℕ)
-      → withReport (first + n - first) (f e) (withReports 0 (map f done) b) ≡ withReports 0 (map f (part first (suc n) run)) b
+      → withReport (first + n - first) (f e) (withReports 0 (map f done) b) ≡ withReports 0 (map f (part first (suc n) entries)) b
   report-turn f b =
       let id : first + n - first ≡ n = omega arith in
       let at : 0 + length (map f done) ≡ n = omega (arith, length-map done f, done-length) in
-      rw (part-more first n run none inside, map-append f done (e ∷ []), reports-more 0 (map f done) (f e) b, at, id) refl
+      rw (part-more first n entries none inside, map-append f done (e ∷ []), reports-more 0 (map f done) (f e) b, at, id) refl
 
   module _ (update : ℕ → Clock → Entry → Updated) (c : Clock) where
     abbrev swept : Swept
     swept = sweep first update c done
 
-    pub sweep-turn : sweep first update c (part first (suc n) run)
+    pub sweep-turn : sweep first update c (part first (suc n) entries)
         ≡ record {
           clock = update (first + n) (swept .clock) e .clock;
-          entries = swept .entries ++ (update (first + n) (swept .clock) e .entry ∷ []);
+          ownEntries = swept .ownEntries ++ (update (first + n) (swept .clock) e .entry ∷ []);
         }
-    sweep-turn = rw (part-more first n run none inside, sweep-more first update c done e, done-length) refl
+    sweep-turn = rw (part-more first n entries none inside, sweep-more first update c done e, done-length) refl
 
     -- the run and the clock after one turn more
     pub sweep-entries :
-        set (over run first (swept .entries)) (first + n)
-        (update (first + n) (swept .clock) (getD (over run first (swept .entries)) (first + n) none) .entry)
-        ≡ over run first (sweep first update c (part first (suc n) run) .entries)
+        set (over entries first (swept .ownEntries)) (first + n)
+        (update (first + n) (swept .clock) (getD (over entries first (swept .ownEntries)) (first + n) none) .entry)
+        ≡ over entries first (sweep first update c (part first (suc n) entries) .ownEntries)
     sweep-entries =
-        put-turn (swept .entries) (sweep-length first update c done ∙ done-length) (λ (x : Entry). update (first + n) (swept .clock) x .entry)
-        ∙ ap (λ (s : Swept). over run first (s .entries)) (sym sweep-turn)
+        put-turn (swept .ownEntries) (sweep-length first update c done ∙ done-length) (λ (x : Entry). update (first + n) (swept .clock) x .entry)
+        ∙ ap (λ (s : Swept). over entries first (s .ownEntries)) (sym sweep-turn)
 
     pub sweep-clock :
-        update (first + n) (swept .clock) (getD (over run first (swept .entries)) (first + n) none) .clock
-        ≡ sweep first update c (part first (suc n) run) .clock
+        update (first + n) (swept .clock) (getD (over entries first (swept .ownEntries)) (first + n) none) .clock
+        ≡ sweep first update c (part first (suc n) entries) .clock
     sweep-clock =
-        rw (over-next first n run (swept .entries) (sweep-length first update c done ∙ done-length) inside none)
+        rw (over-next first n entries (swept .ownEntries) (sweep-length first update c done ∙ done-length) inside none)
         (ap (λ (s : Swept). s .clock) (sym sweep-turn))

@@ -35,11 +35,11 @@ module _ (u : Update) (e : Entry) where
   stored-at-c x y a b = rw (goes-on (lineA u e) x a, goes-on (lineB u x) y b)
 
 -- the entry that is left
-pub left-on : (s : Stage Entry) (x : Entry) → On x ≡ lineOf s → x ≡ left s
-left-on s x q = rw (goes-on s x q)
+pub after-on : (s : Stage Entry) (x : Entry) → On x ≡ lineOf s → x ≡ left s
+after-on s x q = rw (goes-on s x q)
 
-pub left-end : (s : Stage Entry) (x : Entry) → End x ≡ lineOf s → x ≡ left s
-left-end s x q = rw (ends s x q)
+pub after-end : (s : Stage Entry) (x : Entry) → End x ≡ lineOf s → x ≡ left s
+after-end s x q = rw (ends s x q)
 
 -- what an update leaves, by how its lines come out and whether the id is the clock host's
 module _ (h : Seconds) (n : Count) (date : Date) (u : Update) (c : Clock) (e x : Entry) where

@@ -14,7 +14,7 @@ use Rattle.table.specs.declared.Updated.{Updated}
 use Rattle.table.specs.Sweep.{sweep, only}
 
 pub sweep-length : (i : ℕ) (update : ℕ → Clock → Entry → Updated) (c : Clock) (es : List Entry)
-    → length (sweep i update c es .entries) ≡ length es
+    → length (sweep i update c es .ownEntries) ≡ length es
 unfolding sweep
 sweep-length i update c [] = refl
 sweep-length i update c (e ∷ es) = ap suc (sweep-length (suc i) update (update i c e .clock) es)
@@ -38,7 +38,7 @@ pub sweep-more : (i : ℕ) (update : ℕ → Clock → Entry → Updated) (c : C
     → sweep i update c (es ++ (e ∷ []))
     ≡ record {
       clock = update (i + length es) (sweep i update c es .clock) e .clock;
-      entries = sweep i update c es .entries ++ (update (i + length es) (sweep i update c es .clock) e .entry ∷ []);
+      ownEntries = sweep i update c es .ownEntries ++ (update (i + length es) (sweep i update c es .clock) e .entry ∷ []);
     }
 unfolding sweep
 sweep-more i update c [] e = let z : i + 0 ≡ i = omega arith in rw (z) refl
@@ -57,7 +57,7 @@ sweep-from base f g same i c (e ∷ es) =
 
 -- no entry of the id
 sweep-past : (id : ℕ) (update : Clock → Entry → Updated) (i : ℕ) (c : Clock) (es : List Entry) → id < i
-    → sweep i (only id update) c es ≡ record { clock = c; entries = es }
+    → sweep i (only id update) c es ≡ record { clock = c; ownEntries = es }
 unfolding sweep
 sweep-past id update i c [] h = refl
 sweep-past id update i c (e ∷ es) h =
@@ -66,7 +66,7 @@ sweep-past id update i c (e ∷ es) h =
 -- the entry of the id, the n-th from i on
 pub sweep-only : (update : Clock → Entry → Updated) (i n : ℕ) (c : Clock) (es : List Entry) (none : Entry) → n < length es
     → sweep i (only (i + n) update) c es
-    ≡ record { clock = update c (getD es n none) .clock; entries = over es n (update c (getD es n none) .entry ∷ []) }
+    ≡ record { clock = update c (getD es n none) .clock; ownEntries = over es n (update c (getD es n none) .entry ∷ []) }
 unfolding sweep
 sweep-only update i n c [] none h = absurd (omega (arith, h))
 sweep-only update i zero c (e ∷ es) none h =

@@ -1,26 +1,29 @@
 -- The structs that the loops over the run are lent, passed and hand back, as the laws of crate `laws` take them.
 use mathlib.Core.List.{[], _∷_}
-use Rattle.lent.proofs.Words.{Data, struct-part, usize-part, bool-part}
-use Rattle.lent.proofs.Outcomes.{Outcome, behind}
-use Rattle.clock.proofs.Types.{clock}
+use Rattle.references.proofs.Words.{Data, struct-part, usize-part, bool-part}
+use Rattle.references.proofs.Choices.{Choices}
+use Rattle.references.proofs.Outcomes.{Outcome, behind}
+use Rattle.clock.proofs.Types.{clock, millis}
 use Rattle.table.proofs.Entry as Entry
 use Rattle.table.proofs.Entry.Laws as Entry′
 use Rattle.table.proofs.Updated as Updated
 use Rattle.table.proofs.Updated.Laws as Updated′
-use Rattle.table.proofs.run.Scan as Scan
-use Rattle.table.proofs.run.Scan.Laws as Scan′
-use Rattle.table.proofs.run.Words as Words
-use Rattle.table.proofs.run.Words.Laws as Words′
-use Rattle.table.proofs.run.Stretch as Stretch
-use Rattle.table.proofs.run.Stretch.Laws as Stretch′
-use Rattle.table.proofs.run.Seek as Seek
-use Rattle.table.proofs.run.Seek.Laws as Seek′
-use Rattle.table.proofs.run.Changes as Changes
-use Rattle.table.proofs.run.Changes.Laws as Changes′
-use Rattle.table.proofs.run.Updates as Updates
-use Rattle.table.proofs.run.Updates.Laws as Updates′
-use Rattle.table.proofs.run.Reports as Reports
-use Rattle.table.proofs.run.Reports.Laws as Reports′
+use Rattle.table.proofs.entries.Scan as Scan
+use Rattle.table.proofs.entries.Scan.Laws as Scan′
+use Rattle.table.proofs.entries.Words as Words
+use Rattle.table.proofs.entries.Words.Laws as Words′
+use Rattle.table.proofs.entries.Stretch as Stretch
+use Rattle.table.proofs.entries.Stretch.Laws as Stretch′
+use Rattle.table.proofs.entries.Seek as Seek
+use Rattle.table.proofs.entries.Seek.Laws as Seek′
+use Rattle.table.proofs.entries.Change as Change
+use Rattle.table.proofs.entries.Change.Laws as Change′
+use Rattle.table.proofs.entries.Changes as Changes
+use Rattle.table.proofs.entries.Changes.Laws as Changes′
+use Rattle.table.proofs.entries.Updates as Updates
+use Rattle.table.proofs.entries.Updates.Laws as Updates′
+use Rattle.table.proofs.entries.Reports as Reports
+use Rattle.table.proofs.entries.Reports.Laws as Reports′
 
 abbrev pub entry : Data
 entry = record { S = Entry.the-type; L = Entry′.the-laws; P = Entry′.the-plain; low = Entry′.lowers; copies = Entry′.the-copy }
@@ -105,6 +108,21 @@ changes = record {
   behind-plain = Changes′.the-plain .1 .1;
   low = Changes′.lowers;
   copies = Changes′.the-copy;
+}
+
+abbrev pub change : Choices (([]) ∷ ([]) ∷ (struct-part millis ∷ []) ∷ (struct-part entry ∷ []) ∷ [])
+change = record {
+  form = record {
+    name = Change.the-type .name;
+    D = Change.the-type .D;
+    pick = Change.as-values;
+    make = Change.make;
+    eta = Change.eta;
+    one = Change.the-type .to-one;
+  };
+  few = tt;
+  low = Change′.lowers;
+  copies = Change′.the-copy;
 }
 
 abbrev pub updates : Outcome (usize-part ∷ usize-part ∷ struct-part clock ∷ [])

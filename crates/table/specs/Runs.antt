@@ -11,10 +11,10 @@ use Rattle.table.specs.declared.Entry.{Entry}
 use Rattle.table.specs.declared.Update.{Update}
 use Rattle.table.specs.declared.Updated.{Updated}
 use Rattle.table.specs.declared.marks.Marks.{Marks}
-use Rattle.table.specs.declared.run.Change.{Change}
-use Rattle.table.specs.declared.run.Change.the-variants.{Fresh, Aged, Reported, Put}
-use Rattle.table.specs.declared.run.Changes.{Changes}
-use Rattle.table.specs.declared.run.Updates.{Updates}
+use Rattle.table.specs.declared.entries.Change.{Change}
+use Rattle.table.specs.declared.entries.Change.the-variants.{Fresh, Aged, Reported, Put}
+use Rattle.table.specs.declared.entries.Changes.{Changes}
+use Rattle.table.specs.declared.entries.Updates.{Updates}
 use Rattle.table.specs.Forms.{mapFrom}
 use Rattle.table.specs.Marks.{mark}
 use Rattle.table.specs.Entry.{freshEntry, withMark, aged}
@@ -32,7 +32,7 @@ changed m (Put x) n e = x
 
 -- TABLE-8, TABLE-9: the host table after a change to these places
 unfoldable pub changes : Changes → List Entry → List Entry
-changes w run = over run (w .first) (mapFrom 0 (changed (w .marks) (w .change)) (part (w .first) (w .end - w .first) run))
+changes w entries = over entries (w .first) (mapFrom 0 (changed (w .marks) (w .change)) (part (w .first) (w .end - w .first) entries))
 
 -- ---- the updates of an arrival
 
@@ -47,6 +47,6 @@ updatedAt w packet i c e =
 
 -- UPDATE-2: clock and host table after all updates of an arrival
 unfoldable pub updates : Updates → (packet : List ℕ) → List Entry → Swept
-updates w packet run =
-    let swept : Swept = sweep (w .first) (updatedAt w packet) (w .clock) (part (w .first) (w .end - w .first) run) in
-    record { clock = swept .clock; entries = over run (w .first) (swept .entries) }
+updates w packet entries =
+    let swept : Swept = sweep (w .first) (updatedAt w packet) (w .clock) (part (w .first) (w .end - w .first) entries) in
+    record { clock = swept .clock; ownEntries = over entries (w .first) (swept .ownEntries) }

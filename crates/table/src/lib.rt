@@ -13,8 +13,8 @@ use quantity::Seconds;
 use quantity::Word;
 use wire::Report;
 
+pub mod entries;
 pub mod marks;
-pub mod run;
 
 // MAXDELAY, MINDELAY and the time of hold-down.
 pub const MAX_DELAY: Millis = Millis(30000);
@@ -42,7 +42,7 @@ pub struct Update {
     pub reading: Millis,
 }
 
-// What an update leaves: the clock, which line (d) may set, and the entry.
+// The result of an update: the clock, which line (d) may set, and the entry.
 pub struct Updated {
     pub clock: Clock,
     pub entry: Entry,
@@ -97,7 +97,7 @@ fn with_mark(e: Entry, here: u8) -> Entry
     x
 }
 
-// The entry with another TTL. This and each of the rest make an entry of its fields: one that is moved whole and changed in a place goes through memory.
+// The entry with another TTL. This and the functions below build an entry from its fields: a copied entry with one field changed goes through memory.
 fn with_ttl(e: Entry, ttl: Seconds) -> Entry
     ensures { λ r. ⌜ r ≡ withTtl ttl e ⌝ }
 {

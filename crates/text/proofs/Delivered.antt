@@ -31,11 +31,11 @@ pub bad-message : (m b : List ℕ) → helloForm m ≡ false → Leaves (toText 
 unfolding toText
 bad-message m b e = rw e (record { answer = refl; length = refl; buffer = refl })
 
-pub good-message : (m b a xs : List ℕ) (told : Written) → helloForm m ≡ true → xs ≡ textOf (numbersOf m)
-    → Leaves (into (length b) xs) told b a
-    → Leaves (toText m (length b)) told b a
+pub good-message : (m b a xs : List ℕ) (returned : Written) → helloForm m ≡ true → xs ≡ textOf (numbersOf m)
+    → Leaves (into (length b) xs) returned b a
+    → Leaves (toText m (length b)) returned b a
 unfolding toText
-good-message m b a xs told e q l = rw (e, ← q) l
+good-message m b a xs returned e q l = rw (e, ← q) l
 
 -- ---- what was read
 
@@ -45,9 +45,9 @@ read-is text after e says = subst (ReadSays text after) e says
 pub read-inside : (text after : List ℕ) (n : ℕ) → ReadSays text after (Good n) → n ≤ length after
 read-inside text after n s = omega (arith, s .0, length-take n after)
 
-pub good-text : (text after b a : List ℕ) (n : ℕ) (told : Written) → ReadSays text after (Good n) → Leaves (into (length b) (take n after)) told b a
-    → Leaves (fromText text (length b)) told b a
-good-text text after b a n told s l = rw (s .1 (length b)) l
+pub good-text : (text after b a : List ℕ) (n : ℕ) (returned : Written) → ReadSays text after (Good n) → Leaves (into (length b) (take n after)) returned b a
+    → Leaves (fromText text (length b)) returned b a
+good-text text after b a n returned s l = rw (s .1 (length b)) l
 
 pub bad-text : (text after b : List ℕ) (x : Answer) → ReadSays text after (Bad x) → Leaves (fromText text (length b)) (record { answer = x; length = 0 }) b b
 bad-text text after b x s = rw (s (length b)) (record { answer = refl; length = refl; buffer = refl })
@@ -55,9 +55,9 @@ bad-text text after b x s = rw (s (length b)) (record { answer = refl; length = 
 -- ---- what a caller has of it
 
 -- what was written stands at the buffer's start, and lies within it
-pub told-counts : (m : Made) (told : Written) (b a : List ℕ) → Leaves m told b a → (told .length ≤ length a) × (told .length ≡ length (take (told .length) a))
-told-counts m told b a l =
+pub returned-counts : (m : Made) (returned : Written) (b a : List ℕ) → Leaves m returned b a → (returned .length ≤ length a) × (returned .length ≡ length (take (returned .length) a))
+returned-counts m returned b a l =
     let xs = m .octets in
     let q : a ≡ xs ++ drop (0 + length xs) b = l .buffer in
-    let t : take (told .length) a ≡ xs = rw q (take-at xs (drop (0 + length xs) b) (told .length) (sym (l .length))) in
+    let t : take (returned .length) a ≡ xs = rw q (take-at xs (drop (0 + length xs) b) (returned .length) (sym (l .length))) in
     (omega (arith, ap length q, length-append xs (drop (0 + length xs) b), l .length), l .length ∙ ap length (sym t))

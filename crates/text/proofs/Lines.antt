@@ -56,14 +56,14 @@ unfolding rowLines
 lines-none m i h = ap rowLines (rows-none m i h)
 
 -- what is left to put, over what was put, makes the whole
-pub record Left (m b a : List ℕ) (at end i : ℕ) : Type 0 where
+pub record HostAfter (m b a : List ℕ) (at end i : ℕ) : Type 0 where
   pub places : end + length (linesFrom m i) ≡ at + length (linesFrom m 12)
   pub buffer : over a end (linesFrom m i) ≡ over b at (linesFrom m 12)
 
-pub left-less : {m b a a₂ : List ℕ} {at end end₂ i d o : ℕ} → i + 3 < length m → Left m b a at end i
+pub after-less : {m b a a₂ : List ℕ} {at end end₂ i d o : ℕ} → i + 3 < length m → HostAfter m b a at end i
     → d ≡ twoAt m i → o ≡ twoAt m (i + 2) → Put a a₂ end end₂ (row d o)
-    → Left m b a₂ at end₂ (i + 4)
-left-less {m} {b} {a} {a₂} {at} {end} {end₂} {i} h l e₁ e₂ f =
+    → HostAfter m b a₂ at end₂ (i + 4)
+after-less {m} {b} {a} {a₂} {at} {end} {end₂} {i} h l e₁ e₂ f =
     let g : Put a a₂ end end₂ (rowLine (rowAt m i)) = rw (e₁, e₂) at f in
     let e = lines-more m i h in
     let q = length-append (rowLine (rowAt m i)) (linesFrom m (i + 4)) in
@@ -72,7 +72,7 @@ left-less {m} {b} {a} {a₂} {at} {end} {end₂} {i} h l e₁ e₂ f =
       buffer = rw (g .buffer, g .behind) (over-twice end a (rowLine (rowAt m i)) (omega (arith, g .inside, g .behind)) (linesFrom m (i + 4)) ∙ rw e at (l .buffer));
     }
 
-pub all-put : {m b a : List ℕ} {at end i : ℕ} → length m ≤ i + 3 → end ≤ length b → Left m b a at end i → Put b a at end (linesFrom m 12)
+pub all-put : {m b a : List ℕ} {at end i : ℕ} → length m ≤ i + 3 → end ≤ length b → HostAfter m b a at end i → Put b a at end (linesFrom m 12)
 all-put {m} {b} {a} {at} {end} {i} h k l =
     let e = lines-none m i h in
     put b a at end (linesFrom m 12) (omega (arith, ap length e, l .places)) k (sym (over-nothing end a) ∙ rw e at (l .buffer))

@@ -13,7 +13,7 @@ use Rattle.quantity.specs.Words.{bits16, signed16}
 use Rattle.checksum.specs.Checksum.{checksumOf}
 use Rattle.wire.specs.Octets.{two, four, octetAt}
 use Rattle.wire.specs.Hello.{fixedLength, nhostsPlace, helloLength, helloForm}
-use Rattle.text.specs.Numbers.{Row, Numbers, fitsTwo, fitsSigned, rowFits, rowsFit, numbersFit, rowsOf, numbersOf, rowsOctets, octetsBehind, messageOf}
+use Rattle.text.specs.Numbers.{Row, Numbers, fitsTwo, fitsSigned, rowFits, rowsFit, numbersFit, rowsOf, numbersOf, rowsOctets, octetsRest, messageOf}
 use Rattle.text.specs.Back.{Octets, SendersChecksum}
 use Rattle.text.proofs.Rows.{good-length}
 use Rattle.text.proofs.RowsLoop.{octets-length}
@@ -150,7 +150,7 @@ message-there m o e = go m o (good-length m e)
         let tsp : k * 256 + n ≤ 65535 = omega (arith, o₄ .1 .1 .1 .1 .0, o₄ .1 .1 .1 .1 .1 .0) in
         let base : p ≤ 255 = omega (arith, o₄ .1 .1 .1 .1 .1 .1 .0) in
         let count : q ≤ 255 = omega (arith, o₄ .1 .1 .1 .1 .1 .1 .1 .0) in
-        let behind : octetsBehind (numbersOf (a ∷ b ∷ c ∷ d ∷ f ∷ h ∷ i ∷ j ∷ k ∷ n ∷ p ∷ q ∷ l)) ≡ c ∷ d ∷ f ∷ h ∷ i ∷ j ∷ k ∷ n ∷ p ∷ q ∷ l =
+        let behind : octetsRest (numbersOf (a ∷ b ∷ c ∷ d ∷ f ∷ h ∷ i ∷ j ∷ k ∷ n ∷ p ∷ q ∷ l)) ≡ c ∷ d ∷ f ∷ h ∷ i ∷ j ∷ k ∷ n ∷ p ∷ q ∷ l =
         ap (λ x. x ++ four (((f * 256 + h) * 256 + i) * 256 + j) ++ two (k * 256 + n) ++ p ∷ q ∷ [] ++ rowsOctets (rowsOf l)) (two-back c d oc od)
         ∙ ap (λ x. c ∷ d ∷ [] ++ x ++ two (k * 256 + n) ++ p ∷ q ∷ [] ++ rowsOctets (rowsOf l)) (four-back f h i j (o₄ .0) (o₄ .1 .0) (o₄ .1 .1 .0) (o₄ .1 .1 .1 .0))
         ∙ ap (λ x. c ∷ d ∷ f ∷ h ∷ i ∷ j ∷ [] ++ x ++ p ∷ q ∷ [] ++ rowsOctets (rowsOf l)) (two-back k n (o₄ .1 .1 .1 .1 .0) (o₄ .1 .1 .1 .1 .1 .0))

@@ -20,8 +20,8 @@ module _ (b : List ℕ) (at c : ℕ) (ys : List ℕ) (h : at + length ys < lengt
   abbrev place : ℕ
   place = at + length ys
 
-  behind-set : drop place (set b place c) ≡ c ∷ drop (suc place) b
-  behind-set =
+  after-set : drop place (set b place c) ≡ c ∷ drop (suc place) b
+  after-set =
       let l : place < length (set b place c) = rw length-set h in
       drop-cons (set b place c) place 0 l
       ∙ rw (getD-set-same b place c 0 h, drop-set-lt (suc place) b place c (lt-suc-self place))
@@ -30,7 +30,7 @@ module _ (b : List ℕ) (at c : ℕ) (ys : List ℕ) (h : at + length ys < lengt
   pub set-over : over (set b place c) at ys ≡ over b at (ys ++ c ∷ [])
   set-over =
       let e : at + (length ys + 1) ≡ suc place = omega arith in
-      rw (take-set-le at b place c (omega arith), behind-set, length-append ys (c ∷ []), e) (simp append-assoc)
+      rw (take-set-le at b place c (omega arith), after-set, length-append ys (c ∷ []), e) (simp append-assoc)
 
 pub put : (b a : List ℕ) (at n : ℕ) (xs : List ℕ) → n ≡ at + length xs → n ≤ length b → a ≡ over b at xs → Put b a at n xs
 put b a at n xs e h q =

@@ -18,7 +18,7 @@ use Rattle.wire.specs.Octets.{two, four}
 use Rattle.wire.specs.Hello.{reportPlace}
 use Rattle.text.specs.declared.scan.First.{First}
 use Rattle.text.specs.Numbers.{Row, fitsOctet, fitsTwo, fitsFour, fitsSigned, rowFits, firstFits, fixedOctets}
-use Rattle.text.specs.code.Reading.{mostHosts, mostLength, signedOf, rowOctets, firstTold, RowPut}
+use Rattle.text.specs.code.Reading.{mostHosts, mostLength, signedOf, rowOctets, firstReturned, RowPut}
 use Rattle.text.proofs.Readings.{and-true}
 
 pub fits-negative : (n : ℕ) → fitsSigned (negℤ (pos n)) ≡ leb n 32768
@@ -59,7 +59,7 @@ pub record FirstFits (f : First) : Type 0 where
   pub base : f .base ≤ 255
   pub count : f .count ≤ 255
 
-pub first-fits : (f : First) (rows : List Row) → firstFits (firstTold f rows) ≡ true → FirstFits f
+pub first-fits : (f : First) (rows : List Row) → firstFits (firstReturned f rows) ≡ true → FirstFits f
 first-fits f rows e =
     let p₄ = both (fitsTwo (f .date) && fitsFour (f .time) && fitsTwo (f .tsp) && fitsOctet (f .base)) (fitsOctet (f .count)) e in
     let p₃ = both (fitsTwo (f .date) && fitsFour (f .time) && fitsTwo (f .tsp)) (fitsOctet (f .base)) (p₄ .0) in
@@ -76,5 +76,5 @@ first-fits f rows e =
 pub fixed-put : (b l₁ l₂ l₃ l₄ l₅ : List ℕ) (f : First) → mostLength ≤ length b
     → l₁ ≡ sets b 2 (two (f .date)) → l₂ ≡ sets l₁ 4 (four (f .time)) → l₃ ≡ sets l₂ 8 (two (f .tsp))
     → l₄ ≡ set l₃ 10 (f .base) → l₅ ≡ set l₄ 11 (f .count)
-    → l₅ ≡ over b 2 (fixedOctets (firstTold f []))
-fixed-put b l₁ l₂ l₃ l₄ l₅ f h e₁ e₂ e₃ e₄ e₅ = e₅ ∙ rw (e₄, e₃, e₂, e₁) (sets-eq (fixedOctets (firstTold f [])) b 2 (omega arith))
+    → l₅ ≡ over b 2 (fixedOctets (firstReturned f []))
+fixed-put b l₁ l₂ l₃ l₄ l₅ f h e₁ e₂ e₃ e₄ e₅ = e₅ ∙ rw (e₄, e₃, e₂, e₁) (sets-eq (fixedOctets (firstReturned f [])) b 2 (omega arith))

@@ -19,7 +19,7 @@ use Rattle.text.specs.Words.{newline, cut, words, lines, pass}
 use Rattle.text.specs.Numbers.{Row, rowFits, rowsFit, rowsOctets}
 use Rattle.text.specs.Text.{rowTests, rowsForm, rowIn, rowsIn}
 use Rattle.text.specs.code.Scan.{Found, RowRead}
-use Rattle.text.specs.code.Reading.{mostHosts, mostLength, rowTold, rowOctets, RowPut, RowsRead}
+use Rattle.text.specs.code.Reading.{mostHosts, mostLength, rowReturned, rowOctets, RowPut, RowsRead}
 use Rattle.text.proofs.Cuts.{cut-some}
 use Rattle.text.proofs.Readings.{and-true, and-false}
 use Rattle.text.proofs.LineWords.{part-read}
@@ -106,7 +106,7 @@ more-fit count f g = rw (add-one count) (go (ltb count mostHosts) refl)
 
 module _ (text b a a₂ : List ℕ) (i j count : ℕ) (fit fit₂ : Bool) (line : List ℕ) (r : Scanned.Row)
     (room : mostLength ≤ length b) (state : Reading text b a i count fit) (split : lines (drop i text) ≡ line ∷ lines (drop j text))
-    (read : RowRead (words line) r) (good : r .form ≡ true) (stored : RowPut a a₂ fit count (rowTold r) fit₂) where
+    (read : RowRead (words line) r) (good : r .form ≡ true) (stored : RowPut a a₂ fit count (rowReturned r) fit₂) where
   abbrev row : Row
   row = rowIn (words line)
 
@@ -117,9 +117,9 @@ module _ (text b a a₂ : List ℕ) (i j count : ℕ) (fit fit₂ : Bool) (line 
 
   put-too : fit₂ ≡ true → a₂ ≡ over b fixedLength (rowsOctets (state .done ++ row ∷ []))
   put-too t =
-      let p = both fit (ltb count mostHosts && rowFits (rowTold r)) (sym (stored .fits) ∙ t) in
-      let q = both (ltb count mostHosts) (rowFits (rowTold r)) (p .1) in
-      let e : rowTold r ≡ row = row-is (words line) r (read .good good) (q .1) in
+      let p = both fit (ltb count mostHosts && rowFits (rowReturned r)) (sym (stored .fits) ∙ t) in
+      let q = both (ltb count mostHosts) (rowFits (rowReturned r)) (p .1) in
+      let e : rowReturned r ≡ row = row-is (words line) r (read .good good) (q .1) in
       let n : reportPlace count ≡ fixedLength + length (rowsOctets (state .done)) = omega (arith, octets-length (state .done), state .number) in
       let h : fixedLength ≤ length b = omega arith in
       stored .put t

@@ -14,7 +14,7 @@ use Rattle.text.specs.Numerals.{isNegative, value, signedValue}
 use Rattle.text.specs.Numbers.{Row, fitsTwo, fitsSigned, rowFits}
 use Rattle.text.specs.Text.{wordAt, rowIn}
 use Rattle.text.specs.code.Scan.{large, Stands, size, RowGood}
-use Rattle.text.specs.code.Reading.{signedOf, rowTold}
+use Rattle.text.specs.code.Reading.{signedOf, rowReturned}
 use Rattle.text.proofs.Ranges.{fits-negative, size-fits}
 
 pub stands-le : (r n k : ℕ) → k < large → Stands r n → leb r k ≡ leb n k
@@ -65,12 +65,12 @@ module _ (ws : List (List ℕ)) (r : Scanned.Row) (g : RowGood ws r) where
       ∙ sym (fits-most (isNegative w) (size w))
       ∙ ap fitsSigned (sym (signed-size w))
 
-  pub row-fits-as : rowFits (rowTold r) ≡ rowFits (rowIn ws)
+  pub row-fits-as : rowFits (rowReturned r) ≡ rowFits (rowIn ws)
   row-fits-as =
       ap (λ (b : Bool). b && fitsSigned (signedOf (r .negative) (r .size))) (stands-le (r .delay) (value (wordAt ws 0)) 65535 (omega arith) (g .delay))
       ∙ ap (λ (b : Bool). fitsTwo (value (wordAt ws 0)) && b) offset-fits
 
-  pub row-is : rowFits (rowTold r) ≡ true → rowTold r ≡ rowIn ws
+  pub row-is : rowFits (rowReturned r) ≡ true → rowReturned r ≡ rowIn ws
   row-is e =
       let p = both (fitsTwo (r .delay)) (fitsSigned (signedOf (r .negative) (r .size))) e in
       let d = stands-is (r .delay) (value (wordAt ws 0)) 65535 (omega arith) (g .delay) (leb-true _ _ (p .0)) in

@@ -19,11 +19,11 @@ use Rattle.text.specs.declared.read.Rows.{Rows}
 use Rattle.text.specs.declared.read.Read.the-variants.{Good}
 use Rattle.text.specs.Numerals.{value}
 use Rattle.text.specs.Words.{newline, words, lines, pass}
-use Rattle.text.specs.Numbers.{Row, Numbers, firstFits, rowsFit, numbersFit, rowsOctets, fixedOctets, octetsBehind, messageOf}
+use Rattle.text.specs.Numbers.{Row, Numbers, firstFits, rowsFit, numbersFit, rowsOctets, fixedOctets, octetsRest, messageOf}
 use Rattle.text.specs.Text.{wordAt, firstTests, rowsForm, rowsIn, form, numbersIn}
 use Rattle.text.specs.Answers.{refused, into, fromText}
 use Rattle.text.specs.code.Scan.{large, Stands, Found, FirstGood, LineRead}
-use Rattle.text.specs.code.Reading.{mostHosts, mostLength, firstTold, RowsGood, RowsRead, ReadSays}
+use Rattle.text.specs.code.Reading.{mostHosts, mostLength, firstReturned, RowsGood, RowsRead, ReadSays}
 use Rattle.text.proofs.Readings.{and-false}
 use Rattle.text.proofs.LineWords.{part-read}
 use Rattle.text.proofs.Ranges.{first-fits}
@@ -109,11 +109,11 @@ module _ (ws : List (List ℕ)) (f : First) (g : FirstGood (drop 1 ws) f) (rows 
   pub count-stands : Stands (f .count) (value (wordAt ws 5))
   count-stands = rw (getD-drop 1 ws 4 []) at (g .count)
 
-  pub first-fits-as : firstFits (firstTold f rows) ≡ firstFits numbers
+  pub first-fits-as : firstFits (firstReturned f rows) ≡ firstFits numbers
   first-fits-as =
       rw (stands-le (f .date) (value (wordAt ws 1)) 65535 (omega arith) date-stands, stands-le (f .time) (value (wordAt ws 2)) 4294967295 (omega arith) time-stands, stands-le (f .tsp) (value (wordAt ws 3)) 65535 (omega arith) tsp-stands, stands-le (f .base) (value (wordAt ws 4)) 255 (omega arith) base-stands, stands-le (f .count) (value (wordAt ws 5)) 255 (omega arith) count-stands)
 
-  pub first-is : firstFits (firstTold f rows) ≡ true → firstTold f rows ≡ numbers
+  pub first-is : firstFits (firstReturned f rows) ≡ true → firstReturned f rows ≡ numbers
   first-is e =
       let h = first-fits f rows e in
       rw (stands-is (f .date) (value (wordAt ws 1)) 65535 (omega arith) date-stands (h .date), stands-is (f .time) (value (wordAt ws 2)) 4294967295 (omega arith) time-stands (h .time), stands-is (f .tsp) (value (wordAt ws 3)) 65535 (omega arith) tsp-stands (h .tsp), stands-is (f .base) (value (wordAt ws 4)) 255 (omega arith) base-stands (h .base), stands-is (f .count) (value (wordAt ws 5)) 255 (omega arith) count-stands (h .count))
@@ -143,9 +143,9 @@ message-put b l₁ l₂ l₃ s n e h e₁ e₂ e₃ =
     let r : take (length R) (drop fixedLength l₁) ≡ R = rw e₁ (over-there fixedLength b R k (length R) refl) in
     let d : drop 2 l₂ ≡ F ++ drop fixedLength l₁ = rw e₂ (front l₁ F (omega arith)) in
     let p : n - 2 ≡ length F + length R = omega arith in
-    let t : take (n - 2) (drop 2 l₂) ≡ octetsBehind s = rw (p, d) (take-append-add F (drop fixedLength l₁) (length R) ∙ ap (λ (z : List ℕ). F ++ z) r) in
+    let t : take (n - 2) (drop 2 l₂) ≡ octetsRest s = rw (p, d) (take-append-add F (drop fixedLength l₁) (length R) ∙ ap (λ (z : List ℕ). F ++ z) r) in
     let q : n ≡ 2 + (length F + length R) = omega arith in
-    let C = two (checksumOf (octetsBehind s)) in
+    let C = two (checksumOf (octetsRest s)) in
     let z : l₃ ≡ C ++ (F ++ drop fixedLength l₁) = e₃ ∙ rw (t, d) in
     ap (take n) z ∙ rw q (take-append-add C (F ++ drop fixedLength l₁) (length F + length R) ∙ ap (λ (z : List ℕ). C ++ z) (take-append-add F (drop fixedLength l₁) (length R) ∙ ap (λ (z : List ℕ). F ++ z) r))
   where
@@ -199,14 +199,14 @@ module _ (text : List ℕ) (e : ℕ) (found : Found text newline e) (f : First) 
         formed : form text ≡ true
         formed = good-form text line (lines rest) split (sym (first .form) ∙ first-good) (sym (read .form) ∙ rows-good) (r .count) (good .counted) count-is
 
-        fits-is : numbersFit (numbersIn text) ≡ (firstFits (firstTold f []) && rowsFit (rowsIn (lines rest)))
+        fits-is : numbersFit (numbersIn text) ≡ (firstFits (firstReturned f []) && rowsFit (rowsIn (lines rest)))
         unfolding numbersFit
         fits-is = rw (numbers-are text line (lines rest) split, ← (first-fits-as (words line) f (first .good first-good) []))
 
-        pub first-range : firstFits (firstTold f []) ≡ false → (room : ℕ) → fromText text room ≡ refused FieldRange
+        pub first-range : firstFits (firstReturned f []) ≡ false → (room : ℕ) → fromText text room ≡ refused FieldRange
         first-range q = bad-range text formed (fits-is ∙ rw q)
 
-        module _ (first-fit : firstFits (firstTold f []) ≡ true) where
+        module _ (first-fit : firstFits (firstReturned f []) ≡ true) where
           pub few : r .count ≤ mostHosts
           few = omega (arith, counts, first-fits f [] first-fit .count)
 
@@ -220,7 +220,7 @@ module _ (text : List ℕ) (e : ℕ) (found : Found text newline e) (f : First) 
           n = 12 + 4 * r .count
 
           pub text-read : (l₂ l₃ : List ℕ) → mostLength ≤ length b → r .fit ≡ true
-              → l₂ ≡ over a 2 (fixedOctets (firstTold f []))
+              → l₂ ≡ over a 2 (fixedOctets (firstReturned f []))
               → l₃ ≡ over l₂ 0 (two (checksumOf (take (n - 2) (drop 2 l₂))))
               → n ≤ length l₃
               → ReadSays text l₃ (Good n)
@@ -228,8 +228,8 @@ module _ (text : List ℕ) (e : ℕ) (found : Found text newline e) (f : First) 
               let rows = rowsIn (lines rest) in
               let c : length rows ≡ r .count = rows-counted (lines rest) (r .count) (good .counted) in
               let m : n ≡ fixedLength + length (rowsOctets rows) = omega (arith, octets-length rows) in
-              let p : take n l₃ ≡ messageOf (firstTold f rows) = message-put b a l₂ l₃ (firstTold f rows) n m (omega (arith, few)) (good .put q) e₂ e₃ in
-              let i : firstTold f rows ≡ numbersIn text = first-is (words line) f (first .good first-good) rows first-fit ∙ sym (numbers-are text line (lines rest) split) in
+              let p : take n l₃ ≡ messageOf (firstReturned f rows) = message-put b a l₂ l₃ (firstReturned f rows) n m (omega (arith, few)) (good .put q) e₂ e₃ in
+              let i : firstReturned f rows ≡ numbersIn text = first-is (words line) f (first .good first-good) rows first-fit ∙ sym (numbers-are text line (lines rest) split) in
               (sym (length-take-le n l₃ long), read-good text l₃ n formed (fits-is ∙ rw (first-fit, sym rows-fit-is ∙ q)) long (p ∙ ap messageOf i))
 
 pub nothing-read : (text : List ℕ) (e : ℕ) → Found text newline e → length text ≤ e → (room : ℕ) → fromText text room ≡ refused TextForm

@@ -52,7 +52,7 @@ fromText text room =
     (into room (messageOf (numbersIn text))))
 
 -- TEXT-6: what a call returns, and the buffer after it; the octets after the result stay
-pub record Leaves (m : Made) (told : Written) (before after : List ℕ) : Type 0 where
-  pub answer : told .answer ≡ m .answer
-  pub length : told .length ≡ length (m .octets)
+pub record Leaves (m : Made) (returned : Written) (before after : List ℕ) : Type 0 where
+  pub answer : returned .answer ≡ m .answer
+  pub length : returned .length ≡ length (m .octets)
   pub buffer : after ≡ over before 0 (m .octets)

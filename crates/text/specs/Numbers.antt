@@ -59,12 +59,12 @@ abbrev pub fixedOctets : Numbers → List ℕ
 fixedOctets s = two (s .date) ++ four (s .time) ++ two (s .tsp) ++ s .base ∷ s .count ∷ []
 
 -- TEXT-4: all octets after the checksum
-abbrev pub octetsBehind : Numbers → List ℕ
-octetsBehind s = fixedOctets s ++ rowsOctets (s .rows)
+abbrev pub octetsRest : Numbers → List ℕ
+octetsRest s = fixedOctets s ++ rowsOctets (s .rows)
 
 -- TEXT-4: a message of its numbers, with the sender's checksum
 unfoldable pub messageOf : Numbers → List ℕ
-messageOf s = two (checksumOf (octetsBehind s)) ++ octetsBehind s
+messageOf s = two (checksumOf (octetsRest s)) ++ octetsRest s
 
 -- ----
 

@@ -19,7 +19,7 @@ pub enum Answer {
     FieldRange,
 }
 
-// What the writer and the reader tell: the answer, and the length of what was written, zero at a refusal.
+// What the writer and the reader return: the answer, and the length of what was written, zero at a refusal.
 pub struct Written {
     pub answer: Answer,
     pub length: usize,

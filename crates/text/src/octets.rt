@@ -1,4 +1,4 @@
-// An octet put into a lent buffer.
+// Writes an octet into a borrowed buffer.
 ghost use mathlib.Core.List.{_∷_, []};
 ghost use Prim.Native.Nat.{_+_, _<_};
 ghost use lib.ListN.{length};

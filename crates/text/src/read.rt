@@ -9,7 +9,7 @@ ghost use Rattle.quantity.specs.Words.{bits16};
 ghost use Rattle.checksum.specs.Checksum.{checksumOf};
 ghost use Rattle.wire.specs.Octets.{two};
 ghost use Rattle.text.specs.Numbers.{rowFits, firstFits, fixedOctets};
-ghost use Rattle.text.specs.code.Reading.{mostLength, rowTold, firstTold, RowPut, RowsRead, ReadSays};
+ghost use Rattle.text.specs.code.Reading.{mostLength, rowReturned, firstReturned, RowPut, RowsRead, ReadSays};
 use super::Answer;
 use super::scan::First;
 use super::scan::Row;
@@ -20,7 +20,7 @@ use wire::octets::put_four;
 use wire::octets::put_octet;
 use wire::octets::put_two;
 
-// What the lines behind the first are: whether all have the form of a row, whether they are at most 255 and all fit, and how many.
+// The lines after the first: whether all have the form of a row, whether they are at most 255 and all fit, and how many.
 pub struct Rows {
     pub form: bool,
     pub fit: bool,
@@ -41,7 +41,7 @@ pub enum Read {
 
 // Whether the numbers of a row fit their fields.
 fn row_fits(r: Row) -> bool
-    ensures { λ b. ⌜ b ≡ rowFits (rowTold r) ⌝ }
+    ensures { λ b. ⌜ b ≡ rowFits (rowReturned r) ⌝ }
 {
     if r.delay > 65535 {
         return false;
@@ -54,8 +54,8 @@ fn row_fits(r: Row) -> bool
 
 // The 16 bits of a row's OFFSET.
 fn offset_bits(r: Row) -> u16
-    requires { ⌜ rowFits (rowTold r) ≡ true ⌝ }
-    ensures { λ b. ⌜ b ≡ bits16 (rowTold r .offset) ⌝ }
+    requires { ⌜ rowFits (rowReturned r) ≡ true ⌝ }
+    ensures { λ b. ⌜ b ≡ bits16 (rowReturned r .offset) ⌝ }
 {
     if r.negative {
         return ((65536 - r.size) % 65536) as u16;
@@ -63,10 +63,10 @@ fn offset_bits(r: Row) -> u16
     r.size as u16
 }
 
-// A row put in its place, if it and those in front of it fit: whether they do.
+// Writes a row to its place if it and all rows before it fit; returns whether they do.
 fn put_row(message: &mut [u8], fit: bool, i: usize, r: Row) -> bool
     requires { ⌜ mostLength ≤ length (now message) ⌝ }
-    ensures { λ b. ⌜ RowPut (now (message .entry)) (now (message .exit)) fit i (rowTold r) b ⌝ }
+    ensures { λ b. ⌜ RowPut (now (message .entry)) (now (message .exit)) fit i (rowReturned r) b ⌝ }
 {
     if !fit {
         return false;
@@ -83,7 +83,7 @@ fn put_row(message: &mut [u8], fit: bool, i: usize, r: Row) -> bool
     true
 }
 
-// The lines behind the first, each put in its place while all fit.
+// The lines after the first, each written to its place while all fit.
 fn read_rows(text: &[u8], message: &mut [u8]) -> Rows
     requires { ⌜ mostLength ≤ length (now message) ⌝ }
     ensures { λ r. ⌜ RowsRead (now (text .entry)) (now (message .entry)) (now (message .exit)) r ⌝ }
@@ -114,7 +114,7 @@ fn read_rows(text: &[u8], message: &mut [u8]) -> Rows
 
 // Whether the numbers of the first line fit their fields.
 fn first_fits(f: First) -> bool
-    ensures { λ b. ⌜ b ≡ firstFits (firstTold f []) ⌝ }
+    ensures { λ b. ⌜ b ≡ firstFits (firstReturned f []) ⌝ }
 {
     if f.date > 65535 {
         return false;
@@ -134,8 +134,8 @@ fn first_fits(f: First) -> bool
 // The numbers of the first line put in their places.
 fn put_fixed(message: &mut [u8], f: First)
     requires { ⌜ mostLength ≤ length (now message) ⌝ }
-    requires { ⌜ firstFits (firstTold f []) ≡ true ⌝ }
-    ensures { λ _. ⌜ now (message .exit) ≡ over (now (message .entry)) 2 (fixedOctets (firstTold f [])) ⌝ }
+    requires { ⌜ firstFits (firstReturned f []) ≡ true ⌝ }
+    ensures { λ _. ⌜ now (message .exit) ≡ over (now (message .entry)) 2 (fixedOctets (firstReturned f [])) ⌝ }
 {
     put_two(&mut *message, 2, f.date as u16);
     put_four(&mut *message, 4, f.time as u32);
@@ -154,7 +154,7 @@ fn put_checksum(message: &mut [u8], n: usize)
     put_two(&mut *message, 0, sum);
 }
 
-// The message of a text, put at the start of a buffer that holds any; what else stands there is not told.
+// Writes the message of a text to the start of a buffer that is long enough for any; the rest of the buffer is unspecified.
 pub fn read_text(text: &[u8], message: &mut [u8]) -> Read
     requires { ⌜ mostLength ≤ length (now message) ⌝ }
     ensures { λ r. ⌜ ReadSays (now (text .entry)) (now (message .exit)) r ⌝ }

@@ -21,14 +21,14 @@ pub struct Offset {
     pub size: u64,
 }
 
-// The first word of a part of a line, which has more behind it, read as a number, and where the next word begins.
+// The first word of a part of a line that has more words, read as a number, and where the next word begins.
 pub struct Field {
     pub form: bool,
     pub value: u64,
     pub next: usize,
 }
 
-// A line behind the first.
+// A line after the first.
 pub struct Row {
     pub form: bool,
     pub delay: u64,
@@ -179,7 +179,7 @@ fn read_offset(s: &[u8]) -> Offset
     }
 }
 
-// The first word, which has another behind it, read as a number.
+// The first word, which is followed by another, read as a number.
 fn read_field(s: &[u8]) -> Field
     ensures { λ r. ⌜ FieldRead (now (s .entry)) r ⌝ }
 {
@@ -199,7 +199,7 @@ fn read_field(s: &[u8]) -> Field
     }
 }
 
-// A line behind the first.
+// A line after the first.
 pub fn read_row(line: &[u8]) -> Row
     ensures { λ r. ⌜ RowRead (words (now (line .entry))) r ⌝ }
 {
@@ -268,7 +268,7 @@ fn is_hello(s: &[u8]) -> bool
     s[4] == b'o'
 }
 
-// The numbers of the first line, behind its first word.
+// The numbers of the first line, after its first word.
 fn read_numbers(s: &[u8]) -> First
     ensures { λ r. ⌜ FirstRead (words (now (s .entry))) r ⌝ }
 {

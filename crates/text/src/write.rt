@@ -64,7 +64,7 @@ fn put_digits(text: &mut [u8], at: usize, k: usize, n: u32)
     }
 }
 
-// A number put at a place: the place behind it.
+// Writes a number at a place; returns the place after it.
 fn put_number(text: &mut [u8], at: usize, n: u32) -> usize
     requires { ⌜ at + 10 ≤ length (now text) ⌝ }
     ensures { λ r. ⌜ Put (now (text .entry)) (now (text .exit)) at r (numeral n) ⌝ }

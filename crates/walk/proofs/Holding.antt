@@ -22,10 +22,10 @@ use Rattle.wire.specs.Hello.{reportAt}
 use Rattle.wire.specs.Packet.{helloOf}
 use Rattle.route.specs.declared.Found.{Found}
 use Rattle.route.specs.declared.Found.the-variants.{Id, Nothing}
-use Rattle.class_table.specs.declared.ClassTable.{ClassTable}
+use Rattle.net_table.specs.declared.NetTable.{NetTable}
 use Rattle.table.specs.declared.Entry.{Entry}
 use Rattle.table.specs.declared.Update.{Update}
-use Rattle.table.specs.declared.run.Changes.{Changes}
+use Rattle.table.specs.declared.entries.Changes.{Changes}
 use Rattle.table.specs.Forms.{Stage, on, end}
 use Rattle.table.specs.Entry.{minDelay, maxDelay, up, takenDown}
 use Rattle.table.specs.Update.{lineA, lineB, lineC}
@@ -38,13 +38,13 @@ use Rattle.host.specs.declared.walk.Place.the-variants.{Nowhere, Step1, Step2, 
 use Rattle.host.specs.Settings.{foundFor}
 use Rattle.host.specs.State.{hostCount, broadcast, linkOf}
 use Rattle.host.specs.declared.Links.{Links}
-use Rattle.host.specs.Lent.{Host, host}
-use Rattle.host.specs.Walk.{isOpen, noWalk, placeOf, lineUpdate, readingInRange, idInRange, storable, heldAt}
+use Rattle.host.specs.CallState.{Host, host}
+use Rattle.host.specs.Walk.{isOpen, noWalk, placeOf, lineUpdate, readingInRange, idInRange, storable, walkFieldsAt}
 use Rattle.host.specs.Effect.{nothing}
 use Rattle.arrival.specs.declared.Flight.{Flight}
 use Rattle.arrival.specs.Steps.{step3, step4, atLeastMin}
-use Rattle.walk.proofs.Whole.{Fits16, word-back, raised-fits}
-use Rattle.walk.specs.Boxes.{at, onward, inFlight, raised, fourth, toNeighbor, nextId, put, atLine, isClockHost, clockSet, behindA, behindB, behindC, box1, box2, box3, box4, box5, boxA, boxB, boxC, boxD, boxAt}
+use Rattle.walk.proofs.HostReply.{Fits16, word-back, raised-fits}
+use Rattle.walk.specs.Boxes.{at, onward, inFlight, raised, fourth, toNeighbor, nextId, put, atLine, isClockHost, clockSet, afterA, afterB, afterC, box1, box2, box3, box4, box5, boxA, boxB, boxC, boxD, boxAt}
 
 module _ (s : Settings) (p : Packet) (octets : List ℕ) where
   -- at a line: our reading, an id of the host, and a DELAY that step 5 has raised
@@ -75,7 +75,7 @@ module _ (s : Settings) (p : Packet) (octets : List ℕ) where
       (λ _. not-lt (w .delay .0 +ℤ R) (pos 100) (omega (arith, h .delay, sum (w .delay .0) R)))
 
   -- so the guard's test of it is passed
-  pub passes : (q : Place) (w : Walk) → Holds q w → heldAt q s w p octets ≡ true
+  pub passes : (q : Place) (w : Walk) → Holds q w → walkFieldsAt q s w p octets ≡ true
   passes Nowhere w h = absurd h
   passes Step1 w h = refl
   passes Step2 w h = h
@@ -138,19 +138,19 @@ module _ (s : Settings) (p : Packet) (octets : List ℕ) where
     found Nothing below g fits = closed k w
     found (Id id) below g fits = record { still = λ _. record { reading = g; id = below id refl; delay = raised-held w fits }; link = λ _. refl; length = λ _. refl; few = λ _ held used. held }
 
-    a-goes : (q : Stage Entry) → Lined w → Onward (behindA p h w q .walk)
+    a-goes : (q : Stage Entry) → Lined w → Onward (afterA p h w q .walk)
     unfolding placeOf
     a-goes (end e) g = next c nothing g
     a-goes (on e) g = record { still = λ _. at-id 2 (w .id) g (g .id); link = λ _. refl; length = λ _. refl; few = λ _ held used. held }
 
-    c-goes : (q : Stage Entry) → Lined w → Onward (behindC p h w q .walk)
+    c-goes : (q : Stage Entry) → Lined w → Onward (afterC p h w q .walk)
     unfolding placeOf
     c-goes (end e) g = next c (put w e) g
     c-goes (on e) g =
         either (λ (x : Effect). Onward (x .walk)) (isClockHost h w) _ _ (λ _. record { still = λ _. at-id 4 (w .id) g (g .id); link = λ _. refl; length = λ _. refl; few = λ _ held used. held }) (λ _. next c (put w e) g)
 
     -- line (b) goes on only with a DELAY under 30,000
-    b-goes : (e : Entry) → Lined w → Onward (behindB p h w (lineB (lineUpdate w p octets) e) .walk)
+    b-goes : (e : Entry) → Lined w → Onward (afterB p h w (lineB (lineUpdate w p octets) e) .walk)
     unfolding placeOf lineB
     b-goes e g =
         let u : Update = lineUpdate w p octets in
@@ -159,13 +159,13 @@ module _ (s : Settings) (p : Packet) (octets : List ℕ) where
         (λ _. either B (lessMillis (u .delay) maxDelay && eqb (e .ttl .0) 0) (on e) (end e) (λ v. stores (both (lessMillis (u .delay) maxDelay) (eqb (e .ttl .0) 0) v .0)) (λ _. next c (put w e) g))
       where
         B : Stage Entry → Type 0
-        B q = Onward (behindB p h w q .walk)
+        B q = Onward (afterB p h w q .walk)
 
         stores : lessMillis (lineUpdate w p octets .delay) maxDelay ≡ true → B (on e)
         stores less = record { still = λ _. (at-id 3 (w .id) g (g .id), less); link = λ _. refl; length = λ _. refl; few = λ _ held used. held }
 
     -- each box
-    pub box-goes : (t : ClassTable) (e : Entry) (q : Place) → Holds q w → 1 ≤ s .layout .nhosts
+    pub box-goes : (t : NetTable) (e : Entry) (q : Place) → Holds q w → 1 ≤ s .layout .nhosts
         → ((a : Address) (id : ℕ) → foundFor t s a ≡ Id id → ltb id (s .layout .nhosts) ≡ true) → Onward (boxAt q k p octets t h w e .walk)
     unfolding placeOf box1 box2 box3 box4 box5 boxA boxB boxC boxD
     box-goes t e Nowhere g some below = absurd g

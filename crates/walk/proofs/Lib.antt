@@ -1,5 +1,5 @@
 pub mod Outcomes
 pub mod Work
 pub mod Walked
-pub mod Whole
+pub mod HostReply
 pub mod Holding

@@ -8,13 +8,13 @@ use Rattle.answer.specs.declared.Answer.the-variants.{Done, DelayNotValid}
 use Rattle.wire.specs.declared.Packet.{Packet}
 use Rattle.table.specs.declared.Entry.{Entry}
 use Rattle.table.specs.declared.Line.the-variants.{On, End}
-use Rattle.table.specs.declared.run.Changes.{Changes}
+use Rattle.table.specs.declared.entries.Changes.{Changes}
 use Rattle.table.specs.Forms.{Stage, on}
 use Rattle.table.specs.Update.{lineOf, lineA, lineB, lineC}
 use Rattle.table.proofs.Stages.{goes-on, ends}
 use Rattle.host.specs.declared.walk.Walk.{Walk}
 use Rattle.host.specs.State.{hostCount, broadcast}
-use Rattle.host.specs.Lent.{Host}
+use Rattle.host.specs.CallState.{Host}
 use Rattle.host.specs.Walk.{lineUpdate}
 use Rattle.host.specs.Effect.{nothing}
 use Rattle.arrival.specs.declared.Flight.{Flight}
@@ -22,7 +22,7 @@ use Rattle.arrival.specs.declared.Step.the-variants as step
 use Rattle.arrival.specs.Steps.{step4}
 use Rattle.arrival.specs.code.Plan.{stepOf}
 use Rattle.arrival.proofs.Stages as stages
-use Rattle.walk.specs.Boxes.{inFlight, storing, holding, atStep, atLine, onward, ended, nextId, put, behindC, box4, boxA, boxB, boxC}
+use Rattle.walk.specs.Boxes.{inFlight, storing, holding, atStep, atLine, onward, ended, nextId, put, afterC, box4, boxA, boxB, boxC}
 
 module _ (p : Packet) (octets : List ℕ) (h : Host) (w : Walk) (e x : Entry) where
   pub a-ends : End x ≡ lineOf (lineA (lineUpdate w p octets) e) → nextId p h w nothing ≡ boxA p octets h w e
@@ -45,7 +45,7 @@ module _ (p : Packet) (octets : List ℕ) (h : Host) (w : Walk) (e x : Entry) wh
   unfolding boxC
   c-ends q = rw (ends (lineC (lineUpdate w p octets) e) x q)
 
-  pub c-goes-on : On x ≡ lineOf (lineC (lineUpdate w p octets) e) → behindC p h w (on x) ≡ boxC p octets h w e
+  pub c-goes-on : On x ≡ lineOf (lineC (lineUpdate w p octets) e) → afterC p h w (on x) ≡ boxC p octets h w e
   unfolding boxC
   c-goes-on q = rw (goes-on (lineC (lineUpdate w p octets) e) x q)
 

@@ -14,12 +14,12 @@ use Rattle.answer.specs.declared.Answer.the-variants.{Done, InWalk}
 use Rattle.clock.specs.declared.Clock.{Clock}
 use Rattle.clock.specs.declared.Counter.{Counter}
 use Rattle.wire.specs.declared.Packet.{Packet}
-use Rattle.class_table.specs.declared.ClassTable.{ClassTable}
+use Rattle.net_table.specs.declared.NetTable.{NetTable}
 use Rattle.table.specs.declared.Entry.{Entry}
 use Rattle.table.specs.declared.Update.{Update}
 use Rattle.table.specs.declared.Updated.{Updated}
-use Rattle.table.specs.declared.run.Change.the-variants.{Put}
-use Rattle.table.specs.declared.run.Changes.{Changes}
+use Rattle.table.specs.declared.entries.Change.the-variants.{Put}
+use Rattle.table.specs.declared.entries.Changes.{Changes}
 use Rattle.table.specs.Forms.{Stage, on, end, _then_}
 use Rattle.quantity.specs.Quantity.{addMillis, lessMillis}
 use Rattle.table.specs.Entry.{minDelay, maxDelay, freshEntry, up, takenDown}
@@ -32,36 +32,36 @@ use Rattle.host.specs.declared.Reply.{Reply}
 use Rattle.host.specs.declared.Settings.{Settings}
 use Rattle.host.specs.declared.walk.Walk.{Walk}
 use Rattle.host.specs.State.{hostCount}
-use Rattle.host.specs.Lent.{Host, host}
+use Rattle.host.specs.CallState.{Host, host}
 use Rattle.host.specs.Reply.{plainly}
 use Rattle.host.specs.Walk.{isOpen, noWalk, placeOf, lineUpdate}
 use Rattle.host.specs.Effect.{nothing, one}
-use Rattle.walk.specs.Boxes.{at, atLine, onward, ended, nextId, put, isClockHost, behindA, behindB, behindC, clockSet, boxA, boxB, boxC, boxD, boxAt}
+use Rattle.walk.specs.Boxes.{at, atLine, onward, ended, nextId, put, isClockHost, afterA, afterB, afterC, clockSet, boxA, boxB, boxC, boxD, boxAt}
 
 -- what a box is handed: its counter, and the class's net table as it then is
 pub record Handed : Type 0 where
   pub counter : Counter
-  pub nets : ClassTable
+  pub nets : NetTable
 
 -- a host between boxes
-pub record Seat : Type 0 where
+pub record Node : Type 0 where
   pub clock : Clock
   pub links : Links
   pub walk : Walk
-  pub entries : List Entry
+  pub ownEntries : List Entry
 
 -- the end of a walk
 pub record Final : Type 0 where
   pub reply : Reply
   pub clock : Clock
   pub links : Links
-  pub entries : List Entry
+  pub ownEntries : List Entry
 
-abbrev pub seat : Clock → Links → Walk → List Entry → Seat
-seat c l w es = record { clock = c; links = l; walk = w; entries = es }
+abbrev pub node : Clock → Links → Walk → List Entry → Node
+node c l w es = record { clock = c; links = l; walk = w; ownEntries = es }
 
 abbrev pub final : Reply → Clock → Links → List Entry → Final
-final r c l es = record { reply = r; clock = c; links = l; entries = es }
+final r c l es = record { reply = r; clock = c; links = l; ownEntries = es }
 
 -- ---- changes of entries
 
@@ -120,20 +120,20 @@ b-keeps u e x =
 -- ---- a walk through an arrival of this packet
 
 module _ (s : Settings) (p : Packet) (octets : List ℕ) where
-  abbrev pub boxHere : Handed → Seat → Effect
+  abbrev pub boxHere : Handed → Node → Effect
   boxHere b x =
-      boxAt (placeOf (x .walk)) (b .counter) p octets (b .nets) (host s (x .clock) (x .links)) (x .walk) (getD (x .entries) (x .walk .id) freshEntry)
+      boxAt (placeOf (x .walk)) (b .counter) p octets (b .nets) (host s (x .clock) (x .links)) (x .walk) (getD (x .ownEntries) (x .walk .id) freshEntry)
 
-  abbrev pub goOn : (Seat → Final) → Effect → List Entry → Final
+  abbrev pub goOn : (Node → Final) → Effect → List Entry → Final
   goOn W e es =
-      cond (isOpen (e .walk)) (W (seat (e .clock) (e .links) (e .walk) (changes (e .work) es)))
+      cond (isOpen (e .walk)) (W (node (e .clock) (e .links) (e .walk) (changes (e .work) es)))
       (final (e .reply) (e .clock) (e .links) (changes (e .work) es))
 
-  unfoldable pub walkFrom : (boxes : ℕ) → (ℕ → Handed) → Seat → Final
-  walkFrom zero ks x = final (plainly InWalk) (x .clock) (x .links) (x .entries)
-  walkFrom (suc n) ks x = goOn (walkFrom n (λ j. ks (suc j))) (boxHere (ks 0) x) (x .entries)
+  unfoldable pub walkFrom : (boxes : ℕ) → (ℕ → Handed) → Node → Final
+  walkFrom zero ks x = final (plainly InWalk) (x .clock) (x .links) (x .ownEntries)
+  walkFrom (suc n) ks x = goOn (walkFrom n (λ j. ks (suc j))) (boxHere (ks 0) x) (x .ownEntries)
 
-  pub box-is : (n : ℕ) (ks : ℕ → Handed) (x : Seat) → walkFrom (suc n) ks x ≡ goOn (walkFrom n (λ j. ks (suc j))) (boxHere (ks 0) x) (x .entries)
+  pub box-is : (n : ℕ) (ks : ℕ → Handed) (x : Node) → walkFrom (suc n) ks x ≡ goOn (walkFrom n (λ j. ks (suc j))) (boxHere (ks 0) x) (x .ownEntries)
   unfolding walkFrom
   box-is n ks x = refl
 
@@ -165,29 +165,29 @@ module _ (s : Settings) (p : Packet) (octets : List ℕ) where
       putting : (x : Entry) → changes (one j (Put x)) es ≡ pre ++ x ∷ rest
       putting x = ap (λ (n : ℕ). changes (one n (Put x)) es) (sym here) ∙ put-changes pre e rest x
 
-      abbrev Left : Stage Entry → Type 0
-      Left q = Behind P r (settled clockHost (s .«hold_interval») (w .count) (p .date) u c q .clock) (pre ++ settled clockHost (s .«hold_interval») (w .count) (p .date) u c q .entry ∷ rest)
+      abbrev HostAfter : Stage Entry → Type 0
+      HostAfter q = Behind P r (settled clockHost (s .«hold_interval») (w .count) (p .date) u c q .clock) (pre ++ settled clockHost (s .«hold_interval») (w .count) (p .date) u c q .entry ∷ rest)
 
       abbrev later : (ℕ → Handed) → ℕ → Handed
       later ks i = ks (suc i)
 
       -- a box that goes on to another line of the id
-      onto : (W : Seat → Final) (m : ℕ) (work : Changes) (es₀ es₁ : List Entry) → changes work es₀ ≡ es₁ → P (W (seat c l (atLine m j w) es₁))
+      onto : (W : Node → Final) (m : ℕ) (work : Changes) (es₀ es₁ : List Entry) → changes work es₀ ≡ es₁ → P (W (node c l (atLine m j w) es₁))
           → P (goOn W (onward (atLine m j w) c l work) es₀)
       onto W m work es₀ es₁ is q = rw (opened, is) q
 
       -- line (d)
-      d-box : (ks : ℕ → Handed) (x : Entry) → Left (on x) → P (walkFrom (suc r) ks (seat c l (atLine 4 j w) (pre ++ x ∷ rest)))
+      d-box : (ks : ℕ → Handed) (x : Entry) → HostAfter (on x) → P (walkFrom (suc r) ks (node c l (atLine 4 j w) (pre ++ x ∷ rest)))
       unfolding placeOf boxD
       d-box ks x k =
-          subst P (sym (box-is r ks (seat c l (atLine 4 j w) (pre ++ x ∷ rest))))
+          subst P (sym (box-is r ks (node c l (atLine 4 j w) (pre ++ x ∷ rest))))
           (k r (omega arith) (later ks) 4 nothing (pre ++ x ∷ rest) (nothing-changes (pre ++ x ∷ rest)))
 
       -- line (c)
-      c-box : (ks : ℕ → Handed) (x : Entry) → lineC u e ≡ on x → Left (on x) → P (walkFrom (suc (suc r)) ks (seat c l (atLine 3 j w) es))
+      c-box : (ks : ℕ → Handed) (x : Entry) → lineC u e ≡ on x → HostAfter (on x) → P (walkFrom (suc (suc r)) ks (node c l (atLine 3 j w) es))
       unfolding placeOf boxC
       c-box ks x is k =
-          subst P (sym (box-is (suc r) ks (seat c l (atLine 3 j w) es)))
+          subst P (sym (box-is (suc r) ks (node c l (atLine 3 j w) es)))
           (rw (at-hand, is) (go clockHost refl))
         where
           go : (b : Bool) → clockHost ≡ b
@@ -196,26 +196,26 @@ module _ (s : Settings) (p : Packet) (octets : List ℕ) where
           go false own = rw own at (k (suc r) (omega arith) (later ks) 3 (one j (Put x)) es (putting x))
 
       -- line (b)
-      b-box : (ks : ℕ → Handed) (q : Stage Entry) → lineB u e ≡ q → Left (q then lineC u) → P (walkFrom (suc (suc (suc r))) ks (seat c l (atLine 2 j w) es))
+      b-box : (ks : ℕ → Handed) (q : Stage Entry) → lineB u e ≡ q → HostAfter (q then lineC u) → P (walkFrom (suc (suc (suc r))) ks (node c l (atLine 2 j w) es))
       unfolding placeOf boxB lineC
       b-box ks (end x) is k =
-          subst P (sym (box-is (suc (suc r)) ks (seat c l (atLine 2 j w) es)))
+          subst P (sym (box-is (suc (suc r)) ks (node c l (atLine 2 j w) es)))
           (rw (at-hand, is) (k (suc (suc r)) (omega arith) (later ks) 2 (one j (Put x)) es (putting x)))
       b-box ks (on x) is k =
-          subst P (sym (box-is (suc (suc r)) ks (seat c l (atLine 2 j w) es)))
+          subst P (sym (box-is (suc (suc r)) ks (node c l (atLine 2 j w) es)))
           (rw (at-hand, is) (onto (walkFrom (suc (suc r)) (later ks)) 3 nothing es es (nothing-changes es)
-          (c-box (later ks) _ refl (subst (λ (y : Entry). Left (lineC u y)) (b-keeps u e x is) k))))
+          (c-box (later ks) _ refl (subst (λ (y : Entry). HostAfter (lineC u y)) (b-keeps u e x is) k))))
 
       -- line (a), and so all of them
       pub id-boxes : (ks : ℕ → Handed) → Behind P r (updated c e .clock) (pre ++ updated c e .entry ∷ rest)
-          → P (walkFrom (suc (suc (suc (suc r)))) ks (seat c l (atLine 1 j w) es))
+          → P (walkFrom (suc (suc (suc (suc r)))) ks (node c l (atLine 1 j w) es))
       unfolding placeOf boxA update lines lineA
       id-boxes ks k =
-          subst P (sym (box-is (suc (suc (suc r))) ks (seat c l (atLine 1 j w) es)))
+          subst P (sym (box-is (suc (suc (suc r))) ks (node c l (atLine 1 j w) es)))
           (rw at-hand (go (not (eqb (u .pid) (e .pid)) && lessMillis (e .delay) (addMillis (u .delay) minDelay)) k))
         where
-          go : (b : Bool) → Left (cond b (end e) (on e) then lineB u then lineC u)
-              → P (goOn (walkFrom (suc (suc (suc r))) (later ks)) (behindA p (host s c l) (atLine 1 j w) (cond b (end e) (on e))) es)
+          go : (b : Bool) → HostAfter (cond b (end e) (on e) then lineB u then lineC u)
+              → P (goOn (walkFrom (suc (suc (suc r))) (later ks)) (afterA p (host s c l) (atLine 1 j w) (cond b (end e) (on e))) es)
           go true k = k (suc (suc (suc r))) (omega arith) (later ks) 1 nothing es (nothing-changes es)
           go false k = onto (walkFrom (suc (suc (suc r))) (later ks)) 2 nothing es es (nothing-changes es) (b-box (later ks) (lineB u e) refl k)
 
@@ -226,12 +226,12 @@ module _ (s : Settings) (p : Packet) (octets : List ℕ) where
     updating j = updated w opened l j
 
     -- the end, and the next id
-    last : (W : Seat → Final) (c : Clock) (m j : ℕ) (work : Changes) (es₀ es₁ : List Entry) → changes work es₀ ≡ es₁ → hostCount s ≡ j + 1
+    last : (W : Node → Final) (c : Clock) (m j : ℕ) (work : Changes) (es₀ es₁ : List Entry) → changes work es₀ ≡ es₁ → hostCount s ≡ j + 1
         → goOn W (nextId p (host s c l) (atLine m j w) work) es₀ ≡ final (plainly Done) c l es₁
     last W c m j work es₀ es₁ is whole = rw (some, le-ltb (j + 1) (hostCount s) (omega (arith, whole)), is) refl
 
-    next : (W : Seat → Final) (c : Clock) (m j : ℕ) (work : Changes) (es₀ es₁ : List Entry) → changes work es₀ ≡ es₁ → j + 1 < hostCount s
-        → goOn W (nextId p (host s c l) (atLine m j w) work) es₀ ≡ W (seat c l (atLine 1 (j + 1) w) es₁)
+    next : (W : Node → Final) (c : Clock) (m j : ℕ) (work : Changes) (es₀ es₁ : List Entry) → changes work es₀ ≡ es₁ → j + 1 < hostCount s
+        → goOn W (nextId p (host s c l) (atLine m j w) work) es₀ ≡ W (node c l (atLine 1 (j + 1) w) es₁)
     next W c m j work es₀ es₁ is whole = rw (some, lt-ltb (j + 1) (hostCount s) whole, opened, is) refl
 
     abbrev pub swept : ℕ → Clock → List Entry → Swept
@@ -239,7 +239,7 @@ module _ (s : Settings) (p : Packet) (octets : List ℕ) where
 
     pub ids-boxes : (rest : List Entry) (pre : List Entry) (e : Entry) (j : ℕ) (c : Clock) (n : ℕ) (ks : ℕ → Handed)
         → length pre ≡ j → hostCount s ≡ j + 1 + length rest → 4 * (1 + length rest) ≤ n
-        → walkFrom n ks (seat c l (atLine 1 j w) (pre ++ e ∷ rest)) ≡ final (plainly Done) (swept j c (e ∷ rest) .clock) l (pre ++ swept j c (e ∷ rest) .entries)
+        → walkFrom n ks (node c l (atLine 1 j w) (pre ++ e ∷ rest)) ≡ final (plainly Done) (swept j c (e ∷ rest) .clock) l (pre ++ swept j c (e ∷ rest) .ownEntries)
     unfolding sweep
     ids-boxes [] pre e j c n ks here whole room =
         let r : n ≡ suc (suc (suc (suc (n - 4)))) = omega arith in
@@ -254,9 +254,9 @@ module _ (s : Settings) (p : Packet) (octets : List ℕ) where
         let more : j + 1 ≡ suc j = omega arith in
         let long : length front ≡ j + 1 = length-append pre (x .entry ∷ []) ∙ ap (λ (i : ℕ). i + 1) here in
         rw r
-        (id-boxes w opened l j (λ (y : Final). y ≡ final (plainly Done) (swept j c (e ∷ f ∷ rest) .clock) l (pre ++ swept j c (e ∷ f ∷ rest) .entries)) (n - 4) c pre e (f ∷ rest) here ks
+        (id-boxes w opened l j (λ (y : Final). y ≡ final (plainly Done) (swept j c (e ∷ f ∷ rest) .clock) l (pre ++ swept j c (e ∷ f ∷ rest) .ownEntries)) (n - 4) c pre e (f ∷ rest) here ks
         (λ n₁ enough ks₁ m work es₀ is.
         next (walkFrom n₁ ks₁) (x .clock) m j work es₀ (pre ++ x .entry ∷ f ∷ rest) is (omega (arith, whole))
-        ∙ ap (λ (es₁ : List Entry). walkFrom n₁ ks₁ (seat (x .clock) l (atLine 1 (j + 1) w) es₁)) (sym (append-assoc pre (x .entry ∷ []) (f ∷ rest)))
+        ∙ ap (λ (es₁ : List Entry). walkFrom n₁ ks₁ (node (x .clock) l (atLine 1 (j + 1) w) es₁)) (sym (append-assoc pre (x .entry ∷ []) (f ∷ rest)))
         ∙ ids-boxes rest front f (j + 1) (x .clock) n₁ ks₁ long (omega (arith, whole)) (omega (arith, room, enough))
-        ∙ rw more (ap (final (plainly Done) (swept (suc j) (x .clock) (f ∷ rest) .clock) l) (append-assoc pre (x .entry ∷ []) (swept (suc j) (x .clock) (f ∷ rest) .entries)))))
+        ∙ rw more (ap (final (plainly Done) (swept (suc j) (x .clock) (f ∷ rest) .clock) l) (append-assoc pre (x .entry ∷ []) (swept (suc j) (x .clock) (f ∷ rest) .ownEntries)))))

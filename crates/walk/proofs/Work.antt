@@ -14,9 +14,9 @@ use Rattle.wire.specs.declared.Parsed.{Parsed}
 use Rattle.wire.specs.declared.Parsed.the-variants.{Good, Bad}
 use Rattle.route.specs.declared.Found.{Found}
 use Rattle.route.specs.declared.Found.the-variants.{Id, Nothing}
-use Rattle.class_table.specs.declared.ClassTable.{ClassTable}
+use Rattle.net_table.specs.declared.NetTable.{NetTable}
 use Rattle.table.specs.declared.Entry.{Entry}
-use Rattle.table.specs.declared.run.Changes.{Changes}
+use Rattle.table.specs.declared.entries.Changes.{Changes}
 use Rattle.table.specs.Forms.{Stage, on, end}
 use Rattle.table.specs.Update.{lineA, lineB, lineC}
 use Rattle.host.specs.declared.Effect.{Effect}
@@ -26,17 +26,17 @@ use Rattle.host.specs.declared.walk.Place.{Place}
 use Rattle.host.specs.declared.walk.Place.the-variants.{Nowhere, Step1, Step2, Step3, Step4, Step5, LineA, LineB, LineC, LineD}
 use Rattle.host.specs.Settings.{settingsGood, foundFor}
 use Rattle.host.specs.State.{hostCount, broadcast, linkOf}
-use Rattle.host.specs.Lent.{Host, host}
+use Rattle.host.specs.CallState.{Host, host}
 use Rattle.host.specs.Inspection.{inspect}
-use Rattle.host.specs.Walk.{isOpen, placeOf, stepPlace, linePlace, packetOf, lineUpdate, readingInRange, idInRange, heldAt, packetHeld, walkInRange}
+use Rattle.host.specs.Walk.{isOpen, placeOf, stepPlace, linePlace, packetOf, lineUpdate, readingInRange, idInRange, walkFieldsAt, packetFits, walkInRange}
 use Rattle.host.specs.Effect.{nothing}
 use Rattle.host.proofs.Sound.{sound}
 use Rattle.host.proofs.Walks.{opened-says}
 use Rattle.arrival.specs.declared.Flight.{Flight}
 use Rattle.arrival.specs.Steps.{step4}
-use Rattle.walk.specs.Boxes.{inFlight, raised, onward, ended, fourth, toNeighbor, nextId, put, atLine, isClockHost, clockSet, behindA, behindB, behindC, box1, box2, box3, box4, box5, boxA, boxB, boxC, boxD, atHand, boxAt, boxOf, step}
+use Rattle.walk.specs.Boxes.{inFlight, raised, onward, ended, fourth, toNeighbor, nextId, put, atLine, isClockHost, clockSet, afterA, afterB, afterC, box1, box2, box3, box4, box5, boxA, boxB, boxC, boxD, atHand, boxAt, boxOf, step}
 
-module _ (P : Changes → Type 0) (k : Counter) (p : Packet) (octets : List ℕ) (t : ClassTable) (h : Host) (w : Walk) (e : Entry) (none : P nothing) where
+module _ (P : Changes → Type 0) (k : Counter) (p : Packet) (octets : List ℕ) (t : NetTable) (h : Host) (w : Walk) (e : Entry) (none : P nothing) where
   abbrev Does : Effect → Type 0
   Does x = P (x .work)
 
@@ -52,20 +52,20 @@ module _ (P : Changes → Type 0) (k : Counter) (p : Packet) (octets : List ℕ)
   next g work done = either Does (eqb (p .nhosts) 0 || not (ltb (w .id + 1) (hostCount (g .settings)))) _ _ (λ _. done) (λ _. done)
 
   module _ (puts : (x : Entry) → P (put w x)) where
-    a : (s : Stage Entry) → Does (behindA p h w s)
+    a : (s : Stage Entry) → Does (afterA p h w s)
     a (end x) = next h nothing none
     a (on x) = none
 
-    b : (s : Stage Entry) → Does (behindB p h w s)
+    b : (s : Stage Entry) → Does (afterB p h w s)
     b (end x) = next h (put w x) (puts x)
     b (on x) = none
 
-    c : (s : Stage Entry) → Does (behindC p h w s)
+    c : (s : Stage Entry) → Does (afterC p h w s)
     c (end x) = next h (put w x) (puts x)
     c (on x) = either Does (isClockHost h w) _ _ (λ _. puts x) (λ _. next h (put w x) (puts x))
 
   -- an id that is held is one of the host's
-  pub box-work : (idInRange (h .settings) w ≡ true → (x : Entry) → P (put w x)) → (q : Place) → heldAt q (h .settings) w p octets ≡ true
+  pub box-work : (idInRange (h .settings) w ≡ true → (x : Entry) → P (put w x)) → (q : Place) → walkFieldsAt q (h .settings) w p octets ≡ true
       → Does (boxAt q k p octets t h w e)
   unfolding box1 box2 box3 box4 box5 boxA boxB boxC boxD
   box-work puts Nowhere held = none
@@ -94,7 +94,7 @@ nothing-is-no-id e = let z : _≡_ {A = ℕ} 0 1 = cc in absurd (omega arith)
 
 module _ (s : Settings) (w : Walk) (copy : List ℕ) (in-range : walkInRange s w copy ≡ true) where
   -- the work of a step
-  pub step-work : (P : Changes → Type 0) (k : Counter) (t : ClassTable) (h : Host) (e : Entry) → h .settings ≡ s → P nothing
+  pub step-work : (P : Changes → Type 0) (k : Counter) (t : NetTable) (h : Host) (e : Entry) → h .settings ≡ s → P nothing
       → (idInRange s w ≡ true → (x : Entry) → P (put w x)) → P (step k t h w copy e .work)
   unfolding step
   step-work P k t h e same none puts =
@@ -102,14 +102,14 @@ module _ (s : Settings) (w : Walk) (copy : List ℕ) (in-range : walkInRange s w
       (λ f. (let o = opened-says s w copy in-range (is-so _ f) in
       go (inspect (h .settings) (w .link) (packetOf w copy)) (rw same (o .held))))
     where
-      go : (q : Parsed) → packetHeld (h .settings) w (packetOf w copy) q ≡ true → P (boxOf k (packetOf w copy) t h w e q .work)
+      go : (q : Parsed) → packetFits (h .settings) w (packetOf w copy) q ≡ true → P (boxOf k (packetOf w copy) t h w e q .work)
       go (Bad a) held = absurd (false≢true held)
       go (Good p) held = box-work P k p (packetOf w copy) t h w e none (λ i. puts (rw (← same) i)) (placeOf w) held
 
   -- at a line an id is held
   module _ (p : Packet) (octets : List ℕ) where
     abbrev Held : Place → Type 0
-    Held q = heldAt q s w p octets ≡ true → idInRange s w ≡ true
+    Held q = walkFieldsAt q s w p octets ≡ true → idInRange s w ≡ true
 
     nowhere : Held Nowhere
     nowhere f = absurd (false≢true f)
@@ -129,7 +129,7 @@ module _ (s : Settings) (w : Walk) (copy : List ℕ) (in-range : walkInRange s w
   pub at-hand-in : settingsGood s ≡ true → (id : ℕ) → atHand w ≡ Id id → id < hostCount s
   at-hand-in good id e = go (isOpen w) (eqb (w .line) 0) refl refl
     where
-      held : (q : Parsed) → packetHeld s w (packetOf w copy) q ≡ true → eqb (w .line) 0 ≡ false → idInRange s w ≡ true
+      held : (q : Parsed) → packetFits s w (packetOf w copy) q ≡ true → eqb (w .line) 0 ≡ false → idInRange s w ≡ true
       held (Bad a) f some = absurd (false≢true f)
       held (Good p) f some = at-line p (packetOf w copy) some f
 

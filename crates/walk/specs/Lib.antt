@@ -1,3 +1,5 @@
+pub mod WalkPlaces
+pub mod LineBoxes
 pub mod Boxes
 pub mod Opening
 pub mod code

@@ -10,7 +10,7 @@ use Rattle.wire.specs.declared.Parsed.{Parsed}
 use Rattle.wire.specs.declared.Parsed.the-variants.{Good, Bad}
 use Rattle.host.specs.declared.Settings.{Settings}
 use Rattle.host.specs.declared.walk.Walk.{Walk}
-use Rattle.host.specs.Reply.{plainly, tellsPlace}
+use Rattle.host.specs.Reply.{plainly, returnsPlace}
 use Rattle.host.specs.Inspection.{inspect}
 use Rattle.walk.specs.declared.Opening.{Opening}
 
@@ -33,7 +33,7 @@ openedOn i n =
 -- WALK-1: the reply, the walk, and how many octets are copied
 abbrev pub openedBy : (link : ℕ) → (packet : List ℕ) → Walk → Parsed → Opening
 openedBy i octets w (Bad a) = record { reply = plainly a; walk = w; octets = 0 }
-openedBy i octets w (Good p) = record { reply = tellsPlace 1 0 0; walk = openedOn i (length octets); octets = length octets }
+openedBy i octets w (Good p) = record { reply = returnsPlace 1 0 0; walk = openedOn i (length octets); octets = length octets }
 
 -- WALK-1: opening, with the tests for 3 to 9
 unfoldable pub opening : (link : ℕ) → (packet : List ℕ) → Settings → Walk → Opening

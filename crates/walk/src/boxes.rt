@@ -9,10 +9,10 @@ ghost use Rattle.arrival.specs.Steps.{step3};
 ghost use Rattle.wire.specs.code.Ranges.{Four};
 ghost use Rattle.host.specs.Settings.{settingsGood};
 ghost use Rattle.host.specs.State.{hasPlace};
-ghost use Rattle.host.specs.Lent.{host};
-ghost use Rattle.host.specs.Walk.{readingInRange, placeOf, heldAt, packetHeld};
+ghost use Rattle.host.specs.CallState.{host};
+ghost use Rattle.host.specs.Walk.{readingInRange, placeOf, walkFieldsAt, packetFits};
 ghost use Rattle.host.specs.Inspection.{inspect};
-ghost use Rattle.host.specs.code.Told.{RowsBelow};
+ghost use Rattle.host.specs.code.Returned.{RowsBelow};
 ghost use Rattle.host.specs.code.Walks.{Reported};
 ghost use Rattle.walk.specs.Boxes.{raised, toNeighbor, box1, box2, box3, box4, box5, boxAt, boxOf};
 use super::held::at;
@@ -33,7 +33,6 @@ use arrival::steps::delay_of;
 use arrival::steps::offset_of;
 use arrival::steps::step4;
 use arrival::steps::tsp_of;
-use class_table::ClassTable;
 use clock::Clock;
 use clock::Counter;
 use host::Effect;
@@ -48,6 +47,7 @@ use host::link_state::link_of;
 use host::replies::plainly;
 use host::walk::Place;
 use host::walk::Walk;
+use net_table::NetTable;
 use quantity::Millis;
 use quantity::Word;
 use route::Found;
@@ -150,7 +150,7 @@ fn to_neighbor(s: Settings, c: Clock, l: Links, w: Walk, found: Found) -> Effect
     }
 }
 
-fn box5(s: Settings, t: ClassTable, c: Clock, l: Links, w: Walk, p: Packet) -> Effect
+fn box5(s: Settings, t: NetTable, c: Clock, l: Links, w: Walk, p: Packet) -> Effect
     requires { ⌜ (1 ≤ w .link) × (w .link ≤ 8) ⌝ }
     requires { ⌜ (settingsGood s ≡ true) × RowsBelow t s ⌝ }
     ensures { λ e. ⌜ e ≡ box5 p t (host s c l) w ⌝ }
@@ -166,7 +166,7 @@ fn box5(s: Settings, t: ClassTable, c: Clock, l: Links, w: Walk, p: Packet) -> E
 // The box of a place.
 fn box_at(
     s: Settings,
-    t: ClassTable,
+    t: NetTable,
     c: Clock,
     l: Links,
     w: Walk,
@@ -179,7 +179,7 @@ fn box_at(
     requires { ⌜ (settingsGood s ≡ true) × RowsBelow t s × (clockInRange c ≡ true) ⌝ }
     requires { ⌜ Four (p .time .0) ⌝ }
     requires { ⌜ Reported s p (now packet) ⌝ }
-    requires { ⌜ heldAt (placeOf w) s w p (now packet) ≡ true ⌝ }
+    requires { ⌜ walkFieldsAt (placeOf w) s w p (now packet) ≡ true ⌝ }
     ensures { λ r. ⌜ r ≡ boxAt (placeOf w) k p (now (packet .entry)) t (host s c l) w e ⌝ }
 {
     match host::walk::place_of(w) {
@@ -199,7 +199,7 @@ fn box_at(
 // The packet of the walk, read again.
 pub fn box_of(
     s: Settings,
-    t: ClassTable,
+    t: NetTable,
     c: Clock,
     l: Links,
     w: Walk,
@@ -209,7 +209,7 @@ pub fn box_of(
 ) -> Effect
     requires { ⌜ (1 ≤ w .link) × (w .link ≤ 8) ⌝ }
     requires { ⌜ (settingsGood s ≡ true) × RowsBelow t s × (clockInRange c ≡ true) ⌝ }
-    requires { ⌜ packetHeld s w (now packet) (inspect s (w .link) (now packet)) ≡ true ⌝ }
+    requires { ⌜ packetFits s w (now packet) (inspect s (w .link) (now packet)) ≡ true ⌝ }
     ensures { λ r. ⌜ r ≡ boxOf k (now (packet .entry)) t (host s c l) w e (inspect s (w .link) (now (packet .entry))) ⌝ }
 {
     match host::inspection::inspect(s, w.link as usize, packet) {

@@ -11,12 +11,12 @@ use host::Links;
 use host::link_state::link_of;
 use host::link_state::with_link;
 use host::replies::plainly;
-use host::replies::tells_place;
+use host::replies::returns_place;
 use host::walk::Walk;
 use quantity::Count;
 use quantity::Millis;
 use quantity::Word;
-use table::run::Changes;
+use table::entries::Changes;
 
 // The arrival in flight.
 pub fn in_flight(l: Links, w: Walk) -> Flight
@@ -33,7 +33,7 @@ pub fn in_flight(l: Links, w: Walk) -> Flight
     }
 }
 
-// The links with the one that a step leaves.
+// The links with the one that a step changed.
 pub fn storing(f: Flight, w: Walk, l: Links) -> Links
     requires { ⌜ (1 ≤ w .link) × (w .link ≤ 8) ⌝ }
     ensures { λ r. ⌜ r ≡ storing f w l ⌝ }
@@ -79,7 +79,7 @@ pub fn onward(w: Walk, c: Clock, l: Links, work: Changes) -> Effect
     ensures { λ e. ⌜ e ≡ onward w c l work ⌝ }
 {
     Effect {
-        reply: tells_place(w.step, w.line, w.id),
+        reply: returns_place(w.step, w.line, w.id),
         clock: c,
         links: l,
         walk: w,

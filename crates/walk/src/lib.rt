@@ -2,13 +2,12 @@
 ghost use mathlib.Core.Path.{_≡_};
 ghost use Prim.Native.Nat.{_≤_};
 ghost use lib.ListN.{length};
-ghost use Rattle.host.specs.Lent.{host};
+ghost use Rattle.host.specs.CallState.{host};
 ghost use Rattle.host.specs.Guard.{longest};
 ghost use Rattle.walk.specs.Boxes.{atHand, step};
 ghost use Rattle.walk.specs.Opening.{openedOn, opening, copied};
 ghost use Rattle.walk.specs.code.Plan.{Steady, Openable, planned};
 use answer::Answer;
-use class_table::ClassTable;
 use clock::Clock;
 use clock::Counter;
 use host::Effect;
@@ -18,8 +17,9 @@ use host::Settings;
 use host::effects::answers;
 use host::inspection;
 use host::replies::plainly;
-use host::replies::tells_place;
+use host::replies::returns_place;
 use host::walk::Walk;
+use net_table::NetTable;
 use quantity::Count;
 use quantity::Millis;
 use quantity::Word;
@@ -31,7 +31,7 @@ pub mod boxes;
 mod held;
 mod lines;
 
-// What opening a walk comes to: the reply, the walk, and how many octets of the packet are copied.
+// The result of opening a walk: the reply, the walk, and how many octets of the packet are copied.
 pub struct Opening {
     pub reply: Reply,
     pub walk: Walk,
@@ -71,7 +71,7 @@ fn opened_by(s: Settings, w: Walk, link: usize, packet: &[u8]) -> Opening
         Parsed::Good(p) => {
             let n = wire::length(p.nhosts);
             Opening {
-                reply: tells_place(1, 0, 0),
+                reply: returns_place(1, 0, 0),
                 walk: opened_on(link, n),
                 octets: n,
             }
@@ -94,7 +94,7 @@ pub fn plan(g: Answer, s: Settings, w: Walk, link: usize, packet: &[u8]) -> Open
     opened_by(s, w, link, packet)
 }
 
-// The packet's first octets, so many, copied.
+// Copies the packet's first n octets.
 pub fn keep(copy: &mut [u8], packet: &[u8], octets: usize)
     requires { ⌜ (octets ≤ length (now packet)) × (octets ≤ length (now copy)) ⌝ }
     ensures { λ _. ⌜ now (copy .exit) ≡ copied octets (now (packet .entry)) (now (copy .entry)) ⌝ }
@@ -118,7 +118,7 @@ pub fn at_hand(w: Walk) -> Found
 // The box of a walk's place; 17 where no walk is open.
 pub fn step(
     s: Settings,
-    t: ClassTable,
+    t: NetTable,
     c: Clock,
     l: Links,
     w: Walk,

@@ -4,10 +4,10 @@ ghost use mathlib.Core.Bool.{true};
 ghost use lib.Dec.{eqb};
 ghost use Rattle.clock.specs.Clock.{clockInRange};
 ghost use Rattle.table.specs.Forms.{on};
-ghost use Rattle.host.specs.Lent.{host};
+ghost use Rattle.host.specs.CallState.{host};
 ghost use Rattle.host.specs.Walk.{idInRange};
 ghost use Rattle.host.specs.code.Walks.{Reported};
-ghost use Rattle.walk.specs.Boxes.{nextId, put, behindC, boxA, boxB, boxC, boxD};
+ghost use Rattle.walk.specs.Boxes.{nextId, put, afterC, boxA, boxB, boxC, boxD};
 use super::held::at;
 use super::held::ended;
 use super::held::onward;
@@ -23,8 +23,8 @@ use host::walk::Walk;
 use host::walk::line_update;
 use table::Entry;
 use table::Line;
-use table::run::Change;
-use table::run::Changes;
+use table::entries::Change;
+use table::entries::Changes;
 use wire::Packet;
 
 // The next id, or the end.
@@ -75,8 +75,8 @@ pub fn box_b(s: Settings, c: Clock, l: Links, w: Walk, p: Packet, packet: &[u8],
 }
 
 // Line (d) follows for the clock host only.
-fn behind_c(s: Settings, c: Clock, l: Links, w: Walk, p: Packet, x: Entry) -> Effect
-    ensures { λ r. ⌜ r ≡ behindC p (host s c l) w (on x) ⌝ }
+fn after_c(s: Settings, c: Clock, l: Links, w: Walk, p: Packet, x: Entry) -> Effect
+    ensures { λ r. ⌜ r ≡ afterC p (host s c l) w (on x) ⌝ }
 {
     if is_clock_host(s, w) {
         return onward(at(5, 4, w.id, w), c, l, put(w, x));
@@ -91,7 +91,7 @@ pub fn box_c(s: Settings, c: Clock, l: Links, w: Walk, p: Packet, packet: &[u8],
 {
     match table::line_c(line_update(s, w, p, packet), e) {
         Line::End(x) => next_id(s, c, l, w, p, put(w, x)),
-        Line::On(x) => behind_c(s, c, l, w, p, x),
+        Line::On(x) => after_c(s, c, l, w, p, x),
     }
 }
 

@@ -9,8 +9,8 @@ use Rattle.checksum.proofs.Octets.{Octets}
 use Rattle.wire.specs.declared.Address.{Address}
 use Rattle.wire.specs.declared.Packet.{Packet}
 use Rattle.wire.specs.declared.Report.{Report}
-use Rattle.wire.specs.Ip.{headerFront, headerBack, header}
-use Rattle.wire.specs.Hello.{reportLength, reportPlace, helloLength, reportOctets, reportsOctets, helloBehind, hello}
+use Rattle.wire.specs.Ip.{headerStart, headerBack, header}
+use Rattle.wire.specs.Hello.{reportLength, reportPlace, helloLength, reportOctets, reportsOctets, helloRest, hello}
 use Rattle.wire.specs.Packet.{packetLength, message}
 use Rattle.wire.specs.code.Ranges.{AddressFits}
 
@@ -30,7 +30,7 @@ message-length destination p rs = omega (arith, hello-length p rs)
 
 -- ---- octets
 
-pub front-octets : (total : ℕ) → Octets (headerFront total)
+pub front-octets : (total : ℕ) → Octets (headerStart total)
 front-octets total = omega arith
 
 pub back-octets : (source destination : Address) → AddressFits source → AddressFits destination → Octets (headerBack source destination)
@@ -41,8 +41,8 @@ pub reports-octets : (rs : List Report) → Octets (reportsOctets rs)
 reports-octets [] = tt
 reports-octets (r ∷ rs) = (omega arith, (omega arith, (omega arith, (omega arith, reports-octets rs))))
 
-pub behind-octets : (p : Packet) (rs : List Report) → p .«address_offset» < 256 → p .nhosts < 256 → Octets (helloBehind p rs)
-behind-octets p rs a n =
+pub after-octets : (p : Packet) (rs : List Report) → p .«address_offset» < 256 → p .nhosts < 256 → Octets (helloRest p rs)
+after-octets p rs a n =
     (omega arith, (omega arith, (omega arith, (omega arith, (omega arith, (omega arith, (omega arith, (omega arith, (a, (n, reports-octets rs))))))))))
 
 -- ---- the reports

@@ -18,12 +18,12 @@ use Rattle.wire.specs.declared.Packet.{Packet}
 use Rattle.wire.specs.declared.Report.{Report}
 use Rattle.wire.specs.declared.Parsed.the-variants.{Good}
 use Rattle.wire.specs.Octets.{two}
-use Rattle.wire.specs.Ip.{ipChecksum, protocol, headerFront, headerBack, header}
-use Rattle.wire.specs.Hello.{reportAt, reportPlace, helloLength, helloChecksum, reportsOctets, helloBehind, hello}
+use Rattle.wire.specs.Ip.{ipChecksum, protocol, headerStart, headerBack, header}
+use Rattle.wire.specs.Hello.{reportAt, reportPlace, helloLength, helloChecksum, reportsOctets, helloRest, hello}
 use Rattle.wire.specs.Packet.{helloOf, fields, packetLength, message}
 use Rattle.wire.specs.code.Ranges.{Two, SignedTwo, Four, PacketFits, ReportFits, ReportsFit}
 use Rattle.wire.specs.ReadBack.{MessageFits, ReadBack, ReportsBack}
-use Rattle.wire.proofs.Messages.{octet-of-report, message-length, hello-length, front-octets, back-octets, behind-octets}
+use Rattle.wire.proofs.Messages.{octet-of-report, message-length, hello-length, front-octets, back-octets, after-octets}
 use Rattle.wire.proofs.Parsing.{ip-form, hello-form, HeaderPasses, HelloPasses, passes}
 
 -- ---- numbers
@@ -166,7 +166,7 @@ module _ (destination : Address) (p : Packet) (rs : List Report) (f : MessageFit
             (two-back (packetLength (p .nhosts)) (omega (arith, f .nhosts-fits)) ∙ sym length-is)
             refl;
         checksum =
-            checksum-passes (headerFront (packetLength (p .nhosts))) (headerBack (p .source) destination) refl
+            checksum-passes (headerStart (packetLength (p .nhosts))) (headerBack (p .source) destination) refl
             (front-octets (packetLength (p .nhosts)))
             (back-octets (p .source) destination (f .source-fits) (f .destination-fits));
         kind = refl;
@@ -178,7 +178,7 @@ module _ (destination : Address) (p : Packet) (rs : List Report) (f : MessageFit
       let n : length (hello p rs) ≡ helloLength (p .nhosts) = hello-length p rs ∙ ap helloLength (sym (f .count)) in
       record {
         form = hello-form (hello p rs) (omega arith) n;
-        checksum = checksum-passes [] (helloBehind p rs) refl tt (behind-octets p rs (f .address-offset-fits) (f .nhosts-fits));
+        checksum = checksum-passes [] (helloRest p rs) refl tt (after-octets p rs (f .address-offset-fits) (f .nhosts-fits));
       }
 
 pub message-is-back : ReadBack

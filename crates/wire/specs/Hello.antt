@@ -81,12 +81,12 @@ reportsOctets [] = []
 reportsOctets (r ∷ rs) = reportOctets r ++ reportsOctets rs
 
 -- PACKET-5: everything after the checksum
-abbrev pub helloBehind : Packet → List Report → List ℕ
-helloBehind p rs =
+abbrev pub helloRest : Packet → List Report → List ℕ
+helloRest p rs =
     two (p .date .0) ++ four (natAbs (p .time .0)) ++ two (bits16 (p .tsp .0))
     ++ p .«address_offset» ∷ p .nhosts ∷ []
     ++ reportsOctets rs
 
 -- PACKET-7, CHECKSUM-3: a HELLO with its checksum
 unfoldable pub hello : Packet → List Report → List ℕ
-hello p rs = two (checksumOf (helloBehind p rs)) ++ helloBehind p rs
+hello p rs = two (checksumOf (helloRest p rs)) ++ helloRest p rs

@@ -66,8 +66,8 @@ protocol octets = eqb (octetAt octets protocolPlace) helloProtocol
 -- ---- written
 
 -- PACKET-3: the header before its checksum
-abbrev pub headerFront : (total : ℕ) → List ℕ
-headerFront total = versionAndLength ∷ 0 ∷ [] ++ two total ++ two 0 ++ two 0 ++ 255 ∷ helloProtocol ∷ []
+abbrev pub headerStart : (total : ℕ) → List ℕ
+headerStart total = versionAndLength ∷ 0 ∷ [] ++ two total ++ two 0 ++ two 0 ++ 255 ∷ helloProtocol ∷ []
 
 -- PACKET-3: the header after its checksum: source and destination
 abbrev pub headerBack : (source destination : Address) → List ℕ
@@ -76,4 +76,4 @@ headerBack source destination = addressOctets source ++ addressOctets destinatio
 -- PACKET-3, CHECKSUM-3: a header with its checksum
 unfoldable pub header : (total : ℕ) (source destination : Address) → List ℕ
 header total source destination =
-    headerFront total ++ two (checksumOf (headerFront total ++ headerBack source destination)) ++ headerBack source destination
+    headerStart total ++ two (checksumOf (headerStart total ++ headerBack source destination)) ++ headerBack source destination

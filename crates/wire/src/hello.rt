@@ -1,10 +1,10 @@
-// The HELLO behind the IP header.
+// The HELLO after the IP header.
 ghost use mathlib.Core.Path.{_≡_};
 ghost use Prim.Native.Nat.{_+_, _≤_};
 ghost use mathlib.Core.List.{[], _++_};
 ghost use lib.ListN.{length, drop};
 ghost use Rattle.wire.specs.Octets.{two};
-ghost use Rattle.wire.specs.Hello.{fixedLength, reportLength, reportPlace, helloLength, helloForm, helloChecksum, reportAt, helloBehind};
+ghost use Rattle.wire.specs.Hello.{fixedLength, reportLength, reportPlace, helloLength, helloForm, helloChecksum, reportAt, helloRest};
 ghost use Rattle.wire.specs.code.Ranges.{Two, Four};
 ghost use Rattle.wire.specs.code.Sealing.{helloWithReport, sealedHello};
 use super::Packet;
@@ -14,7 +14,7 @@ use super::octets::put_two;
 use super::octets::put_words;
 use super::octets::two_at;
 
-// The octets in front of the reports.
+// The octets before the reports.
 const FIXED: usize = 12;
 
 // The octets of one host's report.
@@ -33,14 +33,14 @@ pub const ADDRESS_OFFSET: usize = 10;
 
 pub const NHOSTS: usize = 11;
 
-// The octets of a HELLO of so many hosts.
+// The octets of a HELLO of n hosts.
 pub fn length(nhosts: u8) -> usize
     ensures { λ r. ⌜ r ≡ helloLength nhosts ⌝ }
 {
     FIXED + REPORT * nhosts as usize
 }
 
-// Whether the length is that of a HELLO of so many hosts as it says.
+// Whether the length is that of a HELLO of as many hosts as it says.
 pub fn form(hello: &[u8]) -> bool
     ensures { λ r. ⌜ r ≡ helloForm (now (hello .entry)) ⌝ }
 {
@@ -86,7 +86,7 @@ pub fn put_report(hello: &mut [u8], i: usize, r: Report)
 fn put_fixed(hello: &mut [u8], p: Packet)
     requires { ⌜ fixedLength ≤ length (now hello) ⌝ }
     requires { ⌜ Four (p .time .0) ⌝ }
-    ensures { λ _. ⌜ now (hello .exit) ≡ two 0 ++ helloBehind p [] ++ drop fixedLength (now (hello .entry)) ⌝ }
+    ensures { λ _. ⌜ now (hello .exit) ≡ two 0 ++ helloRest p [] ++ drop fixedLength (now (hello .entry)) ⌝ }
 {
     let date = p.date;
     let time = p.time;

@@ -6,7 +6,7 @@ ghost use lib.ListN.{length, take, drop};
 ghost use lib.Seq.{sets};
 ghost use Rattle.checksum.specs.Checksum.{checksumOf};
 ghost use Rattle.wire.specs.Octets.{two};
-ghost use Rattle.wire.specs.Ip.{headerLength, checksumPlace, ipForm, ipChecksum, protocol, headerFront, headerBack};
+ghost use Rattle.wire.specs.Ip.{headerLength, checksumPlace, ipForm, ipChecksum, protocol, headerStart, headerBack};
 use super::Address;
 use super::octets::put_address;
 use super::octets::put_two;
@@ -80,7 +80,7 @@ pub fn protocol(packet: &[u8]) -> bool
 // The header, with a checksum of zero.
 pub fn put_fields(packet: &mut [u8], total: u16, source: Address, destination: Address)
     requires { ⌜ headerLength ≤ length (now packet) ⌝ }
-    ensures { λ _. ⌜ now (packet .exit) ≡ headerFront total ++ two 0 ++ headerBack source destination ++ drop headerLength (now (packet .entry)) ⌝ }
+    ensures { λ _. ⌜ now (packet .exit) ≡ headerStart total ++ two 0 ++ headerBack source destination ++ drop headerLength (now (packet .entry)) ⌝ }
 {
     put_words(&mut *packet, VERSION, VERSION_LENGTH_SERVICE, total);
     put_words(&mut *packet, IDENTIFICATION, 0, 0);

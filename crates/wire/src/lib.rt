@@ -1,4 +1,4 @@
-// Packets: the IP header and the HELLO behind it.
+// Packets: the IP header and the HELLO after it.
 ghost use mathlib.Core.Path.{_≡_};
 ghost use Prim.Native.Nat.{_+_, _≤_};
 ghost use lib.ListN.{length};
@@ -24,7 +24,7 @@ pub struct Address {
     pub fourth: u8,
 }
 
-// What a packet says, but for the reports of its table: its source, and the fixed part of its HELLO.
+// What a packet says, except the reports of its table: its source, and the fixed part of its HELLO.
 pub struct Packet {
     pub source: Address,
     pub date: calendar::Date,
@@ -76,7 +76,7 @@ impl Address {
     }
 }
 
-// The fields of a packet, but for the reports.
+// The fields of a packet, except the reports.
 fn fields(packet: &[u8]) -> Packet
     requires { ⌜ packetLength 0 ≤ length (now packet) ⌝ }
     ensures { λ r. ⌜ (r ≡ fields (now (packet .entry))) × Four (r .time .0) ⌝ }
@@ -126,7 +126,7 @@ pub fn report_at(packet: &[u8], i: usize) -> Report
     hello::report(&packet[ip::LENGTH..], i)
 }
 
-// The octets of a packet of so many hosts.
+// The octets of a packet of n hosts.
 pub fn length(nhosts: u8) -> usize
     ensures { λ r. ⌜ r ≡ packetLength nhosts ⌝ }
 {

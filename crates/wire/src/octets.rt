@@ -71,7 +71,7 @@ pub fn put_four(s: &mut [u8], i: usize, n: u32)
     s[i + 3] = (n % 256) as u8;
 }
 
-// Two words, one behind the other, as one number of four octets: the processor then stores them at once, and a sum that reads four octets at a time need not wait.
+// Two adjacent words as one number of four octets: the processor stores them at once, so a sum that reads four octets at a time does not stall.
 pub fn put_words(s: &mut [u8], i: usize, first: u16, second: u16)
     requires { ⌜ i + 4 ≤ length (now s) ⌝ }
     ensures { λ _. ⌜ now (s .exit) ≡ sets (now (s .entry)) i (two first ++ two second) ⌝ }

@@ -1,11 +1,11 @@
--- How the code has a packet that arrives: the outcome of a step as an enum, and a refusal of the guard's or what the delivery comes to.
+-- An arriving packet in the code: the outcome of a step as an enum; the guard's refusal or the result of the delivery.
 use mathlib.Core.Bool.{cond, not}
 use mathlib.Core.List.{List}
 use Prim.Native.Nat.{ℕ}
 use Rattle.answer.specs.declared.Answer.{Answer}
-use Rattle.class_table.specs.declared.ClassTable.{ClassTable}
+use Rattle.net_table.specs.declared.NetTable.{NetTable}
 use Rattle.table.specs.Forms.{Stage, on, end}
-use Rattle.host.specs.Lent.{Host}
+use Rattle.host.specs.CallState.{Host}
 use Rattle.host.specs.Guard.{done}
 use Rattle.arrival.specs.declared.Flight.{Flight}
 use Rattle.arrival.specs.declared.Step.{Step}
@@ -18,5 +18,5 @@ abbrev pub stepOf : Stage Flight → Step
 stepOf (on f) = On f
 stepOf (end f) = End f
 
-abbrev pub planned : Answer → Delivery → (packet : List ℕ) → ClassTable → Host → Arrived
+abbrev pub planned : Answer → Delivery → (packet : List ℕ) → NetTable → Host → Arrived
 planned g d octets t h = cond (not (done g)) (ends g h) (delivered d octets t h)

@@ -5,10 +5,10 @@ use Prim.Native.Nat.{_≤_}
 use base.Logic.{emp, id⊢}
 use contract.Monad.{fact, factI}
 use lib.ListN.{length}
-use Rattle.lent.proofs.Words.{struct-part, enum-part, usize-part}
-use Rattle.lent.proofs.Outcomes.{whole}
+use Rattle.references.proofs.Words.{struct-part, enum-part, usize-part}
+use Rattle.references.proofs.Outcomes.{whole}
 use Rattle.exports.proofs.made.SetsUp.{proof}
-use Rattle.class_table.proofs.Types.{table}
+use Rattle.net_table.proofs.Types.{table}
 use Rattle.table.proofs.Types.{entry}
 use Rattle.bench_file.specs.Header.{headerOf}
 use Rattle.bench.specs.Slots.{zeros}
@@ -34,17 +34,17 @@ pub set-up-spec : {M : Type 1} → stated.statement M
 unfolding code.routine
 set-up-spec 𝓤 H 𝓜 𝓖 𝓡 =
     proof table state entry progress (enum-part answer) (struct-part (whole sets)) usize-part usize-part set-up-plan 𝓤 H 𝓜 𝓖 𝓡
-    (λ file t d a b c e f. emp 𝓤) (λ file t d a b c e f p. p ≡ setUpPlan (tested true t file record { run = c; hosts = a; copies = b; slots = e; answers = f }) (headerOf file) (d .done))
-    (λ file t hosts copies run w. fact 𝓤 (SetsFit file w hosts copies)) (λ file t hosts copies run w hosts′ run′. SetsLeave file w t hosts copies run hosts′ run′)
+    (λ file t d a b c e f. emp 𝓤) (λ file t d a b c e f p. p ≡ setUpPlan (tested true t file record { entries = c; hosts = a; copies = b; slots = e; answers = f }) (headerOf file) (d .done))
+    (λ file t hosts copies entries w. fact 𝓤 (SetsFit file w hosts copies)) (λ file t hosts copies entries w hosts′ entries′. SetsLeave file w t hosts copies entries hosts′ entries′)
     (λ o n. fact 𝓤 (n ≤ length o)) (λ o n o′. o′ ≡ zeros n o)
     (λ o n. fact 𝓤 (n ≤ length o)) (λ o n o′. o′ ≡ zeros n o)
-    (λ file t hosts copies run slots answers d hosts′ run′ slots′ answers′ d′ r. (r ≡ setUpGuard t file (bench hosts copies run slots answers (d .done))) × (bench hosts′ copies run′ slots′ answers′ (d′ .done) ≡ afterSetUp file t (bench hosts copies run slots answers (d .done))))
-    (λ file t hosts copies run slots answers d. id⊢ 𝓤 _)
-    (λ file t hosts copies run slots answers d p p-is. factI 𝓤 _ _ (rw p-is (hosts-fit file t hosts copies run slots answers (d .done))))
-    (λ file t hosts copies run slots answers d p hosts′ run′ p-is left. factI 𝓤 _ _ (rw p-is (slots-fit file t hosts copies run slots answers (d .done))))
-    (λ file t hosts copies run slots answers d p hosts′ run′ slots′ p-is left slots-is. factI 𝓤 _ _ (rw p-is (answers-fit file t hosts copies run slots answers (d .done))))
-    (λ file t hosts copies run slots answers d p hosts′ run′ slots′ answers′ p-is left slots-is answers-is.
-    rw (slots-is, answers-is, p-is) (carried-out file t hosts copies run slots answers (d .done) hosts′ run′ (rw p-is at left)))
+    (λ file t hosts copies entries slots answers d hosts′ entries′ slots′ answers′ d′ r. (r ≡ setUpGuard t file (bench hosts copies entries slots answers (d .done))) × (bench hosts′ copies entries′ slots′ answers′ (d′ .done) ≡ afterSetUp file t (bench hosts copies entries slots answers (d .done))))
+    (λ file t hosts copies entries slots answers d. id⊢ 𝓤 _)
+    (λ file t hosts copies entries slots answers d p p-is. factI 𝓤 _ _ (rw p-is (hosts-fit file t hosts copies entries slots answers (d .done))))
+    (λ file t hosts copies entries slots answers d p hosts′ entries′ p-is left. factI 𝓤 _ _ (rw p-is (slots-fit file t hosts copies entries slots answers (d .done))))
+    (λ file t hosts copies entries slots answers d p hosts′ entries′ slots′ p-is left slots-is. factI 𝓤 _ _ (rw p-is (answers-fit file t hosts copies entries slots answers (d .done))))
+    (λ file t hosts copies entries slots answers d p hosts′ entries′ slots′ answers′ p-is left slots-is answers-is.
+    rw (slots-is, answers-is, p-is) (carried-out file t hosts copies entries slots answers (d .done) hosts′ entries′ (rw p-is at left)))
     code.env #set-up plans.name all.name clears.name clears.name
     plans.routine all.routine clears.routine clears.routine
     code.calls-bench·plans·plan-set-up code.calls-bench·sets·sets code.calls-bench·slots·clear code.calls-bench·slots·clear

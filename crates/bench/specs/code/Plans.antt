@@ -3,7 +3,7 @@ use mathlib.Core.Bool.{true, cond}
 use mathlib.Core.List.{List}
 use lib.ListN.{length}
 use Prim.Native.Nat.{ℕ, _+_, _-_, _*_, min}
-use Rattle.class_table.specs.declared.ClassTable.{ClassTable}
+use Rattle.net_table.specs.declared.NetTable.{NetTable}
 use Rattle.bench_file.specs.declared.Header.{Header}
 use Rattle.bench_file.specs.Header.{headerOf}
 use Rattle.bench_file.specs.Absent.{slots}
@@ -45,9 +45,9 @@ abbrev pub setUpPlan : Answer → Header → (done : ℕ) → SetUpPlan
 setUpPlan a h n = cond (passes a) (setsAll a h) (setsNone a n)
 
 -- from the file and the lengths
-abbrev pub setUpPlanOf : (file : List ℕ) → ClassTable → (done hosts copies run slots answers : ℕ) → SetUpPlan
-setUpPlanOf file t n hosts copies run slots answers =
-    setUpPlan (tested true t file record { run = run; hosts = hosts; copies = copies; slots = slots; answers = answers }) (headerOf file) n
+abbrev pub setUpPlanOf : (file : List ℕ) → NetTable → (done hosts copies entries slots answers : ℕ) → SetUpPlan
+setUpPlanOf file t n hosts copies entries slots answers =
+    setUpPlan (tested true t file record { entries = entries; hosts = hosts; copies = copies; slots = slots; answers = answers }) (headerOf file) n
 
 -- ---- a run
 
@@ -71,6 +71,6 @@ abbrev pub runPlan : Answer → Header → (done allowance : ℕ) → RunPlan
 runPlan a h n m = cond (passes a) (runsOn a h n (min m (h .events - n))) (runsNone a n)
 
 -- from the file, the slots and the lengths
-abbrev pub runPlanOf : (file : List ℕ) → ClassTable → (done hosts copies run : ℕ) → (slots : List ℕ) → (answers allowance : ℕ) → RunPlan
-runPlanOf file t n hosts copies run octets answers m =
-    runPlan (tested (runnable (headerOf file) octets n) t file record { run = run; hosts = hosts; copies = copies; slots = length octets; answers = answers }) (headerOf file) n m
+abbrev pub runPlanOf : (file : List ℕ) → NetTable → (done hosts copies entries : ℕ) → (slots : List ℕ) → (answers allowance : ℕ) → RunPlan
+runPlanOf file t n hosts copies entries octets answers m =
+    runPlan (tested (runnable (headerOf file) octets n) t file record { entries = entries; hosts = hosts; copies = copies; slots = length octets; answers = answers }) (headerOf file) n m

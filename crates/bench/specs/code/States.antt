@@ -1,4 +1,4 @@
--- The state of one host, for every state that may stand for an absent one.
+-- The state of one host, for every default state of an absent one.
 use mathlib.Core.Path.{_≡_}
 use mathlib.Core.List.{List}
 use Prim.Native.Nat.{ℕ}

@@ -4,21 +4,21 @@ use mathlib.Core.Bool.{true, cond, not}
 use Prim.Native.Nat.{_+_, _≤_}
 use base.Logic.{emp, id⊢}
 use contract.Monad.{fact, factI}
-use Rattle.lent.proofs.Words.{by-value, chosen-by-value}
-use Rattle.lent.proofs.Outcomes.{whole}
+use Rattle.references.proofs.Words.{by-value, chosen-by-value}
+use Rattle.references.proofs.Outcomes.{whole}
 use Rattle.shapes.proofs.made.Looks.{proof}
 use Rattle.clock.proofs.Types.{clock}
 use Rattle.route.specs.declared.Found.the-variants.{Nothing}
 use Rattle.route.specs.Find.{isFound}
-use Rattle.table.specs.code.Loops.{InRun, entryOf}
-use Rattle.class_table.proofs.Types.{table}
+use Rattle.table.specs.code.Loops.{InEntries, entryOf}
+use Rattle.net_table.proofs.Types.{table}
 use Rattle.table.proofs.Types.{entry, seek}
-use Rattle.table.proofs.run.entry_of.Symbol as seeks
-use Rattle.table.proofs.run.entry_of.Met as seeks-known
+use Rattle.table.proofs.entries.entry_of.Symbol as seeks
+use Rattle.table.proofs.entries.entry_of.Met as seeks-known
 use Rattle.host.specs.declared.guard.Scope.the-variants.{All}
 use Rattle.host.specs.Settings.{foundFor}
 use Rattle.host.specs.State.{hasPlace}
-use Rattle.host.specs.Lent.{lent}
+use Rattle.host.specs.CallState.{callState}
 use Rattle.host.specs.Guard.{guard, done}
 use Rattle.host.specs.Reply.{plainly}
 use Rattle.host.proofs.Types.{number, settings, links, walk, reply, scope, answer}
@@ -29,7 +29,7 @@ use Rattle.calls.specs.Effects.{looked}
 use Rattle.calls.specs.Perform.{perform, Leaves, ask}
 use Rattle.calls.specs.code.Places.{seekAt}
 use Rattle.calls.proofs.Types.{address, found}
-use Rattle.calls.proofs.Left.{found-placed, found-there, left-looked}
+use Rattle.calls.proofs.HostAfter.{found-placed, found-there, after-looked}
 use Rattle.calls.proofs.all.Symbol as scopes
 use Rattle.calls.proofs.all.Met as scopes-known
 use Rattle.calls.proofs.plans.found.Symbol as finds
@@ -48,22 +48,22 @@ lookup-spec 𝓤 H 𝓜 𝓖 𝓡 =
     proof number (by-value address) (chosen-by-value scope) (chosen-by-value answer) (chosen-by-value found) (by-value (whole seek)) (by-value entry) (by-value reply)
     settings table clock links walk entry 𝓤 H 𝓜 𝓖 𝓡
     (emp 𝓤) (λ a. a ≡ All)
-    (λ s t k c l v o a run. emp 𝓤) (λ s t k c l v o a run g. g ≡ guard a (lent s t k c l v o run))
+    (λ s t k c l v o a entries. emp 𝓤) (λ s t k c l v o a entries g. g ≡ guard a (callState s t k c l v o entries))
     (λ g s t i. emp 𝓤) (λ g s t i f. f ≡ cond (not (done g)) Nothing (foundFor t s i))
     (λ k f. fact 𝓤 ((isFound f ≡ true → k ≤ 15) × (hasPlace f ≡ true))) (λ k f z. z ≡ seekAt k f)
-    (λ run z. fact 𝓤 (InRun (z .first) (z .end) run × (z .end ≤ z .first + 1))) (λ run z e. e ≡ entryOf z run)
+    (λ entries z. fact 𝓤 (InEntries (z .first) (z .end) entries × (z .end ≤ z .first + 1))) (λ entries z e. e ≡ entryOf z entries)
     (λ g f e. emp 𝓤) (λ g f e r. r ≡ cond (not (done g)) (plainly g) (looked f e))
-    (λ s t k c l v o run i r. Leaves (perform (ask (Lookup i)) (lent s t k c l v o run)) r c l v o run)
-    (λ s t k c l v o run i. id⊢ 𝓤 _)
-    (λ s t k c l v o run i a a-is. id⊢ 𝓤 _)
-    (λ s t k c l v o run i a g a-is g-is. id⊢ 𝓤 _)
-    (λ s t k c l v o run i a g f a-is g-is f-is. factI 𝓤 _ _ (rw (f-is, g-is, a-is) (found-placed (lent s t k c l v o run) i)))
-    (λ s t k c l v o run i a g f z a-is g-is f-is z-is. factI 𝓤 _ _ (rw (z-is, f-is, g-is, a-is) (found-there (lent s t k c l v o run) i)))
-    (λ s t k c l v o run i a g f z e a-is g-is f-is z-is e-is. id⊢ 𝓤 _)
-    (λ s t k c l v o run i a g f z e r a-is g-is f-is z-is e-is r-is. rw (r-is, e-is, z-is, f-is, g-is, a-is) (left-looked (lent s t k c l v o run) i))
+    (λ s t k c l v o entries i r. Leaves (perform (ask (Lookup i)) (callState s t k c l v o entries)) r c l v o entries)
+    (λ s t k c l v o entries i. id⊢ 𝓤 _)
+    (λ s t k c l v o entries i a a-is. id⊢ 𝓤 _)
+    (λ s t k c l v o entries i a g a-is g-is. id⊢ 𝓤 _)
+    (λ s t k c l v o entries i a g f a-is g-is f-is. factI 𝓤 _ _ (rw (f-is, g-is, a-is) (found-placed (callState s t k c l v o entries) i)))
+    (λ s t k c l v o entries i a g f z a-is g-is f-is z-is. factI 𝓤 _ _ (rw (z-is, f-is, g-is, a-is) (found-there (callState s t k c l v o entries) i)))
+    (λ s t k c l v o entries i a g f z e a-is g-is f-is z-is e-is. id⊢ 𝓤 _)
+    (λ s t k c l v o entries i a g f z e r a-is g-is f-is z-is e-is r-is. rw (r-is, e-is, z-is, f-is, g-is, a-is) (after-looked (callState s t k c l v o entries) i))
     code.env #lookup scopes.name guards.name finds.name places.name seeks.name plans.name
     scopes.routine guards.routine finds.routine places.routine seeks.routine plans.routine
-    code.calls-calls·all code.calls-host·guard·guard code.calls-calls·plans·found code.calls-calls·places·seek-at code.calls-table·run·entry-of code.calls-calls·plans·route-of
+    code.calls-calls·all code.calls-host·guard·guard code.calls-calls·plans·found code.calls-calls·places·seek-at code.calls-table·entries·entry-of code.calls-calls·plans·route-of
     (code.unfolded 𝓤 H 𝓜 𝓡)
     (scopes-known.met 𝓤 H 𝓜 𝓖 𝓡) (guards-known.met 𝓤 H 𝓜 𝓖 𝓡) (finds-known.met 𝓤 H 𝓜 𝓖 𝓡) (places-known.met 𝓤 H 𝓜 𝓖 𝓡) (seeks-known.met 𝓤 H 𝓜 𝓖 𝓡)
     (plans-known.met 𝓤 H 𝓜 𝓖 𝓡)

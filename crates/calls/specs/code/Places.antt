@@ -1,4 +1,4 @@
--- Where the ids of a host stand in the run. Where there is no id, there is no place: a refused call may have any number.
+-- The places of a host's ids in the host table. If there is no id, there is no place: a refused call may have any number.
 use Prim.Native.Nat.{ℕ, _+_, _≤_, _<_}
 use mathlib.Core.Path.{_≡_}
 use mathlib.Core.Bool.{true, cond, not}
@@ -6,11 +6,11 @@ use lib.Dec.{ltb}
 use Rattle.answer.specs.declared.Answer.{Answer}
 use Rattle.route.specs.declared.Found.{Found}
 use Rattle.route.specs.declared.Found.the-variants.{Id, Nothing}
-use Rattle.class_table.specs.declared.ClassTable.{ClassTable}
-use Rattle.table.specs.declared.run.Seek.{Seek}
-use Rattle.table.specs.declared.run.Changes.{Changes}
-use Rattle.table.specs.declared.run.Updates.{Updates}
-use Rattle.table.specs.declared.run.Reports.{Reports}
+use Rattle.net_table.specs.declared.NetTable.{NetTable}
+use Rattle.table.specs.declared.entries.Seek.{Seek}
+use Rattle.table.specs.declared.entries.Changes.{Changes}
+use Rattle.table.specs.declared.entries.Updates.{Updates}
+use Rattle.table.specs.declared.entries.Reports.{Reports}
 use Rattle.table.specs.Entry.{freshEntry}
 use Rattle.host.specs.declared.Settings.{Settings}
 use Rattle.host.specs.declared.walk.Walk.{Walk}
@@ -35,11 +35,11 @@ abbrev pub seekAt : (number : ℕ) → Found → Seek
 seekAt k Nothing = noEntry
 seekAt k (Id id) = record { first = firstPlace k + id; end = firstPlace k + id + 1; entry = freshEntry }
 
-abbrev pub soughtAt : Answer → Request → ClassTable → Settings → Walk → (number : ℕ) → Seek
+abbrev pub soughtAt : Answer → Request → NetTable → Settings → Walk → (number : ℕ) → Seek
 soughtAt g q t s w k = cond (not (done g)) noEntry (seekAt k (wanted q t s w))
 
 -- the guard has let the call pass, so that an id that is looked at has its place
-pub record Seekable (g : Answer) (q : Request) (t : ClassTable) (s : Settings) (w : Walk) (k : ℕ) : Type 0 where
+pub record Seekable (g : Answer) (q : Request) (t : NetTable) (s : Settings) (w : Walk) (k : ℕ) : Type 0 where
   pub number : done g ≡ true → k ≤ 15
   pub place : done g ≡ true → hasPlace (wanted q t s w) ≡ true
 

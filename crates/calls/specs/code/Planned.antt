@@ -5,7 +5,7 @@ use mathlib.Core.List.{List}
 use Prim.Native.Nat.{ℕ, _≤_}
 use Rattle.answer.specs.declared.Answer.{Answer}
 use Rattle.clock.specs.declared.Clock.{Clock}
-use Rattle.class_table.specs.declared.ClassTable.{ClassTable}
+use Rattle.net_table.specs.declared.NetTable.{NetTable}
 use Rattle.table.specs.declared.Entry.{Entry}
 use Rattle.host.specs.declared.Settings.{Settings}
 use Rattle.host.specs.declared.Links.{Links}
@@ -14,33 +14,33 @@ use Rattle.host.specs.declared.Reply.{Reply}
 use Rattle.host.specs.declared.Effect.{Effect}
 use Rattle.host.specs.Walk.{walkInRange}
 use Rattle.host.specs.Effect.{answers}
-use Rattle.host.specs.Lent.{Host, host}
+use Rattle.host.specs.CallState.{Host, host}
 use Rattle.host.specs.Guard.{done}
 use Rattle.host.specs.Reply.{plainly}
 use Rattle.host.specs.Inspection.{inspect, tells}
-use Rattle.host.specs.code.Told.{afresh}
+use Rattle.host.specs.code.Returned.{initialized}
 use Rattle.calls.specs.declared.Request.{Request}
 use Rattle.calls.specs.declared.plans.Timed.{Timed}
 use Rattle.calls.specs.declared.plans.Aged.{Aged}
 use Rattle.calls.specs.Effects.{scopeOf, effect}
 
-abbrev pub planned : Answer → Request → ClassTable → Host → Walk → (copy : List ℕ) → Entry → Effect
+abbrev pub planned : Answer → Request → NetTable → Host → Walk → (copy : List ℕ) → Entry → Effect
 planned g q t h w copy e = cond (not (done g)) (answers (plainly g) (h .clock) (h .links) w) (effect q t h w copy e)
 
--- what the guard tells a step of its walk
-pub record WalkTold (g : Answer) (q : Request) (s : Settings) (w : Walk) (copy : List ℕ) : Type 0 where
-  pub walk : done g ≡ true → afresh (scopeOf q) ≡ false → walkInRange s w copy ≡ true
+-- what the guard ensures for a step about its walk
+pub record WalkReturned (g : Answer) (q : Request) (s : Settings) (w : Walk) (copy : List ℕ) : Type 0 where
+  pub walk : done g ≡ true → initialized (scopeOf q) ≡ false → walkInRange s w copy ≡ true
 
--- ---- the calls that leave links and walk alone and look nothing up, whatever these and the net table are
+-- ---- the calls that change neither links nor walk and look nothing up, whatever these and the net table are
 
 abbrev pub Timely : Timed → Answer → Request → Settings → Clock → Type 0
 Timely p g q s c =
-    (t : ClassTable) (l : Links) (w : Walk) (o : List ℕ) (e : Entry)
+    (t : NetTable) (l : Links) (w : Walk) (o : List ℕ) (e : Entry)
     → p ≡ record { reply = planned g q t (host s c l) w o e .reply; clock = planned g q t (host s c l) w o e .clock }
 
 abbrev pub Aging : Aged → Answer → Request → Settings → Clock → Type 0
 Aging p g q s c =
-    (t : ClassTable) (l : Links) (w : Walk) (o : List ℕ) (e : Entry)
+    (t : NetTable) (l : Links) (w : Walk) (o : List ℕ) (e : Entry)
     → p
     ≡ record {
       reply = planned g q t (host s c l) w o e .reply;
@@ -51,7 +51,7 @@ Aging p g q s c =
 abbrev pub inspects : Answer → Settings → (link : ℕ) → (packet : List ℕ) → Reply
 inspects g s i octets = cond (not (done g)) (plainly g) (tells (inspect s i octets))
 
--- what the guard tells an inspection of its link
-pub record LinkTold (g : Answer) (s : Settings) (i : ℕ) : Type 0 where
+-- what the guard ensures for an inspection about its link
+pub record LinkReturned (g : Answer) (s : Settings) (i : ℕ) : Type 0 where
   pub from-one : done g ≡ true → 1 ≤ i
   pub to-eight : done g ≡ true → i ≤ 8

@@ -1,4 +1,4 @@
--- What the search for the next hit tells: the hits from a place on are this one, and those behind it.
+-- What the search for the next hit returns: the hits from a place on are this one and those after it.
 use mathlib.Core.Path.{_≡_}
 use mathlib.Core.List.{List, _++_}
 use Prim.Native.Nat.{ℕ, _+_, _≤_}

@@ -23,7 +23,7 @@ surveyOf input =
       placed = placesAre input numberLength (hits input);
     }
 
--- whether a number stands at a place of the input, where so far all stood
+-- whether a number is at a place of the input, if all were so far
 abbrev pub standsAt : List ℕ → Bool → (place number : ℕ) → Bool
 standsAt input so-far i n = so-far && (leb (i + numberLength) (length input) && eqb (fourAt input i) n)
 

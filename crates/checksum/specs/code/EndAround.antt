@@ -1,4 +1,4 @@
--- How the second way works the folded sum out: words are added up whole, with the low octet first, and the carries are added in at the end.
+-- How the second way computes the folded sum: full words, low octet first, are summed, and the carries are added at the end.
 use mathlib.Core.List.{List, [], _∷_}
 use Prim.Native.Nat.{ℕ, zero, suc, _+_, _*_, _%_}
 use lib.ListN.{getD}
@@ -9,7 +9,7 @@ unfoldable pub endAround : ℕ → ℕ
 endAround zero = 0
 endAround (suc n) = n % allOnes + 1
 
--- the whole sum of words, each of which f makes of two octets; behind an odd last octet stands a zero
+-- the full sum of words, each of which f makes of two octets; an odd last octet is followed by a zero
 abbrev pub summed : (ℕ → ℕ → ℕ) → List ℕ → ℕ
 summed f [] = 0
 summed f (x ∷ []) = f x 0
@@ -28,10 +28,10 @@ abbrev pub lowFour : List ℕ → ℕ → ℕ
 lowFour octets i =
     getD octets i 0 + getD octets (i + 1) 0 * 0x100 + getD octets (i + 2) 0 * 0x10000 + getD octets (i + 3) 0 * 0x1000000
 
--- fewer octets than so many are added up by a loop that is quick to set out
+-- fewer octets than this are summed by a loop with little setup
 abbrev pub shortLength : ℕ
 shortLength = 64
 
--- so many octets are added up within 32 bits
+-- this many octets are summed within 32 bits
 abbrev pub blockLength : ℕ
 blockLength = 0x40000

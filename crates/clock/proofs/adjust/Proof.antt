@@ -3,8 +3,8 @@ use mathlib.Core.Path.{_≡_}
 use mathlib.Core.Bool.{true}
 use base.Logic.{id⊢}
 use contract.Monad.{fact}
-use Rattle.lent.proofs.Words.{by-value}
-use Rattle.lent.proofs.made.Moves.{proof}
+use Rattle.references.proofs.Words.{by-value}
+use Rattle.references.proofs.made.Moves.{proof}
 use Rattle.clock.specs.Clock.{adjust, clockInRange}
 use Rattle.clock.proofs.Types.{clock, count, seconds}
 use Rattle.clock.proofs.Clock.adjusted.Symbol as adjusted

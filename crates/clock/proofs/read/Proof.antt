@@ -3,8 +3,8 @@ use mathlib.Core.Path.{_≡_, ap}
 use mathlib.Core.Bool.{true}
 use base.Logic.{sep, id⊢}
 use contract.Monad.{fact}
-use Rattle.lent.proofs.Words.{by-value, struct-part}
-use Rattle.lent.proofs.made.Reads.{proof}
+use Rattle.references.proofs.Words.{by-value, struct-part}
+use Rattle.references.proofs.made.Reads.{proof}
 use Rattle.clock.specs.declared.Reading.{Reading}
 use Rattle.clock.specs.Clock.{reading, tickInRange, clockInRange}
 use Rattle.clock.proofs.Types.{clock, units, millis, counter, seconds}

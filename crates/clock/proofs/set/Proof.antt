@@ -5,8 +5,8 @@ use mir.Syntax.{w32}
 use mir.Val.{SFits}
 use base.Logic.{sep, id⊢}
 use contract.Monad.{fact}
-use Rattle.lent.proofs.Words.{by-value}
-use Rattle.lent.proofs.made.Moves3.{proof}
+use Rattle.references.proofs.Words.{by-value}
+use Rattle.references.proofs.made.Moves3.{proof}
 use Rattle.clock.specs.Clock.{setBy, clockInRange}
 use Rattle.clock.proofs.Types.{clock, millis, count, seconds}
 use Rattle.clock.proofs.Clock.set_by.Symbol as set-by

@@ -3,8 +3,8 @@ use mathlib.Core.Path.{_≡_}
 use mathlib.Core.Bool.{true}
 use base.Logic.{sep, id⊢}
 use contract.Monad.{fact}
-use Rattle.lent.proofs.Words.{by-value}
-use Rattle.lent.proofs.made.Moves3.{proof}
+use Rattle.references.proofs.Words.{by-value}
+use Rattle.references.proofs.made.Moves3.{proof}
 use Rattle.clock.specs.Clock.{tick, tickInRange, clockInRange}
 use Rattle.clock.proofs.Types.{clock, units, count, seconds}
 use Rattle.clock.proofs.Clock.ticked.Symbol as ticked

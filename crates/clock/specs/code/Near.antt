@@ -1,4 +1,4 @@
--- What the midnight rule asks of a clock in the code: CLOCK so near its day that no sum leaves the 64 bits, and a real DATE.
+-- The precondition of the midnight rule in the code: CLOCK is so near its day that no sum overflows 64 bits, and DATE is a real date.
 use mathlib.Core.Path.{_≡_}
 use mathlib.Core.Bool.{true}
 use Prim.Native.Nat.{_^_}

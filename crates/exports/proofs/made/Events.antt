@@ -1,7 +1,7 @@
 -- The law of a thin function: `fn Events(file: &[u8], nets: &Nets, hosts: &mut [S], octets: &[u8], run: &mut [E], slots: &mut [u8], answers: &mut [u8], i: usize, w: J) given { let p: P = told(file, &slots, i, w); match p { q: Q => { let a: I = ask_of(file, w, q); let k: K = asks(nets, hosts, octets, run, a); keep(answers, i, k); } y: Y => { let b: L = send_of(file, w, y); let m: K = sends(nets, hosts, octets, &run, slots, b); keep(answers, i, m); } z: Z => { let c: C = take_of(file, &slots, w, z); let n: K = takes(nets, hosts, octets, run, &slots, c); keep(answers, i, n); } _ => note(answers, i), } }`.
 -- It is one walk of that MIR, for any types and any contracts of the functions that are called. The author shows that each of them is asked for no more than what is known (`ok`), and that what they say comes to what the function says (`then`).
 -- Made by tools/laws/make. Assumes nothing.
-use Rattle.lent.proofs.Thin.{refl, ap, ℕ, List, [], _∷_, URA, Name, Fn, opdUnit, tyUnit, tyInt, tyRef, erased, imm, mut, w8, w64, ent, emp, Model, Routine, Env, Heap, GhostRules, Running, fmOf, !, u8, pointee, sliceTy, row, Word, Data, Part, by-value, chosen-by-value, unsigned, Form, form, silent, by, ref, slice, slicemut, Over, is-part, is-unit, typed-of, unit, sets, slices, lends, back, learns, nothing-more, val, share, shares, gives, calls, revalued, Choices, any-of, machine, by-cases, owed-case, said-of, within, enters-arm, stays, goes, finish, takes, Asking, Giving, Saying, Each, callee, given-that, thin, loc, set, invoke, point-in, slice-of, match-on, case, Job, Proven, lawful-over}
+use Rattle.references.proofs.Thin.{refl, ap, ℕ, List, [], _∷_, URA, Name, Fn, opdUnit, tyUnit, tyInt, tyRef, erased, imm, mut, w8, w64, ent, emp, Model, Routine, Env, Heap, GhostRules, Running, fmOf, !, u8, pointee, sliceTy, row, Word, Data, Part, by-value, chosen-by-value, unsigned, Form, form, silent, by, ref, slice, slicemut, Over, is-part, is-unit, typed-of, unit, sets, slices, lends, back, learns, nothing-more, val, share, shares, gives, calls, revalued, Choices, any-of, machine, by-cases, owed-case, said-of, within, enters-arm, stays, goes, finish, takes, Asking, Giving, Saying, Each, callee, given-that, thin, loc, set, invoke, point-in, slice-of, match-on, case, Job, Proven, lawful-over}
 use mathlib.Core.Logic.{inl, inr}
 
 module _ (J I K L C : Word) (Nets S E : Data) (Q Y Z : Part) (P : Choices ((Q ∷ []) ∷ (Y ∷ []) ∷ (Z ∷ []) ∷ ([]) ∷ [])) where

@@ -1,7 +1,7 @@
 -- The law of a thin function: `fn LooksAt(nets: &Nets, hosts: &[S], octets: &[u8], run: &[E], slots: &[u8], w: J(usize, usize, usize, D, usize, G)) -> P given { let low: usize = from(w.0); let high: usize = to(w.0); let here: usize = room_from(w.1); let there: usize = packet_to(w.1, w.2); let v: B(C, L, F) = state(hosts, w.0); look(w.3, nets, w.0, v.0, v.1, v.2, &octets[low..high], run, w.4, &slots[here..there]) }`.
 -- It is one walk of that MIR, for any types and any contracts of the functions that are called. The author shows that each of them is asked for no more than what is known (`ok`), and that what they say comes to what the function says (`then`).
 -- Made by tools/laws/make. Assumes nothing.
-use Rattle.lent.proofs.Thin.{refl, _-_, _≤_, [], _∷_, length, URA, Name, Fn, tyInt, tyPtr, tyRef, erased, imm, w8, w64, ent, emp, Model, Routine, Env, Heap, GhostRules, Running, !, midOf, u8, sliceTy, row, Word, Data, Part, by-value, unsigned, usize-part, Outcome, whole, Form, form, by, ref, slice, Over, is-part, owed-of, part, points, begins, counts, pairs, fewer, cuts, joined, learns, nothing-more, value, share, shares, calls, finish, takes, Asking, Giving, Saying, Each, callee, given-that, thin, loc, fld, invoke, point, begin-at, count-to, slice-with, Job, Proven, lawful}
+use Rattle.references.proofs.Thin.{refl, _-_, _≤_, [], _∷_, length, URA, Name, Fn, tyInt, tyPtr, tyRef, erased, imm, w8, w64, ent, emp, Model, Routine, Env, Heap, GhostRules, Running, !, midOf, u8, sliceTy, row, Word, Data, Part, by-value, unsigned, usize-part, Outcome, whole, Form, form, by, ref, slice, Over, is-part, owed-of, part, points, begins, counts, pairs, fewer, cuts, joined, learns, nothing-more, value, share, shares, calls, finish, takes, Asking, Giving, Saying, Each, callee, given-that, thin, loc, fld, invoke, point, begin-at, count-to, slice-with, Job, Proven, lawful}
 
 module _ (P : Word) (Nets S E : Data) (D G C L F : Part) (J : Outcome (usize-part ∷ usize-part ∷ usize-part ∷ D ∷ usize-part ∷ G ∷ [])) (B : Outcome (C ∷ L ∷ F ∷ [])) where
   abbrev form₁ : Form

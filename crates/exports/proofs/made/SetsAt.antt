@@ -1,7 +1,7 @@
 -- The law of a thin function: `fn SetsAt(file: &[u8], nets: &Nets, hosts: &mut [S], octets: &[u8], run: &mut [E], i: usize, w: J) given { let a: I = afresh(file, i, w); let k: K = ask(nets, hosts, octets, run, a); }`.
 -- It is one walk of that MIR, for any types and any contracts of the functions that are called. The author shows that each of them is asked for no more than what is known (`ok`), and that what they say comes to what the function says (`then`).
 -- Made by tools/laws/make. Assumes nothing.
-use Rattle.lent.proofs.Thin.{refl, List, [], _∷_, URA, Name, Fn, opdUnit, tyRef, erased, mut, w64, ent, emp, Model, Routine, Env, Heap, GhostRules, Running, !, u8, pointee, sliceTy, row, Word, Data, by-value, unsigned, Form, form, silent, by, ref, slice, slicemut, Over, is-unit, unit, sets, slices, learns, nothing-more, val, share, shares, gives, calls, goes, finish, takes, Asking, Giving, Saying, Each, callee, given-that, thin, loc, set, invoke, point-in, slice-of, Job, Proven, lawful}
+use Rattle.references.proofs.Thin.{refl, List, [], _∷_, URA, Name, Fn, opdUnit, tyRef, erased, mut, w64, ent, emp, Model, Routine, Env, Heap, GhostRules, Running, !, u8, pointee, sliceTy, row, Word, Data, by-value, unsigned, Form, form, silent, by, ref, slice, slicemut, Over, is-unit, unit, sets, slices, learns, nothing-more, val, share, shares, gives, calls, goes, finish, takes, Asking, Giving, Saying, Each, callee, given-that, thin, loc, set, invoke, point-in, slice-of, Job, Proven, lawful}
 
 module _ (J I K : Word) (Nets S E : Data) where
   abbrev form₁ : Form

@@ -1,7 +1,7 @@
 -- The law of a thin function: `fn TakesAt(nets: &Nets, hosts: &mut [S], octets: &[u8], run: &mut [E], slots: &[u8], w: J) -> K given { let o: P(K, C, L, F) = look(nets, &hosts, octets, &run, slots, w); let b: bool = passes(o.0); if b { return act(nets, hosts, octets, run, slots, w); } o.0 }`.
 -- It is one walk of that MIR, for any types and any contracts of the functions that are called. The author shows that each of them is asked for no more than what is known (`ok`), and that what they say comes to what the function says (`then`).
 -- Made by tools/laws/make. Assumes nothing.
-use Rattle.lent.proofs.Thin.{refl, List, [], _∷_, URA, Name, Fn, return, tyBool, tyRef, erased, imm, mut, ent, emp, Model, Routine, Env, Heap, GhostRules, Running, fmOf, !, u8, pointee, sliceTy, row, Word, Data, Part, by-value, bool-part, Outcome, whole, Form, form, by, ref, slice, slicemut, Over, is-part, owed-of, typed-of, plain, part, sets, slices, lends, back, learns, nothing-more, value, val, share, shares, gives, calls, chooses, stays, goes, finish, takes, Asking, Giving, Saying, Each, callee, given-that, thin, loc, fld, set, invoke, point-in, slice-of, choose, Job, Proven, lawful-over}
+use Rattle.references.proofs.Thin.{refl, List, [], _∷_, URA, Name, Fn, return, tyBool, tyRef, erased, imm, mut, ent, emp, Model, Routine, Env, Heap, GhostRules, Running, fmOf, !, u8, pointee, sliceTy, row, Word, Data, Part, by-value, bool-part, Outcome, whole, Form, form, by, ref, slice, slicemut, Over, is-part, owed-of, typed-of, plain, part, sets, slices, lends, back, learns, nothing-more, value, val, share, shares, gives, calls, chooses, stays, goes, finish, takes, Asking, Giving, Saying, Each, callee, given-that, thin, loc, fld, set, invoke, point-in, slice-of, choose, Job, Proven, lawful-over}
 use lib.Dec.{T}
 use mathlib.Core.Bool.{not}
 

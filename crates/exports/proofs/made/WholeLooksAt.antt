@@ -1,7 +1,7 @@
 -- The law of a call by value: `fn WholeLooksAt(settings: S, nets: &Nets, number: N, clock: C, links: L, stand: F, octets: &[u8], run: &[E], link: I, packet: &[u8]) -> O { let s = settings; let c = clock; let l = links; let v = stand; let a: K = call(&s, nets, number, &c, &l, &v, octets, run, link, packet); O { answer: a, clock: c, links: l, stand: v } }`.
 -- It is one walk of that MIR, for any types and any contract of the call that asks nothing. What is handed back is a struct of the answer and of what the call leaves, which `make` makes; `back` is the answer as its field. The author shows that what the call says comes to what the function says (`then`).
 -- Made by tools/laws/make. Assumes nothing.
-use Rattle.lent.proofs.Thin.{_≡_, refl, List, [], _∷_, URA, Name, Fn, tyRef, erased, imm, id⊢, Model, Routine, Env, Heap, GhostRules, Running, !, u8, pointee, row, Word, Data, Part, by-value, Form, form, by, ref, slice, all-got, got, makes, typed-of, plain, sets, back, nothing-more, val, share, shares, calls, revalued, finish, takes, Saying, Each, function, thin-home, loc, set, invoke, address, aggregated, Job, Proven, lawful}
+use Rattle.references.proofs.Thin.{_≡_, refl, List, [], _∷_, URA, Name, Fn, tyRef, erased, imm, id⊢, Model, Routine, Env, Heap, GhostRules, Running, !, u8, pointee, row, Word, Data, Part, by-value, Form, form, by, ref, slice, all-got, got, makes, typed-of, plain, sets, back, nothing-more, val, share, shares, calls, revalued, finish, takes, Saying, Each, function, thin-home, loc, set, invoke, address, aggregated, Job, Proven, lawful}
 use Rattle.exports.proofs.Homes.{T, Sym, Val, Denots, Is, Plains, rows, Declared, fields, at-type, addressed, shared-home, shared-home-back, handed, handed-is, answer-field}
 use denote.Struct.Declared as declared
 use denote.Struct.Laws as LL

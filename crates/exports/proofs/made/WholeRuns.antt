@@ -1,7 +1,7 @@
 -- The law of a call by value: `fn WholeRuns(file: &[u8], nets: Nets, hosts: [S; n], octets: &[u8], run: [E; m], slots: &mut [u8], answers: &mut [u8], progress: C, allowance: N) -> O { let t = nets; let mut h = hosts; let mut e = run; let mut p = progress; let a: K = call(file, &t, &mut h, octets, &mut e, slots, answers, &mut p, allowance); O { answer: a, hosts: h, run: e, progress: p } }`.
 -- It is one walk of that MIR, for any types and any contract of the call that asks nothing. What is handed back is a struct of the answer and of what the call leaves, which `make` makes; `back` is the answer as its field. The author shows that what the call says comes to what the function says (`then`).
 -- Made by tools/laws/make. Assumes nothing.
-use Rattle.lent.proofs.Thin.{_≡_, refl, ℕ, _*_, _^_, List, [], _∷_, URA, Name, Fn, tyInt, tyRef, erased, imm, mut, w8, w64, id⊢, Model, Routine, Env, Heap, GhostRules, Running, !, u8, pointee, sliceTy, row, Word, Data, Part, by-value, Form, form, by, ref, refmut, slice, slicemut, literal, all-got, got, makes, typed-of, plain, sets, slices, back, nothing-more, val, share, shares, give, gives, calls, revalued, goes, finish, takes, Saying, Each, function, thin-home, loc, set, invoke, point-in, slice-of, address, aggregated, Job, Proven, lawful}
+use Rattle.references.proofs.Thin.{_≡_, refl, ℕ, _*_, _^_, List, [], _∷_, URA, Name, Fn, tyInt, tyRef, erased, imm, mut, w8, w64, id⊢, Model, Routine, Env, Heap, GhostRules, Running, !, u8, pointee, sliceTy, row, Word, Data, Part, by-value, Form, form, by, ref, refmut, slice, slicemut, literal, all-got, got, makes, typed-of, plain, sets, slices, back, nothing-more, val, share, shares, give, gives, calls, revalued, goes, finish, takes, Saying, Each, function, thin-home, loc, set, invoke, point-in, slice-of, address, aggregated, Job, Proven, lawful}
 use Rattle.exports.proofs.Homes.{map, T, ltb, Sym, int, Val, Denots, Is, mem, Array, Plains, rows, Declared, fields, at-type, listed, list-field, list-laws, list-plain, addressed, shared-home, shared-home-back, lent-home, lent-home-back, lent-homes, lent-homes-back, handed, handed-is, answer-field, array-field, has-room}
 use Rattle.exports.proofs.Long.{big-literal, intBig}
 use denote.Struct.Declared as declared

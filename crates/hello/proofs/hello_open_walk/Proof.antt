@@ -1,21 +1,21 @@
 -- The call, and what is told of its reply.
 use mathlib.Core.Path.{_≡_}
 use base.Logic.{emp, id⊢}
-use Rattle.lent.proofs.Words.{by-value}
+use Rattle.references.proofs.Words.{by-value}
 use Rattle.exports.proofs.made.ExportOpens.{proof}
 use Rattle.clock.proofs.Types.{clock}
-use Rattle.class_table.proofs.Types.{table}
+use Rattle.net_table.proofs.Types.{table}
 use Rattle.table.proofs.Types.{entry}
-use Rattle.host.specs.Lent.{lent}
+use Rattle.host.specs.CallState.{callState}
 use Rattle.host.proofs.Types.{number, settings, links, walk, reply}
 use Rattle.calls.specs.Perform.{perform, Leaves, openWalk}
 use Rattle.calls.proofs.open_walk.Symbol as calls
 use Rattle.calls.proofs.open_walk.Met as calls-known
-use Rattle.hello.specs.Told.{steppedTold, Returns}
+use Rattle.hello.specs.Returned.{steppedReturned, Returns}
 use Rattle.hello.proofs.Types.{stepped}
-use Rattle.hello.proofs.Returned.{returned}
-use Rattle.hello.proofs.stepped_told.Symbol as tells
-use Rattle.hello.proofs.stepped_told.Met as tells-known
+use Rattle.hello.proofs.Returning.{returning}
+use Rattle.hello.proofs.stepped_returned.Symbol as tells
+use Rattle.hello.proofs.stepped_returned.Met as returns-known
 use Rattle.hello.proofs.hello_open_walk.Key.{name as #hello-open-walk}
 use Rattle.hello.proofs.hello_open_walk.Statement as stated
 use Rattle.hello.proofs.hello_open_walk.Code as code
@@ -24,10 +24,10 @@ pub hello-open-walk-spec : {M : Type 1} → stated.statement M
 unfolding code.routine
 hello-open-walk-spec 𝓤 H 𝓜 𝓖 𝓡 =
     proof number number (by-value reply) (by-value stepped) settings table clock links walk entry 𝓤 H 𝓜 𝓖 𝓡
-    (λ s t k c l v o run i b. emp 𝓤) (λ s t k c l v o run i b a v′ o′. Leaves (perform (openWalk i b) (lent s t k c l v o run)) a c l v′ o′ run)
-    (λ a. emp 𝓤) (λ a r. r ≡ steppedTold a)
-    (λ s t k c l v o run i b v′ o′ r. Returns steppedTold (perform (openWalk i b) (lent s t k c l v o run)) r c l v′ o′ run)
-    (λ s t k c l v o run i b. id⊢ 𝓤 _) (λ s t k c l v o run i b a v′ o′ left. id⊢ 𝓤 _)
-    (λ s t k c l v o run i b a v′ o′ r left r-is. returned steppedTold (perform (openWalk i b) (lent s t k c l v o run)) a c l v′ o′ run r left r-is)
-    code.env #hello-open-walk calls.name tells.name calls.routine tells.routine code.calls-calls·open-walk code.calls-hello·stepped-told
-    (code.unfolded 𝓤 H 𝓜 𝓡) (calls-known.met 𝓤 H 𝓜 𝓖 𝓡) (tells-known.met 𝓤 H 𝓜 𝓖 𝓡)
+    (λ s t k c l v o entries i b. emp 𝓤) (λ s t k c l v o entries i b a v′ o′. Leaves (perform (openWalk i b) (callState s t k c l v o entries)) a c l v′ o′ entries)
+    (λ a. emp 𝓤) (λ a r. r ≡ steppedReturned a)
+    (λ s t k c l v o entries i b v′ o′ r. Returns steppedReturned (perform (openWalk i b) (callState s t k c l v o entries)) r c l v′ o′ entries)
+    (λ s t k c l v o entries i b. id⊢ 𝓤 _) (λ s t k c l v o entries i b a v′ o′ left. id⊢ 𝓤 _)
+    (λ s t k c l v o entries i b a v′ o′ r left r-is. returning steppedReturned (perform (openWalk i b) (callState s t k c l v o entries)) a c l v′ o′ entries r left r-is)
+    code.env #hello-open-walk calls.name tells.name calls.routine tells.routine code.calls-calls·open-walk code.calls-hello·stepped-returned
+    (code.unfolded 𝓤 H 𝓜 𝓡) (calls-known.met 𝓤 H 𝓜 𝓖 𝓡) (returns-known.met 𝓤 H 𝓜 𝓖 𝓡)

@@ -2,24 +2,24 @@
 use mathlib.Core.Path.{_≡_, sym}
 use mir.Syntax.{w8}
 use base.Logic.{emp, id⊢}
-use Rattle.lent.proofs.Words.{by-value, chosen-by-value, unsigned}
+use Rattle.references.proofs.Words.{by-value, chosen-by-value, unsigned}
 use Rattle.exports.proofs.made.ExportDeliversWith.{proof}
 use Rattle.clock.proofs.Types.{clock, counter}
-use Rattle.class_table.proofs.Types.{table}
+use Rattle.net_table.proofs.Types.{table}
 use Rattle.table.proofs.Types.{entry}
-use Rattle.host.specs.Lent.{lent}
+use Rattle.host.specs.CallState.{callState}
 use Rattle.host.proofs.Types.{number, settings, links, walk, reply}
 use Rattle.arrival.specs.declared.Delivery.the-variants.{Receive}
 use Rattle.calls.specs.Perform.{perform, Leaves, deliver}
 use Rattle.calls.proofs.Types.{delivery}
 use Rattle.calls.proofs.deliver.Symbol as calls
 use Rattle.calls.proofs.deliver.Met as calls-known
-use Rattle.hello.specs.Told.{numbered, Returns}
-use Rattle.hello.proofs.Returned.{returned}
+use Rattle.hello.specs.Returned.{numbered, Returns}
+use Rattle.hello.proofs.Returning.{returning}
 use Rattle.hello.proofs.receives.Symbol as makes
 use Rattle.hello.proofs.receives.Met as makes-known
 use Rattle.hello.proofs.numbered.Symbol as tells
-use Rattle.hello.proofs.numbered.Met as tells-known
+use Rattle.hello.proofs.numbered.Met as returns-known
 use Rattle.hello.proofs.hello_receive.Key.{name as #hello-receive}
 use Rattle.hello.proofs.hello_receive.Statement as stated
 use Rattle.hello.proofs.hello_receive.Code as code
@@ -29,11 +29,11 @@ unfolding code.routine
 hello-receive-spec 𝓤 H 𝓜 𝓖 𝓡 =
     proof number number (by-value counter) (chosen-by-value delivery) (by-value reply) (unsigned w8) settings table clock links walk entry 𝓤 H 𝓜 𝓖 𝓡
     (λ i q. emp 𝓤) (λ i q d. d ≡ Receive i q)
-    (λ s t k c l v o run d b. emp 𝓤) (λ s t k c l v o run d b a c′ l′ run′. Leaves (perform (deliver d b) (lent s t k c l v o run)) a c′ l′ v o run′)
+    (λ s t k c l v o entries d b. emp 𝓤) (λ s t k c l v o entries d b a c′ l′ entries′. Leaves (perform (deliver d b) (callState s t k c l v o entries)) a c′ l′ v o entries′)
     (λ a. emp 𝓤) (λ a r. r ≡ numbered a)
-    (λ s t k c l v o run i q b c′ l′ run′ r. Returns numbered (perform (deliver (Receive i q) b) (lent s t k c l v o run)) r c′ l′ v o run′)
-    (λ s t k c l v o run i q b. id⊢ 𝓤 _) (λ s t k c l v o run i q b d d-is. id⊢ 𝓤 _) (λ s t k c l v o run i q b d a c′ l′ run′ d-is left. id⊢ 𝓤 _)
-    (λ s t k c l v o run i q b d a c′ l′ run′ r d-is left r-is. rw (sym d-is) (returned numbered (perform (deliver d b) (lent s t k c l v o run)) a c′ l′ v o run′ r left r-is))
+    (λ s t k c l v o entries i q b c′ l′ entries′ r. Returns numbered (perform (deliver (Receive i q) b) (callState s t k c l v o entries)) r c′ l′ v o entries′)
+    (λ s t k c l v o entries i q b. id⊢ 𝓤 _) (λ s t k c l v o entries i q b d d-is. id⊢ 𝓤 _) (λ s t k c l v o entries i q b d a c′ l′ entries′ d-is left. id⊢ 𝓤 _)
+    (λ s t k c l v o entries i q b d a c′ l′ entries′ r d-is left r-is. rw (sym d-is) (returning numbered (perform (deliver d b) (callState s t k c l v o entries)) a c′ l′ v o entries′ r left r-is))
     code.env #hello-receive makes.name calls.name tells.name makes.routine calls.routine tells.routine
     code.calls-hello·receives code.calls-calls·deliver code.calls-hello·numbered
-    (code.unfolded 𝓤 H 𝓜 𝓡) (makes-known.met 𝓤 H 𝓜 𝓖 𝓡) (calls-known.met 𝓤 H 𝓜 𝓖 𝓡) (tells-known.met 𝓤 H 𝓜 𝓖 𝓡)
+    (code.unfolded 𝓤 H 𝓜 𝓡) (makes-known.met 𝓤 H 𝓜 𝓖 𝓡) (calls-known.met 𝓤 H 𝓜 𝓖 𝓡) (returns-known.met 𝓤 H 𝓜 𝓖 𝓡)

@@ -6,10 +6,10 @@ use Rattle.hello_bench.proofs.entries_of.Statement.{statement}
 use Rattle.hello_bench.proofs.entries_of.Tie as tie
 
 abbrev Inv-loop : tie.InvT-loop
-Inv-loop seat run id₀ id = id ≤ 255
+Inv-loop node entries id₀ id = id ≤ 255
 
 abbrev μ-loop : tie.MeasureT-loop
-μ-loop seat run id₀ id = 255 - id
+μ-loop node entries id₀ id = 255 - id
 
 loop-holds : tie.Need-loop-holds Inv-loop μ-loop
 loop-holds c = omega arith

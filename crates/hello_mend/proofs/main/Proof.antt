@@ -16,17 +16,17 @@ read-full-requires c κs = search needs
 array-share-prefix-input : tie.Need-array-share-prefix-input
 array-share-prefix-input c = search needs
 
-slice-aggregate-mend : tie.Need-slice-aggregate-mend
-slice-aggregate-mend c = search needs
+slice-aggregate-recover : tie.Need-slice-aggregate-recover
+slice-aggregate-recover c = search needs
 
-slice-aggregate-mend-2 : tie.Need-slice-aggregate-mend-2
-slice-aggregate-mend-2 c = search needs
+slice-aggregate-recover-2 : tie.Need-slice-aggregate-recover-2
+slice-aggregate-recover-2 c = search needs
 
-slice-aggregate-mend-3 : tie.Need-slice-aggregate-mend-3
-slice-aggregate-mend-3 c = search needs
+slice-aggregate-recover-3 : tie.Need-slice-aggregate-recover-3
+slice-aggregate-recover-3 c = search needs
 
-mend-requires : tie.Need-mend-requires
-mend-requires c κs = search needs
+recover-requires : tie.Need-recover-requires
+recover-requires c κs = search needs
 
 number-requires : tie.Need-number-requires
 number-requires c κs = search needs
@@ -53,19 +53,19 @@ returns : tie.Need-returns
 returns c = search needs
 
 array-share-prefix-output : tie.Need-array-share-prefix-output
-array-share-prefix-output c = omega (arith, told-fits _ _ _ _ _ _ (c .before .before .before .before .mend .ensures) .0)
+array-share-prefix-output c = omega (arith, told-fits _ _ _ _ _ _ (c .before .before .before .before .recover .ensures) .0)
 
 slice-aggregate-write-all-3 : tie.Need-slice-aggregate-write-all-3
-slice-aggregate-write-all-3 c = sym (length-take-le _ _ (omega (arith, told-fits _ _ _ _ _ _ (c .before .before .before .before .before .mend .ensures) .0)))
+slice-aggregate-write-all-3 c = sym (length-take-le _ _ (omega (arith, told-fits _ _ _ _ _ _ (c .before .before .before .before .before .recover .ensures) .0)))
 
 write-all-requires-3 : tie.Need-write-all-requires-3
 write-all-requires-3 c κs = search needs
 
 array-share-prefix-stretches : tie.Need-array-share-prefix-stretches
-array-share-prefix-stretches c = omega (arith, told-fits _ _ _ _ _ _ (c .before .before .before .before .before .before .mend .ensures) .1)
+array-share-prefix-stretches c = omega (arith, told-fits _ _ _ _ _ _ (c .before .before .before .before .before .before .recover .ensures) .1)
 
 slice-aggregate-print-stretches : tie.Need-slice-aggregate-print-stretches
-slice-aggregate-print-stretches c = sym (length-take-le _ _ (omega (arith, told-fits _ _ _ _ _ _ (c .before .before .before .before .before .before .before .mend .ensures) .1)))
+slice-aggregate-print-stretches c = sym (length-take-le _ _ (omega (arith, told-fits _ _ _ _ _ _ (c .before .before .before .before .before .before .before .recover .ensures) .1)))
 
 print-stretches-requires : tie.Need-print-stretches-requires
 print-stretches-requires c κs = search needs
@@ -83,10 +83,10 @@ main-spec =
     slice-aggregate-read-full
     read-full-requires
     array-share-prefix-input
-    slice-aggregate-mend
-    slice-aggregate-mend-2
-    slice-aggregate-mend-3
-    mend-requires
+    slice-aggregate-recover
+    slice-aggregate-recover-2
+    slice-aggregate-recover-3
+    recover-requires
     number-requires
     slice-aggregate-write-all
     write-all-requires

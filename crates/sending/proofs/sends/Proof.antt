@@ -14,8 +14,8 @@ cast-pid c = search needs
 length-requires : tie.Need-length-requires
 length-requires c κs = search needs
 
-tells-length-requires : tie.Need-tells-length-requires
-tells-length-requires c κs = search needs
+returns-length-requires : tie.Need-returns-length-requires
+returns-length-requires c κs = search needs
 
 link-sent-requires : tie.Need-link-sent-requires
 link-sent-requires c κs = search needs
@@ -32,13 +32,13 @@ packet-sent-requires c κs =
 returns : tie.Need-returns
 returns c =
     let read = c .before .before .before .before .before .before .before .before in
-    let told = read .before .pre .1 .1 in
+    let returned = read .before .pre .1 .1 in
     rw (
       ← read .our-reading .ensures,
-      ← told .0,
-      ← told .1,
+      ← returned .0,
+      ← returned .1,
       ← c .before .before .before .before .length .ensures,
-      ← c .before .before .before .tells-length .ensures,
+      ← c .before .before .before .returns-length .ensures,
       ← c .before .before .link-sent .ensures,
       ← c .before .with-link .ensures,
       ← c .packet-sent .ensures,
@@ -51,7 +51,7 @@ sends-spec =
     our-reading-requires
     cast-pid
     length-requires
-    tells-length-requires
+    returns-length-requires
     link-sent-requires
     with-link-requires
     packet-sent-requires

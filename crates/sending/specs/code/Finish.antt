@@ -9,7 +9,7 @@ use Rattle.clock.specs.declared.Counter.{Counter}
 use Rattle.wire.specs.Packet.{packetLength}
 use Rattle.wire.specs.code.Ranges.{Four}
 use Rattle.wire.specs.code.Sealing.{sealed}
-use Rattle.host.specs.Lent.{Host}
+use Rattle.host.specs.CallState.{Host}
 use Rattle.host.specs.Guard.{done}
 use Rattle.sending.specs.declared.Sending.{Sending}
 use Rattle.sending.specs.Send.{unsent, sendIn}

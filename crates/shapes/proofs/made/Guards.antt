@@ -1,7 +1,7 @@
 -- The law of a thin function: `fn Guards(settings: &S, nets: &Nets, number: N, clock: C, links: L, stand: F, octets: &[u8], scope: U, run: &[E]) -> G { let s = *settings; let t = *nets; let n = run.len(); let w: J = held(s, t, number, clock, links, stand, octets, scope, n); let good: B = scan(run, w); judged(s, t, stand, scope, good) }`.
 -- It is one walk of that MIR, for any types and any contracts of the functions that are called. The author shows that each of them is asked for no more than what is known (`ok`), and that what they say comes to what the function says (`then`).
 -- Made by tools/laws/make. Assumes nothing.
-use Rattle.lent.proofs.Thin.{refl, [], _∷_, length, URA, Name, Fn, w64, ent, emp, Model, Routine, Env, Heap, GhostRules, Running, !, u8, row, Word, Data, by-value, unsigned, Form, form, by, ref, slice, is-length, typed-of, part, sets, copies, nothing-more, val, shares, calls, finish, takes, Asking, Giving, Saying, Each, callee, function, thin, loc, fld, set, take, invoke, Job, Proven, lawful}
+use Rattle.references.proofs.Thin.{refl, [], _∷_, length, URA, Name, Fn, w64, ent, emp, Model, Routine, Env, Heap, GhostRules, Running, !, u8, row, Word, Data, by-value, unsigned, Form, form, by, ref, slice, is-length, typed-of, part, sets, copies, nothing-more, val, shares, calls, finish, takes, Asking, Giving, Saying, Each, callee, function, thin, loc, fld, set, take, invoke, Job, Proven, lawful}
 
 module _ (N C L F U J B G : Word) (S Nets E : Data) where
   abbrev form₁ : Form

@@ -1,7 +1,7 @@
 -- The law of a thin function: `fn Inspects(settings: &S, nets: &Nets, number: N, clock: &C, links: &L, stand: &F, octets: &[u8], run: &[E], link: I, packet: &[u8]) -> K { let s = *settings; let c = *clock; let l = *links; let v = *stand; let a: U = scope(link); let g: G = guard(settings, nets, number, c, l, v, octets, a, run); plan(g, s, link, packet) }`.
 -- It is one walk of that MIR, for any types and any contracts of the functions that are called. The author shows that each of them is asked for no more than what is known (`ok`), and that what they say comes to what the function says (`then`).
 -- Made by tools/laws/make. Assumes nothing.
-use Rattle.lent.proofs.Thin.{refl, [], _∷_, URA, Name, Fn, ent, emp, Model, Routine, Env, Heap, GhostRules, Running, !, u8, row, Word, Data, by-value, Form, form, by, ref, slice, copies, nothing-more, val, share, shares, calls, finish, takes, Asking, Giving, Saying, Each, callee, function, thin, loc, take, invoke, Job, Proven, lawful}
+use Rattle.references.proofs.Thin.{refl, [], _∷_, URA, Name, Fn, ent, emp, Model, Routine, Env, Heap, GhostRules, Running, !, u8, row, Word, Data, by-value, Form, form, by, ref, slice, copies, nothing-more, val, share, shares, calls, finish, takes, Asking, Giving, Saying, Each, callee, function, thin, loc, take, invoke, Job, Proven, lawful}
 
 module _ (N I U G K : Word) (S Nets C L F E : Data) where
   abbrev form₁ : Form

@@ -1,7 +1,7 @@
 -- The law of a thin function: `fn Performs(settings: &S, nets: &Nets, number: N, clock: &mut C, links: &mut L, stand: &mut F, octets: &[u8], run: &mut [E], request: I) -> K { let s = *settings; let t = *nets; let c = *clock; let l = *links; let v = *stand; let a: U = scope(request); let g: G = guard(settings, nets, number, c, l, v, octets, a, &run); let z: Z = seek(g, s, t, v, number, request); let e: Q = look(&run, z); let p: P(K, C, L, F, J) = plan(g, s, t, c, l, v, octets, e, request); let w: X = place(number, p.4); act(run, w); *clock = p.1; *links = p.2; *stand = p.3; p.0 }`.
 -- It is one walk of that MIR, for any types and any contracts of the functions that are called. The author shows that each of them is asked for no more than what is known (`ok`), and that what they say comes to what the function says (`then`).
 -- Made by tools/laws/make. Assumes nothing.
-use Rattle.lent.proofs.Thin.{refl, List, [], _∷_, URA, Name, Fn, tyUnit, tyRef, erased, imm, mut, ent, emp, Model, Routine, Env, Heap, GhostRules, Running, !, u8, pointee, sliceTy, row, Word, Data, Part, by-value, struct-part, Outcome, whole, Form, form, silent, by, ref, refmut, slice, slicemut, is-part, owed-of, typed-of, part, sets, copies, copies-mut, stores, slices, lends, back, nothing-more, value, val, share, shares, gives, calls, stays, goes, finish, takes, Asking, Giving, Saying, Each, callee, function, thin, loc, fld, set, take, store, invoke, point-in, slice-of, Job, Proven, lawful}
+use Rattle.references.proofs.Thin.{refl, List, [], _∷_, URA, Name, Fn, tyUnit, tyRef, erased, imm, mut, ent, emp, Model, Routine, Env, Heap, GhostRules, Running, !, u8, pointee, sliceTy, row, Word, Data, Part, by-value, struct-part, Outcome, whole, Form, form, silent, by, ref, refmut, slice, slicemut, is-part, owed-of, typed-of, part, sets, copies, copies-mut, stores, slices, lends, back, nothing-more, value, val, share, shares, gives, calls, stays, goes, finish, takes, Asking, Giving, Saying, Each, callee, function, thin, loc, fld, set, take, store, invoke, point-in, slice-of, Job, Proven, lawful}
 
 module _ (N I U G Z Q X : Word) (S Nets C L F E : Data) (K J : Part) (P : Outcome (K ∷ (struct-part C) ∷ (struct-part L) ∷ (struct-part F) ∷ J ∷ [])) where
   abbrev form₁ : Form

@@ -1,7 +1,7 @@
 -- The law of a thin function: `fn Sends(settings: &S, nets: &Nets, number: N, clock: &mut C, links: &mut L, stand: &F, octets: &[u8], run: &[E], link: I, counter: Y, buffer: &mut [u8]) -> K { let s = *settings; let c = *clock; let l = *links; let v = *stand; let n = buffer.len(); let a: U = scope(link); let g: G = guard(settings, nets, number, c, l, v, octets, a, run); let p: P(K, C, L, J) = plan(g, s, c, l, link, counter, n); let w: X = place(number, p.3); write(&mut buffer, run, w); finish(buffer, p); *clock = p.1; *links = p.2; p.0 }`.
 -- It is one walk of that MIR, for any types and any contracts of the functions that are called. The author shows that each of them is asked for no more than what is known (`ok`), and that what they say comes to what the function says (`then`).
 -- Made by tools/laws/make. Assumes nothing.
-use Rattle.lent.proofs.Thin.{refl, ℕ, List, [], _∷_, length, URA, Name, Fn, tyUnit, tyInt, tyRef, erased, mut, w8, w64, ent, emp, Model, Routine, Env, Heap, GhostRules, Running, !, u8, sliceTy, row, Word, Data, Part, by-value, unsigned, struct-part, Outcome, whole, Form, form, silent, by, ref, refmut, slice, slicemut, is-part, owed-of, is-length, typed-of, part, sets, copies, copies-mut, stores, slices, relends, returned, nothing-more, value, val, share, shares, gives, calls, stays, goes, finish, takes, Asking, Giving, Saying, Each, callee, function, thin, loc, fld, set, take, store, invoke, point-in, slice-of, Job, Proven, lawful}
+use Rattle.references.proofs.Thin.{refl, ℕ, List, [], _∷_, length, URA, Name, Fn, tyUnit, tyInt, tyRef, erased, mut, w8, w64, ent, emp, Model, Routine, Env, Heap, GhostRules, Running, !, u8, sliceTy, row, Word, Data, Part, by-value, unsigned, struct-part, Outcome, whole, Form, form, silent, by, ref, refmut, slice, slicemut, is-part, owed-of, is-length, typed-of, part, sets, copies, copies-mut, stores, slices, relends, returned, nothing-more, value, val, share, shares, gives, calls, stays, goes, finish, takes, Asking, Giving, Saying, Each, callee, function, thin, loc, fld, set, take, store, invoke, point-in, slice-of, Job, Proven, lawful}
 
 module _ (N I Y U G X : Word) (S Nets C L F E : Data) (K J : Part) (P : Outcome (K ∷ (struct-part C) ∷ (struct-part L) ∷ J ∷ [])) where
   abbrev form₁ : Form

@@ -1,7 +1,7 @@
 -- The law of a thin function: `fn TimesTwo(settings: &S, nets: &Nets, number: N, clock: &mut C, links: &L, stand: &F, octets: &[u8], run: &[E], input: I, other: Y) -> K { let s = *settings; let c = *clock; let l = *links; let v = *stand; let a: U = scope(); let g: G = guard(settings, nets, number, c, l, v, octets, a, run); let p: P(K, C) = plan(g, s, c, input, other); *clock = p.1; p.0 }`.
 -- It is one walk of that MIR, for any types and any contracts of the functions that are called. The author shows that each of them is asked for no more than what is known (`ok`), and that what they say comes to what the function says (`then`).
 -- Made by tools/laws/make. Assumes nothing.
-use Rattle.lent.proofs.Thin.{refl, [], _∷_, URA, Name, Fn, ent, emp, Model, Routine, Env, Heap, GhostRules, Running, !, u8, row, Word, Data, Part, by-value, struct-part, Outcome, whole, Form, form, by, ref, refmut, slice, is-part, owed-of, typed-of, part, sets, copies, copies-mut, stores, nothing-more, val, share, shares, calls, stays, finish, takes, Asking, Giving, Saying, Each, callee, function, thin, loc, fld, set, take, store, invoke, Job, Proven, lawful}
+use Rattle.references.proofs.Thin.{refl, [], _∷_, URA, Name, Fn, ent, emp, Model, Routine, Env, Heap, GhostRules, Running, !, u8, row, Word, Data, Part, by-value, struct-part, Outcome, whole, Form, form, by, ref, refmut, slice, is-part, owed-of, typed-of, part, sets, copies, copies-mut, stores, nothing-more, val, share, shares, calls, stays, finish, takes, Asking, Giving, Saying, Each, callee, function, thin, loc, fld, set, take, store, invoke, Job, Proven, lawful}
 
 module _ (N I Y U G : Word) (S Nets C L F E : Data) (K : Part) (P : Outcome (K ∷ (struct-part C) ∷ [])) where
   abbrev form₁ : Form

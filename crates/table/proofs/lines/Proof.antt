@@ -16,8 +16,8 @@ enum-told c = search needs
 
 returns : tie.Need-returns
 returns c =
-    let told = c .enum-told .given .1 in
-    told ∙ ends-at-a _ _ _ (sym told ∙ c .before .before .line-a .ensures)
+    let returned = c .enum-told .given .1 in
+    returned ∙ ends-at-a _ _ _ (sym returned ∙ c .before .before .line-a .ensures)
 
 line-b-requires : tie.Need-line-b-requires
 line-b-requires c κs = search needs
@@ -31,8 +31,8 @@ enum-told-2 c = search needs
 returns-2 : tie.Need-returns-2
 returns-2 c =
     let a = sym (c .before .before .before .before .a .given .1) ∙ c .before .before .before .before .before .before .line-a .ensures in
-    let told = c .enum-told2 .given .1 in
-    told ∙ ends-at-b _ _ _ _ a (sym told ∙ c .before .before .line-b .ensures)
+    let returned = c .enum-told2 .given .1 in
+    returned ∙ ends-at-b _ _ _ _ a (sym returned ∙ c .before .before .line-b .ensures)
 
 line-c-requires : tie.Need-line-c-requires
 line-c-requires c κs = search needs

@@ -8,13 +8,13 @@ use lib.ListN.{getD}
 use Rattle.lists.specs.Lists.{part}
 use Rattle.table.specs.declared.Entry.{Entry}
 use Rattle.table.specs.declared.marks.Marks.{Marks}
-use Rattle.table.specs.declared.run.Scan.{Scan}
-use Rattle.table.specs.declared.run.Words.{Words}
-use Rattle.table.specs.declared.run.Stretch.{Stretch}
+use Rattle.table.specs.declared.entries.Scan.{Scan}
+use Rattle.table.specs.declared.entries.Words.{Words}
+use Rattle.table.specs.declared.entries.Stretch.{Stretch}
 use Rattle.table.specs.Forms.{every, everyFrom, upFrom}
 use Rattle.table.specs.Marks.{bit}
 use Rattle.table.specs.Entry.{entryInRange}
-use Rattle.table.specs.code.Loops.{InRun}
+use Rattle.table.specs.code.Loops.{InEntries}
 
 -- the word with an id's mark
 abbrev pub wordOf : Marks → (id : ℕ) → ℕ
@@ -33,23 +33,23 @@ pub record InWord (k : ℕ) (w : Scan) : Type 0 where
   pub rising : w .first ≤ w .end
   pub before : 64 * k ≤ w .end - w .first
 
--- its ids: 64, or those that are left
+-- its ids: 64, or the remaining ones
 abbrev pub stretchOf : (k : ℕ) → Scan → Stretch
 stretchOf k w =
     let first = w .first + 64 * k in
     record { first = first; end = cond (ltb (w .end - first) 64) (w .end) (first + 64); good = true; word = wordOf (w .marks) (64 * k) }
 
--- all words lie in the run; word k does; and a stretch does
-pub record WordsFit (v : Words) (run : List Entry) : Type 0 where
-  pub places : InRun (v .scan .first) (v .scan .end) run
+-- all words lie in the host table; word k does; and a stretch does
+pub record WordsFit (v : Words) (entries : List Entry) : Type 0 where
+  pub places : InEntries (v .scan .first) (v .scan .end) entries
   pub all : v ≡ byWords (v .scan)
 
-pub record WordFits (k : ℕ) (v : Words) (run : List Entry) : Type 0 where
-  pub places : InRun (v .scan .first) (v .scan .end) run
+pub record WordFits (k : ℕ) (v : Words) (entries : List Entry) : Type 0 where
+  pub places : InEntries (v .scan .first) (v .scan .end) entries
   pub word : InWord k (v .scan)
 
-pub record StretchFits (w : Stretch) (run : List Entry) : Type 0 where
-  pub places : InRun (w .first) (w .end) run
+pub record StretchFits (w : Stretch) (entries : List Entry) : Type 0 where
+  pub places : InEntries (w .first) (w .end) entries
   pub good : w .good ≡ true
 
 -- the entry of an id has its mark in the word, and is in range
@@ -57,4 +57,4 @@ abbrev pub asInWord : (word id : ℕ) → Entry → Bool
 asInWord word id e = eqb (e .here) (bit word (id % 64)) && entryInRange e
 
 abbrev pub allAsInWord : Stretch → List Entry → Bool
-allAsInWord w run = everyFrom 0 (asInWord (w .word)) (part (w .first) (w .end - w .first) run)
+allAsInWord w entries = everyFrom 0 (asInWord (w .word)) (part (w .first) (w .end - w .first) entries)

@@ -1,4 +1,4 @@
--- What the code needs: what was put at a place, and how much room it takes. No rule stands here.
+-- For the code: what was written at a place, and how much room it takes. There is no rule here.
 use mathlib.Core.Path.{_≡_}
 use mathlib.Core.List.{List, _∷_, _++_}
 use Prim.Native.Nat.{ℕ, _+_, _≤_}
@@ -10,7 +10,7 @@ use Rattle.text.specs.Words.{space}
 use Rattle.text.specs.Numbers.{Numbers}
 use Rattle.text.specs.Text.{hello, rowLine}
 
--- xs put at a place: the place behind it, which the buffer has room for, and the buffer, as long as it was
+-- xs written at a place: the place after it, for which the buffer has room, and the buffer, of the same length
 pub record Put (before after : List ℕ) (at next : ℕ) (xs : List ℕ) : Type 0 where
   pub behind : next ≡ at + length xs
   pub inside : next ≤ length before

@@ -1,4 +1,4 @@
--- What the reader's code needs: the numbers as the code holds them, and what it tells of the lines behind the first and of the whole text. No rule stands here.
+-- For the reader's code: the numbers as the code has them, and what it returns for the lines after the first and for the full text. There is no rule here.
 use mathlib.Core.Path.{_≡_}
 use mathlib.Core.Bool.{Bool, true, cond, _&&_}
 use mathlib.Core.List.{List, _++_}
@@ -31,17 +31,17 @@ mostLength = 1032
 abbrev pub signedOf : (negative : Bool) (size : ℕ) → ℤ
 signedOf negative size = cond negative (negℤ (pos size)) (pos size)
 
-abbrev pub rowTold : Scanned.Row → Row
-rowTold r = record { delay = r .delay; offset = signedOf (r .negative) (r .size) }
+abbrev pub rowReturned : Scanned.Row → Row
+rowReturned r = record { delay = r .delay; offset = signedOf (r .negative) (r .size) }
 
-abbrev pub firstTold : First → List Row → Numbers
-firstTold f rows =
+abbrev pub firstReturned : First → List Row → Numbers
+firstReturned f rows =
     record { date = f .date; time = f .time; tsp = f .tsp; base = f .base; count = f .count; rows = rows }
 
 abbrev pub rowOctets : Row → List ℕ
 rowOctets r = two (r .delay) ++ two (bits16 (r .offset))
 
--- a row put in the place of host i, if it and those in front of it fit
+-- a row written to the place of host i, if it and those before it fit
 pub record RowPut (before after : List ℕ) (fit : Bool) (i : ℕ) (row : Row) (r : Bool) : Type 0 where
   pub fits : r ≡ (fit && (ltb i mostHosts && rowFits row))
   pub same : length after ≡ length before

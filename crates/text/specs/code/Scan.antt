@@ -1,4 +1,4 @@
--- What the reader's code needs: large numbers that stand for larger ones, and what it tells of the words of a line. No rule stands here.
+-- For the reader's code: large numbers that represent larger ones, and what it returns for the words of a line. There is no rule here.
 use mathlib.Core.Path.{_≡_}
 use mathlib.Core.Bool.{true, false, cond}
 use mathlib.Core.List.{List, [], _∷_}
@@ -18,7 +18,7 @@ use Rattle.text.specs.Text.{wordAt, firstTests, rowTests}
 abbrev pub large : ℕ
 large = 2 ^ 63
 
--- a number of the code stands for a number of any length: they are equal, or both large
+-- a number of the code represents a number of any length: they are equal, or both large
 abbrev pub Stands : (r n : ℕ) → Type 0
 Stands r n = min r large ≡ min n large
 
@@ -45,7 +45,7 @@ pub record OffsetRead (s : List ℕ) (r : Offset) : Type 0 where
   pub sign : isSigned s ≡ true → r .negative ≡ isNegative s
   pub number : isSigned s ≡ true → Stands (r .size) (size s)
 
--- the first word, with another behind it
+-- the first word, with another after it
 pub record FieldGood (s : List ℕ) (r : Field) : Type 0 where
   pub word : List ℕ
   pub split : words s ≡ word ∷ words (drop (r .next) s)
@@ -83,7 +83,7 @@ pub record RowRead (ws : List (List ℕ)) (r : Row) : Type 0 where
   pub form : r .form ≡ pass rowTests ws
   pub good : r .form ≡ true → RowGood ws r
 
--- the first line, behind its first word
+-- the first line, after its first word
 pub record FirstGood (ws : List (List ℕ)) (r : First) : Type 0 where
   pub date : Stands (r .date) (value (wordAt ws 0))
   pub time : Stands (r .time) (value (wordAt ws 1))
@@ -95,7 +95,7 @@ pub record FirstRead (ws : List (List ℕ)) (r : First) : Type 0 where
   pub form : r .form ≡ pass (isNumeral ∷ isNumeral ∷ isNumeral ∷ isNumeral ∷ isNumeral ∷ []) ws
   pub good : r .form ≡ true → FirstGood ws r
 
--- the whole of it
+-- all of it
 pub record LineRead (ws : List (List ℕ)) (r : First) : Type 0 where
   pub form : r .form ≡ pass firstTests ws
   pub good : r .form ≡ true → FirstGood (drop 1 ws) r

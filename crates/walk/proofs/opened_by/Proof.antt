@@ -23,8 +23,8 @@ enum-known-p c = search needs
 length-requires : tie.Need-length-requires
 length-requires c κs = search needs
 
-tells-place-requires : tie.Need-tells-place-requires
-tells-place-requires c κs = search needs
+returns-place-requires : tie.Need-returns-place-requires
+returns-place-requires c κs = search needs
 
 opened-on-requires : tie.Need-opened-on-requires
 opened-on-requires c κs =
@@ -41,7 +41,7 @@ unfolding opening
 returns-2 c =
     let a = c .before .before .before .before .before .before .before .before .args in
     let fits : Fits (a .s) (a .packet .now) (Good (c .before .before .before .before .p .given .0 .0)) = subst (Fits (a .s) (a .packet .now)) (sym (c .before .before .before .before .before .before .inspect .ensures .0) ∙ c .before .before .before .before .p .given .1) (inspected-fits (a .s) (a .link) (a .packet .now)) in
-    (rw (sym (c .before .before .before .before .before .before .inspect .ensures .0) ∙ c .before .before .before .before .p .given .1, c .before .tells-place .ensures, c .opened-on .ensures, c .before .before .length .ensures ∙ fits .whole), omega (arith, c .before .before .length .ensures, c .before .before .before .known-told2 .given))
+    (rw (sym (c .before .before .before .before .before .before .inspect .ensures .0) ∙ c .before .before .before .before .p .given .1, c .before .returns-place .ensures, c .opened-on .ensures, c .before .before .length .ensures ∙ fits .whole), omega (arith, c .before .before .length .ensures, c .before .before .before .known-told2 .given))
 
 pub opened-by-spec : {M : Type 1} → statement M
 opened-by-spec =
@@ -52,7 +52,7 @@ opened-by-spec =
     plainly-requires
     enum-known-p
     length-requires
-    tells-place-requires
+    returns-place-requires
     opened-on-requires
     returns
     returns-2)

@@ -1,4 +1,4 @@
--- What the code of a walk has from the guard, and how it has an opening: a refusal of the guard's, or what the packet comes to.
+-- For the code of a walk: what the guard ensures, and an opening: the guard's refusal, or the result for the packet.
 use mathlib.Core.Path.{_≡_}
 use mathlib.Core.Bool.{true, cond, not}
 use mathlib.Core.List.{List}
@@ -7,19 +7,19 @@ use lib.ListN.{length}
 use Rattle.answer.specs.declared.Answer.{Answer}
 use Rattle.clock.specs.declared.Clock.{Clock}
 use Rattle.clock.specs.Clock.{clockInRange}
-use Rattle.class_table.specs.declared.ClassTable.{ClassTable}
+use Rattle.net_table.specs.declared.NetTable.{NetTable}
 use Rattle.host.specs.declared.Settings.{Settings}
 use Rattle.host.specs.declared.walk.Walk.{Walk}
 use Rattle.host.specs.Settings.{settingsGood}
 use Rattle.host.specs.Walk.{walkInRange}
 use Rattle.host.specs.Guard.{done}
 use Rattle.host.specs.Reply.{plainly}
-use Rattle.host.specs.code.Told.{RowsBelow}
+use Rattle.host.specs.code.Returned.{RowsBelow}
 use Rattle.walk.specs.declared.Opening.{Opening}
 use Rattle.walk.specs.Opening.{opening}
 
 -- a host whose walk may go on
-pub record Steady (s : Settings) (t : ClassTable) (c : Clock) (w : Walk) (copy : List ℕ) : Type 0 where
+pub record Steady (s : Settings) (t : NetTable) (c : Clock) (w : Walk) (copy : List ℕ) : Type 0 where
   pub settings : settingsGood s ≡ true
   pub rows : RowsBelow t s
   pub clock : clockInRange c ≡ true

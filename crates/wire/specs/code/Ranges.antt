@@ -30,7 +30,7 @@ pub record AddressFits (a : Address) : Type 0 where
   pub third : a .third < 256
   pub fourth : a .fourth < 256
 
--- what a HELLO carries of a packet, but for its octets ADDRESS-OFFSET and NHOSTS
+-- what a HELLO has of a packet, except its octets ADDRESS-OFFSET and NHOSTS
 pub record PacketFits (p : Packet) : Type 0 where
   pub date : p .date .0 < 2 ^ 16
   pub time : Four (p .time .0)

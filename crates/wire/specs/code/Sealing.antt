@@ -1,4 +1,4 @@
--- How a message comes into a lent buffer: each host's report is put in its place, then the rest is filled in around the reports.
+-- How a message is written into a borrowed buffer: first each host's report, then the rest around the reports.
 use mathlib.Core.List.{List, [], _∷_, _++_}
 use Prim.Native.Nat.{ℕ, suc, _+_, _*_}
 use lib.ListN.{take, drop}
@@ -9,7 +9,7 @@ use Rattle.wire.specs.declared.Packet.{Packet}
 use Rattle.wire.specs.declared.Report.{Report}
 use Rattle.wire.specs.Octets.{two}
 use Rattle.wire.specs.Ip.{headerLength, header}
-use Rattle.wire.specs.Hello.{fixedLength, reportLength, reportPlace, helloLength, reportOctets, helloBehind}
+use Rattle.wire.specs.Hello.{fixedLength, reportLength, reportPlace, helloLength, reportOctets, helloRest}
 use Rattle.wire.specs.Packet.{helloOf, packetLength}
 
 -- ---- the reports
@@ -28,12 +28,12 @@ withReports i (r ∷ rs) b = withReports (suc i) rs (withReport i r b)
 
 -- ---- the rest
 
--- what stands behind the checksum: the fixed part, filled in, and the reports as they stand
-abbrev pub sealedBehind : Packet → List ℕ → List ℕ
-sealedBehind p b = helloBehind p [] ++ take (reportLength * p .nhosts) (drop fixedLength b)
+-- the octets after the checksum: the fixed part, filled in, and the reports as they are
+abbrev pub sealedRest : Packet → List ℕ → List ℕ
+sealedRest p b = helloRest p [] ++ take (reportLength * p .nhosts) (drop fixedLength b)
 
 unfoldable pub sealedHello : Packet → List ℕ → List ℕ
-sealedHello p b = two (checksumOf (sealedBehind p b)) ++ sealedBehind p b ++ drop (helloLength (p .nhosts)) b
+sealedHello p b = two (checksumOf (sealedRest p b)) ++ sealedRest p b ++ drop (helloLength (p .nhosts)) b
 
 -- SEND-4: the octets after the message stay
 unfoldable pub sealed : (destination : Address) → Packet → List ℕ → List ℕ

@@ -3,24 +3,24 @@ use borrow.Author.Needs.{needs}
 use mathlib.Core.Path.{_≡_, refl, sym, ap, _∙_}
 use mathlib.Core.Bool.{true, false}
 use Rattle.lists.proofs.Tests.{is-not, is-so}
-use Rattle.class_table.specs.Table.{tableBad}
-use Rattle.bench.specs.Guard.{allLent}
+use Rattle.net_table.specs.Table.{tableBad}
+use Rattle.bench.specs.Guard.{lengthsFit}
 use Rattle.bench.proofs.guard.rest_tested.Statement.{statement}
 use Rattle.bench.proofs.guard.rest_tested.Tie as tie
 
-all-lent-requires : tie.Need-all-lent-requires
-all-lent-requires c κs = search needs
+lengths-fit-requires : tie.Need-lengths-fit-requires
+lengths-fit-requires c κs = search needs
 
 returns : tie.Need-returns
 returns c =
     let a = c .before .before .args in
-    let x : allLent (a .h) (a .n) ≡ false = sym (c .before .all-lent .ensures) ∙ is-not _ (c .if1 .taken) in
+    let x : lengthsFit (a .h) (a .n) ≡ false = sym (c .before .lengths-fit .ensures) ∙ is-not _ (c .if1 .taken) in
     rw x
 
 returns-2 : tie.Need-returns-2
 returns-2 c =
     let a = c .before .before .before .args in
-    let x : allLent (a .h) (a .n) ≡ true = sym (c .before .before .all-lent .ensures) ∙ is-so _ (c .before .if1 .left) in
+    let x : lengthsFit (a .h) (a .n) ≡ true = sym (c .before .before .lengths-fit .ensures) ∙ is-so _ (c .before .if1 .left) in
     rw (x, is-not (a .besides) (c .if2 .taken))
 
 is-bad-requires : tie.Need-is-bad-requires
@@ -29,17 +29,17 @@ is-bad-requires c κs = search needs
 returns-3 : tie.Need-returns-3
 returns-3 c =
     let a = c .before .before .before .before .before .args in
-    let x : allLent (a .h) (a .n) ≡ true = sym (c .before .before .before .before .all-lent .ensures) ∙ is-so _ (c .before .before .before .if1 .left) in
+    let x : lengthsFit (a .h) (a .n) ≡ true = sym (c .before .before .before .before .lengths-fit .ensures) ∙ is-so _ (c .before .before .before .if1 .left) in
     let y : tableBad (a .t) ≡ true = sym (c .before .is-bad .ensures) ∙ c .if3 .taken in
     rw (x, is-so (a .besides) (c .before .before .if2 .left), y)
 
 returns-4 : tie.Need-returns-4
 returns-4 c =
     let a = c .before .before .before .before .before .args in
-    let x : allLent (a .h) (a .n) ≡ true = sym (c .before .before .before .before .all-lent .ensures) ∙ is-so _ (c .before .before .before .if1 .left) in
+    let x : lengthsFit (a .h) (a .n) ≡ true = sym (c .before .before .before .before .lengths-fit .ensures) ∙ is-so _ (c .before .before .before .if1 .left) in
     let y : tableBad (a .t) ≡ false = sym (c .before .is-bad .ensures) ∙ c .if3 .left in
     rw (x, is-so (a .besides) (c .before .before .if2 .left), y)
 
 pub rest-tested-spec : {M : Type 1} → statement M
 rest-tested-spec =
-    tie.close (tie.spec all-lent-requires returns returns-2 is-bad-requires returns-3 returns-4)
+    tie.close (tie.spec lengths-fit-requires returns returns-2 is-bad-requires returns-3 returns-4)

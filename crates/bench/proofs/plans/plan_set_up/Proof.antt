@@ -13,8 +13,8 @@ use Rattle.bench.proofs.Guards.{passed-all}
 use Rattle.bench.proofs.plans.plan_set_up.Statement.{statement}
 use Rattle.bench.proofs.plans.plan_set_up.Tie as tie
 
-abbrev lengths : (hosts copies run slots answers : ℕ) → Lengths
-lengths hosts copies run slots answers = record { run = run; hosts = hosts; copies = copies; slots = slots; answers = answers }
+abbrev lengths : (hosts copies entries slots answers : ℕ) → Lengths
+lengths hosts copies entries slots answers = record { entries = entries; hosts = hosts; copies = copies; slots = slots; answers = answers }
 
 set-up-tested-requires : tie.Need-set-up-tested-requires
 set-up-tested-requires c κs = search needs
@@ -28,14 +28,14 @@ sets-none-requires c κs = search needs
 returns : tie.Need-returns
 returns c =
     let a = c .before .before .before .before .before .args in
-    let x : passes (tested true (a .t) (a .file .now) (lengths (a .hosts) (a .copies) (a .run) (a .slots) (a .answers))) ≡ false = ap passes (sym (c .before .before .before .set-up-tested .ensures)) ∙ sym (c .before .before .passes .ensures) ∙ is-not _ (c .before .if1 .taken) in
+    let x : passes (tested true (a .t) (a .file .now) (lengths (a .hosts) (a .copies) (a .entries) (a .slots) (a .answers))) ≡ false = ap passes (sym (c .before .before .before .set-up-tested .ensures)) ∙ sym (c .before .before .passes .ensures) ∙ is-not _ (c .before .if1 .taken) in
     rw x (c .sets-none .ensures ∙ rw (c .before .before .before .set-up-tested .ensures))
 
 read-header-requires : tie.Need-read-header-requires
 read-header-requires c κs =
     let a = c .before .before .before .before .args in
-    let x : passes (tested true (a .t) (a .file .now) (lengths (a .hosts) (a .copies) (a .run) (a .slots) (a .answers))) ≡ true = ap passes (sym (c .before .before .set-up-tested .ensures)) ∙ sym (c .before .passes .ensures) ∙ is-so _ (c .if1 .left) in
-    header-there (a .file .now) (passed-all true (a .t) (a .file .now) (lengths (a .hosts) (a .copies) (a .run) (a .slots) (a .answers)) x .header-good) .0
+    let x : passes (tested true (a .t) (a .file .now) (lengths (a .hosts) (a .copies) (a .entries) (a .slots) (a .answers))) ≡ true = ap passes (sym (c .before .before .set-up-tested .ensures)) ∙ sym (c .before .passes .ensures) ∙ is-so _ (c .if1 .left) in
+    header-there (a .file .now) (passed-all true (a .t) (a .file .now) (lengths (a .hosts) (a .copies) (a .entries) (a .slots) (a .answers)) x .header-good) .0
 
 sets-all-requires : tie.Need-sets-all-requires
 sets-all-requires c κs = search needs
@@ -43,7 +43,7 @@ sets-all-requires c κs = search needs
 returns-2 : tie.Need-returns-2
 returns-2 c =
     let a = c .before .before .before .before .before .before .args in
-    let x : passes (tested true (a .t) (a .file .now) (lengths (a .hosts) (a .copies) (a .run) (a .slots) (a .answers))) ≡ true = ap passes (sym (c .before .before .before .before .set-up-tested .ensures)) ∙ sym (c .before .before .before .passes .ensures) ∙ is-so _ (c .before .before .if1 .left) in
+    let x : passes (tested true (a .t) (a .file .now) (lengths (a .hosts) (a .copies) (a .entries) (a .slots) (a .answers))) ≡ true = ap passes (sym (c .before .before .before .before .set-up-tested .ensures)) ∙ sym (c .before .before .before .passes .ensures) ∙ is-so _ (c .before .before .if1 .left) in
     rw x (c .sets-all .ensures ∙ rw (c .before .before .before .before .set-up-tested .ensures, c .before .read-header .ensures))
 
 pub plan-set-up-spec : {M : Type 1} → statement M

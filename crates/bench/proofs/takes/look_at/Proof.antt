@@ -6,19 +6,19 @@ use native.Mathlib.Omega.{arith}
 use base.Logic.{emp, id⊢}
 use contract.Monad.{fact, factI}
 use lib.ListN.{length}
-use Rattle.lent.proofs.Words.{by-value, struct-part}
-use Rattle.lent.proofs.Outcomes.{whole}
+use Rattle.references.proofs.Words.{by-value, struct-part}
+use Rattle.references.proofs.Outcomes.{whole}
 use Rattle.exports.proofs.made.LooksAt.{proof}
 use Rattle.clock.proofs.Types.{clock, counter}
-use Rattle.class_table.proofs.Types.{table}
+use Rattle.net_table.proofs.Types.{table}
 use Rattle.table.proofs.Types.{entry}
 use Rattle.host.specs.Guard.{longest}
-use Rattle.host.specs.Lent.{lent}
+use Rattle.host.specs.CallState.{callState}
 use Rattle.calls.specs.Perform.{perform}
 use Rattle.calls.specs.Perform as definition
 use Rattle.bench_file.specs.Absent.{slots}
 use Rattle.bench.specs.Slots.{roomPlace}
-use Rattle.bench.specs.code.Left.{leftOf}
+use Rattle.bench.specs.code.HostAfter.{afterOf}
 use Rattle.bench.specs.code.States.{StateAt}
 use Rattle.host.proofs.Types.{settings, links, walk}
 use Rattle.bench.specs.code.Takes.{TakeFits, LookLeaves}
@@ -49,19 +49,19 @@ look-at-spec 𝓤 H 𝓜 𝓖 𝓡 =
     (λ n. fact 𝓤 (n < slots)) (λ n r. r ≡ roomPlace n)
     (λ n m. fact 𝓤 ((n < slots) × (m ≤ longest))) (λ n m r. r ≡ roomPlace n + m)
     (λ hosts i. fact 𝓤 (i < length hosts)) (λ hosts i v. StateAt hosts i v)
-    (λ s t k c l v o run i p. emp 𝓤) (λ s t k c l v o run i p r. r ≡ leftOf (perform (definition.inspect i p) (lent s t k c l v o run)))
-    (λ t hosts copies run octets w. TakeFits w hosts copies octets)
-    (λ t hosts copies run octets w r. LookLeaves w t hosts copies run octets r)
-    (λ t hosts copies run octets w a. factI 𝓤 _ _ (a .host))
-    (λ t hosts copies run octets w a low low-is. factI 𝓤 _ _ (a .host))
-    (λ t hosts copies run octets w a low high low-is high-is. factI 𝓤 _ _ (a .slot))
-    (λ t hosts copies run octets w a low high here low-is high-is here-is. factI 𝓤 _ _ (a .slot, a .size))
-    (λ t hosts copies run octets w a low high here there low-is high-is here-is there-is. factI 𝓤 _ _ (a .there))
-    (λ t hosts copies run octets w a low high here there v low-is high-is here-is there-is v-is. (rw (low-is, high-is) (omega arith), rw high-is (a .copy)))
-    (λ t hosts copies run octets w a low high here there v low-is high-is here-is there-is v-is. (rw (here-is, there-is) (omega arith), rw there-is (omega (arith, a .slot, a .size, a .room))))
-    (λ t hosts copies run octets w a low high here there v low-is high-is here-is there-is v-is. id⊢ 𝓤 _)
-    (λ t hosts copies run octets w a low high here there v r low-is high-is here-is there-is v-is r-is.
-    λ d. r-is ∙ ap leftOf (same (λ (p : List ℕ). definition.inspect (w .link) p) w t hosts copies run octets low high here there low-is high-is here-is there-is v d (v-is d)))
+    (λ s t k c l v o entries i p. emp 𝓤) (λ s t k c l v o entries i p r. r ≡ afterOf (perform (definition.inspect i p) (callState s t k c l v o entries)))
+    (λ t hosts copies entries octets w. TakeFits w hosts copies octets)
+    (λ t hosts copies entries octets w r. LookLeaves w t hosts copies entries octets r)
+    (λ t hosts copies entries octets w a. factI 𝓤 _ _ (a .host))
+    (λ t hosts copies entries octets w a low low-is. factI 𝓤 _ _ (a .host))
+    (λ t hosts copies entries octets w a low high low-is high-is. factI 𝓤 _ _ (a .slot))
+    (λ t hosts copies entries octets w a low high here low-is high-is here-is. factI 𝓤 _ _ (a .slot, a .size))
+    (λ t hosts copies entries octets w a low high here there low-is high-is here-is there-is. factI 𝓤 _ _ (a .there))
+    (λ t hosts copies entries octets w a low high here there v low-is high-is here-is there-is v-is. (rw (low-is, high-is) (omega arith), rw high-is (a .copy)))
+    (λ t hosts copies entries octets w a low high here there v low-is high-is here-is there-is v-is. (rw (here-is, there-is) (omega arith), rw there-is (omega (arith, a .slot, a .size, a .room))))
+    (λ t hosts copies entries octets w a low high here there v low-is high-is here-is there-is v-is. id⊢ 𝓤 _)
+    (λ t hosts copies entries octets w a low high here there v r low-is high-is here-is there-is v-is r-is.
+    λ d. r-is ∙ ap afterOf (same (λ (p : List ℕ). definition.inspect (w .link) p) w t hosts copies entries octets low high here there low-is high-is here-is there-is v d (v-is d)))
     code.env #look-at froms.name tos.name heres.name theres.name states.name calls.name
     froms.routine tos.routine heres.routine theres.routine states.routine calls.routine
     code.calls-bench·places·copy-start code.calls-bench·places·copy-end code.calls-bench·slots·room-start code.calls-bench·takes·packet-end code.calls-bench·states·state-at code.calls-bench·at-host·inspected

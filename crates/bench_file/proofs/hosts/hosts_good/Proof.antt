@@ -7,13 +7,13 @@ use native.Mathlib.Omega.{arith}
 use borrow.Author.Needs.{needs}
 use Rattle.lists.proofs.Tests.{is-not, is-so}
 use Rattle.table.specs.Forms.{every, upFrom}
-use Rattle.class_table.specs.declared.ClassTable.{ClassTable}
+use Rattle.net_table.specs.declared.NetTable.{NetTable}
 use Rattle.bench_file.specs.Settings.{hostRecord, hostGood, hostsGood}
 use Rattle.bench_file.proofs.Each.{each-good, each-bad, each-done}
 use Rattle.bench_file.proofs.hosts.hosts_good.Statement.{statement}
 use Rattle.bench_file.proofs.hosts.hosts_good.Tie as tie
 
-abbrev test : ClassTable → List ℕ → ℕ → Bool
+abbrev test : NetTable → List ℕ → ℕ → Bool
 test t file k = hostGood t (hostRecord file k)
 
 abbrev Inv-loop : tie.InvT-loop

@@ -20,13 +20,13 @@ our-reading-requires c κs =
     let t = c .before .before .pre .ready (sym (c .before .is-done .ensures) ∙ is-so _ (c .if1 .left)) in
     (t .settings, t .clock refl)
 
-tells-time-requires : tie.Need-tells-time-requires
-tells-time-requires c κs = search needs
+returns-time-requires : tie.Need-returns-time-requires
+returns-time-requires c κs = search needs
 
 returns-2 : tie.Need-returns-2
 unfolding definition.read
 returns-2 c t l w o e =
-    rw (sym (c .before .before .before .before .before .is-done .ensures) ∙ is-so _ (c .before .before .before .before .if1 .left), c .tells-time .ensures, ← c .before .before .before .our-reading .ensures)
+    rw (sym (c .before .before .before .before .before .is-done .ensures) ∙ is-so _ (c .before .before .before .before .if1 .left), c .returns-time .ensures, ← c .before .before .before .our-reading .ensures)
 
 pub read-spec : {M : Type 1} → statement M
-read-spec = tie.close (tie.spec is-done-requires plainly-requires returns our-reading-requires tells-time-requires returns-2)
+read-spec = tie.close (tie.spec is-done-requires plainly-requires returns our-reading-requires returns-time-requires returns-2)

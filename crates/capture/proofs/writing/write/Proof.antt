@@ -6,15 +6,15 @@ use Rattle.lists.specs.Lists.{over}
 use Rattle.lists.proofs.Parts.{part-length}
 use Rattle.wire.specs.Octets.{four}
 use Rattle.capture.specs.Search.{hits}
-use Rattle.capture.specs.Capture.{mendedCapture}
+use Rattle.capture.specs.Capture.{recoveredCapture}
 use lib.ListN.{length}
-use Rattle.capture.proofs.Outputs.{CaptureLeft, StretchesLeft, capture-long, capture-all, capture-fits, capture-more, capture-last, capture-whole, stretches-all, stretch-fits, stretches-more, stretches-last}
+use Rattle.capture.proofs.Outputs.{CaptureAfter, StretchesAfter, capture-long, capture-all, capture-fits, capture-more, capture-last, capture-whole, stretches-all, stretch-fits, stretches-more, stretches-last}
 use Rattle.capture.proofs.writing.write.Statement.{statement}
 use Rattle.capture.proofs.writing.write.Tie as tie
 
 abbrev Inv-loop : tie.InvT-loop
 Inv-loop input capture₀ stretches₀ hits at₀ place₀ to₀ end₀ capture stretches at place to end =
-    (at ≤ length input) × CaptureLeft input capture₀ capture at place to × StretchesLeft input stretches₀ stretches at end
+    (at ≤ length input) × CaptureAfter input capture₀ capture at place to × StretchesAfter input stretches₀ stretches at end
 
 abbrev μ-loop : tie.MeasureT-loop
 μ-loop input capture₀ stretches₀ hits at₀ place₀ to₀ end₀ capture stretches at place to end = length input - at
@@ -31,7 +31,7 @@ add-to c = omega (arith, c .before .before .before .before .before .before .befo
 loop-holds : tie.Need-loop-holds Inv-loop μ-loop
 loop-holds c =
     let input = c .before .before .before .before .before .before .before .args .input .now in
-    let fits : length (mendedCapture input) ≤ length (c .before .before .put-four .last .0) = omega (arith, c .before .before .before .before .before .before .before .pre .capture-fits) in
+    let fits : length (recoveredCapture input) ≤ length (c .before .before .put-four .last .0) = omega (arith, c .before .before .before .before .before .before .before .pre .capture-fits) in
     (omega arith, rw (c .before .before .before .before .before .before .before .pre .count) (capture-all input _ fits), stretches-all input _)
 
 next-requires : tie.Need-next-requires Inv-loop μ-loop

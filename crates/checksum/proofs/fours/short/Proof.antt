@@ -70,13 +70,13 @@ loop-again c =
 abbrev Joined : Type 0
 Joined = lts.Joined1 (four-reads.Asked, four-reads.Learnt, last-reads.Asked, last-reads.Learnt) reads.Pre reads.Post Inv-loop μ-loop
 
-abbrev Left : Joined → Type 0
-Left c =
+abbrev HostAfter : Joined → Type 0
+HostAfter c =
     let s = c .before .before .before .before .args .s .now in
     let j = c .if1 in
     (j .i ≤ length s) × (length s < j .i + 4) × (j .sum ≤ 2 ^ 32 * j .i) × Stands s (j .i) (j .sum)
 
-left : (c : Joined) → Left c
+left : (c : Joined) → HostAfter c
 left c =
     let l = c .before .before .loop in
     let s = c .before .before .before .before .args .s .now in

@@ -20,8 +20,8 @@ module _ (c : Clock) (e : clockInRange c ≡ true) where
       let s = sum (c .clock .0) (share c .0) in
       omega arith
 
-  left-off : Off (c .delta .0 -ℤ share c .0)
-  left-off =
+  after-off : Off (c .delta .0 -ℤ share c .0)
+  after-off =
       let r = range-says c e in
       let f = floor (c .delta .0) 128 (lit< tt) in
       let s = diff (c .delta .0) (share c .0) in
@@ -38,7 +38,7 @@ plus-requires c κs =
 minus-requires : tie.Need-minus-requires
 minus-requires c κs =
     let s = c .before .before .before .before in
-    rw (c .before .share .ensures) (off-fits _ (left-off (s .args .self) (s .pre)))
+    rw (c .before .share .ensures) (off-fits _ (after-off (s .args .self) (s .pre)))
 
 midnight-requires : tie.Need-midnight-requires
 midnight-requires c κs =

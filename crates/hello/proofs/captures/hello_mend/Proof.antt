@@ -3,8 +3,8 @@ use borrow.Author.Needs.{needs}
 use Rattle.hello.proofs.captures.hello_mend.Statement.{statement}
 use Rattle.hello.proofs.captures.hello_mend.Tie as tie
 
-mend-requires : tie.Need-mend-requires
-mend-requires c κs = search needs
+recover-requires : tie.Need-recover-requires
+recover-requires c κs = search needs
 
 number-requires : tie.Need-number-requires
 number-requires c κs = search needs
@@ -17,9 +17,9 @@ same-length-2 c = search needs
 
 returns : tie.Need-returns
 returns c =
-    let m = c .before .before .before .before .before .mend .ensures in
-    (rw (c .number .ensures, m .mended), m .capture, m .stretches)
+    let m = c .before .before .before .before .before .recover .ensures in
+    (rw (c .number .ensures, m .recovered), m .capture, m .stretches)
 
 pub hello-mend-spec : {M : Type 1} → statement M
 hello-mend-spec =
-    tie.close (tie.spec mend-requires number-requires same-length same-length-2 returns)
+    tie.close (tie.spec recover-requires number-requires same-length same-length-2 returns)

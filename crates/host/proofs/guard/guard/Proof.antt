@@ -2,17 +2,17 @@
 use mathlib.Core.Path.{_≡_, _∙_, ap, subst, sym}
 use base.Logic.{emp, id⊢}
 use contract.Monad.{fact, factI}
-use Rattle.lent.proofs.Words.{by-value, chosen-by-value, boolean}
-use Rattle.lent.proofs.Outcomes.{whole}
+use Rattle.references.proofs.Words.{by-value, chosen-by-value, boolean}
+use Rattle.references.proofs.Outcomes.{whole}
 use Rattle.shapes.proofs.made.Guards.{proof}
 use Rattle.clock.proofs.Types.{clock}
-use Rattle.class_table.proofs.Types.{table}
-use Rattle.table.specs.declared.run.Scan.{Scan}
-use Rattle.table.specs.code.Loops.{InRun, allInRange}
+use Rattle.net_table.proofs.Types.{table}
+use Rattle.table.specs.declared.entries.Scan.{Scan}
+use Rattle.table.specs.code.Loops.{InEntries, allInRange}
 use Rattle.table.proofs.Types.{scan, entry}
-use Rattle.table.proofs.run.all_in_range.Symbol as scans
-use Rattle.table.proofs.run.all_in_range.Met as scans-known
-use Rattle.host.specs.Lent.{host, lent}
+use Rattle.table.proofs.entries.all_in_range.Symbol as scans
+use Rattle.table.proofs.entries.all_in_range.Met as scans-known
+use Rattle.host.specs.CallState.{host, callState}
 use Rattle.host.specs.Guard.{guard}
 use Rattle.host.specs.code.Held.{held, judged}
 use Rattle.host.proofs.Types.{number, settings, links, walk, scope, answer}
@@ -30,14 +30,14 @@ unfolding code.routine
 guard-spec 𝓤 H 𝓜 𝓖 𝓡 =
     proof number (by-value clock) (by-value links) (by-value walk) (chosen-by-value scope) (by-value (whole scan)) boolean (chosen-by-value answer) settings table entry 𝓤 H 𝓜 𝓖 𝓡
     (λ s t k c l v o a n. emp 𝓤) (λ s t k c l v o a n w. w ≡ held a t k (host s c l) v o n)
-    (λ run w. fact 𝓤 (InRun (w .first) (w .end) run)) (λ run w good. good ≡ allInRange w run)
+    (λ entries w. fact 𝓤 (InEntries (w .first) (w .end) entries)) (λ entries w good. good ≡ allInRange w entries)
     (λ s t v a good. emp 𝓤) (λ s t v a good r. r ≡ judged s t v a good)
-    (λ s t k c l v o a run r. r ≡ guard a (lent s t k c l v o run))
-    (λ s t k c l v o a run. id⊢ 𝓤 _)
-    (λ s t k c l v o a run w w-is. factI 𝓤 _ _ (subst (λ (x : Scan). InRun (x .first) (x .end) run) (sym w-is) (held-in (lent s t k c l v o run) a)))
-    (λ s t k c l v o a run w good w-is good-is. id⊢ 𝓤 _)
-    (λ s t k c l v o a run w good r w-is good-is r-is.
-    r-is ∙ ap (judged s t v a) (good-is ∙ ap (λ (x : Scan). allInRange x run) w-is) ∙ guarded (lent s t k c l v o run) a)
+    (λ s t k c l v o a entries r. r ≡ guard a (callState s t k c l v o entries))
+    (λ s t k c l v o a entries. id⊢ 𝓤 _)
+    (λ s t k c l v o a entries w w-is. factI 𝓤 _ _ (subst (λ (x : Scan). InEntries (x .first) (x .end) entries) (sym w-is) (held-in (callState s t k c l v o entries) a)))
+    (λ s t k c l v o a entries w good w-is good-is. id⊢ 𝓤 _)
+    (λ s t k c l v o a entries w good r w-is good-is r-is.
+    r-is ∙ ap (judged s t v a) (good-is ∙ ap (λ (x : Scan). allInRange x entries) w-is) ∙ guarded (callState s t k c l v o entries) a)
     code.env #guard holds.name scans.name judges.name holds.routine scans.routine judges.routine
-    code.calls-host·guard·held code.calls-table·run·all-in-range code.calls-host·guard·judged (code.unfolded 𝓤 H 𝓜 𝓡)
+    code.calls-host·guard·held code.calls-table·entries·all-in-range code.calls-host·guard·judged (code.unfolded 𝓤 H 𝓜 𝓡)
     (holds-known.met 𝓤 H 𝓜 𝓖 𝓡) (scans-known.met 𝓤 H 𝓜 𝓖 𝓡) (judges-known.met 𝓤 H 𝓜 𝓖 𝓡)

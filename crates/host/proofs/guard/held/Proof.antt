@@ -27,15 +27,15 @@ returns-2 c =
     rw (sym (c .before .before .before .before .is-bad .ensures) ∙ c .before .before .before .if1 .left, sym (c .before .before .places-missing .ensures) ∙ c .before .if2 .taken)
     (c .settled2 .ensures)
 
-afresh-requires : tie.Need-afresh-requires
-afresh-requires c κs = search needs
+initialized-requires : tie.Need-initialized-requires
+initialized-requires c κs = search needs
 
 settled-requires-3 : tie.Need-settled-requires-3
 settled-requires-3 c κs = search needs
 
 returns-3 : tie.Need-returns-3
 returns-3 c =
-    rw (sym (c .before .before .before .before .before .before .is-bad .ensures) ∙ c .before .before .before .before .before .if1 .left, sym (c .before .before .before .before .places-missing .ensures) ∙ c .before .before .before .if2 .left, sym (c .before .before .afresh .ensures) ∙ c .before .if3 .taken)
+    rw (sym (c .before .before .before .before .before .before .is-bad .ensures) ∙ c .before .before .before .before .before .if1 .left, sym (c .before .before .before .before .places-missing .ensures) ∙ c .before .before .before .if2 .left, sym (c .before .before .initialized .ensures) ∙ c .before .if3 .taken)
     (c .settled3 .ensures)
 
 count-requires : tie.Need-count-requires
@@ -50,7 +50,7 @@ settled-requires-4 c κs = search needs
 returns-4 : tie.Need-returns-4
 returns-4 c =
     let links = c .before .before .before .count .ensures in
-    rw (sym (c .before .before .before .before .before .before .before .before .before .is-bad .ensures) ∙ c .before .before .before .before .before .before .before .before .if1 .left, sym (c .before .before .before .before .before .before .before .places-missing .ensures) ∙ c .before .before .before .before .before .before .if2 .left, sym (c .before .before .before .before .before .afresh .ensures) ∙ c .before .before .before .before .if3 .left, ← links, sym (c .before .before .names-link .ensures) ∙ is-not _ (c .before .if4 .taken))
+    rw (sym (c .before .before .before .before .before .before .before .before .before .is-bad .ensures) ∙ c .before .before .before .before .before .before .before .before .if1 .left, sym (c .before .before .before .before .before .before .before .places-missing .ensures) ∙ c .before .before .before .before .before .before .if2 .left, sym (c .before .before .before .before .before .initialized .ensures) ∙ c .before .before .before .before .if3 .left, ← links, sym (c .before .before .names-link .ensures) ∙ is-not _ (c .before .if4 .taken))
     (c .settled4 .ensures)
 
 host-count-requires : tie.Need-host-count-requires
@@ -59,15 +59,15 @@ host-count-requires c κs = search needs
 in-range-requires : tie.Need-in-range-requires
 in-range-requires c κs = search needs
 
-whole-scan-requires : tie.Need-whole-scan-requires
-whole-scan-requires c κs =
+full-scan-requires : tie.Need-full-scan-requires
+full-scan-requires c κs =
     let k = number-in _ _ (sym (c .before .before .before .before .before .before .before .before .places-missing .ensures) ∙ c .before .before .before .before .before .before .before .if2 .left) in
     (k, omega (arith, c .before .host-count .ensures), omega (arith, c .before .before .before .before .count .ensures))
 
 returns-5 : tie.Need-returns-5
 returns-5 c =
-    rw (sym (c .before .before .before .before .before .before .before .before .before .before .before .is-bad .ensures) ∙ c .before .before .before .before .before .before .before .before .before .before .if1 .left, sym (c .before .before .before .before .before .before .before .before .before .places-missing .ensures) ∙ c .before .before .before .before .before .before .before .before .if2 .left, sym (c .before .before .before .before .before .before .before .afresh .ensures) ∙ c .before .before .before .before .before .before .if3 .left, ← c .before .before .before .before .before .count .ensures, sym (c .before .before .before .before .names-link .ensures) ∙ is-so _ (c .before .before .before .if4 .left), ← c .before .before .host-count .ensures, ← c .before .in-range .ensures)
-    (c .whole-scan .ensures)
+    rw (sym (c .before .before .before .before .before .before .before .before .before .before .before .is-bad .ensures) ∙ c .before .before .before .before .before .before .before .before .before .before .if1 .left, sym (c .before .before .before .before .before .before .before .before .before .places-missing .ensures) ∙ c .before .before .before .before .before .before .before .before .if2 .left, sym (c .before .before .before .before .before .before .before .initialized .ensures) ∙ c .before .before .before .before .before .before .if3 .left, ← c .before .before .before .before .before .count .ensures, sym (c .before .before .before .before .names-link .ensures) ∙ is-so _ (c .before .before .before .if4 .left), ← c .before .before .host-count .ensures, ← c .before .in-range .ensures)
+    (c .full-scan .ensures)
 
 pub held-spec : {M : Type 1} → statement M
 held-spec =
@@ -79,7 +79,7 @@ held-spec =
     places-missing-requires
     settled-requires-2
     returns-2
-    afresh-requires
+    initialized-requires
     settled-requires-3
     returns-3
     count-requires
@@ -88,5 +88,5 @@ held-spec =
     returns-4
     host-count-requires
     in-range-requires
-    whole-scan-requires
+    full-scan-requires
     returns-5)

@@ -15,14 +15,14 @@ enum-known-q-2 c = search needs
 bits-requires : tie.Need-bits-requires
 bits-requires c κs = search needs
 
-tells-packet-requires : tie.Need-tells-packet-requires
-tells-packet-requires c κs = search needs
+returns-packet-requires : tie.Need-returns-packet-requires
+returns-packet-requires c κs = search needs
 
 returns : tie.Need-returns
 returns c = rw (c .before .before .q .given .1) (c .plainly .ensures)
 
 returns-2 : tie.Need-returns-2
-returns-2 c = rw (c .before .before .before .before .before .before .q2 .given .1, ← c .before .bits .ensures) (c .tells-packet .ensures)
+returns-2 c = rw (c .before .before .before .before .before .before .q2 .given .1, ← c .before .bits .ensures) (c .returns-packet .ensures)
 
 pub tells-spec : {M : Type 1} → statement M
 tells-spec =
@@ -32,6 +32,6 @@ tells-spec =
     plainly-requires
     enum-known-q-2
     bits-requires
-    tells-packet-requires
+    returns-packet-requires
     returns
     returns-2)

@@ -17,8 +17,8 @@ enum-told c = search needs
 enum-known-p : tie.Need-enum-known-p
 enum-known-p c = search needs
 
-held-good-requires : tie.Need-held-good-requires
-held-good-requires c κs =
+fields-good-requires : tie.Need-fields-good-requires
+fields-good-requires c κs =
     let a = c .before .before .before .before .before .before .args in
     subst (Fits (a .s) (a .packet .now)) (sym (c .before .before .before .inspect .ensures .0) ∙ c .before .p .given .1) (inspected-fits (a .s) (a .w .link) (a .packet .now))
 
@@ -26,7 +26,7 @@ returns : tie.Need-returns
 returns c = rw (sym (c .before .before .inspect .ensures .0) ∙ c .enum-told .given .1)
 
 returns-2 : tie.Need-returns-2
-returns-2 c = rw (sym (c .before .before .before .before .inspect .ensures .0) ∙ c .before .before .p .given .1) (c .held-good .ensures)
+returns-2 c = rw (sym (c .before .before .before .before .inspect .ensures .0) ∙ c .before .before .p .given .1) (c .fields-good .ensures)
 
 pub packet-good-spec : {M : Type 1} → statement M
 packet-good-spec =
@@ -36,6 +36,6 @@ packet-good-spec =
     inspect-requires
     enum-told
     enum-known-p
-    held-good-requires
+    fields-good-requires
     returns
     returns-2)

@@ -3,7 +3,7 @@ use mathlib.Core.Path.{sym, _∙_}
 use borrow.Author.Needs.{needs}
 use borrow.Author.Tests.{lt-leb, not-true, not-false}
 use Rattle.ntp.specs.Receive.{dispatched}
-use Rattle.ntp.proofs.Outcomes.{left-idle, failed, passed}
+use Rattle.ntp.proofs.Outcomes.{after-idle, failed, passed}
 use Rattle.ntp.proofs.receive.dispatched.Statement.{statement}
 use Rattle.ntp.proofs.receive.dispatched.Tie as tie
 
@@ -27,7 +27,7 @@ returns-2 : tie.Need-returns-2
 returns-2 c =
     let e = c .before .before .before .before in
     c .idle .ensures
-    ∙ left-idle _ _ _ _ (e .if1 .left) (c .before .before .before .dispatch .ensures) (sym (c .before .before .is-proc .ensures) ∙ not-true _ (c .before .if2 .taken))
+    ∙ after-idle _ _ _ _ (e .if1 .left) (c .before .before .before .dispatch .ensures) (sym (c .before .before .is-proc .ensures) ∙ not-true _ (c .before .if2 .taken))
 
 passes-requires : tie.Need-passes-requires
 passes-requires c κs = search needs

@@ -5,7 +5,7 @@ use Rattle.ntp.proofs.receive.is_proc.Statement.{statement}
 use Rattle.ntp.proofs.receive.is_proc.Tie as tie
 
 returns : tie.Need-returns
-returns c = proc-bits (c .before .before .args .told .0) (search needs)
+returns c = proc-bits (c .before .before .args .returned .0) (search needs)
 
 pub is-proc-spec : {M : Type 1} → statement M
 is-proc-spec = tie.close (tie.spec returns)

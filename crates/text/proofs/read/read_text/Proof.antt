@@ -9,7 +9,7 @@ use lib.ListN.{length}
 use lib.Seq.{length-take-le}
 use Rattle.text.specs.Numbers.{firstFits}
 use Rattle.text.specs.code.Scan.{large}
-use Rattle.text.specs.code.Reading.{firstTold}
+use Rattle.text.specs.code.Reading.{firstReturned}
 use Rattle.text.proofs.Verdict.{first-refused, rows-form-refused, count-refused, first-range, few, rows-range, text-read, nothing-read, part-rows}
 use borrow.Author.Needs.{needs}
 use Rattle.text.proofs.read.read_text.Statement.{statement}
@@ -115,7 +115,7 @@ returns-6 c =
     let s : length t < large = omega (arith, c .before .before .before .before .before .before .before .before .before .before .before .before .before .before .before .before .before .before .before .before .before .good .0) in
     let q = part-rows t m _ (e .result + 1) (r .result) (r .ensures) in
     let u = not-false (f .result .form) (c .before .before .before .before .before .before .before .before .before .before .before .before .before .if2 .left) in
-    let v : firstFits (firstTold (f .result) []) ≡ true = sym (c .before .before .before .first-fits .ensures) ∙ not-false _ (c .before .before .if5 .left) in
+    let v : firstFits (firstReturned (f .result) []) ≡ true = sym (c .before .before .before .first-fits .ensures) ∙ not-false _ (c .before .before .if5 .left) in
     rows-range t (e .result) (e .ensures) (f .result) (f .ensures) h m _ (r .result) q u s (not-false (r .result .form) (c .before .before .before .before .before .before .if3 .left)) (c .before .before .before .before .if4 .left) v (not-true (r .result .fit) (c .if6 .taken))
 
 mul-n : tie.Need-mul-n
@@ -129,7 +129,7 @@ mul-n c =
     let s : length t < large = omega (arith, c .before .before .before .before .before .before .before .before .before .before .before .before .before .before .before .before .before .before .before .before .before .good .0) in
     let q = part-rows t m _ (e .result + 1) (r .result) (r .ensures) in
     let u = not-false (f .result .form) (c .before .before .before .before .before .before .before .before .before .before .before .before .before .if2 .left) in
-    let v : firstFits (firstTold (f .result) []) ≡ true = sym (c .before .before .before .first-fits .ensures) ∙ not-false _ (c .before .before .if5 .left) in
+    let v : firstFits (firstReturned (f .result) []) ≡ true = sym (c .before .before .before .first-fits .ensures) ∙ not-false _ (c .before .before .if5 .left) in
     let w = few t (e .result) (e .ensures) (f .result) (f .ensures) h m _ (r .result) q u s (not-false (r .result .form) (c .before .before .before .before .before .before .if3 .left)) (c .before .before .before .before .if4 .left) v in
     omega arith
 
@@ -144,7 +144,7 @@ add-n c =
     let s : length t < large = omega (arith, c .before .before .before .before .before .before .before .before .before .before .before .before .before .before .before .before .before .before .before .before .before .good .0) in
     let q = part-rows t m _ (e .result + 1) (r .result) (r .ensures) in
     let u = not-false (f .result .form) (c .before .before .before .before .before .before .before .before .before .before .before .before .before .if2 .left) in
-    let v : firstFits (firstTold (f .result) []) ≡ true = sym (c .before .before .before .first-fits .ensures) ∙ not-false _ (c .before .before .if5 .left) in
+    let v : firstFits (firstReturned (f .result) []) ≡ true = sym (c .before .before .before .first-fits .ensures) ∙ not-false _ (c .before .before .if5 .left) in
     let w = few t (e .result) (e .ensures) (f .result) (f .ensures) h m _ (r .result) q u s (not-false (r .result .form) (c .before .before .before .before .before .before .if3 .left)) (c .before .before .before .before .if4 .left) v in
     omega arith
 
@@ -162,7 +162,7 @@ put-checksum-requires c κs =
     let s : length t < large = omega (arith, c .before .before .before .before .before .before .before .before .before .before .before .before .before .before .before .before .before .before .before .before .before .before .before .before .before .before .good .0) in
     let q = part-rows t m _ (e .result + 1) (r .result) (r .ensures) in
     let u = not-false (f .result .form) (c .before .before .before .before .before .before .before .before .before .before .before .before .before .before .before .before .before .before .if2 .left) in
-    let v : firstFits (firstTold (f .result) []) ≡ true = sym (c .before .before .before .before .before .before .before .before .first-fits .ensures) ∙ not-false _ (c .before .before .before .before .before .before .before .if5 .left) in
+    let v : firstFits (firstReturned (f .result) []) ≡ true = sym (c .before .before .before .before .before .before .before .before .first-fits .ensures) ∙ not-false _ (c .before .before .before .before .before .before .before .if5 .left) in
     let w = few t (e .result) (e .ensures) (f .result) (f .ensures) h m _ (r .result) q u s (not-false (r .result .form) (c .before .before .before .before .before .before .before .before .before .before .before .if3 .left)) (c .before .before .before .before .before .before .before .before .before .if4 .left) v in
     let z = r .ensures .same in omega (arith, c .before .before .before .before .before .before .before .before .before .before .before .before .before .before .before .before .before .before .before .before .before .before .before .before .before .before .pre)
 
@@ -180,7 +180,7 @@ returns-7 c =
     let s : length t < large = omega (arith, c .before .before .before .before .before .before .before .before .before .before .before .before .before .before .before .before .before .before .before .before .before .before .before .before .before .before .before .before .before .good .0) in
     let q = part-rows t m _ (e .result + 1) (r .result) (r .ensures) in
     let u = not-false (f .result .form) (c .before .before .before .before .before .before .before .before .before .before .before .before .before .before .before .before .before .before .before .before .before .if2 .left) in
-    let v : firstFits (firstTold (f .result) []) ≡ true = sym (c .before .before .before .before .before .before .before .before .before .before .before .first-fits .ensures) ∙ not-false _ (c .before .before .before .before .before .before .before .before .before .before .if5 .left) in
+    let v : firstFits (firstReturned (f .result) []) ≡ true = sym (c .before .before .before .before .before .before .before .before .before .before .before .first-fits .ensures) ∙ not-false _ (c .before .before .before .before .before .before .before .before .before .before .if5 .left) in
     let w = few t (e .result) (e .ensures) (f .result) (f .ensures) h m _ (r .result) q u s (not-false (r .result .form) (c .before .before .before .before .before .before .before .before .before .before .before .before .before .before .if3 .left)) (c .before .before .before .before .before .before .before .before .before .before .before .before .if4 .left) v in
     let z = r .ensures .same in
     text-read t (e .result) (e .ensures) (f .result) (f .ensures) h m _ (r .result) q u s (not-false (r .result .form) (c .before .before .before .before .before .before .before .before .before .before .before .before .before .before .if3 .left)) (c .before .before .before .before .before .before .before .before .before .before .before .before .if4 .left) v _ _ (c .before .before .before .before .before .before .before .before .before .before .before .before .before .before .before .before .before .before .before .before .before .before .before .before .before .before .before .before .before .pre) (not-false (r .result .fit) (c .before .before .before .before .before .before .before .before .if6 .left)) (c .before .before .before .before .before .before .put-fixed .ensures) (c .before .before .put-checksum .ensures) (omega (arith, c .before .before .before .before .before .before .before .before .before .before .before .before .before .before .before .before .before .before .before .before .before .before .before .before .before .before .before .before .before .pre))

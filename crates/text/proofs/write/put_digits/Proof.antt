@@ -10,10 +10,10 @@ use Rattle.text.proofs.write.put_digits.Statement.{statement}
 use Rattle.text.proofs.write.put_digits.Tie as tie
 
 abbrev Inv-loop : tie.InvT-loop
-Inv-loop text₀ at k n left₀ rest₀ text left rest = (left ≤ k) × (length text ≡ length text₀) × (over text at (digits left rest) ≡ over text₀ at (digits k n))
+Inv-loop text₀ at k n after₀ rest₀ text left rest = (left ≤ k) × (length text ≡ length text₀) × (over text at (digits left rest) ≡ over text₀ at (digits k n))
 
 abbrev μ-loop : tie.MeasureT-loop
-μ-loop text₀ at k n left₀ rest₀ text left rest = left
+μ-loop text₀ at k n after₀ rest₀ text left rest = left
 
 loop-holds : tie.Need-loop-holds Inv-loop μ-loop
 loop-holds c = (omega arith, refl, refl)

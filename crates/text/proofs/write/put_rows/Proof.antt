@@ -1,6 +1,6 @@
 -- What is left to put, over what was put, makes the whole.
 use native.Mathlib.Omega.{arith}
-use Rattle.text.proofs.Lines.{Left, left-less, all-put}
+use Rattle.text.proofs.Lines.{HostAfter, after-less, all-put}
 use mathlib.Core.Path.{_≡_, refl}
 use Prim.Native.Nat.{_+_, _-_, _*_, _≤_}
 use lib.ListN.{length}
@@ -9,7 +9,7 @@ use Rattle.text.proofs.write.put_rows.Statement.{statement}
 use Rattle.text.proofs.write.put_rows.Tie as tie
 
 abbrev Inv-loop : tie.InvT-loop
-Inv-loop text₀ at message end₀ i₀ text end i = (i ≤ length message) × (end * 4 + rowRoom * (length message - i) ≤ length text₀ * 4) × (length text ≡ length text₀) × Left message text₀ text at end i
+Inv-loop text₀ at message end₀ i₀ text end i = (i ≤ length message) × (end * 4 + rowRoom * (length message - i) ≤ length text₀ * 4) × (length text ≡ length text₀) × HostAfter message text₀ text at end i
 
 abbrev μ-loop : tie.MeasureT-loop
 μ-loop text₀ at message end₀ i₀ text end i = length message - i
@@ -41,7 +41,7 @@ loop-less c = omega arith
 loop-again : tie.Need-loop-again Inv-loop μ-loop
 loop-again c =
     let l = c .before .before .before .before .before .before .before .loop .inv .3 in
-    (omega arith, omega arith, omega arith, left-less (c .before .before .before .before .before .before .loop-test .taken) l (c .before .before .before .before .two-at .ensures) (c .before .before .before .two-at2 .ensures) (c .before .before .put-row .ensures .0))
+    (omega arith, omega arith, omega arith, after-less (c .before .before .before .before .before .before .loop-test .taken) l (c .before .before .before .before .two-at .ensures) (c .before .before .before .two-at2 .ensures) (c .before .before .put-row .ensures .0))
 
 same-length : tie.Need-same-length Inv-loop μ-loop
 same-length c = omega arith

@@ -2,7 +2,7 @@
 use mathlib.Core.Path.{_≡_, _∙_, sym}
 use Rattle.walk.proofs.Outcomes.{four-ends, four-goes-on}
 use Rattle.host.specs.State.{broadcast}
-use Rattle.host.specs.Lent.{host}
+use Rattle.host.specs.CallState.{host}
 use Rattle.arrival.specs.declared.Step.the-variants.{On, End}
 use Rattle.arrival.specs.Steps.{step4}
 use Rattle.arrival.specs.code.Plan.{stepOf}

@@ -3,11 +3,11 @@ use borrow.Author.Needs.{needs}
 use Rattle.walk.proofs.held.onward.Statement.{statement}
 use Rattle.walk.proofs.held.onward.Tie as tie
 
-tells-place-requires : tie.Need-tells-place-requires
-tells-place-requires c κs = search needs
+returns-place-requires : tie.Need-returns-place-requires
+returns-place-requires c κs = search needs
 
 returns : tie.Need-returns
-returns c = rw (c .tells-place .ensures)
+returns c = rw (c .returns-place .ensures)
 
 pub onward-spec : {M : Type 1} → statement M
-onward-spec = tie.close (tie.spec tells-place-requires returns)
+onward-spec = tie.close (tie.spec returns-place-requires returns)

@@ -25,14 +25,14 @@ next-id-requires c κs = search needs
 enum-known-x-2 : tie.Need-enum-known-x-2
 enum-known-x-2 c = search needs
 
-behind-c-requires : tie.Need-behind-c-requires
-behind-c-requires c κs = search needs
+after-c-requires : tie.Need-after-c-requires
+after-c-requires c κs = search needs
 
 returns : tie.Need-returns
 returns c = rw (c .next-id .ensures, c .before .put .ensures) (c-ends _ _ _ _ _ _ (sym (c .before .before .before .x .given .1) ∙ c .before .before .before .before .before .line-c .ensures ∙ ap (λ (u : Update). lineOf (lineC u (c .before .before .before .before .before .before .before .before .args .e))) (c .before .before .before .before .before .before .line-update .ensures .0)))
 
 returns-2 : tie.Need-returns-2
-returns-2 c = rw (c .behind-c .ensures) (c-goes-on _ _ _ _ _ _ (sym (c .before .before .x2 .given .1) ∙ c .before .before .before .before .line-c .ensures ∙ ap (λ (u : Update). lineOf (lineC u (c .before .before .before .before .before .before .before .args .e))) (c .before .before .before .before .before .line-update .ensures .0)))
+returns-2 c = rw (c .after-c .ensures) (c-goes-on _ _ _ _ _ _ (sym (c .before .before .x2 .given .1) ∙ c .before .before .before .before .line-c .ensures ∙ ap (λ (u : Update). lineOf (lineC u (c .before .before .before .before .before .before .before .args .e))) (c .before .before .before .before .before .line-update .ensures .0)))
 
 pub box-c-spec : {M : Type 1} → statement M
 box-c-spec =
@@ -44,6 +44,6 @@ box-c-spec =
     put-requires
     next-id-requires
     enum-known-x-2
-    behind-c-requires
+    after-c-requires
     returns
     returns-2)

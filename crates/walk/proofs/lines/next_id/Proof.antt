@@ -2,7 +2,7 @@
 use native.Mathlib.Omega.{arith}
 use borrow.Author.Tests.{eq-eqb, ne-eqb, lt-ltb, le-ltb}
 use Rattle.walk.proofs.Outcomes.{last, more}
-use Rattle.host.specs.Lent.{host}
+use Rattle.host.specs.CallState.{host}
 use borrow.Author.Needs.{needs}
 use Rattle.walk.proofs.lines.next_id.Statement.{statement}
 use Rattle.walk.proofs.lines.next_id.Tie as tie

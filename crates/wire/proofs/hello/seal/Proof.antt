@@ -5,7 +5,7 @@ use lib.ListN.{length}
 use lib.Seq.{length-take-le}
 use Rattle.checksum.specs.Checksum.{checksumOf}
 use Rattle.checksum.proofs.Octets.{of-places}
-use Rattle.wire.specs.code.Sealing.{sealedBehind}
+use Rattle.wire.specs.code.Sealing.{sealedRest}
 use Rattle.wire.proofs.Stores.{fixed-part, hello-checksum, checksum-put, hello-put}
 use borrow.Author.Needs.{needs}
 use Rattle.wire.proofs.hello.seal.Statement.{statement}
@@ -43,7 +43,7 @@ returns c =
     let fixed = c .before .before .before .before .before .before .before .before .put-fixed .ensures in
     let n = c .before .before .before .before .before .before .before .before .before .before .length .result in
     let part = fixed-part b l n p (c .before .before .before .before .before .before .before .before .before .before .length .ensures) fixed in
-    let checksum : c .before .before .before .before .complement .result ≡ checksumOf (sealedBehind p b) =
+    let checksum : c .before .before .before .before .complement .result ≡ checksumOf (sealedRest p b) =
     c .before .before .before .before .complement .ensures ∙ ap checksumOf part ∙ hello-checksum b l p fixed (of-places l (λ i. c .before .before .before .before .before .before .slice-known2 .given i .fits)) in
     hello-put b _ _ p (checksum-put b l _ _ p fixed (c .before .before .put-two .ensures)) checksum
 

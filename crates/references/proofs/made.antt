@@ -1,0 +1,15 @@
+pub mod Applies
+pub mod Chooses
+pub mod ExportTurns
+pub mod ExportTurns2
+pub mod Maps
+pub mod Moves
+pub mod Moves3
+pub mod Plans
+pub mod PlansPart
+pub mod Reads
+pub mod Surveys
+pub mod Tests
+pub mod Turns
+pub mod Turns2
+pub mod Writes
