@@ -2,8 +2,8 @@
 """Packets and what a host makes of them: the table of the arrivals that the program vectors runs. Checksums are computed here, and nothing of the library is used.
 
 usage: packets.py FOLDER     write each packet for the packet program to FOLDER/NAME, what the programs print of it to NAME.hello_packet, NAME.hello_inspect and NAME.hello_walk, and print the names
-       packets.py stdin      print the arrivals as vectors reads them: crates/vectors/stdin
-       packets.py stdout     print what it writes of them: the lines in front of crates/vectors/stdout
+       packets.py stdin      print the arrivals as vectors reads them: crates/test_calls/stdin
+       packets.py stdout     print what it writes of them: the lines in front of crates/test_calls/stdout
 """
 import os
 import sys

@@ -215,7 +215,6 @@ class Files(Quiet):
 
     async def test_nothing_else(self):
         for path in (
-            "/",
             "/favicon.ico",
             "/web",
             "/web/",

@@ -211,7 +211,10 @@ impl Caller {
                 let slot = usize::from(slot);
                 let (length, to) = labels[slot];
                 let (link, packet) = (to.link.into(), &slots[slot][..length]);
-                state.receive(link, counter, packet)
+                match state.inspect(link, packet).answer {
+                    0 => state.act(link, counter, packet),
+                    refusal => refusal,
+                }
             }
         }
     }
