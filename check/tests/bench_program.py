@@ -10,6 +10,8 @@ from bench_runs import EXERCISES, ROOT, told
 PROGRAM = ROOT / "target" / "bin" / "hello_bench"
 KINDS = {1: "tick", 2: "adjust", 3: "set", 4: "second", 5: "self-report"}
 DOWN = 30_000
+# An exercise with walks, which no bench file has.
+WALKS = "14-open-walk"
 
 
 def names():
@@ -59,11 +61,12 @@ def expected(path):
 
 
 def files(folder):
-    """The files, written to a folder."""
-    for text in [ROOT / "docs" / "bench" / "small.txt", *sorted(EXERCISES.glob("*.txt"))]:
+    """The files, written to a folder; of an exercise that needs several files, the first."""
+    exercises = [path for path in sorted(EXERCISES.glob("*.txt")) if path.stem != WALKS]
+    for text in [ROOT / "docs" / "bench" / "small.txt", *exercises]:
         path = folder / f"{text.stem}.bench"
-        file, _ = bench_file.read_text(text.read_text("utf-8"))
-        path.write_bytes(bench_file.to_octets(file))
+        file, _, _ = bench_file.read_long_text(text.read_text("utf-8"))
+        path.write_bytes(bench_file.to_octets(next(iter(bench_file.pieces(file)))))
         yield path
     small = (folder / "small.bench").read_bytes()
     of_no_kind = bytearray(small)
