@@ -121,7 +121,8 @@ pub fn deliver(
     delivery: Delivery,
     packet: &[u8],
 ) -> HostReply
-    ensures { λ r. ⌜ r ≡ hostReplyOf (perform (deliver delivery (now (packet .entry))) (callState settings «net_table» number clock links walk (now (copy .entry)) entries)) ⌝ }
+    ensures { λ r. ⌜ r ≡ hostReplyOf (perform (deliver delivery (now (packet .entry)))
+        (callState settings «net_table» number clock links walk (now (copy .entry)) entries)) ⌝ }
 {
     let s = settings;
     let t = net_table;
