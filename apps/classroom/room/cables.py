@@ -5,7 +5,7 @@ import random
 from typing import NamedTuple
 
 MOST = 256
-"""So many messages may be on their way at once from one end of a cable."""
+"""This many messages may be on their way at once from one end of a cable."""
 
 
 class Far(NamedTuple):

@@ -115,7 +115,7 @@ _TUTORS = {
 
 
 def make(host, call, given, times=1):
-    """Makes a call, so many times: the number of the last answer, and what it told."""
+    """Makes a call, that many times: the number of the last answer, and what it told."""
     if call == "tick":
         return int(host.ticks(times, **given)), {}
     for _ in range(times):

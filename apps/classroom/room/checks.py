@@ -35,7 +35,7 @@ def switch(what, value):
 
 
 def words(what, value, longest, lines=False):
-    """A text of at most so many characters, normalised (NFC), without control characters; `lines`: it
+    """A text of at most that many characters, normalised (NFC), without control characters; `lines`: it
     may have several, and tabs."""
     if type(value) is not str or len(value) > longest:
         raise Refused(f"{what} must be a text of at most {longest:,} characters")
@@ -63,7 +63,7 @@ def one_of(what, value, choices):
 
 
 def members(what, value, least, most):
-    """A list of so many members."""
+    """A list of that many members."""
     if type(value) is not list or not least <= len(value) <= most:
         count = f"{least}" if least == most else f"{least} to {most}"
         raise Refused(f"{what} must be a list of {count}")

@@ -13,7 +13,7 @@ earlier room go on from one of its calls."""
 
 
 def make(room, by, asked):
-    """Makes an input: the reply to a message; None if time goes on, by so many ms at each step."""
+    """Makes an input: the reply to a message; None if time goes on, by that many ms at each step."""
     if by == TIME:
         for ms in asked:
             room.go_on(room.now + ms)

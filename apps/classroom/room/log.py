@@ -10,7 +10,7 @@ RECENT = 500
 MOST = 256 * 1024 * 1024
 """The octets of the longest list."""
 OF_A_SEAT = MOST // 64
-"""So many of them the calls from one seat's page fill: those from all sixteen fill a quarter, and
+"""This many of them the calls from one seat's page fill: those from all sixteen fill a quarter, and
 the arrivals of what they send about another."""
 
 

@@ -32,7 +32,7 @@ class Room(Timed):
 
     @classmethod
     def fresh(cls, seats=4, paper=FilePaper):
-        """A first room: so many hosts in a ring, which work by themselves."""
+        """A first room: that many hosts in a ring, which work by themselves."""
         return cls(ring(seats), paper)
 
     def __getstate__(self):

@@ -12,7 +12,7 @@ from .state import state_of
 MOST_WAITING = 64
 """The messages that may wait at a link. If one more arrives there, the oldest of that link is lost."""
 MOST_BEHIND = 600_000
-"""So many ticks may wait for the end of a walk; then the room's time stands."""
+"""This many ticks may wait for the end of a walk; then the room's time stands."""
 READ = (0, 10, 11)
 """The answers of calls that have read the clock."""
 

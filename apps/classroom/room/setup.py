@@ -7,7 +7,7 @@ from .checks import Refused, keys, members, name, switch, whole
 SEATS = hello.HOSTS
 CABLES = 32
 HOSTS = 32
-"""So many hosts a room's tables have at most."""
+"""This many hosts a room's tables have at most."""
 DAY = 86_400_000
 LONGEST_WAY = 60_000
 OVERFLOW = 65_536
@@ -136,7 +136,7 @@ def address_of(number):
 
 
 def ring(seats):
-    """A first room: so many hosts in a ring, with clocks that differ, working by themselves."""
+    """A first room: that many hosts in a ring, with clocks that differ, working by themselves."""
     names = ["Ada", "Ben", "Cleo", "Dan", "Eva", "Finn", "Gita", "Hugo"]
     names += ["Ines", "Jan", "Kira", "Leo", "Mara", "Nils", "Olga", "Paul"]
     differences = [0, 500, -1_200, 3_000]

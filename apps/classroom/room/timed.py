@@ -4,7 +4,7 @@ from .net import Net
 
 SECOND = 1_000
 MOST_TICKS = 4_000
-"""An advance gives about so many ticks of line clocks at most, which bounds the speed."""
+"""An advance gives about that many ticks of line clocks at most, which bounds the speed."""
 
 
 class Timed(Net):
@@ -25,14 +25,14 @@ class Timed(Net):
         ]
 
     def advance(self, ms):
-        """Time goes on by so many ms, of which parts add up, unless it has to stand, and not by
+        """Time goes on by that many ms, of which parts add up, unless it has to stand, and not by
         more than the line clocks' ticks allow; tells by how many it went on."""
         start = self.now
         self.go_on(start + self.step_of(ms))
         return self.now - start
 
     def step_of(self, ms):
-        """The whole ms by which time may go on after so many ms more, of which parts add up."""
+        """The whole ms by which time may go on after that many ms more, of which parts add up."""
         line_clocks = sum(not seat.crystal for seat in self.seats)
         self._rest = min(self._rest + ms, MOST_TICKS // max(line_clocks, 1))
         whole = int(self._rest)
@@ -46,7 +46,7 @@ class Timed(Net):
         self.tick()
 
     def to_arrival(self, most):
-        """Time goes on to the next arrival of a message, in at most so many ms."""
+        """Time goes on to the next arrival of a message, in at most that many ms."""
         to = self.now + most
         while self.now < to and not self.waiting_for() and not self.log.full:
             if self.go(to):

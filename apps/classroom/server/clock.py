@@ -1,4 +1,4 @@
-"""Real time becomes the room's: so many room milliseconds to each real one."""
+"""Real time becomes the room's: that many room milliseconds to each real one."""
 
 import asyncio
 import time

@@ -10,7 +10,7 @@ LETTERS = "23456789ABCDEFGHJKMNPQRSTUVWXYZ"
 LENGTH = 6
 MINUTE = 60
 OF_AN_ADDRESS, IN_ALL = 6, 60
-"""So many wrong codes are taken in a minute; then none at all."""
+"""This many wrong codes are taken in a minute; then none at all."""
 
 
 def new_codes(seats):

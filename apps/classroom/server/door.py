@@ -12,9 +12,9 @@ import time
 from .guard import LOG
 
 OF_AN_ADDRESS, IN_ALL = 128, 384
-# A head is complete after so many seconds, and so is the exchange that begins TLS.
+# A head is complete after that many seconds, and so is the exchange that begins TLS.
 HEAD = 10
-# A request without a key is done after so many seconds.
+# A request without a key is done after that many seconds.
 WITHOUT_KEY = 30
 # File descriptors for the store, the list of calls, the listening sockets and the like.
 OWN_DESCRIPTORS = 64

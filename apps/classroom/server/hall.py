@@ -10,13 +10,13 @@ from .push import AFTER_OTHERS, PART_FOR_VIEWS
 from .record import rebuilt
 from .store import Store, StoreError
 
-# Messages of a place: some at once, then so many a second; more of them wait.
+# Messages of a place: some at once, then that many a second; more of them wait.
 AT_ONCE, A_SECOND = 100, 50
 MOST_PAGES = 4
 PART_OF_FILE = 32 * 1024
-# What time changed is written after so many seconds at most; a message's change before its reply.
+# What time changed is written after that many seconds at most; a message's change before its reply.
 BETWEEN_WRITES = 0.25
-# The store is tried again after so many seconds.
+# The store is tried again after that many seconds.
 TRY_AGAIN = 1
 
 
@@ -194,7 +194,7 @@ class Hall:
         return max(1 / AFTER_OTHERS, sum(page.cost for page in self._pages) / PART_FOR_VIEWS)
 
     def pass_time(self, ms):
-        """So many real milliseconds have passed."""
+        """This many real milliseconds have passed."""
         late = time.monotonic() - self._written
         if self.trouble is not None:
             if late > TRY_AGAIN:

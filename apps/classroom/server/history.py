@@ -19,7 +19,7 @@ from .record import Differs, rebuilt
 from .store import Store, StoreError
 
 KEPT = 24
-"""So many rooms, each as it was after an input, are at hand for the next question."""
+"""This many rooms, each as it was after an input, are at hand for the next question."""
 PATIENCE = 60
 
 

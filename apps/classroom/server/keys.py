@@ -9,7 +9,7 @@ def _octets(text):
 
 
 def new_keys(seats):
-    """Keys for so many seats and the teacher, by place."""
+    """Keys for that many seats and the teacher, by place."""
     places = ["/teacher", *(f"/seat/{seat}" for seat in range(seats))]
     return {place: secrets.token_urlsafe(24) for place in places}
 

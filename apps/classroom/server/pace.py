@@ -6,7 +6,7 @@ from collections import deque
 
 
 class Pace:
-    """Some at once, then so many a second: whoever comes sooner waits; no one is turned away."""
+    """Some at once, then that many a second: whoever comes sooner waits; no one is turned away."""
 
     def __init__(self, at_once, a_second):
         self._between = 1 / a_second
@@ -22,7 +22,7 @@ class Pace:
 
 
 class Window:
-    """No more than so many in any second, each as soon as that lets it."""
+    """No more than that many in any second, each as soon as that lets it."""
 
     def __init__(self, a_second):
         self._last = deque(maxlen=a_second)

@@ -14,11 +14,11 @@ from .pace import Window
 from .patch import Versions
 
 MOST_A_SECOND = 20
-# Of those, so many after what others or the room's time changed: the rest are for the page's own.
+# Of those, that many after what others or the room's time changed: the rest are for the page's own.
 AFTER_OTHERS = 10
-# A page that does not take a view in so many seconds is gone.
+# A page that does not take a view in that many seconds is gone.
 LONGEST_WAIT = 60
-# A page is shown nothing more while so many octets for it wait to be sent; the system holds others.
+# A page is shown nothing more while that many octets for it wait to be sent; the system holds others.
 MOST_UNSENT = 16 * 1024
 SEND_BUFFER = 64 * 1024
 LOOK_AGAIN = 0.02
@@ -94,7 +94,7 @@ class Page:
 
 @contextlib.contextmanager
 def after(seconds, do):
-    """Does something after so many seconds, unless what stands within has ended before."""
+    """Does something after that many seconds, unless what stands within has ended before."""
     timer = asyncio.get_running_loop().call_later(seconds, do)
     try:
         yield

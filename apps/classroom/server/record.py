@@ -14,10 +14,10 @@ from .guard import LOG
 from .store import Input, RoomRow, StoreError
 
 LINES_BETWEEN = 2_000
-"""After so many lines of calls, or so many inputs, a checkpoint is written."""
+"""After that many lines of calls, or that many inputs, a checkpoint is written."""
 INPUTS_BETWEEN = 1_000
 LONGEST_STEPS = 500
-"""So many steps of time are one input at most."""
+"""This many steps of time are one input at most."""
 
 
 class StorePaper:
@@ -93,7 +93,7 @@ class Record:
         return reply
 
     def pass_time(self, ms):
-        """The room's time goes on by so many ms; tells whether anything changed."""
+        """The room's time goes on by that many ms; tells whether anything changed."""
         room = self.room
         step = room.step_of(ms)
         if step == 0:

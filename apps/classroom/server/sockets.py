@@ -13,12 +13,12 @@ from .push import SEND_BUFFER, Page
 
 # The longest message, in octets; the teacher's may hold a bench file.
 LONGEST, LONGEST_OF_THE_TEACHER = 16 * 1024, 256 * 1024
-# A page that does not answer within so many seconds is gone.
+# A page that does not answer within that many seconds is gone.
 HEARTBEAT = 20
-# For so many seconds a page may answer that the socket closes.
+# For that many seconds a page may answer that the socket closes.
 GOODBYE = 2
 GREATEST_N = 2**53
-# A message weighs one, and one more for so many octets.
+# A message weighs one, and one more for that many octets.
 WEIGHED = 512
 
 

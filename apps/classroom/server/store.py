@@ -19,7 +19,7 @@ from typing import NamedTuple, Optional
 
 FORM = 1
 MOST_CHECKPOINTS = 48
-"""So many of a room's checkpoints are kept; of more, every other one goes."""
+"""This many of a room's checkpoints are kept; of more, every other one goes."""
 _TABLES = (
     "CREATE TABLE class (key TEXT PRIMARY KEY, value TEXT NOT NULL)",
     "CREATE TABLE inputs (number INTEGER PRIMARY KEY, room INTEGER NOT NULL, line INTEGER NOT NULL,"

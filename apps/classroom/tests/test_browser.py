@@ -429,7 +429,7 @@ class Story(unittest.TestCase):
         return self.teacher.text("#bench-answer")
 
     def run_bench(self, button, done):
-        """The teacher runs the bench, until so many events are done."""
+        """The teacher runs the bench, until that many events are done."""
         self.teacher.click(button)
         self.teacher.until(lambda: self.at_event() == done, f"event {done}")
 

@@ -163,7 +163,7 @@ class Worksheets(unittest.TestCase):
 
 
 class Printing(unittest.TestCase):
-    """The sheets as PDF: so many pages, and nothing is cut."""
+    """The sheets as PDF: that many pages, and nothing is cut."""
 
     @classmethod
     def setUpClass(cls):

@@ -427,7 +427,7 @@ class OfARoom(unittest.TestCase):
         self.assertEqual((taken.lines, taken.left_out), (5, [4]))
 
     def test_trays(self):
-        """So many packets on their way as there are trays; one more has none."""
+        """As many packets on their way as there are trays; one more has none."""
         cable = {"ends": [[0, 1], [1, 1]], "ways": [[9, 9], [9, 9]]}
         room = Room({"seats": 2 * [{"crystal": True, "by_hand": True}], "cables": [cable]})
         for _ in range(33):

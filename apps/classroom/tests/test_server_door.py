@@ -20,7 +20,7 @@ FILES = 1_024
 
 
 async def open_connections(served, count, octets, room):
-    """So many connections that send these octets and no more; one that is refused is passed over."""
+    """This many connections that send these octets and no more; one that is refused is passed over."""
     writers = []
     limit = asyncio.Semaphore(64)
 

@@ -20,7 +20,7 @@ from classroom.tests.serving import Class, Page, Quiet
 from classroom.tests.test_server_load import SEATS, room
 
 SECONDS = int(os.environ.get("CLASS_LOAD_SECONDS", "20"))
-# The server lives for so many seconds, and the last time for more: then its memory is looked at.
+# The server lives for that many seconds, and the last time for more: then its memory is looked at.
 LIFE = (1.5, 4.0)
 LAST_LIFE = 8
 MOST_GROWTH = 24 * 1024 * 1024

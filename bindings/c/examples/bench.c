@@ -71,7 +71,7 @@ static void put_event(file *f, uint8_t kind, uint8_t host, uint8_t end, uint8_t 
     put(f, 0, 2 + 4);
 }
 
-/* The host at an end sends at `count` ms of the exercise, and the message arrives so many later. */
+/* The host at an end sends at `count` ms of the exercise, and the message arrives that many later. */
 static void put_message(file *f, uint8_t end, uint8_t slot, uint16_t count, uint16_t takes)
 {
     put_event(f, SEND, 0, end, slot, count);

@@ -6,7 +6,7 @@ use hello::Answer;
 use reference::host;
 use std::hint::black_box;
 
-/// Makes a call so many times.
+/// Makes a call that many times.
 pub type Batch = Box<dyn FnMut(u32)>;
 
 /// A call of both programs.

@@ -31,7 +31,7 @@ pub fn run() {
     }
 }
 
-/// The programs, each on so many octets.
+/// The programs, each on that many octets.
 fn programs(length: usize) -> [Batch; 5] {
     let octets: Vec<u8> = (0..length).map(|i| (i * i / 3 + 7 * i + 1) as u8).collect();
     [

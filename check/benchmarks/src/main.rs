@@ -12,7 +12,7 @@ use timing::{measure, Medians};
 /// The sizes of host table whose growth is shown.
 const SIZES: [usize; 4] = [4, 16, 64, 255];
 
-/// A call on a host: its name, and its case with so many hosts in the table.
+/// A call on a host: its name, and its case with that many hosts in the table.
 type Call = (&'static str, fn(usize) -> case::Case);
 
 const CALLS: [Call; 5] = [

@@ -13,7 +13,7 @@ LONGEST = 33_956
 LONGEST_TEXT = 150_000
 """The characters of the longest text that is read."""
 MOST_FAULTS = 12
-"""So many wrong lines of a text are told."""
+"""This many wrong lines of a text are reported."""
 _ROOT = Path(__file__).resolve().parents[4]
 
 

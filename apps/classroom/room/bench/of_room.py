@@ -27,7 +27,7 @@ ARRIVALS = ("act", "receive")
 CHANGE_NOTHING = ("inspect", "lookup", "write")
 """Calls without an event that change nothing at a host."""
 MOST_LINES = 20_000
-"""So many lines of the list are read."""
+"""This many lines of the list are read."""
 
 
 class Taken(NamedTuple):

@@ -7,7 +7,7 @@ from hello import PLACES
 
 
 MOST_BROKEN = 20
-"""So many broken promises are told."""
+"""This many broken promises are reported."""
 
 
 class Promised:

@@ -12,9 +12,9 @@ from . import words
 from .promised import Promised
 
 AT_ONCE = 64
-"""So many events are carried out at once; a page asks again for more, so that nobody has to wait."""
+"""This many events are carried out at once; a page asks again for more, so that nobody has to wait."""
 AT_ONCE_OF_LONG = 1_024
-"""So many of a text that is several files."""
+"""This many of a text that is several files."""
 
 
 class Stand:
@@ -91,7 +91,7 @@ class Stand:
         self._changed(None)
 
     def run(self, class_table, allowance):
-        """Carries out the next events of a piece, at most so many and at most AT_ONCE: the reply."""
+        """Carries out the next events of a piece, at most that many and at most AT_ONCE: the reply."""
         bench = self._ready()
         if bench.done == len(self._file_now.events) and self._at + 1 < len(self.loaded.pieces):
             self._take_piece(self._at + 1)

@@ -7,12 +7,12 @@ from .fitting import Numbers, name_of
 from .segments import key_of
 
 AHEAD = 4
-"""So many segments ahead calls count, if the calls before them are still to be made."""
+"""This many segments ahead calls count, if the calls before them are still to be made."""
 MOST_CALLS = 6
 MOST_PROMISES = 24
-"""So many right calls and promises of a stage are kept; the others are counted."""
+"""This many right calls and promises of a stage are kept; the others are counted."""
 MOST_WRONG = 100
-"""So many wrong ones."""
+"""This many wrong ones."""
 
 
 class Checks:

@@ -66,7 +66,7 @@ class Course:
     # What is done, by whomever.
 
     def saw(self, room, seat, call, given, answer, times, ended):
-        """A seat has made a call, so many times; `ended` if it has ended a walk."""
+        """A seat has made a call, that many times; `ended` if it has ended a walk."""
         copy = self._of_seat.get(seat.number)
         kind = KINDS.get(call)
         if copy is None or kind is None or copy.ended:

@@ -84,7 +84,7 @@ class Numbers:
 
 
 def set_up(exercise, copies):
-    """The set-up of a room with so many copies, all seats with crystals and by hand."""
+    """The set-up of a room with that many copies, all seats with crystals and by hand."""
     seats, cables = [], []
     first = exercise.file.seats[0]
     ways = _ways(exercise)

@@ -11,7 +11,7 @@ from .shown import listed
 
 LONGEST_NAME = 100
 MOST_FAULTS = 30
-"""So many wrong lines of a text are told."""
+"""This many wrong lines of a text are reported."""
 MOST_CALLS = 50_000
 """An exercise is run to its end at once unless it takes more calls than these."""
 

@@ -19,7 +19,7 @@ MOST_TIMES = 2_048
 MOST_OF_TEXT = 400_000
 """The events of the longest exercise, which is run as several bench files."""
 MOST_LINES = 50_000
-"""So many lines are carried out, those of blocks as often as they are repeated."""
+"""This many lines are carried out, those of blocks as often as they are repeated."""
 LONGEST_NAME = 16
 SEAT_DEFAULTS: dict[str, Any] = {
     "offset": 1,
