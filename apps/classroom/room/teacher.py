@@ -15,7 +15,10 @@ MOST_NUMBER = 2**32 - 1
 
 
 def _set_up(room, message):
-    room.begin(checked({key: value for key, value in message.items() if key not in ("do", "n")}))
+    set_up = checked({key: value for key, value in message.items() if key not in ("do", "n")})
+    if room.exercise:
+        room.waits = False  # an exercise waits for hands; the next room does so only if the teacher says so
+    room.begin(set_up)
     return {"room": room.number}
 
 
