@@ -2,7 +2,7 @@
 that a page got is in the store, a room made again from its inputs is the one that is served, and the
 server's memory stays flat.
 
-CLASS_LOAD_SECONDS says for how long; 20 s if it is not set. The full measure is 60.
+CLASS_LOAD_SECONDS says for how long; 60 s if it is not set.
 """
 
 import asyncio
@@ -19,7 +19,7 @@ from classroom.server.store import Store
 from classroom.tests.serving import Class, Page, Quiet
 from classroom.tests.test_server_load import SEATS, room
 
-SECONDS = int(os.environ.get("CLASS_LOAD_SECONDS", "20"))
+SECONDS = int(os.environ.get("CLASS_LOAD_SECONDS", "60"))
 # The server lives for that many seconds, and the last time for more: then its memory is looked at.
 LIFE = (1.5, 4.0)
 LAST_LIFE = 8
