@@ -47,7 +47,7 @@ class Course:
 
     @property
     def ended(self):
-        """Whether all copies have come to their end."""
+        """Whether all copies have ended."""
         return all(copy.ended for copy in self.copies)
 
     @property
