@@ -6,3 +6,4 @@ pub mod Walks
 pub mod Sends
 pub mod Worlds
 pub mod Epochs
+pub mod Example

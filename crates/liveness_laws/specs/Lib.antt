@@ -1,6 +1,7 @@
 pub mod Numbers
 pub mod Seconds
 pub mod Silence
+pub mod SilenceExample
 pub mod Hops
 pub mod Rounds
 pub mod TablesFill

@@ -1,6 +1,7 @@
 // Liveness: the tables of a network fill, stay right, and empty of a host that is silent.
 ghost use Rattle.liveness_laws.specs.Handshake.{Handshake};
 ghost use Rattle.liveness_laws.specs.Silence.{SilentHostFades, SilentHostGone};
+ghost use Rattle.liveness_laws.specs.SilenceExample.{SilenceExample};
 ghost use Rattle.liveness_laws.specs.TablesFill.{TablesFill};
 ghost use Rattle.liveness_laws.specs.RoundsExample.{RoundsExample};
 ghost use Rattle.liveness_laws.specs.OrderClaim.{AnyOrder};
@@ -52,6 +53,11 @@ pub fn silent_host_fades()
 // So after 299 times 120 seconds, just under ten hours, it is down in every other table.
 pub fn silent_host_gone()
     ensures { λ _. ⌜ SilentHostGone ⌝ }
+{}
+
+// Three hosts and one epoch meet every condition of `silent_host_fades`, and the silent host is still up, at 200 ms.
+pub fn silence_example()
+    ensures { λ _. ⌜ SilenceExample ⌝ }
 {}
 
 // One link of any host: what an arrival teaches it, what a send says by it, and when a table that arrives on it is believed.
