@@ -14,6 +14,7 @@ pub mod Matching
 pub mod Outcomes
 pub mod Parts
 pub mod Picks
+pub mod Quads
 pub mod Shared
 pub mod Thin
 pub mod Ways

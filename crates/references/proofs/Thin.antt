@@ -30,7 +30,7 @@ pub use Rattle.references.proofs.Ways.{Form, form, silent, by, ref, ref
 pub use Rattle.references.proofs.Holds.{literal, all-got, got, makes, is-part, owed-of, is-unit, is-length, own-value, typed-of, plain, part, unit, sets, copies, copies-mut, stores}
 pub use Rattle.references.proofs.Lending.{points, slices, begins, counts, pairs, fewer, cuts, joined, recuts, rejoined, lends, back, relends, returned, learns}
 pub use Rattle.references.proofs.Calling.{nothing-more, value, val, share, shares, give, gives, calls, calls-having}
-pub use Rattle.references.proofs.Elements.{scaled, reads-element, reads-element-mut, writes-element, inside, inside-now, bytes}
+pub use Rattle.references.proofs.Elements.{scaled, raised, reads-element, reads-element-mut, writes-element, inside, inside-now, bytes}
 pub use Rattle.references.proofs.Looping.{revalued, turns, breaks, next, times, folds, folds-while, last-turn, tested, held-so, failed-so, stopped}
 pub use Rattle.references.proofs.Choices.{Choices, any-of, machine, by-cases, owed-case, said-of}
 pub use Rattle.references.proofs.Choosing.{compares, chooses}
@@ -143,12 +143,15 @@ address n k = assign (place n []) (addrOf (place k []))
 abbrev pub aggregated : ℕ → List Opd → Body
 aggregated n xs = assign (place n []) (aggregate xs)
 
--- those that make a part of a slice: local n is where it begins, or a multiple of local i; how many octets there are; the slice of locals i and j
+-- those that make a part of a slice: local n is where it begins, or a multiple of local i, or more than local i; how many octets there are; the slice of locals i and j
 abbrev pub begin-at : ℕ → ℕ → ℕ → Body
 begin-at n k i = assign (place n []) (op2 offset (fld k 0) (loc i))
 
 abbrev pub scale : ℕ → ℕ → ℕ → Body
 scale n i m = assign (place n []) (op2 (mul no-sign) (loc i) (int w64 m))
+
+abbrev pub raise : ℕ → ℕ → ℕ → Body
+raise n i m = assign (place n []) (op2 (add no-sign) (loc i) (int w64 m))
 
 abbrev pub count-to : ℕ → ℕ → ℕ → Body
 count-to n k i = assign (place n []) (op2 (minus no-sign) (loc k) (loc i))

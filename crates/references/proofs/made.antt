@@ -6,7 +6,7 @@ pub mod Maps
 pub mod Moves
 pub mod Moves3
 pub mod Plans
-pub mod PlansPart
+pub mod PlansBoth
 pub mod Reads
 pub mod Surveys
 pub mod Tests

@@ -4,7 +4,7 @@ use mathlib.Core.Bool.{Bool, true, false, cond, _&&_}
 use mathlib.Core.List.{List, [], _∷_, _++_}
 use Prim.Native.Nat.{ℕ, suc, _+_, _-_, _*_, _/_, _%_, _≤_, _<_}
 use native.Mathlib.Omega.{arith}
-use borrow.Author.Tests.{lt-ltb, le-ltb, ltb-false}
+use borrow.Author.Tests.{lt-ltb, le-ltb, ltb-true, ltb-false}
 use lib.Dec.{ltb}
 use lib.ListN.{length, drop}
 use lib.Seq.{take-add, drop-drop}
@@ -37,7 +37,7 @@ at-once i test counted (x ∷ xs) =
     ∙ ap (λ (b : Bool). counted i x && test x && b) (at-once (suc i) test counted xs)
 
 -- two tests that are the same, which are counted from two places
-alike : {A : Type 0} (f g : ℕ → A → Bool) (c i : ℕ) (xs : List A) → ((n : ℕ) (x : A) → n < i + length xs → f n x ≡ g (c + n) x)
+pub alike : {A : Type 0} (f g : ℕ → A → Bool) (c i : ℕ) (xs : List A) → ((n : ℕ) (x : A) → n < i + length xs → f n x ≡ g (c + n) x)
     → everyFrom i f xs ≡ everyFrom (c + i) g xs
 alike f g c i [] same = refl
 alike f g c i (x ∷ xs) same =
@@ -47,7 +47,7 @@ alike f g c i (x ∷ xs) same =
     rw (here, rest, s) refl
 
 -- a part of two
-two-parts : {A : Type 0} (first a b : ℕ) (l : List A) → part first (a + b) l ≡ part first a l ++ part (first + a) b l
+pub two-parts : {A : Type 0} (first a b : ℕ) (l : List A) → part first (a + b) l ≡ part first a l ++ part (first + a) b l
 two-parts first a b l = rw (← drop-drop a first l) (take-add a b (drop first l))
 
 -- ---- the entries of a word
@@ -119,8 +119,21 @@ word-inside w up k = go (w .good) where
   go true l = record { rising = up; before = omega (arith, l) }
   go false l = absurd (omega (arith, l))
 
+-- it has 64 ids at most
+pub stretch-rising : (k : ℕ) (w : Scan) → InWord k w → stretchOf k w .first ≤ stretchOf k w .end
+stretch-rising k w i = go (ltb (w .end - (w .first + 64 * k)) 64) where
+  go : (b : Bool) → w .first + 64 * k ≤ cond b (w .end) (w .first + 64 * k + 64)
+  go true = omega (arith, i .rising, i .before)
+  go false = omega arith
+
+pub stretch-few : (k : ℕ) (w : Scan) → stretchOf k w .end - stretchOf k w .first ≤ 64
+stretch-few k w = go (ltb (w .end - (w .first + 64 * k)) 64) refl where
+  go : (b : Bool) → ltb (w .end - (w .first + 64 * k)) 64 ≡ b → cond b (w .end) (w .first + 64 * k + 64) - (w .first + 64 * k) ≤ 64
+  go true e = let few = ltb-true (w .end - (w .first + 64 * k)) 64 e in omega (arith, few)
+  go false e = omega arith
+
 pub stretch-fits : (entries : List Entry) (k : ℕ) (w : Scan) → InEntries (w .first) (w .end) entries → InWord k w → StretchFits (stretchOf k w) entries
-stretch-fits entries k w h i = record { places = go (ltb (w .end - (w .first + 64 * k)) 64) refl; good = refl } where
+stretch-fits entries k w h i = record { places = go (ltb (w .end - (w .first + 64 * k)) 64) refl; good = λ _. refl } where
   go : (b : Bool) → ltb (w .end - (w .first + 64 * k)) 64 ≡ b → InEntries (w .first + 64 * k) (cond b (w .end) (w .first + 64 * k + 64)) entries
   go true e = record { rising = omega (arith, i .before, i .rising); inside = h .inside }
   go false e = let many = ltb-false (w .end - (w .first + 64 * k)) 64 e in record { rising = omega arith; inside = omega (arith, many, h .inside) }

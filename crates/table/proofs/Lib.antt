@@ -1,6 +1,8 @@
 pub mod Types
 pub mod Bits
 pub mod ByWords
+pub mod FourAtOnce
+pub mod WordByFours
 pub mod LineA
 pub mod Stages
 pub mod Ranges

@@ -14,6 +14,8 @@ use Rattle.table.proofs.entries.Words as Words
 use Rattle.table.proofs.entries.Words.Laws as Words′
 use Rattle.table.proofs.entries.Stretch as Stretch
 use Rattle.table.proofs.entries.Stretch.Laws as Stretch′
+use Rattle.table.proofs.fours.Fours as Fours
+use Rattle.table.proofs.fours.Fours.Laws as Fours′
 use Rattle.table.proofs.entries.Seek as Seek
 use Rattle.table.proofs.entries.Seek.Laws as Seek′
 use Rattle.table.proofs.entries.Change as Change
@@ -76,6 +78,22 @@ stretch = record {
   behind-plain = Stretch′.the-plain .1 .1 .1;
   low = Stretch′.lowers;
   copies = Stretch′.the-copy;
+}
+
+abbrev pub fours : Outcome (usize-part ∷ usize-part ∷ bool-part ∷ [])
+fours = record {
+  form = record {
+    name = Fours.the-type .name;
+    D = Fours.the-type .D;
+    read = λ w. (w .first, (w .end, (w .good, tt)));
+    behind = behind (Fours.the-type .parts) 3;
+    rest = λ w. Fours.the-type .to w .1 .1 .1;
+    one = Fours.the-type .to-one;
+  };
+  behind-laws = Fours′.the-laws .1 .1 .1;
+  behind-plain = Fours′.the-plain .1 .1 .1;
+  low = Fours′.lowers;
+  copies = Fours′.the-copy;
 }
 
 abbrev pub seek : Outcome (usize-part ∷ usize-part ∷ struct-part entry ∷ [])

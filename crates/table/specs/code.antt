@@ -1,2 +1,3 @@
 pub mod Words
 pub mod Loops
+pub mod Fours

@@ -9,9 +9,12 @@ ghost use Rattle.table.specs.Update.{plusReport, ownInRange, delayInRang
 ghost use Rattle.table.specs.Runs.{changes, updateAt, updatedAt, updates};
 ghost use Rattle.table.specs.code.Loops.{InEntries, puts, changedAt, allInRange, entryOf, Updatable, UpdatesFit, reported, ReportFits, ReportsFit, readOut};
 ghost use Rattle.table.specs.code.Words.{byWords, InWord, stretchOf, WordsFit, WordFits, StretchFits, asInWord, allAsInWord};
+ghost use Rattle.table.specs.code.Fours.{foursOf, restOf};
 use super::Entry;
 use super::Update;
 use super::Updated;
+use super::fours::Fours;
+use super::fours::all_fours;
 use super::marks::Marks;
 use super::marks::mark;
 use super::marks::mark_in;
@@ -154,7 +157,7 @@ fn as_in_word(e: Entry, i: usize, w: Stretch) -> bool
     super::in_range(e)
 }
 
-// The loop ends at the first entry that fails, and goes over one word's ids: of the ways that were tried this is the quickest.
+// The entries that remain of a word after its fours. The loop ends at the first that fails.
 fn all_as_in_word(entries: &[Entry], w: Stretch) -> bool
     requires { ⌜ StretchFits w (now entries) ⌝ }
     ensures { λ r. ⌜ r ≡ allAsInWord w (now (entries .entry)) ⌝ }
@@ -172,11 +175,55 @@ fn all_as_in_word(entries: &[Entry], w: Stretch) -> bool
     good
 }
 
+// The fours of word k, and what remains of its entries after them: nothing if a four fails.
+fn fours_of(k: usize, v: Words) -> Fours
+    requires { ⌜ InWord k (v .scan) ⌝ }
+    ensures { λ r. ⌜ r ≡ foursOf (stretchOf k (v .scan)) ⌝ }
+{
+    let w = stretch_of(k, v);
+    let n = w.end - w.first;
+    let fours = n / 4;
+    Fours {
+        first: 0,
+        end: fours,
+        good: true,
+        at: w.first,
+        word: w.word,
+    }
+}
+
+fn rest_of(k: usize, v: Words, good: bool) -> Stretch
+    requires { ⌜ InWord k (v .scan) ⌝ }
+    ensures { λ r. ⌜ r ≡ restOf good (stretchOf k (v .scan)) ⌝ }
+{
+    let w = stretch_of(k, v);
+    let n = w.end - w.first;
+    let done = 4 * (n / 4);
+    let word = w.word >> (done % 64);
+    if !good {
+        return Stretch {
+            first: w.end,
+            end: w.end,
+            good: false,
+            word: word,
+        };
+    }
+    let first = w.first + done;
+    Stretch {
+        first: first,
+        end: w.end,
+        good: true,
+        word: word,
+    }
+}
+
 fn good_in_word(entries: &[Entry], k: usize, v: Words) -> bool
     requires { ⌜ WordFits k v (now entries) ⌝ }
     ensures { λ r. ⌜ r ≡ allAsInWord (stretchOf k (v .scan)) (now (entries .entry)) ⌝ }
 {
-    let w = stretch_of(k, v);
+    let f = fours_of(k, v);
+    let good = all_fours(entries, f);
+    let w = rest_of(k, v, good);
     all_as_in_word(entries, w)
 }
 

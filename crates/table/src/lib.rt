@@ -14,6 +14,7 @@ use quantity::Word;
 use wire::Report;
 
 pub mod entries;
+pub mod fours;
 pub mod marks;
 
 // MAXDELAY, MINDELAY and the time of hold-down.

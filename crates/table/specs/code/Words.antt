@@ -2,7 +2,7 @@
 use mathlib.Core.Path.{_≡_}
 use mathlib.Core.Bool.{Bool, true, _&&_, cond}
 use mathlib.Core.List.{List}
-use Prim.Native.Nat.{ℕ, _+_, _-_, _*_, _/_, _%_, _≤_}
+use Prim.Native.Nat.{ℕ, _+_, _-_, _*_, _/_, _%_, _≤_, _<_}
 use lib.Dec.{eqb, ltb}
 use lib.ListN.{getD}
 use Rattle.lists.specs.Lists.{part}
@@ -50,11 +50,11 @@ pub record WordFits (k : ℕ) (v : Words) (entries : List Entry) : Type 0 where
 
 pub record StretchFits (w : Stretch) (entries : List Entry) : Type 0 where
   pub places : InEntries (w .first) (w .end) entries
-  pub good : w .good ≡ true
+  pub good : w .first < w .end → w .good ≡ true
 
 -- the entry of an id has its mark in the word, and is in range
 abbrev pub asInWord : (word id : ℕ) → Entry → Bool
 asInWord word id e = eqb (e .here) (bit word (id % 64)) && entryInRange e
 
 abbrev pub allAsInWord : Stretch → List Entry → Bool
-allAsInWord w entries = everyFrom 0 (asInWord (w .word)) (part (w .first) (w .end - w .first) entries)
+allAsInWord w entries = w .good && everyFrom 0 (asInWord (w .word)) (part (w .first) (w .end - w .first) entries)
