@@ -64,7 +64,7 @@ pub fn first_place(
 }
 
 #[inline(always)]
-fn table_good(table: &ClassTable) -> bool {
+pub fn table_good(table: &ClassTable) -> bool {
     if (table.nhosts.wrapping_sub(1) >= PLACES) | (table.net.count > ROWS) {
         return false;
     }

@@ -23,8 +23,8 @@ mod walk;
 use clock::Sample;
 use guard::{find, first_place, settings_good, Verdict};
 use hello::{
-    Address, ClassTable, Clock, Counter, Entry, Inspected, Links, Route, Sent, Settings, Stepped,
-    Time, Walk, LINKS, LONGEST_MESSAGE, PLACES,
+    Address, ClassTable, Clock, Counter, Entry, Inspected, Link, Links, Route, Sent, Settings,
+    Stepped, Time, Walk, HOSTS, LINKS, LONGEST_MESSAGE, PLACES, UNITS_PER_MS,
 };
 use packet::Message;
 
@@ -47,6 +47,57 @@ macro_rules! admit {
 
 const fn plain(answer: u8) -> u8 {
     answer
+}
+
+#[inline(never)]
+pub fn initialize(
+    settings: &Settings,
+    table: &ClassTable,
+    number: usize,
+    clock: &mut Clock,
+    links: &mut Links,
+    walk: &mut Walk,
+    _copy: &[u8],
+    entries: &mut [Entry],
+) -> u8 {
+    let start = PLACES * number;
+    if number >= HOSTS || entries.len() < start + PLACES || !guard::table_good(table) {
+        return 12;
+    }
+    if !settings_good(settings, table) {
+        return 1;
+    }
+    *clock = Clock {
+        clock: settings.time * UNITS_PER_MS,
+        delta: 0,
+        hold: 0,
+        date: settings.date | 0x8000,
+    };
+    for (link, setting) in links.all.iter_mut().zip(&settings.links) {
+        *link = Link {
+            neighbor: match setting.broadcast {
+                0 => Address::new(0, 0, 0, 0),
+                _ => setting.neighbor,
+            },
+            keep_alive: 0,
+            tsp: 0,
+        };
+    }
+    *walk = Walk::CLOSED;
+    let places = &mut entries[start..start + PLACES][..settings.layout.nhosts];
+    for (of_word, word) in places.chunks_mut(64).zip(settings.marks.words) {
+        for (id, entry) in of_word.iter_mut().enumerate() {
+            *entry = Entry {
+                delay: MAX_DELAY,
+                offset: 0,
+                ttl: 0,
+                pid: 0,
+                here: (word >> id & 1) as u8,
+                time: 0,
+            };
+        }
+    }
+    0
 }
 
 #[inline(never)]

@@ -1,6 +1,7 @@
 pub mod Hits
 pub mod Steps
 pub mod HostAfter
+pub mod Listed
 pub mod Order
 pub mod Over
 pub mod Outputs

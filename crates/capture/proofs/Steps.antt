@@ -1,16 +1,17 @@
 -- The search, a step at a time: behind a hit, or one octet further.
 use mathlib.Core.Path.{_≡_, refl, sym, ap, _∙_}
-use mathlib.Core.Bool.{Bool, true, false, cond}
+use mathlib.Core.Bool.{Bool, true, false, cond, _&&_, true≢false}
 use mathlib.Core.List.{List, [], _∷_}
 use Prim.Native.Nat.{ℕ, zero, suc, _+_, _-_, _≤_, _<_}
 use native.Mathlib.Omega.{arith}
 use native.Mathlib.Numerals.{add-one}
 use native.Mathlib.Nat.{add-zero}
 use borrow.Author.Tests.{ne-eqb}
-use lib.Dec.{ltb}
+use lib.Dec.{ltb, eqb}
 use lib.ListN.{length, getD, drop, drop-of-length-le, length-drop}
 use lib.Seq.{drop-cons, drop-drop, getD-drop}
-use Rattle.wire.specs.Ip.{versionAndLength}
+use Rattle.wire.specs.Octets.{octetAt}
+use Rattle.wire.specs.Ip.{versionPlace, versionAndLength, protocolPlace, helloProtocol}
 use Rattle.capture.specs.Search.{Span, span, hit, found, hitsFrom, hits, hitsAt, Searches, gap}
 use Rattle.capture.specs.code.Next.{IsNext}
 use Rattle.capture.proofs.Hits.{hit-none, hit-size, hit-shows}
@@ -61,6 +62,9 @@ module _ (s : List ℕ) (at : ℕ) where
   pub at-hit : (n : ℕ) → hit (drop at s) ≡ suc n → hitsAt at s ≡ span at (suc n) ∷ hitsAt (at + suc n) s
   at-hit n e = from-hit at (drop at s) n e ∙ ap (λ l. span at (suc n) ∷ hitsFrom (at + suc n) 0 l) (drop-drop (suc n) at s)
 
+  pub version-at : octetAt (drop at s) versionPlace ≡ getD s at 0
+  version-at = getD-drop at s 0 0 ∙ ap (λ i. getD s i 0) (add-zero at)
+
   module _ (h : at < length s) where
     cons : drop at s ≡ getD s at 0 ∷ drop (suc at) s
     cons = drop-cons s at 0 h
@@ -68,10 +72,12 @@ module _ (s : List ℕ) (at : ℕ) where
     pub at-miss : hit (drop at s) ≡ 0 → hitsAt at s ≡ hitsAt (at + 1) s
     at-miss e = rw (add-one, cons) (step-miss at _ _ (ap hit (sym cons) ∙ e))
 
-    pub at-other : (getD s at 0 ≡ versionAndLength → ⊥) → hitsAt at s ≡ hitsAt (at + 1) s
-    at-other other =
-        let z : at + 0 ≡ at = add-zero at in
-        at-miss (hit-none (drop at s) (λ w. other (rw z at (sym (getD-drop at s 0 0) ∙ w .version))))
+    pub at-neither : (eqb (getD s at 0) versionAndLength && eqb (getD s (at + protocolPlace) 0) helloProtocol) ≡ false → hitsAt at s ≡ hitsAt (at + 1) s
+    at-neither e =
+        at-miss (hit-none (drop at s) (λ w.
+        let version : getD s at 0 ≡ versionAndLength = sym version-at ∙ w .version in
+        let kind : getD s (at + protocolPlace) 0 ≡ helloProtocol = sym (getD-drop at s protocolPlace 0) ∙ w .kind in
+        true≢false (rw (version, kind) at e)))
 
 -- ---- the search as the sentence has it
 

@@ -1,11 +1,11 @@
-// The first pass: what there is to write, and whether the input's places are those of its hits.
+// The search's pass: where the hits start, how much there is to write, and whether the input's places are those of its hits.
 ghost use mathlib.Core.Path.{_≡_};
 ghost use Prim.Native.Nat.{_≤_};
 ghost use lib.ListN.{length};
 ghost use Rattle.capture.specs.Search.{gap};
 ghost use Rattle.capture.specs.Capture.{headingLength};
 ghost use Rattle.capture.specs.Recover.{longestInput};
-ghost use Rattle.capture.specs.code.Survey.{surveyOf, standsAt, counted, marked};
+ghost use Rattle.capture.specs.code.Survey.{mostHits, Surveyed, standsAt, counted, marked};
 use super::NUMBER;
 use super::Next;
 use super::Survey;
@@ -49,10 +49,10 @@ fn counted(input: &[u8], s: Survey, from: usize, n: Next) -> Survey
     }
 }
 
-// What there is to write of an input.
-pub fn survey(input: &[u8]) -> Survey
-    requires { ⌜ length (now input) ≤ longestInput ⌝ }
-    ensures { λ r. ⌜ r ≡ surveyOf (now (input .entry)) ⌝ }
+// What there is to write of an input; writes the start of each hit to a list.
+pub fn survey(input: &[u8], starts: &mut [u16]) -> Survey
+    requires { ⌜ (length (now input) ≤ longestInput) × (length (now starts) ≡ mostHits) ⌝ }
+    ensures { λ r. ⌜ Surveyed (now (input .entry)) (now (starts .entry)) r (now (starts .exit)) ⌝ }
 {
     let mut s = Survey {
         hits: 0,
@@ -67,6 +67,8 @@ pub fn survey(input: &[u8]) -> Survey
             s.stretches = s.stretches + stretch_count(at, n.at);
             return s;
         }
+        let k = s.hits;
+        starts[k] = n.at as u16;
         s = counted(input, s, at, n);
         at = n.at + n.size;
     }

@@ -16,6 +16,9 @@ mod writing;
 // No longer input is taken.
 const LONGEST: usize = 65536;
 
+// No input has more packets: none has fewer than 32 octets.
+const MOST: usize = 2048;
+
 // The octets of a number.
 const NUMBER: usize = 4;
 
@@ -78,7 +81,8 @@ pub fn recover(input: &[u8], capture: &mut [u8], stretches: &mut [u8]) -> Recove
     if LONGEST < input.len() {
         return refused(Answer::CaptureLength);
     }
-    let s = counting::survey(input);
+    let mut starts = [0u16; MOST];
+    let s = counting::survey(input, &mut starts);
     let capture_length = NUMBER + NUMBER * s.hits + s.octets;
     if capture.len() < capture_length {
         return refused(Answer::ShortBuffer);
@@ -87,7 +91,7 @@ pub fn recover(input: &[u8], capture: &mut [u8], stretches: &mut [u8]) -> Recove
     if stretches.len() < stretches_length {
         return refused(Answer::ShortBuffer);
     }
-    writing::write(input, &mut *capture, &mut *stretches, s.hits);
+    writing::write(input, &mut *capture, &mut *stretches, &starts, s.hits);
     Recovered {
         answer: Answer::Done,
         capture_length,

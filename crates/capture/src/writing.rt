@@ -1,4 +1,4 @@
-// The second pass: the capture of the hits, and the list of stretches.
+// The pass over the hits: the capture of the hits, and the list of stretches.
 ghost use mathlib.Core.Path.{_≡_};
 ghost use Prim.Native.Nat.{_+_, _≤_};
 ghost use lib.ListN.{length};
@@ -9,7 +9,8 @@ ghost use Rattle.capture.specs.Recover.{longestInput};
 ghost use Rattle.capture.specs.code.Writing.{Room};
 use super::NUMBER;
 use super::octets::put_four;
-use super::search::next;
+use super::octets::two_at;
+use super::search::TOTAL;
 
 // Writes the stretch from one octet to another to a place of the list, if it has octets; returns the place after it.
 fn put_stretch(list: &mut [u8], place: usize, from: usize, to: usize) -> usize
@@ -24,29 +25,26 @@ fn put_stretch(list: &mut [u8], place: usize, from: usize, to: usize) -> usize
     place
 }
 
-// Both outputs, of an input with n hits.
-pub fn write(input: &[u8], capture: &mut [u8], stretches: &mut [u8], hits: usize)
-    requires { ⌜ Room (now input) (now capture) (now stretches) hits ⌝ }
+// Both outputs, of an input with n hits, from where they start. A hit's length is in its header.
+pub fn write(input: &[u8], capture: &mut [u8], stretches: &mut [u8], starts: &[u16], hits: usize)
+    requires { ⌜ Room (now input) (now capture) (now stretches) (now starts) hits ⌝ }
     ensures { λ _. ⌜ (now (capture .exit) ≡ over (now (capture .entry)) 0 (recoveredCapture (now (input .entry))))
         × (now (stretches .exit) ≡ over (now (stretches .entry)) 0 (stretchList (now (input .entry)))) ⌝ }
 {
     put_four(&mut *capture, 0, hits);
+    let mut k: usize = 0;
     let mut at: usize = 0;
-    let mut place = NUMBER;
     let mut to = NUMBER + NUMBER * hits;
     let mut end: usize = 0;
-    loop {
-        let n = next(input, at);
-        let start = n.at;
-        let size = n.size;
+    while k < hits {
+        let start = starts[k] as usize;
+        let size = two_at(input, start + TOTAL);
         end = put_stretch(&mut *stretches, end, at, start);
-        if size == 0 {
-            return;
-        }
         at = start + size;
-        put_four(&mut *capture, place, to);
+        put_four(&mut *capture, NUMBER + NUMBER * k, to);
         wire::copy(&mut *capture, to, &input[start..at]);
-        place += NUMBER;
         to += size;
+        k += 1;
     }
+    put_stretch(&mut *stretches, end, at, input.len());
 }

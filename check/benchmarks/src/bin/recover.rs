@@ -1,12 +1,15 @@
-//! Times the recovery of captures beside the fast program of `check/tuned`, in turns.
+//! Times the recovery of captures of 65,536 octets beside the fast program of `check/tuned`, in turns.
+//!
+//! `recover [ROUNDS]`
 
+#[path = "../figures.rs"]
+mod figures;
+
+use figures::{in_turns, print_heading, print_load, print_times, rounds};
 use hello::capture::{mend, LONGEST, LONGEST_CAPTURE, LONGEST_STRETCHES};
 use hello::Answer;
 use std::hint::black_box;
-use std::time::{Duration, Instant};
 use tuned::recover::recover;
-
-const ROUNDS: usize = 101;
 
 /// The folded sum, two octets at a time.
 fn folded(octets: &[u8]) -> u32 {
@@ -79,25 +82,6 @@ fn noise() -> Vec<u8> {
     (0..LONGEST).map(|_| octet()).collect()
 }
 
-/// The least time of one run, in microseconds, of each of two, in turns.
-fn measure(mut first: impl FnMut(), mut second: impl FnMut()) -> [f64; 2] {
-    let mut times = [Vec::new(), Vec::new()];
-    for _ in 0..ROUNDS {
-        for (run, times) in [&mut first as &mut dyn FnMut(), &mut second]
-            .into_iter()
-            .zip(&mut times)
-        {
-            let (start, mut runs) = (Instant::now(), 0);
-            while start.elapsed() < Duration::from_millis(2) {
-                run();
-                runs += 1;
-            }
-            times.push(start.elapsed().as_secs_f64() * 1e6 / f64::from(runs));
-        }
-    }
-    times.map(|times| times.into_iter().fold(f64::MAX, f64::min))
-}
-
 fn main() {
     let inputs = [
         ("noise", noise()),
@@ -112,11 +96,9 @@ fn main() {
         ("a capture, NHOSTS 4", captured(4)),
         ("a capture, NHOSTS 255", captured(255)),
     ];
-    println!("The quickest of {ROUNDS} rounds, microseconds for one call on 65,536 octets.\n");
-    println!(
-        "{:<36} {:>9} {:>9} {:>6}",
-        "input", "library", "tuned", "ratio"
-    );
+    let rounds = rounds(161);
+    print_load("before");
+    print_heading(rounds, "input", "tuned");
     for (name, input) in &inputs {
         let [mut capture, mut other] = [(); 2].map(|()| vec![0; LONGEST_CAPTURE]);
         let [mut list, mut other_list] = [(); 2].map(|()| vec![0; LONGEST_STRETCHES]);
@@ -124,15 +106,22 @@ fn main() {
         assert_eq!(found.answer, Answer::Done.number());
         assert_eq!(found, recover(input, &mut other, &mut other_list));
         assert!(capture == other && list == other_list);
-        let [library, tuned] = measure(
-            || {
-                black_box(mend(black_box(input), &mut capture, &mut list));
-            },
-            || {
-                black_box(recover(black_box(input), &mut other, &mut other_list));
-            },
+        let times = in_turns(
+            rounds,
+            [
+                Box::new(|count| {
+                    for _ in 0..count {
+                        black_box(mend(black_box(input), &mut capture, &mut list));
+                    }
+                }),
+                Box::new(|count| {
+                    for _ in 0..count {
+                        black_box(recover(black_box(input), &mut other, &mut other_list));
+                    }
+                }),
+            ],
         );
-        let ratio = library / tuned;
-        println!("{name:<36} {library:>9.1} {tuned:>9.1} {ratio:>6.2}");
+        print_times(name, times);
     }
+    print_load("after");
 }

@@ -1,22 +1,30 @@
 //! Times every call of the proved library beside the fast program of `check/tuned`, on the same inputs,
 //! in turns, and prints the machine's load before and after.
 //!
-//! `tuned [ROUNDS]`: for each call and NHOSTS the quickest and the median batch of each program.
+//! `tuned [ROUNDS]`: for each call and NHOSTS the quickest and the median batch of each program, and the
+//! growth for each entry more from NHOSTS 64 to 255.
 
 #[path = "../../../compare/src/convert.rs"]
 #[allow(dead_code)]
 mod convert;
+#[path = "../figures.rs"]
+mod figures;
 #[path = "../host.rs"]
 #[allow(dead_code)]
 mod host;
 
+use figures::{in_turns, print_heading, print_load, print_times, rounds, Batch, Times};
+use hello::Walk;
 use host::{message, Ours, COUNTER, HOST, LINK, NEIGHBOR};
 use std::hint::black_box;
-use std::time::{Duration, Instant};
 
 const SIZES: [usize; 4] = [4, 16, 64, 255];
-const CALLS: [&str; 10] = [
+const CALLS: [&str; 15] = [
+    "initialize",
     "tick",
+    "adjust",
+    "set",
+    "read",
     "lookup",
     "second",
     "self-report",
@@ -25,11 +33,9 @@ const CALLS: [&str; 10] = [
     "act",
     "receive",
     "send",
+    "open walk",
     "step",
 ];
-const BATCH: Duration = Duration::from_micros(500);
-
-type Batch = Box<dyn FnMut(u32)>;
 
 #[derive(Clone, Copy)]
 enum Program {
@@ -80,13 +86,16 @@ fn walking(nhosts: usize, packet: &[u8]) -> Ours {
 }
 
 /// Batches of a call by a program; each call must answer 0.
-fn batches(program: Program, call: &'static str, nhosts: usize) -> Batch {
+fn batches(program: Program, call: &'static str, nhosts: usize) -> Batch<'static> {
     let packet = message(nhosts);
     let mut buffer = vec![0; 32 + 4 * nhosts];
     let mut ours = match call {
         "step" => walking(nhosts, &packet),
         _ => start(nhosts, call == "self-report, all"),
     };
+    if call == "open walk" {
+        ours.copy = vec![0; hello::LONGEST_MESSAGE];
+    }
     let mut seconds = 0;
     Box::new(move |count| {
         for _ in 0..count {
@@ -100,19 +109,25 @@ fn batches(program: Program, call: &'static str, nhosts: usize) -> Batch {
                             .for_each(|entry| entry.ttl = 120);
                     }
                 }
+                "open walk" => ours.walk = Walk::CLOSED,
                 "step" => ours.walk.step = 2,
                 _ => {}
             }
             let mut state = ours.state();
             let packet = black_box(&packet);
             let answer = match call {
+                "initialize" => by!(program, state, initialize,),
                 "tick" => by!(program, state, tick, black_box(0)),
+                "adjust" => by!(program, state, adjust, black_box(0)),
+                "set" => by!(program, state, set, black_box(1), black_box(0)),
+                "read" => by!(program, state, read, black_box(COUNTER)).answer,
                 "lookup" => by!(program, state, lookup, black_box(NEIGHBOR)).answer,
                 "second" => by!(program, state, second,),
                 "inspect" => by!(program, state, inspect, LINK, packet).answer,
                 "act" => by!(program, state, act, LINK, black_box(COUNTER), packet),
                 "receive" => by!(program, state, receive, LINK, black_box(COUNTER), packet),
                 "send" => by!(program, state, send, LINK, black_box(COUNTER), &mut buffer).answer,
+                "open walk" => by!(program, state, open_walk, LINK, packet).answer,
                 "step" => by!(program, state, step, black_box(COUNTER)).answer,
                 _ => by!(program, state, self_report, black_box(COUNTER)),
             };
@@ -121,64 +136,43 @@ fn batches(program: Program, call: &'static str, nhosts: usize) -> Batch {
     })
 }
 
-fn time(batch: &mut Batch, count: u32) -> Duration {
-    let begin = Instant::now();
-    batch(count);
-    begin.elapsed()
+/// Both programs initialize a host alike. The comparison makes all other calls by both.
+fn initialize_alike(nhosts: usize) {
+    let [ours, others] = [Program::Library, Program::Tuned].map(|program| {
+        let mut ours = start(nhosts, true);
+        let mut state = ours.state();
+        assert_eq!(by!(program, state, initialize,), 0);
+        ours
+    });
+    assert!((ours.clock, ours.links, ours.walk) == (others.clock, others.links, others.walk));
+    assert!(ours.run == others.run);
 }
 
-/// The number of calls that a batch needs.
-fn enough(batch: &mut Batch) -> u32 {
-    let mut count = 64;
-    while time(batch, count) < BATCH {
-        count *= 2;
-    }
-    count
-}
-
-/// The quickest and the median time.
-fn summary(mut times: Vec<f64>) -> [f64; 2] {
-    times.sort_by(f64::total_cmp);
-    [times[0], times[times.len() / 2]]
-}
-
-fn print_load(when: &str) {
-    let load = std::fs::read_to_string("/proc/loadavg").unwrap_or_default();
-    println!("load {when}: {}", load.trim());
+/// The nanoseconds that each entry more costs.
+fn growth(at_64: Times, at_255: Times) -> f64 {
+    (at_255.quickest - at_64.quickest) / (255.0 - 64.0)
 }
 
 fn main() {
-    let rounds: usize = match std::env::args().nth(1).map(|word| word.parse()) {
-        None => 161,
-        Some(Ok(rounds)) if rounds > 0 => rounds,
-        Some(_) => {
-            eprintln!("usage: tuned [ROUNDS]");
-            std::process::exit(2);
-        }
-    };
+    let rounds = rounds(161);
     print_load("before");
-    println!("nanoseconds for one call: the quickest of {rounds} batches | the median");
-    println!("call              NHOSTS  library    tuned   ratio |  library    tuned   ratio");
+    print_heading(rounds, "call, NHOSTS", "tuned");
+    SIZES.into_iter().for_each(initialize_alike);
+    let mut growths = Vec::new();
     for call in CALLS {
-        for nhosts in SIZES {
-            let mut programs =
+        let times = SIZES.map(|nhosts| {
+            let programs =
                 [Program::Library, Program::Tuned].map(|program| batches(program, call, nhosts));
-            let counts: Vec<u32> = programs.iter_mut().map(enough).collect();
-            let mut times = vec![Vec::new(); programs.len()];
-            for _ in 0..rounds {
-                for (i, program) in programs.iter_mut().enumerate() {
-                    let taken = time(program, counts[i]).as_nanos() as f64;
-                    times[i].push(taken / f64::from(counts[i]));
-                }
-            }
-            let [library, tuned] = [0, 1].map(|i| summary(times[i].clone()));
-            print!("{call:<17}{nhosts:>7}");
-            for i in 0..2 {
-                let ratio = library[i] / tuned[i];
-                print!("{:>9.1}{:>9.1}{ratio:>8.2}", library[i], tuned[i]);
-                print!("{}", if i == 0 { " |" } else { "\n" });
-            }
-        }
+            let times = in_turns(rounds, programs);
+            print_times(&format!("{call}, {nhosts}"), times);
+            times
+        });
+        growths.push([0, 1].map(|program| growth(times[2][program], times[3][program])));
+    }
+    println!("\nnanoseconds for each entry more, from NHOSTS 64 to 255, by the quickest batches");
+    println!("{:<36}  library     tuned", "call");
+    for (call, [library, tuned]) in CALLS.iter().zip(growths) {
+        println!("{call:<36}{library:>9.2} {tuned:>9.2}");
     }
     print_load("after");
 }

@@ -1,9 +1,11 @@
--- What the first pass finds out: how much there is to write, and whether the input's places are those of its hits.
+-- What the search's pass finds out: where the hits start, how much there is to write, and whether the input's places are those of its hits.
+use mathlib.Core.Path.{_≡_}
 use mathlib.Core.Bool.{Bool, _&&_}
 use mathlib.Core.List.{List, [], _∷_}
 use Prim.Native.Nat.{ℕ, _+_, _*_}
 use lib.Dec.{leb, eqb}
 use lib.ListN.{length}
+use Rattle.lists.specs.Lists.{over}
 use Rattle.wire.specs.Octets.{fourAt}
 use Rattle.capture.specs.declared.Next.{Next}
 use Rattle.capture.specs.declared.Survey.{Survey}
@@ -22,6 +24,20 @@ surveyOf input =
       stretches = length (stretches input);
       placed = placesAre input numberLength (hits input);
     }
+
+-- the most hits of an input
+abbrev pub mostHits : ℕ
+mostHits = 2048
+
+-- where hits start
+abbrev pub startsOf : List Span → List ℕ
+startsOf [] = []
+startsOf (h ∷ hs) = h .start ∷ startsOf hs
+
+-- what the pass returns, and the list of starts afterwards
+pub record Surveyed (input before : List ℕ) (s : Survey) (after : List ℕ) : Type 0 where
+  pub counts : s ≡ surveyOf input
+  pub listed : after ≡ over before 0 (startsOf (hits input))
 
 -- whether a number is at a place of the input, if all were so far
 abbrev pub standsAt : List ℕ → Bool → (place number : ℕ) → Bool
