@@ -57,8 +57,10 @@ class Arg:
 
 
 class Call:
-    def __init__(self, let, type_, name, args):
-        self.let, self.type, self.name, self.args = let, type_, name, args
+    """free: the callee asks for nothing"""
+
+    def __init__(self, let, type_, name, args, free=None):
+        self.let, self.type, self.name, self.args, self.free = let, type_, name, args, bool(free)
 
 
 class Shape:
@@ -166,13 +168,13 @@ class Straight(Shape):
         self.types[let] = "usize"
         self.body.append(("len", let, name))
 
-    def let(self, line, let, type_, parts, name, args):
+    def let(self, line, let, type_, parts, free, name, args):
         self.name_type(line, type_, STRAIGHT_TYPES, self.LETS)
         if parts is not None:
             if type_ in [p.type for p in self.params]:
                 raise Wrong(line, "`%s` has fields that are read, so no parameter is of this type" % type_)
             self.fields(line, type_, parts)
-        call = Call(let, type_, name, self.args(line, args))
+        call = Call(let, type_, name, self.args(line, args), free)
         self.name_value(line, let)
         self.types[let] = type_
         self.body.append(("call", call))
@@ -181,18 +183,16 @@ class Straight(Shape):
         p = self.lent(line, name, slice_=False)
         if not p.mut:
             raise Wrong(line, "`%s` is not `&mut`" % name)
-        if not p.copied:
-            raise Wrong(line, "`*%s` is stored to, but was not copied out by `let c = *%s;`" % (name, name))
         if name in self.stored:
             raise Wrong(line, "`*%s` is stored to already" % name)
         self.stored.add(name)
         self.body.append(("store", name, self.value(line, value, field)))
 
-    def do(self, line, name, args, semicolon):
+    def do(self, line, free, name, args, semicolon):
         if not semicolon and self.result == "()":
             raise Wrong(line, "`%s` hands nothing back: a `;` is missing" % self.name)
         args = self.args(line, args)
-        self.body.append(("call", Call(None, "()", name, args) if semicolon else Call("result", self.result, name, args)))
+        self.body.append(("call", Call(None, "()", name, args, free) if semicolon else Call("result", self.result, name, args, free)))
 
     def back(self, line, value, field):
         if self.result == "()":
@@ -202,9 +202,9 @@ class Straight(Shape):
     FORMS = (
         (r"let (\w+) = \*(\w+);", copy),
         (r"let (\w+) = (\w+)\.len\(\);", len),
-        (r"let (\w+): (\w+)(?:\(([^)]*)\))? = (\w+)\((.*)\);", let),
+        (r"let (\w+): (\w+)(?:\(([^)]*)\))? = (free )?(\w+)\((.*)\);", let),
         (r"\*(\w+) = (\w+)(?:\.(\d+))?;", store),
-        (r"(\w+)\((.*)\)(;?)", do),
+        (r"(free )?(\w+)\((.*)\)(;?)", do),
         (r"(\w+)\.(\d+)", back),
     )
 
@@ -247,8 +247,8 @@ class Straight(Shape):
             return self.value(line, name, field)
         if field is not None:
             raise Wrong(line, "`%s` is lent: no field of it is passed" % name)
-        if mark and not (p.slice and p.mut):
-            raise Wrong(line, "only a `&mut` slice is passed as `%s%s`" % (mark, name))
+        if mark and not (p.mut and (p.slice or mark == "&")):
+            raise Wrong(line, "only a `&mut` parameter is passed as `&%s`, and only a `&mut` slice as `&mut %s`" % (name, name))
         if p.gone:
             raise Wrong(line, "`%s` is given away on line %d" % (name, p.gone))
         if p.copied and p.mut:
@@ -327,7 +327,7 @@ class Branches(Straight):
         g = re.fullmatch(r"if (\w+) \{", text)
         if not g or self.types.get(g.group(1)) != "bool":
             raise Wrong(line, "a test is a value of type bool that a call hands back: `if x {`")
-        h = re.fullmatch(r"return (\w+\(.*\));", lines[1][1])
+        h = re.fullmatch(r"return ((?:free )?\w+\(.*\));", lines[1][1])
         if not h or lines[2][1] != "}" or len(lines) < 4:
             raise Wrong(lines[1][0], "here stands `return f(..);` and `}`, and then the rest")
         arm, rest = self.arm([(lines[1][0], h.group(1))]), self.arm(lines[3:])

@@ -244,7 +244,8 @@ class Straight(Law):
                         self.oks.append("(%s : %s)" % (a.within, known("(%s ≤ %s) × (%s ≤ length %s)" % (low, high, high, lists[a.name]))))
                 xs = [self.part_of(a, lists[a.name]) if a in c.refs else self.value(a).x for a in c.args]
                 had = "Asks " + names if self.requires and c is self.calls[0] else "emp 𝓤"
-                self.oks.append("(ok%s : %s)" % (c.n, known("ent 𝓤 (%s) (%s)" % (had, " ".join(["asks" + c.n] + xs)))))
+                if not c.free:
+                    self.oks.append("(ok%s : %s)" % (c.n, known("ent 𝓤 (%s) (%s)" % (had, " ".join(["asks" + c.n] + xs)))))
                 if c.let:
                     binders += " (%s : %s .row .Denot)" % (c.let, self.word(c.type))
                     self.env[c.let] = Value(c.let, "(plain ! tt refl)", "is-" + c.let)
@@ -277,7 +278,7 @@ class Straight(Law):
 
     def contracts(self):
         """the module: what each callee asks and gives, what the function says, and the hypotheses"""
-        said = ["(asks%s : Asking form%s 𝓤) (gives%s : Giving form%s)" % (c.n, c.n, c.n, c.n) for c in self.calls]
+        said = [("" if c.free else "(asks%s : Asking form%s 𝓤) " % (c.n, c.n)) + "(gives%s : Giving form%s)" % (c.n, c.n) for c in self.calls]
         said += ["(Asks : Asking form₀ 𝓤)"] if self.requires else ["(Asks : Over (takes form₀) (Type 0))"] if self.given else []
         self.emit("  module _ {M : Type 1} (𝓤 : URA M) (H : Heap 𝓤) (𝓜 : Model 𝓤 H) (𝓖 : GhostRules 𝓤 H) (𝓡 : Running 𝓤 H 𝓜) %s (Says : Saying form₀)" % " ".join(said))
         for o in self.oks:
@@ -285,7 +286,7 @@ class Straight(Law):
         self.emit("      (γ : Env) (f %s : Name) (%s : Routine) where" % (self.gs, " ".join("r" + c.n for c in self.calls)))
 
     def callee(self, c):
-        return "(callee 𝓤 form%s asks%s gives%s)" % (c.n, c.n, c.n)
+        return "(callee 𝓤 form%s %s gives%s)" % (c.n, "(unasked form%s 𝓤)" % c.n if c.free else "asks" + c.n, c.n)
 
     def job(self):
         """the function, its contract, and those that it calls"""
@@ -355,7 +356,8 @@ class Straight(Law):
             having = "%d refl " % self.d("asked")
             self.held.remove("asked")
         r = c.let or "u" + c.n
-        self.step("%s ! fm %s known%s %s%s (ok%s %s) tt refl (λ %s ws%s φ%s is-%s." % ("calls-having" if having else "calls", self.callee(c), c.n, having, self.arguments(c), c.n, self.facts_before(c), r, c.n, c.n, r))
+        ok = "(id⊢ 𝓤 _)" if c.free else "(ok%s %s)" % (c.n, self.facts_before(c))
+        self.step("%s ! fm %s known%s %s%s %s tt refl (λ %s ws%s φ%s is-%s." % ("calls-having" if having else "calls", self.callee(c), c.n, having, self.arguments(c), ok, r, c.n, c.n, r))
         for a, v in c.ends:
             self.left[v] = "(%s)" % proj("ws" + c.n, c.args.index(a))
         for a in c.refs:
@@ -389,7 +391,7 @@ class Straight(Law):
             low, high = (self.env[x].x for x in a.part)
             self.step("%s ! %d refl %s %s %s (λ %sδ%s." % ("cuts" if a.how == "share" else "recuts", d, low, high, a.fits, "" if a.how == "share" else "α%s " % a.n, a.n))
         else:
-            self.step("%s ! %d refl (λ α%s δ%s." % ("lends" if a.how == "share" else "relends", d, a.n, a.n))
+            self.step("%s ! %d refl (λ α%s δ%s." % ("relends" if a.how == "again" else "lends" if self.by_name[a.name].slice else "lends-one", d, a.n, a.n))
         self.held.insert(d + 1, "kept " + a.name)
 
     def walk_back(self, c, a):
@@ -398,7 +400,7 @@ class Straight(Law):
         if a.part:
             self.step("%s ! %d refl refl (" % ("joined" if a.how == "share" else "rejoined", d))
         else:
-            self.step("back ! %d refl refl (" % d if a.how == "share" else "returned ! %d refl refl (λ len%s." % (d, a.n))
+            self.step("%s ! %d refl refl (" % ("back" if self.by_name[a.name].slice else "one-back", d) if a.how == "share" else "returned ! %d refl refl (λ len%s." % (d, a.n))
         del self.held[d + 1]
 
     def arguments(self, c):

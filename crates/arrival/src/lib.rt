@@ -7,9 +7,8 @@ ghost use Rattle.wire.specs.code.Ranges.{Four};
 ghost use Rattle.table.specs.Entry.{upTo};
 ghost use Rattle.host.specs.Settings.{settingsGood};
 ghost use Rattle.host.specs.State.{hasPlace};
-ghost use Rattle.host.specs.declared.guard.Scope.the-variants.{OnLink};
 ghost use Rattle.host.specs.CallState.{host};
-ghost use Rattle.host.specs.code.Returned.{RowsBelow, Returned, TableReturned};
+ghost use Rattle.host.specs.code.Returned.{RowsBelow};
 ghost use Rattle.clock.specs.Clock.{clockInRange};
 ghost use Rattle.arrival.specs.Steps.{atLeastMin, neighborUpdate};
 ghost use Rattle.arrival.specs.Arrival.{
@@ -24,7 +23,6 @@ ghost use Rattle.arrival.specs.Arrival.{
   onLink,
   delivered,
 };
-ghost use Rattle.arrival.specs.code.Plan.{planned};
 use answer::Answer;
 use calendar::Date;
 use clock::Clock;
@@ -298,33 +296,13 @@ pub fn on_link(d: Delivery) -> usize
 }
 
 // The arrival in one piece equals the action alone, since the action inspects too.
-fn deliver(s: Settings, t: NetTable, c: Clock, l: Links, d: Delivery, packet: &[u8]) -> Arrived
-    requires { ⌜ (1 ≤ onLink d) × (onLink d ≤ 8) ⌝ }
-    requires { ⌜ (settingsGood s ≡ true) × RowsBelow t s × (clockInRange c ≡ true) ⌝ }
-    ensures { λ a. ⌜ a ≡ delivered d (now (packet .entry)) t (host s c l) ⌝ }
+pub fn deliver(s: Settings, t: NetTable, c: Clock, l: Links, d: Delivery, packet: &[u8]) -> Arrived
+    requires { ⌜ (1 ≤ onLink d) × (onLink d ≤ 8) × (settingsGood s ≡ true) × RowsBelow t s × (clockInRange c ≡ true) ⌝ }
+    ensures { λ a. ⌜ (a ≡ delivered d (now (packet .entry)) t (host s c l)) × (a .work .count .0 < 2 ^ 16) ⌝ }
 {
     match d {
         Delivery::Inspect(i) => look(s, c, l, i, packet),
         Delivery::Act(i, k) => act(s, t, c, l, i, k, packet),
         Delivery::Receive(i, k) => act(s, t, c, l, i, k, packet),
     }
-}
-
-// The guard's refusal, or the result of the delivery.
-pub fn plan(
-    g: Answer,
-    s: Settings,
-    t: NetTable,
-    c: Clock,
-    l: Links,
-    d: Delivery,
-    packet: &[u8],
-) -> Arrived
-    requires { ⌜ Returned g (OnLink (onLink d)) s c × TableReturned g t s ⌝ }
-    ensures { λ p. ⌜ (p ≡ planned g d (now (packet .entry)) t (host s c l)) × (p .work .count .0 < 2 ^ 16) ⌝ }
-{
-    if !answer::is_done(g) {
-        return ends(g, s, c, l);
-    }
-    deliver(s, t, c, l, d, packet)
 }

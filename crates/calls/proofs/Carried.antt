@@ -1,11 +1,8 @@
 -- Ids and places: a change to some ids of a host, made at their places in the run, is the same change made to the host's entries.
 use mathlib.Core.Path.{_≡_, refl, sym, ap, _∙_}
-use mathlib.Core.Bool.{Bool, true, false, cond}
 use mathlib.Core.List.{List, [], _∷_}
 use Prim.Native.Nat.{ℕ, _+_, _-_, _≤_, _<_}
 use native.Mathlib.Omega.{arith}
-use borrow.Author.Tests.{ltb-true, ltb-false}
-use lib.Dec.{ltb}
 use lib.ListN.{length, getD, take, drop}
 use lib.Seq.{take-add, take-take, drop-at, drop-drop, length-take-le, getD-take, getD-drop}
 use Rattle.lists.specs.Lists.{part, over}
@@ -43,18 +40,13 @@ module _ {A : Type 0} (F H i n : ℕ) (entries : List A) (inside : i + n ≤ H) 
 
 pub nothing-placed : (k : ℕ) (entries : List Entry) → changes (placed k nothing) entries ≡ entries
 unfolding changes
-nothing-placed k entries = over-nothing 0 entries
+nothing-placed k entries =
+    let m : firstPlace k + 0 - (firstPlace k + 0) ≡ 0 = omega arith in
+    rw m (over-nothing (firstPlace k + 0) entries)
 
 module _ (s : Settings) (k : ℕ) (entries : List Entry) (h : Holds k entries) (w : Changes) (ids : Ids s w) where
-  abbrev spot : Bool → Changes
-  spot b = cond b record { first = firstPlace k + w .first; end = firstPlace k + w .end; change = w .change; marks = w .marks } nothing
-
   pub placed-in : InEntries (placed k w .first) (placed k w .end) entries
-  placed-in = go (ltb (w .first) (w .end))
-    where
-      go : (b : Bool) → InEntries (spot b .first) (spot b .end) entries
-      go true = let r = ids .rising in let e = ids .below in record { rising = omega arith; inside = omega arith }
-      go false = record { rising = omega arith; inside = omega arith }
+  placed-in = let r = ids .rising in let e = ids .below in record { rising = omega arith; inside = omega arith }
 
   abbrev F : ℕ
   F = firstPlace k
@@ -76,19 +68,9 @@ module _ (s : Settings) (k : ℕ) (entries : List Entry) (h : Holds k entries) (
 
   at-places : changes (placed k w) entries ≡ over entries (F + w .first) (xs n)
   unfolding changes
-  at-places = go (ltb (w .first) (w .end)) refl
-    where
-      put : Changes → List Entry
-      put v = over entries (v .first) (mapFrom 0 (changed (v .marks) (v .change)) (part (v .first) (v .end - v .first) entries))
-
-      go : (b : Bool) → ltb (w .first) (w .end) ≡ b → put (spot b) ≡ over entries (F + w .first) (xs n)
-      go true e =
-          let m : firstPlace k + w .end - (firstPlace k + w .first) ≡ w .end - w .first = omega arith in
-          rw m refl
-      go false e =
-          let r = ltb-false (w .first) (w .end) e in
-          let m : w .end - w .first ≡ 0 = omega arith in
-          over-nothing 0 entries ∙ rw m (sym (over-nothing (F + w .first) entries))
+  at-places =
+      let m : firstPlace k + w .end - (firstPlace k + w .first) ≡ w .end - w .first = omega arith in
+      rw m refl
 
   pub carried : changes (placed k w) entries ≡ withEntries k (changes w (ownEntries s k entries)) entries
   carried = at-places ∙ sym on-entries

@@ -15,7 +15,7 @@ use Rattle.table.proofs.Sweeps.{sweep-from, sweep-length}
 use Rattle.host.specs.declared.Settings.{Settings}
 use Rattle.host.specs.State.{firstPlace, hostCount, ownEntries, withEntries}
 use Rattle.host.proofs.Places.{Holds}
-use Rattle.calls.specs.code.Places.{placedUpdates}
+use Rattle.calls.specs.code.Places.{updatesAt}
 use Rattle.calls.proofs.Carried.{part-part}
 
 module _ (s : Settings) (k : ℕ) (entries : List Entry) (h : Holds k entries) (w : Updates) (rising : w .first ≤ w .end) (below : w .end ≤ hostCount s) (octets : List ℕ) where
@@ -31,13 +31,13 @@ module _ (s : Settings) (k : ℕ) (entries : List Entry) (h : Holds k entries) (
   abbrev put : Swept
   put = record { clock = swept .clock; ownEntries = over entries (F + w .first) (swept .ownEntries) }
 
-  at-places : updates (placedUpdates k w) octets entries ≡ put
+  at-places : updates (updatesAt k w) octets entries ≡ put
   unfolding updates
   at-places =
       let m : F + w .end - (F + w .first) ≡ n = omega arith in
-      let same : (i : ℕ) (c : Clock) (e : Entry) → updatedAt (placedUpdates k w) octets (F + i) c e ≡ updatedAt w octets i c e =
+      let same : (i : ℕ) (c : Clock) (e : Entry) → updatedAt (updatesAt k w) octets (F + i) c e ≡ updatedAt w octets i c e =
       λ i c e. (let back : F + i - (F + w .base) ≡ i - w .base = omega arith in rw back refl) in
-      rw (m, sweep-from F (updatedAt (placedUpdates k w) octets) (updatedAt w octets) same (w .first) (w .clock) (part (F + w .first) n entries)) refl
+      rw (m, sweep-from F (updatedAt (updatesAt k w) octets) (updatedAt w octets) same (w .first) (w .clock) (part (F + w .first) n entries)) refl
 
   on-entries : put
       ≡ record { clock = updates w octets (ownEntries s k entries) .clock; ownEntries = withEntries k (updates w octets (ownEntries s k entries) .ownEntries) entries }
@@ -47,6 +47,6 @@ module _ (s : Settings) (k : ℕ) (entries : List Entry) (h : Holds k entries) (
       let long : length (swept .ownEntries) ≡ n = sweep-length (w .first) (updatedAt w octets) (w .clock) (part (F + w .first) n entries) ∙ part-length (F + w .first) n entries (omega arith) in
       rw (inner, over-part entries F (hostCount s) (w .first) (swept .ownEntries) (omega arith) (omega arith)) refl
 
-  pub carried : updates (placedUpdates k w) octets entries
+  pub carried : updates (updatesAt k w) octets entries
       ≡ record { clock = updates w octets (ownEntries s k entries) .clock; ownEntries = withEntries k (updates w octets (ownEntries s k entries) .ownEntries) entries }
   carried = at-places ∙ on-entries

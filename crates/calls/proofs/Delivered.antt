@@ -1,14 +1,11 @@
 -- A packet that arrives, as the code goes: what each update asks is there, and what is planned, placed and updated is what the call leaves.
-use mathlib.Core.Path.{_≡_, refl, sym, ap, _∙_}
-use mathlib.Core.Bool.{Bool, true, false, false≢true, cond, not}
-use mathlib.Core.List.{List, []}
+use mathlib.Core.Path.{_≡_, refl}
+use mathlib.Core.Bool.{Bool, true, false, false≢true, cond}
+use mathlib.Core.List.{List}
 use Prim.Native.Nat.{ℕ, _+_, _-_, _≤_, _<_, _^_}
 use native.Mathlib.Omega.{arith}
-use borrow.Author.Tests.{ltb-true, ltb-false}
-use lib.Dec.{ltb, eqb}
+use lib.Dec.{eqb}
 use lib.ListN.{length}
-use Rattle.lists.proofs.Parts.{over-nothing}
-use Rattle.lists.proofs.Tests.{is-so}
 use Rattle.quantity.specs.declared.Count.{Count}
 use Rattle.answer.specs.declared.Answer.{Answer}
 use Rattle.answer.specs.declared.Answer.the-variants.{DelayNotValid, NoHost}
@@ -28,21 +25,20 @@ use Rattle.table.specs.declared.Entry.{Entry}
 use Rattle.table.specs.declared.entries.Updates.{Updates}
 use Rattle.table.specs.Entry.{upTo}
 use Rattle.table.specs.Update.{ownMost}
-use Rattle.table.specs.Sweep.{Swept, sweep}
 use Rattle.table.specs.Runs.{updates}
 use Rattle.table.specs.code.Loops.{UpdatesFit}
 use Rattle.net_table.specs.declared.NetTable.{NetTable}
 use Rattle.host.specs.declared.Settings.{Settings}
 use Rattle.host.specs.declared.Links.{Links}
-use Rattle.host.specs.State.{firstPlace, hostCount, broadcast, linkOf, withLink, ownEntries, withEntries}
+use Rattle.host.specs.State.{firstPlace, hostCount, broadcast, linkOf, withLink}
 use Rattle.host.specs.declared.guard.Scope.the-variants.{OnLink}
-use Rattle.host.specs.Settings.{foundFor}
+use Rattle.host.specs.Settings.{foundFor, settingsGood}
 use Rattle.host.specs.CallState.{Host, host, CallState, ourReading}
 use Rattle.host.specs.Guard.{guard, done}
 use Rattle.host.specs.code.Returned.{RowsBelow}
 use Rattle.host.proofs.Places.{Holds}
 use Rattle.host.proofs.Sound.{Sound, sound}
-use Rattle.host.proofs.Guarded.{passed, holds, number-state, clock-state}
+use Rattle.host.proofs.Guarded.{Passed, passed, holds, number-state, clock-state, counted}
 use Rattle.arrival.specs.declared.Flight.{Flight}
 use Rattle.arrival.specs.declared.Arrived.{Arrived}
 use Rattle.arrival.specs.declared.Delivery.{Delivery}
@@ -51,13 +47,12 @@ use Rattle.host.specs.Inspection.{inspect}
 use Rattle.arrival.specs.Steps.{measured}
 use Rattle.arrival.specs.Arrival.{noUpdates, ends, noTable, withTable, step5, concluded, inspected, onLink}
 use Rattle.arrival.specs.Arrival as definition
-use Rattle.arrival.specs.code.Plan.{planned}
 use Rattle.arrival.proofs.Flights.{Short, steps-cases, measured-short, new-short}
 use Rattle.host.proofs.Inspected.{Fits, inspected-fits}
 use Rattle.arrival.proofs.Pair.{one-piece}
-use Rattle.calls.specs.Perform.{Outcome, Leaves, deliver, refused, updatedBy, perform}
-use Rattle.calls.specs.code.Places.{Placeable, placedUpdates, updatesAt}
-use Rattle.calls.proofs.Carried.{entries-put}
+use Rattle.calls.specs.Perform.{Outcome, Leaves, deliver, perform}
+use Rattle.calls.specs.code.Places.{Placeable, updatesAt}
+use Rattle.calls.proofs.Guarding.{goes-on}
 use Rattle.calls.proofs.CarriedUpdates as by-places
 
 -- what updates of ids ask
@@ -73,45 +68,17 @@ pub record Asked (s : Settings) (octets : List ℕ) (w : Updates) : Type 0 where
 
 -- ---- ids and places
 
-module _ (s : Settings) (k : ℕ) (entries : List Entry) (h : Holds k entries) (octets : List ℕ) (w : Updates) (a : Asked s octets w) where
-  abbrev spot : Bool → Updates
-  spot b = cond b (placedUpdates k w) (noUpdates (w .clock))
-
-  fits : UpdatesFit (updatesAt k w) entries octets
-  fits = go (ltb (w .first) (w .end)) refl
-    where
-      go : (b : Bool) → ltb (w .first) (w .end) ≡ b → UpdatesFit (spot b) entries octets
-      go true e =
-          let some = ltb-true (w .first) (w .end) e in
-          let r = a .rising in
-          let t = a .below in
-          let z = a .base in
-          let n : firstPlace k + w .end - (firstPlace k + w .base) ≡ w .end = omega arith in
-          record {
-            places = record { rising = omega arith; inside = omega arith };
-            sound = λ _. record { based = omega arith; clock = a .clock some; hold = a .hold some; count = a .count some; delay = a .delay some; reports = λ t. rw n (a .reports some t) };
-          }
-      go false e = record { places = record { rising = omega arith; inside = omega arith }; sound = λ l. absurd (omega (arith, l)) }
-
-  abbrev left : Swept
-  left =
-      record {
-        clock = updates w octets (ownEntries s k entries) .clock;
-        ownEntries = withEntries k (updates w octets (ownEntries s k entries) .ownEntries) entries;
-      }
-
-  none : w .end ≤ w .first → updates (noUpdates (w .clock)) octets entries ≡ left
-  unfolding updates sweep
-  none e =
-      let n : w .end - w .first ≡ 0 = omega arith in
-      rw (n, over-nothing 0 entries, over-nothing (w .first) (ownEntries s k entries), entries-put s k entries h) refl
-
-  carried : updates (updatesAt k w) octets entries ≡ left
-  carried = go (ltb (w .first) (w .end)) refl
-    where
-      go : (b : Bool) → ltb (w .first) (w .end) ≡ b → updates (spot b) octets entries ≡ left
-      go true e = by-places.carried s k entries h w (a .rising) (a .below) octets
-      go false e = none (ltb-false (w .first) (w .end) e)
+fits : (s : Settings) (k : ℕ) (entries : List Entry) → Holds k entries → (octets : List ℕ) (w : Updates) → Asked s octets w → UpdatesFit (updatesAt k w) entries octets
+fits s k entries h octets w a =
+    let r = a .rising in
+    let t = a .below in
+    let z = a .base in
+    let n : firstPlace k + w .end - (firstPlace k + w .base) ≡ w .end = omega arith in
+    record {
+      places = record { rising = omega arith; inside = omega arith };
+      sound = λ l. (let some : w .first < w .end = omega (arith, l) in
+          record { based = omega arith; clock = a .clock some; hold = a .hold some; count = a .count some; delay = a .delay some; reports = λ t. rw n (a .reports some t) });
+    }
 
 -- ---- what an arrival's updates have
 
@@ -194,41 +161,29 @@ pub record Delivered (x : CallState) (octets : List ℕ) (p : Arrived) (o : Outc
       Leaves o (p .reply) (updates (updatesAt (x .number) (p .work)) octets (x .entries) .clock) (p .links) (x .walk) (x .copy)
       (updates (updatesAt (x .number) (p .work)) octets (x .entries) .ownEntries)
 
-module _ (x : CallState) (d : Delivery) (octets : List ℕ) where
-  abbrev g : Answer
-  g = guard (OnLink (onLink d)) x
+module _ (x : CallState) (d : Delivery) (octets : List ℕ) (e : done (guard (OnLink (onLink d)) x) ≡ true) where
+  abbrev s : Settings
+  s = x .host .settings
 
-  refuses : Delivered x octets (ends g (x .host)) (refused g (deliver d octets) x)
-  unfolding updates sweep
-  refuses =
-      record {
-        ids = (record { number = λ h. absurd (omega (arith, h)); ids = λ h. absurd (omega (arith, h)) }, omega arith);
-        there = record { places = record { rising = omega arith; inside = omega arith }; sound = λ h. absurd (omega (arith, h)) };
-        left = record { reply = refl; clock = refl; links = refl; walk = refl; copy = refl; entries = over-nothing 0 (x .entries) };
-      }
+  q : Passed (OnLink (onLink d)) x
+  q = passed (OnLink (onLink d)) x e
 
-  goes-on : done g ≡ true → definition.delivered d octets (x .nets) (x .host) .work .count .0 < 2 ^ 16
-      → Delivered x octets (definition.delivered d octets (x .nets) (x .host)) (updatedBy (definition.delivered d octets (x .nets) (x .host)) octets x)
-  goes-on e few =
-      let s = x .host .settings in
-      let q = passed (OnLink (onLink d)) x e in
+  in-range : clockInRange (x .host .clock) ≡ true
+  in-range = clock-state x (q .callState refl)
+
+  pub deliverable : (1 ≤ onLink d) × (onLink d ≤ 8) × (settingsGood s ≡ true) × RowsBelow (x .nets) s × (clockInRange (x .host .clock) ≡ true)
+  deliverable = let has = counted _ _ (q .link (onLink d) refl) in (has .from-one, has .to-eight, q .settings, q .rows, in-range)
+
+  pub delivered : (p : Arrived) → (p ≡ definition.delivered d octets (x .nets) (x .host)) × (p .work .count .0 < 2 ^ 16) → Delivered x octets p (perform (deliver d octets) x)
+  delivered p is =
       let h = holds (x .number) (x .entries) (q .places) in
       let k-in = number-state (x .number) (x .entries) (q .places) in
-      let p = definition.delivered d octets (x .nets) (x .host) in
-      let a = delivered-fine s (sound s (q .settings)) (x .nets) (q .rows) d octets (x .host .clock) (x .host .links) (clock-state x (q .callState refl)) few in
+      let a = delivered-fine s (sound s (q .settings)) (x .nets) (q .rows) d octets (x .host .clock) (x .host .links) in-range (rw (is .0) at (is .1)) in
+      rw (is .0)
       record {
-        ids = (record { number = λ _. k-in; ids = λ _. omega (arith, a .below) }, omega (arith, a .base));
-        there = fits s (x .number) (x .entries) h octets (p .work) a;
-        left = rw (carried s (x .number) (x .entries) h octets (p .work) a) record { reply = refl; clock = refl; links = refl; walk = refl; copy = refl; entries = refl };
+        ids = (record { number = k-in; rising = a .rising; ids = omega (arith, a .below) }, omega (arith, a .base));
+        there = fits s (x .number) (x .entries) h octets (definition.delivered d octets (x .nets) (x .host) .work) a;
+        left =
+            rw (goes-on (deliver d octets) x e, by-places.carried s (x .number) (x .entries) h (definition.delivered d octets (x .nets) (x .host) .work) (a .rising) (a .below) octets)
+            record { reply = refl; clock = refl; links = refl; walk = refl; copy = refl; entries = refl };
       }
-
-  pub delivered : planned g d octets (x .nets) (x .host) .work .count .0 < 2 ^ 16 → Delivered x octets (planned g d octets (x .nets) (x .host)) (perform (deliver d octets) x)
-  unfolding perform
-  delivered = go (not (done g)) refl
-    where
-      go : (b : Bool) → not (done g) ≡ b
-          → cond b (ends g (x .host)) (definition.delivered d octets (x .nets) (x .host)) .work .count .0 < 2 ^ 16
-          → Delivered x octets (cond b (ends g (x .host)) (definition.delivered d octets (x .nets) (x .host)))
-          (cond b (refused g (deliver d octets) x) (updatedBy (definition.delivered d octets (x .nets) (x .host)) octets x))
-      go true e few = refuses
-      go false e few = goes-on (is-so _ e) few

@@ -1,20 +1,18 @@
 -- A send as the code goes: the reports fit the buffer, the message can be completed around them, and what is written and stored is what the call leaves.
 use mathlib.Core.Path.{_≡_, refl, sym, ap, _∙_}
-use mathlib.Core.Bool.{Bool, true, false, false≢true, cond, not}
+use mathlib.Core.Bool.{Bool, true, false, false≢true, cond}
 use mathlib.Core.List.{List, _++_, map}
 use Prim.Native.Nat.{ℕ, _+_, _-_, _≤_, _<_}
 use native.Mathlib.Omega.{arith}
-use borrow.Author.Tests.{ltb-true, ltb-false}
+use borrow.Author.Tests.{ltb-false}
 use lib.Dec.{ltb}
 use lib.ListN.{length, drop, length-map}
 use Rattle.lists.specs.Lists.{part}
 use Rattle.lists.proofs.Parts.{part-length, over-length}
-use Rattle.lists.proofs.Tests.{is-so}
 use Rattle.quantity.specs.declared.Millis.{Millis}
 use Rattle.quantity.proofs.Ints.{to-≤ℤ, to-<ℤ}
-use Rattle.answer.specs.declared.Answer.{Answer}
 use Rattle.answer.specs.declared.Answer.the-variants.{ShortBuffer}
-use Rattle.clock.specs.declared.Clock.{Clock}
+use Rattle.clock.specs.Clock.{clockInRange}
 use Rattle.clock.specs.Midnight.{dayMillis}
 use Rattle.clock.specs.declared.Counter.{Counter}
 use Rattle.wire.specs.declared.Packet.{Packet}
@@ -34,17 +32,19 @@ use Rattle.table.proofs.Ranges.{within, reading-in}
 use Rattle.host.specs.declared.Settings.{Settings}
 use Rattle.host.specs.declared.Link.{Link}
 use Rattle.host.specs.declared.guard.Scope.the-variants.{OnLink}
+use Rattle.host.specs.Settings.{settingsGood}
 use Rattle.host.specs.State.{firstPlace, hostCount, linkOf, ownEntries}
 use Rattle.host.specs.CallState.{CallState, entriesOf, ourReading}
 use Rattle.host.specs.Guard.{guard, done}
 use Rattle.host.proofs.Places.{Holds}
-use Rattle.host.proofs.Guarded.{passed, holds, number-state}
+use Rattle.host.proofs.Guarded.{passed, holds, number-state, clock-state, counted}
 use Rattle.sending.specs.declared.Sending.{Sending}
 use Rattle.sending.specs.Message.{tableGoes}
 use Rattle.sending.specs.Send.{reportCount, unsent, sends, sendIn}
-use Rattle.sending.specs.code.Finish.{planned, Finishable, finished}
-use Rattle.calls.specs.Perform.{Outcome, Leaves, send, refused, sentBy, perform}
-use Rattle.calls.specs.code.Places.{Placeable, noReports, reportsAt}
+use Rattle.sending.specs.code.Finish.{Finishable, finished}
+use Rattle.calls.specs.Perform.{Outcome, Leaves, send, sentBy, perform}
+use Rattle.calls.specs.code.Places.{Placeable, reportsAt}
+use Rattle.calls.proofs.Guarding.{goes-on}
 use Rattle.calls.proofs.Carried.{part-part}
 
 pub record Sent (x : CallState) (buffer : List ℕ) (p : Sending) (o : Outcome) : Type 0 where
@@ -70,18 +70,6 @@ module _ (x : CallState) (i : ℕ) (counter : Counter) (buffer : List ℕ) where
   abbrev F : ℕ
   F = firstPlace (x .number)
 
-  -- no message
-  refuses : (a : Answer) → Sent x buffer (unsent a (x .host)) (refused a (send i counter buffer) x)
-  unfolding readOut withReports
-  refuses a =
-      record {
-        ids = record { number = λ h. absurd (omega (arith, h)); ids = λ h. absurd (omega (arith, h)) };
-        fits = record { places = record { rising = omega arith; inside = omega arith }; room = λ h. absurd (omega (arith, h)) };
-        ready = record { room = λ e. absurd (false≢true e); time = λ e. absurd (false≢true e) };
-        left = record { reply = refl; clock = refl; links = refl; walk = refl; copy = refl; entries = refl };
-        octets = refl;
-      }
-
   abbrev y : Link
   y = linkOf (x .host .links) i
 
@@ -93,9 +81,6 @@ module _ (x : CallState) (i : ℕ) (counter : Counter) (buffer : List ℕ) where
     abbrev rs : List Report
     rs = map (advertised i) (part 0 n (entriesOf x))
 
-    abbrev spot : Bool → Reports
-    spot b = cond b record { first = F + 0; end = F + n; pid = i } noReports
-
     same-part : part 0 n (entriesOf x) ≡ part (F + 0) n (x .entries)
     unfolding ownEntries
     same-part = part-part F (hostCount s) 0 n (x .entries) (omega arith) (omega arith)
@@ -105,23 +90,12 @@ module _ (x : CallState) (i : ℕ) (counter : Counter) (buffer : List ℕ) where
 
     put : readOut (reportsAt k w) (x .entries) buffer ≡ withReports 0 rs buffer
     unfolding readOut
-    put = go (ltb 0 n) refl
-      where
-        go : (b : Bool) → ltb 0 n ≡ b
-            → withReports 0 (map (advertised (spot b .pid)) (part (spot b .first) (spot b .end - spot b .first) (x .entries))) buffer ≡ withReports 0 rs buffer
-        go true e =
-            let m : F + n - (F + 0) ≡ n = omega arith in
-            rw (m, same-part) refl
-        go false e =
-            let z : n ≡ 0 = omega (arith, ltb-false 0 n e) in
-            rw z refl
+    put =
+        let m : F + n - (F + 0) ≡ n = omega arith in
+        rw (m, same-part) refl
 
     fitting : ReportsFit (reportsAt k w) (x .entries) buffer
-    fitting = go (ltb 0 n)
-      where
-        go : (b : Bool) → ReportsFit (spot b) (x .entries) buffer
-        go true = record { places = record { rising = omega arith; inside = omega arith }; room = λ _. (let m : F + n - (F + 0) ≡ n = omega arith in rw m room) }
-        go false = record { places = record { rising = omega arith; inside = omega arith }; room = λ l. absurd (omega (arith, l)) }
+    fitting = record { places = record { rising = omega arith; inside = omega arith }; room = λ _. (let m : F + n - (F + 0) ≡ n = omega arith in rw m room) }
 
     put-length : length (withReports 0 rs buffer) ≡ length buffer
     put-length =
@@ -140,6 +114,19 @@ module _ (x : CallState) (i : ℕ) (counter : Counter) (buffer : List ℕ) where
       go true = omega arith
       go false = omega arith
 
+  -- no message
+  stops : Holds k (x .entries) → k ≤ 15 → Sent x buffer (unsent ShortBuffer (x .host)) (sentBy (unsent ShortBuffer (x .host)) buffer x)
+  unfolding readOut withReports
+  stops h k-in =
+      let z : F + 0 - (F + 0) ≡ 0 = omega arith in
+      record {
+        ids = record { number = k-in; rising = omega arith; ids = omega arith };
+        fits = record { places = record { rising = omega arith; inside = omega arith }; room = λ l. absurd (omega (arith, l)) };
+        ready = record { room = λ e. absurd (false≢true e); time = λ e. absurd (false≢true e) };
+        left = record { reply = refl; clock = refl; links = refl; walk = refl; copy = refl; entries = refl };
+        octets = rw z refl;
+      }
+
   went : Holds k (x .entries) → k ≤ 15 → packetLength (reportCount s y) ≤ length buffer
       → Sent x buffer (sends i counter (x .host)) (sentBy (sends i counter (x .host)) buffer x)
   went h k-in room =
@@ -147,7 +134,7 @@ module _ (x : CallState) (i : ℕ) (counter : Counter) (buffer : List ℕ) where
       let p = sends i counter (x .host) in
       let z : reportCount s y - 0 ≡ reportCount s y = omega arith in
       record {
-        ids = record { number = λ _. k-in; ids = λ _. omega (arith, few) };
+        ids = record { number = k-in; rising = omega arith; ids = omega (arith, few) };
         fits = fitting n few h room;
         ready = record {
           room = λ _. rw (put n few h room, put-length n few h room) room;
@@ -157,26 +144,21 @@ module _ (x : CallState) (i : ℕ) (counter : Counter) (buffer : List ℕ) where
         octets = rw (put n few h room, z) (sealed-is n few h room (y .neighbor) (p .packet) refl);
       }
 
-  abbrev g : Answer
-  g = guard (OnLink i) x
+  module _ (e : done (guard (OnLink i) x) ≡ true) where
+    pub sendable : (1 ≤ i) × (i ≤ 8) × (settingsGood s ≡ true) × (clockInRange (x .host .clock) ≡ true)
+    sendable =
+        let q = passed (OnLink i) x e in
+        let has = counted _ _ (q .link i refl) in
+        (has .from-one, has .to-eight, q .settings, clock-state x (q .callState refl))
 
-  -- whether the buffer is too short
-  goes-on : done g ≡ true → Sent x buffer (sendIn i counter (length buffer) (x .host)) (sentBy (sendIn i counter (length buffer) (x .host)) buffer x)
-  goes-on e =
-      let q = passed (OnLink i) x e in
-      go (holds k (x .entries) (q .places)) (number-state k (x .entries) (q .places)) (ltb (length buffer) (packetLength (reportCount s y))) refl
-    where
-      go : Holds k (x .entries) → k ≤ 15 → (short : Bool) → ltb (length buffer) (packetLength (reportCount s y)) ≡ short
-          → Sent x buffer (cond short (unsent ShortBuffer (x .host)) (sends i counter (x .host))) (sentBy (cond short (unsent ShortBuffer (x .host)) (sends i counter (x .host))) buffer x)
-      go h k-in true e = refuses ShortBuffer
-      go h k-in false e = went h k-in (ltb-false _ _ e)
-
-  pub sent : Sent x buffer (planned g i counter (length buffer) (x .host)) (perform (send i counter buffer) x)
-  unfolding perform
-  sent = go (not (done g)) refl
-    where
-      go : (b : Bool) → not (done g) ≡ b
-          → Sent x buffer (cond b (unsent g (x .host)) (sendIn i counter (length buffer) (x .host)))
-          (cond b (refused g (send i counter buffer) x) (sentBy (sendIn i counter (length buffer) (x .host)) buffer x))
-      go true e = refuses g
-      go false e = goes-on (is-so _ e)
+    -- whether the buffer is too short
+    pub sent : Sent x buffer (sendIn i counter (length buffer) (x .host)) (perform (send i counter buffer) x)
+    sent =
+        let q = passed (OnLink i) x e in
+        rw (goes-on (send i counter buffer) x e)
+        (go (holds k (x .entries) (q .places)) (number-state k (x .entries) (q .places)) (ltb (length buffer) (packetLength (reportCount s y))) refl)
+      where
+        go : Holds k (x .entries) → k ≤ 15 → (short : Bool) → ltb (length buffer) (packetLength (reportCount s y)) ≡ short
+            → Sent x buffer (cond short (unsent ShortBuffer (x .host)) (sends i counter (x .host))) (sentBy (cond short (unsent ShortBuffer (x .host)) (sends i counter (x .host))) buffer x)
+        go h k-in true f = stops h k-in
+        go h k-in false f = went h k-in (ltb-false _ _ f)

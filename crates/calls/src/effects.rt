@@ -6,7 +6,7 @@ ghost use Rattle.host.specs.Settings.{settingsGood};
 ghost use Rattle.host.specs.Effect.{answers};
 ghost use Rattle.host.specs.CallState.{host};
 ghost use Rattle.host.specs.Walk.{walkInRange};
-ghost use Rattle.host.specs.code.Returned.{initialized, Ready, RowsBelow, Returned, TableReturned};
+ghost use Rattle.host.specs.code.Returned.{initialized, Ready, RowsBelow};
 ghost use Rattle.calls.specs.Effects.{
   looked,
   initialize,
@@ -14,7 +14,6 @@ ghost use Rattle.calls.specs.Effects.{
   scopeOf,
   effect,
 };
-ghost use Rattle.calls.specs.code.Planned.{planned, WalkReturned};
 use super::Request;
 use super::plans;
 use super::plans::Aged;
@@ -123,7 +122,7 @@ pub(crate) fn looked(found: Found, e: Entry) -> Reply
     }
 }
 
-fn effect(
+pub(crate) fn effect(
     s: Settings,
     t: NetTable,
     c: Clock,
@@ -133,40 +132,18 @@ fn effect(
     e: Entry,
     q: Request,
 ) -> Effect
-    requires { ⌜ Ready (scopeOf q) s c × RowsBelow t s ⌝ }
-    requires { ⌜ (initialized (scopeOf q) ≡ false → walkInRange s w (now copy) ≡ true) ⌝ }
+    requires { ⌜ Ready (scopeOf q) s c × RowsBelow t s × (initialized (scopeOf q) ≡ false → walkInRange s w (now copy) ≡ true) ⌝ }
     ensures { λ p. ⌜ p ≡ effect q t (host s c l) w (now (copy .entry)) e ⌝ }
 {
     match q {
         Request::Initialize => initialize(s),
-        Request::Tick(n) => timed(plans::tick(Answer::Done, s, c, n), l, w),
-        Request::Adjust(n) => timed(plans::adjust(Answer::Done, s, c, n), l, w),
-        Request::Set(ms, n) => timed(plans::set(Answer::Done, s, c, ms, n), l, w),
-        Request::Read(k) => timed(plans::read(Answer::Done, s, c, k), l, w),
-        Request::Second => aged(plans::second(Answer::Done, s, c), l, w),
+        Request::Tick(n) => timed(plans::tick(s, c, n), l, w),
+        Request::Adjust(n) => timed(plans::adjust(s, c, n), l, w),
+        Request::Set(ms, n) => timed(plans::set(s, c, ms, n), l, w),
+        Request::Read(k) => timed(plans::read(s, c, k), l, w),
+        Request::Second => aged(plans::second(s, c), l, w),
         Request::SelfReport(k) => self_report(s, c, l, w, k),
         Request::Lookup(a) => { answers(c, l, w, looked(host::found_for(t, s, a), e)) }
         Request::Step(k) => walk::step(s, t, c, l, w, copy, e, k),
     }
-}
-
-// A refusal of the guard's, or the effect.
-pub(crate) fn plan(
-    g: Answer,
-    s: Settings,
-    t: NetTable,
-    c: Clock,
-    l: Links,
-    w: Walk,
-    copy: &[u8],
-    e: Entry,
-    q: Request,
-) -> Effect
-    requires { ⌜ Returned g (scopeOf q) s c × TableReturned g t s × WalkReturned g q s w (now copy) ⌝ }
-    ensures { λ p. ⌜ p ≡ planned g q t (host s c l) w (now (copy .entry)) e ⌝ }
-{
-    if !answer::is_done(g) {
-        return answers(c, l, w, plainly(g));
-    }
-    effect(s, t, c, l, w, copy, e, q)
 }

@@ -1,11 +1,14 @@
 // The calls of a HELLO host. Each borrows the host's clock, links, walk with its copy of a packet, the host table, and the net table, which no call changes. The guard comes first: 12, 16 or 1 for bad settings, number or borrowed state.
 ghost use mathlib.Core.Path.{_≡_};
+ghost use mathlib.Core.Bool.{not};
+ghost use Rattle.host.specs.Guard.{done};
 ghost use Rattle.host.specs.declared.guard.Scope.the-variants.{All, OnLink, Opening};
 ghost use Rattle.calls.specs.declared.Request.the-variants.{Initialize, Tick, Adjust, Set, Read, Second, SelfReport, Lookup};
 ghost use Rattle.calls.specs.Perform.{ask, deliver, inspect, openWalk};
 ghost use Rattle.arrival.specs.Arrival.{onLink};
 ghost use Rattle.calls.specs.Contract.{Does, Sends};
 ghost use Rattle.calls.specs.Laws.{EverySendKeeps};
+use answer::Answer;
 use arrival::Delivery;
 use clock::Clock;
 use clock::Counter;
@@ -15,6 +18,7 @@ use host::Settings;
 use host::guard::Scope;
 use host::guard::guard;
 use host::guard::guard_initialize;
+use host::replies::plainly;
 use host::walk::Walk;
 use net_table::NetTable;
 use quantity::Count;
@@ -45,6 +49,13 @@ pub enum Request {
     Step(Counter),
 }
 
+// Does the guard refuse the call?
+fn refuses(g: Answer) -> bool
+    ensures { λ r. ⌜ r ≡ not (done g) ⌝ }
+{
+    !answer::is_done(g)
+}
+
 // A request: the calls that borrow no octets except the copy of a walk's packet.
 pub fn call(
     settings: &Settings,
@@ -59,16 +70,30 @@ pub fn call(
 ) -> Reply
     ensures { λ r. ⌜ Does (ask request) settings «net_table» number clock links walk copy entries r ⌝ }
 {
+    let a = effects::scope_of(request);
+    let g = guard(
+        settings,
+        net_table,
+        number,
+        clock,
+        links,
+        walk,
+        copy,
+        a,
+        entries,
+    );
+    let b = refuses(g);
+    if b {
+        return plainly(g);
+    }
     let s = *settings;
     let t = *net_table;
     let c = *clock;
     let l = *links;
     let v = *walk;
-    let a = effects::scope_of(request);
-    let g = guard(settings, net_table, number, c, l, v, copy, a, entries);
-    let z = places::sought(g, s, t, v, number, request);
+    let z = places::sought(s, t, v, number, request);
     let e = entry_of(entries, z);
-    let p = effects::plan(g, s, t, c, l, v, copy, e, request);
+    let p = effects::effect(s, t, c, l, v, copy, e, request);
     let w = places::placed(number, p.work);
     change_all(entries, w);
     *clock = p.clock;
@@ -92,12 +117,13 @@ pub fn initialize(
 {
     let s = *settings;
     let t = *net_table;
-    let c = *clock;
-    let l = *links;
-    let v = *walk;
     let n = entries.len();
     let g = guard_initialize(s, t, number, n);
-    let p = plans::initialize(g, s, c, l, v);
+    let b = refuses(g);
+    if b {
+        return plainly(g);
+    }
+    let p = effects::initialize(s);
     let w = places::placed(number, p.work);
     fresh_all(entries, w);
     *clock = p.clock;
@@ -126,13 +152,25 @@ pub fn tick(
 ) -> Reply
     ensures { λ r. ⌜ Does (ask (Tick count)) settings «net_table» number clock links walk copy entries r ⌝ }
 {
+    let a = all();
+    let g = guard(
+        settings,
+        net_table,
+        number,
+        clock,
+        links,
+        walk,
+        copy,
+        a,
+        entries,
+    );
+    let b = refuses(g);
+    if b {
+        return plainly(g);
+    }
     let s = *settings;
     let c = *clock;
-    let l = *links;
-    let v = *walk;
-    let a = all();
-    let g = guard(settings, net_table, number, c, l, v, copy, a, entries);
-    let p = plans::tick(g, s, c, count);
+    let p = plans::tick(s, c, count);
     *clock = p.clock;
     p.reply
 }
@@ -151,13 +189,25 @@ pub fn adjust(
 ) -> Reply
     ensures { λ r. ⌜ Does (ask (Adjust count)) settings «net_table» number clock links walk copy entries r ⌝ }
 {
+    let a = all();
+    let g = guard(
+        settings,
+        net_table,
+        number,
+        clock,
+        links,
+        walk,
+        copy,
+        a,
+        entries,
+    );
+    let b = refuses(g);
+    if b {
+        return plainly(g);
+    }
     let s = *settings;
     let c = *clock;
-    let l = *links;
-    let v = *walk;
-    let a = all();
-    let g = guard(settings, net_table, number, c, l, v, copy, a, entries);
-    let p = plans::adjust(g, s, c, count);
+    let p = plans::adjust(s, c, count);
     *clock = p.clock;
     p.reply
 }
@@ -177,13 +227,25 @@ pub fn set(
 ) -> Reply
     ensures { λ r. ⌜ Does (ask (Set ms count)) settings «net_table» number clock links walk copy entries r ⌝ }
 {
+    let a = all();
+    let g = guard(
+        settings,
+        net_table,
+        number,
+        clock,
+        links,
+        walk,
+        copy,
+        a,
+        entries,
+    );
+    let b = refuses(g);
+    if b {
+        return plainly(g);
+    }
     let s = *settings;
     let c = *clock;
-    let l = *links;
-    let v = *walk;
-    let a = all();
-    let g = guard(settings, net_table, number, c, l, v, copy, a, entries);
-    let p = plans::set(g, s, c, ms, count);
+    let p = plans::set(s, c, ms, count);
     *clock = p.clock;
     p.reply
 }
@@ -202,13 +264,25 @@ pub fn read(
 ) -> Reply
     ensures { λ r. ⌜ Does (ask (Read counter)) settings «net_table» number clock links walk copy entries r ⌝ }
 {
+    let a = all();
+    let g = guard(
+        settings,
+        net_table,
+        number,
+        clock,
+        links,
+        walk,
+        copy,
+        a,
+        entries,
+    );
+    let b = refuses(g);
+    if b {
+        return plainly(g);
+    }
     let s = *settings;
     let c = *clock;
-    let l = *links;
-    let v = *walk;
-    let a = all();
-    let g = guard(settings, net_table, number, c, l, v, copy, a, entries);
-    let p = plans::read(g, s, c, counter);
+    let p = plans::read(s, c, counter);
     *clock = p.clock;
     p.reply
 }
@@ -226,13 +300,25 @@ pub fn second(
 ) -> Reply
     ensures { λ r. ⌜ Does (ask Second) settings «net_table» number clock links walk copy entries r ⌝ }
 {
+    let a = all();
+    let g = guard(
+        settings,
+        net_table,
+        number,
+        clock,
+        links,
+        walk,
+        copy,
+        a,
+        entries,
+    );
+    let b = refuses(g);
+    if b {
+        return plainly(g);
+    }
     let s = *settings;
     let c = *clock;
-    let l = *links;
-    let v = *walk;
-    let a = all();
-    let g = guard(settings, net_table, number, c, l, v, copy, a, entries);
-    let p = plans::second(g, s, c);
+    let p = plans::second(s, c);
     let w = places::placed(number, p.work);
     change_all(entries, w);
     *clock = p.clock;
@@ -253,13 +339,25 @@ pub fn self_report(
 ) -> Reply
     ensures { λ r. ⌜ Does (ask (SelfReport counter)) settings «net_table» number clock links walk copy entries r ⌝ }
 {
+    let a = all();
+    let g = guard(
+        settings,
+        net_table,
+        number,
+        clock,
+        links,
+        walk,
+        copy,
+        a,
+        entries,
+    );
+    let b = refuses(g);
+    if b {
+        return plainly(g);
+    }
     let s = *settings;
     let c = *clock;
-    let l = *links;
-    let v = *walk;
-    let a = all();
-    let g = guard(settings, net_table, number, c, l, v, copy, a, entries);
-    let p = plans::self_report(g, s, c, counter);
+    let p = plans::self_report(s, c, counter);
     let w = places::placed(number, p.work);
     change_all(entries, w);
     *clock = p.clock;
@@ -280,17 +378,28 @@ pub fn lookup(
 ) -> Reply
     ensures { λ r. ⌜ Does (ask (Lookup address)) settings «net_table» number clock links walk copy entries r ⌝ }
 {
+    let a = all();
+    let g = guard(
+        settings,
+        net_table,
+        number,
+        clock,
+        links,
+        walk,
+        copy,
+        a,
+        entries,
+    );
+    let b = refuses(g);
+    if b {
+        return plainly(g);
+    }
     let s = *settings;
     let t = *net_table;
-    let c = *clock;
-    let l = *links;
-    let v = *walk;
-    let a = all();
-    let g = guard(settings, net_table, number, c, l, v, copy, a, entries);
-    let f = plans::found(g, s, t, address);
+    let f = host::found_for(t, s, address);
     let z = places::seek_at(number, f);
     let e = entry_of(entries, z);
-    plans::route_of(g, f, e)
+    effects::looked(f, e)
 }
 
 fn opening(link: usize) -> Scope
@@ -314,13 +423,25 @@ pub fn open_walk(
 ) -> Reply
     ensures { λ r. ⌜ Does (openWalk link (now (packet .entry))) settings «net_table» number clock links walk copy entries r ⌝ }
 {
-    let s = *settings;
-    let c = *clock;
-    let l = *links;
-    let v = *walk;
     let a = opening(link);
-    let g = guard(settings, net_table, number, c, l, v, copy, a, entries);
-    let p = walk::plan(g, s, v, link, packet);
+    let g = guard(
+        settings,
+        net_table,
+        number,
+        clock,
+        links,
+        walk,
+        copy,
+        a,
+        entries,
+    );
+    let b = refuses(g);
+    if b {
+        return plainly(g);
+    }
+    let s = *settings;
+    let v = *walk;
+    let p = walk::opened_by(s, v, link, packet);
     walk::keep(copy, packet, p.octets);
     *walk = p.walk;
     p.reply
@@ -348,14 +469,27 @@ pub fn send(
 ) -> Reply
     ensures { λ r. ⌜ Sends link counter buffer settings «net_table» number clock links walk copy entries r ⌝ }
 {
+    let a = on_link(link);
+    let g = guard(
+        settings,
+        net_table,
+        number,
+        clock,
+        links,
+        walk,
+        copy,
+        a,
+        entries,
+    );
+    let b = refuses(g);
+    if b {
+        return plainly(g);
+    }
     let s = *settings;
     let c = *clock;
     let l = *links;
-    let v = *walk;
     let n = buffer.len();
-    let a = on_link(link);
-    let g = guard(settings, net_table, number, c, l, v, copy, a, entries);
-    let p = sending::plan(g, s, c, l, link, counter, n);
+    let p = sending::send_in(s, c, l, link, counter, n);
     let w = places::reports_at(number, p.work);
     read_out(buffer, entries, w);
     sending::finish(buffer, p);
@@ -384,13 +518,24 @@ pub fn inspect(
 ) -> Reply
     ensures { λ r. ⌜ Does (inspect link (now (packet .entry))) settings «net_table» number clock links walk copy entries r ⌝ }
 {
-    let s = *settings;
-    let c = *clock;
-    let l = *links;
-    let v = *walk;
     let a = on_link(link);
-    let g = guard(settings, net_table, number, c, l, v, copy, a, entries);
-    plans::inspect(g, s, link, packet)
+    let g = guard(
+        settings,
+        net_table,
+        number,
+        clock,
+        links,
+        walk,
+        copy,
+        a,
+        entries,
+    );
+    let b = refuses(g);
+    if b {
+        return plainly(g);
+    }
+    let s = *settings;
+    plans::inspect(s, link, packet)
 }
 
 fn on_its_link(delivery: Delivery) -> Scope
@@ -414,17 +559,30 @@ pub fn deliver(
 ) -> Reply
     ensures { λ r. ⌜ Does (deliver delivery (now (packet .entry))) settings «net_table» number clock links walk copy entries r ⌝ }
 {
+    let a = on_its_link(delivery);
+    let g = guard(
+        settings,
+        net_table,
+        number,
+        clock,
+        links,
+        walk,
+        copy,
+        a,
+        entries,
+    );
+    let b = refuses(g);
+    if b {
+        return plainly(g);
+    }
     let s = *settings;
     let t = *net_table;
     let c = *clock;
     let l = *links;
-    let v = *walk;
-    let a = on_its_link(delivery);
-    let g = guard(settings, net_table, number, c, l, v, copy, a, entries);
-    let p = arrival::plan(g, s, t, c, l, delivery, packet);
+    let p = arrival::deliver(s, t, c, l, delivery, packet);
     let w = places::updates_at(number, p.work);
+    *links = p.links;
     let k = update_all(entries, w, packet);
     *clock = k;
-    *links = p.links;
     p.reply
 }

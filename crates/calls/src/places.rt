@@ -1,29 +1,22 @@
-// The places of a host's ids in the host table. If there is no id, there is no place.
+// The places of a host's ids in the host table.
 ghost use mathlib.Core.Path.{_≡_};
 ghost use mathlib.Core.Bool.{true};
-ghost use Prim.Native.Nat.{_≤_, _<_};
-ghost use Rattle.route.specs.Find.{isFound};
+ghost use Prim.Native.Nat.{_≤_};
 ghost use Rattle.host.specs.State.{hasPlace};
 ghost use Rattle.calls.specs.Effects.{wanted};
 ghost use Rattle.calls.specs.code.Places.{
   Placeable,
-  Seekable,
-  noEntry,
   seekAt,
-  soughtAt,
   placed,
   updatesAt,
-  noReports,
   reportsAt,
 };
 use super::Request;
-use answer::Answer;
 use host::Settings;
 use host::first_place;
 use host::walk::Walk;
 use net_table::NetTable;
 use route::Found;
-use table::entries::Change;
 use table::entries::Changes;
 use table::entries::Reports;
 use table::entries::Seek;
@@ -46,22 +39,16 @@ fn wanted(s: Settings, t: NetTable, w: Walk, q: Request) -> Found
     }
 }
 
-fn no_entry() -> Seek
-    ensures { λ w. ⌜ w ≡ noEntry ⌝ }
-{
-    Seek {
-        first: 0,
-        end: 0,
-        entry: table::fresh(),
-    }
-}
-
 pub(crate) fn seek_at(number: usize, found: Found) -> Seek
-    requires { ⌜ (isFound found ≡ true → number ≤ 15) × (hasPlace found ≡ true) ⌝ }
+    requires { ⌜ (number ≤ 15) × (hasPlace found ≡ true) ⌝ }
     ensures { λ w. ⌜ w ≡ seekAt number found ⌝ }
 {
     match found {
-        Found::Nothing => no_entry(),
+        Found::Nothing => Seek {
+            first: 0,
+            end: 0,
+            entry: table::fresh(),
+        },
         Found::Id(id) => {
             let first = first_place(number) + id;
             Seek {
@@ -74,20 +61,10 @@ pub(crate) fn seek_at(number: usize, found: Found) -> Seek
 }
 
 // The entry that is looked at.
-pub(crate) fn sought(
-    g: Answer,
-    s: Settings,
-    t: NetTable,
-    w: Walk,
-    number: usize,
-    q: Request,
-) -> Seek
-    requires { ⌜ Seekable g q t s w number ⌝ }
-    ensures { λ r. ⌜ r ≡ soughtAt g q t s w number ⌝ }
+pub(crate) fn sought(s: Settings, t: NetTable, w: Walk, number: usize, q: Request) -> Seek
+    requires { ⌜ (number ≤ 15) × (hasPlace (wanted q t s w) ≡ true) ⌝ }
+    ensures { λ r. ⌜ r ≡ seekAt number (wanted q t s w) ⌝ }
 {
-    if !answer::is_done(g) {
-        return no_entry();
-    }
     seek_at(number, wanted(s, t, w, q))
 }
 
@@ -96,25 +73,11 @@ pub(crate) fn placed(number: usize, w: Changes) -> Changes
     requires { ⌜ Placeable number (w .first) (w .end) ⌝ }
     ensures { λ r. ⌜ r ≡ placed number w ⌝ }
 {
-    let change = w.change;
-    let marks = w.marks;
-    if w.first < w.end {
-        let base = first_place(number);
-        let first = base + w.first;
-        let end = base + w.end;
-        return Changes {
-            first: first,
-            end: end,
-            change: change,
-            marks: marks,
-        };
-    }
-    Changes {
-        first: 0,
-        end: 0,
-        change: Change::Fresh,
-        marks: table::marks::none(),
-    }
+    let base = first_place(number);
+    let mut v = w;
+    v.first = base + w.first;
+    v.end = base + w.end;
+    v
 }
 
 // The places of ids that are updated.
@@ -122,15 +85,12 @@ pub(crate) fn updates_at(number: usize, w: Updates) -> Updates
     requires { ⌜ Placeable number (w .first) (w .end) × (w .base ≤ w .first) ⌝ }
     ensures { λ r. ⌜ r ≡ updatesAt number w ⌝ }
 {
-    if w.first < w.end {
-        let base = first_place(number);
-        let mut v = w;
-        v.first = base + w.first;
-        v.end = base + w.end;
-        v.base = base + w.base;
-        return v;
-    }
-    arrival::no_updates(w.clock)
+    let base = first_place(number);
+    let mut v = w;
+    v.first = base + w.first;
+    v.end = base + w.end;
+    v.base = base + w.base;
+    v
 }
 
 // The places of ids that are reported.
@@ -138,19 +98,9 @@ pub(crate) fn reports_at(number: usize, w: Reports) -> Reports
     requires { ⌜ Placeable number (w .first) (w .end) ⌝ }
     ensures { λ r. ⌜ r ≡ reportsAt number w ⌝ }
 {
-    if w.first < w.end {
-        let base = first_place(number);
-        let first = base + w.first;
-        let end = base + w.end;
-        return Reports {
-            first: first,
-            end: end,
-            pid: w.pid,
-        };
-    }
-    Reports {
-        first: 0,
-        end: 0,
-        pid: 0,
-    }
+    let base = first_place(number);
+    let mut v = w;
+    v.first = base + w.first;
+    v.end = base + w.end;
+    v
 }

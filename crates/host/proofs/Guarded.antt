@@ -23,7 +23,7 @@ use Rattle.host.specs.Settings.{linkCount, settingsGood, settingsFit}
 use Rattle.host.specs.State.{placesPerHost, firstPlace, noLink}
 use Rattle.host.specs.CallState.{CallState, entriesOf, hostInRange, ownWalkInRange, marksAsSet, stateInRange}
 use Rattle.host.specs.Guard.{noPlaces, longest, ownOutOfRange, outOfRange, inWalk, guard, done}
-use Rattle.host.specs.code.Returned.{initialized, Ready, Returned, RowsBelow, TableReturned, NumberReturned}
+use Rattle.host.specs.code.Returned.{initialized, Ready, RowsBelow}
 use Rattle.host.proofs.Places.{Holds}
 use Rattle.host.proofs.Fits.{fits-good, rows-below}
 
@@ -143,20 +143,6 @@ module _ (x : CallState) (in-range : stateInRange x ≡ true) where
   unfolding stateInRange
   marks-state = both (hostInRange (x .host) && ownWalkInRange x && every entryInRange (entriesOf x)) _ in-range .1
 
--- what its answer tells the work behind it
-module _ (a : Scope) (x : CallState) where
-  pub returned : Returned (guard a x) a (x .host .settings) (x .host .clock)
-  returned = record {
-    ready = λ d.
-        (let p = passed a x d in
-        record { settings = p .settings; clock = λ f. clock-state x (p .callState f); link = p .link });
-  }
-
-  pub number-returned : NumberReturned (guard a x) (x .host .settings) (x .number)
-  number-returned = record {
-    settings = λ d. passed a x d .settings;
-    number = λ d. number-state (x .number) (x .entries) (passed a x d .places);
-  }
-
-  pub table-returned : TableReturned (guard a x) (x .nets) (x .host .settings)
-  table-returned = record { rows = λ d. passed a x d .rows }
+-- what the work after the guard has of its settings and its clock
+pub ready : (a : Scope) (x : CallState) → done (guard a x) ≡ true → Ready a (x .host .settings) (x .host .clock)
+ready a x d = let p = passed a x d in record { settings = p .settings; clock = λ f. clock-state x (p .callState f) }

@@ -195,21 +195,24 @@ pub fn guard(
     settings: &Settings,
     net_table: &NetTable,
     number: usize,
-    clock: Clock,
-    links: Links,
-    walk: Walk,
+    clock: &Clock,
+    links: &Links,
+    walk: &Walk,
     copy: &[u8],
     scope: Scope,
     entries: &[Entry],
 ) -> Answer
-    ensures { λ r. ⌜ r ≡ guard scope (callState (now (settings .entry)) (now («net_table» .entry)) number clock links walk (now (copy .entry)) (now (entries .entry))) ⌝ }
+    ensures { λ r. ⌜ r ≡ guard scope (callState (now (settings .entry)) (now («net_table» .entry)) number (now (clock .entry)) (now (links .entry)) (now (walk .entry)) (now (copy .entry)) (now (entries .entry))) ⌝ }
 {
     let s = *settings;
     let t = *net_table;
+    let c = *clock;
+    let l = *links;
+    let v = *walk;
     let n = entries.len();
-    let w = held(s, t, number, clock, links, walk, copy, scope, n);
+    let w = held(s, t, number, c, l, v, copy, scope, n);
     let good = all_in_range(entries, w);
-    judged(s, t, walk, scope, good)
+    judged(s, t, v, scope, good)
 }
 
 // The same for initialization: clock, links, walk and entries may be anything; the host table has n places.

@@ -1,5 +1,5 @@
 -- What a thin function has of the parameters that it is lent, and the steps of a walk over it: a context is the locals (`Frame.antt`) and a list of these. It says nothing of the crate, and can be copied as it stands.
---     Hold             shr, mut: a `&κ T` and a `&κ mut T` of a struct, with the lifetime's token.        shrs, muts: the same of a slice, whose machine value counts n elements.        gave, gaves: a `&mut` that a callee was given for good, with its last value.        kept, keeps: what is kept of a `&mut [T]` that is lent for a call, as `&` and as `&mut`.        spare, cut: what is kept of octets of which a part is.        lender: the lender's part of a local.        had: anything
+--     Hold             shr, mut: a `&κ T` and a `&κ mut T` of a struct, with the lifetime's token.        shrs, muts: the same of a slice, whose machine value counts n elements.        gave, gaves: a `&mut` that a callee was given for good, with its last value.        kept, keeps: what is kept of a `&mut [T]` that is lent for a call, as `&` and as `&mut`.        kept-one: of a `&mut T` that is lent as `&`.        spare, cut: what is kept of octets of which a part is.        lender: the lender's part of a local.        had: anything
 --     Known X x v      v is the machine value of x
 --     Walk             the code runs from these locals and these holds
 --     sets, makes      a local is set, and a struct made in one.        copies, stores: what a lent struct holds is copied out, or set.        returns: the function ends
@@ -36,7 +36,7 @@ use denote.Struct.Declared.{row, fields}
 use denote.Struct.Laws as LL
 use Rattle.references.proofs.Words.{Word, Data, Part as Field, by-value, unsigned, void, settled}
 use Rattle.references.proofs.Outcomes.{Outcome, whole}
-use Rattle.references.proofs.Shared.{Kept}
+use Rattle.references.proofs.Shared.{Kept, KeptOne}
 use Rattle.references.proofs.Again.{LentAgain}
 use Rattle.references.proofs.Parts.{LentPart}
 use Rattle.references.proofs.Frame.{Place, full, frame, Has, Free, Freed, local-at, held, put, at, set, local-part, leaves}
@@ -86,6 +86,7 @@ pub data Hold {M : Type 1} (𝓤 : URA M) : Type 2 where
   shrs muts : Lft → Share → (R : RattleType) → RefT (List (R .Denot)) → ℕ → Hold 𝓤
   gave : Lft → Share → (D : Data) → GName → D .S .D → Hold 𝓤
   gaves : Lft → Share → (R : RattleType) → GName → List (R .Denot) → ℕ → Hold 𝓤
+  kept-one : Lft → Share → Lft → (D : Data) → RefT (D .S .D) → Hold 𝓤
   kept : Lft → Share → Lft → (R : RattleType) → RefT (List (R .Denot)) → ℕ → Hold 𝓤
   keeps : Lft → Share → Lft → (R : RattleType) → RefT (List (R .Denot)) → ℕ → GName → Hold 𝓤
   spare : Lft → (R : RattleType) → RefT (List (R .Denot)) → ℕ → Hold 𝓤
@@ -101,6 +102,7 @@ module _ {M : Type 1} {𝓤 : URA M} where
   item (muts κ q R x n) = ‵ (fsep (flft κ q) (MutSlice erased κ R .own x (sliceVal (x .ptr) n ∷ [])))
   item (gave κ q D γ w) = ‵ (fsep (flft κ q) (fres γ (row (D .S) .coded .code w)))
   item (gaves κ q R γ ws n) = ‵ (fsep (flft κ q) (fsep (finally R γ ws) (feq ℕ (length ws) n)))
+  item (kept-one κ q κ′ D x) = ‵ (KeptOne (row (D .S)) κ κ′ q (x .name) (x .ptr .0) (x .ptr .1) (x .now))
   item (kept κ q κ′ R x n) = ‵ (fsep (at-slice R x (sliceVal (x .ptr) n ∷ [])) (Kept R κ κ′ q (x .name) (x .ptr .0) (x .ptr .1) (x .now)))
   item (keeps κ q κ′ R x n δ) = ‵ (fsep (at-slice R x (sliceVal (x .ptr) n ∷ [])) (LentAgain R κ κ′ q (x .name) (x .ptr .0) (x .ptr .1) δ (x .now)))
   item (spare κ R x n) = ‵ (ShrSlice erased κ R .own x (sliceVal (x .ptr) n ∷ []))

@@ -2,6 +2,7 @@
 --     points, slices       the code makes a pointer to a lent struct, or a pointer to the elements of a slice and the slice of it
 --     begins, counts, pairs    it makes the slice of a part of octets: where it begins, how many there are, and both
 --     lends, back          a `&mut [T]` is lent as `&` for a lifetime of the call, and comes back as it was
+--     lends-one, one-back  the same of a `&mut T`
 --     relends, returned    a `&mut [T]` is lent as `&mut` for a lifetime of the call, and comes back as the call left it
 --     cuts, joined         a part of octets that are lent as `&` is passed on.        recuts, rejoined     a part of octets that are lent as `&mut` is lent again, and comes back
 --     learns               a fact that is held is learned
@@ -31,14 +32,16 @@ use denote.Builtin.{u8}
 use denote.RattleType.{RattleType}
 use denote.Laws.{Is, shows}
 use denote.Shadow.{pureL, pureI}
-use denote.Ref.{RefT, at-last}
+use denote.Ref.{RefT, MutRef, ShrRef, at-last, ptr-vals}
 use denote.Slice.{sliceVal, sliceTy, slice-vals, MutSlice, ShrSlice, at-slice, shr-slice-copy}
 use denote.Steps.{peeks, heard}
-use Rattle.references.proofs.Shared.{Kept, lends-shared, comes-back as shared-back}
+use denote.Struct.Declared.{row}
+use Rattle.references.proofs.Shared.{Kept, lends-shared, comes-back as shared-back, KeptOne, lends-one as lends-struct, one-back as struct-back}
 use Rattle.references.proofs.Again.{LentAgain, lends-again, comes-back as again-back}
 use Rattle.references.proofs.Parts.{shares-part, LentPart, lends-part, part-back}
 use Rattle.references.proofs.Frame.{Place, full, frame, Has, Free, local-at, held, put, at, set, local-part}
-use Rattle.references.proofs.Holds.{counted, Hold, shrs, muts, gaves, kept, keeps, spare, cut, had, items, nth, del, ins, Walk, part, plain, opened, opened-two, closed, closed-two, resumed}
+use Rattle.references.proofs.Words.{Data}
+use Rattle.references.proofs.Holds.{counted, Hold, shr, mut, shrs, muts, gaves, kept-one, kept, keeps, spare, cut, had, items, nth, del, ins, Walk, part, plain, opened, opened-two, closed, closed-two, resumed}
 
 module _ {M : Type 1} {𝓤 : URA M} {H : Heap 𝓤} {A : Atoms 𝓤} {K : Type 0} {W : Given 𝓤 H A} {C : Calls 𝓤 H} {Λ : Loops 𝓤 H} {E : List (Ty × ℕ)} {q : Post 𝓤 H} {os : List Place} {Δ : List (Hold 𝓤)} {rest : Body} where
   pub points : K → {n k : ℕ} {τ : Ty} {b o : ℕ} → held k os ≡ full (vptr b o) → Has k E → Free n E os → T (hasTy (local-at n E .0) (vptr b o)) × WT (vptr b o)
@@ -134,6 +137,23 @@ module _ {M : Type 1} {𝓤 : URA M} {H : Heap 𝓤} {A : Atoms 𝓤} {K : Type 
             (again-back R κ (α ∷ []) s (x .name) (x .ptr .0) (x .ptr .1) 𝓤 H A W erased erased (x .now) δ ws (p .1) (len ∙ ap counted (p .0))) $ await t tt $ split t $
             rewrite t 0 (λ (vs : List Val). ‵ (MutSlice erased κ R .own (at-last x ws) vs)) (sym (p .0)) refl $ move t (1 ∷ 0 ∷ []) $ fjoin t $ closed t (frame E os) d (del d (del d Δ)) (muts κ s R (at-last x ws) c) (next (len ∙ ap counted (p .0)) .walk))));
       }
+
+  module _ {κ : Lft} {s : Share} {D : Data} {x : RefT (D .S .D)} where
+    pub lends-one : K → (d : ℕ) → nth d Δ ≡ mut κ s D x
+        → ((α : ℕ) (δ : GName) → Walk K W C Λ E q os (ins d (shr (α ∷ []) fullShare D (record { ptr = x .ptr; name = δ; now = x .now })) (ins d (kept-one κ s (α ∷ []) D x) (del d Δ))) b) → Walk K W C Λ E q os Δ b
+    lends-one t d e next = record {
+      walk = opened t (frame E os) d Δ e (lft-new t tt (λ α. move t (1 ∷ []) $ fsplit t $ move t (1 ∷ []) $
+          use2 W (later (some (λ (δ : GName). ‵ (ShrRef erased (α ∷ []) (row (D .S)) .own (record { ptr = x .ptr; name = δ; now = x .now }) (ptr-vals x)) ⊛ ‵ (KeptOne (row (D .S)) κ (α ∷ []) s (x .name) (x .ptr .0) (x .ptr .1) (x .now)))))
+          (lends-struct (row (D .S)) κ (α ∷ []) s (x .name) (x .ptr .0) (x .ptr .1) 𝓤 H A W erased erased (x .now)) $ await t tt $ pick t (λ δ. split t $ move t (2 ∷ 0 ∷ []) $ fjoin t $
+          closed-two t (frame E os) d (del d Δ) (shr (α ∷ []) fullShare D (record { ptr = x .ptr; name = δ; now = x .now })) (kept-one κ s (α ∷ []) D x) (next α δ .walk))));
+    }
+
+    pub one-back : K → (d : ℕ) {α : ℕ} {y : RefT (D .S .D)} → nth d Δ ≡ shr (α ∷ []) fullShare D y → nth d (del d Δ) ≡ kept-one κ s (α ∷ []) D x → Walk K W C Λ E q os (ins d (mut κ s D x) (del d (del d Δ))) b → Walk K W C Λ E q os Δ b
+    one-back t d {α} e e′ next = record {
+      walk = opened-two t (frame E os) d Δ e e′ (fsplit t $ lft-end t tt $ move t (1 ∷ []) $ drop t $
+          use2 W (later (‵ (MutRef erased κ (row (D .S)) .own x (ptr-vals x)) ⊛ ‵ (flft κ s))) (struct-back (row (D .S)) κ (α ∷ []) s (x .name) (x .ptr .0) (x .ptr .1) 𝓤 H A W erased (x .now)) $ await t tt $ split t $
+          move t (1 ∷ 0 ∷ []) $ fjoin t $ closed t (frame E os) d (del d (del d Δ)) (mut κ s D x) (next .walk));
+    }
 
   pub learns : K → (d : ℕ) (φ : Type 0) → nth d Δ ≡ had (fact 𝓤 φ) → (φ → Walk K W C Λ E q os (del d Δ) b) → Walk K W C Λ E q os Δ b
   learns t d φ e next = record {

@@ -1,6 +1,7 @@
 -- The law of a thin function: its MIR, what it takes and gives, the functions that it calls, and that a walk of it proves that it meets its contract. What a law cites besides is passed on from here. It says nothing of the crate, and can be copied as it stands.
 --     Form             a function's parameters and its answer; `silent` where it hands nothing back
 --     Asking, Giving, Saying    the types of what a function asks; of what one that is called gives; and of what one says that is walked.        Each     a statement of all values of the parameters
+--     unasked          nothing is asked
 --     callee, function     a function that is called, and one that is walked.        requiring, given-that     one that asks for something, or for a fact
 --     thin                 the function of this form, these further locals and these statements
 --     Job              a function's MIR, its contract, and the functions that it calls
@@ -28,7 +29,7 @@ pub use Rattle.references.proofs.Words.{Word, Data, Part, by-value, cho
 pub use Rattle.references.proofs.Outcomes.{Outcome, whole}
 pub use Rattle.references.proofs.Ways.{Form, form, silent, by, ref, refmut, slice, slicemut, Over, Lefts}
 pub use Rattle.references.proofs.Holds.{literal, all-got, got, makes, is-part, owed-of, is-unit, is-length, own-value, typed-of, plain, part, unit, sets, copies, copies-mut, stores}
-pub use Rattle.references.proofs.Lending.{points, slices, begins, counts, pairs, fewer, cuts, joined, recuts, rejoined, lends, back, relends, returned, learns}
+pub use Rattle.references.proofs.Lending.{points, slices, begins, counts, pairs, fewer, cuts, joined, recuts, rejoined, lends, back, lends-one, one-back, relends, returned, learns}
 pub use Rattle.references.proofs.Calling.{nothing-more, value, val, share, shares, give, gives, calls, calls-having}
 pub use Rattle.references.proofs.Elements.{scaled, raised, reads-element, reads-element-mut, writes-element, inside, inside-now, bytes}
 pub use Rattle.references.proofs.Looping.{revalued, turns, breaks, next, times, folds, folds-while, last-turn, tested, held-so, failed-so, stopped}
@@ -60,6 +61,14 @@ answers (silent ps) = void
 
 abbrev pub Asking : Form → {M : Type 1} → URA M → Type 2
 Asking F 𝓤 = Over (takes F) (SProp 𝓤)
+
+-- nothing is asked
+abbrev always {ℓ} : {B : Type ℓ} (ps : List Way) → B → Over ps B
+always [] b = b
+always (p ∷ ps) b = λ _. always ps b
+
+abbrev pub unasked : (F : Form) {M : Type 1} (𝓤 : URA M) → Asking F 𝓤
+unasked F 𝓤 = always (takes F) (emp 𝓤)
 
 abbrev pub Giving : Form → Type 1
 Giving (form ps X) = Over ps (X .row .Denot → Left ps (Type 0))

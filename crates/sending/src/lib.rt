@@ -6,13 +6,11 @@ ghost use Rattle.clock.specs.Midnight.{dayMillis};
 ghost use Rattle.table.specs.Entry.{upTo};
 ghost use Rattle.clock.specs.Clock.{clockInRange};
 ghost use Rattle.host.specs.Settings.{settingsGood};
-ghost use Rattle.host.specs.declared.guard.Scope.the-variants.{OnLink};
 ghost use Rattle.host.specs.State.{linkOf};
 ghost use Rattle.host.specs.CallState.{host};
-ghost use Rattle.host.specs.code.Returned.{Returned};
 ghost use Rattle.sending.specs.Message.{tableGoes, sentTsp, linkSent, packetSent};
 ghost use Rattle.sending.specs.Send.{noPacket, unsent, reportCount, sends, sendIn};
-ghost use Rattle.sending.specs.code.Finish.{planned, Finishable, finished};
+ghost use Rattle.sending.specs.code.Finish.{Finishable, finished};
 use answer::Answer;
 use calendar::Date;
 use clock::Clock;
@@ -166,9 +164,8 @@ fn sends(s: Settings, c: Clock, l: Links, link: usize, k: Counter, x: Link, coun
 }
 
 // A send into a buffer of n octets.
-fn send_in(s: Settings, c: Clock, l: Links, link: usize, k: Counter, room: usize) -> Sending
-    requires { ⌜ (1 ≤ link) × (link ≤ 8) ⌝ }
-    requires { ⌜ (settingsGood s ≡ true) × (clockInRange c ≡ true) ⌝ }
+pub fn send_in(s: Settings, c: Clock, l: Links, link: usize, k: Counter, room: usize) -> Sending
+    requires { ⌜ (1 ≤ link) × (link ≤ 8) × (settingsGood s ≡ true) × (clockInRange c ≡ true) ⌝ }
     ensures { λ p. ⌜ p ≡ sendIn link k room (host s c l) ⌝ }
 {
     let x = link_of(l, link);
@@ -177,25 +174,6 @@ fn send_in(s: Settings, c: Clock, l: Links, link: usize, k: Counter, room: usize
         return unsent(Answer::ShortBuffer, s, c, l);
     }
     sends(s, c, l, link, k, x, count)
-}
-
-// A refusal of the guard's, or the send.
-pub fn plan(
-    g: Answer,
-    s: Settings,
-    c: Clock,
-    l: Links,
-    link: usize,
-    k: Counter,
-    room: usize,
-) -> Sending
-    requires { ⌜ Returned g (OnLink link) s c ⌝ }
-    ensures { λ p. ⌜ p ≡ planned g link k room (host s c l) ⌝ }
-{
-    if !answer::is_done(g) {
-        return unsent(g, s, c, l);
-    }
-    send_in(s, c, l, link, k, room)
 }
 
 // The message completed around its reports, if one is sent.

@@ -1,7 +1,6 @@
 // What a send, a second and a lookup do with an entry and a link.
 use super::arrivals::own_entries;
 use super::show;
-use answer::Answer;
 use calendar::Date;
 use calls::Request;
 use clock::Clock;
@@ -115,7 +114,7 @@ fn sent_at(x: Link, c: Clock) -> Sent {
     let links = host::link_state::with_link(host::link_state::fresh(s), 1, x);
     if host::good(s) {
         if c.in_range() {
-            let p = sending::plan(Answer::Done, s, c, links, 1, Counter::zero(), 32);
+            let p = sending::send_in(s, c, links, 1, Counter::zero(), 32);
             let tsp = p.packet.tsp;
             let link = host::link_state::link_of(p.links, 1);
             return Sent {

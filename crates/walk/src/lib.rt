@@ -6,7 +6,7 @@ ghost use Rattle.host.specs.CallState.{host};
 ghost use Rattle.host.specs.Guard.{longest};
 ghost use Rattle.walk.specs.Boxes.{atHand, step};
 ghost use Rattle.walk.specs.Opening.{openedOn, opening, copied};
-ghost use Rattle.walk.specs.code.Plan.{Steady, Openable, planned};
+ghost use Rattle.walk.specs.code.Plan.{Steady};
 use answer::Answer;
 use clock::Clock;
 use clock::Counter;
@@ -58,7 +58,7 @@ fn opened_on(link: usize, octets: usize) -> Walk
 }
 
 // The tests of 3 to 9, and the walk at its first box.
-fn opened_by(s: Settings, w: Walk, link: usize, packet: &[u8]) -> Opening
+pub fn opened_by(s: Settings, w: Walk, link: usize, packet: &[u8]) -> Opening
     requires { ⌜ (1 ≤ link) × (link ≤ 8) ⌝ }
     ensures { λ r. ⌜ (r ≡ opening link (now (packet .entry)) s w) × (r .octets ≤ longest) ⌝ }
 {
@@ -77,21 +77,6 @@ fn opened_by(s: Settings, w: Walk, link: usize, packet: &[u8]) -> Opening
             }
         }
     }
-}
-
-// A refusal of the guard's, or the walk.
-pub fn plan(g: Answer, s: Settings, w: Walk, link: usize, packet: &[u8]) -> Opening
-    requires { ⌜ Openable g link ⌝ }
-    ensures { λ r. ⌜ (r ≡ planned g link (now (packet .entry)) s w) × (r .octets ≤ longest) ⌝ }
-{
-    if !answer::is_done(g) {
-        return Opening {
-            reply: plainly(g),
-            walk: w,
-            octets: 0,
-        };
-    }
-    opened_by(s, w, link, packet)
 }
 
 // Copies the packet's first n octets.

@@ -1,6 +1,5 @@
 -- The run, and what is told of its answer.
 use mathlib.Core.Path.{_≡_, _∙_, ap}
-use base.Logic.{emp, id⊢}
 use Rattle.references.proofs.Words.{by-value}
 use Rattle.exports.proofs.made.ExportRuns.{proof}
 use Rattle.net_table.proofs.Types.{table}
@@ -24,10 +23,9 @@ pub hello-bench-run-spec : {M : Type 1} → stated.statement M
 unfolding code.routine
 hello-bench-run-spec 𝓤 H 𝓜 𝓖 𝓡 =
     proof (by-value ran) (by-value bench-ran) table state entry progress 𝓤 H 𝓜 𝓖 𝓡
-    (λ f t hs o entries ss ns p n. emp 𝓤) (λ f t hs o entries ss ns p n a hs′ entries′ ss′ ns′ p′. (a ≡ definition.ran f t n (bench hs o entries ss ns (p .done))) × (bench hs′ o entries′ ss′ ns′ (p′ .done) ≡ afterRun f t n (bench hs o entries ss ns (p .done))))
-    (λ a. emp 𝓤) (λ a r. r ≡ ranReturned a)
+    (λ f t hs o entries ss ns p n a hs′ entries′ ss′ ns′ p′. (a ≡ definition.ran f t n (bench hs o entries ss ns (p .done))) × (bench hs′ o entries′ ss′ ns′ (p′ .done) ≡ afterRun f t n (bench hs o entries ss ns (p .done))))
+    (λ a r. r ≡ ranReturned a)
     (λ f t hs o entries ss ns p n hs′ entries′ ss′ ns′ p′ r. (r ≡ ranReturned (definition.ran f t n (bench hs o entries ss ns (p .done)))) × (bench hs′ o entries′ ss′ ns′ (p′ .done) ≡ afterRun f t n (bench hs o entries ss ns (p .done))))
-    (λ f t hs o entries ss ns p n. id⊢ 𝓤 _) (λ f t hs o entries ss ns p n a hs′ entries′ ss′ ns′ p′ left. id⊢ 𝓤 _)
     (λ f t hs o entries ss ns p n a hs′ entries′ ss′ ns′ p′ r left r-is. (r-is ∙ ap ranReturned (left .0), left .1))
     code.env #entries calls.name tells.name calls.routine tells.routine code.calls-bench·run code.calls-class-bench·ran-returned
     (code.unfolded 𝓤 H 𝓜 𝓡) (calls-known.met 𝓤 H 𝓜 𝓖 𝓡) (returns-known.met 𝓤 H 𝓜 𝓖 𝓡)

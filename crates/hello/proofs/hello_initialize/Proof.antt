@@ -1,7 +1,6 @@
 -- The call, and what is told of its reply.
 use mathlib.Core.Path.{_≡_}
 use mir.Syntax.{w8}
-use base.Logic.{emp, id⊢}
 use Rattle.references.proofs.Words.{by-value, unsigned}
 use Rattle.exports.proofs.made.ExportRenews.{proof}
 use Rattle.clock.proofs.Types.{clock}
@@ -25,10 +24,9 @@ pub hello-initialize-spec : {M : Type 1} → stated.statement M
 unfolding code.routine
 hello-initialize-spec 𝓤 H 𝓜 𝓖 𝓡 =
     proof number (by-value reply) (unsigned w8) settings table clock links walk entry 𝓤 H 𝓜 𝓖 𝓡
-    (λ s t k c l v o entries. emp 𝓤) (λ s t k c l v o entries a c′ l′ v′ entries′. Leaves (perform (ask Initialize) (callState s t k c l v o entries)) a c′ l′ v′ o entries′)
-    (λ a. emp 𝓤) (λ a r. r ≡ numbered a)
+    (λ s t k c l v o entries a c′ l′ v′ entries′. Leaves (perform (ask Initialize) (callState s t k c l v o entries)) a c′ l′ v′ o entries′)
+    (λ a r. r ≡ numbered a)
     (λ s t k c l v o entries c′ l′ v′ entries′ r. Returns numbered (perform (ask Initialize) (callState s t k c l v o entries)) r c′ l′ v′ o entries′)
-    (λ s t k c l v o entries. id⊢ 𝓤 _) (λ s t k c l v o entries a c′ l′ v′ entries′ left. id⊢ 𝓤 _)
     (λ s t k c l v o entries a c′ l′ v′ entries′ r left r-is. returning numbered (perform (ask Initialize) (callState s t k c l v o entries)) a c′ l′ v′ o entries′ r left r-is)
     code.env #hello-initialize calls.name tells.name calls.routine tells.routine code.calls-calls·initialize code.calls-hello·numbered
     (code.unfolded 𝓤 H 𝓜 𝓡) (calls-known.met 𝓤 H 𝓜 𝓖 𝓡) (returns-known.met 𝓤 H 𝓜 𝓖 𝓡)

@@ -1,6 +1,5 @@
 -- The call, and what is told of its reply.
 use mathlib.Core.Path.{_≡_}
-use base.Logic.{emp, id⊢}
 use Rattle.references.proofs.Words.{by-value}
 use Rattle.exports.proofs.made.ExportLooks.{proof}
 use Rattle.clock.proofs.Types.{clock}
@@ -26,10 +25,9 @@ pub hello-lookup-spec : {M : Type 1} → stated.statement M
 unfolding code.routine
 hello-lookup-spec 𝓤 H 𝓜 𝓖 𝓡 =
     proof number (by-value address) (by-value reply) (by-value route) settings table clock links walk entry 𝓤 H 𝓜 𝓖 𝓡
-    (λ s t k c l v o entries i. emp 𝓤) (λ s t k c l v o entries i a. Leaves (perform (ask (Lookup i)) (callState s t k c l v o entries)) a c l v o entries)
-    (λ a. emp 𝓤) (λ a r. r ≡ routeReturned a)
+    (λ s t k c l v o entries i a. Leaves (perform (ask (Lookup i)) (callState s t k c l v o entries)) a c l v o entries)
+    (λ a r. r ≡ routeReturned a)
     (λ s t k c l v o entries i r. Returns routeReturned (perform (ask (Lookup i)) (callState s t k c l v o entries)) r c l v o entries)
-    (λ s t k c l v o entries i. id⊢ 𝓤 _) (λ s t k c l v o entries i a left. id⊢ 𝓤 _)
     (λ s t k c l v o entries i a r left r-is. returning routeReturned (perform (ask (Lookup i)) (callState s t k c l v o entries)) a c l v o entries r left r-is)
     code.env #hello-lookup calls.name tells.name calls.routine tells.routine code.calls-calls·lookup code.calls-hello·route-returned
     (code.unfolded 𝓤 H 𝓜 𝓡) (calls-known.met 𝓤 H 𝓜 𝓖 𝓡) (returns-known.met 𝓤 H 𝓜 𝓖 𝓡)

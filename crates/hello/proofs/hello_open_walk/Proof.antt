@@ -1,6 +1,5 @@
 -- The call, and what is told of its reply.
 use mathlib.Core.Path.{_≡_}
-use base.Logic.{emp, id⊢}
 use Rattle.references.proofs.Words.{by-value}
 use Rattle.exports.proofs.made.ExportOpens.{proof}
 use Rattle.clock.proofs.Types.{clock}
@@ -24,10 +23,9 @@ pub hello-open-walk-spec : {M : Type 1} → stated.statement M
 unfolding code.routine
 hello-open-walk-spec 𝓤 H 𝓜 𝓖 𝓡 =
     proof number number (by-value reply) (by-value stepped) settings table clock links walk entry 𝓤 H 𝓜 𝓖 𝓡
-    (λ s t k c l v o entries i b. emp 𝓤) (λ s t k c l v o entries i b a v′ o′. Leaves (perform (openWalk i b) (callState s t k c l v o entries)) a c l v′ o′ entries)
-    (λ a. emp 𝓤) (λ a r. r ≡ steppedReturned a)
+    (λ s t k c l v o entries i b a v′ o′. Leaves (perform (openWalk i b) (callState s t k c l v o entries)) a c l v′ o′ entries)
+    (λ a r. r ≡ steppedReturned a)
     (λ s t k c l v o entries i b v′ o′ r. Returns steppedReturned (perform (openWalk i b) (callState s t k c l v o entries)) r c l v′ o′ entries)
-    (λ s t k c l v o entries i b. id⊢ 𝓤 _) (λ s t k c l v o entries i b a v′ o′ left. id⊢ 𝓤 _)
     (λ s t k c l v o entries i b a v′ o′ r left r-is. returning steppedReturned (perform (openWalk i b) (callState s t k c l v o entries)) a c l v′ o′ entries r left r-is)
     code.env #hello-open-walk calls.name tells.name calls.routine tells.routine code.calls-calls·open-walk code.calls-hello·stepped-returned
     (code.unfolded 𝓤 H 𝓜 𝓡) (calls-known.met 𝓤 H 𝓜 𝓖 𝓡) (returns-known.met 𝓤 H 𝓜 𝓖 𝓡)

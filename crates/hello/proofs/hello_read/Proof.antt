@@ -1,6 +1,5 @@
 -- The call, and what is told of its reply.
 use mathlib.Core.Path.{_≡_}
-use base.Logic.{emp, id⊢}
 use Rattle.references.proofs.Words.{by-value}
 use Rattle.exports.proofs.made.ExportTimes.{proof}
 use Rattle.clock.proofs.Types.{clock, counter}
@@ -25,10 +24,9 @@ pub hello-read-spec : {M : Type 1} → stated.statement M
 unfolding code.routine
 hello-read-spec 𝓤 H 𝓜 𝓖 𝓡 =
     proof number (by-value counter) (by-value reply) (by-value time) settings table clock links walk entry 𝓤 H 𝓜 𝓖 𝓡
-    (λ s t k c l v o entries i. emp 𝓤) (λ s t k c l v o entries i a c′. Leaves (perform (ask (Read i)) (callState s t k c l v o entries)) a c′ l v o entries)
-    (λ a. emp 𝓤) (λ a r. r ≡ timeReturned a)
+    (λ s t k c l v o entries i a c′. Leaves (perform (ask (Read i)) (callState s t k c l v o entries)) a c′ l v o entries)
+    (λ a r. r ≡ timeReturned a)
     (λ s t k c l v o entries i c′ r. Returns timeReturned (perform (ask (Read i)) (callState s t k c l v o entries)) r c′ l v o entries)
-    (λ s t k c l v o entries i. id⊢ 𝓤 _) (λ s t k c l v o entries i a c′ left. id⊢ 𝓤 _)
     (λ s t k c l v o entries i a c′ r left r-is. returning timeReturned (perform (ask (Read i)) (callState s t k c l v o entries)) a c′ l v o entries r left r-is)
     code.env #hello-read calls.name tells.name calls.routine tells.routine code.calls-calls·read code.calls-hello·time-returned
     (code.unfolded 𝓤 H 𝓜 𝓡) (calls-known.met 𝓤 H 𝓜 𝓖 𝓡) (returns-known.met 𝓤 H 𝓜 𝓖 𝓡)

@@ -1,6 +1,5 @@
 -- The call, and what is told of its reply.
 use mathlib.Core.Path.{_≡_}
-use base.Logic.{emp, id⊢}
 use Rattle.references.proofs.Words.{by-value}
 use Rattle.exports.proofs.made.ExportSends.{proof}
 use Rattle.clock.proofs.Types.{clock, counter}
@@ -25,10 +24,9 @@ pub hello-send-spec : {M : Type 1} → stated.statement M
 unfolding code.routine
 hello-send-spec 𝓤 H 𝓜 𝓖 𝓡 =
     proof number number (by-value counter) (by-value reply) (by-value sent) settings table clock links walk entry 𝓤 H 𝓜 𝓖 𝓡
-    (λ s t k c l v o entries i q b. emp 𝓤) (λ s t k c l v o entries i q b a c′ l′ b′. Leaves (perform (definition.send i q b) (callState s t k c l v o entries)) a c′ l′ v o entries × (b′ ≡ perform (definition.send i q b) (callState s t k c l v o entries) .buffer))
-    (λ a. emp 𝓤) (λ a r. r ≡ sentReturned a)
+    (λ s t k c l v o entries i q b a c′ l′ b′. Leaves (perform (definition.send i q b) (callState s t k c l v o entries)) a c′ l′ v o entries × (b′ ≡ perform (definition.send i q b) (callState s t k c l v o entries) .buffer))
+    (λ a r. r ≡ sentReturned a)
     (λ s t k c l v o entries i q b c′ l′ b′ r. Returns sentReturned (perform (definition.send i q b) (callState s t k c l v o entries)) r c′ l′ v o entries × (b′ ≡ perform (definition.send i q b) (callState s t k c l v o entries) .buffer))
-    (λ s t k c l v o entries i q b. id⊢ 𝓤 _) (λ s t k c l v o entries i q b a c′ l′ b′ left. id⊢ 𝓤 _)
     (λ s t k c l v o entries i q b a c′ l′ b′ r left r-is. (returning sentReturned (perform (definition.send i q b) (callState s t k c l v o entries)) a c′ l′ v o entries r (left .0) r-is, left .1))
     code.env #hello-send calls.name tells.name calls.routine tells.routine code.calls-calls·send code.calls-hello·sent-returned
     (code.unfolded 𝓤 H 𝓜 𝓡) (calls-known.met 𝓤 H 𝓜 𝓖 𝓡) (returns-known.met 𝓤 H 𝓜 𝓖 𝓡)

@@ -1,6 +1,5 @@
 -- The request, the call, and what is told of its reply.
 use mathlib.Core.Path.{_≡_, sym}
-use base.Logic.{emp, id⊢}
 use Rattle.references.proofs.Words.{by-value, chosen-by-value}
 use Rattle.exports.proofs.made.ExportAsksWith.{proof}
 use Rattle.clock.proofs.Types.{clock, counter}
@@ -28,11 +27,10 @@ pub hello-step-spec : {M : Type 1} → stated.statement M
 unfolding code.routine
 hello-step-spec 𝓤 H 𝓜 𝓖 𝓡 =
     proof number (by-value counter) (chosen-by-value request) (by-value reply) (by-value stepped) settings table clock links walk entry 𝓤 H 𝓜 𝓖 𝓡
-    (λ i. emp 𝓤) (λ i q. q ≡ Step i)
-    (λ s t k c l v o entries q. emp 𝓤) (λ s t k c l v o entries q a c′ l′ v′ entries′. Leaves (perform (ask q) (callState s t k c l v o entries)) a c′ l′ v′ o entries′)
-    (λ a. emp 𝓤) (λ a r. r ≡ steppedReturned a)
+    (λ i q. q ≡ Step i)
+    (λ s t k c l v o entries q a c′ l′ v′ entries′. Leaves (perform (ask q) (callState s t k c l v o entries)) a c′ l′ v′ o entries′)
+    (λ a r. r ≡ steppedReturned a)
     (λ s t k c l v o entries i c′ l′ v′ entries′ r. Returns steppedReturned (perform (ask (Step i)) (callState s t k c l v o entries)) r c′ l′ v′ o entries′)
-    (λ s t k c l v o entries i. id⊢ 𝓤 _) (λ s t k c l v o entries i q q-is. id⊢ 𝓤 _) (λ s t k c l v o entries i q a c′ l′ v′ entries′ q-is left. id⊢ 𝓤 _)
     (λ s t k c l v o entries i q a c′ l′ v′ entries′ r q-is left r-is. rw (sym q-is) (returning steppedReturned (perform (ask q) (callState s t k c l v o entries)) a c′ l′ v′ o entries′ r left r-is))
     code.env #hello-step asks.name calls.name tells.name asks.routine calls.routine tells.routine
     code.calls-hello·asks-step code.calls-calls·call code.calls-hello·stepped-returned

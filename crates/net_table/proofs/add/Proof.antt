@@ -1,6 +1,5 @@
 -- It does in place what `planned::with_row` does by value.
 use mathlib.Core.Path.{_≡_, ap}
-use base.Logic.{emp, id⊢}
 use Rattle.references.proofs.Words.{by-value, struct-part, enum-part}
 use Rattle.net_table.specs.declared.Addition.{Addition}
 use Rattle.net_table.specs.Tutor.{add}
@@ -16,7 +15,7 @@ pub add-spec : {M : Type 1} → stated.statement M
 unfolding code.routine
 add-spec 𝓤 H 𝓜 𝓖 𝓡 =
     proof (by-value types.net) types.number types.table (struct-part types.added) types.addition 𝓤 H 𝓜 𝓖 𝓡
-    (λ t m id. emp 𝓤) (λ t m id r. r ≡ add m id t)
+    (λ t m id r. r ≡ add m id t)
     (λ t m id t′ a. (t′ ≡ add m id t .table) × (a ≡ add m id t .added))
-    (λ t m id. id⊢ 𝓤 _) (λ t m id r e. (ap (λ (x : Addition). x .table) e, ap (λ (x : Addition). x .added) e))
+    (λ t m id r e. (ap (λ (x : Addition). x .table) e, ap (λ (x : Addition). x .added) e))
     code.env #add plans.name plans.routine code.calls-net-table·planned·with-row (code.unfolded 𝓤 H 𝓜 𝓡) (known.met 𝓤 H 𝓜 𝓖 𝓡)

@@ -1,6 +1,5 @@
 -- It does in place what `planned::afresh` does by value.
 use mathlib.Core.Path.{_≡_, ap}
-use base.Logic.{emp, id⊢}
 use Rattle.references.proofs.Words.{by-value, struct-part, enum-part}
 use Rattle.net_table.specs.declared.Outcome.{Outcome}
 use Rattle.net_table.specs.Tutor.{initializeTable}
@@ -16,7 +15,7 @@ pub initialize-table-spec : {M : Type 1} → stated.statement M
 unfolding code.routine
 initialize-table-spec 𝓤 H 𝓜 𝓖 𝓡 =
     proof types.number types.table (enum-part types.answer) types.outcome 𝓤 H 𝓜 𝓖 𝓡
-    (λ t n. emp 𝓤) (λ t n r. r ≡ initializeTable n t)
+    (λ t n r. r ≡ initializeTable n t)
     (λ t n t′ a. (t′ ≡ initializeTable n t .table) × (a ≡ initializeTable n t .answer))
-    (λ t n. id⊢ 𝓤 _) (λ t n r e. (ap (λ (x : Outcome). x .table) e, ap (λ (x : Outcome). x .answer) e))
+    (λ t n r e. (ap (λ (x : Outcome). x .table) e, ap (λ (x : Outcome). x .answer) e))
     code.env #initialize-table plans.name plans.routine code.calls-net-table·planned·initialized (code.unfolded 𝓤 H 𝓜 𝓡) (known.met 𝓤 H 𝓜 𝓖 𝓡)

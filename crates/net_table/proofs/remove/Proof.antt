@@ -1,6 +1,5 @@
 -- It does in place what `planned::without_row` does by value.
 use mathlib.Core.Path.{_≡_, ap}
-use base.Logic.{emp, id⊢}
 use Rattle.references.proofs.Words.{by-value, struct-part, enum-part}
 use Rattle.net_table.specs.declared.Outcome.{Outcome}
 use Rattle.net_table.specs.Tutor.{remove}
@@ -16,7 +15,7 @@ pub remove-spec : {M : Type 1} → stated.statement M
 unfolding code.routine
 remove-spec 𝓤 H 𝓜 𝓖 𝓡 =
     proof types.number types.table (enum-part types.answer) types.outcome 𝓤 H 𝓜 𝓖 𝓡
-    (λ t k. emp 𝓤) (λ t k r. r ≡ remove k t)
+    (λ t k r. r ≡ remove k t)
     (λ t k t′ a. (t′ ≡ remove k t .table) × (a ≡ remove k t .answer))
-    (λ t k. id⊢ 𝓤 _) (λ t k r e. (ap (λ (x : Outcome). x .table) e, ap (λ (x : Outcome). x .answer) e))
+    (λ t k r e. (ap (λ (x : Outcome). x .table) e, ap (λ (x : Outcome). x .answer) e))
     code.env #remove plans.name plans.routine code.calls-net-table·planned·without-row (code.unfolded 𝓤 H 𝓜 𝓡) (known.met 𝓤 H 𝓜 𝓖 𝓡)

@@ -1,29 +1,20 @@
--- The same reports, each place as much further on.
-use borrow.Author.Tests.{lt-ltb, le-ltb}
+-- The same reports, each place further on by the host's first.
 use native.Mathlib.Omega.{arith}
+use borrow.Author.Needs.{needs}
 use Rattle.calls.proofs.places.reports_at.Statement.{statement}
 use Rattle.calls.proofs.places.reports_at.Tie as tie
 
 first-place-requires : tie.Need-first-place-requires
-first-place-requires c κs = c .before .before .pre .number (c .if1 .taken)
+first-place-requires c κs = search needs
 
-add-first : tie.Need-add-first
-add-first c =
-    let p = c .before .before .before .before .pre in
-    let some = c .before .before .if1 .taken in
-    omega (arith, p .number some, p .ids some, c .before .first-place .ensures)
+add-v : tie.Need-add-v
+add-v c = omega arith
 
-add-end : tie.Need-add-end
-add-end c =
-    let p = c .before .before .before .before .before .pre in
-    let some = c .before .before .before .if1 .taken in
-    omega (arith, p .number some, p .ids some, c .before .before .first-place .ensures)
+add-v-2 : tie.Need-add-v-2
+add-v-2 c = omega arith
 
 returns : tie.Need-returns
-returns c = rw (lt-ltb _ _ (c .before .before .before .if1 .taken), c .before .before .first-place .ensures)
-
-returns-2 : tie.Need-returns-2
-returns-2 c = rw (le-ltb _ _ (c .if1 .left))
+returns c = rw (c .before .before .first-place .ensures)
 
 pub reports-at-spec : {M : Type 1} → statement M
-reports-at-spec = tie.close (tie.spec first-place-requires add-first add-end returns returns-2)
+reports-at-spec = tie.close (tie.spec first-place-requires add-v add-v-2 returns)

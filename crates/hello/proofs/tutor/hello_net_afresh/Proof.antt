@@ -1,7 +1,6 @@
 -- The tutor's call, and what is told of its answer.
 use mathlib.Core.Path.{_≡_, _∙_, ap}
 use mir.Syntax.{w8}
-use base.Logic.{emp, id⊢}
 use Rattle.references.proofs.Words.{by-value, chosen-by-value, unsigned}
 use Rattle.net_table.specs.Answer.{number}
 use Rattle.net_table.specs.Tutor.{initializeTable}
@@ -19,9 +18,9 @@ pub hello-net-afresh-spec : {M : Type 1} → stated.statement M
 unfolding code.routine
 hello-net-afresh-spec 𝓤 H 𝓜 𝓖 𝓡 =
     proof types.number (chosen-by-value types.answer) (unsigned w8) types.table 𝓤 H 𝓜 𝓖 𝓡
-    (λ t n. emp 𝓤) (λ t n o t′. (t′ ≡ initializeTable n t .table) × (o ≡ initializeTable n t .answer))
-    (λ o. emp 𝓤) (λ o r. r ≡ number o)
+    (λ t n o t′. (t′ ≡ initializeTable n t .table) × (o ≡ initializeTable n t .answer))
+    (λ o r. r ≡ number o)
     (λ t n t′ r. (t′ ≡ initializeTable n t .table) × (r ≡ number (initializeTable n t .answer)))
-    (λ t n. id⊢ 𝓤 _) (λ t n o t′ e. id⊢ 𝓤 _) (λ t n o t′ r e d. (e .0, d ∙ ap number (e .1)))
+    (λ t n o t′ r e d. (e .0, d ∙ ap number (e .1)))
     code.env #hello-net-afresh turns.name tells.name turns.routine tells.routine code.calls-net-table·initialize-table code.calls-net-table·number
     (code.unfolded 𝓤 H 𝓜 𝓡) (turns-known.met 𝓤 H 𝓜 𝓖 𝓡) (returns-known.met 𝓤 H 𝓜 𝓖 𝓡)

@@ -1,6 +1,5 @@
 -- A scan of the entries between what is tested before it and what is judged behind it.
 use mathlib.Core.Path.{_≡_, _∙_, ap, subst, sym}
-use base.Logic.{emp, id⊢}
 use contract.Monad.{fact, factI}
 use Rattle.references.proofs.Words.{by-value, chosen-by-value, boolean}
 use Rattle.references.proofs.Outcomes.{whole}
@@ -28,14 +27,12 @@ use Rattle.host.proofs.guard.guard.Code as code
 pub guard-spec : {M : Type 1} → stated.statement M
 unfolding code.routine
 guard-spec 𝓤 H 𝓜 𝓖 𝓡 =
-    proof number (by-value clock) (by-value links) (by-value walk) (chosen-by-value scope) (by-value (whole scan)) boolean (chosen-by-value answer) settings table entry 𝓤 H 𝓜 𝓖 𝓡
-    (λ s t k c l v o a n. emp 𝓤) (λ s t k c l v o a n w. w ≡ held a t k (host s c l) v o n)
+    proof number (chosen-by-value scope) (by-value (whole scan)) boolean (chosen-by-value answer) settings table clock links walk entry 𝓤 H 𝓜 𝓖 𝓡
+    (λ s t k c l v o a n w. w ≡ held a t k (host s c l) v o n)
     (λ entries w. fact 𝓤 (InEntries (w .first) (w .end) entries)) (λ entries w good. good ≡ allInRange w entries)
-    (λ s t v a good. emp 𝓤) (λ s t v a good r. r ≡ judged s t v a good)
+    (λ s t v a good r. r ≡ judged s t v a good)
     (λ s t k c l v o a entries r. r ≡ guard a (callState s t k c l v o entries))
-    (λ s t k c l v o a entries. id⊢ 𝓤 _)
     (λ s t k c l v o a entries w w-is. factI 𝓤 _ _ (subst (λ (x : Scan). InEntries (x .first) (x .end) entries) (sym w-is) (held-in (callState s t k c l v o entries) a)))
-    (λ s t k c l v o a entries w good w-is good-is. id⊢ 𝓤 _)
     (λ s t k c l v o a entries w good r w-is good-is r-is.
     r-is ∙ ap (judged s t v a) (good-is ∙ ap (λ (x : Scan). allInRange x entries) w-is) ∙ guarded (callState s t k c l v o entries) a)
     code.env #guard holds.name scans.name judges.name holds.routine scans.routine judges.routine

@@ -1,19 +1,9 @@
 -- The tests tell that settings and clock are good, which is all that the plan asks.
 use native.Mathlib.Omega.{arith}
-use mathlib.Core.Path.{_≡_, _∙_, sym}
-use mathlib.Core.Bool.{true, false}
-use borrow.Author.Tests.{le-ltb}
-use Rattle.host.specs.declared.Settings.{Settings}
-use Rattle.host.specs.Settings.{linkCount, settingsGood}
-use Rattle.host.specs.State.{noLink}
-use Rattle.host.proofs.Sound.{sound}
+use mathlib.Core.Path.{_∙_, sym}
 use borrow.Author.Needs.{needs}
 use Rattle.test_calls.proofs.requests.sent_at.Statement.{statement}
 use Rattle.test_calls.proofs.requests.sent_at.Tie as tie
-
-first-link : (s : Settings) → settingsGood s ≡ true → noLink s 1 ≡ false
-unfolding noLink
-first-link s good = le-ltb (linkCount s) 1 (omega (arith, sound s good .links-from))
 
 settings-requires : tie.Need-settings-requires
 settings-requires c κs = search needs
@@ -33,11 +23,11 @@ in-range-requires c κs = search needs
 zero-requires : tie.Need-zero-requires
 zero-requires c κs = search needs
 
-plan-requires : tie.Need-plan-requires
-plan-requires c κs =
+send-in-requires : tie.Need-send-in-requires
+send-in-requires c κs =
     let good = sym (c .before .before .before .before .good2 .ensures) ∙ c .before .before .before .if1 .taken in
     let ready = sym (c .before .before .in-range .ensures) ∙ c .before .if2 .taken in
-    record { ready = λ _. record { settings = good; clock = λ _. ready; link = λ j f. (let same : 1 ≡ j = cc in rw (sym same) (first-link _ good)) } }
+    (omega arith, omega arith, good, ready)
 
 link-of-requires : tie.Need-link-of-requires
 link-of-requires c κs = search needs
@@ -61,7 +51,7 @@ sent-at-spec =
     good-requires
     in-range-requires
     zero-requires
-    plan-requires
+    send-in-requires
     link-of-requires
     returns
     returns-2
