@@ -4,6 +4,7 @@ pub mod Silence
 pub mod SilenceExample
 pub mod Hops
 pub mod Rounds
+pub mod Unreported
 pub mod TablesFill
 pub mod Handshake
 pub mod RoundsExample

@@ -46,10 +46,10 @@ pub record Epoch (r : Network) (c : ℕ) (w : World) (xs : List Step) : Type 0 w
   pub unheard : NothingOf r (emptied w) c xs
   pub long : (b : ℕ) → b < r .nodes → (b ≡ c → ⊥) → epochSeconds ≤ secondsAt r (emptied w) b xs
 
--- LIVE-4: `count` epochs, one after another, from w to the last world
-pub data Epochs (r : Network) (c : ℕ) (w : World) : (count : ℕ) → World → Type 0 where
-  begin : Epochs r c w 0 w
-  next : {k : ℕ} {v : World} → Epochs r c w k v → (xs : List Step) → Epoch r c v xs → Epochs r c w (suc k) (history r (emptied v) xs)
+-- LIVE-4, LIVE-7: `count` epochs, one after another, from w to the last world; `Each` is the condition on an epoch
+pub data Epochs (r : Network) (Each : World → List Step → Type 0) (w : World) : (count : ℕ) → World → Type 0 where
+  begin : Epochs r Each w 0 w
+  next : {k : ℕ} {v : World} → Epochs r Each w k v → (xs : List Step) → Each v xs → Epochs r Each w (suc k) (history r (emptied v) xs)
 
 -- ---- the claim
 
@@ -57,7 +57,7 @@ pub data Epochs (r : Network) (c : ℕ) (w : World) : (count : ℕ) → World �
 unfoldable pub SilentHostFades : Type 0
 SilentHostFades =
     (r : Network) → Proper r → r .longest ≤ longestWay → (w : World) → Starts r w → (xs : List Step) → Allows r w xs
-    → (c i : ℕ) → c < r .nodes → HostAt r i c → (k : ℕ) (v : World) → Epochs r c (history r w xs) k v
+    → (c i : ℕ) → c < r .nodes → HostAt r i c → (k : ℕ) (v : World) → Epochs r (Epoch r c) (history r w xs) k v
     → (b : ℕ) → b < r .nodes → (b ≡ c → ⊥) → i < r .settings b .layout .nhosts → up (entryOf r v b i) ≡ true
     → pos (rise * suc k) ≤ℤ entryOf r v b i .delay .0
 
@@ -65,5 +65,5 @@ SilentHostFades =
 unfoldable pub SilentHostGone : Type 0
 SilentHostGone =
     (r : Network) → Proper r → r .longest ≤ longestWay → (w : World) → Starts r w → (xs : List Step) → Allows r w xs
-    → (c i : ℕ) → c < r .nodes → HostAt r i c → (k : ℕ) (v : World) → Epochs r c (history r w xs) k v → goneEpochs ≤ k
+    → (c i : ℕ) → c < r .nodes → HostAt r i c → (k : ℕ) (v : World) → Epochs r (Epoch r c) (history r w xs) k v → goneEpochs ≤ k
     → (b : ℕ) → b < r .nodes → (b ≡ c → ⊥) → i < r .settings b .layout .nhosts → up (entryOf r v b i) ≡ false

@@ -23,7 +23,7 @@ use Rattle.network_laws.specs.Demand3 as calls
 use Rattle.network_laws.specs.TwoNodes.{hostAt, begun, call}
 use Rattle.liveness_laws.specs.Numbers.{rise, epochSeconds}
 use Rattle.liveness_laws.specs.Seconds.{emptied}
-use Rattle.liveness_laws.specs.Silence.{Epochs}
+use Rattle.liveness_laws.specs.Silence.{Epoch, Epochs}
 
 -- ---- the network
 
@@ -127,6 +127,6 @@ pub record SilenceExample : Type 0 where
   pub allowed : Allows line start past
   pub silent-in : 2 < line .nodes
   pub host-there : HostAt line 2 2
-  pub epochs : Epochs line 2 (history line start past) 1 last
+  pub epochs : Epochs line (Epoch line 2) (history line start past) 1 last
   pub still-up : entryOf line last 1 2 .delay ≡ millis (pos (rise * 2))
   pub gone : entryOf line last 0 2 .delay ≡ millis (pos 30000)

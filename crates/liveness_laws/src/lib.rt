@@ -2,6 +2,7 @@
 ghost use Rattle.liveness_laws.specs.Handshake.{Handshake};
 ghost use Rattle.liveness_laws.specs.Silence.{SilentHostFades, SilentHostGone};
 ghost use Rattle.liveness_laws.specs.SilenceExample.{SilenceExample};
+ghost use Rattle.liveness_laws.specs.Unreported.{UnreportedHostFades, UnreportedHostGone};
 ghost use Rattle.liveness_laws.specs.TablesFill.{TablesFill};
 ghost use Rattle.liveness_laws.specs.RoundsExample.{RoundsExample};
 ghost use Rattle.liveness_laws.specs.OrderClaim.{AnyOrder};
@@ -58,6 +59,16 @@ pub fn silent_host_gone()
 // Three hosts and one epoch meet every condition of `silent_host_fades`, and the silent host is still up, at 200 ms.
 pub fn silence_example()
     ensures { λ _. ⌜ SilenceExample ⌝ }
+{}
+
+// Unreported: if a host does not report itself for k times 120 seconds, each of its ids is, in every table, down or at a DELAY of at least 100 k ms. The host may be heard.
+pub fn unreported_host_fades()
+    ensures { λ _. ⌜ UnreportedHostFades ⌝ }
+{}
+
+// So after 300 times 120 seconds, ten hours, it is down in every table.
+pub fn unreported_host_gone()
+    ensures { λ _. ⌜ UnreportedHostGone ⌝ }
 {}
 
 // One link of any host: what an arrival teaches it, what a send says by it, and when a table that arrives on it is believed.

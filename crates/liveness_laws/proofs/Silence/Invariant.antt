@@ -1,8 +1,7 @@
--- What every call keeps for the id i of the silent host c: n is the least DELAY that another table can have, s counts the host's seconds in this epoch.
+-- What every call keeps for an id i: n is the least DELAY that a table can have for it, s counts the host's seconds in this epoch.
 use mathlib.Core.Path.{_≡_}
 use mathlib.Core.Bool.{Bool, true, false}
 use mathlib.Core.List.{List, List·Memᴰ}
-use mathlib.Core.Logic.{_⊎_, inl, inr}
 use Prim.Native.Nat.{ℕ, _+_, _≤_, _<_}
 use native.Mathlib.Omega.{arith}
 use lib.Dec.{eqb}
@@ -27,7 +26,6 @@ use Rattle.network_laws.specs.Network.{Network}
 use Rattle.network_laws.specs.Demand3.{Message, World}
 use Rattle.network_laws.proofs.Lists.{All}
 use Rattle.liveness_laws.specs.Numbers.{rise}
-use Rattle.liveness_laws.specs.Silence.{NotFrom}
 use Rattle.liveness_laws.proofs.Silence.Entry.{Fading, stored-fades, stored-early}
 
 -- a walk that has read its clock: its packet has arrived
@@ -49,57 +47,42 @@ Reports i n m octets =
     eqb (fields octets .nhosts) 0 ≡ false → lessMillis (reportAt (helloOf octets) i .delay) maxDelay ≡ true
     → n + dn (reportAt (helloOf octets) i .delay .0) ≤ up (reportAt (helloOf octets) i .delay .0) + m
 
-module _ (r : Network) (c i n : ℕ) where
-  -- what may arrive at host b: a message of another host, of this epoch; or, before the host's first second, any message that reports at least n - 100
-  pub data Arriving (b s link : ℕ) (octets : List ℕ) : Type 0 where
-    new : NotFrom r c b link → Reports i n 0 octets → Arriving b s link octets
-    early : s ≡ 0 → NotFrom r c b link ⊎ (n ≤ rise) → Reports i n rise octets → Arriving b s link octets
+-- what may arrive at a host: a message of this epoch; or, before the host's first second, any message that reports at least n - 100
+pub data Arriving (i n s : ℕ) (octets : List ℕ) : Type 0 where
+  new : Reports i n 0 octets → Arriving i n s octets
+  early : s ≡ 0 → Reports i n rise octets → Arriving i n s octets
 
-  abbrev pub FadeWalk : (b s : ℕ) → Walk → (copy : List ℕ) → Type 0
-  FadeWalk b s w copy = isOpen w ≡ true → begun (placeOf w) ≡ true → Arriving b s (w .link) (packetOf w copy)
+module _ (r : Network) (i n : ℕ) where
+  abbrev pub FadeWalk : (s : ℕ) → Walk → (copy : List ℕ) → Type 0
+  FadeWalk s w copy = isOpen w ≡ true → begun (placeOf w) ≡ true → Arriving i n s (packetOf w copy)
 
   abbrev pub Ours : (s id : ℕ) → Entry → Type 0
   Ours s id e = id ≡ i → Fading n s e
 
   pub record FadeNode (b s : ℕ) (x : HostAfter) : Type 0 where
-    pub walk : FadeWalk b s (x .walk) (x .copy)
+    pub walk : FadeWalk s (x .walk) (x .copy)
     pub table : All (Ours s) (take (hostCount (r .settings b)) (x .places))
 
   -- what a call borrows, and the state afterwards
   pub record FadeState (b s : ℕ) (w : Walk) (copy : List ℕ) (entries : List Entry) : Type 0 where
-    pub walk : FadeWalk b s w copy
+    pub walk : FadeWalk s w copy
     pub table : Holds (r .number b) entries → All (Ours s) (ownEntries (r .settings b) (r .number b) entries)
 
   pub record FadeAfter (b s : ℕ) (before : List Entry) (o : Outcome) : Type 0 where
-    pub walk : FadeWalk b s (o .walk) (o .copy)
+    pub walk : FadeWalk s (o .walk) (o .copy)
     pub table : Holds (r .number b) before → All (Ours s) (ownEntries (r .settings b) (r .number b) (o .entries))
     pub same-length : length (o .entries) ≡ length before
 
-  -- the other hosts, and their messages
-  pub record FadeWorld (s : ℕ → ℕ) (w : World) : Type 0 where
-    pub nodes : (b : ℕ) → b < r .nodes → (b ≡ c → ⊥) → FadeNode b (s b) (w .state (r .number b))
-    pub mail : (m : Message) → List·Memᴰ m (w .mail) → (m .node ≡ c → ⊥) → Reports i n 0 (m .octets)
+-- the hosts except `out`, and their messages
+pub record FadeWorld (r : Network) (out i n : ℕ) (s : ℕ → ℕ) (w : World) : Type 0 where
+  pub nodes : (b : ℕ) → b < r .nodes → (b ≡ out → ⊥) → FadeNode r i n b (s b) (w .state (r .number b))
+  pub mail : (m : Message) → List·Memᴰ m (w .mail) → (m .node ≡ out → ⊥) → Reports i n 0 (m .octets)
 
-  -- ---- what an arriving message stores
-
-  module _ {b s link : ℕ} {octets : List ℕ} (now : Arriving b s link octets) where
-    -- for its sender's own id, without a report
-    pub own-stored : (u : Update) (e : Entry) → rise + dn (u .delay .0) ≤ up (u .delay .0) → (NotFrom r c b link → ⊥) → Fading n s (stored u e)
-    own-stored u e long never = go now
-      where
-        go : Arriving b s link octets → Fading n s (stored u e)
-        go (new away reports) = absurd (never away)
-        go (early z (inl away) reports) = absurd (never away)
-        go (early z (inr small) reports) = stored-early n s u e z (omega arith)
-
-    -- by a report that is up, and at least 100 more
-    pub report-stored : (u : Update) (e : Entry) → eqb (fields octets .nhosts) 0 ≡ false → lessMillis (reportAt (helloOf octets) i .delay) maxDelay ≡ true
-        → rise + up (reportAt (helloOf octets) i .delay .0) + dn (u .delay .0) ≤ up (u .delay .0) + dn (reportAt (helloOf octets) i .delay .0) → Fading n s (stored u e)
-    report-stored u e some low long = go now
-      where
-        go : Arriving b s link octets → Fading n s (stored u e)
-        go (new away reports) = stored-fades n s u e (omega (arith, reports some low, long))
-        go (early z away reports) = stored-early n s u e z (omega (arith, reports some low, long))
+-- an arriving message stores a report that is up, and at least 100 more
+pub report-stored : {i n s : ℕ} {octets : List ℕ} → Arriving i n s octets → (u : Update) (e : Entry) → eqb (fields octets .nhosts) 0 ≡ false → lessMillis (reportAt (helloOf octets) i .delay) maxDelay ≡ true
+    → rise + up (reportAt (helloOf octets) i .delay .0) + dn (u .delay .0) ≤ up (u .delay .0) + dn (reportAt (helloOf octets) i .delay .0) → Fading n s (stored u e)
+report-stored {i} {n} {s} (new least) u e some low long = stored-fades n s u e (omega (arith, least some low, long))
+report-stored {i} {n} {s} (early z least) u e some low long = stored-early n s u e z (omega (arith, least some low, long))
 
 -- every report is at least 0: so a DELAY stored from it is at least 100
 pub any-reports : (i n : ℕ) (octets : List ℕ) → n ≤ rise → Reports i n rise octets

@@ -6,7 +6,7 @@ use Prim.Native.Nat.{ℕ, _+_, _≤_, _<_}
 use native.Mathlib.Omega.{arith}
 use lib.Dec.{ltb, eqb}
 use lib.IntN.{pos}
-use lib.ListN.{length, getD}
+use lib.ListN.{length}
 use Rattle.lists.proofs.Tests.{either}
 use Rattle.quantity.specs.declared.Millis.{Millis}
 use Rattle.quantity.specs.Quantity.{lessMillis}
@@ -15,25 +15,23 @@ use Rattle.quantity.proofs.Ints.{up, dn}
 use Rattle.clock.specs.declared.Clock.{Clock}
 use Rattle.clock.specs.declared.Counter.{Counter}
 use Rattle.wire.specs.declared.Report.{Report}
-use Rattle.wire.specs.Hello.{reportAt}
-use Rattle.wire.specs.Packet.{packetLength, helloOf, fields}
+use Rattle.wire.specs.Packet.{packetLength, fields}
 use Rattle.wire.proofs.ReadBack.{nhosts-back, delay-back}
 use Rattle.table.specs.declared.Entry.{Entry}
 use Rattle.table.specs.Entry.{advertised, entryInRange, maxDelay}
 use Rattle.table.proofs.Ranges.{range-says}
 use Rattle.net_table.specs.declared.NetTable.{NetTable}
-use Rattle.host.specs.declared.Link.{Link}
 use Rattle.host.specs.declared.Links.{Links}
 use Rattle.host.specs.declared.walk.Walk.{Walk}
 use Rattle.host.specs.declared.guard.Scope.the-variants.{OnLink}
 use Rattle.host.specs.State.{hostCount, linkOf}
 use Rattle.host.specs.CallState.{CallState, entriesOf, ourReading}
 use Rattle.host.specs.Guard.{done}
-use Rattle.host.proofs.Places.{Holds, entries-length}
+use Rattle.host.proofs.Places.{Holds}
 use Rattle.host.proofs.Guarded.{passed, holds, entries-state}
 use Rattle.sending.specs.declared.Sending.{Sending}
 use Rattle.sending.specs.Message.{tableGoes, packetSent}
-use Rattle.sending.specs.Send.{reportCount, sends}
+use Rattle.sending.specs.Send.{reportCount}
 use Rattle.calls.specs.Perform.{Call, Outcome, sentBy, perform}
 use Rattle.network_laws.specs.HostAfter.{messageOf}
 use Rattle.network_laws.specs.Network.{Network, stateAt}
@@ -51,12 +49,12 @@ record Returned (i n id : ℕ) (p : Report) : Type 0 where
   pub high : up (p .delay .0) < 65536
   pub least : id ≡ i → lessMillis (p .delay) maxDelay ≡ true → n + dn (p .delay .0) ≤ up (p .delay .0) + 0
 
-module _ (r : Network) (c i n b s : ℕ) (few : i < hostCount (r .settings b))
-    (nets : NetTable) (cl : Clock) (l : Links) (walk : Walk) (copy : List ℕ) (entries : List Entry) (callState : FadeState r c i n b s walk copy entries) (link : ℕ) (k : Counter) where
+module _ (r : Network) (i n b s : ℕ) (few : i < hostCount (r .settings b))
+    (nets : NetTable) (cl : Clock) (l : Links) (walk : Walk) (copy : List ℕ) (entries : List Entry) (callState : FadeState r i n b s walk copy entries) (link : ℕ) (k : Counter) where
   abbrev x : CallState
   x = stateAt r b nets cl l walk copy entries
 
-  returned : (id : ℕ) (e : Entry) → Ours r c i n s id e × (entryInRange e ≡ true) → Returned i n id (advertised link e)
+  returned : (id : ℕ) (e : Entry) → Ours r i n s id e × (entryInRange e ≡ true) → Returned i n id (advertised link e)
   unfolding advertised
   returned id e h =
       let d = range-says e (h .1) .delay in
@@ -83,8 +81,8 @@ module _ (r : Network) (c i n b s : ℕ) (few : i < hostCount (r .settings b))
     sent-reports some =
         let goes = count some in
         let es : All (Returned i n) (map (advertised link) (entriesOf x)) =
-        all-map (λ (id : ℕ) (e : Entry). Ours r c i n s id e × (entryInRange e ≡ true)) (Returned i n) (advertised link) (entriesOf x) (λ id e _. returned id e)
-        (all-both (Ours r c i n s) (λ (id : ℕ) (e : Entry). entryInRange e ≡ true) (entriesOf x) (callState .table held) ranged) in
+        all-map (λ (id : ℕ) (e : Entry). Ours r i n s id e × (entryInRange e ≡ true)) (Returned i n) (advertised link) (entriesOf x) (λ id e _. returned id e)
+        (all-both (Ours r i n s) (λ (id : ℕ) (e : Entry). entryInRange e ≡ true) (entriesOf x) (callState .table held) ranged) in
         let all : All (Returned i n) (reports x held link) = rw goes es in
         let size : length (reports x held link) ≡ hostCount (r .settings b) = reports-count x held link ∙ ap (λ (t : Bool). cond t (hostCount (r .settings b)) 0) goes in
         let there : i < length (reports x held link) = omega arith in
