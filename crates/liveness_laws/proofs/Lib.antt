@@ -1,5 +1,8 @@
 pub mod Lines
+pub mod Links
+pub mod Measured
 pub mod Silence
+pub mod Host
 pub mod Rounds
 pub mod OneLink
 pub mod Order

@@ -2,9 +2,8 @@
 pub mod Entry
 pub mod Heard
 pub mod Tables
-pub mod Arrivals
+pub mod Believed
 pub mod Sends
-pub mod Calls
 pub mod Worlds
 pub mod Law
 pub mod Example

@@ -2,11 +2,14 @@
 use mathlib.Core.Path.{_≡_}
 use mathlib.Core.Bool.{Bool, cond, _&&_}
 use mathlib.Core.List.{List, [], _∷_}
+use mathlib.Core.Logic.{_⊎_}
 use Prim.Native.Nat.{ℕ}
 use lib.Dec.{eqb}
+use Rattle.host.specs.Walk.{packetOf}
 use Rattle.network_laws.specs.Network.{Network, at}
-use Rattle.network_laws.specs.Demand3.{NetworkCall, ticks, seconds, reports, sends, arrives, acts, inspects, opens, steps, adjusts, sets, clocks, looks, Step, Message, World, step}
+use Rattle.network_laws.specs.Demand3.{NetworkCall, ticks, seconds, reports, sends, arrives, acts, inspects, opens, steps, adjusts, sets, clocks, looks, Step, Message, World, afterAt, step}
 use Rattle.liveness_laws.specs.Seconds.{emptied}
+use Rattle.liveness_laws.specs.Rounds.{NotBox1}
 use Rattle.liveness_laws.specs.Order.{nothingCame, AllFresh}
 
 -- LIVE-5: was a message sent on this link?
@@ -25,7 +28,7 @@ pub record Newest (r : Network) (w : World) (b j : ℕ) (packet : List ℕ) : Ty
   pub newest : newestFrom (message .node) (message .link) (w .mail) ≡ message ∷ []
   pub a-copy : packet ≡ message .octets
 
--- LIVE-5: each arrival gets the newest, and no walk is opened
+-- LIVE-5: each arrival gets the newest, and each box 1
 abbrev pub GivenNewest : Network → World → (b : ℕ) → NetworkCall → Type 0
 GivenNewest r w b (ticks n) = Unit {0}
 GivenNewest r w b seconds = Unit {0}
@@ -34,8 +37,8 @@ GivenNewest r w b (sends i k buffer t) = Unit {0}
 GivenNewest r w b (arrives i k packet t) = Newest r w b i packet
 GivenNewest r w b (acts i k packet t) = Newest r w b i packet
 GivenNewest r w b (inspects i packet) = Unit {0}
-GivenNewest r w b (opens i packet) = ⊥
-GivenNewest r w b (steps k t) = Unit {0}
+GivenNewest r w b (opens i packet) = Unit {0}
+GivenNewest r w b (steps k t) = NotBox1 r w b ⊎ Newest r w b (afterAt r w b .walk .link) (packetOf (afterAt r w b .walk) (afterAt r w b .copy))
 GivenNewest r w b (adjusts n) = Unit {0}
 GivenNewest r w b (sets ms n) = Unit {0}
 GivenNewest r w b (clocks κ) = Unit {0}

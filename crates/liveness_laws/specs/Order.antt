@@ -2,15 +2,16 @@
 use mathlib.Core.Path.{_≡_}
 use mathlib.Core.Bool.{cond, _&&_}
 use mathlib.Core.List.{List, [], _∷_}
-use mathlib.Core.Logic.{_⊎_}
+use mathlib.Core.Logic.{_⊎_, inl, inr}
 use Prim.Native.Nat.{ℕ, suc, _≤_, _<_}
 use lib.Dec.{eqb}
 use lib.ListN.{length}
+use Rattle.host.specs.Walk.{packetOf}
 use Rattle.network_laws.specs.Network.{Network, at}
-use Rattle.network_laws.specs.Demand3.{NetworkCall, ticks, seconds, reports, sends, arrives, acts, inspects, opens, steps, adjusts, sets, clocks, looks, Step, Message, World, step, history, Allows}
+use Rattle.network_laws.specs.Demand3.{NetworkCall, ticks, seconds, reports, sends, arrives, acts, inspects, opens, steps, adjusts, sets, clocks, looks, Step, Message, World, afterAt, step, history, Allows}
 use Rattle.liveness_laws.specs.Numbers.{roundSeconds}
 use Rattle.liveness_laws.specs.Seconds.{emptied, secondsAt}
-use Rattle.liveness_laws.specs.Rounds.{Reported, Heard}
+use Rattle.liveness_laws.specs.Rounds.{NotBox1, NoWalks, Reported, Heard}
 
 -- ---- order
 
@@ -28,7 +29,7 @@ pub record Next (r : Network) (w : World) (last : ℕ → ℕ → ℕ) (b j : �
   pub a-copy : packet ≡ message .octets
   pub in-order : last b j ≤ number
 
--- LIVE-3: each arrival does, and no walk is opened
+-- LIVE-3: each arrival does, and each box 1
 abbrev pub Fresh : Network → World → (last : ℕ → ℕ → ℕ) (b : ℕ) → NetworkCall → Type 0
 Fresh r w last b (ticks n) = Unit {0}
 Fresh r w last b seconds = Unit {0}
@@ -37,8 +38,8 @@ Fresh r w last b (sends i k buffer t) = Unit {0}
 Fresh r w last b (arrives i k packet t) = Next r w last b i packet
 Fresh r w last b (acts i k packet t) = Next r w last b i packet
 Fresh r w last b (inspects i packet) = Unit {0}
-Fresh r w last b (opens i packet) = ⊥
-Fresh r w last b (steps k t) = Unit {0}
+Fresh r w last b (opens i packet) = Unit {0}
+Fresh r w last b (steps k t) = NotBox1 r w b ⊎ Next r w last b (afterAt r w b .walk .link) (packetOf (afterAt r w b .walk) (afterAt r w b .copy))
 Fresh r w last b (adjusts n) = Unit {0}
 Fresh r w last b (sets ms n) = Unit {0}
 Fresh r w last b (clocks κ) = Unit {0}
@@ -58,7 +59,8 @@ lastAfter r w last b (arrives i k packet t) f = came b i (f .number) last
 lastAfter r w last b (acts i k packet t) f = came b i (f .number) last
 lastAfter r w last b (inspects i packet) f = last
 lastAfter r w last b (opens i packet) f = last
-lastAfter r w last b (steps k t) f = last
+lastAfter r w last b (steps k t) (inl f) = last
+lastAfter r w last b (steps k t) (inr f) = came b (afterAt r w b .walk .link) (f .number) last
 lastAfter r w last b (adjusts n) f = last
 lastAfter r w last b (sets ms n) f = last
 lastAfter r w last b (clocks κ) f = last
@@ -81,11 +83,12 @@ pub record Begun (r : Network) (w : World) (xs : List Step) : Type 0 where
   pub fresh : AllFresh r (emptied w) nothingCame xs
   pub short : (b : ℕ) → b < r .nodes → secondsAt r (emptied w) b xs ≤ roundSeconds
 
--- LIVE-3: a round: every host reports itself, and hears every cable
+-- LIVE-3: a round: every host reports itself and hears every cable, and no walk is open at the end
 pub record OrderedRound (r : Network) (w : World) (xs : List Step) : Type 0 where
   pub begun : Begun r w xs
   pub reported : (b : ℕ) → b < r .nodes → Reported r (emptied w) b xs
   pub heard : (b j a i : ℕ) → r .cable b j ≡ at a i → Heard r (emptied w) b j xs
+  pub over : NoWalks r (history r (emptied w) xs)
 
 -- LIVE-3: `count` rounds, one after another
 pub data OrderedRounds (r : Network) (w : World) : (count : ℕ) → World → Type 0 where

@@ -1,17 +1,28 @@
--- LIVE-2: a round in which every host reports itself, all hosts send, and then each host hears every cable.
+-- LIVE-2: a round in which every host reports itself, all hosts send, and then each host hears every cable; an arrival may be a walk.
 use mathlib.Core.Path.{_≡_}
+use mathlib.Core.Bool.{true, false}
 use mathlib.Core.List.{List, [], _∷_}
 use mathlib.Core.Logic.{_⊎_}
 use Prim.Native.Nat.{ℕ, suc, _+_, _≤_, _<_}
 use Rattle.answer.specs.declared.Answer.the-variants.{Done}
+use Rattle.host.specs.declared.walk.Place.the-variants.{Step1}
+use Rattle.host.specs.Walk.{isOpen, placeOf}
 use Rattle.network_laws.specs.Network.{Network, at}
-use Rattle.network_laws.specs.Demand3.{NetworkCall, ticks, seconds, reports, sends, arrives, acts, inspects, opens, steps, adjusts, sets, clocks, looks, Step, World, result, step, history, Allows}
+use Rattle.network_laws.specs.Demand3.{NetworkCall, ticks, seconds, reports, sends, arrives, acts, inspects, opens, steps, adjusts, sets, clocks, looks, Step, World, afterAt, result, step, history, Allows}
 use Rattle.liveness_laws.specs.Numbers.{roundSeconds}
 use Rattle.liveness_laws.specs.Seconds.{emptied, secondsAt}
 
 -- ---- a round
 
--- LIVE-2: no arrival, and no walk is opened
+-- LIVE-2, LIVE-3: a step of host b is not box 1 of a walk: it takes no message
+abbrev pub NotBox1 : Network → World → (b : ℕ) → Type 0
+NotBox1 r w b = isOpen (afterAt r w b .walk) ≡ true → placeOf (afterAt r w b .walk) ≡ Step1 → ⊥
+
+-- LIVE-2, LIVE-3: no host has an open walk
+abbrev pub NoWalks : Network → World → Type 0
+NoWalks r w = (b : ℕ) → b < r .nodes → isOpen (afterAt r w b .walk) ≡ false
+
+-- LIVE-2: no arrival, and no box 1
 abbrev pub Speaks : Network → World → (b : ℕ) → NetworkCall → Type 0
 Speaks r w b (ticks n) = Unit {0}
 Speaks r w b seconds = Unit {0}
@@ -20,14 +31,14 @@ Speaks r w b (sends i k buffer t) = Unit {0}
 Speaks r w b (arrives i k packet t) = ⊥
 Speaks r w b (acts i k packet t) = ⊥
 Speaks r w b (inspects i packet) = Unit {0}
-Speaks r w b (opens i packet) = ⊥
-Speaks r w b (steps k t) = Unit {0}
+Speaks r w b (opens i packet) = Unit {0}
+Speaks r w b (steps k t) = NotBox1 r w b
 Speaks r w b (adjusts n) = Unit {0}
 Speaks r w b (sets ms n) = Unit {0}
 Speaks r w b (clocks κ) = Unit {0}
 Speaks r w b (looks d) = Unit {0}
 
--- LIVE-2: no send, and no walk is opened
+-- LIVE-2: no send
 abbrev pub Listens : NetworkCall → Type 0
 Listens (ticks n) = Unit {0}
 Listens seconds = Unit {0}
@@ -36,7 +47,7 @@ Listens (sends i k buffer t) = ⊥
 Listens (arrives i k packet t) = Unit {0}
 Listens (acts i k packet t) = Unit {0}
 Listens (inspects i packet) = Unit {0}
-Listens (opens i packet) = ⊥
+Listens (opens i packet) = Unit {0}
 Listens (steps k t) = Unit {0}
 Listens (adjusts n) = Unit {0}
 Listens (sets ms n) = Unit {0}
@@ -69,7 +80,7 @@ ReportsNow r w b x (sets ms n) = ⊥
 ReportsNow r w b x (clocks κ) = ⊥
 ReportsNow r w b x (looks d) = ⊥
 
--- LIVE-2: a call is an arrival on link j, answered 0
+-- LIVE-2: a call is an arrival on link j, or ends a walk on it, answered 0
 abbrev pub HearsNow : Network → World → (b j : ℕ) → Step → NetworkCall → Type 0
 HearsNow r w b j x (ticks n) = ⊥
 HearsNow r w b j x seconds = ⊥
@@ -79,7 +90,7 @@ HearsNow r w b j x (arrives i k packet t) = (x .node ≡ b) × (i ≡ j) × (res
 HearsNow r w b j x (acts i k packet t) = (x .node ≡ b) × (i ≡ j) × (result r w x .reply .answer ≡ Done)
 HearsNow r w b j x (inspects i packet) = ⊥
 HearsNow r w b j x (opens i packet) = ⊥
-HearsNow r w b j x (steps k t) = ⊥
+HearsNow r w b j x (steps k t) = (x .node ≡ b) × (afterAt r w b .walk .link ≡ j) × (isOpen (result r w x .walk) ≡ false) × (result r w x .reply .answer ≡ Done)
 HearsNow r w b j x (adjusts n) = ⊥
 HearsNow r w b j x (sets ms n) = ⊥
 HearsNow r w b j x (clocks κ) = ⊥
@@ -90,7 +101,7 @@ unfoldable pub Reported : Network → World → (b : ℕ) → List Step → Type
 Reported r w b [] = ⊥
 Reported r w b (x ∷ xs) = ReportsNow r w b x (x .call) ⊎ Reported r (step r w x) b xs
 
--- LIVE-2: some call of a list is an arrival on link j, answered 0
+-- LIVE-2: some call of a list is an arrival on link j, or ends a walk on it, answered 0
 unfoldable pub Heard : Network → World → (b j : ℕ) → List Step → Type 0
 Heard r w b j [] = ⊥
 Heard r w b j (x ∷ xs) = HearsNow r w b j x (x .call) ⊎ Heard r (step r w x) b j xs
@@ -111,11 +122,12 @@ pub record Underway (r : Network) (w : World) (xs ys : List Step) : Type 0 where
   pub listen : Listening ys
   pub short : (b : ℕ) → b < r .nodes → secondsAt r (emptied w) b xs + secondsAt r (spoken r w xs) b ys ≤ roundSeconds
 
--- LIVE-2: a round: every host reports itself, and hears every cable
+-- LIVE-2: a round: every host reports itself and hears every cable, and no walk is open at the end
 pub record Round (r : Network) (w : World) (xs ys : List Step) : Type 0 where
   pub underway : Underway r w xs ys
   pub reported : (b : ℕ) → b < r .nodes → Reported r (emptied w) b xs ⊎ Reported r (spoken r w xs) b ys
   pub heard : (b j a i : ℕ) → r .cable b j ≡ at a i → Heard r (spoken r w xs) b j ys
+  pub over : NoWalks r (meanwhile r w xs ys)
 
 -- LIVE-2: `count` rounds, one after another
 pub data Rounds (r : Network) (w : World) : (count : ℕ) → World → Type 0 where

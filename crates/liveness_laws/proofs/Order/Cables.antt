@@ -25,16 +25,10 @@ use Rattle.liveness_laws.proofs.Lines.{anyHops}
 use Rattle.liveness_laws.specs.Hops.{Hops, Via, own, by}
 use Rattle.liveness_laws.specs.Order.{Stands}
 use Rattle.liveness_laws.proofs.Rounds.Entry.{Shown, Steady, ticking, resting}
+use Rattle.liveness_laws.proofs.Measured.{returned, Worded}
 use Rattle.liveness_laws.proofs.Order.Entry.{Better, Below, better-same, Said}
 
-abbrev pub returned : (i : ℕ) → (octets : List ℕ) → ℕ
-returned i o = up (reportAt (helloOf o) i .delay .0)
-
--- a message that can be believed
-abbrev pub Worded : (octets : List ℕ) → Type 0
-Worded o = zeroWord (fields o .tsp) ≡ false
-
--- such a message is in the mail, of link l of host a
+-- a message that can be believed is in the mail, of link l of host a
 pub record On (a l : ℕ) (mail : List Message) (m : Message) (n : ℕ) : Type 0 where
   pub stands : Stands m n mail
   pub node : m .node ≡ a

@@ -1,5 +1,6 @@
 -- The two rounds of specs/OrderExample.antt meet every condition; each call is computed.
 use mathlib.Core.Path.{_≡_, refl, ap}
+use mathlib.Core.Bool.{false}
 use mathlib.Core.List.{List, [], _∷_, List·Memᴰ·head}
 use mathlib.Core.Logic.{inl, inr}
 use Prim.Native.Nat.{ℕ, _≤_, _<_}
@@ -9,16 +10,17 @@ use Rattle.quantity.specs.Quantity.{millis}
 use Rattle.answer.specs.declared.Answer.{Answer}
 use Rattle.clock.specs.LineClock.{noCounter}
 use Rattle.table.specs.Marks.{onlyMark}
+use Rattle.host.specs.Walk.{isOpen}
 use Rattle.network_laws.specs.HostAfter.{messageOf}
 use Rattle.network_laws.specs.History.{after}
 use Rattle.network_laws.specs.Network.{at, initialized, Proper}
-use Rattle.network_laws.specs.Demand3.{Step, Message, World, result, step, history, Allows, Starts, entryOf}
+use Rattle.network_laws.specs.Demand3.{Step, Message, World, afterAt, result, step, history, Allows, Starts, entryOf}
 use Rattle.network_laws.specs.TwoNodes.{wire}
 use Rattle.network_laws.proofs.Opened.{opened}
 use Rattle.network_laws.proofs.Demand3.TwoNodes.{below-2, apart, pair-proper, starts, as-after, reads, delivered}
 use Rattle.liveness_laws.specs.Numbers.{roundSeconds}
 use Rattle.liveness_laws.specs.Seconds.{emptied, secondsAt}
-use Rattle.liveness_laws.specs.Rounds.{Reported, Heard}
+use Rattle.liveness_laws.specs.Rounds.{NoWalks, Reported, Heard}
 use Rattle.liveness_laws.specs.Order.{Stands, AllFresh, nothingCame, OrderedRound, OrderedRounds, begin, next}
 use Rattle.liveness_laws.specs.RoundsExample.{both, two}
 use Rattle.liveness_laws.specs.OrderExample.{x₁, x₂, x₃, x₄, x₅, x₆, x₇, x₈, w₁, w₂, w₃, w₄, w₅, w₆, w₇, start, between, last, AnyOrderExample}
@@ -81,6 +83,10 @@ heard-1 : (b j a i : ℕ) → wire b j ≡ at a i → Heard two e₀ b j (xs e�
 unfolding opened after step Heard start
 heard-1 = ends (λ (b j : ℕ). Heard two e₀ b j (xs e₀ 32)) (inr (inr (inr (inr (inr (inl (refl, refl, refl))))))) (inr (inr (inl (refl, refl, refl))))
 
+over-1 : NoWalks two (history two e₀ (xs e₀ 32))
+unfolding opened after step history start
+over-1 = below-2 (λ (b : ℕ). isOpen (afterAt two (history two e₀ (xs e₀ 32)) b .walk) ≡ false) refl refl
+
 round-1 : OrderedRound two start (xs e₀ 32)
 unfolding history secondsAt
 round-1 =
@@ -88,6 +94,7 @@ round-1 =
       begun = record { allowed = allowed-1; fresh = fresh-1; short = below-2 (λ (b : ℕ). secondsAt two e₀ b (xs e₀ 32) ≤ roundSeconds) (omega arith) (omega arith) };
       reported = reported-1;
       heard = heard-1;
+      over = over-1;
     }
 
 abbrev e₁ : World
@@ -133,6 +140,10 @@ heard-2 : (b j a i : ℕ) → wire b j ≡ at a i → Heard two e₁ b j (xs e�
 unfolding opened after step Heard start between
 heard-2 = ends (λ (b j : ℕ). Heard two e₁ b j (xs e₁ 40)) (inr (inr (inr (inr (inr (inl (refl, refl, refl))))))) (inr (inr (inl (refl, refl, refl))))
 
+over-2 : NoWalks two (history two e₁ (xs e₁ 40))
+unfolding opened after step history start between
+over-2 = below-2 (λ (b : ℕ). isOpen (afterAt two (history two e₁ (xs e₁ 40)) b .walk) ≡ false) refl refl
+
 round-2 : OrderedRound two between (xs e₁ 40)
 unfolding history secondsAt
 round-2 =
@@ -140,6 +151,7 @@ round-2 =
       begun = record { allowed = allowed-2; fresh = fresh-2; short = below-2 (λ (b : ℕ). secondsAt two e₁ b (xs e₁ 40) ≤ roundSeconds) (omega arith) (omega arith) };
       reported = reported-2;
       heard = heard-2;
+      over = over-2;
     }
 
 -- ---- all of it

@@ -7,7 +7,7 @@ use Prim.Native.Nat.{ℕ, zero, suc, _+_, _*_, _≤_, _<_}
 use native.Mathlib.Omega.{arith}
 use borrow.Author.Tests.{eq-eqb}
 use lib.IntN.{pos, _+ℤ_}
-use lib.ListN.{length, take, length-take}
+use lib.ListN.{getD, take}
 use lib.Seq.{getD-take}
 use Rattle.quantity.proofs.Ints.{up, dn, sum, to-≤ℤ}
 use Rattle.route.specs.declared.Layout.{Layout}
@@ -18,6 +18,7 @@ use Rattle.host.specs.Settings.{linkCount}
 use Rattle.host.specs.State.{hostCount}
 use Rattle.host.proofs.Sound.{sound}
 use Rattle.network_laws.specs.Network.{longestWay, Network, at, HostAt, Proper}
+use Rattle.network_laws.specs.History.{HostAfter}
 use Rattle.network_laws.specs.Slots.{EverySlot}
 use Rattle.network_laws.specs.Demand3.{Step, World, step, history, Allows, Starts, entryOf}
 use Rattle.network_laws.proofs.Lists.{all-at, all-there}
@@ -29,16 +30,19 @@ use Rattle.liveness_laws.specs.Seconds.{emptied, counts, secondsAt}
 use Rattle.liveness_laws.proofs.Lines.{farthest, anyHops}
 use Rattle.liveness_laws.specs.Hops.{Hops, Via, own, by}
 use Rattle.liveness_laws.specs.TablesFill as claim
+use Rattle.liveness_laws.specs.Rounds.{NoWalks}
 use Rattle.liveness_laws.specs.Order.{Stands, AllFresh, nothingCame, lastAfter, Begun, OrderedRound, OrderedRounds, begin, next}
 use Rattle.liveness_laws.specs.OrderClaim.{Measured, Leads, Follows, here, on, Led, Stays, StaysOn, Settled, SettledOn, AnyOrder}
 use Rattle.network_laws.proofs.Demand3.Histories.{world-right, history-right, starts-right}
 use Rattle.liveness_laws.proofs.Rounds.Heard.{Mine}
 use Rattle.liveness_laws.proofs.Rounds.Entry.{First, first-cable, Shown}
 use Rattle.liveness_laws.proofs.Order.Entry.{Better}
-use Rattle.liveness_laws.proofs.Rounds.Worlds as worlds
 use Rattle.host.proofs.Guarded.{counted}
-use Rattle.liveness_laws.proofs.Rounds.Law.{after, flagsAll, heard-on, reported-on, own-gain, initialized-good}
-use Rattle.liveness_laws.proofs.Order.Worlds.{NodeFree, FreeWorld, any-turn, flags-then, world-free}
+use Rattle.liveness_laws.proofs.Host.Flags.{own-gain, flagsAfter, flagsAll, heard-on, reported-on}
+use Rattle.liveness_laws.proofs.Host.Turns.{HostOk}
+use Rattle.liveness_laws.proofs.Host.Start.{fresh-ok}
+use Rattle.liveness_laws.proofs.Order.Believed.{Sent}
+use Rattle.liveness_laws.proofs.Order.Worlds.{FreeWorld, any-turn, world-free}
 
 module _ (r : Network) (proper : Proper r) (ways : r .longest ≤ longestWay) (quick : r .longest ≤ quickWay) (c i : ℕ) (hc : c < r .nodes) (host : HostAt r i c) (few : (b : ℕ) → b < r .nodes → i < hostCount (r .settings b)) where
   abbrev Free : (k : ℕ) (s : ℕ → ℕ) (heard : ℕ → ℕ → Bool) (last : ℕ → ℕ → ℕ) → World → Type 0
@@ -49,7 +53,7 @@ module _ (r : Network) (proper : Proper r) (ways : r .longest ≤ longestWay) (q
   module _ (k : ℕ) where
     same-seconds : (s t : ℕ → ℕ) (heard : ℕ → ℕ → Bool) (last : ℕ → ℕ → ℕ) → ((b : ℕ) → s b ≡ t b) → (w : World) → Free k s heard last w → Free k t heard last w
     same-seconds s t heard last same w f =
-        record { nodes = λ b hb. subst (λ (q : ℕ). NodeFree r proper ways quick c i k hc host few b q (heard b) (w .state (r .number b))) (same b) (f .nodes b hb); web = f .web }
+        record { nodes = λ b hb. subst (λ (q : ℕ). HostOk r c i k anyHops b false (Sent r i b (w .mail) (last b)) q (heard b) (w .state (r .number b))) (same b) (f .nodes b hb); web = f .web }
 
     -- an entry that is up has a DELAY that is not negative
     stays-up : (s : ℕ → ℕ) (heard : ℕ → ℕ → Bool) (last : ℕ → ℕ → ℕ) (w v : World) (b : ℕ) → b < r .nodes → Free k s heard last w → Better (entryOf r w b i) (entryOf r v b i)
@@ -122,22 +126,22 @@ module _ (r : Network) (proper : Proper r) (ways : r .longest ≤ longestWay) (q
 
     pub record Ran (s : ℕ → ℕ) (heard : ℕ → ℕ → Bool) (w : World) (xs : List Step) : Type 0 where
       pub last : ℕ → ℕ → ℕ
-      pub free : Free k (λ b. s b + secondsAt r w b xs) (flagsAll r proper ways quick c i hc host few k w xs heard) last (history r w xs)
+      pub free : Free k (λ b. s b + secondsAt r w b xs) (flagsAll r c w xs heard) last (history r w xs)
       pub stays : (b : ℕ) → b < r .nodes → StaysOn r w b i xs
       pub settled : (b : ℕ) → b < r .nodes → (h : ℕ) → Hops r c b h → ((g : ℕ) → Hops r c b g → h ≤ g) → h < k → h ≤ farthest → SettledOn r w b i h xs
 
     any-list : (s : ℕ → ℕ) (heard : ℕ → ℕ → Bool) (last : ℕ → ℕ → ℕ) (w : World) (xs : List Step) → Allows r w xs → AllFresh r w last xs → RightWorld r w
         → ((b : ℕ) → b < r .nodes → s b + secondsAt r w b xs ≤ roundSeconds) → Free k s heard last w → Ran s heard w xs
-    unfolding Allows AllFresh history secondsAt flagsAll after StaysOn SettledOn
+    unfolding Allows AllFresh history secondsAt flagsAll StaysOn SettledOn
     any-list s heard last w [] ok may right short f = record { last = last; free = same-seconds s (λ b. s b + 0) heard last (λ b. omega arith) w f; stays = λ _ _. tt; settled = λ _ _ _ _ _ _ _. tt }
     any-list s heard last w (x ∷ xs) ok may right short f =
         let next-last = lastAfter r w last (x .node) (x .call) (may .0) in
         let turn =
         any-turn r proper ways quick c i k hc host few w right (x .node) (ok .0 .node-in) (x .nets) (x .links) (x .copy) (x .entries) s heard last f (x .call) (ok .0) (may .0)
-        (omega (arith, short (x .node) (ok .0 .node-in), own-gain r proper ways quick c i hc host few k w x)) in
+        (omega (arith, short (x .node) (ok .0 .node-in), own-gain r w x)) in
         let one = world-free r proper ways quick c i k hc host few s heard last next-last w right x (ok .0) f turn in
         let rest =
-        any-list (λ b. s b + counts r w b x) (flags-then r proper ways quick c i k hc host few w x heard) next-last (step r w x) xs (ok .1) (may .1) (world-right r proper ways w x (ok .0) right)
+        any-list (λ b. s b + counts r w b x) (flagsAfter r c w x heard) next-last (step r w x) xs (ok .1) (may .1) (world-right r proper ways w x (ok .0) right)
         (λ b hb. omega (arith, short b hb)) (one .free) in
         record {
           last = rest .last;
@@ -153,15 +157,15 @@ module _ (r : Network) (proper : Proper r) (ways : r .longest ≤ longestWay) (q
     -- PIDs after a list
     module _ (s : ℕ → ℕ) (heard : ℕ → ℕ → Bool) (w : World) (xs : List Step) (ran : Ran s heard w xs) (b : ℕ) where
       pub ran-trail : b < r .nodes → entry.up (entryOf r (history r w xs) b i) ≡ true
-          → Trail (λ b. s b + secondsAt r w b xs) (flagsAll r proper ways quick c i hc host few k w xs heard) (ran .last) (history r w xs) (ran .free) b
+          → Trail (λ b. s b + secondsAt r w b xs) (flagsAll r c w xs heard) (ran .last) (history r w xs) (ran .free) b
       ran-trail hb t =
-          trail (λ b. s b + secondsAt r w b xs) (flagsAll r proper ways quick c i hc host few k w xs heard) (ran .last) (history r w xs) (ran .free) (suc (up (entryOf r (history r w xs) b i .delay .0))) b hb t
+          trail (λ b. s b + secondsAt r w b xs) (flagsAll r c w xs heard) (ran .last) (history r w xs) (ran .free) (suc (up (entryOf r (history r w xs) b i .delay .0))) b hb t
           (omega arith)
 
       pub ran-lower : (a n : ℕ) → Follows r (history r w xs) i a b n → entry.up (entryOf r (history r w xs) b i) ≡ true
           → rise * n + up (entryOf r (history r w xs) a i .delay .0) ≤ up (entryOf r (history r w xs) b i .delay .0)
       ran-lower a n way t =
-          lower (λ b. s b + secondsAt r w b xs) (flagsAll r proper ways quick c i hc host few k w xs heard) (ran .last) (history r w xs) (ran .free) a b n way t .1
+          lower (λ b. s b + secondsAt r w b xs) (flagsAll r c w xs heard) (ran .last) (history r w xs) (ran .free) a b n way t .1
 
     -- ---- the end of a round: every link was heard, and every host reported
 
@@ -193,23 +197,24 @@ module _ (r : Network) (proper : Proper r) (ways : r .longest ≤ longestWay) (q
                 subst (λ (t : ℕ). Shown r c b t e) (sym (z .is))
                 (q .hears (z .link) (z .node) (z .other) (z .cable) (all (z .link) (z .node) (z .other) (z .cable)) (z .rest) (z .way) (omega (arith, z .is)) (omega (arith, z .is)))
 
-    ends : (s : ℕ → ℕ) (heard : ℕ → ℕ → Bool) (last : ℕ → ℕ → ℕ) (w : World) → ((b : ℕ) → b < r .nodes → s b ≤ roundSeconds) → ((b j a n : ℕ) → r .cable b j ≡ at a n → heard b j ≡ true) → ((b : ℕ) → b < r .nodes → heard b 0 ≡ true)
+    ends : (s : ℕ → ℕ) (heard : ℕ → ℕ → Bool) (last : ℕ → ℕ → ℕ) (w : World) → NoWalks r w → ((b : ℕ) → b < r .nodes → s b ≤ roundSeconds) → ((b j a n : ℕ) → r .cable b j ≡ at a n → heard b j ≡ true) → ((b : ℕ) → b < r .nodes → heard b 0 ≡ true)
         → Free k s heard last w → Free (suc k) (λ b. 0) (λ b q. false) nothingCame (emptied w)
     unfolding Stands
-    ends s heard last w short all own-too f =
+    ends s heard last w over short all own-too f =
         record {
           nodes =
               λ b hb.
               let g = f .nodes b hb in
               record {
-                shut = g .shut;
                 room = g .room;
                 long = g .long;
                 mine = next-mine b (s b) (heard b) (entryOf r w b i) (short b hb) (all b) (own-too b hb) (g .mine);
                 links =
                     λ j a n cord.
                     let o = g .links j a n cord in
-                    record { spoke = o .spoke; known = λ _. o .known (inr (all b j a n cord)); met = o .met };
+                    record { quiet = λ no. absurd (false≢true no); spoke = o .spoke; known = λ _. o .known (inr (all b j a n cord)); met = o .met };
+                waits = g .waits;
+                walk = λ opened. absurd (true≢false (sym opened ∙ over b hb));
               };
           web =
               λ b j a l cord.
@@ -222,64 +227,26 @@ module _ (r : Network) (proper : Proper r) (ways : r .longest ≤ longestWay) (q
   unfolding Stands
   first-free slots w start =
       record {
-        nodes =
-            λ b hb.
-            let g = node b hb in
-            record {
-              shut = g .shut;
-              room = g .room;
-              long = g .long;
-              mine = wider b (g-mine b hb);
-              links =
-                  λ j a n cord.
-                  let o = g .links j a n cord in
-                  record {
-                    spoke = λ flag. absurd (true≢false (sym (eq-eqb _ 0 (o .quiet refl refl)) ∙ flag));
-                    known = λ z. elim z [ inl y ↦ absurd (omega arith) | inr y ↦ absurd (false≢true y) ];
-                    met = λ t at-j. absurd (no-link b hb t j a n cord at-j);
-                  };
-            };
+        nodes = λ b hb. node b hb;
         web =
             λ b j a l cord.
             record {
-              leads = λ t at-j. absurd (no-link b (proper .cables b j a l cord .node-in) t j a l cord at-j);
+              leads = λ t. absurd (down b (proper .cables b j a l cord .node-in) t);
               words = λ m n x. absurd (x .stands);
               heads = λ _ _ m n x. absurd (x .stands);
               order = λ m n m′ n′ x. absurd (x .stands);
             };
       }
     where
-      node : (b : ℕ) → b < r .nodes → worlds.NodeGood r proper ways quick c i 0 hc host few true 1 b 0 (λ q. false) (w .state (r .number b))
-      node b hb = subst (worlds.NodeGood r proper ways quick c i 0 hc host few true 1 b 0 (λ q. false)) (sym (start .was-initialized b hb)) (initialized-good r proper ways quick c i hc host few slots b hb)
+      node : (b : ℕ) → b < r .nodes → HostOk r c i 0 anyHops b false (Sent r i b [] (nothingCame b)) 0 (λ q. false) (w .state (r .number b))
+      node b hb =
+          subst (HostOk r c i 0 anyHops b false (Sent r i b [] (nothingCame b)) 0 (λ q. false)) (sym (start .was-initialized b hb))
+          (fresh-ok r proper c i anyHops b false (Sent r i b [] (nothingCame b)) (slots b hb) (few b hb) (proper .was-initialized b hb) .0)
 
-      g-mine : (b : ℕ) → b < r .nodes → Mine r c b 0 1 0 (λ q. false) (entryOf r w b i)
-      g-mine b hb =
-          let places = w .state (r .number b) .places in
-          let n = hostCount (r .settings b) in
-          let it = all-there (λ (id : ℕ) (e : Entry). id ≡ i → Mine r c b 0 1 0 (λ q. false) e) freshEntry (take n places) (node b hb .table) i (omega (arith, few b hb, node b hb .long, length-take n places)) refl in
-          subst (Mine r c b 0 1 0 (λ q. false)) (getD-take n places i freshEntry (few b hb)) it
-
-      no-link : (b : ℕ) (hb : b < r .nodes) → entry.up (entryOf r w b i) ≡ true → (j a n : ℕ) → r .cable b j ≡ at a n → entryOf r w b i .pid ≡ j → ⊥
-      no-link b hb t j a n cord at-j = let f = g-mine b hb .steady .sound t in go (f .hops) (f .via) (f .below)
-        where
-          go : (h : ℕ) → Via r c b (entryOf r w b i .pid) h → h < 1 → ⊥
-          go h (own z) low = let one = counted (r .settings b) j (proper .cables b j a n cord .link-in) .from-one in omega (arith, z, at-j, one)
-          go h (by z way) low = absurd (omega arith)
-
-      wider : (b : ℕ) {e : Entry} → Mine r c b 0 1 0 (λ q. false) e → Mine r c b 0 anyHops 0 (λ q. false) e
-      wider b q =
-          record {
-            steady =
-                record {
-                  sound = λ t. let z = q .steady .sound t in record { hops = z .hops; delay = z .delay; way = z .way; below = omega (arith, z .below); via = z .via };
-                  complete = q .steady .complete;
-                  rests = q .steady .rests;
-                  lasts = q .steady .lasts;
-                  lasts-on = q .steady .lasts-on;
-                };
-            hears = q .hears;
-            home = q .home;
-          }
+      down : (b : ℕ) → b < r .nodes → entry.up (entryOf r w b i) ≡ true → ⊥
+      down b hb t =
+          fresh-ok r proper c i anyHops b false (Sent r i b [] (nothingCame b)) (slots b hb) (few b hb) (proper .was-initialized b hb) .1
+          (subst (λ (x : HostAfter). entry.up (getD (x .places) i freshEntry) ≡ true) (start .was-initialized b hb) t)
 
   -- ---- rounds
 
@@ -299,9 +266,9 @@ module _ (r : Network) (proper : Proper r) (ways : r .longest ≤ longestWay) (q
       record {
         right = history-right r proper ways (emptied w) xs (e .begun .allowed) (emptied-right w (g .right));
         free =
-            ends k _ (flagsAll r proper ways quick c i hc host few k (emptied w) xs (λ b q. false)) (begun-ran k w xs (e .begun) g .last) (history r (emptied w) xs) (λ b hb. omega (arith, e .begun .short b hb))
-            (λ b j a n cord. heard-on r proper ways quick c i hc host few k (emptied w) xs (λ b q. false) b j (e .heard b j a n cord))
-            (λ b hb. reported-on r proper ways quick c i hc host few k (emptied w) xs (λ b q. false) b (e .reported b hb))
+            ends k _ (flagsAll r c (emptied w) xs (λ b q. false)) (begun-ran k w xs (e .begun) g .last) (history r (emptied w) xs) (e .over) (λ b hb. omega (arith, e .begun .short b hb))
+            (λ b j a n cord. heard-on r c (emptied w) xs (λ b q. false) b j (e .heard b j a n cord))
+            (λ b hb. reported-on r c (emptied w) xs (λ b q. false) b (e .reported b hb))
             (begun-ran k w xs (e .begun) g .free);
       }
 

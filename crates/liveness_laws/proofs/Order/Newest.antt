@@ -11,8 +11,9 @@ use lib.ListN.{length}
 use Rattle.lists.proofs.Tests.{either, both}
 use Rattle.host.specs.Guard.{done}
 use Rattle.calls.specs.Perform.{Outcome}
+use Rattle.host.specs.Walk.{packetOf}
 use Rattle.network_laws.specs.Network.{Network, at}
-use Rattle.network_laws.specs.Demand3.{NetworkCall, ticks, seconds, reports, sends, arrives, acts, inspects, opens, steps, adjusts, sets, clocks, looks, Step, Message, World, result, mailAfter, step}
+use Rattle.network_laws.specs.Demand3.{NetworkCall, ticks, seconds, reports, sends, arrives, acts, inspects, opens, steps, adjusts, sets, clocks, looks, Step, Message, World, afterAt, result, mailAfter, step}
 use Rattle.liveness_laws.specs.Seconds.{emptied}
 use Rattle.liveness_laws.specs.Order.{Stands, Next, Fresh, came, lastAfter, AllFresh, nothingCame}
 use Rattle.liveness_laws.specs.Newest.{isFrom, newestFrom, Newest, GivenNewest, AllNewest, NewestInOrder}
@@ -116,8 +117,9 @@ module _ (r : Network) where
     one-call (arrives j _ packet _) g = let n = next-of j packet g in record { fresh = n .0; kept-then = n .1 }
     one-call (acts j _ packet _) g = let n = next-of j packet g in record { fresh = n .0; kept-then = n .1 }
     one-call (inspects _ _) g = record { fresh = tt; kept-then = kept }
-    one-call (opens _ _) g = absurd g
-    one-call (steps _ _) g = record { fresh = tt; kept-then = kept }
+    one-call (opens _ _) g = record { fresh = tt; kept-then = kept }
+    one-call (steps _ _) (inl g) = record { fresh = inl g; kept-then = kept }
+    one-call (steps _ _) (inr g) = let n = next-of (afterAt r w b .walk .link) (packetOf (afterAt r w b .walk) (afterAt r w b .copy)) g in record { fresh = inr (n .0); kept-then = n .1 }
     one-call (adjusts _) g = record { fresh = tt; kept-then = kept }
     one-call (sets _ _) g = record { fresh = tt; kept-then = kept }
     one-call (clocks _) g = record { fresh = tt; kept-then = kept }

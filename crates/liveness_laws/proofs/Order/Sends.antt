@@ -34,6 +34,7 @@ use Rattle.host.specs.declared.guard.Scope.the-variants.{OnLink}
 use Rattle.host.specs.State.{hostCount, ownEntries, linkOf, withLink, freshLink, unset, noLink}
 use Rattle.host.specs.CallState.{CallState, entriesOf, ourReading}
 use Rattle.host.specs.Guard.{done}
+use Rattle.host.specs.Walk.{isOpen}
 use Rattle.host.proofs.Places.{Holds}
 use Rattle.host.proofs.Guarded.{passed, holds, counted, entries-state}
 use Rattle.host.proofs.Sound.{sound}
@@ -51,51 +52,25 @@ use Rattle.network_laws.proofs.Demand3.Near.{Fits16}
 use Rattle.network_laws.proofs.Demand3.Nodes.{set-good}
 use Rattle.liveness_laws.specs.Numbers.{rise}
 use Rattle.liveness_laws.proofs.Lines.{anyHops}
+use Rattle.liveness_laws.proofs.Links.{learns, same-room, sent-links}
+use Rattle.liveness_laws.proofs.Measured.{returned, Worded}
 use Rattle.liveness_laws.proofs.Rounds.Entry.{Steady}
+use Rattle.liveness_laws.proofs.Host.State.{Before, After, same-entries, unchanged}
 use Rattle.liveness_laws.proofs.Order.Entry.{Below, Said}
-use Rattle.liveness_laws.proofs.Order.Cables as web-of
-use Rattle.liveness_laws.proofs.Order.Cables.{returned, Worded, Web, sent-said, sent-has, sent-head, sent-after, On}
-use Rattle.liveness_laws.proofs.Order.Arrivals.{LinkOk, LinksOk, Sure, Passes-so, Leaves-so, state-after}
+use Rattle.liveness_laws.proofs.Order.Cables.{Word as Word-of, Web, sent-said, sent-has, sent-head, sent-after, On}
+use Rattle.liveness_laws.proofs.Order.Believed.{Sent as In-order, Rest}
 
 abbrev noReport : Report
 noReport = record { delay = maxDelay; offset = word (pos 0) }
 
 module _ (r : Network) (proper : Proper r) (c i k : ℕ) (E : ℕ → Entry) (mail : List Message) (last : ℕ → ℕ → ℕ) (web : Web r c i k E mail last) (sd : ℕ → ℕ) (hd : ℕ → ℕ → Bool)
     (steadies : (d : ℕ) → d < r .nodes → Steady r c d k anyHops (sd d) (hd d) (E d)) (b s : ℕ) (heard : ℕ → Bool) (inside : b < r .nodes) (few : i < hostCount (r .settings b))
-    (nets : NetTable) (cl : Clock) (l : Links) (walk : Walk) (copy : List ℕ) (entries : List Entry) (callState : Passes-so r proper c i k E mail b (last b) s heard l entries) (link : ℕ) (κ : Counter) where
+    (nets : NetTable) (cl : Clock) (l : Links) (walk : Walk) (copy : List ℕ) (entries : List Entry) (callState : Before r c i k anyHops b false (In-order r i b mail (last b)) (Rest r c i k E mail b (last b)) s heard walk copy l entries (E b)) (link : ℕ) (κ : Counter) where
   abbrev x : CallState
   x = stateAt r b nets cl l walk copy entries
 
   abbrev y : Link
   y = linkOf l link
-
-  -- ---- the link: KEEP-ALIVE falls
-
-  sent-links : noLink (r .settings b) link ≡ false → LinksOk r k heard b (E b) (withLink link (linkSent y) l)
-  sent-links has q d n cord = go (eqb q link) refl
-    where
-      g : LinkOk r k (heard q) q d (E b) (linkOf l q)
-      g = callState .now .links q d n cord
-
-      go : (t : Bool) → eqb q link ≡ t → LinkOk r k (heard q) q d (E b) (linkOf (withLink link (linkSent y) l) q)
-      go true e =
-          let is = eqb-true q link e in
-          let there : getD (withLink link (linkSent y) l .all) (q - 1) (freshLink unset) ≡ linkSent y =
-          ap (λ (t : ℕ). getD (withLink link (linkSent y) l .all) (t - 1) (freshLink unset)) is ∙ getD-set-same (l .all) (link - 1) (linkSent y) (freshLink unset) (omega (arith, counted (r .settings b) link has .at-place, callState .room)) in
-          let same : y ≡ linkOf l q = ap (linkOf l) (sym is) in
-          let g′ : LinkOk r k (heard q) q d (E b) y = subst (LinkOk r k (heard q) q d (E b)) (sym same) g in
-          subst (LinkOk r k (heard q) q d (E b)) (sym there)
-          record {
-            spoke = λ on. g′ .spoke (ne-eqb (y .«keep_alive») 0 (λ z. eqb-false (linkSent y .«keep_alive») 0 on (omega (arith, z))));
-            known = g′ .known;
-            met = g′ .met;
-          }
-      go false e =
-          let other = eqb-false q link e in
-          let from = counted (r .settings b) q (proper .cables b q d n cord .link-in) .from-one in
-          let from′ = counted (r .settings b) link has .from-one in
-          let there : getD (withLink link (linkSent y) l .all) (q - 1) (freshLink unset) ≡ linkOf l q = getD-set-other (l .all) (link - 1) (q - 1) (linkSent y) (freshLink unset) (λ z. other (omega (arith, z, from, from′))) in
-          subst (LinkOk r k (heard q) q d (E b)) (sym there) g
 
   -- ---- the message, to the host at the other end
 
@@ -118,19 +93,19 @@ module _ (r : Network) (proper : Proper r) (c i k : ℕ) (E : ℕ → Entry) (ma
     tsp-is = tsp-back (y .neighbor) packet (reports x held link) (tsp-fits .high) (tsp-fits .low)
 
     -- nothing is said before a link was heard
-    neighbor-is : Worded octets → y .neighbor ≡ r .settings d .address
-    neighbor-is worded = go (eqb (y .«keep_alive») 0) refl
+    neighbor-is : isOpen walk ≡ false → Worded octets → y .neighbor ≡ r .settings d .address
+    neighbor-is shut worded = go (eqb (y .«keep_alive») 0) refl
       where
         go : (t : Bool) → eqb (y .«keep_alive») 0 ≡ t → y .neighbor ≡ r .settings d .address
         go true e =
             let none : sentTsp y (ourReading κ (x .host) .time) ≡ word (pos 0) = rw e refl in
             absurd (true≢false (sym (ap zeroWord (tsp-is ∙ none)) ∙ worded))
-        go false e = callState .now .links link d n cord .spoke e
+        go false e = callState .good .links link d n cord .spoke (rw shut) e
 
-    module _ (worded : Worded octets) where
+    module _ (shut : isOpen walk ≡ false) (worded : Worded octets) where
       goes : tableGoes (r .settings b) y ≡ true
       goes =
-          rw (neighbor-is worded)
+          rw (neighbor-is shut worded)
           (let one = sound (r .settings d) (set-good r d (proper .was-initialized d other-in)) .class-from in
           rw (ne-eqb (r .settings d .address .first) 0 (λ z. omega (arith, one, z))) (proper .one-net b d inside other-in))
 
@@ -183,36 +158,36 @@ module _ (r : Network) (proper : Proper r) (c i k : ℕ) (E : ℕ → Entry) (ma
       back : entry.up (E d) ≡ true → E d .pid ≡ n → Below (E b) (E d)
       back = web d n b link (proper .cables b link d n cord .other-end) .leads
 
-      word-so : web-of.Word r c i k d b octets (E b)
+      word-so : Word-of r c i k d b octets (E b)
       word-so =
           let t = reported-it in
           record {
             counted = counted-in;
-            said = subst (Said r c d k b) (sym (t .is)) (sent-said r c i k b d link n s (sd d) heard (hd d) (E b) (E d) (callState .now .mine .steady) (steadies d other-in) out back (t .low) (t .high));
+            said = subst (Said r c d k b) (sym (t .is)) (sent-said r c i k b d link n s (sd d) heard (hd d) (E b) (E d) (callState .good .mine .steady) (steadies d other-in) out back (t .low) (t .high));
             has =
                 subst (λ (q : ℕ). q < 30000 → (entry.up (E b) ≡ true) × (up (E b .delay .0) ≤ q)) (sym (t .is))
-                (sent-has r c i k b d link n s (sd d) heard (hd d) (E b) (E d) (callState .now .mine .steady) (steadies d other-in) out back (t .low) (t .high));
+                (sent-has r c i k b d link n s (sd d) heard (hd d) (E b) (E d) (callState .good .mine .steady) (steadies d other-in) out back (t .low) (t .high));
           }
 
       head-so : entry.up (E d) ≡ true → E d .pid ≡ n → rise + returned i octets ≤ up (E d .delay .0)
       head-so v at-n =
           let t = reported-it in
           subst (λ (q : ℕ). rise + q ≤ up (E d .delay .0)) (sym (t .is))
-          (sent-head r c i k b d link n s (sd d) heard (hd d) (E b) (E d) (callState .now .mine .steady) (steadies d other-in) out back (t .low) (t .high) v at-n)
+          (sent-head r c i k b d link n s (sd d) heard (hd d) (E b) (E d) (callState .good .mine .steady) (steadies d other-in) out back (t .low) (t .high) v at-n)
 
       after-so : (q : Message) (g : ℕ) → On b link mail q g → (returned i octets ≤ returned i (q .octets)) ⊎ ((entry.up (E d) ≡ true) × (rise + up (E d .delay .0) ≤ returned i (q .octets)))
       after-so q g it =
           let t = reported-it in
           let w = web d n b link (proper .cables b link d n cord .other-end) .words q g it in
           subst (λ (z : ℕ). (z ≤ returned i (q .octets)) ⊎ ((entry.up (E d) ≡ true) × (rise + up (E d .delay .0) ≤ returned i (q .octets)))) (sym (t .is))
-          (sent-after r c i k b d link n s (sd d) heard (hd d) (E b) (E d) (callState .now .mine .steady) (steadies d other-in) out back (t .low) (t .high) (returned i (q .octets)) (w .has))
+          (sent-after r c i k b d link n s (sd d) heard (hd d) (E b) (E d) (callState .good .mine .steady) (steadies d other-in) out back (t .low) (t .high) (returned i (q .octets)) (w .has))
 
   pub record Says (o : Outcome) : Type 0 where
     pub says : (d n : ℕ) → r .cable b link ≡ at d n → Worded (messageOf o)
-        → web-of.Word r c i k d b (messageOf o) (E b) × (entry.up (E d) ≡ true → E d .pid ≡ n → rise + returned i (messageOf o) ≤ up (E d .delay .0)) × ((q : Message) (g : ℕ) → On b link mail q g → (returned i (messageOf o) ≤ returned i (q .octets)) ⊎ ((entry.up (E d) ≡ true) × (rise + up (E d .delay .0) ≤ returned i (q .octets))))
+        → Word-of r c i k d b (messageOf o) (E b) × (entry.up (E d) ≡ true → E d .pid ≡ n → rise + returned i (messageOf o) ≤ up (E d .delay .0)) × ((q : Message) (g : ℕ) → On b link mail q g → (returned i (messageOf o) ≤ returned i (q .octets)) ⊎ ((entry.up (E d) ≡ true) × (rise + up (E d .delay .0) ≤ returned i (q .octets))))
 
   pub record Sent (o : Outcome) : Type 0 where
-    pub left : Leaves-so r proper c i k E mail b (last b) s heard entries (o .links) (o .entries)
+    pub left : After r c i k anyHops b false (In-order r i b mail (last b)) (Rest r c i k E mail b (last b)) s heard entries (o .walk) (o .copy) (o .links) (o .entries)
     pub message : done (o .reply .answer) ≡ true → Says o
 
   pub send-good : (buffer : List ℕ) → Sent (perform (Call.send link κ buffer) x)
@@ -228,30 +203,29 @@ module _ (r : Network) (proper : Proper r) (c i k : ℕ) (E : ℕ → Entry) (ma
       (λ _.
       record {
         left =
+            same-entries r c i k anyHops b false (In-order r i b mail (last b)) (Rest r c i k E mail b (last b)) s heard walk copy (withLink link (linkSent y) l) entries (E b) (same-room r proper k b false l (callState .room) link has (linkSent y))
+            (let o = callState .good in
             record {
-              room = omega (arith, length-set (l .all) (link - 1) (linkSent y), callState .room);
-              table =
-                  λ held′.
-                  all-weaken (λ (id : ℕ) (e : Entry). id ≡ i → e ≡ E b) (λ (id : ℕ) (e : Entry). id ≡ i → Sure r proper c i k E mail b (last b) s heard (withLink link (linkSent y) l) e)
-                  (λ id e h is. subst (Sure r proper c i k E mail b (last b) s heard (withLink link (linkSent y) l)) (sym (h is)) (sent-sure has)) (ownEntries (r .settings b) (r .number b) entries) (callState .table held′);
-              same-length = refl;
-            };
+              mine = o .mine;
+              rest = o .rest;
+              links = sent-links r proper k b false l (callState .room) link has (learns walk) heard (E b) (o .links);
+              waits = o .waits;
+              walk = λ opened. absurd (true≢false (sym opened ∙ ok .closed));
+            })
+            (callState .table);
         message =
             λ _.
             record {
               says =
                   λ d n cord.
                   subst
-                  (λ (o : List ℕ). Worded o → web-of.Word r c i k d b o (E b) × (entry.up (E d) ≡ true → E d .pid ≡ n → rise + returned i o ≤ up (E d .delay .0)) × ((q : Message) (g : ℕ) → On b link mail q g → (returned i o ≤ returned i (q .octets)) ⊎ ((entry.up (E d) ≡ true) × (rise + up (E d .delay .0) ≤ returned i (q .octets)))))
+                  (λ (o : List ℕ). Worded o → Word-of r c i k d b o (E b) × (entry.up (E d) ≡ true → E d .pid ≡ n → rise + returned i o ≤ up (E d .delay .0)) × ((q : Message) (g : ℕ) → On b link mail q g → (returned i o ≤ returned i (q .octets)) ⊎ ((entry.up (E d) ≡ true) × (rise + up (E d .delay .0) ≤ returned i (q .octets)))))
                   (sym (sent-message x held link κ buffer))
                   (λ w.
                   let ranged = every-all entryInRange (entriesOf x) (entries-state x (ok .callState refl)) in
-                  (word-so held ranged d n cord w, head-so held ranged d n cord w, after-so held ranged d n cord w));
+                  (word-so held ranged d n cord (ok .closed) w, head-so held ranged d n cord (ok .closed) w, after-so held ranged d n cord (ok .closed) w));
             };
       }))
     where
-      same : Leaves-so r proper c i k E mail b (last b) s heard entries l entries
-      same = state-after r proper c i k E mail b (last b) s heard l entries callState
-
-      sent-sure : noLink (r .settings b) link ≡ false → Sure r proper c i k E mail b (last b) s heard (withLink link (linkSent y) l) (E b)
-      sent-sure has = let o = callState .now in record { mine = o .mine; links = sent-links has; better = o .better; arrows = o .arrows }
+      same : After r c i k anyHops b false (In-order r i b mail (last b)) (Rest r c i k E mail b (last b)) s heard entries walk copy l entries
+      same = unchanged r c i k anyHops b false (In-order r i b mail (last b)) (Rest r c i k E mail b (last b)) s heard walk copy l entries (E b) callState

@@ -1,69 +1,63 @@
 -- Every call of a round in any order keeps the invariant of the network, because it changes one host and adds at most one message.
 use mathlib.Core.Path.{_≡_, refl, sym, ap, subst, subst₂, _∙_}
-use mathlib.Core.Bool.{_&&_, Bool, true, false, cond, and-false, or-true}
+use mathlib.Core.Bool.{Bool, true, false, cond, _&&_}
 use mathlib.Core.List.{List, _∷_}
-use Prim.Native.Nat.{ℕ, _+_, _-_, _≤_, _<_}
+use mathlib.Core.Logic.{_⊎_, inl, inr}
+use Prim.Native.Nat.{ℕ, _+_, _≤_, _<_}
 use native.Mathlib.Omega.{arith}
-use borrow.Author.Tests.{eqb-true, eqb-false, eq-eqb, ne-eqb, ltb-false}
-use lib.Dec.{T, ltb, eqb}
+use borrow.Author.Tests.{eqb-true, eqb-false, eq-eqb, ne-eqb}
+use lib.Dec.{T, eqb}
 use lib.IntN.{ℤ, _+ℤ_}
-use lib.ListN.{length, getD, take, length-take}
-use lib.Seq.{getD-take}
+use lib.ListN.{getD}
 use Rattle.lists.proofs.Tests.{either, both}
+use Rattle.quantity.specs.declared.Millis.{Millis}
+use Rattle.quantity.proofs.Ints.{up}
 use Rattle.clock.specs.declared.Counter.{Counter}
 use Rattle.table.specs.declared.Entry.{Entry}
-use Rattle.table.specs.Entry.{freshEntry}
+use Rattle.table.specs.Entry.{freshEntry, aged}
 use Rattle.table.specs.Entry as entry
+use Rattle.table.specs.Update.{lines, left, ownUpdate}
 use Rattle.net_table.specs.declared.NetTable.{NetTable}
-use Rattle.host.specs.declared.Link.{Link}
 use Rattle.host.specs.declared.Links.{Links}
-use Rattle.host.specs.Guard.{done, noPlaces}
-use Rattle.host.specs.Settings.{linkCount}
-use Rattle.host.specs.State.{placesPerHost, firstPlace, hostCount, linkOf, freshLink, unset}
+use Rattle.host.specs.declared.walk.Place.the-variants.{Step1}
+use Rattle.host.specs.Guard.{done}
+use Rattle.host.specs.State.{hostCount}
 use Rattle.host.specs.CallState.{CallState}
-use Rattle.host.specs.Walk.{isOpen}
+use Rattle.host.specs.Walk.{isOpen, placeOf, packetOf}
 use Rattle.host.proofs.Guarded.{counted}
-use Rattle.host.proofs.Places.{Holds}
-use Rattle.arrival.specs.declared.Delivery.the-variants.{Act}
 use Rattle.calls.specs.Perform.{act, Outcome, perform}
 use Rattle.calls.proofs.Pair.{receive-acts}
 use Rattle.network_laws.specs.HostAfter.{messageOf}
-use Rattle.network_laws.specs.History.{HostAfter, afterOutcome, places, after}
+use Rattle.network_laws.specs.History.{HostAfter, afterOutcome, after}
 use Rattle.network_laws.specs.Network.{longestWay, Network, at, stateAt, HostAt, Proper}
-use Rattle.network_laws.specs.Demand3.{NetworkCall, ticks, seconds, reports, sends, arrives, acts, inspects, opens, steps, adjusts, sets, clocks, looks, callOf, Step, Message, World, result, mailAfter, step, timed, Later, Delivered, Allowed, entryOf}
-use Rattle.network_laws.proofs.Lists.{All, all-getD, all-weaken, all-there}
-use Rattle.network_laws.proofs.HostPlaces.{entries-first}
-use Rattle.network_laws.proofs.Performs.{perform-short}
-use Rattle.network_laws.proofs.Demand1.Frame.{frame-holds}
-use Rattle.network_laws.specs.Frame.{Frame}
+use Rattle.network_laws.specs.Demand3.{NetworkCall, ticks, seconds, reports, sends, arrives, acts, inspects, opens, steps, adjusts, sets, clocks, looks, Step, Message, World, afterAt, result, mailAfter, step, timed, Later, Delivered, Allowed, entryOf}
 use Rattle.network_laws.proofs.Demand3.Invariant.{RightWorld}
-use Rattle.liveness_laws.specs.Numbers.{quickWay, roundSeconds}
-use Rattle.liveness_laws.specs.Seconds.{isSecond, counts}
+use Rattle.network_laws.proofs.Demand3.Outcomes.{same-packet}
+use Rattle.network_laws.proofs.Demand3.Histories as histories
+use Rattle.liveness_laws.specs.Numbers.{rise, quickWay, roundSeconds}
+use Rattle.liveness_laws.specs.Seconds.{counts}
+use Rattle.liveness_laws.specs.Rounds.{NotBox1}
+use Rattle.liveness_laws.specs.Order.{Stands, Next, Fresh, came, lastAfter}
 use Rattle.liveness_laws.proofs.Lines.{anyHops}
-use Rattle.liveness_laws.specs.Order.{Next, Fresh, came, lastAfter}
-use Rattle.network_laws.proofs.Demand3.Histories.{a-send, a-delivery}
-use Rattle.liveness_laws.proofs.Rounds.Heard.{Mine}
+use Rattle.liveness_laws.proofs.Measured.{returned, Worded}
+use Rattle.liveness_laws.proofs.Rounds.Heard.{mine-reported}
 use Rattle.liveness_laws.proofs.Rounds.Entry.{hearing}
+use Rattle.liveness_laws.proofs.Host.State.{Believes, Before, After}
+use Rattle.liveness_laws.proofs.Host.Arrivals.{act-good}
+use Rattle.liveness_laws.proofs.Host.Walks.{step-good}
+use Rattle.liveness_laws.proofs.Host.Flags.{gain, flags, flagsAfter}
+use Rattle.liveness_laws.proofs.Host.Turns.{HostOk, host-moves, Left, callState, none-more, tick-left, adjust-left, set-left, clock-left, look-left, inspect-left, open-left, second-left, report-left, after-good, after-ok}
 use Rattle.liveness_laws.proofs.Order.Entry.{Better, better-same}
-use Rattle.liveness_laws.proofs.Order.Cables.{Web, Arrow, Letter, Posted, none, one, web-after}
-use Rattle.liveness_laws.proofs.Order.Arrivals.{LinkOk, LinksOk, Sure, Passes-so, Leaves-so, act-loose}
+use Rattle.liveness_laws.proofs.Order.Cables.{On, Web, Arrow, Letter, Posted, none, one, web-after, same-arrow, aged-better, home-better}
+use Rattle.liveness_laws.proofs.Order.Believed.{Sent, Rest, believes}
 use Rattle.liveness_laws.proofs.Order.Sends.{send-good}
-use Rattle.liveness_laws.proofs.Order.Calls.{tick-good, adjust-good, set-good, clock-good, look-good, inspect-good, step-good, second-good, report-good}
-use Rattle.liveness_laws.proofs.Rounds.Worlds.{gain, flags, no-flags, full-places, flagsAfter}
 
 module _ (r : Network) (proper : Proper r) (ways : r .longest ≤ longestWay) (quick : r .longest ≤ quickWay) (c i k : ℕ) (hc : c < r .nodes) (host : HostAt r i c) (few : (b : ℕ) → b < r .nodes → i < hostCount (r .settings b)) where
-  pub record NodeFree (b s : ℕ) (heard : ℕ → Bool) (x : HostAfter) : Type 0 where
-    pub shut : isOpen (x .walk) ≡ false
-    pub room : linkCount (r .settings b) ≤ length (x .links .all)
-    pub long : hostCount (r .settings b) ≤ length (x .places)
-    pub mine : Mine r c b k anyHops s heard (getD (x .places) i freshEntry)
-    pub links : LinksOk r k heard b (getD (x .places) i freshEntry) (x .links)
-
   abbrev pub table : World → ℕ → Entry
   table w b = entryOf r w b i
 
   pub record FreeWorld (s : ℕ → ℕ) (heard : ℕ → ℕ → Bool) (last : ℕ → ℕ → ℕ) (w : World) : Type 0 where
-    pub nodes : (b : ℕ) → b < r .nodes → NodeFree b (s b) (heard b) (w .state (r .number b))
+    pub nodes : (b : ℕ) → b < r .nodes → HostOk r c i k anyHops b false (Sent r i b (w .mail) (last b)) (s b) (heard b) (w .state (r .number b))
     pub web : Web r c i k (table w) (w .mail) last
 
   from-1 : (b j a l : ℕ) → r .cable b j ≡ at a l → 1 ≤ j
@@ -85,103 +79,84 @@ module _ (r : Network) (proper : Proper r) (ways : r .longest ≤ longestWay) (q
     abbrev at-node : NetworkCall → Step
     at-node call = record { node = b; nets = nets; links = links; copy = copy; entries = entries; call = call }
 
-    node : NodeFree b s heard now
-    node = free .nodes b inside
+    abbrev SentBy : (ℕ → ℕ → ℕ) → Entry → (link : ℕ) → (octets : List ℕ) → Type 0
+    SentBy last′ = Sent r i b (w .mail) (last′ b)
 
-    callState : (call : NetworkCall) → Allowed r w (at-node call) → Passes-so r proper c i k E (w .mail) b (last b) s heard links entries
-    callState call ok =
-        record {
-          room = omega (arith, node .room, length-take (linkCount (r .settings b)) (links .all), length-take (linkCount (r .settings b)) (now .links .all), ap length (ok .continues .own-links));
-          now =
-              record {
-                mine = node .mine;
-                links =
-                    λ j a n cord.
-                    let h = counted (r .settings b) j (proper .cables b j a n cord .link-in) .at-place in
-                    let same : linkOf links j ≡ linkOf (now .links) j =
-                    sym (getD-take (linkCount (r .settings b)) (links .all) (j - 1) (freshLink unset) h)
-                    ∙ ap (λ (ys : List Link). getD ys (j - 1) (freshLink unset)) (ok .continues .own-links)
-                    ∙ getD-take (linkCount (r .settings b)) (now .links .all) (j - 1) (freshLink unset) h in
-                    subst (LinkOk r k (heard j) j a (E b)) (sym same) (node .links j a n cord);
-                better = better-same (E b);
-                arrows = λ j a n cord t at-j. let e = free .web b j a n cord in record { leads = e .leads t at-j; heads = e .heads t at-j };
-              };
-          table =
-              λ holds.
-              subst (All (λ (id : ℕ) (e : Entry). id ≡ i → e ≡ E b)) (sym (ok .continues .own-entries holds))
-              (all-weaken (λ (id : ℕ) (e : Entry). e ≡ getD (take (hostCount (r .settings b)) (now .places)) id freshEntry) (λ (id : ℕ) (e : Entry). id ≡ i → e ≡ E b)
-              (λ id e is same.
-              is ∙ ap (λ (q : ℕ). getD (take (hostCount (r .settings b)) (now .places)) q freshEntry) same ∙ getD-take (hostCount (r .settings b)) (now .places) i freshEntry (few b inside))
-              (take (hostCount (r .settings b)) (now .places)) (all-getD freshEntry (take (hostCount (r .settings b)) (now .places))));
-        }
+    abbrev RestBy : (ℕ → ℕ → ℕ) → Entry → Type 0
+    RestBy last′ = Rest r c i k E (w .mail) b (last′ b)
 
     -- what a call has to show
     pub record Turn (call : NetworkCall) (last′ : ℕ → ℕ → ℕ) : Type 0 where
       pub grows : (p q : ℕ) → last p q ≤ last′ p q
-      pub closed : isOpen (result r w (at-node call) .walk) ≡ false
-      pub left : Leaves-so r proper c i k E (w .mail) b (last′ b) (s + gain call (result r w (at-node call))) (flags r c b call (done (result r w (at-node call) .reply .answer)) heard) entries
-          (result r w (at-node call) .links) (result r w (at-node call) .entries)
+      pub left : Left r proper c i k anyHops b false inside (few b inside) (SentBy last′) (RestBy last′) w nets links copy entries s heard call
       pub post : Posted r c i k E b (w .mail) (mailAfter b (result r w (at-node call)) call (w .mail))
 
-    none-more : {z′ : ℕ → ℕ} {heard′ : ℕ → Bool} {l′ : Links} {entries′ : List Entry} → Leaves-so r proper c i k E (w .mail) b z′ s heard′ entries l′ entries′ → Leaves-so r proper c i k E (w .mail) b z′ (s + 0) heard′ entries l′ entries′
-    none-more f = let z : s + 0 ≡ s = omega arith in rw z f
+    -- what came before does not come any more
+    module _ (last′ : ℕ → ℕ → ℕ) (grows : (p q : ℕ) → last p q ≤ last′ p q) where
+      node-then : HostOk r c i k anyHops b false (SentBy last′) s heard now
+      node-then =
+          host-moves r c i k anyHops b false (SentBy last) (SentBy last′)
+          (λ e j o sent.
+          record {
+            letter = sent .letter;
+            number = sent .number;
+            stands = sent .stands;
+            other-end = sent .other-end;
+            a-copy = sent .a-copy;
+            no-later = omega (arith, sent .no-later, grows b j);
+            near = sent .near;
+          })
+          s heard now (free .nodes b inside)
 
-    tick-turn : (n : _) (ok : Allowed r w (at-node (ticks n))) → Turn (ticks n) last
-    tick-turn n ok =
-        let t = tick-good r proper c i k E (w .mail) last (free .web) b s heard inside hc host (from-1 b) nets (now .clock) links (now .walk) copy entries (callState (ticks n) ok) (node .shut) n in
-        record { grows = λ p q. omega arith; closed = t .closed; left = none-more (t .left); post = none }
+      rest-then : RestBy last′ (E b)
+      rest-then =
+          record {
+            better = better-same (E b);
+            arrows = λ j a n cord t at-j. let e = free .web b j a n cord in record { leads = e .leads t at-j; heads = λ m g it late. e .heads t at-j m g it (omega (arith, late, grows b j)) };
+          }
 
-    adjust-turn : (n : _) (ok : Allowed r w (at-node (adjusts n))) → Turn (adjusts n) last
-    adjust-turn n ok =
-        let t = adjust-good r proper c i k E (w .mail) last (free .web) b s heard inside hc host (from-1 b) nets (now .clock) links (now .walk) copy entries (callState (adjusts n) ok) (node .shut) n in
-        record { grows = λ p q. omega arith; closed = t .closed; left = none-more (t .left); post = none }
+      state : (call : NetworkCall) → Allowed r w (at-node call) → Before r c i k anyHops b false (SentBy last′) (RestBy last′) s heard (now .walk) copy links entries (E b)
+      state = callState r proper c i k anyHops b false inside (few b inside) (SentBy last′) (RestBy last′) w nets links copy entries s heard node-then rest-then
 
-    set-turn : (ms : ℤ) (n : _) (ok : Allowed r w (at-node (sets ms n))) → Turn (sets ms n) last
-    set-turn ms n ok =
-        let t = set-good r proper c i k E (w .mail) last (free .web) b s heard inside hc host (from-1 b) nets (now .clock) links (now .walk) copy entries (callState (sets ms n) ok) (node .shut) ms n in
-        record { grows = λ p q. omega arith; closed = t .closed; left = none-more (t .left); post = none }
+    same-last : (p q : ℕ) → last p q ≤ last p q
+    same-last p q = omega arith
 
-    clock-turn : (κ : Counter) (ok : Allowed r w (at-node (clocks κ))) → Turn (clocks κ) last
-    clock-turn κ ok =
-        let t = clock-good r proper c i k E (w .mail) last (free .web) b s heard inside hc host (from-1 b) nets (now .clock) links (now .walk) copy entries (callState (clocks κ) ok) (node .shut) κ in
-        record { grows = λ p q. omega arith; closed = t .closed; left = none-more (t .left); post = none }
+    abbrev node : HostOk r c i k anyHops b false (SentBy last) s heard now
+    node = node-then last same-last
 
-    look-turn : (d : _) (ok : Allowed r w (at-node (looks d))) → Turn (looks d) last
-    look-turn d ok =
-        let t = look-good r proper c i k E (w .mail) last (free .web) b s heard inside hc host (from-1 b) nets (now .clock) links (now .walk) copy entries (callState (looks d) ok) (node .shut) d in
-        record { grows = λ p q. omega arith; closed = t .closed; left = none-more (t .left); post = none }
+    abbrev rest : RestBy last (E b)
+    rest = rest-then last same-last
 
-    inspect-turn : (j : ℕ) (packet : List ℕ) (ok : Allowed r w (at-node (inspects j packet))) → Turn (inspects j packet) last
-    inspect-turn j packet ok =
-        let t = inspect-good r proper c i k E (w .mail) last (free .web) b s heard inside hc host (from-1 b) nets (now .clock) links (now .walk) copy entries (callState (inspects j packet) ok) (node .shut) j packet in
-        record { grows = λ p q. omega arith; closed = t .closed; left = none-more (t .left); post = none }
+    -- a call that takes and sends no message
+    plain : (call : NetworkCall) → mailAfter b (result r w (at-node call)) call (w .mail) ≡ w .mail → Left r proper c i k anyHops b false inside (few b inside) (SentBy last) (RestBy last) w nets links copy entries s heard call → Turn call last
+    plain call same left = record { grows = same-last; left = left; post = subst (Posted r c i k E b (w .mail)) (sym same) none }
 
-    step-turn : (κ : Counter) (t : ℤ) (ok : Allowed r w (at-node (steps κ t))) → Turn (steps κ t) last
-    step-turn κ ms ok =
-        let t = step-good r proper c i k E (w .mail) last (free .web) b s heard inside hc host (from-1 b) nets (now .clock) links (now .walk) copy entries (callState (steps κ ms) ok) (node .shut) κ in
-        record { grows = λ p q. omega arith; closed = t .closed; left = none-more (t .left); post = none }
+    aged-rest : s < roundSeconds → RestBy last (aged (E b))
+    aged-rest early =
+        let z = aged-better r c b k anyHops s heard (E b) early (free .nodes b inside .mine .steady) in
+        record {
+          better = z .0;
+          arrows = λ j a n cord t at-j. same-arrow r c i k E (w .mail) last (free .web) b (aged (E b)) (λ t. inl (z .1 t)) j a n (last b j) (omega arith) (from-1 b j a n cord) cord t at-j;
+        }
 
-    second-turn : (ok : Allowed r w (at-node seconds)) → s + gain seconds (result r w (at-node seconds)) ≤ roundSeconds → Turn seconds last
-    second-turn ok short =
-        let t = second-good r proper c i k E (w .mail) last (free .web) b s heard inside hc host (from-1 b) nets (now .clock) links (now .walk) copy entries (callState seconds ok) (node .shut) short in
-        record { grows = λ p q. omega arith; closed = t .closed; left = t .left; post = none }
-
-    report-turn : (κ : Counter) (ok : Allowed r w (at-node (reports κ))) → Turn (reports κ) last
-    report-turn κ ok =
-        let t = report-good r proper c i k E (w .mail) last (free .web) b s heard inside hc host (from-1 b) nets (now .clock) links (now .walk) copy entries (callState (reports κ) ok) (node .shut) κ in
-        record { grows = λ p q. omega arith; closed = t .closed; left = none-more (t .left); post = none }
+    home-rest : b ≡ c → (t : Millis) → RestBy last (left (lines (ownUpdate t) (E b)))
+    home-rest is t =
+        let was = free .nodes b inside .mine in
+        let mine = mine-reported r c b k anyHops s heard (E b) was (omega arith) is (from-1 b) t in
+        let z = home-better r c b k anyHops s (hearing r c b 0 heard) heard (E b) (left (lines (ownUpdate t) (E b))) (was .steady) (mine .steady) (mine .home refl is) in
+        record {
+          better = z .0;
+          arrows = λ j a n cord v at-j. same-arrow r c i k E (w .mail) last (free .web) b (left (lines (ownUpdate t) (E b))) (λ _. inr (z .1)) j a n (last b j) (omega arith) (from-1 b j a n cord) cord v at-j;
+        }
 
     send-turn : (j : ℕ) (κ : Counter) (buffer : List ℕ) (t : ℤ) → Allowed r w (at-node (sends j κ buffer t)) → Turn (sends j κ buffer t) last
-    unfolding Frame
     send-turn j κ buffer t ok =
-        let x = stateAt r b nets (now .clock) links (now .walk) copy entries in
         let sent =
         send-good r proper c i k E (w .mail) last (free .web) sd hd (λ d hd-in. free .nodes d hd-in .mine .steady) b s heard inside (few b inside) nets (now .clock) links (now .walk) copy entries
-        (callState (sends j κ buffer t) ok) j κ buffer in
+        (state last same-last (sends j κ buffer t) ok) j κ buffer in
         record {
-          grows = λ p q. omega arith;
-          closed = ap isOpen (frame-holds (callOf (sends j κ buffer t)) x .walk (a-send r proper ways w right b inside nets links copy entries j κ buffer)) ∙ node .shut;
-          left = none-more (sent .left);
+          grows = same-last;
+          left = none-more r proper c i k anyHops b false inside (few b inside) (SentBy last) (RestBy last) w nets links copy entries s heard node rest (sent .left);
           post =
               posted
               (λ e.
@@ -203,152 +178,136 @@ module _ (r : Network) (proper : Proper r) (ways : r .longest ≤ longestWay) (q
         posted says false e = none
         posted says true e = one letter refl (says e)
 
-    acts-turn : (j : ℕ) (κ : Counter) (packet : List ℕ) (t : ℤ) → Allowed r w (at-node (acts j κ packet t)) → (new : Next r w last b j packet) → Turn (acts j κ packet t) (came b j (new .number) last)
-    unfolding Frame
-    acts-turn j κ packet t ok new =
+    -- ---- a message is taken in order
+
+    module _ (j : ℕ) (packet : List ℕ) (new : Next r w last b j packet) where
+      abbrev last-now : ℕ → ℕ → ℕ
+      last-now = came b j (new .number) last
+
+      grow : (p q : ℕ) → last p q ≤ last-now p q
+      grow p q =
+          either (λ (v : ℕ). last p q ≤ v) (eqb p b && eqb q j) _ _
+          (λ t. let x = both _ _ t in subst₂ (λ (y z : ℕ). last y z ≤ new .number) (sym (eqb-true p b (x .0))) (sym (eqb-true q j (x .1))) (new .in-order))
+          (λ _. omega arith)
+
+      taken : SentBy last-now (E b) j packet
+      taken =
+          record {
+            letter = new .message;
+            number = new .number;
+            stands = new .stands;
+            other-end = new .other-end;
+            a-copy = new .a-copy;
+            no-later = rw (eq-eqb b b refl, eq-eqb j j refl) (omega arith);
+            near =
+                λ worded t at-j.
+                subst (λ (o : List ℕ). rise + returned i o ≤ up (E b .delay .0)) (sym (new .a-copy))
+                (free .web b j (new .message .node) (new .message .link) (new .other-end) .heads t at-j (new .message) (new .number)
+                record { stands = new .stands; node = refl; link = refl; worded = subst (λ (o : List ℕ). Worded o) (new .a-copy) worded } (new .in-order));
+          }
+
+      believed : Believes r c i k anyHops b s heard (SentBy last-now) (RestBy last-now) (E b)
+      believed = believes r proper c i k E (w .mail) last (free .web) b s heard (free .nodes b inside .mine) (last-now b) (grow b)
+
+      acts-turn : (κ : Counter) (t : ℤ) → Allowed r w (at-node (acts j κ packet t)) → Turn (acts j κ packet t) last-now
+      acts-turn κ t ok =
+          record {
+            grows = grow;
+            left =
+                none-more r proper c i k anyHops b false inside (few b inside) (SentBy last-now) (RestBy last-now) w nets links copy entries s heard (node-then last-now grow) (rest-then last-now grow)
+                (subst (λ (o : List ℕ). After r c i k anyHops b false (SentBy last-now) (RestBy last-now) s (cond (done (perform (act j κ o) x .reply .answer)) (hearing r c b j heard) heard) entries (perform (act j κ o) x .walk) (perform (act j κ o) x .copy) (perform (act j κ o) x .links) (perform (act j κ o) x .entries)) (sym (d .a-copy))
+                (act-good r proper quick c i k anyHops b (SentBy last-now) (RestBy last-now) s heard nets (now .clock) links (now .walk) copy entries (E b) (state last-now grow (acts j κ packet t) ok)
+                j (d .message) (d .other-end) (right .mail (d .message) (d .earlier)) (subst (SentBy last-now (E b) j) (d .a-copy) taken) believed κ
+                (λ e.
+                let later = subst (λ (o : List ℕ). T (timed (result r w (at-node (acts j κ o t)) .reply .answer)) → Later r w b κ t (d .message)) (d .a-copy) (d .in-time) e in
+                record { way = later .way; short = later .short; clock = later .reads .clock ∙ ap (λ (z : ℤ). z +ℤ r .fixed b) (later .later) })));
+            post = none;
+          }
+        where
+          x : CallState
+          x = stateAt r b nets (now .clock) links (now .walk) copy entries
+
+          d : Delivered r w b j κ packet t (result r w (at-node (acts j κ packet t)) .reply .answer)
+          d = ok .timely
+
+      arrives-turn : (κ : Counter) (t : ℤ) → Allowed r w (at-node (arrives j κ packet t)) → Turn (arrives j κ packet t) last-now
+      arrives-turn κ t ok =
+          let x = stateAt r b nets (now .clock) links (now .walk) copy entries in
+          let same = receive-acts j κ packet x in
+          let a =
+          acts-turn κ t record { node-in = ok .node-in; continues = ok .continues; timely = subst (λ (o : Outcome). Delivered r w b j κ packet t (o .reply .answer)) same (ok .timely) } in
+          record {
+            grows = grow;
+            left =
+                subst (λ (o : Outcome). After r c i k anyHops b false (SentBy last-now) (RestBy last-now) (s + 0) (cond (done (o .reply .answer)) (hearing r c b j heard) heard) entries (o .walk) (o .copy) (o .links) (o .entries)) (sym same) (a .left);
+            post = none;
+          }
+
+    -- ---- a box of a walk
+
+    box-turn : (κ : Counter) (t : ℤ) (ok : Allowed r w (at-node (steps κ t))) (last′ : ℕ → ℕ → ℕ) (grows : (p q : ℕ) → last p q ≤ last′ p q)
+        → (isOpen (now .walk) ≡ true → placeOf (now .walk) ≡ Step1 → SentBy last′ (E b) (now .walk .link) (packetOf (now .walk) (now .copy))) → Turn (steps κ t) last′
+    box-turn κ t ok last′ grows takes =
         record {
-          grows = grow;
-          closed = ap isOpen (frame-holds (act j κ packet) x .walk (a-delivery r proper ways w right b inside nets links copy entries (Act j κ) packet)) ∙ node .shut;
+          grows = grows;
           left =
-              none-more
-              (subst (λ (o : List ℕ). Leaves-so r proper c i k E (w .mail) b (came b j (new .number) last b) s (cond (done (perform (act j κ o) x .reply .answer)) (hearing r c b j heard) heard) entries (perform (act j κ o) x .links) (perform (act j κ o) x .entries)) (sym (d .a-copy))
-              (act-loose r proper quick c i k E (w .mail) last (free .web) b s heard inside nets (now .clock) links (now .walk) copy entries
-              (callState (acts j κ packet t) ok) j (d .message) (d .other-end) (right .mail (d .message) (d .earlier)) (new .message) (new .number) (new .stands)
-              (node-is (new .message .node) (new .message .link) (new .other-end)) (link-is (new .message .node) (new .message .link) (new .other-end)) (sym (new .a-copy) ∙ d .a-copy) (new .in-order)
-              (came b j (new .number) last b) (grow b) (rw (eq-eqb b b refl, eq-eqb j j refl) refl) κ
-              (λ e.
-              let later = subst (λ (o : List ℕ). T (timed (result r w (at-node (acts j κ o t)) .reply .answer)) → Later r w b κ t (d .message)) (d .a-copy) (d .in-time) e in
-              record { way = later .way; short = later .short; clock = later .reads .clock ∙ ap (λ (z : ℤ). z +ℤ r .fixed b) (later .later) })));
+              none-more r proper c i k anyHops b false inside (few b inside) (SentBy last′) (RestBy last′) w nets links copy entries s heard (node-then last′ grows) (rest-then last′ grows)
+              (step-good r proper quick c i k anyHops b (SentBy last′) (RestBy last′) s heard (few b inside) nets (now .clock) links (now .walk) copy entries (E b) (state last′ grows (steps κ t) ok)
+              (believes r proper c i k E (w .mail) last (free .web) b s heard (free .nodes b inside .mine) (last′ b) (grows b))
+              (histories.callState r proper ways w right b inside nets links copy entries (steps κ t) ok .walk) κ
+              (λ opened first. subst (SentBy last′ (E b) (now .walk .link)) (sym (same-packet r b now nets (now .clock) links copy entries (ok .continues) opened)) (takes opened first)));
           post = none;
         }
-      where
-        x : CallState
-        x = stateAt r b nets (now .clock) links (now .walk) copy entries
 
-        d : Delivered r w b j κ packet t (result r w (at-node (acts j κ packet t)) .reply .answer)
-        d = ok .timely
-
-        node-is : (p q : ℕ) → r .cable b j ≡ at p q → p ≡ d .message .node
-        node-is p q z = let y = d .other-end in cc
-
-        link-is : (p q : ℕ) → r .cable b j ≡ at p q → q ≡ d .message .link
-        link-is p q z = let y = d .other-end in cc
-
-        grow : (p q : ℕ) → last p q ≤ came b j (new .number) last p q
-        grow p q =
-            either (λ (v : ℕ). last p q ≤ v) (eqb p b && eqb q j) _ _
-            (λ t. let x = both _ _ t in subst₂ (λ (y z : ℕ). last y z ≤ new .number) (sym (eqb-true p b (x .0))) (sym (eqb-true q j (x .1))) (new .in-order))
-            (λ _. omega arith)
-
-    arrives-turn : (j : ℕ) (κ : Counter) (packet : List ℕ) (t : ℤ) → Allowed r w (at-node (arrives j κ packet t)) → (new : Next r w last b j packet) → Turn (arrives j κ packet t) (came b j (new .number) last)
-    arrives-turn j κ packet t ok new =
-        let x = stateAt r b nets (now .clock) links (now .walk) copy entries in
-        let same = receive-acts j κ packet x in
-        let a =
-        acts-turn j κ packet t
-        record { node-in = ok .node-in; continues = ok .continues; timely = subst (λ (o : Outcome). Delivered r w b j κ packet t (o .reply .answer)) same (ok .timely) } new in
-        record {
-          grows = a .grows;
-          closed = ap (λ (o : Outcome). isOpen (o .walk)) same ∙ a .closed;
-          left =
-              subst (λ (o : Outcome). Leaves-so r proper c i k E (w .mail) b (came b j (new .number) last b) (s + 0) (cond (done (o .reply .answer)) (hearing r c b j heard) heard) entries (o .links) (o .entries)) (sym same) (a .left);
-          post = none;
-        }
+    step-turn : (κ : Counter) (t : ℤ) (ok : Allowed r w (at-node (steps κ t))) (may : Fresh r w last b (steps κ t)) → Turn (steps κ t) (lastAfter r w last b (steps κ t) may)
+    step-turn κ t ok (inl other) = box-turn κ t ok last same-last (λ opened first. absurd (other opened first))
+    step-turn κ t ok (inr new) =
+        box-turn κ t ok (came b (now .walk .link) (new .number) last) (grow (now .walk .link) (packetOf (now .walk) (now .copy)) new)
+        (λ _ _. taken (now .walk .link) (packetOf (now .walk) (now .copy)) new)
 
     pub any-turn : (call : NetworkCall) → Allowed r w (at-node call) → (may : Fresh r w last b call) → s + gain call (result r w (at-node call)) ≤ roundSeconds → Turn call (lastAfter r w last b call may)
-    any-turn (ticks n) ok may short = tick-turn n ok
-    any-turn seconds ok may short = second-turn ok short
-    any-turn (reports κ) ok may short = report-turn κ ok
+    any-turn (ticks n) ok may short = plain (ticks n) refl (tick-left r proper c i k anyHops b false inside (few b inside) (SentBy last) (RestBy last) w nets links copy entries s heard node rest n ok)
+    any-turn seconds ok may short = plain seconds refl (second-left r proper c i k anyHops b false inside (few b inside) (SentBy last) (RestBy last) w nets links copy entries s heard node rest aged-rest ok short)
+    any-turn (reports κ) ok may short =
+        plain (reports κ) refl (report-left r proper c i k anyHops b false inside (few b inside) (SentBy last) (RestBy last) w nets links copy entries s heard node rest hc host (omega arith) home-rest κ ok)
     any-turn (sends j κ buffer t) ok may short = send-turn j κ buffer t ok
-    any-turn (arrives j κ packet t) ok may short = arrives-turn j κ packet t ok may
-    any-turn (acts j κ packet t) ok may short = acts-turn j κ packet t ok may
-    any-turn (inspects j packet) ok may short = inspect-turn j packet ok
-    any-turn (opens j packet) ok may short = absurd may
-    any-turn (steps κ t) ok may short = step-turn κ t ok
-    any-turn (adjusts n) ok may short = adjust-turn n ok
-    any-turn (sets ms n) ok may short = set-turn ms n ok
-    any-turn (clocks κ) ok may short = clock-turn κ ok
-    any-turn (looks d) ok may short = look-turn d ok
+    any-turn (arrives j κ packet t) ok may short = arrives-turn j packet may κ t ok
+    any-turn (acts j κ packet t) ok may short = acts-turn j packet may κ t ok
+    any-turn (inspects j packet) ok may short = plain (inspects j packet) refl (inspect-left r proper c i k anyHops b false inside (few b inside) (SentBy last) (RestBy last) w nets links copy entries s heard node rest j packet ok)
+    any-turn (opens j packet) ok may short = plain (opens j packet) refl (open-left r proper c i k anyHops b false inside (few b inside) (SentBy last) (RestBy last) w nets links copy entries s heard node rest j packet ok)
+    any-turn (steps κ t) ok may short = step-turn κ t ok may
+    any-turn (adjusts n) ok may short = plain (adjusts n) refl (adjust-left r proper c i k anyHops b false inside (few b inside) (SentBy last) (RestBy last) w nets links copy entries s heard node rest n ok)
+    any-turn (sets ms n) ok may short = plain (sets ms n) refl (set-left r proper c i k anyHops b false inside (few b inside) (SentBy last) (RestBy last) w nets links copy entries s heard node rest ms n ok)
+    any-turn (clocks κ) ok may short = plain (clocks κ) refl (clock-left r proper c i k anyHops b false inside (few b inside) (SentBy last) (RestBy last) w nets links copy entries s heard node rest κ ok)
+    any-turn (looks d) ok may short = plain (looks d) refl (look-left r proper c i k anyHops b false inside (few b inside) (SentBy last) (RestBy last) w nets links copy entries s heard node rest d ok)
 
     -- ---- the host afterwards
 
-    abbrev after-there : NetworkCall → HostAfter
-    after-there call = afterOutcome (r .number b) (now .places) (result r w (at-node call))
-
-    pub after-sure : (call : NetworkCall) (last′ : ℕ → ℕ → ℕ) → Allowed r w (at-node call) → Turn call last′
-        → Sure r proper c i k E (w .mail) b (last′ b) (s + gain call (result r w (at-node call))) (flags r c b call (done (result r w (at-node call) .reply .answer)) heard) (result r w (at-node call) .links)
-        (getD (after-there call .places) i freshEntry)
-    unfolding noPlaces
+    pub after-sure : (call : NetworkCall) (last′ : ℕ → ℕ → ℕ) → Allowed r w (at-node call) → Turn call last′ → RestBy last′ (getD (afterOutcome (r .number b) (now .places) (result r w (at-node call)) .places) i freshEntry)
     after-sure call last′ ok t =
-        either (λ (l : List Entry). Sure-now (getD l i freshEntry)) (ltb (length (o .entries)) (firstPlace (r .number b) + placesPerHost)) _ _
-        (λ z. short-run (rw (t .left .same-length) at z))
-        (λ z.
-        let h = ltb-false (length (o .entries)) (firstPlace (r .number b) + placesPerHost) z in
-        let held : Holds (r .number b) entries = omega (arith, t .left .same-length) in
-        let all : All (λ (id : ℕ) (e : Entry). id ≡ i → Sure-now e) (take (hostCount (r .settings b)) (places (r .number b) (o .entries))) =
-        subst (All (λ (id : ℕ) (e : Entry). id ≡ i → Sure-now e)) (entries-first (r .settings b) (r .number b) (o .entries)) (t .left .table held) in
-        let it = all-there (λ (id : ℕ) (e : Entry). id ≡ i → Sure-now e) freshEntry (take (hostCount (r .settings b)) (places (r .number b) (o .entries))) all i
-        (omega (arith, few b inside, full-places (r .settings b) (r .number b) (o .entries) h, length-take (hostCount (r .settings b)) (places (r .number b) (o .entries)))) refl in
-        subst Sure-now (getD-take (hostCount (r .settings b)) (places (r .number b) (o .entries)) i freshEntry (few b inside)) it)
-      where
-        o : Outcome
-        o = result r w (at-node call)
-
-        Sure-now : Entry → Type 0
-        Sure-now = Sure r proper c i k E (w .mail) b (last′ b) (s + gain call o) (flags r c b call (done (o .reply .answer)) heard) (o .links)
-
-        still : Sure r proper c i k E (w .mail) b (last′ b) s heard links (E b)
-        still =
-            let q = callState call ok .now in
-            record {
-              mine = q .mine;
-              links = q .links;
-              better = q .better;
-              arrows = λ j a n cord v at-j. let y = q .arrows j a n cord v at-j in record { leads = y .leads; heads = λ m g it late. y .heads m g it (omega (arith, late, t .grows b j)) };
-            }
-
-        -- if the run does not have the host's places, the call is refused
-        short-run : ltb (length entries) (firstPlace (r .number b) + placesPerHost) ≡ true → Sure-now (E b)
-        short-run e =
-            let x = stateAt r b nets (now .clock) links (now .walk) copy entries in
-            let gone : noPlaces (r .number b) entries ≡ true = rw e (or-true (ltb 15 (r .number b))) in
-            let short = perform-short (callOf call) x gone in
-            let no : done (o .reply .answer) ≡ false = ap (λ (q : Outcome). done (q .reply .answer)) short in
-            let zero-more : gain call o ≡ 0 = ap (gain call) short ∙ rw (and-false (isSecond call)) in
-            let z : s + gain call o ≡ s = omega arith in
-            let f : flags r c b call (done (o .reply .answer)) heard ≡ heard = ap (λ (q : Bool). flags r c b call q heard) no ∙ no-flags r c b call heard in
-            let l-is : o .links ≡ links = ap (λ (q : Outcome). q .links) short in
-            subst (λ (l : Links). Sure r proper c i k E (w .mail) b (last′ b) (s + gain call o) (flags r c b call (done (o .reply .answer)) heard) l (E b)) (sym l-is)
-            (subst₂ (λ (t : ℕ) (on : ℕ → Bool). Sure r proper c i k E (w .mail) b (last′ b) t on links (E b)) (sym z) (sym f) still)
+        after-good r proper c i k anyHops b false inside (few b inside) (SentBy last′) (RestBy last′) w nets links copy entries s heard (node-then last′ (t .grows)) (rest-then last′ (t .grows)) call ok (t .left) .rest
 
     pub after-free : (call : NetworkCall) (last′ : ℕ → ℕ → ℕ) → Allowed r w (at-node call) → Turn call last′
-        → NodeFree b (s + gain call (result r w (at-node call))) (flags r c b call (done (result r w (at-node call) .reply .answer)) heard) (after-there call)
+        → HostOk r c i k anyHops b false (SentBy last′) (s + gain call (result r w (at-node call))) (flags r c b (now .walk) call (result r w (at-node call)) heard) (afterOutcome (r .number b) (now .places) (result r w (at-node call)))
     after-free call last′ ok t =
-        let o = result r w (at-node call) in
-        let sure = after-sure call last′ ok t in
-        record {
-          shut = t .closed;
-          room = t .left .room;
-          long =
-              either (λ (l : List Entry). hostCount (r .settings b) ≤ length l) (ltb (length (o .entries)) (firstPlace (r .number b) + placesPerHost)) _ _ (λ _. node .long)
-              (λ z. full-places (r .settings b) (r .number b) (o .entries) (ltb-false (length (o .entries)) (firstPlace (r .number b) + placesPerHost) z));
-          mine = sure .mine;
-          links = sure .links;
-        }
+        after-ok r proper c i k anyHops b false inside (few b inside) (SentBy last′) (RestBy last′) w nets links copy entries s heard (node-then last′ (t .grows)) (rest-then last′ (t .grows)) call ok (t .left)
 
   -- ---- the world
 
-  abbrev pub flags-then : (w : World) (x : Step) → (ℕ → ℕ → Bool) → ℕ → ℕ → Bool
-  flags-then = flagsAfter r proper ways quick c i k hc host few
+  -- a message that was taken stays in the mail
+  stands-on : (E : ℕ → Entry) (b : ℕ) (mail mail′ : List Message) → Posted r c i k E b mail mail′ → (m : Message) (n : ℕ) → Stands m n mail → Stands m n mail′
+  unfolding Stands
+  stands-on E b mail mail′ none m n x = x
+  stands-on E b mail mail′ (one letter is says) m n x = inr x
 
   pub record Then (s : ℕ → ℕ) (heard : ℕ → ℕ → Bool) (last′ : ℕ → ℕ → ℕ) (w : World) (x : Step) : Type 0 where
-    pub free : FreeWorld (λ b. s b + counts r w b x) (flags-then w x heard) last′ (step r w x)
+    pub free : FreeWorld (λ b. s b + counts r w b x) (flagsAfter r c w x heard) last′ (step r w x)
     pub better : (b : ℕ) → b < r .nodes → Better (table w b) (table (step r w x) b)
 
   pub world-free : (s : ℕ → ℕ) (heard : ℕ → ℕ → Bool) (last last′ : ℕ → ℕ → ℕ) (w : World) (right : RightWorld r w) (x : Step) (ok : Allowed r w x) (free : FreeWorld s heard last w)
       → Turn w right (x .node) (ok .node-in) (x .nets) (x .links) (x .copy) (x .entries) s heard last free (x .call) last′
       → Then s heard last′ w x
-  unfolding step after
+  unfolding step after flagsAfter
   world-free s heard last last′ w right x ok free turn =
       record { free = record { nodes = nodes; web = web-after r c i k proper (table w) (table (step r w x)) (w .mail) (step r w x .mail) last last′ (turn .grows) a others own-better own-arrows (turn .post) (free .web) }; better = better }
     where
@@ -358,20 +317,37 @@ module _ (r : Network) (proper : Proper r) (ways : r .longest ≤ longestWay) (q
       here : eqb a a ≡ true
       here = eq-eqb a a refl
 
-      own : NodeFree a (s a + counts r w a x) (flags-then w x heard a) (afterOutcome (r .number a) (w .state (r .number a) .places) (result r w x))
-      own = rw here (after-free w right a (ok .node-in) (x .nets) (x .links) (x .copy) (x .entries) s heard last free (x .call) last′ ok turn)
+      -- what walks have taken
+      moves : (b : ℕ) (last₁ : ℕ → ℕ) → ((q : ℕ) → last₁ q ≤ last′ b q) → (e : Entry) (j : ℕ) (o : List ℕ) → Sent r i b (w .mail) last₁ e j o → Sent r i b (step r w x .mail) (last′ b) e j o
+      moves b last₁ less e j o sent =
+          record {
+            letter = sent .letter;
+            number = sent .number;
+            stands = stands-on (table w) a (w .mail) (step r w x .mail) (turn .post) (sent .letter) (sent .number) (sent .stands);
+            other-end = sent .other-end;
+            a-copy = sent .a-copy;
+            no-later = omega (arith, sent .no-later, less j);
+            near = sent .near;
+          }
 
-      nodes : (b : ℕ) → b < r .nodes → NodeFree b (s b + counts r w b x) (flags-then w x heard b) (step r w x .state (r .number b))
+      own : HostOk r c i k anyHops a false (Sent r i a (step r w x .mail) (last′ a)) (s a + counts r w a x) (flagsAfter r c w x heard a) (afterOutcome (r .number a) (w .state (r .number a) .places) (result r w x))
+      own =
+          host-moves r c i k anyHops a false (Sent r i a (w .mail) (last′ a)) (Sent r i a (step r w x .mail) (last′ a)) (moves a (last′ a) (λ q. omega arith)) (s a + counts r w a x) (flagsAfter r c w x heard a)
+          (afterOutcome (r .number a) (w .state (r .number a) .places) (result r w x))
+          (rw here (after-free w right a (ok .node-in) (x .nets) (x .links) (x .copy) (x .entries) s heard last free (x .call) last′ ok turn))
+
+      nodes : (b : ℕ) → b < r .nodes → HostOk r c i k anyHops b false (Sent r i b (step r w x .mail) (last′ b)) (s b + counts r w b x) (flagsAfter r c w x heard b) (step r w x .state (r .number b))
       nodes b hb =
-          either (NodeFree b (s b + counts r w b x) (flags-then w x heard b)) (eqb (r .number b) (r .number a)) _ _
+          either (HostOk r c i k anyHops b false (Sent r i b (step r w x .mail) (last′ b)) (s b + counts r w b x) (flagsAfter r c w x heard b)) (eqb (r .number b) (r .number a)) _ _
           (λ e.
           let same : a ≡ b = proper .numbers-differ a b (ok .node-in) hb (sym (eqb-true (r .number b) (r .number a) e)) in
-          subst (λ (d : ℕ). NodeFree d (s d + counts r w d x) (flags-then w x heard d) (afterOutcome (r .number a) (w .state (r .number a) .places) (result r w x))) same own)
+          subst (λ (d : ℕ). HostOk r c i k anyHops d false (Sent r i d (step r w x .mail) (last′ d)) (s d + counts r w d x) (flagsAfter r c w x heard d) (afterOutcome (r .number a) (w .state (r .number a) .places) (result r w x))) same own)
           (λ e.
           let other : eqb a b ≡ false = ne-eqb a b (λ z. eqb-false (r .number b) (r .number a) e (ap (r .number) (sym z))) in
           let no-more : counts r w b x ≡ 0 = rw other in
           let z : s b + counts r w b x ≡ s b = omega arith in
-          rw (z, other) (free .nodes b hb))
+          rw (z, other)
+          (host-moves r c i k anyHops b false (Sent r i b (w .mail) (last b)) (Sent r i b (step r w x .mail) (last′ b)) (moves b (last b) (turn .grows b)) (s b) (heard b) (w .state (r .number b)) (free .nodes b hb)))
 
       others : (q : ℕ) → q < r .nodes → (q ≡ a → ⊥) → table (step r w x) q ≡ table w q
       others q hq other =
@@ -381,7 +357,7 @@ module _ (r : Network) (proper : Proper r) (ways : r .longest ≤ longestWay) (q
       own-is : table (step r w x) a ≡ getD (afterOutcome (r .number a) (w .state (r .number a) .places) (result r w x) .places) i freshEntry
       own-is = rw (eq-eqb (r .number a) (r .number a) refl) refl
 
-      sure : Sure r proper c i k (table w) (w .mail) a (last′ a) (s a + gain (x .call) (result r w x)) (flags r c a (x .call) (done (result r w x .reply .answer)) (heard a)) (result r w x .links) (table (step r w x) a)
+      sure : Rest r c i k (table w) (w .mail) a (last′ a) (table (step r w x) a)
       sure = rw own-is (after-sure w right a (ok .node-in) (x .nets) (x .links) (x .copy) (x .entries) s heard last free (x .call) last′ ok turn)
 
       own-better : Better (table w a) (table (step r w x) a)

@@ -1,6 +1,7 @@
 -- The two rounds of specs/RoundsExample.antt meet every condition; each call is computed.
 use mathlib.Core.Path.{_≡_, refl, ap}
 use mathlib.Core.Bool.{Bool, true, false, cond}
+use mathlib.Core.Bool.{false}
 use mathlib.Core.List.{List, [], _∷_, List·Memᴰ·head, List·Memᴰ·tail}
 use mathlib.Core.Logic.{_⊎_, inl, inr}
 use Prim.Native.Nat.{ℕ, _+_, _≤_, _<_}
@@ -14,16 +15,17 @@ use Rattle.answer.specs.declared.Answer.{Answer}
 use Rattle.clock.specs.LineClock.{noCounter}
 use Rattle.table.specs.Marks.{onlyMark}
 use Rattle.host.specs.Settings.{linkCount}
+use Rattle.host.specs.Walk.{isOpen}
 use Rattle.network_laws.specs.HostAfter.{messageOf}
 use Rattle.network_laws.specs.History.{after}
 use Rattle.network_laws.specs.Network.{loose, at, initialized, Proper}
-use Rattle.network_laws.specs.Demand3.{Step, Message, World, result, step, history, Allows, Starts, entryOf}
+use Rattle.network_laws.specs.Demand3.{Step, Message, World, afterAt, result, step, history, Allows, Starts, entryOf}
 use Rattle.network_laws.specs.TwoNodes.{wire}
 use Rattle.network_laws.proofs.Opened.{opened}
 use Rattle.network_laws.proofs.Demand3.TwoNodes.{below-2, apart, pair-proper, starts, as-after, reads, delivered}
 use Rattle.liveness_laws.specs.Numbers.{roundSeconds}
 use Rattle.liveness_laws.specs.Seconds.{emptied, secondsAt}
-use Rattle.liveness_laws.specs.Rounds.{Speaking, Listening, Reported, Heard, spoken, Round, Rounds, begin, next}
+use Rattle.liveness_laws.specs.Rounds.{NoWalks, Speaking, Listening, Reported, Heard, spoken, Round, Rounds, begin, next}
 use Rattle.liveness_laws.specs.RoundsExample.{both, two, x₁, x₂, x₃, x₄, y₁, y₂, w₁, w₂, w₃, w₄, w₅, w₆, start, between, last, RoundsExample}
 
 -- the two ends of the cable
@@ -87,6 +89,10 @@ heard-1 : (b j a i : ℕ) → wire b j ≡ at a i → Heard two (w₄ e₀ 32) b
 unfolding opened after step Heard start
 heard-1 = ends (λ (b j : ℕ). Heard two (w₄ e₀ 32) b j (ys e₀ 32)) (inl (refl, refl, refl)) (inr (inl (refl, refl, refl)))
 
+over-1 : NoWalks two (history two (w₄ e₀ 32) (ys e₀ 32))
+unfolding opened after step history start
+over-1 = below-2 (λ (b : ℕ). isOpen (afterAt two (history two (w₄ e₀ 32) (ys e₀ 32)) b .walk) ≡ false) refl refl
+
 round-1 : Round two start (xs e₀ 32) (ys e₀ 32)
 unfolding history Speaking Listening secondsAt
 round-1 =
@@ -101,6 +107,7 @@ round-1 =
           };
       reported = λ b hb. inl (reported-1 b hb);
       heard = heard-1;
+      over = over-1;
     }
 
 abbrev e₁ : World
@@ -140,6 +147,10 @@ heard-2 : (b j a i : ℕ) → wire b j ≡ at a i → Heard two (w₄ e₁ 40) b
 unfolding opened after step Heard start between
 heard-2 = ends (λ (b j : ℕ). Heard two (w₄ e₁ 40) b j (ys e₁ 40)) (inl (refl, refl, refl)) (inr (inl (refl, refl, refl)))
 
+over-2 : NoWalks two (history two (w₄ e₁ 40) (ys e₁ 40))
+unfolding opened after step history start between
+over-2 = below-2 (λ (b : ℕ). isOpen (afterAt two (history two (w₄ e₁ 40) (ys e₁ 40)) b .walk) ≡ false) refl refl
+
 round-2 : Round two between (xs e₁ 40) (ys e₁ 40)
 unfolding history Speaking Listening secondsAt
 round-2 =
@@ -154,6 +165,7 @@ round-2 =
           };
       reported = λ b hb. inl (reported-2 b hb);
       heard = heard-2;
+      over = over-2;
     }
 
 -- ---- all of it

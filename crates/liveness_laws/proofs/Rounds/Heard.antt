@@ -44,7 +44,7 @@ module _ (r : Network) (c b k m s : ℕ) (heard : ℕ → Bool) (e : Entry) (min
       record { steady = a .0; hears = λ j d l cable on h way few short. a .1 (suc h); home = λ _ _. a .1 0 }
 
   -- a flag that is on after link j was heard
-  flag : (j q : ℕ) → hearing r c b j heard q ≡ true → (q ≡ j) ⊎ (heard q ≡ true)
+  pub flag : (j q : ℕ) → hearing r c b j heard q ≡ true → (q ≡ j) ⊎ (heard q ≡ true)
   flag j q = either (λ (x : Bool). x ≡ true → (q ≡ j) ⊎ (heard q ≡ true)) (eqb q j) _ _ (λ t _. inl (eqb-true q j t)) (λ _ x. inr x)
 
   pub mine-heard : m ≤ suc k → (j a l : ℕ) → 1 ≤ j → r .cable b j ≡ at a l → (y : ℕ) → Report r c b k a y → (u : Update) → u .pid ≡ j → u .delay .0 ≡ pos (rise + y)
@@ -90,46 +90,42 @@ module _ (r : Network) (c b k m s : ℕ) (heard : ℕ → Bool) (e : Entry) (min
       by-link z h way (own x) = out (at-home 0 way refl)
       by-link z h way (by {a} {l} x rest) = let f = from-1 0 a l (ap (r .cable b) (sym z) ∙ x) in omega arith
 
-  -- ---- in the first round nothing is believed
+  -- with one link less heard
+  pub mine-fewer : (on : ℕ → Bool) → ((q : ℕ) → on q ≡ true → heard q ≡ true) → Mine r c b k m s on e
+  mine-fewer on less =
+      record {
+        steady =
+            record {
+              sound = mine .steady .sound;
+              complete = mine .steady .complete;
+              rests = mine .steady .rests;
+              lasts = mine .steady .lasts;
+              lasts-on = λ t z. mine .steady .lasts-on t (less (e .pid) z);
+            };
+        hears = λ j a l cable z. mine .hears j a l cable (less j z);
+        home = λ z. mine .home (less 0 z);
+      }
 
-  module _ (first : k ≡ 0) (few : m ≤ 1) (j : ℕ) (from-1 : 1 ≤ j) where
-    -- what is up is the host's own
-    no-pid : (t : entry.up e ≡ true) → e .pid ≡ 0
-    no-pid t = let f = mine .steady .sound t in go (f .hops) (f .via) (omega (arith, f .below))
-      where
-        go : (h : ℕ) → Via r c b (e .pid) h → h < 1 → e .pid ≡ 0
-        go h (own z) low = z
-        go h (by z way) low = absurd (omega arith)
+  -- in the first round, by a link that no entry came by, nothing is believed
+  pub mine-deaf : k ≡ 0 → (j : ℕ) → 1 ≤ j → (entry.up e ≡ true → e .pid ≡ j → ⊥) → Mine r c b k m s (hearing r c b j heard) e
+  mine-deaf first j from-1 other =
+      record {
+        steady =
+            record {
+              sound = mine .steady .sound;
+              complete = mine .steady .complete;
+              rests = mine .steady .rests;
+              lasts = mine .steady .lasts;
+              lasts-on = λ t on. elim (flag j (e .pid) on) [ inl z ↦ absurd (other t z) | inr z ↦ mine .steady .lasts-on t z ];
+            };
+        hears = λ q d n cord on h way less short. absurd (omega arith);
+        home = λ on is-c. elim (flag j 0 on) [ inl z ↦ absurd (omega (arith, z)) | inr z ↦ mine .home z is-c ];
+      }
 
-    pub mine-deaf : Mine r c b k (suc k) s (hearing r c b j heard) e
-    mine-deaf =
-        record {
-          steady =
-              record {
-                sound = λ t. let f = mine .steady .sound t in record { hops = f .hops; delay = f .delay; way = f .way; below = omega (arith, f .below); via = f .via };
-                complete = mine .steady .complete;
-                rests = mine .steady .rests;
-                lasts = mine .steady .lasts;
-                lasts-on = λ t on. elim (flag j (e .pid) on) [ inl z ↦ absurd (omega (arith, z, no-pid t)) | inr z ↦ mine .steady .lasts-on t z ];
-              };
-          hears = λ q d n cord on h way less short. absurd (omega arith);
-          home = λ on is-c. elim (flag j 0 on) [ inl z ↦ absurd (omega (arith, z)) | inr z ↦ mine .home z is-c ];
-        }
-
-    -- an update of 30,000 ms or more changes nothing
-    pub far-same : (u : Update) → u .pid ≡ j → lessMillis (u .delay) maxDelay ≡ false → left (lines u e) ≡ e
-    far-same u pid far =
-        lines-cases (λ (f : Entry). f ≡ e) u e (λ _. refl) (λ _ _ low. absurd (false≢true (sym far ∙ low)))
-        (λ t v _. absurd (stuck t v)) (λ _ _ w. absurd (false≢true (sym far ∙ both _ _ w .0))) (λ _ _ _. refl)
-      where
-        stuck : stays u e ≡ false → entry.up e ≡ true → ⊥
-        stuck t v = go (eqb (u .pid) (e .pid)) (lessMillis (e .delay) (addMillis (u .delay) minDelay)) refl refl t
-          where
-            go : (p q : Bool) → eqb (u .pid) (e .pid) ≡ p → lessMillis (e .delay) (addMillis (u .delay) minDelay) ≡ q → (not p && q) ≡ false → ⊥
-            go true q x y z = omega (arith, eqb-true (u .pid) (e .pid) x, pid, no-pid v)
-            go false false x y z =
-                let n = lt-no (e .delay .0) (u .delay .0 +ℤ pos 100) y in
-                let l = lt-yes (e .delay .0) (pos 30000) v in
-                let h = lt-no (u .delay .0) (pos 30000) far in
-                omega (arith, n, l, h, sum (u .delay .0) (pos 100))
-            go false true x y z = true≢false z
+  -- what is up by fewer than one cable is the host's own
+  pub no-pid : m ≤ 1 → (j : ℕ) → 1 ≤ j → entry.up e ≡ true → e .pid ≡ j → ⊥
+  no-pid few j from-1 t at-j = let f = mine .steady .sound t in go (f .hops) (f .via) (omega (arith, f .below))
+    where
+      go : (h : ℕ) → Via r c b (e .pid) h → h < 1 → ⊥
+      go h (own z) low = omega (arith, z, at-j)
+      go h (by z way) low = absurd (omega arith)

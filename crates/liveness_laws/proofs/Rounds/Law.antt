@@ -26,7 +26,7 @@ use Rattle.host.specs.Guard.{done}
 use Rattle.host.specs.CallState.{CallState, entriesOf}
 use Rattle.host.specs.Settings.{linkCount}
 use Rattle.host.specs.State.{hostCount, withEntries, firstPlace, placesPerHost, freshLink, freshLinks, unset, linkOf}
-use Rattle.host.specs.Walk.{isOpen}
+use Rattle.host.specs.Walk.{isOpen, packetOf}
 use Rattle.host.proofs.Places.{entries-length}
 use Rattle.host.proofs.Sound.{sound}
 use Rattle.calls.specs.declared.Request.the-variants.{Initialize}
@@ -35,7 +35,7 @@ use Rattle.calls.specs.Perform.{ask, Outcome}
 use Rattle.network_laws.specs.History.{afterOutcome}
 use Rattle.network_laws.specs.Network.{longestWay, Network, at, stateAt, initialized, HostAt, Proper}
 use Rattle.network_laws.specs.Slots.{EverySlot}
-use Rattle.network_laws.specs.Demand3.{NetworkCall, ticks, seconds, reports, sends, arrives, acts, inspects, opens, steps, adjusts, sets, clocks, looks, Step, Message, World, result, step, history, Allows, Starts, entryOf}
+use Rattle.network_laws.specs.Demand3.{NetworkCall, ticks, seconds, reports, sends, arrives, acts, inspects, opens, steps, adjusts, sets, clocks, looks, Step, Message, World, afterAt, result, step, history, Allows, Starts, entryOf}
 use Rattle.network_laws.proofs.Lists.{All, all-any, all-at, all-there, all-counted, all-made, all-weaken}
 use Rattle.network_laws.proofs.HostPlaces.{entries-first}
 use Rattle.network_laws.proofs.Performs.{performs, there}
@@ -48,12 +48,16 @@ use Rattle.liveness_laws.specs.Seconds.{emptied, counts, secondsAt}
 use Rattle.liveness_laws.specs.Hops.{Hops, Via, own, by}
 use Rattle.liveness_laws.specs.TablesFill as claim
 use Rattle.liveness_laws.specs.TablesFill.{TablesFill}
-use Rattle.liveness_laws.specs.Rounds.{Speaking, Listening, ReportsNow, HearsNow, Reported, Heard, spoken, Underway, meanwhile, Round, Rounds, begin, next}
+use Rattle.liveness_laws.specs.Rounds.{NoWalks, Speaking, Listening, spoken, Underway, meanwhile, Round, Rounds, begin, next}
 use Rattle.network_laws.proofs.Demand3.Histories.{world-right, history-right, starts-right}
 use Rattle.liveness_laws.proofs.Rounds.Heard.{Mine}
 use Rattle.liveness_laws.proofs.Rounds.Entry.{Shown, hearing, next-entry, least}
-use Rattle.liveness_laws.proofs.Rounds.Arrivals.{GoodLinks, GoodLink}
-use Rattle.liveness_laws.proofs.Rounds.Worlds.{full-places, gain, flags, NodeGood, GoodWorld, speak-turn, listen-turn, some-l, flagsAfter, world-good}
+use Rattle.liveness_laws.proofs.Rounds.Believed.{Sent}
+use Rattle.liveness_laws.proofs.Host.State.{WalkAt}
+use Rattle.liveness_laws.proofs.Host.Flags.{own-gain, flagsAfter, flagsAll, all-stay, heard-on, reported-on}
+use Rattle.liveness_laws.proofs.Host.Turns.{HostOk}
+use Rattle.liveness_laws.proofs.Host.Start.{fresh-ok}
+use Rattle.liveness_laws.proofs.Rounds.Worlds.{GoodWorld, speak-turn, listen-turn, some-l, world-good}
 
 module _ (r : Network) (proper : Proper r) (ways : r .longest ≤ longestWay) (quick : r .longest ≤ quickWay) (c i : ℕ) (hc : c < r .nodes) (host : HostAt r i c) (few : (b : ℕ) → b < r .nodes → i < hostCount (r .settings b)) where
   -- ---- what was heard, along a list
@@ -62,125 +66,34 @@ module _ (r : Network) (proper : Proper r) (ways : r .longest ≤ longestWay) (q
     abbrev Good : (speaking : Bool) (m : ℕ) (s : ℕ → ℕ) (heard : ℕ → ℕ → Bool) → World → Type 0
     Good = GoodWorld r proper ways quick c i k hc host few
 
-    unfoldable pub after : (w : World) (x : Step) → (ℕ → ℕ → Bool) → ℕ → ℕ → Bool
-    after w x heard = flagsAfter r proper ways quick c i k hc host few w x heard
-
-    unfoldable pub flagsAll : (w : World) → List Step → (ℕ → ℕ → Bool) → ℕ → ℕ → Bool
-    flagsAll w [] heard = heard
-    flagsAll w (x ∷ xs) heard = flagsAll (step r w x) xs (after w x heard)
-
-    -- a link once heard stays so
-    hears-stay : (b j q : ℕ) (d : Bool) (heard : ℕ → Bool) → heard q ≡ true → cond d (hearing r c b j heard) heard q ≡ true
-    hears-stay b j q true heard on = either (λ (t : Bool). t ≡ true) (eqb q j) _ _ (λ _. refl) (λ _. on)
-    hears-stay b j q false heard on = on
-
-    flags-stay : (b q : ℕ) (call : NetworkCall) (d : Bool) (heard : ℕ → Bool) → heard q ≡ true → flags r c b call d heard q ≡ true
-    flags-stay b q (ticks n) d heard on = on
-    flags-stay b q seconds d heard on = on
-    flags-stay b q (reports n) d heard on = hears-stay b 0 q d heard on
-    flags-stay b q (sends j n buffer t) d heard on = on
-    flags-stay b q (arrives j n packet t) d heard on = hears-stay b j q d heard on
-    flags-stay b q (acts j n packet t) d heard on = hears-stay b j q d heard on
-    flags-stay b q (inspects j packet) d heard on = on
-    flags-stay b q (opens j packet) d heard on = on
-    flags-stay b q (steps n t) d heard on = on
-    flags-stay b q (adjusts _) d heard on = on
-    flags-stay b q (sets _ _) d heard on = on
-    flags-stay b q (clocks _) d heard on = on
-    flags-stay b q (looks _) d heard on = on
-
-    after-stay : (w : World) (x : Step) (heard : ℕ → ℕ → Bool) (b q : ℕ) → heard b q ≡ true → after w x heard b q ≡ true
-    unfolding after
-    after-stay w x heard b q on = either (λ (f : ℕ → Bool). f q ≡ true) (eqb (x .node) b) _ _ (λ _. flags-stay b q (x .call) (done (result r w x .reply .answer)) (heard b) on) (λ _. on)
-
-    all-stay : (w : World) (xs : List Step) (heard : ℕ → ℕ → Bool) (b q : ℕ) → heard b q ≡ true → flagsAll w xs heard b q ≡ true
-    unfolding flagsAll
-    all-stay w [] heard b q on = on
-    all-stay w (x ∷ xs) heard b q on = all-stay (step r w x) xs (after w x heard) b q (after-stay w x heard b q on)
-
-    here-on : (w : World) (x : Step) (heard : ℕ → ℕ → Bool) (b q : ℕ) → x .node ≡ b → flags r c b (x .call) (done (result r w x .reply .answer)) (heard b) q ≡ true → after w x heard b q ≡ true
-    unfolding after
-    here-on w x heard b q is on = rw (eq-eqb (x .node) b is) on
-
-    set-on : (b j q : ℕ) (heard : ℕ → Bool) → j ≡ q → hearing r c b j heard q ≡ true
-    set-on b j q heard same = rw (eq-eqb q j (sym same)) refl
-
-    now-heard : (w : World) (x : Step) (heard : ℕ → ℕ → Bool) (b j : ℕ) (call : NetworkCall) → HearsNow r w b j x call
-        → (x .node ≡ b) × (flags r c b call (done (result r w x .reply .answer)) (heard b) j ≡ true)
-    now-heard w x heard b j (ticks n) h = absurd h
-    now-heard w x heard b j seconds h = absurd h
-    now-heard w x heard b j (reports n) h = absurd h
-    now-heard w x heard b j (sends l n buffer t) h = absurd h
-    now-heard w x heard b j (arrives l n packet t) h = (h .0, rw (h .2) (set-on b l j (heard b) (h .1)))
-    now-heard w x heard b j (acts l n packet t) h = (h .0, rw (h .2) (set-on b l j (heard b) (h .1)))
-    now-heard w x heard b j (inspects l packet) h = absurd h
-    now-heard w x heard b j (opens l packet) h = absurd h
-    now-heard w x heard b j (steps n t) h = absurd h
-    now-heard w x heard b j (adjusts _) h = absurd h
-    now-heard w x heard b j (sets _ _) h = absurd h
-    now-heard w x heard b j (clocks _) h = absurd h
-    now-heard w x heard b j (looks _) h = absurd h
-
-    now-reported : (w : World) (x : Step) (heard : ℕ → ℕ → Bool) (b : ℕ) (call : NetworkCall) → ReportsNow r w b x call
-        → (x .node ≡ b) × (flags r c b call (done (result r w x .reply .answer)) (heard b) 0 ≡ true)
-    now-reported w x heard b (ticks n) h = absurd h
-    now-reported w x heard b seconds h = absurd h
-    now-reported w x heard b (reports n) h = (h .0, rw (h .1) refl)
-    now-reported w x heard b (sends l n buffer t) h = absurd h
-    now-reported w x heard b (arrives l n packet t) h = absurd h
-    now-reported w x heard b (acts l n packet t) h = absurd h
-    now-reported w x heard b (inspects l packet) h = absurd h
-    now-reported w x heard b (opens l packet) h = absurd h
-    now-reported w x heard b (steps n t) h = absurd h
-    now-reported w x heard b (adjusts _) h = absurd h
-    now-reported w x heard b (sets _ _) h = absurd h
-    now-reported w x heard b (clocks _) h = absurd h
-    now-reported w x heard b (looks _) h = absurd h
-
-    pub heard-on : (w : World) (xs : List Step) (heard : ℕ → ℕ → Bool) (b j : ℕ) → Heard r w b j xs → flagsAll w xs heard b j ≡ true
-    unfolding Heard flagsAll
-    heard-on w [] heard b j h = absurd h
-    heard-on w (x ∷ xs) heard b j (inl h) = let n = now-heard w x heard b j (x .call) h in all-stay (step r w x) xs (after w x heard) b j (here-on w x heard b j (n .0) (n .1))
-    heard-on w (x ∷ xs) heard b j (inr h) = heard-on (step r w x) xs (after w x heard) b j h
-
-    pub reported-on : (w : World) (xs : List Step) (heard : ℕ → ℕ → Bool) (b : ℕ) → Reported r w b xs → flagsAll w xs heard b 0 ≡ true
-    unfolding Reported flagsAll
-    reported-on w [] heard b h = absurd h
-    reported-on w (x ∷ xs) heard b (inl h) = let n = now-reported w x heard b (x .call) h in all-stay (step r w x) xs (after w x heard) b 0 (here-on w x heard b 0 (n .0) (n .1))
-    reported-on w (x ∷ xs) heard b (inr h) = reported-on (step r w x) xs (after w x heard) b h
-
     -- ---- the two halves of a round
 
     same-seconds : (speaking : Bool) (m : ℕ) (s t : ℕ → ℕ) (heard : ℕ → ℕ → Bool) → ((b : ℕ) → s b ≡ t b) → (w : World) → Good speaking m s heard w → Good speaking m t heard w
     same-seconds speaking m s t heard same w f =
-        record { nodes = λ b hb. subst (λ (q : ℕ). NodeGood r proper ways quick c i k hc host few speaking m b q (heard b) (w .state (r .number b))) (same b) (f .nodes b hb); mail = f .mail }
-
-    -- what a call of a host adds is within what the list adds
-    pub own-gain : (w : World) (x : Step) → gain (x .call) (result r w x) ≡ counts r w (x .node) x
-    own-gain w x = rw (eq-eqb (x .node) (x .node) refl) refl
+        record { nodes = λ b hb. subst (λ (q : ℕ). HostOk r c i k m b speaking (Sent r c i k b) q (heard b) (w .state (r .number b))) (same b) (f .nodes b hb); mail = f .mail }
 
     speak-list : (m : ℕ) (some : 1 ≤ m) (speaks : (k ≡ 0) ⊎ (m ≤ k)) (s : ℕ → ℕ) (heard : ℕ → ℕ → Bool) (w : World) (xs : List Step) → Allows r w xs → Speaking r w xs → RightWorld r w
-        → ((b : ℕ) → b < r .nodes → s b + secondsAt r w b xs ≤ roundSeconds) → Good true m s heard w → Good true m (λ b. s b + secondsAt r w b xs) (flagsAll w xs heard) (history r w xs)
-    unfolding Allows Speaking history secondsAt flagsAll after
+        → ((b : ℕ) → b < r .nodes → s b + secondsAt r w b xs ≤ roundSeconds) → Good true m s heard w → Good true m (λ b. s b + secondsAt r w b xs) (flagsAll r c w xs heard) (history r w xs)
+    unfolding Allows Speaking history secondsAt flagsAll
     speak-list m some speaks s heard w [] ok may right short f = same-seconds true m s (λ b. s b + 0) heard (λ b. omega arith) w f
     speak-list m some speaks s heard w (x ∷ xs) ok may right short f =
         let turn =
         speak-turn r proper ways quick c i k hc host few m w right (x .node) (ok .0 .node-in) (x .nets) (x .links) (x .copy) (x .entries) (s (x .node)) (heard (x .node)) (f .nodes (x .node) (ok .0 .node-in)) (f .mail) some speaks (x .call) (ok .0) (may .0)
-        (omega (arith, short (x .node) (ok .0 .node-in), own-gain w x)) in
+        (omega (arith, short (x .node) (ok .0 .node-in), own-gain r w x)) in
         same-seconds true m (λ b. (s b + counts r w b x) + secondsAt r (step r w x) b xs) (λ b. s b + (counts r w b x + secondsAt r (step r w x) b xs)) _ (λ b. omega arith) (history r (step r w x) xs)
-        (speak-list m some speaks (λ b. s b + counts r w b x) (flagsAfter r proper ways quick c i k hc host few w x heard) (step r w x) xs (ok .1) (may .1) (world-right r proper ways w x (ok .0) right)
+        (speak-list m some speaks (λ b. s b + counts r w b x) (flagsAfter r c w x heard) (step r w x) xs (ok .1) (may .1) (world-right r proper ways w x (ok .0) right)
         (λ b hb. omega (arith, short b hb)) (world-good r proper ways quick c i k hc host few true m some s heard w right x (ok .0) f turn))
 
     listen-list : (s : ℕ → ℕ) (heard : ℕ → ℕ → Bool) (w : World) (xs : List Step) → Allows r w xs → Listening xs → RightWorld r w
-        → ((b : ℕ) → b < r .nodes → s b + secondsAt r w b xs ≤ roundSeconds) → Good false (suc k) s heard w → Good false (suc k) (λ b. s b + secondsAt r w b xs) (flagsAll w xs heard) (history r w xs)
-    unfolding Allows Listening history secondsAt flagsAll after
+        → ((b : ℕ) → b < r .nodes → s b + secondsAt r w b xs ≤ roundSeconds) → Good false (suc k) s heard w → Good false (suc k) (λ b. s b + secondsAt r w b xs) (flagsAll r c w xs heard) (history r w xs)
+    unfolding Allows Listening history secondsAt flagsAll
     listen-list s heard w [] ok may right short f = same-seconds false (suc k) s (λ b. s b + 0) heard (λ b. omega arith) w f
     listen-list s heard w (x ∷ xs) ok may right short f =
         let turn =
         listen-turn r proper ways quick c i k hc host few w right (x .node) (ok .0 .node-in) (x .nets) (x .links) (x .copy) (x .entries) (s (x .node)) (heard (x .node)) (f .nodes (x .node) (ok .0 .node-in)) (f .mail) (x .call) (ok .0) (may .0)
-        (omega (arith, short (x .node) (ok .0 .node-in), own-gain w x)) in
+        (omega (arith, short (x .node) (ok .0 .node-in), own-gain r w x)) in
         same-seconds false (suc k) (λ b. (s b + counts r w b x) + secondsAt r (step r w x) b xs) (λ b. s b + (counts r w b x + secondsAt r (step r w x) b xs)) _ (λ b. omega arith) (history r (step r w x) xs)
-        (listen-list (λ b. s b + counts r w b x) (flagsAfter r proper ways quick c i k hc host few w x heard) (step r w x) xs (ok .1) (may .1) (world-right r proper ways w x (ok .0) right)
+        (listen-list (λ b. s b + counts r w b x) (flagsAfter r c w x heard) (step r w x) xs (ok .1) (may .1) (world-right r proper ways w x (ok .0) right)
         (λ b hb. omega (arith, short b hb)) (world-good r proper ways quick c i k hc host few false (suc k)
         (some-l r proper ways quick c i k hc host few w right (x .node) (ok .0 .node-in) (x .nets) (x .links) (x .copy) (x .entries) (s (x .node)) (heard (x .node)) (f .nodes (x .node) (ok .0 .node-in)) (f .mail)) s heard w right x (ok .0) f turn))
 
@@ -192,13 +105,14 @@ module _ (r : Network) (proper : Proper r) (ways : r .longest ≤ longestWay) (q
               λ b hb.
               let g = f .nodes b hb in
               record {
-                shut = g .shut;
                 room = g .room;
                 long = g .long;
-                links = λ j a n cord. record { quiet = λ no. absurd (false≢true no); known = g .links j a n cord .known };
-                table =
-                    all-weaken (λ (id : ℕ) (e : Entry). id ≡ i → Mine r c b k m (s b) (heard b) e) (λ (id : ℕ) (e : Entry). id ≡ i → Mine r c b k (suc k) (s b) (heard b) e)
-                    (λ id e h same. wider b e (h same)) (take (hostCount (r .settings b)) (w .state (r .number b) .places)) (g .table);
+                mine = wider b (entryOf r w b i) (g .mine);
+                links = λ j a n cord. let o = g .links j a n cord in record { quiet = λ no. absurd (false≢true no); spoke = o .spoke; known = o .known; met = o .met };
+                waits = λ no. absurd (false≢true no);
+                walk =
+                    λ opened.
+                    subst (WalkAt r c i k (suc k) b (s b) (heard b) (Sent r c i k b) (entryOf r w b i) (afterAt r w b .walk) (packetOf (afterAt r w b .walk) (afterAt r w b .copy)) (afterAt r w b .links)) (sym (g .waits refl opened)) tt;
               };
           mail = f .mail;
         }
@@ -219,21 +133,20 @@ module _ (r : Network) (proper : Proper r) (ways : r .longest ≤ longestWay) (q
             }
 
     -- the end of a round: every link was heard, and every host reported
-    ends : (s : ℕ → ℕ) (heard : ℕ → ℕ → Bool) (w : World) → ((b : ℕ) → b < r .nodes → s b ≤ roundSeconds) → ((b j a n : ℕ) → r .cable b j ≡ at a n → heard b j ≡ true) → ((b : ℕ) → b < r .nodes → heard b 0 ≡ true)
+    ends : (s : ℕ → ℕ) (heard : ℕ → ℕ → Bool) (w : World) → NoWalks r w → ((b : ℕ) → b < r .nodes → s b ≤ roundSeconds) → ((b j a n : ℕ) → r .cable b j ≡ at a n → heard b j ≡ true) → ((b : ℕ) → b < r .nodes → heard b 0 ≡ true)
         → Good false (suc k) s heard w → GoodWorld r proper ways quick c i (suc k) hc host few true (suc k) (λ b. 0) (λ b q. false) (emptied w)
-    ends s heard w short all own-too f =
+    ends s heard w over short all own-too f =
         record {
           nodes =
               λ b hb.
               let g = f .nodes b hb in
               record {
-                shut = g .shut;
                 room = g .room;
                 long = g .long;
-                links = λ j a n cord. record { quiet = λ _ no. absurd (omega arith); known = λ _. g .links j a n cord .known (inr (all b j a n cord)) };
-                table =
-                    all-weaken (λ (id : ℕ) (e : Entry). id ≡ i → Mine r c b k (suc k) (s b) (heard b) e) (λ (id : ℕ) (e : Entry). id ≡ i → Mine r c b (suc k) (suc k) 0 (λ q. false) e)
-                    (λ id e h same. later b hb e (h same)) (take (hostCount (r .settings b)) (w .state (r .number b) .places)) (g .table);
+                mine = later b hb (entryOf r w b i) (g .mine);
+                links = λ j a n cord. let o = g .links j a n cord in record { quiet = λ _ no. absurd (omega arith); spoke = o .spoke; known = λ _. o .known (inr (all b j a n cord)); met = o .met };
+                waits = λ _ opened. absurd (true≢false (sym opened ∙ over b hb));
+                walk = λ opened. absurd (true≢false (sym opened ∙ over b hb));
               };
           mail = λ q y. absurd (List·Memᴰ·not-nil y);
         }
@@ -252,72 +165,9 @@ module _ (r : Network) (proper : Proper r) (ways : r .longest ≤ longestWay) (q
             pid-on h (own z) = ap (heard b) z ∙ own-too b hb
             pid-on h (by {a} {l} z way) = all b (e .pid) a l z
 
-  -- ---- the beginning
-
-  pub initialized-good : EverySlot r → (b : ℕ) → b < r .nodes
-      → NodeGood r proper ways quick c i 0 hc host few true 1 b 0 (λ q. false) (afterOutcome (r .number b) [] (initialized r b))
-  unfolding initialize freshLinks freshEntry
-  initialized-good slots b hb =
-      performs (ask Initialize) x (λ (o : Outcome). o .reply .answer ≡ Done → NodeGood r proper ways quick c i 0 hc host few true 1 b 0 (λ q. false) (afterOutcome (r .number b) [] o))
-      (λ no is. absurd (false≢true (sym no ∙ ap done is)))
-      (λ e _.
-      let held = there (ask Initialize) x e in
-      record {
-        shut = refl;
-        room = omega (arith, length-map (r .settings b .links) freshLink, slots b hb);
-        links =
-            λ j a n cord.
-            record {
-              quiet = λ _ _. all-at (λ (q : ℕ) (y : Link). y .«keep_alive» ≡ 0) (freshLink unset) (λ _. refl) (map freshLink (r .settings b .links)) (all-made (λ (q : ℕ) (y : Link). y .«keep_alive» ≡ 0) freshLink (λ _ _. refl) (r .settings b .links)) _;
-              known = λ w. elim w [ inl z ↦ absurd (omega arith) | inr z ↦ absurd (false≢true z) ];
-            };
-        long =
-            either (λ (l : List Entry). hostCount (r .settings b) ≤ length l) (ltb (length new-run) (firstPlace (r .number b) + placesPerHost)) _ _
-            (λ z. absurd (omega (arith, ltb-true (length new-run) (firstPlace (r .number b) + placesPerHost) z, held, written-kept x (changes (each (r .settings b) Fresh) (entriesOf x)) held (changes-length (each (r .settings b) Fresh) (entriesOf x)) .same-length)))
-            (λ z. full-places (r .settings b) (r .number b) new-run (ltb-false (length new-run) (firstPlace (r .number b) + placesPerHost) z));
-        table =
-            either (λ (l : List Entry). All P (take (hostCount (r .settings b)) l)) (ltb (length new-run) (firstPlace (r .number b) + placesPerHost)) _ _ (λ _. subst (All P) (sym (take-nil (hostCount (r .settings b)))) tt)
-            (λ _.
-            subst (All P) (entries-first (r .settings b) (r .number b) new-run)
-            (subst (All P) (sym (written-back x (changes (each (r .settings b) Fresh) (entriesOf x)) held (changes-length (each (r .settings b) Fresh) (entriesOf x))))
-            (rw (changes-each (hostCount (r .settings b)) Fresh (r .settings b .marks) (entriesOf x) (omega (arith, entries-length (r .settings b) (r .number b) (r .entries b) held)))
-            (all-counted (λ _ _. Unit {0}) P 0 (changed (r .settings b .marks) Fresh) (entriesOf x) (λ j _ _ _ same. fresh-mine _)
-            (all-any (λ _ _. Unit {0}) (λ _ _. tt) (entriesOf x))))));
-      })
-      (proper .was-initialized b hb)
-    where
-      x : CallState
-      x = stateAt r b (r .nets b) (r .clock b) (r .links b) (r .walk b) (r .copy b) (r .entries b)
-
-      new-run : List Entry
-      new-run = withEntries (r .number b) (changes (each (r .settings b) Fresh) (entriesOf x)) (r .entries b)
-
-      P : ℕ → Entry → Type 0
-      P id e = id ≡ i → Mine r c b 0 1 0 (λ q. false) e
-
-      fresh-mine : (n : ℕ) → Mine r c b 0 1 0 (λ q. false) (withMark n freshEntry)
-      fresh-mine n =
-          record {
-            steady =
-                record {
-                  sound = λ t. absurd (false≢true t);
-                  complete = λ h way less short. absurd (omega arith);
-                  rests = λ _. refl;
-                  lasts = λ t. absurd (false≢true t);
-                  lasts-on = λ t. absurd (false≢true t);
-                };
-            hears = λ j a l cord no. absurd (false≢true no);
-            home = λ no. absurd (false≢true no);
-          }
-
   -- the entry of id i in a good world
   pub mine-at : (speaking : Bool) (k m : ℕ) (s : ℕ → ℕ) (heard : ℕ → ℕ → Bool) (u : World) → Good k speaking m s heard u → (b : ℕ) → b < r .nodes → Mine r c b k m (s b) (heard b) (entryOf r u b i)
-  mine-at speaking k m s heard u good b hb =
-      let places = u .state (r .number b) .places in
-      let n = hostCount (r .settings b) in
-      let g = good .nodes b hb in
-      subst (Mine r c b k m (s b) (heard b)) (getD-take n places i freshEntry (few b hb))
-      (all-there (λ (id : ℕ) (e : Entry). id ≡ i → Mine r c b k m (s b) (heard b) e) freshEntry (take n places) (g .table) i (omega (arith, few b hb, g .long, length-take n places)) refl)
+  mine-at speaking k m s heard u good b hb = good .nodes b hb .mine
 
   -- ---- rounds
 
@@ -337,12 +187,12 @@ module _ (r : Network) (proper : Proper r) (ways : r .longest ≤ longestWay) (q
   right-then w xs ys e right = history-right r proper ways (emptied w) xs (e .allowed) (emptied-right w right)
 
   pub meanwhile-good : (k : ℕ) (w : World) (xs ys : List Step) → Underway r w xs ys → Ready k w
-      → Good k false (suc k) (λ b. 0 + secondsAt r (emptied w) b xs + secondsAt r (spoken r w xs) b ys) (flagsAll k (spoken r w xs) ys (flagsAll k (emptied w) xs (λ b q. false))) (meanwhile r w xs ys)
+      → Good k false (suc k) (λ b. 0 + secondsAt r (emptied w) b xs + secondsAt r (spoken r w xs) b ys) (flagsAll r c (spoken r w xs) ys (flagsAll r c (emptied w) xs (λ b q. false))) (meanwhile r w xs ys)
   meanwhile-good k w xs ys e g =
       let right = emptied-right w (g .right) in
       let said =
       speak-list k (g .m) (g .some) (g .speaks) (λ b. 0) (λ b q. false) (emptied w) xs (e .allowed) (e .speak) right (λ b hb. omega (arith, e .short b hb)) (g .good) in
-      listen-list k (λ b. 0 + secondsAt r (emptied w) b xs) (flagsAll k (emptied w) xs (λ b q. false)) (spoken r w xs) ys (e .allowed-then) (e .listen) (right-then w xs ys e (g .right)) (λ b hb. omega (arith, e .short b hb)) (turns k (g .m) (g .less) _ _ (spoken r w xs) said)
+      listen-list k (λ b. 0 + secondsAt r (emptied w) b xs) (flagsAll r c (emptied w) xs (λ b q. false)) (spoken r w xs) ys (e .allowed-then) (e .listen) (right-then w xs ys e (g .right)) (λ b hb. omega (arith, e .short b hb)) (turns k (g .m) (g .less) _ _ (spoken r w xs) said)
 
   one-round : (k : ℕ) (w : World) (xs ys : List Step) → Round r w xs ys → Ready k w → Ready (suc k) (history r (spoken r w xs) ys)
   one-round k w xs ys e g =
@@ -354,12 +204,12 @@ module _ (r : Network) (proper : Proper r) (ways : r .longest ≤ longestWay) (q
         less = omega arith;
         speaks = inr (omega arith);
         good =
-            ends k _ (flagsAll k (spoken r w xs) ys (flagsAll k (emptied w) xs (λ b q. false))) (history r (spoken r w xs) ys) (λ b hb. omega (arith, e .underway .short b hb))
-            (λ b j a n cord. heard-on k (spoken r w xs) ys (flagsAll k (emptied w) xs (λ b q. false)) b j (e .heard b j a n cord))
+            ends k _ (flagsAll r c (spoken r w xs) ys (flagsAll r c (emptied w) xs (λ b q. false))) (history r (spoken r w xs) ys) (e .over) (λ b hb. omega (arith, e .underway .short b hb))
+            (λ b j a n cord. heard-on r c (spoken r w xs) ys (flagsAll r c (emptied w) xs (λ b q. false)) b j (e .heard b j a n cord))
             (λ b hb.
             elim (e .reported b hb) [
-              | inl z ↦ all-stay k (spoken r w xs) ys (flagsAll k (emptied w) xs (λ b q. false)) b 0 (reported-on k (emptied w) xs (λ b q. false) b z)
-              | inr z ↦ reported-on k (spoken r w xs) ys (flagsAll k (emptied w) xs (λ b q. false)) b z
+              | inl z ↦ all-stay r c (spoken r w xs) ys (flagsAll r c (emptied w) xs (λ b q. false)) b 0 (reported-on r c (emptied w) xs (λ b q. false) b z)
+              | inr z ↦ reported-on r c (spoken r w xs) ys (flagsAll r c (emptied w) xs (λ b q. false)) b z
             ])
             heard;
       }
@@ -405,7 +255,10 @@ module _ (r : Network) (proper : Proper r) (quick : r .longest ≤ quickWay) (sl
         speaks = inl refl;
         good =
             record {
-              nodes = λ a ha. subst (NodeGood r proper ways quick c i 0 hc host sized true 1 a 0 (λ q. false)) (sym (start .was-initialized a ha)) (initialized-good r proper ways quick c i hc host sized slots a ha);
+              nodes =
+                  λ a ha.
+                  subst (HostOk r c i 0 1 a true (Sent r c i 0 a) 0 (λ q. false)) (sym (start .was-initialized a ha))
+                  (fresh-ok r proper c i 1 a true (Sent r c i 0 a) (slots a ha) (sized a ha) (proper .was-initialized a ha) .0);
               mail = λ q y. absurd (List·Memᴰ·not-nil y);
             };
       }
@@ -467,7 +320,7 @@ module _ (r : Network) (proper : Proper r) (quick : r .longest ≤ quickWay) (sl
     right-u = meanwhile-right r proper ways v xs ys e right-v
 
     abbrev heard-now : (c : ℕ) → c < r .nodes → HostAt r i c → ℕ → Bool
-    heard-now c hc host = flagsAll r proper ways quick c i hc host sized (suc k) (spoken r v xs) ys (flagsAll r proper ways quick c i hc host sized (suc k) (emptied v) xs (λ b q. false)) b
+    heard-now c hc host = flagsAll r c (spoken r v xs) ys (flagsAll r c (emptied v) xs (λ b q. false)) b
 
     mine-u : (c : ℕ) (hc : c < r .nodes) (host : HostAt r i c) → Mine r c b (suc k) (suc (suc k)) (0 + secondsAt r (emptied v) b xs + secondsAt r (spoken r v xs) b ys) (heard-now c hc host) (entryOf r (meanwhile r v xs ys) b i)
     mine-u c hc host = mine-at r proper ways quick c i hc host sized false (suc k) (suc (suc k)) _ _ (meanwhile r v xs ys) (meanwhile-good r proper ways quick c i hc host sized (suc k) v xs ys e (last c hc host)) b hb

@@ -57,50 +57,23 @@ use Rattle.liveness_laws.specs.Hops.{Hops}
 use Rattle.liveness_laws.proofs.Rounds.Heard.{Mine}
 use Rattle.liveness_laws.proofs.Rounds.Entry.{said-entry}
 use Rattle.liveness_laws.proofs.Rounds.Entry as steady
-use Rattle.liveness_laws.proofs.Rounds.Arrivals.{GoodLink, GoodLinks, State-in, After-so}
+use Rattle.liveness_laws.proofs.Links.{learns, same-room, sent-links}
+use Rattle.liveness_laws.proofs.Host.State.{Before, After, same-entries, unchanged}
 
 abbrev noReport : Report
 noReport = record { delay = maxDelay; offset = word (pos 0) }
 
-module _ (r : Network) (proper : Proper r) (c i k m b s : ℕ) (heard : ℕ → Bool) (inside : b < r .nodes) (few : i < hostCount (r .settings b)) (speaks : (k ≡ 0) ⊎ (m ≤ k))
-    (nets : NetTable) (cl : Clock) (l : Links) (walk : Walk) (copy : List ℕ) (entries : List Entry) (callState : State-in r proper c i k b true m s heard l entries) (link : ℕ) (κ : Counter) where
+module _ (r : Network) (proper : Proper r) (c i k m b s : ℕ) (heard : ℕ → Bool) (Taken : Entry → (link : ℕ) → (octets : List ℕ) → Type 0) (Rest : Entry → Type 0) (inside : b < r .nodes) (few : i < hostCount (r .settings b)) (speaks : (k ≡ 0) ⊎ (m ≤ k))
+    (nets : NetTable) (cl : Clock) (l : Links) (walk : Walk) (copy : List ℕ) (entries : List Entry) (e : Entry) (callState : Before r c i k m b true Taken Rest s heard walk copy l entries e) (link : ℕ) (κ : Counter) where
   abbrev x : CallState
   x = stateAt r b nets cl l walk copy entries
 
   abbrev y : Link
   y = linkOf l link
 
-  -- ---- the link: KEEP-ALIVE falls
-
-  sent-links : noLink (r .settings b) link ≡ false → GoodLinks r k true heard b (withLink link (linkSent y) l)
-  sent-links has q d n cord = go (eqb q link) refl
-    where
-      g : GoodLink r k true (heard q) d (linkOf l q)
-      g = callState .links q d n cord
-
-      go : (t : Bool) → eqb q link ≡ t → GoodLink r k true (heard q) d (linkOf (withLink link (linkSent y) l) q)
-      go true e =
-          let is = eqb-true q link e in
-          let there : getD (withLink link (linkSent y) l .all) (q - 1) (freshLink unset) ≡ linkSent y =
-          ap (λ (t : ℕ). getD (withLink link (linkSent y) l .all) (t - 1) (freshLink unset)) is ∙ getD-set-same (l .all) (link - 1) (linkSent y) (freshLink unset) (omega (arith, counted (r .settings b) link has .at-place, callState .room)) in
-          let same : linkOf l q ≡ y = ap (linkOf l) is in
-          record {
-            quiet = λ on zero. let z : y .«keep_alive» ≡ 0 = ap (λ (w : Link). w .«keep_alive») (sym same) ∙ g .quiet on zero in ap (λ (w : Link). w .«keep_alive») there ∙ omega (arith, z);
-            known = λ w. ap (λ (v : Link). v .neighbor) there ∙ ap (λ (v : Link). v .neighbor) (sym same) ∙ g .known w;
-          }
-      go false e =
-          let other = eqb-false q link e in
-          let from = counted (r .settings b) q (proper .cables b q d n cord .link-in) .from-one in
-          let from′ = counted (r .settings b) link has .from-one in
-          let there : getD (withLink link (linkSent y) l .all) (q - 1) (freshLink unset) ≡ linkOf l q = getD-set-other (l .all) (link - 1) (q - 1) (linkSent y) (freshLink unset) (λ z. other (omega (arith, z, from, from′))) in
-          record {
-            quiet = λ on zero. ap (λ (w : Link). w .«keep_alive») there ∙ g .quiet on zero;
-            known = λ w. ap (λ (v : Link). v .neighbor) there ∙ g .known w;
-          }
-
   -- ---- the message, to the host at the other end
 
-  module _ (held : Holds (r .number b) entries) (ranged : All (λ (id : ℕ) (e : Entry). entryInRange e ≡ true) (entriesOf x)) (d n : ℕ) (cord : r .cable b link ≡ at d n) where
+  module _ (held : Holds (r .number b) entries) (ranged : All (λ (id : ℕ) (z : Entry). entryInRange z ≡ true) (entriesOf x)) (d n : ℕ) (cord : r .cable b link ≡ at d n) where
     abbrev octets : List ℕ
     octets = sentMessage x held link κ
 
@@ -126,15 +99,15 @@ module _ (r : Network) (proper : Proper r) (c i k m b s : ℕ) (heard : ℕ → 
     later word-is = go k refl
       where
         go : (q : ℕ) → k ≡ q → 1 ≤ q
-        go zero e =
-            let z = callState .links link d n cord .quiet refl e in
+        go zero first =
+            let z = callState .good .links link d n cord .quiet refl first in
             let none : sentTsp y (ourReading κ (x .host) .time) ≡ word (pos 0) = rw (eq-eqb (y .«keep_alive») 0 z) in
             absurd (true≢false (sym (ap zeroWord (tsp-is ∙ none)) ∙ word-is))
-        go (suc q) e = omega arith
+        go (suc q) first = omega arith
 
     module _ (some : 1 ≤ k) where
       neighbor-is : y .neighbor ≡ r .settings d .address
-      neighbor-is = callState .links link d n cord .known (inl some)
+      neighbor-is = callState .good .links link d n cord .known (inl some)
 
       goes : tableGoes (r .settings b) y ≡ true
       goes =
@@ -159,24 +132,24 @@ module _ (r : Network) (proper : Proper r) (c i k m b s : ℕ) (heard : ℕ → 
         pub high : up (p .delay .0) < 65536
         pub says : id ≡ i → steady.Report r c d k b (up (p .delay .0))
 
-      returned : (id : ℕ) (e : Entry) → (id ≡ i → Mine r c b k m s heard e) × (entryInRange e ≡ true) → Returned id (advertised link e)
+      returned : (id : ℕ) (z : Entry) → (id ≡ i → z ≡ e) × (entryInRange z ≡ true) → Returned id (advertised link z)
       unfolding advertised
-      returned id e h =
-          let ranges = range-says e (h .1) .delay in
+      returned id z h =
+          let ranges = range-says z (h .1) .delay in
           record {
-            low = either (λ (q : Millis). dn (q .0) ≤ 0) (eqb (e .pid) link) _ _ (λ _. omega arith) (λ _. omega (arith, ranges));
-            high = either (λ (q : Millis). up (q .0) < 65536) (eqb (e .pid) link) _ _ (λ _. omega arith) (λ _. omega (arith, ranges));
+            low = either (λ (q : Millis). dn (q .0) ≤ 0) (eqb (z .pid) link) _ _ (λ _. omega arith) (λ _. omega (arith, ranges));
+            high = either (λ (q : Millis). up (q .0) < 65536) (eqb (z .pid) link) _ _ (λ _. omega arith) (λ _. omega (arith, ranges));
             says =
                 λ same.
-                let said = said-entry r c b k m s heard e below (h .0 same .steady) link d n from-1 cord (omega (arith, ranges)) (omega (arith, ranges)) in
-                record { sound = λ z. said .0 (up (advertised link e .delay .0)) refl z; complete = said .1 };
+                let said = said-entry r c b k m s heard z below (subst (Mine r c b k m s heard) (sym (h .0 same)) (callState .good .mine) .steady) link d n from-1 cord (omega (arith, ranges)) (omega (arith, ranges)) in
+                record { sound = λ low. said .0 (up (advertised link z .delay .0)) refl low; complete = said .1 };
           }
 
       says-so : steady.Report r c d k b (up (reportAt (helloOf octets) i .delay .0))
       says-so =
           let es : All Returned (map (advertised link) (entriesOf x)) =
-          all-map (λ (id : ℕ) (e : Entry). (id ≡ i → Mine r c b k m s heard e) × (entryInRange e ≡ true)) Returned (advertised link) (entriesOf x) (λ id e _. returned id e)
-          (all-both (λ (id : ℕ) (e : Entry). id ≡ i → Mine r c b k m s heard e) (λ (id : ℕ) (e : Entry). entryInRange e ≡ true) (entriesOf x) (callState .table held) ranged) in
+          all-map (λ (id : ℕ) (z : Entry). (id ≡ i → z ≡ e) × (entryInRange z ≡ true)) Returned (advertised link) (entriesOf x) (λ id z _. returned id z)
+          (all-both (λ (id : ℕ) (z : Entry). id ≡ i → z ≡ e) (λ (id : ℕ) (z : Entry). entryInRange z ≡ true) (entriesOf x) (callState .table held) ranged) in
           let all : All Returned (reports x held link) = rw goes es in
           let there : i < length (reports x held link) = omega (arith, size, few) in
           let t = all-there Returned noReport (reports x held link) all i there in
@@ -187,22 +160,32 @@ module _ (r : Network) (proper : Proper r) (c i k m b s : ℕ) (heard : ℕ → 
         → (1 ≤ k) × (eqb (fields (messageOf o) .nhosts) 0 ≡ false) × steady.Report r c d k b (up (reportAt (helloOf (messageOf o)) i .delay .0))
 
   pub record Sent (o : Outcome) : Type 0 where
-    pub left : After-so r proper c i k b true m s heard entries (o .links) (o .entries)
+    pub left : After r c i k m b true Taken Rest s heard entries (o .walk) (o .copy) (o .links) (o .entries)
     pub message : done (o .reply .answer) ≡ true → Says o
 
   pub send-good : (buffer : List ℕ) → Sent (perform (Call.send link κ buffer) x)
   send-good buffer =
       performs (Call.send link κ buffer) x Sent
       (λ no. record { left = same; message = λ is. absurd (false≢true (sym no ∙ is)) })
-      (λ e.
-      let ok = passed (OnLink link) x e in
+      (λ g.
+      let ok = passed (OnLink link) x g in
       let held = holds (r .number b) entries (ok .places) in
       let has = ok .link link refl in
       either (λ (q : Sending). Sent (sentBy q buffer x)) (ltb (length buffer) (packetLength (reportCount (r .settings b) y))) _ _
       (λ _. record { left = same; message = λ z. absurd (false≢true z) })
       (λ _.
       record {
-        left = record { room = omega (arith, length-set (l .all) (link - 1) (linkSent y), callState .room); links = sent-links has; table = callState .table; same-length = refl };
+        left =
+            same-entries r c i k m b true Taken Rest s heard walk copy (withLink link (linkSent y) l) entries e (same-room r proper k b true l (callState .room) link has (linkSent y))
+            (let o = callState .good in
+            record {
+              mine = o .mine;
+              rest = o .rest;
+              links = sent-links r proper k b true l (callState .room) link has (learns walk) heard e (o .links);
+              waits = o .waits;
+              walk = λ opened. absurd (true≢false (sym opened ∙ ok .closed));
+            })
+            (callState .table);
         message =
             λ _.
             record {
@@ -218,5 +201,5 @@ module _ (r : Network) (proper : Proper r) (c i k m b s : ℕ) (heard : ℕ → 
             };
       }))
     where
-      same : After-so r proper c i k b true m s heard entries l entries
-      same = record { room = callState .room; links = callState .links; table = callState .table; same-length = refl }
+      same : After r c i k m b true Taken Rest s heard entries walk copy l entries
+      same = unchanged r c i k m b true Taken Rest s heard walk copy l entries e callState

@@ -2,13 +2,13 @@
 use mathlib.Core.Path.{_≡_, refl, sym, ap, subst, _∙_}
 use mathlib.Core.Bool.{Bool, true, false, true≢false, false≢true, cond}
 use mathlib.Core.List.{List, [], _∷_, _++_, append-nil}
-use Prim.Native.Nat.{ℕ, suc, _+_, _-_, _≤_, _<_}
+use Prim.Native.Nat.{ℕ, zero, suc, _+_, _-_, _≤_, _<_}
 use native.Mathlib.Omega.{arith}
 use borrow.Author.Tests.{eqb-true, eq-eqb}
 use lib.Dec.{eqb}
 use lib.ListN.{length, getD, take, drop, drop-of-length-le}
-use lib.Seq.{take-all}
-use Rattle.lists.specs.Lists.{part}
+use lib.Seq.{take-all, drop-nil}
+use Rattle.lists.specs.Lists.{part, over}
 use Rattle.lists.proofs.Tests.{either}
 use Rattle.quantity.specs.declared.Millis.{Millis}
 use Rattle.quantity.specs.Quantity.{lessMillis}
@@ -17,7 +17,7 @@ use Rattle.clock.specs.declared.Counter.{Counter}
 use Rattle.table.specs.declared.Entry.{Entry}
 use Rattle.table.specs.declared.Updated.{Updated}
 use Rattle.table.specs.declared.entries.Change.{Change}
-use Rattle.table.specs.declared.entries.Change.the-variants.{Aged, Reported}
+use Rattle.table.specs.declared.entries.Change.the-variants.{Aged, Reported, Put}
 use Rattle.table.specs.declared.entries.Updates.{Updates}
 use Rattle.table.specs.Entry.{freshEntry, livesHere, asMarked, maxDelay, aged}
 use Rattle.table.specs.Marks.{mark}
@@ -28,7 +28,8 @@ use Rattle.table.specs.Update.{reportedHere, selfReported, update, settled, lin
 use Rattle.table.specs.Forms.{Stage, on, end}
 use Rattle.table.proofs.Sweeps.{sweep-length}
 use Rattle.network_laws.specs.Network.{Network, at, HostAt, Proper}
-use Rattle.network_laws.proofs.Lists.{All, all-counted, all-both, each-all}
+use Rattle.host.specs.Effect.{one}
+use Rattle.network_laws.proofs.Lists.{All, all-counted, all-both, all-weaken, each-all}
 use Rattle.liveness_laws.specs.Numbers.{roundSeconds}
 use Rattle.liveness_laws.proofs.Rounds.Heard.{Mine, mine-aged, mine-reported, mine-away}
 use Rattle.liveness_laws.proofs.Rounds.Entry.{hearing}
@@ -66,6 +67,22 @@ updated-entry w packet id d e = go (lines (updateAt w (id - w .base) packet) e)
     go : (x : Stage Entry) → settled (eqb (id - w .base) (w .«clock_host»)) (w .«hold_interval») (w .count) (w .date) (updateAt w (id - w .base) packet) d x .entry ≡ left x
     go (on y) = refl
     go (end y) = refl
+
+-- one entry replaced
+over-turns : (P Q : ℕ → Entry → Type 0) (n : ℕ) (y : Entry) → ((id : ℕ) (e : Entry) → (id ≡ n → ⊥) → P id e → Q id e) → Q n y
+    → (es : List Entry) → All P es → All Q (over es n (mapFrom 0 (λ (q : ℕ) (e : Entry). y) (take 1 (drop n es))))
+over-turns P Q zero y others here [] t = tt
+over-turns P Q zero y others here (e ∷ es) t = (here, all-weaken (λ (q : ℕ). P (suc q)) (λ (q : ℕ). Q (suc q)) (λ q z p. others (suc q) z (λ v. omega (arith, v)) p) es (t .1))
+over-turns P Q (suc n) y others here [] t = rw (drop-nil (suc n + 0)) tt
+over-turns P Q (suc n) y others here (e ∷ es) t =
+    let next : suc n + length (mapFrom 0 (λ (q : ℕ) (z : Entry). y) (take 1 (drop n es))) ≡ suc (n + length (mapFrom 0 (λ (q : ℕ) (z : Entry). y) (take 1 (drop n es)))) = omega arith in
+    rw next
+    (others 0 e (λ v. omega (arith, v)) (t .0), over-turns (λ (q : ℕ). P (suc q)) (λ (q : ℕ). Q (suc q)) n y (λ id z not. others (suc id) z (λ v. not (omega (arith, v)))) here es (t .1))
+
+pub put-turn : (P Q : ℕ → Entry → Type 0) (n : ℕ) (y : Entry) → ((id : ℕ) (e : Entry) → (id ≡ n → ⊥) → P id e → Q id e) → Q n y
+    → (es : List Entry) → All P es → All Q (changes (one n (Put y)) es)
+unfolding changes
+put-turn P Q n y others here es t = let single : n + 1 - n ≡ 1 = omega arith in rw single (over-turns P Q n y others here es t)
 
 -- ---- a second, and a self-report
 
