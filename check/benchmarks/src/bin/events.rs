@@ -5,13 +5,16 @@
 //! every 5 s and reports itself every 10 s; a message arrives before the next second; crystals tick
 //! every 66 s. Hosts are set afresh before each turn, which is not timed. Both ways must end alike.
 
+#[path = "../figures.rs"]
+#[allow(dead_code)]
+mod figures;
+
+use figures::{print_load, rounds};
 use hello::bench_file::{End, Event, File, MOST_EVENTS, MOST_HOSTS, SLOTS};
 use hello::{Address, Bench, ClassTable, Clock, Counter, Entry, Layout, Links, Settings, State};
 use hello::{Walk, LONGEST_MESSAGE, PLACES, UNITS_PER_MS};
 use std::hint::black_box;
 use std::time::Instant;
-
-const TURNS: usize = 201;
 
 const LAYOUT: Layout = Layout {
     address_offset: 1,
@@ -245,12 +248,12 @@ struct Times {
 }
 
 /// The microseconds of a run by the bench and by calls, in turns.
-fn measure(ids: Ids) -> Times {
+fn measure(ids: Ids, turns: usize) -> Times {
     let file = exercise(ids);
     let mut bench = Bench::new(file.octets().unwrap(), ClassTable::new(PLACES));
     let mut caller = Caller::new(file);
     let mut times = [Vec::new(), Vec::new()];
-    for _ in 0..TURNS {
+    for _ in 0..turns {
         assert_eq!(bench.set_up(), Ok(()));
         caller.set_up();
         times[0].push(time(|| {
@@ -264,18 +267,20 @@ fn measure(ids: Ids) -> Times {
         .for_each(|times| times.sort_by(f64::total_cmp));
     Times {
         quickest: times.each_ref().map(|times| times[0]),
-        median: times.each_ref().map(|times| times[TURNS / 2]),
+        median: times.each_ref().map(|times| times[turns / 2]),
     }
 }
 
 fn main() {
-    println!("Of {TURNS} turns, microseconds for 2,048 events.\n");
+    let turns = rounds(201);
+    print_load("before");
+    println!("Of {turns} turns, microseconds for 2,048 events.\n");
     println!(
         "{:<32} {:>10} {:>10} {:>7}",
         "ids that live there", "bench", "calls", "ratio"
     );
     for (name, ids) in [("16, each host's own", Ids::Own), ("all 255", Ids::All)] {
-        let Times { quickest, median } = measure(ids);
+        let Times { quickest, median } = measure(ids, turns);
         for (which, [bench, calls]) in [("quickest", quickest), ("median", median)] {
             println!(
                 "{:<32} {bench:>10.1} {calls:>10.1} {:>7.2}",
@@ -284,4 +289,5 @@ fn main() {
             );
         }
     }
+    print_load("after");
 }

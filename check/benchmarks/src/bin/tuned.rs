@@ -153,6 +153,20 @@ fn growth(at_64: Times, at_255: Times) -> f64 {
     (at_255.quickest - at_64.quickest) / (255.0 - 64.0)
 }
 
+/// Reads 6,144 octets from the first-level cache, sixteen words at a time.
+fn read_octets(count: u32) {
+    let words = vec![1u64; 6_144 / 8];
+    for _ in 0..count {
+        let mut all = [0; 16];
+        for part in black_box(&words).as_chunks::<16>().0 {
+            all.iter_mut()
+                .zip(part)
+                .for_each(|(sum, word)| *sum |= word);
+        }
+        black_box(all);
+    }
+}
+
 fn main() {
     let rounds = rounds(161);
     print_load("before");
@@ -174,5 +188,10 @@ fn main() {
     for (call, [library, tuned]) in CALLS.iter().zip(growths) {
         println!("{call:<36}{library:>9.2} {tuned:>9.2}");
     }
+    let [read, _] = in_turns(rounds, [Box::new(read_octets), Box::new(read_octets)]);
+    let octets = 6_144.0 / read.quickest;
+    println!(
+        "\nThe processor reads {octets:.0} octets in a nanosecond from its first-level cache."
+    );
     print_load("after");
 }
