@@ -3,6 +3,8 @@
 import math
 import unicodedata
 
+from hello import values
+
 CONTROLS = ("Cc", "Cf", "Zl", "Zp")
 """The Unicode categories of controls, of marks that turn the direction of a text, and of line ends."""
 JOINERS = "\u200c\u200d"
@@ -85,17 +87,17 @@ def keys(what, value, needed, also=()):
 
 def address(what, value):
     """An internet address in four decimal numbers with dots, as its octets."""
-    return _octets(what, value, 4, "four")
+    text = words(what, value, 15)
+    try:
+        return tuple(values.address(text))
+    except ValueError:
+        raise Refused(f"{what} must be four numbers from 0 to 255 with dots between them") from None
 
 
 def net(what, value):
-    """The number of a net in three decimal numbers with dots, as its octets."""
-    return _octets(what, value, 3, "three")
-
-
-def _octets(what, value, count, in_words):
-    octets = words(what, value, 4 * count - 1).split(".")
-    good = all(o.isascii() and o.isdigit() and str(int(o)) == o and int(o) < 256 for o in octets)
-    if len(octets) != count or not good:
-        raise Refused(f"{what} must be {in_words} numbers from 0 to 255 with dots between them")
-    return tuple(int(o) for o in octets)
+    """The number of a net in three decimal numbers with dots, as its octets: those of an address without the last."""
+    text = words(what, value, 11)
+    try:
+        return tuple(values.address(f"{text}.0"))[:3]
+    except ValueError:
+        raise Refused(f"{what} must be three numbers from 0 to 255 with dots between them") from None

@@ -1,9 +1,9 @@
 """The words of a line, one after the other, as values."""
 
 import difflib
-import ipaddress
 import re
 
+from .. import values
 from .faults import Fault
 from .promises import DOWN
 
@@ -79,9 +79,9 @@ def number(word):
 
 
 def address(word):
-    """Four octets with dots."""
+    """Four octets with dots, as in values.address."""
     try:
-        return tuple(ipaddress.IPv4Address(word).packed)
+        return tuple(values.address(word))
     except ValueError:
         return None
 
