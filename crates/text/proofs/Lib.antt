@@ -16,3 +16,6 @@ pub mod NumeralBack
 pub mod TextBack
 pub mod MessageBack
 pub mod Back
+pub mod Narrows
+pub mod Onward
+pub mod LongText

@@ -4,4 +4,5 @@ pub mod Numbers
 pub mod Text
 pub mod Answers
 pub mod Back
+pub mod Pieces
 pub mod code

@@ -1,3 +1,5 @@
 pub mod Put
 pub mod Scan
 pub mod Reading
+pub mod Turns
+pub mod Pieces

@@ -6,6 +6,7 @@ ghost use Rattle.text.specs.Answers.{number, into, toText, fromText, Lea
 ghost use Rattle.text.specs.Back.{MessageBack, TextBack, NeverRefused};
 
 mod octets;
+pub mod pieces;
 mod read;
 mod scan;
 mod write;

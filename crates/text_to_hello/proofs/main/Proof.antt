@@ -1,4 +1,4 @@
--- What was written lies within the buffer.
+-- What was written is within the buffer.
 use Rattle.text.proofs.Delivered.{returned-counts}
 use borrow.Author.Needs.{needs}
 use Rattle.text_to_hello.proofs.main.Statement.{statement}
@@ -12,6 +12,24 @@ slice-aggregate-read-full c = search needs
 
 read-full-requires : tie.Need-read-full-requires
 read-full-requires c κs = search needs
+
+begin-requires : tie.Need-begin-requires
+begin-requires c κs = search needs
+
+slice-aggregate-proceed : tie.Need-slice-aggregate-proceed
+slice-aggregate-proceed c = search needs
+
+proceed-requires : tie.Need-proceed-requires
+proceed-requires c κs = search needs
+
+read-rest-requires : tie.Need-read-rest-requires
+read-rest-requires c κs = search needs
+
+refuse-requires : tie.Need-refuse-requires
+refuse-requires c κs = search needs
+
+returns : tie.Need-returns
+returns c = search needs
 
 buffer-requires : tie.Need-buffer-requires
 buffer-requires c κs = search needs
@@ -31,32 +49,23 @@ from-text-requires c κs = search needs
 number-requires : tie.Need-number-requires
 number-requires c κs = search needs
 
-cast-print-decimal : tie.Need-cast-print-decimal
-cast-print-decimal c = search needs
+refuse-requires-2 : tie.Need-refuse-requires-2
+refuse-requires-2 c κs = search needs
 
-print-decimal-requires : tie.Need-print-decimal-requires
-print-decimal-requires c κs = search needs
-
-slice-aggregate-write-all : tie.Need-slice-aggregate-write-all
-slice-aggregate-write-all c = search needs
-
-write-all-requires : tie.Need-write-all-requires
-write-all-requires c κs = search needs
-
-returns : tie.Need-returns
-returns c = search needs
+returns-2 : tie.Need-returns-2
+returns-2 c = search needs
 
 array-share-prefix-message : tie.Need-array-share-prefix-message
 array-share-prefix-message c = returned-counts _ _ _ _ (c .before .before .before .from-text .ensures) .0
 
-slice-aggregate-write-all-2 : tie.Need-slice-aggregate-write-all-2
-slice-aggregate-write-all-2 c = returned-counts _ _ _ _ (c .before .before .before .before .from-text .ensures) .1
+slice-aggregate-write-all : tie.Need-slice-aggregate-write-all
+slice-aggregate-write-all c = returned-counts _ _ _ _ (c .before .before .before .before .from-text .ensures) .1
 
-write-all-requires-2 : tie.Need-write-all-requires-2
-write-all-requires-2 c κs = search needs
+write-all-requires : tie.Need-write-all-requires
+write-all-requires c κs = search needs
 
-returns-2 : tie.Need-returns-2
-returns-2 c = search needs
+returns-3 : tie.Need-returns-3
+returns-3 c = search needs
 
 pub main-spec : {M : Type 1} → statement M
 main-spec =
@@ -65,18 +74,21 @@ main-spec =
     large-buffer-requires
     slice-aggregate-read-full
     read-full-requires
+    begin-requires
+    slice-aggregate-proceed
+    proceed-requires
+    read-rest-requires
+    refuse-requires
+    returns
     buffer-requires
     array-share-prefix-text
     slice-aggregate-from-text
     slice-aggregate-from-text-2
     from-text-requires
     number-requires
-    cast-print-decimal
-    print-decimal-requires
+    refuse-requires-2
+    returns-2
+    array-share-prefix-message
     slice-aggregate-write-all
     write-all-requires
-    returns
-    array-share-prefix-message
-    slice-aggregate-write-all-2
-    write-all-requires-2
-    returns-2)
+    returns-3)

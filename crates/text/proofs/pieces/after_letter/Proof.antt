@@ -1,0 +1,13 @@
+-- The next letter is the expected one.
+use borrow.Author.Tests.{eq-eqb, ne-eqb}
+use Rattle.text.proofs.pieces.after_letter.Statement.{statement}
+use Rattle.text.proofs.pieces.after_letter.Tie as tie
+
+returns : tie.Need-returns
+returns c = rw (eq-eqb _ _ (c .if1 .taken))
+
+returns-2 : tie.Need-returns-2
+returns-2 c = rw (ne-eqb _ _ (c .if1 .left))
+
+pub after-letter-spec : {M : Type 1} → statement M
+after-letter-spec = tie.close (tie.spec returns returns-2)
