@@ -8,7 +8,9 @@ import re
 
 from .texts import catalog
 
-_NUMBER = re.compile(r"-?[0-9]{1,3}(,[0-9]{3})*|-?[0-9]+")
+LONGEST = 500
+"""Longer sentences hold a long word of the text itself, and are not looked for."""
+_NUMBER = re.compile(r"-?[0-9]{1,3}(,[0-9]{3}){0,4}|-?[0-9]{1,15}")
 _BRACES = re.compile(r"\{(\w+)\}")
 
 
@@ -29,7 +31,8 @@ _PARTS = _patterns("wrong_part.")
 
 def text_of(words):
     """The words of a sentence as a text; words that are none of the language files' stay as they are."""
-    return _found(words, _SENTENCES) or ["words", {"words": words}]
+    found = _found(words, _SENTENCES) if len(words) <= LONGEST else None
+    return found or ["words", {"words": words}]
 
 
 def _found(words, patterns):

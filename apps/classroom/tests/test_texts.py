@@ -95,7 +95,9 @@ class Faults(unittest.TestCase):
         key, values = text_of("seat 70 is not there: there are seats 0 to 3")
         self.assertEqual((key, values["number"]), ("wrong.not_there", 70))
         self.assertEqual(written([key, values], "de"), "Platz 70 ist nicht da: es gibt Platz 0 bis 3")
-        self.assertEqual(text_of("nobody says this"), ["words", {"words": "nobody says this"}])
+        for words in ("nobody says this", 9_999 * "a is " + "missing: 3"):
+            self.assertEqual(text_of(words), ["words", {"words": words}])
+        self.assertEqual(text_of(f"'{400 * '9'}' stands there twice")[1], {"name": 400 * "9"})
 
 
 def sentences():

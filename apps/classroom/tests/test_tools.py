@@ -265,6 +265,73 @@ class Tools(unittest.TestCase):
         teacher.click("#bench-one")
         teacher.until(lambda: done() == first + 1, "one event more")
 
+    # What is shown, and for how long.
+
+    def test_an_answer_stays(self):
+        """A refused call is shown until the student's next action, however many views come meanwhile."""
+        student = self.student
+        self.set_up(2, [(0, 1)])
+        student.type("#lookup-address", "192.0.2.1")
+        student.click('[data-call="lookup"]')
+        student.one('#answer[data-answer="13"]')
+        for _ in range(12):
+            self.ask(do="one_second")
+        student.until(lambda: student.told("#room-state", "data-time") == 12_000, "views")
+        self.assertEqual(student.told("#answer", "data-answer"), 13)
+        self.assertIn("HostDown", student.text("#answer"))
+        student.click('[data-call="read"]')
+        student.one('#answer[data-answer="0"]')
+
+    def test_a_refusal_belongs_to_its_tab(self):
+        teacher = self.teacher
+        self.set_up(2, [(0, 1)])
+        for seat in (0, 1):
+            self.ask(do="by_hand", seat=seat, on=True)
+        teacher.click('[data-tab="tables"]')
+        shown = lambda: teacher.all("#refused")[0].text
+        teacher.click("#one-message")
+        teacher.until(lambda: "no message is on its way" in shown(), "a refusal")
+        self.ask(do="one_second")
+        teacher.until(lambda: teacher.told("#room", "data-time") == 1_000, "a view")
+        self.assertIn("no message is on its way", shown())
+        teacher.click('[data-tab="board"]')
+        self.assertEqual(shown(), "")
+        teacher.click('[data-tab="tables"]')
+        self.assertIn("no message is on its way", shown())
+        teacher.click("#one-second")
+        teacher.until(lambda: shown() == "", "the next action")
+
+    def test_header_and_own_host(self):
+        """A student's header stays in sight and says whose turn it is; her own host is marked."""
+        student = self.student
+        self.set_up(2, [(0, 1)])
+        self.ask(do="show", what="picture")
+        student.one('#picture [data-host="1"].own')
+        self.assertEqual(len(student.all("#picture .own")), 1)
+        self.assertIn("★", student.text('#picture [data-host="1"] .name'))
+        self.assertIn("paused", student.text("#room-state"))
+        self.ask(do="waits", on=True)
+        self.ask(do="by_hand", seat=1, on=True)
+        self.ask(do="call", seat=0, call="send", link=1)
+        self.ask(do="one_second")
+        student.until(lambda: "waits for you" in student.text("#room-state"), "her turn")
+        student.driver.execute_script("scrollTo(0, document.body.scrollHeight)")
+        top = "return document.querySelector('#room-state').getBoundingClientRect().top"
+        self.assertTrue(0 <= student.driver.execute_script(top) < 100)
+
+    def test_a_question_mark_explains(self):
+        """Each term of a box has its words behind a "?"; a second press hides them."""
+        student = self.student
+        self.set_up(2, [(0, 1)])
+        self.ask(do="by_hand", seat=1, on=True)
+        self.ask(do="call", seat=0, call="send", link=1)
+        self.ask(do="one_second")
+        student.click("#messages .open-walk")
+        student.click('#walk [data-box="2/"] .gloss')
+        self.assertIn("KEEP-ALIVE: how many more HELLOs", student.text(".gloss-open"))
+        student.click('#walk [data-box="2/"] .gloss')
+        student.until(lambda: not student.all(".gloss-open"), "hidden")
+
 
 if __name__ == "__main__":
     unittest.main()
