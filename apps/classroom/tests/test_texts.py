@@ -5,7 +5,6 @@ import ast
 import re
 import unittest
 from html.parser import HTMLParser
-from pathlib import Path
 
 from classroom.room.answers import ANSWERS
 from classroom.room.found_texts import text_of
