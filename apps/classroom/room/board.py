@@ -31,7 +31,7 @@ def _row(room, seat, connected, since):
         "since": since,
         "by_hand": seat.by_hand,
         "exercise_number": exercise_of(room),
-        "box": seat.walk["next"] and seat.walk["next"]["name"] if seat.walk else None,
+        "box": seat.walk["next"] if seat.walk else None,
         "waiting": len(seat.waiting),
         "calls": student.calls,
         "refusals": student.refusals,

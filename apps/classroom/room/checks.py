@@ -5,6 +5,8 @@ import unicodedata
 
 from hello import values
 
+from .texts import has, written
+
 CONTROLS = ("Cc", "Cf", "Zl", "Zp")
 """The Unicode categories of controls, of marks that turn the direction of a text, and of line ends."""
 JOINERS = "\u200c\u200d"
@@ -12,27 +14,38 @@ JOINERS = "\u200c\u200d"
 
 
 class Refused(Exception):
-    """A message of another form, or one that the room cannot follow now. Nothing was changed."""
+    """A message of another form, or one that the room cannot follow now. Nothing was changed. `text` is a
+    text of the language files; as a string it is in English."""
+
+    def __init__(self, key, /, **values):
+        self.text = [key, values]
+        super().__init__(written(self.text))
+
+
+def _part(what):
+    """What a part of a message is called: a text of the language files, where there is one."""
+    key = f"part.{what.replace(' ', '_')}"
+    return [key, {}] if has(key) else what
 
 
 def whole(what, value, low, high):
     """A whole number from low to high."""
     if type(value) is not int or not low <= value <= high:
-        raise Refused(f"{what} must be a whole number from {low:,} to {high:,}")
+        raise Refused("refused.whole", what=_part(what), low=low, high=high)
     return value
 
 
 def real(what, value, low, high):
     """A number from low to high."""
     if type(value) not in (int, float) or not math.isfinite(value) or not low <= value <= high:
-        raise Refused(f"{what} must be a number from {low:,} to {high:,}")
+        raise Refused("refused.real", what=_part(what), low=low, high=high)
     return value
 
 
 def switch(what, value):
     """True or false."""
     if type(value) is not bool:
-        raise Refused(f"{what} must be true or false")
+        raise Refused("refused.switch", what=_part(what))
     return value
 
 
@@ -40,15 +53,15 @@ def words(what, value, longest, lines=False):
     """A text of at most that many characters, normalised (NFC), without control characters; `lines`: it
     may have several, and tabs."""
     if type(value) is not str or len(value) > longest:
-        raise Refused(f"{what} must be a text of at most {longest:,} characters")
+        raise Refused("refused.words", what=_part(what), longest=longest)
     if any("\ud800" <= character <= "\udfff" for character in value):
-        raise Refused(f"{what} has a character that is none")
+        raise Refused("refused.no_character", what=_part(what))
     if lines:
         value = value.replace("\r\n", "\n").replace("\r", "\n")
     value = unicodedata.normalize("NFC", value)
     kept = JOINERS + "\n\t" if lines else JOINERS
     if any(unicodedata.category(each) in CONTROLS and each not in kept for each in value):
-        raise Refused(f"{what} has a control character")
+        raise Refused("refused.control", what=_part(what))
     return value
 
 
@@ -60,7 +73,7 @@ def name(what, value, longest):
 def one_of(what, value, choices):
     """One of the words that may stand there."""
     if type(value) is not str or value not in choices:
-        raise Refused(f"{what} must be one of: {', '.join(choices)}")
+        raise Refused("refused.one_of", what=_part(what), choices=", ".join(choices))
     return value
 
 
@@ -68,20 +81,20 @@ def members(what, value, least, most):
     """A list of that many members."""
     if type(value) is not list or not least <= len(value) <= most:
         count = f"{least}" if least == most else f"{least} to {most}"
-        raise Refused(f"{what} must be a list of {count}")
+        raise Refused("refused.list", what=_part(what), count=count)
     return value
 
 
 def keys(what, value, needed, also=()):
     """An object with all of the needed keys, and none but those and the others."""
     if type(value) is not dict:
-        raise Refused(f"{what} must be an object")
+        raise Refused("refused.object", what=_part(what))
     for key in needed:
         if key not in value:
-            raise Refused(f"{what} has no {key}")
+            raise Refused("refused.no_key", what=_part(what), key=key)
     for key in value:
         if key not in needed and key not in also:
-            raise Refused(f"{what} has an unknown key")
+            raise Refused("refused.unknown_key", what=_part(what))
     return value
 
 
@@ -91,7 +104,7 @@ def address(what, value):
     try:
         return tuple(values.address(text))
     except ValueError:
-        raise Refused(f"{what} must be four numbers from 0 to 255 with dots between them") from None
+        raise Refused("refused.octets", what=_part(what), count=4) from None
 
 
 def net(what, value):
@@ -100,4 +113,4 @@ def net(what, value):
     try:
         return tuple(values.address(f"{text}.0"))[:3]
     except ValueError:
-        raise Refused(f"{what} must be three numbers from 0 to 255 with dots between them") from None
+        raise Refused("refused.octets", what=_part(what), count=3) from None

@@ -56,7 +56,8 @@ def source(packet):
 
 
 def fields(packet):
-    """The fields of a packet in their order: name, value in words, first octet and end."""
+    """The fields of a packet in their order: name, value, first octet and end. A value is a number, words,
+    or a text of the language files."""
     hosts = [(f"host {id} {what}", 2) for id in range(packet[31]) for what in ("DELAY", "OFFSET")]
     listed, start = [], 0
     for name, length in (*_HEADER, *_HELLO, *hosts):
@@ -73,13 +74,12 @@ def _value(name, octets):
     if name in _IN_HEX:
         return f"{octets.hex()} hex"
     if name == "DATE":
-        awaited = ", a master's date is awaited" if word >> 15 else ""
-        return f"{word:,} ({day(word)}{awaited})"
+        return ["packet.date.awaited" if word >> 15 else "packet.date", {"word": word, "day": day(word)}]
     if name == "TIME":
-        return f"{word:,} ms ({clock_words(word)})"
+        return ["packet.time", {"ms": word, "clock": clock_words(word)}]
     if name.endswith(("DELAY", " OFFSET")):
-        return f"{word:,} ms"
-    return f"{word:,}"
+        return ["packet.ms", {"ms": word}]
+    return word
 
 
 def clock_words(ms):

@@ -59,6 +59,6 @@ def name(room, seat, message):
     """The student writes her name."""
     given = words("name", message["name"], LONGEST_NAME).strip()
     if not given or any(ord(character) < 32 for character in given):
-        raise Refused("a name has at least one letter, and no line ends")
+        raise Refused("refused.name")
     room.lesson.students[seat.number].name = given
     return {"name": given}

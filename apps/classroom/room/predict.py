@@ -60,7 +60,7 @@ def set_mode(room, message):
 def predict(room, seat, message):
     """A prediction of a student: the marks, and at the end the call itself with its reply."""
     if room.lesson.predict == "off":
-        raise Refused("no predictions are asked for now")
+        raise Refused("refused.no_predictions")
     student.not_full(room)
     kind = one_of("of", message["of"], KINDS)
     expected = _EXPECTED[kind](room, seat, message)
@@ -131,7 +131,7 @@ def _given(expected, value):
         elif written is not None:
             words(field, written, LONGEST_FIELD)
     if not expected.changing and not all(field in value for field in expected.fields):
-        raise Refused("each field needs a value")
+        raise Refused("refused.each_field")
     return value
 
 
@@ -141,11 +141,11 @@ def _given(expected, value):
 def _box(room, seat, message):
     keys("a prediction", message, ("do", "of", "fields"), ("n",))
     if not seat.in_walk or seat.walk is None:
-        raise Refused("no walk is open")
+        raise Refused("refused.no_walk")
     walk, place = seat.walk, seat.walk["next"]
     made = Made(_copy(room, seat), "step", seat.handed("step", room.now))
     if made.answer not in READ:
-        raise Refused("this box cannot be carried out now")
+        raise Refused("refused.box_not_now")
     box = box_of(room, seat, made.before, made.after)
     values = _values_of_box(made, walk, place)
     asked = asked_of_box(room, place)
@@ -199,7 +199,7 @@ def _arrival(room, seat, message):
     keys("a prediction", message, ("do", "of", "fields", "message"), ("n",))
     waits = student.waiting(seat, message)
     if seat.in_walk:
-        raise Refused("a walk is open: it has to be ended first")
+        raise Refused("refused.in_walk")
     handed, link = seat.handed("act", room.now), {"link": waits.link, "packet": waits.given["packet"]}
     copy = _copy(room, seat)
     inspected = Made(copy, "inspect", link)
@@ -239,7 +239,7 @@ def _sending(room, seat, message):
     link = whole("link", message["link"], 1, seat.host.settings.link_count)
     made = Made(_copy(room, seat), "send", {"link": link, **seat.handed("send", room.now)})
     if made.answer != 0:
-        raise Refused("this send cannot be carried out now")
+        raise Refused("refused.send_not_now")
     packet = bytes.fromhex(made.told["octets"])
     values = {
         "NHOSTS": fields.number(packet, "NHOSTS"),

@@ -88,7 +88,7 @@ class Room(Timed):
         asked = message.get("do") if type(message) is dict else None
         command = commands.get(asked) if type(asked) is str else None
         if command is None:
-            raise Refused("there is no such thing to do")
+            raise Refused("refused.no_such_thing")
         do, needed, also = command
         keys("the message", message, ("do", *needed), ("n", *also))
         return do(*of, message)
@@ -96,7 +96,7 @@ class Room(Timed):
     def at(self, number):
         """The seat of that number."""
         if type(number) is not int or not 0 <= number < len(self.seats):
-            raise Refused("there is no such seat in this room")
+            raise Refused("refused.no_such_seat")
         return self.seats[number]
 
     def teacher_view(self, since=None, presence=None):

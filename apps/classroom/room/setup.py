@@ -29,10 +29,10 @@ def checked(given):
     cables = [_cable(cable, len(seats)) for cable in members("cables", given["cables"], 0, CABLES)]
     ends = [tuple(end) for cable in cables for end in cable["ends"]]
     if len(set(ends)) != len(ends):
-        raise Refused("two cables end at the same link")
+        raise Refused("refused.same_link")
     further = [id for seat in seats for id in seat["also"]]
     if len(set(further)) != len(further):
-        raise Refused("a host lives at one seat alone")
+        raise Refused("refused.one_seat")
     return {
         "seats": seats,
         "cables": cables,
@@ -64,7 +64,7 @@ def _seat(number, given, time, nhosts):
         else whole("clock_host", clock_host, 0, nhosts - 1),
     }
     if not 0 <= time + seat["difference"] < DAY:
-        raise Refused(f"the clock of seat {number} would start outside the day")
+        raise Refused("refused.outside_day", seat=number)
     return seat
 
 
@@ -72,7 +72,7 @@ def _cable(given, seats):
     keys("a cable", given, ("ends", "ways"), ("loss",))
     ends = [_end(end, seats) for end in members("ends", given["ends"], 2, 2)]
     if ends[0][0] == ends[1][0]:
-        raise Refused("a cable joins two different seats")
+        raise Refused("refused.same_seat")
     return {"ends": ends, **conditions(given["ways"], given.get("loss", [0, 0]))}
 
 

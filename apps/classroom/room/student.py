@@ -16,7 +16,7 @@ LONGEST_TEXT = 4_000
 def not_full(room):
     """A call more can be written down."""
     if room.log.full:
-        raise Refused("the list of calls is full: the room has to be set up anew")
+        raise Refused("refused.list_full")
 
 
 def call(room, seat, message):
@@ -36,9 +36,9 @@ def own_call(room, seat, message, predicted=False):
     """A call from the seat's own page, which has a part of the list to fill. Where predictions are
     required, it is made only after one."""
     if seat.filled >= log.OF_A_SEAT:
-        raise Refused("this seat has filled its part of the list of calls: the teacher may set up anew")
+        raise Refused("refused.part_full")
     if room.lesson.predict == "required" and not predicted and message["call"] in PREDICTED:
-        raise Refused("first write what will happen: the teacher has asked for predictions")
+        raise Refused("refused.predict_first")
     seat.predicted = None
     before, of = room.log.octets, room.lesson.students[seat.number]
     try:
@@ -54,7 +54,7 @@ def by_hand(room, seat, message):
     """The seat works by hand, or by itself."""
     on = switch("on", message["on"])
     if seat.in_walk and not on:
-        raise Refused("a walk is open: it has to be ended first")
+        raise Refused("refused.in_walk")
     seat.by_hand = on
     room.take_all(seat)
     return {"by_hand": on}
@@ -83,7 +83,7 @@ def _link(seat, message):
 def _send(room, seat, message):
     link = _link(seat, message)
     if room.cables.full(seat.number, link):
-        raise Refused(f"{MOST} messages are on their way on this cable: it holds no more")
+        raise Refused("refused.cable_full", most=MOST)
     return room.send(seat, link)
 
 
@@ -91,7 +91,7 @@ def waiting(seat, message):
     """The message that waits at the seat by its number."""
     number = message["message"]
     if type(number) is not int or number not in seat.waiting:
-        raise Refused("there is no such message at this seat")
+        raise Refused("refused.no_such_message")
     return seat.waiting[number]
 
 
@@ -105,7 +105,7 @@ def _receive(room, seat, message):
 
 def _open_walk(room, seat, message):
     if not seat.by_hand:
-        raise Refused("this seat works by itself: a walk needs one that works by hand")
+        raise Refused("refused.by_itself")
     walked = waiting(seat, message)
     reply = room.make(seat, "open_walk", walked.given)
     if reply["answer"] == 0:

@@ -1,5 +1,6 @@
 """The sum that a box of a walk made, as texts: each a key of the language files and its values."""
 
+import re
 from typing import NamedTuple
 
 from hello import UNITS_PER_MS
@@ -44,6 +45,12 @@ class Box(NamedTuple):
 def texts_of(box):
     """The box's arithmetic, a list of texts."""
     return _SUMS[box.place["line"] or box.place["step"]](box)
+
+
+def place_text(name):
+    """A place of a walk, "step 3" or "host 1, line a", as a text."""
+    step, host = re.fullmatch("step (.)", name), re.fullmatch("host ([0-9]+), line (.)", name)
+    return ["place.step", {"step": step[1]}] if step else ["place.line", {"id": int(host[1]), "line": host[2]}]
 
 
 def in_english(texts):
@@ -101,7 +108,7 @@ def _step5(box):
     by, walk = _looked_up(box), box.after.walk
     if not walk:
         return [least, _text("not_found", neighbor=box.neighbor, by=by)]
-    return [least, _text("found", neighbor=box.neighbor, by=by, next=walk[0])]
+    return [least, _text("found", neighbor=box.neighbor, by=by, next=place_text(walk[0]))]
 
 
 def _looked_up(box):

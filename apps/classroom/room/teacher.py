@@ -41,7 +41,7 @@ def _may_go_on(room):
     not_full(room)
     if waiting := room.waiting_for():
         names = ", ".join(room.seats[number].name for number in waiting)
-        raise Refused(f"time stands: the room waits for {names}")
+        raise Refused("refused.waits_for", names=names)
 
 
 def _one_second(room, message):
@@ -53,7 +53,7 @@ def _one_second(room, message):
 def _one_message(room, message):
     _may_go_on(room)
     if not room.cables.on_their_way and all(seat.by_hand for seat in room.seats):
-        raise Refused("no message is on its way, and no seat works by itself")
+        raise Refused("refused.no_message")
     room.to_arrival(MINUTE)
     return {"time": room.now}
 
@@ -70,7 +70,7 @@ def _by_hand(room, message):
 def _cable(room, message):
     cables = room.cables.cables
     if not cables:
-        raise Refused("this room has no cable")
+        raise Refused("refused.no_cable")
     number = whole("cable", message["cable"], 0, len(cables) - 1)
     loss = message.get("loss", cables[number]["loss"])
     room.cables.change(number, conditions(message["ways"], loss))

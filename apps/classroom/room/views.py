@@ -184,10 +184,11 @@ def _entry(room, seat, id, entry, teacher):
 
 
 def _name(room, id):
+    """A host's name: its seat's; with an @ of one that lives there besides; empty for one that is nowhere."""
     home = room.home(id)
     if home is None:
-        return f"host {id}"
-    return home.name if id == home.number else f"at {home.name}"
+        return ""
+    return home.name if id == home.number else f"@{home.name}"
 
 
 def _walk(room, seat):

@@ -6,9 +6,10 @@ import contextlib
 from aiohttp import web
 
 from ..room import Refused
-from . import clock, exercise_paper, files, paper, sockets
-from .guard import guard, refused, say
+from . import clock, exercise_paper, files, sockets
+from .guard import guard, language_of, refused, say
 from .join import Join
+from .paper import Paper
 
 # A page that does nothing but come back without the key. The cookie is for requests from this
 # server's own pages alone; a redirect would still count as a request from where the link was.
@@ -53,23 +54,23 @@ class Addresses:
         place = _place(request)
         if "key" in request.query:
             if not self._keys.right(place, request.query["key"]):
-                return _no_key()
+                return _no_key(request)
             response = web.Response(text=COME_BACK.format(place=place), content_type="text/html")
             self._keys.give(place, response)
             return response
         if not self._holds(place, request):
-            return _no_key()
-        return self._sent("teacher.html" if place == "/teacher" else "student.html")
+            return _no_key(request)
+        return self._sent(request, "teacher.html" if place == "/teacher" else "student.html")
 
     async def socket(self, request):
         """The socket of a page. A browser always says from which origin it opens one."""
         place = _place(request)
         if not self._holds(place, request):
-            return _no_key()
+            return _no_key(request)
         if "Origin" not in request.headers:
-            return refused(403, "A socket is opened by a page of the class.")
+            return refused(request, 403, "page.socket")
         if not self._hall.has_room_for(place):
-            return refused(429, "This place is open in too many pages.")
+            return refused(request, 429, "page.too_many")
         return await sockets.serve(request, self._hall, place, self._connection(request))
 
     def _connection(self, request):
@@ -87,7 +88,7 @@ class Addresses:
     async def calls(self, request):
         """The list of calls as a file."""
         if not self._holds("/teacher", request):
-            return _no_key()
+            return _no_key(request)
         response = web.StreamResponse()
         response.content_type = "application/jsonl"
         response.headers["Content-Disposition"] = 'attachment; filename="calls.jsonl"'
@@ -101,7 +102,7 @@ class Addresses:
     async def marks(self, request):
         """The marks of the lesson as a table."""
         if not self._keys.holds("/teacher", request):
-            return _no_key()
+            return _no_key(request)
         headers = {
             "Content-Type": "text/csv; charset=utf-8",
             "Content-Disposition": 'attachment; filename="marks.csv"',
@@ -112,55 +113,57 @@ class Addresses:
     async def rooms(self, request):
         """The rooms of the class."""
         if not self._holds("/teacher", request):
-            return _no_key()
+            return _no_key(request)
         return web.json_response({"rooms": self._hall.earlier(), "undo": self._hall.undo_allowed})
 
     async def past(self, request):
         """A room as it was after a line of its list."""
         if not self._holds("/teacher", request):
-            return _no_key()
+            return _no_key(request)
         told = await self._history.ask(int(request.match_info["room"]), int(request.match_info["line"]))
         if told == "null\n":
-            return refused(404, "There is no such call.")
+            return refused(request, 404, "page.no_call")
         return web.Response(text=told, content_type="application/json")
 
     async def printed(self, request):
         """A sheet to be printed."""
         if not self._holds("/teacher", request):
-            return _no_key()
+            return _no_key(request)
+        language = language_of(request)
+        sheets = Paper(language)
         made = {
-            "slips": lambda: self._slips(self._hall.names()),
-            "checklist": paper.checklist,
-            "tables": lambda: paper.tables(self._hall.room),
-            "worksheet": lambda: self._worksheet(request.query),
-            "exercise": lambda: self._exercise(request.query),
+            "slips": lambda: self._slips(sheets, self._hall.names()),
+            "checklist": sheets.checklist,
+            "tables": lambda: sheets.tables(self._hall.room),
+            "worksheet": lambda: self._worksheet(sheets, request.query),
+            "exercise": lambda: self._exercise(request.query, language),
         }[request.match_info["sheet"]]
         try:
             return web.Response(text=made(), content_type="text/html")
-        except (Refused, ValueError) as why:
-            return refused(404, f"There is no such sheet: {why}.")
+        except Refused as why:
+            return refused(request, 404, "page.no_sheet", why=why.text)
 
-    def _worksheet(self, asked):
+    def _worksheet(self, sheets, asked):
         seat, message = asked.get("seat", "0"), asked.get("message")
         if not all(text.isascii() and text.isdigit() and len(text) < 10 for text in (seat, message or "0")):
-            raise Refused("seat and message are numbers")
-        return paper.worksheet(self._hall.room, int(seat), None if message is None else int(message))
+            raise Refused("refused.seat_and_message")
+        return sheets.worksheet(self._hall.room, int(seat), None if message is None else int(message))
 
-    def _exercise(self, asked):
-        number, language = asked.get("number", ""), asked.get("language", "en")
+    def _exercise(self, asked, language):
+        number = asked.get("number", "")
         if not (number.isascii() and number.isdigit() and len(number) < 10):
-            raise Refused("an exercise has a number")
+            raise Refused("refused.exercise_number")
         return exercise_paper.exercise(self._hall.room, int(number), language)
 
     async def bench(self, request):
         """The bench file that is loaded, as octets or as text."""
         if not self._holds("/teacher", request):
-            return _no_key()
+            return _no_key(request)
         loaded, form = self._hall.bench_file(), request.match_info["form"]
         if loaded is None:
-            return refused(404, "No bench file is loaded.")
+            return refused(request, 404, "page.no_bench_file")
         if form == "txt" and loaded.text is None:
-            return refused(404, "This bench file has a fault, and is no text.")
+            return refused(request, 404, "page.bench_fault")
         octets = loaded.octets if form == "bench" else loaded.text.encode()
         sort = "application/octet-stream" if form == "bench" else "text/plain; charset=utf-8"
         name = f'attachment; filename="{_plain(loaded.name)}.{form}"'
@@ -168,11 +171,11 @@ class Addresses:
 
     async def file(self, request):
         """One of the pages' files. They hold nothing of the room, and need no key."""
-        return self._sent(request.match_info["name"])
+        return self._sent(request, request.match_info["name"])
 
-    def _sent(self, name):
+    def _sent(self, request, name):
         if name not in self._files:
-            return refused(404, "There is no such file.")
+            return refused(request, 404, "page.no_file")
         sort, octets = self._files[name]
         return web.Response(body=octets, headers={"Content-Type": sort})
 
@@ -189,8 +192,8 @@ def _plain(name):
     return kept.strip("-") or "exercise"
 
 
-def _no_key():
-    return refused(403, "The key is missing or wrong: open the address as the teacher gave it.")
+def _no_key(request):
+    return refused(request, 403, "page.no_key")
 
 
 class Application:

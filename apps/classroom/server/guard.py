@@ -4,12 +4,21 @@ import logging
 
 from aiohttp import web
 
+from ..room.texts import ENGLISH, LANGUAGES, written
+
 LOG = logging.getLogger("class")
 
 
-def refused(status, why):
-    """A response in words."""
-    return web.Response(status=status, text=why + "\n")
+def language_of(request):
+    """The reader's language: of the address, else the first that her browser wants and the class has."""
+    wanted = [request.query.get("language", ""), *request.headers.get("Accept-Language", "").split(",")]
+    known = (each.strip()[:2].lower() for each in wanted)
+    return next((each for each in known if each in LANGUAGES), ENGLISH)
+
+
+def refused(request, status, key, **values):
+    """A response in words, in the reader's language."""
+    return web.Response(status=status, text=written([key, values], language_of(request)) + "\n")
 
 
 def _from_here(request):
@@ -39,22 +48,22 @@ def guard(hosts, door=None, posts=()):
     async def look(request, handler):
         wanted = "POST" if request.path in posts else "GET"
         if request.method != wanted:
-            response = refused(405, f"Only {wanted} is answered here.")
+            response = refused(request, 405, "page.method", method=wanted)
             response.headers["Allow"] = wanted
             return response
         named = request.headers.getall("Host", [])
         if len(named) != 1 or named[0].lower() not in hosts:
-            return refused(403, "The class is not here under this name.")
+            return refused(request, 403, "page.other_name")
         if not _from_here(request):
-            return refused(403, "Pages from elsewhere are not answered.")
+            return refused(request, 403, "page.elsewhere")
         request["host"] = named[0]
         try:
             return await handler(request)
         except web.HTTPException as said:
-            return refused(said.status, said.reason)
+            return refused(request, said.status, "words", words=said.reason)
         except Exception as slip:
             LOG.error("%s: %s", type(slip).__name__, slip)
-            return refused(500, "The server could not do this.")
+            return refused(request, 500, "page.server")
 
     return counted
 

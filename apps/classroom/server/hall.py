@@ -1,6 +1,7 @@
 """The room and the pages that look at it: who may say what, and who is shown what."""
 
 import asyncio
+import json
 import time
 
 from ..room import Refused
@@ -20,9 +21,17 @@ BETWEEN_WRITES = 0.25
 TRY_AGAIN = 1
 
 
+def _title(stored):
+    """The title of a stored room as a text; an older store has words."""
+    try:
+        return json.loads(stored)
+    except ValueError:
+        return ["words", {"words": stored}]
+
+
 class Hall:
     """A room with its record, the pages at their places, the pace of each place; the seats' addresses,
-    which the teacher's page is told. `trouble` says why the store cannot be written, or is None."""
+    which the teacher's page is told. `trouble` is the text of why the store cannot be written, or None."""
 
     def __init__(self, record, addresses):
         self._record = record
@@ -46,7 +55,7 @@ class Hall:
         """The rooms of the class, each with the number of its calls."""
         store = self._record.store
         return [
-            {"number": row.number, "title": row.title, "lines": store.lines_of(row.number)}
+            {"number": row.number, "title": _title(row.title), "lines": store.lines_of(row.number)}
             | {"parent": row.parent, "line": row.line}
             for row in store.rooms()
         ]
@@ -57,26 +66,26 @@ class Hall:
         await self.stored()
         input = self._record.store.input_of_line(number, line)
         if input is None:
-            raise Refused("there is no such call")
+            raise Refused("refused.no_such_call")
         room = await asyncio.to_thread(made_again, self._record.store.path, input)
         await self.stored()
-        self._record.branch(room, number, line, input, f"room {number} from call {line:,} on")
+        self._record.branch(room, number, line, input, ["room.from", {"number": number, "line": line}])
         await self._branched()
         return {"room": self.room.number}
 
     async def undo(self, place):
         """The last call of the class is as if it had never been made, if it was one of this place."""
         if not self.undo_allowed:
-            raise Refused("the teacher has not allowed to step back")
+            raise Refused("refused.no_undo")
         await self.stored()
         last, by = self._record.last()
         if by != place:
-            raise Refused("something else has happened since your last call")
+            raise Refused("refused.since")
         number, line = self.room.number, self.room.log.count
         room = await asyncio.to_thread(made_again, self._record.store.path, last - 1)
         if self._record.last() != (last, by) or room.number != number:
-            raise Refused("something else has happened since your last call")
-        self._record.branch(room, number, line, last - 1, f"room {number} without call {line:,}")
+            raise Refused("refused.since")
+        self._record.branch(room, number, line, last - 1, ["room.without", {"number": number, "line": line}])
         await self._branched()
         return {"room": self.room.number}
 
@@ -109,7 +118,7 @@ class Hall:
         except StoreError as why:
             if self.trouble is None:
                 LOG.error("%s The class waits until it can be, and then goes on by itself.", why)
-                self.trouble = f"{why} The class waits until it can be, and then goes on by itself."
+                self.trouble = ["notice.store", {"why": str(why)}]
                 self.changed()
             return False
         self._written = time.monotonic()

@@ -29,28 +29,28 @@ class Join:
 
     async def page(self, request):
         """The page, with a choice of the seats."""
-        seats = "".join(f'<option value="{seat}">seat {seat}</option>' for seat in range(self._codes.seats))
+        seats = "".join(f'<option value="{seat}">{seat}</option>' for seat in range(self._codes.seats))
         return web.Response(text=self._page.replace("<!--seats-->", seats), content_type="text/html")
 
     async def join(self, request):
         """Exchanges a code for the cookie of its seat, and tells the room the name."""
         if "Origin" not in request.headers:
-            return refused(403, "A code is sent by the page of the class.")
+            return refused(request, 403, "join.origin")
         if self._codes.wait(request.remote):
-            return refused(429, "Too many wrong codes: wait a minute, and try again.")
+            return refused(request, 429, "join.too_many")
         try:
             seat, code, name = read(await request.content.read(LONGEST + 1))
         except ValueError as why:
-            return refused(400, str(why))
+            return refused(request, 400, *why.args)
         if not self._codes.right(request.remote, seat, code):
-            return refused(403, "This is not the code of that seat: look at your slip.")
+            return refused(request, 403, "join.wrong_code")
         place = f"/seat/{seat}"
         if name:
             try:
                 self._hall.take(place, {"do": "name", "name": name})
             except Refused as why:
-                if not str(why).startswith("there is no such seat"):
-                    return refused(400, f"The name is not taken: {why}.")
+                if why.text[0] != "refused.no_such_seat":
+                    return refused(request, 400, "join.name", why=why.text)
             with contextlib.suppress(Exception):
                 await self._hall.stored()
         response = web.json_response({"place": place})
@@ -59,13 +59,13 @@ class Join:
 
 
 def read(octets):
-    """Seat, code and name of a message; ValueError says in words what is wrong."""
+    """Seat, code and name of a message; ValueError has the key of what is wrong."""
     try:
         told = json.loads(octets) if len(octets) <= LONGEST else None
     except (ValueError, RecursionError):
         told = None
     if type(told) is not dict or set(told) != {"seat", "code", "name"}:
-        raise ValueError("A seat, a code and a name are sent.")
+        raise ValueError("join.parts")
     if type(told["seat"]) is not int or type(told["code"]) is not str or type(told["name"]) is not str:
-        raise ValueError("A seat is a number; a code and a name are texts.")
+        raise ValueError("join.kinds")
     return told["seat"], told["code"], told["name"].strip()

@@ -10,7 +10,7 @@ import sys
 from aiohttp import web
 from aiohttp.http_exceptions import HttpProcessingError
 
-from . import arguments, paper, tls, which
+from . import arguments, tls, which
 from .app import Application
 from .codes import Codes, new_codes
 from .door import Door
@@ -135,8 +135,8 @@ async def serve(asked, store):
     codes = Codes(store.told("codes"))
     history = History(store.path)
 
-    def slips(names):
-        return paper.slips(origin, seats_at, codes, names, fingerprint)
+    def slips(sheets, names):
+        return sheets.slips(origin, seats_at, codes, names, fingerprint)
 
     app = Application(hall, keys, {host.lower() for host in told + also}, codes, slips, history)
 

@@ -9,6 +9,7 @@ import contextlib
 import json
 import time
 
+from ..room.texts import english
 from .guard import LOG
 from .pace import Window
 from .patch import Versions
@@ -59,7 +60,7 @@ class Page:
             await self._changed.wait()
             if self._hall.trouble is not None:
                 self._changed.clear()
-                await self._socket.send_str(json.dumps({"notice": self._hall.trouble}))
+                await self._socket.send_str(json.dumps({"notice": english(self._hall.trouble), "text": self._hall.trouble}))
                 continue
             if not self._own.is_set():
                 rest = shown_at + self._hall.between_views() - time.monotonic()

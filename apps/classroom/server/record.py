@@ -45,11 +45,12 @@ class StorePaper:
 
 
 def title_of(room):
-    """A room in a few words, for the list of rooms."""
+    """A room in a few words, for the list of rooms: a text of the language files."""
     if room.exercise:
-        return f"exercise {room.exercise.listed.number}: {room.exercise.exercise.said('title')}"
+        title = room.exercise.exercise.said("title")
+        return ["room.exercise", {"number": room.exercise.listed.number, "title": title}]
     count = len(room.seats)
-    return "one host" if count == 1 else f"{count} hosts"
+    return ["room.hosts.one" if count == 1 else "room.hosts.many", {"n": count}]
 
 
 class Record:
@@ -140,7 +141,7 @@ class Record:
             self._number = room.number
             title, parent, line = self._title or (title_of(room), None, None)
             self._title = None
-            self._rooms.append(RoomRow(room.number, title, room.set_up, self._next, parent, line))
+            self._rooms.append(RoomRow(room.number, json.dumps(title), room.set_up, self._next, parent, line))
         self._next += 1
         self._by = by
 

@@ -95,7 +95,7 @@ async def answer(hall, page, message):
         n = told.pop("n", None)
         if not _is_number(n):
             n = None
-            raise Refused("a message has a number n of the page's choice")
+            raise Refused("refused.no_number")
         if told == {"do": "view"}:
             page.begin()
             return json.dumps({"n": n, "reply": {}})
@@ -103,10 +103,11 @@ async def answer(hall, page, message):
         said = {"n": n, "reply": hall.take(place, told) if past is None else past}
         return json.dumps(said, separators=(",", ":"), allow_nan=False)
     except Refused as why:
-        return json.dumps({"n": n, "refused": str(why)})
+        return json.dumps({"n": n, "refused": str(why), "text": why.text})
     except Exception as slip:
         LOG.error("a message of %s: %s: %s", place, type(slip).__name__, ascii(str(slip))[:200])
-        return json.dumps({"n": n, "refused": "the server could not do this"})
+        why = Refused("refused.server")
+        return json.dumps({"n": n, "refused": str(why), "text": why.text})
 
 
 async def _past(hall, place, told):
@@ -137,13 +138,13 @@ def _is_number(n):
 def read(message):
     """The object of a message, or Refused."""
     if message.type is not WSMsgType.TEXT:
-        raise Refused("a message is text")
+        raise Refused("refused.no_text")
     try:
         told = json.loads(message.data, parse_constant=_no_constant, parse_float=_float)
     except (ValueError, RecursionError):
-        raise Refused("a message is one JSON object") from None
+        raise Refused("refused.no_object") from None
     if type(told) is not dict:
-        raise Refused("a message is one JSON object")
+        raise Refused("refused.no_object")
     return told
 
 

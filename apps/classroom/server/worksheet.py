@@ -24,10 +24,12 @@ class Work(NamedTuple):
 
 
 class Box(NamedTuple):
-    """A box that was taken: its name, its sum and what it changed."""
+    """A box that was taken: its place, its sum as texts, and what it changed."""
 
-    name: str
-    sum: str
+    step: int
+    line: str
+    id: int
+    texts: list
     changes: list
 
 
@@ -43,12 +45,12 @@ def worked(room, number, message=None):
     reading = seat.reading(room.now)
     reply = _call(room, seat, "open_walk", message=waiting.number)
     if reply["answer"] != 0:
-        raise Refused(f"this packet is not taken: {reply['answer']} {reply['name']}")
+        raise Refused("refused.not_taken", answer=f"{reply['answer']} {reply['name']}")
     boxes = []
     while seat.in_walk and len(boxes) < MOST_BOXES:
         _call(room, seat, "step")
         made = seat.walk["boxes"][-1]
-        boxes.append(Box(made["name"], _words(made["sum"]), made["changes"]))
+        boxes.append(Box(made["step"], made["line"], made["id"], made["words"], made["changes"]))
     return Work(seat.name, address_of(number), link, reading, before, seat.state, shown["fields"], boxes)
 
 
@@ -56,20 +58,11 @@ def _call(room, seat, call, **more):
     return CALLS[call][0](room, seat, {"do": "call", "call": call, **more})
 
 
-def _words(told):
-    """A sum in words, also if it is sent as texts by key."""
-    if isinstance(told, str):
-        return told
-    if isinstance(told, dict):
-        return "; ".join(_words(each) for each in told.values())
-    return "; ".join(_words(each) for each in told)
-
-
 def _message(room, seat, number):
     """The message of that number, else the first that waits, else one that a neighbour sends."""
     if number is not None:
         if number not in seat.waiting:
-            raise Refused("there is no such message at this seat")
+            raise Refused("refused.no_such_message")
         return seat.waiting[number]
     if not seat.waiting:
         for link in range(1, len(seat.state.links) + 1):
@@ -78,5 +71,5 @@ def _message(room, seat, number):
                 room.send(room.seats[far.seat], far.link, way=0)
                 break
     if not seat.waiting:
-        raise Refused("no message waits at this seat, and no neighbour can send one")
+        raise Refused("refused.nothing_to_work")
     return next(iter(seat.waiting.values()))

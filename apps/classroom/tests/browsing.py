@@ -1,6 +1,7 @@
 """For the tests: a chromium of its own, without a screen, that opens pages of the class."""
 
 import json
+import os
 import shutil
 import tempfile
 
@@ -14,13 +15,13 @@ from classroom.tests.serving import ROOT
 
 PICTURES = ROOT / "target" / "class"
 # Long enough for a busy machine; a check that holds sooner does not wait.
-PATIENCE = 120
+PATIENCE = float(os.environ.get("CLASS_PATIENCE", "120"))
 
 
 class Browser:
     """A browser with a profile of its own, as on a student's own machine."""
 
-    def __init__(self, width=1400, height=1000):
+    def __init__(self, width=1400, height=1000, accept="en"):
         self._profile = tempfile.mkdtemp(prefix="class-")
         options = webdriver.ChromeOptions()
         options.binary_location = "/usr/bin/chromium"
@@ -35,6 +36,7 @@ class Browser:
             "--no-first-run",
             f"--user-data-dir={self._profile}",
             f"--window-size={width},{height}",
+            f"--accept-lang={accept}",
         ):
             options.add_argument(argument)
         self.driver = webdriver.Chrome(service=Service("/usr/bin/chromedriver"), options=options)

@@ -289,14 +289,15 @@ class Story(unittest.TestCase):
         self.students_see()
         teacher.type("#net-add [name=net]", "10.0")
         teacher.click("#net-add button")
-        teacher.until(lambda: "three numbers" in teacher.text("#net-answer"), "the refusal")
+        teacher.until(lambda: "3 numbers" in teacher.text("#net-answer"), "the refusal")
         for browser in (self.first, self.second):
             self.assertEqual(browser.all("#nets input, #nets button, #nets select, [id^=net-]"), [])
         teacher.click('[data-tab="calls"]')
         teacher.choose("#calls-seat", "null")
         calls = '#calls tr[data-line] [data-field="call"]'
-        teacher.until(lambda: teacher.text(calls) == "net_afresh", "the tutor's calls alone")
-        self.assertEqual({call.text[:4] for call in teacher.all(calls)}, {"net_"})
+        teacher.until(lambda: teacher.text(calls) == "initialize the net table", "the tutor's calls alone")
+        seats = teacher.all('#calls tr[data-line] [data-field="seat"]')
+        self.assertEqual({seat.text for seat in seats}, {"Net table"})
         teacher.choose("#calls-seat", "")
         self.replays()
 
@@ -459,7 +460,7 @@ class Story(unittest.TestCase):
         teacher.until(lambda: teacher.told("#bench-file", "data-name") == "01-handshake", "the file")
         self.assertIn("2 seats, 1 cable, 10 events, NHOSTS 2", teacher.text("#bench-file"))
         self.assertTrue(teacher.told("#bench-one", "aria-disabled"))
-        self.assertIn("set afresh", self.set_up_bench())
+        self.assertIn("initialized", self.set_up_bench())
         self.assertEqual(self.bench_entry(1, 0), (30000, 0))
         for done in range(1, 8):
             self.run_bench("#bench-one", done)
@@ -503,12 +504,12 @@ class Story(unittest.TestCase):
         self.set_up_bench()
         self.run_bench("#bench-end", 2)
         row = teacher.text('#bench-events tr[data-event="1"]')
-        self.assertIn("3 IpForm: the tray was never filled, and no seat is asked", row)
+        self.assertIn("3 IpForm: the slot was never filled, and no seat is asked", row)
         said = self.load(b"seat 192.0.2.1\ntock 0\n", ".txt")
         self.assertIn("line 2: 'tock' is not known", said)
         self.assertIn("not UTF-8", self.load(b"\xff", ".txt"))
         self.assertIn("too long", self.load(bytes(200_000), ".bench"))
-        self.assertIn("33956 at most", self.load(bytes(34_000), ".bench"))
+        self.assertIn("33,956 at most", self.load(bytes(34_000), ".bench"))
         for place, answer, fault in (
             (3, "18 Header", "number of seats"),
             (len(octets) - 14, "19 Absent", "event 1, at octet"),

@@ -78,7 +78,7 @@ class Looking(unittest.TestCase):
             (to,) = self.store.inputs(last - 1, last)
             before, room = kept.room.number, rebuilt(self.store, last)
             end = room.end()
-            kept.branch(room, to.room, to.line, last, "again")
+            kept.branch(room, to.room, to.line, last, ["words", {"words": "again"}])
             kept.write()
             self.assertEqual(kept.room.number, before + 1)
             self.assertEqual(kept.room.end(), end)
@@ -88,7 +88,7 @@ class Looking(unittest.TestCase):
             self.assertEqual(lines, list(self.store.calls(kept.room.number)))
             self.assertEqual(len(lines), kept.room.log.count + 1)
         row = self.store.rooms()[-1]
-        self.assertEqual((row.title, row.parent), ("again", to.room))
+        self.assertEqual((json.loads(row.title)[1]["words"], row.parent), ("again", to.room))
         again = Store(self.store.path, alone=False)
         self.addCleanup(again.close)
 

@@ -11,7 +11,8 @@ from pathlib import Path
 import aiohttp
 
 from classroom.room import Refused, Room
-from classroom.server import codes, paper
+from classroom.server import codes
+from classroom.server.paper import Paper
 from classroom.server.record import seen
 from classroom.tests.browsing import PICTURES, Browser
 from classroom.tests.serving import Class, Page, Quiet
@@ -140,7 +141,7 @@ class Worksheets(unittest.TestCase):
         for _ in range(7):
             room.go_on(room.now + 1000)
         before = seen(room)
-        text = paper.worksheet(room, 1, None)
+        text = Paper("en").worksheet(room, 1, None)
         self.assertEqual(seen(room), before)
         given, solved = text.split("<h1>Solution")
         self.assertNotIn("becomes", given.partition("Its table before")[2].partition("The boxes")[0])
@@ -152,14 +153,14 @@ class Worksheets(unittest.TestCase):
         room.send(room.seats[far.seat], far.link, way=0)
         room.seat(1, {"do": "call", "call": "receive", "message": next(iter(room.seats[1].waiting))})
         for entry in room.seats[1].state.table:
-            cells = "".join(f"<td>{cell}</td>" for cell in (entry.delay, entry.offset, entry.ttl, entry.pid))
+            cells = "".join(f"<td>{cell:,}</td>" for cell in (entry.delay, entry.offset, entry.ttl, entry.pid))
             self.assertIn(cells, solved)
 
     def test_no_message(self):
         room = Room.fresh(1)
         for number, message in ((0, None), (0, 7), (5, None)):
             with self.assertRaises(Refused):
-                paper.worksheet(room, number, message)
+                Paper("en").worksheet(room, number, message)
 
 
 class Printing(unittest.TestCase):
@@ -202,14 +203,14 @@ class Printing(unittest.TestCase):
 
     def test_checklist(self):
         (page,) = self.pages("checklist")
-        for name in (*(f"step {n}" for n in range(1, 6)), *(f"line {letter}" for letter in "abcd")):
+        for name in (*(f"Step {n}" for n in range(1, 6)), *(f"Line {letter}" for letter in "abcd")):
             self.assertIn(name, page)
 
     def test_worksheet(self):
         first, second, *solution = self.pages("worksheet?seat=1")
         self.assertIn("Hosts in the packet", first)
         self.assertIn("Its table after", first)
-        self.assertIn("line d", second)
+        self.assertIn("Line d", second)
         self.assertIn("Solution", solution[0])
         self.assertLessEqual(len(solution), 2)
         self.assertEqual(sum("Its table after" in page for page in solution), 1)

@@ -93,16 +93,17 @@ class Picture(unittest.TestCase):
         cls.teacher.one("#room[data-time]")
         cls.teacher.click("#start-close")
 
-    def ask(self, message):
-        """A message of the teacher's, by a socket of its own."""
+    def ask(self, *messages):
+        """Messages of the teacher's, by a socket of their own; the last one's reply comes last."""
         told = self.teacher.run(
-            "const [message] = arguments;"
+            "const [messages] = arguments, replies = [];"
             "const s = new WebSocket(`ws://${location.host}/teacher/socket`);"
-            "s.onopen = () => s.send(JSON.stringify({ n: 1, ...message }));"
-            "s.onmessage = (m) => { const told = JSON.parse(m.data); if (told.n === 1) { s.close(); done(told); } };",
-            message,
+            "s.onopen = () => messages.forEach((message, i) => s.send(JSON.stringify({ n: i + 1, ...message })));"
+            "s.onmessage = (m) => { const told = JSON.parse(m.data); if (told.n) replies.push(told);"
+            "  if (told.n === messages.length) { s.close(); done(replies); } };",
+            messages,
         )
-        self.assertIn("reply", told)
+        self.assertEqual([each for each in told if "reply" not in each], [])
 
     def set_up(self, seats, pairs):
         before = self.teacher.told("#room", "data-number")
@@ -135,10 +136,8 @@ class Picture(unittest.TestCase):
         """Eleven messages wait at each of sixteen hosts that work by hand."""
         seats, pairs = ROOMS["ring of 16"]
         self.set_up(seats, pairs)
-        for seat in range(seats):
-            for _ in range(11):
-                text = "hello 0 0 0 1 0\n"
-                self.ask({"do": "call", "seat": seat, "call": "write", "link": 1, "text": text})
+        write = {"do": "call", "call": "write", "link": 1, "text": "hello 0 0 0 1 0\n"}
+        self.ask(*({**write, "seat": seat} for seat in range(seats) for _ in range(11)))
         host = '#picture [data-host="15"]'
         self.teacher.until(lambda: "11 wait" in self.teacher.text(host), "11 wait")
         for width in WIDTHS:

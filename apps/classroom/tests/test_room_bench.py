@@ -13,6 +13,7 @@ from classroom.room import Refused, Room
 from classroom.room.bench import of_room
 from classroom.room.bench.stand import AT_ONCE
 from classroom.room.state import shown, state_of
+from classroom.room.texts import english
 
 ROOT = Path(__file__).resolve().parents[3]
 PAIR = "seat 192.0.2.1\nseat 192.0.2.2\ncable 0.1 1.1\n"
@@ -136,10 +137,10 @@ class Files(unittest.TestCase):
         ):
             octets = bytearray(good)
             octets[place] = octet
-            self.assertIn(fault, load_octets(self.room, bytes(octets))["fault"])
+            self.assertIn(fault, english(load_octets(self.room, bytes(octets))["fault"]))
             reply = set_up(self.room)
             self.assertEqual(reply["answer"], answer)
-            self.assertIn(fault, reply["meaning"])
+            self.assertIn(fault, english(reply["told"]["fault"]))
             self.assertEqual(view(self.room)["last"], reply)
             self.assertFalse(view(self.room)["ready"])
             with self.assertRaisesRegex(Refused, "set it up first"):
@@ -192,10 +193,10 @@ class Runs(unittest.TestCase):
             self.assertEqual((reply["answer"], reply["count"], reply["done"]), (0, 1, event + 1))
             told.append(view(self.room)["last"])
             self.assertEqual((told[-1]["call"], told[-1]["event"]), ("bench_event", event))
-        events = view(self.room)["events"]
+        events = [[kind, english(words)] for kind, words in view(self.room)["events"]]
         self.assertEqual(events[9], ["set", "seat 1: set by -500 ms; count 90"])
-        self.assertEqual(events[7], ["arrival", "the packet in tray 0 arrives (see event 6); count 90"])
-        self.assertEqual(told[7]["told"], {"went": "from seat 0, link 1, to seat 1, link 1"})
+        self.assertEqual(events[7], ["arrival", "the packet in slot 0 arrives (see event 6); count 90"])
+        self.assertEqual(english(told[7]["told"]["went"]), "from seat 0, link 1, to seat 1, link 1")
         moved = {"seat": 1, "where": "host 0", "field": "DELAY", "before": 30_000, "after": 100}
         self.assertIn(moved, told[7]["changes"])
         self.assertEqual((told[8]["answer"], told[8]["changes"], told[8]["told"]), (3, [], {}))
@@ -225,8 +226,10 @@ class Runs(unittest.TestCase):
             self.assertEqual(view(self.room)["promised"], {"of": 2, "looked": 0, "broken": []})
             while run(self.room, pieces)["count"]:
                 pass
+            promised = view(self.room)["promised"]
+            self.assertEqual((promised["of"], promised["looked"]), (2, 2))
             broken = ["line 17: after 8 events, seat 1, host 0: OFFSET is -500, not -499"]
-            self.assertEqual(view(self.room)["promised"], {"of": 2, "looked": 2, "broken": broken})
+            self.assertEqual([english(each) for each in promised["broken"]], broken)
         self.room.teacher({"do": "bench_back"})
         run(self.room, 12)
         self.assertIsNone(view(self.room)["promised"])
@@ -291,7 +294,7 @@ class Runs(unittest.TestCase):
         to_the_end(self.room)
         broken = view(self.room)["promised"]["broken"]
         self.assertEqual(len(broken), 20)
-        self.assertIn("was answered 10, and the text names 0", broken[0])
+        self.assertIn("was answered 10, and the text names 0", english(broken[0]))
 
     def test_the_classes_net_table(self):
         """Lent as it stands: its rows count, and another NHOSTS is 19."""
@@ -301,7 +304,7 @@ class Runs(unittest.TestCase):
         reply = run(self.room, 1)
         self.assertEqual((reply["answer"], reply["count"]), (19, 0))
         words = "the file's NHOSTS is 2, that of the class's table 5"
-        self.assertIn(words, view(self.room)["last"]["meaning"])
+        self.assertIn(words, english(view(self.room)["last"]["told"]["fault"]))
         self.assertEqual(set_up(self.room, "class")["answer"], 19)
         self.assertEqual(set_up(self.room, "own")["answer"], 0)
         self.room.teacher({"do": "net_afresh", "nhosts": 2})
@@ -386,7 +389,7 @@ class OfARoom(unittest.TestCase):
         taken = self.taken(room)
         self.assertEqual(len(taken.file.events), 2_048)
         words = "line 2,314: with it there are 2,049 events, and a file has 2,048 at most"
-        self.assertEqual(taken.stopped, words)
+        self.assertEqual(english(taken.stopped), words)
 
     def test_calls_without_events(self):
         room = crystals(2)
@@ -403,11 +406,11 @@ class OfARoom(unittest.TestCase):
         ):
             other = crystals(2)
             other.seat(1, {"do": "call", "call": call, **more})
-            self.assertEqual(self.taken(other).stopped, f"line 4: {words}")
+            self.assertEqual(english(self.taken(other).stopped), f"line 4: {words}")
         room.teacher({"do": "net_add", "net": "10.0.0", "id": 40})
         room.teacher({"do": "net_add", "net": "10.0.0", "id": 1})
         taken = self.taken(room)
-        self.assertEqual(taken.stopped, f"line {room.log.count:,}: net_add of the net table has no event")
+        self.assertEqual(english(taken.stopped), f"line {room.log.count:,}: net_add of the net table has no event")
         self.assertEqual(taken.left_out[-1], room.log.count - 1)
 
     def test_what_was_written_by_hand(self):
@@ -417,13 +420,13 @@ class OfARoom(unittest.TestCase):
         message = room.seat(0, write)["told"]["message"]
         room.seat(0, {"do": "call", "call": "receive", "message": message})
         words = "line 5: link 1 of seat 0 has no cable, and so act no event"
-        self.assertEqual(self.taken(room).stopped, words)
+        self.assertEqual(english(self.taken(room).stopped), words)
         room = crystals(2)
         room.teacher({"do": "by_hand", "seat": 0, "on": True})
         message = room.seat(0, {"do": "call", "call": "write", "link": 1, "text": text})["told"]["message"]
         room.seat(0, {"do": "call", "call": "receive", "message": message})
         taken = self.taken(room)
-        self.assertEqual(taken.stopped, "line 6: the packet was written by hand, and no seat has sent it")
+        self.assertEqual(english(taken.stopped), "line 6: the packet was written by hand, and no seat has sent it")
         self.assertEqual((taken.lines, taken.left_out), (5, [4]))
 
     def test_trays(self):
@@ -438,7 +441,7 @@ class OfARoom(unittest.TestCase):
         for message in list(room.seats[1].waiting):
             room.seat(1, {"do": "call", "call": "receive", "message": message})
         taken = self.taken(room)
-        self.assertEqual(taken.stopped, "line 36: all 32 trays hold packets that are still to arrive")
+        self.assertEqual(english(taken.stopped), "line 36: all 32 slots have packets that are still to arrive")
         self.assertEqual(len(taken.file.events), 32)
 
     def test_loaded(self):

@@ -96,8 +96,8 @@ class Texts(unittest.TestCase):
         self.assertEqual(message["octets"].split(" ")[20:22], ["cd", "e9"])
         fields = {field["name"]: (field["value"], field["octets"]) for field in message["fields"]}
         self.assertEqual(fields["CHECKSUM"], ("cde9 hex", [20, 22]))
-        self.assertEqual(fields["TIME"], ("3,600,000 ms (01:00:00.000)", [24, 28]))
-        self.assertEqual(fields["TSP"], ("4,660", [28, 30]))
+        self.assertEqual(fields["TIME"], (["packet.time", {"ms": 3_600_000, "clock": "01:00:00.000"}], [24, 28]))
+        self.assertEqual(fields["TSP"], (4_660, [28, 30]))
         self.assertEqual(call(room, 0, "inspect", message=message["message"])["answer"], 0)
 
     def test_looped(self):
@@ -112,8 +112,8 @@ class Texts(unittest.TestCase):
         call(room, 0, "write", link=1, text=text, source="192.0.2.2")
         (message,) = room.seat_view(0)["seat"]["waiting"]
         named = {field["name"]: field["value"] for field in message["fields"]}
-        self.assertEqual(named["host 0 DELAY"], "30,000 ms")
-        self.assertEqual(named["host 0 OFFSET"], "-5 ms")
+        self.assertEqual(named["host 0 DELAY"], ["packet.ms", {"ms": 30_000}])
+        self.assertEqual(named["host 0 OFFSET"], ["packet.ms", {"ms": -5}])
         self.assertEqual(message["fields"][-1]["octets"], [38, 40])
 
     def test_refused(self):

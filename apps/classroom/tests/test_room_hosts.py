@@ -25,9 +25,9 @@ class SeveralHosts(unittest.TestCase):
         self.assertEqual(
             learned,
             [(0, "Ada", 0, 0, True)]
-            + [(id, name, 700, 700, True) for id, name in ((1, "Ben"), (2, "at Ben"), (4, "at Ben"))],
+            + [(id, name, 700, 700, True) for id, name in ((1, "Ben"), (2, "@Ben"), (4, "@Ben"))],
         )
-        self.assertEqual(ada["table"][3]["name"], "host 3")
+        self.assertEqual(ada["table"][3]["name"], "")
 
     def test_the_view_has_the_set_up(self):
         seats = Room(two_seats(also=[2], clock_host=0)).teacher_view()["seats"]

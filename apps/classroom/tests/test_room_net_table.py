@@ -195,7 +195,7 @@ class LookUp(unittest.TestCase):
         for id in range(4):
             tutor(room, "net_add", net=f"10.0.{id}", id=id)
         names = [row["name"] for row in room.seat_view(1)["net_table"]["rows"]]
-        self.assertEqual(names, ["Ada", "Ben", "at Ada", "host 3"])
+        self.assertEqual(names, ["Ada", "Ben", "@Ada", ""])
 
 
 class InAWalk(unittest.TestCase):

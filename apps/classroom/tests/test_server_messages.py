@@ -13,6 +13,7 @@ from pathlib import Path
 
 import aiohttp
 
+from classroom.room.texts import english
 from classroom.tests.serving import Class, Page, Quiet, replayed
 
 SEATS = 8
@@ -232,7 +233,7 @@ class Messages(Quiet):
         self.assertEqual(set(student.view), set(seen))
         letters = base64.b64encode(b"no bench file").decode()
         told = await self.teacher.ask("bench_load", name="x", octets=letters)
-        self.assertIn("the header alone has 20", told["fault"])
+        self.assertIn("the header alone has 20", english(told["fault"]))
         self.assertEqual((await self.teacher.ask("bench_set_up", net="own"))["answer"], 18)
         self.assertEqual(await self.teacher.get("/teacher/exercise.bench"), (200, "no bench file"))
         self.assertEqual((await self.teacher.get("/teacher/exercise.txt"))[0], 404)
@@ -274,7 +275,7 @@ class Messages(Quiet):
         message = aiohttp.WSMessage(aiohttp.WSMsgType.TEXT, '{"n": 5, "do": "x"}', None)
         with self.assertLogs("class"):
             told = json.loads(await sockets.answer(Hall(), types.SimpleNamespace(place="/seat/0"), message))
-        self.assertEqual(told, {"n": 5, "refused": "the server could not do this"})
+        self.assertEqual(told, {"n": 5, "refused": "the server could not do this", "text": ["refused.server", {}]})
 
     async def test_students_see_their_own_seat(self):
         for what in ("nothing", "picture", "tables"):

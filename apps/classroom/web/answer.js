@@ -2,8 +2,8 @@
 
 import { el, headRow } from "./dom.js";
 import { changesList, changesWords, told as toldChanges } from "./marks.js";
-import { t } from "./language.js";
-import { answerName, callName, number, roomTime, timeOfDay } from "./words.js";
+import { t, written } from "./language.js";
+import { answerChanges, answerMeaning, answerName, callName, number, roomTime, timeOfDay } from "./words.js";
 
 // What a box returns is shown in the walk.
 const elsewhere = new Set(["next", "box", "sum"]);
@@ -19,8 +19,7 @@ export function wayWords(way, names) {
 function toldValue(name, value, names) {
   if (name === "time") return `${number(value)} ms, ${timeOfDay(value)}`;
   if (name === "way") return wayWords(value, names);
-  if (name === "fault") return t(...value);
-  return number(value);
+  return written(value);
 }
 
 function toldList(told = {}, names) {
@@ -54,7 +53,7 @@ export function makeAnswer(id = "answer", asked = t("answer.host")) {
   }
 
   function show(reply, names = {}) {
-    const call = `${callName(reply.call)}: `;
+    const call = `${reply.words ?? callName(reply.call)}: `;
     if (reply.answer !== 0) return showRefusal(reply, call, names);
     const inWalk = reply.call === "step" || reply.call === "walk_on";
     const changed = toldChanges(reply.changes).length ? changesList(reply.changes)
@@ -67,7 +66,7 @@ export function makeAnswer(id = "answer", asked = t("answer.host")) {
   }
 
   function showRefusal(reply, call, names) {
-    const words = t("answer.refused", { meaning: reply.meaning, changes: reply.changed_as_told });
+    const words = t("answer.refused", { meaning: reply.words_of_answer ?? answerMeaning(reply.answer), changes: answerChanges(reply.answer) });
     put(reply.answer, "refusal", [
       headline("✗", call, el("strong", {}, answerName(reply))),
       el("p", {}, words),
@@ -93,5 +92,5 @@ export function makeAnswer(id = "answer", asked = t("answer.host")) {
 export function answersTable(answers) {
   return el("table", {}, el("caption", {}, t("answers.title")), headRow(["number", "name", "meaning", "changes"].map((part) => t(`answers.${part}`))),
     el("tbody", {}, answers.map((a) => el("tr", {}, el("th", { scope: "row" }, String(a.number)),
-      [a.name, a.meaning, a.changes].map((words) => el("td", {}, words))))));
+      [a.name, answerMeaning(a.number), answerChanges(a.number)].map((words) => el("td", {}, words))))));
 }

@@ -5,42 +5,40 @@ import { makeAnswer } from "./answer.js";
 import { loadMessage } from "./benchfile.js";
 import { makeBenchList, meaningOf } from "./benchlist.js";
 import { makeBenchSeats } from "./benchseats.js";
-import { count, number } from "./words.js";
+import { count, t, written } from "./language.js";
 
-// So many events are asked for at once; the room carries out fewer, so that progress is seen and nobody has to wait.
+// This many events are asked for at once; the room carries out fewer, so that progress is seen and nobody has to wait.
 const AT_ONCE = 2048;
 
 function fileWords(view) {
-  if (!view) return "No file is loaded.";
-  const octets = count(view.octets, "octet");
-  if (view.fault) return `${view.name}: ${octets}.`;
-  const parts = [count(view.seats_of_file, "seat"), count(view.cables_of_file, "cable"), count(view.of, "event")];
-  const files = view.pieces > 1 ? `${count(view.pieces, "file")}, one after the other` : octets;
-  return `${view.name}: ${parts.join(", ")}, NHOSTS ${number(view.nhosts)}, ${files}. `
-    + (view.ready ? "" : "It is not set up yet.");
+  if (!view) return t("bench.no_file");
+  const octets = count("bench.octets", view.octets);
+  if (view.fault) return t("bench.file_fault", { name: view.name, octets });
+  const values = { name: view.name, seats: count("bench.n_seats", view.seats_of_file), cables: count("bench.n_cables", view.cables_of_file),
+    events: count("bench.n_events", view.of), nhosts: view.nhosts, size: view.pieces > 1 ? t("bench.pieces", { n: view.pieces }) : octets };
+  return t(view.ready ? "bench.file" : "bench.file_not_ready", values);
 }
 
 // What came of taking the room as a file.
 function roomWords(reply) {
-  const lines = `line ${number(reply.lines)} of ${number(reply.of)}, as ${count(reply.events, "event")}`;
-  const out = reply.left_out.length ? ` Left out, since it changed nothing: line ${reply.left_out.join(", ")}.` : "";
-  const end = reply.stopped ? ` There it ends, since of ${reply.stopped}.` : "";
-  return `The list of calls up to ${lines}.${out}${end}`;
+  const parts = [t("bench.taken", { line: reply.lines, of: reply.of, events: count("bench.n_events", reply.events) })];
+  if (reply.left_out.length) parts.push(t("bench.left_out", { lines: reply.left_out.join(", ") }));
+  if (reply.stopped) parts.push(t("bench.stopped", { why: reply.stopped }));
+  return parts.join(" ");
 }
 
 // Of a long text the answers of the file that is run now are here.
 function ranWords(start, view) {
-  if (start === view.done) return "No event was left.";
+  if (start === view.done) return t("bench.at_end");
   const here = Math.max(start - view.first, 0);
-  const refused = number(view.answers.slice(here).filter((answer) => answer !== 0).length);
-  const which = start < view.first ? "of those in this file" : "of them";
-  return `Events ${number(start)} to ${number(view.done - 1)} are carried out, ${refused} ${which} refused.`;
+  const refused = view.answers.slice(here).filter((answer) => answer !== 0).length;
+  return t(start < view.first ? "bench.ran_file" : "bench.ran", { first: start, last: view.done - 1, refused });
 }
 
 // What the text promises, as far as it was looked at.
 function promisedWords({ of, looked, broken }) {
-  if (broken.length) return `✗ It did not come out as promised. ${broken.join("\n")}`;
-  return `✓ ${number(looked)} of the ${count(of, "promise")} of its text are looked at, and kept.`;
+  if (broken.length) return t("bench.broken", { broken });
+  return t("bench.kept", { looked, of });
 }
 
 // ask(message) gives a promise of the reply.
@@ -54,7 +52,7 @@ export function makeBench(ask) {
   let drawn = null;
   const list = makeBenchList();
   const seats = makeBenchSeats(() => { drawn = null; update(); });
-  const answer = makeAnswer("bench-answer", "the bench");
+  const answer = makeAnswer("bench-answer", t("bench.asked"));
   byId("bench-answered").replaceChildren(answer.node);
 
   // Asks; gives the reply, and null where it is refused, which is told.
@@ -64,7 +62,7 @@ export function makeBench(ask) {
       tell("");
       return reply;
     } catch (error) {
-      tell(`Not done: ${error.message}`, true);
+      tell(t("teacher.not_done", { why: error.message }), true);
       return null;
     }
   }
@@ -75,7 +73,7 @@ export function makeBench(ask) {
 
   function progress(done, of) {
     set(byId("bench-progress"), { max: of || 1, value: done });
-    say(byId("bench-done"), `${number(done)} of ${count(of, "event")} done.`);
+    say(byId("bench-done"), t("bench.done", { done, n: of }));
     set(byId("bench-work"), { "data-done": done, "data-of": of });
   }
 
@@ -130,16 +128,15 @@ export function makeBench(ask) {
 
   // What set-up and runs came to.
   function showLast(last) {
-    if (!last) return answer.note("Nothing was done yet.");
+    if (!last) return answer.note(t("bench.nothing"));
     if (last.call !== "bench_event" && last.answer === 0) {
-      if (last.call === "bench_set_up") return answer.note("All seats are set afresh, and all trays are empty.");
-      // Of a run in pieces the last one is told: it began where this page began it.
+      if (last.call === "bench_set_up") return answer.note(t("bench.is_set_up"));
+      // Of a run in pieces the last one is shown: it began where this page began it.
       return answer.note(ranWords(Math.min(ran ?? last.told.first, last.told.first), view));
     }
     const [kind, words] = events[last.event - view.first] ?? [];
-    const changes = last.changes.map((c) => ({ ...c, where: `seat ${c.seat}, ${c.where}` }));
-    const call = kind ? `event ${last.event}, ${words}` : last.call;
-    answer.show({ ...last, call, meaning: meaningOf(kind, last), changes });
+    const call = kind ? { words: t("bench.event_is", { event: last.event, words }), words_of_answer: meaningOf(kind, last.answer) } : {};
+    answer.show({ ...last, ...call });
   }
 
   // A view's part; the events in words come with a new file alone.
@@ -148,7 +145,7 @@ export function makeBench(ask) {
     if (!next?.last?.told.count) ran = null;
     if (!next?.events) return;
     events = next.events;
-    names = next.hosts;
+    names = next.hosts.map((host) => (host ? written(host) : ""));
     list.load(events, next.first);
   }
 
@@ -159,7 +156,7 @@ export function makeBench(ask) {
     set(byId("bench-file"),
       { "data-number": view?.number, "data-name": view?.name, "data-ready": String(!!view?.ready) });
     byId("bench-fault").hidden = !view?.fault;
-    say(byId("bench-fault"), view?.fault ? `This file is refused: ${view.fault}` : "");
+    say(byId("bench-fault"), view?.fault ? t("bench.refused", { why: view.fault }) : "");
     byId("bench-work").hidden = !view;
     byId("bench-save").hidden = !view;
     byId("bench-save-text").hidden = !view || !!view.fault;

@@ -2,14 +2,14 @@
 // only the rows that were carried out, or taken back, are touched.
 
 import { byId, el, say, set } from "./dom.js";
-import { answerName, number } from "./words.js";
+import { t } from "./language.js";
+import { answerMeaning, answerName, number } from "./words.js";
 
-// No event but the arrival of such a tray has this answer: what a seat sends is in form.
+// Only the arrival of such a tray has this answer: what a seat sends is in form.
 const IP_FORM = 3;
-const NEVER_FILLED = "the tray was never filled, and no seat is asked";
 
-export function meaningOf(kind, { answer, meaning }) {
-  return kind === "arrival" && answer === IP_FORM ? NEVER_FILLED : meaning;
+export function meaningOf(kind, answer) {
+  return kind === "arrival" && answer === IP_FORM ? t("bench.never_filled") : answerMeaning(answer);
 }
 
 export function makeBenchList() {
@@ -25,7 +25,7 @@ export function makeBenchList() {
 
   function row([, words], i) {
     const cell = el("td", { "data-field": "answer" });
-    const event = el("td", { "data-field": "call" }, words);
+    const event = el("td", { "data-field": "call" }, t(...words));
     const place = first + i;
     return { node: el("tr", { "data-event": place }, el("th", { scope: "row" }, number(place)), event, cell), cell };
   }
@@ -41,8 +41,8 @@ export function makeBenchList() {
   }
 
   function fill(i, answer) {
-    const { name, meaning } = answers.get(answer);
-    const refused = answer ? `: ${meaningOf(events[i][0], { answer, meaning })}` : "";
+    const { name } = answers.get(answer);
+    const refused = answer ? `: ${meaningOf(events[i][0], answer)}` : "";
     set(rows[i].node, { "data-answer": answer, class: answer ? "refusal" : null });
     say(rows[i].cell, answerName({ answer, name }) + refused);
   }

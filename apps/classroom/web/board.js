@@ -2,7 +2,7 @@
 
 import { byId, button, el, headRow, keyed, say, set } from "./dom.js";
 import { count, language, number, t } from "./language.js";
-import { answerName, callName } from "./words.js";
+import { answerName, callName, placeName } from "./words.js";
 
 const columns = ["name", "here", "by_hand", "at", "waiting", "calls", "marks", "last", "table", "needs"];
 
@@ -17,7 +17,7 @@ const words = {
   name: (row) => row.name ?? t("board.no_name"),
   here: hereWords,
   by_hand: (row) => t(row.by_hand ? "board.hand" : "board.itself"),
-  at: (row) => [row.exercise_number && t("board.exercise", { number: row.exercise_number }), row.box].filter(Boolean).join(", ") || "–",
+  at: (row) => [row.exercise_number && t("board.exercise", { number: row.exercise_number }), row.box && placeName(row.box)].filter(Boolean).join(", ") || "–",
   waiting: (row) => number(row.waiting),
   calls: (row) => t("board.refused", { calls: row.calls, refusals: row.refusals }),
   marks: (row) => (row.tried ? t(row.second ? "board.of_second" : "board.of", row) : "–"),

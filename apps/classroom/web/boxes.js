@@ -1,7 +1,7 @@
 // The boxes of the checklist: which are done, next and to come, and what each made.
 
 import { el, say, set } from "./dom.js";
-import { changesList, told } from "./marks.js";
+import { changesList, fieldName, told } from "./marks.js";
 import { arithmetic } from "./predict.js";
 import { glossed } from "./glossary.js";
 import { number, t } from "./language.js";
@@ -57,7 +57,7 @@ export function hostsDone(walk) {
   return [...hosts].map(([id, boxes]) => {
     const changes = boxes.flatMap((box) => told(box.changes)).filter((c) => c.where !== "walk");
     const last = boxes.at(-1);
-    const words = changes.map((c) => `${c.field} ${number(c.before)} → ${number(c.after)}`).join(", ");
+    const words = changes.map((c) => `${fieldName(c.field)} ${number(c.before)} → ${number(c.after)}`).join(", ");
     const sum = (last.words ?? []).map(([key, values]) => t(key, values)).join("; ");
     return { id, words: words || t("walk.by_line", { line: last.line, sum }) };
   });

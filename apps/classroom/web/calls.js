@@ -1,7 +1,8 @@
 // The list of all calls with their answers, the newest on top.
 
 import { byId, el, keyed, options, say } from "./dom.js";
-import { answerName, number, roomTime } from "./words.js";
+import { t } from "./language.js";
+import { answerName, callName, number, roomTime } from "./words.js";
 
 const KEPT = 4000;
 const SHOWN = 150;
@@ -9,7 +10,7 @@ const SHOWN = 150;
 // What a call was given, in short; the file has it whole, the counter and the packet's octets with it.
 function withWords(given) {
   return Object.entries(given ?? {}).filter(([name]) => name !== "counter" && name !== "count").map(([name, value]) => {
-    if (name === "packet") return `packet of ${value.replaceAll(" ", "").length / 2} octets`;
+    if (name === "packet") return t("calls.packet", { n: value.replaceAll(" ", "").length / 2 });
     if (name === "address" && Array.isArray(value)) return value.join(".");
     const words = typeof value === "object" ? JSON.stringify(value) : String(value);
     return `${name} ${words.length > 40 ? words.slice(0, 38) + "…" : words}`;
@@ -40,7 +41,7 @@ export function makeCalls() {
     node.append(...cells);
     function update(call) {
       const times = call.times > 1 ? "×" + number(call.times) : "";
-      const said = [roomTime(call.time), names[call.seat] ?? "net table", call.call, withWords(call.with), times, answerName(call)];
+      const said = [roomTime(call.time), names[call.seat] ?? t("tab.nets"), callName(call.call), withWords(call.with), times, answerName(call)];
       cells.forEach((cell, i) => say(cell, said[i]));
     }
     return { node, update };
@@ -48,14 +49,14 @@ export function makeCalls() {
 
   function update(view) {
     names = Object.fromEntries(view.seats.map((s) => [s.number, s.name]));
-    options(seat, [["", "all"], ["null", "net table"], ...view.seats.map((s) => [s.number, s.name])]);
+    options(seat, [["", t("calls.all")], ["null", t("tab.nets")], ...view.seats.map((s) => [s.number, s.name])]);
     if (!changed || (hold.checked && body.childElementCount)) return;
     changed = false;
     const wanted = calls.filter((c) => (seat.value === "" || String(c.seat) === seat.value)
       && (ticks.checked || c.call !== "tick") && (!refused.checked || c.answer !== 0));
     keyed(body, wanted.slice(-SHOWN).reverse(), (c) => c.line, row);
     const shown = Math.min(wanted.length, SHOWN);
-    say(byId("calls-words"), `${number(shown)} of ${number(wanted.length)} calls shown, the newest on top.`);
+    say(byId("calls-words"), t("calls.shown", { shown, all: wanted.length }));
   }
   function clear() {
     calls = [];

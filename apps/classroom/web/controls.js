@@ -1,6 +1,7 @@
 // Run, pause, slower, faster, one second, one message; waiting for hands; what students see.
 
 import { byId, say, set } from "./dom.js";
+import { t } from "./language.js";
 import { roomTime, speedWords } from "./words.js";
 
 const speeds = [0.01, 0.02, 0.05, 0.1, 0.2, 0.5, 1, 2, 5, 10, 20, 50, 100];
@@ -31,9 +32,9 @@ export function makeControls(send) {
   byId("show").addEventListener("change", (event) => send({ do: "show", what: event.target.value }));
 
   function state(names) {
-    if (room.full) return "stands: the list of calls is full; set up a room anew";
-    if (room.waiting_for?.length) return `stands: waits for ${room.waiting_for.map((n) => names[n] ?? n).join(", ")}`;
-    return room.running ? "runs" : "paused";
+    if (room.full) return t("teacher.full");
+    if (room.waiting_for?.length) return t("teacher.waits_for", { names: room.waiting_for.map((n) => names[n] ?? n).join(", ") });
+    return t(room.running ? "teacher.runs" : "teacher.paused");
   }
 
   function update(next, names) {

@@ -65,7 +65,7 @@ export function makeExercises(send, chosen, ask) {
   function told(words, faults = [], more = 0, refused = false) {
     say(byId("exercise-said"), words);
     set(byId("exercise-said"), { hidden: !words, class: refused ? "said refusal" : "said" });
-    const rows = faults.map(({ line, words: fault }) => el("li", { "data-line": line }, el("strong", {}, `${t("exercise.line", { line })} `), fault));
+    const rows = faults.map(({ line, text }) => el("li", { "data-line": line }, el("strong", {}, `${t("exercise.line", { line })} `), t(...text)));
     if (more) rows.push(el("li", {}, count("exercise.more_lines", more)));
     byId("exercise-faults").replaceChildren(...rows);
   }

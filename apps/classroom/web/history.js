@@ -2,9 +2,10 @@
 // notice nothing of it until the teacher lets a room go on from there.
 
 import { byId, options, say, set } from "./dom.js";
-import { t } from "./language.js";
+import { fetched, t } from "./language.js";
 import { makePicture } from "./picture.js";
 import { makeTables } from "./table.js";
+import { callName } from "./words.js";
 
 const PAUSE = 120;
 
@@ -21,7 +22,7 @@ export function makeHistory(ask) {
   const complain = (words) => say(byId("history-said"), words);
 
   async function get(path) {
-    const answer = await fetch(path);
+    const answer = await fetched(path);
     if (!answer.ok) throw new Error((await answer.text()).trim());
     return answer.json();
   }
@@ -44,7 +45,7 @@ export function makeHistory(ask) {
   function show(past) {
     const { call } = past;
     const words = call ? t("history.call", {
-      line: call.line, of: Number(slider.max), call: call.call,
+      line: call.line, of: Number(slider.max), call: callName(call.call),
       seat: call.seat === null ? t("history.tutor") : past.seats[call.seat]?.name ?? String(call.seat), answer: call.answer,
     }) : t("history.begin");
     say(byId("history-call"), words);

@@ -22,17 +22,23 @@ const numbers = new Intl.NumberFormat(language === "de" ? "de-DE" : "en-US", { m
 // 30000 as "30,000", -51 with a true minus sign.
 export function number(n) {
   if (n === null || n === undefined) return "–";
+  if (typeof n === "boolean") return t(n ? "yes" : "no");
   if (typeof n !== "number") return String(n);
   const digits = numbers.format(Math.abs(n));
   return n < 0 ? "−" + digits : digits;
+}
+
+// A value of a text: a number, words, a text, or a list of texts, which has a line for each.
+export function written(value) {
+  if (!Array.isArray(value)) return number(value);
+  return Array.isArray(value[0]) ? value.map((text) => t(...text)).join("\n") : t(...value);
 }
 
 // A text by its key, with its values: numbers as this language writes them, texts within it too.
 export function t(key, values = {}) {
   const text = words[key] ?? key;
   return text.replace(/\{(\w+)\}/g, (whole, name) => {
-    if (!(name in values)) return whole;
-    return Array.isArray(values[name]) ? t(...values[name]) : number(values[name]);
+    return name in values ? written(values[name]) : whole;
   });
 }
 
@@ -51,9 +57,21 @@ export function translate(root = document) {
   }
 }
 
+// Links to sheets that are printed ask for them in this language.
+export function translateLinks(root = document) {
+  for (const link of root.querySelectorAll('a[href^="/teacher/print/"]')) {
+    const address = new URL(link.href);
+    address.searchParams.set("language", language);
+    link.href = address.pathname + address.search;
+  }
+}
+
+// Fetches a part of the class; what is refused is said in this language.
+export const fetched = (path, more = {}) => fetch(path, { ...more, headers: { "Accept-Language": language } });
+
 // The list in which a reader chooses her language: the page is loaded again in it.
 export function offerLanguages(select) {
-  select.replaceChildren(...KNOWN.map((code) => new Option(code === "de" ? "Deutsch" : "English", code, false, code === language)));
+  select.replaceChildren(...KNOWN.map((code) => new Option(t(`language.${code}`), code, false, code === language)));
   select.addEventListener("change", () => {
     try { localStorage.setItem(STORE, select.value); } catch { /* it is asked again next time */ }
     location.reload();

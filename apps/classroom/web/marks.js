@@ -1,7 +1,7 @@
 // What the last call changed, to be marked where it stands: a value with what it was before.
 
 import { el, say, set } from "./dom.js";
-import { number, t } from "./language.js";
+import { has, number, t } from "./language.js";
 
 // Field names as the places that show them are called.
 const places = {
@@ -41,13 +41,26 @@ export function told(changes) {
   return (changes ?? []).filter((c) => !(c.where === "walk" && c.field === "next"));
 }
 
+// The name of a field: one of the RFC stays.
+export function fieldName(field) {
+  const key = `changed.${field.replaceAll(" ", "_")}`;
+  return has(key) ? t(key) : field;
+}
+
+// A place of a host, "link 1": what it is, and its number.
+function placeWords({ seat, where }) {
+  const [kind, n] = where.split(" ");
+  const words = t(`where.${kind}`, { n });
+  return seat === undefined ? words : t("where.at_seat", { seat, where: words });
+}
+
 export function changesWords(changes) {
-  return told(changes).map((c) => `${c.where} ${c.field} ${number(c.before)} → ${number(c.after)}`).join(", ");
+  return told(changes).map((c) => `${placeWords(c)} ${fieldName(c.field)} ${number(c.before)} → ${number(c.after)}`).join(", ");
 }
 
 // The changes of a call or a box as a list.
 export function changesList(changes) {
   return el("ul", { class: "changes" }, told(changes).map((c) => el("li", {},
-    el("span", { class: "where" }, c.where === "walk" ? t("marks.held", { field: c.field }) : `${c.where}, ${c.field}: `),
+    el("span", { class: "where" }, c.where === "walk" ? t("marks.held", { field: fieldName(c.field) }) : `${placeWords(c)}, ${fieldName(c.field)}: `),
     el("span", { class: "before" }, number(c.before)), " → ", el("strong", {}, number(c.after)))));
 }

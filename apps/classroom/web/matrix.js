@@ -56,7 +56,7 @@ export function makeMatrix() {
       head.replaceChildren(...headRow([t("matrix.seat"), ...hosts.map((id) => `${id} ${widest.table[id].name}`)]).children);
     }
     const field = byId("matrix-field").value;
-    say(caption, t("matrix.caption", { what: t(`matrix.${field}`) }));
+    say(caption, t(field === "pid" ? "matrix.caption.pid" : "matrix.caption", { what: t(`matrix.${field}`) }));
     keyed(body, seats.map((seat) => ({ seat, hosts, field })), (item) => item.seat.number, row);
   }
   return { update };

@@ -5,11 +5,11 @@ import { inside } from "./packet.js";
 import { makeForm } from "./predict.js";
 import { number, t } from "./language.js";
 import { sure } from "./sure.js";
-import { answerName, ms, roomTime } from "./words.js";
+import { answerMeaning, answerName, ms, roomTime } from "./words.js";
 
 // The answer to "will it be taken?" in words.
 function inspected({ answer, told, ...reply }) {
-  if (answer !== 0) return t("messages.not_taken", { answer: answerName({ answer, ...reply }), meaning: reply.meaning });
+  if (answer !== 0) return t("messages.not_taken", { answer: answerName({ answer, ...reply }), meaning: answerMeaning(answer) });
   return t("messages.taken", { source: told.source, time: told.time, tsp: told.tsp, nhosts: told.nhosts });
 }
 

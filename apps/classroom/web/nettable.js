@@ -12,7 +12,7 @@ function row(first) {
   function update(now) {
     net.update(now.net, now.net, now.marks.get(`row ${now.row}/net`));
     id.update(number(now.id), now.id, now.marks.get(`row ${now.row}/host id`));
-    say(name, now.name);
+    say(name, now.name || "–");
   }
   return { node, update };
 }

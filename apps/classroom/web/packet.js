@@ -1,7 +1,8 @@
 // A message as text, as octets and as fields. The octets of the field in focus are lit.
 
 import { el, headRow, set } from "./dom.js";
-import { number, t } from "./language.js";
+import { number, t, written } from "./language.js";
+import { fieldName } from "./marks.js";
 
 const ACROSS = 16;
 
@@ -18,6 +19,12 @@ function octetsPart(octets) {
   return { node: el("div", { class: "octets", role: "group", "aria-label": label }, rows), light };
 }
 
+// "host 3 DELAY" and the names of a header's fields.
+function nameOf(name) {
+  const [, id, field] = name.match(/^host (\d+) (.*)$/) ?? [];
+  return id === undefined ? fieldName(name) : t("field.host_entry", { id, field });
+}
+
 function octetsWords([first, end]) {
   return end - first === 1 ? String(first) : `${first}–${end - 1}`;
 }
@@ -26,7 +33,7 @@ function octetsWords([first, end]) {
 function fieldsPart(fields, light) {
   const rows = fields.map((field, i) => el("tr", {
     tabindex: i ? -1 : 0, "data-name": field.name, onfocus: () => light(field), onblur: () => light(null),
-  }, el("th", { scope: "row" }, field.name), el("td", {}, number(field.value)),
+  }, el("th", { scope: "row" }, nameOf(field.name)), el("td", {}, written(field.value)),
   el("td", { class: "quiet" }, octetsWords(field.octets))));
   function move(event) {
     const step = { ArrowDown: 1, ArrowUp: -1 }[event.key];
@@ -59,7 +66,7 @@ export function facts(walk, seat) {
   }
   const list = (pairs) => el("dl", { class: "facts small" }, pairs.map(([name, value]) => el("div", {}, el("dt", {}, name), el("dd", {}, value))));
   return el("div", { class: "known-facts" }, el("strong", {}, t("predict.packet")),
-    list(told.filter((name) => name in of).map((name) => [name, of[name]])), el("strong", {}, t("predict.here")), list(own));
+    list(told.filter((name) => name in of).map((name) => [nameOf(name), written(of[name])])), el("strong", {}, t("predict.here")), list(own));
 }
 
 // Made where it is first opened.

@@ -16,12 +16,12 @@ function widthOf(words, font) {
   return pen.measureText(words).width;
 }
 
-// The words, cut to a width in pixels.
-function fitted(words, most, font) {
+// The words, cut to a width in pixels; of a name the end stays, which often is a number.
+function fitted(words, most, font, end = "") {
   if (widthOf(words, font) <= most) return words;
-  let cut = words.length;
-  while (cut > 1 && widthOf(`${words.slice(0, cut)}…`, font) > most) cut -= 1;
-  return `${words.slice(0, cut)}…`;
+  let cut = words.length - end.length;
+  while (cut > 1 && widthOf(`${words.slice(0, cut)}…${end}`, font) > most) cut -= 1;
+  return `${words.slice(0, cut)}…${end}`;
 }
 
 // What a host does, in one or two lines.
@@ -115,7 +115,7 @@ export function makePicture(root, choose) {
       const both = `${seat.name} ${seat.address ?? ""}`.trim();
       const shown = (mine ? "★ " : "") + (widthOf(both, NAME) < box[0] - 28 ? both : seat.name);
       say(title, [seat.name, seat.address, seat.student, spoken].filter(Boolean).join(", "));
-      say(name, fitted(shown, box[0] - 8, NAME));
+      say(name, fitted(shown, box[0] - 8, NAME, shown.slice(-2)));
       const time = seat.clock?.words ?? "";
       say(clock, box[0] < 104 ? time.slice(0, 8) : time);
       lines.forEach((line, i) => say(line, fitted(rows[i] ?? "", box[0] - 8, SMALL)));
@@ -164,7 +164,10 @@ export function makePicture(root, choose) {
       const aside = 11 / (Math.hypot(x2 - x1, y2 - y1) || 1);
       const x = x1 + (x2 - x1) * done - (y2 - y1) * aside;
       const y = y1 + (y2 - y1) * done + (x2 - x1) * aside;
-      set(node, { transform: `translate(${x.toFixed(1)} ${y.toFixed(1)})` });
+      // On a short cable the envelope is smaller, so that it stays off the hosts' words.
+      const gap = Math.hypot(x2 - x1, y2 - y1) * (1 - 2 * edge);
+      const scale = Math.min(Math.max(gap / 28, 0.55), 1).toFixed(2);
+      set(node, { transform: `translate(${x.toFixed(1)} ${y.toFixed(1)}) scale(${scale})` });
       say(title, t("picture.message", { message: way.message, from: names[way.from], to: names[way.to], left: way.left }));
     }
     return { node, update };

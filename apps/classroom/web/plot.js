@@ -2,19 +2,19 @@
 
 import { byId, options, say, set, svg } from "./dom.js";
 import { draw, bound, size } from "./plotdraw.js";
-import { number, signed } from "./words.js";
+import { t } from "./language.js";
+import { signed } from "./words.js";
 
 const KEPT = 2000;
 
 function words(all) {
   const last = all.at(-1);
-  if (!last) return "No store to this entry yet. Run the room.";
+  if (!last) return t("plot.none");
   const [, error, delay] = last;
-  const within = Math.abs(error) <= bound(last) ? "within" : "outside";
+  const within = [Math.abs(error) <= bound(last) ? "plot.within" : "plot.outside", {}];
   const outside = all.filter((p) => Math.abs(p[1]) > bound(p)).length;
-  return `${number(all.length)} stores; the last: error ${signed(error)} ms, DELAY ${number(delay)} ms, `
-    + `bound ±${number(bound(last))} ms: ${within} the bound. `
-    + (outside ? `${outside} were outside.` : "All were within.");
+  return t("plot.words", { n: all.length, error: signed(error), delay, bound: bound(last), within,
+    all: outside ? ["plot.some_outside", { n: outside }] : ["plot.all_within", {}] });
 }
 
 export function makePlot() {
@@ -51,7 +51,7 @@ export function makePlot() {
     const from = span.value === "all" ? Math.min(all[0]?.[0] ?? 0, now) : Math.max(0, now - Number(span.value));
     picture.replaceChildren(...draw(all, from, now));
     say(byId("plot-words"), words(all));
-    set(picture, { "aria-label": `Error of entry ${entry.value} at seat ${seat.selectedOptions[0]?.text}` });
+    set(picture, { "aria-label": t("plot.label", { entry: entry.value, seat: seat.selectedOptions[0]?.text }) });
   }
   return { add, update, clear: () => series.clear() };
 }

@@ -1,6 +1,7 @@
 // Draws a series of stores, [time, error, delay] each, with axes and the band of the bound.
 
 import { svg } from "./dom.js";
+import { t } from "./language.js";
 import { number, signed } from "./words.js";
 
 const wide = 800, high = 400, left = 88, right = 16, top = 14, foot = 58;
@@ -33,10 +34,10 @@ function axes(x, y, from, to, most) {
     ...ticks(-most, most, 6).map((v) => svg("g", { class: "tick" },
       svg("line", { ...across, y1: y(v), y2: y(v), class: v === 0 ? "zero" : null }),
       svg("text", { x: left - 8, y: Number(y(v)) + 6, class: "end" }, signed(v)))),
-    ...ticks(from / 1000, to / 1000, 6).map((t) => svg("text",
-      { x: x(t * 1000), y: high - foot + 24, class: "mid" }, number(t))),
-    svg("text", { x: (left + wide) / 2, y: high - 8, class: "mid title" }, "room time, s"),
-    svg("text", { class: "mid title", transform: `translate(20 ${(high - foot) / 2}) rotate(-90)` }, "error, ms"),
+    ...ticks(from / 1000, to / 1000, 6).map((s) => svg("text",
+      { x: x(s * 1000), y: high - foot + 24, class: "mid" }, number(s))),
+    svg("text", { x: (left + wide) / 2, y: high - 8, class: "mid title" }, t("plot.x")),
+    svg("text", { class: "mid title", transform: `translate(20 ${(high - foot) / 2}) rotate(-90)` }, t("plot.y")),
   ];
 }
 

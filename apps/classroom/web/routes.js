@@ -4,10 +4,10 @@ import { el, button, labelled, say } from "./dom.js";
 import { makeTable } from "./table.js";
 import { t } from "./language.js";
 import { sure } from "./sure.js";
-import { answerName } from "./words.js";
+import { answerMeaning, answerName } from "./words.js";
 
 function found(reply) {
-  if (reply.answer !== 0) return `${answerName(reply)}, ${reply.meaning}`;
+  if (reply.answer !== 0) return `${answerName(reply)}, ${answerMeaning(reply.answer)}`;
   return t(reply.told.pid ? "routes.by_link" : "routes.by_itself", { id: reply.told.id, link: reply.told.pid });
 }
 

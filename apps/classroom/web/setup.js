@@ -95,7 +95,7 @@ export function makeSetup(send) {
     say(byId("setup-said"), "");
     // A room in which nothing has happened yet is no loss.
     if (view?.room.time > 0 && !await sure(t("sure.set_up"), t("sure.set_up_yes"))) return;
-    if (await send(told())) say(byId("setup-said"), "The room is set up, and paused.");
+    if (await send(told())) say(byId("setup-said"), t("setup.done"));
   });
 
   function update(next) {

@@ -26,7 +26,7 @@ export function connect(onView) {
   let first = true;
 
   function take(message) {
-    if (message.notice !== undefined) notice(message.notice);
+    if (message.notice !== undefined) notice(t(...message.text));
     if (message.view || message.patch) {
       if (noticed) notice("");
       if (message.view) first = true;
@@ -38,7 +38,7 @@ export function connect(onView) {
     const waiter = asked.get(message.n);
     if (!waiter) return;
     asked.delete(message.n);
-    if (message.refused !== undefined) waiter.reject(new Error(message.refused));
+    if (message.refused !== undefined) waiter.reject(new Error(t(...message.text)));
     else waiter.resolve(message.reply ?? {});
   }
 

@@ -2,6 +2,7 @@
 // that does it, and with its state in words.
 
 import { byId, el, keyed, say, set } from "./dom.js";
+import { t } from "./language.js";
 
 const CLOSED = "start-closed";
 
@@ -55,14 +56,16 @@ export function makeStart(actions) {
     const seat = second();
     if (!seat) return;
     pages();
-    for (const name of panel.querySelectorAll(".second")) say(name, seat.name);
+    say(panel.querySelector(".start-hand-words"), t("start.hand", { name: seat.name }));
+    say(panel.querySelector(".start-walk-words"), t("start.walk", { name: seat.name }));
     const walking = seat.walk && !seat.walk.ended;
     walked = walked || !!seat.walk?.ended;
     const waits = seat.waiting.length > 0;
-    step("start-2", next.room.time > 0, next.room.running ? "✓ it runs" : next.room.time > 0 ? "✓ it ran" : "to do");
-    step("start-3", seat.by_hand, seat.by_hand ? "✓ by hand" : "to do");
-    const state = walking ? "▶ in the walk: press Next box" : waits ? "▶ a message waits" : "when a message waits";
-    step("start-4", walked, walked ? "✓ walked" : state);
+    const ran = next.room.time > 0 ? "start.it_ran" : "start.to_do";
+    step("start-2", next.room.time > 0, t(next.room.running ? "start.it_runs" : ran));
+    step("start-3", seat.by_hand, t(seat.by_hand ? "start.is_by_hand" : "start.to_do"));
+    const state = walking ? "start.in_walk" : waits ? "start.waits" : "start.when";
+    step("start-4", walked, t(walked ? "start.walked" : state));
     byId("start-done").hidden = !walked;
     set(byId("start-walk"), { disabled: !waits && !walking });
   }

@@ -16,13 +16,14 @@ import { makeTutor } from "./tutor.js";
 import { makeBench } from "./bench.js";
 import { makeBoard } from "./board.js";
 import { makeMatrix } from "./matrix.js";
-import { offerLanguages, t, translate } from "./language.js";
+import { offerLanguages, t, translate, translateLinks } from "./language.js";
 import { makeHistory } from "./history.js";
 import { makeTabs } from "./tabs.js";
 import { answersTable } from "./answer.js";
 import { listen } from "./keys.js";
 
 translate();
+translateLinks();
 offerLanguages(byId("language"));
 
 let view = null;
@@ -104,7 +105,7 @@ const start = makeStart({
 // What each tab shows is updated only while it is seen.
 const panels = {
   tables: () => {
-    options(byId("tables-seat"), [["", "all"], ...view.seats.map((s) => [s.number, s.name])]);
+    options(byId("tables-seat"), [["", t("tables.all")], ...view.seats.map((s) => [s.number, s.name])]);
     const wanted = byId("tables-seat").value;
     showPromise(view.promise);
     tables(view.seats.filter((s) => wanted === "" || String(s.number) === wanted), !view.promise?.length);
@@ -118,7 +119,7 @@ const panels = {
   matrix: () => matrix.update(view),
   seat: () => {
     const now = view.seats.find((s) => s.number === seatNumber()) ?? view.seats[0];
-    say(byId("seat-title"), `At seat ${now.name}`);
+    say(byId("seat-title"), t("teacher.at_seat", { name: now.name }));
     seat.update(now, view.room, view.net_table, view.seats);
   },
 };
@@ -153,7 +154,7 @@ const ask = connect((next, first) => {
   if (next.bench_files) bench.setFiles(next.bench_files);
   if (next.answers) bench.setAnswers(next.answers);
   if (next.bench !== undefined) bench.take(next.bench);
-  if (next.answers) byId("answers").replaceChildren(el("summary", {}, "All answers"), answersTable(next.answers));
+  if (next.answers) byId("answers").replaceChildren(el("summary", {}, t("student.answers")), answersTable(next.answers));
   if (next.addresses) start.setAddresses(next.addresses);
   paint(next);
 });

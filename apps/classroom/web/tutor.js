@@ -1,5 +1,5 @@
 // The teacher's calls on the class's net table, each with its answer, and the hosts that are still
-// to be set afresh with its NHOSTS.
+// to be initialized with its NHOSTS.
 
 import { byId, say } from "./dom.js";
 import { makeAnswer } from "./answer.js";
@@ -39,8 +39,8 @@ export function makeTutor(ask) {
     try {
       const { answers } = await ask({ do: "initialize_all" });
       const names = (done) => answers.filter((a) => (a.answer === 0) === done).map((a) => `${a.name} (${a.answer})`).join(", ");
-      const refused = names(false) ? ` Refused: ${names(false)}.` : "";
-      answer.note(`Initialized: ${names(true) || "none"}.${refused}`);
+      const done = names(true) || t("nets.nobody");
+      answer.note(t(names(false) ? "nets.initialized_not" : "nets.initialized", { done, refused: names(false) }));
     } catch (error) {
       answer.refused(error.message);
     }
@@ -49,14 +49,14 @@ export function makeTutor(ask) {
   function update(view) {
     if (room !== view.room.number) {
       room = view.room.number;
-      answer.note("No call yet.");
+      answer.note(t("answer.none"));
       byId("net-afresh").elements.nhosts.value = view.net_table.nhosts;
     }
     table.update(view.net_table);
     others = view.seats.filter((seat) => seat.nhosts !== view.net_table.nhosts);
     left.hidden = !others.length;
     const names = others.map((seat) => `${seat.name} (${seat.nhosts})`).join(", ");
-    say(left.firstElementChild, `Every call answers 1 at hosts with another NHOSTS: ${names}.`);
+    say(left.firstElementChild, t("nets.left", { names }));
   }
   return { update };
 }

@@ -4,7 +4,7 @@ import { number, t } from "./language.js";
 
 export { number };
 
-// Always with its sign, but for 0.
+// Always with its sign, except 0.
 export function signed(n) {
   return typeof n === "number" && n > 0 ? "+" + number(n) : number(n);
 }
@@ -34,14 +34,14 @@ export function way([least, most]) {
   return least === most ? number(least) : `${number(least)}–${number(most)}`;
 }
 
-export function count(n, one, many = one + "s") {
-  return `${number(n)} ${n === 1 ? one : many}`;
-}
-
-// An answer's number and name, "10 DelayNotValid".
+// An answer's number and name, "10 DelayNotValid": all languages and bindings have this name.
 export function answerName(reply) {
   return `${reply.answer} ${reply.name}`;
 }
+
+// What an answer means, and what it changes.
+export const answerMeaning = (answer) => t(`answers.${answer}.meaning`);
+export const answerChanges = (answer) => t(`answers.${answer}.changes`);
 
 // A call as a reader says it.
 export function callName(name) {

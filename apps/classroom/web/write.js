@@ -2,7 +2,7 @@
 
 import { el, button, labelled, options, say } from "./dom.js";
 import { t } from "./language.js";
-import { answerName } from "./words.js";
+import { answerMeaning, answerName } from "./words.js";
 
 // What the neighbor could send now: its table left out, its TSP a round trip of 100 ms ago.
 function example(seat) {
@@ -40,7 +40,7 @@ export function makeWrite(actions) {
     if (!reply) return;
     said.hidden = false;
     const fault = reply.told?.fault ? t(...reply.told.fault) : "";
-    say(said, reply.answer === 0 ? t("write.waits") : t("write.refused", { answer: answerName(reply), meaning: reply.meaning, fault }));
+    say(said, reply.answer === 0 ? t("write.waits") : t("write.refused", { answer: answerName(reply), meaning: answerMeaning(reply.answer), fault }));
   }
 
   const node = el("section", { class: "card", id: "write", "aria-labelledby": "write-title" },

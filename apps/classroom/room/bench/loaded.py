@@ -7,6 +7,7 @@ from hello import bench_file
 from hello.bench_file import layout
 
 from ..checks import Refused
+from ..found_texts import text_of
 
 LONGEST = 33_956
 """The octets of the longest file."""
@@ -46,7 +47,7 @@ class Loaded(NamedTuple):
     name: str
     octets: bytes
     file: Optional[bench_file.File]
-    fault: Optional[str]
+    fault: Optional[list]
     promises: tuple = ()
     answers: Optional[tuple] = None
     pieces: tuple = ()
@@ -72,12 +73,12 @@ class Loaded(NamedTuple):
 def read_octets(name, octets):
     """The file of these octets, which may be one that is refused."""
     if len(octets) > LONGEST:
-        raise Refused(f"there are {len(octets):,} octets: a bench file has {LONGEST:,} at most")
+        raise Refused("refused.bench_long", octets=len(octets), most=LONGEST)
     try:
         file = bench_file.from_octets(octets)
         return Loaded(name, octets, file, None, pieces=(file,))
     except bench_file.Fault as fault:
-        return Loaded(name, octets, None, str(fault))
+        return Loaded(name, octets, None, text_of(str(fault)))
 
 
 def read_text(name, text):
@@ -85,9 +86,9 @@ def read_text(name, text):
     try:
         file, promises, answers = bench_file.read_long_text(text)
     except bench_file.Wrong as wrong:
-        told = [f"line {line}: {fault}" for line, fault in wrong.faults[:MOST_FAULTS]]
-        more = len(wrong.faults) - len(told)
-        raise Refused("\n".join(told + ([f"and {more} lines more"] if more else []))) from None
+        lines = [["text.line", {"line": line, "words": text_of(fault)}] for line, fault in wrong.faults[:MOST_FAULTS]]
+        more = len(wrong.faults) - len(lines)
+        raise Refused("refused.lines", lines=lines + ([["text.more", {"n": more}]] if more else [])) from None
     loaded = of_file(name, file, promises)
     return loaded._replace(answers=answers, source=text)
 

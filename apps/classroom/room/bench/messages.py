@@ -20,7 +20,7 @@ def _told(room):
 def _load(room, message):
     name = checks.name("name", message["name"], LONGEST_NAME)
     if ("octets" in message) == ("text" in message):
-        raise Refused("a bench file has octets or a text")
+        raise Refused("refused.octets_or_text")
     if "text" in message:
         file = loaded.read_text(name, words("text", message["text"], loaded.LONGEST_TEXT, lines=True))
     else:
@@ -33,7 +33,7 @@ def _octets(value):
     try:
         return base64.b64decode(words("octets", value, 4 * loaded.LONGEST), validate=True)
     except (binascii.Error, ValueError):
-        raise Refused("octets must be in base64") from None
+        raise Refused("refused.base64") from None
 
 
 def _ready(room, message):

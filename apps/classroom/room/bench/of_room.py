@@ -38,11 +38,15 @@ class Taken(NamedTuple):
     lines: int
     of: int
     left_out: list
-    stopped: Optional[str]
+    stopped: Optional[list]
 
 
 class _Stopped(Exception):
-    """Why a line has no event."""
+    """Why a line has no event: a text of the language files."""
+
+    def __init__(self, key, /, **values):
+        super().__init__(key)
+        self.text = [key, values]
 
 
 def taken(room):
@@ -62,7 +66,7 @@ def taken(room):
         last,
         room.log.count,
         [line for line in left_out if line <= last],
-        stopped and f"line {stopped[0]:,}: {stopped[1]}",
+        stopped and ["text.line", {"line": stopped[0], "words": stopped[1]}],
     )
 
 
@@ -97,7 +101,7 @@ def _calls(room, lines):
             if number <= afresh:
                 continue
             if number > MOST_LINES:
-                raise _Stopped(f"no more than {MOST_LINES:,} lines are read")
+                raise _Stopped("stopped.lines", most=MOST_LINES)
             if line["call"] not in EVENTS:
                 _without_event(room, line)
                 left_out.append(number)
@@ -109,12 +113,11 @@ def _calls(room, lines):
                 left_out.pop()
             count += line["times"]
             if count > MOST_EVENTS:
-                most = f"and a file has {MOST_EVENTS:,} at most"
-                raise _Stopped(f"with it there are {count:,} events, {most}")
+                raise _Stopped("stopped.events", count=count, most=MOST_EVENTS)
             calls.append(line)
             before = line
         except _Stopped as why:
-            return calls, left_out, (number, str(why))
+            return calls, left_out, (number, why.text)
 
 
 def _inspected(before, line):
@@ -129,15 +132,15 @@ def _without_event(room, line):
     answer = line["answer"]
     if line["call"] in CHANGE_NOTHING or answer != 0 and ANSWERS[answer]["changes"] == "nothing":
         return
-    who = "the net table" if line["seat"] is None else room.seats[line["seat"]].name
-    raise _Stopped(f"{line['call']} of {who} has no event")
+    who = ["history.tutor", {}] if line["seat"] is None else room.seats[line["seat"]].name
+    raise _Stopped("stopped.no_event", call=line["call"], who=who)
 
 
 def _with_cable(room, line):
     """That a send and an arrival are at a link with a cable."""
     call, seat = line["call"], line["seat"]
     if call in ("send", *ARRIVALS) and not room.cables.far(seat, link := line["with"]["link"]):
-        raise _Stopped(f"link {link} of {room.seats[seat].name} has no cable, and so {call} no event")
+        raise _Stopped("stopped.no_cable", link=link, name=room.seats[seat].name, call=call)
 
 
 def _way(cables, line):
@@ -159,7 +162,7 @@ def _events(cables, calls):
             way = _way(cables, line)
             sent = line["answer"] == 0
             if sent and way not in trays and not free:
-                return events, place, f"all {TRAYS} trays hold packets that are still to arrive"
+                return events, place, ["stopped.no_tray", {"trays": TRAYS}]
             # What never arrives takes a tray that no other needs; a refused send leaves its tray.
             parts = {"cable": way[0], "end": way[1], "tray": trays.get(way, free[0] if free else 0)}
             if sent and way not in trays and last.get(way, -1) > place:
@@ -167,7 +170,7 @@ def _events(cables, calls):
         elif line["call"] in ARRIVALS:
             way = _way(cables, line)
             if way not in trays:
-                return events, place, "the packet was written by hand, and no seat has sent it"
+                return events, place, ["stopped.by_hand", {}]
             parts = {"tray": trays[way]}
             if last[way] == place:
                 free.append(trays.pop(way))

@@ -5,6 +5,7 @@ import bisect
 from hello.bench_file import Entry, unlike
 from hello import PLACES
 
+from ..found_texts import text_of
 
 MOST_BROKEN = 20
 """This many broken promises are reported."""
@@ -12,7 +13,7 @@ MOST_BROKEN = 20
 
 class Promised:
     """The promises of a file that is run from its set-up on: how many were looked at, and which of them
-    are broken, in words. `named` has the answers that the text names, or is None. Events are counted from
+    are broken, each as a text. `named` has the answers that the text names, or is None. Events are counted from
     the first of the first piece; `base` is how many come before the piece that is run."""
 
     def __init__(self, promises, named=None):
@@ -38,16 +39,16 @@ class Promised:
         here = self._behind.get(self.base + bench.done, ())
         answers = bench.answers if here or self._named else ()
         for event, answer, name in unlike(self._named, answers[before:], self.base + before):
-            self._tell(f"event {event:,} was answered {answer}, and the text names {name}")
+            self._tell(["promise.answered", {"event": event, "answer": int(answer), "named": int(name)}])
         for promise in here:
             broken = promise.broken(_Tables(bench), _Answers(self.base, answers))
             if broken:
-                self._tell(f"line {promise.line}: {broken}")
+                self._tell(["text.line", {"line": promise.line, "words": text_of(broken)}])
         self.looked += len(here)
 
-    def _tell(self, words):
+    def _tell(self, text):
         if len(self.broken) < MOST_BROKEN:
-            self.broken.append(words)
+            self.broken.append(text)
 
     def shown(self):
         """What a page shows of them; None where nothing is promised."""

@@ -78,7 +78,7 @@ class Stand:
                 self._take_piece(0)
             self._promised = Promised(loaded.promises, loaded.answers)
             self._promised.look(bench)
-        self._changed({"call": "bench_set_up", **self._told(answer, table), "changes": [], "told": {}})
+        self._changed({"call": "bench_set_up", **in_words(answer), "changes": [], "told": self._told(answer, table)})
         return self._last
 
     def back(self):
@@ -106,8 +106,9 @@ class Stand:
         if ran.count == 1:
             last = self._event(first, slots, _changes(before, self._states))
         else:
-            last = {"call": "bench_run", **self._told(int(ran.answer), bench.net_table)}
-            last.update(changes=[], told={"first": self._first + first, "count": ran.count})
+            last = {"call": "bench_run", **in_words(int(ran.answer)), "changes": []}
+            told = {"first": self._first + first, "count": ran.count}
+            last["told"] = {**told, **self._told(int(ran.answer), bench.net_table)}
         self._changed(last)
         done = {"done": self._first + bench.done, "of": self.loaded.events}
         return {**in_words(int(ran.answer)), "count": ran.count, **done}
@@ -130,7 +131,7 @@ class Stand:
 
     def _file(self):
         if self.loaded is None:
-            raise Refused("no bench file is loaded")
+            raise Refused("refused.no_bench_file")
         return self.loaded
 
     @property
@@ -142,20 +143,17 @@ class Stand:
     def _ready(self):
         self._file()
         if not self.ready:
-            raise Refused("the bench is not set up with this file's seats and cables: set it up first")
+            raise Refused("refused.bench_not_set_up")
         return self._bench
 
     def _told(self, answer, table):
-        """An answer of set-up or run, with what is at fault, where that is known."""
-        told = in_words(answer)
-        if answer in (hello.Answer.HEADER, hello.Answer.ABSENT):
-            fault = self.loaded.fault
-            file, lent = self.loaded.nhosts, table.nhosts
-            if fault is None and file != lent:
-                fault = f"the file's NHOSTS is {file}, that of the class's table {lent}"
-            if fault:
-                told["meaning"] += f"; here: {fault}"
-        return told
+        """What is at fault if set-up or run has this answer, as far as that is known."""
+        if answer not in (hello.Answer.HEADER, hello.Answer.ABSENT):
+            return {}
+        if self.loaded.fault:
+            return {"fault": self.loaded.fault}
+        file, given = self.loaded.nhosts, table.nhosts
+        return {} if file == given else {"fault": ["bench.other_nhosts", {"file": file, "table": given}]}
 
     def _event(self, number, slots, moved):
         """What an event came to; `slots` are those before it."""

@@ -1,12 +1,12 @@
-"""The events of a bench file in words."""
+"""The events of a bench file in words: texts of the language files."""
 
 
 def in_words(file):
-    """Each event of a file, in words."""
+    """Each event of a file."""
     filled = {}
     told = []
     for number, event in enumerate(file.events):
-        told.append(_event(file, event, filled) + _counter(event))
+        told.append(_counted(event, _event(file, event, filled)))
         if event.kind == "send":
             filled[event.tray] = number
     return told
@@ -15,32 +15,36 @@ def in_words(file):
 def _event(file, event, filled):
     if event.kind == "send":
         seat, link = file.cables[event.cable].ends[event.end]
-        return f"seat {seat} sends on link {link}, cable {event.cable}, into tray {event.tray}"
+        return ["event.send", {"seat": seat, "link": link, "cable": event.cable, "tray": event.tray}]
     if event.kind == "arrival":
         before = filled.get(event.tray)
-        sent = "" if before is None else f" (see event {before:,})"
-        return f"the packet in tray {event.tray} arrives{sent}"
-    amount = "" if event.amount is None else f" by {event.amount:,} ms"
-    return f"seat {event.seat}: {event.kind}{amount}"
+        if before is None:
+            return ["event.arrival", {"tray": event.tray}]
+        return ["event.arrival.of", {"tray": event.tray, "event": before}]
+    call = [f"call.{event.kind.replace('-', '_')}", {}]
+    if event.amount is None:
+        return ["event.call", {"seat": event.seat, "call": call}]
+    return ["event.call.by", {"seat": event.seat, "call": call, "ms": event.amount}]
 
 
-def _counter(event):
+def _counted(event, words):
+    """The event with its reading of the counter, if it has one."""
     if event.again is not None:
-        return f"; count {event.count:,}, overflowed, again {event.again:,}"
-    return f"; count {event.count:,}" if event.count else ""
+        return ["event.overflowed", {"event": words, "count": event.count, "again": event.again}]
+    return ["event.counted", {"event": words, "count": event.count}] if event.count else words
 
 
 def arrived(file, slot):
-    """Where the packet of a slot arrives, in words."""
+    """Where the packet of a slot arrives."""
     (seat, link), sender = (file.cables[slot.cable].ends[end] for end in (1 - slot.end, slot.end))
-    return f"from seat {sender[0]}, link {sender[1]}, to seat {seat}, link {link}"
+    return ["event.way", {"from": sender[0], "from_link": sender[1], "to": seat, "to_link": link}]
 
 
 def host_names(file):
-    """By its id each host: the seat at which it lives."""
+    """By its id each host: the seat at which it lives, or None."""
     homes = {}
     for number, seat in enumerate(file.seats):
-        homes.update({id: f"at seat {number}" for id in seat.also if id not in homes})
-    homes.update({seat.own_id(): f"seat {number}" for number, seat in enumerate(file.seats)})
+        homes.update({id: ["bench.at_seat", {"seat": number}] for id in seat.also if id not in homes})
+    homes.update({seat.own_id(): ["bench.seat", {"seat": number}] for number, seat in enumerate(file.seats)})
     nhosts = file.seats[0].nhosts if file.seats else 0
-    return [homes.get(id, "") for id in range(nhosts)]
+    return [homes.get(id) for id in range(nhosts)]

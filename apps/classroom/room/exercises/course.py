@@ -149,7 +149,7 @@ def _message(seat, copy, call):
     for number in copy.trays.get(call.tray, ()):
         if number in seat.waiting:
             return seat.waiting[number]
-    raise Refused("the message does not wait there")
+    raise Refused("refused.not_waiting")
 
 
 def _take(room, seat, copy, call, times):

@@ -18,21 +18,21 @@ def asked(copy):
 def foretell(room, seat, message):
     """A student writes what she expects of the stage under way, once."""
     if room.lesson.predict == "off":
-        raise Refused("no predictions are asked for now")
+        raise Refused("refused.no_predictions")
     found = room.exercise and room.exercise.copy_of(seat.number)
     if not found:
-        raise Refused("no exercise is set up")
+        raise Refused("refused.no_exercise")
     copy, course = found[0], room.exercise
     stage = whole("stage", message["stage"], 0, copy.stages - 1)
     if stage != copy.stage:
-        raise Refused("this stage is over, or has not begun")
+        raise Refused("refused.other_stage")
     wanted = asked(copy)
     if not wanted:
-        raise Refused("nothing is asked for at this stage")
+        raise Refused("refused.nothing_asked")
     given = members("values", message["values"], len(wanted), len(wanted))
     given = [whole("a value", value, -MOST, MOST) for value in given]
     if (stage, seat.number) in copy.foretold:
-        raise Refused("you have written what you expect of this stage")
+        raise Refused("refused.expected_already")
     copy.foretold[stage, seat.number] = {"given": given, "marks": None}
     course.version += 1
     return {"stage": stage, "values": given}

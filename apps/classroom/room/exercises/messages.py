@@ -3,6 +3,7 @@
 from hello import bench_file
 
 from ..checks import Refused, whole, words
+from ..found_texts import text_of
 from ..setup import SEATS
 from ..student import not_full
 from .catalog import EXERCISES, LONGEST_TEXT
@@ -21,7 +22,7 @@ def _exercise(room, message):
     found = {**EXERCISES, **room.own_exercises}.get(number)
     if found is None:
         last = max([*EXERCISES, *room.own_exercises])
-        raise Refused(f"there is no exercise {number}: there are 1 to {last}")
+        raise Refused("refused.no_such_exercise", number=number, last=last)
     students = whole("students", message.get("students", room.places), 1, SEATS)
     course = Course(found, students)
     room.begin(course.set_up(), course)
@@ -36,7 +37,7 @@ def _load(room, message):
     try:
         found = room.own_exercises.load(name, text)
     except bench_file.Wrong as wrong:
-        faults = [{"line": line, "words": fault} for line, fault in wrong.faults]
+        faults = [{"line": line, "words": fault, "text": text_of(fault)} for line, fault in wrong.faults]
         return {"number": None, "faults": faults[:MOST_FAULTS], "more": max(0, len(faults) - MOST_FAULTS)}
     room.exercise_lists += 1
     return {"number": found.number, "faults": [], "more": 0, "exercises": listed(room)}
@@ -44,9 +45,9 @@ def _load(room, message):
 
 def _course(room):
     if room.exercise is None:
-        raise Refused("no exercise is set up")
+        raise Refused("refused.no_exercise")
     if room.exercise.ended:
-        raise Refused("the exercise has come to its end")
+        raise Refused("refused.exercise_ended")
     not_full(room)
     return room.exercise
 
