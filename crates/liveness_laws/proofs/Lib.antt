@@ -6,5 +6,6 @@ pub mod Host
 pub mod Rounds
 pub mod OneLink
 pub mod Order
+pub mod Unopened
 pub mod Total
 pub mod TotalTwo

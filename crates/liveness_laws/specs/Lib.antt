@@ -12,5 +12,6 @@ pub mod Order
 pub mod OrderClaim
 pub mod OrderExample
 pub mod Newest
+pub mod WithoutWalks
 pub mod TotalCorrectness
 pub mod TotalExample

@@ -8,6 +8,7 @@ ghost use Rattle.liveness_laws.specs.RoundsExample.{RoundsExample};
 ghost use Rattle.liveness_laws.specs.OrderClaim.{AnyOrder};
 ghost use Rattle.liveness_laws.specs.OrderExample.{AnyOrderExample};
 ghost use Rattle.liveness_laws.specs.Newest.{NewestInOrder};
+ghost use Rattle.liveness_laws.specs.WithoutWalks.{WithoutWalks};
 ghost use Rattle.liveness_laws.specs.TotalCorrectness.{TotalCorrectness};
 ghost use Rattle.liveness_laws.specs.TotalExample.{TotalExample};
 
@@ -21,7 +22,7 @@ pub fn total_example()
     ensures { λ _. ⌜ TotalExample ⌝ }
 {}
 
-// Rounds: if in each round every host reports itself, sends, and then hears every cable, then after k + 1 rounds every table has exactly the hosts up to k cables away, each with a DELAY of 100 ms a cable and a PID along a shortest way.
+// Rounds: if in each round every host reports itself, sends, and then hears every cable, in one piece or by a walk, then after k + 1 rounds every table has exactly the hosts up to k cables away, each with a DELAY of 100 ms a cable and a PID along a shortest way.
 pub fn tables_fill()
     ensures { λ _. ⌜ TablesFill ⌝ }
 {}
@@ -39,6 +40,11 @@ pub fn any_order()
 // If every arrival takes the newest message of its cable, no message overtakes another.
 pub fn newest_in_order()
     ensures { λ _. ⌜ NewestInOrder ⌝ }
+{}
+
+// A list that opens no walk meets what `tables_fill` and `any_order` ask of walks.
+pub fn without_walks()
+    ensures { λ _. ⌜ WithoutWalks ⌝ }
 {}
 
 // Two rounds of two hosts, with sends and arrivals in turn, meet every condition of `any_order`.
