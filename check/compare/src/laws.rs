@@ -11,6 +11,9 @@ use reference::Entry;
 const RISE: i64 = 100;
 const GONE_EPOCHS: i64 = 299;
 
+/// One arrival in so many is made box by box.
+const WALKS: u64 = 3;
+
 /// Conditions of the laws.
 #[derive(Clone, Copy)]
 struct Conditions {
@@ -21,6 +24,8 @@ struct Conditions {
     epoch_seconds: usize,
     /// No message overtakes another on its cable.
     in_order: bool,
+    /// A host that does not report itself has its seconds in an epoch.
+    own_seconds: bool,
 }
 
 const MET: Conditions = Conditions {
@@ -28,13 +33,23 @@ const MET: Conditions = Conditions {
     round_seconds: 59,
     epoch_seconds: 120,
     in_order: true,
+    own_seconds: true,
 };
+
+/// Why the ids of a host fade.
+#[derive(Clone, Copy, PartialEq)]
+enum Absence {
+    /// Nothing of it is heard.
+    Silent,
+    /// It is heard, and does not report itself.
+    Unreported,
+}
 
 /// A law: it makes calls in a network, under its conditions.
 type Law = fn(&mut Random, &mut Counts, Conditions) -> Result<(), String>;
 
 /// Each condition by itself broken, with the law that then does not hold.
-const BROKEN: [(&str, Law, Conditions); 4] = [
+const BROKEN: [(&str, Law, Conditions); 6] = [
     ("ways of 51 ms", rounds, Conditions { way: 51, ..MET }),
     (
         "rounds of 90 seconds",
@@ -60,6 +75,22 @@ const BROKEN: [(&str, Law, Conditions); 4] = [
             ..MET
         },
     ),
+    (
+        "epochs of 60 seconds without a self-report",
+        unreported,
+        Conditions {
+            epoch_seconds: 60,
+            ..MET
+        },
+    ),
+    (
+        "no seconds at the host without a self-report",
+        unreported,
+        Conditions {
+            own_seconds: false,
+            ..MET
+        },
+    ),
 ];
 
 /// Networks in which a law with a broken condition has to fail.
@@ -76,6 +107,10 @@ pub struct Counts {
     longer_first: u64,
     sooner: u64,
     ghosts: u64,
+    /// Entries of a host without a self-report that were still up, and those with the least DELAY.
+    unreported: u64,
+    least: u64,
+    walks: u64,
     /// Networks given up, since a TSP was 0 by chance.
     given_up: u64,
     /// Each broken condition, and in which network its law failed.
@@ -85,12 +120,16 @@ pub struct Counts {
 impl Counts {
     pub fn print(&self) {
         println!(
-            "laws of liveness: {} calls, {} networks, {} rounds, {} epochs",
-            self.calls, self.networks, self.rounds, self.epochs
+            "laws of liveness: {} calls, {} networks, {} rounds, {} epochs, {} arrivals box by box",
+            self.calls, self.networks, self.rounds, self.epochs, self.walks
         );
         println!(
             "  {} tables right, {} entries longer at first, {} before their round, {} up in silence; {} networks given up",
             self.right_tables, self.longer_first, self.sooner, self.ghosts, self.given_up
+        );
+        println!(
+            "  {} entries of a host without a self-report up after an epoch, {} of them with the least DELAY",
+            self.unreported, self.least
         );
         for (name, tries) in &self.needed {
             if let Some(tries) = tries {
@@ -105,6 +144,15 @@ impl Counts {
             (self.longer_first, "no entry was ever longer at first"),
             (self.sooner, "no entry was ever up before its round"),
             (self.ghosts, "no entry of a silent host was ever still up"),
+            (
+                self.unreported,
+                "no entry of a host without a self-report was ever still up",
+            ),
+            (
+                self.least,
+                "no DELAY was ever the least that the law allows",
+            ),
+            (self.walks, "no arrival was ever made box by box"),
         ];
         let missing = seen.iter().filter(|(count, _)| *count == 0);
         let unneeded = self.needed.iter().filter(|(_, tries)| tries.is_none());
@@ -119,7 +167,7 @@ pub fn run(seed: u64, calls: u64) -> Result<Counts, String> {
     let mut random = Random::new(seed);
     let mut counts = Counts::default();
     while counts.calls < calls {
-        for law in [rounds, any_order, silence] {
+        for law in [rounds, any_order, silence, unreported] {
             law(&mut random, &mut counts, MET)?;
         }
     }
@@ -146,6 +194,7 @@ struct Trial {
     /// Which links were heard, and which hosts reported themselves, in this round.
     heard: Vec<End>,
     reported: Vec<bool>,
+    walks: u64,
 }
 
 impl Trial {
@@ -159,6 +208,7 @@ impl Trial {
             seconds: vec![0; network.count()],
             heard: Vec::new(),
             reported: vec![false; network.count()],
+            walks: 0,
             network,
         }
     }
@@ -196,7 +246,13 @@ impl Trial {
 
     fn arrive(&mut self, message: usize) -> End {
         let to = self.network.other_end(self.network.mail[message].from);
-        if self.network.arrive(message) {
+        let heard = if self.network.calls.is_multiple_of(WALKS) {
+            self.walks += 1;
+            self.network.walk(message)
+        } else {
+            self.network.arrive(message)
+        };
+        if heard {
             self.heard.push(to);
         }
         to
@@ -512,16 +568,38 @@ fn improved(
 
 /// After k epochs of 120 seconds an id of the silent host is down elsewhere, or has at least 100 (k + 1) ms.
 fn silence(random: &mut Random, counts: &mut Counts, conditions: Conditions) -> Result<(), String> {
+    fades(random, counts, conditions, Absence::Silent)
+}
+
+/// After k epochs an id of a host that does not report itself is down everywhere, or has at least 100 k ms.
+fn unreported(
+    random: &mut Random,
+    counts: &mut Counts,
+    conditions: Conditions,
+) -> Result<(), String> {
+    fades(random, counts, conditions, Absence::Unreported)
+}
+
+fn fades(
+    random: &mut Random,
+    counts: &mut Counts,
+    conditions: Conditions,
+    absence: Absence,
+) -> Result<(), String> {
     let network = Network::random(random, 6);
-    let mut trial = Trial::new("silence", network, conditions);
+    let law = match absence {
+        Absence::Silent => "silence",
+        Absence::Unreported => "unreported",
+    };
+    let mut trial = Trial::new(law, network, conditions);
     for _ in 0..3 {
         one_round(random, &mut trial)?;
         trial.network.wait(random.between(0, 1_000));
     }
-    let silent = random.below(trial.network.count());
+    let absent = random.below(trial.network.count());
     for epoch in 1..=3 {
-        one_epoch(random, &mut trial, silent, 3);
-        faded(&trial, silent, epoch, counts)?;
+        one_epoch(random, &mut trial, absent, absence, 3);
+        faded(&trial, absent, absence, epoch, counts)?;
         counts.epochs += 1;
     }
     finish(counts, &trial);
@@ -536,35 +614,47 @@ fn ten_hours(random: &mut Random, counts: &mut Counts) -> Result<(), String> {
         one_round(random, &mut trial)?;
     }
     for epoch in 1..=GONE_EPOCHS {
-        one_epoch(random, &mut trial, 0, 20);
-        faded(&trial, 0, epoch, counts)?;
+        one_epoch(random, &mut trial, 0, Absence::Silent, 20);
+        faded(&trial, 0, Absence::Silent, epoch, counts)?;
         counts.epochs += 1;
     }
     finish(counts, &trial);
     Ok(())
 }
 
-/// Every other host has its 120 seconds; messages of this epoch arrive in any order, none of them of the
-/// silent host. One call in so many is a send or an arrival.
-fn one_epoch(random: &mut Random, trial: &mut Trial, silent: usize, seldom: usize) {
+/// The hosts have their 120 seconds; messages of this epoch arrive in any order. The absent host is not
+/// heard, or does not report itself. One call in so many is a send or an arrival.
+fn one_epoch(
+    random: &mut Random,
+    trial: &mut Trial,
+    absent: usize,
+    absence: Absence,
+    seldom: usize,
+) {
     trial.begin_round();
     let ends = trial.network.ends();
-    while (0..trial.network.count())
-        .any(|host| host != silent && trial.seconds[host] < trial.conditions.epoch_seconds)
-    {
+    let ages = absence == Absence::Unreported && trial.conditions.own_seconds;
+    let silent = absence == Absence::Silent;
+    while (0..trial.network.count()).any(|host| {
+        (ages || host != absent) && trial.seconds[host] < trial.conditions.epoch_seconds
+    }) {
         let host = random.below(trial.network.count());
-        if host == silent && !random.one_in(10) {
+        if host == absent && silent && !random.one_in(10) {
             continue;
         }
         if !random.one_in(seldom) || ends.is_empty() {
-            trial.second(host);
+            if host != absent || silent || ages {
+                trial.second(host);
+            }
         } else if random.one_in(2) {
-            trial.self_report(host);
+            if host != absent || silent {
+                trial.self_report(host);
+            }
             trial.network.send(random.pick(&ends));
         } else if !trial.network.mail.is_empty() {
             let message = random.below(trial.network.mail.len());
             let Message { from, ms, .. } = &trial.network.mail[message];
-            if from.0 != silent && trial.network.now - ms < 16_383 {
+            if !(silent && from.0 == absent) && trial.network.now - ms < 16_383 {
                 trial.arrive(message);
             }
         }
@@ -574,13 +664,26 @@ fn one_epoch(random: &mut Random, trial: &mut Trial, silent: usize, seldom: usiz
     }
 }
 
-fn faded(trial: &Trial, silent: usize, epoch: i64, counts: &mut Counts) -> Result<(), String> {
-    for host in (0..trial.network.count()).filter(|host| *host != silent) {
+fn faded(
+    trial: &Trial,
+    absent: usize,
+    absence: Absence,
+    epoch: i64,
+    counts: &mut Counts,
+) -> Result<(), String> {
+    let silent = absence == Absence::Silent;
+    let least = RISE * if silent { epoch + 1 } else { epoch };
+    for host in (0..trial.network.count()).filter(|host| !silent || *host != absent) {
         for id in 0..trial.network.ids() {
             let entry = trial.network.entry(host, id);
-            if trial.network.home[id] == Some(silent) && entry.is_up() {
-                counts.ghosts += 1;
-                if entry.delay < RISE * (epoch + 1) {
+            if trial.network.home[id] == Some(absent) && entry.is_up() {
+                if silent {
+                    counts.ghosts += 1;
+                } else {
+                    counts.unreported += 1;
+                    counts.least += u64::from(entry.delay == least);
+                }
+                if entry.delay < least {
                     return Err(trial.broken("DELAY is too small", host, id));
                 }
             }
@@ -591,6 +694,7 @@ fn faded(trial: &Trial, silent: usize, epoch: i64, counts: &mut Counts) -> Resul
 
 fn finish(counts: &mut Counts, trial: &Trial) {
     counts.networks += 1;
+    counts.walks += trial.walks;
     counts.calls += trial.network.calls;
 }
 

@@ -330,6 +330,32 @@ impl Network {
         );
         done.is_ok()
     }
+
+    /// The same arrival box by box; whether its last box was answered 0.
+    pub fn walk(&mut self, message: usize) -> bool {
+        let counter = self.counter();
+        let Message { from, octets, .. } = &self.mail[message];
+        let (number, link) = self.cables[from.0][from.1 - 1];
+        let (table, run) = (&self.table, &mut self.run);
+        let Host {
+            settings,
+            clock,
+            links,
+            walk,
+        } = &mut self.hosts[number];
+        self.calls += 1;
+        let opened = host::open_walk(
+            settings, table, number, clock, links, walk, run, link, octets,
+        );
+        opened.expect("a walk is not refused");
+        loop {
+            self.calls += 1;
+            match host::step(settings, table, number, clock, links, walk, run, counter) {
+                Ok(Some(_)) => {}
+                last => return last.is_ok(),
+            }
+        }
+    }
 }
 
 /// Joins two hosts by a cable, if they differ and each has a link to spare.
