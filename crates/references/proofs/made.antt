@@ -7,7 +7,10 @@ pub mod Moves
 pub mod Moves3
 pub mod Plans
 pub mod PlansBoth
+pub mod PutsBoth
+pub mod PutsPart
 pub mod Reads
+pub mod RepeatsParts
 pub mod Surveys
 pub mod Tests
 pub mod Turns

@@ -11,3 +11,4 @@ pub mod Kept
 pub mod Sweeps
 pub mod Loops
 pub mod Changing
+pub mod Reporting

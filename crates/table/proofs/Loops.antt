@@ -2,7 +2,7 @@
 use mathlib.Core.Path.{_≡_, refl, sym, ap, _∙_}
 use mathlib.Core.Bool.{Bool, _&&_, and-true, and-assoc}
 use mathlib.Core.List.{List, [], _∷_, _++_, map, map-append}
-use Prim.Native.Nat.{ℕ, suc, _+_, _-_, _<_}
+use Prim.Native.Nat.{ℕ, suc, _+_, _-_, _≤_, _<_}
 use native.Mathlib.Nat.{add-zero}
 use native.Mathlib.Omega.{arith}
 use lib.ListN.{length, getD, set, length-map}
@@ -47,6 +47,16 @@ reports-more : (i : ℕ) (rs : List Report) (r : Report) (b : List ℕ) → with
 unfolding withReports
 reports-more i [] r b = let z : i + 0 ≡ i = omega arith in rw (z) refl
 reports-more i (x ∷ rs) r b = let s : i + suc (length rs) ≡ suc i + length rs = omega arith in rw (s) (reports-more (suc i) rs r (withReport i x b))
+
+-- four elements, and the part that has them
+pub four-of : (entries : List Entry) (i : ℕ) (none : Entry) → i + 4 ≤ length entries
+    → getD entries i none ∷ getD entries (i + 1) none ∷ getD entries (i + 2) none ∷ getD entries (i + 3) none ∷ [] ≡ part i 4 entries
+four-of entries i none l =
+    let at : i + 0 ≡ i = omega arith in
+    let plus : (n : ℕ) → List Entry → List Entry = λ n xs. xs ++ (getD entries (i + n) none ∷ []) in
+    sym
+    (part-more i 3 entries none (omega (arith, l)) ∙ ap (plus 3) (part-more i 2 entries none (omega (arith, l)) ∙ ap (plus 2) (part-more i 1 entries none (omega (arith, l))
+    ∙ ap (plus 1) (part-more i 0 entries none (omega (arith, l)) ∙ ap (λ (j : ℕ). getD entries j none ∷ []) at))))
 
 -- ---- one turn more, at the place first + n
 

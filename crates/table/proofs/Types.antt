@@ -22,6 +22,8 @@ use Rattle.table.proofs.entries.Change as Change
 use Rattle.table.proofs.entries.Change.Laws as Change′
 use Rattle.table.proofs.entries.Changes as Changes
 use Rattle.table.proofs.entries.Changes.Laws as Changes′
+use Rattle.table.proofs.self_reports.Blocks as Blocks
+use Rattle.table.proofs.self_reports.Blocks.Laws as Blocks′
 use Rattle.table.proofs.entries.Updates as Updates
 use Rattle.table.proofs.entries.Updates.Laws as Updates′
 use Rattle.table.proofs.entries.Reports as Reports
@@ -126,6 +128,22 @@ changes = record {
   behind-plain = Changes′.the-plain .1 .1;
   low = Changes′.lowers;
   copies = Changes′.the-copy;
+}
+
+abbrev pub blocks : Outcome (usize-part ∷ usize-part ∷ [])
+blocks = record {
+  form = record {
+    name = Blocks.the-type .name;
+    D = Blocks.the-type .D;
+    read = λ w. (w .first, (w .end, tt));
+    behind = behind (Blocks.the-type .parts) 2;
+    rest = λ w. Blocks.the-type .to w .1 .1;
+    one = Blocks.the-type .to-one;
+  };
+  behind-laws = Blocks′.the-laws .1 .1;
+  behind-plain = Blocks′.the-plain .1 .1;
+  low = Blocks′.lowers;
+  copies = Blocks′.the-copy;
 }
 
 abbrev pub change : Choices (([]) ∷ ([]) ∷ (struct-part millis ∷ []) ∷ (struct-part entry ∷ []) ∷ [])

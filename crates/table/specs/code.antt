@@ -1,3 +1,4 @@
 pub mod Words
 pub mod Loops
 pub mod Fours
+pub mod Blocks

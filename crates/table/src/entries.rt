@@ -19,6 +19,7 @@ use super::marks::Marks;
 use super::marks::mark;
 use super::marks::mark_in;
 use super::marks::word_of;
+use super::self_reports::report_all;
 use calendar::Date;
 use clock::Clock;
 use quantity::Count;
@@ -204,7 +205,7 @@ fn rest_of(k: usize, v: Words, good: bool) -> Stretch
         return Stretch {
             first: w.end,
             end: w.end,
-            good: false,
+            good: good,
             word: word,
         };
     }
@@ -323,7 +324,7 @@ fn put_at(e: Entry, i: usize, w: Changes) -> Entry
 }
 
 // Reports the hosts that live here, or replaces the entries.
-fn put_all(entries: &mut [Entry], w: Changes)
+pub fn put_all(entries: &mut [Entry], w: Changes)
     requires { ⌜ InEntries (w .first) (w .end) (now entries) × (puts (w .change) ≡ true) ⌝ }
     ensures { λ _. ⌜ now (entries .exit) ≡ changes w (now (entries .entry)) ⌝ }
 {
@@ -352,7 +353,7 @@ pub fn change_all(entries: &mut [Entry], w: Changes)
     match change {
         Change::Fresh => fresh_all(entries, w),
         Change::Aged => aged_all(entries, w),
-        Change::Reported(reading) => put_all(entries, w),
+        Change::Reported(reading) => report_all(entries, w),
         Change::Put(entry) => put_all(entries, w),
     }
 }

@@ -16,6 +16,7 @@ use wire::Report;
 pub mod entries;
 pub mod fours;
 pub mod marks;
+pub mod self_reports;
 
 // MAXDELAY, MINDELAY and the time of hold-down.
 pub const MAX_DELAY: Millis = Millis(30000);

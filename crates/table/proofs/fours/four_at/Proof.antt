@@ -1,21 +1,19 @@
 -- The four entries are the part of the host table at the four's place.
-use mathlib.Core.Path.{_≡_, sym, ap, subst, _∙_}
-use mathlib.Core.List.{List, [], _∷_, _++_}
-use Prim.Native.Nat.{ℕ, _+_, _*_, _≤_, _<_, _^_}
+use mathlib.Core.Path.{_≡_, ap, _∙_}
+use mathlib.Core.List.{[], _∷_}
+use Prim.Native.Nat.{ℕ, _+_, _*_, _<_, _^_}
 use native.Mathlib.Omega.{arith}
 use mir.Syntax.{w64}
-use lib.ListN.{length, getD}
 use contract.Monad.{fact, factI}
 use Rattle.lists.specs.Lists.{part}
-use Rattle.lists.proofs.Parts.{part-more}
 use Rattle.references.proofs.Words.{by-value, unsigned, bool-part}
 use Rattle.references.proofs.Outcomes.{whole}
 use Rattle.references.proofs.Quads.{proof}
-use Rattle.table.specs.declared.Entry.{Entry}
 use Rattle.table.specs.Forms.{everyFrom}
 use Rattle.table.specs.Entry.{freshEntry}
 use Rattle.table.specs.code.Words.{asInWord}
 use Rattle.table.specs.code.Fours.{FourFits, fourGood}
+use Rattle.table.proofs.Loops.{four-of}
 use Rattle.table.proofs.Types.{entry, fours}
 use Rattle.table.proofs.fours.place_of.Symbol as place
 use Rattle.table.proofs.fours.place_of.Met as place-known
@@ -24,15 +22,6 @@ use Rattle.table.proofs.fours.four_good.Met as tested-known
 use Rattle.table.proofs.fours.four_at.Key.{name as #four-at}
 use Rattle.table.proofs.fours.four_at.Statement as stated
 use Rattle.table.proofs.fours.four_at.Code as code
-
-four-of : (entries : List Entry) (i : ℕ) (none : Entry) → i + 4 ≤ length entries
-    → getD entries i none ∷ getD entries (i + 1) none ∷ getD entries (i + 2) none ∷ getD entries (i + 3) none ∷ [] ≡ part i 4 entries
-four-of entries i none l =
-    let at : i + 0 ≡ i = omega arith in
-    let plus : (n : ℕ) → List Entry → List Entry = λ n xs. xs ++ (getD entries (i + n) none ∷ []) in
-    sym
-    (part-more i 3 entries none (omega (arith, l)) ∙ ap (plus 3) (part-more i 2 entries none (omega (arith, l)) ∙ ap (plus 2) (part-more i 1 entries none (omega (arith, l))
-    ∙ ap (plus 1) (part-more i 0 entries none (omega (arith, l)) ∙ ap (λ (j : ℕ). getD entries j none ∷ []) at))))
 
 pub four-at-spec : {M : Type 1} → stated.statement M
 unfolding code.routine
