@@ -1,4 +1,4 @@
--- What a send puts into a slot leaves every label good: its own is the send's, or as it was, and the others are not touched.
+-- After a send into a slot every label is good: the slot's own is the send's, or as it was, and the others are unchanged.
 use mathlib.Core.Path.{_≡_, refl, _∙_}
 use mathlib.Core.Bool.{Bool, true, false, _||_}
 use mathlib.Core.List.{List, [], _∷_, _++_}
@@ -7,10 +7,9 @@ use native.Mathlib.Omega.{arith}
 use lib.Dec.{leb, eqb}
 use lib.ListN.{length, getD}
 use borrow.Author.Tests.{le-leb, lt-ltb, leb-true, leb-false, eqb-true, eqb-false}
-use Rattle.wire.specs.Octets.{two}
+use Rattle.octets.specs.Octets.{two, octetAt}
 use Rattle.host.specs.Guard.{longest}
 use Rattle.bench_file.specs.declared.Header.{Header}
-use Rattle.bench_file.specs.Octets.{octetAt}
 use Rattle.bench_file.specs.Absent.{slots}
 use Rattle.bench.specs.Slots.{slotLength, slotPlace, roomPlace, labelOf, withRoom, withLabel, slotGood, slotsGood}
 use Rattle.bench.proofs.Overs as overs

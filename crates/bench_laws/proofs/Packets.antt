@@ -1,4 +1,4 @@
--- What a send into a slot leaves there, and that every other slot keeps its label and its packet.
+-- What is in a slot after a send into it; every other slot keeps its label and its packet.
 use mathlib.Core.Path.{_≡_, refl, sym, _∙_, ap}
 use mathlib.Core.Bool.{Bool, true, false, false≢true, true≢false}
 use mathlib.Core.List.{List, [], _∷_, _++_}
@@ -10,12 +10,11 @@ use lib.ListN.{length, getD, take}
 use lib.Seq.{length-take-le, getD-take, getD-drop, ext-getD}
 use Rattle.lists.specs.Lists.{part, over}
 use Rattle.lists.proofs.Parts.{part-length, over-nothing, over-part}
-use Rattle.wire.specs.Octets.{two}
+use Rattle.octets.specs.Octets.{two, octetAt}
 use Rattle.clock.specs.declared.Counter.{Counter}
 use Rattle.host.specs.Guard.{longest, done}
 use Rattle.host.specs.CallState.{CallState}
 use Rattle.calls.specs.Perform.{Call, Outcome, ask, send, deliver, openWalk, perform}
-use Rattle.bench_file.specs.Octets.{octetAt}
 use Rattle.bench_file.specs.Absent.{slots}
 use Rattle.bench.specs.declared.slots.Label.{Label}
 use Rattle.bench.specs.Slots.{slotLength, slotPlace, roomPlace, labelOf, packetOf, roomOf, withRoom, withLabel}

@@ -8,7 +8,7 @@ ghost use Rattle.capture.specs.Capture.{spanOctets, recoveredCapture, st
 ghost use Rattle.capture.specs.Recover.{longestInput};
 ghost use Rattle.capture.specs.code.Writing.{Room};
 use super::NUMBER;
-use super::octets::put_four;
+use super::numbers::put_four;
 use super::search::next;
 
 // Writes the stretch from one octet to another to a place of the list, if it has octets; returns the place after it.
