@@ -2,7 +2,8 @@
 use mathlib.Core.Path.{_≡_, refl, sym, _∙_, ap}
 use mathlib.Core.Bool.{Bool, true, false, false≢true, true≢false}
 use mathlib.Core.List.{List, [], _∷_, _++_}
-use Prim.Native.Nat.{ℕ, _+_, _*_, _≤_, _<_}
+use Prim.Native.Nat.{ℕ, _+_, _*_, _/_, _%_, _≤_, _<_}
+use native.Mathlib.Nat.{add-zero}
 use native.Mathlib.Omega.{arith}
 use borrow.Author.Tests.{leb-true, leb-false}
 use lib.Dec.{leb}
@@ -101,7 +102,8 @@ module _ (o : List ℕ) (n : ℕ) (there : n < slots) (long : slotLength * slots
 
     pub own-label : labelOf n after ≡ record { length = m; cable = c; end = e }
     own-label =
-        let long-is : labelOf n after .length ≡ m = rw (label-there 0 (omega arith), label-there 1 (omega arith)) (omega arith) in
+        let first : octetAt after (slotPlace n) ≡ m / 256 % 256 = rw (add-zero (slotPlace n)) at (label-there 0 (omega arith)) in
+        let long-is : labelOf n after .length ≡ m = rw (first, label-there 1 (omega arith)) (omega arith) in
         λ i. record { length = long-is i; cable = label-there 2 (omega arith) i; end = label-there 3 (omega arith) i }
 
     -- ---- every other slot
@@ -119,7 +121,9 @@ module _ (o : List ℕ) (n : ℕ) (there : n < slots) (long : slotLength * slots
               overs.behind put label (slotPlace n) label-in (slotPlace s + d) (omega arith) ∙ overs.behind o buffer (roomPlace n) room-in (slotPlace s + d) (omega arith)
 
       pub label-kept : labelOf s after ≡ labelOf s o
-      label-kept = rw (octet-kept 0 (omega arith), octet-kept 1 (omega arith), octet-kept 2 (omega arith), octet-kept 3 (omega arith)) refl
+      label-kept =
+          let first : octetAt after (slotPlace s) ≡ octetAt o (slotPlace s) = rw (add-zero (slotPlace s)) at (octet-kept 0 (omega arith)) in
+          rw (first, octet-kept 1 (omega arith), octet-kept 2 (omega arith), octet-kept 3 (omega arith)) refl
 
       pub packet-kept : labelOf s o .length ≤ longest → packetOf s after ≡ packetOf s o
       packet-kept short =

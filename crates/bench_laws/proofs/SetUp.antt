@@ -67,7 +67,7 @@ zero-there n o i h = go (ltb i (length o)) refl
     go false e = past-end (zeros n o) i (omega (arith, ltb-false i (length o) e, zeros-length n o))
 
 pub zeros-empty : (o : List ℕ) (s : ℕ) → s < slots → empty s (zeros (slotLength * slots) o) ≡ true
-zeros-empty o s h = rw (zero-there (slotLength * slots) o (slotPlace s + 0) (omega arith), zero-there (slotLength * slots) o (slotPlace s + 1) (omega arith))
+zeros-empty o s h = rw (zero-there (slotLength * slots) o (slotPlace s) (omega arith), zero-there (slotLength * slots) o (slotPlace s + 1) (omega arith))
 
 zeros-good : (h : Header) (o : List ℕ) → slotsGood h (zeros (slotLength * slots) o) ≡ true
 unfolding slotsGood
