@@ -1,4 +1,4 @@
--- A state that stands for an absent host is not read if the host is there.
+-- The default for an absent host is not read if the host is there.
 use mathlib.Core.Path.{_≡_, refl}
 use mathlib.Core.List.{List, [], _∷_}
 use Prim.Native.Nat.{ℕ, zero, suc, _<_}

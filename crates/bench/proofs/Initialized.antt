@@ -1,4 +1,4 @@
--- The settings afresh, one host after the other: one more is behind those before it, and none changes copies, slots, answers and events done.
+-- Hosts are initialized one after another. None of these calls changes copies, slots, answers or the number of events done.
 use mathlib.Core.Path.{_≡_, refl, sym, _∙_, ap}
 use mathlib.Core.List.{List}
 use Prim.Native.Nat.{ℕ, zero, suc, _+_}

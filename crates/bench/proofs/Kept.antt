@@ -1,4 +1,4 @@
--- An event leaves the slots as long as they were, and their labels good.
+-- An event keeps the length of the slots, and their labels stay good.
 use mathlib.Core.Path.{_≡_, refl, _∙_}
 use mathlib.Core.Bool.{true, false, false≢true}
 use mathlib.Core.List.{List}

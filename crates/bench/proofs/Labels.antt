@@ -1,16 +1,16 @@
--- What a send puts into a slot leaves every label good: its own is the send's, or as it was, and the others are not touched.
+-- After a send into a slot every label is good: the slot's own is the send's, or as it was, and the others are unchanged.
 use mathlib.Core.Path.{_≡_, refl, _∙_}
 use mathlib.Core.Bool.{Bool, true, false, _||_}
 use mathlib.Core.List.{List, [], _∷_, _++_}
-use Prim.Native.Nat.{ℕ, _+_, _*_, _≤_, _<_}
+use Prim.Native.Nat.{ℕ, _+_, _*_, _/_, _%_, _≤_, _<_}
+use native.Mathlib.Nat.{add-zero}
 use native.Mathlib.Omega.{arith}
 use lib.Dec.{leb, eqb}
 use lib.ListN.{length, getD}
 use borrow.Author.Tests.{le-leb, lt-ltb, leb-true, leb-false, eqb-true, eqb-false}
-use Rattle.wire.specs.Octets.{two}
+use Rattle.octets.specs.Octets.{two, octetAt}
 use Rattle.host.specs.Guard.{longest}
 use Rattle.bench_file.specs.declared.Header.{Header}
-use Rattle.bench_file.specs.Octets.{octetAt}
 use Rattle.bench_file.specs.Absent.{slots}
 use Rattle.bench.specs.Slots.{slotLength, slotPlace, roomPlace, labelOf, withRoom, withLabel, slotGood, slotsGood}
 use Rattle.bench.proofs.Overs as overs
@@ -18,7 +18,9 @@ use Rattle.bench.proofs.Each.{one-of, all-of}
 
 -- a label is good as its four octets are
 alike : (h : Header) (o p : List ℕ) (j : ℕ) → ((d : ℕ) → d < 4 → octetAt p (slotPlace j + d) ≡ octetAt o (slotPlace j + d)) → slotGood h p j ≡ slotGood h o j
-alike h o p j same = rw (same 0 (omega arith), same 1 (omega arith), same 2 (omega arith), same 3 (omega arith))
+alike h o p j same =
+    let first : octetAt p (slotPlace j) ≡ octetAt o (slotPlace j) = rw (add-zero (slotPlace j)) at (same 0 (omega arith)) in
+    rw (first, same 1 (omega arith), same 2 (omega arith), same 3 (omega arith))
 
 module _ (o : List ℕ) (t : ℕ) (there : t < slots) (long : slotLength * slots ≤ length o) where
   -- the room of a slot touches no label
@@ -63,7 +65,8 @@ module _ (o : List ℕ) (t : ℕ) (there : t < slots) (long : slotLength * slots
 
     own-good : (h : Header) → n ≤ longest → c < h .cables → e ≤ 1 → slotGood h (withLabel t n c e o) t ≡ true
     own-good h few cable end =
-        let long-is : labelOf t (withLabel t n c e o) .length ≡ n = rw (label-there 0 (omega arith), label-there 1 (omega arith)) (omega arith) in
+        let first : octetAt (withLabel t n c e o) (slotPlace t) ≡ n / 256 % 256 = rw (add-zero (slotPlace t)) at (label-there 0 (omega arith)) in
+        let long-is : labelOf t (withLabel t n c e o) .length ≡ n = rw (first, label-there 1 (omega arith)) (omega arith) in
         rw (long-is, label-there 2 (omega arith), label-there 3 (omega arith), le-leb n longest few, lt-ltb c (h .cables) cable, le-leb e 1 end) (or-good (eqb n 0))
 
     pub label-good : (h : Header) → slotsGood h o ≡ true → n ≤ longest → c < h .cables → e ≤ 1 → slotsGood h (withLabel t n c e o) ≡ true

@@ -1,4 +1,4 @@
--- Octets of a list with others over it: in front, behind, and those put there.
+-- Octets of a list with others over it: those before, those after, and those put there.
 use mathlib.Core.Path.{_≡_, sym, _∙_, ap}
 use mathlib.Core.List.{List, _++_, append-assoc}
 use Prim.Native.Nat.{ℕ, _+_, _-_, _≤_, _<_}

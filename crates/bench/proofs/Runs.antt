@@ -18,7 +18,7 @@ use Rattle.bench.specs.Slots.{empty}
 use Rattle.bench.specs.Event.{After, carried}
 use Rattle.bench.specs.Run.{header, next, steps}
 
--- an event leaves the copies and how many are done
+-- an event keeps the copies and the number of events done
 module _ (file : List ℕ) (t : NetTable) (h : Header) where
   pub same-done : (e : Event) (b : Bench) → carried file t h e b .bench .done ≡ b .done
   same-done (Tick k n) b = refl
@@ -44,7 +44,7 @@ module _ (file : List ℕ) (t : NetTable) where
   abbrev more : Bench → Bool
   more b = ltb (b .done) (header file t .events)
 
-  -- behind the last event nothing is done
+  -- after the last event nothing is done
   stopped : (n : ℕ) (b : Bench) → more b ≡ false → steps file t n b ≡ b
   unfolding steps
   stopped zero b e = refl

@@ -1,4 +1,4 @@
--- What a run plans, carried out, is what the definition says of it.
+-- A run carries out its plan, which is the definition.
 use mathlib.Core.Path.{_≡_, refl, sym, ap, _∙_}
 use mathlib.Core.Bool.{Bool, true, false, cond}
 use mathlib.Core.List.{List}

@@ -1,4 +1,4 @@
--- What an event asks, a call, a send, an arrival or a note, may be asked; and what it leaves is what the event does.
+-- What an event needs (a call, a send, an arrival or a note) has its precondition, and its result is that of the event.
 use mathlib.Core.Path.{_≡_, refl, sym, ap, _∙_, subst, subst⁻¹}
 use mathlib.Core.Bool.{true, false}
 use mathlib.Core.List.{List}
@@ -139,7 +139,7 @@ module _ (file : List ℕ) (t : NetTable) (h : Header) (b : Bench) (f : Fits fil
   by-which p o P asks sends takes notes =
       which file t h (event-fits .cables) b (f .slots) p P asks sends takes notes (eventAt file h (b .done)) (event-fits .good) o
 
-  -- what is left, of the header that the file has
+  -- the state afterwards, by the header of the file
   after-of : {hosts′ : List HostState} {entries′ : List Entry} {slots′ answers′ : List ℕ} → HostAfter (kept (carried file t h (eventAt file h (b .done)) b)) hosts′ entries′ slots′ answers′ → HostAfter (next file t b) hosts′ entries′ slots′ answers′
   unfolding next
   after-of {hosts′} {entries′} {slots′} {answers′} l = subst (λ (g : Header). HostAfter (kept (carried file t g (eventAt file g (b .done)) b)) hosts′ entries′ slots′ answers′) (f .header) l

@@ -1,4 +1,4 @@
--- So many turns are so many steps, and each of them may be made.
+-- n turns are n steps, and the precondition of each is true.
 use mathlib.Core.Path.{_≡_, sym, _∙_, ap, subst, subst⁻¹}
 use mathlib.Core.Bool.{true}
 use mathlib.Core.List.{List}

@@ -1,4 +1,4 @@
--- Of the four that an event might be, one: what is told of it, and what the definition makes of the bench.
+-- An event is one of four cases: how it is classified, and what the definition makes of the bench.
 use mathlib.Core.Path.{_≡_, subst⁻¹}
 use mathlib.Core.Bool.{true, false, false≢true}
 use mathlib.Core.List.{List}

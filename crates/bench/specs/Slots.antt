@@ -5,13 +5,12 @@ use Prim.Native.Nat.{ℕ, _+_, _*_, _-_}
 use lib.Dec.{ltb, leb, eqb}
 use lib.ListN.{take, drop}
 use Rattle.lists.specs.Lists.{part, over}
-use Rattle.wire.specs.Octets.{two}
+use Rattle.octets.specs.Octets.{two, octetAt, numberAt}
 use Rattle.table.specs.Forms.{every, upFrom}
 use Rattle.host.specs.Guard.{longest}
 use Rattle.bench_file.specs.declared.Header.{Header}
 use Rattle.bench_file.specs.declared.End.{End}
 use Rattle.bench.specs.declared.slots.Label.{Label}
-use Rattle.bench_file.specs.Octets.{octetAt, numberAt}
 use Rattle.bench_file.specs.Records.{endAt}
 use Rattle.bench_file.specs.Absent.{slots}
 

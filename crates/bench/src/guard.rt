@@ -15,11 +15,9 @@ use super::Lengths;
 use super::slots::SLOTS_LENGTH;
 use super::slots::slots_good;
 use bench_file::Header;
+use host::LONGEST;
 use host::PLACES;
 use net_table::NetTable;
-
-// The octets of the longest packet.
-const LONGEST: usize = 1052;
 
 fn records_good(t: NetTable, file: &[u8], h: Header) -> bool
     requires { ⌜ Sections h (length (now file)) ⌝ }

@@ -6,10 +6,8 @@ ghost use Rattle.answer.specs.declared.Answer.the-variants.{IpForm};
 ghost use Rattle.answer.specs.Answer.{number};
 ghost use Rattle.host.specs.Guard.{longest};
 use answer::Answer;
+use host::LONGEST;
 use host::Reply;
-
-// The octets of the longest packet.
-const LONGEST: usize = 1052;
 
 // Where the host's copy of a packet begins.
 pub fn copy_start(host: usize) -> usize

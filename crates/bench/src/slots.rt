@@ -15,13 +15,12 @@ ghost use Rattle.bench.specs.Slots.{
 };
 use bench_file::Header;
 use bench_file::SLOTS;
+use host::LONGEST;
 
 // The octets of a slot, and of all slots.
 const SLOT: usize = 1056;
 
 pub const SLOTS_LENGTH: usize = 33792;
-
-const LONGEST: usize = 1052;
 
 const LABEL: usize = 4;
 
@@ -53,9 +52,9 @@ pub fn label_at(octets: &[u8], slot: usize) -> Label
 {
     let at = SLOT * slot;
     Label {
-        length: bench_file::octets::two_at(octets, at) as usize,
-        cable: bench_file::octets::octet_at(octets, at + 2),
-        end: bench_file::octets::octet_at(octets, at + 3),
+        length: octets::two_at(octets, at) as usize,
+        cable: octets::octet_at(octets, at + 2),
+        end: octets::octet_at(octets, at + 3),
     }
 }
 

@@ -1,4 +1,4 @@
-pub mod Powers
+pub mod Complement
 pub mod Each
 pub mod Marks
 pub mod Fits

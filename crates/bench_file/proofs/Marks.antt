@@ -1,4 +1,4 @@
--- The marks of a record as bits of words: one more bit, in front of those behind it.
+-- The marks of a record as bits of words: one more bit, before the others.
 use mathlib.Core.Path.{_≡_, sym, _∙_}
 use Prim.Native.Nat.{ℕ, suc, _+_, _-_, _*_, _^_, _≤_, _<_, min}
 use native.Mathlib.Nat.{pow-le-pow-right, pow-suc, zero-lt-suc}
@@ -25,7 +25,7 @@ module _ (s : List ℕ) (at : ℕ) (h : at + 64 ≤ length s) where
   pub word-none : 0 ≡ wordOf (drop 64 (part at 64 s))
   word-none = let t : length (part at 64 s) ≤ 64 = omega (arith, part-length at 64 s h) in rw (drop-of-length-le (part at 64 s) t)
 
--- a word with room for one bit more
+-- a word that has a free bit
 pub one-bit : (word i mark : ℕ) → i < 64 → word < 2 ^ (64 - (i + 1)) → mark ≤ 1 → word * 2 + mark < 2 ^ (64 - i)
 one-bit word i mark l h m =
     let e : 64 - i ≡ suc (64 - (i + 1)) = omega arith in

@@ -4,7 +4,7 @@ use mathlib.Core.List.{List}
 use Prim.Native.Nat.{ℕ, _+_, _*_}
 use lib.Dec.{ltb, leb, eqb}
 use lib.ListN.{length}
-use Rattle.bench_file.specs.Octets.{numberAt}
+use Rattle.octets.specs.Octets.{numberAt}
 use Rattle.bench_file.specs.declared.Header.{Header}
 
 -- ---- the octets of the header, and of each record

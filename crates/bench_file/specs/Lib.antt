@@ -1,4 +1,3 @@
-pub mod Octets
 pub mod Header
 pub mod Records
 pub mod Settings

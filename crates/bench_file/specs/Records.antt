@@ -12,7 +12,7 @@ use Rattle.bench_file.specs.declared.Header.{Header}
 use Rattle.bench_file.specs.declared.End.{End}
 use Rattle.bench_file.specs.declared.Event.{Event}
 use Rattle.bench_file.specs.declared.Event.the-variants.{Tick, Adjust, Set, Second, SelfReport, Send, Arrival, Unknown}
-use Rattle.bench_file.specs.Octets.{octetAt, numberAt}
+use Rattle.octets.specs.Octets.{octetAt, numberAt}
 use Rattle.bench_file.specs.Header.{headerLength, hostLength, cableLength, eventLength}
 
 -- ---- the places of the records; record k is host k, cable k, event k

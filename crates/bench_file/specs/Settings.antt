@@ -15,7 +15,7 @@ use Rattle.host.specs.declared.LinkSetting.{LinkSetting}
 use Rattle.host.specs.declared.Settings.{Settings}
 use Rattle.host.specs.Settings.{settingsFit}
 use Rattle.bench_file.specs.declared.Header.{Header}
-use Rattle.bench_file.specs.Octets.{octetAt, numberAt}
+use Rattle.octets.specs.Octets.{octetAt, numberAt}
 use Rattle.bench_file.specs.Header.{hostLength}
 use Rattle.bench_file.specs.Records.{hostPlace}
 

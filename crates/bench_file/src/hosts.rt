@@ -3,7 +3,6 @@ ghost use mathlib.Core.Path.{_≡_};
 ghost use Prim.Native.Nat.{_+_, _≤_, _<_, min};
 ghost use lib.ListN.{length};
 ghost use Rattle.lists.specs.Lists.{part};
-ghost use Rattle.wire.specs.Octets.{addressAt};
 ghost use Rattle.bench_file.specs.Header.{hostLength};
 ghost use Rattle.bench_file.specs.Settings.{
   tickOf,
@@ -22,18 +21,18 @@ use super::HEADER;
 use super::HOST;
 use super::Header;
 use super::LINK_COUNT;
-use super::octets::four_at;
-use super::octets::number_at;
-use super::octets::octet_at;
-use super::octets::two_at;
 use host::LinkSetting;
 use host::Settings;
 use net_table::NetTable;
+use octets::eight_at;
+use octets::four_at;
+use octets::octet_at;
+use octets::two_at;
 use quantity::Millis;
 use quantity::Seconds;
 use quantity::Units;
 use table::marks::Marks;
-use wire::Address;
+use wire::addresses::address_at;
 
 // The places of the fields of a host's record.
 const ADDRESS: usize = 0;
@@ -69,18 +68,6 @@ fn tick_of(n: u64) -> Units
         return Units(n as i64);
     }
     Units(OVER as i64)
-}
-
-fn address_at(octets: &[u8], at: usize) -> Address
-    requires { ⌜ at + 4 ≤ length (now octets) ⌝ }
-    ensures { λ r. ⌜ r ≡ addressAt (now (octets .entry)) at ⌝ }
-{
-    Address {
-        first: octets[at],
-        second: octets[at + 1],
-        third: octets[at + 2],
-        fourth: octets[at + 3],
-    }
 }
 
 // The link of a slot, 0 to 7.
@@ -162,7 +149,7 @@ fn settings_of(octets: &[u8]) -> Settings
         },
         clock_host: octets[CLOCK_HOST],
         hold_interval: Seconds(two_at(octets, HOLD_INTERVAL)),
-        clock_tick: tick_of(number_at(octets, CLOCK_TICK, 8)),
+        clock_tick: tick_of(eight_at(octets, CLOCK_TICK)),
         time: Millis::of_unsigned(four_at(octets, TIME)),
         date: calendar::Date(two_at(octets, DATE)),
         link_count: octet_at(octets, LINK_COUNT),
@@ -172,8 +159,8 @@ fn settings_of(octets: &[u8]) -> Settings
 }
 
 // The settings of a host of the file.
-pub fn settings_at(file: &[u8], h: Header, host: usize) -> Settings
-    requires { ⌜ Sections h (length (now file)) × (host < h .hosts) ⌝ }
+pub fn settings_at(file: &[u8], header: Header, host: usize) -> Settings
+    requires { ⌜ Sections header (length (now file)) × (host < header .hosts) ⌝ }
     ensures { λ r. ⌜ r ≡ settingsAt (now (file .entry)) host ⌝ }
 {
     let at = HEADER + HOST * host;
@@ -195,32 +182,32 @@ fn marks_good(octets: &[u8]) -> bool
 }
 
 // May a host of the class be set so?
-fn host_good(t: NetTable, octets: &[u8]) -> bool
+fn host_good(table: NetTable, octets: &[u8]) -> bool
     requires { ⌜ hostLength ≤ length (now octets) ⌝ }
-    ensures { λ r. ⌜ r ≡ hostGood t (now (octets .entry)) ⌝ }
+    ensures { λ r. ⌜ r ≡ hostGood table (now (octets .entry)) ⌝ }
 {
     if !marks_good(octets) {
         return false;
     }
-    host::fit(t, settings_of(octets))
+    host::fit(table, settings_of(octets))
 }
 
-fn good_at(t: NetTable, file: &[u8], h: Header, host: usize) -> bool
-    requires { ⌜ Sections h (length (now file)) × (host < h .hosts) ⌝ }
-    ensures { λ r. ⌜ r ≡ hostGood t (hostRecord (now (file .entry)) host) ⌝ }
+fn good_at(table: NetTable, file: &[u8], header: Header, host: usize) -> bool
+    requires { ⌜ Sections header (length (now file)) × (host < header .hosts) ⌝ }
+    ensures { λ r. ⌜ r ≡ hostGood table (hostRecord (now (file .entry)) host) ⌝ }
 {
     let at = HEADER + HOST * host;
-    host_good(t, &file[at..at + HOST])
+    host_good(table, &file[at..at + HOST])
 }
 
-pub fn hosts_good(t: NetTable, file: &[u8], h: Header) -> bool
-    requires { ⌜ Sections h (length (now file)) ⌝ }
-    ensures { λ r. ⌜ r ≡ hostsGood t (now (file .entry)) h ⌝ }
+pub fn hosts_good(table: NetTable, file: &[u8], header: Header) -> bool
+    requires { ⌜ Sections header (length (now file)) ⌝ }
+    ensures { λ r. ⌜ r ≡ hostsGood table (now (file .entry)) header ⌝ }
 {
-    let n = h.hosts;
+    let n = header.hosts;
     let mut i: usize = 0;
     while i < n {
-        if !good_at(t, file, h, i) {
+        if !good_at(table, file, header, i) {
             return false;
         }
         i += 1;

@@ -3,6 +3,7 @@ ghost use mathlib.Core.Path.{_≡_};
 ghost use mathlib.Core.Bool.{true};
 ghost use Prim.Native.Nat.{_≤_, _<_};
 ghost use lib.ListN.{length};
+ghost use Rattle.quantity.specs.Words.{signedBits};
 ghost use Rattle.bench_file.specs.Header.{headerLength, eventLength, headerOf, headerFits, headerBad};
 ghost use Rattle.bench_file.specs.Records.{linkCountAt, endAt, countOf, counterOf, eventOf, eventAt};
 ghost use Rattle.bench_file.specs.Absent.{endGood, cableGood, eventGood, markGood, cablesGood, eventsGood};
@@ -14,7 +15,6 @@ use octets::two_at;
 use quantity::Count;
 
 pub mod hosts;
-pub mod octets;
 
 // BENCH-2: how many hosts, cables and events, and the octets at which cables and events begin.
 pub struct Header {
@@ -41,6 +41,17 @@ pub enum Event {
     Send(usize, usize, usize, Counter),
     Arrival(usize, Counter),
     Unknown,
+}
+
+// 32 bits, read as a signed number in two's complement.
+fn signed(n: u32) -> i32
+    ensures { λ r. ⌜ r ≡ signedBits 32 n ⌝ }
+{
+    if n < 2147483648 {
+        n as i32
+    } else {
+        !((4294967295 - n) as i32)
+    }
 }
 
 // The octets of the header, and of each record.
@@ -71,25 +82,25 @@ pub fn read_header(file: &[u8]) -> Header
 }
 
 // Are the counts those of a file, and do the sections touch and end with it?
-pub fn header_fits(h: Header, n: usize) -> bool
-    ensures { λ r. ⌜ r ≡ headerFits h n ⌝ }
+pub fn header_fits(header: Header, n: usize) -> bool
+    ensures { λ r. ⌜ r ≡ headerFits header n ⌝ }
 {
-    if 16 < h.hosts {
+    if 16 < header.hosts {
         return false;
     }
-    if 32 < h.cables {
+    if 32 < header.cables {
         return false;
     }
-    if 2048 < h.events {
+    if 2048 < header.events {
         return false;
     }
-    if h.cables_start != HEADER + HOST * h.hosts {
+    if header.cables_start != HEADER + HOST * header.hosts {
         return false;
     }
-    if h.events_start != h.cables_start + CABLE * h.cables {
+    if header.events_start != header.cables_start + CABLE * header.cables {
         return false;
     }
-    n == h.events_start + EVENT * h.events
+    n == header.events_start + EVENT * header.events
 }
 
 // Is there no header that fits the file?
@@ -103,19 +114,19 @@ pub fn header_bad(file: &[u8]) -> bool
 }
 
 // How many links a host's record says that it has.
-fn link_count(file: &[u8], h: Header, host: usize) -> usize
-    requires { ⌜ Sections h (length (now file)) × (host < h .hosts) ⌝ }
+fn link_count(file: &[u8], header: Header, host: usize) -> usize
+    requires { ⌜ Sections header (length (now file)) × (host < header .hosts) ⌝ }
     ensures { λ r. ⌜ r ≡ linkCountAt (now (file .entry)) host ⌝ }
 {
     octet_at(file, HEADER + HOST * host + LINK_COUNT)
 }
 
 // An end of a cable, 0 or 1.
-pub fn end_at(file: &[u8], h: Header, cable: usize, end: usize) -> End
-    requires { ⌜ Sections h (length (now file)) × (cable < h .cables) × (end ≤ 1) ⌝ }
-    ensures { λ r. ⌜ r ≡ endAt (now (file .entry)) h cable end ⌝ }
+pub fn end_at(file: &[u8], header: Header, cable: usize, end: usize) -> End
+    requires { ⌜ Sections header (length (now file)) × (cable < header .cables) × (end ≤ 1) ⌝ }
+    ensures { λ r. ⌜ r ≡ endAt (now (file .entry)) header cable end ⌝ }
 {
-    let at = h.cables_start + CABLE * cable + 2 * end;
+    let at = header.cables_start + CABLE * cable + 2 * end;
     End {
         host: octet_at(file, at),
         link: octet_at(file, at + 1),
@@ -153,7 +164,7 @@ pub fn event_of(part: &[u8]) -> Event
         return Event::Adjust(octet_at(part, 1), count_of(part));
     }
     if kind == 3 {
-        let amount = octets::signed(four_at(part, 10));
+        let amount = signed(four_at(part, 10));
         return Event::Set(octet_at(part, 1), amount, count_of(part));
     }
     if kind == 4 {
@@ -176,69 +187,69 @@ pub fn event_of(part: &[u8]) -> Event
     Event::Unknown
 }
 
-pub fn event_at(file: &[u8], h: Header, event: usize) -> Event
-    requires { ⌜ Sections h (length (now file)) × (event < h .events) ⌝ }
-    ensures { λ r. ⌜ r ≡ eventAt (now (file .entry)) h event ⌝ }
+pub fn event_at(file: &[u8], header: Header, event: usize) -> Event
+    requires { ⌜ Sections header (length (now file)) × (event < header .events) ⌝ }
+    ensures { λ r. ⌜ r ≡ eventAt (now (file .entry)) header event ⌝ }
 {
-    let at = h.events_start + EVENT * event;
+    let at = header.events_start + EVENT * event;
     event_of(&file[at..at + EVENT])
 }
 
 // Is an end a link of a host of the file?
-fn end_good(file: &[u8], h: Header, e: End) -> bool
-    requires { ⌜ Sections h (length (now file)) ⌝ }
-    ensures { λ r. ⌜ r ≡ endGood (now (file .entry)) h e ⌝ }
+fn end_good(file: &[u8], header: Header, end: End) -> bool
+    requires { ⌜ Sections header (length (now file)) ⌝ }
+    ensures { λ r. ⌜ r ≡ endGood (now (file .entry)) header end ⌝ }
 {
-    if e.host >= h.hosts {
+    if end.host >= header.hosts {
         return false;
     }
-    if e.link < 1 {
+    if end.link < 1 {
         return false;
     }
-    e.link <= link_count(file, h, e.host)
+    end.link <= link_count(file, header, end.host)
 }
 
-fn cable_good(file: &[u8], h: Header, cable: usize) -> bool
-    requires { ⌜ Sections h (length (now file)) × (cable < h .cables) ⌝ }
-    ensures { λ r. ⌜ r ≡ cableGood (now (file .entry)) h cable ⌝ }
+fn cable_good(file: &[u8], header: Header, cable: usize) -> bool
+    requires { ⌜ Sections header (length (now file)) × (cable < header .cables) ⌝ }
+    ensures { λ r. ⌜ r ≡ cableGood (now (file .entry)) header cable ⌝ }
 {
-    if !end_good(file, h, end_at(file, h, cable, 0)) {
+    if !end_good(file, header, end_at(file, header, cable, 0)) {
         return false;
     }
-    end_good(file, h, end_at(file, h, cable, 1))
+    end_good(file, header, end_at(file, header, cable, 1))
 }
 
-fn mark_good(k: Counter) -> bool
-    ensures { λ r. ⌜ r ≡ markGood k ⌝ }
+fn mark_good(counter: Counter) -> bool
+    ensures { λ r. ⌜ r ≡ markGood counter ⌝ }
 {
-    k.overflow <= 1
+    counter.overflow <= 1
 }
 
 // Does an event name only what there is?
-fn event_good(h: Header, e: Event) -> bool
-    ensures { λ r. ⌜ r ≡ eventGood h e ⌝ }
+fn event_good(header: Header, event: Event) -> bool
+    ensures { λ r. ⌜ r ≡ eventGood header event ⌝ }
 {
-    match e {
-        Event::Tick(host, _) => host < h.hosts,
-        Event::Adjust(host, _) => host < h.hosts,
-        Event::Set(host, _, _) => host < h.hosts,
-        Event::Second(host) => host < h.hosts,
-        Event::SelfReport(host, k) => (host < h.hosts) & mark_good(k),
-        Event::Send(cable, end, slot, k) => (cable < h.cables)
+    match event {
+        Event::Tick(host, _) => host < header.hosts,
+        Event::Adjust(host, _) => host < header.hosts,
+        Event::Set(host, _, _) => host < header.hosts,
+        Event::Second(host) => host < header.hosts,
+        Event::SelfReport(host, k) => (host < header.hosts) & mark_good(k),
+        Event::Send(cable, end, slot, k) => (cable < header.cables)
             & ((end <= 1) & ((slot < SLOTS) & mark_good(k))),
         Event::Arrival(slot, k) => (slot < SLOTS) & mark_good(k),
         Event::Unknown => false,
     }
 }
 
-pub fn cables_good(file: &[u8], h: Header) -> bool
-    requires { ⌜ Sections h (length (now file)) ⌝ }
-    ensures { λ r. ⌜ r ≡ cablesGood (now (file .entry)) h ⌝ }
+pub fn cables_good(file: &[u8], header: Header) -> bool
+    requires { ⌜ Sections header (length (now file)) ⌝ }
+    ensures { λ r. ⌜ r ≡ cablesGood (now (file .entry)) header ⌝ }
 {
-    let n = h.cables;
+    let n = header.cables;
     let mut i: usize = 0;
     while i < n {
-        if !cable_good(file, h, i) {
+        if !cable_good(file, header, i) {
             return false;
         }
         i += 1;
@@ -246,14 +257,14 @@ pub fn cables_good(file: &[u8], h: Header) -> bool
     true
 }
 
-pub fn events_good(file: &[u8], h: Header) -> bool
-    requires { ⌜ Sections h (length (now file)) ⌝ }
-    ensures { λ r. ⌜ r ≡ eventsGood (now (file .entry)) h ⌝ }
+pub fn events_good(file: &[u8], header: Header) -> bool
+    requires { ⌜ Sections header (length (now file)) ⌝ }
+    ensures { λ r. ⌜ r ≡ eventsGood (now (file .entry)) header ⌝ }
 {
-    let n = h.events;
+    let n = header.events;
     let mut i: usize = 0;
     while i < n {
-        if !event_good(h, event_at(file, h, i)) {
+        if !event_good(header, event_at(file, header, i)) {
             return false;
         }
         i += 1;

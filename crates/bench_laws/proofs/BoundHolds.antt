@@ -1,4 +1,4 @@
--- Demand 3 on the bench: set-up sets the room's seats afresh in one run, and each event of a run is a step of the room's list, or none. So the room's claim is so of the bench's run of entries.
+-- Demand 3 on the bench: set-up initializes the network's nodes in one host table, and each event of a run is a step of the network's list, or none. So the network's claim is true of the bench's host table.
 use mathlib.Core.Path.{_≡_, refl, sym, _∙_, ap, subst}
 use mathlib.Core.Bool.{Bool, true, false, true≢false, cond}
 use mathlib.Core.List.{List, [], _∷_}
@@ -43,7 +43,7 @@ module _ (file : List ℕ) (t : NetTable) where
   abbrev h : Header
   h = header file t
 
-  -- the last of the settings afresh
+  -- the last of the initializations
   set-last : (k n : ℕ) (b : Bench) → allSet file t k (suc n) b ≡ asked file t h (k + n) Initialize (allSet file t k n b) .bench
   unfolding allSet
   set-last k zero b = rw (add-zero k) refl
@@ -123,7 +123,7 @@ module _ (file : List ℕ) (t : NetTable) where
     abbrev Stands : Bench → SharedWorld → (ℕ → ℤ) → Type 0
     Stands b w since = holding.Stands file t first f cable longest b w since
 
-    -- the steps that the room allows, and what stands behind them
+    -- the steps that the network allows, and the state after them
     record Going (w : SharedWorld) (P : SharedWorld → Type 0) : Type 0 where
       taken : List SharedStep
       allows : SharedAllows r w taken
@@ -137,7 +137,7 @@ module _ (file : List ℕ) (t : NetTable) where
     unfolding SharedAllows sharedHistory
     more x ok g = record { taken = x ∷ g .taken; allows = (ok, g .allows); ends = g .ends }
 
-    -- and others behind them
+    -- and others after them
     goes-on : {P Q : SharedWorld → Type 0} (w : SharedWorld) (xs : List SharedStep) → SharedAllows r w xs → P (sharedHistory r w xs) → ((v : SharedWorld) → P v → Going v Q) → Going w Q
     unfolding SharedAllows sharedHistory
     goes-on w [] ok p rest = rest w p
@@ -148,7 +148,7 @@ module _ (file : List ℕ) (t : NetTable) where
     keep a w since st = record { tracks = holding.again file t first f cable longest (a .bench) w _ _ _ (st .tracks); held = st .held }
 
     module _ (wired : Wired file t cable) (ms : ℕ → ℤ) where
-      -- one event, and the run behind it
+      -- one event, and the run after it
       behind : (u : NetTable) (b : Bench) (w : SharedWorld) (since : ℕ → ℤ) (P : SharedWorld → Type 0)
           → ((v : SharedWorld) → Stands (next file u b) v since → Going v P)
           → holding.Went file t first f cable longest w (carried file u h (eventAt file h (b .done)) b .bench) since → Going w P

@@ -1,4 +1,4 @@
--- One call at a host of the bench is one call of a shared run: what it is lent, what it leaves, and its answer. So each event is its calls.
+-- One call at a host of the bench is one call over a shared host table: the state before, the state after, and the answer. So each event is its calls.
 use mathlib.Core.Path.{_≡_, refl, sym, _∙_, ap, fun-ext}
 use mathlib.Core.Bool.{Bool, true, false, cond, false≢true}
 use mathlib.Core.List.{List, [], _∷_}
@@ -41,7 +41,7 @@ opens (openWalk i packet) = true
 pub plain : (c : Call) → opens c ≡ false → Plain c
 plain c e = record { no-opening = λ i packet p. absurd (false≢true (sym e ∙ ap opens p)) }
 
--- and leaves the copy of a packet
+-- and keeps the copy of a packet
 pub same-copy : (c : Call) (x : CallState) → Plain c → perform c x .copy ≡ x .copy
 unfolding Frame
 same-copy c x p = frame-holds c x .copy (p .no-opening)
@@ -82,7 +82,7 @@ module _ (file : List ℕ) (t : NetTable) where
         let copies = put-same (λ (j : ℕ). copyOf j (b .copies)) k (o .copy) (same-copy c (stateAt file t k b) p) in
         λ i. record { clock = clocks i; links = links i; walk = walks i; copy = copies i; entries = o .entries }
 
-    -- what is lent next at the host is what the call left
+    -- the next call at the host gets the state after this one
     pub state-after : stateAt file t k (afterAt k o b) ≡ left (stateAt file t k b) o
     state-after =
         let y : HostState = record { clock = o .clock; links = o .links; walk = o .walk } in
@@ -92,7 +92,7 @@ module _ (file : List ℕ) (t : NetTable) where
 
   -- ---- an event
 
-  -- that it left, and answered, what its calls do
+  -- that its state and answers are those of its calls
   pub record Made (es : List SharedEvent) (b : Bench) (a : After) : Type 0 where
     pub after-same : sharedOf file (a .bench) ≡ sharedAfterAll (sharedOf file b) es
     pub answer-same : a .answer ≡ lastAnswer IpForm (sharedOf file b) es
@@ -157,7 +157,7 @@ module _ (file : List ℕ) (t : NetTable) where
               }
           go false = record { after-same = sym first; answer-same = refl }
 
-    -- the hosts of an event's calls are lent
+    -- the state has the hosts of an event's calls
     abbrev pub State-hosts : Event → Type 0
     State-hosts (Tick k n) = k < length (b .hosts)
     State-hosts (Adjust k n) = k < length (b .hosts)

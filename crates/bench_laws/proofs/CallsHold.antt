@@ -1,4 +1,4 @@
--- Set-up and run are lists of calls, refused ones too; and so isolation speaks of them.
+-- Set-up and run are lists of calls, refused ones too, so isolation covers them.
 use mathlib.Core.Path.{_≡_, refl, sym, subst}
 use mathlib.Core.Bool.{Bool, true, false}
 use mathlib.Core.List.{List, [], flatten}

@@ -1,4 +1,4 @@
--- What an event leaves as it was: the lengths of all that is lent, the copies and the answers; and the slots' labels stay good.
+-- What an event does not change: the lengths of the caller's slices, the copies and the answers. The slots' labels stay good.
 use mathlib.Core.Path.{_≡_, refl, sym, _∙_, ap}
 use mathlib.Core.Bool.{true, false, false≢true}
 use mathlib.Core.List.{List}

@@ -1,4 +1,4 @@
--- A run that is not refused leaves a bench that none is refused on: no event changes what 12 asks, and file and table are the same.
+-- After a run that is not refused, no run is refused: no event changes what 12 tests, and file and table are the same.
 use mathlib.Core.Path.{_≡_}
 use mathlib.Core.Bool.{true, false}
 use mathlib.Core.List.{List}

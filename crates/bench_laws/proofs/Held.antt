@@ -1,4 +1,4 @@
--- What the slots hold was sent in the room: each event keeps that, so that an arrival is given a copy of a message that was sent at the other end of its cable.
+-- Every packet in a slot was sent in the network, and each event keeps that. So an arrival gets a copy of a message that was sent at the other end of its cable.
 use mathlib.Core.Path.{_≡_, refl, sym, _∙_, ap, subst}
 use mathlib.Core.Bool.{Bool, true, false, cond, _&&_, false≢true}
 use mathlib.Core.List.{List, _∷_, List·Memᴰ, List·Memᴰ·head, List·Memᴰ·tail}
@@ -77,7 +77,7 @@ module _ (file : List ℕ) (t : NetTable) (first : Bench) (f : ℕ → ℤ) (cab
       → Tracks record { hosts = b .hosts; copies = b .copies; entries = b .entries; slots = slots; answers = answers; done = done } w
   again b w slots answers done tr = record { clock = tr .clock; links = tr .links; walk = tr .walk; copy = tr .copy; entries = tr .entries }
 
-  -- an event that was no call, or was one that the room allows
+  -- an event that was no call, or one that the network allows
   pub data Went (w : SharedWorld) (b : Bench) (since : ℕ → ℤ) : Type 0 where
     stayed : Stands b w since → Went w b since
     went : (x : SharedStep) → SharedAllowed r w x → Stands b (sharedStep r w x) since → Went w b since
@@ -141,7 +141,7 @@ module _ (file : List ℕ) (t : NetTable) (first : Bench) (f : ℕ → ℤ) (cab
           ap (λ (z : List ℕ). withRoom n z (b .slots)) (packets.refused-keeps (stateAt file u (e .host) b) (e .link) k (roomOf n (b .slots)) d)
           ∙ packets.room-back (b .slots) n ln (ready .long .slots)
 
-      -- sent: its slot holds it
+      -- sent: it is in its slot
       module _ (d : done (o .reply .answer) ≡ true) where
         abbrev after : List ℕ
         after = withLabel n (o .reply .length) c i put-there

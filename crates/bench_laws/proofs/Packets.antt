@@ -1,8 +1,9 @@
--- What a send into a slot leaves there, and that every other slot keeps its label and its packet.
+-- What is in a slot after a send into it; every other slot keeps its label and its packet.
 use mathlib.Core.Path.{_≡_, refl, sym, _∙_, ap}
 use mathlib.Core.Bool.{Bool, true, false, false≢true, true≢false}
 use mathlib.Core.List.{List, [], _∷_, _++_}
-use Prim.Native.Nat.{ℕ, _+_, _*_, _≤_, _<_}
+use Prim.Native.Nat.{ℕ, _+_, _*_, _/_, _%_, _≤_, _<_}
+use native.Mathlib.Nat.{add-zero}
 use native.Mathlib.Omega.{arith}
 use borrow.Author.Tests.{leb-true, leb-false}
 use lib.Dec.{leb}
@@ -10,12 +11,11 @@ use lib.ListN.{length, getD, take}
 use lib.Seq.{length-take-le, getD-take, getD-drop, ext-getD}
 use Rattle.lists.specs.Lists.{part, over}
 use Rattle.lists.proofs.Parts.{part-length, over-nothing, over-part}
-use Rattle.wire.specs.Octets.{two}
+use Rattle.octets.specs.Octets.{two, octetAt}
 use Rattle.clock.specs.declared.Counter.{Counter}
 use Rattle.host.specs.Guard.{longest, done}
 use Rattle.host.specs.CallState.{CallState}
 use Rattle.calls.specs.Perform.{Call, Outcome, ask, send, deliver, openWalk, perform}
-use Rattle.bench_file.specs.Octets.{octetAt}
 use Rattle.bench_file.specs.Absent.{slots}
 use Rattle.bench.specs.declared.slots.Label.{Label}
 use Rattle.bench.specs.Slots.{slotLength, slotPlace, roomPlace, labelOf, packetOf, roomOf, withRoom, withLabel}
@@ -102,7 +102,8 @@ module _ (o : List ℕ) (n : ℕ) (there : n < slots) (long : slotLength * slots
 
     pub own-label : labelOf n after ≡ record { length = m; cable = c; end = e }
     own-label =
-        let long-is : labelOf n after .length ≡ m = rw (label-there 0 (omega arith), label-there 1 (omega arith)) (omega arith) in
+        let first : octetAt after (slotPlace n) ≡ m / 256 % 256 = rw (add-zero (slotPlace n)) at (label-there 0 (omega arith)) in
+        let long-is : labelOf n after .length ≡ m = rw (first, label-there 1 (omega arith)) (omega arith) in
         λ i. record { length = long-is i; cable = label-there 2 (omega arith) i; end = label-there 3 (omega arith) i }
 
     -- ---- every other slot
@@ -120,7 +121,9 @@ module _ (o : List ℕ) (n : ℕ) (there : n < slots) (long : slotLength * slots
               overs.behind put label (slotPlace n) label-in (slotPlace s + d) (omega arith) ∙ overs.behind o buffer (roomPlace n) room-in (slotPlace s + d) (omega arith)
 
       pub label-kept : labelOf s after ≡ labelOf s o
-      label-kept = rw (octet-kept 0 (omega arith), octet-kept 1 (omega arith), octet-kept 2 (omega arith), octet-kept 3 (omega arith)) refl
+      label-kept =
+          let first : octetAt after (slotPlace s) ≡ octetAt o (slotPlace s) = rw (add-zero (slotPlace s)) at (octet-kept 0 (omega arith)) in
+          rw (first, octet-kept 1 (omega arith), octet-kept 2 (omega arith), octet-kept 3 (omega arith)) refl
 
       pub packet-kept : labelOf s o .length ≤ longest → packetOf s after ≡ packetOf s o
       packet-kept short =

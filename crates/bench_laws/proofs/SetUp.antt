@@ -1,4 +1,4 @@
--- Set-up is its settings afresh, in rising order, and leaves a bench that a run does not refuse: its slots are empty.
+-- Set-up initializes the hosts in rising order. A run does not refuse the bench afterwards: its slots are empty.
 use mathlib.Core.Path.{_≡_, refl, sym, _∙_, ap}
 use mathlib.Core.Bool.{Bool, true, false, not, _&&_}
 use mathlib.Core.List.{List, [], _∷_, map}
@@ -18,7 +18,7 @@ use Rattle.calls.specs.declared.Request.the-variants.{Initialize}
 use Rattle.calls.specs.Effects.{initialize}
 use Rattle.calls.specs.Perform.{ask, perform}
 use Rattle.bench_file.specs.declared.Header.{Header}
-use Rattle.bench_file.specs.Octets.{octetAt}
+use Rattle.octets.specs.Octets.{octetAt}
 use Rattle.bench_file.specs.Header.{headerLength, mostHosts, headerFits}
 use Rattle.bench_file.specs.Settings.{hostRecord, settingsAt, marksGood, hostGood, hostsGood}
 use Rattle.bench_file.specs.Absent.{slots, cablesGood, eventsGood}
@@ -67,7 +67,7 @@ zero-there n o i h = go (ltb i (length o)) refl
     go false e = past-end (zeros n o) i (omega (arith, ltb-false i (length o) e, zeros-length n o))
 
 pub zeros-empty : (o : List ℕ) (s : ℕ) → s < slots → empty s (zeros (slotLength * slots) o) ≡ true
-zeros-empty o s h = rw (zero-there (slotLength * slots) o (slotPlace s + 0) (omega arith), zero-there (slotLength * slots) o (slotPlace s + 1) (omega arith))
+zeros-empty o s h = rw (zero-there (slotLength * slots) o (slotPlace s) (omega arith), zero-there (slotLength * slots) o (slotPlace s + 1) (omega arith))
 
 zeros-good : (h : Header) (o : List ℕ) → slotsGood h (zeros (slotLength * slots) o) ≡ true
 unfolding slotsGood
@@ -86,7 +86,7 @@ module _ (file : List ℕ) (t : NetTable) where
   emptied-ready b e =
       ready t file (emptied b) (rw (zeros-good h (b .slots), zeros-length (slotLength * slots) (b .slots), le-leb 0 (h .events) (omega arith)) e)
 
-  -- ---- the settings afresh
+  -- ---- the initializations
 
   pub record Longs (b c : Bench) : Type 0 where
     pub hosts : length (c .hosts) ≡ length (b .hosts)
@@ -140,7 +140,7 @@ module _ (file : List ℕ) (t : NetTable) where
     r : Ready t file (emptied b)
     r = emptied-ready b e
 
-    -- "Up to 16 seats"
+    -- at most 16 hosts
     sixteen : h .hosts ≤ 16
     unfolding headerFits
     sixteen =

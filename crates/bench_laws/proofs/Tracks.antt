@@ -1,4 +1,4 @@
--- A call of the bench is a step in the room: it is lent what its seat's last call left, and leaves what the bench has then.
+-- A call of the bench is a step in the network: it gets the state after its node's last call, and the state afterwards is the bench's.
 use mathlib.Core.Path.{_≡_, refl, sym, _∙_, ap}
 use mathlib.Core.Bool.{Bool, true, false, cond}
 use mathlib.Core.List.{List}
@@ -29,7 +29,7 @@ module _ (file : List ℕ) (t : NetTable) (first : Bench) (f : ℕ → ℤ) (cab
   abbrev r : Network
   r = fileNetwork file t first f cable longest
 
-  -- the room has of each seat what the bench has, but for the places, which stand in the one run
+  -- the network has of each node what the bench has, except the places, which are in the shared host table
   pub record Tracks (b : Bench) (w : SharedWorld) : Type 0 where
     pub clock : (a : ℕ) → a < header file t .hosts → w .world .state a .clock ≡ hostAt file b a .clock
     pub links : (a : ℕ) → a < header file t .hosts → w .world .state a .links ≡ hostAt file b a .links
@@ -37,7 +37,7 @@ module _ (file : List ℕ) (t : NetTable) (first : Bench) (f : ℕ → ℤ) (cab
     pub copy : (a : ℕ) → a < header file t .hosts → w .world .state a .copy ≡ copyOf a (b .copies)
     pub entries : w .entries ≡ b .entries
 
-  -- a call that is lent the class's net table as it then stands
+  -- a call that gets the class's net table of that time
   module _ (u : NetTable) (b : Bench) (w : SharedWorld) (tr : Tracks b w) (k : ℕ) (here : k < header file t .hosts) (there : k < length (b .hosts)) where
     -- our reading there
     pub reads : (c : Counter) (ms : ℤ) → ReadsAt file u r b k c ms → Reads r (w .world) k c ms
@@ -59,7 +59,7 @@ module _ (file : List ℕ) (t : NetTable) (first : Bench) (f : ℕ → ℤ) (cab
       pub allowed : Timely r (w .world) k (result r (w .world) (callState w taken)) q → SharedAllowed r w taken
       allowed timely = record { node-in = here; own-links = ap (ownLinks (settingsAt file k)) (sym (tr .links k here)); own-packet = refl; timely = timely }
 
-      -- what stands at a seat, put by the call or kept
+      -- the state of a node, changed by the call or not
       at-node : {A : Type 0} (G : HostAfter → A) (F : HostState → A) (y : HostState) → G (afterOutcome k (w .world .state k .places) (result r (w .world) (callState w taken))) ≡ F y
           → (a : ℕ) → G (w .world .state a) ≡ F (hostAt file b a)
           → G (put k (afterOutcome k (w .world .state k .places) (result r (w .world) (callState w taken))) (w .world .state) a) ≡ F (getD (set (b .hosts) k y) a (freshHost file a))

@@ -31,13 +31,13 @@ use Rattle.bench_laws.proofs.Events.{carries}
 use Rattle.bench_laws.proofs.Guards.{Ready, next-ready}
 use Rattle.bench_laws.proofs.Called.{Made, State-hosts, made}
 
--- calls of two lists, one behind the other
+-- calls of two lists, one after the other
 after-both : (w : Shared) (es fs : List SharedEvent) → sharedAfterAll w (es ++ fs) ≡ sharedAfterAll (sharedAfterAll w es) fs
 unfolding sharedAfterAll
 after-both w [] fs = refl
 after-both w (e ∷ es) fs = after-both _ es fs
 
--- an answer kept, and others behind it
+-- an answer kept, and others after it
 over-cons : (l : List ℕ) (d a : ℕ) (r : List ℕ) → d < length l → over (set l d a) (suc d) r ≡ over l d (a ∷ r)
 over-cons l d a r h =
     let m : suc d + length r ≡ d + suc (length r) = omega arith in
@@ -74,7 +74,7 @@ module _ (file : List ℕ) (t : NetTable) where
     pub answers-same : steps file t n b .answers ≡ over (b .answers) (b .done) (answersOf (sharedOf file b) (turns file t n b))
     pub count-same : steps file t n b .done ≡ b .done + length (turns file t n b)
 
-  -- one event, and a run behind it
+  -- one event, and a run after it
   module _ (n : ℕ) (b : Bench) (r : Ready t file b) (q : ltb (b .done) (h .events) ≡ true) (rest : Turned n (next file t b)) where
     abbrev e : Event
     e = eventAt file h (b .done)

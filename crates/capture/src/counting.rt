@@ -9,7 +9,7 @@ ghost use Rattle.capture.specs.code.Survey.{mostHits, Surveyed, standsAt
 use super::NUMBER;
 use super::Next;
 use super::Survey;
-use super::octets::four_at;
+use super::numbers::four_at;
 use super::search::next;
 
 // The number of stretches from one place to another: one, where there are octets.

@@ -9,7 +9,7 @@ ghost use Rattle.capture.specs.Again.{Again};
 ghost use Rattle.capture.specs.Recover.{refusal, recover, Leaves, Bounded};
 
 mod counting;
-mod octets;
+mod numbers;
 mod search;
 mod writing;
 

@@ -9,7 +9,7 @@ ghost use Rattle.capture.specs.Search.{hit};
 ghost use Rattle.capture.specs.Recover.{longestInput};
 ghost use Rattle.capture.specs.code.Next.{NoneBetween, IsNext};
 use super::Next;
-use super::octets::two_at;
+use super::numbers::two_at;
 
 // The octets of a packet without hosts: no packet is shorter.
 const SHORTEST: usize = 32;

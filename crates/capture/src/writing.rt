@@ -8,8 +8,8 @@ ghost use Rattle.capture.specs.Capture.{spanOctets, recoveredCapture, st
 ghost use Rattle.capture.specs.Recover.{longestInput};
 ghost use Rattle.capture.specs.code.Writing.{Room};
 use super::NUMBER;
-use super::octets::put_four;
-use super::octets::two_at;
+use super::numbers::put_four;
+use super::numbers::two_at;
 use super::search::TOTAL;
 
 // Writes the stretch from one octet to another to a place of the list, if it has octets; returns the place after it.

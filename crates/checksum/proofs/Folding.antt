@@ -1,4 +1,4 @@
--- The folded sum of octets is their words' whole sum with its carries added in, so it goes by the rules of sums.
+-- The folded sum of octets is their words' exact sum with its carries added in, so it obeys the rules of sums.
 use mathlib.Core.Path.{_≡_, refl, sym, ap, ap₂, _∙_}
 use mathlib.Core.Bool.{Bool, true, false, cond}
 use mathlib.Core.List.{List, [], _∷_, _++_}
@@ -12,7 +12,8 @@ use lib.ListN.{length, getD, drop}
 use lib.Seq.{drop-cons}
 use Rattle.checksum.specs.Checksum.{allOnes, fold, folded, checksumGood, checksumOf}
 use Rattle.checksum.specs.code.EndAround.{endAround, summed, wordSum}
-use Rattle.checksum.proofs.Octets.{Octets, joined}
+use Rattle.octets.specs.Octets.{Octets}
+use Rattle.octets.proofs.Each.{joined}
 
 -- ---- carries added in on the way, and at the end
 
@@ -67,7 +68,7 @@ fold-ends a b = go a b (folds (endAround a) (endAround b))
 pub end-again : (t : ℕ) → endAround (endAround t) ≡ endAround t
 end-again t = end-word (endAround t) (end-small t)
 
--- totals that stand for the same sums do so added together
+-- totals that are congruent to the same sums are so after an addition
 pub end-plus : (a b c d : ℕ) → endAround a ≡ endAround b → endAround c ≡ endAround d → endAround (a + c) ≡ endAround (b + d)
 end-plus a b c d e f = sym (fold-ends a c) ∙ ap₂ fold e f ∙ fold-ends b d
 
@@ -90,7 +91,7 @@ folded-sum (x ∷ y ∷ rest) o =
     ap₂ fold (sym (end-word (x * 256 + y) (omega arith))) (folded-sum rest (o .1 .1))
     ∙ fold-ends (x * 256 + y) (wordSum rest)
 
--- an even number of octets in front
+-- an even number of octets before
 pub sum-append : (f : ℕ → ℕ → ℕ) (xs ys : List ℕ) → length xs % 2 ≡ 0 → summed f (xs ++ ys) ≡ summed f xs + summed f ys
 sum-append f [] ys e = sym (zero-add (summed f ys))
 sum-append f (x ∷ []) ys e = absurd (omega arith)
@@ -108,7 +109,7 @@ one-more f s i h =
 pub folded-small : (xs : List ℕ) → Octets xs → folded xs ≤ allOnes
 folded-small xs o = rw (folded-sum xs o) (end-small (wordSum xs))
 
--- a word at an even place counts as it would in front
+-- a word at an even place counts as it would at the start
 pub folded-word : (xs ys : List ℕ) (hi lo : ℕ) → length xs % 2 ≡ 0 → Octets xs → hi < 256 → lo < 256 → Octets ys
     → folded (xs ++ hi ∷ lo ∷ ys) ≡ fold (hi * 256 + lo) (folded (xs ++ ys))
 folded-word xs ys hi lo e o h l p =

@@ -1,4 +1,3 @@
-pub mod Octets
 pub mod Folding
 pub mod Words
 pub mod LowFirst

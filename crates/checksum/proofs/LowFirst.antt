@@ -45,13 +45,13 @@ four-more s i h =
     let e₂ : i + 2 + 2 ≡ i + 4 = omega arith in
     one-more f s i (omega arith) ∙ ap (λ n. f (getD s i 0) (getD s (i + 1) 0) + n) (rw (e₁, e₂) at (one-more f s (i + 2) (omega arith)))
 
--- ---- numbers that stand for the words
+-- ---- numbers congruent to the sum of the words
 
--- the sum so far stands for the words in front of place i
+-- the sum so far is congruent to that of the words before place i
 abbrev pub Stands : List ℕ → (i sum : ℕ) → Type 0
 Stands s i sum = endAround (sum + lowSum (drop i s)) ≡ endAround (lowSum s)
 
--- a turn: the two words that go stand in the halves of what is added
+-- a turn: the two words are the halves of what is added
 pub one-four : (s : List ℕ) (i sum n : ℕ) → i + 3 < length s → n ≡ lowFour s i → Stands s i sum → Stands s (i + 4) (sum + n)
 one-four s i sum n h e inv =
     let a = getD s i 0 in
@@ -63,7 +63,7 @@ one-four s i sum n h e inv =
     let e₂ : c + d * 256 + t ≡ sum + lowSum (drop i s) = omega (arith, four-more s i h) in
     rw e₁ (end-high (c + d * 256) t ∙ rw e₂ inv)
 
--- what is left at the end, as the part of a slice from place i on
+-- the octets after the loop, as the part of a slice from place i on
 pub rest-sum : (s : List ℕ) (i : ℕ) → lowSum (take (length s - i) (drop i s)) ≡ lowSum (drop i s)
 rest-sum s i = let l : length (drop i s) ≤ length s - i = rw length-drop (omega arith) in ap lowSum (take-all (length s - i) (drop i s) l)
 

@@ -10,7 +10,7 @@ use Rattle.checksum.specs.Checksum.{allOnes, fold}
 use Rattle.checksum.specs.code.EndAround.{endAround, wordSum}
 use Rattle.checksum.proofs.Folding.{fold-ends, end-word, end-positive, end-again, end-plus, one-more}
 
--- the sum so far stands for the words in front of place i
+-- the sum so far is congruent to that of the words before place i
 abbrev pub Added : List ℕ → (i sum : ℕ) → Type 0
 Added s i sum = endAround (sum + wordSum (drop i s)) ≡ endAround (wordSum s)
 
@@ -40,7 +40,7 @@ turned s i sum w h k l e inv =
     let m : w + wordSum (drop (i + 2) s) ≡ wordSum (drop i s) = omega (arith, one-more (λ x y. x * 256 + y) s i h) in
     with-word sum w (wordSum (drop (i + 2) s)) k l ∙ rw m inv
 
--- the end: all words are in the sum, or an odd last octet is left
+-- the end: all words are in the sum, or an odd last octet remains
 pub even-end : (s : List ℕ) (sum : ℕ) → sum ≤ allOnes → Added s (length s) sum → sum ≡ endAround (wordSum s)
 even-end s sum h inv = sym (end-word sum h) ∙ rw (drop-length, add-zero) at inv
 

@@ -83,7 +83,7 @@ module _ (s : Settings) (w : Updates) (same : w .«hold_interval» ≡ s .«hold
       ∙ ap (movedBy s (sweepMoves (suc i) w packet es)) (lineD-moved (eqb (i - w .base) (w .«clock_host»)) u c (lines u e))
       ∙ sym (moved-on s m (sweepMoves (suc i) w packet es) c)
 
--- what an arrival comes to after its reading, which left this clock
+-- the result of an arrival after its reading, with this clock
 module _ (s : Settings) (packet : List ℕ) (es : List Entry) (c : Clock) where
   abbrev Ends : Arrived → Type 0
   Ends a = updates (a .work) packet es .clock ≡ movedBy s (updateMoves (a .work) packet es) c

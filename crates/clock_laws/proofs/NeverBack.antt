@@ -81,7 +81,7 @@ module _ (y : Readings) (twice : ReadsTwice y) where
   abbrev own : List Move
   own = drop 1 (movesOf s (y .clock) (y .first))
 
-  -- the clock as that call left it
+  -- the clock after that call
   abbrev c : Clock
   c = clockAfter s (y .clock) (y .first)
 
@@ -110,7 +110,7 @@ module _ (y : Readings) (twice : ReadsTwice y) where
       let start = reading-in-range (s .«hold_interval») (good .hold-to) (y .clock) (its .clock) (s .«clock_tick») (y .counter) (ltb-true _ _ (f .0)) in
       rw to-last (along s (good .hold-to) (good .tick) (since y) (earlier y .clock) start (f .1) kept small stays)
 
--- a counter that with the ticks does not fall, and whole milliseconds
+-- a counter that with the ticks does not fall, and full milliseconds
 whole : (a ticks b : Units) (adjusts : ℕ) (n m : Count) → Gains a ticks b adjusts → adjusts ≤ mostAdjusts
     → lessUnits (addUnits ticks (countUnits m)) (countUnits n) ≡ false
     → (subMillis (wholeMillis (addUnits a (countUnits n))) mostBack .0) ≤ℤ (wholeMillis (addUnits b (countUnits m)) .0)

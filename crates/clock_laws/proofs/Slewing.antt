@@ -1,4 +1,4 @@
--- An adjust moves its share from DELTA to CLOCK, and a midnight moves CLOCK by whole days; so what the adjusts added and what DELTA lost are the same but for days.
+-- An adjust moves its share from DELTA to CLOCK, and a midnight moves CLOCK by full days. So what the adjusts added and what DELTA lost are the same except for days.
 use mathlib.Core.Path.{_≡_, refl, sym, ap, subst, _∙_}
 use mathlib.Core.Bool.{true, false≢true}
 use mathlib.Core.List.{List, [], _∷_}

@@ -1,4 +1,4 @@
--- An adjust brings a DELTA that does not rest nearer to 0 by a unit at least, and leaves one that rests. A larger DELTA stays the larger one, so the two largest sets take longest.
+-- An adjust brings a DELTA that does not rest nearer to 0 by at least a unit, and keeps one that rests. A larger DELTA stays larger, so the two largest sets take longest.
 use mathlib.Core.Path.{_≡_, refl, sym, ap, _∙_}
 use mathlib.Core.Bool.{Bool, true, false, not, true≢false}
 use Prim.Native.Nat.{ℕ, zero, suc, _≤_, _<_}
@@ -86,7 +86,7 @@ exactly (suc n) d enough a = go (exactly n (worn d)) (resting d) refl a
 lasting : (m : Millis) (a : ℕ) → resting (wornBy a (toUnits m)) ≡ leb (adjustsToRest m) a
 lasting m a = exactly (natAbs (toUnits m .0)) (toUnits m) (le-refl _) a
 
--- ---- what is left
+-- ---- the rest
 
 -- from 127 units on DELTA stays there
 over : (n : ℕ) (d : Units) → (restMost .0) ≤ℤ (d .0) → (restMost .0) ≤ℤ (wornBy n d .0)

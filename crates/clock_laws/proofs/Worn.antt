@@ -1,4 +1,4 @@
--- Midnight moves CLOCK by whole days and leaves DELTA; so without a set DELTA changes by adjusts alone.
+-- Midnight moves CLOCK by full days and keeps DELTA. So without a set only adjusts change DELTA.
 use mathlib.Core.Path.{_≡_, refl, ap, _∙_}
 use mathlib.Core.Bool.{Bool, true, false, cond, not, _&&_, false≢true}
 use mathlib.Core.List.{List, [], _∷_}
@@ -34,7 +34,7 @@ pub record Days (c d : Clock) : Type 0 where
   pub clock : d .clock ≡ addUnits (c .clock) (days moved-days)
   pub delta : d .delta ≡ c .delta
 
--- in whole numbers, of which D is a day's
+-- in integers, of which D is a day's
 abbrev pub D : ℕ
 D = up (day .0)
 
@@ -69,7 +69,7 @@ module _ (h : Seconds) (c : Clock) where
 
 -- ---- DELTA
 
--- what an adjust takes off, and what it leaves
+-- what an adjust takes off, and what remains
 abbrev off : Units → ℤ
 off d = divUnits d (2 ^ adjustFraction) .0
 

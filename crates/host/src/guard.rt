@@ -6,6 +6,7 @@ ghost use Rattle.host.specs.Guard.{inWalk, guard};
 ghost use Rattle.host.specs.code.Returned.{initialized};
 ghost use Rattle.host.specs.code.Held.{placesMissing, settled, fullScan, namesLink, held, judged, judgedInitialize};
 use super::HOSTS;
+use super::LONGEST;
 use super::Links;
 use super::PLACES;
 use super::Settings;
@@ -33,9 +34,6 @@ pub enum Scope {
     // a step of a walk: all
     Walking,
 }
-
-// The octets of the longest packet.
-const LONGEST: usize = 1052;
 
 // Are the host's places not all among n entries?
 fn places_missing(number: usize, n: usize) -> bool

@@ -98,9 +98,7 @@ pub struct Effect {
     pub work: table::entries::Changes,
 }
 
-// The most hosts, and the most seconds of HOLD-INTERVAL.
-const MAX_HOSTS: usize = 255;
-
+// The most seconds of HOLD-INTERVAL.
 const MAX_HOLD_INTERVAL: usize = 255;
 
 // The last first octet of class C.
@@ -184,7 +182,7 @@ fn numbers_good(s: Settings) -> bool
     if !(from_to(1, MAX_LINKS, s.link_count) & link_state::switches_good(s)) {
         return false;
     }
-    if !(from_to(1, MAX_HOSTS, nhosts) & from_to(1, LAST_OCTET, address.first as usize)) {
+    if !(from_to(1, PLACES, nhosts) & from_to(1, LAST_OCTET, address.first as usize)) {
         return false;
     }
     if !(clock_host_good(s.clock_host, nhosts)
@@ -227,10 +225,13 @@ pub fn fit(t: NetTable, s: Settings) -> bool
     layout.nhosts == t.nhosts
 }
 
-// The hosts of one net, and the places of each in the host table.
+// The hosts of one net, and the places of each in the host table, which is the most NHOSTS.
 pub const HOSTS: usize = 16;
 
 pub const PLACES: usize = 255;
+
+// The octets of a packet with that many reports, the longest.
+pub const LONGEST: usize = 1052;
 
 // The place of a host's id 0.
 pub fn first_place(number: usize) -> usize

@@ -88,7 +88,7 @@ shorter k rows e h =
     let j : k ≤ length rows = ltb-false (length rows) k e in
     omega (arith, length-append (take (k - 1) rows) (drop k rows), length-take (k - 1) rows, length-drop k rows)
 
--- ---- the calls: a property of what each leaves, in its cases
+-- ---- the calls: a property of the table after each, by cases
 
 module _ (P : Outcome → Type 0) where
   initialized-cases : (n : ℕ) (t : NetTable) → P (leaves t Setting) → (nhostsBad n ≡ false → P (leaves (tableOf n []) Done)) → P (initializeTable n t)
@@ -119,7 +119,7 @@ add-cases P m id t b s i d =
     either P (full (standing t)) (addition t TableFull 0) _ (λ _. s) (λ r.
     either P (not (ltb id (t .nhosts))) (addition t Setting 0) _ (λ _. i) (λ l. d (good t g) r (is-so (ltb id (t .nhosts)) l))))
 
--- what is claimed of a call that was done holds of a refusal
+-- what is claimed of a done call is true of a refusal
 skip : {Q : Type 0} (a : Answer) → ltb 0 (number a) ≡ true → a ≡ Done → Q
 skip a h e = absurd (not-done a h e)
 

@@ -1,4 +1,4 @@
--- A list with one element repeated behind it up to a length: it is that element's repetition with the list put over it. One more, one in another's place, and a second stretch.
+-- A list padded to a length with one element is that element's repetition with the list put over it. Lemmas: one element more, one replaced, and two lists.
 use mathlib.Core.Path.{_≡_, _∙_, sym, ap}
 use mathlib.Core.List.{List, [], _∷_, _++_}
 use Prim.Native.Nat.{ℕ, suc, _+_, _-_, _≤_, _<_}

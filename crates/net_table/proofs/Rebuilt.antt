@@ -1,4 +1,4 @@
--- The first n rows, put together anew: what the functions of `rows` leave is the padded list of their definition.
+-- The first n rows, built again: the result of each function of `rows` is the padded list of its definition.
 use mathlib.Core.Path.{_≡_, _∙_, sym, ap}
 use mathlib.Core.List.{List, [], _∷_, _++_}
 use Prim.Native.Nat.{ℕ, _+_, _-_, _≤_, _<_}
@@ -12,11 +12,11 @@ use Rattle.net_table.specs.Table.{zeroRow, padded}
 use Rattle.net_table.specs.Tutor.{withRow, withoutRow, withId}
 use Rattle.net_table.proofs.Padded.{over-all, one-more, in-place, behind}
 
--- what stands in a place does not hang on what would stand behind the list
+-- what is in a place does not depend on the default after the end
 pub same-at : {A : Type 0} (l : List A) (i : ℕ) (d e : A) → i < length l → getD l i d ≡ getD l i e
 same-at l i d e h = ap (λ (x : List _). getD x 0 e) (sym (drop-cons l i d h) ∙ drop-cons l i e h)
 
--- behind a front of k, those up to n
+-- after the first k, those up to n
 pub drop-first : {A : Type 0} (l : List A) (n k : ℕ) → k ≤ n → n ≤ length l → drop k (take n l) ≡ part k (n - k) l
 drop-first l n k h i =
     let e : n ≡ k + (n - k) = omega arith in

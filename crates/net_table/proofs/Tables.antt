@@ -1,4 +1,4 @@
--- What a table that is not bad has, and what the lists of rows have that a call leaves.
+-- What a table that is not bad has, and what the lists of rows have after a call.
 use mathlib.Core.Path.{_≡_, _∙_, sym, ap, refl}
 use mathlib.Core.Bool.{Bool, true, false, not, _||_, _&&_}
 use mathlib.Core.List.{List, [], _∷_, _++_}
@@ -32,7 +32,7 @@ good t e =
     let h = neither (ltb (t .nhosts) 1) (ltb 255 (t .nhosts)) (b .1) in
     record { few = b .0; some = h .0; most = h .1; ids = is-so (idsBelow (t .nhosts) (standing t)) (a .1) }
 
--- in a lent table the count is that of the rows that stand
+-- in a borrowed table the count is that of its rows
 pub counted : (t : NetTable) → Good t → length (t .net .rows) ≡ 32 → length (standing t) ≡ t .net .count
 counted t g l =
     let h : t .net .count ≤ 32 = ltb-false 32 (t .net .count) (g .few) in

@@ -1,4 +1,4 @@
--- The structs that the tutor's calls pass, lend and answer, as the laws of thin functions take them.
+-- The structs that the tutor's calls take by value, by reference and return, as the laws of thin functions need them.
 use mathlib.Core.List.{[], _∷_}
 use mir.Syntax.{w64}
 use Rattle.references.proofs.Words.{Word, Data, Choice, unsigned, struct-part, enum-part}

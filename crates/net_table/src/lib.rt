@@ -32,7 +32,7 @@ pub struct Outcome {
     pub answer: Answer,
 }
 
-// What adding a row answers: the answer, and the row's number, 0 where it refuses.
+// What adding a row answers: the answer, and the row's number, 0 if it refuses.
 pub struct Added {
     pub answer: Answer,
     pub row: usize,
@@ -44,10 +44,10 @@ pub struct Addition {
 }
 
 // The number of an answer in the published table.
-pub fn number(a: Answer) -> u8
-    ensures { λ r. ⌜ r ≡ number a ⌝ }
+pub fn number(answer: Answer) -> u8
+    ensures { λ r. ⌜ r ≡ number answer ⌝ }
 {
-    match a {
+    match answer {
         Answer::Done => 0,
         Answer::Setting => 1,
         Answer::OutOfRange => 12,
@@ -67,11 +67,11 @@ fn nhosts_bad(n: usize) -> bool
 }
 
 // Is it a table that every call except initializing refuses with 12?
-pub fn is_bad(t: NetTable) -> bool
-    ensures { λ r. ⌜ r ≡ tableBad t ⌝ }
+pub fn is_bad(table: NetTable) -> bool
+    ensures { λ r. ⌜ r ≡ tableBad table ⌝ }
 {
-    let nhosts = t.nhosts;
-    let net = t.net;
+    let nhosts = table.nhosts;
+    let net = table.net;
     if rows::MOST < net.count {
         return true;
     }

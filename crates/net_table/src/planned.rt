@@ -12,22 +12,22 @@ use route::Net;
 use route::NetRows;
 use route::Row;
 
-fn leaves(t: NetTable, a: Answer) -> Outcome
-    ensures { λ r. ⌜ r ≡ leaves t a ⌝ }
+fn leaves(table: NetTable, answer: Answer) -> Outcome
+    ensures { λ r. ⌜ r ≡ leaves table answer ⌝ }
 {
     Outcome {
-        table: t,
-        answer: a,
+        table: table,
+        answer: answer,
     }
 }
 
-fn addition(t: NetTable, a: Answer, row: usize) -> Addition
-    ensures { λ r. ⌜ r ≡ addition t a row ⌝ }
+fn addition(table: NetTable, answer: Answer, row: usize) -> Addition
+    ensures { λ r. ⌜ r ≡ addition table answer row ⌝ }
 {
     Addition {
-        table: t,
+        table: table,
         added: Added {
-            answer: a,
+            answer: answer,
             row: row,
         },
     }
@@ -56,29 +56,29 @@ fn no_row(k: usize, n: usize) -> bool
     n < k
 }
 
-pub fn initialized(t: NetTable, nhosts: usize) -> Outcome
-    ensures { λ r. ⌜ r ≡ initializeTable nhosts t ⌝ }
+pub fn initialized(table: NetTable, nhosts: usize) -> Outcome
+    ensures { λ r. ⌜ r ≡ initializeTable nhosts table ⌝ }
 {
     if crate::nhosts_bad(nhosts) {
-        return leaves(t, Answer::Setting);
+        return leaves(table, Answer::Setting);
     }
     leaves(crate::without_rows(nhosts), Answer::Done)
 }
 
-pub fn with_row(t: NetTable, net: Net, id: usize) -> Addition
-    ensures { λ r. ⌜ r ≡ add net id t ⌝ }
+pub fn with_row(table: NetTable, net: Net, id: usize) -> Addition
+    ensures { λ r. ⌜ r ≡ add net id table ⌝ }
 {
-    if crate::is_bad(t) {
-        return addition(t, Answer::OutOfRange, 0);
+    if crate::is_bad(table) {
+        return addition(table, Answer::OutOfRange, 0);
     }
-    let nhosts = t.nhosts;
-    let now = t.net;
+    let nhosts = table.nhosts;
+    let now = table.net;
     let n = now.count;
     if crate::rows::MOST <= n {
-        return addition(t, Answer::TableFull, 0);
+        return addition(table, Answer::TableFull, 0);
     }
     if nhosts <= id {
-        return addition(t, Answer::Setting, 0);
+        return addition(table, Answer::Setting, 0);
     }
     let row = Row {
         net: net,
@@ -89,37 +89,37 @@ pub fn with_row(t: NetTable, net: Net, id: usize) -> Addition
     addition(table_of(nhosts, n + 1, rows), Answer::Done, n + 1)
 }
 
-pub fn without_row(t: NetTable, k: usize) -> Outcome
-    ensures { λ r. ⌜ r ≡ remove k t ⌝ }
+pub fn without_row(table: NetTable, k: usize) -> Outcome
+    ensures { λ r. ⌜ r ≡ remove k table ⌝ }
 {
-    if crate::is_bad(t) {
-        return leaves(t, Answer::OutOfRange);
+    if crate::is_bad(table) {
+        return leaves(table, Answer::OutOfRange);
     }
-    let nhosts = t.nhosts;
-    let now = t.net;
+    let nhosts = table.nhosts;
+    let now = table.net;
     let n = now.count;
     if no_row(k, n) {
-        return leaves(t, Answer::NoRow);
+        return leaves(table, Answer::NoRow);
     }
     let from = now.rows;
     let rows = crate::rows::without_row(from, n, k);
     leaves(table_of(nhosts, n - 1, rows), Answer::Done)
 }
 
-pub fn with_id(t: NetTable, k: usize, id: usize) -> Outcome
-    ensures { λ r. ⌜ r ≡ change k id t ⌝ }
+pub fn with_id(table: NetTable, k: usize, id: usize) -> Outcome
+    ensures { λ r. ⌜ r ≡ change k id table ⌝ }
 {
-    if crate::is_bad(t) {
-        return leaves(t, Answer::OutOfRange);
+    if crate::is_bad(table) {
+        return leaves(table, Answer::OutOfRange);
     }
-    let nhosts = t.nhosts;
-    let now = t.net;
+    let nhosts = table.nhosts;
+    let now = table.net;
     let n = now.count;
     if no_row(k, n) {
-        return leaves(t, Answer::NoRow);
+        return leaves(table, Answer::NoRow);
     }
     if nhosts <= id {
-        return leaves(t, Answer::Setting);
+        return leaves(table, Answer::Setting);
     }
     let from = now.rows;
     let rows = crate::rows::with_id(from, n, k, id as u8);

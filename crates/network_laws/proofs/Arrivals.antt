@@ -1,4 +1,4 @@
--- The ways that a packet which arrives can go: refused by the inspection; told of by it; ended by step 4; or through step 4, by the table or without one.
+-- The cases of an arrival: the inspection refuses it, or was all that was asked; step 4 ends it; or it passes step 4, with a table or without one.
 use mathlib.Core.Path.{_≡_, refl}
 use mathlib.Core.Bool.{Bool, true, false, cond}
 use mathlib.Core.List.{List, [], _∷_}
@@ -54,7 +54,7 @@ same-address a b e =
       fourth = eqb-true (a .fourth) (b .fourth) (t .1 .1 .1 .0) i;
     }
 
--- ---- the whole arrival
+-- ---- the complete arrival
 
 -- what steps 2 to 4 leave in any case
 pub record Flown (time : Millis) (f : Flight) : Type 0 where
@@ -71,7 +71,7 @@ flown-new b p time x = record { reading-is = refl; keep-alive-is = refl }
 
 -- with this reading, and its count
 module _ (i : ℕ) (r : Reading) (n : Count) (h : Host) where
-  -- the host with the clock as the reading leaves it, and the link as a flight does
+  -- the host with the clock after the reading, and the link after a flight
   abbrev pub storing : Flight → Host
   storing f = host (h .settings) (r .clock) (withLink i (f .link) (h .links))
 

@@ -1,4 +1,4 @@
--- Taking the marks off. No line of an update, no second, no box of a walk and no send looks at a mark, and each leaves it or sets it: so each makes of bare entries what it makes of marked ones, but for the marks.
+-- Entries without marks. No line of an update, no second, no box of a walk and no send uses a mark. So each makes of bare entries what it makes of marked ones, except the marks.
 use mathlib.Core.Path.{_≡_, refl, sym, ap, _∙_}
 use mathlib.Core.Bool.{Bool, true, false, cond, not, _&&_, _||_}
 use mathlib.Core.List.{List, [], _∷_, _++_, map, map-append}
@@ -201,7 +201,7 @@ updates-bare w packet es =
     behind : List Entry → Swept → Swept
     behind l v = record { clock = v .clock; ownEntries = over l (w .first) (v .ownEntries) }
 
--- ---- changes, but for one that reports
+-- ---- changes, except one that reports
 
 abbrev bareChange : Change → Change
 bareChange Fresh = Fresh
@@ -313,9 +313,9 @@ written-bare s es buffer =
     go [] = refl
     go (e ∷ l) = ap (λ (m : List Report). advertised (s .work .pid) e ∷ m) (go l)
 
--- ---- the entries of a host in the run
+-- ---- the entries of a host in the host table
 
--- an outcome with another run
+-- an outcome with another host table
 abbrev bareRun : Outcome → List Entry → Outcome
 bareRun o entries = record { reply = o .reply; clock = o .clock; links = o .links; walk = o .walk; copy = o .copy; entries = entries; buffer = o .buffer }
 
@@ -341,7 +341,7 @@ module _ (x : CallState) where
       ∙ (λ j. over (sym (bare-twice (x .entries)) j) (firstPlace (x .number)) (sym (bare-twice l) j))
       ∙ sym (map-over bare (map bare (x .entries)) (firstPlace (x .number)) (map bare l))
 
-  -- entries that are bare when they are written, or behind it
+  -- entries that are bare when they are written, or afterwards
   run-again : (l : List Entry) → map bare (withEntries (x .number) (map bare l) (map bare (x .entries))) ≡ map bare (withEntries (x .number) l (map bare (x .entries)))
   unfolding withEntries
   run-again l =

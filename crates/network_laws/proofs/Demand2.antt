@@ -130,7 +130,7 @@ module _ (i : ℕ) (k : Counter) (buffer : List ℕ) (x : CallState) (typed : Ty
       never true = refl
       never false = refl
 
-  -- what is left to refuse it
+  -- what can still refuse it
   left : (t : Settings) → t .layout ≡ s .layout → (j : ℕ) (a : Answer)
       → inspect t j (messageOf (sentBy (sends i k (x .host)) buffer x)) ≡ Bad a → a ≡ LoopedLine
   unfolding inspect ReadBack
@@ -150,7 +150,7 @@ module _ (i : ℕ) (k : Counter) (buffer : List ℕ) (x : CallState) (typed : Ty
       go true d = ap answer (sym d)
       go false d = ap answer (sym d)
 
--- what is claimed of a send that leaves this
+-- what is claimed of a send with this state afterwards
 abbrev Claim : CallState → Outcome → Type 0
 Claim x o =
     o .reply .answer ≡ Done → (t : Settings) → t .layout ≡ x .host .settings .layout → (j : ℕ) (a : Answer) → inspect t j (messageOf o) ≡ Bad a → a ≡ LoopedLine

@@ -1,4 +1,4 @@
--- A box's effect by its place: it names a clock, links and work, and each is what was lent or made from one link, one entry or the clock.
+-- A box's effect by its place: a clock, links and work. Each is unchanged, or made from one link, one entry or the clock.
 use mathlib.Core.Path.{_≡_, refl, ap, sym, subst, _∙_}
 use mathlib.Core.Bool.{Bool, true, false, false≢true, not, _&&_, _||_}
 use mathlib.Core.List.{List, [], _∷_}
@@ -114,7 +114,7 @@ module _ (k : Counter) (x : CallState) where
   refusal o bad c l r LineC = (c, l, λ i d not. ap (λ entries. getD entries i d) r)
   refusal o bad c l r LineD = ((λ not. c), l, r)
 
-  -- ---- the run: as it was, or with one entry put
+  -- ---- the host table: as it was, or with one entry changed
 
   module _ (held : Holds (x .number) (x .entries)) where
     abbrev after : entries.Changes → List Entry
@@ -198,7 +198,7 @@ module _ (k : Counter) (x : CallState) where
           goes-on : Q (on f)
           goes-on = (refl, neighbor _ refl refl _ refl, same-run)
 
-      -- the id by the table that this box is lent
+      -- the id by the net table of this box
       found : (g : Found) → foundFor (x .nets) (h .settings) (linkOf (h .links) (w .link) .neighbor) ≡ g → Is Step5 (toNeighbor h (raised w) g)
       found Nothing is = (refl, refl, same-run, λ _ yes. absurd (false≢true yes))
       found (Id id) is = (refl, refl, same-run, λ _ _. is)

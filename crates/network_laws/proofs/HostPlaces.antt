@@ -42,7 +42,7 @@ places-same k entries r n each =
     within : (i : ℕ) → i < length (places k entries) → i < placesPerHost
     within i h = omega (arith, length-take placesPerHost (drop (firstPlace k) entries))
 
--- a call at one number leaves the places of the others
+-- a call at one number keeps the places of the others
 pub elsewhere : (s : Settings) (j k : ℕ) → (j ≡ k → ⊥) → (before after : List Entry) → Kept s j before after
     → places k after ≡ places k before
 elsewhere s j k apart before after f =

@@ -13,7 +13,7 @@ use Rattle.lists.specs.Lists.{part, over}
 use Rattle.lists.proofs.Tests.{both}
 use Rattle.table.specs.Forms.{every, everyFrom, mapFrom}
 
--- what stands at a place, stored there
+-- an element stored again at its place
 pub set-same : {A : Type 0} (d : A) (l : List A) (i : ℕ) → set l i (getD l i d) ≡ l
 set-same d [] i = refl
 set-same d (a ∷ l) zero = refl
@@ -81,7 +81,7 @@ each-all test l e = all-weaken (λ i a. test (0 + i) a ≡ true) (λ i a. test i
 pub all-each : {A : Type 0} (test : ℕ → A → Bool) (l : List A) → All (λ (i : ℕ) (a : A). test i a ≡ true) l → everyFrom 0 test l ≡ true
 all-each test l t = all-from 0 test l (all-weaken (λ i a. test i a ≡ true) (λ i a. test (0 + i) a ≡ true) (λ i a p. rw (zero-add i) p) l t)
 
--- what stands at each place
+-- what is at each place
 pub all-getD : {A : Type 0} (d : A) (l : List A) → All (λ (i : ℕ) (a : A). a ≡ getD l i d) l
 all-getD d [] = tt
 all-getD d (a ∷ l) = (refl, all-getD d l)

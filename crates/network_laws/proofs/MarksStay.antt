@@ -1,4 +1,4 @@
--- Setting afresh writes the settings' marks, and every other change of an entry keeps its mark; so entries that are marked as set stay so.
+-- Initialize writes the settings' marks, and every other change of an entry keeps its mark. So entries that are marked as set stay so.
 use mathlib.Core.Path.{_≡_, refl, sym, ap, _∙_}
 use mathlib.Core.Bool.{true}
 use mathlib.Core.List.{List}
@@ -52,7 +52,7 @@ module _ (x : CallState) (marks : marksAsSet x ≡ true) where
   same-mark : (id : ℕ) (e y : Entry) → y .here ≡ e .here → Marked id e → Marked id y
   same-mark id e y same is = ap (λ (n : ℕ). eqb n (mark m id)) same ∙ is
 
-  -- the marks of what a call leaves in the run
+  -- the marks in the host table after a call
   abbrev Stays : Outcome → Type 0
   Stays o = marksAsSet (left x o) ≡ true
 

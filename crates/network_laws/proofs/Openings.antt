@@ -1,4 +1,4 @@
--- Opening a walk: refused by the inspection, or the packet is copied whole, for which there is room.
+-- Opening a walk: the inspection refuses it, or the complete packet is copied, and fits.
 use mathlib.Core.Path.{_≡_, refl, ap, _∙_}
 use mathlib.Core.Bool.{Bool, true, false}
 use mathlib.Core.List.{List, _++_}

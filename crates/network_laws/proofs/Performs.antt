@@ -25,11 +25,11 @@ module _ (c : Call) (x : CallState) where
   unfolding perform
   performs P refuses works = guarded.either P (guardOf c x) refuses works
 
-  -- all of the host's places stand in the run of a call that passes its guard
+  -- a call that passes its guard has all of the host's places in the host table
   pub there : done (guardOf c x) ≡ true → Holds (x .number) (x .entries)
   there e = holds (x .number) (x .entries) (passed (scopeOfCall c) x e .places)
 
-  -- a run that does not hold them
+  -- a host table without them
   missing : noPlaces (x .number) (x .entries) ≡ true → (a : Scope) → ownOutOfRange a x ≡ true
   missing e Places = e
   missing e All = rw e

@@ -1,4 +1,4 @@
--- A message is as long as a send answers, so that it is what stands in front in the buffer.
+-- A message is as long as a send returns, so it is the first part of the buffer.
 use mathlib.Core.Path.{_≡_, refl, ap, _∙_}
 use mathlib.Core.Bool.{Bool, true, false, cond}
 use mathlib.Core.List.{List, [], map}
@@ -25,7 +25,7 @@ module _ (x : CallState) (there : Holds (x .number) (x .entries)) (i : ℕ) wher
   abbrev link : Link
   link = linkOf (x .host .links) i
 
-  -- what is reported: the whole table, or nothing
+  -- what is reported: the complete table, or nothing
   abbrev pub reports : List Report
   reports = cond (tableGoes (x .host .settings) link) (map (advertised i) (entriesOf x)) []
 
@@ -44,7 +44,7 @@ module _ (x : CallState) (there : Holds (x .number) (x .entries)) (i : ℕ) wher
       go true = length-map (entriesOf x) (advertised i) ∙ entries-length (x .host .settings) (x .number) (x .entries) there
       go false = refl
 
-  -- the whole message; "destination NEIGHBOR-ADDRESS"
+  -- the complete message; "destination NEIGHBOR-ADDRESS"
   abbrev pub sentMessage : Counter → List ℕ
   sentMessage k =
       message (link .neighbor)

@@ -8,7 +8,7 @@ use Rattle.network_laws.specs.Class.{given, classAfter, AllContinueIn, c
 use Rattle.network_laws.specs.TutorSeen.{home, lookup, TutorSeen}
 use Rattle.network_laws.proofs.Opened as rules
 
--- a lookup leaves what it was lent
+-- a lookup changes nothing
 again : (t : NetTable) → ContinuesFully home (given t lookup .callState)
 again t = record { own-clock = refl; all-links = refl; own-walk = refl; all-copy = refl; all-places = λ _. refl }
 

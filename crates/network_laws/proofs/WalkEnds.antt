@@ -1,4 +1,4 @@
--- A walk that was opened passes the guard at each box whose table suits it, and stays where another is lent; so it is run to its end as its boxes are, which is as the action is with the table of box 5.
+-- An opened walk passes the guard at each box whose table suits it, and stays if another table is passed. So its end is that of its boxes, which is the action with the table of box 5.
 use mathlib.Core.Path.{_≡_, refl, sym, ap, _∙_, subst}
 use mathlib.Core.Bool.{Bool, true, false, false≢true, cond, not, _&&_, _||_}
 use mathlib.Core.List.{List, [], _∷_, _++_, map, append-assoc}
@@ -211,7 +211,7 @@ module _ (p : Packet) (octets : List ℕ) where
       rw (guard-is y g (b .nets), ok)
       (ap (λ (e : Effect). carriedOut e y) (step-is y g (b .counter) (b .nets) (entryAt (atHand (y .walk)) (under (b .nets) y)) ∙ at-hand y g b))
 
-  -- one whose table has it refused leaves all as it was
+  -- one that its table refuses changes nothing
   no-box : (y : CallState) → Going p octets y → (b : Box) → suits y b ≡ false → boxed b y ≡ refused (byTable (s y) (b .nets)) (calls.step (b .counter)) y
   unfolding perform
   no-box y g b not = rw (guard-is y g (b .nets), not) refl
@@ -222,7 +222,7 @@ module _ (p : Packet) (octets : List ℕ) where
   walk-in-range s₁ w copy o link long packet parsed holds =
       rw (o, link, le-leb (w .length) (length copy) long, packet, parsed, passes s₁ p octets (placeOf w) w holds) refl
 
-  -- ---- behind a box the walk goes on
+  -- ---- after a box the walk goes on
 
   abbrev behind : CallState → Box → CallState
   behind y b = left y (carriedOut (box y b) y)

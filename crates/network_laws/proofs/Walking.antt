@@ -1,4 +1,4 @@
--- The ways that a step can go: no walk is open; the clock is read; 10 or 11 ends the walk; or it goes on, or ends behind the last id, with a clock, links and an entry that its box made.
+-- The cases of a step: no walk is open; the clock is read; 10 or 11 ends the walk; it goes on; or it ends after the last id. Clock, links and entry are those of its box.
 use mathlib.Core.Path.{_≡_, refl, ap}
 use mathlib.Core.Bool.{Bool, true, false, false≢true, cond, not, _&&_, _||_}
 use mathlib.Core.List.{List}
@@ -71,7 +71,7 @@ inspect-cases P s i octets bad good =
 
 -- ---- what a box makes of clock, links and entry
 
--- the clock as it was, or as line (d) sets it with the count that is held
+-- the clock as it was, or as line (d) sets it with the walk's count
 pub data Timed (h : Host) (w : Walk) : Clock → Type 0 where
   as-was : Timed h w (h .clock)
   set-by : (date : Date) (offset : Word) → Timed h w (lineD (h .settings .«hold_interval») (w .count) date offset (h .clock))
@@ -132,7 +132,7 @@ at-line w opened line = go (eqb (w .line) 0) line
     go true l = absurd (no-line (w .step) l)
     go false l = rw opened refl
 
--- a walk behind the box holds no count where this one holds none
+-- if this walk has no count, the walk after the box has none
 abbrev pub Holding : (w v : Walk) → Type 0
 Holding w v = w .count ≡ noCount → v .count ≡ noCount
 

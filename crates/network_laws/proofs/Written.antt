@@ -44,7 +44,7 @@ module _ (x : CallState) (es : List Entry) (there : Holds (x .number) (x .entrie
 -- ---- a call that does nothing to the entries
 
 module _ (x : CallState) (there : Holds (x .number) (x .entries)) where
-  -- what is left, with this reply, this clock, these links and this walk
+  -- the state afterwards, with this reply, this clock, these links and this walk
   abbrev pub leaving : Reply → Clock → Links → Walk → Outcome
   leaving r c l w = record { reply = r; clock = c; links = l; walk = w; copy = x .copy; entries = x .entries; buffer = [] }
 

@@ -42,7 +42,7 @@ errorParts = 101
 abbrev pub delayParts : ℕ
 delayParts = 200
 
--- ---- the room
+-- ---- the network
 
 -- ROOM-1, ROOM-3: hosts with numbers, settings and fixed numbers, cables, and the state before initialize. `cable` has one other end for each link.
 pub record Network : Type 0 where

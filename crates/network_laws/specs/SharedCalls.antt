@@ -14,7 +14,7 @@ use Rattle.calls.specs.Perform.{Call, Outcome, perform}
 use Rattle.network_laws.specs.HostAfter.{Returned, returned}
 use Rattle.network_laws.specs.History.{put}
 
--- ---- one run that all hosts share
+-- ---- one host table that all hosts share
 
 -- ISOLATION-3, TABLE-8: a call at a number; the host table is the shared one
 pub record SharedEvent : Type 0 where

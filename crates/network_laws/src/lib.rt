@@ -62,7 +62,7 @@ pub fn isolation_from_initialize()
     ensures { λ _. ⌜ IsolationFromInitialize ⌝ }
 {}
 
-// In one run that all hosts share, deleting every other host's calls changes nothing at a number.
+// In one host table that all hosts share, deleting every other host's calls changes nothing at a number.
 pub fn alone()
     ensures { λ _. ⌜ Alone ⌝ }
 {}
@@ -112,7 +112,7 @@ pub fn hello_half_delay()
     ensures { λ _. ⌜ HelloHalfDelay ⌝ }
 {}
 
-// Demand 3: after every list of the calls that it names, every live entry is for a host of the room, and its OFFSET is right to within 101/200 of its DELAY.
+// Demand 3: after every list of the calls that it names, every live entry is for a host of the network, and its OFFSET is right to within 101/200 of its DELAY.
 pub fn demand_3()
     ensures { λ _. ⌜ Demand3 ⌝ }
 {}

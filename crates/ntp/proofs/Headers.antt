@@ -7,11 +7,12 @@ use borrow.Author.Tests.{leb-true, eqb-true, eq-eqb}
 use lib.ListN.{length, set, replicate}
 use lib.Seq.{sets}
 use Rattle.lists.proofs.Tests.{both}
+use Rattle.octets.specs.Octets.{four, eight}
 use Rattle.ntp.specs.declared.Answer.the-variants.{Done, NtpVersion, NtpMode}
 use Rattle.ntp.specs.declared.Header.{Header}
 use Rattle.ntp.specs.declared.Read.the-variants.{Good, Bad}
 use Rattle.ntp.specs.Header.{headerLength, versionGood, modeGood, leapGood, firstOctetOf, fields, read, octetsOf, refusedOctets, write}
-use Rattle.ntp.specs.Octets.{four, eight, signedOctet}
+use Rattle.ntp.specs.Octets.{signedOctet}
 use Rattle.ntp.specs.code.Passed.{HeaderPasses}
 
 pub mode-range : (mode : ℕ) → modeGood mode ≡ true → (1 ≤ mode) × (mode ≤ 5)
@@ -32,7 +33,7 @@ module _ (s : List ℕ) (h : Header) (long : length s ≡ headerLength) (is : h 
 
 -- ---- a header that is to be written
 
--- octet 0 holds what the tests pass
+-- leap, version and mode fit octet 0 if they pass the tests
 pub front-range : (h : Header) → HeaderPasses h → (h .leap ≤ 3) × (h .version ≡ 4) × (h .mode ≤ 5)
 front-range h p = (leb-true _ _ (p .leap), eqb-true _ _ (p .version), mode-range (h .mode) (p .mode) .1)
 

@@ -117,7 +117,7 @@ pub delay-word : (a b r : ℕ) → a < 2 ^ 64 → b < 2 ^ 64 → r < 2 ^ 64 → 
 delay-word a b r la lb l e =
     difference-word (signedBits 64 a) (signedBits 64 b) a b r (of-signed 64 wide a la) (of-signed 64 wide b lb) l e
 
--- a word below the sign is above 0 where it is not 0, and one from the sign on is below 0
+-- a word below the sign bit is above 0 if it is not 0, and one from the sign bit on is below 0
 pub above : (n : ℕ) → n < 2 ^ 63 → ltb 0 n ≡ ltZ (pos 0) (signedBits 64 n)
 above n h = rw (lt-ltb n (2 ^ 63) h)
 

@@ -4,13 +4,14 @@ use mathlib.Core.List.{List, [], _∷_, _++_}
 use Prim.Native.Nat.{ℕ, _+_, _*_, _/_, _%_}
 use lib.Dec.{leb, eqb}
 use lib.ListN.{length, replicate}
+use Rattle.octets.specs.Octets.{four, eight, octetAt, fourAt}
 use Rattle.ntp.specs.declared.Answer.{Answer}
 use Rattle.ntp.specs.declared.Answer.the-variants.{Done, NtpLength, NtpVersion, NtpMode}
 use Rattle.ntp.specs.declared.Header.{Header}
 use Rattle.ntp.specs.declared.Read.{Read}
 use Rattle.ntp.specs.declared.Read.the-variants.{Good, Bad}
 use Rattle.ntp.specs.declared.Written.{Written}
-use Rattle.ntp.specs.Octets.{four, eight, signedOctet, octetAt, fourAt, signedAt, timeAt}
+use Rattle.ntp.specs.Octets.{signedOctet, signedAt, timeAt}
 
 -- NTP-1: the octets of the header
 abbrev pub headerLength : ℕ

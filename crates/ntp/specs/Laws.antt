@@ -1,17 +1,13 @@
 -- NTP-1: reading undoes writing, and writing undoes reading.
 use mathlib.Core.Path.{_≡_}
-use mathlib.Core.List.{List, [], _∷_}
+use mathlib.Core.List.{List}
 use Prim.Native.Nat.{ℕ, _<_, _^_}
 use lib.IntN.{ℤ, pos, negsuc}
+use Rattle.octets.specs.Octets.{Octets}
 use Rattle.ntp.specs.declared.Answer.the-variants.{Done}
 use Rattle.ntp.specs.declared.Header.{Header}
 use Rattle.ntp.specs.declared.Read.the-variants.{Good}
 use Rattle.ntp.specs.Header.{read, write}
-
--- NTP-1: each number is an octet
-abbrev pub Octets : List ℕ → Type 0
-Octets [] = Unit {0}
-Octets (x ∷ xs) = (x < 256) × Octets xs
 
 -- NTP-1: a signed octet
 abbrev pub SignedOctet : ℤ → Type 0

@@ -6,9 +6,9 @@ ghost use Rattle.ntp.specs.Laws.{ReadBack, WrittenBack};
 ghost use Rattle.ntp.specs.Octets.{signedOctet};
 
 mod dispatch;
-mod octets;
 pub mod receive;
 pub mod times;
+mod values;
 pub mod wire;
 
 // A time of 64 bits: seconds in the high half, a fraction of a second in the low one.
@@ -59,7 +59,7 @@ pub enum Read {
     Bad(Answer),
 }
 
-// What writing a header yields: the answer, and the octets, all zero where it refuses.
+// What writing a header yields: the answer, and the octets, all zero if it refuses.
 pub struct Written {
     pub answer: Answer,
     pub octets: [u8; 48],
@@ -87,15 +87,15 @@ impl Exponent {
     pub fn octet(self) -> u8
         ensures { λ r. ⌜ r ≡ signedOctet self ⌝ }
     {
-        octets::signed_octet(self)
+        values::signed_octet(self)
     }
 }
 
 // The number of an answer in the table.
-pub fn number(a: Answer) -> u8
-    ensures { λ r. ⌜ r ≡ number a ⌝ }
+pub fn number(answer: Answer) -> u8
+    ensures { λ r. ⌜ r ≡ number answer ⌝ }
 {
-    match a {
+    match answer {
         Answer::Done => 0,
         Answer::NtpLength => 23,
         Answer::NtpVersion => 24,

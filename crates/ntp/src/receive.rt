@@ -27,32 +27,32 @@ fn is_proc(returned: Action) -> bool
 }
 
 // An action is printed, and nothing is done.
-fn idle(answer: Answer, returned: Action, a: Association) -> Outcome
-    ensures { λ r. ⌜ r ≡ idle answer (returned .0) a ⌝ }
+fn idle(answer: Answer, returned: Action, association: Association) -> Outcome
+    ensures { λ r. ⌜ r ≡ idle answer (returned .0) association ⌝ }
 {
     Outcome {
         answer: answer,
         action: returned,
         offset: Interval(0),
         delay: Interval(0),
-        association: a,
+        association: association,
     }
 }
 
-fn refused(answer: Answer, a: Association) -> Outcome
-    ensures { λ r. ⌜ r ≡ refused answer a ⌝ }
+fn refused(answer: Answer, association: Association) -> Outcome
+    ensures { λ r. ⌜ r ≡ refused answer association ⌝ }
 {
-    idle(answer, Action(dispatch::DSCRD), a)
+    idle(answer, Action(dispatch::DSCRD), association)
 }
 
 // The four timestamp tests.
-fn passes(a: Association, h: Header, destination: Timestamp) -> bool
-    ensures { λ r. ⌜ r ≡ passes a h destination ⌝ }
+fn passes(association: Association, header: Header, destination: Timestamp) -> bool
+    ensures { λ r. ⌜ r ≡ passes association header destination ⌝ }
 {
-    let origin = h.origin;
-    let transmit = h.transmit;
-    let ours = a.transmit;
-    let saved = a.saved;
+    let origin = header.origin;
+    let transmit = header.transmit;
+    let ours = association.transmit;
+    let saved = association.saved;
     if transmit.0 == 0 {
         return false;
     }
@@ -66,13 +66,13 @@ fn passes(a: Association, h: Header, destination: Timestamp) -> bool
 }
 
 // The offset and the delay, and the transmit time kept.
-fn processed(a: Association, h: Header, destination: Timestamp) -> Outcome
-    ensures { λ r. ⌜ r ≡ processed a h destination ⌝ }
+fn processed(association: Association, header: Header, destination: Timestamp) -> Outcome
+    ensures { λ r. ⌜ r ≡ processed association header destination ⌝ }
 {
-    let origin = h.origin;
-    let receive = h.receive;
-    let transmit = h.transmit;
-    let last = a.transmit;
+    let origin = header.origin;
+    let receive = header.receive;
+    let transmit = header.transmit;
+    let last = association.transmit;
     let offset = times::offset(origin, receive, transmit, destination);
     let delay = times::delay(origin, receive, transmit, destination);
     Outcome {
@@ -81,7 +81,7 @@ fn processed(a: Association, h: Header, destination: Timestamp) -> Outcome
         offset: offset,
         delay: delay,
         association: Association {
-            number: a.number,
+            number: association.number,
             transmit: last,
             saved: transmit,
         },
@@ -89,29 +89,29 @@ fn processed(a: Association, h: Header, destination: Timestamp) -> Outcome
 }
 
 // A packet whose header is good.
-fn dispatched(a: Association, h: Header, destination: Timestamp) -> Outcome
-    requires { ⌜ modeGood (h .mode) ≡ true ⌝ }
-    ensures { λ r. ⌜ r ≡ dispatched a h destination ⌝ }
+fn dispatched(association: Association, header: Header, destination: Timestamp) -> Outcome
+    requires { ⌜ modeGood (header .mode) ≡ true ⌝ }
+    ensures { λ r. ⌜ r ≡ dispatched association header destination ⌝ }
 {
-    if a.number > LAST {
-        return refused(Answer::NtpMode, a);
+    if association.number > LAST {
+        return refused(Answer::NtpMode, association);
     }
-    let returned = dispatch::dispatch(a.number, h.mode);
+    let returned = dispatch::dispatch(association.number, header.mode);
     if !is_proc(returned) {
-        return idle(Answer::Done, returned, a);
+        return idle(Answer::Done, returned, association);
     }
-    if !passes(a, h, destination) {
-        return refused(Answer::NtpTimestamp, a);
+    if !passes(association, header, destination) {
+        return refused(Answer::NtpTimestamp, association);
     }
-    processed(a, h, destination)
+    processed(association, header, destination)
 }
 
 // A packet that arrives at its destination time: the answer, the action, the offset and delay, and the association afterwards.
-pub fn receive(a: Association, octets: &[u8], destination: Timestamp) -> Outcome
-    ensures { λ r. ⌜ r ≡ receive a (now (octets .entry)) destination ⌝ }
+pub fn receive(association: Association, octets: &[u8], destination: Timestamp) -> Outcome
+    ensures { λ r. ⌜ r ≡ receive association (now (octets .entry)) destination ⌝ }
 {
     match wire::read(octets) {
-        Read::Good(h) => dispatched(a, h, destination),
-        Read::Bad(answer) => refused(answer, a),
+        Read::Good(h) => dispatched(association, h, destination),
+        Read::Bad(answer) => refused(answer, association),
     }
 }

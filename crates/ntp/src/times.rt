@@ -46,7 +46,7 @@ fn half(n: u64) -> u64
     if n < SIGN { n / 2 } else { SIGN + n / 2 }
 }
 
-// The lowest bit, where both words have it.
+// The lowest bit, if both words have it.
 fn common_bit(a: u64, b: u64) -> u64
     ensures { λ r. ⌜ r ≡ min (a % 2) (b % 2) ⌝ }
 {

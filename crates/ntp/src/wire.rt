@@ -8,12 +8,12 @@ use super::Answer;
 use super::Header;
 use super::Read;
 use super::Written;
-use super::octets::four_at;
-use super::octets::put_four;
-use super::octets::put_time;
-use super::octets::signed_at;
-use super::octets::signed_octet;
-use super::octets::time_at;
+use super::values::put_time;
+use super::values::signed_at;
+use super::values::signed_octet;
+use super::values::time_at;
+use octets::four_at;
+use octets::put_four;
 
 pub const LENGTH: usize = 48;
 
@@ -106,39 +106,39 @@ pub fn read(octets: &[u8]) -> Read
 }
 
 // The octets of a header that passes the tests.
-fn octets_of(h: Header) -> [u8; 48]
-    requires { ⌜ HeaderPasses h ⌝ }
-    ensures { λ r. ⌜ r ≡ octetsOf h ⌝ }
+fn octets_of(header: Header) -> [u8; 48]
+    requires { ⌜ HeaderPasses header ⌝ }
+    ensures { λ r. ⌜ r ≡ octetsOf header ⌝ }
 {
     let mut octets = [0u8; 48];
-    octets[FIRST_OCTET] = h.leap * 64 + h.version * 8 + h.mode;
-    octets[STRATUM] = h.stratum;
-    octets[POLL] = signed_octet(h.poll);
-    octets[PRECISION] = signed_octet(h.precision);
-    put_four(&mut octets, ROOT_DELAY, h.root_delay);
-    put_four(&mut octets, ROOT_DISPERSION, h.root_dispersion);
-    put_four(&mut octets, REFERENCE_ID, h.reference_id);
-    put_time(&mut octets, REFERENCE, h.reference);
-    put_time(&mut octets, ORIGIN, h.origin);
-    put_time(&mut octets, RECEIVE, h.receive);
-    put_time(&mut octets, TRANSMIT, h.transmit);
+    octets[FIRST_OCTET] = header.leap * 64 + header.version * 8 + header.mode;
+    octets[STRATUM] = header.stratum;
+    octets[POLL] = signed_octet(header.poll);
+    octets[PRECISION] = signed_octet(header.precision);
+    put_four(&mut octets, ROOT_DELAY, header.root_delay);
+    put_four(&mut octets, ROOT_DISPERSION, header.root_dispersion);
+    put_four(&mut octets, REFERENCE_ID, header.reference_id);
+    put_time(&mut octets, REFERENCE, header.reference);
+    put_time(&mut octets, ORIGIN, header.origin);
+    put_time(&mut octets, RECEIVE, header.receive);
+    put_time(&mut octets, TRANSMIT, header.transmit);
     octets
 }
 
 // A header written: the tests of answers 24 and 25 in their order, and the octets of one that passes.
-pub fn write(h: Header) -> Written
-    ensures { λ r. ⌜ r ≡ write h ⌝ }
+pub fn write(header: Header) -> Written
+    ensures { λ r. ⌜ r ≡ write header ⌝ }
 {
-    if !version_good(h.version) {
+    if !version_good(header.version) {
         return refused(Answer::NtpVersion);
     }
-    if !mode_good(h.mode) {
+    if !mode_good(header.mode) {
         return refused(Answer::NtpMode);
     }
-    if !leap_good(h.leap) {
+    if !leap_good(header.leap) {
         return refused(Answer::NtpMode);
     }
-    let octets = octets_of(h);
+    let octets = octets_of(header);
     Written {
         answer: Answer::Done,
         octets: octets,

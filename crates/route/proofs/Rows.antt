@@ -12,7 +12,7 @@ use Rattle.route.specs.declared.Found.the-variants.{Id, Nothing}
 use Rattle.route.specs.Find.{ends, search, idsBelow}
 
 module _ (l : List Row) (n i : ℕ) (inside : n ≤ length l) where
-  -- ---- the search: past a row that does not end it, at one that does, behind the last
+  -- ---- the search: past a row that does not end it, at one that does, after the last
 
   pub passed : (net : Net) (d : Row) → i < n → ends net (getD l i d) ≡ false → search net (drop i (take n l)) ≡ search net (drop (i + 1) (take n l))
   unfolding search

@@ -54,60 +54,60 @@ pub enum Found {
 }
 
 // Was an id found?
-pub fn is_found(f: Found) -> bool
-    ensures { λ r. ⌜ r ≡ isFound f ⌝ }
+pub fn is_found(found: Found) -> bool
+    ensures { λ r. ⌜ r ≡ isFound found ⌝ }
 {
-    match f {
+    match found {
         Found::Id(_) => true,
         Found::Nothing => false,
     }
 }
 
 // Class A: first octets 0 to 127.
-fn class_a(a: Address) -> bool
-    ensures { λ r. ⌜ r ≡ classA a ⌝ }
+fn class_a(address: Address) -> bool
+    ensures { λ r. ⌜ r ≡ classA address ⌝ }
 {
-    a.first < 128
+    address.first < 128
 }
 
 // Classes above C: first octets 224 and more.
-fn above_c(a: Address) -> bool
-    ensures { λ r. ⌜ r ≡ aboveC a ⌝ }
+fn above_c(address: Address) -> bool
+    ensures { λ r. ⌜ r ≡ aboveC address ⌝ }
 {
-    !(a.first < 224)
+    !(address.first < 224)
 }
 
 // Is the address on the net of ours?
-pub fn same_net(ours: Address, a: Address) -> bool
-    ensures { λ r. ⌜ r ≡ sameNet ours a ⌝ }
+pub fn same_net(ours: Address, address: Address) -> bool
+    ensures { λ r. ⌜ r ≡ sameNet ours address ⌝ }
 {
-    if ours.first != a.first {
+    if ours.first != address.first {
         return false;
     }
-    if ours.second != a.second {
+    if ours.second != address.second {
         return false;
     }
-    if class_a(a) {
-        return ours.fourth == a.fourth;
+    if class_a(address) {
+        return ours.fourth == address.fourth;
     }
-    ours.third == a.third
+    ours.third == address.third
 }
 
 // The octet that names the host.
-fn host_octet(a: Address) -> u8
-    ensures { λ r. ⌜ r ≡ hostOctet a ⌝ }
+fn host_octet(address: Address) -> u8
+    ensures { λ r. ⌜ r ≡ hostOctet address ⌝ }
 {
-    if class_a(a) {
-        return a.third;
+    if class_a(address) {
+        return address.third;
     }
-    a.fourth
+    address.fourth
 }
 
 // The id of an address on our net.
-pub fn local_id(layout: Layout, a: Address) -> Found
-    ensures { λ r. ⌜ r ≡ localId layout a ⌝ }
+pub fn local_id(layout: Layout, address: Address) -> Found
+    ensures { λ r. ⌜ r ≡ localId layout address ⌝ }
 {
-    let octet = host_octet(a);
+    let octet = host_octet(address);
     let offset = layout.address_offset;
     if octet < offset {
         return Found::Nothing;
@@ -120,33 +120,33 @@ pub fn local_id(layout: Layout, a: Address) -> Found
 }
 
 // The net that an address is looked up by.
-fn net_of(a: Address) -> Net
-    ensures { λ r. ⌜ r ≡ netOf a ⌝ }
+fn net_of(address: Address) -> Net
+    ensures { λ r. ⌜ r ≡ netOf address ⌝ }
 {
-    if class_a(a) {
+    if class_a(address) {
         return Net {
-            first: a.first,
+            first: address.first,
             second: 0,
             third: 0,
         };
     }
     Net {
-        first: a.first,
-        second: a.second,
-        third: a.third,
+        first: address.first,
+        second: address.second,
+        third: address.third,
     }
 }
 
-fn same_octets(m: Net, n: Net) -> bool
-    ensures { λ r. ⌜ r ≡ sameOctets m n ⌝ }
+fn same_octets(one: Net, other: Net) -> bool
+    ensures { λ r. ⌜ r ≡ sameOctets one other ⌝ }
 {
-    if m.first != n.first {
+    if one.first != other.first {
         return false;
     }
-    if m.second != n.second {
+    if one.second != other.second {
         return false;
     }
-    m.third == n.third
+    one.third == other.third
 }
 
 impl Net {
@@ -159,28 +159,28 @@ impl Net {
 }
 
 // Does the search for a net end at the row?
-fn ends(n: Net, r: Row) -> bool
-    ensures { λ y. ⌜ y ≡ ends n r ⌝ }
+fn ends(asked: Net, row: Row) -> bool
+    ensures { λ y. ⌜ y ≡ ends asked row ⌝ }
 {
-    let net = r.net;
-    if same_octets(net, n) {
+    let net = row.net;
+    if same_octets(net, asked) {
         return true;
     }
     same_octets(net, Net::ZERO)
 }
 
 // The id of a row's host.
-fn id_of(r: Row) -> usize
-    ensures { λ i. ⌜ i ≡ r .host ⌝ }
+fn id_of(row: Row) -> usize
+    ensures { λ i. ⌜ i ≡ row .host ⌝ }
 {
-    r.host as usize
+    row.host as usize
 }
 
 // How many rows the table has: no more than there are places.
-fn row_count(t: NetRows) -> usize
-    ensures { λ r. ⌜ r ≡ length (rowsOf t) ⌝ }
+fn row_count(table: NetRows) -> usize
+    ensures { λ r. ⌜ r ≡ length (rowsOf table) ⌝ }
 {
-    let n = t.count;
+    let n = table.count;
     if n < 32 {
         return n;
     }
@@ -188,18 +188,18 @@ fn row_count(t: NetRows) -> usize
 }
 
 // The id of the first row at which the search for a net ends.
-fn search(t: NetRows, n: Net) -> Found
-    ensures { λ r. ⌜ r ≡ search n (rowsOf t) ⌝ }
+fn search(table: NetRows, net: Net) -> Found
+    ensures { λ r. ⌜ r ≡ search net (rowsOf table) ⌝ }
 {
-    let count = row_count(t);
-    let rows = t.rows;
+    let count = row_count(table);
+    let rows = table.rows;
     let mut i: usize = 0;
     let id = loop {
         if i >= count {
             return Found::Nothing;
         }
         let row = rows[i];
-        if ends(n, row) {
+        if ends(net, row) {
             break id_of(row);
         }
         i += 1;
@@ -208,33 +208,33 @@ fn search(t: NetRows, n: Net) -> Found
 }
 
 // The host id of an address, as a host of the address ours finds it.
-pub fn find(ours: Address, layout: Layout, t: NetRows, a: Address) -> Found
-    ensures { λ r. ⌜ r ≡ find ours layout t a ⌝ }
+pub fn find(ours: Address, layout: Layout, table: NetRows, address: Address) -> Found
+    ensures { λ r. ⌜ r ≡ find ours layout table address ⌝ }
 {
-    if above_c(a) {
+    if above_c(address) {
         return Found::Nothing;
     }
-    if same_net(ours, a) {
-        return local_id(layout, a);
+    if same_net(ours, address) {
+        return local_id(layout, address);
     }
-    search(t, net_of(a))
+    search(table, net_of(address))
 }
 
 // Is the id of every row below n?
-pub fn ids_below(t: NetRows, n: usize) -> bool
-    ensures { λ r. ⌜ r ≡ idsBelow n (rowsOf t) ⌝ }
+pub fn ids_below(table: NetRows, n: usize) -> bool
+    ensures { λ r. ⌜ r ≡ idsBelow n (rowsOf table) ⌝ }
 {
-    if t.count == 0 {
+    if table.count == 0 {
         return true;
     }
-    rows_below(t, n)
+    rows_below(table, n)
 }
 
-fn rows_below(t: NetRows, n: usize) -> bool
-    ensures { λ r. ⌜ r ≡ idsBelow n (rowsOf t) ⌝ }
+fn rows_below(table: NetRows, n: usize) -> bool
+    ensures { λ r. ⌜ r ≡ idsBelow n (rowsOf table) ⌝ }
 {
-    let count = row_count(t);
-    let rows = t.rows;
+    let count = row_count(table);
+    let rows = table.rows;
     let mut i: usize = 0;
     while i < count {
         let row = rows[i];

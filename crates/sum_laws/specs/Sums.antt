@@ -11,7 +11,8 @@ use Rattle.answer.specs.declared.Answer.the-variants.{Done}
 use Rattle.clock.specs.declared.Clock.{Clock}
 use Rattle.clock.specs.Midnight.{day, midnight}
 use Rattle.clock.specs.LineClock.{noCount}
-use Rattle.wire.specs.Octets.{zeroAddress, twoAt}
+use Rattle.octets.specs.Octets.{twoAt}
+use Rattle.wire.specs.Octets.{zeroAddress}
 use Rattle.wire.specs.Hello.{hello}
 use Rattle.wire.specs.Packet.{fields}
 use Rattle.table.specs.declared.Entry.{Entry}

@@ -5,7 +5,7 @@ ghost use Rattle.wire.specs.Hello.{helloForm};
 ghost use Rattle.text.specs.Answers.{number, into, toText, fromText, Leaves};
 ghost use Rattle.text.specs.Back.{MessageBack, TextBack, NeverRefused};
 
-mod octets;
+mod buffer;
 pub mod pieces;
 mod read;
 mod scan;

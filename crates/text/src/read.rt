@@ -16,9 +16,9 @@ use super::scan::Row;
 use super::scan::find;
 use super::scan::read_first;
 use super::scan::read_row;
-use wire::octets::put_four;
-use wire::octets::put_octet;
-use wire::octets::put_two;
+use octets::put_four;
+use octets::put_octet;
+use octets::put_two;
 
 // The lines after the first: whether all have the form of a row, whether they are at most 255 and all fit, and how many.
 pub struct Rows {

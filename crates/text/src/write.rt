@@ -12,9 +12,9 @@ ghost use Rattle.text.specs.Words.{space, newline};
 ghost use Rattle.text.specs.Numbers.{rowsOf, numbersOf};
 ghost use Rattle.text.specs.Text.{hello, firstLine, rowLines, textOf};
 ghost use Rattle.text.specs.code.Put.{Put, lineRoom, rowRoom, row, timesText};
-use super::octets::put_octet;
-use wire::octets::four_at;
-use wire::octets::two_at;
+use super::buffer::put_octet;
+use octets::four_at;
+use octets::two_at;
 
 // How many digits a number has.
 fn width(n: u32) -> usize

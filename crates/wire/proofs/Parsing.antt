@@ -15,7 +15,8 @@ use Rattle.quantity.proofs.Ints.{to-≤ℤ, to-<ℤ}
 use Rattle.lists.proofs.Tests.{both}
 use Rattle.wire.specs.declared.Address.{Address}
 use Rattle.wire.specs.declared.Parsed.the-variants.{Good}
-use Rattle.wire.specs.Octets.{octetAt, twoAt, fourAt, addressAt}
+use Rattle.octets.specs.Octets.{octetAt, twoAt, fourAt}
+use Rattle.wire.specs.Octets.{addressAt}
 use Rattle.wire.specs.Ip.{headerLength, versionAndLength, versionPlace, totalPlace, fragmentPlace, sourcePlace, ipForm, ipChecksum, protocol}
 use Rattle.wire.specs.Hello.{fixedLength, datePlace, timePlace, tspPlace, addressOffsetPlace, nhostsPlace, helloLength, helloForm, helloChecksum}
 use Rattle.wire.specs.Packet.{helloOf, fields, parse}

@@ -11,13 +11,14 @@ use Rattle.quantity.specs.Words.{word, bits16, signed16}
 use Rattle.quantity.proofs.Ints.{up, dn, one, of-≤ℤ, of-<ℤ}
 use Rattle.quantity.proofs.Wrap.{wrap-fits}
 use Rattle.checksum.specs.Checksum.{checksumGood, checksumOf}
-use Rattle.checksum.proofs.Octets.{Octets}
+use Rattle.octets.specs.Octets.{Octets}
+use Rattle.octets.proofs.Widths.{back}
 use Rattle.checksum.proofs.Folding.{checksum-good}
 use Rattle.wire.specs.declared.Address.{Address}
 use Rattle.wire.specs.declared.Packet.{Packet}
 use Rattle.wire.specs.declared.Report.{Report}
 use Rattle.wire.specs.declared.Parsed.the-variants.{Good}
-use Rattle.wire.specs.Octets.{two}
+use Rattle.octets.specs.Octets.{two}
 use Rattle.wire.specs.Ip.{ipChecksum, protocol, headerStart, headerBack, header}
 use Rattle.wire.specs.Hello.{reportAt, reportPlace, helloLength, helloChecksum, reportsOctets, helloRest, hello}
 use Rattle.wire.specs.Packet.{helloOf, fields, packetLength, message}
@@ -28,29 +29,22 @@ use Rattle.wire.proofs.Parsing.{ip-form, hello-form, HeaderPasses, Hell
 
 -- ---- numbers
 
-two-back : (n : ℕ) → n < 2 ^ 16 → n / 256 % 256 * 256 + n % 256 ≡ n
-two-back n h = omega arith
-
-four-back : (n : ℕ) → n < 2 ^ 32
-    → ((n / 256 / 256 / 256 % 256 * 256 + n / 256 / 256 % 256) * 256 + n / 256 % 256) * 256 + n % 256 ≡ n
-four-back n h = omega arith
-
 bits-fit : (z : ℤ) → bits16 z < 2 ^ 16
 bits-fit (pos n) = omega arith
 bits-fit (negsuc n) = omega arith
 
 -- a number that is not negative, in two octets and in four; a signed one, in two
 count-in-two : (z : ℤ) → dn z ≤ 0 → up z < 2 ^ 16 → pos (bits16 z / 256 % 256 * 256 + bits16 z % 256) ≡ z
-count-in-two (pos n) l h = ap pos (two-back (n % 2 ^ 16) (omega arith) ∙ omega arith)
+count-in-two (pos n) l h = ap pos (back 2 (n % 2 ^ 16) (omega arith) ∙ omega arith)
 count-in-two (negsuc n) l h = absurd (omega arith)
 
 count-in-four : (z : ℤ) → dn z ≤ 0 → up z < 2 ^ 32
     → pos (((natAbs z / 256 / 256 / 256 % 256 * 256 + natAbs z / 256 / 256 % 256) * 256 + natAbs z / 256 % 256) * 256 + natAbs z % 256) ≡ z
-count-in-four (pos n) l h = ap pos (four-back n h)
+count-in-four (pos n) l h = ap pos (back 4 n h)
 count-in-four (negsuc n) l h = absurd (omega arith)
 
 word-in-two : (z : ℤ) → up z < 2 ^ 15 → dn z ≤ 2 ^ 15 → signed16 (bits16 z / 256 % 256 * 256 + bits16 z % 256) ≡ z
-word-in-two z u d = ap signed16 (two-back (bits16 z) (bits-fit z)) ∙ wrap-fits 16 (omega arith) z u d
+word-in-two z u d = ap signed16 (back 2 (bits16 z) (bits-fit z)) ∙ wrap-fits 16 (omega arith) z u d
 
 -- ---- the fields
 
@@ -61,7 +55,7 @@ module _ (destination : Address) (p : Packet) (rs : List Report) where
 
   pub date-back : p .date .0 < 2 ^ 16 → fields (message destination p rs) .date ≡ p .date
   unfolding fields message header hello
-  date-back h = ap (λ n. record { 0 = n }) (two-back (p .date .0) h)
+  date-back h = ap (λ n. record { 0 = n }) (back 2 (p .date .0) h)
 
   pub time-back : dn (p .time .0) ≤ 0 → up (p .time .0) < 2 ^ 32 → fields (message destination p rs) .time ≡ p .time
   unfolding fields message header hello
@@ -151,7 +145,7 @@ checksum-small xs = omega arith
 checksum-passes : (xs ys : List ℕ) → length xs % 2 ≡ 0 → Octets xs → Octets ys → checksumGood (xs ++ (two (checksumOf (xs ++ ys)) ++ ys)) ≡ true
 checksum-passes xs ys e o p =
     let c = checksumOf (xs ++ ys) in
-    checksum-good xs ys (c / 256 % 256) (c % 256) e o (omega arith) (omega arith) p (two-back c (checksum-small (xs ++ ys)))
+    checksum-good xs ys (c / 256 % 256) (c % 256) e o (omega arith) (omega arith) p (back 2 c (checksum-small (xs ++ ys)))
 
 module _ (destination : Address) (p : Packet) (rs : List Report) (f : MessageFits destination p rs) where
   length-is : length (message destination p rs) ≡ packetLength (p .nhosts)
@@ -163,7 +157,7 @@ module _ (destination : Address) (p : Packet) (rs : List Report) (f : MessageFit
       record {
         form =
             ip-form (message destination p rs) (omega (arith, length-is)) refl
-            (two-back (packetLength (p .nhosts)) (omega (arith, f .nhosts-fits)) ∙ sym length-is)
+            (back 2 (packetLength (p .nhosts)) (omega (arith, f .nhosts-fits)) ∙ sym length-is)
             refl;
         checksum =
             checksum-passes (headerStart (packetLength (p .nhosts))) (headerBack (p .source) destination) refl

@@ -9,29 +9,20 @@ use lib.Seq.{sets, sets-eq, drop-drop, drop-at, length-take-le}
 use Rattle.lists.proofs.Parts.{over-after}
 use Rattle.quantity.specs.Words.{bits16}
 use Rattle.checksum.specs.Checksum.{checksumOf}
-use Rattle.checksum.proofs.Octets.{Octets, joined, before-places, behind}
+use Rattle.octets.specs.Octets.{Octets}
+use Rattle.octets.proofs.Each.{joined, first-part, second-part}
 use Rattle.checksum.proofs.Folding.{zero-word}
 use Rattle.wire.specs.declared.Address.{Address}
 use Rattle.wire.specs.declared.Packet.{Packet}
 use Rattle.wire.specs.Packet.{packetLength}
 use Rattle.wire.specs.declared.Report.{Report}
-use Rattle.wire.specs.Octets.{two, four, addressOctets}
+use Rattle.octets.specs.Octets.{two, four}
+use Rattle.wire.specs.Octets.{addressOctets}
 use Rattle.wire.specs.Ip.{headerLength, versionPlace, checksumPlace, sourcePlace, headerStart, headerBack, header}
 use Rattle.wire.specs.Hello.{fixedLength, timePlace, tspPlace, reportLength, reportPlace, helloLength, reportOctets, helloRest}
 use Rattle.wire.specs.code.Sealing.{sealedRest, sealedHello, sealed, helloWithReport, withReport}
 use Rattle.wire.proofs.Parts.{from-on, comes-back}
 use Rattle.wire.proofs.Messages.{front-octets}
-
--- ---- two words
-
--- two words as one number of four octets
-pub words-put : (b m : List ℕ) (i h l n : ℕ) → h < 2 ^ 16 → l < 2 ^ 16 → n ≡ h * 0x10000 + l → m ≡ sets b i (four n) → m ≡ sets b i (two h ++ two l)
-words-put b m i h l n hh hl e f =
-    let e₁ : n / 256 / 256 / 256 % 256 ≡ h / 256 % 256 = omega arith in
-    let e₂ : n / 256 / 256 % 256 ≡ h % 256 = omega arith in
-    let e₃ : n / 256 % 256 ≡ l / 256 % 256 = omega arith in
-    let e₄ : n % 256 ≡ l % 256 = omega arith in
-    f ∙ rw (e₁, e₂, e₃, e₄)
 
 -- ---- a report
 
@@ -65,7 +56,7 @@ bare-octets : (total : ℕ) (source destination : Address) (rest : List ℕ) →
     → Octets (headerBack source destination)
 bare-octets total source destination rest o =
     let back = headerBack source destination in
-    before-places back rest (behind (headerStart total ++ two 0) (back ++ rest) o)
+    first-part back rest (second-part (headerStart total ++ two 0) (back ++ rest) o)
 
 -- the checksum of the header as it is written is that of its other fields
 pub bare-checksum : (total : ℕ) (source destination : Address) (rest : List ℕ) → Octets (bareHeader total source destination ++ rest)
@@ -96,10 +87,10 @@ pub hello-checksum : (b l : List ℕ) (p : Packet) → l ≡ two 0 ++ helloRest 
     → checksumOf (two 0 ++ sealedRest p b) ≡ checksumOf (sealedRest p b)
 hello-checksum b l p e o =
     let all : Octets (two 0 ++ helloRest p [] ++ drop fixedLength b) = rw e at o in
-    let front : Octets (helloRest p []) = before-places (helloRest p []) (drop fixedLength b) (behind (two 0) (helloRest p [] ++ drop fixedLength b) all) in
-    let rest : Octets (drop fixedLength b) = behind (two 0 ++ helloRest p []) (drop fixedLength b) all in
+    let front : Octets (helloRest p []) = first-part (helloRest p []) (drop fixedLength b) (second-part (two 0) (helloRest p [] ++ drop fixedLength b) all) in
+    let rest : Octets (drop fixedLength b) = second-part (two 0 ++ helloRest p []) (drop fixedLength b) all in
     let reports : Octets (take (reportLength * p .nhosts) (drop fixedLength b)) =
-    before-places (take (reportLength * p .nhosts) (drop fixedLength b)) (drop (reportLength * p .nhosts) (drop fixedLength b)) (rw take-append-drop rest) in
+    first-part (take (reportLength * p .nhosts) (drop fixedLength b)) (drop (reportLength * p .nhosts) (drop fixedLength b)) (rw take-append-drop rest) in
     zero-word [] (sealedRest p b) refl tt (joined (helloRest p []) (take (reportLength * p .nhosts) (drop fixedLength b)) front reports)
 
 -- the checksum put in the place of the zero

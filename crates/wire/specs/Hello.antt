@@ -10,7 +10,7 @@ use Rattle.quantity.specs.Words.{word, bits16, signed16}
 use Rattle.checksum.specs.Checksum.{checksumGood, checksumOf}
 use Rattle.wire.specs.declared.Packet.{Packet}
 use Rattle.wire.specs.declared.Report.{Report}
-use Rattle.wire.specs.Octets.{two, four, octetAt, twoAt}
+use Rattle.octets.specs.Octets.{two, four, octetAt, twoAt}
 
 -- PACKET-5: the octets before the reports
 abbrev pub fixedLength : ℕ

@@ -6,7 +6,8 @@ use lib.Dec.{leb, eqb}
 use lib.ListN.{length, take}
 use Rattle.checksum.specs.Checksum.{checksumGood, checksumOf}
 use Rattle.wire.specs.declared.Address.{Address}
-use Rattle.wire.specs.Octets.{two, addressOctets, octetAt, twoAt}
+use Rattle.octets.specs.Octets.{two, octetAt, twoAt}
+use Rattle.wire.specs.Octets.{addressOctets}
 
 -- PACKET-1: the octets of the header
 abbrev pub headerLength : ℕ

@@ -1,38 +1,14 @@
--- PACKET-4: numbers and addresses as octets, the high one first.
+-- PACKET-4: addresses as octets, the high one first. Numbers as octets are in `octets`.
 use mathlib.Core.Bool.{Bool, _&&_}
 use mathlib.Core.List.{List, [], _∷_}
-use Prim.Native.Nat.{ℕ, _+_, _*_, _/_, _%_}
+use Prim.Native.Nat.{ℕ, _+_}
 use lib.Dec.{eqb}
-use lib.ListN.{getD}
+pub use Rattle.octets.specs.Octets.{two, four, octetAt, twoAt, fourAt}
 use Rattle.wire.specs.declared.Address.{Address}
-
--- ---- written
-
--- PACKET-4: a number as two octets
-abbrev pub two : ℕ → List ℕ
-two n = n / 256 % 256 ∷ n % 256 ∷ []
-
--- PACKET-4: a number as four octets
-abbrev pub four : ℕ → List ℕ
-four n = n / 256 / 256 / 256 % 256 ∷ n / 256 / 256 % 256 ∷ n / 256 % 256 ∷ n % 256 ∷ []
 
 -- PACKET-4: an address as octets
 abbrev pub addressOctets : Address → List ℕ
 addressOctets a = a .first ∷ a .second ∷ a .third ∷ a .fourth ∷ []
-
--- ---- read
-
--- PACKET-4: the octet at place i, 0 after the end
-abbrev pub octetAt : List ℕ → ℕ → ℕ
-octetAt octets i = getD octets i 0
-
--- PACKET-4: the number in two octets from place i
-abbrev pub twoAt : List ℕ → ℕ → ℕ
-twoAt octets i = octetAt octets i * 256 + octetAt octets (i + 1)
-
--- PACKET-4: the number in four octets from place i
-abbrev pub fourAt : List ℕ → ℕ → ℕ
-fourAt octets i = ((octetAt octets i * 256 + octetAt octets (i + 1)) * 256 + octetAt octets (i + 2)) * 256 + octetAt octets (i + 3)
 
 -- PACKET-4: the address from place i
 abbrev pub addressAt : List ℕ → ℕ → Address
@@ -43,8 +19,6 @@ addressAt octets i =
       third = octetAt octets (i + 2);
       fourth = octetAt octets (i + 3);
     }
-
--- ---- addresses
 
 -- PACKET-4: the address 0.0.0.0
 abbrev pub zeroAddress : Address

@@ -12,7 +12,8 @@ use Rattle.wire.specs.declared.Packet.{Packet}
 use Rattle.wire.specs.declared.Report.{Report}
 use Rattle.wire.specs.declared.Parsed.{Parsed}
 use Rattle.wire.specs.declared.Parsed.the-variants.{Good, Bad}
-use Rattle.wire.specs.Octets.{octetAt, twoAt, fourAt, addressAt}
+use Rattle.octets.specs.Octets.{octetAt, twoAt, fourAt}
+use Rattle.wire.specs.Octets.{addressAt}
 use Rattle.wire.specs.Ip.{headerLength, sourcePlace, ipForm, ipChecksum, protocol, header}
 use Rattle.wire.specs.Hello.{datePlace, timePlace, tspPlace, addressOffsetPlace, nhostsPlace, helloLength, helloForm, helloChecksum, hello}
 

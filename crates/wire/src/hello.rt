@@ -3,16 +3,16 @@ ghost use mathlib.Core.Path.{_≡_};
 ghost use Prim.Native.Nat.{_+_, _≤_};
 ghost use mathlib.Core.List.{[], _++_};
 ghost use lib.ListN.{length, drop};
-ghost use Rattle.wire.specs.Octets.{two};
+ghost use Rattle.octets.specs.Octets.{two};
 ghost use Rattle.wire.specs.Hello.{fixedLength, reportLength, reportPlace, helloLength, helloForm, helloChecksum, reportAt, helloRest};
 ghost use Rattle.wire.specs.code.Ranges.{Two, Four};
 ghost use Rattle.wire.specs.code.Sealing.{helloWithReport, sealedHello};
 use super::Packet;
 use super::Report;
-use super::octets::put_four;
-use super::octets::put_two;
-use super::octets::put_words;
-use super::octets::two_at;
+use octets::put_four;
+use octets::put_two;
+use octets::put_words;
+use octets::two_at;
 
 // The octets before the reports.
 const FIXED: usize = 12;

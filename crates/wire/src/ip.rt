@@ -5,13 +5,13 @@ ghost use mathlib.Core.List.{_++_};
 ghost use lib.ListN.{length, take, drop};
 ghost use lib.Seq.{sets};
 ghost use Rattle.checksum.specs.Checksum.{checksumOf};
-ghost use Rattle.wire.specs.Octets.{two};
+ghost use Rattle.octets.specs.Octets.{two};
 ghost use Rattle.wire.specs.Ip.{headerLength, checksumPlace, ipForm, ipChecksum, protocol, headerStart, headerBack};
 use super::Address;
-use super::octets::put_address;
-use super::octets::put_two;
-use super::octets::put_words;
-use super::octets::two_at;
+use super::addresses::put_address;
+use octets::put_two;
+use octets::put_words;
+use octets::two_at;
 
 pub const LENGTH: usize = 20;
 

@@ -11,9 +11,9 @@ ghost use Rattle.wire.specs.code.Ranges.{Two, Four, TimeFits};
 ghost use Rattle.wire.specs.ReadBack.{ReadBack, ReportsBack};
 ghost use Rattle.wire.specs.code.Sealing.{withReport, sealed};
 
+pub mod addresses;
 mod hello;
 mod ip;
-pub mod octets;
 
 // An Internet address: its four octets, the highest first.
 #[repr(C)]
@@ -81,7 +81,7 @@ fn fields(packet: &[u8]) -> Packet
     requires { ⌜ packetLength 0 ≤ length (now packet) ⌝ }
     ensures { λ r. ⌜ (r ≡ fields (now (packet .entry))) × Four (r .time .0) ⌝ }
 {
-    let source = octets::address_at(packet, ip::SOURCE);
+    let source = addresses::address_at(packet, ip::SOURCE);
     let part = &packet[ip::LENGTH..];
     let date = octets::two_at(part, hello::DATE);
     let time = octets::four_at(part, hello::TIME);

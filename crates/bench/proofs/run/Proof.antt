@@ -1,4 +1,4 @@
--- The plan by value, and its events; the progress is stored.
+-- The plan by value, and its events; the number of events done is stored.
 use mathlib.Core.Path.{_≡_}
 use Prim.Native.Nat.{_-_}
 use base.Logic.{emp, id⊢}

@@ -1,4 +1,4 @@
--- The plan by value, the hosts set afresh, and slots and answers emptied; the progress is stored.
+-- The plan by value, the hosts initialized, and slots and answers emptied; the number of events done is stored.
 use mathlib.Core.Path.{_≡_}
 use mathlib.Core.Bool.{true}
 use Prim.Native.Nat.{_≤_}

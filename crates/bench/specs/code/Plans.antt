@@ -1,4 +1,4 @@
--- What set-up and run are to do, by their answer and the file's header: nothing where they are refused.
+-- What set-up and run are to do, by their answer and the file's header: nothing if they are refused.
 use mathlib.Core.Bool.{true, cond}
 use mathlib.Core.List.{List}
 use lib.ListN.{length}

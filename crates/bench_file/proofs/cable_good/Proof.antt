@@ -18,7 +18,7 @@ returns : tie.Need-returns
 unfolding cableGood
 returns c =
     let a = c .before .before .before .before .args in
-    let e : endGood (a .file .now) (a .h) (endAt (a .file .now) (a .h) (a .cable) 0) ≡ false = ap (endGood (a .file .now) (a .h)) (sym (c .before .before .end-at .ensures)) ∙ sym (c .before .end-good .ensures) ∙ is-not _ (c .if1 .taken) in
+    let e : endGood (a .file .now) (a .header) (endAt (a .file .now) (a .header) (a .cable) 0) ≡ false = ap (endGood (a .file .now) (a .header)) (sym (c .before .before .end-at .ensures)) ∙ sym (c .before .end-good .ensures) ∙ is-not _ (c .if1 .taken) in
     rw e
 
 end-at-requires-2 : tie.Need-end-at-requires-2
@@ -31,8 +31,8 @@ returns-2 : tie.Need-returns-2
 unfolding cableGood
 returns-2 c =
     let a = c .before .before .before .before .before .before .args in
-    let e : endGood (a .file .now) (a .h) (endAt (a .file .now) (a .h) (a .cable) 0) ≡ true = ap (endGood (a .file .now) (a .h)) (sym (c .before .before .before .before .end-at .ensures)) ∙ sym (c .before .before .before .end-good .ensures) ∙ is-so _ (c .before .before .if1 .left) in
-    rw e (c .end-good2 .ensures ∙ ap (endGood (a .file .now) (a .h)) (c .before .end-at2 .ensures))
+    let e : endGood (a .file .now) (a .header) (endAt (a .file .now) (a .header) (a .cable) 0) ≡ true = ap (endGood (a .file .now) (a .header)) (sym (c .before .before .before .before .end-at .ensures)) ∙ sym (c .before .before .before .end-good .ensures) ∙ is-so _ (c .before .before .if1 .left) in
+    rw e (c .end-good2 .ensures ∙ ap (endGood (a .file .now) (a .header)) (c .before .end-at2 .ensures))
 
 pub cable-good-spec : {M : Type 1} → statement M
 cable-good-spec =

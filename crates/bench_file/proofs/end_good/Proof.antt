@@ -13,13 +13,13 @@ returns : tie.Need-returns
 unfolding endGood
 returns c =
     let a = c .before .before .before .before .args in
-    rw (le-ltb (a .e .host) (a .h .hosts) (omega arith))
+    rw (le-ltb (a .end .host) (a .header .hosts) (omega arith))
 
 returns-2 : tie.Need-returns-2
 unfolding endGood
 returns-2 c =
     let a = c .before .before .before .before .before .before .args in
-    rw (lt-ltb (a .e .host) (a .h .hosts) (omega arith), lt-leb 1 (a .e .link) (omega arith))
+    rw (lt-ltb (a .end .host) (a .header .hosts) (omega arith), lt-leb 1 (a .end .link) (omega arith))
 
 link-count-requires : tie.Need-link-count-requires
 link-count-requires c κs = search needs
@@ -28,7 +28,7 @@ returns-3 : tie.Need-returns-3
 unfolding endGood
 returns-3 c =
     let a = c .before .before .before .before .before .before .before .before .args in
-    rw (lt-ltb (a .e .host) (a .h .hosts) (omega arith), le-leb 1 (a .e .link) (omega arith), c .before .link-count .ensures)
+    rw (lt-ltb (a .end .host) (a .header .hosts) (omega arith), le-leb 1 (a .end .link) (omega arith), c .before .link-count .ensures)
 
 pub end-good-spec : {M : Type 1} → statement M
 end-good-spec = tie.close (tie.spec returns returns-2 link-count-requires returns-3)

@@ -30,7 +30,7 @@ event-of-requires c κs = search needs
 returns : tie.Need-returns
 returns c =
     let a = c .before .before .before .before .args in
-    let e : (a .h .«events_start» + 14 * a .event + 14) - (a .h .«events_start» + 14 * a .event) ≡ 14 = omega arith in
+    let e : (a .header .«events_start» + 14 * a .event + 14) - (a .header .«events_start» + 14 * a .event) ≡ 14 = omega arith in
     rw e at (c .event-of .ensures)
 
 pub event-at-spec : {M : Type 1} → statement M

@@ -2,7 +2,7 @@
 use borrow.Author.Needs.{needs}
 use native.Mathlib.Omega.{arith}
 use borrow.Author.Tests.{lt-ltb, le-ltb, le-leb, lt-leb, eq-eqb, ne-eqb}
-use Rattle.bench_file.specs.Octets.{octetAt}
+use Rattle.octets.specs.Octets.{octetAt}
 use Rattle.bench_file.specs.Records.{eventOf}
 use mathlib.Core.Path.{_∙_}
 use mir.Syntax.{w32}

@@ -24,7 +24,7 @@ abbrev μ-loop : tie.MeasureT-loop
 μ-loop file h n i₀ i = n - i
 
 loop-holds : tie.Need-loop-holds Inv-loop μ-loop
-loop-holds c = let z : c .before .args .h .events - 0 ≡ c .before .args .h .events = omega arith in (omega arith, rw z)
+loop-holds c = let z : c .before .args .header .events - 0 ≡ c .before .args .header .events = omega arith in (omega arith, rw z)
 
 event-at-requires : tie.Need-event-at-requires Inv-loop μ-loop
 event-at-requires c κs = search needs
@@ -37,7 +37,7 @@ unfolding eventsGood
 returns c =
     let a = c .before .before .before .before .before .before .args in
     let w = c .before .before .before .before .loop in
-    sym (w .inv .1 ∙ each-bad (test (a .file .now) (a .h)) (a .h .events) (w .i) (omega arith) (ap (eventGood (a .h)) (sym (c .before .before .event-at .ensures)) ∙ sym (c .before .event-good .ensures) ∙ is-not _ (c .if1 .taken)))
+    sym (w .inv .1 ∙ each-bad (test (a .file .now) (a .header)) (a .header .events) (w .i) (omega arith) (ap (eventGood (a .header)) (sym (c .before .before .event-at .ensures)) ∙ sym (c .before .event-good .ensures) ∙ is-not _ (c .if1 .taken)))
 
 add-i : tie.Need-add-i Inv-loop μ-loop
 add-i c = omega arith
@@ -49,14 +49,14 @@ loop-again : tie.Need-loop-again Inv-loop μ-loop
 loop-again c =
     let a = c .before .before .before .before .before .before .args in
     let w = c .before .before .before .before .loop in
-    (omega arith, w .inv .1 ∙ each-good (test (a .file .now) (a .h)) (a .h .events) (w .i) (omega arith) (ap (eventGood (a .h)) (sym (c .before .before .event-at .ensures)) ∙ sym (c .before .event-good .ensures) ∙ is-so _ (c .if1 .left)))
+    (omega arith, w .inv .1 ∙ each-good (test (a .file .now) (a .header)) (a .header .events) (w .i) (omega arith) (ap (eventGood (a .header)) (sym (c .before .before .event-at .ensures)) ∙ sym (c .before .event-good .ensures) ∙ is-so _ (c .if1 .left)))
 
 returns-2 : tie.Need-returns-2 Inv-loop μ-loop
 unfolding eventsGood
 returns-2 c =
     let a = c .before .before .before .args in
     let w = c .before .loop in
-    sym (w .inv .1 ∙ each-done (test (a .file .now) (a .h)) (a .h .events) (w .i) (omega arith))
+    sym (w .inv .1 ∙ each-done (test (a .file .now) (a .header)) (a .header .events) (w .i) (omega arith))
 
 pub events-good-spec : {M : Type 1} → statement M
 events-good-spec =

@@ -11,19 +11,19 @@ returns : tie.Need-returns
 unfolding headerFits
 returns c =
     let a = c .before .before .args in
-    rw (lt-leb (a .h .hosts) 16 (omega arith))
+    rw (lt-leb (a .header .hosts) 16 (omega arith))
 
 returns-2 : tie.Need-returns-2
 unfolding headerFits
 returns-2 c =
     let a = c .before .before .before .before .args in
-    rw (le-leb (a .h .hosts) 16 (omega arith), lt-leb (a .h .cables) 32 (omega arith))
+    rw (le-leb (a .header .hosts) 16 (omega arith), lt-leb (a .header .cables) 32 (omega arith))
 
 returns-3 : tie.Need-returns-3
 unfolding headerFits
 returns-3 c =
     let a = c .before .before .before .before .before .before .args in
-    rw (le-leb (a .h .hosts) 16 (omega arith), le-leb (a .h .cables) 32 (omega arith), lt-leb (a .h .events) 2048 (omega arith))
+    rw (le-leb (a .header .hosts) 16 (omega arith), le-leb (a .header .cables) 32 (omega arith), lt-leb (a .header .events) 2048 (omega arith))
 
 mul-if4 : tie.Need-mul-if4
 mul-if4 c = search needs
@@ -35,7 +35,7 @@ returns-4 : tie.Need-returns-4
 unfolding headerFits
 returns-4 c =
     let a = c .before .before .before .before .before .before .before .before .before .args in
-    rw (le-leb (a .h .hosts) 16 (omega arith), le-leb (a .h .cables) 32 (omega arith), le-leb (a .h .events) 2048 (omega arith), ne-eqb (a .h .«cables_start») (20 + 321 * a .h .hosts) (c .if4 .taken))
+    rw (le-leb (a .header .hosts) 16 (omega arith), le-leb (a .header .cables) 32 (omega arith), le-leb (a .header .events) 2048 (omega arith), ne-eqb (a .header .«cables_start») (20 + 321 * a .header .hosts) (c .if4 .taken))
 
 mul-if5 : tie.Need-mul-if5
 mul-if5 c = search needs
@@ -47,7 +47,7 @@ returns-5 : tie.Need-returns-5
 unfolding headerFits
 returns-5 c =
     let a = c .before .before .before .before .before .before .before .before .before .before .before .before .before .args in
-    rw (le-leb (a .h .hosts) 16 (omega arith), le-leb (a .h .cables) 32 (omega arith), le-leb (a .h .events) 2048 (omega arith), eq-eqb (a .h .«cables_start») (20 + 321 * a .h .hosts) (omega arith), ne-eqb (a .h .«events_start») (a .h .«cables_start» + 4 * a .h .cables) (c .if5 .taken))
+    rw (le-leb (a .header .hosts) 16 (omega arith), le-leb (a .header .cables) 32 (omega arith), le-leb (a .header .events) 2048 (omega arith), eq-eqb (a .header .«cables_start») (20 + 321 * a .header .hosts) (omega arith), ne-eqb (a .header .«events_start») (a .header .«cables_start» + 4 * a .header .cables) (c .if5 .taken))
 
 mul-result : tie.Need-mul-result
 mul-result c = search needs
@@ -59,7 +59,7 @@ returns-6 : tie.Need-returns-6
 unfolding headerFits
 returns-6 c =
     let a = c .before .before .before .before .before .before .before .before .before .before .before .before .before .before .before .args in
-    rw (le-leb (a .h .hosts) 16 (omega arith), le-leb (a .h .cables) 32 (omega arith), le-leb (a .h .events) 2048 (omega arith), eq-eqb (a .h .«cables_start») (20 + 321 * a .h .hosts) (omega arith), eq-eqb (a .h .«events_start») (a .h .«cables_start» + 4 * a .h .cables) (omega arith))
+    rw (le-leb (a .header .hosts) 16 (omega arith), le-leb (a .header .cables) 32 (omega arith), le-leb (a .header .events) 2048 (omega arith), eq-eqb (a .header .«cables_start») (20 + 321 * a .header .hosts) (omega arith), eq-eqb (a .header .«events_start») (a .header .«cables_start» + 4 * a .header .cables) (omega arith))
 
 pub header-fits-spec : {M : Type 1} → statement M
 header-fits-spec =

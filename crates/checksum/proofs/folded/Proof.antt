@@ -1,7 +1,7 @@
 -- The sum with the low octet first is 256 times less, and changing the octets over is 256 times as much.
 use borrow.Author.Needs.{needs}
 use mathlib.Core.Path.{sym, _∙_}
-use Rattle.checksum.proofs.Octets.{of-places}
+use Rattle.octets.proofs.Each.{of-places}
 use Rattle.checksum.proofs.Folding.{folded-sum}
 use Rattle.checksum.proofs.LowFirst.{changed-over}
 use Rattle.checksum.proofs.folded.Statement.{statement}

@@ -1,4 +1,4 @@
--- It does in place what `planned::afresh` does by value.
+-- It does in place what `planned::initialized` does by value.
 use mathlib.Core.Path.{_≡_, ap}
 use Rattle.references.proofs.Words.{by-value, struct-part, enum-part}
 use Rattle.net_table.specs.declared.Outcome.{Outcome}

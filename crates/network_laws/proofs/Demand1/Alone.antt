@@ -1,4 +1,4 @@
--- In one run that all hosts share, a call at another number leaves this one's places, and a call at this number makes the same of the same.
+-- In one host table that all hosts share, a call at another number keeps this one's places, and a call at this number has the same result from the same state.
 use mathlib.Core.Path.{_≡_, refl, sym, ap, subst, _∙_}
 use mathlib.Core.Bool.{Bool, true, false}
 use mathlib.Core.List.{List, [], _∷_}
@@ -92,7 +92,7 @@ module _ (w v : Shared) (e : SharedEvent) (t : Twin (e .number) w v) where
 
 -- ---- the list
 
--- the whole list from one, and the calls at k alone from its twin
+-- the complete list from one state, and the calls at k only from its twin
 record Deleted (k : ℕ) (w v : Shared) (es : List SharedEvent) : Type 0 where
   told-same : sharedReturned k w es ≡ sharedReturned k v (alone k es)
   after-same : SharedAlike k (sharedAfterAll w es) (sharedAfterAll v (alone k es))

@@ -1,4 +1,4 @@
--- The tests of each call stand in its definition in their order: those of the guard, and then those of its work.
+-- The tests of each call are in its definition in their order: those of the guard, and then those of its work.
 use mathlib.Core.Path.{_≡_, refl, ap, _∙_}
 use mathlib.Core.Bool.{Bool, true, false, false≢true, cond, not, _&&_, _||_}
 use mathlib.Core.List.{List}

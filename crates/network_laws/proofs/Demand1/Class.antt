@@ -1,4 +1,4 @@
--- Each call of a class's list, given the table as it stands by then, makes a list of calls as `Isolation` has them; so what that law says of two such lists it says of the class's. The table goes by the tutor's calls alone.
+-- Each call of a class's list, with the net table at that time, makes a list of calls for `Isolation`. So that law covers two lists of the class. The table depends on the tutor's calls only.
 use mathlib.Core.Path.{_≡_, refl, sym, ap, subst, _∙_}
 use mathlib.Core.Bool.{Bool, true, false, cond}
 use mathlib.Core.List.{List, [], _∷_, map}
@@ -26,7 +26,7 @@ tableAfter t [] = t
 tableAfter t (node e ∷ es) = tableAfter t es
 tableAfter t (tutor c ∷ es) = tableAfter (turned c t) es
 
--- the class, told and left by that list
+-- the replies and the state of the class after that list
 record Given (w : Class) (es : List ClassEvent) : Type 0 where
   after-is : classAfterAll w es .left ≡ afterAll (w .left) (events (w .table) es)
   table-is : classAfterAll w es .table ≡ tableAfter (w .table) es
@@ -86,7 +86,7 @@ module _ (k : ℕ) where
       go rest true h = rw (h, rest) refl
       go rest false h = rest
 
-  -- each of them is lent there what it is lent without the others
+  -- each of them gets the same state as without the others
   state-alone : (t : NetTable) (w v : State) (es : List ClassEvent) → w k ≡ v k → AllContinueIn k record { table = t; left = w } es
       → AllContinueIn k record { table = t; left = v } (ownAndTutors k es)
   unfolding AllContinueIn classAfter

@@ -1,4 +1,4 @@
--- A call writes nothing into the run, or as many entries as it counts of its host, at the host's first place; and it stores no link but one that it names, up to the count.
+-- A call writes nothing into the host table, or its host's entries from the host's first place on. It stores no link except one that it names, up to the count.
 use mathlib.Core.Path.{_≡_, refl, ap}
 use mathlib.Core.Bool.{true, false}
 use mathlib.Core.List.{List}
@@ -40,7 +40,7 @@ use Rattle.network_laws.proofs.Walking.{Touched, as-were, stored-in, st
 use Rattle.network_laws.proofs.Openings.{opening-ways, packet-short, nothing-copied, copied-length}
 
 module _ (x : CallState) where
-  -- ---- the run
+  -- ---- the host table
 
   untouched : Kept (x .host .settings) (x .number) (x .entries) (x .entries)
   untouched = record { same-length = refl; before-places = λ i d h. refl; behind = λ i d h. refl }

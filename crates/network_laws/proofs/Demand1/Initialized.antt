@@ -1,4 +1,4 @@
--- A setting afresh fixes the clock, the links and the entries by the settings alone, and closes a walk; from there on, isolation needs no more.
+-- Initialize determines the clock, the links and the entries by the settings alone, and closes a walk. From there on, isolation needs no more.
 use mathlib.Core.Path.{_≡_, refl, sym, ap, subst, _∙_}
 use mathlib.Core.Bool.{true, false≢true}
 use mathlib.Core.List.{List, [], _∷_}
@@ -36,12 +36,12 @@ use Rattle.network_laws.proofs.Written.{written-back}
 use Rattle.network_laws.proofs.Demand1.OwnCalls.{afterFrom, lastFrom, AllContinue, AllAt, own-at, follows}
 use Rattle.network_laws.proofs.Demand1.Isolation.{allReturned, short, first-after, returned-alike, after-alike}
 
--- an input that counts as a setting afresh is one
+-- an input that counts as initialize is one
 initialized-too : {c d : Call} → SameInput c d → c ≡ ask Initialize → d ≡ ask Initialize
 initialized-too same e = e
 initialized-too (same-send n) e = absurd (let z : _≡_ {A = ℕ} 0 1 = cc in omega arith)
 
--- the fresh entries of so many ids, from n on
+-- the fresh entries of a number of ids, from n on
 abbrev pub freshFrom : Marks → (n count : ℕ) → List Entry
 freshFrom m n zero = []
 freshFrom m n (suc k) = withMark (mark m n) freshEntry ∷ freshFrom m (suc n) k
@@ -50,7 +50,7 @@ all-fresh : (m : Marks) (n : ℕ) (es : List Entry) → mapFrom n (changed m Fre
 all-fresh m n [] = refl
 all-fresh m n (e ∷ es) = ap (λ l. withMark (mark m n) freshEntry ∷ l) (all-fresh m (suc n) es)
 
--- ---- a setting afresh
+-- ---- initialize
 
 pub record Begins (e : Event) : Type 0 where
   pub call-is : e .call ≡ ask Initialize
@@ -66,7 +66,7 @@ begins-here e a =
           (subst (λ c. perform c (e .callState) .reply .answer ≡ Done) (a .call-is) (a .answered));
     }
 
--- the second of two calls that agree is a setting afresh too
+-- if two calls agree and the first is initialize, so is the second
 begins-too : (e f : Event) → numberOf e ≡ numberOf f → Agree e f → Begins e → Begins f
 unfolding guard noPlaces
 begins-too e f number agree b =
@@ -133,7 +133,7 @@ module _ (k : ℕ) where
 
   -- ---- lists of calls at k
 
-  -- the two lists tell the same, and what they leave is alike
+  -- the two lists have the same replies, and the states afterwards are alike
   abbrev Same : Settings → (was was′ : HostAfter) (es fs : List Event) → Type 0
   Same t was was′ es fs = (allReturned es ≡ allReturned fs) × AfterAlike t (lastFrom k was es) (lastFrom k was′ fs)
 

@@ -1,4 +1,4 @@
--- Two lists tell and leave the same at a number, call by call: by locality where the run holds the host's places, and where it does not both are refused.
+-- Two lists have the same replies and states at a number, call by call: by locality if the host table has the host's places; if not, both are refused.
 use mathlib.Core.Path.{_≡_, refl, sym, ap, subst, _∙_}
 use mathlib.Core.Bool.{Bool, true, false, or-true}
 use mathlib.Core.List.{List, [], _∷_, map}
@@ -18,14 +18,14 @@ use Rattle.network_laws.proofs.Demand1.Frame.{kept-places}
 use Rattle.network_laws.proofs.Demand1.Locality.{locality-holds}
 use Rattle.network_laws.proofs.Demand1.OwnCalls.{afterFrom, lastFrom, AllContinue, AllAt, own-at, follows}
 
--- what is told of each call
+-- the reply of each call
 abbrev pub allReturned : List Event → List Returned
 allReturned = map (λ (e : Event). returned (outcome e))
 
 module _ (k : ℕ) where
   -- ---- one call
 
-  -- the run does not hold all of the host's places
+  -- the host table does not have all of the host's places
   abbrev pub short : Event → Bool
   short e = ltb (length (e .callState .entries)) (firstPlace k + placesPerHost)
 
@@ -37,12 +37,12 @@ module _ (k : ℕ) where
     holds : short e ≡ false → Holds (numberOf e) (e .callState .entries)
     holds h = rw here (ltb-false _ _ h)
 
-    -- then the call is refused, and leaves what it was lent
+    -- then the call is refused, and changes nothing
     after-short : short e ≡ true
         → afterFrom k was e ≡ record { clock = e .callState .host .clock; links = e .callState .host .links; walk = e .callState .walk; copy = e .callState .copy; places = was .places }
     after-short h = rw (perform-short (e .call) (e .callState) (no-places h), h)
 
-    -- otherwise it leaves the places of the run
+    -- otherwise it keeps the length of the host table
     pub after-held : short e ≡ false → afterFrom k was e .places ≡ places k (outcome e .entries)
     after-held h = rw (kept-places (e .call) (e .callState) .same-length, h)
 
@@ -126,7 +126,7 @@ module _ (k : ℕ) where
               ∙ ap (λ s. take (hostCount s) (afterFrom k was′ f .places)) (sym (agree .settings-same));
         }
 
-  -- ---- one call that is lent all that was left
+  -- ---- one call that gets the complete state after the last call
 
   passes-whole : (was : HostAfter) (e : Event) → numberOf e ≡ k → ContinuesFully was (e .callState) → Continues was (e .callState)
   passes-whole was e here w =

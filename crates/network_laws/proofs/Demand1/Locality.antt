@@ -1,4 +1,4 @@
--- A call asks of the run its length and the host's entries, of the links those up to the count, of a walk's copy its length and the packet, and of a send's buffer its length; what it writes are entries made of those.
+-- A call uses the host table's length and the host's entries, the links up to the count, the copy's length and packet, and the buffer's length. The entries that it writes depend on these.
 use mathlib.Core.Path.{_≡_, refl, sym, ap, subst, subst₃, _∙_}
 use mathlib.Core.Bool.{Bool, true, false, cond, not, _&&_, _||_}
 use mathlib.Core.List.{List, [], map}
@@ -74,7 +74,7 @@ use Rattle.network_laws.proofs.Swept.{changes-length, updates-length}
 use Rattle.network_laws.proofs.Written.{written-kept, written-back}
 use Rattle.network_laws.proofs.Openings.{opening-ways, packet-short, nothing-copied, copied-back, copied-length}
 
--- ---- one host, lent with other slots past its count and in another run
+-- ---- one host, with other slots past its count and in another host table
 
 module _ (x : CallState) (l′ : Links) (copy′ : List ℕ) (entries′ : List Entry) (own : ownLinks (x .host .settings) (x .host .links) ≡ ownLinks (x .host .settings) l′)
     (rooms : length (x .copy) ≡ length copy′) (packets : walkPacket (x .walk) (x .copy) ≡ walkPacket (x .walk) copy′)
@@ -379,7 +379,7 @@ module _ (x : CallState) (l′ : Links) (copy′ : List ℕ) (entries′ : List 
       abbrev n : Count
       n = countUsed k
 
-      -- the host with the link as a flight leaves it
+      -- the host with the link after a flight
       abbrev hx : Flight → Host
       hx f = host (x .host .settings) (r .clock) (withLink i (f .link) (x .host .links))
 
@@ -412,7 +412,7 @@ module _ (x : CallState) (l′ : Links) (copy′ : List ℕ) (entries′ : List 
           (sym (link-same i has))
           (concludes p (steps2to4 (broadcast s i) (r .clock .hold) p (r .time) (linkOf (x .host .links) i)))
 
-    -- what each delivery comes to
+    -- what each delivery results in
     delivered-same : (d : Delivery) → noLink s (onLink d) ≡ false → (octets : List ℕ) → SameArrived (delivered d octets (x .nets) (x .host)) (delivered d octets (x .nets) (y .host))
     delivered-same (Inspect i) has octets = record { reply-same = refl; links-same = untouched; work-same = refl }
     delivered-same (Act i k) has octets = arrived-same i k has (inspect s i octets)
@@ -472,7 +472,7 @@ module _ (x : CallState) (l′ : Links) (copy′ : List ℕ) (entries′ : List 
 
   -- ---- every call
 
-  -- refusals by one guard are alike, and so is what comes behind it
+  -- refusals by one guard are alike, and so is what comes after it
   guarded : (c d : Call) → scopeOfCall c ≡ scopeOfCall d → ((a : Answer) → Twins (refused a c x) (refused a d y))
       → (done (guardOf c x) ≡ true → Twins (work c x) (work d y)) → Twins (perform c x) (perform d y)
   unfolding perform

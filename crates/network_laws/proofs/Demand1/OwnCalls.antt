@@ -1,4 +1,4 @@
--- What a list of calls leaves at a number goes by the calls at that number alone: a call at another number leaves this one's state.
+-- The state at a number after a list depends on the calls at that number only: a call at another number keeps this one's state.
 use mathlib.Core.Path.{_≡_, refl, sym, ap, subst, _∙_}
 use mathlib.Core.Bool.{Bool, true, false, cond}
 use mathlib.Core.List.{List, [], _∷_}
@@ -10,7 +10,7 @@ use Rattle.network_laws.specs.History.{Event, HostAfter, State, numberOf
 use Rattle.network_laws.specs.Isolation.{own}
 
 module _ (k : ℕ) where
-  -- ---- calls at number k, each from what the one before it left
+  -- ---- calls at number k, each from the state after the one before
 
   abbrev pub afterFrom : HostAfter → Event → HostAfter
   afterFrom was e = afterOutcome k (was .places) (outcome e)
@@ -38,7 +38,7 @@ module _ (k : ℕ) where
 
   -- ---- the calls at k in a list
 
-  -- the list leaves at k what these do
+  -- after the list, the state at k is that after these
   pub record Follows (L : HostAfter → CallState → Type 0) (w : State) (es : List Event) : Type 0 where
     pub last-is : afterAll w es k ≡ lastFrom (w k) (own k es)
     pub all-continue : ContinuesAll k L w es → AllContinue L (w k) (own k es)

@@ -1,4 +1,4 @@
--- Each call leaves a clock, links and entries in range: fresh ones are, and each rule keeps them so. Each but a step leaves a walk in range, too.
+-- After each call, clock, links and entries are in range: fresh ones are, and each rule keeps them so. Each call except a step keeps a walk in range, too.
 use mathlib.Core.Path.{_≡_, refl, sym, ap, _∙_}
 use mathlib.Core.Bool.{Bool, true, false, false≢true, cond, not, _&&_}
 use mathlib.Core.List.{List}
@@ -184,7 +184,7 @@ module _ (x : CallState) where
   unfolding entryInRange freshEntry
   fresh-fit id = (refl, rw (zero-add id) (eq-eqb (mark m id) (mark m id) refl))
 
-  -- setting afresh
+  -- initialize
   pub begun : done (guard Places x) ≡ true → InRange (left x (work (ask Initialize) x))
   unfolding initialize
   begun e =

@@ -1,4 +1,4 @@
--- Who refuses changes nothing: the guard, a lookup, a send into too short a buffer, the inspection of a packet. Steps 2 to 4 of an arrival change its link, behind the reading.
+-- A refusal changes nothing: by the guard, a lookup, a send into too short a buffer, the inspection of a packet. Steps 2 to 4 of an arrival change its link, after the reading.
 use mathlib.Core.Path.{_≡_, refl, ap, _∙_}
 use mathlib.Core.Bool.{true, not}
 use mathlib.Core.List.{List, []}
@@ -194,7 +194,7 @@ module _ (x : CallState) where
         → updatedBy (ends a (storing i (readBy d (x .host)) (countBy d) (x .host) f)) octets x ≡ refused a (deliver d octets) (relinked d (f .link) x)
     stored h a f = rw (← same-clock d) (ended x h a (storing i (readBy d (x .host)) (countBy d) (x .host) f) octets)
 
-    -- 10 leaves the link's neighbour too
+    -- 10 keeps the link's neighbour too
     Delayed : Outcome → Type 0
     Delayed o =
         o .reply .answer ≡ DelayNotValid

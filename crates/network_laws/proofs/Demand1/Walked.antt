@@ -113,7 +113,7 @@ module _ (s : Settings) (good : settingsGood s ≡ true) (copy : List ℕ) where
       abbrev Held : Place → Type 0
       Held q = walkFieldsAt q s w p octets ≡ true
 
-      -- behind an id
+      -- after an id
       next : (g : Host) → g .settings ≡ s → (work : Changes) → readingInRange w ≡ true → Raised (w .delay) → Keeps (nextId p g w work)
       unfolding placeOf
       next g same work read low =

@@ -1,4 +1,4 @@
--- An arrival keeps a seat right. What is stored has passed steps 2 to 4: then DELAY is the sum of the two ways, OFFSET is near, and what a report adds keeps it near.
+-- An arrival keeps a node right. What is stored has passed steps 2 to 4: then DELAY is the sum of the two ways, OFFSET is near, and what a report adds keeps it near.
 use mathlib.Core.Path.{_≡_, refl, sym, ap, _∙_}
 use mathlib.Core.Bool.{true, false, not, _||_}
 use mathlib.Core.List.{List}
@@ -92,7 +92,7 @@ inspect-cases P s i octets bad good =
     (either P (otherLayout s (fields octets)) _ _ (λ _. bad _)
     (λ ours. either P (looped s i (fields octets)) _ _ (λ _. bad _) (λ _. good ours)))
 
--- ---- step 5, at seat b, of a message of seat a, with a DELAY and an OFFSET that are right for a
+-- ---- step 5, at node b, of a message of node a, with a DELAY and an OFFSET that are right for a
 
 module _ (r : Network) (proper : Proper r) (b a : ℕ) (hb : b < r .nodes) (ha : a < r .nodes) where
   -- an entry that an update may store
@@ -136,7 +136,7 @@ module _ (r : Network) (proper : Proper r) (b a : ℕ) (hb : b < r .nodes) (ha :
 
   module _ (i : ℕ) (nets : NetTable) (c : Clock) (l : Links) (walk : Walk) (copy : List ℕ) (entries : List Entry) (callState : RightState r b l entries) (there : Holds (r .number b) entries) (octets : List ℕ)
       (h : Host) (ours : h .settings ≡ r .settings b) (links : RightLinks r b (h .links .all)) (n : Count) (p : Packet) (f : Flight) (direct : Direct r b a (f .delay) (f .offset)) where
-    -- what an arrival comes to keeps the seat right
+    -- the result of an arrival keeps the node right
     abbrev Right : Arrived → Type 0
     Right e = RightOutcome r b entries (updatedBy e octets (stateAt r b nets c l walk copy entries))
 
@@ -169,7 +169,7 @@ module _ (r : Network) (proper : Proper r) (b a : ℕ) (hb : b < r .nodes) (ha :
         (λ _. no-table-right _ (λ j. foundFor nets (sym ours j) (sym neighbor j)))
         (λ t. table-right (good t))
 
--- ---- steps 2 to 5, at link i of seat b, of a message that took `way` ms
+-- ---- steps 2 to 5, at link i of node b, of a message that took `way` ms
 
 module _ (r : Network) (proper : Proper r) (ways : r .longest ≤ longestWay) (b i : ℕ) (hb : b < r .nodes) (m : Message) (cable : r .cable b i ≡ at (m .node) (m .link)) (right : RightMessage r m)
     (nets : NetTable) (c : Clock) (l : Links) (walk : Walk) (copy : List ℕ) (entries : List Entry) (callState : RightState r b l entries) (there : Holds (r .number b) entries) (numbered : suc (i - 1) ≡ i)
@@ -183,7 +183,7 @@ module _ (r : Network) (proper : Proper r) (ways : r .longest ≤ longestWay) (b
   abbrev now : Millis
   now = readingAt r b c k .time
 
-  -- and our clock behind it
+  -- and our clock after it
   abbrev carried-on : Clock
   carried-on = readingAt r b c k .clock
 
@@ -202,7 +202,7 @@ module _ (r : Network) (proper : Proper r) (ways : r .longest ≤ longestWay) (b
       all-set (λ (j : ℕ). RightLink r b (suc j)) (i - 1) _
       (rw numbered (λ b′ j e alive. measured.tied r proper ways b i hb m cable right now way short clock b′ j e)) (l .all) (callState .links)
 
-  -- what it comes to keeps the seat right
+  -- its result keeps the node right
   abbrev Keeps : Arrived → Type 0
   Keeps e = RightOutcome r b entries (updatedBy e (m .octets) (stateAt r b nets c l walk copy entries))
 
@@ -238,7 +238,7 @@ module _ (r : Network) (proper : Proper r) (ways : r .longest ≤ longestWay) (b
   action-right : broadcast (r .settings b) i ≡ false → otherLayout (r .settings b) p ≡ false → Keeps (action k nets (stateAt r b nets c l walk copy entries .host) i p)
   action-right point ours = rw point (concluded-right ours)
 
--- ---- the whole call. A refusal changes nothing; whatever goes on to step 2 has a millisecond
+-- ---- the complete call. A refusal changes nothing; whatever goes on to step 2 has a millisecond
 
 pub action-timed : (k : Counter) (nets : NetTable) (h : Host) (i : ℕ) (p : Packet) → T (timed (action k nets h i p .reply .answer))
 action-timed k nets h i p = go (steps2to4 (broadcast (h .settings) i) (ourReading k h .clock .hold) p (ourReading k h .time) (linkOf (h .links) i))
@@ -254,7 +254,7 @@ action-timed k nets h i p = go (steps2to4 (broadcast (h .settings) i) (ourReadin
     go (end f) = tt
     go (on f) = fifth _ f
 
--- when a message came to seat b: so long after it was sent
+-- when a message arrived at node b: a known time after it was sent
 pub record Came (r : Network) (b : ℕ) (c : Clock) (k : Counter) (m : Message) : Type 0 where
   pub way : ℕ
   pub short : way ≤ r .longest

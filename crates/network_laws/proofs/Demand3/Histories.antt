@@ -58,7 +58,7 @@ unlike z = absurd (omega arith)
 module _ (r : Network) (proper : Proper r) (ways : r .longest ≤ longestWay) where
   -- ---- one call
 
-  -- what it leaves: the seat right, and the mail
+  -- afterwards the node is right, and so is the mail
   pub record StepRight (w : World) (x : Step) : Type 0 where
     pub node : NodeAfter r (x .node) (x .entries) (result r w x)
     pub mail : (m : Message) → List·Memᴰ m (mailAfter (x .node) (result r w x) (x .call) (w .mail)) → RightMessage r m
@@ -120,7 +120,7 @@ module _ (r : Network) (proper : Proper r) (ways : r .longest ≤ longestWay) wh
         updated-right r a nets (now .clock) links (now .walk) copy entries right (there (inspect i packet) x e) (inspection i packet (x .host)) packet (right .links)
         (λ id d y low high inside h. absurd (omega arith)))
 
-    -- no setting afresh, no opening and no step
+    -- no initialize, no opening and no step
     pub a-request : (q : Request) → (q ≡ Initialize → ⊥) → ((k : Counter) → q ≡ variants.Step k → ⊥) → Elsewhere (ask q)
     a-request q fresh stepping = record { not-initialize = λ e. fresh cc; not-opening = λ i packet e. unlike cc; not-step = λ k e. stepping k cc }
 
@@ -226,7 +226,7 @@ module _ (r : Network) (proper : Proper r) (ways : r .longest ≤ longestWay) wh
         mail = s .mail;
       }
 
-  -- ---- the whole list
+  -- ---- the complete list
 
   pub history-right : (w : World) (xs : List Step) → Allows r w xs → RightWorld r w → RightWorld r (history r w xs)
   unfolding Allows history

@@ -35,7 +35,7 @@ use Rattle.network_laws.proofs.Demand3.Near.{Fits16, Near}
 
 -- ---- tables
 
--- A DELAY and an OFFSET for id i, in the table of seat b: there is such a host, and the OFFSET is near.
+-- A DELAY and an OFFSET for id i, in the table of node b: there is such a host, and the OFFSET is near.
 pub record Known (r : Network) (b i : ℕ) (delay offset : ℤ) : Type 0 where
   pub node : ℕ
   pub node-in : node < r .nodes
@@ -54,7 +54,7 @@ pub record RightReport (r : Network) (a i : ℕ) (p : Report) : Type 0 where
   pub fits : Fits16 (p .offset .0)
   pub known : lessMillis (p .delay) maxDelay ≡ true → Known r a i (p .delay .0) (p .offset .0)
 
--- The TSP of a packet that was sent at millisecond t, for seat b at the cable's other end: the bits of b's clock then, less a way.
+-- The TSP of a packet that was sent at millisecond t, for node b at the cable's other end: the bits of b's clock then, less a way.
 pub record Carries (r : Network) (b : ℕ) (t tsp : ℤ) : Type 0 where
   pub way : ℕ
   pub short : way ≤ r .longest
@@ -77,7 +77,7 @@ pub record RightMessage (r : Network) (m : Message) : Type 0 where
 
 -- ---- links
 
--- The TSP of a link of seat a, cabled to seat b, has the bits of the true difference less a way.
+-- The TSP of a link of node a, cabled to node b, has the bits of the true difference less a way.
 pub record Tied (r : Network) (a b : ℕ) (tsp : ℤ) : Type 0 where
   pub way : ℕ
   pub short : way ≤ r .longest
@@ -87,13 +87,13 @@ pub record Tied (r : Network) (a b : ℕ) (tsp : ℤ) : Type 0 where
 abbrev pub RightLink : (r : Network) (a i : ℕ) → Link → Type 0
 RightLink r a i x = (b j : ℕ) → r .cable a i ≡ at b j → eqb (x .«keep_alive») 0 ≡ false → Tied r a b (x .tsp .0)
 
--- link i stands at place i - 1
+-- link i is at place i - 1
 abbrev pub RightLinks : (r : Network) (a : ℕ) → List Link → Type 0
 RightLinks r a l = All (λ (j : ℕ). RightLink r a (suc j)) l
 
 -- ---- walks
 
--- a DELAY and an OFFSET of seat a's clock at seat b, as step 4 leaves them: the OFFSET fits, and is near while DELAY is under 30,000
+-- a DELAY and an OFFSET of node a's clock at node b, after step 4: the OFFSET fits, and is near if DELAY is under 30,000
 pub record Direct (r : Network) (b a : ℕ) (delay : Millis) (offset : Word) : Type 0 where
   pub fits : Fits16 (offset .0)
   pub near : lessMillis (atLeastMin delay) maxDelay ≡ true → Near (offset .0) (r .fixed a) (r .fixed b) (atLeastMin delay .0)
@@ -144,7 +144,7 @@ RightAt r b w octets l LineD = Lined r b w octets
 abbrev pub RightWalk : (r : Network) (b : ℕ) → Walk → (copy : List ℕ) → Links → Type 0
 RightWalk r b w copy l = isOpen w ≡ true → RightAt r b w (packetOf w copy) l (placeOf w)
 
--- behind box 2 the link's KEEP-ALIVE is set, and its TSP is not yet
+-- after box 2 the link's KEEP-ALIVE is set, and its TSP is not yet
 abbrev pub atThird : Place → Bool
 atThird Nowhere = false
 atThird Step1 = false
@@ -160,11 +160,11 @@ atThird LineD = false
 abbrev pub between : Walk → (link : ℕ) → Bool
 between w i = isOpen w && atThird (placeOf w) && eqb (w .link) i
 
--- the links of a seat with this walk
+-- the links of a node with this walk
 abbrev pub LinksIn : (r : Network) (b : ℕ) → Walk → List Link → Type 0
 LinksIn r b w l = All (λ (j : ℕ) (x : Link). between w (suc j) ≡ false → RightLink r b (suc j) x) l
 
--- ---- seats and the world
+-- ---- nodes and the world
 
 pub record RightNode (r : Network) (a : ℕ) (x : HostAfter) : Type 0 where
   pub links : LinksIn r a (x .walk) (x .links .all)

@@ -1,4 +1,4 @@
--- A seat marks its own id, by answer 1; and a live entry's id is marked at some seat, by demand 3. No other seat marks either.
+-- A node marks its own id, by answer 1; and a live entry's id is marked at some node, by demand 3. No other node marks either.
 use mathlib.Core.Path.{_≡_, refl, sym, ap, subst, _∙_}
 use mathlib.Core.Bool.{false≢true}
 use Prim.Native.Nat.{ℕ, _<_}

@@ -1,4 +1,4 @@
--- What is known of a message that came to seat b on link i so long after it was sent, by our reading then: its fields, and what steps 2 to 4 make of them.
+-- What is known of a message that arrived at node b on link i a known time after it was sent, by our reading: its fields, and the result of steps 2 to 4.
 use mathlib.Core.Path.{_≡_, refl, sym, ap, subst₂, _∙_}
 use mathlib.Core.Bool.{Bool, true, false, true≢false, false≢true, not, cond, _&&_, _||_}
 use mathlib.Core.List.{List}
@@ -58,7 +58,7 @@ found-own ours a s t id net e = go (aboveC a) (sameNet ours a) net e
     go false true t e = e
     go false false t e = absurd (false≢true t)
 
--- a report of a host that is down, which stands for what is not there
+-- a report of a host that is down, as the default for a missing one
 abbrev noReport : Report
 noReport = record { delay = maxDelay; offset = word (pos 0) }
 

@@ -1,4 +1,4 @@
--- OFFSETs near the true difference, at 16 bits: of one exchange, and of a report that is passed on. DELAYs are whole numbers of milliseconds, integers.
+-- OFFSETs near the true difference, at 16 bits: of one exchange, and of a report that is passed on. DELAYs are integers of milliseconds.
 use mathlib.Core.Path.{_≡_, ap}
 use Prim.Native.Nat.{ℕ, _+_, _*_, _≤_, _<_}
 use native.Mathlib.Omega.{arith}
@@ -27,7 +27,7 @@ near-close o f g D n =
     to-≤ℤ (pos (delayParts * natAbs (o -ℤ (f -ℤ g)))) (D *ℤ pos errorParts)
     (omega (arith, n, abs (o -ℤ (f -ℤ g)), one (o -ℤ (f -ℤ g)), diff o (f -ℤ g), diff f g, times D errorParts))
 
--- the clocks of two seats are near
+-- the clocks of two nodes are near
 pub record Apart (f g : ℤ) : Type 0 where
   pub above : up (f -ℤ g) ≤ clockSpread
   pub below : dn (f -ℤ g) ≤ clockSpread

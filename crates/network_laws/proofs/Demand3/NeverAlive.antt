@@ -1,4 +1,4 @@
--- An entry that is up names a host of the room, and so an id that some seat marks.
+-- An entry that is up names a host of the network, and so an id that some node marks.
 use mathlib.Core.Path.{_≡_, refl}
 use mathlib.Core.Bool.{Bool, true, false}
 use Rattle.table.specs.Entry.{up}

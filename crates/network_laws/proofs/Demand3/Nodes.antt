@@ -1,4 +1,4 @@
--- Setting afresh, a tick, a second and a self-report keep a seat right: entries are fresh, are left, age, or are of hosts that live at the seat.
+-- Initialize, a tick, a second and a self-report keep a node right: entries are fresh, unchanged, older, or of hosts that live at the node.
 use mathlib.Core.Path.{_≡_, refl, sym, _∙_, ap}
 use mathlib.Core.Bool.{true, false≢true, true≢false}
 use mathlib.Core.List.{List}
@@ -65,7 +65,7 @@ module _ (r : Network) (a : ℕ) where
   ttl-right : (i : ℕ) (e : Entry) (t : Seconds) → RightEntry r a i e → RightEntry r a i (withTtl t e)
   ttl-right i e t right = record { fits = right .fits; known = right .known }
 
-  -- the entry of a host at the seat: no delay and no offset
+  -- the entry of a host at the node: no delay and no offset
   own-right : a < r .nodes → (i : ℕ) → HostAt r i a → (t : Millis) (e : Entry) → RightEntry r a i (stored (ownUpdate t) e)
   own-right inside i here t e =
       record { fits = omega arith; known = λ _. record { node = a; node-in = inside; host-there = here; near = omega arith } }
@@ -77,7 +77,7 @@ module _ (r : Network) (a : ℕ) where
       performs (ask Initialize) (stateAt r a (r .nets a) (r .clock a) (r .links a) (r .walk a) (r .copy a) (r .entries a)) (λ (o : Outcome). o .reply .answer ≡ Done → settingsGood (r .settings a) ≡ true)
       (λ no is. absurd (false≢true (sym no ∙ ap done is))) (λ yes _. passed Places (stateAt r a (r .nets a) (r .clock a) (r .links a) (r .walk a) (r .copy a) (r .entries a)) yes .settings)
 
-  -- the host of a seat's own id is there
+  -- the host of a node's own id is there
   pub own-host : Proper r → a < r .nodes → (i : ℕ) → ownId (r .settings a) ≡ Id i → HostAt r i a
   own-host proper inside i is =
       ap (foundMarked (r .settings a .marks)) (sym is) ∙ sound (r .settings a) (set-good (proper .was-initialized a inside)) .own-marked

@@ -1,4 +1,4 @@
--- What a call of seat a has to show of its outcome, so that the seat is right afterwards.
+-- What a call of node a has to show of its outcome, so that the node is right afterwards.
 use mathlib.Core.Path.{_≡_, refl, ap, _∙_, sym, subst}
 use mathlib.Core.Bool.{Bool, true, false, true≢false}
 use mathlib.Core.List.{List}
@@ -41,7 +41,7 @@ use Rattle.network_laws.proofs.Written.{written-kept, written-back}
 use Rattle.network_laws.proofs.HostPlaces.{entries-first}
 use Rattle.network_laws.proofs.Demand3.Invariant.{RightEntry, RightLink, RightLinks, RightAt, RightWalk, between, LinksIn, RightNode}
 
--- these links and this run, left by a call that was lent another run
+-- these links and this host table, after a call that got another host table
 pub record RightAfter (r : Network) (a : ℕ) (before : List Entry) (l : Links) (entries : List Entry) : Type 0 where
   pub links : RightLinks r a (l .all)
   pub table : Holds (r .number a) before → All (RightEntry r a) (ownEntries (r .settings a) (r .number a) entries)
@@ -50,12 +50,12 @@ pub record RightAfter (r : Network) (a : ℕ) (before : List Entry) (l : Links) 
 abbrev pub RightOutcome : (r : Network) (a : ℕ) (entries : List Entry) → Outcome → Type 0
 RightOutcome r a entries o = RightAfter r a entries (o .links) (o .entries)
 
--- what a call is lent, of a seat that is right
+-- the state that a call gets of a node that is right
 pub record RightState (r : Network) (a : ℕ) (l : Links) (entries : List Entry) : Type 0 where
   pub links : RightLinks r a (l .all)
   pub table : Holds (r .number a) entries → All (RightEntry r a) (ownEntries (r .settings a) (r .number a) entries)
 
--- the same of a seat that may have a walk
+-- the same of a node that may have a walk
 pub record NodeState (r : Network) (a : ℕ) (w : Walk) (copy : List ℕ) (l : Links) (entries : List Entry) : Type 0 where
   pub links : LinksIn r a w (l .all)
   pub walk : RightWalk r a w copy l
@@ -68,7 +68,7 @@ pub record NodeAfter (r : Network) (a : ℕ) (before : List Entry) (o : Outcome)
   pub same-length : length (o .entries) ≡ length before
 
 module _ (r : Network) (a : ℕ) where
-  -- the first NHOSTS places of a run are those of its 255
+  -- the first NHOSTS places of a host table are those of its 255
   first-places : (entries : List Entry) → take (hostCount (r .settings a)) (places (r .number a) entries) ≡ ownEntries (r .settings a) (r .number a) entries
   first-places entries = sym (entries-first (r .settings a) (r .number a) entries)
 
@@ -79,7 +79,7 @@ module _ (r : Network) (a : ℕ) where
       let there = neither (eqb (suc j) 0) (ltb (linkCount (r .settings a)) (suc j)) (proper .cables a (suc j) b i cable .link-in) .1 in
       absurd (true≢false (sym (lt-ltb (linkCount (r .settings a)) (suc j) (omega arith)) ∙ there))
 
-  -- the packet of an open walk is as it was left
+  -- the packet of an open walk is unchanged
   pub same-packet : (x : HostAfter) (nets : NetTable) (c : Clock) (l : Links) (copy : List ℕ) (entries : List Entry) → Continues x (stateAt r a nets c l (x .walk) copy entries) → isOpen (x .walk) ≡ true → packetOf (x .walk) copy ≡ packetOf (x .walk) (x .copy)
   same-packet x nets c l copy entries continues opened = rw opened at (continues .own-packet)
 
@@ -131,7 +131,7 @@ module _ (r : Network) (a : ℕ) where
             subst (All (RightEntry r a)) (sym (first-places (o .entries))) (now .table holds));
       }
 
-  -- links that are right are so whatever walk there is; those of a seat without a walk are all right
+  -- links that are right are so whatever walk there is; those of a node without a walk are all right
   pub any-walk : (w : Walk) (l : List Link) → RightLinks r a l → LinksIn r a w l
   any-walk w l t = all-weaken (λ (j : ℕ). RightLink r a (suc j)) (λ (j : ℕ) (y : Link). between w (suc j) ≡ false → RightLink r a (suc j) y) (λ j y f _. f) l t
 
@@ -139,7 +139,7 @@ module _ (r : Network) (a : ℕ) where
   no-walk w l shut t = all-weaken (λ (j : ℕ) (y : Link). between w (suc j) ≡ false → RightLink r a (suc j) y) (λ (j : ℕ). RightLink r a (suc j)) (λ j y f. f (rw shut)) l t
 
   module _ (nets : NetTable) (c : Clock) (l : Links) (walk : Walk) (copy : List ℕ) (entries : List Entry) (callState : NodeState r a walk copy l entries) (call : Call) where
-    -- a refusal leaves all as it was lent
+    -- a refusal changes nothing
     pub refused-right : (answer : Answer) → NodeAfter r a entries (refused answer call (stateAt r a nets c l walk copy entries))
     refused-right answer = record { links = callState .links; walk = callState .walk; table = callState .table; same-length = refl }
 
@@ -164,11 +164,11 @@ module _ (r : Network) (a : ℕ) where
               same-length = o .same-length;
             }
 
-  -- a refusal leaves all as it was lent
+  -- a refusal changes nothing
   pub same-right : (l : Links) (entries : List Entry) → RightState r a l entries → RightAfter r a entries l entries
   same-right l entries callState = record { links = callState .links; table = callState .table; same-length = refl }
 
-  -- what a call that passed its guard makes of the seat's entries
+  -- what a call that passed its guard makes of the node's entries
   module _ (nets : NetTable) (c : Clock) (l : Links) (walk : Walk) (copy : List ℕ) (entries : List Entry) (there : Holds (r .number a) entries) where
     abbrev x : CallState
     x = stateAt r a nets c l walk copy entries

@@ -1,4 +1,4 @@
--- A send keeps a seat right, and what it writes is a right message: its time is our reading, its reports are the table's, and its TSP has the bits that the link's TSP and our reading make.
+-- A send keeps a node right, and what it writes is a right message: its time is our reading, its reports are the table's, and its TSP has the bits that the link's TSP and our reading make.
 use mathlib.Core.Path.{_≡_, refl, sym, subst, _∙_}
 use mathlib.Core.Bool.{true, false, true≢false, false≢true}
 use mathlib.Core.List.{List}
@@ -54,7 +54,7 @@ use Rattle.network_laws.proofs.Demand3.Outcomes.{RightOutcome, RightSta
 pub link-from-1 : (s : Settings) (i : ℕ) → noLink s i ≡ false → suc (i - 1) ≡ i
 link-from-1 s i e = omega (arith, counted s i e .from-one)
 
--- ---- the message of a send at seat a on link i, at millisecond t
+-- ---- the message of a send at node a on link i, at millisecond t
 
 module _ (r : Network) (a i : ℕ) (inside : a < r .nodes) (nets : NetTable) (c : Clock) (l : Links) (walk : Walk) (copy : List ℕ) (entries : List Entry) (callState : RightState r a l entries) (there : noLink (r .settings a) i ≡ false) where
   abbrev x : Link
@@ -63,7 +63,7 @@ module _ (r : Network) (a i : ℕ) (inside : a < r .nodes) (nets : NetTable) (c 
   abbrev whole : CallState
   whole = stateAt r a nets c l walk copy entries
 
-  -- the link as it stands
+  -- the link before the send
   link-right : RightLink r a i x
   link-right =
       subst (λ (n : ℕ). RightLink r a n x) (link-from-1 (r .settings a) i there)
@@ -140,9 +140,9 @@ module _ (r : Network) (a i : ℕ) (inside : a < r .nodes) (nets : NetTable) (c 
           tsp = tsp-right;
         }
 
--- ---- the whole call
+-- ---- the complete call
 
--- the room's time of a call of seat a
+-- the network's time of a call of node a
 abbrev pub Clocked : (r : Network) (a : ℕ) (c : Clock) (k : Counter) (t : ℤ) → Type 0
 Clocked r a c k t = (readingAt r a c k .time .0 ≡ t +ℤ r .fixed a) × (readingAt r a c k .time .0 <ℤ dayMillis .0)
 

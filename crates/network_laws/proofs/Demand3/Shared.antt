@@ -1,4 +1,4 @@
--- Demand 3 for one shared run: the run holds at each seat's places what its last call left, since a call changes no other seat's. So the calls are those of a history, each lent what it asks for.
+-- Demand 3 for one shared host table: it has at each node's places what the node's last call stored, since a call changes no other node's. So the calls are those of a history, each with the state that it needs.
 use mathlib.Core.Path.{_≡_, refl, sym, ap, subst, _∙_}
 use mathlib.Core.Bool.{Bool, true, false, false≢true}
 use mathlib.Core.List.{List, [], _∷_}
@@ -27,22 +27,22 @@ use Rattle.network_laws.proofs.HostPlaces.{entries-first, elsewhere}
 use Rattle.network_laws.proofs.Demand1.Frame.{kept-places}
 use Rattle.network_laws.proofs.Demand3.Histories.{all-calls}
 
--- a setting afresh that is answered 0 was lent all the places
+-- an initialize that answers 0 got all the places
 set-holds : (x : CallState) → perform (ask Initialize) x .reply .answer ≡ Done → Holds (x .number) (x .entries)
 set-holds x =
     performs (ask Initialize) x (λ (o : Outcome). o .reply .answer ≡ Done → Holds (x .number) (x .entries))
     (λ d e. absurd (false≢true (sym d ∙ ap done e))) (λ d _. there (ask Initialize) x d)
 
--- a run with all the places leaves them
+-- a host table with all the places keeps them
 all-there : (k : ℕ) (were : List Entry) (o : Outcome) → Holds k (o .entries) → afterOutcome k were o .places ≡ places k (o .entries)
 all-there k were o h = rw (le-ltb (length (o .entries)) (firstPlace k + placesPerHost) h)
 
 module _ (r : Network) (proper : Proper r) where
-  -- the run holds every seat's places, as the seat's last call left them
+  -- the host table has every node's places, as the node's last call stored them
   abbrev Tracks : SharedWorld → Type 0
   Tracks w = (a : ℕ) → a < r .nodes → Holds (r .number a) (w .entries) × (places (r .number a) (w .entries) ≡ w .world .state (r .number a) .places)
 
-  -- what a call keeps of the run
+  -- what a call keeps of the host table
   kept : (w : SharedWorld) (x : SharedStep) → Kept (r .settings (x .node)) (r .number (x .node)) (w .entries) (result r (w .world) (callState w x) .entries)
   kept w x = kept-places _ (eventOf r (w .world) (callState w x) .callState)
 
@@ -69,7 +69,7 @@ module _ (r : Network) (proper : Proper r) where
           (w .entries) (result r (w .world) (callState w x) .entries) (kept w x)
           ∙ t b hb .1
 
-  -- ---- the calls of a shared history, each lent the run
+  -- ---- the calls of a shared history, each with the host table
 
   lents : SharedWorld → List SharedStep → List Step
   lents w [] = []
@@ -110,14 +110,14 @@ module _ (r : Network) (proper : Proper r) where
 
   -- ---- the beginning
 
-  -- what the setting afresh of a seat is lent
+  -- what the initialize of a node gets
   abbrev first : ℕ → CallState
   first c = stateAt r c (r .nets c) (r .clock c) (r .links c) (r .walk c) (r .copy c) (r .entries c)
 
   initialized-kept : (c : ℕ) → Kept (r .settings c) (r .number c) (r .entries c) (initialized r c .entries)
   initialized-kept c = kept-places (ask Initialize) (first c)
 
-  -- a seat's places, as its setting afresh left them, stay through the settings afresh of later seats
+  -- a node's places, as its initialize wrote them, stay when later nodes are initialized
   pub record Stays (a : ℕ) (entries : List Entry) : Type 0 where
     pub same-length : length entries ≡ length (initialized r a .entries)
     pub same-places : places (r .number a) entries ≡ places (r .number a) (initialized r a .entries)

@@ -1,4 +1,4 @@
--- The history of specs/Sharp.antt. Its calls are computed, but for the 33 ticks: each adds CLOCK-TICK, by arithmetic, and changes nothing else.
+-- The history of specs/Sharp.antt. Its calls are computed, except the 33 ticks: each adds CLOCK-TICK, by arithmetic, and changes nothing else.
 use mathlib.Core.Path.{_≡_, refl, sym, ap, subst, subst₂, _∙_}
 use mathlib.Core.Bool.{Bool, true, false, cond, not, _&&_, _||_}
 use mathlib.Core.List.{List, [], _∷_, _++_, List·Memᴰ·head}
@@ -52,7 +52,7 @@ use Rattle.network_laws.proofs.Opened.{opened}
 use Rattle.network_laws.proofs.Written.{answered}
 use Rattle.network_laws.proofs.Demand3.TwoNodes.{below-2, apart, pair-proper, starts, as-after, reads, delivered}
 
--- ---- the clock of seat 0 after n ticks
+-- ---- the clock of node 0 after n ticks
 
 abbrev clockOf : (units : ℕ) → Clock
 clockOf n = record { clock = units (pos n); delta = units (pos 0); hold = seconds 0; date = await firstDate }
@@ -81,7 +81,7 @@ in-range n h =
       rest = record { delta-low = omega arith; delta-high = omega arith; hold-high = omega arith; dated = date-good };
     }
 
--- ---- a tick of seat 0
+-- ---- a tick of node 0
 
 abbrev settings0 : Settings
 settings0 = settingsFor lateness 0
@@ -119,7 +119,7 @@ performed n h =
     rw (guard-done (clockOf (unitsAfter n)) (in-range n (omega arith)))
     (answered (state0 (clockOf (unitsAfter n))) (holds 0 table0 places-there) _ _ _ _ ∙ rw (ticked n h))
 
--- ---- the world while seat 0 waits
+-- ---- the world while node 0 waits
 
 abbrev node0 : ℕ → HostAfter
 node0 n = record { clock = clockOf (unitsAfter n); links = links0; walk = noWalk; copy = []; places = table0 }
@@ -170,7 +170,7 @@ waits zero n h = let e : n ≡ 33 = omega arith in ap waited e
 waits (suc m) n h =
     ap (λ w. history late w (replicate m (early (ticks noCount)))) (waits-on n (omega arith)) ∙ waits m (suc n) (omega arith)
 
--- ---- lists of calls, one behind the other
+-- ---- lists of calls, one after the other
 
 history-append : (r : Network) (w : World) (xs ys : List Step) → history r w (xs ++ ys) ≡ history r (history r w xs) ys
 unfolding history
@@ -227,7 +227,7 @@ allowed = (
   ),
 )
 
--- ---- what is left
+-- ---- the state at the end
 
 abbrev last : World
 last = step late (step late (waited 33) x₆) (x₇ (step late (waited 33) x₆))
@@ -256,7 +256,7 @@ start : Starts late w₀
 unfolding w₀
 start = starts lateness
 
--- The host of id 1 is at seat 1, and the error is more than the claim allows.
+-- The host of id 1 is at node 1, and the error is more than the claim allows.
 broken : (node : ℕ) → node < 2 → HostAt late 1 node
     → pos (delayParts * natAbs (negsuc 32267 -ℤ (late .fixed node -ℤ late .fixed 0))) ≤ℤ (pos 100 *ℤ pos errorParts) → ⊥
 unfolding opened

@@ -1,4 +1,4 @@
--- The room of two seats is proper, by cases; and its calls are lent what was left.
+-- The network of two nodes is proper, by cases, and its calls get the state after the last call.
 use mathlib.Core.Path.{_≡_, refl, sym, ap, _∙_}
 use mathlib.Core.Bool.{Bool, true, false, false≢true, cond, not, _&&_}
 use mathlib.Core.List.{List·Memᴰ}
@@ -28,7 +28,7 @@ use Rattle.network_laws.specs.Demand3.{NetworkCall, Message, World, even
 use Rattle.network_laws.proofs.Opened.{opened}
 use Rattle.network_laws.specs.TwoNodes.{Pair, settingsFor, wire, pair, begun, call}
 
--- two seats, case by case
+-- two nodes, case by case
 pub below-2 : (P : ℕ → Type 0) → P 0 → P 1 → (a : ℕ) → a < 2 → P a
 below-2 P x y zero l = x
 below-2 P x y (suc zero) l = y
@@ -102,7 +102,7 @@ module _ (p : Pair) where
   pub starts : Starts (pair p) (begun (pair p))
   starts = record { was-initialized = λ a l. refl; no-mail = refl }
 
-  -- a call with the links as they were left and the places as they were left
+  -- a call with the links and the places after the last call
   pub as-after : (w : World) (a : ℕ) (x : NetworkCall) → Continues (w .state a) (eventOf (pair p) w (call (pair p) w a x) .callState)
   unfolding ownEntries
   as-after w a x =

@@ -1,4 +1,4 @@
--- Opening a walk and each box of it keep a seat right: what steps 1 to 5 hold is what the arrival has by then, and the lines store what it stores.
+-- Opening a walk and each box of it keep a node right: the walk has what the arrival has after the same step, and the lines store what it stores.
 use mathlib.Core.Path.{_≡_, refl, sym, ap, subst, subst₂, _∙_}
 use mathlib.Core.Bool.{Bool, true, false, true≢false, false≢true, cond, not, and-false, _&&_, _||_}
 use mathlib.Core.List.{List}
@@ -414,7 +414,7 @@ module _ (r : Network) (proper : Proper r) (ways : r .longest ≤ longestWay) (a
             goes-on : Good (afterB p h w (on e))
             goes-on = goes (atLine 3 (w .id) w) c l nothing (good-links (atLine 3 (w .id) w)) (λ _. same-id t 3) none
 
-        -- the flight that the walk stands for
+        -- the flight of the walk
         abbrev flight : Flight
         flight = record { reading = w .reading; link = linkOf l (w .link); delay = ofWord (w .delay); offset = w .offset }
 
@@ -469,7 +469,7 @@ module _ (r : Network) (proper : Proper r) (ways : r .longest ≤ longestWay) (a
           line-c (ap atThird is) now ours (both (readingInRange w) _ (u .0) .1) few (u .1)
       box-right ours few LineD is time now held = next (ap atThird is) now (clockSet p octets h w) nothing none
 
-  -- ---- the whole step
+  -- ---- the complete step
 
   -- the entry at hand
   hand-right : Holds (r .number a) entries → RightEntry r a (w .id) (entryAt (atHand w) x)

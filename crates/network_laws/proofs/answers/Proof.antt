@@ -1,4 +1,4 @@
--- The tests of each call stand in its definition in their order: Demand1/Answers.antt.
+-- The tests of each call are in its definition in their order: Demand1/Answers.antt.
 use Rattle.network_laws.proofs.Demand1.Answers.{answers-hold}
 use Rattle.network_laws.proofs.answers.Statement.{statement}
 use Rattle.network_laws.proofs.answers.Tie as tie

@@ -1,4 +1,4 @@
--- A setting afresh fixes all that later calls look at: Demand1/Afresh.antt.
+-- Initialize determines all that later calls use: Demand1/Initialized.antt.
 use Rattle.network_laws.proofs.Demand1.Initialized.{isolation-from-initialized-holds}
 use Rattle.network_laws.proofs.isolation_from_initialize.Statement.{statement}
 use Rattle.network_laws.proofs.isolation_from_initialize.Tie as tie

@@ -1,4 +1,4 @@
--- The seat of a live entry is the one that marks its id: Demand3/MarkedOnce.antt.
+-- The node of a live entry is the one that marks its id: Demand3/MarkedOnce.antt.
 use Rattle.network_laws.proofs.Demand3.MarkedOnce.{marked-once-holds}
 use Rattle.network_laws.proofs.marked_once.Statement.{statement}
 use Rattle.network_laws.proofs.marked_once.Tie as tie

@@ -1,4 +1,4 @@
--- The shared run holds at each seat's places what its last call left: Demand3/Shared.antt.
+-- The shared host table has at each node's places what its last call stored: Demand3/Shared.antt.
 use Rattle.network_laws.proofs.Demand3.Shared.{shared-demand-3}
 use Rattle.network_laws.proofs.shared_demand_3.Statement.{statement}
 use Rattle.network_laws.proofs.shared_demand_3.Tie as tie

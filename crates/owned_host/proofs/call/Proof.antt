@@ -1,4 +1,4 @@
--- Clock, links, walk and run are held in locals, lent to the call, and handed back.
+-- Clock, links, walk and entries are in locals, which the call borrows and changes.
 use mathlib.Core.Path.{_≡_, refl}
 use Rattle.references.proofs.Words.{by-value, chosen-by-value, struct-part}
 use Rattle.exports.proofs.made.WholeAsks.{proof}

@@ -1,4 +1,4 @@
--- Clock, links, walk and run are held in locals, lent to the call, and handed back; the copy is lent on.
+-- Clock, links, walk and entries are in locals, which the call borrows and changes; the copy is passed on.
 use mathlib.Core.Path.{_≡_, refl}
 use Rattle.references.proofs.Words.{struct-part}
 use Rattle.exports.proofs.made.WholeOpens.{proof}

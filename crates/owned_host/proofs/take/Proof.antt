@@ -1,4 +1,4 @@
--- Where the inspection refuses, it is the outcome; else the action's is, on what the inspection left.
+-- If the inspection refuses, it is the outcome; else the action's is, from the state after the inspection.
 use mathlib.Core.Path.{_≡_, refl, ap, sym, _∙_}
 use mathlib.Core.Bool.{Bool, true, false, cond, not}
 use mathlib.Core.List.{List}
@@ -19,7 +19,7 @@ both-leave : (b : Bool) (o p : Outcome) (octets : List ℕ) → o .copy ≡ octe
 both-leave true o p octets first second = first
 both-leave false o p octets first second = second
 
--- an inspection leaves the copy of a walk's packet
+-- an inspection keeps the copy of a walk's packet
 copy-stays : (i : ℕ) (octets : List ℕ) (x : CallState) → perform (inspect i octets) x .copy ≡ x .copy
 unfolding perform
 copy-stays i octets x =

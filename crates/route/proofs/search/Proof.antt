@@ -23,13 +23,13 @@ row-count-requires c κs = tt
 
 loop-holds : tie.Need-loop-holds Inv-loop μ-loop
 loop-holds c =
-    let t = c .before .before .args .t in
+    let t = c .before .before .args .table in
     let l : length (t .rows) ≡ 32 = search (needs, mapped-long) in
     (omega arith, omega (arith, c .before .row-count .ensures, length-take (t .count) (t .rows)), l, refl)
 
 returns : tie.Need-returns Inv-loop μ-loop
 returns c =
-    let t = c .before .before .before .before .args .t in
+    let t = c .before .before .before .before .args .table in
     let same = counted (t .rows) (t .count) _ (c .before .before .before .row-count .ensures) in
     sym (ap (searched _) (sym same) ∙ c .before .loop .inv .3 ∙ missed (t .rows) _ _ (omega arith) _ (c .if1 .taken))
 
@@ -53,7 +53,7 @@ loop-less c = omega arith
 
 loop-again : tie.Need-loop-again Inv-loop μ-loop
 loop-again c =
-    let t = c .before .before .before .before .before .before .before .args .t in
+    let t = c .before .before .before .before .before .before .before .args .table in
     let count = c .before .before .before .before .before .before .row-count .result in
     let l = c .before .before .before .before .loop in
     let v = l .inv in
@@ -62,7 +62,7 @@ loop-again c =
 
 returns-2 : tie.Need-returns-2 Inv-loop μ-loop
 returns-2 c =
-    let t = c .before .before .before .before .before .before .before .before .args .t in
+    let t = c .before .before .before .before .before .before .before .before .args .table in
     let count = c .before .before .before .before .before .before .before .row-count in
     let l = c .before .before .before .before .before .loop in
     let same = counted (t .rows) (t .count) _ (count .ensures) in

@@ -1,7 +1,7 @@
 -- The header with a checksum of zero, then the HELLO, then the checksum of the header.
 use mathlib.Core.Path.{refl}
 use native.Mathlib.Omega.{arith}
-use Rattle.checksum.proofs.Octets.{of-places}
+use Rattle.octets.proofs.Each.{of-places}
 use Rattle.wire.proofs.Stores.{packet-sealed}
 use borrow.Author.Needs.{needs}
 use Rattle.wire.proofs.seal.Statement.{statement}

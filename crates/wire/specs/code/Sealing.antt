@@ -7,7 +7,7 @@ use Rattle.checksum.specs.Checksum.{checksumOf}
 use Rattle.wire.specs.declared.Address.{Address}
 use Rattle.wire.specs.declared.Packet.{Packet}
 use Rattle.wire.specs.declared.Report.{Report}
-use Rattle.wire.specs.Octets.{two}
+use Rattle.octets.specs.Octets.{two}
 use Rattle.wire.specs.Ip.{headerLength, header}
 use Rattle.wire.specs.Hello.{fixedLength, reportLength, reportPlace, helloLength, reportOctets, helloRest}
 use Rattle.wire.specs.Packet.{helloOf, packetLength}

@@ -1,4 +1,4 @@
--- The host's state is held in locals, lent to the call, and handed back.
+-- The host's state is in locals, which the call borrows and changes.
 use mathlib.Core.Path.{_≡_, refl}
 use Rattle.references.proofs.Words.{by-value, chosen-by-value, struct-part}
 use Rattle.exports.proofs.made.WholeAsksAt.{proof}

@@ -1,4 +1,4 @@
--- What an event asks is told, and carried out.
+-- The event is classified by value, and carried out.
 use mathlib.Core.Path.{_≡_}
 use Prim.Native.Nat.{_<_}
 use lib.ListN.{length, set}

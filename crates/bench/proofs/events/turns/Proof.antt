@@ -1,4 +1,4 @@
--- A turn is the next event; after so many turns there is what so many steps leave.
+-- A turn is the next event, so n turns are n steps.
 use Prim.Native.Nat.{_-_, _<_}
 use contract.Monad.{fact, factI}
 use Rattle.exports.proofs.made.RepeatsEvents.{proof}

@@ -1,4 +1,4 @@
--- By the event: what it asks is told by the function of its kind.
+-- By cases on the event: the function of its kind classifies it.
 use borrow.Author.Needs.{needs}
 use mathlib.Core.Path.{sym, _∙_, subst}
 use mir.Syntax.{w32}

@@ -1,4 +1,4 @@
--- After each turn one host more is set afresh.
+-- After each turn one more host is initialized.
 use mathlib.Core.Path.{_≡_, refl, sym, ap, _∙_}
 use mathlib.Core.List.{List, []}
 use Prim.Native.Nat.{ℕ, zero, suc, _+_, _-_, _*_, _≤_, _<_}
@@ -28,7 +28,7 @@ use Rattle.bench.proofs.sets.sets.Key.{name as #sets}
 use Rattle.bench.proofs.sets.sets.Statement as stated
 use Rattle.bench.proofs.sets.sets.Code as code
 
--- a host set afresh, with no slots and no answers
+-- a host initialized, with no slots and no answers
 abbrev alone : (file : List ℕ) → NetTable → List HostState → (copies : List ℕ) → List Entry → (host : ℕ) → Bench
 alone file t hosts copies entries k = asked file t (headerOf file) k Initialize (bench hosts copies entries [] [] 0) .bench
 

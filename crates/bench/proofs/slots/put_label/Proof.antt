@@ -6,7 +6,7 @@ use Prim.Native.Nat.{_*_}
 use mathlib.Core.List.{[], _∷_, _++_}
 use lib.Seq.{sets-eq}
 use native.Mathlib.Numerals.{add-one, add-two, add-three}
-use Rattle.wire.specs.Octets.{two}
+use Rattle.octets.specs.Octets.{two}
 use Rattle.bench.proofs.slots.put_label.Statement.{statement}
 use Rattle.bench.proofs.slots.put_label.Tie as tie
 

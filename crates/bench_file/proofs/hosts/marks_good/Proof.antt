@@ -12,7 +12,7 @@ use Rattle.lists.specs.Lists.{part}
 use Rattle.lists.proofs.Rest.{rest-none}
 use Rattle.table.specs.Forms.{every}
 use Rattle.host.proofs.Slots.{slot-good, slot-bad}
-use Rattle.bench_file.specs.Octets.{octetAt}
+use Rattle.octets.specs.Octets.{octetAt}
 use Rattle.bench_file.specs.Settings.{marksGood}
 use Rattle.bench_file.proofs.hosts.marks_good.Statement.{statement}
 use Rattle.bench_file.proofs.hosts.marks_good.Tie as tie

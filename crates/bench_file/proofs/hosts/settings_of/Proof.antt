@@ -1,4 +1,4 @@
--- One way through `settings_of`: rewriting by the contracts of `address_at`, `two_at`, `number_at`, `tick_of` and others gives the definition.
+-- One way through `settings_of`: rewriting by the contracts of `address_at`, `two_at`, `eight_at`, `tick_of` and others gives the definition.
 use borrow.Author.Needs.{needs}
 use Rattle.bench_file.specs.Settings.{settingsOf}
 use Rattle.bench_file.proofs.hosts.settings_of.Statement.{statement}
@@ -22,8 +22,8 @@ shared-slice-read-t9 c = search needs
 two-at-requires-2 : tie.Need-two-at-requires-2
 two-at-requires-2 c κs = search needs
 
-number-at-requires : tie.Need-number-at-requires
-number-at-requires c κs = search needs
+eight-at-requires : tie.Need-eight-at-requires
+eight-at-requires c κs = search needs
 
 tick-of-requires : tie.Need-tick-of-requires
 tick-of-requires c κs = search needs
@@ -48,7 +48,7 @@ marks-of-requires c κs = search needs
 
 returns : tie.Need-returns
 unfolding settingsOf
-returns c = rw (c .before .before .before .before .before .before .before .before .before .before .before .before .address-at .ensures, c .before .before .before .before .before .before .before .before .before .before .two-at .ensures, c .before .before .before .before .before .before .before .before .two-at2 .ensures, c .before .before .before .before .before .before .tick-of .ensures, c .before .before .before .before .before .before .before .number-at .ensures .0, c .before .before .before .before .of-unsigned .ensures, c .before .before .before .before .before .four-at .ensures, c .before .before .before .two-at3 .ensures, c .before .before .octet-at .ensures, c .before .links-of .ensures, c .marks-of .ensures)
+returns c = rw (c .before .before .before .before .before .before .before .before .before .before .before .before .address-at .ensures, c .before .before .before .before .before .before .before .before .before .before .two-at .ensures, c .before .before .before .before .before .before .before .before .two-at2 .ensures, c .before .before .before .before .before .before .tick-of .ensures, c .before .before .before .before .before .before .before .eight-at .ensures, c .before .before .before .before .of-unsigned .ensures, c .before .before .before .before .before .four-at .ensures, c .before .before .before .two-at3 .ensures, c .before .before .octet-at .ensures, c .before .links-of .ensures, c .marks-of .ensures)
 
 pub settings-of-spec : {M : Type 1} → statement M
 settings-of-spec =
@@ -60,7 +60,7 @@ settings-of-spec =
     cast-t6
     shared-slice-read-t9
     two-at-requires-2
-    number-at-requires
+    eight-at-requires
     tick-of-requires
     four-at-requires
     of-unsigned-requires

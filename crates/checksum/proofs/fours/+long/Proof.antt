@@ -1,4 +1,4 @@
--- The measure is the length. The sum of a list is that of its two parts, where the first has an even length, and carries may be added in at any time.
+-- The measure is the length. If the first part has an even length, the sum of a list is that of its two parts. Carries may be added in at any time.
 use native.Mathlib.Omega.{arith}
 use borrow.Author.Needs.{needs}
 use lib.ListN.{length, length-take, length-drop}

@@ -1,4 +1,4 @@
--- The invariant: the sum so far stands for the words in front. Each four octets are two words in one number, the second in its high half, where it counts as in the low one.
+-- The invariant: the sum so far is congruent to that of the words before. Four octets are two words in one number; the one in the high half counts as in the low half.
 use borrow.Author.Needs.{needs}
 use mathlib.Core.Logic.{⊎-elim}
 use mathlib.Core.Path.{_≡_, ap}
@@ -66,7 +66,7 @@ loop-again c =
     let t : l .sum + a .result + b .result ≡ l .sum + (a .result + b .result) = omega arith in
     (omega arith, omega arith, rw (i, t) at m)
 
--- after the four octets that there may be, less than four are left
+-- after the last four octets, fewer than four remain
 abbrev Joined : Type 0
 Joined = lts.Joined1 (four-reads.Asked, four-reads.Learnt, last-reads.Asked, last-reads.Learnt) reads.Pre reads.Post Inv-loop μ-loop
 

@@ -1,4 +1,4 @@
--- 256 times a word is its low octet in the high half, and its high octet above that, where it counts as in the low half.
+-- 256 times a word is its low octet in the high half, and its high octet above that. There it counts as in the low half.
 use borrow.Author.Needs.{needs}
 use native.Mathlib.Omega.{arith}
 use Rattle.checksum.proofs.LowFirst.{swapped-word}

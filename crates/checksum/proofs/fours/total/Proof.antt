@@ -1,4 +1,4 @@
--- The invariant: the high halves' sum is whole, and with the low halves' sum it gives the sum of all numbers, cut to 32 bits. A block is short enough that the low halves' sum fits 32 bits, so that it is found again.
+-- The invariant: the high halves' sum is exact, and with the low halves' sum it gives the sum of all numbers modulo 2^32. A block is short enough that the low halves' sum fits 32 bits, so it can be computed from the two.
 use borrow.Author.Needs.{needs}
 use mathlib.Core.Path.{_≡_}
 use Prim.Native.Nat.{_+_, _-_, _*_, _/_, _≤_}

@@ -1,4 +1,4 @@
--- A sum that is cut to 16 bits is less than its second word exactly where there was a carry, and a carry is one at most.
+-- A sum that is cut to 16 bits is less than its second word exactly if there was a carry, and a carry is one at most.
 use borrow.Author.Needs.{needs}
 use native.Mathlib.Omega.{arith}
 use Rattle.checksum.proofs.Words.{with-carry, no-carry}

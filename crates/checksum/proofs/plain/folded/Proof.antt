@@ -1,4 +1,4 @@
--- The invariant: the sum so far stands for the words in front.
+-- The invariant: the sum so far is congruent to that of the words before.
 use borrow.Author.Needs.{needs}
 use mathlib.Core.Path.{_≡_, ap, sym, _∙_}
 use Prim.Native.Nat.{_-_, _≤_}
@@ -7,7 +7,7 @@ use native.Mathlib.Omega.{arith}
 use lib.ListN.{length}
 use Rattle.checksum.specs.Checksum.{allOnes}
 use Rattle.checksum.specs.code.EndAround.{endAround, wordSum}
-use Rattle.checksum.proofs.Octets.{of-places}
+use Rattle.octets.proofs.Each.{of-places}
 use Rattle.checksum.proofs.Folding.{folded-sum}
 use Rattle.checksum.proofs.Words.{Added, turned, even-end, odd-end}
 use Rattle.checksum.proofs.plain.folded.Statement.{statement}

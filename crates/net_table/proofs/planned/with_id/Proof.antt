@@ -1,4 +1,4 @@
--- 12, 22 and 1 are the definition's tests; else the rows that stand, one with another id, are the definition's table.
+-- 12, 22 and 1 are the definition's tests; else the table's rows, one with another id, are the definition's table.
 use mathlib.Core.Path.{_≡_, _∙_, sym, ap}
 use mathlib.Core.Bool.{_||_}
 use mathlib.Core.List.{List, [], _∷_}
@@ -38,7 +38,7 @@ leaves-requires-2 c κs = search needs
 returns-2 : tie.Need-returns-2
 unfolding change
 returns-2 c =
-    let t = c .before .before .before .before .before .before .args .t in
+    let t = c .before .before .before .before .before .before .args .table in
     let bad = sym (c .before .before .before .before .before .is-bad .ensures) ∙ c .before .before .before .before .if1 .left in
     let l : length (t .net .rows) ≡ 32 = search (needs, mapped-long) in
     let n = counted t (good t bad) l in
@@ -52,7 +52,7 @@ leaves-requires-3 c κs = search needs
 returns-3 : tie.Need-returns-3
 unfolding change
 returns-3 c =
-    let t = c .before .before .before .before .before .before .before .args .t in
+    let t = c .before .before .before .before .before .before .before .args .table in
     let bad = sym (c .before .before .before .before .before .before .is-bad .ensures) ∙ c .before .before .before .before .before .if1 .left in
     let l : length (t .net .rows) ≡ 32 = search (needs, mapped-long) in
     let n = counted t (good t bad) l in
@@ -62,13 +62,13 @@ returns-3 c =
 
 cast-with-id : tie.Need-cast-with-id
 cast-with-id c =
-    let t = c .before .before .before .before .before .before .before .args .t in
+    let t = c .before .before .before .before .before .before .before .args .table in
     let bad = sym (c .before .before .before .before .before .before .is-bad .ensures) ∙ c .before .before .before .before .before .if1 .left in
     omega (arith, c .before .if3 .left, ltb-false 255 (t .nhosts) (good t bad .most))
 
 with-id-requires : tie.Need-with-id-requires
 with-id-requires c κs =
-    let t = c .before .before .before .before .before .before .before .args .t in
+    let t = c .before .before .before .before .before .before .before .args .table in
     let bad = sym (c .before .before .before .before .before .before .is-bad .ensures) ∙ c .before .before .before .before .before .if1 .left in
     let few = ltb-false _ _ (good t bad .few) in
     let k = row-is _ _ (sym (c .before .before .before .no-row .ensures) ∙ c .before .before .if2 .left) in
@@ -83,7 +83,7 @@ leaves-requires-4 c κs = search needs
 returns-4 : tie.Need-returns-4
 unfolding change
 returns-4 c =
-    let t = c .before .before .before .before .before .before .before .before .before .before .args .t in
+    let t = c .before .before .before .before .before .before .before .before .before .before .args .table in
     let bad = sym (c .before .before .before .before .before .before .before .before .before .is-bad .ensures) ∙ c .before .before .before .before .before .before .before .before .if1 .left in
     let l : length (t .net .rows) ≡ 32 = search (needs, mapped-long) in
     let n = counted t (good t bad) l in

@@ -1,4 +1,4 @@
--- 12, 21 and 1 are the definition's tests; else the rows that stand and one more at the end are the definition's table.
+-- 12, 21 and 1 are the definition's tests; else the table's rows and one more at the end are the definition's table.
 use mathlib.Core.Path.{_≡_, _∙_, sym, ap}
 use mathlib.Core.Bool.{_||_}
 use mathlib.Core.List.{List, [], _∷_}
@@ -35,7 +35,7 @@ addition-requires-2 c κs = search needs
 returns-2 : tie.Need-returns-2
 unfolding add
 returns-2 c =
-    let t = c .before .before .before .before .before .args .t in
+    let t = c .before .before .before .before .before .args .table in
     let bad = sym (c .before .before .before .before .is-bad .ensures) ∙ c .before .before .before .if1 .left in
     let l : length (t .net .rows) ≡ 32 = search (needs, mapped-long) in
     let n = counted t (good t bad) l in
@@ -47,7 +47,7 @@ addition-requires-3 c κs = search needs
 returns-3 : tie.Need-returns-3
 unfolding add
 returns-3 c =
-    let t = c .before .before .before .before .before .before .args .t in
+    let t = c .before .before .before .before .before .before .args .table in
     let bad = sym (c .before .before .before .before .before .is-bad .ensures) ∙ c .before .before .before .before .if1 .left in
     let l : length (t .net .rows) ≡ 32 = search (needs, mapped-long) in
     let n = counted t (good t bad) l in
@@ -55,7 +55,7 @@ returns-3 c =
 
 cast-t15 : tie.Need-cast-t15
 cast-t15 c =
-    let t = c .before .before .before .before .before .args .t in
+    let t = c .before .before .before .before .before .args .table in
     let bad = sym (c .before .before .before .before .is-bad .ensures) ∙ c .before .before .before .if1 .left in
     omega (arith, c .if3 .left, ltb-false 255 (t .nhosts) (good t bad .most))
 
@@ -77,7 +77,7 @@ addition-requires-4 c κs = search needs
 returns-4 : tie.Need-returns-4
 unfolding add
 returns-4 c =
-    let t = c .before .before .before .before .before .before .before .before .before .args .t in
+    let t = c .before .before .before .before .before .before .before .before .before .args .table in
     let bad = sym (c .before .before .before .before .before .before .before .before .is-bad .ensures) ∙ c .before .before .before .before .before .before .before .if1 .left in
     let l : length (t .net .rows) ≡ 32 = search (needs, mapped-long, c .before .before .before .before .before .before .before .before .before .good) in
     let n = counted t (good t bad) l in

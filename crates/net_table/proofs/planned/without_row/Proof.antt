@@ -1,4 +1,4 @@
--- 12 and 22 are the definition's tests; else the rows that stand but for one are the definition's table.
+-- 12 and 22 are the definition's tests; else the table's rows except one are the definition's table.
 use mathlib.Core.Path.{_≡_, _∙_, sym, ap}
 use mathlib.Core.Bool.{_||_}
 use mathlib.Core.List.{List, [], _∷_}
@@ -38,7 +38,7 @@ leaves-requires-2 c κs = search needs
 returns-2 : tie.Need-returns-2
 unfolding remove
 returns-2 c =
-    let t = c .before .before .before .before .before .before .args .t in
+    let t = c .before .before .before .before .before .before .args .table in
     let bad = sym (c .before .before .before .before .before .is-bad .ensures) ∙ c .before .before .before .before .if1 .left in
     let l : length (t .net .rows) ≡ 32 = search (needs, mapped-long) in
     let n = counted t (good t bad) l in
@@ -48,7 +48,7 @@ returns-2 c =
 
 without-row-requires : tie.Need-without-row-requires
 without-row-requires c κs =
-    let t = c .before .before .before .before .before .before .args .t in
+    let t = c .before .before .before .before .before .before .args .table in
     let bad = sym (c .before .before .before .before .before .is-bad .ensures) ∙ c .before .before .before .before .if1 .left in
     let few = ltb-false _ _ (good t bad .few) in
     let k = row-is _ _ (sym (c .before .before .no-row .ensures) ∙ c .before .if2 .left) in
@@ -57,7 +57,7 @@ without-row-requires c κs =
 sub-table-of : tie.Need-sub-table-of
 sub-table-of c =
     let a = c .before .before .before .before .before .before .before .args in
-    let k = row-is (a .k) (a .t .net .count) (sym (c .before .before .before .no-row .ensures) ∙ c .before .before .if2 .left) in
+    let k = row-is (a .k) (a .table .net .count) (sym (c .before .before .before .no-row .ensures) ∙ c .before .before .if2 .left) in
     omega (arith, k .0, k .1)
 
 table-of-requires : tie.Need-table-of-requires
@@ -69,7 +69,7 @@ leaves-requires-3 c κs = search needs
 returns-3 : tie.Need-returns-3
 unfolding remove
 returns-3 c =
-    let t = c .before .before .before .before .before .before .before .before .before .args .t in
+    let t = c .before .before .before .before .before .before .before .before .before .args .table in
     let bad = sym (c .before .before .before .before .before .before .before .before .is-bad .ensures) ∙ c .before .before .before .before .before .before .before .if1 .left in
     let l : length (t .net .rows) ≡ 32 = search (needs, mapped-long) in
     let n = counted t (good t bad) l in

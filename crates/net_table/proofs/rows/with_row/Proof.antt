@@ -1,4 +1,4 @@
--- A row set behind the first n is one more at their end.
+-- A row put after the first n is one more at their end.
 use mathlib.Core.Path.{_≡_, _∙_, ap}
 use mathlib.Core.List.{List}
 use Prim.Native.Nat.{_-_}

@@ -1,4 +1,4 @@
--- The rows before k, and those behind it put from its place on, are the rows without it.
+-- The rows before k, and those after it moved one place up, are the rows without it.
 use mathlib.Core.Path.{_≡_, _∙_, ap}
 use mathlib.Core.List.{List}
 use Prim.Native.Nat.{_-_}

@@ -1,4 +1,4 @@
--- The code's table of tables and the definition's are the same list of lists: they are compared whole, entry by entry, by computing.
+-- The code's table of tables and the definition's are the same list of lists: computing compares them entry by entry.
 use native.Mathlib.Omega.{arith}
 use borrow.Author.Needs.{needs}
 use Rattle.ntp.proofs.Headers.{mode-range}

@@ -12,13 +12,13 @@ use Rattle.ntp.proofs.Headers.{unwritten-mode, unwritten-leap, written}
 use Rattle.ntp.proofs.wire.write.Statement.{statement}
 use Rattle.ntp.proofs.wire.write.Tie as tie
 
-version-is : (c : tie.Else2) → versionGood (c .before .before .before .before .args .h .version) ≡ true
+version-is : (c : tie.Else2) → versionGood (c .before .before .before .before .args .header .version) ≡ true
 version-is c = sym (c .before .before .before .version-good .ensures) ∙ not-false _ (c .before .before .if1 .left)
 
-mode-is : (c : tie.Else2) → modeGood (c .before .before .before .before .args .h .mode) ≡ true
+mode-is : (c : tie.Else2) → modeGood (c .before .before .before .before .args .header .mode) ≡ true
 mode-is c = sym (c .before .mode-good .ensures) ∙ not-false _ (c .if2 .left)
 
-leap-is : (c : tie.Else3) → leapGood (c .before .before .before .before .before .before .args .h .leap) ≡ true
+leap-is : (c : tie.Else3) → leapGood (c .before .before .before .before .before .before .args .header .leap) ≡ true
 leap-is c = sym (c .before .leap-good .ensures) ∙ not-false _ (c .if3 .left)
 
 abbrev done : List ℕ → Written

@@ -4,7 +4,7 @@ use native.Mathlib.Omega.{arith}
 use lib.ListN.{length}
 use lib.Seq.{length-take-le}
 use Rattle.checksum.specs.Checksum.{checksumOf}
-use Rattle.checksum.proofs.Octets.{of-places}
+use Rattle.octets.proofs.Each.{of-places}
 use Rattle.wire.specs.code.Sealing.{sealedRest}
 use Rattle.wire.proofs.Stores.{fixed-part, hello-checksum, checksum-put, hello-put}
 use borrow.Author.Needs.{needs}
