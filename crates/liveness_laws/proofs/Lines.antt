@@ -2,7 +2,7 @@
 use mathlib.Core.Path.{_≡_, refl, sym, _∙_}
 use mathlib.Core.Bool.{Bool, true, false, true≢false, false≢true, not, _&&_}
 use mathlib.Core.Logic.{_⊎_, inl, inr}
-use Prim.Native.Nat.{ℕ, _+_}
+use Prim.Native.Nat.{ℕ}
 use native.Mathlib.Omega.{arith}
 use borrow.Author.Tests.{eqb-true}
 use lib.Dec.{eqb}
@@ -12,7 +12,7 @@ use Rattle.quantity.proofs.Ints.{sum, lt-yes, lt-no}
 use Rattle.quantity.specs.Quantity.{addMillis, lessMillis}
 use Rattle.table.specs.declared.Entry.{Entry}
 use Rattle.table.specs.declared.Update.{Update}
-use Rattle.table.specs.Forms.{Stage, on, end, _then_}
+use Rattle.table.specs.Forms.{Stage, _then_}
 use Rattle.table.specs.Entry.{maxDelay, minDelay, up, takenDown}
 use Rattle.table.specs.Update.{lineA, lineB, lineC, lines, left}
 use Rattle.table.proofs.Cases.{stored}

@@ -1,8 +1,7 @@
 -- Without an opening no walk is open, because every other call keeps the walk, and a step without a walk changes nothing.
 use mathlib.Core.Path.{_≡_, refl, sym, ap, subst, _∙_}
-use mathlib.Core.Bool.{true, false, true≢false, false≢true, not}
+use mathlib.Core.Bool.{false, true≢false, false≢true, not}
 use mathlib.Core.List.{List, [], _∷_}
-use Prim.Native.Nat.{ℕ, _<_}
 use lib.Dec.{eqb}
 use Rattle.lists.proofs.Tests.{either, is-so}
 use Rattle.answer.specs.declared.Answer.the-variants.{Done}
@@ -16,9 +15,9 @@ use Rattle.calls.specs.declared.Request.the-variants.{Initialize}
 use Rattle.calls.specs.Effects.{initialize}
 use Rattle.calls.specs.Perform.{Call, ask, Outcome, carriedOut, perform}
 use Rattle.network_laws.specs.Frame.{Elsewhere, Frame}
-use Rattle.network_laws.specs.History.{HostAfter, after, afterOutcome}
-use Rattle.network_laws.specs.Network.{Network, stateAt, Proper}
-use Rattle.network_laws.specs.Demand3.{NetworkCall, ticks, seconds, reports, sends, arrives, acts, inspects, opens, steps, adjusts, sets, clocks, looks, callOf, Step, World, afterAt, eventOf, result, step, history, Allowed, Allows}
+use Rattle.network_laws.specs.History.{HostAfter, after}
+use Rattle.network_laws.specs.Network.{Network, stateAt}
+use Rattle.network_laws.specs.Demand3.{NetworkCall, ticks, seconds, reports, sends, arrives, acts, inspects, opens, steps, adjusts, sets, clocks, looks, callOf, Step, World, eventOf, step, history, Allowed, Allows}
 use Rattle.network_laws.proofs.Performs.{performs}
 use Rattle.network_laws.proofs.Demand1.Frame.{frame-holds}
 use Rattle.network_laws.proofs.Demand3.Histories.{unlike}

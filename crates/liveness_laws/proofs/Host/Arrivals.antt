@@ -1,21 +1,20 @@
 -- An arrival keeps the invariant: a link without a neighbour believes nothing, and any other stores the sender's report plus exactly 100 ms.
 use mathlib.Core.Path.{_≡_, refl, sym, ap, subst, _∙_}
-use mathlib.Core.Bool.{Bool, true, false, true≢false, false≢true, cond, not, _||_, _&&_}
+use mathlib.Core.Bool.{Bool, true, false, true≢false, false≢true, cond, not, _||_}
 use mathlib.Core.List.{List}
 use mathlib.Core.Logic.{_⊎_, inl, inr}
-use Prim.Native.Nat.{ℕ, zero, suc, _+_, _-_, _≤_, _<_}
+use Prim.Native.Nat.{ℕ, zero, suc, _+_, _-_, _≤_}
 use native.Mathlib.Omega.{arith}
-use borrow.Author.Tests.{eqb-true, eqb-false}
+use borrow.Author.Tests.{eqb-true}
 use lib.Dec.{T, eqb}
 use lib.IntN.{pos, _+ℤ_}
-use lib.ListN.{length, getD, length-set}
-use lib.Seq.{getD-set-same, getD-set-other}
+use lib.ListN.{length}
 use Rattle.lists.proofs.Tests.{either, is-so, is-not, neither}
 use Rattle.quantity.specs.declared.Millis.{Millis}
 use Rattle.quantity.specs.declared.Count.{Count}
-use Rattle.quantity.specs.Quantity.{millis, lessMillis, addMillis}
+use Rattle.quantity.specs.Quantity.{millis, lessMillis}
 use Rattle.quantity.specs.Words.{zeroWord}
-use Rattle.quantity.proofs.Ints.{up, sum, lt-yes, lt-no, not-lt}
+use Rattle.quantity.proofs.Ints.{up, not-lt}
 use Rattle.answer.specs.declared.Answer.{Answer}
 use Rattle.answer.specs.declared.Answer.the-variants.{DelayNotValid, NoHost}
 use Rattle.clock.specs.declared.Clock.{Clock}
@@ -26,12 +25,11 @@ use Rattle.wire.specs.declared.Parsed.{Parsed}
 use Rattle.wire.specs.Octets.{sameAddress}
 use Rattle.wire.specs.Hello.{reportAt, helloForm, helloChecksum}
 use Rattle.wire.specs.Packet.{helloOf, fields, parse}
-use Rattle.wire.proofs.ReadBack.{source-back, tsp-back}
 use Rattle.route.specs.declared.Found.{Found}
 use Rattle.route.specs.declared.Found.the-variants.{Id, Nothing}
 use Rattle.table.specs.declared.Entry.{Entry}
 use Rattle.table.specs.declared.Update.{Update}
-use Rattle.table.specs.Entry.{maxDelay, minDelay}
+use Rattle.table.specs.Entry.{maxDelay}
 use Rattle.table.specs.Entry as entry
 use Rattle.table.specs.Forms.{Stage}
 use Rattle.table.specs.Update.{lines, left}
@@ -44,7 +42,7 @@ use Rattle.host.specs.declared.guard.Scope.the-variants.{OnLink}
 use Rattle.host.specs.Guard.{done}
 use Rattle.host.specs.CallState.{Host, CallState, host, entriesOf}
 use Rattle.host.specs.Settings.{foundFor, linkCount}
-use Rattle.host.specs.State.{ownEntries, broadcast, linkOf, withLink, freshLink, unset, noLink}
+use Rattle.host.specs.State.{ownEntries, broadcast, linkOf, withLink, noLink}
 use Rattle.host.proofs.Guarded.{passed, holds, counted}
 use Rattle.host.proofs.Places.{Holds, entries-length}
 use Rattle.arrival.specs.declared.Flight.{Flight}
@@ -52,7 +50,6 @@ use Rattle.arrival.specs.declared.Arrived.{Arrived}
 use Rattle.arrival.specs.Steps.{step2, step3, step4, steps2to4, delayOf, atLeastMin, reportUpdate}
 use Rattle.arrival.specs.Arrival.{ends, noTable, withTable, step5, concluded, action, inspected}
 use Rattle.calls.specs.Perform.{act, Outcome, updatedBy, perform}
-use Rattle.exchange.proofs.Steps.{delay-exact}
 use Rattle.network_laws.specs.Network.{Network, at, stateAt, Proper}
 use Rattle.network_laws.specs.Demand3.{Message, readingAt, timed}
 use Rattle.network_laws.proofs.Arrivals.{same-address}
@@ -60,7 +57,7 @@ use Rattle.network_laws.proofs.Lists.{All, all-weaken}
 use Rattle.network_laws.proofs.Performs.{performs}
 use Rattle.network_laws.proofs.Swept.{updates-length, updates-keep}
 use Rattle.network_laws.proofs.Written.{written-back, written-kept}
-use Rattle.network_laws.proofs.Demand3.Invariant.{RightMessage, Carries}
+use Rattle.network_laws.proofs.Demand3.Invariant.{RightMessage}
 use Rattle.network_laws.proofs.Demand3.Arrival.{Came, action-timed}
 use Rattle.wire.specs.declared.Parsed.the-variants as parsed
 use Rattle.wire.specs.Ip.{ipForm, ipChecksum, protocol}
@@ -70,7 +67,7 @@ use Rattle.host.specs.declared.Settings.{Settings}
 use Rattle.host.specs.Walk.{isOpen}
 use Rattle.liveness_laws.specs.Numbers.{rise, quickWay}
 use Rattle.liveness_laws.proofs.Lines.{far-off, lines-from}
-use Rattle.liveness_laws.proofs.Links.{LinkOk, LinksOk, learns, relinked, same-room}
+use Rattle.liveness_laws.proofs.Links.{LinksOk, learns, relinked, same-room}
 use Rattle.liveness_laws.proofs.Measured.{address-same, returned, Worded}
 use Rattle.liveness_laws.proofs.Measured as measured
 use Rattle.liveness_laws.proofs.Rounds.Heard.{Mine, mine-deaf}

@@ -1,13 +1,12 @@
 -- Every call that is neither send nor arrival nor box keeps the invariant, because it changes no DELAY except by a self-report.
 use mathlib.Core.Path.{_≡_, refl, sym, ap, subst, _∙_}
-use mathlib.Core.Bool.{Bool, true, false, true≢false, false≢true, cond, not, _&&_}
+use mathlib.Core.Bool.{Bool, true, false, true≢false, cond, not, _&&_}
 use mathlib.Core.List.{List}
 use mathlib.Core.Logic.{_⊎_, inl, inr}
 use Prim.Native.Nat.{ℕ, suc, _+_, _≤_, _<_}
 use borrow.Author.Tests.{eqb-true}
 use lib.Dec.{eqb}
 use native.Mathlib.Omega.{arith}
-use lib.ListN.{length}
 use Rattle.lists.proofs.Tests.{either, is-so}
 use lib.IntN.{ℤ}
 use Rattle.quantity.specs.declared.Count.{Count}
@@ -54,8 +53,7 @@ use Rattle.network_laws.proofs.Openings.{opening-ways}
 use Rattle.network_laws.proofs.Swept.{changes-length, changes-each}
 use Rattle.network_laws.proofs.Written.{answered, written-back, written-kept}
 use Rattle.liveness_laws.specs.Numbers.{roundSeconds}
-use Rattle.liveness_laws.proofs.Links.{LinkOk, learns}
-use Rattle.liveness_laws.proofs.Rounds.Heard.{Mine, mine-aged, mine-reported, mine-away}
+use Rattle.liveness_laws.proofs.Rounds.Heard.{mine-aged, mine-reported, mine-away}
 use Rattle.liveness_laws.proofs.Rounds.Entry.{hearing, ticking, resting}
 use Rattle.liveness_laws.proofs.Lines.{lines-from}
 use Rattle.liveness_laws.proofs.Host.State.{WalkOk, Good, Before, After, same-entries, unchanged}

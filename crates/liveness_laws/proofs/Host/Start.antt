@@ -29,7 +29,7 @@ use Rattle.calls.specs.declared.Request.the-variants.{Initialize}
 use Rattle.calls.specs.Effects.{initialize}
 use Rattle.calls.specs.Perform.{ask, Outcome}
 use Rattle.network_laws.specs.History.{afterOutcome, places}
-use Rattle.network_laws.specs.Network.{Network, at, stateAt, initialized, Proper}
+use Rattle.network_laws.specs.Network.{Network, stateAt, initialized, Proper}
 use Rattle.network_laws.proofs.Lists.{All, all-any, all-at, all-there, all-counted, all-made}
 use Rattle.network_laws.proofs.HostPlaces.{entries-first}
 use Rattle.network_laws.proofs.Performs.{performs, there}

@@ -1,6 +1,6 @@
 -- A call changes one host, which is as the law asks before and after: the call gets the state after the host's last call.
 use mathlib.Core.Path.{_≡_, refl, sym, ap, subst, subst₂, _∙_}
-use mathlib.Core.Bool.{Bool, true, false, cond, and-false, or-true}
+use mathlib.Core.Bool.{Bool, true, false, and-false, or-true}
 use mathlib.Core.List.{List}
 use Prim.Native.Nat.{ℕ, _+_, _-_, _≤_, _<_}
 use native.Mathlib.Omega.{arith}
@@ -27,7 +27,7 @@ use Rattle.host.specs.Walk.{isOpen, placeOf, packetOf}
 use Rattle.host.proofs.Guarded.{counted}
 use Rattle.host.proofs.Places.{Holds}
 use Rattle.calls.specs.Perform.{Outcome}
-use Rattle.network_laws.specs.History.{HostAfter, Continues, afterOutcome, places}
+use Rattle.network_laws.specs.History.{HostAfter, afterOutcome, places}
 use Rattle.network_laws.specs.Network.{Network, at, stateAt, HostAt, Proper}
 use Rattle.network_laws.specs.Demand3.{NetworkCall, ticks, seconds, reports, inspects, opens, adjusts, sets, clocks, looks, callOf, Step, World, result, Allowed}
 use Rattle.network_laws.proofs.Lists.{All, all-getD, all-weaken, all-there}

@@ -8,7 +8,7 @@ use native.Mathlib.Omega.{arith}
 use borrow.Author.Tests.{eqb-true, eqb-false, eq-eqb, ne-eqb, ltb-true, ltb-false}
 use lib.Dec.{ltb, eqb}
 use lib.IntN.{pos, _+ℤ_}
-use lib.ListN.{length, getD, length-set}
+use lib.ListN.{length}
 use lib.Seq.{getD-set-same}
 use Rattle.lists.proofs.Tests.{either, is-so, is-not, neither}
 use Rattle.quantity.specs.declared.Millis.{Millis}
@@ -34,7 +34,7 @@ use Rattle.table.specs.declared.entries.Changes.{Changes}
 use Rattle.table.specs.Forms.{Stage, on, end, _then_}
 use Rattle.table.specs.Entry.{maxDelay, freshEntry, takenDown}
 use Rattle.table.specs.Entry as entry
-use Rattle.table.specs.Update.{plusReport, lineA, lineB, lineC, lines, left}
+use Rattle.table.specs.Update.{lineA, lineB, lineC, lines, left}
 use Rattle.table.specs.Runs.{changes}
 use Rattle.table.proofs.Cases.{stored}
 use Rattle.net_table.specs.declared.NetTable.{NetTable}
@@ -51,7 +51,7 @@ use Rattle.host.specs.Settings.{foundFor, linkCount}
 use Rattle.host.specs.State.{hostCount, ownEntries, broadcast, linkOf, withLink, freshLink, unset, noLink}
 use Rattle.host.specs.CallState.{Host, CallState, host, entriesOf, ourReading}
 use Rattle.host.specs.Reply.{plainly}
-use Rattle.host.specs.Walk.{isOpen, noWalk, stepPlace, placeOf, packetOf, walkUpdate, lineUpdate, walkFieldsAt, packetFits}
+use Rattle.host.specs.Walk.{isOpen, noWalk, stepPlace, placeOf, packetOf, lineUpdate, walkFieldsAt, packetFits}
 use Rattle.host.specs.Effect.{nothing, answers}
 use Rattle.host.proofs.Places.{Holds, entries-length}
 use Rattle.host.proofs.Guarded.{passed, holds, counted, walk-state}

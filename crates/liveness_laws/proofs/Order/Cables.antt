@@ -11,10 +11,8 @@ use lib.IntN.{pos}
 use lib.ListN.{length}
 use Rattle.lists.proofs.Tests.{either}
 use Rattle.quantity.specs.declared.Millis.{Millis}
-use Rattle.quantity.specs.Words.{zeroWord}
 use Rattle.quantity.proofs.Ints.{up, dn, is-lt}
-use Rattle.wire.specs.Hello.{reportAt}
-use Rattle.wire.specs.Packet.{helloOf, fields}
+use Rattle.wire.specs.Packet.{fields}
 use Rattle.table.specs.declared.Entry.{Entry}
 use Rattle.table.specs.Entry.{maxDelay, aged, advertised}
 use Rattle.table.specs.Entry as entry

@@ -5,7 +5,6 @@ use mathlib.Core.List.{List, [], _∷_, List·Memᴰ·not-nil}
 use mathlib.Core.Logic.{_⊎_, inl, inr}
 use Prim.Native.Nat.{ℕ, zero, suc, _+_, _*_, _≤_, _<_}
 use native.Mathlib.Omega.{arith}
-use borrow.Author.Tests.{eq-eqb}
 use lib.IntN.{pos, _+ℤ_}
 use lib.ListN.{getD, take}
 use lib.Seq.{getD-take}
@@ -14,14 +13,13 @@ use Rattle.route.specs.declared.Layout.{Layout}
 use Rattle.table.specs.declared.Entry.{Entry}
 use Rattle.table.specs.Entry.{freshEntry}
 use Rattle.table.specs.Entry as entry
-use Rattle.host.specs.Settings.{linkCount}
 use Rattle.host.specs.State.{hostCount}
 use Rattle.host.proofs.Sound.{sound}
 use Rattle.network_laws.specs.Network.{longestWay, Network, at, HostAt, Proper}
 use Rattle.network_laws.specs.History.{HostAfter}
 use Rattle.network_laws.specs.Slots.{EverySlot}
 use Rattle.network_laws.specs.Demand3.{Step, World, step, history, Allows, Starts, entryOf}
-use Rattle.network_laws.proofs.Lists.{all-at, all-there}
+use Rattle.network_laws.proofs.Lists.{all-at}
 use Rattle.network_laws.proofs.Performs.{there}
 use Rattle.network_laws.proofs.Demand3.Invariant.{RightEntry, RightWorld}
 use Rattle.network_laws.proofs.Demand3.Nodes.{fresh-right, set-good}

@@ -3,13 +3,12 @@ use mathlib.Core.Path.{_≡_, refl, sym, ap, subst, _∙_}
 use mathlib.Core.Bool.{Bool, true, false, true≢false, false≢true, cond}
 use mathlib.Core.List.{List, map}
 use mathlib.Core.Logic.{_⊎_}
-use Prim.Native.Nat.{ℕ, _+_, _-_, _≤_, _<_}
+use Prim.Native.Nat.{ℕ, _+_, _≤_, _<_}
 use native.Mathlib.Omega.{arith}
-use borrow.Author.Tests.{eqb-true, eqb-false, ne-eqb}
+use borrow.Author.Tests.{ne-eqb}
 use lib.Dec.{ltb, eqb}
 use lib.IntN.{pos, _+ℤ_}
-use lib.ListN.{length, getD, length-set}
-use lib.Seq.{getD-set-same, getD-set-other}
+use lib.ListN.{length}
 use Rattle.lists.proofs.Tests.{either}
 use Rattle.quantity.specs.declared.Millis.{Millis}
 use Rattle.quantity.specs.declared.Word.{Word}
@@ -31,7 +30,7 @@ use Rattle.host.specs.declared.Link.{Link}
 use Rattle.host.specs.declared.Links.{Links}
 use Rattle.host.specs.declared.walk.Walk.{Walk}
 use Rattle.host.specs.declared.guard.Scope.the-variants.{OnLink}
-use Rattle.host.specs.State.{hostCount, ownEntries, linkOf, withLink, freshLink, unset, noLink}
+use Rattle.host.specs.State.{hostCount, linkOf, withLink}
 use Rattle.host.specs.CallState.{CallState, entriesOf, ourReading}
 use Rattle.host.specs.Guard.{done}
 use Rattle.host.specs.Walk.{isOpen}
@@ -47,7 +46,7 @@ use Rattle.network_laws.specs.Network.{Network, at, stateAt, Proper}
 use Rattle.network_laws.specs.Demand3.{Message}
 use Rattle.network_laws.proofs.Performs.{performs}
 use Rattle.network_laws.proofs.Sends.{reports, reports-count, sentMessage, sent-message}
-use Rattle.network_laws.proofs.Lists.{All, all-there, all-map, all-both, all-weaken, every-all}
+use Rattle.network_laws.proofs.Lists.{All, all-there, all-map, all-both, every-all}
 use Rattle.network_laws.proofs.Demand3.Near.{Fits16}
 use Rattle.network_laws.proofs.Demand3.Nodes.{set-good}
 use Rattle.liveness_laws.specs.Numbers.{rise}

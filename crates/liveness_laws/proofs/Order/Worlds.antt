@@ -2,7 +2,7 @@
 use mathlib.Core.Path.{_≡_, refl, sym, ap, subst, subst₂, _∙_}
 use mathlib.Core.Bool.{Bool, true, false, cond, _&&_}
 use mathlib.Core.List.{List, _∷_}
-use mathlib.Core.Logic.{_⊎_, inl, inr}
+use mathlib.Core.Logic.{inl, inr}
 use Prim.Native.Nat.{ℕ, _+_, _≤_, _<_}
 use native.Mathlib.Omega.{arith}
 use borrow.Author.Tests.{eqb-true, eqb-false, eq-eqb, ne-eqb}
@@ -30,13 +30,12 @@ use Rattle.calls.proofs.Pair.{receive-acts}
 use Rattle.network_laws.specs.HostAfter.{messageOf}
 use Rattle.network_laws.specs.History.{HostAfter, afterOutcome, after}
 use Rattle.network_laws.specs.Network.{longestWay, Network, at, stateAt, HostAt, Proper}
-use Rattle.network_laws.specs.Demand3.{NetworkCall, ticks, seconds, reports, sends, arrives, acts, inspects, opens, steps, adjusts, sets, clocks, looks, Step, Message, World, afterAt, result, mailAfter, step, timed, Later, Delivered, Allowed, entryOf}
+use Rattle.network_laws.specs.Demand3.{NetworkCall, ticks, seconds, reports, sends, arrives, acts, inspects, opens, steps, adjusts, sets, clocks, looks, Step, Message, World, result, mailAfter, step, timed, Later, Delivered, Allowed, entryOf}
 use Rattle.network_laws.proofs.Demand3.Invariant.{RightWorld}
 use Rattle.network_laws.proofs.Demand3.Outcomes.{same-packet}
 use Rattle.network_laws.proofs.Demand3.Histories as histories
 use Rattle.liveness_laws.specs.Numbers.{rise, quickWay, roundSeconds}
 use Rattle.liveness_laws.specs.Seconds.{counts}
-use Rattle.liveness_laws.specs.Rounds.{NotBox1}
 use Rattle.liveness_laws.specs.Order.{Stands, Next, Fresh, came, lastAfter}
 use Rattle.liveness_laws.proofs.Lines.{anyHops}
 use Rattle.liveness_laws.proofs.Measured.{returned, Worded}
@@ -48,7 +47,7 @@ use Rattle.liveness_laws.proofs.Host.Walks.{step-good}
 use Rattle.liveness_laws.proofs.Host.Flags.{gain, flags, flagsAfter}
 use Rattle.liveness_laws.proofs.Host.Turns.{HostOk, host-moves, Left, callState, none-more, tick-left, adjust-left, set-left, clock-left, look-left, inspect-left, open-left, second-left, report-left, after-good, after-ok}
 use Rattle.liveness_laws.proofs.Order.Entry.{Better, better-same}
-use Rattle.liveness_laws.proofs.Order.Cables.{On, Web, Arrow, Letter, Posted, none, one, web-after, same-arrow, aged-better, home-better}
+use Rattle.liveness_laws.proofs.Order.Cables.{Web, Arrow, Letter, Posted, none, one, web-after, same-arrow, aged-better, home-better}
 use Rattle.liveness_laws.proofs.Order.Believed.{Sent, Rest, believes}
 use Rattle.liveness_laws.proofs.Order.Sends.{send-good}
 

@@ -1,27 +1,25 @@
 -- A link that was heard in this round has brought the hosts of its neighbour, because the entry after its update is up and no longer.
 use mathlib.Core.Path.{_≡_, refl, sym, ap, subst, _∙_}
-use mathlib.Core.Bool.{Bool, true, false, true≢false, false≢true, cond, not, _&&_}
+use mathlib.Core.Bool.{Bool, true}
 use mathlib.Core.Logic.{_⊎_, inl, inr}
-use Prim.Native.Nat.{ℕ, suc, _+_, _*_, _≤_, _<_}
+use Prim.Native.Nat.{ℕ, suc, _+_, _≤_, _<_}
 use native.Mathlib.Omega.{arith}
-use borrow.Author.Tests.{eqb-true, eqb-false, eq-eqb, ne-eqb}
+use borrow.Author.Tests.{eqb-true}
 use lib.Dec.{eqb}
-use lib.IntN.{pos, _+ℤ_}
-use Rattle.lists.proofs.Tests.{either, both}
+use lib.IntN.{pos}
+use Rattle.lists.proofs.Tests.{either}
 use Rattle.quantity.specs.declared.Millis.{Millis}
-use Rattle.quantity.specs.Quantity.{lessMillis, addMillis}
-use Rattle.quantity.proofs.Ints.{up, dn, sum, lt-yes, lt-no}
+use Rattle.quantity.proofs.Ints.{up}
 use Rattle.table.specs.declared.Entry.{Entry}
 use Rattle.table.specs.declared.Update.{Update}
-use Rattle.table.specs.Entry.{maxDelay, minDelay, aged}
+use Rattle.table.specs.Entry.{aged}
 use Rattle.table.specs.Entry as entry
 use Rattle.table.specs.Update.{lines, left, ownUpdate}
 use Rattle.network_laws.specs.Network.{Network, at}
 use Rattle.liveness_laws.specs.Numbers.{rise, roundSeconds}
 use Rattle.liveness_laws.proofs.Lines.{farthest}
 use Rattle.liveness_laws.specs.Hops.{Hops, Via, own, by}
-use Rattle.liveness_laws.proofs.Lines.{stays, revives, lines-cases}
-use Rattle.liveness_laws.proofs.Rounds.Entry.{first-cable, Known, Shown, Steady, Report, hearing, heard-entry, aged-entry, reported-entry, next-entry}
+use Rattle.liveness_laws.proofs.Rounds.Entry.{first-cable, Shown, Steady, Report, hearing, heard-entry, aged-entry, reported-entry}
 
 pub record Mine (r : Network) (c b k m s : ℕ) (heard : ℕ → Bool) (e : Entry) : Type 0 where
   pub steady : Steady r c b k m s heard e

@@ -1,46 +1,25 @@
 -- Each round brings every table one cable further, because every host heard what its neighbours had at the round's beginning.
 use mathlib.Core.Path.{_≡_, refl, sym, ap, subst, _∙_}
-use mathlib.Core.Bool.{Bool, true, false, true≢false, false≢true, cond}
-use mathlib.Core.List.{List, [], _∷_, map, List·Memᴰ, List·Memᴰ·not-nil}
+use mathlib.Core.Bool.{Bool, true, false, true≢false, false≢true}
+use mathlib.Core.List.{List, [], _∷_, List·Memᴰ·not-nil}
 use mathlib.Core.Logic.{_⊎_, inl, inr}
 use Prim.Native.Nat.{ℕ, zero, suc, _+_, _*_, _≤_, _<_}
 use native.Mathlib.Omega.{arith}
-use borrow.Author.Tests.{eq-eqb, eqb-true, ltb-true, ltb-false}
-use lib.Dec.{ltb, eqb}
-use lib.IntN.{ℤ, pos}
-use lib.ListN.{length, getD, take, length-map, length-take}
-use lib.Seq.{getD-take, take-nil}
-use lib.Signed.{_≤ℤ_}
-use Rattle.lists.proofs.Tests.{either}
-use Rattle.quantity.proofs.Ints.{up, dn, to-≤ℤ}
-use Rattle.answer.specs.declared.Answer.the-variants.{Done}
+use lib.IntN.{pos}
+use lib.ListN.{take}
+use lib.Seq.{getD-take}
+use Rattle.quantity.proofs.Ints.{up, to-≤ℤ}
 use Rattle.route.specs.declared.Layout.{Layout}
 use Rattle.table.specs.declared.Entry.{Entry}
-use Rattle.table.specs.declared.entries.Change.the-variants.{Fresh}
-use Rattle.table.specs.Entry.{freshEntry, withMark}
+use Rattle.table.specs.Entry.{freshEntry}
 use Rattle.table.specs.Entry as entry
-use Rattle.table.specs.Runs.{changed, changes}
-use Rattle.host.specs.declared.Link.{Link}
-use Rattle.host.specs.Effect.{each}
-use Rattle.host.specs.Guard.{done}
-use Rattle.host.specs.CallState.{CallState, entriesOf}
-use Rattle.host.specs.Settings.{linkCount}
-use Rattle.host.specs.State.{hostCount, withEntries, firstPlace, placesPerHost, freshLink, freshLinks, unset, linkOf}
-use Rattle.host.specs.Walk.{isOpen, packetOf}
-use Rattle.host.proofs.Places.{entries-length}
+use Rattle.host.specs.State.{hostCount}
+use Rattle.host.specs.Walk.{packetOf}
 use Rattle.host.proofs.Sound.{sound}
-use Rattle.calls.specs.declared.Request.the-variants.{Initialize}
-use Rattle.calls.specs.Effects.{initialize}
-use Rattle.calls.specs.Perform.{ask, Outcome}
-use Rattle.network_laws.specs.History.{afterOutcome}
-use Rattle.network_laws.specs.Network.{longestWay, Network, at, stateAt, initialized, HostAt, Proper}
+use Rattle.network_laws.specs.Network.{longestWay, Network, at, HostAt, Proper}
 use Rattle.network_laws.specs.Slots.{EverySlot}
-use Rattle.network_laws.specs.Demand3.{NetworkCall, ticks, seconds, reports, sends, arrives, acts, inspects, opens, steps, adjusts, sets, clocks, looks, Step, Message, World, afterAt, result, step, history, Allows, Starts, entryOf}
-use Rattle.network_laws.proofs.Lists.{All, all-any, all-at, all-there, all-counted, all-made, all-weaken}
-use Rattle.network_laws.proofs.HostPlaces.{entries-first}
-use Rattle.network_laws.proofs.Performs.{performs, there}
-use Rattle.network_laws.proofs.Swept.{changes-length, changes-each}
-use Rattle.network_laws.proofs.Written.{written-back, written-kept}
+use Rattle.network_laws.specs.Demand3.{Step, World, afterAt, step, history, Allows, Starts, entryOf}
+use Rattle.network_laws.proofs.Lists.{all-at}
 use Rattle.network_laws.proofs.Demand3.Invariant.{RightEntry, RightWorld}
 use Rattle.network_laws.proofs.Demand3.Nodes.{fresh-right, set-good}
 use Rattle.liveness_laws.specs.Numbers.{rise, quickWay, roundSeconds, waysBelow}
@@ -51,7 +30,7 @@ use Rattle.liveness_laws.specs.TablesFill.{TablesFill}
 use Rattle.liveness_laws.specs.Rounds.{NoWalks, Speaking, Listening, spoken, Underway, meanwhile, Round, Rounds, begin, next}
 use Rattle.network_laws.proofs.Demand3.Histories.{world-right, history-right, starts-right}
 use Rattle.liveness_laws.proofs.Rounds.Heard.{Mine}
-use Rattle.liveness_laws.proofs.Rounds.Entry.{Shown, hearing, next-entry, least}
+use Rattle.liveness_laws.proofs.Rounds.Entry.{Shown, next-entry, least}
 use Rattle.liveness_laws.proofs.Rounds.Believed.{Sent}
 use Rattle.liveness_laws.proofs.Host.State.{WalkAt}
 use Rattle.liveness_laws.proofs.Host.Flags.{own-gain, flagsAfter, flagsAll, all-stay, heard-on, reported-on}

@@ -1,32 +1,27 @@
 -- A send reports the DELAY of a shortest way or 30,000, because split horizon hides only an entry whose way begins with this link.
 use mathlib.Core.Path.{_≡_, refl, sym, ap, subst, _∙_}
-use mathlib.Core.Bool.{Bool, true, false, true≢false, false≢true, cond, not, _&&_}
+use mathlib.Core.Bool.{Bool, true, false, true≢false, false≢true, cond}
 use mathlib.Core.List.{List, map}
 use mathlib.Core.Logic.{_⊎_, inl, inr}
-use Prim.Native.Nat.{ℕ, zero, suc, _+_, _-_, _≤_, _<_}
+use Prim.Native.Nat.{ℕ, zero, suc, _≤_, _<_}
 use native.Mathlib.Omega.{arith}
-use borrow.Author.Tests.{eqb-true, eqb-false, eq-eqb, ne-eqb}
+use borrow.Author.Tests.{eq-eqb, ne-eqb}
 use lib.Dec.{ltb, eqb}
 use lib.IntN.{pos, _+ℤ_}
-use lib.ListN.{length, getD, length-set}
-use lib.Seq.{getD-set-same, getD-set-other}
+use lib.ListN.{length}
 use Rattle.lists.proofs.Tests.{either}
 use Rattle.quantity.specs.declared.Millis.{Millis}
 use Rattle.quantity.specs.declared.Word.{Word}
-use Rattle.quantity.specs.Quantity.{lessMillis}
 use Rattle.quantity.specs.Words.{word, zeroWord}
 use Rattle.quantity.proofs.Ints.{up, dn}
 use Rattle.quantity.proofs.Wrap.{wrap-range}
 use Rattle.clock.specs.declared.Clock.{Clock}
 use Rattle.clock.specs.declared.Counter.{Counter}
-use Rattle.wire.specs.declared.Address.{Address}
 use Rattle.wire.specs.declared.Packet.{Packet}
 use Rattle.wire.specs.declared.Report.{Report}
-use Rattle.wire.specs.Octets.{zeroAddress, sameAddress}
 use Rattle.wire.specs.Hello.{reportAt}
 use Rattle.wire.specs.Packet.{packetLength, helloOf, fields}
 use Rattle.wire.proofs.ReadBack.{nhosts-back, tsp-back, delay-back}
-use Rattle.route.specs.Find.{sameNet}
 use Rattle.table.specs.declared.Entry.{Entry}
 use Rattle.table.specs.Entry.{advertised, entryInRange, maxDelay}
 use Rattle.table.proofs.Ranges.{range-says}
@@ -35,16 +30,15 @@ use Rattle.host.specs.declared.Link.{Link}
 use Rattle.host.specs.declared.Links.{Links}
 use Rattle.host.specs.declared.walk.Walk.{Walk}
 use Rattle.host.specs.declared.guard.Scope.the-variants.{OnLink}
-use Rattle.host.specs.Settings.{linkCount}
-use Rattle.host.specs.State.{hostCount, linkOf, withLink, freshLink, unset, noLink}
+use Rattle.host.specs.State.{hostCount, linkOf, withLink}
 use Rattle.host.specs.CallState.{CallState, entriesOf, ourReading}
 use Rattle.host.specs.Guard.{done}
-use Rattle.host.proofs.Places.{Holds, entries-length}
+use Rattle.host.proofs.Places.{Holds}
 use Rattle.host.proofs.Guarded.{passed, holds, counted, entries-state}
 use Rattle.host.proofs.Sound.{sound}
 use Rattle.sending.specs.declared.Sending.{Sending}
 use Rattle.sending.specs.Message.{tableGoes, sentTsp, linkSent, packetSent}
-use Rattle.sending.specs.Send.{reportCount, sends}
+use Rattle.sending.specs.Send.{reportCount}
 use Rattle.calls.specs.Perform.{Call, Outcome, sentBy, perform}
 use Rattle.network_laws.specs.HostAfter.{messageOf}
 use Rattle.network_laws.specs.Network.{Network, at, stateAt, Proper}
@@ -53,7 +47,6 @@ use Rattle.network_laws.proofs.Sends.{reports, reports-count, sentMessage, sent
 use Rattle.network_laws.proofs.Lists.{All, all-there, all-map, all-both, every-all}
 use Rattle.network_laws.proofs.Demand3.Near.{Fits16}
 use Rattle.network_laws.proofs.Demand3.Nodes.{set-good}
-use Rattle.liveness_laws.specs.Hops.{Hops}
 use Rattle.liveness_laws.proofs.Rounds.Heard.{Mine}
 use Rattle.liveness_laws.proofs.Rounds.Entry.{said-entry}
 use Rattle.liveness_laws.proofs.Rounds.Entry as steady

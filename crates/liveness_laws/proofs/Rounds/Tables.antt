@@ -1,38 +1,26 @@
--- A second, a self-report and an update keep the invariant of a table, because each changes an entry by itself.
-use mathlib.Core.Path.{_≡_, refl, sym, ap, subst, _∙_}
-use mathlib.Core.Bool.{Bool, true, false, true≢false, false≢true, cond}
-use mathlib.Core.List.{List, [], _∷_, _++_, append-nil}
+-- What holds of every entry before an update, or before one entry is replaced, turns into what holds after it, because each changes an entry by itself.
+use mathlib.Core.Path.{_≡_, refl}
+use mathlib.Core.List.{List, [], _∷_, append-nil}
 use Prim.Native.Nat.{ℕ, zero, suc, _+_, _-_, _≤_, _<_}
 use native.Mathlib.Omega.{arith}
-use borrow.Author.Tests.{eqb-true, eq-eqb}
 use lib.Dec.{eqb}
-use lib.ListN.{length, getD, take, drop, drop-of-length-le}
+use lib.ListN.{length, take, drop, drop-of-length-le}
 use lib.Seq.{take-all, drop-nil}
 use Rattle.lists.specs.Lists.{part, over}
-use Rattle.lists.proofs.Tests.{either}
-use Rattle.quantity.specs.declared.Millis.{Millis}
-use Rattle.quantity.specs.Quantity.{lessMillis}
 use Rattle.clock.specs.declared.Clock.{Clock}
-use Rattle.clock.specs.declared.Counter.{Counter}
 use Rattle.table.specs.declared.Entry.{Entry}
 use Rattle.table.specs.declared.Updated.{Updated}
-use Rattle.table.specs.declared.entries.Change.{Change}
-use Rattle.table.specs.declared.entries.Change.the-variants.{Aged, Reported, Put}
+use Rattle.table.specs.declared.entries.Change.the-variants.{Put}
 use Rattle.table.specs.declared.entries.Updates.{Updates}
-use Rattle.table.specs.Entry.{freshEntry, livesHere, asMarked, maxDelay, aged}
-use Rattle.table.specs.Marks.{mark}
 use Rattle.table.specs.Forms.{mapFrom}
-use Rattle.table.specs.Runs.{changed, changes, updateAt, updatedAt, updates}
+use Rattle.table.specs.Runs.{changes, updateAt, updatedAt, updates}
 use Rattle.table.specs.Sweep.{sweep}
-use Rattle.table.specs.Update.{reportedHere, selfReported, update, settled, lines, left}
+use Rattle.table.specs.Update.{update, settled, lines, left}
 use Rattle.table.specs.Forms.{Stage, on, end}
 use Rattle.table.proofs.Sweeps.{sweep-length}
-use Rattle.network_laws.specs.Network.{Network, at, HostAt, Proper}
+use Rattle.network_laws.specs.Network.{at}
 use Rattle.host.specs.Effect.{one}
-use Rattle.network_laws.proofs.Lists.{All, all-counted, all-both, all-weaken, each-all}
-use Rattle.liveness_laws.specs.Numbers.{roundSeconds}
-use Rattle.liveness_laws.proofs.Rounds.Heard.{Mine, mine-aged, mine-reported, mine-away}
-use Rattle.liveness_laws.proofs.Rounds.Entry.{hearing}
+use Rattle.network_laws.proofs.Lists.{All, all-weaken}
 
 -- ---- of any predicates: before, and after
 
@@ -83,32 +71,3 @@ pub put-turn : (P Q : ℕ → Entry → Type 0) (n : ℕ) (y : Entry) → ((id :
     → (es : List Entry) → All P es → All Q (changes (one n (Put y)) es)
 unfolding changes
 put-turn P Q n y others here es t = let single : n + 1 - n ≡ 1 = omega arith in rw single (over-turns P Q n y others here es t)
-
--- ---- a second, and a self-report
-
-module _ (r : Network) (proper : Proper r) (c i b k m s : ℕ) (heard : ℕ → Bool) (inside : b < r .nodes) (hc : c < r .nodes) (host : HostAt r i c)
-    (from-1 : (j a l : ℕ) → r .cable b j ≡ at a l → 1 ≤ j) where
-  abbrev pub Ours : (s : ℕ) (heard : ℕ → Bool) (id : ℕ) → Entry → Type 0
-  Ours s heard id e = id ≡ i → Mine r c b k m s heard e
-
-  pub aged-table : s < roundSeconds → (es : List Entry) → All (Ours s heard) es → All (Ours (suc s) heard) (mapFrom 0 (changed (r .settings b .marks) Aged) es)
-  aged-table early es t = all-counted (Ours s heard) (Ours (suc s) heard) 0 (changed (r .settings b .marks) Aged) es (λ id e _ f same. mine-aged r c b k m s heard e (f same) early) t
-
-  pub reported-table : 1 ≤ m → (t : Millis) (es : List Entry) → All (λ (id : ℕ) (e : Entry). asMarked (r .settings b .marks) id e ≡ true) es → All (Ours s heard) es
-      → All (Ours s (hearing r c b 0 heard)) (mapFrom 0 (changed (r .settings b .marks) (Reported t)) es)
-  unfolding reportedHere selfReported
-  reported-table some t es marked old =
-      all-counted (λ (id : ℕ) (e : Entry). Ours s heard id e × (asMarked (r .settings b .marks) id e ≡ true)) (Ours s (hearing r c b 0 heard)) 0 (changed (r .settings b .marks) (Reported t)) es
-      (λ id e _ f same.
-      either (Mine r c b k m s (hearing r c b 0 heard)) (livesHere e) _ _
-      (λ here. mine-reported r c b k m s heard e (f .0 same) some (proper .marked-once b c i inside hc (lives id e same (f .1) here) host) from-1 t)
-      (λ not-here. mine-away r c b k m s heard e (f .0 same) (λ z. true≢false (sym (at-home id e same (f .1) z) ∙ not-here)) from-1))
-      (all-both (Ours s heard) (λ (id : ℕ) (e : Entry). asMarked (r .settings b .marks) id e ≡ true) es old marked)
-    where
-      lives : (id : ℕ) (e : Entry) → id ≡ i → asMarked (r .settings b .marks) id e ≡ true → livesHere e ≡ true → HostAt r i b
-      lives id e same is here = subst (λ (q : ℕ). HostAt r q b) same (ap (λ (n : ℕ). eqb n 1) (sym (eqb-true (e .here) (mark (r .settings b .marks) id) is)) ∙ here)
-
-      at-home : (id : ℕ) (e : Entry) → id ≡ i → asMarked (r .settings b .marks) id e ≡ true → b ≡ c → livesHere e ≡ true
-      at-home id e same is z =
-          ap (λ (n : ℕ). eqb n 1) (eqb-true (e .here) (mark (r .settings b .marks) id) is)
-          ∙ subst (λ (q : ℕ). HostAt r q b) (sym same) (subst (λ (q : ℕ). HostAt r i q) (sym z) host)

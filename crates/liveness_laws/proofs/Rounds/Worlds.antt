@@ -1,6 +1,6 @@
 -- Every call of a round keeps the invariant of the network, because it changes one host and adds at most one message.
 use mathlib.Core.Path.{_≡_, refl, sym, ap, subst, _∙_}
-use mathlib.Core.Bool.{Bool, true, false, true≢false, cond}
+use mathlib.Core.Bool.{Bool, true, false, cond}
 use mathlib.Core.List.{List, _∷_, List·Memᴰ, List·Memᴰ·cases-cons}
 use mathlib.Core.Logic.{_⊎_, inl, inr}
 use Prim.Native.Nat.{ℕ, suc, _+_, _≤_, _<_}
@@ -23,7 +23,7 @@ use Rattle.calls.specs.Perform.{act, Outcome, perform}
 use Rattle.calls.proofs.Pair.{receive-acts}
 use Rattle.network_laws.specs.HostAfter.{messageOf}
 use Rattle.network_laws.specs.History.{HostAfter, afterOutcome, after}
-use Rattle.network_laws.specs.Network.{longestWay, Network, at, stateAt, HostAt, Proper}
+use Rattle.network_laws.specs.Network.{longestWay, Network, stateAt, HostAt, Proper}
 use Rattle.network_laws.specs.Demand3.{NetworkCall, ticks, seconds, reports, sends, arrives, acts, inspects, opens, steps, adjusts, sets, clocks, looks, Step, Message, World, result, mailAfter, step, timed, Later, Delivered, Allowed}
 use Rattle.network_laws.proofs.Demand3.Invariant.{RightWorld}
 use Rattle.network_laws.proofs.Demand3.Outcomes.{same-packet}
