@@ -10,3 +10,4 @@ pub mod Worlds
 pub mod Epochs
 pub mod Unreported
 pub mod Example
+pub mod UnreportedExample

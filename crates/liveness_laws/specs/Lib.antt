@@ -5,6 +5,7 @@ pub mod SilenceExample
 pub mod Hops
 pub mod Rounds
 pub mod Unreported
+pub mod UnreportedExample
 pub mod TablesFill
 pub mod Handshake
 pub mod RoundsExample

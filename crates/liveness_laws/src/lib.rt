@@ -3,6 +3,7 @@ ghost use Rattle.liveness_laws.specs.Handshake.{Handshake};
 ghost use Rattle.liveness_laws.specs.Silence.{SilentHostFades, SilentHostGone};
 ghost use Rattle.liveness_laws.specs.SilenceExample.{SilenceExample};
 ghost use Rattle.liveness_laws.specs.Unreported.{UnreportedHostFades, UnreportedHostGone};
+ghost use Rattle.liveness_laws.specs.UnreportedExample.{UnreportedExample};
 ghost use Rattle.liveness_laws.specs.TablesFill.{TablesFill};
 ghost use Rattle.liveness_laws.specs.RoundsExample.{RoundsExample};
 ghost use Rattle.liveness_laws.specs.OrderClaim.{AnyOrder};
@@ -75,6 +76,11 @@ pub fn unreported_host_fades()
 // So after 300 times 120 seconds, ten hours, it is down in every table.
 pub fn unreported_host_gone()
     ensures { λ _. ⌜ UnreportedHostGone ⌝ }
+{}
+
+// Three hosts and one epoch meet every condition of `unreported_host_fades`, and the host is still up elsewhere, at 100 ms.
+pub fn unreported_example()
+    ensures { λ _. ⌜ UnreportedExample ⌝ }
 {}
 
 // One link of any host: what an arrival teaches it, what a send says by it, and when a table that arrives on it is believed.

@@ -42,7 +42,7 @@ use Rattle.liveness_laws.specs.SilenceExample.{line, wires, settingsFor,
 
 -- ---- the network
 
-below-3 : (P : ℕ → Type 0) → P 0 → P 1 → P 2 → (a : ℕ) → a < 3 → P a
+pub below-3 : (P : ℕ → Type 0) → P 0 → P 1 → P 2 → (a : ℕ) → a < 3 → P a
 below-3 P x y z zero l = x
 below-3 P x y z (suc zero) l = y
 below-3 P x y z (suc (suc zero)) l = z
@@ -117,7 +117,7 @@ as-after w a x =
           λ _. ap (take (hostCount (settingsFor a))) (drop-at (replicate (placesPerHost * a) freshEntry) (w .state a .places) (firstPlace a) (length-replicate (placesPerHost * a) freshEntry));
     }
 
-a-second : (a : ℕ) → a < 3 → (w : World) → Allowed line w (aSecond a w)
+pub a-second : (a : ℕ) → a < 3 → (w : World) → Allowed line w (aSecond a w)
 a-second a l w = record { node-in = l; continues = as-after w a (aSecond a w .call); timely = tt }
 
 -- the newest message
@@ -131,7 +131,7 @@ top-in (m ∷ mail) e = (List·Memᴰ·head refl, refl)
 
 module _ (w : World) (a : ℕ) (inside : a < 3) where
   -- the clock reads the network's millisecond
-  abbrev OnTime : Type 0
+  abbrev pub OnTime : Type 0
   OnTime = readingAt line a (w .state a .clock) noCounter .time .0 ≡ pos 1000
 
   on-time : OnTime → Reads line w a noCounter (pos 1000)
@@ -140,10 +140,10 @@ module _ (w : World) (a : ℕ) (inside : a < 3) where
   a-report : Allowed line w (aReport a w)
   a-report = record { node-in = inside; continues = as-after w a (aReport a w .call); timely = tt }
 
-  a-send : (i : ℕ) → OnTime → Allowed line w (aSend a i w)
+  pub a-send : (i : ℕ) → OnTime → Allowed line w (aSend a i w)
   a-send i e = record { node-in = inside; continues = as-after w a (aSend a i w .call); timely = λ _. on-time e }
 
-  an-arrival : (i : ℕ) → eqb (length (w .mail)) 0 ≡ false → wires a i ≡ at (top (w .mail) .node) (top (w .mail) .link) → top (w .mail) .ms ≡ pos 1000 → OnTime → Allowed line w (anArrival a i w)
+  pub an-arrival : (i : ℕ) → eqb (length (w .mail)) 0 ≡ false → wires a i ≡ at (top (w .mail) .node) (top (w .mail) .link) → top (w .mail) .ms ≡ pos 1000 → OnTime → Allowed line w (anArrival a i w)
   an-arrival i some cable at-ms e =
       record {
         node-in = inside;
@@ -215,11 +215,11 @@ one-more {w} {x} ok away q =
       ends = q .ends;
     }
 
-abbrev begins : World
+abbrev pub begins : World
 begins = emptied fallsSilent
 
 -- a second of host 1, where nothing is up, changes nothing
-abbrev borrowed : CallState
+abbrev pub borrowed : CallState
 borrowed = eventOf line begins (aSecond 1 begins) .callState
 
 guard-is : guard All borrowed ≡ Answer.Done
@@ -252,7 +252,7 @@ aged-table = refl
 sized : length (borrowed .entries) ≡ 2 * placesPerHost
 sized = length-append (replicate placesPerHost freshEntry) (begins .state 1 .places) ∙ rw size refl
 
-same-outcome : result line begins (aSecond 1 begins)
+pub same-outcome : result line begins (aSecond 1 begins)
     ≡ record { reply = plainly Answer.Done; clock = borrowed .host .clock; links = borrowed .host .links; walk = borrowed .walk; copy = borrowed .copy; entries = borrowed .entries; buffer = [] }
 unfolding perform effects.second
 same-outcome =
@@ -267,7 +267,7 @@ same-1 =
     ap (take placesPerHost) (drop-at (replicate placesPerHost freshEntry) (begins .state 1 .places) placesPerHost (length-replicate placesPerHost freshEntry))
     ∙ take-all placesPerHost (begins .state 1 .places) (omega (arith, size))))
 
-still : step line begins (aSecond 1 begins) ≡ begins
+pub still : step line begins (aSecond 1 begins) ≡ begins
 unfolding step after
 still = λ i. record { state = λ j. stays j i; mail = [] }
   where
