@@ -33,8 +33,9 @@ int main(void)
     memset(large, '1', sizeof large);
     memcpy(large, "hello ", 6);
     memcpy(large + sizeof large - 9, " 0 0 0 0\n", 9);
-    refused = hello_from_text((const uint8_t *)large, sizeof large, message, sizeof message);
-    assert(refused.answer == HELLO_FIELD_RANGE && refused.length == 0);
+    hello_written range =
+        hello_from_text((const uint8_t *)large, sizeof large, message, sizeof message);
+    assert(range.answer == HELLO_FIELD_RANGE && range.length == 0);
     printf("%.*sA text that is none: %s.\n", (int)back.length, (const char *)written,
            hello_answer_text(refused.answer));
     return 0;
