@@ -27,6 +27,15 @@ int main(void)
 
     hello_written refused = hello_from_text((const uint8_t *)"hello", 5, message, sizeof message);
     assert(refused.answer == HELLO_TEXT_FORM && refused.length == 0);
+
+    /* However long a number is, it is a number that does not fit. */
+    static char large[70000];
+    memset(large, '1', sizeof large);
+    memcpy(large, "hello ", 6);
+    memcpy(large + sizeof large - 9, " 0 0 0 0\n", 9);
+    hello_written range =
+        hello_from_text((const uint8_t *)large, sizeof large, message, sizeof message);
+    assert(range.answer == HELLO_FIELD_RANGE && range.length == 0);
     printf("%.*sA text that is none: %s.\n", (int)back.length, (const char *)written,
            hello_answer_text(refused.answer));
     return 0;

@@ -37,6 +37,8 @@ class Text(unittest.TestCase):
         for text in ("", BOARD[:-1], BOARD + "\n", BOARD.upper(), BOARD.replace("1 0", "1 -0")):
             self.refused(hello.Answer.TEXT_FORM, from_text, text)
         self.refused(hello.Answer.FIELD_RANGE, from_text, BOARD.replace("12331", "65536"))
+        self.refused(hello.Answer.FIELD_RANGE, from_text, BOARD.replace("12331", "1" * 70_000))
+        self.refused(hello.Answer.TEXT_FORM, from_text, BOARD.replace("12331", "1" * 70_000 + "x"))
 
     def test_types(self):
         with self.assertRaises(TypeError):

@@ -40,6 +40,9 @@ fn one_error_from_all_modules() -> Result<(), Box<dyn Error>> {
     assert_eq!(text::from_text("hello"), Err(Answer::TextForm));
     let large = text::from_text("hello 65536 0 0 0 0\n");
     assert_eq!(large, Err(Answer::FieldRange));
+    let long = format!("hello {} 0 0 0 0\n", "1".repeat(70_000));
+    assert_eq!(text::from_text(&long), Err(Answer::FieldRange));
+    assert_eq!(text::from_text(&long[..70_000]), Err(Answer::TextForm));
     let short = text::to_text_into(&text::from_text("hello 0 0 0 0 0\n")?, &mut [0; 9]);
     assert_eq!(short, Err(Answer::ShortBuffer));
     Ok(())

@@ -76,7 +76,7 @@ fn rest_tested(t: NetTable, h: Header, n: Lengths, file: usize, besides: bool) -
     if !besides {
         return Answer::OutOfRange;
     }
-    if net_table::is_bad(t) {
+    if calls::queries::is_bad(t) {
         return Answer::OutOfRange;
     }
     Answer::Done

@@ -30,7 +30,7 @@ pub fn keep_answer(answers: &mut [u8], event: usize, r: Reply)
     ensures { λ _. ⌜ now (answers .exit) ≡ set (now (answers .entry)) event (number (r .answer)) ⌝ }
 {
     let a = r.answer;
-    answers[event] = answer::number(a);
+    answers[event] = calls::queries::number(a);
 }
 
 // The answer of an event that asks no host is 3.
@@ -38,5 +38,5 @@ pub fn note(answers: &mut [u8], event: usize)
     requires { ⌜ event < length (now answers) ⌝ }
     ensures { λ _. ⌜ now (answers .exit) ≡ set (now (answers .entry)) event (number IpForm) ⌝ }
 {
-    answers[event] = answer::number(Answer::IpForm);
+    answers[event] = calls::queries::number(Answer::IpForm);
 }

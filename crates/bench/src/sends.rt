@@ -39,7 +39,7 @@ fn label(octets: &mut [u8], w: Sending, r: Reply)
     ensures { λ _. ⌜ now (octets .exit) ≡ labelled w r (now (octets .entry)) ⌝ }
 {
     let a = r.answer;
-    if !answer::is_done(a) {
+    if !calls::queries::is_done(a) {
         return;
     }
     put_label(octets, w.slot, r.length, w.cable as u8, w.side as u8);

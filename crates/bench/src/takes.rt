@@ -51,7 +51,7 @@ fn passes(r: Reply) -> bool
     ensures { λ b. ⌜ b ≡ done (r .answer) ⌝ }
 {
     let a = r.answer;
-    answer::is_done(a)
+    calls::queries::is_done(a)
 }
 
 fn look_at(

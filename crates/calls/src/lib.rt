@@ -32,6 +32,7 @@ use table::entries::update_all;
 mod effects;
 mod places;
 mod plans;
+pub mod queries;
 
 // What is asked of a host, with its input.
 pub enum Request {
