@@ -1,2 +1,3 @@
 -- What only the code needs.
 pub mod Sections
+pub mod Marks
