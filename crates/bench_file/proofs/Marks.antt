@@ -41,7 +41,7 @@ module _ (s : List ℕ) (at : ℕ) (h : at + 64 ≤ length s) where
   abbrev marks : List ℕ
   marks = part at 64 s
 
-  -- a word with n more bits in front, of the octets from a place on
+  -- a word with n more bits before, of the octets from a place on
   abbrev more : (n i word : ℕ) → ℕ
   more zero i word = word
   more (suc n) i word = more n i (word * 2 + markAt s (at + i + n))
