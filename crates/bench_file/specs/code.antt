@@ -1,3 +1,2 @@
 -- What only the code needs.
 pub mod Sections
-pub mod Marks

@@ -17,7 +17,6 @@ ghost use Rattle.bench_file.specs.Settings.{
   hostsGood,
 };
 ghost use Rattle.bench_file.specs.code.Sections.{Sections};
-ghost use Rattle.bench_file.specs.code.Marks.{eightMarks};
 use super::HEADER;
 use super::HOST;
 use super::Header;
@@ -93,23 +92,7 @@ fn mark(octet: u8) -> u64
     1
 }
 
-// Eight marks, the first the lowest bit.
-fn eight_marks(octets: &[u8], at: usize) -> u64
-    requires { ⌜ at + 8 ≤ length (now octets) ⌝ }
-    ensures { λ r. ⌜ (r ≡ eightMarks (now (octets .entry)) at) × (r < 256) ⌝ }
-{
-    let low = mark(octets[at])
-        + 2 * mark(octets[at + 1])
-        + 4 * mark(octets[at + 2])
-        + 8 * mark(octets[at + 3]);
-    let high = mark(octets[at + 4])
-        + 2 * mark(octets[at + 5])
-        + 4 * mark(octets[at + 6])
-        + 8 * mark(octets[at + 7]);
-    low + 16 * high
-}
-
-// 64 marks as a word, the first its lowest bit, eight at a time.
+// 64 marks as a word, the first its lowest bit.
 fn word_at(octets: &[u8], at: usize) -> u64
     requires { ⌜ at + 64 ≤ length (now octets) ⌝ }
     ensures { λ r. ⌜ r ≡ wordOf (part at 64 (now (octets .entry))) ⌝ }
@@ -117,8 +100,8 @@ fn word_at(octets: &[u8], at: usize) -> u64
     let mut word: u64 = 0;
     let mut i: usize = 64;
     while 0 < i {
-        i -= 8;
-        word = word * 256 + eight_marks(octets, at + i);
+        i -= 1;
+        word = word * 2 + mark(octets[at + i]);
     }
     word
 }
