@@ -3,3 +3,4 @@ pub mod Work
 pub mod Walked
 pub mod HostReply
 pub mod Holding
+pub mod Passed

@@ -53,7 +53,6 @@ use quantity::Word;
 use route::Found;
 use table::Entry;
 use wire::Packet;
-use wire::Parsed;
 
 fn box1(s: Settings, c: Clock, l: Links, w: Walk, k: Counter) -> Effect
     requires { ⌜ (settingsGood s ≡ true) × (clockInRange c ≡ true) ⌝ }
@@ -196,7 +195,7 @@ fn box_at(
     }
 }
 
-// The packet of the walk, read again.
+// The box of the walk's place. The guard tested the packet, so its fields are read without a test.
 pub fn box_of(
     s: Settings,
     t: NetTable,
@@ -212,8 +211,6 @@ pub fn box_of(
     requires { ⌜ packetFits s w (now packet) (inspect s (w .link) (now packet)) ≡ true ⌝ }
     ensures { λ r. ⌜ r ≡ boxOf k (now (packet .entry)) t (host s c l) w e (inspect s (w .link) (now (packet .entry))) ⌝ }
 {
-    match host::inspection::inspect(s, w.link as usize, packet) {
-        Parsed::Bad(_) => answers(c, l, w, plainly(Answer::OutOfRange)),
-        Parsed::Good(p) => box_at(s, t, c, l, w, p, packet, e, k),
-    }
+    let p = wire::fields(packet);
+    box_at(s, t, c, l, w, p, packet, e, k)
 }

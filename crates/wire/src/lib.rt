@@ -77,7 +77,7 @@ impl Address {
 }
 
 // The fields of a packet, except the reports.
-fn fields(packet: &[u8]) -> Packet
+pub fn fields(packet: &[u8]) -> Packet
     requires { ⌜ packetLength 0 ≤ length (now packet) ⌝ }
     ensures { λ r. ⌜ (r ≡ fields (now (packet .entry))) × Four (r .time .0) ⌝ }
 {
