@@ -13,7 +13,6 @@ use held::Gone;
 use held::Up;
 use host::Link;
 use host::Links;
-use host::PLACES;
 use net_table::NetTable;
 use quantity::Millis;
 use quantity::Word;
@@ -22,6 +21,9 @@ use wire::Address;
 
 mod held;
 mod show;
+
+// The places of the host table that a host has.
+const PLACES: usize = 255;
 
 // NHOSTS of the file's first host, or 1 if it has none.
 fn nhosts(file: &[u8]) -> usize {

@@ -1,6 +1,9 @@
 // Recovers the capture on standard input. The recovered one goes to standard output. To standard error goes a line `START LENGTH`
 // for each stretch that was passed over, and then whether the input's own number and places were those of its packets.
 // The input buffer holds one octet more than the mender takes: of a longer input it is full, and the answer is 27.
+ghost use Prim.Native.Nat.{_+_, _≤_};
+ghost use lib.ListN.{length};
+
 // The octets of a number, and of a stretch in the list.
 const NUMBER: usize = 4;
 
@@ -10,13 +13,19 @@ const STDOUT: i32 = 1;
 
 const STDERR: i32 = 2;
 
+fn number(list: &[u8], i: usize) -> u64
+    requires { ⌜ i + 4 ≤ length (now list) ⌝ }
+{
+    octets::four_at(list, i) as u64
+}
+
 // A line for each stretch of the list.
 fn print_stretches(list: &[u8]) {
     let mut i: usize = 0;
     while STRETCH <= list.len() - i {
-        io::print_decimal(STDERR, octets::four_at(list, i) as u64);
+        io::print_decimal(STDERR, number(list, i));
         io::write_all(STDERR, b" ");
-        io::print_decimal(STDERR, octets::four_at(list, i + NUMBER) as u64);
+        io::print_decimal(STDERR, number(list, i + NUMBER));
         io::write_all(STDERR, b"\n");
         i += STRETCH;
     }
