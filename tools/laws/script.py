@@ -1,4 +1,4 @@
-"""What the laws of all shapes share: pieces of text, and the names of crate `lent` that a text uses."""
+"""What the laws of all shapes share: pieces of text, and the names of crate `references` that a text uses."""
 import os
 import re
 
@@ -87,5 +87,5 @@ def thin_uses(text, crate, modules=()):
 
 
 def lib(crate):
-    """what the laws of a crate call the proofs of crate `lent`"""
+    """what the laws of a crate call the proofs of crate `references`"""
     return "Rattle.references.proofs" if crate == "references" else "Rattle.references.proofs"

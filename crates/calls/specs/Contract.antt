@@ -2,8 +2,6 @@
 use mathlib.Core.Path.{_≡_}
 use mathlib.Core.List.{List}
 use Prim.Native.Nat.{ℕ}
-use denote.Ref.{RefT}
-use denote.Triple.Both.{Both}
 use Rattle.clock.specs.declared.Clock.{Clock}
 use Rattle.clock.specs.declared.Counter.{Counter}
 use Rattle.net_table.specs.declared.NetTable.{NetTable}
@@ -12,17 +10,8 @@ use Rattle.host.specs.declared.Settings.{Settings}
 use Rattle.host.specs.declared.Links.{Links}
 use Rattle.host.specs.declared.walk.Walk.{Walk}
 use Rattle.host.specs.declared.Reply.{Reply}
-use Rattle.host.specs.CallState.{CallState, callState}
+pub use Rattle.host.specs.CallState.{Ref, before}
 use Rattle.calls.specs.Perform.{Call, send, perform, Leaves}
-
--- CALL-4: a reference: its value before the call, and after it
-abbrev pub Ref : Type 0 → Type 0
-Ref A = Both (RefT A) (RefT A)
-
--- CALL-4: the caller's state before the call
-abbrev pub before : Ref Settings → Ref NetTable → ℕ → Ref Clock → Ref Links → Ref Walk → Ref (List ℕ) → Ref (List Entry) → CallState
-before settings nets number clock links walk copy entries =
-    callState (settings .entry .now) (nets .entry .now) number (clock .entry .now) (links .entry .now) (walk .entry .now) (copy .entry .now) (entries .entry .now)
 
 -- CALL-4: everything that the caller passed is afterwards as `perform` says
 abbrev pub Does : Call → Ref Settings → Ref NetTable → ℕ → Ref Clock → Ref Links → Ref Walk → Ref (List ℕ) → Ref (List Entry) → Reply → Type 0

@@ -3,6 +3,8 @@ use mathlib.Core.Bool.{Bool, _&&_}
 use mathlib.Core.List.{List}
 use Prim.Native.Nat.{ℕ}
 use lib.ListN.{take}
+use denote.Ref.{RefT}
+use denote.Triple.Both.{Both}
 use Rattle.clock.specs.declared.Clock.{Clock}
 use Rattle.clock.specs.declared.Counter.{Counter}
 use Rattle.clock.specs.declared.Reading.{Reading}
@@ -64,3 +66,12 @@ marksAsSet x = everyFrom 0 (asMarked (x .host .settings .marks)) (entriesOf x)
 -- HOST-6: is the caller's state in range?
 unfoldable pub stateInRange : CallState → Bool
 stateInRange x = hostInRange (x .host) && ownWalkInRange x && every entryInRange (entriesOf x) && marksAsSet x
+
+-- CALL-4: a reference: its value before the call, and after it
+abbrev pub Ref : Type 0 → Type 0
+Ref A = Both (RefT A) (RefT A)
+
+-- CALL-4: the caller's state before the call
+abbrev pub before : Ref Settings → Ref NetTable → ℕ → Ref Clock → Ref Links → Ref Walk → Ref (List ℕ) → Ref (List Entry) → CallState
+before settings nets number clock links walk copy entries =
+    callState (settings .entry .now) (nets .entry .now) number (clock .entry .now) (links .entry .now) (walk .entry .now) (copy .entry .now) (entries .entry .now)

@@ -1,7 +1,7 @@
 // The guard: answers 12, 16 and 1, before anything else in every call.
 ghost use mathlib.Core.Path.{_≡_};
 ghost use Prim.Native.Nat.{_≤_};
-ghost use Rattle.host.specs.CallState.{host, callState};
+ghost use Rattle.host.specs.CallState.{host, before};
 ghost use Rattle.host.specs.Guard.{inWalk, guard};
 ghost use Rattle.host.specs.code.Returned.{initialized};
 ghost use Rattle.host.specs.code.Held.{placesMissing, settled, fullScan, namesLink, held, judged, judgedInitialize};
@@ -200,7 +200,7 @@ pub fn guard(
     scope: Scope,
     entries: &[Entry],
 ) -> Answer
-    ensures { λ r. ⌜ r ≡ guard scope (callState (now (settings .entry)) (now («net_table» .entry)) number (now (clock .entry)) (now (links .entry)) (now (walk .entry)) (now (copy .entry)) (now (entries .entry))) ⌝ }
+    ensures { λ r. ⌜ r ≡ guard scope (before settings «net_table» number clock links walk copy entries) ⌝ }
 {
     let s = *settings;
     let t = *net_table;
