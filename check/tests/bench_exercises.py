@@ -7,7 +7,7 @@ import tempfile
 import unittest
 
 from hello import bench_file
-from bench_runs import EXERCISES, ROOT, broken, told
+from bench_runs import EXERCISES, ROOT, broken, returned
 from test_bench_file import any_file
 
 SMALL = ROOT / "docs" / "bench"
@@ -63,8 +63,8 @@ class Exercises(unittest.TestCase):
         for path in EXERCISES.glob("*.txt"):
             number = int(path.name[:2])
             events = len(bench_file.read_exercise(path.read_text("utf-8")).file.events)
-            told_events = next(row.split(" | ")[2] for row in rows if row.startswith(f"| {number} | "))
-            self.assertEqual(f"{events:,}", told_events, path.name)
+            printed_events = next(row.split(" | ")[2] for row in rows if row.startswith(f"| {number} | "))
+            self.assertEqual(f"{events:,}", printed_events, path.name)
 
     def test_promises(self):
         for path in for_bench():
@@ -102,9 +102,9 @@ class Exercises(unittest.TestCase):
                     f"{set_up}\ndo open-round times 17\n{silent}do round times {rounds}\n"
                     "promise host 15 least 29999\n"
                 )
-                told_of = broken(path)
-            self.assertEqual(len(told_of), 1)
-            self.assertEqual("is 30,000" in told_of[0], bool(words), told_of)
+                reported = broken(path)
+            self.assertEqual(len(reported), 1)
+            self.assertEqual("is 30,000" in reported[0], bool(words), reported)
 
 
 class Refusals(unittest.TestCase):
@@ -140,7 +140,7 @@ class Refusals(unittest.TestCase):
             for _ in range(400):
                 octets = self.spoiled(choose)
                 path.write_bytes(octets)
-                answer = told(path)[0]
+                answer = returned(path)[0]
                 seen.add(answer)
                 self.assertEqual(self.taken(octets), answer == 0, octets.hex())
         self.assertEqual(seen, {0, 18, 19})

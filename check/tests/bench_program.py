@@ -5,7 +5,7 @@ import subprocess
 import tempfile
 
 from hello import bench_file
-from bench_runs import EXERCISES, ROOT, told
+from bench_runs import EXERCISES, ROOT, returned
 
 PROGRAM = ROOT / "target" / "bin" / "hello_bench"
 KINDS = {1: "tick", 2: "adjust", 3: "set", 4: "second", 5: "self-report"}
@@ -38,7 +38,7 @@ def date(word):
 
 def expected(path):
     """The lines for the file at a path."""
-    set_up, runs, shown = told(path, "all", "show")
+    set_up, runs, shown = returned(path, "all", "show")
     name = names()
     if set_up:
         return [f"{set_up} {name[set_up]}"]

@@ -14,7 +14,7 @@ EXERCISES = ROOT / "apps" / "exercises"
 
 
 class Run(NamedTuple):
-    """What a run told."""
+    """What a run returned."""
 
     answer: int
     count: int
@@ -28,8 +28,8 @@ class Shown(NamedTuple):
     tables: dict
 
 
-def told(*words):
-    """What the program told for these words: the answer to the set-up, the runs, and what it showed."""
+def returned(*words):
+    """What the program returned for these words: the answer to the set-up, the runs, and what it showed."""
     output = subprocess.run(
         [str(PROGRAM), *map(str, words)], check=True, capture_output=True, text=True
     ).stdout
@@ -77,7 +77,7 @@ def _broken(paths, promises, named):
         words += [word for first, end in zip([start, *ends], ends) for word in (end - first, "show")]
         cuts += ends
         start += count
-    set_up, runs, shown = told(*words)
+    set_up, runs, shown = returned(*words)
     if set_up != 0 or any(run.answer != 0 for run in runs):
         yield "the file is refused"
         return
@@ -85,7 +85,7 @@ def _broken(paths, promises, named):
     if len(answers) != events:
         yield f"{len(answers)} events were carried out, and there are {events}"
     in_one_piece = [word for path, _ in paths for word in (path, "all")]
-    if told(*in_one_piece, "show")[2][-1] != shown[-1]:
+    if returned(*in_one_piece, "show")[2][-1] != shown[-1]:
         yield "the run in one piece ends otherwise"
     for event, answer, name in bench_file.unlike(named, answers):
         yield f"event {event} was answered {answer}, and the text names {name}"

@@ -1,4 +1,4 @@
-"""Checks what ./run has told of a bench file, as it saved a room or ran the file: run by the independent
+"""Checks what ./run has printed of a bench file, as it saved a room or ran the file: run by the independent
 program, the file ends with the links and the live entries of each report; where a report has the events, they
 are those of the file, with the answers that the independent program gives.
 
@@ -12,7 +12,7 @@ import sys
 sys.path.insert(0, str(pathlib.Path(__file__).resolve().parent.parent.parent / "bindings" / "python"))
 
 from hello import bench_file  # noqa: E402
-from bench_runs import told  # noqa: E402
+from bench_runs import returned  # noqa: E402
 
 HOST = re.compile(r"Host (?:(\d+): \S+|\S+ \(id (\d+)\))")
 LINK = re.compile(r" +(\d)  (\S+) +(\d)  +([+-]\d+)")
@@ -39,7 +39,7 @@ def reported(lines):
     return links, entries
 
 
-def told_events(lines):
+def printed_events(lines):
     """The words and the answers of the events in a report; none where it has no events."""
     if EVENTS not in lines:
         return None
@@ -58,7 +58,7 @@ def words(path):
 
 def run(path):
     """Those of the file, run to its end."""
-    set_up, [one], [shown] = told(path, "all", "show")
+    set_up, [one], [shown] = returned(path, "all", "show")
     assert (set_up, one.answer) == (0, 0), "the file is refused"
     links = set()
     for line in shown.lines:
@@ -78,12 +78,12 @@ def check(report, path, one, links, entries):
     text = report.read_text("utf-8")
     events = int("".join(COUNT.search(text).groups("")))
     if one.count != events:
-        yield f"{one.count} events were carried out, and {events} were told"
+        yield f"{one.count} events were carried out, and {events} were returned"
     if not links or (links, entries) != reported(text.splitlines()):
         yield f"the file ends with {sorted(links)} {sorted(entries)}"
-    listed = told_events(text.splitlines())
+    listed = printed_events(text.splitlines())
     if listed is not None and listed != (words(path), one.answers):
-        yield "an event or its answer is told otherwise"
+        yield "an event or its answer is printed otherwise"
 
 
 def main():

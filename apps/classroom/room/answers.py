@@ -18,10 +18,10 @@ ANSWERS = _read()
 
 def in_words(answer):
     """An answer as a reply tells it."""
-    told = ANSWERS[answer]
+    returned = ANSWERS[answer]
     return {
         "answer": answer,
-        "name": told["name"],
-        "meaning": told["meaning"],
-        "changed_as_told": told["changes"],
+        "name": returned["name"],
+        "meaning": returned["meaning"],
+        "changed_as_told": returned["changes"],
     }

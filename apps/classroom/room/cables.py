@@ -89,8 +89,8 @@ class Cables:
         for way in sorted(self.on_their_way):
             sender, link = self.cables[way.cable]["ends"][way.direction]
             if sender == seat:
-                told = {"message": way.message, "link": link, "to": way.to[0]}
-                found.append({**told, "arrival": way.arrival})
+                returned = {"message": way.message, "link": link, "to": way.to[0]}
+                found.append({**returned, "arrival": way.arrival})
         return found
 
     def shown(self):

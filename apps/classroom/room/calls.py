@@ -13,11 +13,11 @@ def _counter(counter):
 
 
 def _place(place):
-    """A place of a walk as it is told, or None."""
+    """A place of a walk as a reply has it, or None."""
     if place is None:
         return None
-    told = {"step": place.step, "line": place.line or None}
-    return {**told, "id": place.host if place.line else None, "name": str(place)}
+    returned = {"step": place.step, "line": place.line or None}
+    return {**returned, "id": place.host if place.line else None, "name": str(place)}
 
 
 def _initialize(host, nhosts):
@@ -47,8 +47,8 @@ def _send(host, link, counter):
 
 def _inspect(host, link, packet):
     answer, source, time, tsp, nhosts = host.inspect(link, bytes.fromhex(packet))
-    told = {"source": ".".join(map(str, source)), "time": time, "tsp": tsp, "nhosts": nhosts}
-    return answer, told
+    returned = {"source": ".".join(map(str, source)), "time": time, "tsp": tsp, "nhosts": nhosts}
+    return answer, returned
 
 
 def _act(host, link, packet, counter):
@@ -115,16 +115,16 @@ _TUTORS = {
 
 
 def make(host, call, given, times=1):
-    """Makes a call, that many times: the number of the last answer, and what it told."""
+    """Makes a call, that many times: the number of the last answer, and what it returned."""
     if call == "tick":
         return int(host.ticks(times, **given)), {}
     for _ in range(times):
-        answer, told = _CALLS[call](host, **given)
-    return int(answer), told
+        answer, returned = _CALLS[call](host, **given)
+    return int(answer), returned
 
 
 def tutor(table, call, given):
     """Makes a call of the tutor's on the class's net table: the number of its answer, and what it
-    told."""
-    answer, told = _TUTORS[call](table, **given)
-    return int(answer), told
+    returned."""
+    answer, returned = _TUTORS[call](table, **given)
+    return int(answer), returned

@@ -31,5 +31,5 @@ class Made:
 
     def __init__(self, copy, call, given):
         self.before = state_of(copy)
-        self.answer, self.told = calls.make(copy, call, given)
+        self.answer, self.returned = calls.make(copy, call, given)
         self.after = state_of(copy)

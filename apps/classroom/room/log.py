@@ -45,15 +45,15 @@ class Log:
         self._flush(seat)
         self._ticks[seat] = self._line(time, seat, "tick", given, answer, {}, times)
 
-    def add(self, time, seat, call, given, answer, told, times):
-        """A call with what it was given, answered and told, of a seat, or of the tutor, whose seat is
+    def add(self, time, seat, call, given, answer, returned, times):
+        """A call with its input, answer and values, of a seat, or of the tutor, whose seat is
         None: the ticks of all seats are written before that."""
         self.changes += 1
         for ticked in list(self._ticks) if seat is None else [seat]:
             self._flush(ticked)
-        self._append(self._line(time, seat, call, given, answer, told, times))
+        self._append(self._line(time, seat, call, given, answer, returned, times))
 
-    def _line(self, time, seat, call, given, answer, told, times):
+    def _line(self, time, seat, call, given, answer, returned, times):
         return {
             "line": 0,
             "time": time,
@@ -62,7 +62,7 @@ class Log:
             "with": given,
             "times": times,
             "answer": answer,
-            "told": told,
+            "returned": returned,
         }
 
     def _flush(self, seat):
@@ -74,7 +74,7 @@ class Log:
         self.count += 1
         line["line"] = self.count
         self._write(line)
-        shown = {key: value for key, value in line.items() if key != "told"}
+        shown = {key: value for key, value in line.items() if key != "returned"}
         self.recent.append({**shown, "name": ANSWERS[line["answer"]]["name"]})
 
     def flush(self):

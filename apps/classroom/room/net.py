@@ -50,10 +50,10 @@ class Net:
         for seat in self.seats:
             self.catch_up(seat)
         before = net_table.shown(self.net_table)
-        answer, told = calls.tutor(self.net_table, call, given)
-        self.log.add(self.now, None, call, given, answer, told, 1)
+        answer, returned = calls.tutor(self.net_table, call, given)
+        self.log.add(self.now, None, call, given, answer, returned, 1)
         moved = net_table.changes(before, net_table.shown(self.net_table))
-        self.tutored = {"call": call, **in_words(answer), "changes": moved, "told": told}
+        self.tutored = {"call": call, **in_words(answer), "changes": moved, "returned": returned}
         return self.tutored
 
     def initialize(self, seat):
@@ -66,8 +66,8 @@ class Net:
         self.catch_up(seat, leave=1 if call in calls.READING or call == "inspect" else 0)
         given = {**(given or {}), **seat.handed(call, self.now)}
         before, reads = seat.state, seat.reads(call)
-        answer, told = calls.make(seat.host, call, given, times)
-        self.log.add(self.now, seat.number, call, given, answer, told, times)
+        answer, returned = calls.make(seat.host, call, given, times)
+        self.log.add(self.now, seat.number, call, given, answer, returned, times)
         seat.state = state_of(seat.host)
         if reads and answer in READ:
             seat.given += seat.marks(self.now)
@@ -80,7 +80,7 @@ class Net:
         if not seat.in_walk and call != "step":
             seat.walk = None
         moved = changes(before, seat.state)
-        seat.last = {"call": call, **in_words(answer), "changes": moved, "told": told}
+        seat.last = {"call": call, **in_words(answer), "changes": moved, "returned": returned}
         return seat.last
 
     def catch_up(self, seat, leave=0):
@@ -117,12 +117,12 @@ class Net:
         """A send of a seat; the message goes on its cable, and may be there at once."""
         reply = self.make(seat, "send", {"link": link})
         if reply["answer"] == 0:
-            octets = bytes.fromhex(reply["told"]["octets"])
-            reply["told"]["way"] = {"message": None, "to": None, "arrival": None, "lost": True}
+            octets = bytes.fromhex(reply["returned"]["octets"])
+            reply["returned"]["way"] = {"message": None, "to": None, "arrival": None, "lost": True}
             for way in self.ways(way):
                 number = self.new_message()
                 sent = self.cables.send(self.now, seat.number, link, number, octets, way)
-                reply["told"]["way"] = {"message": number, **sent}
+                reply["returned"]["way"] = {"message": number, **sent}
             self.arrivals()
         return reply
 
@@ -163,5 +163,5 @@ class Net:
             self.promise.written(self, seat)
         if reply["answer"] not in (1, 12, 16):
             del seat.waiting[message.number]
-        seat.last = {**reply, "call": "receive", "told": {}}
+        seat.last = {**reply, "call": "receive", "returned": {}}
         return seat.last

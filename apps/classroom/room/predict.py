@@ -184,7 +184,7 @@ def _values_of_box(made, walk, place):
 
 def _then(made, place):
     """Whether the walk goes on, or at a line the update of its host."""
-    following = made.told["next"]
+    following = made.returned["next"]
     if following is None:
         return ENDS
     if place["line"] and following["id"] != place["id"]:
@@ -222,8 +222,8 @@ def _walked(room, seat, waits, handed):
     """The arithmetic of the arrival, box by box, from a walk on another copy."""
     copy, texts = _copy(room, seat), []
     made = Made(copy, "open_walk", waits.given)
-    while made.answer == 0 and made.told["next"]:
-        place = made.told["next"]
+    while made.answer == 0 and made.returned["next"]:
+        place = made.returned["next"]
         made = Made(copy, "step", handed)
         if made.answer in READ:
             box = box_of(room, seat, made.before, made.after, place, waits)
@@ -240,7 +240,7 @@ def _sending(room, seat, message):
     made = Made(_copy(room, seat), "send", {"link": link, **seat.handed("send", room.now)})
     if made.answer != 0:
         raise Refused("refused.send_not_now")
-    packet = bytes.fromhex(made.told["octets"])
+    packet = bytes.fromhex(made.returned["octets"])
     values = {
         "NHOSTS": fields.number(packet, "NHOSTS"),
         "KEEP-ALIVE": made.after.links[link - 1].keep_alive,
@@ -248,11 +248,11 @@ def _sending(room, seat, message):
         "TSP of the message": fields.number(packet, "TSP"),
     }
     before = made.before.links[link - 1]
-    told = {"tsp": before.tsp, "time": values["TIME"], "sent": values["TSP of the message"]}
+    returned = {"tsp": before.tsp, "time": values["TIME"], "sent": values["TSP of the message"]}
     sort = "sum.send.tsp" if before.keep_alive else "sum.send.none"
     neighbor = fields.dotted(before.neighbor)
     table = "sum.send.table" if values["NHOSTS"] else "sum.send.no_table"
-    texts = [[sort, told], [table, {"neighbor": neighbor, "nhosts": values["NHOSTS"]}]]
+    texts = [[sort, returned], [table, {"neighbor": neighbor, "nhosts": values["NHOSTS"]}]]
     asked = {field: values[field] for field in asked_of_send(room)}
     return _Expected(("send", room.number, link), f"link {link}", asked, texts, {"link": link})
 

@@ -32,8 +32,8 @@ class Promise:
         if (sort, seat and seat.number) in self._seen:
             return
         self._seen.add((sort, seat and seat.number))
-        told = {"seat": seat.name} if seat else {}
-        self.broken.append([f"promise.{sort}", {**told, "time": clock(room.now), **values}])
+        returned = {"seat": seat.name} if seat else {}
+        self.broken.append([f"promise.{sort}", {**returned, "time": clock(room.now), **values}])
 
     def cable(self, room, number):
         """A cable has new times."""

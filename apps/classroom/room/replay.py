@@ -50,14 +50,14 @@ def _again(table, hosts, line):
     """How the call of a line differs when it is made again, or None."""
     times = whole("times", line["times"], 1, MOST_TIMES)
     if line["seat"] is None:
-        answer, told = calls.tutor(table, line["call"], line["with"])
+        answer, returned = calls.tutor(table, line["call"], line["with"])
     else:
         host = hosts[whole("seat", line["seat"], 0, len(hosts) - 1)]
-        answer, told = calls.make(host, line["call"], line["with"], times)
+        answer, returned = calls.make(host, line["call"], line["with"], times)
     if answer != line["answer"]:
         return f"{line['call']} answers {answer}, and not {line['answer']}"
-    if told != line["told"]:
-        return f"{line['call']} tells {told}, and not {line['told']}"
+    if returned != line["returned"]:
+        return f"{line['call']} returns {returned}, and not {line['returned']}"
     return None
 
 

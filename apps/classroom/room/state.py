@@ -24,7 +24,7 @@ class State(NamedTuple):
 
 
 def state_of(host, link_count=None):
-    """The state of a host as its last call left it; one without settings is told its number of links."""
+    """The state of a host as its last call left it; one without settings gets its number of links."""
     clock = host.clock
     count = host.settings.link_count if link_count is None else link_count
     links = tuple(host.links[link] for link in range(count))
@@ -93,9 +93,9 @@ def changes(before, after):
     for where, old, new, fields in parts:
         if old != new:
             # What a walk holds ends with it, which is no change.
-            told = ("next",) if new is None else fields(new)
+            returned = ("next",) if new is None else fields(new)
             old, new = fields(old), fields(new)
-            moved = [field for field in told if old[field] != new[field]]
+            moved = [field for field in returned if old[field] != new[field]]
             found += [
                 {"where": where, "field": field, "before": old[field], "after": new[field]}
                 for field in moved

@@ -112,7 +112,7 @@ def _open_walk(room, seat, message):
         if walked.by_hand:
             room.promise.written(room, seat)
         del seat.waiting[walked.number]
-        first = reply["told"]["next"]
+        first = reply["returned"]["next"]
         seat.walk = {"message": walked, "next": first, "boxes": [], "ended": False}
     return reply
 
@@ -134,9 +134,9 @@ def _step(room, seat, message):
         place, texts = walk["next"], texts_of(box_of(room, seat, before, seat.state))
         made = {**place, "sum": in_english(texts), "words": texts, "changes": reply["changes"]}
         walk["boxes"].append(made)
-        walk["next"] = reply["told"]["next"]
+        walk["next"] = reply["returned"]["next"]
         walk["ended"] = not seat.in_walk
-        reply["told"].update(box=place["name"], sum=made["sum"])
+        reply["returned"].update(box=place["name"], sum=made["sum"])
     return reply
 
 
@@ -144,8 +144,8 @@ def _walk_on(room, seat, message):
     """The boxes to the end of the walk, or to the next host, in one message: the last reply."""
     to = one_of("to", message["to"], ("end", "host"))
     first, reply = seat.walk and seat.walk["next"], _step(room, seat, message)
-    while reply["answer"] == 0 and seat.in_walk and reply["told"]["next"]:
-        place = reply["told"]["next"]
+    while reply["answer"] == 0 and seat.in_walk and reply["returned"]["next"]:
+        place = reply["returned"]["next"]
         same = place["id"] == first["id"] if first["line"] else not place["line"]
         if to == "host" and not same:
             break
@@ -161,12 +161,12 @@ def _write(room, seat, message):
         source = address("source", message["source"])
     reply = room.make(seat, "write", {"text": text})
     if reply["answer"] == 0:
-        octets = packet(bytes.fromhex(reply["told"]["octets"]), source, address_of(seat.number))
+        octets = packet(bytes.fromhex(reply["returned"]["octets"]), source, address_of(seat.number))
         written = Message(room.new_message(), link, octets, room.now, by_hand=True)
         seat.arrive(written)
-        reply["told"]["message"] = written.number
+        reply["returned"]["message"] = written.number
     elif found := fault(text, reply["answer"]):
-        reply["told"]["fault"] = found
+        reply["returned"]["fault"] = found
     return reply
 
 

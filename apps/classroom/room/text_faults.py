@@ -31,8 +31,8 @@ def _range(text):
     for row, line in enumerate(lines):
         for place, found in enumerate(NUMBER.finditer(line), 1):
             if _answer(_alone(row, place, found.group())) == Answer.FIELD_RANGE:
-                told = {"line": row + 1, "number": found.group(), "place": place}
-                return ["fault.range", told]
+                returned = {"line": row + 1, "number": found.group(), "place": place}
+                return ["fault.range", returned]
     return None
 
 

@@ -195,9 +195,9 @@ def _walk(room, seat):
     walk = seat.walk
     message, held = walk["message"], seat.state.walk or (None, None, None, None)
     # A copy: what a view shows is compared with the next one.
-    told = {"next": walk["next"], "boxes": list(walk["boxes"]), "ended": walk["ended"]}
+    returned = {"next": walk["next"], "boxes": list(walk["boxes"]), "ended": walk["ended"]}
     asks = predict.asked_of_box(room, walk["next"]) if walk["next"] else []
     packet = message.shown()
     held = dict(zip(("reading", "delay", "offset"), held[1:]))
     of = {"message": message.number, "link": message.link}
-    return {**of, **told, "packet": packet, "asks": asks, "held": held}
+    return {**of, **returned, "packet": packet, "asks": asks, "held": held}

@@ -120,10 +120,10 @@ class Addresses:
         """A room as it was after a line of its list."""
         if not self._holds("/teacher", request):
             return _no_key(request)
-        told = await self._history.ask(int(request.match_info["room"]), int(request.match_info["line"]))
-        if told == "null\n":
+        returned = await self._history.ask(int(request.match_info["room"]), int(request.match_info["line"]))
+        if returned == "null\n":
             return refused(request, 404, "page.no_call")
-        return web.Response(text=told, content_type="application/json")
+        return web.Response(text=returned, content_type="application/json")
 
     async def printed(self, request):
         """A sheet to be printed."""

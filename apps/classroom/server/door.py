@@ -134,7 +134,7 @@ class Door:
         now = time.monotonic()
         if self._complained is None or now - self._complained >= BETWEEN_COMPLAINTS:
             self._complained = now
-            LOG.error("a connection could not be accepted: %s; more of these are told once a minute", why.strerror)
+            LOG.error("a connection could not be accepted: %s; more of these are reported once a minute", why.strerror)
 
     def _admit(self, socket, address):
         """Takes a new connection in, if there is room for it or can be made."""

@@ -29,7 +29,7 @@ def _from_here(request):
 
 def guard(hosts, door=None, posts=()):
     """Lets through what is a GET to one of these host names, from no other origin; to the paths of
-    `posts` a POST. The door is told when a request begins and ends.
+    `posts` a POST. The door learns when a request begins and ends.
 
     The host names keep away a page elsewhere that has its own name point at this machine.
     """

@@ -31,7 +31,7 @@ def _title(stored):
 
 class Hall:
     """A room with its record, the pages at their places, the pace of each place; the seats' addresses,
-    which the teacher's page is told. `trouble` is the text of why the store cannot be written, or None."""
+    which the teacher's page shows. `trouble` is the text of why the store cannot be written, or None."""
 
     def __init__(self, record, addresses):
         self._record = record
@@ -41,7 +41,7 @@ class Hall:
         self._present = {}
         self._written = 0.0
         self.trouble = None
-        self.undo_allowed = record.store.told("undo", False)
+        self.undo_allowed = record.store.noted("undo", False)
         self.over = False
 
     @property

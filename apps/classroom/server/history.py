@@ -126,10 +126,10 @@ def main(path):
     for line in sys.stdin:
         asked = json.loads(line)
         try:
-            told = past.view(asked["room"], asked["line"])
+            returned = past.view(asked["room"], asked["line"])
         except (StoreError, Differs) as why:
-            told = {"fault": str(why)}
-        print(json.dumps(told, separators=(",", ":")), flush=True)
+            returned = {"fault": str(why)}
+        print(json.dumps(returned, separators=(",", ":")), flush=True)
 
 
 if __name__ == "__main__":

@@ -61,11 +61,11 @@ class Join:
 def read(octets):
     """Seat, code and name of a message; ValueError has the key of what is wrong."""
     try:
-        told = json.loads(octets) if len(octets) <= LONGEST else None
+        returned = json.loads(octets) if len(octets) <= LONGEST else None
     except (ValueError, RecursionError):
-        told = None
-    if type(told) is not dict or set(told) != {"seat", "code", "name"}:
+        returned = None
+    if type(returned) is not dict or set(returned) != {"seat", "code", "name"}:
         raise ValueError("join.parts")
-    if type(told["seat"]) is not int or type(told["code"]) is not str or type(told["name"]) is not str:
+    if type(returned["seat"]) is not int or type(returned["code"]) is not str or type(returned["name"]) is not str:
         raise ValueError("join.kinds")
-    return told["seat"], told["code"], told["name"].strip()
+    return returned["seat"], returned["code"], returned["name"].strip()

@@ -54,10 +54,10 @@ def log_to_stderr():
 def own_addresses():
     """The machine's addresses in its nets."""
     try:
-        told = subprocess.run(["hostname", "-I"], capture_output=True, text=True, check=True).stdout
+        returned = subprocess.run(["hostname", "-I"], capture_output=True, text=True, check=True).stdout
     except (OSError, subprocess.CalledProcessError):
         return []
-    return told.split()
+    return returned.split()
 
 
 def listening(port, to_the_net):
@@ -79,7 +79,7 @@ def with_port(name, port, scheme):
 
 
 def names_of(to_the_net):
-    """The host names that are told, and others under which the class may be asked for."""
+    """The host names that are printed, and others under which the class may be asked for."""
     here = ["localhost", "::1"]
     if not to_the_net:
         return [LOOPBACK], here
@@ -97,7 +97,7 @@ def tell(addresses, others):
 
 def class_of(store, asked):
     """What is noted of a class; a new one is begun. Another number of seats than it has is refused."""
-    seats = store.told("seats")
+    seats = store.noted("seats")
     if seats is None:
         seats = asked.seats or arguments.SEATS
         store.tell(seats=seats, keys=new_keys(seats), codes=new_codes(seats))
@@ -106,15 +106,15 @@ def class_of(store, asked):
             f"The class in {store.path} has {seats} seats, and not {asked.seats}: leave out --seats to "
             "resume it, or begin another with --new."
         )
-    return seats, store.told("keys")
+    return seats, store.noted("keys")
 
 
 async def serve(asked, store):
-    """Serves until the process is told to stop."""
+    """Serves until the process is asked to stop."""
     seats, keys = class_of(store, asked)
     resumed = store.begun()
     record = Record(store, seats)
-    wanted = store.told("port", arguments.PORT) if asked.port is None else asked.port
+    wanted = store.noted("port", arguments.PORT) if asked.port is None else asked.port
     try:
         sockets = listening(wanted, asked.open_to_the_net)
     except OSError as why:
@@ -126,19 +126,19 @@ async def serve(asked, store):
     if asked.open_to_the_net and not asked.plain:
         secured, fingerprint = tls.context(store, asked.certificate, names + others)
     scheme = "http" if secured is None else "https"
-    told, also = ([with_port(name, port, scheme) for name in each] for each in (names, others))
+    returned, also = ([with_port(name, port, scheme) for name in each] for each in (names, others))
     keys = Keys(keys, port, secure=secured is not None)
-    origin = f"{scheme}://{told[0]}"
+    origin = f"{scheme}://{returned[0]}"
     addresses = keys.addresses(origin)
     seats_at = list(addresses.values())[1:]
     hall = Hall(record, seats_at)
-    codes = Codes(store.told("codes"))
+    codes = Codes(store.noted("codes"))
     history = History(store.path)
 
     def slips(sheets, names):
         return sheets.slips(origin, seats_at, codes, names, fingerprint)
 
-    app = Application(hall, keys, {host.lower() for host in told + also}, codes, slips, history)
+    app = Application(hall, keys, {host.lower() for host in returned + also}, codes, slips, history)
 
     stop = asyncio.Event()
     for number in (signal.SIGINT, signal.SIGTERM):
@@ -149,7 +149,7 @@ async def serve(asked, store):
     app.enter_by(door)
     door.open(sockets)
     print(f"{'Resumed' if resumed else 'A new class,'} {store.path}")
-    tell(addresses, told[1:])
+    tell(addresses, returned[1:])
     print(f"Students may join at {origin}/ with the codes of their slips: {origin}/teacher/print/slips")
     if fingerprint:
         print(f"The certificate's SHA-256 fingerprint: {fingerprint}")

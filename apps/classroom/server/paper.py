@@ -164,8 +164,8 @@ class Paper:
         return self.say("place.step", step=box.step)
 
     def _changes(self, changes):
-        told = [self._change(change) for change in changes if change["where"] != "walk"]
-        return f'<p class="changes">{"; ".join(told)}</p>' if told else ""
+        returned = [self._change(change) for change in changes if change["where"] != "walk"]
+        return f'<p class="changes">{"; ".join(returned)}</p>' if returned else ""
 
     def _change(self, change):
         kind, _, number = change["where"].partition(" ")

@@ -91,16 +91,16 @@ async def answer(hall, page, message):
     full one; that is no business of the room."""
     n, place = None, page.place
     try:
-        told = read(message)
-        n = told.pop("n", None)
+        returned = read(message)
+        n = returned.pop("n", None)
         if not _is_number(n):
             n = None
             raise Refused("refused.no_number")
-        if told == {"do": "view"}:
+        if returned == {"do": "view"}:
             page.begin()
             return json.dumps({"n": n, "reply": {}})
-        past = await _past(hall, place, told)
-        said = {"n": n, "reply": hall.take(place, told) if past is None else past}
+        past = await _past(hall, place, returned)
+        said = {"n": n, "reply": hall.take(place, returned) if past is None else past}
         return json.dumps(said, separators=(",", ":"), allow_nan=False)
     except Refused as why:
         return json.dumps({"n": n, "refused": str(why), "text": why.text})
@@ -110,18 +110,18 @@ async def answer(hall, page, message):
         return json.dumps({"n": n, "refused": str(why), "text": why.text})
 
 
-async def _past(hall, place, told):
+async def _past(hall, place, returned):
     """The reply to a message that goes back in time, which is for the store; None to another."""
-    do = told.get("do")
+    do = returned.get("do")
     if place == "/teacher" and do == "go_on_from":
-        keys("the message", told, ("do", "room", "line"))
-        room = whole("room", told["room"], 1, 2**31)
-        return await hall.go_on_from(room, whole("line", told["line"], 0, 2**31))
+        keys("the message", returned, ("do", "room", "line"))
+        room = whole("room", returned["room"], 1, 2**31)
+        return await hall.go_on_from(room, whole("line", returned["line"], 0, 2**31))
     if place == "/teacher" and do == "allow_undo":
-        keys("the message", told, ("do", "on"))
-        return hall.allow_undo(switch("on", told["on"]))
+        keys("the message", returned, ("do", "on"))
+        return hall.allow_undo(switch("on", returned["on"]))
     if place != "/teacher" and do == "undo":
-        keys("the message", told, ("do",))
+        keys("the message", returned, ("do",))
         return await hall.undo(place)
     return None
 
@@ -140,12 +140,12 @@ def read(message):
     if message.type is not WSMsgType.TEXT:
         raise Refused("refused.no_text")
     try:
-        told = json.loads(message.data, parse_constant=_no_constant, parse_float=_float)
+        returned = json.loads(message.data, parse_constant=_no_constant, parse_float=_float)
     except (ValueError, RecursionError):
         raise Refused("refused.no_object") from None
-    if type(told) is not dict:
+    if type(returned) is not dict:
         raise Refused("refused.no_object")
-    return told
+    return returned
 
 
 def _no_constant(name):

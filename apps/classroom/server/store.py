@@ -17,7 +17,7 @@ import os
 import sqlite3
 from typing import NamedTuple, Optional
 
-FORM = 1
+FORM = 2
 MOST_CHECKPOINTS = 48
 """This many of a room's checkpoints are kept; of more, every other one goes."""
 _TABLES = (
@@ -176,12 +176,12 @@ class Store:
 
     def _look_through(self):
         """That the file is in one piece and every input is the one that was written."""
-        form = self.told("form")
+        form = self.noted("form")
         if form != FORM:
             raise StoreError(f"The store {self.path} has form {form}; this program reads form {FORM}.")
         if (found := self._db.execute("PRAGMA quick_check(1)").fetchone()[0]) != "ok":
             raise self._damaged(" ".join(found.split()))
-        if self.told("sum") != self._sum_of_class():
+        if self.noted("sum") != self._sum_of_class():
             raise self._damaged("what is noted of the class is not as it was written")
         calls = self._db.execute("SELECT room, line, text FROM calls ORDER BY room, line")
         sums, wanted = _Sums(b"", calls, self._db.execute("SELECT * FROM rooms")), 0
@@ -210,7 +210,7 @@ class Store:
                     self._db.execute("ROLLBACK")
             raise
 
-    def told(self, key, default=None):
+    def noted(self, key, default=None):
         """What is noted of the class under a key."""
         row = self._db.execute("SELECT value FROM class WHERE key = ?", (key,)).fetchone()
         return default if row is None else json.loads(row[0])

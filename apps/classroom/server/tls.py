@@ -25,14 +25,14 @@ def context(store, named, hosts):
                 return made, fingerprint(file.read())
         except (OSError, ValueError) as why:
             raise StoreError(f"The certificate in {named} cannot be used: {why}.") from None
-    if store.told("certificate") is None:
+    if store.noted("certificate") is None:
         store.tell(certificate=_new(hosts))
     # The library reads a certificate from a file alone.
     with tempfile.NamedTemporaryFile("w", suffix=".pem") as file:
-        file.write(store.told("certificate"))
+        file.write(store.noted("certificate"))
         file.flush()
         made.load_cert_chain(file.name)
-    return made, fingerprint(store.told("certificate"))
+    return made, fingerprint(store.noted("certificate"))
 
 
 def fingerprint(pem):

@@ -87,21 +87,21 @@ class Browser:
 
     def value(self, css):
         """The data-value of an element, read."""
-        return self.told(css, "data-value")
+        return self.attribute(css, "data-value")
 
     def values(self, css):
         """The data-values of all that the selector finds, at one moment."""
         script = "return [...document.querySelectorAll(arguments[0])].map((e) => e.dataset.value)"
         return self.driver.execute_script(script, css)
 
-    def told(self, css, name):
+    def attribute(self, css, name):
         """An attribute of an element, whether it is shown or not, as JSON or words; None without."""
         found = self.all(css)
-        told = found[0].get_attribute(name) if found else None
+        returned = found[0].get_attribute(name) if found else None
         try:
-            return json.loads(told) if told is not None else None
+            return json.loads(returned) if returned is not None else None
         except ValueError:
-            return told
+            return returned
 
     def cut(self, css):
         """The words of those that the selector finds which are not seen whole."""

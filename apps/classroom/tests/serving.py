@@ -127,7 +127,7 @@ class Page:
         self._patched = Patched()
         self.characters = 0
         self.each_view = None
-        self.unasked = lambda told: None
+        self.unasked = lambda returned: None
 
     async def __aenter__(self):
         self._session = aiohttp.ClientSession(cookie_jar=aiohttp.CookieJar(unsafe=True))
@@ -165,11 +165,11 @@ class Page:
             if message.data.startswith(('{"view":', '{"patch":')):
                 self._take_view(message.data)
                 continue
-            told = message.json()
-            if told.get("n") in self._asked:
-                self._asked.pop(told["n"]).set_result(told)
+            returned = message.json()
+            if returned.get("n") in self._asked:
+                self._asked.pop(returned["n"]).set_result(returned)
             else:
-                self.unasked(told)
+                self.unasked(returned)
         for left in self._asked.values():
             left.cancel()
 
@@ -201,10 +201,10 @@ class Page:
 
     async def ask(self, do, **more):
         """The reply to a message that is not refused."""
-        told = await self.send({"do": do, **more})
-        if "refused" in told:
-            raise AssertionError(f"{do} {more}: {told['refused']}")
-        return told["reply"]
+        returned = await self.send({"do": do, **more})
+        if "refused" in returned:
+            raise AssertionError(f"{do} {more}: {returned['refused']}")
+        return returned["reply"]
 
     async def call(self, call, **more):
         """The reply to a call."""
@@ -212,10 +212,10 @@ class Page:
 
     async def refused(self, do, **more):
         """Why a message is refused."""
-        told = await self.send({"do": do, **more})
-        if "refused" not in told:
+        returned = await self.send({"do": do, **more})
+        if "refused" not in returned:
             raise AssertionError(f"{do} {more} was not refused")
-        return told["refused"]
+        return returned["refused"]
 
     async def until(self, wanted):
         """The first view, from the newest on, that is as wanted."""

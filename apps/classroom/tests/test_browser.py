@@ -48,7 +48,7 @@ class Story(unittest.TestCase):
     def set_up(self, shape, by_hand=(), difference=0, way=(30, 30)):
         """The teacher sets up four hosts by the form; each clock differs so much from the last."""
         teacher = self.teacher
-        before = teacher.told("#room", "data-number") or 0
+        before = teacher.attribute("#room", "data-number") or 0
         teacher.click('[data-tab="setup"]')
         teacher.type("#setup-count", str(HOSTS))
         teacher.choose("#setup-shape", shape)
@@ -64,8 +64,8 @@ class Story(unittest.TestCase):
                     teacher.type(f'{at} [data-name="{direction}-{name}"]', str(ms))
         teacher.click("#setup-do")
         self.agree(teacher)
-        teacher.until(lambda: teacher.told("#room", "data-number") == before + 1, "a new room")
-        self.assertEqual(teacher.told("#room", "data-time"), 0)
+        teacher.until(lambda: teacher.attribute("#room", "data-number") == before + 1, "a new room")
+        self.assertEqual(teacher.attribute("#room", "data-time"), 0)
 
     def agree(self, browser):
         """Says yes, where the page asks before something is lost."""
@@ -74,21 +74,21 @@ class Story(unittest.TestCase):
 
     def second_passes(self):
         """The teacher lets the room's time go on by a second."""
-        time = self.teacher.told("#room", "data-time")
+        time = self.teacher.attribute("#room", "data-time")
         self.teacher.click("#one-second")
-        self.teacher.until(lambda: self.teacher.told("#room", "data-time") == time + 1000, "a second")
+        self.teacher.until(lambda: self.teacher.attribute("#room", "data-time") == time + 1000, "a second")
         for browser in (self.first, self.second):
-            browser.until(lambda: browser.told("#room-state", "data-time") == time + 1000, "a second")
+            browser.until(lambda: browser.attribute("#room-state", "data-time") == time + 1000, "a second")
 
     def teacher_at(self, seat):
         """The teacher works at a seat."""
         self.teacher.click('[data-tab="seat"]')
         self.teacher.choose("#seat-choice", str(seat))
-        self.teacher.until(lambda: self.teacher.told("#seat", "data-seat") == seat, f"seat {seat}")
+        self.teacher.until(lambda: self.teacher.attribute("#seat", "data-seat") == seat, f"seat {seat}")
 
     def calls(self, browser, call):
         """How many calls of that name the list has of the seat that the page shows."""
-        seat = browser.told("#seat", "data-seat")
+        seat = browser.attribute("#seat", "data-seat")
         lines = [json.loads(line) for line in self.file().splitlines()]
         return sum((line.get("seat"), line.get("call")) == (seat, call) for line in lines)
 
@@ -108,14 +108,14 @@ class Story(unittest.TestCase):
     def waiting(self, browser):
         """The number of the message that waits, as soon as there is one."""
         browser.one("#messages [data-message]")
-        return browser.told("#messages [data-message]", "data-message")
+        return browser.attribute("#messages [data-message]", "data-message")
 
     def receive(self, browser):
         """Takes the message that waits at once: the answer."""
         message = self.waiting(browser)
         browser.click(f'#messages [data-message="{message}"] .receive')
         browser.until(lambda: not browser.all(f'#messages [data-message="{message}"]'), "it is taken")
-        return browser.told("#answer", "data-answer")
+        return browser.attribute("#answer", "data-answer")
 
     def entry(self, browser, id):
         """An entry of the host table that the page shows."""
@@ -158,8 +158,8 @@ class Story(unittest.TestCase):
             self.send(second, 1)
             self.second_passes()
             self.receive(first)
-        self.assertEqual(first.told("#answer", "data-answer"), 0)
-        self.assertEqual(second.told("#answer", "data-answer"), 0)
+        self.assertEqual(first.attribute("#answer", "data-answer"), 0)
+        self.assertEqual(second.attribute("#answer", "data-answer"), 0)
         for browser, other, link in ((first, 2, 2), (second, 1, 1)):
             delay, _, ttl, pid, _ = self.entry(browser, other)
             self.assertLess(delay, 30000)
@@ -180,7 +180,7 @@ class Story(unittest.TestCase):
         self.assertEqual(self.receive(self.second), 0)
         boxes = self.walk(self.first)
         self.assertGreater(boxes, 5)
-        self.assertEqual(self.first.told("#answer", "data-answer"), 0)
+        self.assertEqual(self.first.attribute("#answer", "data-answer"), 0)
         self.assertLess(self.entry(self.first, 0)[0], 30000)
         # Each of the two is the other's neighbor's neighbor; the rest they know alike.
         there = {0: 0, 1: 2, 2: 1, 3: 3}
@@ -232,13 +232,13 @@ class Story(unittest.TestCase):
             )
             self.assertFalse(opened, place)
         before = self.file()
-        told = thief.run(
+        returned = thief.run(
             "const s = new WebSocket(`ws://${location.host}/seat/3/socket`);"
             "s.onopen = () => s.send(JSON.stringify({n: 7, do: 'call', seat: 1, call: 'initialize'}));"
-            "s.onmessage = (m) => { const told = JSON.parse(m.data); if (told.n === 7) done(told); };"
+            "s.onmessage = (m) => { const returned = JSON.parse(m.data); if (returned.n === 7) done(returned); };"
         )
-        self.assertIn("refused", told)
-        self.assertNotIn("reply", told)
+        self.assertIn("refused", returned)
+        self.assertNotIn("reply", returned)
         self.assertEqual(self.file(), before)
 
     def test_the_room_runs(self):
@@ -308,8 +308,8 @@ class Story(unittest.TestCase):
             teacher.type(f"#{form} [name={name}]", str(value))
         teacher.driver.execute_script("document.getElementById('net-answer').dataset.answer = 'asked'")
         teacher.click(f"#{form} button")
-        teacher.until(lambda: teacher.told("#net-answer", "data-answer") != "asked", "the answer")
-        return teacher.told("#net-answer", "data-answer")
+        teacher.until(lambda: teacher.attribute("#net-answer", "data-answer") != "asked", "the answer")
+        return teacher.attribute("#net-answer", "data-answer")
 
     def add_rows(self, rows):
         """The teacher's browser adds these rows, by a socket of its own and not by the form."""
@@ -319,8 +319,8 @@ class Story(unittest.TestCase):
             "const s = new WebSocket(`ws://${location.host}/teacher/socket`);"
             "s.onopen = () => messages.forEach((message) => s.send(JSON.stringify(message)));"
             "s.onmessage = (m) => {"
-            "  const told = JSON.parse(m.data);"
-            "  if (told.n === messages.length - 1) { s.close(); done(told.reply.answer); }"
+            "  const returned = JSON.parse(m.data);"
+            "  if (returned.n === messages.length - 1) { s.close(); done(returned.reply.answer); }"
             "};",
             messages,
         )
@@ -367,7 +367,7 @@ class Story(unittest.TestCase):
         self.tutor("net-remove", row=1)
         self.students_see()
         self.second.click("#step")
-        self.second.until(lambda: self.second.told("#answer", "data-answer") == 11, "no host")
+        self.second.until(lambda: self.second.attribute("#answer", "data-answer") == 11, "no host")
         self.assertIn("is not found in the net table: 11", self.second.text("#walk-just"))
         self.replays()
 
@@ -376,16 +376,16 @@ class Story(unittest.TestCase):
         self.set_up("line", by_hand=range(HOSTS))
         first, teacher = self.first, self.teacher
         teacher.click('[data-tab="nets"]')
-        self.assertEqual(teacher.told("#net-afresh [name=nhosts]", "value"), HOSTS)
+        self.assertEqual(teacher.attribute("#net-afresh [name=nhosts]", "value"), HOSTS)
         self.assertEqual(self.tutor("net-afresh", nhosts=6), 0)
         self.assertIn("NHOSTS is 6, this host's is 4", first.text("#afresh"))
         self.make(first, "read", '[data-call="read"]')
-        first.until(lambda: first.told("#answer", "data-answer") == 1, "refused")
+        first.until(lambda: first.attribute("#answer", "data-answer") == 1, "refused")
         self.make(first, "initialize", '[data-call="initialize"]')
         first.until(lambda: len(first.all("#routes tr[data-id]")) == 6, "six hosts")
         self.assertFalse(first.all("#afresh")[0].is_displayed())
         self.make(first, "read", '[data-call="read"]')
-        first.until(lambda: first.told("#answer", "data-answer") == 0, "done")
+        first.until(lambda: first.attribute("#answer", "data-answer") == 0, "done")
         self.assertTrue(self.second.one("#afresh"))
         teacher.click("#net-initialize")
         self.second.until(lambda: not self.second.all("#afresh")[0].is_displayed(), "set afresh")
@@ -399,10 +399,10 @@ class Story(unittest.TestCase):
         teacher.click('[data-tab="exercises"]')
         teacher.click('#exercise-list [data-exercise="3"] button')
         self.agree(teacher)
-        teacher.until(lambda: teacher.told("#exercise", "data-at") == 0, "the exercise")
+        teacher.until(lambda: teacher.attribute("#exercise", "data-at") == 0, "the exercise")
         self.assertEqual(teacher.all("#exercise-explained")[0].text, "")
         teacher.click("#exercise-next")
-        teacher.until(lambda: teacher.told("#exercise", "data-at") == 1, "the first event")
+        teacher.until(lambda: teacher.attribute("#exercise", "data-at") == 1, "the first event")
         teacher.click("#exercise-end")
         teacher.until(lambda: teacher.text("#exercise-explained"), "the explanation")
         teacher.until(lambda: "as the exercise says" in teacher.text("#exercise-held"), "the promise")
@@ -419,8 +419,8 @@ class Story(unittest.TestCase):
             file.flush()
             teacher.driver.execute_script("document.getElementById('bench-said').textContent = 'asked'")
             teacher.all("#bench-choose")[0].send_keys(file.name)
-            teacher.until(lambda: teacher.told("#bench-said", "textContent") != "asked", "the file")
-        return teacher.told("#bench-said", "textContent")
+            teacher.until(lambda: teacher.attribute("#bench-said", "textContent") != "asked", "the file")
+        return teacher.attribute("#bench-said", "textContent")
 
     def set_up_bench(self):
         """The teacher sets the bench up: what is said of it."""
@@ -436,7 +436,7 @@ class Story(unittest.TestCase):
 
     def at_event(self):
         """The number of events that are done, where the list shows all their answers."""
-        done = self.teacher.told("#bench-work", "data-done")
+        done = self.teacher.attribute("#bench-work", "data-done")
         return done if len(self.teacher.all("#bench-events tr[data-answer]")) == done else None
 
     def bench_entry(self, seat, id):
@@ -457,9 +457,9 @@ class Story(unittest.TestCase):
         teacher.click('[data-tab="bench"]')
         teacher.choose("#bench-ready", "01-handshake")
         teacher.click("#bench-load-ready")
-        teacher.until(lambda: teacher.told("#bench-file", "data-name") == "01-handshake", "the file")
+        teacher.until(lambda: teacher.attribute("#bench-file", "data-name") == "01-handshake", "the file")
         self.assertIn("2 seats, 1 cable, 10 events, NHOSTS 2", teacher.text("#bench-file"))
-        self.assertTrue(teacher.told("#bench-one", "aria-disabled"))
+        self.assertTrue(teacher.attribute("#bench-one", "aria-disabled"))
         self.assertIn("initialized", self.set_up_bench())
         self.assertEqual(self.bench_entry(1, 0), (30000, 0))
         for done in range(1, 8):
@@ -472,12 +472,12 @@ class Story(unittest.TestCase):
         self.assertTrue(teacher.all('#bench-seats [data-seat="1"] [data-id="0"] .changed'))
         self.run_bench("#bench-end", 10)
         self.assertEqual(self.bench_entry(0, 1), (100, 500))
-        self.assertEqual(teacher.told("#bench-progress", "value"), 10)
+        self.assertEqual(teacher.attribute("#bench-progress", "value"), 10)
         self.assertIn("✓ 16 of the 16 promises", teacher.text("#bench-promised"))
         self.assertIn("Events 8 to 9 are carried out, 0 of them refused", teacher.text("#bench-answer"))
         teacher.choose("#bench-ready", "10-hops")
         teacher.click("#bench-load-ready")
-        teacher.until(lambda: teacher.told("#bench-file", "data-name") == "10-hops", "the file")
+        teacher.until(lambda: teacher.attribute("#bench-file", "data-name") == "10-hops", "the file")
         self.set_up_bench()
         teacher.type("#bench-count", "100")
         self.run_bench("#bench-some", 100)
@@ -490,7 +490,7 @@ class Story(unittest.TestCase):
             self.assertEqual(browser.all("[id^=bench]"), [])
 
     def test_bench_files(self):
-        """Octets and texts are loaded and saved; a refused one is told with its answer and its record."""
+        """Octets and texts are loaded and saved; a refused one is shown with its answer and its record."""
         teacher = self.teacher
         teacher.click('[data-tab="bench"]')
         text = "seat 192.0.2.1\nseat 192.0.2.2\n\ncable 0.1 1.1\n\nself-report 0\narrival tray 5\n"
@@ -533,7 +533,7 @@ class Story(unittest.TestCase):
             self.send(self.second, 1)
         teacher.click('[data-tab="bench"]')
         teacher.click("#bench-room")
-        teacher.until(lambda: teacher.told("#bench-file", "data-name") == "room", "the room")
+        teacher.until(lambda: teacher.attribute("#bench-file", "data-name") == "room", "the room")
         self.assertIn("line 13 of 13, as 8 events", teacher.text("#bench-said"))
         self.set_up_bench()
         self.run_bench("#bench-end", 8)
@@ -556,7 +556,7 @@ class Story(unittest.TestCase):
         teacher.click("#run")
         teacher.until(lambda: teacher.all("#picture [data-way]"), "a message on its way")
         teacher.click("#pause")
-        teacher.until(lambda: teacher.told("#room", "data-running") is False, "the room stands")
+        teacher.until(lambda: teacher.attribute("#room", "data-running") is False, "the room stands")
         return bool(teacher.all("#picture [data-way]"))
 
     def replays(self):

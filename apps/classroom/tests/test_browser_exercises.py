@@ -50,7 +50,7 @@ class Exercises(unittest.TestCase):
 
     def set_up(self, number):
         """The teacher sets an exercise up, with one click."""
-        before = self.teacher.told("#room", "data-number")
+        before = self.teacher.attribute("#room", "data-number")
         self.teacher.click('[data-tab="exercises"]')
         self.teacher.click(f'#exercise-list [data-exercise="{number}"] button')
         self.teacher.until(lambda: self.agreed(before + 1), "a new room")
@@ -61,16 +61,16 @@ class Exercises(unittest.TestCase):
         for button in self.teacher.all(".sure-yes"):
             if button.is_displayed():
                 button.click()
-        return self.teacher.told("#room", "data-number") == number
+        return self.teacher.attribute("#room", "data-number") == number
 
     def next(self):
         """The teacher lets the next stage be carried out."""
-        at = self.teacher.told("#exercise", "data-at")
+        at = self.teacher.attribute("#exercise", "data-at")
         self.teacher.click("#exercise-next")
         self.at(self.teacher, at + 1)
 
     def at(self, browser, stage):
-        browser.until(lambda: browser.told("#exercise", "data-at") == stage, f"stage {stage}")
+        browser.until(lambda: browser.attribute("#exercise", "data-at") == stage, f"stage {stage}")
 
     def done(self, browser, stage):
         """The results of a stage that is done, as the page shows them: rows of words."""
@@ -80,7 +80,7 @@ class Exercises(unittest.TestCase):
             "return [...document.querySelectorAll(arguments[0])].map((row) => [...row.cells].map((c) => c.textContent))",
             f"{css} tbody tr",
         )
-        return browser.told(css, "data-right"), rows
+        return browser.attribute(css, "data-right"), rows
 
     # What they see.
 
@@ -110,10 +110,10 @@ class Exercises(unittest.TestCase):
         for browser in (self.ada, self.ben):
             self.assertEqual(browser.text("#exercise-explained"), said.said("explanation"))
             self.assertIn("✓ All 5 stages", browser.text("#exercise-now"))
-        self.teacher.until(lambda: self.teacher.told('#exercise-copies [data-copy="0"]', "data-stage") == 5, "copy 1")
-        self.assertEqual(self.teacher.told('#exercise-copies [data-copy="1"]', "data-stage"), 0)
+        self.teacher.until(lambda: self.teacher.attribute('#exercise-copies [data-copy="0"]', "data-stage") == 5, "copy 1")
+        self.assertEqual(self.teacher.attribute('#exercise-copies [data-copy="1"]', "data-stage"), 0)
         # The teacher's page says of the first stage alone what is done: the other copy has not begun.
-        self.assertEqual(self.teacher.told("#exercise", "data-at"), 0)
+        self.assertEqual(self.teacher.attribute("#exercise", "data-at"), 0)
         self.teacher.click("#pause")
         right, rows = self.done(self.ada, 4)
         self.assertTrue(right)
@@ -167,10 +167,10 @@ class Exercises(unittest.TestCase):
         self.assertIn("in all 2 copies", self.teacher.text("#exercise-held"))
 
     def test_an_observer(self):
-        """The student who is left over is told so, and sees the tables of a copy."""
+        """The student who is left over reads so, and sees the tables of a copy."""
         self.set_up(1)
         eve = self.observer
-        eve.until(lambda: eve.told("#exercise", "data-observes"), "the observer")
+        eve.until(lambda: eve.attribute("#exercise", "data-observes"), "the observer")
         self.assertIn("You observe copy 1: Ada (seat 0), Ben (seat 1).", eve.text("#exercise-part"))
         self.assertIn("there is no host at your seat", eve.text("#exercise-part"))
         self.assertFalse(eve.all("#none")[0].is_displayed())
@@ -212,8 +212,8 @@ class Exercises(unittest.TestCase):
         spoiled = list(lines)
         spoiled[wrong[0]], spoiled[wrong[1]] = "cable 0.1 2.1", "self-repot all"
         self.assertIn("Not loaded", self.load("\n".join(spoiled)))
-        told = [row.get_attribute("data-line") for row in self.teacher.all("#exercise-faults li")]
-        self.assertEqual({int(line) for line in told} & {at + 1 for at in wrong}, {at + 1 for at in wrong})
+        returned = [row.get_attribute("data-line") for row in self.teacher.all("#exercise-faults li")]
+        self.assertEqual({int(line) for line in returned} & {at + 1 for at in wrong}, {at + 1 for at in wrong})
         self.assertIn("Did you mean 'self-report'?", self.teacher.text("#exercise-faults"))
         self.teacher.picture(PICTURES / "exercise-faults.png")
         loaded = self.load(text)
@@ -248,8 +248,8 @@ class Exercises(unittest.TestCase):
             browser.until(lambda: browser.text("#exercise-expected"), "what is expected")
             self.assertFalse(browser.all("#exercise-marked")[0].is_displayed())
         self.next()
-        self.ada.until(lambda: self.ada.told("#exercise-marked", "data-right") is True, "Ada is right")
-        self.ben.until(lambda: self.ben.told("#exercise-marked", "data-right") is False, "Ben is not")
+        self.ada.until(lambda: self.ada.attribute("#exercise-marked", "data-right") is True, "Ada is right")
+        self.ben.until(lambda: self.ben.attribute("#exercise-marked", "data-right") is False, "Ben is not")
         self.assertIn("100, and it is 30,000", self.ben.text("#exercise-marked"))
         self.ben.driver.refresh()
         self.ben.until(lambda: "100, and it is 30,000" in self.ben.text("#exercise-marked"), "the mark is kept")

@@ -172,7 +172,7 @@ class Copies(unittest.TestCase):
         self.assertEqual(view["predict"], [])
 
     def test_observers(self):
-        """Who has no seat is told so, and sees the tables of a copy."""
+        """Who has no seat reads so, and sees the tables of a copy."""
         room = begun(11, 16)
         view = room.seat_view(15)
         self.assertIsNone(view["seat"])
@@ -345,7 +345,7 @@ class Verdicts(unittest.TestCase):
         self.assertEqual((view["at"], view["results"][1]["right"]), (1, None))
 
     def test_a_promise_that_does_not_hold(self):
-        """All calls are answered as named, and a number is another: expected and actual are told."""
+        """All calls are answered as named, and a number is another: expected and actual are shown."""
         room = begun(1, 2)
         for _ in range(3):
             room.teacher({"do": "next"})
@@ -398,7 +398,7 @@ class Verdicts(unittest.TestCase):
         self.assertIsNone(room.teacher_view(second["mark"])["exercise"])
 
 
-class Foretold(unittest.TestCase):
+class Predicted(unittest.TestCase):
     """What students write that they expect of a stage."""
 
     def setUp(self):
@@ -417,8 +417,8 @@ class Foretold(unittest.TestCase):
         self.assertEqual(asked, [(5, 6, "DELAY"), (5, 7, "DELAY")])
         self.foretell(7, 100, DOWN)
         self.foretell(8, 100, 200)
-        self.assertEqual((self.view(7)["foretold"], self.view(7)["marks"]), ([100, DOWN], []))
-        self.assertIsNone(self.view(6)["foretold"])
+        self.assertEqual((self.view(7)["predicted"], self.view(7)["marks"]), ([100, DOWN], []))
+        self.assertIsNone(self.view(6)["predicted"])
         self.room.teacher({"do": "next"})
         marks = self.view(8)["marks"]
         self.assertEqual([(each["given"], each["actual"], each["right"]) for each in marks[0]["fields"]], [(100, 100, True), (200, DOWN, False)])
@@ -477,7 +477,7 @@ class Own(unittest.TestCase):
         self.assertEqual(self.load(self.text, "yours")["number"], FIRST_OWN + 1)
 
     def test_faults(self):
-        """Each wrong line is told with its number, what a room cannot do too; and nothing is loaded."""
+        """Each wrong line is reported with its number, what a room cannot do too; and nothing is loaded."""
         lines = self.text.splitlines()
         for wrong, words in (
             ("sned cable 0 end 0 tray 0", "Did you mean 'send'?"),

@@ -107,8 +107,8 @@ class Served(Quiet):
                 await teacher.ask("one_second")
             wanted = (await teacher.until(lambda view: view["room"]["time"] == 8_000))["seats"]
             await teacher.ask("pause")
-            status, told = await teacher.get("/teacher/rooms")
-            (first,) = json.loads(told)["rooms"]
+            status, returned = await teacher.get("/teacher/rooms")
+            (first,) = json.loads(returned)["rooms"]
             status, text = await teacher.get(f"/teacher/rooms/1/{first['lines']}")
             self.assertEqual(status, 200)
             past = json.loads(text)
@@ -123,8 +123,8 @@ class Served(Quiet):
             self.assertEqual([seat["table"] for seat in view["seats"]], [seat["table"] for seat in wanted])
             self.assertIn("no such call", await teacher.refused("go_on_from", room=9, line=1))
             self.assertIn("no such thing", await student.refused("go_on_from", room=1, line=1))
-            status, told = await teacher.get("/teacher/rooms")
-            self.assertEqual([(r["number"], r["parent"]) for r in json.loads(told)["rooms"]], [(1, None), (2, 1)])
+            status, returned = await teacher.get("/teacher/rooms")
+            self.assertEqual([(r["number"], r["parent"]) for r in json.loads(returned)["rooms"]], [(1, None), (2, 1)])
             await teacher.ask("one_second")
 
     async def test_undo(self):
@@ -156,20 +156,20 @@ class Pages(unittest.TestCase):
         for _ in range(6):
             browser.click("#one-second")
         browser.click('[data-tab="history"]')
-        browser.until(lambda: browser.told("#panel-history", "data-line"), "the last call")
-        last = browser.told("#panel-history", "data-line")
+        browser.until(lambda: browser.attribute("#panel-history", "data-line"), "the last call")
+        last = browser.attribute("#panel-history", "data-line")
         now = browser.value('#history-tables [data-seat="0"] [data-id="0"] [data-field="time"]')
         self.assertNotEqual(now, 0)
         browser.click("#history-back")
-        browser.until(lambda: browser.told("#panel-history", "data-line") == last - 1, "the call before")
+        browser.until(lambda: browser.attribute("#panel-history", "data-line") == last - 1, "the call before")
         browser.picture(PICTURES / "history.png")
         script = "const s = document.getElementById('history-line'); s.value = 3;"
         browser.driver.execute_script(script + "s.dispatchEvent(new Event('input'))")
-        browser.until(lambda: browser.told("#panel-history", "data-line") == 3, "the third call")
+        browser.until(lambda: browser.attribute("#panel-history", "data-line") == 3, "the third call")
         field = '#history-tables [data-seat="0"] [data-id="0"] [data-field="time"]'
         browser.until(lambda: browser.value(field) == 0, "an empty table")
         browser.click("#history-go-on")
-        browser.until(lambda: browser.told("#room", "data-number") == 2, "the second room")
+        browser.until(lambda: browser.attribute("#room", "data-number") == 2, "the second room")
         self.assertEqual(browser.complaints(), [])
 
 

@@ -102,7 +102,7 @@ class German(unittest.TestCase):
                 page.click("#bench-load-ready")
                 page.click("#bench-set-up")
                 page.click("#bench-one")
-                page.until(lambda: page.told("#bench-work", "data-done") == 1, "an event")
+                page.until(lambda: page.attribute("#bench-work", "data-done") == 1, "an event")
             if tab == "nets":
                 page.click("#net-remove button")
                 page.one('#net-answer[data-answer="22"]')
@@ -128,8 +128,8 @@ class German(unittest.TestCase):
         page.click("#one-message")
         self.assertIn("keine Nachricht ist unterwegs", page.text("#refused"))
         self.assert_german("a refusal")
-        told = self.ask(do="exercise_load", name="x", text="seat 192.0.2.1\nsit 3\n")["reply"]["faults"]
-        self.assertEqual(told[0]["text"][0].partition(".")[0], "wrong")
+        returned = self.ask(do="exercise_load", name="x", text="seat 192.0.2.1\nsit 3\n")["reply"]["faults"]
+        self.assertEqual(returned[0]["text"][0].partition(".")[0], "wrong")
         page.click("#one-second")
         page.click('[data-tab="setup"]')
         page.click("#setup-do")

@@ -50,7 +50,7 @@ class Lesson(unittest.TestCase):
             "const [message] = arguments;"
             "const s = new WebSocket(`ws://${location.host}/teacher/socket`);"
             "s.onopen = () => s.send(JSON.stringify({ n: 1, ...message }));"
-            "s.onmessage = (m) => { const told = JSON.parse(m.data); if (told.n === 1) { s.close(); done(told); } };",
+            "s.onmessage = (m) => { const returned = JSON.parse(m.data); if (returned.n === 1) { s.close(); done(returned); } };",
             message,
         )["reply"]
 
@@ -91,10 +91,10 @@ class Lesson(unittest.TestCase):
         teacher.click('[data-tab="exercises"]')
         teacher.type("#exercise-students", str(STUDENTS))
         teacher.click('#exercise-list [data-exercise="1"] button')
-        teacher.until(lambda: teacher.told("#exercise", "data-at") == 0, "the exercise")
+        teacher.until(lambda: teacher.attribute("#exercise", "data-at") == 0, "the exercise")
         self.assertEqual(len(teacher.all("#picture [data-host]")), STUDENTS)
         student = self.at(3)
-        student.until(lambda: student.told("#exercise", "data-exercise") == 1, "the exercise on her page")
+        student.until(lambda: student.attribute("#exercise", "data-exercise") == 1, "the exercise on her page")
 
     def tries(self, seat, form, fill):
         """A student tries once, or twice: fill(right) writes into the fields of a form."""
@@ -123,7 +123,7 @@ class Lesson(unittest.TestCase):
         page.one(f"{form} [data-predict]")
         self.tries(seat, form, fill)
         page.until(lambda: "Message" in page.text("#sent"), "the message on its way")
-        self.assertEqual(page.told("#answer", "data-answer"), 0)
+        self.assertEqual(page.attribute("#answer", "data-answer"), 0)
 
     def predict_arrival(self, seat):
         """The first message is taken, and changes no entry."""
@@ -134,7 +134,7 @@ class Lesson(unittest.TestCase):
         page.one(f"{form} [data-predict]")
         self.tries(seat, form, lambda right: page.type(f'{form} [data-predict="answer"]', "0" if right else "10"))
         page.until(lambda: not page.all("#messages [data-message]"), "it is taken")
-        self.assertEqual(page.told("#answer", "data-answer"), 0)
+        self.assertEqual(page.attribute("#answer", "data-answer"), 0)
 
     def leave_and_return(self):
         """One student closes her page; the board says so, until she comes back."""
@@ -156,7 +156,7 @@ class Lesson(unittest.TestCase):
             row = f'#board tr[data-seat="{seat}"]'
             wanted = (mark["tried"], mark["right"], mark["second"])
             teacher.until(
-                lambda: tuple(teacher.told(row, f"data-{name}") for name in ("tried", "right", "second")) == wanted,
+                lambda: tuple(teacher.attribute(row, f"data-{name}") for name in ("tried", "right", "second")) == wanted,
                 f"the marks of seat {seat}",
             )
             self.assertEqual(teacher.text(f'{row} [data-field="name"]'), f"Student {seat}")

@@ -56,7 +56,7 @@ class Promised(unittest.TestCase):
         room.teacher({"do": "cable", "cable": 0, "ways": [[0, 16_384], [0, 0]]})
         self.assertIn("may take more than 16,383 ms", broken(room)[0])
         room = pair(by_hand=True)
-        written = call(room, 1, "write", link=1, text="hello 0 0 0 1 0\n")["told"]["message"]
+        written = call(room, 1, "write", link=1, text="hello 0 0 0 1 0\n")["returned"]["message"]
         self.assertEqual(broken(room), [])
         call(room, 1, "receive", message=written)
         self.assertIn("took a message that no host has sent", broken(room)[0])
@@ -81,7 +81,7 @@ class Faults(unittest.TestCase):
     def fault(self, text):
         room = Room({"seats": [{"by_hand": True}], "cables": []})
         reply = call(room, 0, "write", link=1, text=text)
-        return reply["answer"], english(reply["told"]["fault"])
+        return reply["answer"], english(reply["returned"]["fault"])
 
     def test_found(self):
         for text, answer, words in (

@@ -95,20 +95,20 @@ class Picture(unittest.TestCase):
 
     def ask(self, *messages):
         """Messages of the teacher's, by a socket of their own; the last one's reply comes last."""
-        told = self.teacher.run(
+        returned = self.teacher.run(
             "const [messages] = arguments, replies = [];"
             "const s = new WebSocket(`ws://${location.host}/teacher/socket`);"
             "s.onopen = () => messages.forEach((message, i) => s.send(JSON.stringify({ n: i + 1, ...message })));"
-            "s.onmessage = (m) => { const told = JSON.parse(m.data); if (told.n) replies.push(told);"
-            "  if (told.n === messages.length) { s.close(); done(replies); } };",
+            "s.onmessage = (m) => { const returned = JSON.parse(m.data); if (returned.n) replies.push(returned);"
+            "  if (returned.n === messages.length) { s.close(); done(replies); } };",
             messages,
         )
-        self.assertEqual([each for each in told if "reply" not in each], [])
+        self.assertEqual([each for each in returned if "reply" not in each], [])
 
     def set_up(self, seats, pairs):
-        before = self.teacher.told("#room", "data-number")
+        before = self.teacher.attribute("#room", "data-number")
         self.ask({"do": "set_up", **room(seats, pairs)})
-        self.teacher.until(lambda: self.teacher.told("#room", "data-number") == before + 1, "the room")
+        self.teacher.until(lambda: self.teacher.attribute("#room", "data-number") == before + 1, "the room")
         self.teacher.until(lambda: len(self.teacher.all("#picture [data-host]")) == seats, "its hosts")
 
     def faults(self, pairs):

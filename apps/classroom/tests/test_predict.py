@@ -51,7 +51,7 @@ class OfAWalk(unittest.TestCase):
             self.assertEqual(set(asks(self.room, 0)), set(fields))
             reply = predict(self.room, 0, "step", fields)
             self.assertEqual((reply["place"], reply["try"], reply["right"]), (place, 1, True), reply)
-            self.assertEqual(reply["reply"]["told"]["box"], place)
+            self.assertEqual(reply["reply"]["returned"]["box"], place)
             self.assertTrue(reply["words"])
         self.assertFalse(self.room.seats[0].in_walk)
         student = self.room.lesson.students[0]
@@ -72,7 +72,7 @@ class OfAWalk(unittest.TestCase):
         reply = predict(self.room, 0, "step", {**slip, "DELAY": 81})
         self.assertEqual((reply["done"], reply["try"], reply["right"]), (True, 2, False))
         self.assertEqual([mark["expected"] for mark in reply["fields"]], [449, 81, 489])
-        self.assertEqual(reply["reply"]["told"]["box"], "step 3")
+        self.assertEqual(reply["reply"]["returned"]["box"], "step 3")
         student = self.room.lesson.students[0]
         self.assertEqual((student.right, student.second, student.missed), (2, 0, 1))
 
@@ -133,12 +133,12 @@ class AtRandom(unittest.TestCase):
                 second = predict(room, 0, "step", fields)
                 expected = {mark["field"]: mark["expected"] for mark in second["fields"]}
                 self.check(room, second, expected)
-                seen.add(second["reply"]["told"]["box"])
+                seen.add(second["reply"]["returned"]["box"])
         self.assertEqual(len(seen), 5 + 3 * 3 + 1)
 
     def check(self, room, made, expected):
         """The expected values are those of the host after the call, and of its walk."""
-        seat, box = room.seats[0], made["reply"]["told"]["box"]
+        seat, box = room.seats[0], made["reply"]["returned"]["box"]
         link, walk = seat.state.links[0], seat.state.walk
         if "KEEP-ALIVE" in expected:
             self.assertEqual(expected["KEEP-ALIVE"], link.keep_alive)
@@ -241,11 +241,11 @@ class Sent(unittest.TestCase):
     def test_where_a_message_is(self):
         cable = {"ends": [[0, 1], [1, 1]], "ways": [[30, 30], [30, 30]], "loss": [0, 100]}
         room = Room({"seats": 2 * [{"by_hand": True}], "cables": [cable]})
-        way = call(room, 0, "send", link=1)["told"]["way"]
+        way = call(room, 0, "send", link=1)["returned"]["way"]
         self.assertEqual(way, {"message": 1, "to": 1, "arrival": 30, "lost": False})
         sent = {"message": 1, "link": 1, "to": 1, "arrival": 30}
         self.assertEqual(room.seat_view(0)["seat"]["sent"], [sent])
-        self.assertTrue(call(room, 1, "send", link=1)["told"]["way"]["lost"])
+        self.assertTrue(call(room, 1, "send", link=1)["returned"]["way"]["lost"])
         self.assertEqual(room.seat_view(1)["seat"]["sent"], [])
 
 
@@ -267,8 +267,8 @@ class InOneMessage(unittest.TestCase):
         until_the_answer(room)
         call(room, 0, "open_walk", message=3)
         for place in ("host 0, line a", "host 1, line a"):
-            self.assertEqual(call(room, 0, "walk_on", to="host")["told"]["next"]["name"], place)
-        self.assertIsNone(call(room, 0, "walk_on", to="host")["told"]["next"])
+            self.assertEqual(call(room, 0, "walk_on", to="host")["returned"]["next"]["name"], place)
+        self.assertIsNone(call(room, 0, "walk_on", to="host")["returned"]["next"])
 
 
 if __name__ == "__main__":

@@ -31,9 +31,9 @@ class Listening(Page):
         super()._take_view(text)
 
     async def send(self, message):
-        told = await super().send(message)
-        self.frames.append(json.dumps(told))
-        return told
+        returned = await super().send(message)
+        self.frames.append(json.dumps(returned))
+        return returned
 
 
 def gives_away(frames, number):
@@ -66,12 +66,12 @@ class Secret(Quiet):
         for sender, taker in ((first, second), (second, first), (first, second)):
             await sender.call("self_report")
             sent = await sender.call("send", link=1)
-            await self.arrive(teacher, sent["told"]["way"]["arrival"])
+            await self.arrive(teacher, sent["returned"]["way"]["arrival"])
             (message,) = (await taker.until(lambda view: view["seat"]["waiting"]))["seat"]["waiting"]
             await taker.call("receive", message=message["message"])
         await second.call("self_report")
         sent = await second.call("send", link=1)
-        await self.arrive(teacher, sent["told"]["way"]["arrival"])
+        await self.arrive(teacher, sent["returned"]["way"]["arrival"])
 
     async def arrive(self, teacher, time):
         """The room's time goes on until a message is there."""

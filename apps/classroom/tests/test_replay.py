@@ -70,7 +70,7 @@ class Replay(unittest.TestCase):
 
     def test_another_message(self):
         line, report = self.altered(
-            lambda l: l.get("call") == "send", lambda l: l["told"].update(octets="00")
+            lambda l: l.get("call") == "send", lambda l: l["returned"].update(octets="00")
         )
         self.assertIn(f"line {line}: send tells", report.first_difference)
 

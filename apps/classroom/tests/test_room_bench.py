@@ -110,7 +110,7 @@ class Files(unittest.TestCase):
             self.assertEqual(self.room.bench.loaded.octets, by_text.octets)
             self.assertEqual(bench_file.read_text(by_text.text)[0], bench_file.read_text(text)[0])
 
-    def test_wrong_lines_are_told(self):
+    def test_wrong_lines_are_reported(self):
         load(self.room, text_of("small"))
         with self.assertRaises(Refused) as refused:
             wrong = PAIR + "tick 2\n" + 20 * "tock 0\n"
@@ -140,7 +140,7 @@ class Files(unittest.TestCase):
             self.assertIn(fault, english(load_octets(self.room, bytes(octets))["fault"]))
             reply = set_up(self.room)
             self.assertEqual(reply["answer"], answer)
-            self.assertIn(fault, english(reply["told"]["fault"]))
+            self.assertIn(fault, english(reply["returned"]["fault"]))
             self.assertEqual(view(self.room)["last"], reply)
             self.assertFalse(view(self.room)["ready"])
             with self.assertRaisesRegex(Refused, "set it up first"):
@@ -187,19 +187,19 @@ class Runs(unittest.TestCase):
         with self.assertRaisesRegex(Refused, "set it up first"):
             run(self.room, 1)
         set_up(self.room)
-        told = []
+        returned = []
         for event in range(12):
             reply = run(self.room, 1)
             self.assertEqual((reply["answer"], reply["count"], reply["done"]), (0, 1, event + 1))
-            told.append(view(self.room)["last"])
-            self.assertEqual((told[-1]["call"], told[-1]["event"]), ("bench_event", event))
+            returned.append(view(self.room)["last"])
+            self.assertEqual((returned[-1]["call"], returned[-1]["event"]), ("bench_event", event))
         events = [[kind, english(words)] for kind, words in view(self.room)["events"]]
         self.assertEqual(events[9], ["set", "seat 1: set by -500 ms; count 90"])
         self.assertEqual(events[7], ["arrival", "the packet in slot 0 arrives (see event 6); count 90"])
-        self.assertEqual(english(told[7]["told"]["went"]), "from seat 0, link 1, to seat 1, link 1")
+        self.assertEqual(english(returned[7]["returned"]["went"]), "from seat 0, link 1, to seat 1, link 1")
         moved = {"seat": 1, "where": "host 0", "field": "DELAY", "before": 30_000, "after": 100}
-        self.assertIn(moved, told[7]["changes"])
-        self.assertEqual((told[8]["answer"], told[8]["changes"], told[8]["told"]), (3, [], {}))
+        self.assertIn(moved, returned[7]["changes"])
+        self.assertEqual((returned[8]["answer"], returned[8]["changes"], returned[8]["returned"]), (3, [], {}))
         self.assertEqual(run(self.room, 1)["count"], 0)
 
     def test_pieces(self):
@@ -304,7 +304,7 @@ class Runs(unittest.TestCase):
         reply = run(self.room, 1)
         self.assertEqual((reply["answer"], reply["count"]), (19, 0))
         words = "the file's NHOSTS is 2, that of the class's table 5"
-        self.assertIn(words, english(view(self.room)["last"]["told"]["fault"]))
+        self.assertIn(words, english(view(self.room)["last"]["returned"]["fault"]))
         self.assertEqual(set_up(self.room, "class")["answer"], 19)
         self.assertEqual(set_up(self.room, "own")["answer"], 0)
         self.room.teacher({"do": "net_afresh", "nhosts": 2})
@@ -417,13 +417,13 @@ class OfARoom(unittest.TestCase):
         room = Room({"seats": [{"by_hand": True}], "cables": []})
         text = "hello 0 0 0 1 0\n"
         write = {"do": "call", "call": "write", "link": 1, "text": text, "source": "192.0.2.9"}
-        message = room.seat(0, write)["told"]["message"]
+        message = room.seat(0, write)["returned"]["message"]
         room.seat(0, {"do": "call", "call": "receive", "message": message})
         words = "line 5: link 1 of seat 0 has no cable, and so act no event"
         self.assertEqual(english(self.taken(room).stopped), words)
         room = crystals(2)
         room.teacher({"do": "by_hand", "seat": 0, "on": True})
-        message = room.seat(0, {"do": "call", "call": "write", "link": 1, "text": text})["told"]["message"]
+        message = room.seat(0, {"do": "call", "call": "write", "link": 1, "text": text})["returned"]["message"]
         room.seat(0, {"do": "call", "call": "receive", "message": message})
         taken = self.taken(room)
         self.assertEqual(english(taken.stopped), "line 6: the packet was written by hand, and no seat has sent it")

@@ -49,14 +49,14 @@ class Replies(unittest.TestCase):
         self.assertEqual(changed[("host 1", "OFFSET")], (0, 489))
         self.assertEqual(changed[("host 1", "time")], (0, 45_081))
         self.assertEqual(changed[("link 1", "KEEP-ALIVE")], (3, 4))
-        self.assertEqual(call(room, 0, "lookup", address="192.0.2.2")["told"], {"id": 1, "pid": 1})
+        self.assertEqual(call(room, 0, "lookup", address="192.0.2.2")["returned"], {"id": 1, "pid": 1})
 
     def test_inspection_changes_nothing(self):
         room = blackboard()
         until_the_answer(room)
         reply = call(room, 0, "inspect", message=3)
-        told = {"source": "192.0.2.2", "time": 45_530, "tsp": 45_000, "nhosts": 2}
-        self.assertEqual((reply["told"], reply["changes"]), (told, []))
+        returned = {"source": "192.0.2.2", "time": 45_530, "tsp": 45_000, "nhosts": 2}
+        self.assertEqual((reply["returned"], reply["changes"]), (returned, []))
         self.assertIn(3, room.seats[0].waiting)
 
     def test_refusals_in_words(self):

@@ -33,7 +33,7 @@ def rows(room):
 
 def written(room, source=ELSEWHERE):
     """The number of a message without a table that waits at seat 0, from that address."""
-    return call(room, 0, "write", link=1, text=GREETING, source=source)["told"]["message"]
+    return call(room, 0, "write", link=1, text=GREETING, source=source)["returned"]["message"]
 
 
 def changed(reply):
@@ -47,7 +47,7 @@ class Tutor(unittest.TestCase):
         self.assertEqual(rows(room), [])
         for k, net in enumerate(("10.0.0", "198.51.100", "10.0.0"), 1):
             reply = tutor(room, "net_add", net=net, id=k - 1)
-            self.assertEqual((reply["answer"], reply["told"]), (0, {"row": k}))
+            self.assertEqual((reply["answer"], reply["returned"]), (0, {"row": k}))
         self.assertEqual(rows(room), [(1, "10.0.0", 0), (2, "198.51.100", 1), (3, "10.0.0", 2)])
         self.assertEqual(tutor(room, "net_change", row=2, id=0)["answer"], 0)
         self.assertEqual(rows(room), [(1, "10.0.0", 0), (2, "198.51.100", 0), (3, "10.0.0", 2)])
@@ -90,7 +90,7 @@ class Tutor(unittest.TestCase):
             before = room.teacher_view()["net_table"]["rows"]
             reply = tutor(room, do, **given)
             self.assertEqual((reply["answer"], reply["changes"]), (answer, []), (do, given))
-            self.assertEqual(reply["told"], {"row": 0} if do == "net_add" else {})
+            self.assertEqual(reply["returned"], {"row": 0} if do == "net_add" else {})
             self.assertTrue(reply["meaning"])
             self.assertEqual(reply["changed_as_told"], "nothing")
             self.assertEqual(room.teacher_view()["net_table"]["rows"], before)
@@ -187,7 +187,7 @@ class LookUp(unittest.TestCase):
         self.assertEqual([reply["answer"] for reply in found], [13, 13, 0])
         tutor(room, "net_remove", row=1)
         tutor(room, "net_add", net="0.0.0", id=0)
-        self.assertEqual(call(room, 0, "lookup", address=ELSEWHERE)["told"], {"id": 0, "pid": 0})
+        self.assertEqual(call(room, 0, "lookup", address=ELSEWHERE)["returned"], {"id": 0, "pid": 0})
 
     def test_names(self):
         seats = [{"name": "Ada", "also": [2]}, {"name": "Ben"}]
@@ -209,7 +209,7 @@ class InAWalk(unittest.TestCase):
         call(room, 0, "open_walk", message=message)
         for _ in range(4):
             reply = call(room, 0, "step")
-        self.assertEqual(reply["told"]["next"]["name"], "step 5")
+        self.assertEqual(reply["returned"]["next"]["name"], "step 5")
         return room
 
     def test_a_row_less(self):
@@ -217,21 +217,21 @@ class InAWalk(unittest.TestCase):
         tutor(room, "net_remove", row=1)
         reply = call(room, 0, "step")
         self.assertEqual(reply["answer"], 11)
-        said = reply["told"]["sum"]
+        said = reply["returned"]["sum"]
         self.assertIn(f"NEIGHBOR-ADDRESS {ELSEWHERE} is not found in the net table: 11", said)
 
     def test_a_row_more(self):
         room = self.at_step_5()
         tutor(room, "net_add", net="198.51.100", id=2)
         reply = call(room, 0, "step")
-        self.assertEqual((reply["answer"], reply["told"]["next"]["name"]), (0, "host 2, line a"))
-        said = reply["told"]["sum"]
+        self.assertEqual((reply["answer"], reply["returned"]["next"]["name"]), (0, "host 2, line a"))
+        said = reply["returned"]["sum"]
         self.assertIn("is found by row 1 of the net table, and host 2, line a is next", said)
 
     def test_another_id_and_net_zero(self):
         room = self.at_step_5("20.0.0", "0.0.0", "198.51.100")
         tutor(room, "net_change", row=2, id=0)
-        said = call(room, 0, "step")["told"]["sum"]
+        said = call(room, 0, "step")["returned"]["sum"]
         self.assertIn("by row 2 of the net table, of net zero, and host 0, line a is next", said)
 
     def test_the_walk_is_shown_as_it_is(self):
@@ -247,13 +247,13 @@ class InAWalk(unittest.TestCase):
         tutor(room, "net_afresh", nhosts=4)
         reply = call(room, 0, "step")
         self.assertEqual((reply["answer"], reply["changes"]), (1, []))
-        self.assertNotIn("sum", reply["told"])
+        self.assertNotIn("sum", reply["returned"])
         for name in ("read", "second", "self_report", "tick"):
             self.assertEqual(call(room, 0, name)["answer"], 16)
         self.assertEqual(room.seat_view(0)["seat"]["walk"]["next"]["name"], "step 5")
         tutor(room, "net_afresh", nhosts=3)
         tutor(room, "net_add", net="198.51.100", id=1)
-        self.assertEqual(call(room, 0, "step")["told"]["next"]["name"], "host 1, line a")
+        self.assertEqual(call(room, 0, "step")["returned"]["next"]["name"], "host 1, line a")
         tutor(room, "net_afresh", nhosts=4)
         self.assertEqual(call(room, 0, "initialize")["answer"], 0)
         self.assertIsNone(room.seat_view(0)["seat"]["walk"])
@@ -268,7 +268,7 @@ class InAWalk(unittest.TestCase):
         for _ in range(400):
             given = {"link": 1, "text": of_text(choose), "source": some_address(choose)}
             for room in (walks, takes):
-                message = call(room, 0, "write", **given)["told"]["message"]
+                message = call(room, 0, "write", **given)["returned"]["message"]
             change, at, box = some_change(choose), choose.randrange(1, 9), 0
             last = call(walks, 0, "open_walk", message=message)
             while walks.seats[0].in_walk:
@@ -276,7 +276,7 @@ class InAWalk(unittest.TestCase):
                 if box == at:
                     tutor(walks, **change)
                 last = call(walks, 0, "step")
-                if "by row" in last["told"]["sum"]:
+                if "by row" in last["returned"]["sum"]:
                     rows_named.add(self.row_leads_there(walks, last))
             if box < at:
                 tutor(walks, **change)
@@ -295,8 +295,8 @@ class InAWalk(unittest.TestCase):
 
     def row_leads_there(self, room, reply):
         """The row that the sum names; the id of which is the next host's."""
-        number = int(reply["told"]["sum"].split("by row ")[1].split(" ")[0])
-        self.assertEqual(room.net_table.rows[number - 1].id, reply["told"]["next"]["id"])
+        number = int(reply["returned"]["sum"].split("by row ")[1].split(" ")[0])
+        self.assertEqual(room.net_table.rows[number - 1].id, reply["returned"]["next"]["id"])
         return number
 
 
@@ -355,7 +355,7 @@ class AnotherNhosts(unittest.TestCase):
         room.go_on(900)
         tutor(room, "net_afresh", nhosts=3)
         self.assertEqual(room.seats[0].state, before)
-        self.assertEqual(call(room, 0, "read")["told"]["time"], 43_200_700)
+        self.assertEqual(call(room, 0, "read")["returned"]["time"], 43_200_700)
         lines = [line for line in room.log.recent if (line["seat"], line["call"]) == (0, "tick")]
         self.assertEqual([(line["times"], line["answer"]) for line in lines], [(700, 0), (200, 1)])
         self.assertTrue(replay(room.lines()).equal)
@@ -367,7 +367,7 @@ class AnotherNhosts(unittest.TestCase):
         tutor(room, "net_afresh", nhosts=2)
         self.assertEqual(call(room, 0, "second")["answer"], 1)
         tutor(room, "net_afresh", nhosts=1)
-        self.assertEqual(call(room, 0, "read")["told"]["time"], 43_265_600)
+        self.assertEqual(call(room, 0, "read")["returned"]["time"], 43_265_600)
         self.assertTrue(replay(room.lines()).equal)
 
     def test_an_id_that_is_left_out(self):
@@ -439,7 +439,7 @@ class TheList(unittest.TestCase):
             ],
         )
         last = json.loads(list(room.lines())[-2])
-        self.assertEqual((last["with"], last["told"]), ({"net": "10.0.0", "id": 7}, {"row": 0}))
+        self.assertEqual((last["with"], last["returned"]), ({"net": "10.0.0", "id": 7}, {"row": 0}))
 
     def at_work(self):
         room, choose = room_of(3, by_hand=False, interval=1), random.Random(2)
@@ -465,7 +465,7 @@ class TheList(unittest.TestCase):
     def test_another_row(self):
         lines = self.at_work()
         added = next(line for line in lines[1:] if (line["call"], line["answer"]) == ("net_add", 0))
-        added["told"]["row"] += 1
+        added["returned"]["row"] += 1
         report = replay(map(json.dumps, lines))
         self.assertIn(f"line {added['line']}: net_add tells", report.first_difference)
 

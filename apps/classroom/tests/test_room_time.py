@@ -22,7 +22,7 @@ def call(room, seat, name, **given):
 
 
 def reading(room, seat):
-    return call(room, seat, "read")["told"]["time"]
+    return call(room, seat, "read")["returned"]["time"]
 
 
 class Ticks(unittest.TestCase):
@@ -38,8 +38,8 @@ class Ticks(unittest.TestCase):
             room.advance(20)
         call(room, 0, "read")
         lines = [line for line in room.log.recent if line["seat"] == 0]
-        told = [(line["call"], line["times"], line["time"]) for line in lines]
-        self.assertEqual(told, [("initialize", 1, 0), ("tick", 200, 200), ("read", 1, 200)])
+        returned = [(line["call"], line["times"], line["time"]) for line in lines]
+        self.assertEqual(returned, [("initialize", 1, 0), ("tick", 200, 200), ("read", 1, 200)])
 
     def test_parts_of_a_millisecond_add_up(self):
         room = pair()

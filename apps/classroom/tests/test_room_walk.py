@@ -32,7 +32,7 @@ class Blackboard(unittest.TestCase):
         self.assertEqual(names, steps + ["host 0, line a"] + [f"host 1, line {x}" for x in "abc"])
 
     def test_sums(self):
-        sums = [reply["told"].get("sum") for reply in walk(self.room, 0, 3)]
+        sums = [reply["returned"].get("sum") for reply in walk(self.room, 0, 3)]
         self.assertEqual(
             sums[3],
             "TSP: packet time 45,530 - reading 45,081 = 449; "
@@ -59,7 +59,7 @@ class Blackboard(unittest.TestCase):
     def test_the_last_hundred(self):
         text = "hello 0 45530 45000 1 2\n29800 0\n29801 0\n"
         call(self.room, 0, "write", link=1, text=text, source="192.0.2.2")
-        sums = {reply["told"].get("box"): reply["told"].get("sum") for reply in walk(self.room, 0, 4)}
+        sums = {reply["returned"].get("box"): reply["returned"].get("sum") for reply in walk(self.room, 0, 4)}
         self.assertIn("29,900 + 100 = 30,000 is not over the entry's 30,000", sums["host 0, line a"])
         self.assertIn("29,901 + 100 = 30,001 is over the entry's 30,000", sums["host 1, line a"])
         self.assertIn("host 0, line c", sums)
@@ -108,14 +108,14 @@ class Verdicts(unittest.TestCase):
     """What a sum says comes next is what comes next."""
 
     def check(self, box, reply):
-        said, told = reply["told"]["sum"], reply["told"]["next"]
+        said, returned = reply["returned"]["sum"], reply["returned"]["next"]
         if box.startswith("step"):
             self.assertEqual(said.endswith(": 10"), reply["answer"] == 10, said)
             self.assertEqual(said.endswith(": 11"), reply["answer"] == 11, said)
             return
         host, line = box.split(", line ")
         following = chr(ord(line) + 1)
-        goes_on = told is not None and told["name"] == f"{host}, line {following}"
+        goes_on = returned is not None and returned["name"] == f"{host}, line {following}"
         if line in "ab":
             self.assertEqual(said.endswith("go on"), goes_on, said)
         if line == "b" and reply["changes"][0]["where"] == host:
@@ -137,8 +137,8 @@ class Verdicts(unittest.TestCase):
             for _ in range(choose.choice((0, 0, 0, 150))):
                 call(room, 0, "second")
             for reply in walk(room, 0, number)[1:]:
-                self.check(reply["told"]["box"], reply)
-                seen.add(reply["told"]["box"])
+                self.check(reply["returned"]["box"], reply)
+                seen.add(reply["returned"]["box"])
         self.assertEqual(len(seen), 5 + 3 * 3 + 1)
 
 

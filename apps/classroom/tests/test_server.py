@@ -255,8 +255,8 @@ class Net(Quiet):
     """Other machines come in only where they may."""
 
     def setUp(self):
-        told = subprocess.run(["hostname", "-I"], capture_output=True, text=True, check=True).stdout
-        self.own = [address for address in told.split() if ":" not in address]
+        returned = subprocess.run(["hostname", "-I"], capture_output=True, text=True, check=True).stdout
+        self.own = [address for address in returned.split() if ":" not in address]
 
     async def test_closed(self):
         for address in self.own:

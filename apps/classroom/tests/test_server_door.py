@@ -121,7 +121,7 @@ class Accepting(unittest.IsolatedAsyncioTestCase):
         self.assertIn(only, made._open)
         self.assertEqual(len(made._open), made_most() - 1)
 
-    async def test_errors_are_told_once_a_minute(self):
+    async def test_errors_are_reported_once_a_minute(self):
         made = door.Door(None, 10)
         with self.assertLogs("class") as logged:
             for _ in range(1_000):

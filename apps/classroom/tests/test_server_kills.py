@@ -53,8 +53,8 @@ class Working:
         end = time.monotonic() + self._chance.uniform(2, 9)
         while not self._test.over:
             message = self._message()
-            told = await page.send(message)
-            self.noted.append((message, told["reply"]))
+            returned = await page.send(message)
+            self.noted.append((message, returned["reply"]))
             await asyncio.sleep(0.02)
             if time.monotonic() > end:
                 # Gone without a word, as a machine that is switched off.

@@ -85,21 +85,21 @@ class Student:
 
     async def take(self, message):
         """Takes a message at once or in a walk to its end. A view may still show one that is gone."""
-        told = await self.page.send({"do": "call", "call": "inspect", "message": message})
-        if "refused" in told:
+        returned = await self.page.send({"do": "call", "call": "inspect", "message": message})
+        if "refused" in returned:
             return
-        self.made.append(("inspect", {}, told["reply"]))
+        self.made.append(("inspect", {}, returned["reply"]))
         if self._chance.random() < 0.5:
             # The room inspects again, and then acts if the packet passes.
             reply = await self.page.call("receive", message=message)
             inspected = reply["answer"] if 3 <= reply["answer"] <= 9 else 0
-            self.made.append(("inspect", {}, {"answer": inspected, "told": None}))
+            self.made.append(("inspect", {}, {"answer": inspected, "returned": None}))
             if inspected == 0:
                 self.made.append(("act", {}, reply))
             return
-        place = (await self.call("open_walk", message=message))["told"]["next"]
+        place = (await self.call("open_walk", message=message))["returned"]["next"]
         while place:
-            place = (await self.call("step"))["told"]["next"]
+            place = (await self.call("step"))["returned"]["next"]
 
 
 class Tutor:
@@ -121,7 +121,7 @@ class Tutor:
                 "net_remove": {"row": row},
             }[do]
             reply = await self._page.ask(do, **given)
-            self.made.append((do, given, reply["answer"], reply["told"]))
+            self.made.append((do, given, reply["answer"], reply["returned"]))
             await asyncio.sleep(0.05)
 
 
@@ -207,17 +207,17 @@ class Load(Quiet):
             for name in ("ms", "link"):
                 if name in given:
                     self.assertEqual(line["with"][name], given[name])
-            if reply["told"] is not None:  # what an inspection returned is not in the reply of a taken message
-                for name, value in line["told"].items():
-                    self.assertEqual(reply["told"][name], value)
+            if reply["returned"] is not None:  # what an inspection returned is not in the reply of a taken message
+                for name, value in line["returned"].items():
+                    self.assertEqual(reply["returned"][name], value)
 
     def tutors_calls_stand(self, tutor, lines):
         """The tutor's calls stand among them, once, in their order; the set-up's is the first."""
         own = [line for line in lines if "call" in line and line["seat"] is None]
         self.assertEqual(own.pop(0)["call"], "net_afresh")
-        told = [(line["call"], line["with"], line["answer"], line["told"]) for line in own]
-        self.assertEqual(told, tutor.made)
-        self.assertLessEqual({0, 1, 22}, {answer for _, _, answer, _ in told})
+        returned = [(line["call"], line["with"], line["answer"], line["returned"]) for line in own]
+        self.assertEqual(returned, tutor.made)
+        self.assertLessEqual({0, 1, 22}, {answer for _, _, answer, _ in returned})
 
     def replays(self, text):
         """The file's calls, made again, end equal."""

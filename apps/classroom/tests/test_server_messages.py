@@ -150,8 +150,8 @@ class Messages(Quiet):
         student = await self.page(0)
         table = self.teacher.view["net_table"]
         for message in TEACHERS:
-            told = await student.send(message)
-            self.assertIn("refused", told, message)
+            returned = await student.send(message)
+            self.assertIn("refused", returned, message)
         self.assertEqual(await self.seats(), before)
         self.assertEqual(self.teacher.view["net_table"], table)
 
@@ -183,9 +183,9 @@ class Messages(Quiet):
         for place in ("/seat/0", "/teacher"):
             page = await self.enterAsyncContext(Page(served, place))
             for text in MALFORMED:
-                told = await raw_reply(page, text)
-                self.assertIn("refused", told, text[:80])
-                self.assertTrue(told["refused"])
+                returned = await raw_reply(page, text)
+                self.assertIn("refused", returned, text[:80])
+                self.assertTrue(returned["refused"])
             for octets in (b"", b"\x00", b'{"n": 1, "do": "call", "call": "tick"}', b"\xff" * 1000):
                 self.assertIn("refused", await raw_reply(page, octets=octets))
         self.assertEqual(await self.seats(), before)
@@ -209,12 +209,12 @@ class Messages(Quiet):
         student = await self.page(2)
         seen = student.view
         text = "seat 192.0.2.1\n" + 2_048 * "tick 0 count 7   # a comment behind it\n"
-        told = await self.teacher.ask("bench_load", name='né/w" 7', text=text)
-        self.assertEqual((told["octets"], told["fault"]), (20 + 321 + 2_048 * 14, None))
+        returned = await self.teacher.ask("bench_load", name='né/w" 7', text=text)
+        self.assertEqual((returned["octets"], returned["fault"]), (20 + 321 + 2_048 * 14, None))
         status, had = await self.teacher.get("/teacher/exercise.txt")
         self.assertEqual((status, had), (200, text))
         status, octets = await self.teacher.octets("/teacher/exercise.bench")
-        self.assertEqual((status, len(octets)), (200, told["octets"]))
+        self.assertEqual((status, len(octets)), (200, returned["octets"]))
         # A file of octets is had back as the text that it makes.
         await self.teacher.ask("bench_load", name="octets", octets=base64.b64encode(octets).decode())
         status, had = await self.teacher.get("/teacher/exercise.txt")
@@ -232,8 +232,8 @@ class Messages(Quiet):
         self.assertEqual([seat["table"] for seat in await self.seats()], [seat["table"] for seat in before])
         self.assertEqual(set(student.view), set(seen))
         letters = base64.b64encode(b"no bench file").decode()
-        told = await self.teacher.ask("bench_load", name="x", octets=letters)
-        self.assertIn("the header alone has 20", english(told["fault"]))
+        returned = await self.teacher.ask("bench_load", name="x", octets=letters)
+        self.assertIn("the header alone has 20", english(returned["fault"]))
         self.assertEqual((await self.teacher.ask("bench_set_up", net="own"))["answer"], 18)
         self.assertEqual(await self.teacher.get("/teacher/exercise.bench"), (200, "no bench file"))
         self.assertEqual((await self.teacher.get("/teacher/exercise.txt"))[0], 404)
@@ -274,8 +274,8 @@ class Messages(Quiet):
 
         message = aiohttp.WSMessage(aiohttp.WSMsgType.TEXT, '{"n": 5, "do": "x"}', None)
         with self.assertLogs("class"):
-            told = json.loads(await sockets.answer(Hall(), types.SimpleNamespace(place="/seat/0"), message))
-        self.assertEqual(told, {"n": 5, "refused": "the server could not do this", "text": ["refused.server", {}]})
+            returned = json.loads(await sockets.answer(Hall(), types.SimpleNamespace(place="/seat/0"), message))
+        self.assertEqual(returned, {"n": 5, "refused": "the server could not do this", "text": ["refused.server", {}]})
 
     async def test_students_see_their_own_seat(self):
         for what in ("nothing", "picture", "tables"):
@@ -306,9 +306,9 @@ class Messages(Quiet):
         async def storm(seat, chance):
             page = await self.page(seat)
             for _ in range(400):
-                told = await page.send(some_message(chance))
-                self.assertTrue(("reply" in told) != ("refused" in told), told)
-                self.assertNotEqual(told.get("refused"), "the server could not do this")
+                returned = await page.send(some_message(chance))
+                self.assertTrue(("reply" in returned) != ("refused" in returned), returned)
+                self.assertNotEqual(returned.get("refused"), "the server could not do this")
                 self.assertEqual(page.view["seat"]["number"], seat)
 
         await asyncio.gather(*(storm(seat, random.Random(chance.random())) for seat in STORMY))

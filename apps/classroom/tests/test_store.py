@@ -234,9 +234,9 @@ class Failing(Stored):
 
     def test_later_form(self):
         store, _ = self.worked(5)
-        store.tell(form=2)
+        store.tell(form=3)
         self.closed()
-        self.sentence("has form 2; this program reads form 1")
+        self.sentence("has form 3; this program reads form 2")
 
     def test_changed_input(self):
         for change in (

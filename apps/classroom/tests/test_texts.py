@@ -15,7 +15,7 @@ SERVER = WEB.parent / "server"
 BINDING = WEB.parents[2] / "bindings" / "python" / "hello" / "bench_file"
 # Keys that are put together: their first parts.
 MADE = (
-    *("sum.", "hint.", "term.", "field.", "call.", "told.", "links.", "clock.", "table.", "nets.", "answers.", "board."),
+    *("sum.", "hint.", "term.", "field.", "call.", "returned.", "links.", "clock.", "table.", "nets.", "answers.", "board."),
     *("matrix.", "shape.", "promise.", "exercise.", "box.", "picture.", "needs.", "fault.", "walk.boxes", "messages."),
     *("setup.in.", "where.", "changed.", "part.", "wrong.", "wrong_part.", "paper.", "bench.", "language."),
 )

@@ -11,10 +11,10 @@ const s = new WebSocket(location.origin.replace('http', 'ws') + location.pathnam
 const [message] = arguments;
 s.onopen = () => message && s.send(JSON.stringify({n: 1, ...message}));
 s.onmessage = (event) => {
-  const told = JSON.parse(event.data);
-  if (message ? told.n !== 1 : !told.view) return;
+  const returned = JSON.parse(event.data);
+  if (message ? returned.n !== 1 : !returned.view) return;
   s.close();
-  done(message ? told : told.view);
+  done(message ? returned : returned.view);
 };
 """
 CELLS = """
@@ -51,9 +51,9 @@ class Tools(unittest.TestCase):
 
     def ask(self, **message):
         """The reply to a message of the teacher's."""
-        told = self.teacher.run(ASK, message)
-        self.assertNotIn("refused", told)
-        return told["reply"]
+        returned = self.teacher.run(ASK, message)
+        self.assertNotIn("refused", returned)
+        return returned["reply"]
 
     def view(self):
         """What the teacher's page is shown now, in full."""
@@ -66,7 +66,7 @@ class Tools(unittest.TestCase):
             self.ask(do="one_second")
         time = self.view()["room"]["time"]
         for browser, place in ((self.teacher, "#room"), (self.student, "#room-state")):
-            browser.until(lambda: browser.told(place, "data-time") == time, "the time")
+            browser.until(lambda: browser.attribute(place, "data-time") == time, "the time")
 
     def calls(self, call):
         """How often the list has a call of seat 1."""
@@ -175,7 +175,7 @@ class Tools(unittest.TestCase):
     def test_a_new_room_asks(self):
         """By the form, and by an exercise; not if nothing has happened yet."""
         teacher = self.teacher
-        number = lambda: teacher.told("#room", "data-number")
+        number = lambda: teacher.attribute("#room", "data-number")
         for tab, click in (("setup", "#setup-do"), ("exercises", '#exercise-list [data-exercise="1"] button')):
             self.set_up(2, [(0, 1)], seconds=1)
             teacher.click(f'[data-tab="{tab}"]')
@@ -207,9 +207,9 @@ class Tools(unittest.TestCase):
             teacher.click("#setup-fill")
             self.assertEqual(self.without_cable(), [], shape)
             self.assertFalse(teacher.all("#setup-alone")[0].is_displayed())
-        before = teacher.told("#room", "data-number")
+        before = teacher.attribute("#room", "data-number")
         teacher.click("#setup-do")
-        teacher.until(lambda: teacher.told("#room", "data-number") > before, "a room")
+        teacher.until(lambda: teacher.attribute("#room", "data-number") > before, "a room")
         self.assertEqual(len(teacher.all("#picture [data-cable]")), 15)
 
     def without_cable(self):
@@ -254,14 +254,14 @@ class Tools(unittest.TestCase):
         self.set_up(2, [(0, 1)])
         self.ask(do="bench_ready", file="07-ghost")
         teacher.click('[data-tab="bench"]')
-        teacher.until(lambda: teacher.told("#bench-file", "data-name") == "07-ghost", "the file")
+        teacher.until(lambda: teacher.attribute("#bench-file", "data-name") == "07-ghost", "the file")
         teacher.click("#bench-set-up")
-        teacher.until(lambda: teacher.told("#bench-file", "data-ready") is True, "set up")
+        teacher.until(lambda: teacher.attribute("#bench-file", "data-ready") is True, "set up")
         teacher.driver.execute_script("for (const id of ['bench-end', 'bench-stop']) document.getElementById(id).click();")
-        done = lambda: teacher.told("#bench-work", "data-done")
-        teacher.until(lambda: done() > 0 and not teacher.told("#bench-one", "aria-disabled"), "it has stopped")
+        done = lambda: teacher.attribute("#bench-work", "data-done")
+        teacher.until(lambda: done() > 0 and not teacher.attribute("#bench-one", "aria-disabled"), "it has stopped")
         first = done()
-        self.assertLess(first, teacher.told("#bench-work", "data-of"))
+        self.assertLess(first, teacher.attribute("#bench-work", "data-of"))
         teacher.click("#bench-one")
         teacher.until(lambda: done() == first + 1, "one event more")
 
@@ -276,8 +276,8 @@ class Tools(unittest.TestCase):
         student.one('#answer[data-answer="13"]')
         for _ in range(12):
             self.ask(do="one_second")
-        student.until(lambda: student.told("#room-state", "data-time") == 12_000, "views")
-        self.assertEqual(student.told("#answer", "data-answer"), 13)
+        student.until(lambda: student.attribute("#room-state", "data-time") == 12_000, "views")
+        self.assertEqual(student.attribute("#answer", "data-answer"), 13)
         self.assertIn("HostDown", student.text("#answer"))
         student.click('[data-call="read"]')
         student.one('#answer[data-answer="0"]')
@@ -292,7 +292,7 @@ class Tools(unittest.TestCase):
         teacher.click("#one-message")
         teacher.until(lambda: "no message is on its way" in shown(), "a refusal")
         self.ask(do="one_second")
-        teacher.until(lambda: teacher.told("#room", "data-time") == 1_000, "a view")
+        teacher.until(lambda: teacher.attribute("#room", "data-time") == 1_000, "a view")
         self.assertIn("no message is on its way", shown())
         teacher.click('[data-tab="board"]')
         self.assertEqual(shown(), "")

@@ -1,7 +1,7 @@
 // The answer of the last call: its number, its meaning, what it changes and what it changed.
 
 import { el, headRow } from "./dom.js";
-import { changesList, changesWords, told as toldChanges } from "./marks.js";
+import { changesList, changesWords, shownChanges } from "./marks.js";
 import { t, written } from "./language.js";
 import { answerChanges, answerMeaning, answerName, callName, number, roomTime, timeOfDay } from "./words.js";
 
@@ -16,18 +16,18 @@ export function wayWords(way, names) {
   return t("way.goes", { message: way.message, to, time: roomTime(way.arrival) });
 }
 
-function toldValue(name, value, names) {
+function returnedValue(name, value, names) {
   if (name === "time") return `${number(value)} ms, ${timeOfDay(value)}`;
   if (name === "way") return wayWords(value, names);
   return written(value);
 }
 
-function toldList(told = {}, names) {
-  const pairs = Object.entries(told).filter(([name, value]) => !elsewhere.has(name) && value !== null);
+function returnedList(returned = {}, names) {
+  const pairs = Object.entries(returned).filter(([name, value]) => !elsewhere.has(name) && value !== null);
   if (!pairs.length) return null;
-  return el("dl", { class: "told" }, pairs.map(([name, value]) => [
-    el("dt", {}, t(`told.${name}`)),
-    el("dd", { class: name === "octets" ? "octets" : null, "data-told": name }, toldValue(name, value, names)),
+  return el("dl", { class: "returned" }, pairs.map(([name, value]) => [
+    el("dt", {}, t(`returned.${name}`)),
+    el("dd", { class: name === "octets" ? "octets" : null, "data-returned": name }, returnedValue(name, value, names)),
   ]));
 }
 
@@ -56,11 +56,11 @@ export function makeAnswer(id = "answer", asked = t("answer.host")) {
     const call = `${reply.words ?? callName(reply.call)}: `;
     if (reply.answer !== 0) return showRefusal(reply, call, names);
     const inWalk = reply.call === "step" || reply.call === "walk_on";
-    const changed = toldChanges(reply.changes).length ? changesList(reply.changes)
+    const changed = shownChanges(reply.changes).length ? changesList(reply.changes)
       : el("p", { class: "quiet" }, t("answer.nothing"));
     put(0, "done", [
       headline("✓", call, el("strong", {}, answerName(reply))),
-      toldList(reply.told, names),
+      returnedList(reply.returned, names),
       inWalk ? el("p", { class: "quiet" }, t("answer.in_walk")) : changed,
     ], inWalk ? null : [el("strong", {}, `✓ ${call}${answerName(reply)} `), changesWords(reply.changes)]);
   }
@@ -70,8 +70,8 @@ export function makeAnswer(id = "answer", asked = t("answer.host")) {
     put(reply.answer, "refusal", [
       headline("✗", call, el("strong", {}, answerName(reply))),
       el("p", {}, words),
-      reply.told?.fault ? el("p", { class: "fault", "data-told": "fault" }, t(...reply.told.fault)) : null,
-      toldChanges(reply.changes).length ? changesList(reply.changes) : el("p", { class: "quiet" }, t("answer.nothing")),
+      reply.returned?.fault ? el("p", { class: "fault", "data-returned": "fault" }, t(...reply.returned.fault)) : null,
+      shownChanges(reply.changes).length ? changesList(reply.changes) : el("p", { class: "quiet" }, t("answer.nothing")),
     ], [el("strong", {}, `✗ ${call}${answerName(reply)} `), words]);
   }
 

@@ -55,7 +55,7 @@ export function makeBench(ask) {
   const answer = makeAnswer("bench-answer", t("bench.asked"));
   byId("bench-answered").replaceChildren(answer.node);
 
-  // Asks; gives the reply, and null where it is refused, which is told.
+  // Asks; gives the reply, and null where it is refused, which is shown.
   async function asked(message) {
     try {
       const reply = await ask(await message);
@@ -132,7 +132,7 @@ export function makeBench(ask) {
     if (last.call !== "bench_event" && last.answer === 0) {
       if (last.call === "bench_set_up") return answer.note(t("bench.is_set_up"));
       // Of a run in pieces the last one is shown: it began where this page began it.
-      return answer.note(ranWords(Math.min(ran ?? last.told.first, last.told.first), view));
+      return answer.note(ranWords(Math.min(ran ?? last.returned.first, last.returned.first), view));
     }
     const [kind, words] = events[last.event - view.first] ?? [];
     const call = kind ? { words: t("bench.event_is", { event: last.event, words }), words_of_answer: meaningOf(kind, last.answer) } : {};
@@ -142,7 +142,7 @@ export function makeBench(ask) {
   // A view's part; the events in words come with a new file alone.
   function take(next) {
     view = next;
-    if (!next?.last?.told.count) ran = null;
+    if (!next?.last?.returned.count) ran = null;
     if (!next?.events) return;
     events = next.events;
     names = next.hosts.map((host) => (host ? written(host) : ""));

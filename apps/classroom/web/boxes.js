@@ -1,7 +1,7 @@
 // The boxes of the checklist: which are done, next and to come, and what each made.
 
 import { el, say, set } from "./dom.js";
-import { changesList, fieldName, told } from "./marks.js";
+import { changesList, fieldName, shownChanges } from "./marks.js";
 import { arithmetic } from "./predict.js";
 import { glossed } from "./glossary.js";
 import { number, t } from "./language.js";
@@ -22,7 +22,7 @@ export function takenAt(walk) {
 
 // The sum of a box and what it changed, which `none` tells where it is nothing.
 export function outcome(box, none = []) {
-  const changed = told(box.changes).length ? [changesList(box.changes)] : none;
+  const changed = shownChanges(box.changes).length ? [changesList(box.changes)] : none;
   return box.words?.length ? [arithmetic(box.words), ...changed] : changed;
 }
 
@@ -55,7 +55,7 @@ export function hostsDone(walk) {
     hosts.set(box.id, [...(hosts.get(box.id) ?? []), box]);
   }
   return [...hosts].map(([id, boxes]) => {
-    const changes = boxes.flatMap((box) => told(box.changes)).filter((c) => c.where !== "walk");
+    const changes = boxes.flatMap((box) => shownChanges(box.changes)).filter((c) => c.where !== "walk");
     const last = boxes.at(-1);
     const words = changes.map((c) => `${fieldName(c.field)} ${number(c.before)} → ${number(c.after)}`).join(", ");
     const sum = (last.words ?? []).map(([key, values]) => t(key, values)).join("; ");

@@ -53,13 +53,13 @@ function field(first) {
 function marksWords({ stage, fields }) {
   const each = fields.map(({ seat, host, field: name, given, actual, right }) => {
     const values = { entry: ["exercise.entry", { seat, host, field: name }], given, actual };
-    return t(right ? "exercise.foretold.right" : "exercise.foretold.wrong", values);
+    return t(right ? "exercise.predicted.right" : "exercise.predicted.wrong", values);
   });
-  return `${t("exercise.foretold", { stage: stage + 1 })} ${each.join("; ")}`;
+  return `${t("exercise.predicted", { stage: stage + 1 })} ${each.join("; ")}`;
 }
 
 // The form in which a student writes what she expects of the stage under way, and the marks of the one before.
-function makeForetold(ask) {
+function makePrediction(ask) {
   const form = byId("exercise-predict"), fields = byId("exercise-fields");
   let now = null;
   form.addEventListener("submit", async (event) => {
@@ -77,10 +77,10 @@ function makeForetold(ask) {
   return (exercise, key) => {
     const asked = !exercise.observes && exercise.predict.length > 0;
     now = exercise.at;
-    form.hidden = !asked || !!exercise.foretold;
+    form.hidden = !asked || !!exercise.predicted;
     keyed(fields, asked ? exercise.predict.map((each, i) => ({ ...each, i })) : [], (each) => `${key}/${exercise.at}/${each.i}`, field);
-    byId("exercise-expected").hidden = !asked || !exercise.foretold;
-    say(byId("exercise-expected"), exercise.foretold ? t("exercise.you_expect", { values: exercise.foretold.map((value) => number(value)).join(", ") }) : "");
+    byId("exercise-expected").hidden = !asked || !exercise.predicted;
+    say(byId("exercise-expected"), exercise.predicted ? t("exercise.you_expect", { values: exercise.predicted.map((value) => number(value)).join(", ") }) : "");
     const last = exercise.marks.at(-1);
     byId("exercise-marked").hidden = !last;
     set(byId("exercise-marked"), { "data-right": last ? String(last.fields.every((each) => each.right)) : null });
@@ -91,7 +91,7 @@ function makeForetold(ask) {
 // ask(message) gives a promise of the reply.
 export function makeExerciseCard(ask) {
   const card = byId("exercise");
-  const foretold = makeForetold(ask);
+  const prediction = makePrediction(ask);
   const verdicts = makeVerdicts(byId("exercise-stages"), { now: false });
   let shown = null;
   return (exercise, room) => {
@@ -121,6 +121,6 @@ export function makeExerciseCard(ask) {
     }
     say(byId("exercise-marks"), doneWords(exercise));
     verdicts(key, exercise.stages, exercise.results);
-    foretold(exercise, key);
+    prediction(exercise, key);
   };
 }

@@ -62,7 +62,7 @@ export function makeExercises(send, chosen, ask) {
   }
 
   // The faults of a text, each with its line.
-  function told(words, faults = [], more = 0, refused = false) {
+  function report(words, faults = [], more = 0, refused = false) {
     say(byId("exercise-said"), words);
     set(byId("exercise-said"), { hidden: !words, class: refused ? "said refusal" : "said" });
     const rows = faults.map(({ line, text }) => el("li", { "data-line": line }, el("strong", {}, `${t("exercise.line", { line })} `), t(...text)));
@@ -71,14 +71,14 @@ export function makeExercises(send, chosen, ask) {
   }
 
   async function load(file) {
-    if (file.size > LONGEST_TEXT) return told(t("exercise.too_long"), [], 0, true);
+    if (file.size > LONGEST_TEXT) return report(t("exercise.too_long"), [], 0, true);
     try {
       const text = new TextDecoder("utf-8", { fatal: true }).decode(await file.arrayBuffer());
       const reply = await ask({ do: "exercise_load", name: file.name.replace(/\.txt$/, "").slice(0, 100), text });
-      if (reply.faults.length) return told(count("exercise.faults", reply.faults.length + reply.more, { file: file.name }), reply.faults, reply.more, true);
-      return told(t("exercise.loaded", { file: file.name, number: reply.number }));
+      if (reply.faults.length) return report(count("exercise.faults", reply.faults.length + reply.more, { file: file.name }), reply.faults, reply.more, true);
+      return report(t("exercise.loaded", { file: file.name, number: reply.number }));
     } catch (error) {
-      return told(error instanceof TypeError ? t("exercise.no_utf8") : t("exercise.not_loaded", { why: error.message }), [], 0, true);
+      return report(error instanceof TypeError ? t("exercise.no_utf8") : t("exercise.not_loaded", { why: error.message }), [], 0, true);
     }
   }
   byId("exercise-choose").addEventListener("change", async (event) => {

@@ -73,10 +73,10 @@ export function makeHistory(ask) {
 
   async function open() {
     try {
-      const told = await get("/teacher/rooms");
-      const newest = told.rooms.length !== known.length;
-      known = told.rooms;
-      byId("history-undo").checked = told.undo;
+      const returned = await get("/teacher/rooms");
+      const newest = returned.rooms.length !== known.length;
+      known = returned.rooms;
+      byId("history-undo").checked = returned.undo;
       options(rooms, known.map((r) => [r.number, t("history.room", { number: r.number, title: r.title, lines: r.lines })]));
       if (newest) rooms.value = String(known.at(-1).number);
       room();

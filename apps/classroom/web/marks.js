@@ -37,7 +37,7 @@ export function cell(tag, field) {
 }
 
 // The changes without the next place of a walk, which the checklist shows.
-export function told(changes) {
+export function shownChanges(changes) {
   return (changes ?? []).filter((c) => !(c.where === "walk" && c.field === "next"));
 }
 
@@ -55,12 +55,12 @@ function placeWords({ seat, where }) {
 }
 
 export function changesWords(changes) {
-  return told(changes).map((c) => `${placeWords(c)} ${fieldName(c.field)} ${number(c.before)} → ${number(c.after)}`).join(", ");
+  return shownChanges(changes).map((c) => `${placeWords(c)} ${fieldName(c.field)} ${number(c.before)} → ${number(c.after)}`).join(", ");
 }
 
 // The changes of a call or a box as a list.
 export function changesList(changes) {
-  return el("ul", { class: "changes" }, told(changes).map((c) => el("li", {},
+  return el("ul", { class: "changes" }, shownChanges(changes).map((c) => el("li", {},
     el("span", { class: "where" }, c.where === "walk" ? t("marks.held", { field: fieldName(c.field) }) : `${placeWords(c)}, ${fieldName(c.field)}: `),
     el("span", { class: "before" }, number(c.before)), " → ", el("strong", {}, number(c.after)))));
 }

@@ -8,9 +8,9 @@ import { sure } from "./sure.js";
 import { answerMeaning, answerName, ms, roomTime } from "./words.js";
 
 // The answer to "will it be taken?" in words.
-function inspected({ answer, told, ...reply }) {
+function inspected({ answer, returned, ...reply }) {
   if (answer !== 0) return t("messages.not_taken", { answer: answerName({ answer, ...reply }), meaning: answerMeaning(answer) });
-  return t("messages.taken", { source: told.source, time: told.time, tsp: told.tsp, nhosts: told.nhosts });
+  return t("messages.taken", { source: returned.source, time: returned.time, tsp: returned.tsp, nhosts: returned.nhosts });
 }
 
 // actions: call(name, with) gives a promise of the reply, null where the room did not take it;

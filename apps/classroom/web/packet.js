@@ -53,7 +53,7 @@ function fieldsPart(fields, light) {
 export function facts(walk, seat) {
   const of = Object.fromEntries(walk.packet.fields.map((field) => [field.name, field.value]));
   const id = walk.next?.line ? walk.next.id : null;
-  const told = ["source", ...(walk.next?.line === "d" ? ["DATE"] : []), "TIME", "TSP", "NHOSTS", ...(id === null ? [] : [`host ${id} DELAY`, `host ${id} OFFSET`])];
+  const fields = ["source", ...(walk.next?.line === "d" ? ["DATE"] : []), "TIME", "TSP", "NHOSTS", ...(id === null ? [] : [`host ${id} DELAY`, `host ${id} OFFSET`])];
   const link = seat.links[walk.link - 1];
   const own = [["LOCAL-ADDRESS", seat.address], ["NEIGHBOR-ADDRESS", link.neighbor], ["KEEP-ALIVE", number(link.keep_alive)],
     ["TSP", number(link.tsp)], ["HOLD", number(seat.clock.hold)], [t("predict.reading"), number(walk.held?.reading ?? seat.clock.time)]];
@@ -66,7 +66,7 @@ export function facts(walk, seat) {
   }
   const list = (pairs) => el("dl", { class: "facts small" }, pairs.map(([name, value]) => el("div", {}, el("dt", {}, name), el("dd", {}, value))));
   return el("div", { class: "known-facts" }, el("strong", {}, t("predict.packet")),
-    list(told.filter((name) => name in of).map((name) => [nameOf(name), written(of[name])])), el("strong", {}, t("predict.here")), list(own));
+    list(fields.filter((name) => name in of).map((name) => [nameOf(name), written(of[name])])), el("strong", {}, t("predict.here")), list(own));
 }
 
 // Made where it is first opened.

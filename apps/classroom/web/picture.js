@@ -50,7 +50,7 @@ export function makePicture(root, choose) {
   let names = {};
   let box = [0, 0];
   let size = [0, 0];
-  let told = false;
+  let noted = false;
   let busy = null;
   let own = null;
 
@@ -144,7 +144,7 @@ export function makePicture(root, choose) {
       const steep = Math.abs(y2 - y1) - box[1] > 40;
       words.forEach((part, i) => {
         const wide = widthOf(said[i], SMALL);
-        const shown = !told && (steep || wide < room) ? said[i] : "";
+        const shown = !noted && (steep || wide < room) ? said[i] : "";
         const x = Math.min(Math.max((x1 + x2) / 2, wide / 2 + 2), size[0] - wide / 2 - 2);
         set(part, { x, y: (y1 + y2) / 2 - 6 + 20 * i });
         say(part, shown);
@@ -191,8 +191,8 @@ export function makePicture(root, choose) {
     spots = new Map([...layout.spots, ...[...moved].filter(([seat]) => layout.spots.has(seat))]);
     names = Object.fromEntries(seats.map((seat) => [seat.number, seat.name]));
     const words = noteWords(cables, names, seats.length > 8);
-    told = words !== "";
-    note.hidden = !told;
+    noted = words !== "";
+    note.hidden = !noted;
     again.hidden = moved.size === 0;
     say(note, words);
     set(picture, { viewBox: `0 0 ${size[0]} ${size[1]}`, width: size[0], height: size[1],

@@ -8,7 +8,7 @@ import { answerMeaning, answerName } from "./words.js";
 
 function found(reply) {
   if (reply.answer !== 0) return `${answerName(reply)}, ${answerMeaning(reply.answer)}`;
-  return t(reply.told.pid ? "routes.by_link" : "routes.by_itself", { id: reply.told.id, link: reply.told.pid });
+  return t(reply.returned.pid ? "routes.by_link" : "routes.by_itself", { id: reply.returned.id, link: reply.returned.pid });
 }
 
 // actions: call(name, with).

@@ -57,7 +57,7 @@ export function makeSetup(send) {
     byId("setup-interval").value = view.room.interval;
   }
 
-  function told() {
+  function filledIn() {
     return {
       do: "set_up",
       seats: rows(seats).map(seatOf),
@@ -95,7 +95,7 @@ export function makeSetup(send) {
     say(byId("setup-said"), "");
     // A room in which nothing has happened yet is no loss.
     if (view?.room.time > 0 && !await sure(t("sure.set_up"), t("sure.set_up_yes"))) return;
-    if (await send(told())) say(byId("setup-said"), t("setup.done"));
+    if (await send(filledIn())) say(byId("setup-said"), t("setup.done"));
   });
 
   function update(next) {

@@ -39,7 +39,7 @@ export function makeWrite(actions) {
     const reply = await actions.call("write", { link: Number(link.value), text: words, source: source.value.trim() });
     if (!reply) return;
     said.hidden = false;
-    const fault = reply.told?.fault ? t(...reply.told.fault) : "";
+    const fault = reply.returned?.fault ? t(...reply.returned.fault) : "";
     say(said, reply.answer === 0 ? t("write.waits") : t("write.refused", { answer: answerName(reply), meaning: answerMeaning(reply.answer), fault }));
   }
 

@@ -256,11 +256,11 @@ fn print_lookups(out: &mut impl Write, host: &mut Host) -> Result<()> {
     }
     for net in nets {
         let looked_up = address_on(net);
-        let told = match host.lookup(looked_up) {
+        let returned = match host.lookup(looked_up) {
             Ok(found) => format!("by {}, link {}", address(found.id), found.pid),
             Err(refusal) => format!("answered {} ({})", refusal.number(), meaning(refusal)),
         };
-        writeln!(out, "    {looked_up:<15}  {told}")?;
+        writeln!(out, "    {looked_up:<15}  {returned}")?;
     }
     Ok(())
 }

@@ -204,9 +204,9 @@ class Text(unittest.TestCase):
         )
         tables = {(0, 1): bench_file.Entry(30_000, 0, 0, 0), (1, 0): bench_file.Entry(101, 0, 0, 0)}
         self.assertEqual([promise.after for promise in promises], [1, 1, 2, 3])
-        told = [promise.broken(tables, [3, 0, 0]) for promise in promises]
-        self.assertEqual(told[:2], [None, None])
-        self.assertEqual(told[2], "after 2 events, seat 1, host 0: DELAY is 101, not 100")
+        returned = [promise.broken(tables, [3, 0, 0]) for promise in promises]
+        self.assertEqual(returned[:2], [None, None])
+        self.assertEqual(returned[2], "after 2 events, seat 1, host 0: DELAY is 101, not 100")
         self.assertEqual(promises[0].broken(tables, [0]), "event 0 was answered 0, not 3")
 
     def test_wrong_lines(self):
@@ -281,7 +281,7 @@ class Text(unittest.TestCase):
         ):
             self.wrong(f"# one seat\n{line}\nsecond 0\n", 2, words)
 
-    def test_each_wrong_line_is_told(self):
+    def test_each_wrong_line_is_reported(self):
         with self.assertRaises(Wrong) as caught:
             bench_file.read_text(
                 "seat 192.0.2\nseat 192.0.2.2\ncable 0.1 1\ntick 0\nsend cable 0 end 3 tray 0\n"
@@ -368,8 +368,8 @@ class Exercises(unittest.TestCase):
         _, promises = bench_file.read_text(PAIR + "tick 0\npromise host 1 least down\npromise host 0 least 100\n")
         entry = bench_file.Entry(200, 0, 0, 0)
         self.assertEqual([promise.seats for promise in promises], [(0,), (1,)])
-        told = [promise.broken({(0, 1): entry, (1, 0): entry._replace(delay=100)}, ()) for promise in promises]
-        self.assertEqual(told, ["after 1 events, host 1: the least DELAY is 200, not 30,000", None])
+        returned = [promise.broken({(0, 1): entry, (1, 0): entry._replace(delay=100)}, ()) for promise in promises]
+        self.assertEqual(returned, ["after 1 events, host 1: the least DELAY is 200, not 30,000", None])
 
     def test_unlike(self):
         self.assertEqual(bench_file.unlike((0, 0, 10), (0, 16, 10)), [(1, 16, 0)])
@@ -413,7 +413,7 @@ class Exercises(unittest.TestCase):
         self.wrong(SAID + PAIR + ENDED + lines, 12, "more than 50,000 lines")
 
     def test_any_text(self):
-        """Whatever is written, it is read, or each wrong line is told."""
+        """Whatever is written, it is read, or each wrong line is reported."""
         choose = random.Random(38)
         folder = TOOL.parent.parent / "apps" / "exercises"
         texts = [path.read_text("utf-8").splitlines() for path in sorted(folder.glob("*.txt")) if "ghost" not in path.name]
@@ -437,8 +437,8 @@ class Exercises(unittest.TestCase):
                 try:
                     reader("\n".join(lines))
                     read += 1
-                except Wrong as told:
-                    self.assertTrue(all(1 <= line <= len(lines) for line, _ in told.faults), told)
+                except Wrong as returned:
+                    self.assertTrue(all(1 <= line <= len(lines) for line, _ in returned.faults), returned)
                     wrong += 1
         self.assertGreater(min(read, wrong), 100)
 
@@ -467,8 +467,8 @@ class Tool(unittest.TestCase):
             text.write_text("seat 192.0.2.1\ntick 1\ntock 1\n")
             refused = self.tool(text, folder / "c.bench")
             self.assertEqual(refused.returncode, 1)
-            told = [line.split(": ")[0] for line in refused.stderr.splitlines()]
-            self.assertEqual(told, [f"{text}:2", f"{text}:3"])
+            returned = [line.split(": ")[0] for line in refused.stderr.splitlines()]
+            self.assertEqual(returned, [f"{text}:2", f"{text}:3"])
             self.assertFalse((folder / "c.bench").exists())
             octets.write_bytes(b"short")
             self.assertIn("the header alone has 20", self.tool(octets, again).stderr)

@@ -22,7 +22,7 @@ const READING: i64 = 40_000;
 pub const HOST: Address = Address::new(192, 0, 2, 1);
 pub const NEIGHBOR: Address = Address::new(192, 0, 2, 2);
 
-/// What the library is lent.
+/// What the library borrows.
 pub struct Ours {
     pub settings: Settings,
     pub table: ClassTable,
@@ -34,7 +34,7 @@ pub struct Ours {
     pub run: Vec<Entry>,
 }
 
-/// What the reference program is lent.
+/// What the reference program borrows.
 pub struct Theirs {
     pub settings: reference::Settings,
     pub table: reference::NetTable,

@@ -157,13 +157,13 @@ fn room(random: &mut Random, length: usize) -> usize {
 /// Compares the two on an input; the answer.
 fn compare(number: usize, octets: &[u8], rooms: [usize; 2]) -> Result<u8, String> {
     let [mut capture, mut stretches] = rooms.map(|room| vec![FILL; room]);
-    let told = mend(octets, &mut capture, &mut stretches);
+    let returned = mend(octets, &mut capture, &mut stretches);
     let [mut fast_capture, mut fast_stretches] = rooms.map(|room| vec![FILL; room]);
     let fast = tuned::recover::recover(octets, &mut fast_capture, &mut fast_stretches);
-    if told != fast || capture != fast_capture || stretches != fast_stretches {
+    if returned != fast || capture != fast_capture || stretches != fast_stretches {
         return Err(format!(
             "recovery of {octets:02x?}\ndifference at call {number} in the fast program\n  \
-             library: {told:?}\n  fast: {fast:?}"
+             library: {returned:?}\n  fast: {fast:?}"
         ));
     }
     let [mut right_capture, mut right_stretches] = rooms.map(|room| vec![FILL; room]);
@@ -183,12 +183,12 @@ fn compare(number: usize, octets: &[u8], rooms: [usize; 2]) -> Result<u8, String
             }
         }
     };
-    if told == right && capture == right_capture && stretches == right_stretches {
-        return Ok(told.answer);
+    if returned == right && capture == right_capture && stretches == right_stretches {
+        return Ok(returned.answer);
     }
     Err(format!(
         "mend of {octets:02x?}\nrooms: {rooms:?}\ndifference at call {number} in mend\n  \
-         library:   {told:?} {capture:02x?} {stretches:02x?}\n  \
+         library:   {returned:?} {capture:02x?} {stretches:02x?}\n  \
          reference: {right:?} {right_capture:02x?} {right_stretches:02x?}"
     ))
 }
@@ -230,9 +230,11 @@ pub fn run(seed: u64) -> Result<(), String> {
 /// What was mended mends to itself, with the mark.
 fn again(capture: &[u8]) -> Result<(), String> {
     let mut output = vec![FILL; capture.len()];
-    let told = mend(capture, &mut output, &mut [0; 16_392]);
-    if told.answer == DONE && told.places_true && output == capture {
+    let returned = mend(capture, &mut output, &mut [0; 16_392]);
+    if returned.answer == DONE && returned.places_true && output == capture {
         return Ok(());
     }
-    Err(format!("mend of what was mended, {capture:02x?}: {told:?}"))
+    Err(format!(
+        "mend of what was mended, {capture:02x?}: {returned:?}"
+    ))
 }

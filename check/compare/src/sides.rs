@@ -1,4 +1,4 @@
-//! The two programs that are compared, each with all it is lent.
+//! The two programs that are compared, each with all it borrows.
 
 use crate::call::{Call, Octets, Outcome, Trial, Value};
 use crate::convert;
@@ -6,7 +6,7 @@ use hello::{nets, State};
 use reference::walk::FIRST_STEP;
 use reference::{answer, host, net, program, Place, Refusal};
 
-/// What the library is lent: the table of the class, the clock, links and walk of each host with the
+/// What the library borrows: the table of the class, the clock, links and walk of each host with the
 /// copy of its packet, and the run.
 pub struct Library {
     pub table: hello::ClassTable,
@@ -69,14 +69,14 @@ impl Library {
                 }
             }
             Call::Inspect { link, packet } => {
-                let told = state.inspect(*link, &packet.0);
+                let returned = state.inspect(*link, &packet.0);
                 let value = Value::Inspected {
-                    source: convert::address(told.source),
-                    time: told.time,
-                    tsp: told.tsp,
-                    nhosts: told.nhosts,
+                    source: convert::address(returned.source),
+                    time: returned.time,
+                    tsp: returned.tsp,
+                    nhosts: returned.nhosts,
                 };
-                Outcome::new(told.answer, value)
+                Outcome::new(returned.answer, value)
             }
             Call::Act {
                 link,
@@ -113,7 +113,7 @@ impl Library {
     }
 }
 
-/// The next place, with all that is told of it.
+/// The next place, with all that is returned of it.
 pub fn next(stepped: hello::Stepped) -> Outcome {
     let id = u8::try_from(stepped.id).expect("an id is an octet");
     let next = match (stepped.step, stepped.line, id) {
@@ -123,7 +123,7 @@ pub fn next(stepped: hello::Stepped) -> Outcome {
     Outcome::new(stepped.answer, Value::Next(next))
 }
 
-/// What the reference is lent.
+/// What the reference borrows.
 pub struct Reference {
     pub table: reference::NetTable,
     pub clocks: Vec<reference::Clock>,
@@ -197,12 +197,12 @@ impl Reference {
                 let said = host::inspect(
                     settings, table, number, clock, links, walk, run, *link, &packet.0,
                 );
-                let told = said.unwrap_or_default();
+                let returned = said.unwrap_or_default();
                 let value = Value::Inspected {
-                    source: told.source,
-                    time: told.time.into(),
-                    tsp: told.tsp,
-                    nhosts: told.hosts,
+                    source: returned.source,
+                    time: returned.time.into(),
+                    tsp: returned.tsp,
+                    nhosts: returned.hosts,
                 };
                 Outcome::new(answer(&said), value)
             }

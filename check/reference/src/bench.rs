@@ -2,7 +2,7 @@
 //! hosts.
 //!
 //! Set-up and run are both given the file and both test all of it: 18 for its
-//! header or length, 19 for a record, then 12 for what is lent. Where they
+//! header or length, 19 for a record, then 12 for what is borrowed. Where they
 //! are refused nothing at all is altered.
 
 use crate::answer;

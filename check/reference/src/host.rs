@@ -1,6 +1,6 @@
 //! The calls of a host.
 //!
-//! Each is lent the host's settings, clock, links and walk, the net table of
+//! Each borrows the host's settings, clock, links and walk, the net table of
 //! the class and the run of entries that all hosts share. Answer 12 is tested first, then 16 while a
 //! walk is open, then 1, then the others. Setting afresh and the step of a
 //! walk do not give 16.
@@ -10,7 +10,7 @@
 //! others read once, "before DATE or HOLD is used", and 10 and an
 //! arrival's 11 keep the changes of the reading.
 
-// What is lent to a call makes many arguments.
+// What a call borrows makes many arguments.
 #![allow(clippy::too_many_arguments)]
 
 use std::ops::Range;
@@ -407,7 +407,7 @@ fn admit(
     Ok(places)
 }
 
-/// The places of the host's entries, if all that is lent is in range.
+/// The places of the host's entries, if all that is borrowed is in range.
 fn admit_lent(
     settings: &Settings,
     net: &NetTable,

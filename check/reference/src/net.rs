@@ -1,7 +1,7 @@
 //! One net table for the class, and the tutor's calls on it.
 //!
 //! Rows keep their order; their numbers are 1, 2, 3 and so on. The table is
-//! lent to every call of a host, which looks up in it and changes nothing. The
+//! borrowed by every call of a host, which looks up in it and changes nothing. The
 //! tutor's calls know no host; their order of answers is 12, 22, 21, 1.
 
 use crate::{Refusal, PLACES};
@@ -73,7 +73,7 @@ impl NetTable {
     }
 }
 
-/// Leaves a class's NHOSTS and no rows, whatever was lent. Refused with 1.
+/// Leaves a class's NHOSTS and no rows, whatever was borrowed. Refused with 1.
 pub fn set_afresh(table: &mut NetTable, nhosts: usize) -> Result<(), Refusal> {
     if !is_nhosts(nhosts) {
         return Err(Refusal::Settings);

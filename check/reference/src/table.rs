@@ -104,8 +104,8 @@ impl Entry {
         }
     }
 
-    /// The DELAY told to the neighbour on a link. A route by way of that link
-    /// is told as down, or it could loop.
+    /// The DELAY advertised to the neighbour on a link. A route by way of that link
+    /// is advertised as down, or it could loop.
     pub fn advertised_delay(&self, link: usize) -> u16 {
         if usize::from(self.pid) == link {
             MAX_DELAY as u16

@@ -22,7 +22,7 @@ mod walk;
 const ROUTER: Address = Address([192, 0, 2, 2]);
 const UNITS_OF_DAY: i64 = DAY_MS * 65_536;
 
-/// A host with all that is lent to its calls.
+/// A host with all that its calls borrow.
 #[derive(Clone, PartialEq, Debug)]
 struct Host {
     settings: Settings,
@@ -866,7 +866,7 @@ fn ids_are_found_by_class() {
     assert_eq!(route::find(&settings, &table, Address([0; 4])), None);
 }
 
-// What is lent, and the settings.
+// What is borrowed, and the settings.
 
 #[test]
 fn lent_values_out_of_range() {

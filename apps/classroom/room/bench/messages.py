@@ -11,7 +11,7 @@ LONGEST_NAME = 100
 MOST_EVENTS = 2_048
 
 
-def _told(room):
+def _returned(room):
     """What was loaded."""
     now = room.bench.loaded
     return {"name": now.name, "octets": len(now.octets), "fault": now.fault}
@@ -26,7 +26,7 @@ def _load(room, message):
     else:
         file = loaded.read_octets(name, _octets(message["octets"]))
     room.bench.load(file)
-    return _told(room)
+    return _returned(room)
 
 
 def _octets(value):
@@ -38,14 +38,14 @@ def _octets(value):
 
 def _ready(room, message):
     room.bench.load(loaded.read_ready(one_of("file", message["file"], loaded.READY)))
-    return _told(room)
+    return _returned(room)
 
 
 def _room(room, message):
     taken = of_room.taken(room)
     room.bench.load(loaded.of_file("room", taken.file))
-    told = {"events": len(taken.file.events), "lines": taken.lines, "of": taken.of}
-    return {**_told(room), **told, "left_out": taken.left_out, "stopped": taken.stopped}
+    returned = {"events": len(taken.file.events), "lines": taken.lines, "of": taken.of}
+    return {**_returned(room), **returned, "left_out": taken.left_out, "stopped": taken.stopped}
 
 
 def _set_up(room, message):

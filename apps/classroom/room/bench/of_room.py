@@ -147,7 +147,7 @@ def _way(cables, line):
     """Cable, end and octets of the packet that a call sent or took."""
     far = cables.far(line["seat"], line["with"]["link"])
     if line["call"] == "send":
-        return far.cable, far.direction, line["told"].get("octets")
+        return far.cable, far.direction, line["returned"].get("octets")
     return far.cable, 1 - far.direction, line["with"]["packet"]
 
 

@@ -78,7 +78,7 @@ class Stand:
                 self._take_piece(0)
             self._promised = Promised(loaded.promises, loaded.answers)
             self._promised.look(bench)
-        self._changed({"call": "bench_set_up", **in_words(answer), "changes": [], "told": self._told(answer, table)})
+        self._changed({"call": "bench_set_up", **in_words(answer), "changes": [], "returned": self._returned(answer, table)})
         return self._last
 
     def back(self):
@@ -107,8 +107,8 @@ class Stand:
             last = self._event(first, slots, _changes(before, self._states))
         else:
             last = {"call": "bench_run", **in_words(int(ran.answer)), "changes": []}
-            told = {"first": self._first + first, "count": ran.count}
-            last["told"] = {**told, **self._told(int(ran.answer), bench.net_table)}
+            returned = {"first": self._first + first, "count": ran.count}
+            last["returned"] = {**returned, **self._returned(int(ran.answer), bench.net_table)}
         self._changed(last)
         done = {"done": self._first + bench.done, "of": self.loaded.events}
         return {**in_words(int(ran.answer)), "count": ran.count, **done}
@@ -146,7 +146,7 @@ class Stand:
             raise Refused("refused.bench_not_set_up")
         return self._bench
 
-    def _told(self, answer, table):
+    def _returned(self, answer, table):
         """What is at fault if set-up or run has this answer, as far as that is known."""
         if answer not in (hello.Answer.HEADER, hello.Answer.ABSENT):
             return {}
@@ -159,9 +159,9 @@ class Stand:
         """What an event came to; `slots` are those before it."""
         event, answer = self._file_now.events[number], int(self._bench.answers[number])
         slot = slots[event.tray] if event.kind == "arrival" else None
-        told = {"went": words.arrived(self.loaded.file, slot)} if slot and slot.packet else {}
+        returned = {"went": words.arrived(self.loaded.file, slot)} if slot and slot.packet else {}
         number += self._first
-        return {"call": "bench_event", "event": number, **in_words(answer), "changes": moved, "told": told}
+        return {"call": "bench_event", "event": number, **in_words(answer), "changes": moved, "returned": returned}
 
     def _now(self):
         """The states of the hosts of the file that the bench was set up with."""

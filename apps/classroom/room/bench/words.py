@@ -4,12 +4,12 @@
 def in_words(file):
     """Each event of a file."""
     filled = {}
-    told = []
+    returned = []
     for number, event in enumerate(file.events):
-        told.append(_counted(event, _event(file, event, filled)))
+        returned.append(_counted(event, _event(file, event, filled)))
         if event.kind == "send":
             filled[event.tray] = number
-    return told
+    return returned
 
 
 def _event(file, event, filled):

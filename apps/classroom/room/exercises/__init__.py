@@ -8,7 +8,7 @@
 
 from .catalog import EXERCISES, OWN, sheet
 from .course import Course
-from .foretold import FORETELL
+from .predicted import FORETELL
 from .messages import EXERCISE_MESSAGES
 from .shown import for_student, for_teacher, listed
 

@@ -2,7 +2,7 @@
 
 from hello.bench_file import Entry
 
-from . import foretold
+from . import predicted
 from .fitting import Numbers, name_of
 from .segments import key_of
 
@@ -65,7 +65,7 @@ class Copy:
         self.at = 0
         self.results = [Result() for _ in exercise.stages]
         self.trays = {}
-        self.foretold = {}
+        self.predicted = {}
         self._made = {}
         self._others = {}
 
@@ -152,7 +152,7 @@ class Copy:
         self.at += 1
         if self.ended or self.segments[self.at].stage != segment.stage:
             result.end()
-            foretold.mark(room, self, segment.stage, segment.predictions, tables)
+            predicted.mark(room, self, segment.stage, segment.predictions, tables)
 
     def host_name(self, host):
         """The name of a host of the exercise, in this copy."""

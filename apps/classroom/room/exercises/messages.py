@@ -31,7 +31,7 @@ def _exercise(room, message):
 
 
 def _load(room, message):
-    """An exercise of the teacher's own; each wrong line is told with its number."""
+    """An exercise of the teacher's own; each wrong line is reported with its number."""
     name = words("name", message["name"], LONGEST_NAME)
     text = words("text", message["text"], LONGEST_TEXT, lines=True)
     try:

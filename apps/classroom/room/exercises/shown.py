@@ -1,7 +1,7 @@
 """What the pages show of an exercise. What comes of a stage is shown after it alone. What people read is sent in
 all languages that the text has, by their two letters."""
 
-from . import foretold
+from . import predicted
 from .catalog import EXERCISES
 
 def listed(room):
@@ -63,7 +63,7 @@ def for_student(room, place):
         right=copy.right,
         results=_results(copy),
         stages=[_stage(course, number, number < copy.stage) for number in range(copy.stage + 1)],
-        **foretold.shown(room, copy, place),
+        **predicted.shown(room, copy, place),
     )
     return view
 

@@ -111,8 +111,8 @@ def _links(octets, place, count):
         kind = "broadcast" if switch else "point-to-point"
         yield _line(at, f"{switch:02x}", f"link {slot + 1}: switch {switch}, {kind}")
         neighbor = layout.NEIGHBOR_ADDRESS.behind(at).part(octets)
-        told = _address(0, neighbor) if switch else "(not looked at)"
-        yield _line(at + 1, neighbor.hex(" "), f"link {slot + 1}: NEIGHBOR-ADDRESS {told}")
+        returned = _address(0, neighbor) if switch else "(not looked at)"
+        yield _line(at + 1, neighbor.hex(" "), f"link {slot + 1}: NEIGHBOR-ADDRESS {returned}")
 
 
 def _marks(octets, place):
@@ -124,8 +124,8 @@ def _marks(octets, place):
         while last + 1 < layout.MARKS.octets and octets[place + last + 1] == mark:
             last += 1
         ids = f"id {first}" if first == last else f"ids {first} to {last}"
-        told = f"mark of {ids}: {'lives here' if mark else 'does not live here'}"
-        yield from _run(octets, place + first, last - first + 1, told)
+        returned = f"mark of {ids}: {'lives here' if mark else 'does not live here'}"
+        yield from _run(octets, place + first, last - first + 1, returned)
         first = last + 1
 
 

@@ -437,7 +437,7 @@ class Reader:
         return [there("seat", seat, len(self.drafts))]
 
     def _add(self, events):
-        """Adds events; that there are too many is told once, where the first one is too much, and none
+        """Adds events; that there are too many is reported once, where the first one is too much, and none
         is added behind it."""
         if self._full():
             return
@@ -561,7 +561,7 @@ class Reader:
         return self.nhosts or max(1, len(self.drafts))
 
     def file(self):
-        """The file; a seat whose settings are refused is told by its line."""
+        """The file; a seat whose settings are refused is reported by its line."""
         seats = []
         for number, draft in enumerate(self.drafts):
             seat = self._seat_of(number, draft)

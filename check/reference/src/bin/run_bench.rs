@@ -17,7 +17,7 @@ use reference::bench::layout::{header, number, seat};
 use reference::bench::{run, set_up, Bench, File, EVENTS};
 use reference::{answer, Entry, NetTable, Settings, HOSTS, PLACES};
 
-/// A bench with all that is lent to its calls.
+/// A bench with all that its calls borrow.
 struct Class {
     file: Vec<u8>,
     net: NetTable,

@@ -12,7 +12,7 @@ mod refusals;
 
 const NONE: Counter = Counter::LINE_CLOCK;
 
-/// A bench with all that is lent to its calls.
+/// A bench with all that its calls borrow.
 #[derive(Clone, PartialEq, Debug)]
 struct Class {
     file: Vec<u8>,

@@ -141,16 +141,16 @@ fn a_packet_passes_answers_3_to_7() {
 #[test]
 fn the_inputs_own_places() {
     let (one, two) = (packet(5, 0), packet(6, 1));
-    let told = |front: &[usize]| {
+    let returned = |front: &[usize]| {
         let input = [numbers(front), one.clone(), two.clone()].concat();
         mended(&input).places_true
     };
-    assert!(told(&[2, 12, 44]));
-    assert!(told(&[2, 16, 48, 99]));
-    assert!(!told(&[2, 12, 45]));
-    assert!(!told(&[3, 16, 48, 80]));
-    assert!(!told(&[1, 8]));
-    assert!(!told(&[2, 48, 16, 0]));
+    assert!(returned(&[2, 12, 44]));
+    assert!(returned(&[2, 16, 48, 99]));
+    assert!(!returned(&[2, 12, 45]));
+    assert!(!returned(&[3, 16, 48, 80]));
+    assert!(!returned(&[1, 8]));
+    assert!(!returned(&[2, 48, 16, 0]));
 }
 
 #[test]

@@ -46,11 +46,11 @@ fn a_reading_is_the_sum() {
     let mut host = crystal(1_000, counter(65_535));
     host.clock.clock = Units(1_000 * 65_536 + 65_535);
     let before = host.clone();
-    let told = Reading {
+    let returned = Reading {
         time: 66_535,
         date: TODAY,
     };
-    assert_eq!(host.read(), Ok(told));
+    assert_eq!(host.read(), Ok(returned));
     assert_eq!(host, before);
 }
 
@@ -64,13 +64,13 @@ fn a_reading_of_exactly_one_day_stays() {
 #[test]
 fn a_count_over_midnight_moves_the_date_on() {
     let mut host = crystal(DAY_MS - 5, counter(6));
-    let told = Reading {
+    let returned = Reading {
         time: 1,
         date: TOMORROW,
     };
-    assert_eq!(host.read(), Ok(told));
+    assert_eq!(host.read(), Ok(returned));
     assert_eq!(clock_of(&host), (-5, TOMORROW, 1));
-    assert_eq!(host.read(), Ok(told));
+    assert_eq!(host.read(), Ok(returned));
     assert_eq!(clock_of(&host), (-5, TOMORROW, 1));
 }
 
@@ -85,11 +85,11 @@ fn one_unit_over_midnight_is_over() {
 #[test]
 fn a_sum_below_zero_moves_the_date_back() {
     let mut host = crystal(-5, counter(4));
-    let told = Reading {
+    let returned = Reading {
         time: DAY_MS - 1,
         date: YESTERDAY,
     };
-    assert_eq!(host.read(), Ok(told));
+    assert_eq!(host.read(), Ok(returned));
     assert_eq!(clock_of(&host), (DAY_MS - 5, YESTERDAY, 1));
     let mut host = crystal(-5, counter(5));
     assert_eq!(host.read().unwrap().time, 0);
@@ -247,11 +247,11 @@ fn a_line_clock_is_as_it_was() {
         host.counter = Counter::LINE_CLOCK;
         host.set_reading(random.between(0, DAY_MS));
         let before = host.clone();
-        let told = Reading {
+        let returned = Reading {
             time: before.clock.clock.whole_ms(),
             date: before.clock.date,
         };
-        assert_eq!(host.read(), Ok(told));
+        assert_eq!(host.read(), Ok(returned));
         assert_eq!(host, before);
         host.self_report().unwrap();
         host.message(1);

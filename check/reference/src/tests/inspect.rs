@@ -12,13 +12,13 @@ fn an_inspection_tells_what_the_packet_says() {
     let mut host = Host::fresh(program::SETTINGS);
     host.clock.hold = 1;
     let mut message = router_message(heading(0xFFFF_FFFE, 0xFFFD), &[(1, 1); 4]);
-    let told = Inspected {
+    let returned = Inspected {
         source: ROUTER,
         time: 0xFFFF_FFFE,
         tsp: 0xFFFD,
         hosts: 4,
     };
-    assert_eq!(host.inspect(1, &message), Ok(told));
+    assert_eq!(host.inspect(1, &message), Ok(returned));
     message.pop();
     assert_eq!(host.inspect(1, &message), Err(Refusal::IpForm));
     assert_eq!(host.inspect(1, &message).unwrap_or_default().hosts, 0);

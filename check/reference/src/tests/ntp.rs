@@ -110,12 +110,12 @@ fn the_table_of_section_9_2() {
                 ..ASSOCIATION
             };
             let header = Header { mode, ..HEADER };
-            let told = taken(association, header, 2_000);
+            let returned = taken(association, header, 2_000);
             let Some(row) = printed.get(usize::from(number)) else {
-                assert_eq!(told, Err(25));
+                assert_eq!(returned, Err(25));
                 continue;
             };
-            let (outcome, after) = told.unwrap();
+            let (outcome, after) = returned.unwrap();
             assert_eq!(outcome.action, row[usize::from(mode) - 1]);
             if outcome.action == 1 {
                 assert_eq!((outcome.offset, outcome.delay), (50, 900));

@@ -37,7 +37,7 @@ impl Random {
     }
 }
 
-/// A host with sound settings, lent nothing that is out of range.
+/// A host with sound settings, borrowed nothing that is out of range.
 pub fn host(random: &mut Random) -> Host {
     let mut host = Host::fresh(settings(random));
     host.net = net_table(random, host.settings.nhosts);

@@ -38,9 +38,9 @@ fn rows(table: &NetTable) -> Vec<([u8; 3], u8)> {
 
 /// The number of a tutor's call, which changes nothing where it is refused.
 fn number<T>(table: &NetTable, call: impl Fn(&mut NetTable) -> Result<T, Refusal>) -> u8 {
-    let mut lent = *table;
-    let outcome = call(&mut lent);
-    assert!(outcome.is_ok() || lent == *table);
+    let mut borrowed = *table;
+    let outcome = call(&mut borrowed);
+    assert!(outcome.is_ok() || borrowed == *table);
     answer(&outcome)
 }
 
@@ -48,10 +48,10 @@ fn number<T>(table: &NetTable, call: impl Fn(&mut NetTable) -> Result<T, Refusal
 
 #[test]
 fn setting_afresh_leaves_no_rows() {
-    let mut lent = full_table();
-    assert_eq!(net::set_afresh(&mut lent, 255), Ok(()));
-    assert_eq!((lent.nhosts, lent.count), (255, 0));
-    assert_eq!(rows(&lent), []);
+    let mut borrowed = full_table();
+    assert_eq!(net::set_afresh(&mut borrowed, 255), Ok(()));
+    assert_eq!((borrowed.nhosts, borrowed.count), (255, 0));
+    assert_eq!(rows(&borrowed), []);
     let mut bad = full_table();
     bad.count = 33;
     bad.nhosts = 0;
@@ -63,60 +63,63 @@ fn setting_afresh_leaves_no_rows() {
 fn setting_afresh_refuses_a_bad_nhosts_with_1() {
     let mut bad = full_table();
     bad.count = 33;
-    for lent in [full_table(), bad] {
+    for borrowed in [full_table(), bad] {
         for nhosts in [0, 256, 300, usize::MAX] {
-            assert_eq!(number(&lent, |lent| net::set_afresh(lent, nhosts)), 1);
+            assert_eq!(
+                number(&borrowed, |borrowed| net::set_afresh(borrowed, nhosts)),
+                1
+            );
         }
     }
 }
 
 #[test]
 fn additions_go_at_the_end() {
-    let mut lent = NetTable::without_rows(4);
-    assert_eq!(net::add(&mut lent, A, 3), Ok(1));
-    assert_eq!(net::add(&mut lent, B, 0), Ok(2));
-    assert_eq!(net::add(&mut lent, C, 1), Ok(3));
-    assert_eq!(rows(&lent), [(A, 3), (B, 0), (C, 1)]);
-    assert_eq!(lent.nhosts, 4);
+    let mut borrowed = NetTable::without_rows(4);
+    assert_eq!(net::add(&mut borrowed, A, 3), Ok(1));
+    assert_eq!(net::add(&mut borrowed, B, 0), Ok(2));
+    assert_eq!(net::add(&mut borrowed, C, 1), Ok(3));
+    assert_eq!(rows(&borrowed), [(A, 3), (B, 0), (C, 1)]);
+    assert_eq!(borrowed.nhosts, 4);
     // Nets may be any: double ones, and several of net zero.
-    assert_eq!(net::add(&mut lent, A, 2), Ok(4));
-    assert_eq!(net::add(&mut lent, ZERO, 2), Ok(5));
-    assert_eq!(net::add(&mut lent, ZERO, 1), Ok(6));
-    assert_eq!(net::add(&mut lent, [224, 255, 255], 1), Ok(7));
-    assert_eq!(lent.count, 7);
+    assert_eq!(net::add(&mut borrowed, A, 2), Ok(4));
+    assert_eq!(net::add(&mut borrowed, ZERO, 2), Ok(5));
+    assert_eq!(net::add(&mut borrowed, ZERO, 1), Ok(6));
+    assert_eq!(net::add(&mut borrowed, [224, 255, 255], 1), Ok(7));
+    assert_eq!(borrowed.count, 7);
 }
 
 #[test]
 fn full_means_32_rows_stand() {
-    let mut lent = table(&[(A, 1); 31]);
-    assert_eq!(net::add(&mut lent, B, 3), Ok(32));
-    assert_eq!(lent.rows[31], row(B, 3));
-    assert_eq!(number(&lent, |lent| net::add(lent, C, 1)), 21);
+    let mut borrowed = table(&[(A, 1); 31]);
+    assert_eq!(net::add(&mut borrowed, B, 3), Ok(32));
+    assert_eq!(borrowed.rows[31], row(B, 3));
+    assert_eq!(number(&borrowed, |borrowed| net::add(borrowed, C, 1)), 21);
     // Full comes before a bad id.
-    assert_eq!(number(&lent, |lent| net::add(lent, C, 4)), 21);
-    assert_eq!(net::remove(&mut lent, 1), Ok(()));
-    assert_eq!(number(&lent, |lent| net::add(lent, C, 4)), 1);
-    assert_eq!(net::add(&mut lent, C, 1), Ok(32));
+    assert_eq!(number(&borrowed, |borrowed| net::add(borrowed, C, 4)), 21);
+    assert_eq!(net::remove(&mut borrowed, 1), Ok(()));
+    assert_eq!(number(&borrowed, |borrowed| net::add(borrowed, C, 4)), 1);
+    assert_eq!(net::add(&mut borrowed, C, 1), Ok(32));
 }
 
 #[test]
 fn an_added_id_is_below_nhosts() {
-    let lent = table(&[(A, 1)]);
-    assert_eq!(number(&lent, |lent| net::add(lent, C, 3)), 0);
-    assert_eq!(number(&lent, |lent| net::add(lent, C, 4)), 1);
-    assert_eq!(number(&lent, |lent| net::add(lent, C, 255)), 1);
+    let borrowed = table(&[(A, 1)]);
+    assert_eq!(number(&borrowed, |borrowed| net::add(borrowed, C, 3)), 0);
+    assert_eq!(number(&borrowed, |borrowed| net::add(borrowed, C, 4)), 1);
+    assert_eq!(number(&borrowed, |borrowed| net::add(borrowed, C, 255)), 1);
     let most = NetTable::without_rows(255);
-    assert_eq!(number(&most, |lent| net::add(lent, C, 254)), 0);
-    assert_eq!(number(&most, |lent| net::add(lent, C, 255)), 1);
+    assert_eq!(number(&most, |borrowed| net::add(borrowed, C, 254)), 0);
+    assert_eq!(number(&most, |borrowed| net::add(borrowed, C, 255)), 1);
 }
 
 #[test]
 fn rows_move_up_behind_a_removed_one() {
-    let lent = table(&[(A, 0), (B, 1), (C, 2), (ZERO, 3)]);
+    let borrowed = table(&[(A, 0), (B, 1), (C, 2), (ZERO, 3)]);
     let without = |number: usize| {
-        let mut lent = lent;
-        assert_eq!(net::remove(&mut lent, number), Ok(()));
-        rows(&lent)
+        let mut borrowed = borrowed;
+        assert_eq!(net::remove(&mut borrowed, number), Ok(()));
+        rows(&borrowed)
     };
     assert_eq!(without(1), [(B, 1), (C, 2), (ZERO, 3)]);
     assert_eq!(without(2), [(A, 0), (C, 2), (ZERO, 3)]);
@@ -131,53 +134,65 @@ fn rows_move_up_behind_a_removed_one() {
 
 #[test]
 fn a_change_keeps_the_net() {
-    let mut lent = table(&[(A, 0), (B, 1), (C, 2)]);
-    assert_eq!(net::change(&mut lent, 2, 3), Ok(()));
-    assert_eq!(rows(&lent), [(A, 0), (B, 3), (C, 2)]);
-    assert_eq!(net::change(&mut lent, 2, 3), Ok(()));
-    assert_eq!(net::change(&mut lent, 1, 2), Ok(()));
-    assert_eq!(rows(&lent), [(A, 2), (B, 3), (C, 2)]);
+    let mut borrowed = table(&[(A, 0), (B, 1), (C, 2)]);
+    assert_eq!(net::change(&mut borrowed, 2, 3), Ok(()));
+    assert_eq!(rows(&borrowed), [(A, 0), (B, 3), (C, 2)]);
+    assert_eq!(net::change(&mut borrowed, 2, 3), Ok(()));
+    assert_eq!(net::change(&mut borrowed, 1, 2), Ok(()));
+    assert_eq!(rows(&borrowed), [(A, 2), (B, 3), (C, 2)]);
 }
 
 #[test]
 fn a_number_without_a_row_is_22() {
-    let lent = table(&[(A, 0), (B, 1)]);
+    let borrowed = table(&[(A, 0), (B, 1)]);
     for (row, answer) in [(0, 22), (1, 0), (2, 0), (3, 22), (usize::MAX, 22)] {
-        assert_eq!(number(&lent, |lent| net::remove(lent, row)), answer);
-        assert_eq!(number(&lent, |lent| net::change(lent, row, 3)), answer);
+        assert_eq!(
+            number(&borrowed, |borrowed| net::remove(borrowed, row)),
+            answer
+        );
+        assert_eq!(
+            number(&borrowed, |borrowed| net::change(borrowed, row, 3)),
+            answer
+        );
     }
     let none = NetTable::without_rows(4);
-    assert_eq!(number(&none, |lent| net::remove(lent, 1)), 22);
+    assert_eq!(number(&none, |borrowed| net::remove(borrowed, 1)), 22);
     // 22 comes before 1, and a full table is no hindrance.
-    assert_eq!(number(&lent, |lent| net::change(lent, 0, 4)), 22);
-    assert_eq!(number(&lent, |lent| net::change(lent, 3, 4)), 22);
-    assert_eq!(number(&lent, |lent| net::change(lent, 2, 4)), 1);
+    assert_eq!(
+        number(&borrowed, |borrowed| net::change(borrowed, 0, 4)),
+        22
+    );
+    assert_eq!(
+        number(&borrowed, |borrowed| net::change(borrowed, 3, 4)),
+        22
+    );
+    assert_eq!(number(&borrowed, |borrowed| net::change(borrowed, 2, 4)), 1);
     let full = full_table();
-    assert_eq!(number(&full, |lent| net::change(lent, 33, 4)), 22);
-    assert_eq!(number(&full, |lent| net::change(lent, 32, 4)), 1);
-    assert_eq!(number(&full, |lent| net::change(lent, 32, 3)), 0);
-    assert_eq!(number(&full, |lent| net::remove(lent, 33)), 22);
+    assert_eq!(number(&full, |borrowed| net::change(borrowed, 33, 4)), 22);
+    assert_eq!(number(&full, |borrowed| net::change(borrowed, 32, 4)), 1);
+    assert_eq!(number(&full, |borrowed| net::change(borrowed, 32, 3)), 0);
+    assert_eq!(number(&full, |borrowed| net::remove(borrowed, 33)), 22);
 }
 
 /// Tables that 12 refuses; each differs from the full one in a number.
 fn bad_tables() -> Vec<NetTable> {
     let changes: [fn(&mut NetTable); 9] = [
-        |lent| lent.count = 33,
-        |lent| lent.count = usize::MAX,
-        |lent| lent.nhosts = 0,
-        |lent| lent.nhosts = 256,
-        |lent| lent.nhosts = usize::MAX,
-        |lent| lent.nhosts = 1,
-        |lent| lent.rows[0].host = 4,
-        |lent| lent.rows[31].host = 255,
+        |borrowed| borrowed.count = 33,
+        |borrowed| borrowed.count = usize::MAX,
+        |borrowed| borrowed.nhosts = 0,
+        |borrowed| borrowed.nhosts = 256,
+        |borrowed| borrowed.nhosts = usize::MAX,
+        |borrowed| borrowed.nhosts = 1,
+        |borrowed| borrowed.rows[0].host = 4,
+        |borrowed| borrowed.rows[31].host = 255,
         // Behind a row of net zero, which ends every search.
-        |lent| (lent.rows[0].net, lent.rows[5].host) = (ZERO, 4),
+        |borrowed| (borrowed.rows[0].net, borrowed.rows[5].host) = (ZERO, 4),
     ];
     changes
         .map(|change| {
-            let mut lent = full_table();
-            change(&mut lent);
-            lent
+            let mut borrowed = full_table();
+            change(&mut borrowed);
+            borrowed
         })
         .to_vec()
 }
@@ -185,39 +200,39 @@ fn bad_tables() -> Vec<NetTable> {
 #[test]
 fn a_bad_table_is_12_first_of_all() {
     for bad in bad_tables() {
-        assert_eq!(number(&bad, |lent| net::add(lent, C, 1)), 12);
-        assert_eq!(number(&bad, |lent| net::add(lent, C, 255)), 12);
-        assert_eq!(number(&bad, |lent| net::remove(lent, 1)), 12);
-        assert_eq!(number(&bad, |lent| net::remove(lent, 0)), 12);
-        assert_eq!(number(&bad, |lent| net::change(lent, 1, 1)), 12);
-        assert_eq!(number(&bad, |lent| net::change(lent, 0, 255)), 12);
-        assert_eq!(number(&bad, |lent| net::set_afresh(lent, 4)), 0);
+        assert_eq!(number(&bad, |borrowed| net::add(borrowed, C, 1)), 12);
+        assert_eq!(number(&bad, |borrowed| net::add(borrowed, C, 255)), 12);
+        assert_eq!(number(&bad, |borrowed| net::remove(borrowed, 1)), 12);
+        assert_eq!(number(&bad, |borrowed| net::remove(borrowed, 0)), 12);
+        assert_eq!(number(&bad, |borrowed| net::change(borrowed, 1, 1)), 12);
+        assert_eq!(number(&bad, |borrowed| net::change(borrowed, 0, 255)), 12);
+        assert_eq!(number(&bad, |borrowed| net::set_afresh(borrowed, 4)), 0);
     }
 }
 
 #[test]
 fn slots_behind_the_rows_are_not_looked_at_and_left_zero() {
-    let mut lent = table(&[(A, 0), (B, 1)]);
-    lent.rows[2..].fill(row(C, 255));
-    let mut added = lent;
+    let mut borrowed = table(&[(A, 0), (B, 1)]);
+    borrowed.rows[2..].fill(row(C, 255));
+    let mut added = borrowed;
     assert_eq!(net::add(&mut added, ZERO, 3), Ok(3));
     assert_eq!(rows(&added), [(A, 0), (B, 1), (ZERO, 3)]);
-    let mut removed = lent;
+    let mut removed = borrowed;
     assert_eq!(net::remove(&mut removed, 1), Ok(()));
     assert_eq!(rows(&removed), [(B, 1)]);
-    let mut changed = lent;
+    let mut changed = borrowed;
     assert_eq!(net::change(&mut changed, 1, 2), Ok(()));
     assert_eq!(rows(&changed), [(A, 2), (B, 1)]);
     // A refused call leaves them too.
-    assert_eq!(number(&lent, |lent| net::add(lent, C, 4)), 1);
-    assert_eq!(number(&lent, |lent| net::remove(lent, 3)), 22);
+    assert_eq!(number(&borrowed, |borrowed| net::add(borrowed, C, 4)), 1);
+    assert_eq!(number(&borrowed, |borrowed| net::remove(borrowed, 3)), 22);
 }
 
 /// The tutor's calls beside a plain list of rows.
 #[test]
 fn a_list_of_tutors_calls() {
     let mut random = Random(12);
-    let mut lent = NetTable::without_rows(4);
+    let mut borrowed = NetTable::without_rows(4);
     let (mut list, mut nhosts) = (Vec::new(), 4);
     let mut seen = [0; 28];
     for _ in 0..5_000 {
@@ -233,7 +248,7 @@ fn a_list_of_tutors_calls() {
                 if fits {
                     (nhosts, list) = (afresh, Vec::new());
                 }
-                (net::set_afresh(&mut lent, afresh), u8::from(!fits))
+                (net::set_afresh(&mut borrowed, afresh), u8::from(!fits))
             }
             1..=6 => {
                 let full = list.len() == 32;
@@ -241,7 +256,7 @@ fn a_list_of_tutors_calls() {
                 if expected == 0 {
                     list.push((net, host));
                 }
-                let added = net::add(&mut lent, net, host);
+                let added = net::add(&mut borrowed, net, host);
                 assert!(added.is_err() || added == Ok(list.len()));
                 (added.map(|_| ()), expected)
             }
@@ -250,18 +265,18 @@ fn a_list_of_tutors_calls() {
                     list.remove(at - 1);
                 }
                 let expected = if is_row { 0 } else { 22 };
-                (net::remove(&mut lent, at), expected)
+                (net::remove(&mut borrowed, at), expected)
             }
             _ => {
                 let expected = if is_row { u8::from(id_is_bad) } else { 22 };
                 if expected == 0 {
                     list[at - 1].1 = host;
                 }
-                (net::change(&mut lent, at, host), expected)
+                (net::change(&mut borrowed, at, host), expected)
             }
         };
         assert_eq!(answer(&done), expected);
-        assert_eq!((rows(&lent), lent.nhosts), (list.clone(), nhosts));
+        assert_eq!((rows(&borrowed), borrowed.nhosts), (list.clone(), nhosts));
         seen[usize::from(expected)] += 1;
     }
     assert!([0, 1, 21, 22].iter().all(|number| seen[*number] > 50));

@@ -31,26 +31,26 @@ def foretell(room, seat, message):
         raise Refused("refused.nothing_asked")
     given = members("values", message["values"], len(wanted), len(wanted))
     given = [whole("a value", value, -MOST, MOST) for value in given]
-    if (stage, seat.number) in copy.foretold:
+    if (stage, seat.number) in copy.predicted:
         raise Refused("refused.expected_already")
-    copy.foretold[stage, seat.number] = {"given": given, "marks": None}
+    copy.predicted[stage, seat.number] = {"given": given, "marks": None}
     course.version += 1
     return {"stage": stage, "values": given}
 
 
 def mark(room, copy, stage, predictions, tables):
     """The stage is over: marks what students have written of it."""
-    for (of, place), told in copy.foretold.items():
+    for (of, place), prediction in copy.predicted.items():
         if of != stage:
             continue
-        marks, rest = [], iter(told["given"])
+        marks, rest = [], iter(prediction["given"])
         for each in predictions:
             entry = tables[each.seat, each.host]
             for field in each.fields:
                 given, actual = next(rest), entry and getattr(entry, field)
                 what = {"seat": copy.names[each.seat], "host": copy.host_name(each.host), "field": field.upper()}
                 marks.append({**what, "given": given, "actual": actual, "right": given == actual})
-        told["marks"] = marks
+        prediction["marks"] = marks
         right = all(each["right"] for each in marks)
         room.lesson.students[place].marked("exercise", f"stage {stage + 1}", 1, right, room)
 
@@ -59,9 +59,9 @@ def shown(room, copy, place):
     """What a student's page shows: what is asked of the stage under way, what she has written of it, and the
     marks of the stages that are over."""
     if room.lesson.predict == "off":
-        return {"predict": [], "foretold": None, "marks": []}
-    now = copy.foretold.get((copy.stage, place))
-    over = sorted((stage, told["marks"]) for (stage, of), told in copy.foretold.items() if of == place and told["marks"])
+        return {"predict": [], "predicted": None, "marks": []}
+    now = copy.predicted.get((copy.stage, place))
+    over = sorted((stage, prediction["marks"]) for (stage, of), prediction in copy.predicted.items() if of == place and prediction["marks"])
     return {
         "predict": [
             {
@@ -73,7 +73,7 @@ def shown(room, copy, place):
             }
             for each, field in asked(copy)
         ],
-        "foretold": now and now["given"],
+        "predicted": now and now["given"],
         "marks": [{"stage": stage, "fields": marks} for stage, marks in over],
     }
 
