@@ -72,7 +72,7 @@ class Replay(unittest.TestCase):
         line, report = self.altered(
             lambda l: l.get("call") == "send", lambda l: l["returned"].update(octets="00")
         )
-        self.assertIn(f"line {line}: send tells", report.first_difference)
+        self.assertIn(f"line {line}: send returns", report.first_difference)
 
     def test_one_tick_less(self):
         _, report = self.altered(
