@@ -467,7 +467,7 @@ class TheList(unittest.TestCase):
         added = next(line for line in lines[1:] if (line["call"], line["answer"]) == ("net_add", 0))
         added["returned"]["row"] += 1
         report = replay(map(json.dumps, lines))
-        self.assertIn(f"line {added['line']}: net_add tells", report.first_difference)
+        self.assertIn(f"line {added['line']}: net_add returns", report.first_difference)
 
     def test_another_end(self):
         lines = self.at_work()
