@@ -147,6 +147,15 @@ class Tools(unittest.TestCase):
         before = self.calls("initialize")
         self.asked(self.student, '[data-call="initialize"]', lambda: self.calls("initialize") > before)
 
+    def test_not_promised(self):
+        """After a student initializes her host the teacher reads which condition no longer holds, and since when."""
+        self.set_up(2, [(0, 1)], seconds=1)
+        self.teacher.click('[data-tab="tables"]')
+        self.teacher.until(lambda: self.teacher.all("#promise[hidden]"), "all conditions hold")
+        self.student.click('[data-call="initialize"]')
+        self.student.click(".sure-yes")
+        self.assertEqual(self.teacher.text("#promise"), "Not promised: B was initialized at 0:01.")
+
     def test_a_large_set_asks(self):
         """From -128 to 127 a Set is made at once; else it asks."""
         student = self.student
