@@ -73,7 +73,7 @@ module _ (x : CallState) (i : ℕ) (counter : Counter) (buffer : List ℕ) where
   abbrev y : Link
   y = linkOf (x .host .links) i
 
-  -- so many reports
+  -- the number of reports
   module _ (n : ℕ) (few : n ≤ hostCount s) (h : Holds k (x .entries)) (room : packetLength n ≤ length buffer) where
     abbrev w : Reports
     w = record { first = 0; end = n; pid = i }

@@ -1,4 +1,4 @@
--- The first pass: what was counted so far and what is left to count make up the whole, because each turn takes one hit off.
+-- The search: what is counted so far and what remains to be counted are everything together, because each turn takes one hit.
 use mathlib.Core.Path.{_≡_, refl, sym, _∙_}
 use mathlib.Core.Bool.{Bool, true, false, _&&_}
 use mathlib.Core.List.{List, [], _∷_}

@@ -1,4 +1,4 @@
--- The mender: the first pass tells the lengths of the outputs and the mark, so its tests are those of the definition.
+-- Recovery: the search gives the lengths of the outputs and the mark, so its tests are those of the definition.
 use mathlib.Core.Path.{_≡_, refl, sym, ap}
 use mathlib.Core.Bool.{_||_}
 use mathlib.Core.List.{List, [], _∷_, _++_}
@@ -23,7 +23,7 @@ spans-long : (hs : List Span) → length (spanOctets hs) ≡ 8 * length hs
 spans-long [] = refl
 spans-long (h ∷ hs) = omega (arith, length-append (four (h .start) ++ four (h .size)) (spanOctets hs), spans-long hs)
 
--- ---- what the first pass told
+-- ---- what the search found
 
 module _ (input : List ℕ) (s : Survey) (e : s ≡ surveyOf input) where
   pub hits-returned : s .hits ≡ length (hits input)

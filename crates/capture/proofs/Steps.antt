@@ -26,7 +26,7 @@ at-most-one false h = omega arith
 pub gap-one : (from to : ℕ) → length (gap from to) ≤ 1
 gap-one from to = at-most-one (ltb from to) _
 
--- behind so many octets of a hit
+-- after this number of octets of a hit
 pub behind : (at n : ℕ) (s : List ℕ) → hitsFrom at n s ≡ hitsFrom (at + n) 0 (drop n s)
 unfolding hitsFrom
 behind at zero s = rw (add-zero at)

@@ -42,7 +42,7 @@ pub struct Next {
     pub size: usize,
 }
 
-// What the first pass finds: the hits, the octets of their packets, the stretches, and whether the places of the input are those of the hits.
+// What the search finds: the hits, the octets of their packets, the stretches, and whether the places of the input are those of the hits.
 pub struct Survey {
     pub hits: usize,
     pub octets: usize,

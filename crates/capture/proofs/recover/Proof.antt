@@ -1,4 +1,4 @@
--- The tests are those of the definition, by what the first pass told.
+-- The tests are those of the definition, by what the search found.
 use mathlib.Core.Path.{refl, _∙_}
 use native.Mathlib.Omega.{arith}
 use Rattle.capture.specs.Search.{hits}

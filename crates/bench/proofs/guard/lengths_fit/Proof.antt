@@ -1,4 +1,4 @@
--- Five ways through `all_lent`: in each, the branches taken decide the tests of the definition. Bounds follow by linear arithmetic.
+-- Five ways through `lengths_fit`: in each, the branches taken decide the tests of the definition. Bounds follow by linear arithmetic.
 use borrow.Author.Needs.{needs}
 use native.Mathlib.Omega.{arith}
 use borrow.Author.Tests.{lt-ltb, le-ltb, le-leb, lt-leb, eq-eqb, ne-eqb}

@@ -1,4 +1,4 @@
--- Four ways through `rest_tested`: in each, the branches taken decide the tests of the definition, with the contracts of `all_lent`, `is_bad`.
+-- Four ways through `rest_tested`: in each, the branches taken decide the tests of the definition, with the contracts of `lengths_fit`, `is_bad`.
 use borrow.Author.Needs.{needs}
 use mathlib.Core.Path.{_≡_, refl, sym, ap, _∙_}
 use mathlib.Core.Bool.{true, false}
