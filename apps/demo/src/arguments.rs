@@ -17,11 +17,11 @@ Runs a room of HELLO hosts (RFC 891) on cables, and shows what each host has lea
 Without arguments: four hosts in a line, all with line clocks, no net rows, ten minutes, no losses.
 
   --hosts N        how many hosts, 2 to 16 (default 4). Their addresses are 192.0.2.1 and on
-  --virtual N      so many further hosts, 0 to 64, live at these (default 0): the first at the first,
+  --virtual N      N further hosts, 0 to 64, live at these (default 0): the first at the first,
                    the next at the next, and so on in turn. Each has an id and an address of its
                    own, behind those of the hosts, and the clock and the links of the host it lives
                    at, which reports it with itself
-  --crystal N      so many hosts, from the first, have a crystal clock, whose counter of 1000 Hz
+  --crystal N      N hosts, from the first, have a crystal clock, whose counter of 1000 Hz
                    overflows each 65536 ms; the others have a line clock (default 0)
   --shape line     a cable from each host to the next (default)
   --shape ring     the same, and a cable from the last host to the first

@@ -3,7 +3,7 @@
 use demo::plan::SECOND;
 use hello::Counter;
 
-/// A crystal's counter, of 16 bits and 1,000 Hz, overflows each so many ms.
+/// A crystal's counter, of 16 bits and 1,000 Hz, overflows after this number of ms.
 pub const OVERFLOW: i64 = 65_536;
 
 pub enum Drive {

@@ -33,7 +33,7 @@ struct InRound {
 }
 
 impl Rounds {
-    /// The first round, of hosts with so many links each.
+    /// The first round, of hosts with these numbers of links.
     pub fn new(links: impl Iterator<Item = usize>) -> Rounds {
         let hosts = links.map(|links| InRound {
             seconds: 0,

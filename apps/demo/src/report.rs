@@ -11,7 +11,7 @@ use std::collections::BTreeMap;
 use std::io::{Result, Write};
 use std::path::Path;
 
-/// A DELAY of so many ms is down.
+/// A host with this DELAY in ms is down.
 pub const DOWN: i64 = 30_000;
 
 /// How to read what a host has learned, what stands beside it, and by which link.

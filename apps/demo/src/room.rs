@@ -10,7 +10,7 @@ use hello::bench_file::Event;
 use hello::{Answer, Counter, Net, Reading};
 use std::collections::BTreeMap;
 
-/// A host sends on each link, and reports itself, every so many seconds.
+/// A host sends on each link, and reports itself, at this interval in seconds.
 const SEND_INTERVAL: i64 = 5;
 const SELF_REPORT_INTERVAL: i64 = 10;
 
@@ -98,14 +98,14 @@ impl Room {
         }
     }
 
-    /// Runs the room until so many ms after the start.
+    /// Runs the room until a number of ms after the start.
     pub fn run_until(&mut self, end: i64) {
         while self.now < end {
             self.step();
         }
     }
 
-    /// Runs a room that is to be saved for as long as its record fits a file, until so many ms after
+    /// Runs a room that is to be saved for as long as its record fits a file, until a number of ms after
     /// the start at most; for how many ms that is.
     pub fn fits_until(mut self, end: i64) -> i64 {
         let mut fitted = 0;

@@ -11,7 +11,7 @@ use reference::Entry;
 const RISE: i64 = 100;
 const GONE_EPOCHS: i64 = 299;
 
-/// One arrival in so many is made box by box.
+/// One of this number of arrivals is made box by box.
 const WALKS: u64 = 3;
 
 /// Conditions of the laws.
@@ -162,7 +162,7 @@ impl Counts {
     }
 }
 
-/// Makes at least so many calls in networks of each law; which law is broken, and where.
+/// Makes at least this number of calls in networks of each law; which law is broken, and where.
 pub fn run(seed: u64, calls: u64) -> Result<Counts, String> {
     let mut random = Random::new(seed);
     let mut counts = Counts::default();
@@ -282,7 +282,7 @@ impl Trial {
         Ok(())
     }
 
-    /// Hosts nearer than so many cables are in the table with the DELAY of a shortest way, and their
+    /// Hosts less than this number of cables away are in the table with the DELAY of a shortest way, and their
     /// PID leads along one.
     fn complete(&self, host: usize, cables: usize) -> Result<(), String> {
         for id in 0..self.network.ids() {
@@ -623,7 +623,7 @@ fn ten_hours(random: &mut Random, counts: &mut Counts) -> Result<(), String> {
 }
 
 /// The hosts have their 120 seconds; messages of this epoch arrive in any order. The absent host is not
-/// heard, or does not report itself. One call in so many is a send or an arrival.
+/// heard, or does not report itself. One of this number of calls is a send or an arrival.
 fn one_epoch(
     random: &mut Random,
     trial: &mut Trial,

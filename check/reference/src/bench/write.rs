@@ -22,7 +22,7 @@ pub fn octets(file: &File) -> Vec<u8> {
     octets
 }
 
-/// The header of a file with so many seats, cables and events.
+/// The header of a file with these numbers of seats, cables and events.
 pub fn head(seats: usize, cables: usize, events: usize) -> Vec<u8> {
     let cables_start = header::SIZE + seats * seat::SIZE;
     let events_start = cables_start + cables * cable::SIZE;

@@ -1,7 +1,7 @@
 //! Runs bench files by the rules of this program, and prints what comes of them.
 //!
 //! `run_bench FILE [WORD..]` sets up what the first file says. Each word behind it is done in turn:
-//! a number runs so many events, `all` those that are left, `show` prints the seats, and a further
+//! a number runs that many events, `all` those that are left, `show` prints the seats, and a further
 //! FILE takes the place of the first, with no event of it done and the seats as they are.
 //!
 //! It prints `set-up ANSWER`, for each run `ran ANSWER COUNT` and `answers A A ..` of those events,
