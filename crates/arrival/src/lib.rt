@@ -1,4 +1,5 @@
 // A packet that arrives, by value: the inspection, steps 2 to 4, and what step 5 does to the entries.
+#![tactic(auto)]
 ghost use Rattle.std.specs.Prelude.{◌≡◌, true, ◌≤◌, ◌<◌, ◌^◌};
 ghost use Rattle.clock.specs.Midnight.{day_millis};
 ghost use Rattle.wire.specs.code.Ranges.{Four};
@@ -38,7 +39,7 @@ use wire::{Packet, Parsed};
 pub mod steps;
 
 // An arrival between its steps: our reading, the link after the steps so far, DELAY and OFFSET.
-#[derive(Drop)]
+#[derive(Clone, Copy)]
 pub struct Flight {
     pub reading: quantity::Millis,
     pub link: host::Link,
@@ -47,14 +48,14 @@ pub struct Flight {
 }
 
 // How steps 2 to 4 come out: on to step 5, or the end.
-#[derive(Drop)]
+#[derive(Clone, Copy)]
 pub enum Step {
     On(Flight),
     End(Flight),
 }
 
 // What is done with a packet that arrives on a link: it is looked at, it is acted on, or both in turn, the arrival in one piece.
-#[derive(Drop)]
+#[derive(Clone, Copy)]
 pub enum Delivery {
     Inspect(usize),
     Act(usize, Counter),
@@ -62,7 +63,7 @@ pub enum Delivery {
 }
 
 // The result of an arriving packet: the reply, the links afterwards, and the updates of which ids, with the clock that they start from.
-#[derive(Drop)]
+#[derive(Clone, Copy)]
 pub struct Arrived {
     pub reply: Reply,
     pub links: Links,

@@ -60,7 +60,7 @@ module _ (file : List ℕ) (t : NetTable) (hosts : List HostState) (copies : Lis
         fits = λ l. (
           record {
             header = refl;
-            sections = (header_there file (tests e).header-good).1;
+            sections = (header_there file (tests e).header_good).1;
             records = (tests e).records;
             call_state = (tests e).call_state;
             slots = (both (slots_good h slots) (leb done h.events) (tests e).more).0;

@@ -52,7 +52,7 @@ module _ (file : List ℕ) (t : NetTable) (hosts : List HostState) (copies : Lis
       either (λ (p : SetUpPlan). SetsFit file p.sets hosts copies) (passes a) (sets_all a h) (sets_none a done)
       (λ e. record {
         first = omega arith;
-        fits = λ l. (record { sections = (header_there file (tests e).header-good).1; there = (long e).hosts; copy = (long e).copies }, omega arith);
+        fits = λ l. (record { sections = (header_there file (tests e).header_good).1; there = (long e).hosts; copy = (long e).copies }, omega arith);
       })
       (λ e. record { first = omega arith; fits = λ l. absurd (omega arith) })
 

@@ -101,7 +101,7 @@ module _ (file : List ℕ) (t : NetTable) (h : Header) (b : Bench) (f : Fits fil
   asks_there : (k : ℕ) (q : Request) → k < h.hosts → AskFits (ask_of file k q) b.hosts b.copies
   asks_there k q l =
       record {
-        host = omega (arith, l, f.sections.few-hosts);
+        host = omega (arith, l, f.sections.few_hosts);
         there = omega (arith, l, long.hosts);
         copy = omega (arith, l, long.copies);
       }
@@ -109,10 +109,10 @@ module _ (file : List ℕ) (t : NetTable) (h : Header) (b : Bench) (f : Fits fil
   sends_there : (c i n : ℕ) (k : Counter) → Sendable file h c i n → SendFits (send_of file h c i n k) b.hosts b.copies b.slots
   sends_there c i n k s =
       record {
-        host = omega (arith, s.host, f.sections.few-hosts);
+        host = omega (arith, s.host, f.sections.few_hosts);
         there = omega (arith, s.host, long.hosts);
         copy = omega (arith, s.host, long.copies);
-        cable = omega (arith, s.cable, f.sections.few-cables);
+        cable = omega (arith, s.cable, f.sections.few_cables);
         side = s.side;
         slot = s.slot;
         room = long.slots;
@@ -121,7 +121,7 @@ module _ (file : List ℕ) (t : NetTable) (h : Header) (b : Bench) (f : Fits fil
   takes_there : (n : ℕ) (k : Counter) → Takable file h b.slots n → TakeFits (take_of file b.slots h n k) b.hosts b.copies b.slots
   takes_there n k s =
       record {
-        host = omega (arith, s.host, f.sections.few-hosts);
+        host = omega (arith, s.host, f.sections.few_hosts);
         there = omega (arith, s.host, long.hosts);
         copy = omega (arith, s.host, long.copies);
         slot = s.slot;

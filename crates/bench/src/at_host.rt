@@ -11,7 +11,7 @@ use net_table::NetTable;
 use table::Entry;
 
 // A host after a call, and the call's answer.
-#[derive(Drop)]
+#[derive(Clone, Copy)]
 pub struct HostAfter {
     pub reply: Reply,
     pub clock: Clock,

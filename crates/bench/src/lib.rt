@@ -1,4 +1,5 @@
 // The class bench: an exercise that is set up from one file and run, event by event.
+#![tactic(auto)]
 ghost use Rattle.std.specs.Prelude.{◌≡◌};
 ghost use Rattle.bench.specs.Answer.{number, passes};
 ghost use Rattle.bench.specs.Guard.{set_up_guard};
@@ -30,7 +31,7 @@ mod takes;
 
 // A host of the bench: its clock, its links and its walk.
 #[repr(C)]
-#[derive(Drop)]
+#[derive(Clone, Copy)]
 pub struct HostState {
     pub clock: Clock,
     pub links: Links,
@@ -39,13 +40,13 @@ pub struct HostState {
 
 // How many events are done.
 #[repr(C)]
-#[derive(Drop)]
+#[derive(Clone, Copy)]
 pub struct Progress {
     pub done: usize,
 }
 
 // The lengths of the borrowed slices: the host table, the hosts, the copies of their walks' packets, the slots and the answers.
-#[derive(Drop)]
+#[derive(Clone, Copy)]
 pub struct Lengths {
     pub entries: usize,
     pub hosts: usize,
@@ -54,7 +55,7 @@ pub struct Lengths {
     pub answers: usize,
 }
 
-#[derive(Drop)]
+#[derive(Clone, Copy)]
 pub enum Answer {
     Done,
     OutOfRange,
@@ -63,7 +64,7 @@ pub enum Answer {
 }
 
 // What a run answers: its answer, and how many events it carried out.
-#[derive(Drop)]
+#[derive(Clone, Copy)]
 pub struct Ran {
     pub answer: Answer,
     pub count: usize,

@@ -20,7 +20,7 @@ use bench_file::{Header, read_header};
 use net_table::NetTable;
 
 // The answer, the events done afterwards, the hosts that are initialized, and how many octets of slots and how many answers are cleared.
-#[derive(Drop)]
+#[derive(Clone, Copy)]
 pub struct SetUpPlan {
     pub answer: Answer,
     pub progress: Progress,
@@ -30,7 +30,7 @@ pub struct SetUpPlan {
 }
 
 // What is answered, the events done afterwards, and those that are carried out.
-#[derive(Drop)]
+#[derive(Clone, Copy)]
 pub struct RunPlan {
     pub ran: Ran,
     pub progress: Progress,

@@ -11,7 +11,7 @@ use net_table::NetTable;
 use table::Entry;
 
 // The host, its settings, and what is asked.
-#[derive(Drop)]
+#[derive(Clone, Copy)]
 pub struct Ask {
     pub host: usize,
     pub settings: Settings,

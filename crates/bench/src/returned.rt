@@ -27,7 +27,7 @@ use calls::Request;
 use clock::Counter;
 
 // Events, from one up to another, of a file with this header.
-#[derive(Drop)]
+#[derive(Clone, Copy)]
 pub struct Turns {
     pub first: usize,
     pub end: usize,
@@ -35,14 +35,14 @@ pub struct Turns {
 }
 
 // What is asked of a host.
-#[derive(Drop)]
+#[derive(Clone, Copy)]
 pub struct Asking {
     pub host: usize,
     pub request: Request,
 }
 
 // A message that goes from an end of a cable into a slot.
-#[derive(Drop)]
+#[derive(Clone, Copy)]
 pub struct Going {
     pub cable: usize,
     pub side: usize,
@@ -51,14 +51,14 @@ pub struct Going {
 }
 
 // A message that comes out of a slot.
-#[derive(Drop)]
+#[derive(Clone, Copy)]
 pub struct Coming {
     pub slot: usize,
     pub counter: Counter,
 }
 
 // A call, a send, an arrival, or a note: the event answers 3, and no host is asked.
-#[derive(Drop)]
+#[derive(Clone, Copy)]
 pub enum Returned {
     Ask(Asking),
     Send(Going),

@@ -16,7 +16,7 @@ use net_table::NetTable;
 use table::Entry;
 
 // The host, the slot for the message, the host's settings, the link and the counter, and the cable's end that the message goes from.
-#[derive(Drop)]
+#[derive(Clone, Copy)]
 pub struct Sending {
     pub host: usize,
     pub slot: usize,

@@ -14,7 +14,7 @@ use net_table::NetTable;
 use table::Entry;
 
 // The hosts from first to end, of a file with this header.
-#[derive(Drop)]
+#[derive(Clone, Copy)]
 pub struct Setting {
     pub first: usize,
     pub end: usize,

@@ -23,7 +23,7 @@ pub const SLOTS_LENGTH: usize = 33792;
 const LABEL: usize = 4;
 
 // The length of a slot's packet, 0 where it was never filled, and the cable and the end that the packet was sent from.
-#[derive(Drop)]
+#[derive(Clone, Copy)]
 pub struct Label {
     pub length: usize,
     pub cable: usize,

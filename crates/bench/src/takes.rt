@@ -18,7 +18,7 @@ use net_table::NetTable;
 use table::Entry;
 
 // The host, the slot and the length of its packet, the host's settings, the link and the counter.
-#[derive(Drop)]
+#[derive(Clone, Copy)]
 pub struct Taking {
     pub host: usize,
     pub slot: usize,

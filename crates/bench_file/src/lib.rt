@@ -1,4 +1,5 @@
 // The file of a class bench: its header, its records, and what 18 and 19 refuse of them.
+#![tactic(auto)]
 ghost use Rattle.std.specs.Prelude.{◌≡◌, true, ◌≤◌, ◌<◌, length};
 ghost use Rattle.quantity.specs.Words.{signed_bits};
 ghost use Rattle.bench_file.specs.Header.{header_length, event_length, header_of, header_fits, header_bad};
@@ -13,7 +14,7 @@ use quantity::Count;
 pub mod hosts;
 
 // BENCH-2: how many hosts, cables and events, and the octets at which cables and events begin.
-#[derive(Drop)]
+#[derive(Clone, Copy)]
 pub struct Header {
     pub hosts: usize,
     pub cables: usize,
@@ -23,14 +24,14 @@ pub struct Header {
 }
 
 // An end of a cable: a link of a host.
-#[derive(Drop)]
+#[derive(Clone, Copy)]
 pub struct End {
     pub host: usize,
     pub link: usize,
 }
 
 // A call that an event makes. A send names a cable, one of its ends and a slot; an arrival names a slot only.
-#[derive(Drop)]
+#[derive(Clone, Copy)]
 pub enum Event {
     Tick(usize, Count),
     Adjust(usize, Count),

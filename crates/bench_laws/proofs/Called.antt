@@ -44,7 +44,7 @@ plain c e = record { no_opening = λ i packet p. absurd (false≢true (sym e ∙
 -- and keeps the copy of a packet
 pub same_copy : (c : Call) (x : CallState) → Plain c → (perform c x).copy ≡ x.copy
 unfolding Frame
-same_copy c x p = (frame_holds c x).copy p.no-opening
+same_copy c x p = (frame_holds c x).copy p.no_opening
 
 -- what a host has after a call at one
 module _ {A : Type 0} (F : HostState → A) (hosts : List HostState) (d : ℕ → HostState) (k : ℕ) (y : HostState) (there : k < length hosts) where

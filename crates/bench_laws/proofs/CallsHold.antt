@@ -32,7 +32,7 @@ module _ (file : List ℕ) (t : NetTable) (n : ℕ) (b : Bench) where
       go : (c : Bool) → passes (run_guard t file b) ≡ c → Ran
       go true e =
           let r = turned file t n b (ready t file b e) in
-          record { left = rw e r.after_same; answers = rw e r.answers-same; count = rw e (omega (arith, r.count_same)) }
+          record { left = rw e r.after_same; answers = rw e r.answers_same; count = rw e (omega (arith, r.count_same)) }
       go false e = record { left = rw e refl; answers = rw e (sym (over_nothing b.done b.answers)); count = rw e (omega arith) }
 
   sets_up : shared_of file (after_set_up file t b) ≡ shared_after_all (shared_of file b) (set_up_calls file t b)

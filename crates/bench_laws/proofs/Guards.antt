@@ -40,7 +40,7 @@ module _ (t : NetTable) (file : List ℕ) where
       let p = passed_all (runnable h b.slots b.done) t file (lengths_of b) e in
       let more = both (slots_good h b.slots) (leb b.done h.events) p.more in
       record {
-        header_good = p.header-good;
+        header_good = p.header_good;
         records = p.records;
         long = long_of h (lengths_of b) p.call_state;
         slots_good_lem = more.0;
@@ -51,7 +51,7 @@ module _ (t : NetTable) (file : List ℕ) where
   pub passed : (b : Bench) → Ready t file b → passes (run_guard t file b) ≡ true
   unfolding file_tested
   passed b r =
-      rw (r.header-good, r.records, of_long h (lengths_of b) r.long, r.slots-good, le-leb b.done h.events r.done, r.table)
+      rw (r.header_good, r.records, of_long h (lengths_of b) r.long, r.slots_good_lem, le-leb b.done h.events r.done, r.table)
 
   pub next_ready : (b : Bench) → Ready t file b → ltb b.done h.events ≡ true → Ready t file (next file t b)
   unfolding next
@@ -60,7 +60,7 @@ module _ (t : NetTable) (file : List ℕ) where
       let same = carries file t h b r.long.slots (event_at file h b.done) (event_good_lem t file h r.records b.done more) in
       let d = same_done file t h (event_at file h b.done) b in
       record {
-        header_good = r.header-good;
+        header_good = r.header_good;
         records = r.records;
         long = record {
           entries = rw same.entries r.long.entries;
@@ -69,7 +69,7 @@ module _ (t : NetTable) (file : List ℕ) where
           slots = rw same.slots r.long.slots;
           answers = simp length-set (rw same.answers r.long.answers);
         };
-        slots_good_lem = same.good r.slots-good;
+        slots_good_lem = same.good r.slots_good_lem;
         done = rw d (omega arith);
         table = r.table;
       }

@@ -171,11 +171,11 @@ module _ (file : List ℕ) (t : NetTable) (first : Bench) (f : ℕ → ℤ) (cab
               message = old.message;
               earlier = Memᴰ.tail old.earlier;
               a_copy =
-                  packets.packet_kept b.slots n ln ready.long.slots o.buffer full o.reply.length c i (few d) s apart l (filled h b.slots ready.slots-good s l was).0
+                  packets.packet_kept b.slots n ln ready.long.slots o.buffer full o.reply.length c i (few d) s apart l (filled h b.slots ready.slots_good_lem s l was).0
                   ∙ old.a_copy;
-              from_node = ap (λ (z : Label). (end_at file h z.cable z.end).host) lab ∙ old.from-node;
-              from_link = ap (λ (z : Label). (end_at file h z.cable z.end).link) lab ∙ old.from-link;
-              sent_at_lem = rw (ne_eqb s n apart) old.sent-at;
+              from_node = ap (λ (z : Label). (end_at file h z.cable z.end).host) lab ∙ old.from_node;
+              from_link = ap (λ (z : Label). (end_at file h z.cable z.end).link) lab ∙ old.from_link;
+              sent_at_lem = rw (ne_eqb s n apart) old.sent_at_lem;
             }
 
       slots_held : (d : Bool) → done o.reply.answer ≡ d
@@ -216,7 +216,7 @@ module _ (file : List ℕ) (t : NetTable) (first : Bench) (f : ℕ → ℤ) (cab
       arrive = rooms.arrives far.link k packet ms
 
       far_here : far.host < h.hosts
-      far_here = end_host file h (cables_good_lem u file h ready.records) (label_of n b.slots).cable (1 - (label_of n b.slots).end) (filled h b.slots ready.slots-good n ln is-full).1 (omega arith)
+      far_here = end_host file h (cables_good_lem u file h ready.records) (label_of n b.slots).cable (1 - (label_of n b.slots).end) (filled h b.slots ready.slots_good_lem n ln is-full).1 (omega arith)
 
       abbrev z : SharedStep
       z = tracking.taken file t first f cable longest u b w st.tracks far.host far_here (there far_here) arrive (plain (call_of arrive) refl)
@@ -228,7 +228,7 @@ module _ (file : List ℕ) (t : NetTable) (first : Bench) (f : ℕ → ℤ) (cab
 
       leads : cable far.host far.link ≡ at (near_end b.slots n).host (near_end b.slots n).link
       leads =
-          let g = filled h b.slots ready.slots-good n ln is-full in
+          let g = filled h b.slots ready.slots_good_lem n ln is-full in
           let back : 1 - (1 - (label_of n b.slots).end) ≡ (label_of n b.slots).end = omega (arith, g.2) in
           wired (label_of n b.slots).cable (1 - (label_of n b.slots).end) g.1 (omega arith)
           ∙ ap (λ (j : ℕ). at (end_at file h (label_of n b.slots).cable j).host (end_at file h (label_of n b.slots).cable j).link) back
@@ -243,14 +243,14 @@ module _ (file : List ℕ) (t : NetTable) (first : Bench) (f : ℕ → ℤ) (cab
             message = old.message;
             earlier = old.earlier;
             a_copy = old.a_copy;
-            other_end = leads ∙ (λ v. at (old.from-node v) (old.from-link v));
+            other_end = leads ∙ (λ v. at (old.from_node v) (old.from_link v));
             in_time = λ timely.
                 let l = on_time (subst (λ (v : Outcome). T (timed v.reply.answer)) in_turn_lem timely) in
                 record {
                   reads = tracking.reads file t first f cable longest u b w st.tracks far.host far_here (there far_here) k ms l.reads;
                   way = l.way;
                   short = l.short;
-                  later = l.later ∙ ap (λ (v : ℤ). v +ℤ pos l.way) old.sent-at;
+                  later = l.later ∙ ap (λ (v : ℤ). v +ℤ pos l.way) old.sent_at_lem;
                 };
           })
 

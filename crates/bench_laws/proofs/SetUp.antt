@@ -106,7 +106,7 @@ module _ (file : List ℕ) (t : NetTable) where
       let l = all_long 0 h.hosts b in
       let k = beside file t 0 h.hosts b in
       record {
-        header_good = r.header-good;
+        header_good = r.header_good;
         records = r.records;
         long = record {
           entries = rw l.entries r.long.entries;
@@ -144,7 +144,7 @@ module _ (file : List ℕ) (t : NetTable) where
     sixteen : h.hosts ≤ 16
     unfolding header_fits
     sixteen =
-        let fits : header_fits h (length file) ≡ true = is_so (header_fits h (length file)) (neither (ltb (length file) header_length) (not (header_fits h (length file))) r.header-good).1 in
+        let fits : header_fits h (length file) ≡ true = is_so (header_fits h (length file)) (neither (ltb (length file) header_length) (not (header_fits h (length file))) r.header_good).1 in
         leb-true h.hosts most_hosts (both _ _ (both _ _ (both _ _ fits).0).0).0
 
     fit : (k : ℕ) → k < h.hosts → settings_fit t (settings_at file k) ≡ true

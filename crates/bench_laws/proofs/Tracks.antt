@@ -41,7 +41,7 @@ module _ (file : List ℕ) (t : NetTable) (first : Bench) (f : ℕ → ℤ) (cab
   module _ (u : NetTable) (b : Bench) (w : SharedWorld) (tr : Tracks b w) (k : ℕ) (here : k < (header file t).hosts) (there : k < length b.hosts) where
     -- our reading there
     pub reads : (c : Counter) (ms : ℤ) → ReadsAt file u r b k c ms → Reads r w.world k c ms
-    reads c ms h = record { clock = rw (tr.clock k here) h.clock; no_midnight = rw (tr.clock k here) h.no-midnight }
+    reads c ms h = record { clock = rw (tr.clock k here) h.clock; no_midnight = rw (tr.clock k here) h.no_midnight }
 
     module _ (q : NetworkCall) (p : Plain (call_of q)) where
       abbrev pub taken : SharedStep

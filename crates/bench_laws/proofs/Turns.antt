@@ -63,7 +63,7 @@ module _ (file : List ℕ) (t : NetTable) where
         let s = send_names h c i n k g in
         inside (end_host file h (cables_good_lem t file h r.records) c i s.0 s.1)
     hosts_there (Arrival n k) g = λ full.
-        let f = filled h b.slots r.slots-good n (arrival_names h n k g) full in
+        let f = filled h b.slots r.slots_good_lem n (arrival_names h n k g) full in
         inside (end_host file h (cables_good_lem t file h r.records) (label_of n b.slots).cable (1 - (label_of n b.slots).end) f.1 (omega arith))
     hosts_there Unknown g = tt
 
@@ -102,7 +102,7 @@ module _ (file : List ℕ) (t : NetTable) where
     unfolding next
     kept_answer =
         let s = carries file t h b r.long.slots e good in
-        λ i. set (s.answers i) (same_done file t h e b i) (number (m.answer-same i))
+        λ i. set (s.answers i) (same_done file t h e b i) (number (m.answer_same i))
 
     one_done : (next file t b).done ≡ suc b.done
     unfolding next
@@ -113,7 +113,7 @@ module _ (file : List ℕ) (t : NetTable) where
     unfolding next
     answers =
         let w : shared_of file (next file t b) ≡ shared_after_all (shared_of file b) (calls_of file t e b) = m.after_same in
-        rest.answers-same ∙ (λ i. over (kept_answer i) (one_done i) (answers_of (w i) behind))
+        rest.answers_same ∙ (λ i. over (kept_answer i) (one_done i) (answers_of (w i) behind))
         ∙ over_cons b.answers b.done _ (answers_of (shared_after_all (shared_of file b) (calls_of file t e b)) behind)
         (omega (arith, ltb-true b.done h.events q, r.long.answers))
 

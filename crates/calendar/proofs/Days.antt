@@ -36,7 +36,7 @@ pub day_fits : {f y m d : ℕ} → Day f y m d → d ≤ 31
 day_fits {y = y} {m = m} r = omega (arith, month_length y m)
 
 pub day_fields : {f y m d : ℕ} → Day f y m d → Fields f y m d (date_of f y m d)
-day_fields {f} {y} {m} {d} r = fields f y m d r.flagged r.in-word r.to-december (day_fits r)
+day_fields {f} {y} {m} {d} r = fields f y m d r.flagged r.in_word r.to_december (day_fits r)
 
 -- a word of 16 bits with bit 14 zero is the word of its fields
 pub word_of_fields : (t : Date) → t.0 < 2 ^ 16 → spare t ≡ 0 → date_of (flag t) (year t) (month t) (day t) ≡ t
@@ -72,18 +72,18 @@ real_says t e =
 -- and of the fields as they were read
 pub read : (t : Date) → real t ≡ true → {f y m d : ℕ} → f ≡ flag t → y ≡ year t → m ≡ month t → d ≡ day t → Fields f y m d t
 read t e hf hy hm hd =
-    record { its_flag = sym hf; its_year = sym hy; its_month = sym hm; its_day = sym hd; its_spare = (real_says t e).spare-zero }
+    record { its_flag = sym hf; its_year = sym hy; its_month = sym hm; its_day = sym hd; its_spare = (real_says t e).spare_zero }
 
 pub day_of : {f y m d : ℕ} {t : Date} → Fields f y m d t → real t ≡ true → Day f y m d
-day_of {t = t} v e = rw (v.its-flag, v.its-year, v.its-month, v.its-day) at (real_says t e).its
+day_of {t = t} v e = rw (v.its_flag, v.its_year, v.its_month, v.its_day) at (real_says t e).its
 
 is_real : (t : Date) → Real t → real t ≡ true
 unfolding real
 is_real t r =
     rw (
-      eq-eqb _ _ r.spare-zero,
-      le-leb _ _ r.its.from-january,
-      le-leb _ _ r.its.to-december,
+      eq-eqb _ _ r.spare_zero,
+      le-leb _ _ r.its.from_january,
+      le-leb _ _ r.its.to_december,
       le-leb _ _ r.its.from_first,
       le-leb _ _ r.its.to_last,
     )
@@ -92,7 +92,7 @@ pub day_real : {f y m d : ℕ} → Day f y m d → real (date_of f y m d) ≡ tr
 day_real {f} {y} {m} {d} r =
     let v = day_fields r in
     is_real (date_of f y m d)
-    (record { spare_zero = v.its-spare; its = rw (v.its-flag, v.its-year, v.its-month, v.its-day) r })
+    (record { spare_zero = v.its_spare; its = rw (v.its_flag, v.its_year, v.its_month, v.its_day) r })
 
 -- bit 15 is not looked at: a field of k at the place c is the same where a multiple of c * k is added
 module _ (x c k : ℕ) (h : 0 < c) where

@@ -27,26 +27,26 @@ module _ {f y m d y' m' d' : ℕ} {t : Date} where
   pub along : Follows y m d y' m' d' → Fields f y m d t → next t ≡ date_of f y' m' d'
   unfolding next
   along (new_day ey em ed h) v =
-      rw (v.its-flag, v.its-year, v.its-month, v.its-day, lt-ltb _ _ h) (word (omega arith))
+      rw (v.its_flag, v.its_year, v.its_month, v.its_day, lt-ltb _ _ h) (word (omega arith))
   along (new_month ey em ed l h) v =
       let k : last_day y m ≤ d = omega arith in
-      rw (v.its-flag, v.its-year, v.its-month, v.its-day, le-ltb _ _ k, lt-ltb _ _ h) (word (omega arith))
+      rw (v.its_flag, v.its_year, v.its_month, v.its_day, le-ltb _ _ k, lt-ltb _ _ h) (word (omega arith))
   along (new_year ey em ed l k h) v =
-      rw (v.its-flag, v.its-year, v.its-month, v.its-day, l, k, december, lt-ltb _ _ h) (word (omega arith))
+      rw (v.its_flag, v.its_year, v.its_month, v.its_day, l, k, december, lt-ltb _ _ h) (word (omega arith))
   along (from_the_start ey em ed l k h) v =
-      rw (v.its-flag, v.its-year, v.its-month, v.its-day, l, k, december, h) (word (omega arith))
+      rw (v.its_flag, v.its_year, v.its_month, v.its_day, l, k, december, h) (word (omega arith))
 
   pub against : 1 ≤ d → 1 ≤ m → Follows y m d y' m' d' → Fields f y' m' d' t → previous t ≡ date_of f y m d
   unfolding previous
   against p q (new_day ey em ed h) v =
-      rw (v.its-flag, v.its-year, v.its-month, v.its-day, ey, em, ed, lt-ltb 1 (d + 1) (omega arith)) (word (omega arith))
+      rw (v.its_flag, v.its_year, v.its_month, v.its_day, ey, em, ed, lt-ltb 1 (d + 1) (omega arith)) (word (omega arith))
   against p q (new_month ey em ed l h) v =
       let e : m + 1 - 1 ≡ m = omega arith in
-      rw (v.its-flag, v.its-year, v.its-month, v.its-day, ey, em, ed, lt-ltb 1 (m + 1) (omega arith), e) (word (omega arith))
+      rw (v.its_flag, v.its_year, v.its_month, v.its_day, ey, em, ed, lt-ltb 1 (m + 1) (omega arith), e) (word (omega arith))
   against p q (new_year ey em ed l k h) v =
-      rw (v.its-flag, v.its-year, v.its-month, v.its-day, ey, em, ed, lt-ltb 0 (y + 1) (omega arith), december) (word (omega arith))
+      rw (v.its_flag, v.its_year, v.its_month, v.its_day, ey, em, ed, lt-ltb 0 (y + 1) (omega arith), december) (word (omega arith))
   against p q (from_the_start ey em ed l k h) v =
-      rw (v.its-flag, v.its-year, v.its-month, v.its-day, ey, em, ed) (word (omega arith))
+      rw (v.its_flag, v.its_year, v.its_month, v.its_day, ey, em, ed) (word (omega arith))
 
 -- ---- each real day has one after it and one before
 
@@ -139,22 +139,22 @@ module _ (t : Date) (e : real t ≡ true) where
   pub real_previous : real (previous t) ≡ true
   real_previous =
       let b = before r.its in
-      ap real (against b.its.from_first b.its.from-january b.follows own) ∙ day_real b.its
+      ap real (against b.its.from_first b.its.from_january b.follows own) ∙ day_real b.its
 
   module _ (h : t.0 < 2 ^ 16) where
     pub on_and_back : previous (next t) ≡ t
     on_and_back =
         let a = after r.its in
         ap previous (along a.follows own)
-        ∙ against r.its.from_first r.its.from-january a.follows (day_fields a.its)
-        ∙ word_of_fields t h r.spare-zero
+        ∙ against r.its.from_first r.its.from_january a.follows (day_fields a.its)
+        ∙ word_of_fields t h r.spare_zero
 
     pub back_and_on : next (previous t) ≡ t
     back_and_on =
         let b = before r.its in
-        ap next (against b.its.from_first b.its.from-january b.follows own)
+        ap next (against b.its.from_first b.its.from_january b.follows own)
         ∙ along b.follows (day_fields b.its)
-        ∙ word_of_fields t h r.spare-zero
+        ∙ word_of_fields t h r.spare_zero
 
 pub steps_hold : Steps
 unfolding next previous last_day

@@ -1,4 +1,5 @@
 // The calendar of the RT-11 date word.
+#![tactic(auto)]
 ghost use Rattle.std.specs.Prelude.{◌≡◌, true, ◌≤◌};
 ghost use Rattle.calendar.specs.Date.{year, month, day, spare, flag, date_of, awaited, await, last_day, real, made, next, previous};
 ghost use Rattle.calendar.specs.Months.{MonthLengths};
@@ -6,11 +7,11 @@ ghost use Rattle.calendar.specs.Steps.{Steps};
 
 // DATE: bits 0-4 the year less 1972, 5-9 the day, 10-13 the month, 14 zero, 15 one while a master's date is awaited.
 #[repr(C)]
-#[derive(Drop)]
+#[derive(Clone, Copy)]
 pub struct Date(pub u16);
 
 // A date, or the answer that there is no such day.
-#[derive(Drop)]
+#[derive(Clone, Copy)]
 pub enum MadeDate {
     Made(Date),
     NoDate,

@@ -112,22 +112,22 @@ module _ (s : Settings) (good : Sound s) (t : NetTable) (rows : RowsBelow t s) (
       neighbor Nothing below few = ended NoHost (host s c l) few
       neighbor (Id id) below few =
           let b = below id refl in
-          record { rising = omega arith; below = omega arith; base = refl; clock = λ _. ok few; hold = λ _. good.hold-to; count = λ _. few; delay = λ _. short; reports = λ _ e. absurd (false≢true e) }
+          record { rising = omega arith; below = omega arith; base = refl; clock = λ _. ok few; hold = λ _. good.hold_to; count = λ _. few; delay = λ _. short; reports = λ _ e. absurd (false≢true e) }
 
       go : (b : Bool) → eqb p.nhosts 0 ≡ b → Fine (cond b (no_table (host s c l) i n p f (found_for t s f.link.neighbor)) (with_table (host s c l) i n p f))
       go true e few =
-          neighbor (found_for t s f.link.neighbor) (λ id q. omega (arith, found_below s.address s.layout t.net f.link.neighbor id rows q, good.hosts-to)) few
+          neighbor (found_for t s f.link.neighbor) (λ id q. omega (arith, found_below s.address s.layout t.net f.link.neighbor id rows q, good.hosts_to)) few
       go false e few =
           let o = ours e in
-          let most = good.hosts-to in
-          record { rising = omega arith; below = omega arith; base = refl; clock = λ _. ok few; hold = λ _. good.hold-to; count = λ _. few; delay = λ _. short; reports = λ _ _. omega arith }
+          let most = good.hosts_to in
+          record { rising = omega arith; below = omega arith; base = refl; clock = λ _. ok few; hold = λ _. good.hold_to; count = λ _. few; delay = λ _. short; reports = λ _ _. omega arith }
 
   module _ (c : Clock) (l : Links) (ok : clock_in_range c ≡ true) (k : Counter) where
     abbrev r : Reading
     r = our_reading k (host s c l)
 
     still_ok : (count_used k).0 < 2 ^ 16 → clock_in_range r.clock ≡ true
-    still_ok = reading_in_range_lem s.hold_interval good.hold-to c ok s.clock_tick k
+    still_ok = reading_in_range_lem s.hold_interval good.hold_to c ok s.clock_tick k
 
     fifth_step : (p : Packet) → Fits s octets (Good p) → (f : Flight) → Short f → Fine (step5 t (host s r.clock (with_link i f.link l)) i (count_used k) p f)
     fifth_step p fits f short = fifth r.clock (with_link i f.link l) (count_used k) still_ok p f short (omega (arith, fits.whole)) fits.ours
@@ -172,7 +172,7 @@ module _ (x : CallState) (d : Delivery) (octets : List ℕ) (e : done (guard (On
   in_range = clock_state x (q.call_state refl)
 
   pub deliverable : (1 ≤ on_link d) × (on_link d ≤ 8) × (settings_good s ≡ true) × RowsBelow x.nets s × (clock_in_range x.host.clock ≡ true)
-  deliverable = let has = counted _ _ (q.link (on_link d) refl) in (has.from_one, has.to-eight, q.settings, q.rows, in_range)
+  deliverable = let has = counted _ _ (q.link (on_link d) refl) in (has.from_one, has.to_eight, q.settings, q.rows, in_range)
 
   pub delivered : (p : Arrived) → (p ≡ definition.delivered d octets x.nets x.host) × (p.work.count.0 < 2 ^ 16) → Delivered x octets p (perform (deliver d octets) x)
   delivered p is =

@@ -137,7 +137,7 @@ after_looked x a d = rw (sought x (Lookup a) d).is (after_quiet x (Lookup a) d (
 
 module _ (x : CallState) (i : ℕ) (octets : List ℕ) (d : done (guard (OnLink i) x) ≡ true) where
   pub on_a_link : (1 ≤ i) × (i ≤ 8)
-  on_a_link = let has = counted _ _ ((passed (OnLink i) x d).link i refl) in (has.from_one, has.to-eight)
+  on_a_link = let has = counted _ _ ((passed (OnLink i) x d).link i refl) in (has.from_one, has.to_eight)
 
   pub after_inspected : Leaves (perform (inspect i octets) x) (inspection.tells (inspection.inspect x.host.settings i octets)) x.host.clock x.host.links x.walk x.copy x.entries
   after_inspected =

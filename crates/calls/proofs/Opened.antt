@@ -24,7 +24,7 @@ module _ (x : CallState) (i : ℕ) (packet : List ℕ) (d : done (guard (scope.O
   opens = (passed (scope.Opening i) x d).opening i refl
 
   pub openable : (1 ≤ i) × (i ≤ 8)
-  openable = let has = counted _ i opens.0 in (has.from_one, has.to-eight)
+  openable = let has = counted _ i opens.0 in (has.from_one, has.to_eight)
 
   pub record Opened (p : Opening) : Type 0 where
     pub room : (p.octets ≤ length packet) × (p.octets ≤ length x.copy)

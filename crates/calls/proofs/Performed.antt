@@ -50,7 +50,7 @@ effect_ids (Lookup a) t h w copy e good r = record { rising = omega arith; below
 effect_ids (Step k) t h w copy e good r =
     step_work h.settings w copy (r refl) (Ids h.settings) k t h e refl record { rising = omega arith; below = omega arith }
     (λ id x. (let i = ltb-true w.id h.settings.layout.nhosts id in
-    let most = (sound h.settings good).hosts-to in
+    let most = (sound h.settings good).hosts_to in
     record { rising = omega arith; below = omega (arith, i, most) }))
 
 module _ (x : CallState) (q : Request) (d : done (guard (scope_of q) x) ≡ true) where

@@ -149,7 +149,7 @@ module _ (x : CallState) (i : ℕ) (counter : Counter) (buffer : List ℕ) where
     sendable =
         let q = passed (OnLink i) x e in
         let has = counted _ _ (q.link i refl) in
-        (has.from_one, has.to-eight, q.settings, clock_state x (q.call_state refl))
+        (has.from_one, has.to_eight, q.settings, clock_state x (q.call_state refl))
 
     -- whether the buffer is too short
     pub sent : Sent x buffer (send_in i counter (length buffer) x.host) (perform (send i counter buffer) x)

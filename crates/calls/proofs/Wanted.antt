@@ -38,7 +38,7 @@ module _ (t : NetTable) (s : Settings) (w : Walk) (copy : List ℕ) (good : sett
   wanted_below (SelfReport k) r id e = none cc
   wanted_below (Lookup a) r id e =
       let g = sound s good in
-      omega (arith, found_below s.address s.layout t.net a id rows e, g.hosts-to)
+      omega (arith, found_below s.address s.layout t.net a id rows e, g.hosts_to)
   wanted_below (Step k) r id e = at_hand_in s w copy (r refl) good id e
 
   pub wanted_has_place : (q : Request) → InRange q → has_place (wanted q t s w) ≡ true

@@ -15,14 +15,14 @@ use quantity::{Count, Millis};
 use table::entries::{Change, Changes};
 
 // The reply and the clock; the entries stay.
-#[derive(Drop)]
+#[derive(Clone, Copy)]
 pub struct Timed {
     pub reply: Reply,
     pub clock: Clock,
 }
 
 // The reply, the clock, and what becomes of the entries.
-#[derive(Drop)]
+#[derive(Clone, Copy)]
 pub struct Aged {
     pub reply: Reply,
     pub clock: Clock,

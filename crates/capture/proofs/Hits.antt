@@ -124,8 +124,8 @@ begins s n h w =
       fragment = rw (e₆, e₇) at w.fragment;
       kind = sym (e 9 (omega arith)) ∙ w.kind;
       hosts = omega (arith, w.hosts);
-      header_sum = ap checksum_good (sym (take-take header_length n s (omega arith))) ∙ w.header-sum;
-      body_sum = ap checksum_good (sym (body_begins s n h t (omega (arith, w.fits)) (omega (arith, w.long)))) ∙ w.body-sum;
+      header_sum = ap checksum_good (sym (take-take header_length n s (omega arith))) ∙ w.header_sum;
+      body_sum = ap checksum_good (sym (body_begins s n h t (omega (arith, w.fits)) (omega (arith, w.long)))) ∙ w.body_sum;
     }
 
 -- ---- the length of a hit
@@ -186,7 +186,7 @@ module _ (s : List ℕ) (w : Shows s) where
 
   sum_passes : ip_checksum packet ≡ true
   unfolding ip_checksum
-  sum_passes = ap checksum_good (take-take header_length (total_length s) s (omega (arith, w.long))) ∙ w.header-sum
+  sum_passes = ap checksum_good (take-take header_length (total_length s) s (omega (arith, w.long))) ∙ w.header_sum
 
   kind_passes : protocol packet ≡ true
   unfolding protocol
@@ -202,7 +202,7 @@ module _ (s : List ℕ) (w : Shows s) where
 
   body_passes : hello_checksum (hello_of packet) ≡ true
   unfolding hello_checksum
-  body_passes = ap checksum_good hello_octets ∙ w.body-sum
+  body_passes = ap checksum_good hello_octets ∙ w.body_sum
 
   pub shown_hit : hit s ≡ total_length s
   unfolding passes parse

@@ -59,10 +59,10 @@ module _ (input : List ℕ) (at : ℕ) (s : Survey) (left : HostAfter input at s
       let rest = hits_at (n.at + n.size) input in
       let g = gaps (n.at + n.size) (length input) rest in
       let m : heading_length s.hits + number_length ≡ heading_length (s.hits + 1) = omega arith in
-      let l₁ = rw e at left.hits-after in
-      let l₂ = rw e at left.octets-after in
-      let l₃ = rw e at left.stretches-after in
-      let l₄ = rw e at left.places-after in
+      let l₁ = rw e at left.hits_after in
+      let l₂ = rw e at left.octets_after in
+      let l₃ = rw e at left.stretches_after in
+      let l₄ = rw e at left.places_after in
       record {
         hits_after = omega (arith, l₁);
         octets_after = omega (arith, l₂);
@@ -80,8 +80,8 @@ module _ (input : List ℕ) (at : ℕ) (s : Survey) (left : HostAfter input at s
   unfolding survey_of places_are
   after_last z k d =
       let e = next_last input at n is z in
-      let l₁ : s.hits ≡ length (hits input) = omega (arith, rw e at left.hits-after) in
-      let l₂ : s.octets ≡ total_size (hits input) = omega (arith, rw e at left.octets-after) in
-      let l₃ : s.stretches + k ≡ length (stretches input) = rw (d, is.last z) (rw e at left.stretches-after) in
-      let l₄ : s.placed ≡ places_are input number_length (hits input) = sym (and_true s.placed) ∙ rw e at left.places-after in
+      let l₁ : s.hits ≡ length (hits input) = omega (arith, rw e at left.hits_after) in
+      let l₂ : s.octets ≡ total_size (hits input) = omega (arith, rw e at left.octets_after) in
+      let l₃ : s.stretches + k ≡ length (stretches input) = rw (d, is.last z) (rw e at left.stretches_after) in
+      let l₄ : s.placed ≡ places_are input number_length (hits input) = sym (and_true s.placed) ∙ rw e at left.places_after in
       rw (l₁, l₂, l₃, l₄)

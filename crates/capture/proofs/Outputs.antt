@@ -160,7 +160,7 @@ module _ (input c₀ c : List ℕ) (at place to : ℕ) (left : CaptureAfter inpu
         let f = left.fits in
         let e = ap (λ hs. length hs) more in
         let t = ap total_size more in
-        (omega (arith, left.heading, left.after-heading, e), omega (arith, f, t, left.same))
+        (omega (arith, left.heading, left.after_heading, e), omega (arith, f, t, left.same))
 
     module _ (c₁ c₂ : List ℕ) (e₁ : c₁ ≡ over c place (four to)) (e₂ : c₂ ≡ over c₁ to packet) where
       long₁ : length c₁ ≡ length c
@@ -171,7 +171,7 @@ module _ (input c₀ c : List ℕ) (at place to : ℕ) (left : CaptureAfter inpu
 
       places_after : place + 4 + length later_places ≤ to
       places_after =
-          omega (arith, places_long (to + n.size) later, length-map (hits_at (n.at + n.size) input) (octets_of input), left.heading, left.after-heading, ap (λ hs. length hs) more)
+          omega (arith, places_long (to + n.size) later, length-map (hits_at (n.at + n.size) input) (octets_of input), left.heading, left.after_heading, ap (λ hs. length hs) more)
 
       placed : over c₂ (place + 4) later_places ≡ over (over c place (four to ++ later_places)) to packet
       placed =
@@ -191,7 +191,7 @@ module _ (input c₀ c : List ℕ) (at place to : ℕ) (left : CaptureAfter inpu
           record {
             same = long₂ ∙ left.same;
             heading = omega (arith, left.heading, ap (λ hs. length hs) more);
-            after_heading = omega (arith, left.after-heading);
+            after_heading = omega (arith, left.after_heading);
             fits = omega (arith, left.fits, ap total_size more);
             left =
                 ap (λ z. over z (to + n.size) (flatten later)) placed

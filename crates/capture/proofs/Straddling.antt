@@ -13,7 +13,7 @@ use Rattle.capture.specs.Straddle.{StraddledUndamaged, StraddledDamaged}
 
 -- how many hits there are from the place on
 abbrev count : Reading → ℕ
-count r = length r.hits-onward
+count r = length r.hits_onward
 
 differ : {n : ℕ} → 0 ≡ suc n → ⊥
 differ e = omega arith

@@ -1,4 +1,5 @@
 // The mender of damaged captures: it finds the packets of an input again, and writes a capture of them.
+#![tactic(auto)]
 ghost use Rattle.std.specs.Prelude.{◌≡◌};
 ghost use Rattle.capture.specs.Answer.{number};
 ghost use Rattle.capture.specs.Search.{Searches};
@@ -22,7 +23,7 @@ const MOST: usize = 2048;
 // The octets of a number.
 const NUMBER: usize = 4;
 
-#[derive(Drop)]
+#[derive(Clone, Copy)]
 pub enum Answer {
     Done,
     ShortBuffer,
@@ -30,7 +31,7 @@ pub enum Answer {
 }
 
 // CAPTURE-5: what recovery returns: how many octets it wrote to each output, and whether number and places in the input are those of the packets found.
-#[derive(Drop)]
+#[derive(Clone, Copy)]
 pub struct Recovered {
     pub answer: Answer,
     pub capture_length: usize,
@@ -39,14 +40,14 @@ pub struct Recovered {
 }
 
 // The next hit from a place on; no octets at the end of the input where there is none.
-#[derive(Drop)]
+#[derive(Clone, Copy)]
 pub struct Next {
     pub at: usize,
     pub size: usize,
 }
 
 // What the search finds: the hits, the octets of their packets, the stretches, and whether the places of the input are those of the hits.
-#[derive(Drop)]
+#[derive(Clone, Copy)]
 pub struct Survey {
     pub hits: usize,
     pub octets: usize,

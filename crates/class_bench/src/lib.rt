@@ -1,4 +1,5 @@
 // The class bench for programs in C, Rust and Python: set-up and run, with the answer as its number.
+#![tactic(auto)]
 ghost use Rattle.std.specs.Prelude.{◌≡◌};
 ghost use Rattle.bench.specs.Answer.{number};
 ghost use Rattle.bench.specs.Guard.{set_up_guard};
@@ -12,7 +13,7 @@ use table::Entry;
 
 // What a run answers: the number of the answer, and how many events it carried out, 0 where it refuses.
 #[repr(C)]
-#[derive(Drop)]
+#[derive(Clone, Copy)]
 pub struct BenchRan {
     pub answer: u8,
     pub count: usize,

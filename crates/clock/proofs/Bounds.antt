@@ -78,7 +78,7 @@ in_range c r =
       not_lt day.0 c.clock.0 (omega arith),
       not_lt c.delta.0 (to_units slew_least).0 (omega arith),
       not_lt (to_units slew_most).0 c.delta.0 (omega arith),
-      le-leb _ _ r.rest.hold-high,
+      le-leb _ _ r.rest.hold_high,
       r.rest.dated,
     )
 

@@ -66,7 +66,7 @@ summed_ranged n few c s =
 module _ (h : Seconds) (small : h.0 ≤ 255) where
   -- a turn keeps DELTA, and loads HOLD
   turned : {c : Clock} → Rest c → (k : Units) (d : Date) → real d ≡ true → Rest (record { clock = k; delta = c.delta; hold = h; date = await d })
-  turned r k d e = record { delta_low = r.delta-low; delta_high = r.delta-high; hold_high = small; dated = awaiting d e }
+  turned r k d e = record { delta_low = r.delta_low; delta_high = r.delta_high; hold_high = small; dated = awaiting d e }
 
   rest_on : (n : Count) (c : Clock) → exceeds_day n c ≡ true → Rest c → Rest (day_on h c)
   unfolding day_on
@@ -89,7 +89,7 @@ module _ (h : Seconds) (small : h.0 ≤ 255) where
     r = (range_says c e).rest
 
     moved : (t : Units) → Rest (moved_on t c)
-    moved t = record { delta_low = r.delta-low; delta_high = r.delta-high; hold_high = r.hold-high; dated = r.dated }
+    moved t = record { delta_low = r.delta_low; delta_high = r.delta_high; hold_high = r.hold_high; dated = r.dated }
 
     overflowed_rest : (t : Units) (k : Counter) → Rest (overflowed t k c)
     overflowed_rest t k = either Rest (marked k) _ _ (λ _. moved t) (λ _. r)
@@ -120,7 +120,7 @@ module _ (h : Seconds) (small : h.0 ≤ 255) where
           let o = one d in
           let low : dn (d -ℤ (share c).0) ≤ dn (to_units slew_least).0 = omega (arith, r) in
           let high : up (d -ℤ (share c).0) ≤ up (to_units slew_most).0 = omega (arith, r) in
-          settled _ (record { delta_low = low; delta_high = high; hold_high = r.hold-high; dated = r.dated })
+          settled _ (record { delta_low = low; delta_high = high; hold_high = r.hold_high; dated = r.dated })
 
       pub set_in_range : (m : Millis) → clock_in_range (set_by h n m c) ≡ true
       unfolding set_by
@@ -132,7 +132,7 @@ module _ (h : Seconds) (small : h.0 ≤ 255) where
           let l = lt_no m.0 slew_least.0 (is_not _ b.0) in
           let k = lt_no slew_most.0 m.0 (is_not _ b.1) in
           let t = times m.0 units_per_milli in
-          record { delta_low = omega arith; delta_high = omega arith; hold_high = r.hold-high; dated = r.dated })
+          record { delta_low = omega arith; delta_high = omega arith; hold_high = r.hold_high; dated = r.dated })
           (λ s. record { delta_low = omega arith; delta_high = omega arith; hold_high = small; dated = r.dated }))
 
 pub second_in_range : (c : Clock) → clock_in_range c ≡ true → clock_in_range (hold_second c) ≡ true
@@ -142,9 +142,9 @@ second_in_range c e =
     let r = k.rest in
     in_range _
     (record {
-      clock_low = k.clock-low;
-      clock_high = k.clock-high;
-      rest = record { delta_low = r.delta-low; delta_high = r.delta-high; hold_high = omega arith; dated = r.dated };
+      clock_low = k.clock_low;
+      clock_high = k.clock_high;
+      rest = record { delta_low = r.delta_low; delta_high = r.delta_high; hold_high = omega arith; dated = r.dated };
     })
 
 pub fresh_in_range : (time : Millis) (date : Date) → less_millis time (millis (pos 0)) ≡ false → less_millis time day_millis ≡ true

@@ -38,23 +38,23 @@ module _ (t : Units) (h : Seconds) (k : Counter) (c : Clock) where
   unfolding reading
   reads_from_0 =
       let f = floor (plus_count n m).0 units_per_milli (lit< tt) in
-      let w = of-≤ℤ settled.from-0 in
+      let w = of-≤ℤ settled.from_0 in
       to-≤ℤ (pos 0) (whole_millis (plus_count n m)).0 (omega arith)
 
   reads_to_day : (reading t h k c).time.0 ≤ℤ day_millis.0
   unfolding reading
   reads_to_day =
       let f = floor (plus_count n m).0 units_per_milli (lit< tt) in
-      let w = of-≤ℤ settled.to-day in
+      let w = of-≤ℤ settled.to_day in
       to-≤ℤ (whole_millis (plus_count n m)).0 day_millis.0 (omega (arith, one (whole_millis (plus_count n m)).0))
 
   again : reading t h (counting n) (reading t h k c).clock ≡ reading t h k c
   unfolding reading Rests
-  again = ap (λ (d : Clock). record { clock = d; time = whole_millis (plus_count n d) }) (rests_hold h n m settled.from-0 settled.to-day)
+  again = ap (λ (d : Clock). record { clock = d; time = whole_millis (plus_count n d) }) (rests_hold h n m settled.from_0 settled.to_day)
 
   in_day : InDay n (overflowed t k c) → (reading t h k c).clock ≡ overflowed t k c
   unfolding reading Rests
-  in_day d = rests_hold h n (overflowed t k c) d.from-0 d.to-day
+  in_day d = rests_hold h n (overflowed t k c) d.from_0 d.to_day
 
 pub crystal_holds : Crystal
 crystal_holds = record { from_0 = reads_from_0; to_day = reads_to_day; again = again; in_day = in_day }

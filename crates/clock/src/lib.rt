@@ -1,4 +1,5 @@
 // A host's clock.
+#![tactic(auto)]
 ghost use Rattle.std.specs.Prelude.{◌≡◌, true, false, pos};
 ghost use Rattle.std.specs.Int.{w32};
 ghost use Rattle.std.proofs.Common.{SFits};
@@ -44,7 +45,7 @@ use quantity::{Count, Millis, Seconds, Units};
 
 // CLOCK-1: the clock of a host.
 #[repr(C)]
-#[derive(Drop)]
+#[derive(Clone, Copy)]
 pub struct Clock {
     pub clock: Units,
     pub delta: Units,
@@ -54,7 +55,7 @@ pub struct Clock {
 
 // What a reading is handed: the count of the crystal's counter, a mark (not 0) where the counter has overflowed since the last tick, and the count taken again after that. A line clock's are zero.
 #[repr(C)]
-#[derive(Drop)]
+#[derive(Clone, Copy)]
 pub struct Counter {
     pub count: Count,
     pub overflow: u8,
@@ -62,7 +63,7 @@ pub struct Counter {
 }
 
 // What a reading yields: the clock to carry on with, and the time.
-#[derive(Drop)]
+#[derive(Clone, Copy)]
 pub struct Reading {
     pub clock: Clock,
     pub time: Millis,

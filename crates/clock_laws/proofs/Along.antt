@@ -131,6 +131,6 @@ module _ (s : Settings) (hold-few : s.hold_interval.0 ≤ 255) (tick_good : tick
       let b₂ = both (by_small (kind m).set) _ b in
       let d₂ = both (same_day c.date (moved s m c).date) _ d in
       let here = step m c e f.0 a₂.0 b₂.0 d₂.0 in
-      let rest = along ms (moved s m c) here.in-range f.1 a₂.1 b₂.1 d₂.1 in
+      let rest = along ms (moved s m c) here.in_range f.1 a₂.1 b₂.1 d₂.1 in
       let u = sum (tick_of s m).0 (ticks_in s ms).0 in
       record { at_least = omega (arith, here.gains, rest) }

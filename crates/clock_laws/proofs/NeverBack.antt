@@ -107,8 +107,8 @@ module _ (y : Readings) (twice : ReadsTwice y) where
       let its = reader x y.counter y.first.call twice.once in
       let good = sound s its.settings in
       let f = both (count_fits (reads y.counter)) _ fits in
-      let start = reading_in_range_lem s.hold_interval good.hold-to y.clock its.clock s.clock_tick y.counter (ltb-true _ _ f.0) in
-      rw to_last (along s good.hold-to good.tick (since y) (earlier y).clock start f.1 kept small stays)
+      let start = reading_in_range_lem s.hold_interval good.hold_to y.clock its.clock s.clock_tick y.counter (ltb-true _ _ f.0) in
+      rw to_last (along s good.hold_to good.tick (since y) (earlier y).clock start f.1 kept small stays)
 
 -- a counter that with the ticks does not fall, and full milliseconds
 whole : (a ticks b : Units) (adjusts : ℕ) (n m : Count) → Gains a ticks b adjusts → adjusts ≤ most_adjusts

@@ -48,7 +48,7 @@ module _ (t : Date) (e : real t ≡ true) where
   apart : (f y m d : ℕ) → y ≤ 31 → m ≤ 12 → d ≤ 31 → (m ≡ month t → d ≡ day t → y ≡ year t → ⊥) → Other (date_of f y m d)
   apart f y m d hy hm hd differs same =
       let w : (date_of f y m d).0 % 32768 ≡ m * 1024 + d * 32 + y = omega arith in
-      let p = packed y m d (year t) (month t) (day t) hy hd its.in-word (day_fits its) (sym w ∙ same ∙ low t (real_says t e).spare-zero) in
+      let p = packed y m d (year t) (month t) (day t) hy hd its.in_word (day_fits its) (sym w ∙ same ∙ low t (real_says t e).spare_zero) in
       differs p.0 p.1 p.2
 
   next_other : Other (next t)
@@ -58,12 +58,12 @@ module _ (t : Date) (e : real t ≡ true) where
       (λ y.
       let h : day t < last_day (year t) (month t) = ltb-true _ _ y in
       let l = month_length (year t) (month t) in
-      apart (flag t) (year t) (month t) (day t + 1) its.in-word its.to-december (omega arith) (λ p q r. omega arith))
+      apart (flag t) (year t) (month t) (day t + 1) its.in_word its.to_december (omega arith) (λ p q r. omega arith))
       (λ _.
       either Other (ltb (month t) 12) _ _
       (λ y.
       let h : month t < 12 = ltb-true _ _ y in
-      apart (flag t) (year t) (month t + 1) 1 its.in-word (omega arith) (omega arith) (λ p q r. omega arith))
+      apart (flag t) (year t) (month t + 1) 1 its.in_word (omega arith) (omega arith) (λ p q r. omega arith))
       (λ n.
       let g : 12 ≤ month t = ltb-false _ _ n in
       either Other (ltb (year t) (year last_date)) _ _
@@ -78,16 +78,16 @@ module _ (t : Date) (e : real t ≡ true) where
       either Other (ltb 1 (day t)) _ _
       (λ y.
       let h : 1 < day t = ltb-true _ _ y in
-      apart (flag t) (year t) (month t) (day t - 1) its.in-word its.to-december (omega (arith, day_fits its)) (λ p q r. omega arith))
+      apart (flag t) (year t) (month t) (day t - 1) its.in_word its.to_december (omega (arith, day_fits its)) (λ p q r. omega arith))
       (λ _.
       either Other (ltb 1 (month t)) _ _
       (λ y.
       let h : 1 < month t = ltb-true _ _ y in
-      apart (flag t) (year t) (month t - 1) (last_day (year t) (month t - 1)) its.in-word (omega (arith, its.to-december)) (month_length (year t) (month t - 1)).few (λ p q r. omega arith))
+      apart (flag t) (year t) (month t - 1) (last_day (year t) (month t - 1)) its.in_word (omega (arith, its.to_december)) (month_length (year t) (month t - 1)).few (λ p q r. omega arith))
       (λ n.
       let g : month t ≤ 1 = ltb-false _ _ n in
       either Other (ltb (year first_date) (year t)) _ _
-      (λ y. apart (flag t) (year t - 1) 12 (last_day (year t - 1) 12) (omega (arith, its.in-word)) (omega arith) (month_length (year t - 1) 12).few (λ p q r. omega arith))
+      (λ y. apart (flag t) (year t - 1) 12 (last_day (year t - 1) 12) (omega (arith, its.in_word)) (omega arith) (month_length (year t - 1) 12).few (λ p q r. omega arith))
       (λ _. apart (flag t) 31 12 31 (omega arith) (omega arith) (omega arith) (λ p q r. omega arith))))
 
 -- ---- midnight

@@ -37,7 +37,7 @@ adjusted : (s : Settings) (n : Count) (c : Clock) → ButForDays (add_units (gai
 unfolding adjust
 adjusted s n c =
     let p = midnight_days s.hold_interval record { clock = add_units c.clock (share c); delta = sub_units c.delta (share c); hold = c.hold; date = c.date } n in
-    let z : ℤ = p.moved-days in
+    let z : ℤ = p.moved_days in
     let clock_is : (moved s (adjusts n) c).clock.0 ≡ (c.clock.0 +ℤ (share c).0) +ℤ z *ℤ day.0 = ap (λ (u : Units). u.0) p.clock in
     let delta-is : (moved s (adjusts n) c).delta.0 ≡ c.delta.0 -ℤ (share c).0 = ap (λ (u : Units). u.0) p.delta in
     record { whole_days = neg_ℤ z; same = ap units (rw (clock_is, delta-is) (share_goes c.clock.0 c.delta.0 (share c).0 z)) }
@@ -103,8 +103,8 @@ shrinks_by (suc n) d =
     let b = shrinks_by n (worn d) in
     record {
       smaller = omega (arith, a.smaller, b.smaller);
-      stays_positive = λ h. b.stays-positive (a.stays-positive h);
-      stays_negative = λ h. b.stays-negative (a.stays-negative h);
+      stays_positive = λ h. b.stays_positive (a.stays_positive h);
+      stays_negative = λ h. b.stays_negative (a.stays_negative h);
     }
 
 pub slewed_holds : Slewed

@@ -132,7 +132,7 @@ module _ (y : Slew) (o : SetsOnce y) where
       let u = times y.amount.0 units_per_milli in
       let l = of-≤ℤ h in
       let w = after_rests e in
-      let g = of-≤ℤ ((shrinks_by n (to_units y.amount)).stays-negative (to-≤ℤ _ _ (omega arith))) in
+      let g = of-≤ℤ ((shrinks_by n (to_units y.amount)).stays_negative (to-≤ℤ _ _ (omega arith))) in
       after_worn y o ∙ ap units (same _ _ (omega arith))
 
   remainder : (pos 0) <ℤ y.amount.0 → resting (delta_remaining y) ≡ true → delta_remaining y ≡ rest_most

@@ -47,14 +47,14 @@ module _ (h : Seconds) (c : Clock) where
   day_on_lem : (d : Clock) → Days c d → Days c (day_on h d)
   unfolding day_on
   day_on_lem d p =
-      let z : ℤ = p.moved-days in
+      let z : ℤ = p.moved_days in
       let u : ℤ = negsuc 0 in
       record { moved_days = z +ℤ u; clock = ap (λ (k : Units). sub_units k day) p.clock ∙ ap units (further c.clock.0 z u); delta = p.delta }
 
   day_back_lem : (d : Clock) → Days c d → Days c (day_back h d)
   unfolding day_back
   day_back_lem d p =
-      let z : ℤ = p.moved-days in
+      let z : ℤ = p.moved_days in
       let u : ℤ = pos 1 in
       record { moved_days = z +ℤ u; clock = ap (λ (k : Units). add_units k day) p.clock ∙ ap units (further c.clock.0 z u); delta = p.delta }
 
@@ -116,10 +116,10 @@ module _ (y : Slew) (o : SetsOnce y) where
   set_delta =
       ap (λ (c : Clock). c.delta)
       (clock_moves_hold.clock y.first.call (state_for s y.clock y.first)
-      ∙ ap (λ (ms : List Move). moved_by s ms y.clock) o.its-moves
+      ∙ ap (λ (ms : List Move). moved_by s ms y.clock) o.its_moves
       ∙ moved_on s o.before (sets o.count y.amount ∷ []) y.clock)
       ∙ (midnight_days s.hold_interval _ o.count).delta
-      ∙ rw (small_slews y.amount o.is-small)
+      ∙ rw (small_slews y.amount o.is_small)
 
   pub after_worn : delta_remaining y ≡ worn_by (adjusts_in (moves_after y)) (to_units y.amount)
   after_worn =

@@ -46,8 +46,8 @@ conditions w θ d e T1 T2 T3 T4 h =
     record {
       there = ap (signed_bits w) (eqb-true _ _ t.0);
       back = ap (signed_bits w) (eqb-true _ _ t.1.0);
-      way_there = (le_yes (pos 0) d t.1.1.0).le-dn;
-      way_back = (le_yes (pos 0) e t.1.1.1.0).le-dn;
+      way_there = (le_yes (pos 0) d t.1.1.0).le_dn;
+      way_back = (le_yes (pos 0) e t.1.1.1.0).le_dn;
       there_up = there-range.0;
       there_dn = there-range.1;
       back_up = back-range.0;
@@ -84,10 +84,10 @@ middle θ d e =
 
 module _ (w : ℕ) (h : 1 ≤ w) (θ d e T1 T2 T3 T4 : ℤ) (c : Conditions w θ d e T1 T2 T3 T4) where
   there_is : wrap w (T2 -ℤ T1) ≡ θ +ℤ d
-  there_is = c.there ∙ wrap_fits w h (θ +ℤ d) c.there-up c.there-dn
+  there_is = c.there ∙ wrap_fits w h (θ +ℤ d) c.there_up c.there_dn
 
   back_is : wrap w (T3 -ℤ T4) ≡ θ -ℤ e
-  back_is = c.back ∙ wrap_fits w h (θ -ℤ e) c.back-up c.back-dn
+  back_is = c.back ∙ wrap_fits w h (θ -ℤ e) c.back_up c.back_dn
 
   -- what has the bits of the round trip less the time held is the sum of the ways, kept to w bits
   round : (z : ℤ) → Same w z ((T4 -ℤ T1) -ℤ (T3 -ℤ T2)) → wrap w z ≡ d +ℤ e
@@ -118,7 +118,7 @@ module _ (w : ℕ) (h : 1 ≤ w) (θ d e T1 T2 T3 T4 : ℤ) (c : Conditions w θ
               sum d e,
             );
       }
-      c.ways-up (omega (arith, sum d e, c.way-there, c.way_back))
+      c.ways_up (omega (arith, sum d e, c.way_there, c.way_back))
 
   -- HELLO
   hello_delay : delay w T1 T2 T3 T4 ≡ d +ℤ e
@@ -139,7 +139,7 @@ module _ (w : ℕ) (h : 1 ≤ w) (θ d e T1 T2 T3 T4 : ℤ) (c : Conditions w θ
   middle_range =
       let z = θ +ℤ shr_z (d -ℤ e) 2 in
       omega
-      (arith, sum θ (shr_z (d -ℤ e) 2), floor (d -ℤ e) 2 (lit< tt), diff d e, sum θ d, diff θ e, one z, one (θ +ℤ d), one (θ -ℤ e), c.way-there, c.way_back, c.there-up, c.back-dn)
+      (arith, sum θ (shr_z (d -ℤ e) 2), floor (d -ℤ e) 2 (lit< tt), diff d e, sum θ d, diff θ e, one z, one (θ +ℤ d), one (θ -ℤ e), c.way_there, c.way_back, c.there_up, c.back_dn)
 
   hello_offset : offset w T1 T2 T3 T4 ≡ θ +ℤ shr_z (d -ℤ e) 2
   hello_offset =
@@ -168,6 +168,6 @@ pub half_delay_lem : HalfDelay
 unfolding HalfDelay
 half_delay_lem w h θ d e T1 T2 T3 T4 t =
     let c = conditions w θ d e T1 T2 T3 T4 t in (
-      measured θ d e _ _ c.way-there c.way_back (hello_delay w h θ d e T1 T2 T3 T4 c) (hello_offset w h θ d e T1 T2 T3 T4 c),
-      measured θ d e _ _ c.way-there c.way_back (ntp_delay_lem w h θ d e T1 T2 T3 T4 c) (ntp_offset_lem w h θ d e T1 T2 T3 T4 c),
+      measured θ d e _ _ c.way_there c.way_back (hello_delay w h θ d e T1 T2 T3 T4 c) (hello_offset w h θ d e T1 T2 T3 T4 c),
+      measured θ d e _ _ c.way_there c.way_back (ntp_delay_lem w h θ d e T1 T2 T3 T4 c) (ntp_offset_lem w h θ d e T1 T2 T3 T4 c),
     )

@@ -5,7 +5,7 @@ ghost use Rattle.hello.specs.Recovered.{recovered_returned};
 
 // What the mender answers: the number of the answer, the octets written to both outputs, and the mark.
 #[repr(C)]
-#[derive(Drop)]
+#[derive(Clone, Copy)]
 pub struct Recovered {
     pub answer: u8,
     pub capture_length: usize,

@@ -1,4 +1,5 @@
 // The library for programs in C, Rust and Python: the calls of a host, with the answer as its number.
+#![tactic(auto)]
 ghost use Rattle.std.specs.Prelude.{◌≡◌};
 ghost use Rattle.checksum.specs.Checksum.{checksum_of};
 ghost use Rattle.calls.specs.declared.Request.TheVariants.{
@@ -44,7 +45,7 @@ mod tutor;
 
 // What a send answers: the number of the answer, and the length of the message.
 #[repr(C)]
-#[derive(Drop)]
+#[derive(Clone, Copy)]
 pub struct Sent {
     pub answer: u8,
     pub length: usize,
@@ -52,7 +53,7 @@ pub struct Sent {
 
 // What a lookup answers: the number of the answer, the host id and the PID of the route.
 #[repr(C)]
-#[derive(Drop)]
+#[derive(Clone, Copy)]
 pub struct Route {
     pub answer: u8,
     pub id: usize,
@@ -61,7 +62,7 @@ pub struct Route {
 
 // What a read answers: the number of the answer, the time and DATE.
 #[repr(C)]
-#[derive(Drop)]
+#[derive(Clone, Copy)]
 pub struct Time {
     pub answer: u8,
     pub time: quantity::Millis,
@@ -70,7 +71,7 @@ pub struct Time {
 
 // What an inspection answers: the number of the answer, and of a packet that passes its source, time, TSP (as an unsigned number) and NHOSTS.
 #[repr(C)]
-#[derive(Drop)]
+#[derive(Clone, Copy)]
 pub struct Inspected {
     pub answer: u8,
     pub source: Address,
@@ -81,7 +82,7 @@ pub struct Inspected {
 
 // What opening a walk and a step of it return: the number of the answer and the next place: the step, and in step 5 the line, 1 to 4 for (a) to (d), and the host id; zeros if none remains.
 #[repr(C)]
-#[derive(Drop)]
+#[derive(Clone, Copy)]
 pub struct Stepped {
     pub answer: u8,
     pub step: u8,

@@ -6,7 +6,7 @@ ghost use Rattle.hello.specs.Ntp.{zero_header, read_returned, written_returned, 
 
 // What reading a header answers: the number of the answer, and the fields, all zero where it refuses.
 #[repr(C)]
-#[derive(Drop)]
+#[derive(Clone, Copy)]
 pub struct NtpRead {
     pub answer: u8,
     pub header: ntp::Header,
@@ -14,7 +14,7 @@ pub struct NtpRead {
 
 // What writing a header answers: the number of the answer, and the octets, all zero where it refuses.
 #[repr(C)]
-#[derive(Drop)]
+#[derive(Clone, Copy)]
 pub struct NtpWritten {
     pub answer: u8,
     pub octets: [u8; 48],
@@ -22,7 +22,7 @@ pub struct NtpWritten {
 
 // What receiving a packet answers: the number of the answer, the action's number, the offset and the delay, and the association afterwards.
 #[repr(C)]
-#[derive(Drop)]
+#[derive(Clone, Copy)]
 pub struct NtpOutcome {
     pub answer: u8,
     pub action: ntp::Action,

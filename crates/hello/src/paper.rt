@@ -5,7 +5,7 @@ ghost use Rattle.text.specs.Answers.{number, to_text, from_text};
 
 // What the writer and the reader answer: the number of the answer, and the length of what was written.
 #[repr(C)]
-#[derive(Drop)]
+#[derive(Clone, Copy)]
 pub struct Written {
     pub answer: u8,
     pub length: usize,

@@ -9,7 +9,7 @@ use route::Net;
 
 // What adding a row answers: the number of the answer, and the row's number, 0 where it refuses.
 #[repr(C)]
-#[derive(Drop)]
+#[derive(Clone, Copy)]
 pub struct NetAdded {
     pub answer: u8,
     pub row: usize,

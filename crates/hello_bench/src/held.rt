@@ -10,7 +10,7 @@ use net_table::NetTable;
 use table::Entry;
 
 // The answer of set-up, and the bench after it.
-#[derive(Drop)]
+#[derive(Clone, Copy)]
 pub struct Up {
     pub answer: Answer,
     pub hosts: [HostState; 16],
@@ -19,7 +19,7 @@ pub struct Up {
 }
 
 // The answer of a run, and the bench after it.
-#[derive(Drop)]
+#[derive(Clone, Copy)]
 pub struct Gone {
     pub ran: Ran,
     pub hosts: [HostState; 16],

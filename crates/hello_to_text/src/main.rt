@@ -1,6 +1,7 @@
 // Reads a message from standard input, to its end, and writes its text to standard output.
 // A refusal writes its number and a newline to standard error, and nothing else.
 // The buffer holds more than any message has: an input that fills it is refused with 6.
+#![tactic(auto)]
 fn main() {
     let mut octets = io::buffer();
     let n = io::read_full(0, &mut octets);

@@ -23,4 +23,4 @@ pub find_has_place : (t : NetTable) (s : Settings) (a : Address) → settings_go
 find_has_place t s a good rows =
     let g = sound s good in
     has_place_lem (found_for t s a)
-    (λ (i : ℕ) (e : found_for t s a ≡ Id i). omega (arith, found_below s.address s.layout t.net a i rows e, g.hosts-to))
+    (λ (i : ℕ) (e : found_for t s a ≡ Id i). omega (arith, found_below s.address s.layout t.net a i rows e, g.hosts_to))

@@ -15,7 +15,7 @@ use table::entries::{Scan, all_in_range};
 use table::marks::Marks;
 
 // How much of the borrowed state a call tests for 12.
-#[derive(Drop)]
+#[derive(Clone, Copy)]
 pub enum Scope {
     // initialization: the table, numbers and places only
     Places,

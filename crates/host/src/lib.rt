@@ -1,4 +1,5 @@
 // A host: its settings and their test (answer 1), its links, and its places in the host table.
+#![tactic(auto)]
 ghost use Rattle.std.specs.Prelude.{◌≡◌, true, not, ◌&&◌, ◌||◌, ltb, eqb, pos, ◌≤◌};
 ghost use Rattle.quantity.specs.Quantity.{millis, less_millis};
 ghost use Rattle.clock.specs.Midnight.{day_millis};
@@ -29,7 +30,7 @@ pub mod walk;
 
 // A link as it is set: its switch (0 point-to-point, 1 broadcast), and for a broadcast link its NEIGHBOR-ADDRESS.
 #[repr(C)]
-#[derive(Drop)]
+#[derive(Clone, Copy)]
 pub struct LinkSetting {
     pub broadcast: u8,
     pub neighbor: wire::Address,
@@ -37,7 +38,7 @@ pub struct LinkSetting {
 
 // The settings of a host.
 #[repr(C)]
-#[derive(Drop)]
+#[derive(Clone, Copy)]
 pub struct Settings {
     // LOCAL-ADDRESS
     pub address: wire::Address,
@@ -61,7 +62,7 @@ pub struct Settings {
 
 // The state of a link: NEIGHBOR-ADDRESS, KEEP-ALIVE and TSP.
 #[repr(C)]
-#[derive(Drop)]
+#[derive(Clone, Copy)]
 pub struct Link {
     pub neighbor: wire::Address,
     pub keep_alive: u8,
@@ -70,13 +71,13 @@ pub struct Link {
 
 // The links of a host; link 1 comes first.
 #[repr(C)]
-#[derive(Drop)]
+#[derive(Clone, Copy)]
 pub struct Links {
     pub all: [Link; 8],
 }
 
 // The answer of a call and its values: a send returns the length of its message, a lookup the host id and PID of the route, a read the time and DATE, an inspection the packet's source, time, TSP and NHOSTS, a step the next place of its walk (step, line and host id).
-#[derive(Drop)]
+#[derive(Clone, Copy)]
 pub struct Reply {
     pub answer: answer::Answer,
     pub length: usize,
@@ -92,7 +93,7 @@ pub struct Reply {
 }
 
 // The result of a call: the reply, the clock, the links and the walk afterwards, and the change of the entries of which ids.
-#[derive(Drop)]
+#[derive(Clone, Copy)]
 pub struct Effect {
     pub reply: Reply,
     pub clock: clock::Clock,

@@ -27,7 +27,7 @@ use table::entries::plus_report;
 use wire::{Packet, Parsed};
 
 #[repr(C)]
-#[derive(Drop)]
+#[derive(Clone, Copy)]
 pub struct Walk {
     // 0: no walk is open
     pub opened: u8,
@@ -47,7 +47,7 @@ pub struct Walk {
 }
 
 // The place of a walk; none if its numbers are no place.
-#[derive(Drop)]
+#[derive(Clone, Copy)]
 pub enum Place {
     Nowhere,
     Step1,

@@ -66,7 +66,7 @@ module _ (r : Network) (proper : Proper r) (k b : ℕ) (speaking : Bool) (l : Li
           (subst (λ (t : ℕ). LinkOk r k speaking (learning t) (heard t) t a f z) (sym is) (here a n (ap (r.cable b) (sym is) ∙ cord)))
       go false e =
           let other = eqb-false q j e in
-          let from-q = (counted (r.settings b) q (proper.cables b q a n cord).link-in).from_one in
+          let from-q = (counted (r.settings b) q (proper.cables b q a n cord).link_in).from_one in
           let from-j = (counted (r.settings b) j has).from_one in
           let there : get_or (with_link j z l).all (q - 1) (fresh_link unset) ≡ link_of l q = get_or-set_other l.all (j - 1) (q - 1) z (fresh_link unset) (λ y. other (omega (arith, y, from-q, from-j))) in
           subst (LinkOk r k speaking (learning q) (heard q) q a f) (sym there) (others q a n other cord)

@@ -44,7 +44,7 @@ exactly n h =
 
 module _ (r : Network) (proper : Proper r) (b j : ℕ) (m : Message) (cable : r.cable b j ≡ at m.node m.link) (right : RightMessage r m) where
   pub source_is : (fields m.octets).source ≡ (r.settings m.node).address
-  source_is = ap (λ (o : List ℕ). (fields o).source) right.octets-are ∙ source_back right.destination right.packet right.reports ∙ right.source
+  source_is = ap (λ (o : List ℕ). (fields o).source) right.octets_are ∙ source_back right.destination right.packet right.reports ∙ right.source
 
   -- DELAY is the sum of two ways of 50 ms at most
   pub exact_delay : r.longest ≤ quick_way → (reading : Millis) (way : ℕ) → way ≤ r.longest → reading.0 ≡ (m.ms +ℤ pos way) +ℤ r.fixed b → Worded m.octets
@@ -54,7 +54,7 @@ module _ (r : Network) (proper : Proper r) (b j : ℕ) (m : Message) (cable : r.
       ∙ exactly (carried.way + way) (omega (arith, carried.short))
     where
       tsp_read : (fields m.octets).tsp ≡ right.packet.tsp
-      tsp_read = ap (λ (o : List ℕ). (fields o).tsp) right.octets-are ∙ tsp_back right.destination right.packet right.reports right.tsp-fits.high right.tsp-fits.low
+      tsp_read = ap (λ (o : List ℕ). (fields o).tsp) right.octets_are ∙ tsp_back right.destination right.packet right.reports right.tsp_fits.high right.tsp_fits.low
 
       carried : Carries r b m.ms (fields m.octets).tsp.0
-      carried = rw tsp_read (right.tsp b j (proper.cables b j m.node m.link cable).other-end (rw tsp_read at z))
+      carried = rw tsp_read (right.tsp b j (proper.cables b j m.node m.link cable).other_end (rw tsp_read at z))

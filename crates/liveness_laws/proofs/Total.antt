@@ -40,13 +40,13 @@ module _ (r : Network) (proper : Proper r) (ways : r.longest ≤ longest_way) (v
   unfolding Claim
   offset_right b i c h hb hc below host t delay =
       let d = right_claim r proper ways v right b i hb below t in
-      let same : d.node ≡ c = proper.marked-once d.node c i d.node_in hc d.host-there host in
+      let same : d.node ≡ c = proper.marked_once d.node c i d.node_in hc d.host_there host in
       let close = subst (λ (s : ℕ). pos (delay_parts * nat_abs ((entry_of r v b i).offset.0 -ℤ (r.fixed s -ℤ r.fixed b))) ≤ℤ ((entry_of r v b i).delay.0 *ℤ pos error_parts)) same d.close in
       per_cable _ h (rw delay at close)
 
   other_host : (b i : ℕ) → b < r.nodes → i < (r.settings b).layout.nhosts → entry.up (entry_of r v b i) ≡ true → HostOf r i
   unfolding Claim
-  other_host b i hb below t = let d = right_claim r proper ways v right b i hb below t in record { host = d.node; host_in = d.node_in; host_there = d.host-there }
+  other_host b i hb below t = let d = right_claim r proper ways v right b i hb below t in record { host = d.node; host_in = d.node_in; host_there = d.host_there }
 
 -- ---- rounds in any order
 
@@ -77,7 +77,7 @@ module _ (r : Network) (proper : Proper r) (quick : r.longest ≤ quick_way) (sl
     far : (b : ℕ) → b < r.nodes → entry.up (entry_of r u b i) ≡ true → Far b
     far b hb t =
         let m = (claim b hb).measured t in
-        let same : m.node ≡ c = proper.marked-once m.node c i m.node_in hc m.host-there host in
+        let same : m.node ≡ c = proper.marked_once m.node c i m.node_in hc m.host_there host in
         record { hops = m.hops; way = subst (λ (s : ℕ). Hops r s b m.hops) same m.way; delay = m.delay }
 
     module _ (b : ℕ) (hb : b < r.nodes) where
@@ -101,7 +101,7 @@ module _ (r : Network) (proper : Proper r) (quick : r.longest ≤ quick_way) (sl
       at_home : (entry_of r u b i).pid ≡ 0 → f.hops ≡ 0
       at_home zero-pid =
           let led = (claim b hb).led shown.is_up in
-          let same : led.node ≡ c = proper.marked-once led.node c i led.node_in hc led.host-there host in
+          let same : led.node ≡ c = proper.marked_once led.node c i led.node_in hc led.host_there host in
           go b led.count led.follows same zero-pid shortest
         where
           go : {s : ℕ} (q n : ℕ) → Follows r u i s q n → s ≡ c → (entry_of r u q i).pid ≡ 0 → Shortest r c q f.hops → f.hops ≡ 0
@@ -116,7 +116,7 @@ module _ (r : Network) (proper : Proper r) (quick : r.longest ≤ quick_way) (sl
           go true t = let z = eqb-true (entry_of r u b i).pid 0 t in subst (Via r c b (entry_of r u b i).pid) (sym (at_home z)) (own z)
           go false t =
               let lead = (claim b hb).leads shown.is_up (eqb-false (entry_of r u b i).pid 0 t) in
-              let inside = (proper.cables lead.node lead.link b (entry_of r u b i).pid (proper.cables b (entry_of r u b i).pid lead.node lead.link lead.cable).other-end).node_in in
+              let inside = (proper.cables lead.node lead.link b (entry_of r u b i).pid (proper.cables b (entry_of r u b i).pid lead.node lead.link lead.cable).other_end).node_in in
               let g = far lead.node inside lead.is_up in
               let less = of-≤ℤ lead.less in
               let more = shortest (suc g.hops) (over lead.cable g.way) in
@@ -140,7 +140,7 @@ module _ (r : Network) (proper : Proper r) (quick : r.longest ≤ quick_way) (sl
 
   -- all hosts have one NHOSTS
   same_hosts : (b i : ℕ) → b < r.nodes → i < (r.settings b).layout.nhosts → (a : ℕ) → a < r.nodes → i < (r.settings a).layout.nhosts
-  same_hosts b i hb below a ha = subst (λ (n : ℕ). i < n) (ap (λ (l : Layout). l.nhosts) (proper.one-layout b a hb ha)) below
+  same_hosts b i hb below a ha = subst (λ (n : ℕ). i < n) (ap (λ (l : Layout). l.nhosts) (proper.one_layout b a hb ha)) below
 
   pub stays_correct : StaysCorrect r v xs
   stays_correct =
@@ -174,7 +174,7 @@ module _ (r : Network) (proper : Proper r) (quick : r.longest ≤ quick_way) (sl
               let way = wide b c hb hc in
               let o = shown b i hb below c way.0 hc host way.1 (omega (arith, way.2)) (omega (arith, way.2)) in
               let e = exact b i hb below o.is_up in
-              let same : e.node ≡ c = proper.marked-once e.node c i e.node_in hc e.host-there host in
+              let same : e.node ≡ c = proper.marked_once e.node c i e.node_in hc e.host_there host in
               record {
                 is_up = o.is_up;
                 hops = e.hops;
@@ -197,7 +197,7 @@ module _ (r : Network) (proper : Proper r) (quick : r.longest ≤ quick_way) (sl
   pub correct_on : (xs ys : List Step) → Underway r v xs ys → Correct r (meanwhile r v xs ys)
   correct_on xs ys e =
       correct_at (meanwhile r v xs ys) (in_rounds.meanwhile_right r proper short_ways v xs ys e right_v) (suc k)
-      (λ b i hb below. (fill b i hb below).complete-on xs ys e) (λ b i hb below. (fill b i hb below).exact-on xs ys e)
+      (λ b i hb below. (fill b i hb below).complete_on xs ys e) (λ b i hb below. (fill b i hb below).exact_on xs ys e)
 
 pub total_correctness : TotalCorrectness
 total_correctness =

@@ -23,7 +23,7 @@ one_wide b c hb hc =
 right : Correct two last
 right =
     let e = example_holds in
-    (total_correctness.in-rounds two e.proper (omega arith) e.slots 1 one_wide (omega arith) start e.starts 1 last e.rounds (omega arith)).0
+    (total_correctness.in_rounds two e.proper (omega arith) e.slots 1 one_wide (omega arith) start e.starts 1 last e.rounds (omega arith)).0
 
 delay_0 : (entry_of two last 0 1).delay.0 ≡ pos 100
 unfolding opened after step start between last

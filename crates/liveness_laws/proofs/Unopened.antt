@@ -69,9 +69,9 @@ without_walks =
     record {
       start =
           λ r proper w start b hb.
-          subst (λ (y : HostAfter). is_open y.walk ≡ false) (sym (start.was-initialized b hb))
+          subst (λ (y : HostAfter). is_open y.walk ≡ false) (sym (start.was_initialized b hb))
           (performs (ask Initialize) (state_at r b (r.nets b) (r.clock b) (r.links b) (r.walk b) (r.copy b) (r.entries b)) (λ (o : Outcome). o.reply.answer ≡ Done → is_open o.walk ≡ false)
-          (λ no is. absurd (false≢true (sym no ∙ ap done is))) (λ _ _. refl) (proper.was-initialized b hb));
+          (λ no is. absurd (false≢true (sym no ∙ ap done is))) (λ _ _. refl) (proper.was_initialized b hb));
       box_1 = never;
       over = still;
     }

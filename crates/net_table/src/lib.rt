@@ -1,4 +1,5 @@
 // The net table of a class, which all its hosts use and only the tutor changes.
+#![tactic(auto)]
 ghost use Rattle.std.specs.Prelude.{◌≡◌, []};
 ghost use Rattle.net_table.specs.Answer.{number};
 ghost use Rattle.net_table.specs.Table.{nhosts_bad, table_bad, table_of};
@@ -12,13 +13,13 @@ mod rows;
 
 // The class's NHOSTS, and its net table.
 #[repr(C)]
-#[derive(Drop)]
+#[derive(Clone, Copy)]
 pub struct NetTable {
     pub nhosts: usize,
     pub net: NetRows,
 }
 
-#[derive(Drop)]
+#[derive(Clone, Copy)]
 pub enum Answer {
     Done,
     Setting,
@@ -28,20 +29,20 @@ pub enum Answer {
 }
 
 // The result of a tutor's call: the table afterwards, and the answer.
-#[derive(Drop)]
+#[derive(Clone, Copy)]
 pub struct Outcome {
     pub table: NetTable,
     pub answer: Answer,
 }
 
 // What adding a row answers: the answer, and the row's number, 0 if it refuses.
-#[derive(Drop)]
+#[derive(Clone, Copy)]
 pub struct Added {
     pub answer: Answer,
     pub row: usize,
 }
 
-#[derive(Drop)]
+#[derive(Clone, Copy)]
 pub struct Addition {
     pub table: NetTable,
     pub added: Added,

@@ -107,7 +107,7 @@ module _ (i : ℕ) (k : Counter) (buffer : List ℕ) (x : CallState) (typed : Ty
           time = time_fits (our_reading k x.host).time (reading_in s.clock_tick s.hold_interval k x.host.clock);
           tsp = tsp_fits l (our_reading k x.host).time;
         };
-        address_offset_fits = typed.address-offset;
+        address_offset_fits = typed.address_offset;
         nhosts_fits = either (λ (n : ℕ). n < 256) (table_goes s l) (host_count s) 0 (λ _. omega arith) (λ _. omega arith);
         count = sym (reports_count x there i);
         reports_fit =
@@ -122,7 +122,7 @@ module _ (i : ℕ) (k : Counter) (buffer : List ℕ) (x : CallState) (typed : Ty
       (λ (n : ℕ). not (eqb n 0) && (not (eqb n s.layout.nhosts) || not (eqb s.layout.address_offset s.layout.address_offset)) ≡ false)
       (table_goes s l) (host_count s) 0
       (λ _.
-      let all : host_count s ≡ s.layout.nhosts = omega (arith, (sound s ok.settings).hosts-to) in
+      let all : host_count s ≡ s.layout.nhosts = omega (arith, (sound s ok.settings).hosts_to) in
       rw (eq-eqb (host_count s) s.layout.nhosts all, eq-eqb s.layout.address_offset _ refl) (never (not (eqb (host_count s) 0))))
       (λ _. refl))
     where

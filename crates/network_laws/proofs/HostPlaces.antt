@@ -50,7 +50,7 @@ elsewhere s j k apart before after f =
   where
     go : (i : ℕ) → i < places_per_host → (b : Bool) → ltb (first_place k + i) (first_place j) ≡ b
         → get_or after (first_place k + i) fresh_entry ≡ get_or before (first_place k + i) fresh_entry
-    go i l true e = f.before-places (first_place k + i) fresh_entry (ltb-true _ _ e)
+    go i l true e = f.before_places (first_place k + i) fresh_entry (ltb-true _ _ e)
     go i l false e =
         let low = ltb-false (first_place k + i) (first_place j) e in
         f.behind (first_place k + i) fresh_entry (omega arith)
@@ -77,15 +77,15 @@ module _ (c d : Call) (x y : CallState) (inputs : SameInput c d) (alike : Alike 
       let f = kept_places d y in
       record {
         same_length = f.same_length;
-        before_places = λ i e h. f.before-places i e (rw (← alike.number_same) h);
-        behind = λ i e h. f.behind i e (rw (← alike.number_same, ← alike.settings-same) h);
+        before_places = λ i e h. f.before_places i e (rw (← alike.number_same) h);
+        behind = λ i e h. f.behind i e (rw (← alike.number_same, ← alike.settings_same) h);
       }
 
   entries_after : own_entries s k now ≡ own_entries s k now'
   unfolding Locality
   entries_after =
-      (locality_holds c d x y inputs alike).after-alike.entries-same
-      ∙ sym (λ j. own_entries (alike.settings-same j) (alike.number_same j) now')
+      (locality_holds c d x y inputs alike).after_alike.entries_same
+      ∙ sym (λ j. own_entries (alike.settings_same j) (alike.number_same j) now')
 
   entry_at : (i : ℕ) (r : List Entry) → i < host_count s → get_or (own_entries s k r) i fresh_entry ≡ get_or r (first_place k + i) fresh_entry
   unfolding own_entries
@@ -106,4 +106,4 @@ module _ (c d : Call) (x y : CallState) (inputs : SameInput c d) (alike : Alike 
 
   pub places_kept_same : places k now ≡ places k now'
   places_kept_same =
-      places_same k now now' (kept.same_length ∙ alike.length-same ∙ sym kept'.same_length) (λ i h. each i h (ltb i (host_count s)) refl)
+      places_same k now now' (kept.same_length ∙ alike.length_same ∙ sym kept'.same_length) (λ i h. each i h (ltb i (host_count s)) refl)

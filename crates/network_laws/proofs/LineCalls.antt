@@ -103,7 +103,7 @@ module _ (x : CallState) (t : LineTime x.host.clock) where
   h = x.host
 
   reading_same : our_reading no_counter h ≡ line_reading h.clock
-  reading_same = line_clock_holds.reads h.settings.clock_tick h.settings.hold_interval h.clock t.from-0 t.to-day
+  reading_same = line_clock_holds.reads h.settings.clock_tick h.settings.hold_interval h.clock t.from_0 t.to_day
 
   -- ---- a step
 
@@ -268,7 +268,7 @@ module _ (x : CallState) (t : LineTime x.host.clock) where
   asked (Adjust n) e is ok = midnight_line s n _ is
   asked (Set ms n) e is ok = midnight_line s n _ is
   asked (Read k) e is ok = read_line k (ap count_used is)
-  asked Second e is ok = record { from_0 = t.from-0; to_day = t.to-day }
+  asked Second e is ok = record { from_0 = t.from_0; to_day = t.to_day }
   asked (SelfReport k) e is ok = read_line k (ap count_used is)
   asked (Lookup a) e is ok = t
   asked (Step k) e is ok = stepped k e is.0 is.1 (walk_state x ((passed Walking x ok).call_state refl))

@@ -96,7 +96,7 @@ module _ (x : CallState) (marks : marks_as_set x ≡ true) where
 
     asked : (q : Request) → done (guard_of (ask q) x) ≡ true → Stays (work (ask q) x)
     unfolding tick adjust set_by read second self_report lookup
-    asked Initialize e = (begun x e).marks-in
+    asked Initialize e = (begun x e).marks_in
     asked (Tick n) e = none
     asked (Adjust n) e = none
     asked (Set ms n) e = none

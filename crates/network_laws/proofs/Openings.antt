@@ -43,7 +43,7 @@ packet_short s p octets good r = go (eqb p.nhosts 0) refl
   where
     go : (b : Bool) → eqb p.nhosts 0 ≡ b → length octets ≤ longest
     go true e = omega (arith, r.whole, eqb-true p.nhosts 0 e)
-    go false e = omega (arith, r.whole, r.ours e, (sound s good).hosts-to)
+    go false e = omega (arith, r.whole, r.ours e, (sound s good).hosts_to)
 
 -- ---- the copy
 

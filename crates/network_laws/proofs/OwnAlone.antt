@@ -150,10 +150,10 @@ module _ (x : CallState) (k : Counter) (own : MarksOwn x.host.settings) (set : m
 
   work_same : (f : Found) → own_id s ≡ f → changes (each s (Reported t)) es ≡ changes (own_work t f x) es
   unfolding changes
-  work_same Nothing is = absurd (false≢true (ap is_found (sym is) ∙ (sound s (passed All x passes).settings).own-id))
+  work_same Nothing is = absurd (false≢true (ap is_found (sym is) ∙ (sound s (passed All x passes).settings).own_id_lem))
   work_same (Id i) is =
       let below = local_id_below s.layout s.address i is in
-      let most = (sound s (passed All x passes).settings).hosts-to in
+      let most = (sound s (passed All x passes).settings).hosts_to in
       let inside : i < length es = omega (arith, size, below, most) in
       let n : i + 1 - i ≡ 1 = omega arith in
       changes_each (host_count s) (Reported t) s.marks es (omega (arith, size))
@@ -258,7 +258,7 @@ own_alone_holds =
     record {
       calls = λ c x own set. calls_same x own c set;
       blind = calls_bare;
-      begins = λ x e. (initialized_in x e).marks-in;
+      begins = λ x e. (initialized_in x e).marks_in;
       stays = λ c x marks. marks_stay x marks c;
       only = only_marked;
     }

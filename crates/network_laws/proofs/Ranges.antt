@@ -80,21 +80,21 @@ raised_low d =
 module _ (s : Settings) (time : Millis) (i : ℕ) (f : Flight) (has : Counted s i) (in_day : up_to day_millis time ≡ true) (flown : Flown time f) where
   pub neighbor_sane : Sane (neighbor_update i f)
   neighbor_sane =
-      record { delay_low = (raised_low f.delay).0; pid_high = has.to-eight; reading_in = rw flown.reading-is in_day }
+      record { delay_low = (raised_low f.delay).0; pid_high = has.to_eight; reading_in = rw flown.reading_is in_day }
 
   pub report_sane : (hello : List ℕ) (id : ℕ) → Sane (report_update i f (report_at hello id))
   unfolding report_at
   report_sane hello id =
       record {
         delay_low = omega (arith, raised_low f.delay, sum (at_least_min f.delay).0 (report_at hello id).delay.0);
-        pid_high = has.to-eight;
-        reading_in = rw flown.reading-is in_day;
+        pid_high = has.to_eight;
+        reading_in = rw flown.reading_is in_day;
       }
 
 -- the updates of an arrival
 module _ (w : Updates) (packet : List ℕ) (id : ℕ) (c : Clock) (e : Entry) where
   pub entry_in : Sane (update_at w (id - w.base) packet) → entry_in_range e ≡ true → entry_in_range (updated_at w packet id c e).entry ≡ true
-  entry_in good h = update_in_range _ good.delay-low good.pid-high good.reading-in _ w.hold_interval w.count w.date c e h
+  entry_in good h = update_in_range _ good.delay_low good.pid_high good.reading_in _ w.hold_interval w.count w.date c e h
 
   pub clock_in : w.hold_interval.0 ≤ 255 → w.count.0 < 2 ^ 16 → clock_in_range c ≡ true → clock_in_range (updated_at w packet id c e).clock ≡ true
   clock_in small few = clock_in_range_lem _ w.hold_interval small w.count few w.date _ c e

@@ -165,7 +165,7 @@ module _ (p : Packet) (octets : List ℕ) where
   guard_is : (y : CallState) → Going p octets y → (t : NetTable) → guard Walking (under t y) ≡ by_table (s y) t
   unfolding guard state_in_range
   guard_is y g t =
-      rw (g.range.places-there, g.range.clock-in, g.range.links-in, g.range.walk-in, g.range.entries-in, g.range.marks-in, g.good) (go (table_bad t))
+      rw (g.range.places_there, g.range.clock_in, g.range.links_in_lem, g.range.walk_in, g.range.entries_in, g.range.marks_in, g.good) (go (table_bad t))
     where
       go : (b : Bool) → cond (b || false) OutOfRange (cond (not (eqb (s y).layout.nhosts t.nhosts)) Setting Done) ≡ cond b OutOfRange (cond (not (eqb (s y).layout.nhosts t.nhosts)) Setting Done)
       go true = refl
@@ -232,18 +232,18 @@ module _ (p : Packet) (octets : List ℕ) where
 
   goes : (y : CallState) → Going p octets y → (b : Box) → suits y b ≡ true → Goes (s y) p octets b.counter y.walk (box y b).walk
   goes y g b ok =
-      box_goes (s y) p octets b.counter y.host.clock y.host.links y.walk b.nets _ (place_of y.walk) g.holds (sound (s y) g.good).hosts-from
+      box_goes (s y) p octets b.counter y.host.clock y.host.links y.walk b.nets _ (place_of y.walk) g.holds (sound (s y) g.good).hosts_from
       (λ a id e. lt-ltb id _ (below (s y) b.nets g.good ok a id e))
 
   kept : (y : CallState) → Going p octets y → (b : Box) → suits y b ≡ true → (count_used b.counter).0 < 2 ^ 16 → is_open (box y b).walk ≡ true → Going p octets (behind y b)
   kept y g b ok few o =
       let now = goes y g b ok in
-      let there : InRange (under b.nets y) = record { table_in = (fair (s y) b.nets ok).0; places_there = g.range.places-there; clock_in = g.range.clock-in; links_in_lem = g.range.links-in; walk_in = g.range.walk-in; entries_in = g.range.entries-in; marks_in = g.range.marks-in } in
+      let there : InRange (under b.nets y) = record { table_in = (fair (s y) b.nets ok).0; places_there = g.range.places_there; clock_in = g.range.clock_in; links_in_lem = g.range.links_in_lem; walk_in = g.range.walk_in; entries_in = g.range.entries_in; marks_in = g.range.marks_in } in
       let r = subst (λ (z : Outcome). InRange (closed (left (under b.nets y) z))) (one_box y g b ok) (go_on (under b.nets y) there b.counter few g.count) in
       let same_link = now.link o in
       let same_length = now.length o in
       record {
-        range = record { table_in = g.range.table-in; places_there = r.places-there; clock_in = r.clock-in; links_in_lem = r.links-in; walk_in = walk_in_range_lem (s y) (box y b).walk y.copy o (rw same_link g.link) (rw same_length g.long) (rw same_length g.packet) (rw same_link g.parsed) (now.still o); entries_in = r.entries-in; marks_in = r.marks-in };
+        range = record { table_in = g.range.table_in; places_there = r.places_there; clock_in = r.clock_in; links_in_lem = r.links_in_lem; walk_in = walk_in_range_lem (s y) (box y b).walk y.copy o (rw same_link g.link) (rw same_length g.long) (rw same_length g.packet) (rw same_link g.parsed) (now.still o); entries_in = r.entries_in; marks_in = r.marks_in };
         good = g.good;
         opened = o;
         count = now.few o g.count few;
@@ -268,7 +268,7 @@ module _ (p : Packet) (octets : List ℕ) where
       → Matches y (walk_on bs y) (walk_from (s y) p octets (length (taken (s y) bs)) (numbered (taken (s y) bs)) (node_of y))
   unfolding walk_on walk_from
   runs [] few y g =
-      let h = holds y.number y.entries g.range.places-there in
+      let h = holds y.number y.entries g.range.places_there in
       record {
         reply = refl;
         clock = refl;
@@ -283,7 +283,7 @@ module _ (p : Packet) (octets : List ℕ) where
       counts = both (ltb (count_used b.counter).0 (2 ^ 16)) (counts_fit bs) few
 
       there : Holds₁ y.number y.entries
-      there = holds y.number y.entries g.range.places-there
+      there = holds y.number y.entries g.range.places_there
 
       size : length (after y b) ≡ host_count (s y)
       size = changes_length (box y b).work (entries_of y) ∙ entries_length (s y) y.number y.entries there
@@ -480,8 +480,8 @@ module _ (i : ℕ) (packet : List ℕ) (x : CallState) where
           let c = counted (s x) i (b.passing.opening i refl).0 in
           let there = holds x.number x.entries b.passing.places in
           to_the_end (s x) i b.p packet (length packet) x.host.clock x.host.links (omega (arith, slots, c.at_place)) k t (entries_of x) n ks first fifth
-          (omega (arith, room)) (entries_length (s x) x.number x.entries there) (omega (arith, good.hosts-from))
-          (λ a id e. omega (arith, below (s x) t b.passing.settings ok a id e, good.hosts-to))
+          (omega (arith, room)) (entries_length (s x) x.number x.entries there) (omega (arith, good.hosts_from))
+          (λ a id e. omega (arith, below (s x) t b.passing.settings ok a id e, good.hosts_to))
 
       -- the action does not answer 16
       never : acts.reply ≡ plainly InWalk → ⊥

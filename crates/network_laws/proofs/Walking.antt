@@ -212,7 +212,7 @@ module _ (k : Counter) (t : NetTable) (h : Host) (w : Walk) (copy : List ℕ) (e
     after_c_lem : at_hand w ≡ Id w.id → storable u ≡ true → reading_in_range w ≡ true → P (box_c p octets h w e)
     unfolding box_c line_c
     after_c_lem here good read =
-        let d : Works w e (put w (stored u e)) = puts (stored u e) (stores u good read same_pid (counted h.settings w.link has).to-eight same_reading) here in
+        let d : Works w e (put w (stored u e)) = puts (stored u e) (stores u good read same_pid (counted h.settings w.link has).to_eight same_reading) here in
         either P (is_clock_host h w) _ _ (λ _. on_with (at_line 4 w.id w) (λ z. z) _ d) (λ _. next h.clock as_was _ d)
 
     after_d : P (box_d p octets h w)

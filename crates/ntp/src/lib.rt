@@ -1,4 +1,5 @@
 // The successor: the NTP header of RFC 5905, read and written, and what an association makes of a packet.
+#![tactic(auto)]
 ghost use Rattle.std.specs.Prelude.{◌≡◌};
 ghost use Rattle.ntp.specs.Answer.{number};
 ghost use Rattle.ntp.specs.HalfDelay.{NtpHalfDelay};
@@ -13,27 +14,27 @@ pub mod wire;
 
 // A time of 64 bits: seconds in the high half, a fraction of a second in the low one.
 #[repr(C)]
-#[derive(Drop)]
+#[derive(Clone, Copy)]
 pub struct Timestamp(pub u64);
 
 // A signed difference of two times.
 #[repr(C)]
-#[derive(Drop)]
+#[derive(Clone, Copy)]
 pub struct Interval(pub i64);
 
 // A power of two, in seconds.
 #[repr(C)]
-#[derive(Drop)]
+#[derive(Clone, Copy)]
 pub struct Exponent(pub i8);
 
 // What is done with a packet, by the RFC's number.
 #[repr(C)]
-#[derive(Drop)]
+#[derive(Clone, Copy)]
 pub struct Action(pub i8);
 
 // The fields of a header.
 #[repr(C)]
-#[derive(Drop)]
+#[derive(Clone, Copy)]
 pub struct Header {
     pub leap: u8,
     pub version: u8,
@@ -50,7 +51,7 @@ pub struct Header {
     pub transmit: Timestamp,
 }
 
-#[derive(Drop)]
+#[derive(Clone, Copy)]
 pub enum Answer {
     Done,
     NtpLength,
@@ -60,14 +61,14 @@ pub enum Answer {
 }
 
 // What reading a header yields: its fields, or the answer that refuses it.
-#[derive(Drop)]
+#[derive(Clone, Copy)]
 pub enum Read {
     Good(Header),
     Bad(Answer),
 }
 
 // What writing a header yields: the answer, and the octets, all zero if it refuses.
-#[derive(Drop)]
+#[derive(Clone, Copy)]
 pub struct Written {
     pub answer: Answer,
     pub octets: [u8; 48],
@@ -75,7 +76,7 @@ pub struct Written {
 
 // One row of the dispatch table, the time that we last sent, and the transmit time that was last taken in.
 #[repr(C)]
-#[derive(Drop)]
+#[derive(Clone, Copy)]
 pub struct Association {
     pub number: u8,
     pub transmit: Timestamp,
@@ -83,7 +84,7 @@ pub struct Association {
 }
 
 // What receiving a packet yields, and the association afterwards.
-#[derive(Drop)]
+#[derive(Clone, Copy)]
 pub struct Outcome {
     pub answer: Answer,
     pub action: Action,

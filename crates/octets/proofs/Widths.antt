@@ -44,7 +44,7 @@ read_back (suc n) number before after h =
     let quotient : number_at (before ++ front ++ last ∷ after) (length before) n ≡ number / 256 =
     read_back n (number / 256) before (last ∷ after) (quotient_fits n number h) in
     let remainder : octet_at (before ++ front ++ last ∷ after) (length before + n) ≡ last = get_or_at (before ++ front) last after 0 (length before + n) there in
-    rw (all, one_more (before ++ front ++ last ∷ after) (length before) n, quotient, remainder) (omega arith)
+    ap (λ (l : List ℕ). number_at l (length before) (suc n)) all ∙ one_more (before ++ front ++ last ∷ after) (length before) n ∙ rw (quotient, remainder) (omega arith)
 
 pub back : (n number : ℕ) → number < 256 ^ n → number_at (number_octets n number) 0 n ≡ number
 unfolding ReadBack

@@ -1,4 +1,5 @@
 // A host that its holder keeps by value: its requests, walks and arrivals. And what the host of the packet program answers.
+#![tactic(auto)]
 ghost use Rattle.std.specs.Prelude.{◌≡◌};
 ghost use Rattle.host.specs.CallState.{call_state};
 ghost use Rattle.calls.specs.Perform.{perform, ask, deliver, open_walk, in_turn};
@@ -25,7 +26,7 @@ use table::marks::Marks;
 use wire::Address;
 
 // A call's reply, and the host's full state after the call.
-#[derive(Drop)]
+#[derive(Clone, Copy)]
 pub struct HostReply {
     pub reply: host::Reply,
     pub clock: Clock,

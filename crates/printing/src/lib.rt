@@ -1,4 +1,5 @@
 // What programs print on standard output.
+#![tactic(auto)]
 pub fn text(s: &[u8]) {
     io::write_all(1, s);
 }

@@ -147,6 +147,7 @@ not_lt a b h = go (lt_z a b) refl
 
 true_of : {b : Bool} → T b → b ≡ true
 true_of {b = true} t = refl
+true_of {b = false} t = elim t [ ]
 
 pub of-≤ℤ : {a b : ℤ} → a ≤ℤ b → Le a b
 of-≤ℤ {a} {b} h = le_yes a b (true_of h.le)

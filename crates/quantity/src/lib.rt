@@ -1,5 +1,6 @@
 // The sorts of quantity that a host counts in. They are never added to each other unconverted.
 // All signed arithmetic of the library is here.
+#![tactic(auto)]
 ghost use Rattle.std.specs.Prelude.{◌≡◌, ◌^◌, pos, nat_abs, ◌+ℤ◌, ◌-ℤ◌, ◌*ℤ◌, ◌≤ℤ◌, ◌<ℤ◌};
 ghost use Rattle.std.specs.Int.{w64};
 ghost use Rattle.std.proofs.Common.{SFits};
@@ -24,27 +25,27 @@ ghost use Rattle.quantity.specs.Words.{to_word, of_word, zero_word, bits16, sign
 
 // Clock units: 65,536 of them are a millisecond.
 #[repr(C)]
-#[derive(Drop)]
+#[derive(Clone, Copy)]
 pub struct Units(pub i64);
 
 // Milliseconds.
 #[repr(C)]
-#[derive(Drop)]
+#[derive(Clone, Copy)]
 pub struct Millis(pub i64);
 
 // A count of milliseconds of 16 bits: what the 1000 Hz counter of a crystal clock shows.
 #[repr(C)]
-#[derive(Drop)]
+#[derive(Clone, Copy)]
 pub struct Count(pub u16);
 
 // Seconds.
 #[repr(C)]
-#[derive(Drop)]
+#[derive(Clone, Copy)]
 pub struct Seconds(pub u16);
 
 // A signed 16-bit word of milliseconds, as links, entries and packets hold it: TSP and OFFSET.
 #[repr(C)]
-#[derive(Drop)]
+#[derive(Clone, Copy)]
 pub struct Word(pub i16);
 
 impl Units {

@@ -62,8 +62,8 @@ pub record Outcome (ps : List Part) : Type 2 where
 abbrev pub whole : {ps : List Part} → Outcome ps → Data
 whole {ps = ps} P = record {
   S = struct P.form;
-  L = all_laws ps P.form.behind P.behind-laws;
-  P = all_plain ps P.form.behind P.behind-plain;
+  L = all_laws ps P.form.behind P.behind_laws;
+  P = all_plain ps P.form.behind P.behind_plain;
   low = P.low;
   copies = P.copies;
 }

@@ -1,4 +1,5 @@
 // Finding the host id of an address.
+#![tactic(auto)]
 ghost use Rattle.std.specs.Prelude.{◌≡◌, length};
 ghost use Rattle.route.specs.Find.{
   class_a,
@@ -20,7 +21,7 @@ use wire::Address;
 
 // A layout of host ids: ADDRESS-OFFSET and NHOSTS.
 #[repr(C)]
-#[derive(Drop)]
+#[derive(Clone, Copy)]
 pub struct Layout {
     pub address_offset: u8,
     pub nhosts: usize,
@@ -28,7 +29,7 @@ pub struct Layout {
 
 // The three octets of a net.
 #[repr(C)]
-#[derive(Drop)]
+#[derive(Clone, Copy)]
 pub struct Net {
     pub first: u8,
     pub second: u8,
@@ -37,7 +38,7 @@ pub struct Net {
 
 // A row of the net table: a net, and the id of the host that leads there.
 #[repr(C)]
-#[derive(Drop)]
+#[derive(Clone, Copy)]
 pub struct Row {
     pub net: Net,
     pub host: u8,
@@ -45,14 +46,14 @@ pub struct Row {
 
 // The net table: its first `count` rows.
 #[repr(C)]
-#[derive(Drop)]
+#[derive(Clone, Copy)]
 pub struct NetRows {
     pub count: usize,
     pub rows: [Row; 32],
 }
 
 // The id that is found, or none.
-#[derive(Drop)]
+#[derive(Clone, Copy)]
 pub enum Found {
     Id(usize),
     Nothing,

@@ -1,4 +1,5 @@
 // A send by value: its result, and how the message is completed.
+#![tactic(auto)]
 ghost use Rattle.std.specs.Prelude.{◌≡◌, true, ◌≤◌};
 ghost use Rattle.clock.specs.Midnight.{day_millis};
 ghost use Rattle.table.specs.Entry.{up_to};
@@ -21,7 +22,7 @@ use table::entries::Reports;
 use wire::{Address, Packet};
 
 // The result of a send: the reply, the clock and the links afterwards, the ids that are reported; and, if a message goes, where it goes and what it says.
-#[derive(Drop)]
+#[derive(Clone, Copy)]
 pub struct Sending {
     pub reply: Reply,
     pub clock: Clock,

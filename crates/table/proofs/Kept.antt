@@ -90,9 +90,9 @@ date_in_range date c i =
     (λ t.
     clock.in_range _
     record {
-      clock_low = k.clock-low;
-      clock_high = k.clock-high;
-      rest = record { delta_low = r.delta-low; delta_high = r.delta-high; hold_high = r.hold-high; dated = (both (real date) (not (awaited date)) t).0 };
+      clock_low = k.clock_low;
+      clock_high = k.clock_high;
+      rest = record { delta_low = r.delta_low; delta_high = r.delta_high; hold_high = r.hold_high; dated = (both (real date) (not (awaited date)) t).0 };
     })
     (λ t. i)
 

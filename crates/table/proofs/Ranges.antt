@@ -79,7 +79,7 @@ module _ (u : Update) (r : Report) (own : own_in_range u ≡ true) (reported : T
   within_sum : Within 32768 98302 (u.delay.0 +ℤ r.delay.0)
   within_sum =
       let w = between_says 32767 32767 u.delay.0 own in
-      let low = of-≤ℤ reported.not-below in
+      let low = of-≤ℤ reported.not_below in
       let high = of-<ℤ reported.below in
       let s = sum u.delay.0 r.delay.0 in
       omega arith
@@ -93,6 +93,6 @@ module _ (u : Update) (r : Report) (own : own_in_range u ≡ true) (reported : T
 -- our reading of a clock
 pub reading_in : (t : Units) (h : Seconds) (k : Counter) (c : Clock) → up_to day_millis (reading t h k c).time ≡ true
 reading_in t h k c =
-    let low = of-≤ℤ (crystal_holds.from-0 t h k c) in
-    let high = of-≤ℤ (crystal_holds.to-day t h k c) in
+    let low = of-≤ℤ (crystal_holds.from_0 t h k c) in
+    let high = of-≤ℤ (crystal_holds.to_day t h k c) in
     up_to_lem 86400000 (reading t h k c).time.0 (omega (arith, low, high))

@@ -19,7 +19,7 @@ use quantity::{Count, Millis, Seconds, Word};
 use wire::Report;
 
 // Are the entries within their ranges, and marked as they should be? `first` is the place of id 0, and `good` the answer where there are none.
-#[derive(Drop)]
+#[derive(Clone, Copy)]
 pub struct Scan {
     pub first: usize,
     pub end: usize,
@@ -28,7 +28,7 @@ pub struct Scan {
 }
 
 // The same by words of marks, n of them.
-#[derive(Drop)]
+#[derive(Clone, Copy)]
 pub struct Words {
     pub first: usize,
     pub end: usize,
@@ -37,7 +37,7 @@ pub struct Words {
 }
 
 // The entries of the ids that have their marks in one word; `first` is the place of the lowest.
-#[derive(Drop)]
+#[derive(Clone, Copy)]
 pub struct Stretch {
     pub first: usize,
     pub end: usize,
@@ -46,7 +46,7 @@ pub struct Stretch {
 }
 
 // The entry of a place, or `entry` where there is no place.
-#[derive(Drop)]
+#[derive(Clone, Copy)]
 pub struct Seek {
     pub first: usize,
     pub end: usize,
@@ -54,7 +54,7 @@ pub struct Seek {
 }
 
 // A change of an entry: it is initialized, it ages by a second, its host reports itself at a reading if it lives here, or another entry replaces it.
-#[derive(Drop)]
+#[derive(Clone, Copy)]
 pub enum Change {
     Fresh,
     Aged,
@@ -63,7 +63,7 @@ pub enum Change {
 }
 
 // Entries that are initialized get these marks; `first` is then the place of id 0.
-#[derive(Drop)]
+#[derive(Clone, Copy)]
 pub struct Changes {
     pub first: usize,
     pub end: usize,
@@ -72,7 +72,7 @@ pub struct Changes {
 }
 
 // An arrival's updates, from the clock on: `base` is the place of id 0, `count` that of the reading, and `update` what the neighbor itself is updated with, to which a packet's table adds its reports.
-#[derive(Drop)]
+#[derive(Clone, Copy)]
 pub struct Updates {
     pub first: usize,
     pub end: usize,
@@ -87,7 +87,7 @@ pub struct Updates {
 }
 
 // What a send on the link of that PID advertises; `first` is the place of id 0.
-#[derive(Drop)]
+#[derive(Clone, Copy)]
 pub struct Reports {
     pub first: usize,
     pub end: usize,

@@ -7,7 +7,7 @@ ghost use Rattle.table.specs.code.Fours.{wide_good, small_good, fields_of, field
 use super::Entry;
 
 // The entries of one word: `end` counts the fours, and `at` is the place of the lowest id.
-#[derive(Drop)]
+#[derive(Clone, Copy)]
 pub struct Fours {
     pub first: usize,
     pub end: usize,

@@ -1,4 +1,5 @@
 // The host table.
+#![tactic(auto)]
 ghost use Rattle.std.specs.Prelude.{◌≡◌, true};
 ghost use Rattle.clock.specs.Clock.{clock_in_range};
 ghost use Rattle.table.specs.Entry.{fresh_entry, up, with_mark, with_ttl, taken_down, aged, advertised, up_to, entry_in_range, lives_here};
@@ -24,7 +25,7 @@ pub const HOLD_DOWN: Seconds = Seconds(120);
 
 // TABLE-1: an entry of the host table. The mark `here` is 1 if its host lives here, else 0; `time` is that of its last update.
 #[repr(C)]
-#[derive(Drop)]
+#[derive(Clone, Copy)]
 pub struct Entry {
     pub delay: Millis,
     pub offset: Word,
@@ -35,7 +36,7 @@ pub struct Entry {
 }
 
 // What an entry is updated with: PID, DELAY, OFFSET, and our reading.
-#[derive(Drop)]
+#[derive(Clone, Copy)]
 pub struct Update {
     pub pid: u8,
     pub delay: Millis,
@@ -44,14 +45,14 @@ pub struct Update {
 }
 
 // The result of an update: the clock, which line (d) may set, and the entry.
-#[derive(Drop)]
+#[derive(Clone, Copy)]
 pub struct Updated {
     pub clock: Clock,
     pub entry: Entry,
 }
 
 // How a line of an update comes out: on to the next line, or the end, with the entry as it is then.
-#[derive(Drop)]
+#[derive(Clone, Copy)]
 pub enum Line {
     On(Entry),
     End(Entry),

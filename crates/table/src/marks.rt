@@ -5,7 +5,7 @@ ghost use Rattle.table.specs.code.Words.{word_of, zero_from};
 
 // The marks of the ids from 0 to 255: that of an id is bit id % 64 of word id / 64, the lowest bit first.
 #[repr(C)]
-#[derive(Drop)]
+#[derive(Clone, Copy)]
 pub struct Marks {
     pub words: [u64; 4],
 }

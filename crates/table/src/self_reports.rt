@@ -8,7 +8,7 @@ use super::Entry;
 use super::entries::{Changes, put_all};
 
 // The change of full fours: `end` counts them.
-#[derive(Drop)]
+#[derive(Clone, Copy)]
 pub struct Blocks {
     pub first: usize,
     pub end: usize,

@@ -99,7 +99,7 @@ pub fn lookups() {
 }
 
 // What a message on link 1 carries as TSP, and KEEP-ALIVE after it.
-#[derive(Drop)]
+#[derive(Clone, Copy)]
 struct Sent {
     tsp: Word,
     keep_alive: u8,

@@ -98,7 +98,7 @@ times_there s d t p f e g h k =
 times_pass : (s : List ℕ) (t : Times) (ts : List Test) → TimesGood s t
     → pass (is_numeral ∷ is_numeral ∷ is_numeral ∷ ts) (words s) ≡ pass ts (words (drop t.next s))
 unfolding pass
-times_pass s t ts g = rw (g.split, g.date-numeral, g.time-numeral, g.tsp-numeral)
+times_pass s t ts g = rw (g.split, g.date_numeral, g.time_numeral, g.tsp_numeral)
 
 -- ---- the numbers of the first line
 
@@ -128,7 +128,7 @@ numbers_there s t b n f e g h k =
           ∙ sym (times_pass s t (is_numeral ∷ is_numeral ∷ []) tf);
       good = λ q. let u : is_numeral rest ≡ true = sym k.form ∙ q in
           let w : words rest ≡ rest ∷ [] = cut_free space rest (numeral_free space rest (omega arith) u) in
-          rw (tf.split, bf.split, dd, w) (record { date = tf.date-number; time = tf.time-number; tsp = tf.tsp-number; base = bf.number; count = k.number u });
+          rw (tf.split, bf.split, dd, w) (record { date = tf.date_number; time = tf.time_number; tsp = tf.tsp_number; base = bf.number; count = k.number u });
     }
 
 -- ---- the first line

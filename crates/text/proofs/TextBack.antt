@@ -234,8 +234,8 @@ line_back line e f =
     let j : p.delay ++ space ∷ p.offset ≡ line = ap (joins space) (sym p.are) ∙ joins_cut space line in
     let g : row_fits (record { delay = value p.delay; offset = signed_value p.offset }) ≡ true = rw p.are at f in
     let q = both (fits_two (value p.delay)) (fits_signed (signed_value p.offset)) g in
-    let d = numeral_back p.delay p.delay-good (omega (arith, leb-true (value p.delay) 65535 q.0)) in
-    let o = signed_back p.offset p.offset-good q.1 in
+    let d = numeral_back p.delay p.delay_good (omega (arith, leb-true (value p.delay) 65535 q.0)) in
+    let o = signed_back p.offset p.offset_good q.1 in
     rw (p.are, d, o, j)
 
 lines_back : (ls : List (List ℕ)) → rows_form ls ≡ true → rows_fit (rows_in ls) ≡ true → row_lines (rows_in ls) ≡ joins newline ls
@@ -344,11 +344,11 @@ module _ {ws : List (List ℕ)} (w : FirstWords ws) (rows : List Row) where
   first_back : AllFit written
       → first_line written ≡ (hello ++ space ∷ (w.d ++ space ∷ (w.t ++ space ∷ (w.p ++ space ∷ (w.b ++ space ∷ w.c))))) ++ newline ∷ []
   first_back a =
-      let d = numeral_back w.d w.d-good (omega (arith, a.date)) in
-      let t = numeral_back w.t w.t-good (omega (arith, a.time)) in
-      let p = numeral_back w.p w.p-good (omega (arith, a.tsp)) in
-      let b = numeral_back w.b w.b-good (omega (arith, a.base)) in
-      let c = numeral_back w.c w.c-good (omega (arith, a.count)) in
+      let d = numeral_back w.d w.d_good (omega (arith, a.date)) in
+      let t = numeral_back w.t w.t_good (omega (arith, a.time)) in
+      let p = numeral_back w.p w.p_good (omega (arith, a.tsp)) in
+      let b = numeral_back w.b w.b_good (omega (arith, a.base)) in
+      let c = numeral_back w.c w.c_good (omega (arith, a.count)) in
       ap (λ x. line_of x (numeral (value w.t)) (numeral (value w.p)) (numeral (value w.b)) (numeral (value w.c))) d
       ∙ ap (λ x. line_of w.d x (numeral (value w.p)) (numeral (value w.b)) (numeral (value w.c))) t
       ∙ ap (λ x. line_of w.d w.t x (numeral (value w.b)) (numeral (value w.c))) p

@@ -1,4 +1,5 @@
 // Messages on paper: a HELLO as text, and back.
+#![tactic(auto)]
 ghost use Rattle.std.specs.Prelude.{◌≡◌, length};
 ghost use Rattle.wire.specs.Hello.{hello_form};
 ghost use Rattle.text.specs.Answers.{number, into, to_text, from_text, Leaves};
@@ -11,7 +12,7 @@ mod scan;
 mod write;
 
 // The answers of the writer and the reader.
-#[derive(Drop)]
+#[derive(Clone, Copy)]
 pub enum Answer {
     Done,
     ShortBuffer,
@@ -21,7 +22,7 @@ pub enum Answer {
 }
 
 // What the writer and the reader return: the answer, and the length of what was written, zero at a refusal.
-#[derive(Drop)]
+#[derive(Clone, Copy)]
 pub struct Written {
     pub answer: Answer,
     pub length: usize,

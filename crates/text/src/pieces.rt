@@ -8,7 +8,7 @@ ghost use Rattle.text.specs.code.Turns.{next_word, one_fewer, next_line, spaced,
 use super::Answer;
 
 // The words of the lines. `Line` is the start of a line after the first, or the end of the text.
-#[derive(Drop)]
+#[derive(Clone, Copy)]
 pub enum Word {
     Hello,
     Date,
@@ -22,7 +22,7 @@ pub enum Word {
 }
 
 // What the rest of the present word must be.
-#[derive(Drop)]
+#[derive(Clone, Copy)]
 pub enum Rest {
     Hello,
     Ello,
@@ -39,7 +39,7 @@ pub enum Rest {
 
 // What is known after a piece: the present word, what its rest must be, and a count.
 // The count is N as far as it was read, or a large number. After the first line it is how many newlines must still come.
-#[derive(Drop)]
+#[derive(Clone, Copy)]
 pub struct Progress {
     pub word: Word,
     pub rest: Rest,

@@ -12,7 +12,7 @@ use super::scan::{First, Row, find, read_first, read_row};
 use octets::{put_four, put_octet, put_two};
 
 // The lines after the first: whether all have the form of a row, whether they are at most 255 and all fit, and how many.
-#[derive(Drop)]
+#[derive(Clone, Copy)]
 pub struct Rows {
     pub form: bool,
     pub fit: bool,
@@ -26,7 +26,7 @@ const NO_ROWS: Rows = Rows {
 };
 
 // What reading a text yields: the length of its message, or the answer that refuses it.
-#[derive(Drop)]
+#[derive(Clone, Copy)]
 pub enum Read {
     Good(usize),
     Bad(Answer),

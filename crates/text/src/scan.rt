@@ -6,14 +6,14 @@ ghost use Rattle.text.specs.Text.{hello};
 ghost use Rattle.text.specs.code.Scan.{Found, More, NumberRead, OffsetRead, FieldRead, TimesRead, RowRead, FirstRead, LineRead};
 
 // What a word is, read as a number: whether it is a numeral, and the number, or a large one for any that is as large.
-#[derive(Drop)]
+#[derive(Clone, Copy)]
 pub struct Number {
     pub form: bool,
     pub value: u64,
 }
 
 // A word read as a number with a sign.
-#[derive(Drop)]
+#[derive(Clone, Copy)]
 pub struct Offset {
     pub form: bool,
     pub negative: bool,
@@ -21,7 +21,7 @@ pub struct Offset {
 }
 
 // The first word of a part of a line that has more words, read as a number, and where the next word begins.
-#[derive(Drop)]
+#[derive(Clone, Copy)]
 pub struct Field {
     pub form: bool,
     pub value: u64,
@@ -29,7 +29,7 @@ pub struct Field {
 }
 
 // A line after the first.
-#[derive(Drop)]
+#[derive(Clone, Copy)]
 pub struct Row {
     pub form: bool,
     pub delay: u64,
@@ -38,7 +38,7 @@ pub struct Row {
 }
 
 // The first line.
-#[derive(Drop)]
+#[derive(Clone, Copy)]
 pub struct First {
     pub form: bool,
     pub date: u64,
@@ -49,7 +49,7 @@ pub struct First {
 }
 
 // The three times of the first line, and where the next word begins.
-#[derive(Drop)]
+#[derive(Clone, Copy)]
 pub struct Times {
     pub form: bool,
     pub date: u64,

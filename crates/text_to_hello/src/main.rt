@@ -1,10 +1,11 @@
 // Reads a text from standard input, to its end, and writes its message to standard output.
 // A refusal writes its number and a newline to standard error, and nothing else.
 // An input that fills the buffer is longer than any text that is accepted: it is read in pieces, and only its answer is found.
+#![tactic(auto)]
 use text::pieces::Progress;
 
 // What is known after a piece of the input, and whether it was the last.
-#[derive(Drop)]
+#[derive(Clone, Copy)]
 struct Turn {
     known: Progress,
     last: bool,

@@ -138,6 +138,6 @@ module _ (s : Settings) (w : Walk) (copy : List ℕ) (in_range : walk_in_range s
           let o = opened_says s w copy in_range f in
           let i = ltb-true w.id s.layout.nhosts (held (inspect s w.link (packet_of w copy)) o.held g) in
           let same : w.id ≡ id = found_id (rw (f, g) at e) in
-          omega (arith, i, same, (sound s good).hosts-to)
+          omega (arith, i, same, (sound s good).hosts_to)
       go false b f g = nothing_is_no_id (rw f at e)
       go true true f g = nothing_is_no_id (rw (f, g) at e)

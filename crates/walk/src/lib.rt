@@ -1,4 +1,5 @@
 // A walk: an arrival that is carried out one box at a time, the five steps of section 3.3.3 and lines (a) to (d) of each id.
+#![tactic(auto)]
 ghost use Rattle.std.specs.Prelude.{◌≡◌, ◌≤◌, length};
 ghost use Rattle.host.specs.CallState.{host};
 ghost use Rattle.host.specs.Guard.{longest};
@@ -23,7 +24,7 @@ mod held;
 mod lines;
 
 // The result of opening a walk: the reply, the walk, and how many octets of the packet are copied.
-#[derive(Drop)]
+#[derive(Clone, Copy)]
 pub struct Opening {
     pub reply: Reply,
     pub walk: Walk,

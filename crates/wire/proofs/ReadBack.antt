@@ -96,13 +96,13 @@ module _ (destination : Address) (p : Packet) (rs : List Report) (i : ℕ) (none
 -- ---- all of it
 
 four_range : (z : ℤ) → Four z → (dn z ≤ 0) × (up z < 2 ^ 32)
-four_range z f = omega (arith, of-≤ℤ f.not-below, of-<ℤ f.below)
+four_range z f = omega (arith, of-≤ℤ f.not_below, of-<ℤ f.below)
 
 two_range : (z : ℤ) → Two z → (dn z ≤ 0) × (up z < 2 ^ 16)
-two_range z f = omega (arith, of-≤ℤ f.not-below, of-<ℤ f.below)
+two_range z f = omega (arith, of-≤ℤ f.not_below, of-<ℤ f.below)
 
 signed_range : (z : ℤ) → SignedTwo z → (up z < 2 ^ 15) × (dn z ≤ 2 ^ 15)
-signed_range z f = omega (arith, one z, of-≤ℤ f.not-below, of-<ℤ f.below)
+signed_range z f = omega (arith, one z, of-≤ℤ f.not_below, of-<ℤ f.below)
 
 pub fields_back : (destination : Address) (p : Packet) (rs : List Report) → PacketFits p → fields (message destination p rs) ≡ p
 fields_back destination p rs f =
@@ -157,12 +157,12 @@ module _ (destination : Address) (p : Packet) (rs : List Report) (f : MessageFit
       record {
         form =
             ip_form_lem (message destination p rs) (omega (arith, length_is)) refl
-            (back 2 (packet_length p.nhosts) (omega (arith, f.nhosts-fits)) ∙ sym length_is)
+            (back 2 (packet_length p.nhosts) (omega (arith, f.nhosts_fits)) ∙ sym length_is)
             refl;
         checksum =
             checksum_passes (header_start (packet_length p.nhosts)) (header_back p.source destination) refl
             (front_octets (packet_length p.nhosts))
-            (back_octets p.source destination f.source_fits f.destination-fits);
+            (back_octets p.source destination f.source_fits f.destination_fits);
         kind = refl;
       }
 
@@ -172,11 +172,11 @@ module _ (destination : Address) (p : Packet) (rs : List Report) (f : MessageFit
       let n : length (hello p rs) ≡ hello_length p.nhosts = hello_length_lem p rs ∙ ap hello_length (sym f.count) in
       record {
         form = hello_form_lem (hello p rs) (omega arith) n;
-        checksum = checksum_passes [] (hello_rest p rs) refl tt (after_octets p rs f.address-offset-fits f.nhosts-fits);
+        checksum = checksum_passes [] (hello_rest p rs) refl tt (after_octets p rs f.address_offset_fits f.nhosts_fits);
       }
 
 pub message_is_back : ReadBack
 unfolding ReadBack
 message_is_back destination p rs f =
     passes (message destination p rs) (header_passes destination p rs f) (hello_passes destination p rs f)
-    ∙ ap Good (fields_back destination p rs f.packet-fits)
+    ∙ ap Good (fields_back destination p rs f.packet_fits_lem)

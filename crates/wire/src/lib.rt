@@ -1,4 +1,5 @@
 // Packets: the IP header and the HELLO after it.
+#![tactic(auto)]
 ghost use Rattle.std.specs.Prelude.{◌≡◌, ◌+◌, ◌≤◌, length};
 ghost use Rattle.lists.specs.Lists.{over};
 ghost use Rattle.wire.specs.Octets.{zero_address, same_address};
@@ -15,7 +16,7 @@ mod ip;
 
 // An Internet address: its four octets, the highest first.
 #[repr(C)]
-#[derive(Drop)]
+#[derive(Clone, Copy)]
 pub struct Address {
     pub first: u8,
     pub second: u8,
@@ -24,7 +25,7 @@ pub struct Address {
 }
 
 // What a packet says, except the reports of its table: its source, and the fixed part of its HELLO.
-#[derive(Drop)]
+#[derive(Clone, Copy)]
 pub struct Packet {
     pub source: Address,
     pub date: calendar::Date,
@@ -35,14 +36,14 @@ pub struct Packet {
 }
 
 // What a packet's table says of one host.
-#[derive(Drop)]
+#[derive(Clone, Copy)]
 pub struct Report {
     pub delay: quantity::Millis,
     pub offset: quantity::Word,
 }
 
 // What reading a packet yields: its fields, or the answer that refuses it.
-#[derive(Drop)]
+#[derive(Clone, Copy)]
 pub enum Parsed {
     Good(Packet),
     Bad(answer::Answer),

@@ -123,7 +123,7 @@ module _ (r : Network) (proper : Proper r) (quick : r.longest ≤ quick_way) (c 
   p = fields letter.octets
 
   has : no_link (r.settings b) j ≡ false
-  has = (proper.cables b j a letter.link cable).link-in
+  has = (proper.cables b j a letter.link cable).link_in
 
   from_1 : 1 ≤ j
   from_1 = (counted (r.settings b) j has).from_one
@@ -321,7 +321,7 @@ module _ (r : Network) (proper : Proper r) (quick : r.longest ≤ quick_way) (c 
       let held = holds (r.number b) entries ok.places in
       inspect_answers (λ (q : Parsed). Good-out (updated_by (inspected κ nets x.host j q) letter.octets x)) (r.settings b) j letter.octets
       (λ z no _. rw no (quiet_kept held heard z x.host was.room was.good))
-      (λ time. action_good held ok.closed κ (time (action_timed κ nets x.host j p)) (proper.cables b j a letter.link cable).point-to-point))
+      (λ time. action_good held ok.closed κ (time (action_timed κ nets x.host j p)) (proper.cables b j a letter.link cable).point_to_point))
     where
       Good-out : Outcome → Type 0
       Good-out o = (T (timed o.reply.answer) → Came r b cl κ letter) → After r c i k m b false Sent Rest s (cond (done o.reply.answer) (hearing r c b j heard) heard) entries o.walk o.copy o.links o.entries

@@ -249,7 +249,7 @@ module _ (r : Network) (proper : Proper r) (c i k m b : ℕ) (speaking : Bool) (
           (changed (r.settings b).marks (Reported t)) es
           (λ id z _ f is.
           either (Good-so s (hearing r c b 0 heard)) (lives_here z) _ _
-          (λ here. subst (λ (v : Entry). Good-so s (hearing r c b 0 heard) (left (lines (own_update t) v))) (sym (f.0 is)) (home_good (proper.marked-once b c i inside hc (lives id z is f.1 here) host) t))
+          (λ here. subst (λ (v : Entry). Good-so s (hearing r c b 0 heard) (left (lines (own_update t) v))) (sym (f.0 is)) (home_good (proper.marked_once b c i inside hc (lives id z is f.1 here) host) t))
           (λ not-here. subst (Good-so s (hearing r c b 0 heard)) (sym (f.0 is)) (away_good (λ v. true≢false (sym (at_home id z is f.1 v) ∙ not-here)))))
           (all_both Was (λ (id : ℕ) (z : Entry). as_marked (r.settings b).marks id z ≡ true) es old marked)
         where

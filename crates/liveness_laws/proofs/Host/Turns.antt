@@ -87,7 +87,7 @@ module _ (r : Network) (proper : Proper r) (c i k m b : ℕ) (speaking : Bool) (
     pub call_state : (call : NetworkCall) → Allowed r w (at_node call) → Before r c i k m b speaking Sent Rest s heard now.walk copy links entries e
     call_state call ok =
         record {
-          room = omega (arith, node.room, length-take (link_count_of (r.settings b)) links.all, length-take (link_count_of (r.settings b)) now.links.all, ap length ok.continues.own-links);
+          room = omega (arith, node.room, length-take (link_count_of (r.settings b)) links.all, length-take (link_count_of (r.settings b)) now.links.all, ap length ok.continues.own_links_lem);
           good =
               record {
                 mine = node.mine;
@@ -101,7 +101,7 @@ module _ (r : Network) (proper : Proper r) (c i k m b : ℕ) (speaking : Bool) (
               };
           table =
               λ holds.
-              subst (All (λ (id : ℕ) (z : Entry). id ≡ i → z ≡ e)) (sym (ok.continues.own-entries holds))
+              subst (All (λ (id : ℕ) (z : Entry). id ≡ i → z ≡ e)) (sym (ok.continues.own_entries_lem holds))
               (all_weaken (λ (id : ℕ) (z : Entry). z ≡ get_or (take (host_count (r.settings b)) now.places) id fresh_entry) (λ (id : ℕ) (z : Entry). id ≡ i → z ≡ e)
               (λ id z is same.
               is ∙ ap (λ (q : ℕ). get_or (take (host_count (r.settings b)) now.places) q fresh_entry) same ∙ get_or-take (host_count (r.settings b)) now.places i fresh_entry few)
@@ -110,9 +110,9 @@ module _ (r : Network) (proper : Proper r) (c i k m b : ℕ) (speaking : Bool) (
       where
         same_link : (j a n : ℕ) → r.cable b j ≡ at a n → link_of links j ≡ link_of now.links j
         same_link j a n cord =
-            let h = (counted (r.settings b) j (proper.cables b j a n cord).link-in).at_place in
+            let h = (counted (r.settings b) j (proper.cables b j a n cord).link_in).at_place in
             sym (get_or-take (link_count_of (r.settings b)) links.all (j - 1) (fresh_link unset) h)
-            ∙ ap (λ (ys : List Link). get_or ys (j - 1) (fresh_link unset)) ok.continues.own-links
+            ∙ ap (λ (ys : List Link). get_or ys (j - 1) (fresh_link unset)) ok.continues.own_links_lem
             ∙ get_or-take (link_count_of (r.settings b)) now.links.all (j - 1) (fresh_link unset) h
 
     -- a call that is no second
@@ -147,7 +147,7 @@ module _ (r : Network) (proper : Proper r) (c i k m b : ℕ) (speaking : Bool) (
     report_left hc host some home_rest κ ok =
         none_more
         (report_good r proper c i k m b speaking Sent Rest s heard nets now.clock links now.walk copy entries e (call_state (reports κ) ok) inside hc host some
-        (λ j a n cord. (counted (r.settings b) j (proper.cables b j a n cord).link-in).from_one) home_rest κ).after
+        (λ j a n cord. (counted (r.settings b) j (proper.cables b j a n cord).link_in).from_one) home_rest κ).after
 
     -- ---- the host afterwards
 

@@ -285,7 +285,7 @@ module _ (r : Network) (proper : Proper r) (quick : r.longest ≤ quick_way) (c 
       cable = t.taken.cable
 
       same_fields : p ≡ fields letter.octets
-      same_fields = ap fields t.taken.octets-are
+      same_fields = ap fields t.taken.octets_are
 
       source_is : p.source ≡ (r.settings a).address
       source_is = ap (λ (q : Packet). q.source) same_fields ∙ measured.source_is r proper b j letter cable t.taken.right
@@ -320,7 +320,7 @@ module _ (r : Network) (proper : Proper r) (quick : r.longest ≤ quick_way) (c 
       fourth_good : Fine (box4 p h w)
       unfolding box4 step4
       fourth_good =
-          rw (proper.cables b j a letter.link cable).point-to-point
+          rw (proper.cables b j a letter.link cable).point_to_point
           (either (λ (g : Stage Flight). Fine (fourth h w g)) (not (same_address p.source (link_of l j).neighbor)) _ _
           (λ q.
           let o = stranger r proper k b heard e l w was.good.links j letter cable t.taken.right (subst (λ (y : Packet). same_address y.source (link_of l j).neighbor ≡ false) same_fields (is_not _ q)) in

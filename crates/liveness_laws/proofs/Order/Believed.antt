@@ -48,13 +48,13 @@ module _ (r : Network) (proper : Proper r) (c i k : ℕ) (E : ℕ → Entry) (ma
     y = measured.returned i octets
 
     from_1 : 1 ≤ j
-    from_1 = (counted (r.settings b) j (proper.cables b j a n cable).link-in).from_one
+    from_1 = (counted (r.settings b) j (proper.cables b j a n cable).link_in).from_one
 
     node_is : sent.letter.node ≡ a
-    node_is = let z = sent.other-end in cc
+    node_is = let z = sent.other_end in cc
 
     link_is : sent.letter.link ≡ n
-    link_is = let z = sent.other-end in cc
+    link_is = let z = sent.other_end in cc
 
     on_it : On a n mail sent.letter sent.number
     on_it = record { stands = sent.stands; node = node_is; link = link_is; worded = subst (λ (o : List ℕ). Worded o) sent.a_copy worded }
@@ -105,7 +105,7 @@ module _ (r : Network) (proper : Proper r) (c i k : ℕ) (E : ℕ → Entry) (ma
 
       arrow : (q d o : ℕ) → r.cable b q ≡ at d o → entry.up f ≡ true → f.pid ≡ q → From-it f → Arrow r c i k b q d o f (E d) mail (next-b q)
       arrow q d o cord t at-q (before v at-e same) =
-          same_arrow r c i k E mail last web b f (λ _. inl (v, at-e, same)) q d o (next-b q) (grows q) (counted (r.settings b) q (proper.cables b q d o cord).link-in).from_one cord t at-q
+          same_arrow r c i k E mail last web b f (λ _. inl (v, at-e, same)) q d o (next-b q) (grows q) (counted (r.settings b) q (proper.cables b q d o cord).link_in).from_one cord t at-q
       arrow q d o cord t at-q (returned at_j is_y low no_worse) =
           let q-is : q ≡ j = sym at-q ∙ at_j in
           let cord' : r.cable b j ≡ at d o = ap (r.cable b) (sym q-is) ∙ cord in
@@ -116,7 +116,7 @@ module _ (r : Network) (proper : Proper r) (c i k : ℕ) (E : ℕ → Entry) (ma
             leads = subst (λ (t : ℕ). Below (E t) f) (sym d-is) record { is_up = h.0; less = omega (arith, h.1, is_y) };
             heads =
                 λ v g it late.
-                let late' : sent.number ≤ g = omega (arith, late, ap next-b q-is, sent.no-later) in
+                let late' : sent.number ≤ g = omega (arith, late, ap next-b q-is, sent.no_later) in
                 later_says v g record { stands = it.stands; node = it.node ∙ d-is; link = it.link ∙ o_is; worded = it.worded } late' is_y no_worse;
           }
 

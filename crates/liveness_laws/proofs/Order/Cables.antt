@@ -81,7 +81,7 @@ module _ (r : Network) (c i k : ℕ) where
       p_in = (proper.cables p q a l cable).node_in
 
       a_in : a < r.nodes
-      a_in = (proper.cables a l p q (proper.cables p q a l cable).other-end).node_in
+      a_in = (proper.cables a l p q (proper.cables p q a l cable).other_end).node_in
 
       old : Edge p q a l (E p) (E a) mail (last' p q)
       old =
@@ -89,7 +89,7 @@ module _ (r : Network) (c i k : ℕ) where
           record { leads = o.leads; words = o.words; heads = λ t at-q m n on_it late. o.heads t at-q m n on_it (omega (arith, late, grows p q)); order = o.order }
 
       go : (x y : Bool) → eqb p b ≡ x → eqb a b ≡ y → Edge p q a l (F p) (F a) mail (last' p q)
-      go true true x y = absurd ((proper.cables p q a l cable).two-nodes (eqb-true p b x ∙ sym (eqb-true a b y)))
+      go true true x y = absurd ((proper.cables p q a l cable).two_nodes (eqb-true p b x ∙ sym (eqb-true a b y)))
       go true false x y =
           let is = eqb-true p b x in
           let same : F a ≡ E a = others a a_in (eqb-false a b y) in
@@ -298,11 +298,11 @@ letter_moves r c i k proper E F mail m others better letter =
       head =
           λ b j cable worded.
           let g = proper.cables b j m.node m.link cable in
-          subst (λ (e : Entry). entry.up e ≡ true → e.pid ≡ j → rise + returned i m.octets ≤ up e.delay.0) (sym (others b g.node_in g.two-nodes)) (letter.head b j cable worded);
+          subst (λ (e : Entry). entry.up e ≡ true → e.pid ≡ j → rise + returned i m.octets ≤ up e.delay.0) (sym (others b g.node_in g.two_nodes)) (letter.head b j cable worded);
       after =
           λ b j cable worded q n x.
           let g = proper.cables b j m.node m.link cable in
-          subst (λ (e : Entry). (returned i m.octets ≤ returned i q.octets) ⊎ ((entry.up e ≡ true) × (rise + up e.delay.0 ≤ returned i q.octets))) (sym (others b g.node_in g.two-nodes))
+          subst (λ (e : Entry). (returned i m.octets ≤ returned i q.octets) ⊎ ((entry.up e ≡ true) × (rise + up e.delay.0 ≤ returned i q.octets))) (sym (others b g.node_in g.two_nodes))
           (letter.after b j cable worded q n x);
     }
 

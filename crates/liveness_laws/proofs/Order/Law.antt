@@ -112,8 +112,8 @@ module _ (r : Network) (proper : Proper r) (ways : r.longest ≤ longest_way) (q
           go again h way (by {a} {l} cord rest) =
               let link = proper.cables b (e b).pid a l cord in
               let o = (f.web b (e b).pid a l cord).leads t refl in
-              let more = again a (proper.cables a l b (e b).pid link.other-end).node_in o.is_up (omega (arith, o.less, low)) in
-              let one = (counted (r.settings b) (e b).pid link.link-in).from_one in
+              let more = again a (proper.cables a l b (e b).pid link.other_end).node_in o.is_up (omega (arith, o.less, low)) in
+              let one = (counted (r.settings b) (e b).pid link.link_in).from_one in
               record { count = suc more.count; follows = on t (λ z. omega (arith, z, one)) cord more.follows; short = omega (arith, more.short, o.less) }
 
       lower : (a b n : ℕ) → Follows r u i a b n → entry.up (e b) ≡ true → (entry.up (e a) ≡ true) × (rise * n + up (e a).delay.0 ≤ up (e b).delay.0)
@@ -239,13 +239,13 @@ module _ (r : Network) (proper : Proper r) (ways : r.longest ≤ longest_way) (q
     where
       node : (b : ℕ) → b < r.nodes → HostOk r c i 0 any_hops b false (Sent r i b [] (nothing_came b)) 0 (λ q. false) (w.state (r.number b))
       node b hb =
-          subst (HostOk r c i 0 any_hops b false (Sent r i b [] (nothing_came b)) 0 (λ q. false)) (sym (start.was-initialized b hb))
-          (fresh_ok r proper c i any_hops b false (Sent r i b [] (nothing_came b)) (slots b hb) (few b hb) (proper.was-initialized b hb)).0
+          subst (HostOk r c i 0 any_hops b false (Sent r i b [] (nothing_came b)) 0 (λ q. false)) (sym (start.was_initialized b hb))
+          (fresh_ok r proper c i any_hops b false (Sent r i b [] (nothing_came b)) (slots b hb) (few b hb) (proper.was_initialized b hb)).0
 
       down : (b : ℕ) → b < r.nodes → entry.up (entry_of r w b i) ≡ true → ⊥
       down b hb t =
-          (fresh_ok r proper c i any_hops b false (Sent r i b [] (nothing_came b)) (slots b hb) (few b hb) (proper.was-initialized b hb)).1
-          (subst (λ (x : HostAfter). entry.up (get_or x.places i fresh_entry) ≡ true) (start.was-initialized b hb) t)
+          (fresh_ok r proper c i any_hops b false (Sent r i b [] (nothing_came b)) (slots b hb) (few b hb) (proper.was_initialized b hb)).1
+          (subst (λ (x : HostAfter). entry.up (get_or x.places i fresh_entry) ≡ true) (start.was_initialized b hb) t)
 
   -- ---- rounds
 
@@ -296,8 +296,8 @@ any_order r proper quick slots w start k v es xs entries b i hb below =
 
     sized : (a : ℕ) → a < r.nodes → i < host_count (r.settings a)
     sized a ha =
-        let same = ap (λ (l : Layout). l.nhosts) (proper.one-layout a b ha hb) in
-        let few = (sound (r.settings a) (set_good r a (proper.was-initialized a ha))).hosts-to in
+        let same = ap (λ (l : Layout). l.nhosts) (proper.one_layout a b ha hb) in
+        let few = (sound (r.settings a) (set_good r a (proper.was_initialized a ha))).hosts_to in
         omega arith
 
     right_v : RightWorld r (emptied v)
@@ -323,15 +323,15 @@ any_order r proper quick slots w start k v es xs entries b i hb below =
     measured_so : entry.up (entry_of r u b i) ≡ true → Measured r u b i
     measured_so t =
         let known = (right_entry u right_u).known t in
-        let f = ((ran known.node known.node_in known.host-there).free.nodes b hb).mine.steady.sound t in
-        record { node = known.node; node_in = known.node_in; host_there = known.host-there; hops = f.hops; way = f.way; delay = f.delay }
+        let f = ((ran known.node known.node_in known.host_there).free.nodes b hb).mine.steady.sound t in
+        record { node = known.node; node_in = known.node_in; host_there = known.host_there; hops = f.hops; way = f.way; delay = f.delay }
 
     leads_so : entry.up (entry_of r u b i) ≡ true → ((entry_of r u b i).pid ≡ 0 → ⊥) → Leads r u b i
     leads_so t other =
         let known = (right_entry u right_u).known t in
-        let free = (ran known.node known.node_in known.host-there).free in
+        let free = (ran known.node known.node_in known.host_there).free in
         let f = (free.nodes b hb).mine.steady.sound t in
-        go known.node known.node_in known.host-there f.hops f.via (ap dn f.delay)
+        go known.node known.node_in known.host_there f.hops f.via (ap dn f.delay)
       where
         go : (c : ℕ) (hc : c < r.nodes) (host : HostAt r i c) (h : ℕ) → Via r c b (entry_of r u b i).pid h → dn (entry_of r u b i).delay.0 ≡ 0 → Leads r u b i
         go c hc host h (own z) low = absurd (other z)
@@ -349,14 +349,14 @@ any_order r proper quick slots w start k v es xs entries b i hb below =
     led_so : entry.up (entry_of r u b i) ≡ true → Led r u b i
     led_so t =
         let known = (right_entry u right_u).known t in
-        let free = (ran known.node known.node_in known.host-there).free in
+        let free = (ran known.node known.node_in known.host_there).free in
         let low = (free.nodes b hb).mine.steady.sound t in
         let way =
-        ran_trail r proper ways quick known.node i known.node_in known.host-there sized k (λ b. 0) (λ b q. false) (emptied v) xs (ran known.node known.node_in known.host-there) b hb t in
+        ran_trail r proper ways quick known.node i known.node_in known.host_there sized k (λ b. 0) (λ b q. false) (emptied v) xs (ran known.node known.node_in known.host_there) b hb t in
         record {
           node = known.node;
           node_in = known.node_in;
-          host_there = known.host-there;
+          host_there = known.host_there;
           count = way.count;
           follows = way.follows;
           few = to-≤ℤ (pos (rise * way.count)) (entry_of r u b i).delay.0 (omega (arith, way.short, ap dn low.delay));
@@ -371,12 +371,12 @@ any_order r proper quick slots w start k v es xs entries b i hb below =
             let t' : entry.up (entry_of r u b i) ≡ true = subst (λ (q : ℕ). entry.up (entry_of r u q i) ≡ true) same t in
             let known = (right_entry u right_u).known t' in
             let low =
-            ran_lower r proper ways quick known.node i known.node_in known.host-there sized k (λ b. 0) (λ b q. false) (emptied v) xs (ran known.node known.node_in known.host-there) b b (suc n) way t' in
+            ran_lower r proper ways quick known.node i known.node_in known.host_there sized k (λ b. 0) (λ b q. false) (emptied v) xs (ran known.node known.node_in known.host_there) b b (suc n) way t' in
             omega (arith, low)
 
     stays_so : (w : World) (xs : List Step) → Allows r w xs → RightWorld r w → ((c : ℕ) → c < r.nodes → HostAt r i c → StaysOn r w b i xs) → StaysOn r w b i xs
     stays_so w [] ok right all = tt
     stays_so w (x ∷ xs) ok right all = (
-      λ t. (let known = (right_entry w right).known t in (all known.node known.node_in known.host-there).0 t),
+      λ t. (let known = (right_entry w right).known t in (all known.node known.node_in known.host_there).0 t),
       stays_so (step r w x) xs ok.1 (world_right r proper ways w x ok.0 right) (λ c hc host. (all c hc host).1),
     )

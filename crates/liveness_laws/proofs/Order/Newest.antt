@@ -83,7 +83,7 @@ module _ (r : Network) where
 
     next_of : (j : ℕ) (packet : List ℕ) → Newest r w b j packet → (f : Next r w last b j packet) × Kept (came b j f.number last) w.mail
     next_of j packet new = (
-      record { message = new.message; number = t.number; stands = t.stands; other_end = new.other-end; a_copy = new.a_copy; in_order = ordered (kept b j new.message.node new.message.link new.other-end) },
+      record { message = new.message; number = t.number; stands = t.stands; other_end = new.other_end; a_copy = new.a_copy; in_order = ordered (kept b j new.message.node new.message.link new.other_end) },
       after,
     )
       where
@@ -95,10 +95,10 @@ module _ (r : Network) where
         ordered (inr z) = t.most z.message (last b j) z.stands z.node z.link
 
         node_is : (a l : ℕ) → r.cable b j ≡ at a l → new.message.node ≡ a
-        node_is a l z = let y = new.other-end in cc
+        node_is a l z = let y = new.other_end in cc
 
         link_is : (a l : ℕ) → r.cable b j ≡ at a l → new.message.link ≡ l
-        link_is a l z = let y = new.other-end in cc
+        link_is a l z = let y = new.other_end in cc
 
         after : Kept (came b j t.number last) w.mail
         after p q a l cord =

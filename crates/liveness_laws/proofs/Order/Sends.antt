@@ -81,7 +81,7 @@ module _ (r : Network) (proper : Proper r) (c i k : ℕ) (E : ℕ → Entry) (ma
     packet = packet_sent (r.settings b) y (our_reading κ x.host).time (our_reading κ x.host).clock.date (report_count (r.settings b) y)
 
     other_in : d < r.nodes
-    other_in = (proper.cables d n b link (proper.cables b link d n cord).other-end).node_in
+    other_in = (proper.cables d n b link (proper.cables b link d n cord).other_end).node_in
 
     tsp_fits : Fits16 (sent_tsp y (our_reading κ x.host).time).0
     tsp_fits =
@@ -105,8 +105,8 @@ module _ (r : Network) (proper : Proper r) (c i k : ℕ) (E : ℕ → Entry) (ma
       goes : table_goes (r.settings b) y ≡ true
       goes =
           rw (neighbor_is shut worded)
-          (let one = (sound (r.settings d) (set_good r d (proper.was-initialized d other_in))).class-from in
-          rw (ne_eqb (r.settings d).address.first 0 (λ z. omega (arith, one, z))) (proper.one-net b d inside other_in))
+          (let one = (sound (r.settings d) (set_good r d (proper.was_initialized d other_in))).class_from in
+          rw (ne_eqb (r.settings d).address.first 0 (λ z. omega (arith, one, z))) (proper.one_net b d inside other_in))
 
       size : length (reports x held link) ≡ host_count (r.settings b)
       size = reports_count x held link ∙ ap (λ (t : Bool). cond t (host_count (r.settings b)) 0) goes
@@ -155,7 +155,7 @@ module _ (r : Network) (proper : Proper r) (c i k : ℕ) (E : ℕ → Entry) (ma
       out = (web b link d n cord).leads
 
       back : entry.up (E d) ≡ true → (E d).pid ≡ n → Below (E b) (E d)
-      back = (web d n b link (proper.cables b link d n cord).other-end).leads
+      back = (web d n b link (proper.cables b link d n cord).other_end).leads
 
       word_so : Word-of r c i k d b octets (E b)
       word_so =
@@ -177,7 +177,7 @@ module _ (r : Network) (proper : Proper r) (c i k : ℕ) (E : ℕ → Entry) (ma
       after_so : (q : Message) (g : ℕ) → On b link mail q g → (returned i octets ≤ returned i q.octets) ⊎ ((entry.up (E d) ≡ true) × (rise + up (E d).delay.0 ≤ returned i q.octets))
       after_so q g it =
           let t = reported_it in
-          let w = (web d n b link (proper.cables b link d n cord).other-end).words q g it in
+          let w = (web d n b link (proper.cables b link d n cord).other_end).words q g it in
           subst (λ (z : ℕ). (z ≤ returned i q.octets) ⊎ ((entry.up (E d) ≡ true) × (rise + up (E d).delay.0 ≤ returned i q.octets))) (sym t.is)
           (sent_after r c i k b d link n s (sd d) heard (hd d) (E b) (E d) call_state.good.mine.steady (steadies d other_in) out back t.low t.high (returned i q.octets) w.has)
 

@@ -60,7 +60,7 @@ module _ (r : Network) (proper : Proper r) (ways : r.longest ≤ longest_way) (q
     pub web : Web r c i k (table w) w.mail last
 
   from_1 : (b j a l : ℕ) → r.cable b j ≡ at a l → 1 ≤ j
-  from_1 b j a l cord = (counted (r.settings b) j (proper.cables b j a l cord).link-in).from_one
+  from_1 b j a l cord = (counted (r.settings b) j (proper.cables b j a l cord).link_in).from_one
 
   module _ (w : World) (right : RightWorld r w) (b : ℕ) (inside : b < r.nodes) (nets : NetTable) (links : Links) (copy : List ℕ) (entries : List Entry) (sd : ℕ → ℕ) (hd : ℕ → ℕ → Bool) (last : ℕ → ℕ → ℕ) (free : FreeWorld sd hd last w) where
     abbrev now : HostAfter
@@ -100,9 +100,9 @@ module _ (r : Network) (proper : Proper r) (ways : r.longest ≤ longest_way) (q
             letter = sent.letter;
             number = sent.number;
             stands = sent.stands;
-            other_end = sent.other-end;
+            other_end = sent.other_end;
             a_copy = sent.a_copy;
-            no_later = omega (arith, sent.no-later, grows b j);
+            no_later = omega (arith, sent.no_later, grows b j);
             near = sent.near;
           })
           s heard now (free.nodes b inside)
@@ -160,9 +160,9 @@ module _ (r : Network) (proper : Proper r) (ways : r.longest ≤ longest_way) (q
               posted
               (λ e.
               record {
-                word = λ d n cord. let back = (proper.cables d n b j cord).other-end in λ worded. ((sent.message e).says d n back worded).0;
-                head = λ d n cord. let back = (proper.cables d n b j cord).other-end in λ worded. ((sent.message e).says d n back worded).1;
-                after = λ d n cord. let back = (proper.cables d n b j cord).other-end in λ worded. ((sent.message e).says d n back worded).2;
+                word = λ d n cord. let back = (proper.cables d n b j cord).other_end in λ worded. ((sent.message e).says d n back worded).0;
+                head = λ d n cord. let back = (proper.cables d n b j cord).other_end in λ worded. ((sent.message e).says d n back worded).1;
+                after = λ d n cord. let back = (proper.cables d n b j cord).other_end in λ worded. ((sent.message e).says d n back worded).2;
               })
               (done o.reply.answer) refl;
         }
@@ -195,13 +195,13 @@ module _ (r : Network) (proper : Proper r) (ways : r.longest ≤ longest_way) (q
             letter = new.message;
             number = new.number;
             stands = new.stands;
-            other_end = new.other-end;
+            other_end = new.other_end;
             a_copy = new.a_copy;
             no_later = rw (eq-eqb b b refl, eq-eqb j j refl) (omega arith);
             near =
                 λ worded t at_j.
                 subst (λ (o : List ℕ). rise + returned i o ≤ up (E b).delay.0) (sym new.a_copy)
-                ((free.web b j new.message.node new.message.link new.other-end).heads t at_j new.message new.number
+                ((free.web b j new.message.node new.message.link new.other_end).heads t at_j new.message new.number
                 record { stands = new.stands; node = refl; link = refl; worded = subst (λ (o : List ℕ). Worded o) new.a_copy worded } new.in_order);
           }
 
@@ -216,9 +216,9 @@ module _ (r : Network) (proper : Proper r) (ways : r.longest ≤ longest_way) (q
                 none_more r proper c i k any_hops b false inside (few b inside) (SentBy last_now) (RestBy last_now) w nets links copy entries s heard (node_then last_now grow) (rest_then last_now grow)
                 (subst (λ (o : List ℕ). After r c i k any_hops b false (SentBy last_now) (RestBy last_now) s (cond (done (perform (act j κ o) x).reply.answer) (hearing r c b j heard) heard) entries (perform (act j κ o) x).walk (perform (act j κ o) x).copy (perform (act j κ o) x).links (perform (act j κ o) x).entries) (sym d.a_copy)
                 (act_good r proper quick c i k any_hops b (SentBy last_now) (RestBy last_now) s heard nets now.clock links now.walk copy entries (E b) (state last_now grow (acts j κ packet t) ok)
-                j d.message d.other-end (right.mail d.message d.earlier) (subst (SentBy last_now (E b) j) d.a_copy taken) believed κ
+                j d.message d.other_end (right.mail d.message d.earlier) (subst (SentBy last_now (E b) j) d.a_copy taken) believed κ
                 (λ e.
-                let later = subst (λ (o : List ℕ). T (timed (result r w (at_node (acts j κ o t))).reply.answer) → Later r w b κ t d.message) d.a_copy d.in-time e in
+                let later = subst (λ (o : List ℕ). T (timed (result r w (at_node (acts j κ o t))).reply.answer) → Later r w b κ t d.message) d.a_copy d.in_time e in
                 record { way = later.way; short = later.short; clock = later.reads.clock ∙ ap (λ (z : ℤ). z +ℤ r.fixed b) later.later })));
             post = none;
           }
@@ -323,9 +323,9 @@ module _ (r : Network) (proper : Proper r) (ways : r.longest ≤ longest_way) (q
             letter = sent.letter;
             number = sent.number;
             stands = stands_on (table w) a w.mail (step r w x).mail turn.post sent.letter sent.number sent.stands;
-            other_end = sent.other-end;
+            other_end = sent.other_end;
             a_copy = sent.a_copy;
-            no_later = omega (arith, sent.no-later, less j);
+            no_later = omega (arith, sent.no_later, less j);
             near = sent.near;
           }
 
@@ -339,7 +339,7 @@ module _ (r : Network) (proper : Proper r) (ways : r.longest ≤ longest_way) (q
       nodes b hb =
           either (HostOk r c i k any_hops b false (Sent r i b (step r w x).mail (last' b)) (s b + counts r w b x) (flags_after r c w x heard b)) (eqb (r.number b) (r.number a)) _ _
           (λ e.
-          let same : a ≡ b = proper.numbers-differ a b ok.node_in hb (sym (eqb-true (r.number b) (r.number a) e)) in
+          let same : a ≡ b = proper.numbers_differ a b ok.node_in hb (sym (eqb-true (r.number b) (r.number a) e)) in
           subst (λ (d : ℕ). HostOk r c i k any_hops d false (Sent r i d (step r w x).mail (last' d)) (s d + counts r w d x) (flags_after r c w x heard d) (after_outcome (r.number a) (w.state (r.number a)).places (result r w x))) same own)
           (λ e.
           let other : eqb a b ≡ false = ne_eqb a b (λ z. eqb-false (r.number b) (r.number a) e (ap r.number (sym z))) in
@@ -350,7 +350,7 @@ module _ (r : Network) (proper : Proper r) (ways : r.longest ≤ longest_way) (q
 
       others : (q : ℕ) → q < r.nodes → (q ≡ a → ⊥) → table (step r w x) q ≡ table w q
       others q hq other =
-          let e : eqb (r.number q) (r.number a) ≡ false = ne_eqb (r.number q) (r.number a) (λ z. other (proper.numbers-differ q a hq ok.node_in z)) in
+          let e : eqb (r.number q) (r.number a) ≡ false = ne_eqb (r.number q) (r.number a) (λ z. other (proper.numbers_differ q a hq ok.node_in z)) in
           rw e refl
 
       own_is : table (step r w x) a ≡ get_or (after_outcome (r.number a) (w.state (r.number a)).places (result r w x)).places i fresh_entry

@@ -30,7 +30,7 @@ Rest e = Unit {0}
 
 pub taken : (r : Network) (proper : Proper r) (c i k b : ℕ) (e : Entry) (j : ℕ) (m : Message) → r.cable b j ≡ at m.node m.link → GoodMail r c i k m → Sent r c i k b e j m.octets
 taken r proper c i k b e j m cable good a n cord worded =
-    let t = good.says b j (proper.cables b j m.node m.link cable).other-end worded in
+    let t = good.says b j (proper.cables b j m.node m.link cable).other_end worded in
     (t.1, subst (λ (q : ℕ). steady.Report r c b k q (returned i m.octets)) (same a n cord) t.2)
   where
     same : (a n : ℕ) → r.cable b j ≡ at a n → m.node ≡ a
@@ -41,5 +41,5 @@ believes r proper c i k b s heard e mine j a n octets cable sent worded =
     let t = sent a n cable worded in (
       t.0,
       λ u pid is.
-          (mine_heard r c b k (suc k) s heard e mine (omega arith) j a n (counted (r.settings b) j (proper.cables b j a n cable).link-in).from_one cable (returned i octets) t.1 u pid is, tt),
+          (mine_heard r c b k (suc k) s heard e mine (omega arith) j a n (counted (r.settings b) j (proper.cables b j a n cable).link_in).from_one cable (returned i octets) t.1 u pid is, tt),
     )

@@ -221,8 +221,8 @@ module _ (r : Network) (proper : Proper r) (quick : r.longest ≤ quick_way) (sl
 
   sized : (a : ℕ) → a < r.nodes → i < host_count (r.settings a)
   sized a ha =
-      let same = ap (λ (l : Layout). l.nhosts) (proper.one-layout a b ha hb) in
-      let few = (sound (r.settings a) (set_good r a (proper.was-initialized a ha))).hosts-to in
+      let same = ap (λ (l : Layout). l.nhosts) (proper.one_layout a b ha hb) in
+      let few = (sound (r.settings a) (set_good r a (proper.was_initialized a ha))).hosts_to in
       omega arith
 
   first : (c : ℕ) (hc : c < r.nodes) (host : HostAt r i c) → Ready r proper ways quick c i hc host sized 0 w
@@ -237,8 +237,8 @@ module _ (r : Network) (proper : Proper r) (quick : r.longest ≤ quick_way) (sl
             record {
               nodes =
                   λ a ha.
-                  subst (HostOk r c i 0 1 a true (Sent r c i 0 a) 0 (λ q. false)) (sym (start.was-initialized a ha))
-                  (fresh_ok r proper c i 1 a true (Sent r c i 0 a) (slots a ha) (sized a ha) (proper.was-initialized a ha)).0;
+                  subst (HostOk r c i 0 1 a true (Sent r c i 0 a) 0 (λ q. false)) (sym (start.was_initialized a ha))
+                  (fresh_ok r proper c i 1 a true (Sent r c i 0 a) (slots a ha) (sized a ha) (proper.was_initialized a ha)).0;
               mail = λ q y. absurd (Memᴰ.not-nil y);
             };
       }
@@ -270,16 +270,16 @@ module _ (r : Network) (proper : Proper r) (quick : r.longest ≤ quick_way) (sl
     exact_at : (q : ℕ) → ((c : ℕ) (hc : c < r.nodes) (host : HostAt r i c) (h : ℕ) → h < m c hc host → h ≤ q) → entry.up (entry_of r u b i) ≡ true → claim.Exact r u q b i
     exact_at q soon t =
         let known = (right_entry u right).known t in
-        let it = mine known.node known.node_in known.host-there in
+        let it = mine known.node known.node_in known.host_there in
         let f = it.steady.sound t in
         record {
           node = known.node;
           node_in = known.node_in;
-          host_there = known.host-there;
+          host_there = known.host_there;
           hops = f.hops;
           way = f.way;
-          shortest = λ g way. least r known.node b n (m known.node known.node_in known.host-there) s (heard known.node known.node_in known.host-there) (entry_of r u b i) (few known.node known.node_in known.host-there) it.steady t g way f;
-          in_time = soon known.node known.node_in known.host-there f.hops f.below;
+          shortest = λ g way. least r known.node b n (m known.node known.node_in known.host_there) s (heard known.node known.node_in known.host_there) (entry_of r u b i) (few known.node known.node_in known.host_there) it.steady t g way f;
+          in_time = soon known.node known.node_in known.host_there f.hops f.below;
           delay = f.delay;
           pid = f.via;
         }

@@ -74,10 +74,10 @@ module _ (r : Network) (proper : Proper r) (c i k m b s : ℕ) (heard : ℕ → 
     packet = packet_sent (r.settings b) y (our_reading κ x.host).time (our_reading κ x.host).clock.date (report_count (r.settings b) y)
 
     from_1 : 1 ≤ link
-    from_1 = (counted (r.settings b) link (proper.cables b link d n cord).link-in).from_one
+    from_1 = (counted (r.settings b) link (proper.cables b link d n cord).link_in).from_one
 
     other_in : d < r.nodes
-    other_in = (proper.cables d n b link (proper.cables b link d n cord).other-end).node_in
+    other_in = (proper.cables d n b link (proper.cables b link d n cord).other_end).node_in
 
     tsp_fits : Fits16 (sent_tsp y (our_reading κ x.host).time).0
     tsp_fits =
@@ -105,8 +105,8 @@ module _ (r : Network) (proper : Proper r) (c i k m b s : ℕ) (heard : ℕ → 
       goes : table_goes (r.settings b) y ≡ true
       goes =
           rw neighbor_is
-          (let one = (sound (r.settings d) (set_good r d (proper.was-initialized d other_in))).class-from in
-          rw (ne_eqb (r.settings d).address.first 0 (λ z. omega (arith, one, z))) (proper.one-net b d inside other_in))
+          (let one = (sound (r.settings d) (set_good r d (proper.was_initialized d other_in))).class_from in
+          rw (ne_eqb (r.settings d).address.first 0 (λ z. omega (arith, one, z))) (proper.one_net b d inside other_in))
 
       size : length (reports x held link) ≡ host_count (r.settings b)
       size = reports_count x held link ∙ ap (λ (t : Bool). cond t (host_count (r.settings b)) 0) goes

@@ -205,9 +205,9 @@ module _ (r : Network) (proper : Proper r) (ways : r.longest ≤ longest_way) (q
               none_more r proper c i k (suc k) b false inside (few b inside) (Sent r c i k b) Rest w nets links copy entries s heard node tt
               (subst (λ (o : List ℕ). After r c i k (suc k) b false (Sent r c i k b) Rest s (cond (done (perform (act j κ o) x).reply.answer) (hearing r c b j heard) heard) entries (perform (act j κ o) x).walk (perform (act j κ o) x).copy (perform (act j κ o) x).links (perform (act j κ o) x).entries) (sym d.a_copy)
               (act_good r proper quick c i k (suc k) b (Sent r c i k b) Rest s heard nets here.clock links here.walk copy entries ours (state_l (acts j κ packet t) ok)
-              j d.message d.other-end (right.mail d.message d.earlier) (taken r proper c i k b ours j d.message d.other-end (mail d.message d.earlier)) (believes r proper c i k b s heard ours node.mine) κ
+              j d.message d.other_end (right.mail d.message d.earlier) (taken r proper c i k b ours j d.message d.other_end (mail d.message d.earlier)) (believes r proper c i k b s heard ours node.mine) κ
               (λ e.
-              let later = subst (λ (o : List ℕ). T (timed (result r w (at_l (acts j κ o t))).reply.answer) → Later r w b κ t d.message) d.a_copy d.in-time e in
+              let later = subst (λ (o : List ℕ). T (timed (result r w (at_l (acts j κ o t))).reply.answer) → Later r w b κ t d.message) d.a_copy d.in_time e in
               record { way = later.way; short = later.short; clock = later.reads.clock ∙ ap (λ (z : ℤ). z +ℤ r.fixed b) later.later })));
           post = mail;
         }
@@ -241,7 +241,7 @@ module _ (r : Network) (proper : Proper r) (ways : r.longest ≤ longest_way) (q
               (λ opened first.
               let d = ok.timely opened first in
               subst (Sent r c i k b ours here.walk.link) (sym (same_packet r b here nets here.clock links copy entries ok.continues opened ∙ d.a_copy))
-              (taken r proper c i k b ours here.walk.link d.message d.other-end (mail d.message d.earlier))));
+              (taken r proper c i k b ours here.walk.link d.message d.other_end (mail d.message d.earlier))));
           post = mail;
         }
 
@@ -278,7 +278,7 @@ module _ (r : Network) (proper : Proper r) (ways : r.longest ≤ longest_way) (q
       nodes b hb =
           either (HostOk r c i k m b speaking (Sent r c i k b) (s b + counts r w b x) (flags_after r c w x heard b)) (eqb (r.number b) (r.number a)) _ _
           (λ e.
-          let same : a ≡ b = proper.numbers-differ a b ok.node_in hb (sym (eqb-true (r.number b) (r.number a) e)) in
+          let same : a ≡ b = proper.numbers_differ a b ok.node_in hb (sym (eqb-true (r.number b) (r.number a) e)) in
           subst (λ (d : ℕ). HostOk r c i k m d speaking (Sent r c i k d) (s d + counts r w d x) (flags_after r c w x heard d) (after_outcome (r.number a) (w.state (r.number a)).places (result r w x))) same own)
           (λ e.
           let other : eqb a b ≡ false = ne_eqb a b (λ z. eqb-false (r.number b) (r.number a) e (ap r.number (sym z))) in

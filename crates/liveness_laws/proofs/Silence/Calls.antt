@@ -106,7 +106,7 @@ module _ (r : Network) (i n b s : ℕ)
   plain call else makes =
       let f = frame_holds call x in
       record {
-        walk = subst₂ (FadeWalk r i n s) (sym (f.walk else)) (sym (f.copy else.not-opening)) call_state.walk;
+        walk = subst₂ (FadeWalk r i n s) (sym (f.walk else)) (sym (f.copy else.not_opening)) call_state.walk;
         table = λ held. performs call x (λ (o : Outcome). Table s o.entries) (λ _. call_state.table held) (λ d. makes held d);
         same_length = f.places.same_length;
       }
@@ -159,7 +159,7 @@ module _ (r : Network) (i n b s : ℕ)
   report_fades k never else =
       let f = frame_holds (ask (SelfReport k)) x in
       record {
-        walk = subst₂ (FadeWalk r i n s) (sym (f.walk else)) (sym (f.copy else.not-opening)) call_state.walk;
+        walk = subst₂ (FadeWalk r i n s) (sym (f.walk else)) (sym (f.copy else.not_opening)) call_state.walk;
         table =
             λ held.
             performs (ask (SelfReport k)) x (λ (o : Outcome). (HostAt r i b → o.reply.answer ≡ Done → ⊥) ⊎ ((s ≡ 0) × (n ≡ 0)) → Table s o.entries) (λ _ _. call_state.table held)

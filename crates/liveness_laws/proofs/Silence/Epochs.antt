@@ -154,7 +154,7 @@ module _ (r : Network) (proper : Proper r) (ways : r.longest ≤ longest_way) wh
                 (all_counted (λ _ _. Unit {0}) P 0 (changed (r.settings b).marks Fresh) (entries_of x) (λ j _ _ _ same. marked_fades n 0 _ fresh_entry (fresh_fades n 0))
                 (all_any (λ _ _. Unit {0}) (λ _ _. tt) (entries_of x))))));
           })
-          (proper.was-initialized b hb)
+          (proper.was_initialized b hb)
         where
           x : CallState
           x = state_at r b (r.nets b) (r.clock b) (r.links b) (r.walk b) (r.copy b) (r.entries b)
@@ -168,8 +168,8 @@ module _ (r : Network) (proper : Proper r) (ways : r.longest ≤ longest_way) wh
       starts_fades : (w : World) → Starts r w → FadeWorld r out i n (λ b. 0) w
       starts_fades w start =
           record {
-            nodes = λ b hb out. subst (FadeNode r i n b 0) (sym (start.was-initialized b hb)) (initialized_fades b hb);
-            mail = λ m x. absurd (Memᴰ.not-nil (subst (Memᴰ m) start.no-mail x));
+            nodes = λ b hb out. subst (FadeNode r i n b 0) (sym (start.was_initialized b hb)) (initialized_fades b hb);
+            mail = λ m x. absurd (Memᴰ.not-nil (subst (Memᴰ m) start.no_mail x));
           }
 
       -- ---- epochs
@@ -212,8 +212,8 @@ module _ (r : Network) (proper : Proper r) (ways : r.longest ≤ longest_way) wh
 -- every host has room for the id
 pub sized : (r : Network) → Proper r → (b i : ℕ) → b < r.nodes → i < (r.settings b).layout.nhosts → (a : ℕ) → a < r.nodes → i < host_count (r.settings a)
 sized r proper b i hb below a ha =
-    let same = ap (λ (l : Layout). l.nhosts) (proper.one-layout a b ha hb) in
-    let few = (sound (r.settings a) (set_good r a (proper.was-initialized a ha))).hosts-to in
+    let same = ap (λ (l : Layout). l.nhosts) (proper.one_layout a b ha hb) in
+    let few = (sound (r.settings a) (set_good r a (proper.was_initialized a ha))).hosts_to in
     omega arith
 
 -- from 30,000 on an entry is down
@@ -230,7 +230,7 @@ pub fades_holds : SilentHostFades
 unfolding SilentHostFades
 fades_holds r proper ways w start xs ok c i hc host k v es b hb other below up =
     let few = sized r proper b i hb below in
-    let never : (a : ℕ) → a < r.nodes → (a ≡ c → ⊥) → HostAt r i a → ⊥ = λ a ha apart here. apart (proper.marked-once a c i ha hc here host) in
+    let never : (a : ℕ) → a < r.nodes → (a ≡ c → ⊥) → HostAt r i a → ⊥ = λ a ha apart here. apart (proper.marked_once a c i ha hc here host) in
     let last = epochs r proper ways c i few rise (omega arith) (inl never) (Epoch r c)
     (λ u ys e. record { allowed = e.allowed; unheard = e.unheard; hushed = λ a ha apart home _. never a ha apart home; long = e.long }) w start xs ok k v es in
     entry_fades r proper ways c i few v last.fades (omega arith) b hb other up

@@ -210,8 +210,8 @@ one_more {w} {x} ok away q =
     record {
       allowed = (ok, q.allowed);
       unheard = (away, q.unheard);
-      seconds_0 = ap (λ (m : ℕ). counts line w 0 x + m) q.seconds-0;
-      seconds_1 = ap (λ (m : ℕ). counts line w 1 x + m) q.seconds-1;
+      seconds_0 = ap (λ (m : ℕ). counts line w 0 x + m) q.seconds_0;
+      seconds_1 = ap (λ (m : ℕ). counts line w 1 x + m) q.seconds_1;
       ends = q.ends;
     }
 
@@ -358,7 +358,7 @@ example_holds =
           record {
             allowed = q.allowed;
             unheard = q.unheard;
-            long = below_3 (λ (b : ℕ). (b ≡ 2 → ⊥) → epoch_seconds ≤ seconds_at line begins b silence) (λ _. omega (arith, q.seconds-0)) (λ _. omega (arith, q.seconds-1)) (λ out. absurd (out refl));
+            long = below_3 (λ (b : ℕ). (b ≡ 2 → ⊥) → epoch_seconds ≤ seconds_at line begins b silence) (λ _. omega (arith, q.seconds_0)) (λ _. omega (arith, q.seconds_1)) (λ out. absurd (out refl));
           };
       still_up = ap (λ (w : World). (entry_of line w 1 2).delay) q.ends ∙ ap millis delay_1;
       gone = ap (λ (w : World). (entry_of line w 0 2).delay) q.ends ∙ ap millis delay_0;

@@ -68,7 +68,7 @@ module _ (r : Network) (proper : Proper r) (ways : r.longest ≤ longest_way) (f
       same_link j has =
           let h = (counted (r.settings b) j has).at_place in
           sym (get_or-take (link_count_of (r.settings b)) links.all (j - 1) (fresh_link unset) h)
-          ∙ ap (λ ys. get_or ys (j - 1) (fresh_link unset)) ok.continues.own-links
+          ∙ ap (λ ys. get_or ys (j - 1) (fresh_link unset)) ok.continues.own_links_lem
           ∙ get_or-take (link_count_of (r.settings b)) now.links.all (j - 1) (fresh_link unset) h
 
       pub borrowed : TabledHost (r.settings b) now.walk copy links
@@ -84,7 +84,7 @@ module _ (r : Network) (proper : Proper r) (ways : r.longest ≤ longest_way) (f
       unfolding Frame
       plain else t =
           let f = frame_holds (call_of call) x in
-          subst₂ (λ (v : Walk) (o : List ℕ). TabledHost (r.settings b) v o (result r w (at_node call)).links) (sym (f.walk else)) (sym (f.copy else.not-opening)) t
+          subst₂ (λ (v : Walk) (o : List ℕ). TabledHost (r.settings b) v o (result r w (at_node call)).links) (sym (f.walk else)) (sym (f.copy else.not_opening)) t
 
       -- nor the links
       quiet : Elsewhere (call_of call) → (result r w (at_node call)).links ≡ links → Kept (result r w (at_node call))
@@ -95,7 +95,7 @@ module _ (r : Network) (proper : Proper r) (ways : r.longest ≤ longest_way) (f
         let d = ok.timely in
         plain ok (a_delivery r proper ways w right b inside nets links copy entries (Act i k) packet)
         (subst (λ (o : List ℕ). TabledHost (r.settings b) now.walk copy (perform (act i k o) x).links) (sym d.a_copy)
-        (act_tabled r proper b inside (few b inside) nets now.clock links now.walk copy entries (borrowed ok) i d.message d.other-end (right.mail d.message d.earlier) k))
+        (act_tabled r proper b inside (few b inside) nets now.clock links now.walk copy entries (borrowed ok) i d.message d.other_end (right.mail d.message d.earlier) k))
 
     arrived : (i : ℕ) (k : Counter) (packet : List ℕ) (t : ℤ) → Allowed r w (at_node (arrives i k packet t)) → Kept (result r w (at_node (arrives i k packet t)))
     arrived i k packet t ok =
@@ -172,7 +172,7 @@ module _ (r : Network) (proper : Proper r) (ways : r.longest ≤ longest_way) (f
             λ b hb.
             either (λ (q : HostAfter). TabledHost (r.settings b) q.walk q.copy q.links) (eqb (r.number b) (r.number x.node)) _ _
             (λ e.
-            let same : x.node ≡ b = proper.numbers-differ x.node b ok.node_in hb (sym (eqb-true (r.number b) (r.number x.node) e)) in
+            let same : x.node ≡ b = proper.numbers_differ x.node b ok.node_in hb (sym (eqb-true (r.number b) (r.number x.node) e)) in
             subst (λ (a : ℕ). TabledHost (r.settings a) (result r w x).walk (result r w x).copy (result r w x).links) same s.host)
             (λ _. tabled.nodes b hb);
         mail = s.mail;
@@ -185,8 +185,8 @@ module _ (r : Network) (proper : Proper r) (ways : r.longest ≤ longest_way) (f
   starts_tabled w start =
       record {
         nodes =
-            λ a inside. subst (λ (q : HostAfter). TabledHost (r.settings a) q.walk q.copy q.links) (sym (start.was-initialized a inside)) (fresh a (proper.was-initialized a inside));
-        mail = λ m x. absurd (Memᴰ.not-nil (subst (Memᴰ m) start.no-mail x));
+            λ a inside. subst (λ (q : HostAfter). TabledHost (r.settings a) q.walk q.copy q.links) (sym (start.was_initialized a inside)) (fresh a (proper.was_initialized a inside));
+        mail = λ m x. absurd (Memᴰ.not-nil (subst (Memᴰ m) start.no_mail x));
       }
     where
       no_count_lem : (ys : List LinkSetting) (n : ℕ) → (get_or (map fresh_link ys) n (fresh_link unset)).keep_alive ≡ 0

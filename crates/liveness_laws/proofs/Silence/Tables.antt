@@ -146,8 +146,8 @@ module _ (r : Network) (proper : Proper r) (b : ℕ) (inside : b < r.nodes) (few
   goes_to : (a : ℕ) → a < r.nodes → (z : Link) → z.neighbor ≡ (r.settings a).address → table_goes s z ≡ true
   goes_to a ha z is =
       rw is
-      (let one = (sound (r.settings a) (set_good r a (proper.was-initialized a ha))).class-from in
-      rw (ne_eqb (r.settings a).address.first 0 (λ y. omega (arith, one, y))) (proper.one-net b a inside ha))
+      (let one = (sound (r.settings a) (set_good r a (proper.was_initialized a ha))).class_from in
+      rw (ne_eqb (r.settings a).address.first 0 (λ y. omega (arith, one, y))) (proper.one_net b a inside ha))
 
   module _ (closed : is_open w ≡ false) where
     ready : (j : ℕ) → no_link s j ≡ false → Ready s (link_of l j)
@@ -216,7 +216,7 @@ module _ (r : Network) (proper : Proper r) (b : ℕ) (inside : b < r.nodes) (few
     came = fields m.octets
 
     source_is : came.source ≡ (r.settings m.node).address
-    source_is = ap (λ (o : List ℕ). (fields o).source) right.octets-are ∙ source_back right.destination right.packet right.reports ∙ right.source
+    source_is = ap (λ (o : List ℕ). (fields o).source) right.octets_are ∙ source_back right.destination right.packet right.reports ∙ right.source
 
     pub act_tabled : (k : Counter) → TabledHost s w copy (perform (act i k m.octets) x).links
     unfolding steps2to4 step2 step3 step4
@@ -225,7 +225,7 @@ module _ (r : Network) (proper : Proper r) (b : ℕ) (inside : b < r.nodes) (few
         (λ d.
         inspect_cases (λ (q : Parsed). Kept (inspected k nets x.host i q)) s i m.octets (λ _. call_state)
         (λ _.
-        rw (proper.cables b i m.node m.link cable).point-to-point
+        rw (proper.cables b i m.node m.link cable).point_to_point
         (either Stays (not (same_address came.source (link_of l i).neighbor)) _ _
         (λ _. fifth d _ source_is)
         (λ t.
@@ -324,7 +324,7 @@ module _ (r : Network) (proper : Proper r) (b : ℕ) (inside : b < r.nodes) (few
     -- box 4: the link knows its neighbour
     module _ (taken : Taken r b w.link w.reading octets) (tabled : Tabled octets) where
       source_of : p.source ≡ (r.settings taken.message.node).address
-      source_of = ap (λ (o : List ℕ). (fields o).source) taken.octets-are ∙ source_is w.link taken.message taken.cable taken.right
+      source_of = ap (λ (o : List ℕ). (fields o).source) taken.octets_are ∙ source_is w.link taken.message taken.cable taken.right
 
       learnt : (z : Link) → z.neighbor ≡ (r.settings taken.message.node).address → (j : ℕ) → no_link s j ≡ false → Ready s (link_of (with_link w.link z l) j)
       learnt z is j hj = go (eqb j w.link) refl
@@ -360,7 +360,7 @@ module _ (r : Network) (proper : Proper r) (b : ℕ) (inside : b < r.nodes) (few
       fourth_tabled : Good (box4 p h w)
       unfolding box4 step4
       fourth_tabled =
-          rw (proper.cables b w.link taken.message.node taken.message.link taken.cable).point-to-point
+          rw (proper.cables b w.link taken.message.node taken.message.link taken.cable).point_to_point
           (either (λ (g : Stage Flight). Good (fourth h w g)) (not (same_address p.source (link_of l w.link).neighbor)) _ _ (λ _. new)
           (λ t.
           let known = sym (same_address_lem p.source (link_of l w.link).neighbor (is_so _ t)) ∙ source_of in

@@ -19,7 +19,7 @@ module _ (r : Network) (proper : Proper r) where
   -- the number after the last host's: no cable leads there
   no_cable : (b i : ℕ) → NotFrom r r.nodes b i
   no_cable b i j cable =
-      let back = (proper.cables b i r.nodes j cable).other-end in
+      let back = (proper.cables b i r.nodes j cable).other_end in
       let inside = (proper.cables r.nodes j b i back).node_in in
       omega (arith, inside)
 
@@ -52,7 +52,7 @@ unreported_fades_holds r proper ways w start xs ok c i hc host k v es b hb below
     record {
       allowed = e.allowed;
       unheard = nothing_heard r proper (emptied u) ys;
-      hushed = λ a ha _ home said. e.unreported (subst (λ (d : ℕ). Reported r (emptied u) d ys) (proper.marked-once a c i ha hc home host) said);
+      hushed = λ a ha _ home said. e.unreported (subst (λ (d : ℕ). Reported r (emptied u) d ys) (proper.marked_once a c i ha hc home host) said);
       long = λ a ha _. e.long a ha;
     }) w start xs ok k v es in
     entry_fades r proper ways r.nodes i few v last.fades (omega arith) b hb (λ z. omega (arith, z, hb)) up

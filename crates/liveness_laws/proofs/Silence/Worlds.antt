@@ -80,7 +80,7 @@ module _ (r : Network) (proper : Proper r) (ways : r.longest ≤ longest_way) (o
       call_state call ok =
           record {
             walk = λ opened begins. subst (Arriving i n s) (sym (same_packet r b now nets now.clock links copy entries ok.continues opened)) (node.walk opened begins);
-            table = λ holds. subst (All (Ours r i n s)) (sym (ok.continues.own-entries holds)) node.table;
+            table = λ holds. subst (All (Ours r i n s)) (sym (ok.continues.own_entries_lem holds)) node.table;
           }
 
       module _ (mail : (m : Message) → Memᴰ m w.mail → (m.node ≡ out → ⊥) → Reports i n 0 m.octets) where
@@ -98,7 +98,7 @@ module _ (r : Network) (proper : Proper r) (ways : r.longest ≤ longest_way) (o
             let m = d.message in
             subst (λ (o : List ℕ). FadeAfter r i n b s entries (perform (act link k o) (state_at r b nets now.clock links now.walk copy entries))) (sym d.a_copy)
             (act_fades r i n b s nets now.clock links now.walk copy entries (call_state (acts link k packet t) ok) link m.octets
-            (proper.cables b link m.node m.link d.other-end).point-to-point (tabled.mail m d.earlier) (arriving link m d.other-end d.earlier away) k (a_delivery r proper ways w right b inside nets links copy entries (Act link k) m.octets))
+            (proper.cables b link m.node m.link d.other_end).point_to_point (tabled.mail m d.earlier) (arriving link m d.other_end d.earlier away) k (a_delivery r proper ways w right b inside nets links copy entries (Act link k) m.octets))
 
         arrived : (link : ℕ) (k : Counter) (packet : List ℕ) (t : ℤ) → Allowed r w (at_node (arrives link k packet t)) → Silent s (NotFrom r out b link) → FadeAfter r i n b s entries (result r w (at_node (arrives link k packet t)))
         arrived link k packet t ok away =
@@ -112,7 +112,7 @@ module _ (r : Network) (proper : Proper r) (ways : r.longest ≤ longest_way) (o
         taken k t ok away opened first =
             let d = ok.timely opened first in
             subst (Arriving i n s) (sym (same_packet r b now nets now.clock links copy entries ok.continues opened ∙ d.a_copy))
-            (arriving now.walk.link d.message d.other-end d.earlier (elim away [ inl z ↦ inl (z opened first) | inr z ↦ inr z ]))
+            (arriving now.walk.link d.message d.other_end d.earlier (elim away [ inl z ↦ inl (z opened first) | inr z ↦ inr z ]))
 
         no_more : {o : Outcome} → FadeAfter r i n b s entries o → FadeAfter r i n b (s + 0) entries o
         no_more f = let z : s + 0 ≡ s = omega arith in rw z f
@@ -212,7 +212,7 @@ module _ (r : Network) (proper : Proper r) (ways : r.longest ≤ longest_way) (o
       nodes b hb other_host =
           either (FadeNode r i n b (s b + counts r w b x)) (eqb (r.number b) (r.number a)) _ _
           (λ e.
-          let same : a ≡ b = proper.numbers-differ a b ok.node_in hb (sym (eqb-true (r.number b) (r.number a) e)) in
+          let same : a ≡ b = proper.numbers_differ a b ok.node_in hb (sym (eqb-true (r.number b) (r.number a) e)) in
           subst (λ (d : ℕ). FadeNode r i n d (s d + counts r w d x) (after_outcome (r.number a) (w.state (r.number a)).places (result r w x))) same
           (own (λ z. other_host (sym same ∙ z))))
           (λ e.

@@ -34,10 +34,10 @@ other k w v e apart t =
     record {
       alike =
           record {
-            clock_same = put_other e.number k _ w.clock apart ∙ t.alike.clock-same;
-            links_same = put_other e.number k _ w.links apart ∙ t.alike.links-same;
+            clock_same = put_other e.number k _ w.clock apart ∙ t.alike.clock_same;
+            links_same = put_other e.number k _ w.links apart ∙ t.alike.links_same;
             walk_same = put_other e.number k _ w.walk apart ∙ t.alike.walk_same;
-            copy_same = put_other e.number k _ w.copy apart ∙ t.alike.copy-same;
+            copy_same = put_other e.number k _ w.copy apart ∙ t.alike.copy_same;
             places_same = elsewhere e.settings e.number k apart w.entries _ (kept w e) ∙ t.alike.places_same;
           };
       lengths = (kept w e).same_length ∙ t.lengths;
@@ -55,11 +55,11 @@ module _ (w v : Shared) (e : SharedEvent) (t : Twin e.number w v) where
         settings_same = refl;
         net_table_same = refl;
         number_same = refl;
-        clock_same = t.alike.clock-same;
-        links_same = ap (own_links e.settings) t.alike.links-same;
+        clock_same = t.alike.clock_same;
+        links_same = ap (own_links e.settings) t.alike.links_same;
         walk_same = t.alike.walk_same;
-        room_same = ap length t.alike.copy-same;
-        packet_same = λ j. walk_packet (t.alike.walk_same j) (t.alike.copy-same j);
+        room_same = ap length t.alike.copy_same;
+        packet_same = λ j. walk_packet (t.alike.walk_same j) (t.alike.copy_same j);
         length_same = t.lengths;
         entries_same =
             entries_first e.settings e.number w.entries
@@ -78,16 +78,16 @@ module _ (w v : Shared) (e : SharedEvent) (t : Twin e.number w v) where
         alike =
             record {
               clock_same =
-                  put_here e.number _ w.clock ∙ local.after-alike.clock-same ∙ sym (put_here e.number _ v.clock);
+                  put_here e.number _ w.clock ∙ local.after_alike.clock_same ∙ sym (put_here e.number _ v.clock);
               links_same =
-                  put_here e.number _ w.links ∙ local.all-links t.alike.links-same ∙ sym (put_here e.number _ v.links);
+                  put_here e.number _ w.links ∙ local.all_links t.alike.links_same ∙ sym (put_here e.number _ v.links);
               walk_same =
-                  put_here e.number _ w.walk ∙ local.after-alike.walk_same ∙ sym (put_here e.number _ v.walk);
+                  put_here e.number _ w.walk ∙ local.after_alike.walk_same ∙ sym (put_here e.number _ v.walk);
               copy_same =
-                  put_here e.number _ w.copy ∙ local.all-copy t.alike.copy-same ∙ sym (put_here e.number _ v.copy);
+                  put_here e.number _ w.copy ∙ local.all_copy t.alike.copy_same ∙ sym (put_here e.number _ v.copy);
               places_same = places_kept_same e.call e.call (shared_state w e) (shared_state v e) same state_alike t.alike.places_same;
             };
-        lengths = local.after-alike.length-same;
+        lengths = local.after_alike.length_same;
       }
 
 -- ---- the list

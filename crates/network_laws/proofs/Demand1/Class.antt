@@ -111,7 +111,7 @@ module _ (k : ℕ) where
 -- ---- lists that agree
 
 agree : (t : NetTable) (e f : NodeCall) → SameCall e f → Agree (given t e) (given t f)
-agree t e f s = record { settings_same = s.settings-same; net_table_same = refl; input_same = s.input-same; length_same = s.length-same; room_same = s.room-same }
+agree t e f s = record { settings_same = s.settings_same; net_table_same = refl; input_same = s.input_same; length_same = s.length_same; room_same = s.room_same }
 
 pairs : (t : NetTable) {es fs : List ClassEvent} → SameCalls es fs → Pairwise (events t es) (events t fs)
 unfolding Pairwise

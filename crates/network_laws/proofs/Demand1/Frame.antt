@@ -130,7 +130,7 @@ module _ (x : CallState) where
 
   kept_walk : (c : Call) → Elsewhere c → (work c x).walk ≡ x.walk
   unfolding tick adjust set_by read second self_report lookup
-  kept_walk (ask Initialize) not = absurd (not.not-initialize refl)
+  kept_walk (ask Initialize) not = absurd (not.not_initialize refl)
   kept_walk (ask (Tick n)) not = refl
   kept_walk (ask (Adjust n)) not = refl
   kept_walk (ask (Set ms n)) not = refl
@@ -141,7 +141,7 @@ module _ (x : CallState) where
   kept_walk (ask (Step k)) not = absurd (not.not_step k refl)
   kept_walk (send i k buffer) not = refl
   kept_walk (deliver d octets) not = refl
-  kept_walk (open_walk i packet) not = absurd (not.not-opening i packet refl)
+  kept_walk (open_walk i packet) not = absurd (not.not_opening i packet refl)
 
 pub kept_places : (c : Call) (x : CallState) → Kept x.host.settings x.number x.entries (perform c x).entries
 kept_places c x = performs c x (λ o. Kept x.host.settings x.number x.entries o.entries) (λ _. untouched x) (λ e. worked x c (there c x e))

@@ -59,11 +59,11 @@ pub record Begins (e : Event) : Type 0 where
 begins_here : (e : Event) → Initializes e → Begins e
 begins_here e a =
     record {
-      call_is = a.call-is;
+      call_is = a.call_is;
       passes =
           performs (ask Initialize) e.call_state (λ o. o.reply.answer ≡ Done → done (guard Places e.call_state) ≡ true)
           (λ no is. absurd (false≢true (sym no ∙ ap (λ b. done b) is))) (λ yes _. yes)
-          (subst (λ c. (perform c e.call_state).reply.answer ≡ Done) a.call-is a.answered);
+          (subst (λ c. (perform c e.call_state).reply.answer ≡ Done) a.call_is a.answered);
     }
 
 -- if two calls agree and the first is initialize, so is the second
@@ -71,13 +71,13 @@ begins_too : (e f : Event) → number_of e ≡ number_of f → Agree e f → Beg
 unfolding guard no_places
 begins_too e f number agree b =
     record {
-      call_is = initialized_too agree.input-same b.call-is;
-      passes = rw (← agree.settings-same, ← agree.net-table-same, ← agree.length-same, ← number) b.passes;
+      call_is = initialized_too agree.input_same b.call_is;
+      passes = rw (← agree.settings_same, ← agree.net_table_same, ← agree.length_same, ← number) b.passes;
     }
 
 outcome_is : (e : Event) → Begins e → outcome e ≡ work (ask Initialize) e.call_state
 outcome_is e b =
-    ap (λ c. perform c e.call_state) b.call-is
+    ap (λ c. perform c e.call_state) b.call_is
     ∙ performs (ask Initialize) e.call_state (λ o. o ≡ work (ask Initialize) e.call_state) (λ no. absurd (false≢true (sym no ∙ b.passes))) (λ _. refl)
 
 module _ (k : ℕ) where
@@ -121,14 +121,14 @@ module _ (k : ℕ) where
     after_begun =
         let p : Begun (settings_of e) (after_from k was e) = begun was e here b in
         let q : Begun (settings_of e) (after_from k was' f) =
-        subst (λ s. Begun s (after_from k was' f)) (sym agree.settings-same) (begun was' f here' b') in
+        subst (λ s. Begun s (after_from k was' f)) (sym agree.settings_same) (begun was' f here' b') in
         record {
-          clock_same = p.clock-is ∙ sym q.clock-is;
-          links_same = ap (own_links (settings_of e)) (p.links-is ∙ sym q.links-is);
+          clock_same = p.clock_is ∙ sym q.clock_is;
+          links_same = ap (own_links (settings_of e)) (p.links_is ∙ sym q.links_is);
           walk_same = p.walk_is ∙ sym q.walk_is;
           packet_same =
               ap (λ v. walk_packet v (after_from k was e).copy) p.walk_is ∙ ap (λ v. walk_packet v (after_from k was' f).copy) (sym q.walk_is);
-          entries_same = p.entries-is ∙ sym q.entries-is;
+          entries_same = p.entries_is ∙ sym q.entries_is;
         }
 
   -- ---- lists of calls at k
@@ -171,5 +171,5 @@ unfolding IsolationFromInitialize
 isolation_from_initialized_holds k w v es fs t continues continues' pairs initialized =
     let a = follows k Continues w es in
     let b = follows k Continues v fs in
-    let both = from_initialized k initialized (w k) (v k) (own k fs) (own_at k es) (own_at k fs) (a.all-continue continues) (b.all-continue continues') pairs in
-    (both.0, rw (a.last-is, b.last-is) both.1)
+    let both = from_initialized k initialized (w k) (v k) (own k fs) (own_at k es) (own_at k fs) (a.all_continue continues) (b.all_continue continues') pairs in
+    (both.0, rw (a.last_is, b.last_is) both.1)

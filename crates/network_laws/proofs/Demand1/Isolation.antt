@@ -57,43 +57,43 @@ module _ (k : ℕ) where
   module _ (was was' : HostAfter) (e f : Event) (here : number_of e ≡ k) (here' : number_of f ≡ k) (continues : Continues was e.call_state) (continues' : Continues was' f.call_state)
       (agree : Agree e f) (alike : AfterAlike (settings_of e) was was') where
     short_too : {b : Bool} → short e ≡ b → short f ≡ b
-    short_too h = rw (← agree.length-same) h
+    short_too h = rw (← agree.length_same) h
 
     clock_state : e.call_state.host.clock ≡ f.call_state.host.clock
-    clock_state = continues.own-clock ∙ alike.clock-same ∙ sym continues'.own-clock
+    clock_state = continues.own_clock ∙ alike.clock_same ∙ sym continues'.own_clock
 
     links_state : own_links (settings_of e) e.call_state.host.links ≡ own_links (settings_of f) f.call_state.host.links
     links_state =
-        continues.own-links ∙ alike.links-same ∙ ap (λ s. own_links s was'.links) agree.settings-same ∙ sym continues'.own-links
+        continues.own_links_lem ∙ alike.links_same ∙ ap (λ s. own_links s was'.links) agree.settings_same ∙ sym continues'.own_links_lem
 
     walk_state : e.call_state.walk ≡ f.call_state.walk
-    walk_state = continues.own-walk ∙ alike.walk_same ∙ sym continues'.own-walk
+    walk_state = continues.own_walk ∙ alike.walk_same ∙ sym continues'.own_walk
 
     packet_state : walk_packet e.call_state.walk e.call_state.copy ≡ walk_packet f.call_state.walk f.call_state.copy
-    packet_state = continues.own-packet ∙ alike.packet-same ∙ sym continues'.own-packet
+    packet_state = continues.own_packet ∙ alike.packet_same ∙ sym continues'.own_packet
 
     pub state_alike : short e ≡ false → Alike e.call_state f.call_state
     state_alike h =
         record {
-          settings_same = agree.settings-same;
-          net_table_same = agree.net-table-same;
+          settings_same = agree.settings_same;
+          net_table_same = agree.net_table_same;
           number_same = here ∙ sym here';
           clock_same = clock_state;
           links_same = links_state;
           walk_same = walk_state;
-          room_same = agree.room-same;
+          room_same = agree.room_same;
           packet_same = packet_state;
-          length_same = agree.length-same;
+          length_same = agree.length_same;
           entries_same =
-              continues.own-entries (holds was e here h)
-              ∙ alike.entries-same
-              ∙ ap (λ s. take (host_count s) was'.places) agree.settings-same
-              ∙ sym (continues'.own-entries (holds was' f here' (short_too h)));
+              continues.own_entries_lem (holds was e here h)
+              ∙ alike.entries_same
+              ∙ ap (λ s. take (host_count s) was'.places) agree.settings_same
+              ∙ sym (continues'.own_entries_lem (holds was' f here' (short_too h)));
         }
 
     local : short e ≡ false → Local e.call f.call e.call_state f.call_state
     unfolding Locality
-    local h = locality_holds e.call f.call e.call_state f.call_state agree.input-same (state_alike h)
+    local h = locality_holds e.call f.call e.call_state f.call_state agree.input_same (state_alike h)
 
     pub returned_alike : (b : Bool) → short e ≡ b → returned (outcome e) ≡ returned (outcome f)
     returned_alike true h =
@@ -107,23 +107,23 @@ module _ (k : ℕ) where
         (rw (after_short was' f here' (short_too h))
         record {
           clock_same = clock_state;
-          links_same = links_state ∙ ap (λ s. own_links s f.call_state.host.links) (sym agree.settings-same);
+          links_same = links_state ∙ ap (λ s. own_links s f.call_state.host.links) (sym agree.settings_same);
           walk_same = walk_state;
           packet_same = packet_state;
-          entries_same = alike.entries-same;
+          entries_same = alike.entries_same;
         })
     after_alike false h =
-        let a = (local h).after-alike in
+        let a = (local h).after_alike in
         record {
-          clock_same = a.clock-same;
-          links_same = a.links-same ∙ ap (λ s. own_links s (outcome f).links) (sym agree.settings-same);
+          clock_same = a.clock_same;
+          links_same = a.links_same ∙ ap (λ s. own_links s (outcome f).links) (sym agree.settings_same);
           walk_same = a.walk_same;
-          packet_same = a.packet-same;
+          packet_same = a.packet_same;
           entries_same =
               first_after was e here h
-              ∙ a.entries-same
+              ∙ a.entries_same
               ∙ sym (first_after was' f here' (short_too h))
-              ∙ ap (λ s. take (host_count s) (after_from k was' f).places) (sym agree.settings-same);
+              ∙ ap (λ s. take (host_count s) (after_from k was' f).places) (sym agree.settings_same);
         }
 
   -- ---- one call that gets the complete state after the last call
@@ -131,12 +131,12 @@ module _ (k : ℕ) where
   passes_whole : (was : HostAfter) (e : Event) → number_of e ≡ k → ContinuesFully was e.call_state → Continues was e.call_state
   passes_whole was e here w =
       record {
-        own_clock = w.own-clock;
-        own_links_lem = ap (own_links (settings_of e)) w.all-links;
-        own_walk = w.own-walk;
-        own_packet = λ j. walk_packet (w.own-walk j) (w.all-copy j);
+        own_clock = w.own_clock;
+        own_links_lem = ap (own_links (settings_of e)) w.all_links;
+        own_walk = w.own_walk;
+        own_packet = λ j. walk_packet (w.own_walk j) (w.all_copy j);
         own_entries_lem =
-            λ h. entries_first (settings_of e) (number_of e) e.call_state.entries ∙ ap (take (host_count (settings_of e))) (w.all-places h);
+            λ h. entries_first (settings_of e) (number_of e) e.call_state.entries ∙ ap (take (host_count (settings_of e))) (w.all_places h);
       }
 
   module _ (was : HostAfter) (e f : Event) (here : number_of e ≡ k) (here' : number_of f ≡ k) (whole : ContinuesFully was e.call_state) (whole' : ContinuesFully was f.call_state)
@@ -154,23 +154,23 @@ module _ (k : ℕ) where
     whole_returned = returned_alike was was e f here here' call_state call_state' agree alike (short e) refl
 
     short_f : {b : Bool} → short e ≡ b → short f ≡ b
-    short_f h = rw (← agree.length-same) h
+    short_f h = rw (← agree.length_same) h
 
     links_same : e.call_state.host.links ≡ f.call_state.host.links
-    links_same = whole.all-links ∙ sym whole'.all-links
+    links_same = whole.all_links ∙ sym whole'.all_links
 
     left_links : (b : Bool) → short e ≡ b → (after_from k was e).links ≡ (after_from k was f).links
     left_links true h =
         ap (λ z. z.links) (after_short was e here h) ∙ links_same ∙ ap (λ z. z.links) (sym (after_short was f here' (short_f h)))
-    left_links false h = (local was was e f here here' call_state call_state' agree alike h).all-links links_same
+    left_links false h = (local was was e f here here' call_state call_state' agree alike h).all_links links_same
 
     copy_same : e.call_state.copy ≡ f.call_state.copy
-    copy_same = whole.all-copy ∙ sym whole'.all-copy
+    copy_same = whole.all_copy ∙ sym whole'.all_copy
 
     after_copy : (b : Bool) → short e ≡ b → (after_from k was e).copy ≡ (after_from k was f).copy
     after_copy true h =
         ap (λ z. z.copy) (after_short was e here h) ∙ copy_same ∙ ap (λ z. z.copy) (sym (after_short was f here' (short_f h)))
-    after_copy false h = (local was was e f here here' call_state call_state' agree alike h).all-copy copy_same
+    after_copy false h = (local was was e f here here' call_state call_state' agree alike h).all_copy copy_same
 
     after_places : (b : Bool) → short e ≡ b → (after_from k was e).places ≡ (after_from k was f).places
     after_places true h =
@@ -178,16 +178,16 @@ module _ (k : ℕ) where
     after_places false h =
         after_held was e here h
         ∙ subst (λ j. places j (outcome e).entries ≡ places j (outcome f).entries) here
-        (places_kept_same e.call f.call e.call_state f.call_state agree.input-same (state_alike was was e f here here' call_state call_state' agree alike h)
-        (whole.all-places (holds was e here h)
-        ∙ sym (whole'.all-places (holds was f here' (short_f h)))
+        (places_kept_same e.call f.call e.call_state f.call_state agree.input_same (state_alike was was e f here here' call_state call_state' agree alike h)
+        (whole.all_places (holds was e here h)
+        ∙ sym (whole'.all_places (holds was f here' (short_f h)))
         ∙ ap (λ j. places j f.call_state.entries) (here' ∙ sym here)))
         ∙ sym (after_held was f here' (short_f h))
 
     whole_after : after_from k was e ≡ after_from k was f
     whole_after =
         let a = after_alike was was e f here here' call_state call_state' agree alike (short e) refl in
-        λ j. record { clock = a.clock-same j; links = left_links (short e) refl j; walk = a.walk_same j; copy = after_copy (short e) refl j; places = after_places (short e) refl j }
+        λ j. record { clock = a.clock_same j; links = left_links (short e) refl j; walk = a.walk_same j; copy = after_copy (short e) refl j; places = after_places (short e) refl j }
 
   -- ---- lists of calls at k
 
@@ -210,5 +210,5 @@ unfolding Isolation
 isolation_holds k w v es fs continues continues' pairs same =
     let a = follows k ContinuesFully w es in
     let b = follows k ContinuesFully v fs in
-    let both = isolated k (w k) (v k) (own k es) (own k fs) (own_at k es) (own_at k fs) (a.all-continue continues) (b.all-continue continues') pairs same in
-    (both.0, a.last-is ∙ both.1 ∙ sym b.last-is)
+    let both = isolated k (w k) (v k) (own k es) (own k fs) (own_at k es) (own_at k fs) (a.all_continue continues) (b.all_continue continues') pairs same in
+    (both.0, a.last_is ∙ both.1 ∙ sym b.last_is)

@@ -312,12 +312,12 @@ module _ (x : CallState) (l' : Links) (copy' : List ℕ) (entries' : List Entry)
 
     carried : (e e' : Effect) → SameEffect e e' → Twins (carried_out e x) (carried_out e' y)
     carried e e' t =
-        let w = written (changes e.work (entries_of x)) (changes e'.work (entries_of y)) (λ i. changes (t.work-same i) (same_entries i)) (changes_length e.work (entries_of x)) in
+        let w = written (changes e.work (entries_of x)) (changes e'.work (entries_of y)) (λ i. changes (t.work_same i) (same_entries i)) (changes_length e.work (entries_of x)) in
         record {
-          told_same = ap (λ (r : Reply). record { reply = r; message = take r.length [] }) t.reply-same;
-          clock_same = t.clock-same;
-          links_same = t.links-same;
-          copies_same = record { walk_same = t.walk_same; room_same = rooms; packet_same = t.packet-same; all_same = λ h. h };
+          told_same = ap (λ (r : Reply). record { reply = r; message = take r.length [] }) t.reply_same;
+          clock_same = t.clock_same;
+          links_same = t.links_same;
+          copies_same = record { walk_same = t.walk_same; room_same = rooms; packet_same = t.packet_same; all_same = λ h. h };
           length_same = w.0;
           entries_same = w.1;
         }
@@ -423,12 +423,12 @@ module _ (x : CallState) (l' : Links) (copy' : List ℕ) (entries' : List Entry)
       arrived octets =
           let t = delivered_same d has octets in
           let same : updates (delivered d octets x.nets x.host).work octets (entries_of x) ≡ updates (delivered d octets x.nets y.host).work octets (entries_of y) =
-          λ j. updates (t.work-same j) octets (same_entries j) in
+          λ j. updates (t.work_same j) octets (same_entries j) in
           let w = written _ _ (ap (λ (v : Swept). v.own_entries) same) (updates_length (delivered d octets x.nets x.host).work octets (entries_of x)) in
           record {
-            told_same = ap (λ (r : Reply). record { reply = r; message = take r.length [] }) t.reply-same;
+            told_same = ap (λ (r : Reply). record { reply = r; message = take r.length [] }) t.reply_same;
             clock_same = ap (λ (v : Swept). v.clock) same;
-            links_same = t.links-same;
+            links_same = t.links_same;
             copies_same = uncopied;
             length_same = w.0;
             entries_same = w.1;
@@ -508,16 +508,16 @@ module _ (x : CallState) (l' : Links) (copy' : List ℕ) (entries' : List Entry)
               settings_same = refl;
               net_table_same = refl;
               number_same = refl;
-              clock_same = t.clock-same;
-              links_same = t.links-same.own_same;
-              walk_same = t.copies-same.walk_same;
-              room_same = t.copies-same.room-same;
-              packet_same = t.copies-same.packet-same;
-              length_same = t.length-same;
-              entries_same = t.entries-same;
+              clock_same = t.clock_same;
+              links_same = t.links_same.own_same;
+              walk_same = t.copies_same.walk_same;
+              room_same = t.copies_same.room_same;
+              packet_same = t.copies_same.packet_same;
+              length_same = t.length_same;
+              entries_same = t.entries_same;
             };
-        all_links = t.links-same.all_same;
-        all_copy = t.copies-same.all_same;
+        all_links = t.links_same.all_same;
+        all_copy = t.copies_same.all_same;
       }
 
 pub locality_holds : Locality
@@ -527,7 +527,7 @@ locality_holds c d x y inputs alike =
     (λ (s : Settings) (k : ℕ) (t : Clock).
     own_links x.host.settings x.host.links ≡ own_links s y.host.links → entries_of x ≡ own_entries s k y.entries
     → Local c d x (call_state s y.nets k t y.host.links y.walk y.copy y.entries))
-    alike.settings-same alike.number_same alike.clock-same
+    alike.settings_same alike.number_same alike.clock_same
     (λ own same_entries.
     subst
     (λ (v : Walk). walk_packet x.walk x.copy ≡ walk_packet v y.copy
@@ -535,7 +535,7 @@ locality_holds c d x y inputs alike =
     alike.walk_same
     (λ packets.
     subst (λ (n : NetTable). Local c d x (call_state x.host.settings n x.number x.host.clock y.host.links x.walk y.copy y.entries))
-    alike.net-table-same
-    (local x y.host.links y.copy y.entries own alike.room-same packets alike.length-same same_entries inputs))
-    alike.packet-same)
-    alike.links-same alike.entries-same
+    alike.net_table_same
+    (local x y.host.links y.copy y.entries own alike.room_same packets alike.length_same same_entries inputs))
+    alike.packet_same)
+    alike.links_same alike.entries_same

@@ -60,12 +60,12 @@ module _ (k : ℕ) where
       go f true h =
           let here : number_of e ≡ k = eqb-true (number_of e) k h in
           record {
-            last_is = rw h (f.last-is ∙ ap (λ x. last_from x (own k es)) (after_here w e here));
-            all_continue = λ p. rw h (p.0 here, rw (after_here w e here) at (f.all-continue p.1));
+            last_is = rw h (f.last_is ∙ ap (λ x. last_from x (own k es)) (after_here w e here));
+            all_continue = λ p. rw h (p.0 here, rw (after_here w e here) at (f.all_continue p.1));
           }
       go f false h =
           let other : after w e k ≡ w k = after_other w e (eqb-false (number_of e) k h) in
           record {
-            last_is = rw h (f.last-is ∙ ap (λ x. last_from x (own k es)) other);
-            all_continue = λ p. rw h (rw other at (f.all-continue p.1));
+            last_is = rw h (f.last_is ∙ ap (λ x. last_from x (own k es)) other);
+            all_continue = λ p. rw h (rw other at (f.all_continue p.1));
           }

@@ -120,7 +120,7 @@ module _ (x : CallState) where
 
   accepts : InRange x → Accepted x
   unfolding guard state_in_range
-  accepts r e = other (is_open x.walk) (settings_fit x.nets x.host.settings) (rw (r.table-in, r.places-there, r.clock-in, r.links-in, r.walk-in, r.entries-in, r.marks-in) at e)
+  accepts r e = other (is_open x.walk) (settings_fit x.nets x.host.settings) (rw (r.table_in, r.places_there, r.clock_in, r.links_in_lem, r.walk_in, r.entries_in, r.marks_in) at e)
     where
       other : (v b : Bool) → cond v InWalk (cond (not b) Setting Done) ≡ OutOfRange → ⊥
       other true b h = omega (arith, ap number h)
@@ -130,7 +130,7 @@ module _ (x : CallState) where
 -- another table that is not bad
 under_in : (x : CallState) → InRange x → (t : NetTable) → table_bad t ≡ false → InRange (under t x)
 under_in x r t fair =
-    record { table_in = fair; places_there = r.places-there; clock_in = r.clock-in; links_in_lem = r.links-in; walk_in = r.walk-in; entries_in = r.entries-in; marks_in = r.marks-in }
+    record { table_in = fair; places_there = r.places_there; clock_in = r.clock_in; links_in_lem = r.links_in_lem; walk_in = r.walk_in; entries_in = r.entries_in; marks_in = r.marks_in }
 
 -- no walk, whatever the copy
 no_walk_in : (s : Settings) (copy : List ℕ) → walk_in_range s no_walk copy ≡ true
@@ -202,8 +202,8 @@ module _ (x : CallState) where
   module _ (r : InRange x) where
     all_in : lists.All (Fit m) (entries_of x)
     all_in =
-        all_both (λ _ e. entry_in_range e ≡ true) (λ id e. as_marked m id e ≡ true) (entries_of x) (every_all entry_in_range (entries_of x) r.entries-in)
-        (each_all (as_marked m) (entries_of x) r.marks-in)
+        all_both (λ _ e. entry_in_range e ≡ true) (λ id e. as_marked m id e ≡ true) (entries_of x) (every_all entry_in_range (entries_of x) r.entries_in)
+        (each_all (as_marked m) (entries_of x) r.marks_in)
 
     -- ---- requests
 
@@ -211,16 +211,16 @@ module _ (x : CallState) where
     carried_with : (c : Clock) (l : Links) (w : Walk) (now : Changes) → clock_in_range c ≡ true → links_in l → walk_in_range x.host.settings w x.copy ≡ true → Keeps now
         → InRange (call_state x.host.settings x.nets x.number c l w x.copy (with_entries x.number (changes now (entries_of x)) x.entries))
     carried_with c l w now clock links walk keeps =
-        written c l w (changes now (entries_of x)) r.table-in r.places-there clock links walk (changes_length now (entries_of x))
+        written c l w (changes now (entries_of x)) r.table_in r.places_there clock links walk (changes_length now (entries_of x))
         (changes_keep now (entries_of x) (Fit m) keeps all_in)
 
     -- one that keeps the walk
     carried : (e : Effect) → clock_in_range e.clock ≡ true → links_in e.links → e.walk ≡ x.walk → Keeps e.work → InRange (left x (carried_out e x))
-    carried e clock links same keeps = carried_with e.clock e.links e.walk e.work clock links (rw same r.walk-in) keeps
+    carried e clock links same keeps = carried_with e.clock e.links e.walk e.work clock links (rw same r.walk_in) keeps
 
     -- a reading
     read_in : Sound x.host.settings → (k : Counter) → (count_used k).0 < 2 ^ 16 → clock_in_range (our_reading k x.host).clock ≡ true
-    read_in good = reading_in_range_lem x.host.settings.hold_interval good.hold-to x.host.clock r.clock-in x.host.settings.clock_tick
+    read_in good = reading_in_range_lem x.host.settings.hold_interval good.hold_to x.host.clock r.clock_in x.host.settings.clock_tick
 
     time_in : (k : Counter) → up_to day_millis (our_reading k x.host).time ≡ true
     time_in k = reading_in x.host.settings.clock_tick x.host.settings.hold_interval k x.host.clock
@@ -236,18 +236,18 @@ module _ (x : CallState) where
     unfolding tick adjust set_by read second self_report lookup
     asked Initialize not few good e = begun e
     asked (Tick n) not few good e =
-        carried (does (Tick n)) (tick_in_range_lem x.host.settings.hold_interval good.hold-to x.host.clock r.clock-in n few x.host.settings.clock_tick) r.links-in refl none
+        carried (does (Tick n)) (tick_in_range_lem x.host.settings.hold_interval good.hold_to x.host.clock r.clock_in n few x.host.settings.clock_tick) r.links_in_lem refl none
     asked (Adjust n) not few good e =
-        carried (does (Adjust n)) (adjust_in_range x.host.settings.hold_interval good.hold-to x.host.clock r.clock-in n few) r.links-in refl none
+        carried (does (Adjust n)) (adjust_in_range x.host.settings.hold_interval good.hold_to x.host.clock r.clock_in n few) r.links_in_lem refl none
     asked (Set ms n) not few good e =
-        carried (does (Set ms n)) (set_in_range x.host.settings.hold_interval good.hold-to x.host.clock r.clock-in n few (millis ms)) r.links-in refl none
-    asked (Read k) not few good e = carried (does (Read k)) (read_in good k few) r.links-in refl none
-    asked Second not few good e = carried (does Second) (second_in_range x.host.clock r.clock-in) r.links-in refl (λ id e low high is h. (aged_in_range e h.0, same_mark m id e (aged e) (aged_mark e) h.1))
-    asked (SelfReport k) not few good e = carried (does (SelfReport k)) (read_in good k few) r.links-in refl
+        carried (does (Set ms n)) (set_in_range x.host.settings.hold_interval good.hold_to x.host.clock r.clock_in n few (millis ms)) r.links_in_lem refl none
+    asked (Read k) not few good e = carried (does (Read k)) (read_in good k few) r.links_in_lem refl none
+    asked Second not few good e = carried (does Second) (second_in_range x.host.clock r.clock_in) r.links_in_lem refl (λ id e low high is h. (aged_in_range e h.0, same_mark m id e (aged e) (aged_mark e) h.1))
+    asked (SelfReport k) not few good e = carried (does (SelfReport k)) (read_in good k few) r.links_in_lem refl
         (λ id e low high is h.
         let t = (our_reading k x.host).time in
         (reported_in_range t (time_in k) e h.0, same_mark m id e (reported_here t e) (reported_mark t e) h.1))
-    asked (Lookup a) not few good e = carried (does (Lookup a)) r.clock-in r.links-in refl none
+    asked (Lookup a) not few good e = carried (does (Lookup a)) r.clock_in r.links_in_lem refl none
     asked (Step k) not few good e = absurd (not k refl)
 
     -- ---- a send
@@ -259,13 +259,13 @@ module _ (x : CallState) where
         (ltb (length buffer) (packet_length (report_count x.host.settings (link_of x.host.links i)))) _ _ (λ _. r)
         (λ _.
         record {
-          table_in = r.table-in;
-          places_there = r.places-there;
+          table_in = r.table_in;
+          places_there = r.places_there;
           clock_in = read_in good k few;
-          links_in_lem = sent_in x.host.settings x.host.links i has r.links-in;
-          walk_in = r.walk-in;
-          entries_in = r.entries-in;
-          marks_in = r.marks-in;
+          links_in_lem = sent_in x.host.settings x.host.links i has r.links_in_lem;
+          walk_in = r.walk_in;
+          entries_in = r.entries_in;
+          marks_in = r.marks_in;
         })
 
     -- ---- a packet that arrives
@@ -276,9 +276,9 @@ module _ (x : CallState) where
           → entry_in_range (updated_at a.work octets id c e).entry ≡ true)
           → InRange (left x (updated_by a octets x))
       swept a clock links hold few ranges =
-          written _ a.links x.walk _ r.table-in r.places-there
+          written _ a.links x.walk _ r.table_in r.places_there
           (updates_clock a.work octets (entries_of x) (λ c. clock_in_range c ≡ true) (λ id c e h. clock_in a.work octets id c e hold few h) clock)
-          links r.walk-in (updates_length a.work octets (entries_of x))
+          links r.walk_in (updates_length a.work octets (entries_of x))
           (updates_keep a.work octets (entries_of x) (Fit m)
           (λ id c e low high _ h. (
             ranges id c e low high h.0,
@@ -296,7 +296,7 @@ module _ (x : CallState) where
         now_in = go d few
           where
             go : (d : Delivery) → (count_by d).0 < 2 ^ 16 → clock_in_range (read_by d x.host).clock ≡ true
-            go (Inspect i) few = r.clock-in
+            go (Inspect i) few = r.clock_in
             go (Act i k) few = read_in good k few
             go (Receive i k) few = read_in good k few
 
@@ -309,23 +309,23 @@ module _ (x : CallState) where
             go (Receive i k) = time_in k
 
         touched : (f : Flight) → Flown now.time f → links_in (with_link i f.link x.host.links)
-        touched f g = with_link_in x.host.settings x.host.links i has r.links-in f.link (rw g.keep-alive-is)
+        touched f g = with_link_in x.host.settings x.host.links i has r.links_in_lem f.link (rw g.keep_alive_is)
 
         arrived : InRange (left x (work (deliver d octets) x))
         arrived =
             delivery_ways d x.nets x.host (λ a. InRange (left x (updated_by a octets x)))
             record {
-              refuses = λ a few. swept (ends a x.host) r.clock-in r.links-in (omega arith) (omega arith) (λ id c e low high h. absurd (omega arith));
-              looks = λ p. swept (quiet (tells (Good p)) x.host) r.clock-in r.links-in (omega arith) (omega arith) (λ id c e low high h. absurd (omega arith));
+              refuses = λ a few. swept (ends a x.host) r.clock_in r.links_in_lem (omega arith) (omega arith) (λ id c e low high h. absurd (omega arith));
+              looks = λ p. swept (quiet (tells (Good p)) x.host) r.clock_in r.links_in_lem (omega arith) (omega arith) (λ id c e low high h. absurd (omega arith));
               ended = λ f g n. swept (ends DelayNotValid (storing i now (count_by d) x.host f)) now_in (touched f g) (omega arith) (omega arith) (λ id c e low high h. absurd (omega arith));
               unknown = λ f g. swept (ends NoHost (storing i now (count_by d) x.host f)) now_in (touched f g) (omega arith) (omega arith) (λ id c e low high h. absurd (omega arith));
               one = λ p f id g.
                   let a = updated (storing i now (count_by d) x.host f) (count_by d) p (neighbor_update i f) id 1 false in
-                  swept a now_in (touched f g) good.hold-to few
+                  swept a now_in (touched f g) good.hold_to few
                   (λ j c e low high h. entry_in a.work octets j c e (neighbor_sane x.host.settings now.time i f has day_in g) h);
               all = λ p f g.
                   let a = updated (storing i now (count_by d) x.host f) (count_by d) p (neighbor_update i f) 0 (host_count x.host.settings) true in
-                  swept a now_in (touched f g) good.hold-to few
+                  swept a now_in (touched f g) good.hold_to few
                   (λ j c e low high h.
                   entry_in a.work octets j c e (report_sane x.host.settings now.time i f has day_in g (hello_of octets) (j - 0)) h);
             }
@@ -337,14 +337,14 @@ module _ (x : CallState) where
     unfolding walk_in_range place_of
     opened i packet ok =
         opening_ways i packet s x.walk (λ (o : declared.Opening). InRange (left x (opened_by o packet x)))
-        (λ a few. behind x.walk (copied 0 packet x.copy) (rw (nothing_copied packet x.copy) r.walk-in))
+        (λ a few. behind x.walk (copied 0 packet x.copy) (rw (nothing_copied packet x.copy) r.walk_in))
         (λ p is fits. behind (opened_on i (length packet)) (copied (length packet) packet x.copy) (first p is (packet_short s p packet ok.settings fits)))
       where
         s : Settings
         s = x.host.settings
 
         behind : (w : Walk) (copy : List ℕ) → walk_in_range s w copy ≡ true → InRange (call_state s x.nets x.number x.host.clock x.host.links w copy x.entries)
-        behind w copy e = record { table_in = r.table-in; places_there = r.places-there; clock_in = r.clock-in; links_in_lem = r.links-in; walk_in = e; entries_in = r.entries-in; marks_in = r.marks-in }
+        behind w copy e = record { table_in = r.table_in; places_there = r.places_there; clock_in = r.clock_in; links_in_lem = r.links_in_lem; walk_in = e; entries_in = r.entries_in; marks_in = r.marks_in }
 
         first : (p : Packet) → inspect s i packet ≡ Good p → length packet ≤ longest → walk_in_range s (opened_on i (length packet)) (copied (length packet) packet x.copy) ≡ true
         first p is short =
@@ -364,18 +364,18 @@ module _ (x : CallState) where
 
       timed_in : (c : Clock) → Timed x.host w c → clock_in_range c ≡ true
       unfolding line_d
-      timed_in c as_was = r.clock-in
+      timed_in c as_was = r.clock_in
       timed_in c (set_by_lem date offset) =
-          set_in_range x.host.settings.hold_interval good.hold-to (date_taken date x.host.clock) (date_in_range date x.host.clock r.clock-in) w.count held (of_word offset)
+          set_in_range x.host.settings.hold_interval good.hold_to (date_taken date x.host.clock) (date_in_range date x.host.clock r.clock_in) w.count held (of_word offset)
 
       linked_in : (z : Link) → no_link x.host.settings w.link ≡ false → (link_in_range (link_of x.host.links w.link) ≡ true → link_in_range z ≡ true)
           → links_in (with_link w.link z x.host.links)
       linked_in z has keeps =
           let c = counted x.host.settings w.link has in
-          with_link_in x.host.settings x.host.links w.link c r.links-in z (keeps (link_in x.host.settings x.host.links w.link c r.links-in))
+          with_link_in x.host.settings x.host.links w.link c r.links_in_lem z (keeps (link_in x.host.settings x.host.links w.link c r.links_in_lem))
 
       touched_in : (l : Links) → Touched x.host w l → links_in l
-      touched_in l as_were = r.links-in
+      touched_in l as_were = r.links_in_lem
       touched_in l (stored_in z has keeps) = linked_in z has keeps
 
       module _ (e : Entry) (e-is : e ≡ entry_at (at_hand w) x) (e-in : entry_in_range e ≡ true) where
@@ -401,18 +401,18 @@ module _ (x : CallState) where
         stepped =
             step_ways k x.nets x.host w x.copy e (λ (y : Effect). InRange (closed (left x (carried_out y x))))
             record {
-              none = shut _ _ _ r.clock-in r.links-in none;
-              reads = λ v c. shut _ _ _ (read_in good k few) r.links-in none;
-              delays = λ has. shut _ _ _ r.clock-in (linked_in _ has (λ z. z)) none;
-              unknown = shut _ _ _ r.clock-in r.links-in none;
+              none = shut _ _ _ r.clock_in r.links_in_lem none;
+              reads = λ v c. shut _ _ _ (read_in good k few) r.links_in_lem none;
+              delays = λ has. shut _ _ _ r.clock_in (linked_in _ has (λ z. z)) none;
+              unknown = shut _ _ _ r.clock_in r.links_in_lem none;
               goes = λ a is v h c t l s work d. shut c l work (timed_in c t) (touched_in l s) (works_in work d);
             }
-            r.walk-in
+            r.walk_in
 
     found_in : (f : Found) → entry_in_range (entry_at f x) ≡ true
     found_in Nothing = kept.fresh_in_range
     found_in (Id id) =
-        all_at (λ _ e. entry_in_range e ≡ true) fresh_entry (λ _. kept.fresh_in_range) (entries_of x) (every_all entry_in_range (entries_of x) r.entries-in) id
+        all_at (λ _ e. entry_in_range e ≡ true) fresh_entry (λ _. kept.fresh_in_range) (entries_of x) (every_all entry_in_range (entries_of x) r.entries_in) id
 
     -- ---- every call
 
@@ -439,13 +439,13 @@ module _ (x : CallState) where
       performs (ask (Step k)) x (λ o. InRange (closed (left x o)))
       (λ _.
       record {
-        table_in = r.table-in;
-        places_there = r.places-there;
-        clock_in = r.clock-in;
-        links_in_lem = r.links-in;
+        table_in = r.table_in;
+        places_there = r.places_there;
+        clock_in = r.clock_in;
+        links_in_lem = r.links_in_lem;
         walk_in = no_walk_in x.host.settings x.copy;
-        entries_in = r.entries-in;
-        marks_in = r.marks-in;
+        entries_in = r.entries_in;
+        marks_in = r.marks_in;
       })
       (λ e. stepped r k few held (sound x.host.settings (passed Walking x e).settings) (entry_at (at_hand x.walk) x) refl (found_in r (at_hand x.walk)))
 
@@ -461,24 +461,24 @@ module _ (x : CallState) where
   unfolding place_of
   opens_whole r few i packet ok =
       opening_ways i packet x.host.settings x.walk (λ (o : declared.Opening). InRange (left x (opened_by o packet x)) → HostReply (left x (opened_by o packet x)))
-      (λ a _ now. record { range = now; good = ok.settings; fine = record { in_range = now.walk-in; few = few; fine = λ f. absurd (false≢true (sym ok.closed ∙ f)) } })
-      (λ p is fits now. record { range = now; good = ok.settings; fine = record { in_range = now.walk-in; few = omega arith; fine = λ _. tt } }) (opened x r i packet ok)
+      (λ a _ now. record { range = now; good = ok.settings; fine = record { in_range = now.walk_in; few = few; fine = λ f. absurd (false≢true (sym ok.closed ∙ f)) } })
+      (λ p is fits now. record { range = now; good = ok.settings; fine = record { in_range = now.walk_in; few = omega arith; fine = λ _. tt } }) (opened x r i packet ok)
 
   steps_whole : HostReply x → (k : Counter) → (count_used k).0 < 2 ^ 16 → HostReply (left x (perform (ask (Step k)) x))
   steps_whole h k few =
       performs (ask (Step k)) x (λ o. HostReply (left x o))
       (λ _.
       record {
-        range = record { table_in = h.range.table-in; places_there = h.range.places-there; clock_in = h.range.clock-in; links_in_lem = h.range.links-in; walk_in = h.range.walk-in; entries_in = h.range.entries-in; marks_in = h.range.marks-in };
+        range = record { table_in = h.range.table_in; places_there = h.range.places_there; clock_in = h.range.clock_in; links_in_lem = h.range.links_in_lem; walk_in = h.range.walk_in; entries_in = h.range.entries_in; marks_in = h.range.marks_in };
         good = h.good;
-        fine = record { in_range = h.fine.in-range; few = h.fine.few; fine = h.fine.fine };
+        fine = record { in_range = h.fine.in_range; few = h.fine.few; fine = h.fine.fine };
       })
       (λ e.
       let entry = entry_at (at_hand x.walk) x in
       let now = stepped x h.range k few h.fine.few (sound x.host.settings h.good) entry refl (found_in x h.range (at_hand x.walk)) in
       let walk = step_fine x.host.settings h.good x.copy k x.nets (passed Walking x e).rows x.host refl x.walk entry few h.fine in
       record {
-        range = record { table_in = now.table-in; places_there = now.places-there; clock_in = now.clock-in; links_in_lem = now.links-in; walk_in = walk.in-range; entries_in = now.entries-in; marks_in = now.marks-in };
+        range = record { table_in = now.table_in; places_there = now.places_there; clock_in = now.clock_in; links_in_lem = now.links_in_lem; walk_in = walk.in_range; entries_in = now.entries_in; marks_in = now.marks_in };
         good = h.good;
         fine = walk;
       })

@@ -80,8 +80,8 @@ module _ (x : CallState) where
         record {
           none = λ w. answered x h (plainly NoWalk) x.host.clock x.host.links x.walk;
           reads = λ v c w. absurd (w.not_done refl);
-          delays = λ has w. absurd ((w.early-step k refl).0 refl);
-          unknown = λ w. absurd ((w.early-step k refl).1 refl);
+          delays = λ has w. absurd ((w.early_step k refl).0 refl);
+          unknown = λ w. absurd ((w.early_step k refl).1 refl);
           goes = λ r is v g c t l s work d w. absurd (w.not_done is);
         }
         in_range

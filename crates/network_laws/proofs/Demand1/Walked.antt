@@ -172,7 +172,7 @@ module _ (s : Settings) (good : settings_good s ≡ true) (copy : List ℕ) wher
       unfolding box5
       fifth read short =
           either Keeps (eqb p.nhosts 0) _ _ (λ _. found read short _ (ap (λ (z : Settings). found_for t z (link_of h.links w.link).neighbor) (sym ours)))
-          (λ _. to_line 0 (sound s good).hosts-from read short)
+          (λ _. to_line 0 (sound s good).hosts_from read short)
 
       abbrev u : Update
       u = line_update w p octets
@@ -225,7 +225,7 @@ module _ (s : Settings) (good : settings_good s ≡ true) (copy : List ℕ) wher
         either Keeps (not (is_open w)) _ _ (λ _. now)
         (λ f.
         let opened = is_so _ f in
-        let o = opened_says s w copy now.in-range opened in
+        let o = opened_says s w copy now.in_range opened in
         subst (λ (z : Settings). Keeps (box_of k octets t h w e (inspect z w.link octets))) (sym ours) (go opened o.link (le-leb _ _ o.length) (inspect s w.link octets) refl o.held))
       where
         go : is_open w ≡ true → no_link s w.link ≡ false → leb w.length (length copy) ≡ true → (q : Parsed) → inspect s w.link octets ≡ q → packet_fits s w octets q ≡ true

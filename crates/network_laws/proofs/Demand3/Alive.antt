@@ -108,7 +108,7 @@ end₇ = ap (near.cable 0) link₇
 
 ok₈ : Allowed near w₇ x₈
 unfolding x₈
-ok₈ = record { node_in = omega arith; continues = (let l = as_after p w₇ 0 x₈.call in record { own_clock = l.own-clock; own_links_lem = l.own-links; own_walk = l.own-walk; own_packet = l.own-packet; own_entries_lem = l.own-entries }); timely = λ _ _. record { message = second; earlier = mem₇; a_copy = held_is; other_end = end₇; in_time = λ _. record { reads = reads₇; way = 101; short = omega arith; later = refl } } }
+ok₈ = record { node_in = omega arith; continues = (let l = as_after p w₇ 0 x₈.call in record { own_clock = l.own_clock; own_links_lem = l.own_links_lem; own_walk = l.own_walk; own_packet = l.own_packet; own_entries_lem = l.own_entries_lem }); timely = λ _ _. record { message = second; earlier = mem₇; a_copy = held_is; other_end = end₇; in_time = λ _. record { reads = reads₇; way = 101; short = omega arith; later = refl } } }
 
 ok₉ : Allowed near w₈ x₉
 unfolding played

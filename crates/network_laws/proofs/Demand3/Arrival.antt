@@ -124,11 +124,11 @@ module _ (r : Network) (proper : Proper r) (b a : ℕ) (hb : b < r.nodes) (ha : 
           let s = sum (at_least_min f.delay).0 q.delay.0 in
           let k = good.known (is_lt q.delay.0 (pos 30000) (omega arith)) in
           let direct = d.near (is_lt (at_least_min f.delay).0 (pos 30000) (omega arith)) in
-          let near-enough = apart (r.fixed k.node) (r.fixed b) (proper.fixed-near k.node b k.node_in hb) in
+          let near-enough = apart (r.fixed k.node) (r.fixed b) (proper.fixed_near k.node b k.node_in hb) in
           record {
             node = k.node;
             node_in = k.node_in;
-            host_there = k.host-there;
+            host_there = k.host_there;
             near =
                 rw (relay_exact (r.fixed a) (r.fixed b) (r.fixed k.node) f.offset.0 q.offset.0 (at_least_min f.delay).0 q.delay.0 near-enough direct k.near (omega arith))
                 (relay_near (r.fixed a) (r.fixed b) (r.fixed k.node) f.offset.0 q.offset.0 (at_least_min f.delay).0 q.delay.0 near-enough direct k.near);
@@ -143,7 +143,7 @@ module _ (r : Network) (proper : Proper r) (b a : ℕ) (hb : b < r.nodes) (ha : 
     no_table_right : (x : Found) → found_for nets (r.settings b) (r.settings a).address ≡ x → Right (no_table h i n p f x)
     no_table_right Nothing e = updated_right r b nets c l walk copy entries call_state there (ends NoHost h) octets links (λ id d y low high inside right. absurd (omega arith))
     no_table_right (Id own) e =
-        let is = ap (λ (y : Layout). local_id y (r.settings a).address) (proper.one-layout a b ha hb) ∙ found_own (r.settings b).address (r.settings a).address (r.settings b) nets own (proper.one-net b a hb ha) e in
+        let is = ap (λ (y : Layout). local_id y (r.settings a).address) (proper.one_layout a b ha hb) ∙ found_own (r.settings b).address (r.settings a).address (r.settings b) nets own (proper.one_net b a hb ha) e in
         let host : HostAt r own a = own_host r a proper ha own is in
         let w = updated h n p (neighbor_update i f) own 1 false in
         updated_right r b nets c l walk copy entries call_state there w octets links
@@ -274,7 +274,7 @@ act_right r proper ways b i hb m cable right nets c l walk copy entries call_sta
     (λ ours time.
     let came = time (action_timed k nets x.host i (fields m.octets)) in
     action_right r proper ways b i hb m cable right nets c l walk copy entries call_state there (link_from_1 (r.settings b) i (ok.link i refl))
-    k came.way came.short came.clock (proper.cables b i m.node m.link cable).point-to-point ours))
+    k came.way came.short came.clock (proper.cables b i m.node m.link cable).point_to_point ours))
   where
     x : CallState
     x = state_at r b nets c l walk copy entries

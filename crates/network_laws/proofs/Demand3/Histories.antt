@@ -94,10 +94,10 @@ module _ (r : Network) (proper : Proper r) (ways : r.longest ≤ longest_way) wh
     acts_right i k packet t ok call_state =
         let d = ok.timely in
         subst (λ (o : List ℕ). RightOutcome r a entries (result r w (at_node (acts i k o t)))) (sym d.a_copy)
-        (act_right r proper ways a i inside d.message d.other-end (right.mail d.message d.earlier) nets now.clock links now.walk copy entries
+        (act_right r proper ways a i inside d.message d.other_end (right.mail d.message d.earlier) nets now.clock links now.walk copy entries
         call_state k
         (λ e.
-        let later = subst (λ (o : List ℕ). T (timed (result r w (at_node (acts i k o t))).reply.answer) → Later r w a k t d.message) d.a_copy d.in-time e in
+        let later = subst (λ (o : List ℕ). T (timed (result r w (at_node (acts i k o t))).reply.answer) → Later r w a k t d.message) d.a_copy d.in_time e in
         record { way = later.way; short = later.short; clock = later.reads.clock ∙ ap (λ (z : ℤ). z +ℤ r.fixed a) later.later }))
 
     arrives_right : (i : ℕ) (k : Counter) (packet : List ℕ) (t : ℤ) → Allowed r w (at_node (arrives i k packet t)) → RightState r a links entries
@@ -136,11 +136,11 @@ module _ (r : Network) (proper : Proper r) (ways : r.longest ≤ longest_way) wh
         → Taken r a now.walk.link (reading_at r a now.clock k).time (packet_of now.walk copy)
     in_time k t ok timed-answer opened first =
         let d = ok.timely opened first in
-        let later = d.in-time timed-answer in
+        let later = d.in_time timed-answer in
         record {
           message = d.message;
           right = right.mail d.message d.earlier;
-          cable = d.other-end;
+          cable = d.other_end;
           octets_are = same_packet r a now nets now.clock links copy entries ok.continues opened ∙ d.a_copy;
           way = later.way;
           short = later.short;
@@ -165,7 +165,7 @@ module _ (r : Network) (proper : Proper r) (ways : r.longest ≤ longest_way) wh
         }
     call_right (sends i k buffer t) ok =
         record {
-          node = plain (sends i k buffer t) ok (a_send_lem i k buffer) (λ v. refl) (λ call_state. (send_right r a i inside nets now.clock links now.walk copy entries call_state k buffer t (λ e. (let q = ok.timely e in (q.clock, q.no-midnight)))).node);
+          node = plain (sends i k buffer t) ok (a_send_lem i k buffer) (λ v. refl) (λ call_state. (send_right r a i inside nets now.clock links now.walk copy entries call_state k buffer t (λ e. (let q = ok.timely e in (q.clock, q.no_midnight)))).node);
           mail = post _ w.mail _ (sent i k buffer t ok (is_open now.walk) refl) right.mail;
         }
       where
@@ -175,7 +175,7 @@ module _ (r : Network) (proper : Proper r) (ways : r.longest ≤ longest_way) wh
         sent i k buffer t ok false e =
             let l = call_state (sends i k buffer t) ok in
             (send_right r a i inside nets now.clock links now.walk copy entries record { links = no_walk_lem r a now.walk links.all e l.links; table = l.table } k buffer t
-            (λ z. (let q = ok.timely z in (q.clock, q.no-midnight)))).message
+            (λ z. (let q = ok.timely z in (q.clock, q.no_midnight)))).message
         sent i k buffer t ok true e =
             performs (send i k buffer) (state_at r a nets now.clock links now.walk copy entries)
             (λ o. done o.reply.answer ≡ true → RightMessage r record { node = a; link = i; ms = t; octets = message_of o })
@@ -220,7 +220,7 @@ module _ (r : Network) (proper : Proper r) (ways : r.longest ≤ longest_way) wh
             λ b hb.
             either (RightNode r b) (eqb (r.number b) (r.number x.node)) _ _
             (λ e.
-            let same : x.node ≡ b = proper.numbers-differ x.node b ok.node_in hb (sym (eqb-true (r.number b) (r.number x.node) e)) in
+            let same : x.node ≡ b = proper.numbers_differ x.node b ok.node_in hb (sym (eqb-true (r.number b) (r.number x.node) e)) in
             subst (λ (c : ℕ). RightNode r c (after_outcome (r.number x.node) (w.state (r.number x.node)).places (result r w x))) same
             (after_right r x.node (w.state (r.number x.node)) x.entries (result r w x) (right.nodes x.node ok.node_in) s.node))
             (λ e. right.nodes b hb);
@@ -239,8 +239,8 @@ module _ (r : Network) (proper : Proper r) (ways : r.longest ≤ longest_way) wh
   unfolding initialize
   starts_right w start =
       record {
-        nodes = λ a inside. subst (RightNode r a) (sym (start.was-initialized a inside)) (initialized_node a (proper.was-initialized a inside));
-        mail = λ m x. absurd (Memᴰ.not-nil (subst (Memᴰ m) start.no-mail x));
+        nodes = λ a inside. subst (RightNode r a) (sym (start.was_initialized a inside)) (initialized_node a (proper.was_initialized a inside));
+        mail = λ m x. absurd (Memᴰ.not-nil (subst (Memᴰ m) start.no_mail x));
       }
     where
       -- no walk is open
@@ -264,17 +264,17 @@ module _ (r : Network) (proper : Proper r) (ways : r.longest ≤ longest_way) wh
   pub right_claim : (w : World) → RightWorld r w → Claim r w
   unfolding Claim
   right_claim w right b i hb hi up =
-      let few : i < host_count (r.settings b) = omega (arith, (good b hb).hosts-to) in
+      let few : i < host_count (r.settings b) = omega (arith, (good b hb).hosts_to) in
       let same : get_or (take (host_count (r.settings b)) (places b)) i fresh_entry ≡ get_or (places b) i fresh_entry = get_or-take (host_count (r.settings b)) (places b) i fresh_entry few in
       let e : RightEntry r b i (get_or (places b) i fresh_entry) = rw same at (all_at (RightEntry r b) fresh_entry (fresh_right r b) (take (host_count (r.settings b)) (places b)) (right.nodes b hb).table i) in
       let k = e.known up in
-      record { node = k.node; node_in = k.node_in; host_there = k.host-there; close = near_close _ (r.fixed k.node) (r.fixed b) _ k.near }
+      record { node = k.node; node_in = k.node_in; host_there = k.host_there; close = near_close _ (r.fixed k.node) (r.fixed b) _ k.near }
     where
       places : ℕ → List Entry
       places a = (w.state (r.number a)).places
 
       good : (a : ℕ) → a < r.nodes → Sound (r.settings a)
-      good a inside = sound (r.settings a) (set_good r a (proper.was-initialized a inside))
+      good a inside = sound (r.settings a) (set_good r a (proper.was_initialized a inside))
 
 pub all_calls : Demand3AllCalls
 unfolding AllCallsWithin

@@ -17,8 +17,8 @@ own_ids : (r : Network) → Proper r → (a b : ℕ) → a < r.nodes → b < r.n
 own_ids r proper a b ha hb same = go (own_id (r.settings a)) refl
   where
     go : (f : Found) → own_id (r.settings a) ≡ f → a ≡ b
-    go (Id i) is = proper.marked-once a b i ha hb (own_host r a proper ha i is) (own_host r b proper hb i (sym same ∙ is))
-    go Nothing is = absurd (false≢true (ap is_found (sym is) ∙ (sound (r.settings a) (set_good r a (proper.was-initialized a ha))).own-id))
+    go (Id i) is = proper.marked_once a b i ha hb (own_host r a proper ha i is) (own_host r b proper hb i (sym same ∙ is))
+    go Nothing is = absurd (false≢true (ap is_found (sym is) ∙ (sound (r.settings a) (set_good r a (proper.was_initialized a ha))).own_id_lem))
 
 pub marked_once_holds : MarkedOnce
 unfolding AllCallsWithin Claim
@@ -27,5 +27,5 @@ marked_once_holds =
       own_ids_differ = own_ids;
       true_difference = λ r proper ways w starts xs ok a b i ha hb hi here alive.
           let e = all_calls r proper ways w starts xs ok b i hb hi alive in
-          subst (λ (c : ℕ). RightBy r c b (entry_of r (history r w xs) b i)) (proper.marked-once e.node a i e.node_in ha e.host-there here) e.close;
+          subst (λ (c : ℕ). RightBy r c b (entry_of r (history r w xs) b i)) (proper.marked_once e.node a i e.node_in ha e.host_there here) e.close;
     }

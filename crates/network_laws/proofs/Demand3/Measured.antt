@@ -78,19 +78,19 @@ module _ (r : Network) (proper : Proper r) (ways : r.longest ≤ longest_way) (b
 
   -- what is read is what was written
   pub source_is : p.source ≡ (r.settings a).address
-  source_is = ap (λ (o : List ℕ). (fields o).source) right.octets-are ∙ source_back right.destination right.packet right.reports ∙ right.source
+  source_is = ap (λ (o : List ℕ). (fields o).source) right.octets_are ∙ source_back right.destination right.packet right.reports ∙ right.source
 
   pub time_is : p.time.0 ≡ m.ms +ℤ r.fixed a
   time_is =
-      ap (λ (o : List ℕ). (fields o).time.0) right.octets-are
-      ∙ ap (λ (t : Millis). t.0) (time_back right.destination right.packet right.reports right.time-low (omega (arith, right.time-high)))
+      ap (λ (o : List ℕ). (fields o).time.0) right.octets_are
+      ∙ ap (λ (t : Millis). t.0) (time_back right.destination right.packet right.reports right.time_low (omega (arith, right.time_high)))
       ∙ right.time
 
   pub tsp_read : p.tsp ≡ right.packet.tsp
-  tsp_read = ap (λ (o : List ℕ). (fields o).tsp) right.octets-are ∙ tsp_back right.destination right.packet right.reports right.tsp-fits.high right.tsp-fits.low
+  tsp_read = ap (λ (o : List ℕ). (fields o).tsp) right.octets_are ∙ tsp_back right.destination right.packet right.reports right.tsp_fits.high right.tsp_fits.low
 
   pub count_read : p.nhosts ≡ length right.reports
-  count_read = ap (λ (o : List ℕ). (fields o).nhosts) right.octets-are ∙ nhosts_back right.destination right.packet right.reports ∙ right.count
+  count_read = ap (λ (o : List ℕ). (fields o).nhosts) right.octets_are ∙ nhosts_back right.destination right.packet right.reports ∙ right.count
 
   pub report_read : (id : ℕ) → id < length right.reports → RightReport r a id (report_at (hello_of m.octets) id)
   report_read id inside =
@@ -98,14 +98,14 @@ module _ (r : Network) (proper : Proper r) (ways : r.longest ≤ longest_way) (b
       all_at (RightReport r a) no_report
       (λ n. record { not_negative = omega arith; delay_fits = omega arith; fits = omega arith; known = λ low. absurd (false≢true low) })
       right.reports right.right id in
-      rw right.octets-are
+      rw right.octets_are
       (rw (
-        delay_back right.destination right.packet right.reports id no_report inside here.not_negative here.delay-fits,
+        delay_back right.destination right.packet right.reports id no_report inside here.not_negative here.delay_fits,
         offset_back right.destination right.packet right.reports id no_report inside here.fits.high here.fits.low,
       ) here)
 
   pub near_clocks : Apart (r.fixed a) (r.fixed b)
-  near_clocks = apart (r.fixed a) (r.fixed b) (proper.fixed-near a b right.node_in hb)
+  near_clocks = apart (r.fixed a) (r.fixed b) (proper.fixed_near a b right.node_in hb)
 
   -- 3: the link's TSP has the bits of the true difference less this way
   pub tied : (b' j : ℕ) → r.cable b i ≡ at b' j → Tied r b b' (tsp_of p.time now).0
@@ -127,7 +127,7 @@ module _ (r : Network) (proper : Proper r) (ways : r.longest ≤ longest_way) (b
       w = wrap_range 16 (omega arith) ((tsp_of p.time now).0 +ℤ shr_z (delay_of now p.tsp).0 2)
 
       carried : Carries r b m.ms p.tsp.0
-      carried = rw tsp_read (right.tsp b i (proper.cables b i a m.link cable).other-end (rw tsp_read at z))
+      carried = rw tsp_read (right.tsp b i (proper.cables b i a m.link cable).other_end (rw tsp_read at z))
 
       delay_is : delay_of now p.tsp ≡ millis (pos (carried.way + way))
       delay_is = ap millis (delay_exact 16 (omega arith) (r.fixed b) m.ms p.tsp.0 now.0 carried.way way carried.bits clock (omega (arith, carried.short)))

@@ -15,4 +15,4 @@ never_alive_holds r proper short w starts xs allows i nowhere b inside below = g
     go false e = refl
     go true e =
         let known = all_calls r proper short w starts xs allows b i inside below e in
-        absurd (nowhere known.node known.node_in known.host-there)
+        absurd (nowhere known.node known.node_in known.host_there)

@@ -80,7 +80,7 @@ module _ (r : Network) (a : ℕ) where
   -- the host of a node's own id is there
   pub own_host : Proper r → a < r.nodes → (i : ℕ) → own_id (r.settings a) ≡ Id i → HostAt r i a
   own_host proper inside i is =
-      ap (found_marked (r.settings a).marks) (sym is) ∙ (sound (r.settings a) (set_good (proper.was-initialized a inside))).own-marked
+      ap (found_marked (r.settings a).marks) (sym is) ∙ (sound (r.settings a) (set_good (proper.was_initialized a inside))).own_marked
 
   -- ---- the calls
 

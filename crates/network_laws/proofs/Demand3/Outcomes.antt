@@ -76,12 +76,12 @@ module _ (r : Network) (a : ℕ) where
   spare_right : Proper r → (j : ℕ) (x : Link) → link_count_of (r.settings a) ≤ j → RightLink r a (suc j) x
   unfolding no_link
   spare_right proper j x past b i cable alive =
-      let there = (neither (eqb (suc j) 0) (ltb (link_count_of (r.settings a)) (suc j)) (proper.cables a (suc j) b i cable).link-in).1 in
+      let there = (neither (eqb (suc j) 0) (ltb (link_count_of (r.settings a)) (suc j)) (proper.cables a (suc j) b i cable).link_in).1 in
       absurd (true≢false (sym (lt-ltb (link_count_of (r.settings a)) (suc j) (omega arith)) ∙ there))
 
   -- the packet of an open walk is unchanged
   pub same_packet : (x : HostAfter) (nets : NetTable) (c : Clock) (l : Links) (copy : List ℕ) (entries : List Entry) → Continues x (state_at r a nets c l x.walk copy entries) → is_open x.walk ≡ true → packet_of x.walk copy ≡ packet_of x.walk x.copy
-  same_packet x nets c l copy entries continues opened = rw opened at continues.own-packet
+  same_packet x nets c l copy entries continues opened = rw opened at continues.own_packet
 
   pub state_right : Proper r → (x : HostAfter) (nets : NetTable) (c : Clock) (l : Links) (copy : List ℕ) (entries : List Entry) → Continues x (state_at r a nets c l x.walk copy entries) → RightNode r a x
       → NodeState r a x.walk copy l entries
@@ -89,9 +89,9 @@ module _ (r : Network) (a : ℕ) where
       record {
         links =
             all_first (λ (j : ℕ) (y : Link). between x.walk (suc j) ≡ false → RightLink r a (suc j) y) (link_count_of (r.settings a)) (λ j y past _. spare_right proper j y past) x.links.all l.all
-            (sym continues.own-links) right.links;
+            (sym continues.own_links_lem) right.links;
         walk = λ opened. subst (λ (o : List ℕ). RightAt r a x.walk o l (place_of x.walk)) (sym (same_packet x nets c l copy entries continues opened)) (moved (place_of x.walk) (right.walk opened));
-        table = λ holds. subst (All (RightEntry r a)) (sym (continues.own-entries holds)) right.table;
+        table = λ holds. subst (All (RightEntry r a)) (sym (continues.own_entries_lem holds)) right.table;
       }
     where
       -- the walk's link is as it was
@@ -99,7 +99,7 @@ module _ (r : Network) (a : ℕ) where
       same_link i has =
           let h = (counted (r.settings a) i has).at_place in
           sym (get_or-take (link_count_of (r.settings a)) l.all (i - 1) (fresh_link unset) h)
-          ∙ ap (λ ys. get_or ys (i - 1) (fresh_link unset)) continues.own-links
+          ∙ ap (λ ys. get_or ys (i - 1) (fresh_link unset)) continues.own_links_lem
           ∙ get_or-take (link_count_of (r.settings a)) x.links.all (i - 1) (fresh_link unset) h
 
       moved : (q : Place) → RightAt r a x.walk (packet_of x.walk x.copy) x.links q → RightAt r a x.walk (packet_of x.walk x.copy) l q
@@ -109,7 +109,7 @@ module _ (r : Network) (a : ℕ) where
       moved Step3 h = h
       moved Step4 h = h
       moved Step5 h =
-          let has = (proper.cables a x.walk.link h.taken.message.node h.taken.message.link h.taken.cable).link-in in
+          let has = (proper.cables a x.walk.link h.taken.message.node h.taken.message.link h.taken.cable).link_in in
           record { taken = h.taken; fits = h.fits; direct = h.direct; neighbor = λ low. ap (λ y. y.neighbor) (same_link x.walk.link has) ∙ h.neighbor low }
       moved LineA h = h
       moved LineB h = h

@@ -90,9 +90,9 @@ module _ (r : Network) (proper : Proper r) where
           continues =
               record {
                 own_clock = refl;
-                own_links_lem = now.own-links;
+                own_links_lem = now.own_links_lem;
                 own_walk = refl;
-                own_packet = now.own-packet;
+                own_packet = now.own_packet;
                 own_entries_lem =
                     λ _.
                     entries_first (r.settings x.node) (r.number x.node) w.entries
@@ -131,33 +131,33 @@ module _ (r : Network) (proper : Proper r) where
       go false t before =
           let s = before (ltb-false c a t) (omega arith) in
           let k = initialized_kept (suc c) in
-          let e = one.in-turn c l in
+          let e = one.in_turn_lem c l in
           record {
             same_length = k.same_length ∙ ap length e ∙ s.same_length;
             same_places =
                 elsewhere (r.settings (suc c)) (r.number (suc c)) (r.number a) (λ d. differ d) (r.entries (suc c)) (initialized r (suc c)).entries k
                 ∙ ap (places (r.number a)) e
-                ∙ s.same-places;
+                ∙ s.same_places;
           }
         where
           differ : r.number (suc c) ≡ r.number a → ⊥
-          differ d = let e = proper.numbers-differ (suc c) a l (omega (arith, ltb-false c a t)) d in omega (arith, ltb-false c a t)
+          differ d = let e = proper.numbers_differ (suc c) a l (omega (arith, ltb-false c a t)) d in omega (arith, ltb-false c a t)
 
   start_tracks : (w : SharedWorld) → OneTable r w → Tracks w
   start_tracks w one a ha = go r.nodes refl
     where
       initialized_holds : Holds (r.number a) (initialized r a).entries
-      initialized_holds = omega (arith, (initialized_kept a).same_length, set_holds (first a) (proper.was-initialized a ha))
+      initialized_holds = omega (arith, (initialized_kept a).same_length, set_holds (first a) (proper.was_initialized a ha))
 
       go : (n : ℕ) → r.nodes ≡ n → Holds (r.number a) w.entries × (places (r.number a) w.entries ≡ (w.world.state (r.number a)).places)
       go zero e = absurd (omega arith)
       go (suc m) e =
           let s = in_turn_stays w one a m (omega arith) (omega arith) in
-          let last = one.last-after m (sym e) in (
+          let last = one.last_after_lem m (sym e) in (
             omega (arith, initialized_holds, ap length last, s.same_length),
             ap (places (r.number a)) last
-                ∙ s.same-places
-                ∙ sym (ap (λ (y : HostAfter). y.places) (one.starts.was-initialized a ha) ∙ all_there (r.number a) [] (initialized r a) initialized_holds),
+                ∙ s.same_places
+                ∙ sym (ap (λ (y : HostAfter). y.places) (one.starts.was_initialized a ha) ∙ all_there (r.number a) [] (initialized r a) initialized_holds),
           )
 
 pub shared_demand_3 : SharedDemand3

@@ -281,7 +281,7 @@ sharp =
           let r = claim late proper (omega arith) w₀ start story all_named allowed 0 1 (omega arith) (omega arith) (ap up learnt_is ∙ alive) in
           let close = subst₂ (λ (d o : ℤ). pos (delay_parts * nat_abs (o -ℤ (late.fixed r.node -ℤ late.fixed 0))) ≤ℤ (d *ℤ pos error_parts))
           (ap (λ e. e.delay.0) learnt_is ∙ stored_is.0) (ap (λ e. e.offset.0) learnt_is ∙ stored_is.1) r.close in
-          broken r.node r.node_in r.host-there close;
+          broken r.node r.node_in r.host_there close;
     }
   where
     alive : up stored ≡ true

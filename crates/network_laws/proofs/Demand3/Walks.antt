@@ -211,10 +211,10 @@ module _ (r : Network) (proper : Proper r) (ways : r.longest ≤ longest_way) (a
         m = taken.message
 
         point : broadcast s w.link ≡ false
-        point = (proper.cables a w.link m.node m.link taken.cable).point-to-point
+        point = (proper.cables a w.link m.node m.link taken.cable).point_to_point
 
         same_fields : p ≡ fields m.octets
-        same_fields = ap fields taken.octets-are
+        same_fields = ap fields taken.octets_are
 
         tied : (z : Link) → z.tsp ≡ tsp_of p.time w.reading → RightLink r a w.link z
         tied z is b j cable alive =
@@ -255,7 +255,7 @@ module _ (r : Network) (proper : Proper r) (ways : r.longest ≤ longest_way) (a
 
         source_is : p.source ≡ (r.settings sent.node).address
         source_is =
-            ap (λ (o : List ℕ). (fields o).source) t.taken.octets-are
+            ap (λ (o : List ℕ). (fields o).source) t.taken.octets_are
             ∙ measured.source_is r proper ways a w.link inside sent t.taken.cable t.taken.right w.reading t.taken.way t.taken.short t.taken.clock
 
         again : of_word (to_word (of_word w.delay)) ≡ of_word w.delay
@@ -361,8 +361,8 @@ module _ (r : Network) (proper : Proper r) (ways : r.longest ≤ longest_way) (a
             let host : less_millis (at_least_min (of_word w.delay)) max_delay ≡ true → HostAt r id from =
             λ low.
             own_host r from proper there id
-            (ap (λ (y : Layout). local_id y (r.settings from).address) (proper.one-layout from a there inside)
-            ∙ found_own s.address (r.settings from).address s nets id (proper.one-net a from inside there) (ap (λ (y : Address). found_for nets s y) (sym (t.neighbor low)) ∙ same)) in
+            (ap (λ (y : Layout). local_id y (r.settings from).address) (proper.one_layout from a there inside)
+            ∙ found_own s.address (r.settings from).address s nets id (proper.one_net a from inside there) (ap (λ (y : Address). found_for nets s y) (sym (t.neighbor low)) ∙ same)) in
             goes (at_line 1 id (raised w)) c l nothing (any_walk r a (at_line 1 id (raised w)) l.all fine) (λ _. lined id (λ low _. host low)) none
 
         fifth : Good (box5 p nets h w)
@@ -385,7 +385,7 @@ module _ (r : Network) (proper : Proper r) (ways : r.longest ≤ longest_way) (a
 
         -- at another line of the same id
         same_id : Lined r a w octets → (n : ℕ) → Lined r a (at_line n w.id w) octets
-        same_id t n = record { taken = t.taken; direct = t.direct; raised = t.raised; host_there = t.host-there }
+        same_id t n = record { taken = t.taken; direct = t.direct; raised = t.raised; host_there = t.host_there }
 
         next_id_lem : eqb p.nhosts 0 ≡ false → Lined r a (at_line 1 (w.id + 1) w) octets
         next_id_lem some = record { taken = t.taken; direct = t.direct; raised = t.raised; host_there = λ _ z. absurd (true≢false (sym z ∙ some)) }
@@ -429,7 +429,7 @@ module _ (r : Network) (proper : Proper r) (ways : r.longest ≤ longest_way) (a
                 → RightEntry r a w.id (stored (cond b (walk_update w) (plus_report (walk_update w) (report_at (hello_of octets) w.id))) e)
             go true z small =
                 subst (λ (d : Millis). less_millis d max_delay ≡ true → RightEntry r a w.id record { delay = d; offset = w.offset; ttl = entry.hold_down; pid = w.link; here = e.here; time = w.reading }) t.raised
-                (λ low. neighbor_right r proper a sender inside there w.link w.id flight t.direct (t.host-there small z) low e) small
+                (λ low. neighbor_right r proper a sender inside there w.link w.id flight t.direct (t.host_there small z) low e) small
             go false z low =
                 subst (λ (d : Millis). less_millis (add_millis d report.delay) max_delay ≡ true
                 → RightEntry r a w.id (stored (plus_report record { pid = w.link; delay = d; offset = w.offset; reading = w.reading } report) e)) t.raised
@@ -440,7 +440,7 @@ module _ (r : Network) (proper : Proper r) (ways : r.longest ≤ longest_way) (a
 
                 good : RightReport r sender w.id report
                 good =
-                    rw t.taken.octets-are
+                    rw t.taken.octets_are
                     (measured.reports_read r proper ways a w.link inside t.taken.message t.taken.cable t.taken.right w.reading t.taken.way t.taken.short t.taken.clock
                     (rw (← same_fields t.taken) ours) (rw (← same_fields t.taken) z) w.id (omega (arith, ltb-true w.id s.layout.nhosts id, few)))
 
@@ -486,7 +486,7 @@ module _ (r : Network) (proper : Proper r) (ways : r.longest ≤ longest_way) (a
       (λ e.
       let ok = passed Walking x e in
       let held = holds (r.number a) entries ok.places in
-      let few = (sound s ok.settings).hosts-to in
+      let few = (sound s ok.settings).hosts_to in
       either (λ (y : Effect). Kept (carried_out y x)) (not (is_open w)) _ _ (λ shut _. closed held (is_not _ shut))
       (λ f.
       let o = opened_says s w copy (walk_state x (ok.call_state refl)) (is_so _ f) in
