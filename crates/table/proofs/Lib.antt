@@ -9,3 +9,4 @@ pub mod Cases
 pub mod Kept
 pub mod Sweeps
 pub mod Loops
+pub mod Reading
