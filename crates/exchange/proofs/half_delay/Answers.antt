@@ -1,4 +1,4 @@
--- The statement of `half_delay` is the lemma `half-delay`; the function has no body.
+-- The statement of `half_delay` is the lemma `half_delay_lem`; the function has no body.
 use Rattle.exchange.proofs.HalfDelay.{half_delay_lem}
 use Rattle.exchange.proofs.half_delay.Goals as goal
 

@@ -5,8 +5,8 @@ use Rattle.ntp.proofs.receive.receive.Goals as goal
 
 pub returns-in-Good : goal.returns-in-Good
 unfolding receive
-returns-in-Good c = rw (sym c.read.ensures.0 ∙ c.h-1.given.1) c.dispatched.ensures
+returns-in-Good c = rw (sym c.read.ensures.0 ∙ c.in-Good.is) c.dispatched.ensures
 
 pub returns-in-Bad : goal.returns-in-Bad
 unfolding receive
-returns-in-Bad c = rw (sym c.read.ensures.0 ∙ c.answer-1.given.1) c.refused.ensures
+returns-in-Bad c = rw (sym c.read.ensures.0 ∙ c.in-Bad.is) c.refused.ensures

@@ -4,9 +4,7 @@ use Rattle.ntp.proofs.wire.octets_of.Goals as goal
 
 pub returns : goal.returns
 returns c =
-    let fours = c in
-    let fields = fours in
-    stored fields.args.header _ _ _ _ _ _ _ _ _
-    fields.signed_octet.ensures fields.signed_octet-2.ensures
-    fours.put_four.ensures fours.put_four-2.ensures fours.put_four-3.ensures
-    fours.put_time.ensures c.put_time-2.ensures c.put_time-3.ensures c.put_time-4.ensures
+    stored c.args.header _ _ _ _ _ _ _ _ _
+    c.signed_octet.ensures c.signed_octet-2.ensures
+    c.put_four.ensures c.put_four-2.ensures c.put_four-3.ensures
+    c.put_time.ensures c.put_time-2.ensures c.put_time-3.ensures c.put_time-4.ensures
