@@ -11,18 +11,18 @@ use Rattle.clock.specs.declared.Clock.{Clock}
 use Rattle.clock.proofs.Clock.adjusted.Goals as goal
 
 module _ (c : Clock) (e : clock_in_range c ≡ true) where
-  sum-off : Off (c.clock-1.0 +ℤ (share c).0)
+  sum-off : Off (c.clock.0 +ℤ (share c).0)
   sum-off =
       let r = range_says c e in
-      let f = floor c.delta-1.0 128 (lit< tt) in
-      let s = sum c.clock-1.0 (share c).0 in
+      let f = floor c.delta.0 128 (lit< tt) in
+      let s = sum c.clock.0 (share c).0 in
       omega arith
 
-  after-off : Off (c.delta-1.0 -ℤ (share c).0)
+  after-off : Off (c.delta.0 -ℤ (share c).0)
   after-off =
       let r = range_says c e in
-      let f = floor c.delta-1.0 128 (lit< tt) in
-      let s = diff c.delta-1.0 (share c).0 in
+      let f = floor c.delta.0 128 (lit< tt) in
+      let s = diff c.delta.0 (share c).0 in
       omega arith
 
 pub plus-c-requires : goal.plus-c-requires

@@ -4,7 +4,7 @@ use Rattle.clock.proofs.While.{Going}
 use Rattle.clock.proofs.Clock.days_back.Given as goal
 
 abbrev pub invariant-loop-hold_interval : goal.invariant-loop-hold_interval
-invariant-loop-hold_interval l = Going (back l.h l.n) l.initial.c l.c
+invariant-loop-hold_interval l = Going (back l.hold_interval l.n) l.initial.c l.c
 
 abbrev pub decreases-loop-hold_interval : goal.decreases-loop-hold_interval
 decreases-loop-hold_interval l = days_away l.n l.c

@@ -21,13 +21,13 @@ module _ (c : Clock) (m : Millis) (e : clock_in_range c ≡ true) (f : SFits w32
       let t = times m.0 units_per_milli in
       omega arith
 
-  sum-off : Off (c.clock-1.0 +ℤ (to_units m).0)
+  sum-off : Off (c.clock.0 +ℤ (to_units m).0)
   sum-off =
       let r = range_says c e in
       let u = fits_up w32 m.0 f in
       let d = fits_dn w32 m.0 f in
       let t = times m.0 units_per_milli in
-      let s = sum c.clock-1.0 (to_units m).0 in
+      let s = sum c.clock.0 (to_units m).0 in
       omega arith
 
 pub midnight-requires : goal.midnight-requires
