@@ -10,8 +10,8 @@ use lib.ListN.{length, length-set}
 use Rattle.lists.proofs.Rest.{mapped_long}
 use Rattle.net_table.specs.declared.NetTable.{NetTable}
 use Rattle.net_table.specs.declared.Answer.TheVariants.{Done}
-use Rattle.net_table.specs.Table.{standing, padded, table_of}
-use Rattle.net_table.specs.Tutor.{leaves, no_row, row_at, with_id, change}
+use Rattle.net_table.specs.Table.{standing, padded}
+use Rattle.net_table.specs.Tutor.{leaves, row_at, with_id, change}
 use Rattle.net_table.proofs.Tables.{table, good, counted}
 use Rattle.net_table.proofs.planned.with_id.Goals as goal
 

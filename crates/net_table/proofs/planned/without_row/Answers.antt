@@ -10,8 +10,8 @@ use lib.ListN.{length, take, drop, length-append, length-take, length-drop}
 use Rattle.lists.proofs.Rest.{mapped_long}
 use Rattle.net_table.specs.declared.NetTable.{NetTable}
 use Rattle.net_table.specs.declared.Answer.TheVariants.{Done}
-use Rattle.net_table.specs.Table.{standing, padded, table_of}
-use Rattle.net_table.specs.Tutor.{leaves, no_row, without_row, remove}
+use Rattle.net_table.specs.Table.{standing, padded}
+use Rattle.net_table.specs.Tutor.{leaves, without_row, remove}
 use Rattle.net_table.proofs.Tables.{table, good, counted, row_is}
 use Rattle.net_table.proofs.planned.without_row.Goals as goal
 
