@@ -1,5 +1,6 @@
 // The answers of the published table.
 #![tactic(auto)]
+
 ghost use Rattle.std.specs.Prelude.{◌≡◌, eqb};
 ghost use Rattle.answer.specs.Answer.{number};
 

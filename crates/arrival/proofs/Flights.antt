@@ -22,7 +22,7 @@ use Rattle.host.specs.declared.Link.{Link}
 use Rattle.arrival.specs.declared.Flight.{Flight}
 use Rattle.arrival.specs.Steps.{delay_of, step2, step3, measured, new_neighbor, step4, steps2to4, at_least_min}
 
--- step 4: on broadcast it goes on; point_to_point a new neighbour is stored, and a known one is ended with 10 or goes on
+-- step 4: on broadcast it goes on; point-to-point a new neighbour is stored, and a known one is ended with 10 or goes on
 module _ (P : Stage Flight → Type 0) (b : Bool) (h : Seconds) (p : Packet) (r : Millis) (x : Link) where
   pub steps_cases :
       (b ≡ true → P (on (measured b p r x)))

@@ -9,11 +9,8 @@ pub mod Overs
 pub mod Labels
 pub mod Named
 pub mod Kept
-pub mod Types
 pub mod AtSlot
 pub mod Which
 pub mod Stages
-pub mod Turned
-pub mod PlanTypes
 pub mod SetsUp
 pub mod RunsOn

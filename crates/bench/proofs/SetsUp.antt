@@ -1,4 +1,4 @@
--- What set_up_lem plans, carried out, is what the definition says of it.
+-- What set-up plans, carried out, is what the definition says of it.
 use mathlib.Core.Path.{◌≡◌, refl, sym, ap, ◌∙◌}
 use mathlib.Core.Bool.{Bool, true, false, cond}
 use mathlib.Core.List.{List}

@@ -1,4 +1,4 @@
--- ANSWER-18, ANSWER-19: the answers of set_up_lem and run.
+-- ANSWER-18, ANSWER-19: the answers of set-up and run.
 use Rattle.std.specs.Prelude.{Bool, ℕ, eqb}
 use Rattle.bench.specs.declared.Answer.{Answer}
 use Rattle.bench.specs.declared.Answer.TheVariants.{Done, OutOfRange, Header, Absent}

@@ -51,7 +51,7 @@ tested besides t file n =
     cond (not (passes (file_tested t file))) (file_tested t file)
     (cond (lengths_fit (header_of file) n && (besides && not (table_bad t))) Done OutOfRange)
 
--- BENCH-8: the answer of set_up_lem
+-- BENCH-8: the answer of set-up
 abbrev pub set_up_guard : NetTable → (file : List ℕ) → Bench → Answer
 set_up_guard t file b = tested true t file (lengths_of b)
 

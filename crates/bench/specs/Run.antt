@@ -1,4 +1,4 @@
--- BENCH-6: set_up_lem and run.
+-- BENCH-6: set-up and run.
 use Rattle.std.specs.Prelude.{cond, List, ℕ, zero, suc, ◌-◌, ◌*◌, ltb}
 use Rattle.net_table.specs.declared.NetTable.{NetTable}
 use Rattle.calls.specs.declared.Request.TheVariants.{Initialize}
@@ -51,7 +51,7 @@ module _ (file : List ℕ) (t : NetTable) where
 
   -- ---- the calls: a refusal changes nothing, and carries out no event
 
-  -- BENCH-1, BENCH-8: the bench after set_up_lem; a refusal changes nothing
+  -- BENCH-1, BENCH-8: the bench after set-up; a refusal changes nothing
   abbrev pub after_set_up : Bench → Bench
   after_set_up b = cond (passes (set_up_guard t file b)) (set_up b) b
 

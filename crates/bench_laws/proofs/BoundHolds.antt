@@ -1,4 +1,4 @@
--- Demand 3 on the bench: set_up_lem initializes the network's nodes in one host table, and each event of a run is a step of the network's list, or none. So the network's claim is true of the bench's host table.
+-- Demand 3 on the bench: set-up initializes the network's nodes in one host table, and each event of a run is a step of the network's list, or none. So the network's claim is true of the bench's host table.
 use mathlib.Core.Path.{◌≡◌, refl, sym, ◌∙◌, ap, subst}
 use mathlib.Core.Bool.{Bool, true, false, true≢false, cond}
 use mathlib.Core.List.{List, [], ◌∷◌}

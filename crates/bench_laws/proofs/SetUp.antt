@@ -77,7 +77,7 @@ module _ (file : List ℕ) (t : NetTable) where
   abbrev h : Header
   h = header file t
 
-  -- ---- what set_up_lem does not refuse a run does not refuse, with empty slots and nothing done
+  -- ---- what set-up does not refuse a run does not refuse, with empty slots and nothing done
 
   abbrev emptied : Bench → Bench
   emptied b = record { hosts = b.hosts; copies = b.copies; entries = b.entries; slots = zeros (slot_length * slots) b.slots; answers = b.answers; done = 0 }

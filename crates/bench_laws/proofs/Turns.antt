@@ -1,4 +1,4 @@
--- A run is its events' calls, one after the other; and so is set_up_lem.
+-- A run is its events' calls, one after the other; and so is set-up.
 use mathlib.Core.Path.{◌≡◌, refl, sym, ◌∙◌, ap}
 use mathlib.Core.Bool.{Bool, true, false}
 use mathlib.Core.List.{List, [], ◌∷◌, ◌++◌, flatten, append_assoc}

@@ -1,4 +1,4 @@
--- BENCH-1, ISOLATION-2: a run is the list of calls that its events name. So demand 1 is true of set_up_lem and run, for every file.
+-- BENCH-1, ISOLATION-2: a run is the list of calls that its events name. So demand 1 is true of set-up and run, for every file.
 use Rattle.std.specs.Prelude.{◌≡◌, Bool, true, false, cond, ℕ, zero, suc, ◌<◌, ltb, length, get_or}
 use mathlib.Core.List.{List, [], ◌∷◌, map, flatten}
 use Rattle.lists.specs.Lists.{over}
@@ -114,9 +114,9 @@ pub record Called (file : List ℕ) (t : NetTable) (n : ℕ) (b : Bench) : Type 
   pub answers : (after_run file t n b).answers ≡ over b.answers b.done (answers_of (shared_of file b) (run_turns file t n b))
   -- BENCH-6: and the count is the number of events
   pub count : (ran file t n b).count ≡ length (run_turns file t n b)
-  -- BENCH-1: set_up_lem is the initializing of each host in turn
+  -- BENCH-1: set-up is the initializing of each host in turn
   pub set_up_lem : shared_of file (after_set_up file t b) ≡ shared_after_all (shared_of file b) (set_up_calls file t b)
-  -- BENCH-1: and each answers 0, if set_up_lem is not refused
+  -- BENCH-1: and each answers 0, if set-up is not refused
   pub initialized : passes (set_up_guard t file b) ≡ true → (k : ℕ) → k < (header file t).hosts
       → (perform (ask request.Initialize) (state_at file t k (all_set file t 0 k b))).reply.answer ≡ Done
   -- ISOLATION-2: a host without calls keeps its clock, links, walk and all 255 places

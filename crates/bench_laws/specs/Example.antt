@@ -66,7 +66,7 @@ first_state =
       done = 0;
     }
 
--- BENCH-1: the state after set_up_lem
+-- BENCH-1: the state after set-up
 abbrev pub ready : Bench
 ready = after_set_up file class first_state
 

@@ -22,7 +22,7 @@ use Rattle.bench_laws.specs.Calls.{host_at}
 module _ (file : List ℕ) (t : NetTable) where
   -- ---- the network of a file
 
-  -- ROOM-1, ROOM-2: the network of a file: record a is host a, initialized by set_up_lem
+  -- ROOM-1, ROOM-2: the network of a file: record a is host a, initialized by set-up
   abbrev pub file_network : Bench → (fixed : ℕ → ℤ) → (cable : (node link : ℕ) → End) → (longest : ℕ) → Network
   file_network b f cable n =
       record {

@@ -1,5 +1,6 @@
 // The calendar of the RT-11 date word.
 #![tactic(auto)]
+
 ghost use Rattle.std.specs.Prelude.{◌≡◌, true, ◌≤◌};
 ghost use Rattle.calendar.specs.Date.{year, month, day, spare, flag, date_of, awaited, await, last_day, real, made, next, previous};
 ghost use Rattle.calendar.specs.Months.{MonthLengths};

@@ -5,4 +5,3 @@ pub mod Bounds
 pub mod Turns
 pub mod Range
 pub mod Slew
-pub mod Types

@@ -62,6 +62,7 @@ le_z_of a b h = true_of (to-≤ℤ a b h).le
   where
     true_of : {t : Bool} → T t → t ≡ true
     true_of {t = true} x = refl
+    true_of {t = mathlib.Core.Bool.false} x = elim x [ ]
 
 -- a delay that is the sum of the ways, and an offset that is the true difference plus half of the ways' difference
 pub measured : (θ d e z v : ℤ) → dn d ≤ 0 → dn e ≤ 0 → z ≡ d +ℤ e → v ≡ θ +ℤ shr_z (d -ℤ e) 2 → Measured θ d e z v

@@ -1,4 +1,4 @@
--- NTP-6: the half_delay_lem bound for every word width, with HELLO's formulas and with NTP's.
+-- NTP-6: the half-delay bound for every word width, with HELLO's formulas and with NTP's.
 use Rattle.std.specs.Prelude.{◌≡◌, Bool, true, ◌&&◌, List, [], ◌∷◌, ℕ, ◌*◌, ◌-◌, ◌^◌, ◌≤◌, eqb, ℤ, pos, neg_ℤ, nat_abs, ◌+ℤ◌, ◌-ℤ◌}
 use Rattle.std.specs.Int.Signed.{lt_z, le_z, shr_z}
 use Rattle.quantity.specs.Words.{low_bits}

@@ -1,5 +1,6 @@
 // One exchange of two packets between two clocks, over the width of the words: HELLO's step 3 and NTP's formulas.
 #![tactic(auto)]
+
 ghost use Rattle.exchange.specs.HalfDelay.{HalfDelay};
 ghost use Rattle.exchange.specs.Needed.{Needed};
 

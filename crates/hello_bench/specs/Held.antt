@@ -5,7 +5,7 @@ use Rattle.bench.specs.Bench.{Bench}
 use Rattle.hello_bench.specs.declared.held.Up.{Up}
 use Rattle.hello_bench.specs.declared.held.Gone.{Gone}
 
--- BENCH-1: the answer of set_up_lem, and the state
+-- BENCH-1: the answer of set-up, and the state
 abbrev pub up_of : Answer → Bench → Up
 up_of a b = record { answer = a; hosts = b.hosts; entries = b.entries; progress = record { done = b.done } }
 

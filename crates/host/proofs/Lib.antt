@@ -6,7 +6,6 @@ pub mod Sound
 pub mod Fits
 pub mod Slots
 pub mod Found
-pub mod Types
 pub mod Judged
 pub mod Inspected
 pub mod Walks

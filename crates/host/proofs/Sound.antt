@@ -1,4 +1,4 @@
--- What good settings have, in numbers: each test of `settingsGood` by itself.
+-- What good settings have, in numbers: each test of `settings_good` by itself.
 use mathlib.Core.Path.{◌≡◌}
 use mathlib.Core.Bool.{true, ◌||◌, ◌&&◌, not}
 use mathlib.Core.List.{[], ◌∷◌}

@@ -18,7 +18,7 @@ other_layout s p =
     not (eqb p.nhosts 0)
     && (not (eqb p.nhosts s.layout.nhosts) || not (eqb p.address_offset s.layout.address_offset))
 
--- ARRIVE-1, ANSWER-9, MARK-4: is the source our LOCAL-ADDRESS on a point_to_point link?
+-- ARRIVE-1, ANSWER-9, MARK-4: is the source our LOCAL-ADDRESS on a point-to-point link?
 unfoldable pub looped : Settings → (link : ℕ) → Packet → Bool
 looped s i p = not (broadcast s i) && same_address p.source s.address
 

@@ -1,4 +1,4 @@
--- The laws of the tutor's calls: each call by its cases; the rows of `tableOf` are those that it was given, and the ids of what is put together are those of its parts.
+-- The laws of the tutor's calls: each call by its cases; the rows of `table_of` are those that it was given, and the ids of what is put together are those of its parts.
 use mathlib.Core.Path.{◌≡◌, ◌∙◌, sym, ap, refl}
 use mathlib.Core.Bool.{Bool, true, false, cond, not, ◌||◌, ◌&&◌, true≢false}
 use mathlib.Core.List.{List, [], ◌∷◌, ◌++◌, map}

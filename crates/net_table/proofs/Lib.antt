@@ -2,4 +2,3 @@ pub mod Laws
 pub mod Padded
 pub mod Rebuilt
 pub mod Tables
-pub mod Types

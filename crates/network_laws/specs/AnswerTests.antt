@@ -37,7 +37,7 @@ first_of (t ∷ ts) = cond t.holds t.answer (first_of ts)
 
 -- ---- conditions
 
--- ANSWER-10, ARRIVE-4: 10: a known neighbour on a point_to_point link, with packet TSP 0 or HOLD not 0
+-- ANSWER-10, ARRIVE-4: 10: a known neighbour on a point-to-point link, with packet TSP 0 or HOLD not 0
 abbrev pub delay_invalid_in : (hold : Seconds) → Host → (link : ℕ) → Packet → Bool
 delay_invalid_in hold h i p =
     not (broadcast h.settings i) && same_address p.source (link_of h.links i).neighbor && (zero_word p.tsp || not (eqb hold.0 0))

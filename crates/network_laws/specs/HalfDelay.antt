@@ -1,4 +1,4 @@
--- NTP-6: the half_delay_lem bound of HELLO for a point_to_point exchange, with DELAY of step 3.
+-- NTP-6: the half-delay bound of HELLO for a point-to-point exchange, with DELAY of step 3.
 use Rattle.std.specs.Prelude.{◌≡◌, true, false, ℤ}
 use Rattle.exchange.specs.Formulas.{packet_tsp}
 use Rattle.exchange.specs.HalfDelay.{exchange, all, Measured}

@@ -68,7 +68,7 @@ initialized r a = perform (ask Initialize) (state_at r a (r.nets a) (r.clock a) 
 abbrev pub HostAt : Network → (id node : ℕ) → Type 0
 HostAt r i a = marked (r.settings a).marks i ≡ true
 
--- ROOM-3: a cable joins point_to_point links of two different hosts
+-- ROOM-3: a cable joins point-to-point links of two different hosts
 pub record Cabled (r : Network) (a i b j : ℕ) : Type 0 where
   pub node_in : a < r.nodes
   pub link_in : no_link (r.settings a) i ≡ false

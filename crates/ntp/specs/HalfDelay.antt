@@ -1,4 +1,4 @@
--- NTP-6: the half_delay_lem bound of NTP, for an exchange whose second packet is processed.
+-- NTP-6: the half-delay bound of NTP, for an exchange whose second packet is processed.
 use Rattle.std.specs.Prelude.{◌≡◌, true, ℤ, pos}
 use Rattle.exchange.specs.HalfDelay.{exchange, all, Measured}
 use Rattle.ntp.specs.declared.Association.{Association}

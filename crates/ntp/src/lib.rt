@@ -1,5 +1,6 @@
 // The successor: the NTP header of RFC 5905, read and written, and what an association makes of a packet.
 #![tactic(auto)]
+
 ghost use Rattle.std.specs.Prelude.{◌≡◌};
 ghost use Rattle.ntp.specs.Answer.{number};
 ghost use Rattle.ntp.specs.HalfDelay.{NtpHalfDelay};

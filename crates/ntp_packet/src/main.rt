@@ -1,6 +1,7 @@
 // Reads one NTP header from standard input, to its end, and prints its fields by name, a line each; or the number of the answer that refuses it.
 // The buffer holds one octet more than a header has: of a longer input it is full, and the answer is 23.
 #![tactic(auto)]
+
 use ntp::{Exponent, Header, Read, Timestamp};
 
 fn field(name: &[u8], n: u64) {

@@ -1,12 +1,11 @@
 -- By induction on the width: the last octet is the number's remainder by 256, and the octets before it are those of the quotient.
 use mathlib.Core.Path.{◌≡◌, refl, sym, ap, ◌∙◌}
 use mathlib.Core.List.{List, [], ◌∷◌, ◌++◌, append_assoc, append-nil}
-use Prim.Native.Nat.{ℕ, zero, suc, ◌+◌, ◌*◌, ◌/◌, ◌%◌, ◌^◌, ◌≤◌, ◌<◌}
+use Prim.Native.Nat.{ℕ, zero, suc, ◌+◌, ◌*◌, ◌/◌, ◌%◌, ◌^◌, ◌<◌}
 use native.Mathlib.Nat.{add-zero, zero-add, add-suc, mul_assoc, pow-suc, div-add-mod', mod-lt}
 use native.Mathlib.Omega.{arith}
 use lib.ListN.{length, length-append}
 use lib.Seq.{get_or_at}
-use Rattle.lists.specs.Lists.{part}
 use Rattle.lists.proofs.Parts.{part_more}
 use Rattle.octets.specs.Octets.{Octets, number_octets, octet_at, number_at}
 use Rattle.octets.specs.ReadBack.{ReadBack, WrittenBack}

@@ -1,5 +1,6 @@
 // Numbers in octets, the high octet first: read from a place, and written there.
 #![tactic(auto)]
+
 ghost use Rattle.std.specs.Prelude.{◌≡◌, ◌++◌, ◌+◌, ◌*◌, ◌≤◌, ◌<◌, length, set};
 ghost use Rattle.std.proofs.lemmas.List.Edits.{sets};
 ghost use Rattle.octets.specs.Octets.{two, four, eight, octet_at, two_at, four_at, eight_at};

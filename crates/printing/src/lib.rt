@@ -1,5 +1,6 @@
 // What programs print on standard output.
 #![tactic(auto)]
+
 pub fn text(s: &[u8]) {
     io::write_all(1, s);
 }

@@ -1,5 +1,5 @@
 -- QTY-1: each quantity is a type. Operations stay within a type; the conversions are at the end of this file and nowhere else.
-use Rattle.std.specs.Prelude.{Bool, ℕ, ◌-◌, ◌*◌, ℤ, pos, ◌+ℤ◌, ◌-ℤ◌, ◌*ℤ◌}
+use Rattle.std.specs.Prelude.{Bool, ℕ, ◌-◌, ℤ, pos, ◌+ℤ◌, ◌-ℤ◌, ◌*ℤ◌}
 use Rattle.std.specs.Int.Signed.{lt_z, shr_z}
 use Rattle.quantity.specs.declared.Units.{Units}
 use Rattle.quantity.specs.declared.Millis.{Millis}

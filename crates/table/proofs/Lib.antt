@@ -1,4 +1,3 @@
-pub mod Types
 pub mod Bits
 pub mod ByWords
 pub mod FourAtOnce
@@ -10,5 +9,3 @@ pub mod Cases
 pub mod Kept
 pub mod Sweeps
 pub mod Loops
-pub mod Changing
-pub mod Reporting

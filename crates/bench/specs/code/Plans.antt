@@ -1,4 +1,4 @@
--- What set_up_lem and run are to do, by their answer and the file's header: nothing if they are refused.
+-- What set-up and run are to do, by their answer and the file's header: nothing if they are refused.
 use Rattle.std.specs.Prelude.{true, cond, List, length, ℕ, ◌+◌, ◌-◌, ◌*◌, min}
 use Rattle.net_table.specs.declared.NetTable.{NetTable}
 use Rattle.bench_file.specs.declared.Header.{Header}
@@ -16,7 +16,7 @@ use Rattle.bench.specs.Guard.{runnable, tested}
 abbrev pub no_header : Header
 no_header = record { hosts = 0; cables = 0; events = 0; cables_start = 0; events_start = 0 }
 
--- ---- set_up_lem
+-- ---- set-up
 
 abbrev pub sets_all : Answer → Header → SetUpPlan
 sets_all a h =

@@ -1,0 +1,10 @@
+use Rattle.clock.specs.Midnight.{days_away}
+use Rattle.clock.proofs.Turns.{on}
+use Rattle.clock.proofs.While.{Going}
+use Rattle.clock.proofs.Clock.days_on.Given as goal
+
+abbrev pub invariant-loop-hold_interval : goal.invariant-loop-hold_interval
+invariant-loop-hold_interval l = Going (on l.hold_interval l.n) l.initial.c l.c
+
+abbrev pub decreases-loop-hold_interval : goal.decreases-loop-hold_interval
+decreases-loop-hold_interval l = days_away l.n l.c
