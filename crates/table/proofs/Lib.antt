@@ -13,3 +13,4 @@ pub mod Updating
 pub mod Turns
 pub mod Changing
 pub mod Reporting
+pub mod Reading
