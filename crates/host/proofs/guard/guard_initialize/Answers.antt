@@ -9,15 +9,12 @@ returns-then-not-numbers_good c = let a = c.args in
     rw (sym c.is_bad-bad.ensures ∙ c.if-bad.false, sym c.places_missing-missing.ensures ∙ c.if-missing.false, numbers_off a.t a.s (sym c.numbers_good.ensures ∙ c.if-not-numbers_good.true))
 
 pub returns-then-not-marks_good : goal.returns-then-not-marks_good
-returns-then-not-marks_good c = let p = c in
-    let a = p.args in
+returns-then-not-marks_good c = let a = c.args in
     let numbers = sym c.numbers_good.ensures ∙ c.if-not-numbers_good.false in
-    rw (sym p.is_bad-bad.ensures ∙ p.if-bad.false, sym p.places_missing-missing.ensures ∙ p.if-missing.false, marks_off a.t a.s numbers (sym c.marks_good.ensures ∙ c.if-not-marks_good.true))
+    rw (sym c.is_bad-bad.ensures ∙ c.if-bad.false, sym c.places_missing-missing.ensures ∙ c.if-missing.false, marks_off a.t a.s numbers (sym c.marks_good.ensures ∙ c.if-not-marks_good.true))
 
 pub returns : goal.returns
-returns c = let q = c in
-    let p = q in
-    let a = p.args in
-    let numbers = sym q.numbers_good.ensures ∙ q.if-not-numbers_good.false in
+returns c = let a = c.args in
+    let numbers = sym c.numbers_good.ensures ∙ c.if-not-numbers_good.false in
     let marks = sym c.marks_good.ensures ∙ c.if-not-marks_good.false in
-    rw (sym p.is-bad.ensures ∙ p.if1.false, sym p.places-missing.ensures ∙ p.if2.false, fit_by_nhosts a.t a.s _ numbers marks (eq-eqb _ _ c.if-layout-t.false))
+    rw (sym c.is_bad-bad.ensures ∙ c.if-bad.false, sym c.places_missing-missing.ensures ∙ c.if-missing.false, fit_by_nhosts a.t a.s _ numbers marks (eq-eqb _ _ c.if-layout-t.false))

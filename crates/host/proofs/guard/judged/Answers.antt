@@ -1,7 +1,6 @@
 -- 12 by the test before, 16 by the walk, 1 by the settings and the table.
 use mathlib.Core.Path.{◌∙◌, sym}
 use borrow.Author.Tests.{eq-eqb}
-use Rattle.lists.proofs.Tests.{is_so}
 use Rattle.host.proofs.Rules.{numbers_off, marks_off, fit_by_nhosts}
 use Rattle.host.proofs.guard.judged.Goals as goal
 
@@ -10,15 +9,12 @@ returns-then-not-numbers_good c = let a = c.args in
     rw (c.if-not-good.false, sym c.in_walk.ensures ∙ c.if-in_walk.false, numbers_off a.t a.s (sym c.numbers_good.ensures ∙ c.if-not-numbers_good.true))
 
 pub returns-then-not-marks_good : goal.returns-then-not-marks_good
-returns-then-not-marks_good c = let p = c in
-    let a = p.args in
+returns-then-not-marks_good c = let a = c.args in
     let numbers = sym c.numbers_good.ensures ∙ c.if-not-numbers_good.false in
-    rw (p.if-not-good.false, sym p.in_walk.ensures ∙ p.if-in_walk.false, marks_off a.t a.s numbers (sym c.marks_good.ensures ∙ c.if-not-marks_good.true))
+    rw (c.if-not-good.false, sym c.in_walk.ensures ∙ c.if-in_walk.false, marks_off a.t a.s numbers (sym c.marks_good.ensures ∙ c.if-not-marks_good.true))
 
 pub returns : goal.returns
-returns c = let q = c in
-    let p = q in
-    let a = p.args in
-    let numbers = sym q.numbers_good.ensures ∙ q.if-not-numbers_good.false in
+returns c = let a = c.args in
+    let numbers = sym c.numbers_good.ensures ∙ c.if-not-numbers_good.false in
     let marks = sym c.marks_good.ensures ∙ c.if-not-marks_good.false in
-    rw (is_so a.good p.if1.false, sym p.in-walk.ensures ∙ p.if2.false, fit_by_nhosts a.t a.s _ numbers marks (eq-eqb _ _ c.if-layout-t.false))
+    rw (c.if-not-good.false, sym c.in_walk.ensures ∙ c.if-in_walk.false, fit_by_nhosts a.t a.s _ numbers marks (eq-eqb _ _ c.if-layout-t.false))

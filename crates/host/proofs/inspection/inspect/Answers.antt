@@ -5,8 +5,8 @@ use Rattle.host.proofs.inspection.inspect.Goals as goal
 
 pub returns-in-Bad : goal.returns-in-Bad
 unfolding inspect
-returns-in-Bad c = (rw (sym c.parse.ensures.0 ∙ c.a-1.given.1), tt)
+returns-in-Bad c = (rw (sym c.parse.ensures.0 ∙ c.in-Bad.is), tt)
 
 pub returns-in-Good : goal.returns-in-Good
 unfolding inspect
-returns-in-Good c = (rw (sym c.parse.ensures.0 ∙ c.p-1.given.1) c.compared.ensures.0, c.compared.ensures.1)
+returns-in-Good c = (rw (sym c.parse.ensures.0 ∙ c.in-Good.is) c.compared.ensures.0, c.compared.ensures.1)

@@ -1,11 +1,10 @@
 -- One way through `fresh`: rewriting by the contract of `fresh_link` gives the definition. Bounds follow by linear arithmetic.
 use mathlib.Core.Path.{◌∙◌, refl, ap}
 use mathlib.Core.List.{List}
-use Prim.Native.Nat.{◌-◌}
 use native.Mathlib.Omega.{arith}
 use lib.ListN.{set, replicate}
 use Rattle.host.specs.declared.Link.{Link}
-use Rattle.host.specs.State.{fresh_link, fresh_links}
+use Rattle.host.specs.State.{fresh_links}
 use Rattle.host.proofs.Slots.{fresh_more, fresh_all}
 use Rattle.host.proofs.link_state.fresh.Goals as goal
 

@@ -7,7 +7,7 @@ use Rattle.host.proofs.link_state.switches_good.Given as goal
 
 abbrev pub invariant-loop-i : goal.invariant-loop-i
 invariant-loop-i l =
-    (l.i ≤ l.count) × (l.count ≤ 8) × (length l.all ≡ 8) × (every switch_good (take l.count l.all) ≡ every switch_good (drop l.i (take l.count l.all)))
+    (l.i ≤ l.count) × (l.count ≤ 8) × (length l.links ≡ 8) × (every switch_good (take l.count l.links) ≡ every switch_good (drop l.i (take l.count l.links)))
 
 abbrev pub decreases-loop-i : goal.decreases-loop-i
 decreases-loop-i l = l.count - l.i

@@ -3,7 +3,6 @@ use mathlib.Core.Path.{◌∙◌, sym}
 use borrow.Author.Tests.{le-leb, lt-leb}
 use Rattle.host.specs.State.{no_link}
 use Rattle.host.specs.Walk.{walk_in_range}
-use Rattle.host.specs.code.Held.{is_link}
 use Rattle.host.proofs.walk.in_range.Goals as goal
 
 pub returns-then-not-is_open : goal.returns-then-not-is_open
