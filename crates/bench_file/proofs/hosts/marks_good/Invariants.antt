@@ -1,0 +1,12 @@
+use mathlib.Core.Path.{◌≡◌}
+use Prim.Native.Nat.{◌≤◌, ◌-◌}
+use lib.ListN.{drop}
+use Rattle.lists.specs.Lists.{part}
+use Rattle.table.specs.Forms.{every}
+use Rattle.bench_file.proofs.hosts.marks_good.Given as goal
+
+abbrev pub invariant-loop-i : goal.invariant-loop-i
+invariant-loop-i l = (l.i ≤ 256) × (every good (part 65 256 l.octets) ≡ every good (drop l.i (part 65 256 l.octets)))
+
+abbrev pub decreases-loop-i : goal.decreases-loop-i
+decreases-loop-i l = 256 - l.i
