@@ -1,7 +1,5 @@
 -- CALL-4, HOST-6: everything that a call takes: settings, clock and links, the net table, the host's number, its walk with the packet's copy, and the host table.
 use Rattle.std.specs.Prelude.{Bool, ◌&&◌, List, ℕ, take}
-use Rattle.std.specs.Borrow.{Bor}
-use denote.Triple.Both.{Both}
 use Rattle.clock.specs.declared.Clock.{Clock}
 use Rattle.clock.specs.declared.Counter.{Counter}
 use Rattle.clock.specs.declared.Reading.{Reading}
@@ -63,12 +61,3 @@ marks_as_set x = every_from 0 (as_marked x.host.settings.marks) (entries_of x)
 -- HOST-6: is the caller's state in range?
 unfoldable pub state_in_range : CallState → Bool
 state_in_range x = host_in_range x.host && own_walk_in_range x && every entry_in_range (entries_of x) && marks_as_set x
-
--- CALL-4: a reference: its value before the call, and after it
-abbrev pub Ref : Type 0 → Type 0
-Ref A = Both (Bor A) (Bor A)
-
--- CALL-4: the caller's state before the call
-abbrev pub before : Ref Settings → Ref NetTable → ℕ → Ref Clock → Ref Links → Ref Walk → Ref (List ℕ) → Ref (List Entry) → CallState
-before settings nets number clock links walk copy entries =
-    call_state settings.entry.now nets.entry.now number clock.entry.now links.entry.now walk.entry.now copy.entry.now entries.entry.now

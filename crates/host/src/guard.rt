@@ -1,6 +1,6 @@
 // The guard: answers 12, 16 and 1, before anything else in every call.
 ghost use Rattle.std.specs.Prelude.{◌≡◌, ◌≤◌};
-ghost use Rattle.host.specs.CallState.{host, before};
+ghost use Rattle.host.specs.CallState.{host, call_state};
 ghost use Rattle.host.specs.Guard.{in_walk, guard};
 ghost use Rattle.host.specs.code.Returned.{initialized};
 ghost use Rattle.host.specs.code.Held.{places_missing, settled, full_scan, names_link, held, judged, judged_initialize};
@@ -193,7 +193,7 @@ pub fn guard(
     scope: Scope,
     entries: &[Entry],
 ) -> Answer
-    ensures { result ≡ guard scope (before settings net_table number clock links walk copy entries) }
+    ensures { result ≡ guard scope (call_state settings.now net_table.now number clock.now links.now walk.now copy.now entries.now) }
 {
     let s = *settings;
     let t = *net_table;
