@@ -62,7 +62,7 @@ not_empty_append (h ∷ a) b p q = (p.0, not_empty_append a b p.1 q)
 
 hits_filled : (from end : ℕ) (hs : List Span) → Order from end hs → NoneEmpty hs
 hits_filled from end [] o = tt
-hits_filled from end (h ∷ hs) o = (omega (arith, o.1), hits_filled _ end hs o.2)
+hits_filled from end (h ∷ hs) o = (omega (arith, o.1), hits_filled (h.start + h.size) end hs o.2)
 
 gap_filled : (from to : ℕ) → NoneEmpty (gap from to)
 gap_filled from to = by_gap NoneEmpty from to (λ l. (omega arith, tt)) (λ l. tt)

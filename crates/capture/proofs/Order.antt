@@ -17,7 +17,7 @@ Order from end (h ∷ hs) = (from ≤ h.start) × (packet_length 0 ≤ h.size) �
 
 pub order_le : (from end : ℕ) (hs : List Span) → Order from end hs → from ≤ end
 order_le from end [] o = o
-order_le from end (h ∷ hs) o = omega (arith, o.0, order_le _ end hs o.2)
+order_le from end (h ∷ hs) o = omega (arith, o.0, order_le (h.start + h.size) end hs o.2)
 
 pub sooner : (earlier from end : ℕ) (hs : List Span) → earlier ≤ from → Order from end hs → Order earlier end hs
 sooner earlier from end [] h o = omega (arith, o)

@@ -111,7 +111,7 @@ packets_long input from end [] h o = refl
 packets_long input from end (x ∷ hs) h o =
     let p = octets_of input x in
     let i : x.start + x.size ≤ length input = omega (arith, order_le _ end hs o.2) in
-    omega (arith, length-append p (flatten (packets_of input hs)), part_length x.start x.size input i, packets_long input _ end hs h o.2)
+    omega (arith, length-append p (flatten (packets_of input hs)), part_length x.start x.size input i, packets_long input (x.start + x.size) end hs h o.2)
 
 pub capture_long : (input : List ℕ) → length (recovered_capture input) ≡ heading_length (length (hits input)) + total_size (hits input)
 unfolding recovered_capture capture_of

@@ -1,5 +1,6 @@
 // The mender of damaged captures: it finds the packets of an input again, and writes a capture of them.
 #![tactic(auto)]
+
 ghost use Rattle.std.specs.Prelude.{◌≡◌};
 ghost use Rattle.capture.specs.Answer.{number};
 ghost use Rattle.capture.specs.Search.{Searches};

@@ -1,5 +1,6 @@
 // The internet checksum, in two ways: four octets at a time, which all calls use, and the plain one.
 #![tactic(auto)]
+
 ghost use Rattle.std.specs.Prelude.{◌≡◌};
 ghost use Rattle.checksum.specs.Checksum.{folded, checksum_good, checksum_of};
 

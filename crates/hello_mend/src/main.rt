@@ -2,6 +2,7 @@
 // for each stretch that was passed over, and then whether the input's own number and places were those of its packets.
 // The input buffer holds one octet more than the mender takes: of a longer input it is full, and the answer is 27.
 #![tactic(auto)]
+
 ghost use Rattle.std.specs.Prelude.{◌+◌, ◌≤◌, length};
 
 // The octets of a number, and of a stretch in the list.

@@ -1,5 +1,6 @@
 // A host: its settings and their test (answer 1), its links, and its places in the host table.
 #![tactic(auto)]
+
 ghost use Rattle.std.specs.Prelude.{◌≡◌, true, not, ◌&&◌, ◌||◌, ltb, eqb, pos, ◌≤◌};
 ghost use Rattle.quantity.specs.Quantity.{millis, less_millis};
 ghost use Rattle.clock.specs.Midnight.{day_millis};

@@ -1,11 +1,11 @@
 -- The laws of the tutor's calls: each call by its cases; the rows of `table_of` are those that it was given, and the ids of what is put together are those of its parts.
 use mathlib.Core.Path.{◌≡◌, ◌∙◌, sym, ap, refl}
-use mathlib.Core.Bool.{Bool, true, false, cond, not, ◌||◌, ◌&&◌, true≢false}
+use mathlib.Core.Bool.{true, false, not, true≢false}
 use mathlib.Core.List.{List, [], ◌∷◌, ◌++◌, map}
 use Prim.Native.Nat.{ℕ, zero, suc, ◌+◌, ◌-◌, ◌≤◌, ◌<◌}
 use native.Mathlib.Omega.{arith}
 use borrow.Author.Tests.{ltb-true, ltb-false, leb-false, le-ltb}
-use lib.Dec.{ltb, leb, eqb}
+use lib.Dec.{ltb, eqb}
 use lib.ListN.{length, take, drop, set, get_or, replicate, length-append, length-take, length-drop, length-set}
 use lib.Seq.{take_at, get_or_at, map-set_same}
 use Rattle.lists.proofs.Tests.{both, neither, either, is_so}
@@ -18,7 +18,7 @@ use Rattle.net_table.specs.declared.Answer.TheVariants.{Done, Setting, OutOfRang
 use Rattle.net_table.specs.declared.Outcome.{Outcome}
 use Rattle.net_table.specs.declared.Addition.{Addition}
 use Rattle.net_table.specs.Answer.{number}
-use Rattle.net_table.specs.Table.{standing, nhosts_bad, table_bad, zero_row, padded, table_of}
+use Rattle.net_table.specs.Table.{standing, nhosts_bad, table_bad, zero_row, table_of}
 use Rattle.net_table.specs.Tutor.{leaves, addition, no_row, full, row_at, with_row, without_row, with_id, initialize_table, add, remove, change}
 use Rattle.net_table.specs.Laws.{RowsAfter, NeverBad, Refused, EveryRow}
 use Rattle.net_table.proofs.Tables.{Good, good}

@@ -3,7 +3,7 @@ use mathlib.Core.Path.{◌≡◌, ◌∙◌, sym, ap}
 use mathlib.Core.List.{List, [], ◌∷◌, ◌++◌}
 use Prim.Native.Nat.{ℕ, suc, ◌+◌, ◌-◌, ◌≤◌, ◌<◌}
 use native.Mathlib.Omega.{arith}
-use lib.ListN.{length, take, drop, set, get_or, replicate, length-replicate, replicate-append-replicate, length-append, length-set}
+use lib.ListN.{length, drop, set, get_or, replicate, length-replicate, replicate-append-replicate, length-append, length-set}
 use lib.Seq.{drop_at, set-append_left, set-append_seam, append_snoc}
 use Rattle.lists.specs.Lists.{part, over}
 use Rattle.lists.proofs.Parts.{over_twice, over_more, part_length, part_more}

@@ -1,10 +1,10 @@
 -- The first n rows, built again: the result of each function of `rows` is the padded list of its definition.
 use mathlib.Core.Path.{◌≡◌, ◌∙◌, sym, ap}
-use mathlib.Core.List.{List, [], ◌∷◌, ◌++◌}
+use mathlib.Core.List.{List, ◌++◌}
 use Prim.Native.Nat.{ℕ, ◌+◌, ◌-◌, ◌≤◌, ◌<◌}
 use native.Mathlib.Omega.{arith}
-use lib.ListN.{length, take, drop, set, get_or, replicate, length-take}
-use lib.Seq.{drop_at, take-take, take-add, length-take-le, get_or-take, drop-cons, set-append_left}
+use lib.ListN.{length, take, drop, set, get_or, replicate}
+use lib.Seq.{drop_at, take-take, take-add, length-take-le, get_or-take, drop-cons}
 use Rattle.lists.specs.Lists.{part, over}
 use Rattle.lists.proofs.Parts.{part_length}
 use Rattle.route.specs.declared.Row.{Row}

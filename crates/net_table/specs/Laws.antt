@@ -1,11 +1,10 @@
 -- NET-6, NET-7, NET-8: what the tutor's calls result in: which rows there are, never a bad table, and no change at a refusal.
-use Rattle.std.specs.Prelude.{◌≡◌, true, false, List, [], ◌∷◌, ◌++◌, map, ℕ, ◌+◌, ◌-◌, ◌<◌, length, take, drop, set, get_or, replicate}
+use Rattle.std.specs.Prelude.{◌≡◌, false, [], ◌∷◌, ◌++◌, map, ℕ, ◌-◌, ◌<◌, length, take, drop, set, get_or}
 use Rattle.route.specs.declared.Net.{Net}
 use Rattle.route.specs.declared.Row.{Row}
 use Rattle.net_table.specs.declared.NetTable.{NetTable}
-use Rattle.net_table.specs.declared.Answer.{Answer}
-use Rattle.net_table.specs.declared.Answer.TheVariants.{Done, Setting, OutOfRange, TableFull, NoRow}
-use Rattle.net_table.specs.Table.{most_rows, standing, table_bad, zero_row}
+use Rattle.net_table.specs.declared.Answer.TheVariants.{Done}
+use Rattle.net_table.specs.Table.{standing, table_bad, zero_row}
 use Rattle.net_table.specs.Tutor.{initialize_table, add, remove, change, row_at}
 
 -- NET-6: the rows after a call that answered 0

@@ -1,5 +1,5 @@
 -- NET-1: the net table of a class: its NHOSTS and its rows.
-use Rattle.std.specs.Prelude.{Bool, not, ◌||◌, List, ◌++◌, ℕ, ◌-◌, ltb, leb, eqb, length, replicate}
+use Rattle.std.specs.Prelude.{Bool, not, ◌||◌, List, ◌++◌, ℕ, ◌-◌, ltb, length, replicate}
 use Rattle.route.specs.declared.Row.{Row}
 use Rattle.route.specs.Find.{zero_net, rows_of, ids_below}
 use Rattle.net_table.specs.declared.NetTable.{NetTable}

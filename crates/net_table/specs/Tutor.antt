@@ -1,12 +1,11 @@
 -- NET-2 to NET-7: the tutor's four calls. Each gives the table afterwards and its answer.
-use Rattle.std.specs.Prelude.{Bool, cond, not, ◌||◌, List, [], ◌∷◌, ◌++◌, ℕ, suc, ◌+◌, ◌-◌, ltb, leb, eqb, length, get_or, set, take, drop}
+use Rattle.std.specs.Prelude.{Bool, cond, not, ◌||◌, List, [], ◌∷◌, ◌++◌, ℕ, ◌+◌, ◌-◌, ltb, leb, eqb, length, get_or, set, take, drop}
 use Rattle.route.specs.declared.Net.{Net}
 use Rattle.route.specs.declared.Row.{Row}
 use Rattle.net_table.specs.declared.NetTable.{NetTable}
 use Rattle.net_table.specs.declared.Answer.{Answer}
 use Rattle.net_table.specs.declared.Answer.TheVariants.{Done, Setting, OutOfRange, TableFull, NoRow}
 use Rattle.net_table.specs.declared.Outcome.{Outcome}
-use Rattle.net_table.specs.declared.Added.{Added}
 use Rattle.net_table.specs.declared.Addition.{Addition}
 use Rattle.net_table.specs.Table.{most_rows, standing, nhosts_bad, table_bad, zero_row, table_of}
 

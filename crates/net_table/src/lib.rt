@@ -1,5 +1,6 @@
 // The net table of a class, which all its hosts use and only the tutor changes.
 #![tactic(auto)]
+
 ghost use Rattle.std.specs.Prelude.{◌≡◌, []};
 ghost use Rattle.net_table.specs.Answer.{number};
 ghost use Rattle.net_table.specs.Table.{nhosts_bad, table_bad, table_of};

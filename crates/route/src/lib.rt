@@ -1,5 +1,6 @@
 // Finding the host id of an address.
 #![tactic(auto)]
+
 ghost use Rattle.std.specs.Prelude.{◌≡◌, length};
 ghost use Rattle.route.specs.Find.{
   class_a,

@@ -1,5 +1,6 @@
 // The runs of clock, dates and checksum: the papers' worked sums, what may surprise, and the examples of RFC 1071. Each line has a name and what was computed; the file stdout has what the papers say, or what follows from them by hand.
 #![tactic(auto)]
+
 mod clocks;
 mod rfc1071;
 mod show;

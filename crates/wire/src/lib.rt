@@ -1,5 +1,6 @@
 // Packets: the IP header and the HELLO after it.
 #![tactic(auto)]
+
 ghost use Rattle.std.specs.Prelude.{◌≡◌, ◌+◌, ◌≤◌, length};
 ghost use Rattle.lists.specs.Lists.{over};
 ghost use Rattle.wire.specs.Octets.{zero_address, same_address};

@@ -57,7 +57,7 @@ slice_bounds-form-count c =
     let checksum-good : ip_checksum c.args.packet.now ≡ true =
     sym c.checksum.ensures ∙ c.if-not-checksum.false in
     let header-good : HeaderPasses c.args.packet.now =
-    record { form = form-good; checksum = checksum-good; kind = sym c.protocol.ensures ∙ c.if-not-protocol.false; } in
+    record { form = form-good; checksum = checksum-good; kind = sym c.protocol.ensures ∙ c.if-not-protocol.false } in
     ip_long _ (header-good).form
 
 pub slice_bounds-form-start : goal.slice_bounds-form-start
@@ -67,7 +67,7 @@ slice_bounds-form-start c =
     let checksum-good : ip_checksum c.args.packet.now ≡ true =
     sym c.checksum.ensures ∙ c.if-not-checksum.false in
     let header-good : HeaderPasses c.args.packet.now =
-    record { form = form-good; checksum = checksum-good; kind = sym c.protocol.ensures ∙ c.if-not-protocol.false; } in
+    record { form = form-good; checksum = checksum-good; kind = sym c.protocol.ensures ∙ c.if-not-protocol.false } in
     ip_long _ (header-good).form
 
 pub returns-then-not-form-2 : goal.returns-then-not-form-2
@@ -78,7 +78,7 @@ returns-then-not-form-2 c =
     let checksum-good : ip_checksum c.args.packet.now ≡ true =
     sym c.checksum.ensures ∙ c.if-not-checksum.false in
     let header-good : HeaderPasses c.args.packet.now =
-    record { form = form-good; checksum = checksum-good; kind = sym c.protocol.ensures ∙ c.if-not-protocol.false; } in
+    record { form = form-good; checksum = checksum-good; kind = sym c.protocol.ensures ∙ c.if-not-protocol.false } in
     let h = header-good in
     (rw (h.form, h.checksum, h.kind, hello-test hello_form _ c.form-2.ensures c.if-not-form-2.true), tt)
 
@@ -89,7 +89,7 @@ slice_bounds-checksum-count c =
     let checksum-good : ip_checksum c.args.packet.now ≡ true =
     sym c.checksum.ensures ∙ c.if-not-checksum.false in
     let header-good : HeaderPasses c.args.packet.now =
-    record { form = form-good; checksum = checksum-good; kind = sym c.protocol.ensures ∙ c.if-not-protocol.false; } in
+    record { form = form-good; checksum = checksum-good; kind = sym c.protocol.ensures ∙ c.if-not-protocol.false } in
     ip_long _ (header-good).form
 
 pub slice_bounds-checksum-start : goal.slice_bounds-checksum-start
@@ -99,7 +99,7 @@ slice_bounds-checksum-start c =
     let checksum-good : ip_checksum c.args.packet.now ≡ true =
     sym c.checksum.ensures ∙ c.if-not-checksum.false in
     let header-good : HeaderPasses c.args.packet.now =
-    record { form = form-good; checksum = checksum-good; kind = sym c.protocol.ensures ∙ c.if-not-protocol.false; } in
+    record { form = form-good; checksum = checksum-good; kind = sym c.protocol.ensures ∙ c.if-not-protocol.false } in
     ip_long _ (header-good).form
 
 pub returns-then-not-checksum-2 : goal.returns-then-not-checksum-2
@@ -110,7 +110,7 @@ returns-then-not-checksum-2 c =
     let checksum-good : ip_checksum c.args.packet.now ≡ true =
     sym c.checksum.ensures ∙ c.if-not-checksum.false in
     let header-good : HeaderPasses c.args.packet.now =
-    record { form = form-good; checksum = checksum-good; kind = sym c.protocol.ensures ∙ c.if-not-protocol.false; } in
+    record { form = form-good; checksum = checksum-good; kind = sym c.protocol.ensures ∙ c.if-not-protocol.false } in
     let hello-form-good : hello_form (hello_of c.args.packet.now) ≡ true =
     hello-test hello_form c.args.packet.now c.form-2.ensures c.if-not-form-2.false in
     let h = header-good in
@@ -129,7 +129,7 @@ returns c =
     let checksum-good : ip_checksum c.args.packet.now ≡ true =
     sym c.checksum.ensures ∙ c.if-not-checksum.false in
     let header-good : HeaderPasses c.args.packet.now =
-    record { form = form-good; checksum = checksum-good; kind = sym c.protocol.ensures ∙ c.if-not-protocol.false; } in
+    record { form = form-good; checksum = checksum-good; kind = sym c.protocol.ensures ∙ c.if-not-protocol.false } in
     let hello-form-good : hello_form (hello_of c.args.packet.now) ≡ true =
     hello-test hello_form c.args.packet.now c.form-2.ensures c.if-not-form-2.false in
     let s = c.args.packet.now in

@@ -24,7 +24,7 @@ returns c =
     let j = c.if-s-i-ge4 in
     let stands : Stands s j.i j.sum =
     elim j.branch [
-    then-s-i-ge4 w ↦ rw (w.i-is, w.sum-is) (one_four s l.i l.sum w.four-then-s-i-ge4.result (omega arith) w.four-then-s-i-ge4.ensures l.invariant.2)
-    | else-s-i-ge4 w ↦ rw (w.i-is, w.sum-is) l.invariant.2
+      | then-s-i-ge4 w ↦ rw (w.i-is, w.sum-is) (one_four s l.i l.sum w.four-then-s-i-ge4.result (omega arith) w.four-then-s-i-ge4.ensures l.invariant.2)
+      | else-s-i-ge4 w ↦ rw (w.i-is, w.sum-is) l.invariant.2
     ] in
     all_stand s j.i j.sum c.last.result c.last.ensures.value stands
