@@ -1,7 +1,6 @@
 -- The tests of the words come to the test of all; the last word ends with the last entry.
-use mathlib.Core.Path.{sym}
 use native.Mathlib.Omega.{arith}
-use Rattle.table.proofs.Reading.{starts_so, goes_on_so, ends_so, word_fits}
+use Rattle.table.proofs.Reading.{starts_so, goes_on_so, ends_so}
 use Rattle.table.proofs.entries.good_in_all.Goals as goal
 
 pub loop-k-init : goal.loop-k-init
