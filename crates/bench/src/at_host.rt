@@ -31,7 +31,7 @@ pub fn asked(
     entries: &mut [Entry],
     request: Request,
 ) -> HostAfter
-    ensures { WritesEntries settings net_table number clock links walk copy entries (ask request) result }
+    ensures { WritesEntries settings net_table.now number clock links walk copy.now entries.old (ask request) result entries.new }
 {
     let s = settings;
     let mut c = clock;
@@ -62,7 +62,8 @@ pub fn sent(
     counter: Counter,
     buffer: &mut [u8],
 ) -> HostAfter
-    ensures { WritesBuffer settings net_table number clock links walk copy entries link counter buffer result }
+    ensures { WritesBuffer settings net_table.now number clock links walk copy.now entries.now
+        link counter buffer.old result buffer.new }
 {
     let s = settings;
     let mut c = clock;
@@ -92,7 +93,7 @@ pub fn inspected(
     link: usize,
     packet: &[u8],
 ) -> HostAfter
-    ensures { Inspects settings net_table number clock links walk copy entries link packet result }
+    ensures { Inspects settings net_table.now number clock links walk copy.now entries.now link packet.now result }
 {
     let s = settings;
     let c = clock;
@@ -122,7 +123,8 @@ pub fn taken(
     delivery: Delivery,
     packet: &[u8],
 ) -> HostAfter
-    ensures { WritesEntries settings net_table number clock links walk copy entries (deliver delivery packet.now) result }
+    ensures { WritesEntries settings net_table.now number clock links walk copy.now entries.old
+        (deliver delivery packet.now) result entries.new }
 {
     let s = settings;
     let mut c = clock;

@@ -23,8 +23,9 @@ pub fn event_at(
     i: usize,
     w: Turns,
 )
-    requires { NextFits file w net_table hosts copies entries slots answers i }
-    ensures { NextLeaves file net_table hosts copies entries slots answers i }
+    requires { NextFits file.now w net_table.now hosts.old copies.now entries.old slots.old answers.old i }
+    ensures { NextLeaves file.now net_table.now hosts.old copies.now entries.old slots.old answers.old i
+        hosts.new entries.new slots.new answers.new }
 {
     let p = tell(file, slots, i, w);
     match p {
@@ -58,7 +59,8 @@ pub fn turns(
     w: Turns,
 )
     requires { TurnsFit file.now w net_table.now (bench hosts.old copies.now entries.old slots.old answers.old w.first) }
-    ensures { TurnsLeave file net_table hosts copies entries slots answers w }
+    ensures { TurnsLeave file.now net_table.now hosts.old copies.now entries.old slots.old answers.old w
+        hosts.new entries.new slots.new answers.new }
 {
     let end = w.end;
     let mut i = w.first;

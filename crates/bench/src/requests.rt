@@ -26,7 +26,7 @@ pub fn ask_at(
     w: Ask,
 ) -> Reply
     requires { AskFits w hosts.old copies.now }
-    ensures { DoesAsk w net_table hosts copies entries result }
+    ensures { DoesAsk w net_table.now hosts.old copies.now entries.old result hosts.new entries.new }
 {
     let low = copy_start(w.host);
     let high = copy_end(w.host);

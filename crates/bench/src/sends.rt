@@ -48,7 +48,7 @@ pub fn send_at(
     w: Sending,
 ) -> Reply
     requires { SendFits w hosts.old copies.now slots.old }
-    ensures { DoesSend w net_table hosts copies entries slots result }
+    ensures { DoesSend w net_table.now hosts.old copies.now entries.now slots.old result hosts.new slots.new }
 {
     let low = copy_start(w.host);
     let high = copy_end(w.host);

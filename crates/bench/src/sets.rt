@@ -43,7 +43,7 @@ fn set_at(
     w: Setting,
 )
     requires { SetFits file.now w hosts.old copies.now i }
-    ensures { SetsHost file net_table hosts copies entries i }
+    ensures { SetsHost file.now net_table.now hosts.old copies.now entries.old i hosts.new entries.new }
 {
     let a = initializes(file, i, w);
     let r = ask_at(net_table, hosts, copies, entries, a);
@@ -59,7 +59,7 @@ pub fn sets(
     w: Setting,
 )
     requires { SetsFit file.now w hosts.old copies.now }
-    ensures { SetsHosts file w net_table hosts copies entries }
+    ensures { SetsHosts file.now w net_table.now hosts.old copies.now entries.old hosts.new entries.new }
 {
     let end = w.end;
     let mut i = w.first;

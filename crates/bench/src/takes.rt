@@ -58,7 +58,7 @@ fn look_at(
     w: Taking,
 ) -> HostAfter
     requires { TakeFits w hosts.now copies.now slots.now }
-    ensures { DoesLook w net_table hosts copies entries slots result }
+    ensures { DoesLook w net_table.now hosts.now copies.now entries.now slots.now result }
 {
     let low = copy_start(w.host);
     let high = copy_end(w.host);
@@ -88,7 +88,7 @@ fn act_at(
     w: Taking,
 ) -> Reply
     requires { TakeFits w hosts.old copies.now slots.now }
-    ensures { DoesAct w net_table hosts copies entries slots result }
+    ensures { DoesAct w net_table.now hosts.old copies.now entries.old slots.now result hosts.new entries.new }
 {
     let low = copy_start(w.host);
     let high = copy_end(w.host);
@@ -122,7 +122,7 @@ pub fn take_at(
     w: Taking,
 ) -> Reply
     requires { TakeFits w hosts.old copies.now slots.now }
-    ensures { DoesTake w net_table hosts copies entries slots result }
+    ensures { DoesTake w net_table.now hosts.old copies.now entries.old slots.now result hosts.new entries.new }
 {
     let o = look_at(net_table, hosts, copies, entries, slots, w);
     let b = passes(o.reply);

@@ -2,6 +2,7 @@
 #![tactic(auto)]
 
 ghost use Rattle.std.specs.Prelude.{◌≡◌, not};
+ghost use Rattle.host.specs.CallState.{call_state};
 ghost use Rattle.host.specs.Guard.{done};
 ghost use Rattle.host.specs.declared.guard.Scope.TheVariants.{All, OnLink, Opening};
 ghost use Rattle.calls.specs.declared.Request.TheVariants.{Initialize, Tick, Adjust, Set, Read, Second, SelfReport, Lookup};
@@ -63,7 +64,9 @@ pub fn call(
     entries: &mut [Entry],
     request: Request,
 ) -> Reply
-    ensures { Does (ask request) settings net_table number clock links walk copy entries result }
+    ensures { Does (ask request)
+        (call_state settings.now net_table.now number clock.old links.old walk.old copy.now entries.old)
+        result clock.new links.new walk.new copy.now entries.new }
 {
     let a = effects::scope_of(request);
     let g = guard(
@@ -100,7 +103,9 @@ pub fn initialize(
     copy: &[u8],
     entries: &mut [Entry],
 ) -> Reply
-    ensures { Does (ask Initialize) settings net_table number clock links walk copy entries result }
+    ensures { Does (ask Initialize)
+        (call_state settings.now net_table.now number clock.old links.old walk.old copy.now entries.old)
+        result clock.new links.new walk.new copy.now entries.new }
 {
     let s = *settings;
     let t = *net_table;
@@ -137,7 +142,9 @@ pub fn tick(
     entries: &[Entry],
     count: Count,
 ) -> Reply
-    ensures { Does (ask (Tick count)) settings net_table number clock links walk copy entries result }
+    ensures { Does (ask (Tick count))
+        (call_state settings.now net_table.now number clock.old links.now walk.now copy.now entries.now)
+        result clock.new links.now walk.now copy.now entries.now }
 {
     let a = all();
     let g = guard(
@@ -166,7 +173,9 @@ pub fn adjust(
     entries: &[Entry],
     count: Count,
 ) -> Reply
-    ensures { Does (ask (Adjust count)) settings net_table number clock links walk copy entries result }
+    ensures { Does (ask (Adjust count))
+        (call_state settings.now net_table.now number clock.old links.now walk.now copy.now entries.now)
+        result clock.new links.now walk.now copy.now entries.now }
 {
     let a = all();
     let g = guard(
@@ -196,7 +205,9 @@ pub fn set(
     ms: i32,
     count: Count,
 ) -> Reply
-    ensures { Does (ask (Set ms count)) settings net_table number clock links walk copy entries result }
+    ensures { Does (ask (Set ms count))
+        (call_state settings.now net_table.now number clock.old links.now walk.now copy.now entries.now)
+        result clock.new links.now walk.now copy.now entries.now }
 {
     let a = all();
     let g = guard(
@@ -225,7 +236,9 @@ pub fn read(
     entries: &[Entry],
     counter: Counter,
 ) -> Reply
-    ensures { Does (ask (Read counter)) settings net_table number clock links walk copy entries result }
+    ensures { Does (ask (Read counter))
+        (call_state settings.now net_table.now number clock.old links.now walk.now copy.now entries.now)
+        result clock.new links.now walk.now copy.now entries.now }
 {
     let a = all();
     let g = guard(
@@ -253,7 +266,9 @@ pub fn second(
     copy: &[u8],
     entries: &mut [Entry],
 ) -> Reply
-    ensures { Does (ask Second) settings net_table number clock links walk copy entries result }
+    ensures { Does (ask Second)
+        (call_state settings.now net_table.now number clock.old links.now walk.now copy.now entries.old)
+        result clock.new links.now walk.now copy.now entries.new }
 {
     let a = all();
     let g = guard(
@@ -284,7 +299,9 @@ pub fn self_report(
     entries: &mut [Entry],
     counter: Counter,
 ) -> Reply
-    ensures { Does (ask (SelfReport counter)) settings net_table number clock links walk copy entries result }
+    ensures { Does (ask (SelfReport counter))
+        (call_state settings.now net_table.now number clock.old links.now walk.now copy.now entries.old)
+        result clock.new links.now walk.now copy.now entries.new }
 {
     let a = all();
     let g = guard(
@@ -315,7 +332,9 @@ pub fn lookup(
     entries: &[Entry],
     address: wire::Address,
 ) -> Reply
-    ensures { Does (ask (Lookup address)) settings net_table number clock links walk copy entries result }
+    ensures { Does (ask (Lookup address))
+        (call_state settings.now net_table.now number clock.now links.now walk.now copy.now entries.now)
+        result clock.now links.now walk.now copy.now entries.now }
 {
     let a = all();
     let g = guard(
@@ -352,7 +371,9 @@ pub fn open_walk(
     link: usize,
     packet: &[u8],
 ) -> Reply
-    ensures { Does (open_walk link packet.now) settings net_table number clock links walk copy entries result }
+    ensures { Does (open_walk link packet.now)
+        (call_state settings.now net_table.now number clock.now links.now walk.old copy.old entries.now)
+        result clock.now links.now walk.new copy.new entries.now }
 {
     let a = opening(link);
     let g = guard(
@@ -390,7 +411,9 @@ pub fn send(
     counter: Counter,
     buffer: &mut [u8],
 ) -> Reply
-    ensures { Sends link counter buffer settings net_table number clock links walk copy entries result }
+    ensures { Sends link counter buffer.old
+        (call_state settings.now net_table.now number clock.old links.old walk.now copy.now entries.now)
+        result clock.new links.new walk.now copy.now entries.now buffer.new }
 {
     let a = on_link(link);
     let g = guard(
@@ -431,7 +454,9 @@ pub fn inspect(
     link: usize,
     packet: &[u8],
 ) -> Reply
-    ensures { Does (inspect link packet.now) settings net_table number clock links walk copy entries result }
+    ensures { Does (inspect link packet.now)
+        (call_state settings.now net_table.now number clock.now links.now walk.now copy.now entries.now)
+        result clock.now links.now walk.now copy.now entries.now }
 {
     let a = on_link(link);
     let g = guard(
@@ -464,7 +489,9 @@ pub fn deliver(
     delivery: Delivery,
     packet: &[u8],
 ) -> Reply
-    ensures { Does (deliver delivery packet.now) settings net_table number clock links walk copy entries result }
+    ensures { Does (deliver delivery packet.now)
+        (call_state settings.now net_table.now number clock.old links.old walk.now copy.now entries.old)
+        result clock.new links.new walk.now copy.now entries.new }
 {
     let a = on_its_link(delivery);
     let g = guard(

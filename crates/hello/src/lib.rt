@@ -15,6 +15,7 @@ ghost use Rattle.calls.specs.declared.Request.TheVariants.{
   Step,
 };
 ghost use Rattle.arrival.specs.declared.Delivery.TheVariants.{Act, Receive};
+ghost use Rattle.host.specs.CallState.{call_state};
 ghost use Rattle.calls.specs.Perform.{ask, inspect, act, receive, open_walk};
 ghost use Rattle.owned_host.specs.Program.{program_answer};
 ghost use Rattle.hello.specs.Returned.{
@@ -211,7 +212,9 @@ pub extern "C" fn hello_initialize(
     copy: &[u8],
     entries: &mut [Entry],
 ) -> u8
-    ensures { Exports numbered (ask Initialize) settings net_table number clock links walk copy entries result }
+    ensures { Exports numbered (ask Initialize)
+        (call_state settings.now net_table.now number clock.old links.old walk.old copy.now entries.old)
+        result clock.new links.new walk.new copy.now entries.new }
 {
     let a = calls::initialize(
         settings, net_table, number, clock, links, walk, copy, entries,
@@ -232,7 +235,9 @@ pub extern "C" fn hello_tick(
     entries: &[Entry],
     count: Count,
 ) -> u8
-    ensures { Exports numbered (ask (Tick count)) settings net_table number clock links walk copy entries result }
+    ensures { Exports numbered (ask (Tick count))
+        (call_state settings.now net_table.now number clock.old links.now walk.now copy.now entries.now)
+        result clock.new links.now walk.now copy.now entries.now }
 {
     let a = calls::tick(
         settings, net_table, number, clock, links, walk, copy, entries, count,
@@ -253,7 +258,9 @@ pub extern "C" fn hello_adjust(
     entries: &[Entry],
     count: Count,
 ) -> u8
-    ensures { Exports numbered (ask (Adjust count)) settings net_table number clock links walk copy entries result }
+    ensures { Exports numbered (ask (Adjust count))
+        (call_state settings.now net_table.now number clock.old links.now walk.now copy.now entries.now)
+        result clock.new links.now walk.now copy.now entries.now }
 {
     let a = calls::adjust(
         settings, net_table, number, clock, links, walk, copy, entries, count,
@@ -275,7 +282,9 @@ pub extern "C" fn hello_set(
     ms: i32,
     count: Count,
 ) -> u8
-    ensures { Exports numbered (ask (Set ms count)) settings net_table number clock links walk copy entries result }
+    ensures { Exports numbered (ask (Set ms count))
+        (call_state settings.now net_table.now number clock.old links.now walk.now copy.now entries.now)
+        result clock.new links.now walk.now copy.now entries.now }
 {
     let a = calls::set(
         settings, net_table, number, clock, links, walk, copy, entries, ms, count,
@@ -296,7 +305,9 @@ pub extern "C" fn hello_read(
     entries: &[Entry],
     counter: Counter,
 ) -> Time
-    ensures { Exports time_returned (ask (Read counter)) settings net_table number clock links walk copy entries result }
+    ensures { Exports time_returned (ask (Read counter))
+        (call_state settings.now net_table.now number clock.old links.now walk.now copy.now entries.now)
+        result clock.new links.now walk.now copy.now entries.now }
 {
     let a = calls::read(
         settings, net_table, number, clock, links, walk, copy, entries, counter,
@@ -316,7 +327,9 @@ pub extern "C" fn hello_second(
     copy: &[u8],
     entries: &mut [Entry],
 ) -> u8
-    ensures { Exports numbered (ask Second) settings net_table number clock links walk copy entries result }
+    ensures { Exports numbered (ask Second)
+        (call_state settings.now net_table.now number clock.old links.now walk.now copy.now entries.old)
+        result clock.new links.now walk.now copy.now entries.new }
 {
     let a = calls::second(
         settings, net_table, number, clock, links, walk, copy, entries,
@@ -337,7 +350,9 @@ pub extern "C" fn hello_self_report(
     entries: &mut [Entry],
     counter: Counter,
 ) -> u8
-    ensures { Exports numbered (ask (SelfReport counter)) settings net_table number clock links walk copy entries result }
+    ensures { Exports numbered (ask (SelfReport counter))
+        (call_state settings.now net_table.now number clock.old links.now walk.now copy.now entries.old)
+        result clock.new links.now walk.now copy.now entries.new }
 {
     let a = calls::self_report(
         settings, net_table, number, clock, links, walk, copy, entries, counter,
@@ -360,7 +375,9 @@ pub extern "C" fn hello_send(
     counter: Counter,
     buffer: &mut [u8],
 ) -> Sent
-    ensures { ExportsSend link counter buffer settings net_table number clock links walk copy entries result }
+    ensures { ExportsSend link counter buffer.old
+        (call_state settings.now net_table.now number clock.old links.old walk.now copy.now entries.now)
+        result clock.new links.new walk.now copy.now entries.now buffer.new }
 {
     let a = calls::send(
         settings, net_table, number, clock, links, walk, copy, entries, link, counter, buffer,
@@ -382,7 +399,9 @@ pub extern "C" fn hello_inspect(
     link: usize,
     packet: &[u8],
 ) -> Inspected
-    ensures { Exports inspected_returned (inspect link packet.now) settings net_table number clock links walk copy entries result }
+    ensures { Exports inspected_returned (inspect link packet.now)
+        (call_state settings.now net_table.now number clock.now links.now walk.now copy.now entries.now)
+        result clock.now links.now walk.now copy.now entries.now }
 {
     let a = calls::inspect(
         settings, net_table, number, clock, links, walk, copy, entries, link, packet,
@@ -405,7 +424,9 @@ pub extern "C" fn hello_act(
     counter: Counter,
     packet: &[u8],
 ) -> u8
-    ensures { Exports numbered (act link counter packet.now) settings net_table number clock links walk copy entries result }
+    ensures { Exports numbered (act link counter packet.now)
+        (call_state settings.now net_table.now number clock.old links.old walk.now copy.now entries.old)
+        result clock.new links.new walk.now copy.now entries.new }
 {
     let d = acts(link, counter);
     let a = calls::deliver(
@@ -429,7 +450,9 @@ pub extern "C" fn hello_receive(
     counter: Counter,
     packet: &[u8],
 ) -> u8
-    ensures { Exports numbered (receive link counter packet.now) settings net_table number clock links walk copy entries result }
+    ensures { Exports numbered (receive link counter packet.now)
+        (call_state settings.now net_table.now number clock.old links.old walk.now copy.now entries.old)
+        result clock.new links.new walk.now copy.now entries.new }
 {
     let d = receives(link, counter);
     let a = calls::deliver(
@@ -451,7 +474,9 @@ pub extern "C" fn hello_lookup(
     entries: &[Entry],
     address: Address,
 ) -> Route
-    ensures { Exports route_returned (ask (Lookup address)) settings net_table number clock links walk copy entries result }
+    ensures { Exports route_returned (ask (Lookup address))
+        (call_state settings.now net_table.now number clock.now links.now walk.now copy.now entries.now)
+        result clock.now links.now walk.now copy.now entries.now }
 {
     let a = calls::lookup(
         settings, net_table, number, clock, links, walk, copy, entries, address,
@@ -473,7 +498,9 @@ pub extern "C" fn hello_open_walk(
     link: usize,
     packet: &[u8],
 ) -> Stepped
-    ensures { Exports stepped_returned (open_walk link packet.now) settings net_table number clock links walk copy entries result }
+    ensures { Exports stepped_returned (open_walk link packet.now)
+        (call_state settings.now net_table.now number clock.now links.now walk.old copy.old entries.now)
+        result clock.now links.now walk.new copy.new entries.now }
 {
     let a = calls::open_walk(
         settings, net_table, number, clock, links, walk, copy, entries, link, packet,
@@ -494,7 +521,9 @@ pub extern "C" fn hello_step(
     entries: &mut [Entry],
     counter: Counter,
 ) -> Stepped
-    ensures { Exports stepped_returned (ask (Step counter)) settings net_table number clock links walk copy entries result }
+    ensures { Exports stepped_returned (ask (Step counter))
+        (call_state settings.now net_table.now number clock.old links.old walk.old copy.now entries.old)
+        result clock.new links.new walk.new copy.now entries.new }
 {
     let q = asks_step(counter);
     let a = calls::call(

@@ -6,7 +6,6 @@ use Rattle.table.specs.declared.Entry.{Entry}
 use Rattle.host.specs.declared.Reply.{Reply}
 use Rattle.host.specs.Guard.{longest}
 use Rattle.host.specs.CallState.{call_state}
-use Rattle.calls.specs.Contract.{Ref}
 use Rattle.calls.specs.Perform.{Outcome, ask, perform}
 use Rattle.bench.specs.declared.HostState.{HostState}
 use Rattle.bench.specs.declared.requests.Ask.{Ask}
@@ -36,6 +35,5 @@ abbrev pub AskLeaves : Ask → NetTable → List HostState → (copies : List �
 AskLeaves w t hosts copies entries hosts' entries' r = (d : HostState) → AskDone w t hosts copies entries hosts' entries' r d
 
 -- the contract, over the parameters
-abbrev pub DoesAsk : Ask → Ref NetTable → Ref (List HostState) → (copies : Ref (List ℕ)) → Ref (List Entry) → Reply → Type 0
-DoesAsk w nets hosts copies entries r =
-    AskLeaves w nets.entry.now hosts.entry.now copies.entry.now entries.entry.now hosts.exit.now entries.exit.now r
+abbrev pub DoesAsk : Ask → NetTable → List HostState → (copies : List ℕ) → List Entry → Reply → List HostState → List Entry → Type 0
+DoesAsk w nets hosts copies entries r hosts' entries' = AskLeaves w nets hosts copies entries hosts' entries' r

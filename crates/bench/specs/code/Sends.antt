@@ -6,7 +6,6 @@ use Rattle.table.specs.declared.Entry.{Entry}
 use Rattle.host.specs.declared.Reply.{Reply}
 use Rattle.host.specs.Guard.{longest, done}
 use Rattle.host.specs.CallState.{call_state}
-use Rattle.calls.specs.Contract.{Ref}
 use Rattle.calls.specs.Perform.{Outcome, send, perform}
 use Rattle.bench_file.specs.Header.{most_cables}
 use Rattle.bench_file.specs.Absent as file
@@ -52,6 +51,5 @@ abbrev pub SendLeaves : Sending → NetTable → List HostState → (copies : Li
 SendLeaves w t hosts copies entries slots hosts' slots' r = (d : HostState) → SendDone w t hosts copies entries slots hosts' slots' r d
 
 -- the contract, over the parameters
-abbrev pub DoesSend : Sending → Ref NetTable → Ref (List HostState) → (copies : Ref (List ℕ)) → Ref (List Entry) → (slots : Ref (List ℕ)) → Reply → Type 0
-DoesSend w nets hosts copies entries slots r =
-    SendLeaves w nets.entry.now hosts.entry.now copies.entry.now entries.entry.now slots.entry.now hosts.exit.now slots.exit.now r
+abbrev pub DoesSend : Sending → NetTable → List HostState → (copies : List ℕ) → List Entry → (slots : List ℕ) → Reply → List HostState → (slots' : List ℕ) → Type 0
+DoesSend w nets hosts copies entries slots r hosts' slots' = SendLeaves w nets hosts copies entries slots hosts' slots' r

@@ -4,7 +4,6 @@ use Rattle.net_table.specs.declared.NetTable.{NetTable}
 use Rattle.table.specs.declared.Entry.{Entry}
 use Rattle.host.specs.Guard.{longest}
 use Rattle.calls.specs.declared.Request.TheVariants.{Initialize}
-use Rattle.calls.specs.Contract.{Ref}
 use Rattle.bench_file.specs.Header.{header_of}
 use Rattle.bench_file.specs.code.Sections.{Sections}
 use Rattle.bench.specs.declared.HostState.{HostState}
@@ -34,9 +33,8 @@ SetLeaves file t hosts copies entries k hosts' entries' = (slots answers : List 
     → HostsAfter (asked file t (header_of file) k Initialize (bench hosts copies entries slots answers n)).bench hosts' entries'
 
 -- the contract, over the parameters
-abbrev pub SetsHost : (file : Ref (List ℕ)) → Ref NetTable → Ref (List HostState) → (copies : Ref (List ℕ)) → Ref (List Entry) → (host : ℕ) → Type 0
-SetsHost file nets hosts copies entries k =
-    SetLeaves file.entry.now nets.entry.now hosts.entry.now copies.entry.now entries.entry.now k hosts.exit.now entries.exit.now
+abbrev pub SetsHost : (file : List ℕ) → NetTable → List HostState → (copies : List ℕ) → List Entry → (host : ℕ) → List HostState → List Entry → Type 0
+SetsHost file nets hosts copies entries k hosts' entries' = SetLeaves file nets hosts copies entries k hosts' entries'
 
 -- ---- none, or a number of the file's events
 
@@ -49,6 +47,5 @@ SetsLeave file w t hosts copies entries hosts' entries' = (slots answers : List 
     → HostsAfter (all_set file t w.first (w.end - w.first) (bench hosts copies entries slots answers n)) hosts' entries'
 
 -- the contract, over the parameters
-abbrev pub SetsHosts : (file : Ref (List ℕ)) → Setting → Ref NetTable → Ref (List HostState) → (copies : Ref (List ℕ)) → Ref (List Entry) → Type 0
-SetsHosts file w nets hosts copies entries =
-    SetsLeave file.entry.now w nets.entry.now hosts.entry.now copies.entry.now entries.entry.now hosts.exit.now entries.exit.now
+abbrev pub SetsHosts : (file : List ℕ) → Setting → NetTable → List HostState → (copies : List ℕ) → List Entry → List HostState → List Entry → Type 0
+SetsHosts file w nets hosts copies entries hosts' entries' = SetsLeave file w nets hosts copies entries hosts' entries'

@@ -6,7 +6,6 @@ use Rattle.table.specs.declared.Entry.{Entry}
 use Rattle.host.specs.declared.Reply.{Reply}
 use Rattle.host.specs.Guard.{longest}
 use Rattle.host.specs.CallState.{CallState, call_state}
-use Rattle.calls.specs.Contract.{Ref}
 use Rattle.calls.specs.Perform.{Outcome, inspect, act, perform, in_turn}
 use Rattle.bench_file.specs.Absent as file
 use Rattle.bench.specs.declared.HostState.{HostState}
@@ -61,14 +60,12 @@ TakeLeaves w t hosts copies entries slots hosts' entries' r =
 
 -- ---- the contracts, over the parameters
 
-module _ (w : Taking) (nets : Ref NetTable) (hosts : Ref (List HostState)) (copies : Ref (List ℕ)) (entries : Ref (List Entry)) (slots : Ref (List ℕ)) where
+module _ (w : Taking) (nets : NetTable) (hosts : List HostState) (copies : List ℕ) (entries : List Entry) (slots : List ℕ) where
   abbrev pub DoesLook : HostAfter → Type 0
-  DoesLook r = LookLeaves w nets.entry.now hosts.entry.now copies.entry.now entries.entry.now slots.entry.now r
+  DoesLook r = LookLeaves w nets hosts copies entries slots r
 
-  abbrev pub DoesAct : Reply → Type 0
-  DoesAct r =
-      ActLeaves w nets.entry.now hosts.entry.now copies.entry.now entries.entry.now slots.entry.now hosts.exit.now entries.exit.now r
+  abbrev pub DoesAct : Reply → List HostState → List Entry → Type 0
+  DoesAct r hosts' entries' = ActLeaves w nets hosts copies entries slots hosts' entries' r
 
-  abbrev pub DoesTake : Reply → Type 0
-  DoesTake r =
-      TakeLeaves w nets.entry.now hosts.entry.now copies.entry.now entries.entry.now slots.entry.now hosts.exit.now entries.exit.now r
+  abbrev pub DoesTake : Reply → List HostState → List Entry → Type 0
+  DoesTake r hosts' entries' = TakeLeaves w nets hosts copies entries slots hosts' entries' r

@@ -1,9 +1,7 @@
 -- The events of a run in the code: their precondition, and the state after them.
 use Rattle.std.specs.Prelude.{◌≡◌, true, List, ℕ, ◌-◌, ◌≤◌, ◌<◌, length}
-use Rattle.std.specs.Borrow.{Bor}
 use Rattle.net_table.specs.declared.NetTable.{NetTable}
 use Rattle.table.specs.declared.Entry.{Entry}
-use Rattle.calls.specs.Contract.{Ref}
 use Rattle.bench_file.specs.declared.Header.{Header}
 use Rattle.bench_file.specs.Header.{header_of}
 use Rattle.bench_file.specs.code.Sections.{Sections}
@@ -37,18 +35,17 @@ pub record HostAfter (b : Bench) (hosts' : List HostState) (entries' : List Entr
 -- ---- the contracts, over the parameters
 
 -- one event may be carried out
-abbrev pub NextFits : Bor (List ℕ) → Turns → Bor NetTable → Bor (List HostState) → Bor (List ℕ) → Bor (List Entry) → Bor (List ℕ) → Bor (List ℕ) → (event : ℕ) → Type 0
+abbrev pub NextFits : (file : List ℕ) → Turns → NetTable → List HostState → (copies : List ℕ) → List Entry → (slots answers : List ℕ) → (event : ℕ) → Type 0
 NextFits file w nets hosts copies entries slots answers i =
-    Fits file.now w.header nets.now (bench hosts.now copies.now entries.now slots.now answers.now i) × (i < w.header.events)
+    Fits file w.header nets (bench hosts copies entries slots answers i) × (i < w.header.events)
 
-module _ (file : Ref (List ℕ)) (nets : Ref NetTable) (hosts : Ref (List HostState)) (copies : Ref (List ℕ)) (entries : Ref (List Entry)) (slots answers : Ref (List ℕ)) where
+module _ (file : List ℕ) (nets : NetTable) (hosts : List HostState) (copies : List ℕ) (entries : List Entry) (slots answers : List ℕ) where
   -- the bench at entry
   abbrev pub before : (done : ℕ) → Bench
-  before n = bench hosts.entry.now copies.entry.now entries.entry.now slots.entry.now answers.entry.now n
+  before n = bench hosts copies entries slots answers n
 
-  abbrev pub NextLeaves : (event : ℕ) → Type 0
-  NextLeaves i = HostAfter (next file.entry.now nets.entry.now (before i)) hosts.exit.now entries.exit.now slots.exit.now answers.exit.now
+  abbrev pub NextLeaves : (event : ℕ) → List HostState → List Entry → (slots' answers' : List ℕ) → Type 0
+  NextLeaves i hosts' entries' slots' answers' = HostAfter (next file nets (before i)) hosts' entries' slots' answers'
 
-  abbrev pub TurnsLeave : Turns → Type 0
-  TurnsLeave w =
-      HostAfter (steps file.entry.now nets.entry.now (w.end - w.first) (before w.first)) hosts.exit.now entries.exit.now slots.exit.now answers.exit.now
+  abbrev pub TurnsLeave : Turns → List HostState → List Entry → (slots' answers' : List ℕ) → Type 0
+  TurnsLeave w hosts' entries' slots' answers' = HostAfter (steps file nets (w.end - w.first) (before w.first)) hosts' entries' slots' answers'
