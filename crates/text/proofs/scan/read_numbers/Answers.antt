@@ -1,4 +1,5 @@
 -- The times, a field behind them, and a number behind that.
+use borrow.Author.Tests.{not-true, not-false}
 use mathlib.Core.Path.{refl}
 use Prim.Native.Nat.{◌+◌}
 use Rattle.text.specs.Numerals.{is_numeral}
@@ -11,7 +12,7 @@ returns-then-not-base c =
     let s = c.args.s.now in
     let t = c.read_times-t in
     let b = c.read_field-base in
-    numbers_second s t.result b.result _ t.ensures c.if-not-t.false (part_read (λ l. FieldRead l b.result) s t.result.next b.ensures) c.if-not-base.true refl
+    numbers_second s t.result b.result _ t.ensures (not-false _ c.if-not-t.false) (part_read (λ l. FieldRead l b.result) s t.result.next b.ensures) (not-true _ c.if-not-base.true) refl
 
 pub returns : goal.returns
 returns c =
@@ -19,4 +20,4 @@ returns c =
     let t = c.read_times-t in
     let b = c.read_field-base in
     let n = c.read_number-count in
-    numbers_there s t.result b.result n.result t.ensures c.if-not-t.false (part_read (λ l. FieldRead l b.result) s t.result.next b.ensures) c.if-not-base.false (part_read (λ l. NumberRead is_numeral l n.result) s (t.result.next + b.result.next) n.ensures)
+    numbers_there s t.result b.result n.result t.ensures (not-false _ c.if-not-t.false) (part_read (λ l. FieldRead l b.result) s t.result.next b.ensures) (not-false _ c.if-not-base.false) (part_read (λ l. NumberRead is_numeral l n.result) s (t.result.next + b.result.next) n.ensures)
