@@ -1,7 +1,6 @@
 -- What was passed stands ahead of the pieces of the rest.
 use native.Mathlib.Omega.{arith}
 use Rattle.text.proofs.Cuts.{passed_none, passed_more, passed_there, passed_all}
-use Prim.Native.Nat.{◌-◌}
 use Rattle.text.proofs.scan.find.Goals as goal
 
 pub loop-i-init : goal.loop-i-init
