@@ -1,6 +1,6 @@
 -- A text of the form whose numbers fit is the writer's text of them, and that is short.
-use mathlib.Core.Path.{◌≡◌, refl, sym, ap, ◌∙◌}
-use mathlib.Core.Bool.{Bool, true, false, true≢false}
+use mathlib.Core.Path.{◌≡◌, sym, ap, ◌∙◌}
+use mathlib.Core.Bool.{true, false}
 use mathlib.Core.List.{List, [], ◌∷◌, ◌++◌, append_assoc, append-nil}
 use Prim.Native.Nat.{ℕ, suc, ◌+◌, ◌*◌, ◌≤◌, ◌<◌}
 use native.Mathlib.Omega.{arith}
@@ -10,17 +10,16 @@ use Rattle.text.specs.declared.Answer.TheVariants.{TextForm, FieldRange}
 use Rattle.text.specs.declared.pieces.Word.TheVariants as Word
 use Rattle.text.specs.declared.pieces.Rest.TheVariants as Rest
 use Rattle.text.specs.declared.pieces.Progress.{Progress}
-use Rattle.text.specs.Numerals.{width, digits, numeral, signed_numeral}
+use Rattle.text.specs.Numerals.{numeral, signed_numeral}
 use Rattle.text.specs.Numbers.{Row, Numbers, numbers_fit}
-use Rattle.text.specs.Text.{hello, first_line, row_line, row_lines, text_of, form, numbers_in}
-use Rattle.text.specs.Answers.{refused, from_text}
+use Rattle.text.specs.Text.{first_line, row_line, row_lines, text_of, form, numbers_in}
 use Rattle.text.specs.Pieces.{long_length, length_limit, After, Proceeds, LongAnswer}
 use Rattle.text.specs.code.Pieces.{rest_test, onward, form_from, finished}
 use Rattle.text.specs.code.Turns.{at}
 use Rattle.text.proofs.Values.{so_not}
 use Rattle.text.proofs.Widths.{width_held, numeral_length}
 use Rattle.text.proofs.Verdict.{bad_form, bad_range}
-use Rattle.text.proofs.TextBack.{AllFit, all_fit, text_counts, text_back}
+use Rattle.text.proofs.TextBack.{all_fit, text_counts, text_back}
 use Rattle.text.proofs.Onward.{end_is}
 
 numeral_short : (n : ℕ) → length (numeral n) ≤ 10

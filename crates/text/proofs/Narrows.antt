@@ -1,23 +1,20 @@
 -- One octet more: the tests of the rest of a text before it are those that the code keeps after it.
 use mathlib.Core.Path.{◌≡◌, refl, sym, ap, ◌∙◌}
 use mathlib.Core.Bool.{Bool, true, false, cond, not, ◌&&◌, true≢false}
-use mathlib.Core.List.{List, [], ◌∷◌, ◌++◌}
-use Prim.Native.Nat.{ℕ, suc, ◌+◌, ◌-◌, ◌*◌, ◌^◌, ◌≤◌, ◌<◌}
+use mathlib.Core.List.{List, [], ◌∷◌}
+use Prim.Native.Nat.{ℕ, ◌+◌, ◌-◌, ◌*◌, ◌^◌, ◌≤◌}
 use native.Mathlib.Nat.{one-le-mul, one-le-pow}
 use native.Mathlib.Omega.{arith}
 use borrow.Author.Tests.{eqb-true, eq-eqb, ne_eqb, leb-true}
 use lib.Dec.{eqb, leb}
 use lib.ListN.{length}
 use Rattle.lists.proofs.Tests.{both}
-use Rattle.text.specs.declared.pieces.Word.{Word}
-use Rattle.text.specs.declared.pieces.Word.TheVariants as Word
 use Rattle.text.specs.declared.pieces.Rest.{Rest}
-use Rattle.text.specs.declared.pieces.Rest.TheVariants as Rest
 use Rattle.text.specs.Numerals.{zero_sign, nine_sign, minus_sign, is_digit, all_digits, is_numeral, is_signed, value}
-use Rattle.text.specs.Words.{words, pass, same, Test}
+use Rattle.text.specs.Words.{same}
 use Rattle.text.specs.code.Pieces.{rest_test, is_positive}
 use Rattle.text.specs.code.Turns.{complete, letter, number_start, signed_start, positive_start, digit, narrow}
-use Rattle.text.proofs.Readings.{and_true, and_false}
+use Rattle.text.proofs.Readings.{and_true}
 
 -- ---- the rest of a word
 

@@ -11,7 +11,7 @@ use lib.ListN.{drop}
 use Rattle.lists.proofs.Tests.{both}
 use Rattle.text.specs.declared.scan.Row as Scanned
 use Rattle.text.specs.Numerals.{is_negative, value, signed_value}
-use Rattle.text.specs.Numbers.{Row, fits_two, fits_signed, row_fits}
+use Rattle.text.specs.Numbers.{fits_two, fits_signed, row_fits}
 use Rattle.text.specs.Text.{word_at, row_in}
 use Rattle.text.specs.code.Scan.{large, Stands, size, RowGood}
 use Rattle.text.specs.code.Reading.{signed_of, row_returned}

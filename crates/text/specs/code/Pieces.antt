@@ -1,9 +1,7 @@
 -- For the code that reads a text in pieces: what the rest of the text must be. There is no rule here.
-use Rattle.std.specs.Prelude.{◌≡◌, Bool, true, false, not, ◌&&◌, List, [], ◌∷◌, ℕ, ◌+◌, ◌*◌, ◌^◌, ◌<◌, eqb, length}
+use Rattle.std.specs.Prelude.{◌≡◌, Bool, false, not, ◌&&◌, List, [], ◌∷◌, ℕ, ◌+◌, ◌*◌, ◌^◌, ◌<◌, eqb, length}
 use Rattle.text.specs.declared.pieces.Word.{Word}
-use Rattle.text.specs.declared.pieces.Word.TheVariants as Word
 use Rattle.text.specs.declared.pieces.Rest.{Rest}
-use Rattle.text.specs.declared.pieces.Rest.TheVariants as Rest
 use Rattle.text.specs.declared.pieces.Progress.{Progress}
 use Rattle.text.specs.Numerals.{all_digits, is_numeral, is_signed, value}
 use Rattle.text.specs.Words.{words, pass, same, Test}

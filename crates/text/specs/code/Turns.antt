@@ -1,9 +1,7 @@
 -- For the code that reads a text in pieces: what is known after one more octet. There is no rule here.
 use Rattle.std.specs.Prelude.{◌≡◌, Bool, true, false, cond, ℕ, ◌+◌, ◌-◌, ◌*◌, eqb}
 use Rattle.text.specs.declared.pieces.Word.{Word}
-use Rattle.text.specs.declared.pieces.Word.TheVariants as Word
 use Rattle.text.specs.declared.pieces.Rest.{Rest}
-use Rattle.text.specs.declared.pieces.Rest.TheVariants as Rest
 use Rattle.text.specs.declared.pieces.Progress.{Progress}
 use Rattle.text.specs.Numerals.{zero_sign, minus_sign, is_digit}
 use Rattle.text.specs.code.Scan.{Stands}

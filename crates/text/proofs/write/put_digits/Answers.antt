@@ -1,0 +1,15 @@
+-- The digits are put from the last to the first: what is left to put, over what was put, makes the whole.
+use mathlib.Core.Path.{sym, ◌∙◌}
+use native.Mathlib.Omega.{arith}
+use lib.ListN.{length-set}
+use Rattle.text.proofs.Puts.{digits_turn, digits_none}
+use Rattle.text.proofs.write.put_digits.Goals as goal
+
+pub loop-left-preserved : goal.loop-left-preserved
+loop-left-preserved c =
+    let l = c.loop-left in
+    let a = c.args in
+    (omega arith, simp length-set l.invariant.1, digits_turn l.text a.at l.left l.rest (omega arith) (omega arith) ∙ l.invariant.2)
+
+pub returns : goal.returns
+returns c = let l = c.loop-left in let a = c.args in sym (digits_none l.text a.at l.left l.rest (omega arith)) ∙ l.invariant.2
