@@ -1,5 +1,6 @@
 // Theorems about hosts and rooms of hosts.
 #![tactic(auto)]
+
 ghost use Rattle.network_laws.specs.Heard.{Heard};
 ghost use Rattle.network_laws.specs.Answers.{Answers};
 ghost use Rattle.network_laws.specs.Refusals.{Refusals};
