@@ -1,5 +1,6 @@
 // Laws of a host's clock, over lists of its calls.
 #![tactic(auto)]
+
 ghost use Rattle.clock_laws.specs.Moves.{ClockMoves};
 ghost use Rattle.clock_laws.specs.NeverBack.{NeverBack};
 ghost use Rattle.clock_laws.specs.Slewed.{Slewed};
