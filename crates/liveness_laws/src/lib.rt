@@ -1,5 +1,6 @@
 // Liveness: the tables of a network fill, stay right, and empty of a host that is silent.
 #![tactic(auto)]
+
 ghost use Rattle.liveness_laws.specs.Handshake.{Handshake};
 ghost use Rattle.liveness_laws.specs.Silence.{SilentHostFades, SilentHostGone};
 ghost use Rattle.liveness_laws.specs.SilenceExample.{SilenceExample};
