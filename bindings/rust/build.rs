@@ -1,5 +1,5 @@
 //! Links `libhello.a` and `libclass_bench.a` from the folder in HELLO_LIB, or else from
-//! `../../target/staticlib`.
+//! `../../target/staticlib`, where `tools/library` puts them.
 
 use std::env;
 use std::path::PathBuf;
@@ -14,7 +14,7 @@ fn main() {
         println!("cargo:rerun-if-changed={}", archive.display());
         let archive = archive.canonicalize().unwrap_or_else(|error| {
             eprintln!(
-                "{}: {error}: make it with `rt staticlib {name}`, or name its folder in HELLO_LIB",
+                "{}: {error}: make it with tools/library, or name its folder in HELLO_LIB",
                 archive.display()
             );
             exit(1)

@@ -1,4 +1,4 @@
-"""Gives the bench program, hello_bench, the small file of docs/, each exercise and some files that are refused, and compares what it prints with lines worked out from the file and the independent program's run. `rt check hello_bench` and `check/tests/bench` come before."""
+"""Gives the bench program, hello_bench, the small file of docs/, each exercise and some files that are refused, and compares what it prints with lines worked out from the file and the independent program's run. `tools/programs hello_bench` and `check/tests/bench` come before."""
 
 import pathlib
 import subprocess
@@ -7,7 +7,7 @@ import tempfile
 from hello import bench_file
 from bench_runs import EXERCISES, ROOT, returned
 
-PROGRAM = ROOT / "target" / "bin" / "hello_bench"
+PROGRAM = ROOT / "crates" / "hello_bench" / "out" / "hello_bench"
 KINDS = {1: "tick", 2: "adjust", 3: "set", 4: "second", 5: "self-report"}
 DOWN = 30_000
 # An exercise with walks, which no bench file has.

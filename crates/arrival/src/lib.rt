@@ -1,5 +1,6 @@
 // A packet that arrives, by value: the inspection, steps 2 to 4, and what step 5 does to the entries.
 #![tactic(auto)]
+
 ghost use Rattle.std.specs.Prelude.{◌≡◌, true, ◌≤◌, ◌<◌, ◌^◌};
 ghost use Rattle.clock.specs.Midnight.{day_millis};
 ghost use Rattle.wire.specs.code.Ranges.{Four};

@@ -1,5 +1,6 @@
 // The class bench: an exercise that is set up from one file and run, event by event.
 #![tactic(auto)]
+
 ghost use Rattle.std.specs.Prelude.{◌≡◌};
 ghost use Rattle.bench.specs.Answer.{number, passes};
 ghost use Rattle.bench.specs.Guard.{set_up_guard};

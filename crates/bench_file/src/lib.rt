@@ -1,5 +1,6 @@
 // The file of a class bench: its header, its records, and what 18 and 19 refuse of them.
 #![tactic(auto)]
+
 ghost use Rattle.std.specs.Prelude.{◌≡◌, true, ◌≤◌, ◌<◌, length};
 ghost use Rattle.quantity.specs.Words.{signed_bits};
 ghost use Rattle.bench_file.specs.Header.{header_length, event_length, header_of, header_fits, header_bad};

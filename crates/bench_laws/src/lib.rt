@@ -1,5 +1,6 @@
 // What is proved of the class bench: two runs join to one, a run is the list of calls that its events name, and demand 3 on it.
 #![tactic(auto)]
+
 ghost use Rattle.std.specs.Prelude.{◌≡◌};
 ghost use Rattle.bench_laws.specs.Laws.{Stays, Joins};
 ghost use Rattle.bench_laws.specs.Calls.{Calls};

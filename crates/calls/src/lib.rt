@@ -1,5 +1,6 @@
 // The calls of a HELLO host. Each borrows the host's clock, links, walk with its copy of a packet, the host table, and the net table, which no call changes. The guard comes first: 12, 16 or 1 for bad settings, number or borrowed state.
 #![tactic(auto)]
+
 ghost use Rattle.std.specs.Prelude.{◌≡◌, not};
 ghost use Rattle.host.specs.Guard.{done};
 ghost use Rattle.host.specs.declared.guard.Scope.TheVariants.{All, OnLink, Opening};

@@ -1,5 +1,6 @@
 // The class bench for programs in C, Rust and Python: set-up and run, with the answer as its number.
 #![tactic(auto)]
+
 ghost use Rattle.std.specs.Prelude.{◌≡◌};
 ghost use Rattle.bench.specs.Answer.{number};
 ghost use Rattle.bench.specs.Guard.{set_up_guard};

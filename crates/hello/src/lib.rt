@@ -1,5 +1,6 @@
 // The library for programs in C, Rust and Python: the calls of a host, with the answer as its number.
 #![tactic(auto)]
+
 ghost use Rattle.std.specs.Prelude.{◌≡◌};
 ghost use Rattle.checksum.specs.Checksum.{checksum_of};
 ghost use Rattle.calls.specs.declared.Request.TheVariants.{

@@ -1,6 +1,7 @@
 // Reads a bench file from standard input, sets a bench up from it and runs it, event by event. Prints each event with its answer, and at the end each host's clock and live entries. For a refused file it prints only the answer.
 // The net table has no rows, and the NHOSTS of the file's first host. The buffer is longer than any bench file: a longer input fills it, and the answer is 18.
 #![tactic(auto)]
+
 ghost use Rattle.std.specs.Prelude.{◌≤◌, ◌<◌, length};
 ghost use Rattle.bench_file.specs.code.Sections.{Sections};
 

@@ -1,6 +1,7 @@
 // Reads one packet from standard input, to its end, and looks at it for the host of the packet program: it prints the number of the answer and, where that is 0, the packet's source, time, TSP and host count below it.
 // The buffer holds one octet more than any IP packet has: of a longer input it is full, and the answer is 3.
 #![tactic(auto)]
+
 use host::Reply;
 use printing::{dotted, end, number, text};
 use wire::Address;

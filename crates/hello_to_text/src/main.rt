@@ -2,6 +2,7 @@
 // A refusal writes its number and a newline to standard error, and nothing else.
 // The buffer holds more than any message has: an input that fills it is refused with 6.
 #![tactic(auto)]
+
 fn main() {
     let mut octets = io::buffer();
     let n = io::read_full(0, &mut octets);

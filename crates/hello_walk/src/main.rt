@@ -1,6 +1,7 @@
 // Reads one packet from standard input, to its end, and walks it for the host of the packet program: it prints a line for each box, with what it changed, and the number of the answer below them. A packet that is refused has the number alone.
 // The buffer holds one octet more than any IP packet has: of a longer input it is full, and the answer is 3.
 #![tactic(auto)]
+
 use calls::Request;
 use clock::Counter;
 use owned_host::HostReply;

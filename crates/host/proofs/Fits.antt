@@ -1,5 +1,5 @@
 -- What settings that fit the class's table have, and what a table that is not bad then has of them.
-use mathlib.Core.Path.{◌≡◌, sym}
+use mathlib.Core.Path.{◌≡◌}
 use mathlib.Core.Bool.{true, false}
 use borrow.Author.Tests.{eqb-true}
 use lib.Dec.{eqb}

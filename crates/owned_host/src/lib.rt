@@ -1,5 +1,6 @@
 // A host that its holder keeps by value: its requests, walks and arrivals. And what the host of the packet program answers.
 #![tactic(auto)]
+
 ghost use Rattle.std.specs.Prelude.{◌≡◌};
 ghost use Rattle.host.specs.CallState.{call_state};
 ghost use Rattle.calls.specs.Perform.{perform, ask, deliver, open_walk, in_turn};

@@ -1,5 +1,6 @@
 // A send by value: its result, and how the message is completed.
 #![tactic(auto)]
+
 ghost use Rattle.std.specs.Prelude.{◌≡◌, true, ◌≤◌};
 ghost use Rattle.clock.specs.Midnight.{day_millis};
 ghost use Rattle.table.specs.Entry.{up_to};

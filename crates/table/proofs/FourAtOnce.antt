@@ -6,7 +6,7 @@ use Prim.Native.Nat.{ℕ, suc, ◌+◌, ◌*◌, ◌/◌, ◌%◌, ◌≤◌, �
 use native.Mathlib.Nat.{div-one, div-div-eq-div-mul}
 use native.Mathlib.Omega.{arith}
 use borrow.Author.Tests.{lt-ltb, le-ltb, ltb-true, ltb-false, le-leb, leb-true, eq-eqb, eqb-true}
-use lib.Bits.{bit_or, bit_and, bit_xor, or_lt, or_mod, or_add_and, and_le_l, and_le_r, xor_add_and, xor_block, xor_zero_r, xor_self}
+use lib.Bits.{bit_or, bit_xor, or_lt, or_mod, or_add_and, and_le_l, and_le_r, xor_add_and, xor_block, xor_zero_r, xor_self}
 use lib.Dec.{eqb, ltb, leb}
 use lib.Pow.{pow-add}
 use Rattle.clock.specs.Midnight.{day_millis}

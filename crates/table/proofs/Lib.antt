@@ -9,4 +9,8 @@ pub mod Cases
 pub mod Kept
 pub mod Sweeps
 pub mod Loops
+pub mod Updating
+pub mod Turns
+pub mod Changing
+pub mod Reporting
 pub mod Reading

@@ -1,8 +1,8 @@
 -- The entries of a word are its fours and what remains after them.
-use mathlib.Core.Path.{◌≡◌, refl, sym, ap, subst, ◌∙◌}
-use mathlib.Core.Bool.{Bool, true, false, cond, ◌&&◌}
+use mathlib.Core.Path.{◌≡◌, refl, sym, ap, ◌∙◌}
+use mathlib.Core.Bool.{Bool, true, false, ◌&&◌}
 use mathlib.Core.List.{List}
-use Prim.Native.Nat.{ℕ, zero, suc, ◌+◌, ◌-◌, ◌*◌, ◌/◌, ◌%◌, ◌≤◌, ◌<◌, ◌^◌}
+use Prim.Native.Nat.{ℕ, ◌+◌, ◌-◌, ◌*◌, ◌/◌, ◌%◌, ◌≤◌, ◌<◌, ◌^◌}
 use native.Mathlib.Omega.{arith}
 use lib.ListN.{length}
 use Rattle.lists.specs.Lists.{part}
@@ -10,7 +10,6 @@ use Rattle.lists.proofs.Parts.{part_length}
 use Rattle.table.specs.declared.Entry.{Entry}
 use Rattle.table.specs.declared.entries.Stretch.{Stretch}
 use Rattle.table.specs.Forms.{every_from}
-use Rattle.table.specs.Marks.{bit}
 use Rattle.table.specs.code.Loops.{InEntries}
 use Rattle.table.specs.code.Words.{StretchFits, as_in_word, all_as_in_word}
 use Rattle.table.specs.code.Fours.{fours_of, rest_of, FoursFit, all_fours}

@@ -1,5 +1,5 @@
 -- TABLE-8, UPDATE-2: changes to the entries at the places from `first` to before `end`.
-use Rattle.std.specs.Prelude.{Bool, cond, List, ℕ, ◌-◌, eqb}
+use Rattle.std.specs.Prelude.{cond, List, ℕ, ◌-◌, eqb}
 use Rattle.lists.specs.Lists.{part, over}
 use Rattle.clock.specs.declared.Clock.{Clock}
 use Rattle.wire.specs.Hello.{report_at}

@@ -1,5 +1,6 @@
 // The host table.
 #![tactic(auto)]
+
 ghost use Rattle.std.specs.Prelude.{◌≡◌, true};
 ghost use Rattle.clock.specs.Clock.{clock_in_range};
 ghost use Rattle.table.specs.Entry.{fresh_entry, up, with_mark, with_ttl, taken_down, aged, advertised, up_to, entry_in_range, lives_here};

@@ -1,5 +1,6 @@
 // The runs of a host's rules: arrivals that standard input has, then sends, seconds and lookups. Each line has a name and what was computed; the file stdout has what the papers say, or what follows from them by hand.
 #![tactic(auto)]
+
 ghost use Rattle.std.specs.Prelude.{◌≡◌, length};
 
 mod arrivals;

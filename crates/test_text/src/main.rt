@@ -1,5 +1,6 @@
 // Texts of several sorts: of each the reader's number and the writer's, asked for the message that was read, and the text that came back.
 #![tactic(auto)]
+
 fn run(text: &[u8]) {
     let mut message = io::buffer();
     let read = text::from_text(text, &mut message);

@@ -1,5 +1,6 @@
 // Messages on paper: a HELLO as text, and back.
 #![tactic(auto)]
+
 ghost use Rattle.std.specs.Prelude.{◌≡◌, length};
 ghost use Rattle.wire.specs.Hello.{hello_form};
 ghost use Rattle.text.specs.Answers.{number, into, to_text, from_text, Leaves};

@@ -2,6 +2,7 @@
 // A refusal writes its number and a newline to standard error, and nothing else.
 // An input that fills the buffer is longer than any text that is accepted: it is read in pieces, and only its answer is found.
 #![tactic(auto)]
+
 use text::pieces::Progress;
 
 // What is known after a piece of the input, and whether it was the last.

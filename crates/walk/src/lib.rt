@@ -1,5 +1,6 @@
 // A walk: an arrival that is carried out one box at a time, the five steps of section 3.3.3 and lines (a) to (d) of each id.
 #![tactic(auto)]
+
 ghost use Rattle.std.specs.Prelude.{◌≡◌, ◌≤◌, length};
 ghost use Rattle.host.specs.CallState.{host};
 ghost use Rattle.host.specs.Guard.{longest};

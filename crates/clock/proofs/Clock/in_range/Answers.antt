@@ -10,11 +10,11 @@ returns-then-not-in_day c = rw (← c.in_day.ensures, c.if-not-in_day.true)
 pub returns-then-not-in_slew : goal.returns-then-not-in_slew
 unfolding clock_in_range
 returns-then-not-in_slew c = rw (
-      ← c.in_day.ensures,
-      c.if-not-in_day.false,
-      ← c.in_slew.ensures,
-      c.if-not-in_slew.true,
-    )
+  ← c.in_day.ensures,
+  c.if-not-in_day.false,
+  ← c.in_slew.ensures,
+  c.if-not-in_slew.true,
+)
 
 pub returns-then-hold-gt255 : goal.returns-then-hold-gt255
 unfolding clock_in_range

@@ -1,9 +1,5 @@
-use mathlib.Core.Path.{◌≡◌}
-use mathlib.Core.Bool.{true}
-use Prim.Native.Nat.{◌-◌, ◌*◌, ◌≤◌, ◌<◌}
-use Rattle.lists.specs.Lists.{part}
-use Rattle.table.specs.code.Loops.{all_in_range}
-use Rattle.table.proofs.ByWords.{Passed}
+use Prim.Native.Nat.{◌-◌}
+use Rattle.table.proofs.Reading.{Passed}
 use Rattle.table.proofs.entries.good_in_all.Given as goal
 
 abbrev pub invariant-loop-k : goal.invariant-loop-k

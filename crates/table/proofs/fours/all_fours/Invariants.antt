@@ -1,6 +1,6 @@
 use mathlib.Core.Path.{◌≡◌}
-use mathlib.Core.Bool.{true, ◌&&◌}
-use Prim.Native.Nat.{◌+◌, ◌-◌, ◌*◌, ◌≤◌, ◌<◌}
+use mathlib.Core.Bool.{true}
+use Prim.Native.Nat.{◌+◌, ◌-◌, ◌*◌, ◌≤◌}
 use Rattle.lists.specs.Lists.{part}
 use Rattle.table.specs.Forms.{every_from}
 use Rattle.table.specs.code.Words.{as_in_word}

@@ -1,0 +1,20 @@
+-- 12 by the test before, 16 by the walk, 1 by the settings and the table.
+use mathlib.Core.Path.{◌∙◌, sym}
+use borrow.Author.Tests.{eq-eqb}
+use Rattle.host.proofs.Rules.{numbers_off, marks_off, fit_by_nhosts}
+use Rattle.host.proofs.guard.judged.Goals as goal
+
+pub returns-then-not-numbers_good : goal.returns-then-not-numbers_good
+returns-then-not-numbers_good c = let a = c.args in
+    rw (c.if-not-good.false, sym c.in_walk.ensures ∙ c.if-in_walk.false, numbers_off a.t a.s (sym c.numbers_good.ensures ∙ c.if-not-numbers_good.true))
+
+pub returns-then-not-marks_good : goal.returns-then-not-marks_good
+returns-then-not-marks_good c = let a = c.args in
+    let numbers = sym c.numbers_good.ensures ∙ c.if-not-numbers_good.false in
+    rw (c.if-not-good.false, sym c.in_walk.ensures ∙ c.if-in_walk.false, marks_off a.t a.s numbers (sym c.marks_good.ensures ∙ c.if-not-marks_good.true))
+
+pub returns : goal.returns
+returns c = let a = c.args in
+    let numbers = sym c.numbers_good.ensures ∙ c.if-not-numbers_good.false in
+    let marks = sym c.marks_good.ensures ∙ c.if-not-marks_good.false in
+    rw (c.if-not-good.false, sym c.in_walk.ensures ∙ c.if-in_walk.false, fit_by_nhosts a.t a.s _ numbers marks (eq-eqb _ _ c.if-layout-t.false))

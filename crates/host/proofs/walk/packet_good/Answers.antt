@@ -1,0 +1,9 @@
+-- The inspection first, then what is held.
+use mathlib.Core.Path.{◌∙◌, sym, subst}
+use Rattle.host.proofs.Inspected.{Fits, inspected_fits}
+use Rattle.host.proofs.walk.packet_good.Goals as goal
+
+pub fields_good-requires : goal.fields_good-requires
+fields_good-requires c =
+    let a = c.args in
+    subst (Fits a.s a.packet.now) (sym c.inspect.ensures.0 ∙ c.in-Good.is) (inspected_fits a.s a.w.link a.packet.now)

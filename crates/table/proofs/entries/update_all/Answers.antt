@@ -1,0 +1,44 @@
+-- After n turns the first n entries are updated, each from the clock that the one before left.
+use mathlib.Core.Path.{◌≡◌, refl, sym}
+use Prim.Native.Nat.{◌-◌, ◌<◌}
+use native.Mathlib.Omega.{arith}
+use lib.ListN.{length}
+use Rattle.lists.proofs.Parts.{over_nothing}
+use Rattle.table.specs.Sweep.{sweep}
+use Rattle.table.specs.Runs.{updates}
+use Rattle.table.proofs.Kept.{clock_in_range_lem}
+use Rattle.table.proofs.Updating.{entries_turn, clock_turn}
+use Rattle.table.proofs.entries.update_all.Goals as goal
+
+pub loop-i-init : goal.loop-i-init
+unfolding sweep
+loop-i-init c =
+    let w = c.args.w in
+    let none : w.first - w.first ≡ 0 = omega arith in
+    (omega arith, c.requires.places.rising, λ some. (c.requires.sound some).clock, rw (none) (sym (over_nothing w.first c.args.entries.now)), rw (none) refl)
+
+pub loop-i-preserved : goal.loop-i-preserved
+loop-i-preserved c =
+    let w = c.args.w in
+    let packet = c.args.packet.now in
+    let entries = c.args.entries.now in
+    let i = c.loop-i.i in
+    let kept = c.loop-i.invariant in
+    let more = c.loop-i-test.true in
+    let inside : i < length entries = omega (arith, more, c.requires.places.inside) in (
+      omega (arith, kept.0),
+      omega (arith, more),
+      λ some. let sound = c.requires.sound some in
+          rw (c.updated-t.ensures) (clock_in_range_lem _ w.hold_interval sound.hold w.count sound.count w.date _ c.loop-i.c _ (kept.2 some)),
+      rw (c.updated-t.ensures, kept.3, kept.4) (entries_turn w packet entries _ i kept.0 inside),
+      rw (c.updated-t.ensures, kept.3, kept.4) (clock_turn w packet entries _ i kept.0 inside),
+    )
+
+pub returns : goal.returns
+unfolding updates
+returns c =
+    let w = c.args.w in
+    let entries = c.args.entries.now in
+    let kept = c.loop-i.invariant in
+    let last : c.loop-i.i - w.first ≡ w.end - w.first = omega (arith, kept.1, c.loop-i-test.false) in
+    (rw last at kept.3, rw last at kept.4)
