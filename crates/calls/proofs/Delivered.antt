@@ -44,7 +44,7 @@ use Rattle.arrival.specs.declared.Arrived.{Arrived}
 use Rattle.arrival.specs.declared.Delivery.{Delivery}
 use Rattle.arrival.specs.declared.Delivery.TheVariants.{Inspect, Act, Receive}
 use Rattle.host.specs.Inspection.{inspect}
-use Rattle.arrival.specs.Steps.{measured}
+use Rattle.arrival.specs.Steps.{measured, new_neighbor}
 use Rattle.arrival.specs.Arrival.{no_updates, ends, no_table, with_table, step5, concluded, inspected, on_link}
 use Rattle.arrival.specs.Arrival as definition
 use Rattle.arrival.proofs.Flights.{Short, steps_cases, measured_short, new_short}
@@ -137,10 +137,10 @@ module _ (s : Settings) (good : Sound s) (t : NetTable) (rows : RowsBelow t s) (
     fine (Good p) fits =
         steps_cases (λ g. Fine (concluded t (host s r.clock l) i (count_used k) p g))
         (broadcast s i) r.clock.hold p r.time (link_of l i)
-        (λ b. fifth_step p fits _ (measured_short _ p _ _))
-        (λ b n. fifth_step p fits _ (new_short p (measured (broadcast s i) p r.time (link_of l i))))
+        (λ b. fifth_step p fits (measured (broadcast s i) p r.time (link_of l i)) (measured_short (broadcast s i) p r.time (link_of l i)))
+        (λ b n. fifth_step p fits (new_neighbor p (measured (broadcast s i) p r.time (link_of l i))) (new_short p (measured (broadcast s i) p r.time (link_of l i))))
         (λ b n z. ended DelayNotValid (host s r.clock l))
-        (λ b n z. fifth_step p fits _ (measured_short _ p _ _))
+        (λ b n z. fifth_step p fits (measured (broadcast s i) p r.time (link_of l i)) (measured_short (broadcast s i) p r.time (link_of l i)))
 
     acted : Fine (definition.act i k octets t (host s c l))
     acted = fine (inspect s i octets) (inspected_fits s i octets)

@@ -1,5 +1,5 @@
 -- BACK-2: what a call does to the clock, as a list of moves, each one of the clock's own procedures.
-use Rattle.std.specs.Prelude.{◌≡◌, cond, not, List, [], ◌∷◌, ℕ, ◌-◌, ltb, length}
+use Rattle.std.specs.Prelude.{◌≡◌, cond, not, List, [], ◌∷◌, ℕ, ltb, length}
 use Rattle.quantity.specs.Quantity.{millis}
 use Rattle.quantity.specs.Words.{of_word}
 use Rattle.answer.specs.declared.Answer.TheVariants.{Done}

@@ -1,6 +1,6 @@
 -- Steps 2 to 4 of an arrival go one of three ways, a send writes its own link, and lines (a) to (c) of an update go one of five ways.
 use mathlib.Core.Path.{◌≡◌, refl, sym, ap, subst, ◌∙◌}
-use mathlib.Core.Bool.{Bool, true, false, true≢false, false≢true, cond, not, ◌||◌, ◌&&◌}
+use mathlib.Core.Bool.{Bool, true, false, true≢false, false≢true, cond, not, ◌||◌}
 use mathlib.Core.List.{List}
 use Prim.Native.Nat.{ℕ, ◌-◌, ◌<◌}
 use native.Mathlib.Omega.{arith}
@@ -8,7 +8,7 @@ use lib.Dec.{T, ltb, eqb}
 use lib.IntN.{◌+ℤ◌}
 use lib.ListN.{length}
 use lib.Seq.{get_or-set_same}
-use Rattle.lists.proofs.Tests.{either, is_so, is_not, neither}
+use Rattle.lists.proofs.Tests.{either, is_so, neither}
 use Rattle.quantity.specs.Words.{zero_word}
 use Rattle.answer.specs.declared.Answer.{Answer}
 use Rattle.answer.specs.declared.Answer.TheVariants.{Done, DelayNotValid}
@@ -39,7 +39,7 @@ use Rattle.host.specs.Settings.{found_for, settings_fit}
 use Rattle.host.specs.State.{host_count, broadcast, link_of, no_link, with_link, fresh_link, unset}
 use Rattle.arrival.specs.declared.Flight.{Flight}
 use Rattle.arrival.specs.declared.Arrived.{Arrived}
-use Rattle.arrival.specs.Steps.{step2, step3, step4, steps2to4, tsp_of}
+use Rattle.arrival.specs.Steps.{measured, new_neighbor, step2, step3, step4, steps2to4, tsp_of}
 use Rattle.arrival.specs.Arrival.{no_table, step5, concluded, action, inspected}
 use Rattle.calls.specs.Perform.{Call, receive, act, Outcome, sent_by, updated_by, perform}
 use Rattle.calls.proofs.Pair.{receive_acts}
@@ -47,12 +47,10 @@ use Rattle.network_laws.specs.Demand3.{timed}
 use Rattle.network_laws.proofs.Arrivals.{same_address_lem}
 use Rattle.network_laws.specs.HostAfter.{message_of}
 use Rattle.quantity.specs.Quantity.{add_millis, less_millis}
-use Rattle.table.specs.declared.Entry.{Entry}
-use Rattle.table.specs.declared.Update.{Update}
 use Rattle.table.specs.Entry.{min_delay}
 use Rattle.table.specs.Entry as entry
 use Rattle.table.specs.Update.{line_a, line_b, line_c, lines, left}
-use Rattle.host.proofs.Guarded.{Passed, passed, counted}
+use Rattle.host.proofs.Guarded.{passed, counted}
 use Rattle.network_laws.specs.Slots.{Slots}
 use Rattle.network_laws.proofs.Performs.{performs, there}
 use Rattle.network_laws.proofs.Sends.{reports, sent_message_lem}
@@ -127,11 +125,14 @@ module _ (i : ℕ) (k : Counter) (packet : List ℕ) (x : CallState) (point : br
       timed_cases (λ (o : Outcome). link_of o.links i ≡ learnt)
       (λ linked.
       rw point
-      (either Kept (not (same_address p.source l.neighbor)) _ _ (λ _. stored_on linked _ refl)
+      (either Kept (not (same_address p.source l.neighbor)) _ _ (λ _. stored_on linked (new_neighbor p arrived) refl)
       (λ t.
       let same = same_address_lem p.source l.neighbor (is_so _ t) in
-      either Kept (zero_word p.tsp || not (eqb clock.hold.0 0)) _ _ (λ _. stored linked _ ∙ ap named (sym same)) (λ _. stored_on linked _ (ap named (sym same))))))
+      either Kept (zero_word p.tsp || not (eqb clock.hold.0 0)) _ _ (λ _. stored linked arrived.link ∙ ap named (sym same)) (λ _. stored_on linked arrived (ap named (sym same))))))
     where
+      arrived : Flight
+      arrived = measured false p (our_reading k x.host).time l
+
       named : Address → Link
       named n = record { neighbor = n; keep_alive = 4; tsp = tsp_of p.time (our_reading k x.host).time }
 

@@ -1,5 +1,5 @@
 -- Every host is near enough to be in the table with the DELAY of a shortest way, and demand 3 bounds its OFFSET by that DELAY.
-use mathlib.Core.Path.{◌≡◌, refl, sym, ap, subst, ◌∙◌}
+use mathlib.Core.Path.{◌≡◌, refl, sym, ap, subst}
 use mathlib.Core.Bool.{Bool, true, false}
 use mathlib.Core.List.Memᴰ
 use mathlib.Core.List.{List}
@@ -12,9 +12,9 @@ use lib.Signed.{◌≤ℤ◌}
 use Rattle.quantity.proofs.Ints.{up, dn, sum, of-≤ℤ}
 use Rattle.route.specs.declared.Layout.{Layout}
 use Rattle.table.specs.Entry as entry
-use Rattle.network_laws.specs.Network.{longest_way, error_parts, delay_parts, Network, at, HostAt, Proper}
+use Rattle.network_laws.specs.Network.{longest_way, error_parts, delay_parts, Network, HostAt, Proper}
 use Rattle.network_laws.specs.Slots.{EverySlot}
-use Rattle.network_laws.specs.Demand3.{Step, World, history, Starts, Right, Claim, entry_of}
+use Rattle.network_laws.specs.Demand3.{Step, World, Starts, Claim, entry_of}
 use Rattle.network_laws.proofs.Demand3.Invariant.{RightWorld}
 use Rattle.network_laws.proofs.Demand3.Histories.{history_right, starts_right, right_claim}
 use Rattle.liveness_laws.specs.Numbers.{rise, quick_way, ways_below}
@@ -24,7 +24,7 @@ use Rattle.liveness_laws.specs.Hops.{Hops, there, over, Shortest, Via, own, by, 
 use Rattle.liveness_laws.specs.TablesFill.{Shown, Exact, Filled, TablesFill}
 use Rattle.liveness_laws.specs.Rounds.{Underway, Rounds, meanwhile}
 use Rattle.liveness_laws.specs.Order.{Begun, OrderedRounds}
-use Rattle.liveness_laws.specs.OrderClaim.{Measured, Leads, Follows, here, on, Led, SettledOn, moment, OrderClaim, AnyOrder}
+use Rattle.liveness_laws.specs.OrderClaim.{Follows, here, on, SettledOn, moment, OrderClaim, AnyOrder}
 use Rattle.liveness_laws.specs.TotalCorrectness.{Listed, HostOf, Correct, StaysCorrect, TotalCorrectness}
 use Rattle.liveness_laws.proofs.Rounds.Law as in_rounds
 use Rattle.liveness_laws.proofs.Order.Law as in_order

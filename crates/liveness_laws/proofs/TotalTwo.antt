@@ -1,6 +1,6 @@
 -- The two rounds of the rounds' example meet every condition of total correctness, because the one cable makes the network one cable wide.
 use mathlib.Core.Path.{◌≡◌, refl}
-use Prim.Native.Nat.{ℕ, suc, ◌≤◌, ◌<◌}
+use Prim.Native.Nat.{ℕ, ◌≤◌}
 use native.Mathlib.Omega.{arith}
 use lib.IntN.{pos, negsuc}
 use Rattle.network_laws.specs.History.{after}

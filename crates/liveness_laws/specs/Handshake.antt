@@ -1,5 +1,5 @@
 -- LIVE-1: one link: when a packet is accepted. For every host, whatever its state is.
-use Rattle.std.specs.Prelude.{◌≡◌, Bool, true, false, cond, not, ◌||◌, ◌&&◌, List, ◌⊎◌, ℕ, ◌-◌, T, eqb}
+use Rattle.std.specs.Prelude.{◌≡◌, Bool, true, false, cond, not, ◌||◌, ◌&&◌, List, ℕ, ◌-◌, T, eqb}
 use Rattle.quantity.specs.Words.{zero_word}
 use Rattle.answer.specs.declared.Answer.TheVariants.{Done}
 use Rattle.quantity.specs.Quantity.{add_millis, less_millis}

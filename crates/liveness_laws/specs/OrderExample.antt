@@ -1,5 +1,5 @@
 -- LIVE-3: two hosts and a cable, two rounds of eight calls, by computing.
-use Rattle.std.specs.Prelude.{◌≡◌, ℕ, ◌≤◌, ◌<◌, pos, length, replicate}
+use Rattle.std.specs.Prelude.{◌≡◌, ℕ, pos, replicate}
 use Rattle.quantity.specs.Quantity.{millis}
 use Rattle.clock.specs.LineClock.{no_counter}
 use Rattle.network_laws.specs.HostAfter.{message_of}

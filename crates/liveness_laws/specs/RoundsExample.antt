@@ -1,12 +1,12 @@
 -- LIVE-2: two hosts and a cable, two rounds of six calls, by computing.
-use Rattle.std.specs.Prelude.{◌≡◌, List, [], ◌∷◌, ℕ, ◌≤◌, ◌<◌, pos, length, replicate}
+use Rattle.std.specs.Prelude.{◌≡◌, [], ℕ, pos, replicate}
 use Rattle.quantity.specs.Quantity.{millis, to_units}
 use Rattle.clock.specs.LineClock.{no_counter}
 use Rattle.table.specs.Marks.{only_mark}
 use Rattle.network_laws.specs.HostAfter.{message_of}
 use Rattle.network_laws.specs.Network.{Network, Proper}
 use Rattle.network_laws.specs.Slots.{EverySlot}
-use Rattle.network_laws.specs.Demand3.{reports, sends, arrives, Step, World, result, step, history, Starts, entry_of}
+use Rattle.network_laws.specs.Demand3.{reports, sends, arrives, Step, World, result, step, Starts, entry_of}
 use Rattle.network_laws.specs.TwoNodes.{Pair, pair, begun, call}
 use Rattle.liveness_laws.specs.Numbers.{quick_way}
 use Rattle.liveness_laws.specs.Seconds.{emptied}

@@ -1,5 +1,5 @@
 -- LIVE-2, LIVE-3: a list that opens no walk meets what rounds ask of walks.
-use Rattle.std.specs.Prelude.{List, [], ◌∷◌, ℕ}
+use Rattle.std.specs.Prelude.{List, [], ◌∷◌}
 use Rattle.network_laws.specs.Network.{Network, Proper}
 use Rattle.network_laws.specs.Demand3.{NetworkCall, ticks, seconds, reports, sends, arrives, acts, inspects, opens, steps, adjusts, sets, clocks, looks, Step, World, step, history, Allows, Starts}
 use Rattle.liveness_laws.specs.Rounds.{NotBox1, NoWalks}

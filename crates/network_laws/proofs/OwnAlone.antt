@@ -11,7 +11,6 @@ use lib.Pow.{pow_pos}
 use lib.ListN.{length, get_or, set, replicate, length-set}
 use lib.Seq.{ext_get_or, get_or-set_same, get_or-set_other}
 use Rattle.lists.specs.Lists.{over}
-use Rattle.lists.proofs.Tests as tests
 use Rattle.lists.proofs.Parts.{part_more}
 use Rattle.quantity.specs.declared.Millis.{Millis}
 use Rattle.answer.specs.declared.Answer.{Answer}
@@ -36,7 +35,7 @@ use Rattle.host.specs.Settings.{own_id, found_marked, numbers_good, settings_goo
 use Rattle.host.specs.State.{host_count, with_entries}
 use Rattle.host.specs.CallState.{CallState, our_reading, entries_of, marks_as_set, state_in_range}
 use Rattle.host.specs.Guard.{guard, done}
-use Rattle.host.specs.Effect.{each, one}
+use Rattle.host.specs.Effect.{each}
 use Rattle.host.specs.Reply.{plainly}
 use Rattle.host.specs.code.Returned.{initialized}
 use Rattle.host.proofs.Places.{entries_length}

@@ -55,7 +55,7 @@ kept_after w e i octets is continues =
     let o : outcome e ≡ record { reply = (outcome e).reply; clock = x.host.clock; links = x.host.links; walk = x.walk; copy = x.copy; entries = x.entries; buffer = [] } =
     ap (λ c. perform c x) is ∙ leaves i octets x ∙ ap (λ r. record { reply = r; clock = x.host.clock; links = x.host.links; walk = x.walk; copy = x.copy; entries = x.entries; buffer = [] }) (ap (λ c. (perform c x).reply) (sym is)) in
     let there : (b : Bool) → ltb (length x.entries) (first_place k + places_per_host) ≡ b → cond b (w k).places (places k x.entries) ≡ (w k).places =
-    λ b. elim b [ true ↦ λ _. refl | false ↦ λ z. continues.all_places (ltb-false (length x.entries) (first_place k + places_per_host) z) ] in
+    λ b. elim b as (λ c. ltb (length x.entries) (first_place k + places_per_host) ≡ c → cond c (w k).places (places k x.entries) ≡ (w k).places) [ true ↦ λ _. refl | false ↦ λ z. continues.all_places (ltb-false (length x.entries) (first_place k + places_per_host) z) ] in
     ap (after_outcome k (w k).places) o
     ∙ (λ j. record { clock = continues.own_clock j; links = continues.all_links j; walk = continues.own_walk j; copy = continues.all_copy j; places = there (ltb (length x.entries) (first_place k + places_per_host)) refl j })
 

@@ -1,12 +1,12 @@
 -- An opened walk passes the guard at each box whose table suits it, and stays if another table is passed. So its end is that of its boxes, which is the action with the table of box 5.
 use mathlib.Core.Path.{◌≡◌, refl, sym, ap, ◌∙◌, subst}
-use mathlib.Core.Bool.{Bool, true, false, false≢true, cond, not, ◌&&◌, ◌||◌}
-use mathlib.Core.List.{List, [], ◌∷◌, ◌++◌, map, append_assoc}
+use mathlib.Core.Bool.{Bool, true, false, false≢true, cond, not, ◌||◌}
+use mathlib.Core.List.{List, [], ◌∷◌, ◌++◌, append_assoc}
 use mathlib.Core.Logic.{◌⊎◌, inl, inr, ⊎_elim}
-use Prim.Native.Nat.{ℕ, zero, suc, ◌+◌, ◌-◌, ◌*◌, ◌≤◌, ◌<◌, ◌^◌}
+use Prim.Native.Nat.{ℕ, suc, ◌+◌, ◌≤◌, ◌<◌, ◌^◌}
 use native.Mathlib.Omega.{arith}
 use borrow.Author.Tests.{le-leb, lt-ltb, le-ltb, ltb-true, eq-eqb}
-use lib.Dec.{ltb, leb, eqb}
+use lib.Dec.{ltb, eqb}
 use lib.ListN.{length, get_or, take, drop, length-append}
 use lib.Seq.{take_at, drop_at, length-take-le}
 use Rattle.lists.specs.Lists.{over}
@@ -34,7 +34,6 @@ use Rattle.net_table.specs.declared.NetTable.{NetTable}
 use Rattle.net_table.specs.Table.{table_bad}
 use Rattle.table.specs.declared.Entry.{Entry}
 use Rattle.table.specs.Forms.{Stage, on, end, every}
-use Rattle.table.specs.Entry.{fresh_entry}
 use Rattle.table.specs.Runs.{changes, updates}
 use Rattle.table.specs.Sweep.{sweep}
 use Rattle.host.specs.declared.Reply.{Reply}
@@ -45,14 +44,14 @@ use Rattle.host.specs.declared.walk.Place.{Place}
 use Rattle.host.specs.declared.walk.Place.TheVariants.{Nowhere, Step5}
 use Rattle.host.specs.declared.guard.Scope.TheVariants as scope
 use Rattle.host.specs.declared.guard.Scope.TheVariants.{Walking}
-use Rattle.host.specs.Settings.{settings_good, settings_fit, found_for}
-use Rattle.host.specs.State.{first_place, no_link, host_count, broadcast, link_of, with_entries}
+use Rattle.host.specs.Settings.{settings_good, found_for}
+use Rattle.host.specs.State.{first_place, no_link, host_count, broadcast, link_of, with_link, with_entries}
 use Rattle.host.specs.CallState.{Host, host, CallState, call_state, entries_of, state_in_range, our_reading}
 use Rattle.host.specs.Inspection.{other_layout, looped, inspected, inspect}
 use Rattle.host.specs.code.Walks.{Reported}
 use Rattle.host.proofs.Inspected.{Fits, inspected_fits}
 use Rattle.host.specs.Guard.{longest, guard, done}
-use Rattle.host.specs.Walk.{is_open, place_of, step_place, packet_of, packet_fits, walk_in_range}
+use Rattle.host.specs.Walk.{is_open, place_of, step_place, packet_of, walk_in_range}
 use Rattle.host.specs.Reply.{plainly, returns_place}
 use Rattle.host.proofs.Sound.{sound}
 use Rattle.host.proofs.Fits.{fits_hosts, rows_below}
@@ -60,7 +59,7 @@ use Rattle.host.proofs.Places.{entries_length, entries_with_entries}
 use Rattle.host.proofs.Places.{Holds as Holds₁}
 use Rattle.host.proofs.Guarded.{Passed, passed, counted, holds}
 use Rattle.calls.proofs.Carried.{entries_put}
-use Rattle.walk.specs.Boxes.{at_hand, box1, box2, box3, box4, box5, box_at, step}
+use Rattle.walk.specs.Boxes.{at_hand, box_at, step}
 use Rattle.walk.specs.declared.Opening.{Opening}
 use Rattle.walk.specs.Opening.{opened_on, opening}
 use Rattle.walk.specs.Opening.{opened_by as as-inspected}
@@ -71,7 +70,7 @@ use Rattle.arrival.specs.Steps.{steps2to4}
 use Rattle.arrival.specs.Arrival.{no_updates, no_table, concluded, action}
 use Rattle.arrival.specs.Arrival.{inspected as inspected₁}
 use Rattle.arrival.proofs.Pair.{one_piece}
-use Rattle.walk.proofs.Walked.{Handed, Node, Final, node, final, box_here, walk_from, box_is}
+use Rattle.walk.proofs.Walked.{Handed, Node, Final, node, final, box_here, walk_from}
 use Rattle.walk.proofs.Holding.{Holds, passes, Goes, box_goes}
 use Rattle.calls.specs.Perform.{Outcome, ask, open_walk, receive, entry_at, carried_out, updated_by, opened_by, refused, perform, left}
 use Rattle.calls.specs.Perform as calls
@@ -498,7 +497,7 @@ module _ (i : ℕ) (packet : List ℕ) (x : CallState) where
           go (end f) w = omega (arith, ap (λ (y₁ : Reply). number y₁.answer) w)
           go (on f) w =
               either (λ (a : Arrived). a.reply ≡ plainly InWalk → ⊥) (eqb b.p.nhosts 0) _ _
-              (λ _. one _ f (found_for t (s x) f.link.neighbor)) (λ _ v. omega (arith, ap (λ (y₁ : Reply). number y₁.answer) v)) w
+              (λ _. one (host (s x) r.clock (with_link i f.link x.host.links)) f (found_for t (s x) f.link.neighbor)) (λ _ v. omega (arith, ap (λ (y₁ : Reply). number y₁.answer) v)) w
 
     -- ---- the walk, with boxes of which these were taken
 

@@ -3,7 +3,6 @@ use Rattle.std.specs.Prelude.{◌≡◌, cond, List, [], ◌∷◌, map, ℕ, eq
 use Rattle.answer.specs.declared.Answer.TheVariants.{Done}
 use Rattle.host.specs.declared.Settings.{Settings}
 use Rattle.host.specs.State.{host_count}
-use Rattle.host.specs.CallState.{call_state}
 use Rattle.calls.specs.declared.Request.TheVariants.{Initialize}
 use Rattle.calls.specs.Perform.{ask}
 use Rattle.network_laws.specs.HostAfter.{Returned, returned}

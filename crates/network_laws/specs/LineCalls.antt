@@ -1,5 +1,5 @@
 -- CLOCK-14: the calls over a clock without a counter, and that calls without a count are the same.
-use Rattle.std.specs.Prelude.{◌≡◌, cond, not, List, [], ℕ, ◌-◌, ltb, pos, length, ◌≤ℤ◌}
+use Rattle.std.specs.Prelude.{◌≡◌, cond, not, List, ℕ, ltb, pos, length, ◌≤ℤ◌}
 use Rattle.quantity.specs.Quantity.{millis}
 use Rattle.answer.specs.declared.Answer.TheVariants.{Done, ShortBuffer}
 use Rattle.clock.specs.declared.Clock.{Clock}
@@ -14,7 +14,7 @@ use Rattle.table.specs.Sweep.{Swept}
 use Rattle.host.specs.declared.Effect.{Effect}
 use Rattle.host.specs.declared.walk.Walk.{Walk}
 use Rattle.host.specs.State.{link_of, with_entries}
-use Rattle.host.specs.CallState.{Host, CallState, host, entries_of}
+use Rattle.host.specs.CallState.{Host, CallState, entries_of}
 use Rattle.host.specs.Guard.{guard, done}
 use Rattle.host.specs.Effect.{each, answers}
 use Rattle.host.specs.Reply.{plainly, returns_time}

@@ -1,5 +1,5 @@
 -- CRYSTAL-9: the boxes of a walk with a line clock.
-use Rattle.std.specs.Prelude.{cond, not, List, ℕ, ◌-◌}
+use Rattle.std.specs.Prelude.{cond, not, List, ℕ}
 use Rattle.quantity.specs.Words.{of_word}
 use Rattle.answer.specs.declared.Answer.TheVariants.{OutOfRange, NoWalk}
 use Rattle.clock.specs.declared.Clock.{Clock}

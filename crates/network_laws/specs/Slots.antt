@@ -1,5 +1,5 @@
 -- WALK-5, LIVE-2: a host has a slot for each of its links. In the compiled library it always has: eight slots, and at most eight links.
-use Rattle.std.specs.Prelude.{List, ℕ, ◌≤◌, ◌<◌, length}
+use Rattle.std.specs.Prelude.{ℕ, ◌≤◌, ◌<◌, length}
 use Rattle.host.specs.declared.Settings.{Settings}
 use Rattle.host.specs.declared.Links.{Links}
 use Rattle.host.specs.Settings.{link_count_of}

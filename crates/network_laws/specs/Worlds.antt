@@ -1,6 +1,5 @@
 -- ROOM-5, ROOM-8, ROOM-10: a network after a list of calls.
 use Rattle.std.specs.Prelude.{cond, List, [], ◌∷◌, ℕ, ℤ}
-use Rattle.answer.specs.Answer.{number}
 use Rattle.host.specs.Guard.{done}
 use Rattle.calls.specs.Perform.{Outcome}
 use Rattle.network_laws.specs.HostAfter.{message_of}

@@ -14,7 +14,7 @@ use Rattle.quantity.specs.declared.Millis.{Millis}
 use Rattle.quantity.specs.declared.Count.{Count}
 use Rattle.quantity.specs.Quantity.{millis, less_millis}
 use Rattle.quantity.specs.Words.{zero_word}
-use Rattle.quantity.proofs.Ints.{up, not_lt}
+use Rattle.quantity.proofs.Ints.{not_lt}
 use Rattle.answer.specs.declared.Answer.{Answer}
 use Rattle.answer.specs.declared.Answer.TheVariants.{DelayNotValid, NoHost}
 use Rattle.clock.specs.declared.Clock.{Clock}
@@ -47,7 +47,7 @@ use Rattle.host.proofs.Guarded.{passed, holds, counted}
 use Rattle.host.proofs.Places.{Holds, entries_length}
 use Rattle.arrival.specs.declared.Flight.{Flight}
 use Rattle.arrival.specs.declared.Arrived.{Arrived}
-use Rattle.arrival.specs.Steps.{step2, step3, step4, steps2to4, delay_of, at_least_min, report_update}
+use Rattle.arrival.specs.Steps.{measured as flight, new_neighbor, step2, step3, step4, steps2to4, delay_of, at_least_min, report_update}
 use Rattle.arrival.specs.Arrival.{ends, no_table, with_table, step5, concluded, action, inspected}
 use Rattle.calls.specs.Perform.{act, Outcome, updated_by, perform}
 use Rattle.network_laws.specs.Network.{Network, at, state_at, Proper}
@@ -298,13 +298,19 @@ module _ (r : Network) (proper : Proper r) (quick : r.longest ≤ quick_way) (c 
         action_good point =
             rw point
             (either Stay (not (same_address p.source (link_of l j).neighbor)) _ _
-            (λ t. let o = stranger r proper k b heard e l walk was.good.links j letter cable right (is_not _ t) in new_neighbor_lem _ source_is o.0 o.1 _ refl)
+            (λ t. let o = stranger r proper k b heard e l walk was.good.links j letter cable right (is_not _ t) in new_neighbor_lem strange.link source_is o.0 o.1 strange refl)
             (λ t.
             let same = sym (same_address_lem p.source (link_of l j).neighbor (is_so _ t)) ∙ source_is in
             either Stay (zero_word p.tsp || not (eqb carried_on.hold.0 0)) _ _
-            (λ _. quiet_kept heard DelayNotValid (g _ same) (room _ same) (stayed shut _ same))
-            (λ u. let worded = (neither (zero_word p.tsp) _ u).0 in goes_on _ same _ (exact_delay worded) worded)))
+            (λ _. quiet_kept heard DelayNotValid (g arrived.link same) (room arrived.link same) (stayed shut arrived.link same))
+            (λ u. let worded = (neither (zero_word p.tsp) _ u).0 in goes_on arrived.link same arrived (exact_delay worded) worded)))
           where
+            arrived : Flight
+            arrived = flight false p now (link_of l j)
+
+            strange : Flight
+            strange = new_neighbor p arrived
+
             Stay : Stage Flight → Type 0
             Stay q = By (concluded nets (host (r.settings b) carried_on l) j (count_used κ) p q)
 

@@ -298,7 +298,10 @@ module _ (r : Network) (proper : Proper r) (quick : r.longest ≤ quick_way) (c 
           (measured.exact_delay r proper b j letter cable t.taken.right quick w.reading t.taken.way t.taken.short t.taken.clock) worded
         where
           again : of_word (to_word (of_word w.delay)) ≡ of_word w.delay
-          again = rw t.delay (let z = wrap_range 16 (omega arith) (sub_millis w.reading (of_word p.tsp)).0 in ap millis (wrap_fits 16 (omega arith) (wrap 16 (sub_millis w.reading (of_word p.tsp)).0) z.0 z.1))
+          again =
+              ap (λ (d : Millis). of_word (to_word d)) t.delay
+              ∙ (let z = wrap_range 16 (omega arith) (sub_millis w.reading (of_word p.tsp)).0 in ap millis (wrap_fits 16 (omega arith) (wrap 16 (sub_millis w.reading (of_word p.tsp)).0) z.0 z.1))
+              ∙ sym t.delay
 
       abbrev f : Flight
       f = in_flight l w
@@ -374,8 +377,10 @@ module _ (r : Network) (proper : Proper r) (quick : r.longest ≤ quick_way) (c 
     far_update : of_word w.delay ≡ max_delay → less_millis u.delay max_delay ≡ false
     unfolding report_at
     far_update far =
-        either (λ (y : Update). less_millis y.delay max_delay ≡ false) (eqb p.nhosts 0) _ _ (λ _. rw far refl)
-        (λ _. rw far (not_lt (pos 30000 +ℤ (report_at (hello_of octets) w.id).delay.0) (pos 30000) (omega arith)))
+        either (λ (y : Update). less_millis y.delay max_delay ≡ false) (eqb p.nhosts 0) _ _ (λ _. subst (λ (d : Millis). less_millis d max_delay ≡ false) (sym far) refl)
+        (λ _.
+        subst (λ (d : Millis). less_millis (millis (d.0 +ℤ (report_at (hello_of octets) w.id).delay.0)) max_delay ≡ false) (sym far)
+        (not_lt (pos 30000 +ℤ (report_at (hello_of octets) w.id).delay.0) (pos 30000) (omega arith)))
 
     delay_is : w.id ≡ i → eqb p.nhosts 0 ≡ false → of_word w.delay ≡ millis (pos rise) → u.delay.0 ≡ pos (rise + returned i octets)
     unfolding report_at

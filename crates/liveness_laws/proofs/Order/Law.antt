@@ -21,7 +21,6 @@ use Rattle.network_laws.specs.History.{HostAfter}
 use Rattle.network_laws.specs.Slots.{EverySlot}
 use Rattle.network_laws.specs.Demand3.{Step, World, step, history, Allows, Starts, entry_of}
 use Rattle.network_laws.proofs.Lists.{all_at}
-use Rattle.network_laws.proofs.Performs.{there}
 use Rattle.network_laws.proofs.Demand3.Invariant.{RightEntry, RightWorld}
 use Rattle.network_laws.proofs.Demand3.Nodes.{fresh_right, set_good}
 use Rattle.liveness_laws.specs.Numbers.{rise, quick_way, round_seconds, ways_below}

@@ -35,7 +35,7 @@ use Rattle.host.specs.CallState.{CallState, entries_of, our_reading}
 use Rattle.host.specs.Guard.{done}
 use Rattle.host.specs.Walk.{is_open}
 use Rattle.host.proofs.Places.{Holds}
-use Rattle.host.proofs.Guarded.{passed, holds, counted, entries_state}
+use Rattle.host.proofs.Guarded.{passed, holds, entries_state}
 use Rattle.host.proofs.Sound.{sound}
 use Rattle.sending.specs.declared.Sending.{Sending}
 use Rattle.sending.specs.Message.{table_goes, sent_tsp, link_sent, packet_sent}

@@ -4,18 +4,16 @@ use mathlib.Core.Bool.{Bool, true, false, cond}
 use mathlib.Core.Bool.{false}
 use mathlib.Core.List.Memᴰ
 use mathlib.Core.List.{List, [], ◌∷◌}
-use mathlib.Core.Logic.{◌⊎◌, inl, inr}
+use mathlib.Core.Logic.{inl, inr}
 use Prim.Native.Nat.{ℕ, ◌+◌, ◌≤◌, ◌<◌}
 use native.Mathlib.Omega.{arith}
 use borrow.Author.Tests.{eqb-true}
 use lib.Dec.{eqb}
 use lib.IntN.{pos}
-use lib.ListN.{length}
 use Rattle.quantity.specs.Quantity.{millis}
 use Rattle.answer.specs.declared.Answer.{Answer}
 use Rattle.clock.specs.LineClock.{no_counter}
 use Rattle.table.specs.Marks.{only_mark}
-use Rattle.host.specs.Settings.{link_count_of}
 use Rattle.host.specs.Walk.{is_open}
 use Rattle.network_laws.specs.HostAfter.{message_of}
 use Rattle.network_laws.specs.History.{after}
@@ -26,8 +24,8 @@ use Rattle.network_laws.proofs.Opened.{opened}
 use Rattle.network_laws.proofs.Demand3.TwoNodes.{below_2, apart, pair_proper, starts, as_after, reads, delivered}
 use Rattle.liveness_laws.specs.Numbers.{round_seconds}
 use Rattle.liveness_laws.specs.Seconds.{emptied, seconds_at}
-use Rattle.liveness_laws.specs.Rounds.{NoWalks, Speaking, Listening, Reported, Heard, spoken, Round, Rounds, begin, next}
-use Rattle.liveness_laws.specs.RoundsExample.{both, two, x₁, x₂, x₃, x₄, y₁, y₂, w₁, w₂, w₃, w₄, w₅, w₆, start, between, last, RoundsExample}
+use Rattle.liveness_laws.specs.Rounds.{NoWalks, Speaking, Listening, Reported, Heard, Round, Rounds, begin, next}
+use Rattle.liveness_laws.specs.RoundsExample.{both, two, x₁, x₂, x₃, x₄, y₁, y₂, w₁, w₂, w₃, w₄, w₅, start, between, last, RoundsExample}
 
 -- the two ends of the cable
 pub ends : (P : ℕ → ℕ → Type 0) → P 0 1 → P 1 1 → (b j a i : ℕ) → wire b j ≡ at a i → P b j

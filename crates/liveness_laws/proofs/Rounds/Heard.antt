@@ -9,7 +9,6 @@ use lib.Dec.{eqb}
 use lib.IntN.{pos}
 use Rattle.lists.proofs.Tests.{either}
 use Rattle.quantity.specs.declared.Millis.{Millis}
-use Rattle.quantity.proofs.Ints.{up}
 use Rattle.table.specs.declared.Entry.{Entry}
 use Rattle.table.specs.declared.Update.{Update}
 use Rattle.table.specs.Entry.{aged}

@@ -9,7 +9,7 @@ use native.Mathlib.Omega.{arith}
 use lib.IntN.{pos}
 use lib.ListN.{take}
 use lib.Seq.{get_or-take}
-use Rattle.quantity.proofs.Ints.{up, to-≤ℤ}
+use Rattle.quantity.proofs.Ints.{to-≤ℤ}
 use Rattle.route.specs.declared.Layout.{Layout}
 use Rattle.table.specs.declared.Entry.{Entry}
 use Rattle.table.specs.Entry.{fresh_entry}
@@ -31,7 +31,7 @@ use Rattle.liveness_laws.specs.TablesFill.{TablesFill}
 use Rattle.liveness_laws.specs.Rounds.{NoWalks, Speaking, Listening, spoken, Underway, meanwhile, Round, Rounds, begin, next}
 use Rattle.network_laws.proofs.Demand3.Histories.{world_right, history_right, starts_right}
 use Rattle.liveness_laws.proofs.Rounds.Heard.{Mine}
-use Rattle.liveness_laws.proofs.Rounds.Entry.{Shown, next_entry, least}
+use Rattle.liveness_laws.proofs.Rounds.Entry.{next_entry, least}
 use Rattle.liveness_laws.proofs.Rounds.Believed.{Sent}
 use Rattle.liveness_laws.proofs.Host.State.{WalkAt}
 use Rattle.liveness_laws.proofs.Host.Flags.{own_gain, flags_after, flags_all, all_stay, heard_on, reported_on}

@@ -18,7 +18,6 @@ use Rattle.table.specs.Sweep.{sweep}
 use Rattle.table.specs.Update.{update, settled, lines, left}
 use Rattle.table.specs.Forms.{Stage, on, end}
 use Rattle.table.proofs.Sweeps.{sweep_length}
-use Rattle.network_laws.specs.Network.{at}
 use Rattle.host.specs.Effect.{one}
 use Rattle.network_laws.proofs.Lists.{All, all_weaken}
 

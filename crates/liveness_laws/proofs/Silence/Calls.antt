@@ -15,7 +15,7 @@ use Rattle.quantity.specs.Words.{zero_word}
 use lib.IntN.{ℤ, pos, ◌+ℤ◌}
 use Rattle.quantity.specs.Quantity.{millis, less_millis}
 use Rattle.wire.specs.declared.Report.{Report}
-use Rattle.quantity.proofs.Ints.{up, dn, sum, lt_yes, is_lt}
+use Rattle.quantity.proofs.Ints.{sum, lt_yes, is_lt}
 use Rattle.answer.specs.declared.Answer.{Answer}
 use Rattle.answer.specs.declared.Answer.TheVariants.{Done, DelayNotValid, NoHost}
 use Rattle.clock.specs.declared.Clock.{Clock}
@@ -33,7 +33,7 @@ use Rattle.table.specs.declared.Entry.{Entry}
 use Rattle.table.specs.declared.entries.Change.TheVariants.{Aged}
 use Rattle.table.specs.Marks.{mark}
 use Rattle.table.specs.Entry.{fresh_entry, lives_here, as_marked, max_delay}
-use Rattle.table.specs.Forms.{Stage, end}
+use Rattle.table.specs.Forms.{Stage}
 use Rattle.table.specs.Runs.{changed, changes, update_at, updates}
 use Rattle.table.specs.Update.{own_update}
 use Rattle.table.proofs.Cases.{stored, update_keeps, reported_keeps}
@@ -46,19 +46,19 @@ use Rattle.host.specs.Effect.{each}
 use Rattle.host.specs.Guard.{done}
 use Rattle.host.specs.CallState.{Host, CallState, host, entries_of, our_reading, marks_as_set}
 use Rattle.host.specs.Settings.{found_for}
-use Rattle.host.specs.State.{host_count, own_entries, broadcast, link_of}
+use Rattle.host.specs.State.{host_count, own_entries, broadcast, link_of, with_link}
 use Rattle.host.proofs.Guarded.{passed, marks_state}
 use Rattle.host.proofs.Places.{Holds, entries_length}
 use Rattle.arrival.specs.declared.Flight.{Flight}
 use Rattle.arrival.specs.declared.Arrived.{Arrived}
-use Rattle.arrival.specs.Steps.{step2, step3, step4, steps2to4, at_least_min, neighbor_update, report_update}
+use Rattle.arrival.specs.Steps.{measured, new_neighbor, step2, step3, step4, steps2to4, at_least_min, neighbor_update, report_update}
 use Rattle.arrival.specs.Arrival.{ends, updated, no_table, with_table, step5, concluded, action, inspected, inspection}
 use Rattle.calls.specs.declared.Request.TheVariants.{Tick, Adjust, Set, Read, Lookup, Second, SelfReport}
 use Rattle.calls.specs.Effects.{tick, second, self_report}
 use Rattle.calls.specs.Effects as effects
 use Rattle.calls.specs.Perform.{Call, ask, act, inspect, Outcome, carried_out, updated_by, entry_at, work, perform}
 use Rattle.network_laws.specs.Frame.{Elsewhere, Frame}
-use Rattle.network_laws.specs.Network.{Network, at, state_at, HostAt}
+use Rattle.network_laws.specs.Network.{Network, state_at, HostAt}
 use Rattle.network_laws.proofs.Lists.{All, all_counted, all_there, each_all}
 use Rattle.network_laws.proofs.Performs.{guard_of, performs}
 use Rattle.network_laws.proofs.Ranges.{raised_low}
@@ -229,14 +229,20 @@ module _ (r : Network) (i n b s : ℕ)
     concluded_table held k =
         rw point
         (either Kept (not (same_address p.source (link_of l link).neighbor)) _ _
-        (λ _. fifth held _ refl (count_used k) _ (λ _. refl))
+        (λ _. fifth held (after (new_neighbor p arrived)) refl (count_used k) (new_neighbor p arrived) (λ _. refl))
         (λ t.
         either Kept (zero_word p.tsp || not (eqb reading.hold.0 0)) _ _
         (λ _. quiet_keeps held x.host refl (count_used k) DelayNotValid (host (r.settings b) reading l))
-        (λ u. fifth held _ refl (count_used k) _ (λ none. absurd (true≢false (sym (tabled none) ∙ (neither (zero_word p.tsp) _ u).0))))))
+        (λ u. fifth held (after arrived) refl (count_used k) arrived (λ none. absurd (true≢false (sym (tabled none) ∙ (neither (zero_word p.tsp) _ u).0))))))
       where
         reading : Clock
         reading = (our_reading k x.host).clock
+
+        arrived : Flight
+        arrived = measured false p (our_reading k x.host).time (link_of l link)
+
+        after : Flight → Host
+        after f = host (r.settings b) reading (with_link link f.link l)
 
         Kept : Stage Flight → Type 0
         Kept g = Table s (updated_by (concluded nets (host (r.settings b) reading l) link (count_used k) p g) octets x).entries

@@ -6,12 +6,12 @@ use mathlib.Core.List.{List, [], ◌∷◌, Memᴰ}
 use mathlib.Core.Logic.{◌⊎◌, inl, inr}
 use Prim.Native.Nat.{ℕ, zero, suc, ◌+◌, ◌*◌, ◌≤◌, ◌<◌}
 use native.Mathlib.Omega.{arith}
-use lib.IntN.{ℤ, pos}
+use lib.IntN.{pos}
 use lib.ListN.{length, get_or, take}
 use lib.Seq.{get_or-take, take-nil}
 use lib.Signed.{◌≤ℤ◌}
 use Rattle.lists.proofs.Tests.{either}
-use Rattle.quantity.proofs.Ints.{up, dn, to-≤ℤ, of-≤ℤ, lt_yes}
+use Rattle.quantity.proofs.Ints.{up, to-≤ℤ, of-≤ℤ, lt_yes}
 use Rattle.answer.specs.declared.Answer.TheVariants.{Done}
 use Rattle.route.specs.declared.Layout.{Layout}
 use Rattle.table.specs.declared.Entry.{Entry}
@@ -29,8 +29,8 @@ use Rattle.host.proofs.Sound.{sound}
 use Rattle.calls.specs.declared.Request.TheVariants.{Initialize}
 use Rattle.calls.specs.Effects.{initialize}
 use Rattle.calls.specs.Perform.{ask, Outcome}
-use Rattle.network_laws.specs.History.{after_outcome, places}
-use Rattle.network_laws.specs.Network.{longest_way, Network, at, state_at, initialized, HostAt, Proper}
+use Rattle.network_laws.specs.History.{after_outcome}
+use Rattle.network_laws.specs.Network.{longest_way, Network, state_at, initialized, HostAt, Proper}
 use Rattle.network_laws.specs.Demand3.{Step, World, step, history, Allowed, Allows, Starts, entry_of}
 use Rattle.network_laws.proofs.Lists.{All, all_any, all_at, all_counted, all_weaken}
 use Rattle.network_laws.proofs.HostPlaces.{entries_first}
@@ -102,7 +102,7 @@ module _ (r : Network) (proper : Proper r) (ways : r.longest ≤ longest_way) wh
       along s w (x ∷ xs) ok away hushed sane f =
           same_seconds r out i n (λ b. (s b + counts r w b x) + seconds_at r (step r w x) b xs) (λ b. s b + (counts r w b x + seconds_at r (step r w x) b xs)) (λ b. omega arith) (history r (step r w x) xs)
           (along (λ b. s b + counts r w b x) (step r w x) xs ok.1 away.1 (λ b hb other home z. hushed b hb other home (inr z)) (one_sane w x ok.0 sane)
-          (world_fades r proper ways out i n few s w x ok.0 (inl away.0) (λ other. inl (λ home now. hushed x.node ok.0.Node-in other home (inl now))) sane.right sane.tabled f))
+          (world_fades r proper ways out i n few s w x ok.0 (inl away.0) (λ other. inl (λ home now. hushed x.node ok.0.node_in other home (inl now))) sane.right sane.tabled f))
 
       -- the next one
       rises : (s : ℕ → ℕ) (w : World) → ((b : ℕ) → b < r.nodes → (b ≡ out → ⊥) → epoch_seconds ≤ s b) → FadeWorld r out i n s w → FadeWorld r out i (n + rise) (λ b. 0) (emptied w)
@@ -132,7 +132,7 @@ module _ (r : Network) (proper : Proper r) (ways : r.longest ≤ longest_way) wh
           past (step r w x) xs ok.1 (one_sane w x ok.0 sane)
           (fewer r proper ways out i n few (λ b. 0 + counts r w b x) (λ b. 0) (λ b. omega arith) (step r w x)
           (world_fades r proper ways out i n few (λ b. 0) w x ok.0 (inr (refl, least))
-          (λ other. elim first [ inl never ↦ inl (λ home _. never x.node ok.0.Node-in other home) | inr none ↦ inr (refl, none) ]) sane.right sane.tabled f))
+          (λ other. elim first [ inl never ↦ inl (λ home _. never x.node ok.0.node_in other home) | inr none ↦ inr (refl, none) ]) sane.right sane.tabled f))
 
       -- ---- the beginning
 

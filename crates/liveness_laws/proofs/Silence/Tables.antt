@@ -6,7 +6,7 @@ use Prim.Native.Nat.{ℕ, zero, suc, ◌+◌, ◌-◌, ◌<◌}
 use native.Mathlib.Omega.{arith}
 use borrow.Author.Tests.{eqb-true, eqb-false, eq-eqb, ne_eqb}
 use lib.Dec.{ltb, eqb}
-use lib.IntN.{ℤ, ◌+ℤ◌}
+use lib.IntN.{◌+ℤ◌}
 use lib.ListN.{length, get_or, set}
 use lib.Seq.{get_or-set_other}
 use Rattle.lists.proofs.Tests.{either, neither, is_so}
@@ -55,7 +55,7 @@ use Rattle.sending.specs.Message.{table_goes, sent_tsp, link_sent, packet_sent}
 use Rattle.sending.specs.Send.{report_count}
 use Rattle.arrival.specs.declared.Flight.{Flight}
 use Rattle.arrival.specs.declared.Arrived.{Arrived}
-use Rattle.arrival.specs.Steps.{new_neighbor, step2, step3, step4, steps2to4}
+use Rattle.arrival.specs.Steps.{measured, new_neighbor, step2, step3, step4, steps2to4}
 use Rattle.arrival.specs.Arrival.{no_table, step5, concluded, inspected}
 use Rattle.walk.specs.declared.Opening as declared
 use Rattle.walk.specs.Boxes.{in_flight, onward, ended, fourth, to_neighbor, raised, next_id, after_a, after_b, is_clock_host, clock_set, at_line, box1, box2, box3, box4, box5, box_a, box_b, box_c, box_d, at_hand, box_at, box_of}
@@ -227,13 +227,16 @@ module _ (r : Network) (proper : Proper r) (b : ℕ) (inside : b < r.nodes) (few
         (λ _.
         rw (proper.cables b i m.node m.link cable).point_to_point
         (either Stays (not (same_address came.source (link_of l i).neighbor)) _ _
-        (λ _. fifth d _ source_is)
+        (λ _. fifth d (new_neighbor came arrived) source_is)
         (λ t.
         let known = sym (same_address_lem came.source (link_of l i).neighbor (is_so _ t)) ∙ source_is in
         either Stays (zero_word came.tsp || not (eqb (our_reading k x.host).clock.hold.0 0)) _ _
-        (λ _. learnt d _ known)
-        (λ _. fifth d _ known)))))
+        (λ _. learnt d arrived.link known)
+        (λ _. fifth d arrived known)))))
       where
+        arrived : Flight
+        arrived = measured false came (our_reading k x.host).time (link_of l i)
+
         Kept : Arrived → Type 0
         Kept e = TabledHost s w copy e.links
 

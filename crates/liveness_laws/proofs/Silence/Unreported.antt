@@ -1,11 +1,9 @@
 -- The law of silence with no host outside the claim, and from 0: a host that does not report itself has no other source for its ids than the tables.
-use mathlib.Core.Path.{◌≡◌, refl, subst}
+use mathlib.Core.Path.{refl, subst}
 use mathlib.Core.List.{List, [], ◌∷◌}
 use mathlib.Core.Logic.{inr}
-use Prim.Native.Nat.{ℕ, ◌+◌, ◌*◌, ◌≤◌}
+use Prim.Native.Nat.{ℕ, ◌*◌}
 use native.Mathlib.Omega.{arith}
-use lib.IntN.{pos}
-use lib.Signed.{◌≤ℤ◌}
 use Rattle.network_laws.specs.Network.{Network, Proper}
 use Rattle.network_laws.specs.Demand3.{NetworkCall, ticks, seconds, reports, sends, arrives, acts, inspects, opens, steps, adjusts, sets, clocks, looks, Step, World, step, entry_of}
 use Rattle.liveness_laws.specs.Numbers.{rise}

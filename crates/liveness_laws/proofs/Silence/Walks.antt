@@ -56,7 +56,7 @@ use Rattle.walk.specs.Boxes.{in_flight, onward, ended, fourth, to_neighbor, rais
 use Rattle.walk.specs.Boxes as boxes
 use Rattle.calls.specs.declared.Request.TheVariants as request
 use Rattle.calls.specs.Perform.{ask, open_walk, Outcome, entry_at, carried_out, opened_by, perform}
-use Rattle.network_laws.specs.Network.{Network, at, state_at}
+use Rattle.network_laws.specs.Network.{Network, state_at}
 use Rattle.network_laws.proofs.Lists.{all_at}
 use Rattle.network_laws.proofs.Performs.{performs}
 use Rattle.network_laws.proofs.Openings.{opening_ways}

@@ -25,7 +25,7 @@ use Rattle.calls.specs.declared.Request.TheVariants.{Tick, Adjust, Set, Read, Lo
 use Rattle.calls.specs.Perform.{act, Outcome, perform}
 use Rattle.calls.proofs.Pair.{receive_acts}
 use Rattle.network_laws.specs.HostAfter.{message_of}
-use Rattle.network_laws.specs.History.{HostAfter, after_outcome, places, after}
+use Rattle.network_laws.specs.History.{HostAfter, after_outcome, after}
 use Rattle.network_laws.specs.Network.{longest_way, Network, at, state_at, HostAt, Proper}
 use Rattle.network_laws.specs.Demand3.{NetworkCall, ticks, seconds, reports, sends, arrives, acts, inspects, opens, steps, adjusts, sets, clocks, looks, call_of, Step, Message, World, result, mail_after, step, Delivered, Allowed}
 use Rattle.network_laws.proofs.Lists.{All, all_weaken}

@@ -35,7 +35,7 @@ use Rattle.host.specs.declared.walk.Place.{Place}
 use Rattle.host.specs.declared.walk.Place.TheVariants.{Nowhere, LineD}
 use Rattle.host.specs.declared.guard.Scope.TheVariants.{Walking}
 use Rattle.host.specs.Settings.{settings_fit, found_for}
-use Rattle.host.specs.State.{broadcast, link_of, host_count}
+use Rattle.host.specs.State.{broadcast, link_of, with_link, host_count}
 use Rattle.host.specs.CallState.{Host, CallState, entries_of, host, our_reading, own_walk_in_range}
 use Rattle.host.specs.Guard.{out_of_range, in_walk, guard, done}
 use Rattle.host.specs.Walk.{is_open, packet_of, place_of, step_place, line_place, line_update, walk_fields_at, packet_fits}
@@ -50,7 +50,7 @@ use Rattle.arrival.specs.declared.Delivery.{Delivery}
 use Rattle.arrival.specs.declared.Delivery.TheVariants.{Inspect, Act, Receive}
 use Rattle.host.specs.Inspection.{other_layout, looped, inspect, tells}
 use Rattle.host.specs.Inspection as inspecting
-use Rattle.arrival.specs.Steps.{step2, step3, step4, new_neighbor}
+use Rattle.arrival.specs.Steps.{step2, step3, step4, measured, new_neighbor}
 use Rattle.arrival.specs.Arrival.{no_table, with_table, step5, concluded, action, inspected, inspection, act, delivered}
 use Rattle.arrival.proofs.Flights.{steps_cases}
 use Rattle.arrival.proofs.Pair.{one_piece}
@@ -114,12 +114,14 @@ module _ (h : Host) (i : ℕ) where
   unfolding step3 step2
   action-answer k t p =
       let r = our_reading k h in
+      let after : Flight → Host = λ f. host h.settings r.clock (with_link i f.link h.links) in
+      let f : Flight = measured (broadcast h.settings i) p r.time (link_of h.links i) in
       steps_cases (λ g. (concluded t (host h.settings r.clock h.links) i (count_used k) p g).reply.answer ≡ acted k t p)
       (broadcast h.settings i) r.clock.hold p r.time (link_of h.links i)
-      (λ b. step5-answer (count_used k) t _ p _ ∙ rw b)
-      (λ b n. step5-answer (count_used k) t _ p _ ∙ rw (b, n))
+      (λ b. step5-answer (count_used k) t (after f) p f ∙ rw b)
+      (λ b n. step5-answer (count_used k) t (after (new_neighbor p f)) p (new_neighbor p f) ∙ rw (b, n))
       (λ b n z. rw (b, n, z))
-      (λ b n z. step5-answer (count_used k) t _ p _ ∙ rw (b, n, z, same_address_lem p.source (link_of h.links i).neighbor n))
+      (λ b n z. step5-answer (count_used k) t (after f) p f ∙ rw (b, n, z, same_address_lem p.source (link_of h.links i).neighbor n))
 
   -- 3 to 9 in turn, and then what comes of a packet that passes
   module _ (answers : Parsed → Answer) (refuses : (a : Answer) → answers (Bad a) ≡ a) (p : Packet) where

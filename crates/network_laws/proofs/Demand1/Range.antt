@@ -34,7 +34,7 @@ use Rattle.table.specs.Forms.{every}
 use Rattle.table.specs.Marks.{mark}
 use Rattle.table.specs.Entry.{max_delay, min_delay, fresh_entry, as_marked, taken_down, aged, up_to, entry_in_range}
 use Rattle.table.specs.Update.{date_taken, line_d, reported_here}
-use Rattle.table.specs.Runs.{changed, changes, update_at, updated_at, updates}
+use Rattle.table.specs.Runs.{changed, changes, update_at, updated_at}
 use Rattle.table.proofs.Cases.{stored}
 use Rattle.table.proofs.Kept.{aged_in_range, reported_in_range, update_mark, aged_mark, reported_mark, date_in_range}
 use Rattle.table.proofs.Kept as kept

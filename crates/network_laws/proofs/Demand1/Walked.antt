@@ -1,6 +1,6 @@
 -- A walk that was opened holds at each box what 12 asks for there: our reading lies within the day, an id is one of the host's, and DELAY is 100 at least once it is raised, and under 30,000 once line (b) let it pass.
-use mathlib.Core.Path.{◌≡◌, refl, sym, ap, subst, ◌∙◌}
-use mathlib.Core.Bool.{Bool, true, false, true≢false, false≢true, cond, not, ◌&&◌, ◌||◌}
+use mathlib.Core.Path.{◌≡◌, refl, sym, ap, subst}
+use mathlib.Core.Bool.{Bool, true, false, false≢true, not, ◌&&◌, ◌||◌}
 use mathlib.Core.List.{List}
 use Prim.Native.Nat.{ℕ, ◌+◌, ◌≤◌, ◌<◌, ◌^◌}
 use native.Mathlib.Omega.{arith}
@@ -11,8 +11,8 @@ use lib.ListN.{length}
 use Rattle.lists.proofs.Tests.{either, both, neither, is_so}
 use Rattle.quantity.specs.declared.Millis.{Millis}
 use Rattle.quantity.specs.declared.Word.{Word}
-use Rattle.quantity.specs.Quantity.{millis, add_millis, less_millis}
-use Rattle.quantity.specs.Words.{wrap, to_word, of_word, zero_word}
+use Rattle.quantity.specs.Quantity.{add_millis, less_millis}
+use Rattle.quantity.specs.Words.{wrap, to_word, of_word}
 use Rattle.quantity.proofs.Ints.{up, dn, sum, lt_no, not_lt}
 use Rattle.quantity.proofs.Wrap.{wrap_range, wrap_fits}
 use Rattle.clock.specs.declared.Counter.{Counter}
@@ -20,7 +20,6 @@ use Rattle.clock.specs.Clock.{count_used}
 use Rattle.wire.specs.declared.Packet.{Packet}
 use Rattle.wire.specs.declared.Parsed.{Parsed}
 use Rattle.wire.specs.declared.Parsed.TheVariants.{Good, Bad}
-use Rattle.wire.specs.Octets.{same_address}
 use Rattle.wire.specs.Hello.{report_at}
 use Rattle.wire.specs.Packet.{hello_of}
 use Rattle.route.specs.declared.Found.{Found}
@@ -44,13 +43,13 @@ use Rattle.host.specs.Settings.{settings_good, found_for}
 use Rattle.host.specs.State.{host_count, broadcast, link_of, no_link}
 use Rattle.host.specs.CallState.{Host, host, our_reading}
 use Rattle.host.specs.Inspection.{inspect}
-use Rattle.host.specs.Walk.{is_open, no_walk, place_of, packet_of, walk_update, line_update, reading_in_range, id_in_range, storable, walk_fields_at, packet_fits, walk_in_range}
+use Rattle.host.specs.Walk.{is_open, no_walk, place_of, packet_of, walk_update, line_update, reading_in_range, id_in_range, walk_fields_at, packet_fits, walk_in_range}
 use Rattle.host.specs.code.Returned.{RowsBelow}
 use Rattle.host.proofs.Sound.{sound}
 use Rattle.host.proofs.Walks.{opened_says}
 use Rattle.arrival.specs.declared.Flight.{Flight}
 use Rattle.arrival.specs.Steps.{step3, step4, at_least_min}
-use Rattle.walk.specs.Boxes.{in_flight, holding_reading, holding, raised, at_step, at_line, fourth, to_neighbor, next_id, put, is_clock_host, clock_set, after_a, after_b, after_c, box1, box2, box3, box4, box5, box_a, box_b, box_c, box_d, box_at, box_of, step}
+use Rattle.walk.specs.Boxes.{in_flight, holding_reading, holding, raised, at_step, at_line, fourth, to_neighbor, next_id, is_clock_host, clock_set, after_a, after_b, box1, box2, box3, box4, box5, box_a, box_b, box_c, box_d, box_at, box_of, step}
 use Rattle.network_laws.proofs.Ranges.{raised_low}
 
 -- a number that 16 bits hold, and a DELAY of 100 at least

@@ -252,7 +252,7 @@ action_timed k nets h i p = go (steps2to4 (broadcast h.settings i) (our_reading 
 
     go : (x : Stage Flight) → T (timed (concluded nets (host h.settings (our_reading k h).clock h.links) i (count_used k) p x).reply.answer)
     go (end f) = tt
-    go (on f) = fifth _ f
+    go (on f) = fifth (host h.settings (our_reading k h).clock (with_link i f.link h.links)) f
 
 -- when a message arrived at node b: a known time after it was sent
 pub record Came (r : Network) (b : ℕ) (c : Clock) (k : Counter) (m : Message) : Type 0 where

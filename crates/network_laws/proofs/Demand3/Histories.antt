@@ -18,13 +18,11 @@ use Rattle.table.specs.declared.Entry.{Entry}
 use Rattle.table.specs.Entry.{fresh_entry}
 use Rattle.net_table.specs.declared.NetTable.{NetTable}
 use Rattle.host.specs.declared.Links.{Links}
-use Rattle.host.specs.declared.guard.Scope.TheVariants.{Places, OnLink}
+use Rattle.host.specs.declared.guard.Scope.TheVariants.{OnLink}
 use Rattle.host.specs.declared.walk.Walk.{Walk}
 use Rattle.host.specs.declared.walk.Place.TheVariants.{Step1}
-use Rattle.host.specs.Settings.{settings_good}
 use Rattle.host.specs.State.{host_count}
 use Rattle.host.specs.Walk.{is_open, no_walk, place_of, packet_of}
-use Rattle.host.specs.CallState.{CallState}
 use Rattle.host.specs.Guard.{in_walk, done}
 use Rattle.host.proofs.Guarded.{passed}
 use Rattle.host.proofs.Sound.{Sound, sound}
@@ -35,7 +33,7 @@ use Rattle.calls.specs.declared.Request.{Request}
 use Rattle.calls.specs.declared.Request.TheVariants as variants
 use Rattle.calls.specs.declared.Request.TheVariants.{Initialize, Tick, Adjust, Set, Read, Lookup, Second, SelfReport}
 use Rattle.calls.specs.Effects.{initialize}
-use Rattle.calls.specs.Perform.{ask, send, deliver, inspect, Outcome, scope_of_call, perform}
+use Rattle.calls.specs.Perform.{ask, send, deliver, inspect, Outcome, scope_of_call}
 use Rattle.calls.proofs.Pair.{receive_acts}
 use Rattle.network_laws.specs.HostAfter.{message_of}
 use Rattle.network_laws.specs.Frame.{Elsewhere}

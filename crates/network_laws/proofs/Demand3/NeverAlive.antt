@@ -2,8 +2,7 @@
 use mathlib.Core.Path.{◌≡◌, refl}
 use mathlib.Core.Bool.{Bool, true, false}
 use Rattle.table.specs.Entry.{up}
-use Rattle.network_laws.specs.Network.{Network}
-use Rattle.network_laws.specs.Demand3.{World, entry_of, history, AllCallsWithin, Claim}
+use Rattle.network_laws.specs.Demand3.{entry_of, history, AllCallsWithin, Claim}
 use Rattle.network_laws.specs.NeverAlive.{NeverAlive}
 use Rattle.network_laws.proofs.Demand3.Histories.{all_calls}
 

@@ -71,7 +71,7 @@ use Rattle.calls.specs.Perform.{ask, open_walk, Outcome, entry_at, carried_out, 
 use Rattle.network_laws.specs.Network.{longest_way, Network, state_at, HostAt, Proper}
 use Rattle.network_laws.specs.Demand3.{Message, reading_at, timed}
 use Rattle.network_laws.proofs.Lists.{set_same, All, all_at, all_set, all_put, all_weaken}
-use Rattle.network_laws.proofs.Performs.{guard_of, performs, there}
+use Rattle.network_laws.proofs.Performs.{guard_of, performs}
 use Rattle.network_laws.proofs.Arrivals.{same_address_lem}
 use Rattle.network_laws.proofs.Swept.{changes_length, changes_keep}
 use Rattle.network_laws.proofs.Written.{written_kept, written_back, answered}
@@ -259,7 +259,7 @@ module _ (r : Network) (proper : Proper r) (ways : r.longest ≤ longest_way) (a
             ∙ measured.source_is r proper ways a w.link inside sent t.taken.cable t.taken.right w.reading t.taken.way t.taken.short t.taken.clock
 
         again : of_word (to_word (of_word w.delay)) ≡ of_word w.delay
-        again = rw t.delay (kept_twice (sub_millis w.reading (of_word p.tsp)).0)
+        again = ap (λ (d : Millis). of_word (to_word d)) t.delay ∙ kept_twice (sub_millis w.reading (of_word p.tsp)).0 ∙ sym t.delay
 
         fits_again : (d : Word) → of_word d ≡ millis (wrap 16 (sub_millis w.reading (of_word p.tsp)).0) → Fits16 d.0
         fits_again d same =
