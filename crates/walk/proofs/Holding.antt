@@ -1,13 +1,13 @@
 -- A walk that was opened holds, at each box, what the guard asks of it there: no box before its end is refused with 12.
-use mathlib.Core.Path.{◌≡◌, refl, sym, ap, ◌∙◌}
-use mathlib.Core.Bool.{Bool, true, false, false≢true, cond, not, ◌&&◌, ◌||◌}
+use mathlib.Core.Path.{◌≡◌, refl, ap}
+use mathlib.Core.Bool.{true, false, false≢true, not, ◌&&◌, ◌||◌}
 use mathlib.Core.List.{List}
 use Prim.Native.Nat.{ℕ, ◌+◌, ◌≤◌, ◌<◌, ◌^◌}
 use native.Mathlib.Omega.{arith}
-use borrow.Author.Tests.{lt-ltb, ltb-true, ltb-false, not-false}
+use borrow.Author.Tests.{lt-ltb, ltb-true}
 use lib.Dec.{ltb, eqb}
 use lib.IntN.{pos, ◌+ℤ◌}
-use Rattle.lists.proofs.Tests.{either, both, neither, is_so, is_not}
+use Rattle.lists.proofs.Tests.{either, both, neither, is_so}
 use Rattle.quantity.specs.declared.Millis.{Millis}
 use Rattle.quantity.specs.Quantity.{less_millis}
 use Rattle.quantity.specs.Words.{to_word, of_word}
@@ -39,10 +39,10 @@ use Rattle.host.specs.Settings.{found_for}
 use Rattle.host.specs.State.{host_count, broadcast, link_of}
 use Rattle.host.specs.declared.Links.{Links}
 use Rattle.host.specs.CallState.{Host, host}
-use Rattle.host.specs.Walk.{is_open, no_walk, place_of, line_update, reading_in_range, id_in_range, storable, walk_fields_at}
+use Rattle.host.specs.Walk.{is_open, no_walk, place_of, line_update, reading_in_range, id_in_range, walk_fields_at}
 use Rattle.host.specs.Effect.{nothing}
 use Rattle.arrival.specs.declared.Flight.{Flight}
-use Rattle.arrival.specs.Steps.{step3, step4, at_least_min}
+use Rattle.arrival.specs.Steps.{step4, at_least_min}
 use Rattle.walk.proofs.HostReply.{Fits16, word_back, raised_fits}
 use Rattle.walk.specs.Boxes.{at, onward, in_flight, raised, fourth, to_neighbor, next_id, put, at_line, is_clock_host, clock_set, after_a, after_b, after_c, box1, box2, box3, box4, box5, box_a, box_b, box_c, box_d, box_at}
 

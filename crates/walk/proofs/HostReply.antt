@@ -6,12 +6,11 @@ use Prim.Native.Nat.{ℕ, suc, ◌+◌, ◌*◌, ◌-◌, ◌≤◌, ◌<◌, �
 use native.Mathlib.Omega.{arith}
 use lib.Dec.{eqb}
 use lib.IntN.{pos}
-use lib.ListN.{length, get_or, set, take, drop}
+use lib.ListN.{length, get_or, take, drop}
 use lib.Seq.{get_or-set_same, set-set, split_at, drop-cons, take-length, drop-length, length-take-le}
-use Rattle.lists.specs.Lists.{part, over}
+use Rattle.lists.specs.Lists.{over}
 use Rattle.lists.proofs.Tests.{either}
 use Rattle.quantity.specs.declared.Millis.{Millis}
-use Rattle.quantity.specs.declared.Count.{Count}
 use Rattle.quantity.specs.declared.Word.{Word}
 use Rattle.quantity.specs.Quantity.{millis, sub_millis, less_millis}
 use Rattle.quantity.specs.Words.{word, to_word, of_word}
@@ -32,14 +31,13 @@ use Rattle.route.specs.declared.Found.TheVariants.{Id, Nothing}
 use Rattle.net_table.specs.declared.NetTable.{NetTable}
 use Rattle.table.specs.declared.Entry.{Entry}
 use Rattle.table.specs.declared.Update.{Update}
-use Rattle.table.specs.declared.Updated.{Updated}
 use Rattle.table.specs.declared.entries.Changes.{Changes}
 use Rattle.table.specs.declared.entries.Updates.{Updates}
 use Rattle.table.specs.Forms.{Stage, on, end}
-use Rattle.table.specs.Entry.{min_delay, max_delay, fresh_entry}
+use Rattle.table.specs.Entry.{min_delay, fresh_entry}
 use Rattle.table.specs.Update.{plus_report, update}
 use Rattle.table.specs.Runs.{changes, update_at, updated_at, updates}
-use Rattle.table.specs.Sweep.{Swept, sweep}
+use Rattle.table.specs.Sweep.{sweep}
 use Rattle.table.proofs.Sweeps.{sweep_from, sweep_length}
 use Rattle.host.specs.declared.Links.{Links}
 use Rattle.host.specs.declared.Link.{Link}

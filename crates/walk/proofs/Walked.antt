@@ -1,14 +1,13 @@
 -- The lines of a walk, run box by box to the last id, leave what the sweep of an arrival leaves.
 use mathlib.Core.Path.{◌≡◌, refl, sym, ap, ◌∙◌, subst}
-use mathlib.Core.Bool.{Bool, true, false, false≢true, cond, not, ◌&&◌, ◌||◌}
-use mathlib.Core.List.{List, [], ◌∷◌, ◌++◌, map, append-nil, append_assoc}
+use mathlib.Core.Bool.{Bool, true, false, false≢true, cond, not, ◌&&◌}
+use mathlib.Core.List.{List, [], ◌∷◌, ◌++◌, append_assoc}
 use Prim.Native.Nat.{ℕ, zero, suc, ◌+◌, ◌*◌, ◌-◌, ◌≤◌, ◌<◌}
 use native.Mathlib.Omega.{arith}
 use borrow.Author.Tests.{lt-ltb, le-ltb}
-use lib.Dec.{ltb, eqb}
+use lib.Dec.{eqb}
 use lib.ListN.{length, get_or, take, drop, length-append}
-use Rattle.lists.specs.Lists.{part, over}
-use Rattle.lists.proofs.Tests.{either, is_so, is_not}
+use Rattle.lists.proofs.Tests.{either}
 use Rattle.lists.proofs.Parts.{over_nothing}
 use Rattle.answer.specs.declared.Answer.TheVariants.{Done, InWalk}
 use Rattle.clock.specs.declared.Clock.{Clock}
@@ -23,8 +22,8 @@ use Rattle.table.specs.declared.entries.Changes.{Changes}
 use Rattle.table.specs.Forms.{Stage, on, end, ◌then◌}
 use Rattle.quantity.specs.Quantity.{add_millis, less_millis}
 use Rattle.table.specs.Entry.{min_delay, max_delay, fresh_entry, up, taken_down}
-use Rattle.table.specs.Update.{line_a, line_b, line_c, lines, line_d, settled, update, left}
-use Rattle.table.specs.Runs.{changed, changes}
+use Rattle.table.specs.Update.{line_a, line_b, line_c, lines, settled, update, left}
+use Rattle.table.specs.Runs.{changes}
 use Rattle.table.specs.Sweep.{Swept, sweep}
 use Rattle.host.specs.declared.Effect.{Effect}
 use Rattle.host.specs.declared.Links.{Links}
@@ -32,11 +31,11 @@ use Rattle.host.specs.declared.Reply.{Reply}
 use Rattle.host.specs.declared.Settings.{Settings}
 use Rattle.host.specs.declared.walk.Walk.{Walk}
 use Rattle.host.specs.State.{host_count}
-use Rattle.host.specs.CallState.{Host, host}
+use Rattle.host.specs.CallState.{host}
 use Rattle.host.specs.Reply.{plainly}
-use Rattle.host.specs.Walk.{is_open, no_walk, place_of, line_update}
+use Rattle.host.specs.Walk.{is_open, place_of, line_update}
 use Rattle.host.specs.Effect.{nothing, one}
-use Rattle.walk.specs.Boxes.{at, at_line, onward, ended, next_id, put, is_clock_host, after_a, after_b, after_c, clock_set, box_a, box_b, box_c, box_d, box_at}
+use Rattle.walk.specs.Boxes.{at_line, onward, next_id, after_a, box_a, box_b, box_c, box_d, box_at}
 
 -- what a box is handed: its counter, and the class's net table as it then is
 pub record Handed : Type 0 where

@@ -1,13 +1,12 @@
 -- What a box does to the entries: nothing, or it puts one in the place of its id, which is one of the host's.
-use mathlib.Core.Path.{◌≡◌, refl, sym}
-use mathlib.Core.Bool.{Bool, true, false, false≢true, cond, not, ◌&&◌, ◌||◌}
+use mathlib.Core.Path.{◌≡◌, refl}
+use mathlib.Core.Bool.{Bool, true, false, false≢true, not, ◌&&◌, ◌||◌}
 use mathlib.Core.List.{List}
-use Prim.Native.Nat.{ℕ, ◌+◌, ◌<◌, min}
+use Prim.Native.Nat.{ℕ, ◌+◌, ◌<◌}
 use native.Mathlib.Omega.{arith}
-use borrow.Author.Tests.{ltb-true, not-true}
+use borrow.Author.Tests.{ltb-true}
 use lib.Dec.{ltb, eqb}
 use Rattle.lists.proofs.Tests.{either, both, is_so}
-use Rattle.answer.specs.declared.Answer.TheVariants.{Done}
 use Rattle.clock.specs.declared.Counter.{Counter}
 use Rattle.wire.specs.declared.Packet.{Packet}
 use Rattle.wire.specs.declared.Parsed.{Parsed}
@@ -28,13 +27,13 @@ use Rattle.host.specs.Settings.{settings_good, found_for}
 use Rattle.host.specs.State.{host_count, broadcast, link_of}
 use Rattle.host.specs.CallState.{Host, host}
 use Rattle.host.specs.Inspection.{inspect}
-use Rattle.host.specs.Walk.{is_open, place_of, step_place, line_place, packet_of, line_update, reading_in_range, id_in_range, walk_fields_at, packet_fits, walk_in_range}
+use Rattle.host.specs.Walk.{is_open, place_of, line_place, packet_of, line_update, reading_in_range, id_in_range, walk_fields_at, packet_fits, walk_in_range}
 use Rattle.host.specs.Effect.{nothing}
 use Rattle.host.proofs.Sound.{sound}
 use Rattle.host.proofs.Walks.{opened_says}
 use Rattle.arrival.specs.declared.Flight.{Flight}
 use Rattle.arrival.specs.Steps.{step4}
-use Rattle.walk.specs.Boxes.{in_flight, raised, onward, ended, fourth, to_neighbor, next_id, put, at_line, is_clock_host, clock_set, after_a, after_b, after_c, box1, box2, box3, box4, box5, box_a, box_b, box_c, box_d, at_hand, box_at, box_of, step}
+use Rattle.walk.specs.Boxes.{in_flight, raised, fourth, to_neighbor, next_id, put, is_clock_host, clock_set, after_a, after_b, after_c, box1, box2, box3, box4, box5, box_a, box_b, box_c, box_d, at_hand, box_at, box_of, step}
 
 module _ (P : Changes → Type 0) (k : Counter) (p : Packet) (octets : List ℕ) (t : NetTable) (h : Host) (w : Walk) (e : Entry) (none : P nothing) where
   abbrev Does : Effect → Type 0

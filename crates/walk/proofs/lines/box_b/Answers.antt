@@ -1,0 +1,12 @@
+-- By how line (b) comes out.
+use mathlib.Core.Path.{◌∙◌, sym, ap}
+use Rattle.table.specs.declared.Update.{Update}
+use Rattle.table.specs.Update.{line_of, line_b}
+use Rattle.walk.proofs.Outcomes.{b_ends, b_goes_on}
+use Rattle.walk.proofs.lines.box_b.Goals as goal
+
+pub returns-in-End : goal.returns-in-End
+returns-in-End c = rw (c.next_id.ensures, c.put.ensures) (b_ends _ _ _ _ _ _ (sym c.in-End.is ∙ c.line_b.ensures ∙ ap (λ (u : Update). line_of (line_b u c.args.e)) c.line_update.ensures.0))
+
+pub returns-in-On : goal.returns-in-On
+returns-in-On c = rw (c.onward.ensures, c.nothing.ensures, c.at.ensures) (b_goes_on _ _ _ _ _ _ (sym c.in-On.is ∙ c.line_b.ensures ∙ ap (λ (u : Update). line_of (line_b u c.args.e)) c.line_update.ensures.0))
