@@ -4,7 +4,7 @@ use mathlib.Core.List.{List, [], ◌∷◌}
 use Prim.Native.Nat.{ℕ, ◌+◌, ◌-◌, ◌≤◌, ◌<◌}
 use native.Mathlib.Omega.{arith}
 use lib.ListN.{length, get_or, take, drop}
-use lib.Seq.{take-add, take-take, drop_at, drop-drop, length-take-le, get_or-take, get_or-drop}
+use lib.Seq.{take-add, take-take, drop_at, drop-drop, get_or-take, get_or-drop}
 use Rattle.lists.specs.Lists.{part, over}
 use Rattle.lists.proofs.Parts.{part_length, part_more, over_nothing, over_part}
 use Rattle.table.specs.declared.Entry.{Entry}

@@ -1,9 +1,6 @@
 -- A call after its guard: where the guard refuses, the call's outcome is the refusal; where it does not, it is the work.
 use mathlib.Core.Path.{◌≡◌, refl, sym, ap, subst, ◌∙◌}
 use mathlib.Core.Bool.{Bool, true, false, cond, not}
-use mathlib.Core.List.{List}
-use Prim.Native.Nat.{ℕ}
-use lib.Dec.{T}
 use Rattle.lists.proofs.Tests.{is_so}
 use Rattle.answer.specs.declared.Answer.{Answer}
 use Rattle.host.specs.declared.guard.Scope.{Scope}
@@ -12,14 +9,6 @@ use Rattle.host.specs.CallState.{CallState}
 use Rattle.host.specs.Guard.{guard, done}
 use Rattle.host.specs.Reply.{plainly}
 use Rattle.calls.specs.Perform.{Call, Outcome, Leaves, scope_of_call, buffer_of, refused, work, perform}
-
-holds : (b : Bool) → T b → b ≡ true
-holds true t = refl
-holds false t = absurd t
-
-fails : (b : Bool) → T (not b) → b ≡ false
-fails true t = absurd t
-fails false t = refl
 
 module _ (call : Call) (x : CallState) where
   abbrev judged : Answer
@@ -39,15 +28,15 @@ module _ (call : Call) (x : CallState) where
     tested : b ≡ not (done judged)
     tested = b-is ∙ ap (λ (g : Answer). not (done g)) guarded
 
-    pub passes : T (not b) → done judged ≡ true
-    passes out = is_so _ (sym tested ∙ fails b out)
+    pub passes : b ≡ false → done judged ≡ true
+    passes out = is_so _ (sym tested ∙ out)
 
-    pub refuses : T b → {r : Reply} → r ≡ plainly g → Leaves (perform call x) r x.host.clock x.host.links x.walk x.copy x.entries
+    pub refuses : b ≡ true → {r : Reply} → r ≡ plainly g → Leaves (perform call x) r x.host.clock x.host.links x.walk x.copy x.entries
     unfolding perform
     refuses within {r} r-is =
-        subst (λ (b : Bool). Leaves (outcome b) r x.host.clock x.host.links x.walk x.copy x.entries) (sym (holds b within) ∙ tested)
+        subst (λ (b : Bool). Leaves (outcome b) r x.host.clock x.host.links x.walk x.copy x.entries) (sym within ∙ tested)
         record { reply = r-is ∙ ap plainly guarded; clock = refl; links = refl; walk = refl; copy = refl; entries = refl }
 
-    pub keeps_buffer : T b → buffer_of call ≡ (perform call x).buffer
+    pub keeps_buffer : b ≡ true → buffer_of call ≡ (perform call x).buffer
     unfolding perform
-    keeps_buffer within = subst (λ (b : Bool). buffer_of call ≡ (outcome b).buffer) (sym (holds b within) ∙ tested) refl
+    keeps_buffer within = subst (λ (b : Bool). buffer_of call ≡ (outcome b).buffer) (sym within ∙ tested) refl

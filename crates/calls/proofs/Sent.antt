@@ -2,7 +2,7 @@
 use mathlib.Core.Path.{◌≡◌, refl, sym, ap, ◌∙◌}
 use mathlib.Core.Bool.{Bool, true, false, false≢true, cond}
 use mathlib.Core.List.{List, ◌++◌, map}
-use Prim.Native.Nat.{ℕ, ◌+◌, ◌-◌, ◌≤◌, ◌<◌}
+use Prim.Native.Nat.{ℕ, ◌+◌, ◌-◌, ◌≤◌}
 use native.Mathlib.Omega.{arith}
 use borrow.Author.Tests.{ltb-false}
 use lib.Dec.{ltb}
@@ -24,7 +24,6 @@ use Rattle.wire.specs.code.Ranges.{Four}
 use Rattle.wire.specs.code.Sealing.{with_reports, sealed}
 use Rattle.wire.proofs.Messages.{reports_length}
 use Rattle.wire.proofs.Sealing.{all_put, put_and_sealed}
-use Rattle.table.specs.declared.Entry.{Entry}
 use Rattle.table.specs.declared.entries.Reports.{Reports}
 use Rattle.table.specs.Entry.{up_to, advertised}
 use Rattle.table.specs.code.Loops.{read_out, ReportsFit}
