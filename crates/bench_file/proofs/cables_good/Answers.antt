@@ -1,11 +1,7 @@
 -- Each turn takes one record off those that are still to be tested.
 use mathlib.Core.Path.{sym, ◌∙◌}
-use mathlib.Core.Bool.{Bool}
-use mathlib.Core.List.{List}
-use Prim.Native.Nat.{ℕ, ◌-◌}
 use native.Mathlib.Omega.{arith}
-use Rattle.bench_file.specs.declared.Header.{Header}
-use Rattle.bench_file.specs.Absent.{cable_good, cables_good}
+use Rattle.bench_file.specs.Absent.{cables_good}
 use Rattle.bench_file.proofs.Each.{each_good, each_bad, each_done}
 use Rattle.bench_file.proofs.cables_good.Invariants.{test}
 use Rattle.bench_file.proofs.cables_good.Goals as goal

@@ -1,11 +1,6 @@
 -- Each turn takes one record off those that are still to be tested.
 use mathlib.Core.Path.{sym, ap, ◌∙◌}
-use mathlib.Core.Bool.{Bool}
-use mathlib.Core.List.{List}
-use Prim.Native.Nat.{ℕ, ◌-◌}
 use native.Mathlib.Omega.{arith}
-use Rattle.bench_file.specs.declared.Header.{Header}
-use Rattle.bench_file.specs.Records.{event_at}
 use Rattle.bench_file.specs.Absent.{event_good, events_good}
 use Rattle.bench_file.proofs.Each.{each_good, each_bad, each_done}
 use Rattle.bench_file.proofs.events_good.Invariants.{test}

@@ -1,11 +1,7 @@
 -- Each turn takes one record off those that are still to be tested.
 use mathlib.Core.Path.{sym, ◌∙◌}
-use mathlib.Core.Bool.{Bool}
-use mathlib.Core.List.{List}
-use Prim.Native.Nat.{ℕ, ◌-◌}
 use native.Mathlib.Omega.{arith}
-use Rattle.net_table.specs.declared.NetTable.{NetTable}
-use Rattle.bench_file.specs.Settings.{host_record, host_good, hosts_good}
+use Rattle.bench_file.specs.Settings.{hosts_good}
 use Rattle.bench_file.proofs.Each.{each_good, each_bad, each_done}
 use Rattle.bench_file.proofs.hosts.hosts_good.Invariants.{test}
 use Rattle.bench_file.proofs.hosts.hosts_good.Goals as goal
