@@ -1,5 +1,5 @@
 -- The marks of a record as bits of words: one more bit, before the others.
-use mathlib.Core.Path.{◌≡◌, sym, ◌∙◌}
+use mathlib.Core.Path.{◌≡◌, ◌∙◌}
 use Prim.Native.Nat.{ℕ, suc, ◌+◌, ◌-◌, ◌*◌, ◌^◌, ◌≤◌, ◌<◌, min}
 use native.Mathlib.Nat.{pow-le-pow_right, pow-suc, zero-lt-suc}
 use native.Mathlib.Omega.{arith}

@@ -1,10 +1,15 @@
-use mathlib.Core.Path.{◌≡◌}
-use Prim.Native.Nat.{◌≤◌, ◌-◌}
+use Rattle.std.specs.Prelude.{Bool, List, ℕ, ◌≡◌, ◌≤◌, ◌-◌}
 use Rattle.table.specs.Forms.{every, up_from}
+use Rattle.bench_file.specs.declared.Header.{Header}
+use Rattle.bench_file.specs.Records.{event_at}
+use Rattle.bench_file.specs.Absent.{event_good}
 use Rattle.bench_file.proofs.events_good.Given as goal
 
+abbrev pub test : List ℕ → Header → ℕ → Bool
+test file h = λ (k : ℕ). event_good h (event_at file h k)
+
 abbrev pub invariant-loop-i : goal.invariant-loop-i
-invariant-loop-i l = (l.i ≤ l.n) × (every (test l.file l.h) (up_from 0 l.n) ≡ every (test l.file l.h) (up_from l.i (l.n - l.i)))
+invariant-loop-i l = (l.i ≤ l.n) × (every (test l.file l.header) (up_from 0 l.n) ≡ every (test l.file l.header) (up_from l.i (l.n - l.i)))
 
 abbrev pub decreases-loop-i : goal.decreases-loop-i
 decreases-loop-i l = l.n - l.i
