@@ -1,3 +1,4 @@
+-- The records from `i` on are still to be tested.
 use Rattle.std.specs.Prelude.{Bool, List, ℕ, ◌≡◌, ◌≤◌, ◌-◌}
 use Rattle.table.specs.Forms.{every, up_from}
 use Rattle.bench_file.specs.declared.Header.{Header}

@@ -1,3 +1,4 @@
+-- The marks from `i` on are still to be tested.
 use Rattle.std.specs.Prelude.{Bool, ℕ, ◌≡◌, ◌≤◌, ◌-◌, leb, drop}
 use Rattle.lists.specs.Lists.{part}
 use Rattle.table.specs.Forms.{every}
