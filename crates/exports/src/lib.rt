@@ -1,2 +1,2 @@
-// The laws of the shapes of functions that call the calls: exports, calls by value, and the bench. They are in proofs/; there is no code.
+// Empty. The laws of exports, calls by value and the bench stood here, for the older Rattle; today's proves that part of a function by itself.
 #![tactic(auto)]

@@ -1,2 +1,2 @@
-// Laws of functions over references: of their execution, of loops over a slice of structs, and of a borrowed clock. They are in proofs/; there is no code.
+// Empty. The laws of functions over references stood here, for the older Rattle; today's proves that part of a function by itself.
 #![tactic(auto)]

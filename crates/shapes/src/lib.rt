@@ -1,2 +1,2 @@
-// The laws of the shapes of the guard and of calls over references. They are in proofs/; there is no code.
+// Empty. The laws of guards and calls over references stood here, for the older Rattle; today's proves that part of a function by itself.
 #![tactic(auto)]
