@@ -26,7 +26,5 @@ chain s t h w k octets r s-is t-is h-is k-is w-is r-is =
 
 pub returns : goal.returns
 returns c =
-    let net-table-at = c in
-    let settings-at = net-table-at in
-    chain _ _ _ _ _ settings-at.args.packet.now _ settings-at.settings.ensures net-table-at.net_table.ensures c.fresh_host-h.ensures c.zero-k.ensures
+    chain _ _ _ _ _ c.args.packet.now _ c.settings-s.ensures c.net_table-t.ensures c.fresh_host-h.ensures c.zero-k.ensures
     c.take-taken.ensures c.number.ensures

@@ -34,10 +34,4 @@ chain s t c l v octets e h s-is t-is c-is l-is v-is e-is h-is =
 
 pub returns : goal.returns
 returns c =
-    let net-table-at = c in
-    let entry_at = net-table-at in
-    let walk_at = entry_at in
-    let links-at = walk_at in
-    let clock-at = links-at in
-    let settings-at = clock-at in
-    chain _ _ _ _ _ settings-at.args.copy.now _ _ settings-at.settings.ensures net-table-at.net_table.ensures clock-at.fresh.ensures links-at.fresh2.ensures walk_at.none.ensures entry_at.fresh3.ensures c.call.ensures
+    chain _ _ _ _ _ c.args.copy.now _ _ c.settings-s.ensures c.net_table-t.ensures c.fresh-c.ensures c.fresh-l.ensures c.none-v.ensures c.fresh-e.ensures c.call.ensures

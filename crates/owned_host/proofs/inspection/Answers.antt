@@ -21,6 +21,4 @@ chain s t h w octets s-is t-is h-is w-is = ap (λ (x : HostReply). x.reply) w-is
 
 pub returns : goal.returns
 returns c =
-    let net-table-at = c in
-    let settings-at = net-table-at in
-    chain _ _ _ _ settings-at.args.packet.now settings-at.settings.ensures net-table-at.net_table.ensures c.fresh_host-h.ensures c.deliver-looked.ensures
+    chain _ _ _ _ c.args.packet.now c.settings-s.ensures c.net_table-t.ensures c.fresh_host-h.ensures c.deliver-looked.ensures
