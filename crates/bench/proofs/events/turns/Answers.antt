@@ -15,7 +15,7 @@ loop-i-init c =
       omega arith,
       c.requires.first,
       subst⁻¹ (λ (n : ℕ). HostAfter (steps a.file.now a.net_table.now n (bench a.hosts.now a.copies.now a.entries.now a.slots.now a.answers.now a.w.first)) a.hosts.now a.entries.now a.slots.now a.answers.now) none
-      (no_turn a.file.now a.net_table.now a.hosts.now a.copies.now a.entries.now a.slots.now a.answers.now a.w),
+          (no_turn a.file.now a.net_table.now a.hosts.now a.copies.now a.entries.now a.slots.now a.answers.now a.w),
     )
 
 pub event_at-requires : goal.event_at-requires
@@ -37,6 +37,6 @@ loop-i-preserved c =
       omega arith,
       omega arith,
       subst⁻¹ (λ (n : ℕ). HostAfter (steps a.file.now a.net_table.now n (bench a.hosts.now a.copies.now a.entries.now a.slots.now a.answers.now a.w.first)) c.event_at.new.hosts c.event_at.new.entries c.event_at.new.slots c.event_at.new.answers) more
-      (one_turn a.file.now a.net_table.now a.hosts.now a.copies.now a.entries.now a.slots.now a.answers.now a.w c.requires (l.i - a.w.first) l.i here c.loop-i-test.true
-      l.hosts l.entries l.slots l.answers l.invariant.2 _ _ _ _ c.event_at.ensures),
+          (one_turn a.file.now a.net_table.now a.hosts.now a.copies.now a.entries.now a.slots.now a.answers.now a.w c.requires (l.i - a.w.first) l.i here c.loop-i-test.true
+          l.hosts l.entries l.slots l.answers l.invariant.2 _ _ _ _ c.event_at.ensures),
     )

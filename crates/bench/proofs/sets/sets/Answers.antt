@@ -47,7 +47,7 @@ loop-i-init c =
       omega arith,
       c.requires.first,
       λ slots answers m. subst⁻¹ (λ (n : ℕ). HostsAfter (set_to a.file.now a.net_table.now a.hosts.now a.copies.now a.entries.now a.w.first slots answers m n) a.hosts.now a.entries.now) none
-      (none_yet a.file.now a.net_table.now a.hosts.now a.copies.now a.entries.now a.w.first slots answers m),
+          (none_yet a.file.now a.net_table.now a.hosts.now a.copies.now a.entries.now a.w.first slots answers m),
     )
 
 pub loop-i-preserved : goal.loop-i-preserved
@@ -60,5 +60,5 @@ loop-i-preserved c =
       omega arith,
       omega arith,
       λ slots answers m. subst⁻¹ (λ (n : ℕ). HostsAfter (set_to a.file.now a.net_table.now a.hosts.now a.copies.now a.entries.now a.w.first slots answers m n) c.set_at.new.hosts c.set_at.new.entries) more
-      (one_more a.file.now a.net_table.now a.hosts.now a.copies.now a.entries.now a.w.first slots answers m (c.loop-i.i - a.w.first) c.loop-i.i here c.loop-i.hosts _ c.loop-i.entries _ (l.2 slots answers m) c.set_at.ensures),
+          (one_more a.file.now a.net_table.now a.hosts.now a.copies.now a.entries.now a.w.first slots answers m (c.loop-i.i - a.w.first) c.loop-i.i here c.loop-i.hosts _ c.loop-i.entries _ (l.2 slots answers m) c.set_at.ensures),
     )
