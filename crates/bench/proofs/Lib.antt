@@ -1,6 +1,7 @@
 pub mod Files
 pub mod Guards
 pub mod Runs
+pub mod Turned
 pub mod Initialized
 pub mod Zeros
 pub mod Defaults

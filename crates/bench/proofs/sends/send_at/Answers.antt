@@ -1,0 +1,62 @@
+-- The host's state is read, the send is made with it into the slot's room, the state after it is stored, and the slot is labelled if it was sent.
+use mathlib.Core.Path.{◌≡◌, ap, ◌∙◌}
+use mathlib.Core.List.{List, append_assoc}
+use Prim.Native.Nat.{ℕ, ◌+◌, ◌-◌, ◌*◌, ◌≤◌, ◌<◌}
+use native.Mathlib.Omega.{arith}
+use borrow.Rule.Slice.PartMut.{put_mid}
+use lib.ListN.{length, get_or}
+use lib.Seq.{drop-drop}
+use Rattle.lists.specs.Lists.{part}
+use Rattle.lists.proofs.Parts.{part_length}
+use Rattle.net_table.specs.declared.NetTable.{NetTable}
+use Rattle.table.specs.declared.Entry.{Entry}
+use Rattle.host.specs.Guard.{longest}
+use Rattle.host.specs.CallState.{call_state}
+use Rattle.calls.specs.Perform.{Outcome, perform}
+use Rattle.calls.specs.Perform as definition
+use Rattle.calls.proofs.SendKeeps.{keeps}
+use Rattle.bench_file.specs.Absent as file
+use Rattle.bench.specs.declared.HostState.{HostState}
+use Rattle.bench.specs.declared.sends.Sending.{Sending}
+use Rattle.bench.specs.Slots.{slot_length, room_place, with_room}
+use Rattle.bench.specs.code.Sends.{outcome_of}
+use Rattle.bench.proofs.sends.send_at.Goals as goal
+
+-- the send borrows what the definition says
+module _ (w : Sending) (t : NetTable) (hosts : List HostState) (copies : List ℕ) (entries : List Entry) (slots : List ℕ)
+    (low high here there : ℕ) (low-is : low ≡ longest * w.host) (high_is : high ≡ longest * w.host + longest)
+    (here-is : here ≡ room_place w.slot) (there-is : there ≡ room_place w.slot + longest) (v : HostState) where
+  abbrev made : Outcome
+  made =
+      perform (definition.send w.link w.counter (part here (there - here) slots))
+      (call_state w.settings t w.host v.clock v.links v.walk (part low (high - low) copies) entries)
+
+  m : room_place w.slot + longest - room_place w.slot ≡ longest
+  m = omega arith
+
+  same : (d : HostState) → v ≡ get_or hosts w.host d → made ≡ outcome_of w t hosts copies entries slots d
+  same d v-is =
+      let n : longest * w.host + longest - longest * w.host ≡ longest = omega arith in
+      rw (low-is, high_is, here-is, there-is, n, m, v-is)
+
+  -- what is returned in the room of the slot
+  module _ (slot : w.slot < file.slots) (long : slot_length * file.slots ≤ length slots) (room : List ℕ) (room-is : room ≡ made.buffer) where
+    full : length room ≡ longest
+    full =
+        ap (λ (b : List ℕ). length b) room-is
+        ∙ (keeps (call_state w.settings t w.host v.clock v.links v.walk (part low (high - low) copies) entries) w.link w.counter (part here (there - here) slots)).room
+        ∙ rw (here-is, there-is, m) (part_length (room_place w.slot) longest slots (omega arith))
+
+    back : put_mid here (there - here) slots room ≡ with_room w.slot room slots
+    back = rw (here-is, there-is, m, full, drop-drop longest (room_place w.slot) slots) (simp append_assoc)
+
+pub returns : goal.returns
+returns c d =
+    let a = c.args in
+    let e = same a.w a.net_table.now a.hosts.now a.copies.now a.entries.now a.slots.now _ _ _ _ c.copy_start-low.ensures c.copy_end-high.ensures c.room_start-here.ensures c.room_end-there.ensures _ d (c.state_at-v.ensures d) in
+    let b = back a.w a.net_table.now a.hosts.now a.copies.now a.entries.now a.slots.now _ _ _ _ c.copy_start-low.ensures c.copy_end-high.ensures c.room_start-here.ensures c.room_end-there.ensures _ c.requires.slot c.requires.room _ c.sent-o.ensures.1 in
+    record {
+      states = rw (c.put_state.ensures, c.state_after-s.ensures, c.sent-o.ensures.0, e);
+      slots = rw (c.label.ensures, b, c.sent-o.ensures.0, c.sent-o.ensures.1, e);
+      reply = rw (c.sent-o.ensures.0, e);
+    }
