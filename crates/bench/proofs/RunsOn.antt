@@ -2,11 +2,10 @@
 use mathlib.Core.Path.{◌≡◌, refl, sym, ap, ◌∙◌}
 use mathlib.Core.Bool.{Bool, true, false, cond}
 use mathlib.Core.List.{List}
-use Prim.Native.Nat.{ℕ, ◌+◌, ◌-◌, ◌≤◌, ◌<◌, min}
+use Prim.Native.Nat.{ℕ, ◌+◌, ◌-◌, ◌≤◌, min}
 use native.Mathlib.Omega.{arith}
 use borrow.Author.Tests.{leb-true}
 use lib.Dec.{leb}
-use lib.ListN.{length}
 use Rattle.lists.proofs.Tests.{either, both}
 use Rattle.net_table.specs.declared.NetTable.{NetTable}
 use Rattle.table.specs.declared.Entry.{Entry}
@@ -14,14 +13,13 @@ use Rattle.bench_file.specs.declared.Header.{Header}
 use Rattle.bench_file.specs.Header.{header_of}
 use Rattle.bench_file.proofs.Fits.{header_there}
 use Rattle.bench.specs.declared.Answer.{Answer}
-use Rattle.bench.specs.declared.Ran.{Ran}
 use Rattle.bench.specs.declared.HostState.{HostState}
 use Rattle.bench.specs.declared.plans.RunPlan.{RunPlan}
 use Rattle.bench.specs.Answer.{passes}
 use Rattle.bench.specs.Bench.{Bench, bench}
 use Rattle.bench.specs.Slots.{slots_good}
 use Rattle.bench.specs.Guard.{lengths_of, runnable, run_guard}
-use Rattle.bench.specs.Run.{steps, after_run, ran}
+use Rattle.bench.specs.Run.{steps, after_run}
 use Rattle.bench.specs.code.Plans.{runs_on, runs_none, run_plan}
 use Rattle.bench.specs.code.Turns.{TurnsFit, HostAfter}
 use Rattle.bench.proofs.Guards.{Passed, passed_all}

@@ -1,5 +1,5 @@
 -- BENCH-8: 18, then 19, then 12. Set-up does not test slots and events done.
-use Rattle.std.specs.Prelude.{Bool, true, cond, not, ◌&&◌, List, ℕ, ◌*◌, ltb, leb, length}
+use Rattle.std.specs.Prelude.{Bool, true, cond, not, ◌&&◌, List, ℕ, ◌*◌, leb, length}
 use Rattle.net_table.specs.declared.NetTable.{NetTable}
 use Rattle.net_table.specs.Table.{table_bad}
 use Rattle.host.specs.State.{places_per_host}

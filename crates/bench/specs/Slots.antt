@@ -1,5 +1,5 @@
 -- BENCH-5: a slot has 1,056 octets: the packet's length in two, 0 for an empty slot, the cable and the end it was sent from, and space for the longest packet.
-use Rattle.std.specs.Prelude.{Bool, not, cond, ◌&&◌, ◌||◌, List, [], ◌∷◌, ◌++◌, map, ℕ, ◌+◌, ◌*◌, ◌-◌, ltb, leb, eqb, take, drop}
+use Rattle.std.specs.Prelude.{Bool, ◌&&◌, ◌||◌, List, [], ◌∷◌, ◌++◌, map, ℕ, ◌+◌, ◌*◌, ◌-◌, ltb, leb, eqb, take, drop}
 use Rattle.lists.specs.Lists.{part, over}
 use Rattle.octets.specs.Octets.{two, octet_at, number_at}
 use Rattle.table.specs.Forms.{every, up_from}

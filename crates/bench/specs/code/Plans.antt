@@ -5,7 +5,6 @@ use Rattle.bench_file.specs.declared.Header.{Header}
 use Rattle.bench_file.specs.Header.{header_of}
 use Rattle.bench_file.specs.Absent.{slots}
 use Rattle.bench.specs.declared.Answer.{Answer}
-use Rattle.bench.specs.declared.Lengths.{Lengths}
 use Rattle.bench.specs.declared.plans.SetUpPlan.{SetUpPlan}
 use Rattle.bench.specs.declared.plans.RunPlan.{RunPlan}
 use Rattle.bench.specs.Answer.{passes}

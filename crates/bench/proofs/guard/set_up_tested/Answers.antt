@@ -1,6 +1,6 @@
 -- Two ways through `set_up_tested`: in each, the branches taken decide the tests of the definition, with the contracts of `file_tested`, `passes`, `read_header`, `rest_tested`.
 use mathlib.Core.Path.{◌≡◌, sym, ap, ◌∙◌}
-use mathlib.Core.Bool.{true, false}
+use mathlib.Core.Bool.{true}
 use Rattle.bench_file.proofs.Fits.{header_there}
 use Rattle.bench.specs.Answer.{passes}
 use Rattle.bench.specs.Guard.{file_tested}

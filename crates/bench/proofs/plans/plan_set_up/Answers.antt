@@ -1,6 +1,6 @@
 -- Where it is refused nothing is planned; else the file has a header.
 use mathlib.Core.Path.{◌≡◌, sym, ap, ◌∙◌}
-use mathlib.Core.Bool.{true, false}
+use mathlib.Core.Bool.{true}
 use Prim.Native.Nat.{ℕ}
 use Rattle.bench_file.proofs.Fits.{header_there}
 use Rattle.bench.specs.declared.Lengths.{Lengths}
