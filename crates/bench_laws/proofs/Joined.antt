@@ -1,8 +1,8 @@
 -- Two runs join: either both are refused and nothing is done, or neither is, and their steps are those of one run.
 use mathlib.Core.Path.{◌≡◌, refl, sym, ◌∙◌, ap}
-use mathlib.Core.Bool.{Bool, true, false, cond, true≢false, false≢true}
+use mathlib.Core.Bool.{Bool, true, false, false≢true}
 use mathlib.Core.List.{List}
-use Prim.Native.Nat.{ℕ, ◌+◌, ◌-◌, ◌≤◌, min}
+use Prim.Native.Nat.{ℕ, ◌+◌, ◌-◌, ◌≤◌}
 use native.Mathlib.Omega.{arith}
 use Rattle.net_table.specs.declared.NetTable.{NetTable}
 use Rattle.bench.specs.declared.Answer.{Answer}
@@ -10,7 +10,7 @@ use Rattle.bench.specs.declared.Answer.TheVariants.{Done, OutOfRange, Header, Ab
 use Rattle.bench.specs.Bench.{Bench}
 use Rattle.bench.specs.Guard.{run_guard}
 use Rattle.bench.specs.Answer.{passes}
-use Rattle.bench.specs.Run.{header, steps, after_run, ran}
+use Rattle.bench.specs.Run.{steps}
 use Rattle.bench_laws.specs.Laws.{Stayed, Stays, Joined, Joins}
 use Rattle.bench.proofs.Runs.{in_two, keeps, how_many}
 use Rattle.bench_laws.proofs.Guards.{Ready, ready, passed, next_ready}

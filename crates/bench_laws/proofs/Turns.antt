@@ -23,7 +23,7 @@ use Rattle.bench.specs.Bench.{Bench}
 use Rattle.bench.specs.Slots.{label_of}
 use Rattle.bench.specs.Event.{After, carried}
 use Rattle.bench.specs.Run.{header, next, steps}
-use Rattle.network_laws.specs.Isolation.{SharedEvent, Shared, shared_after_all}
+use Rattle.network_laws.specs.Isolation.{SharedEvent, Shared, shared_after, shared_after_all}
 use Rattle.bench_laws.specs.Calls.{shared_of, calls_of, turns, answers_of, last_answer}
 use Rattle.bench.proofs.Named.{cables_good_lem, event_good_lem, end_host, filled, send_names, arrival_names}
 use Rattle.bench.proofs.Runs.{same_done}
@@ -35,7 +35,7 @@ use Rattle.bench_laws.proofs.Called.{Made, State-hosts, made}
 after_both : (w : Shared) (es fs : List SharedEvent) → shared_after_all w (es ++ fs) ≡ shared_after_all (shared_after_all w es) fs
 unfolding shared_after_all
 after_both w [] fs = refl
-after_both w (e ∷ es) fs = after_both _ es fs
+after_both w (e ∷ es) fs = after_both (shared_after w e) es fs
 
 -- an answer kept, and others after it
 over_cons : (l : List ℕ) (d a : ℕ) (r : List ℕ) → d < length l → over (set l d a) (suc d) r ≡ over l d (a ∷ r)

@@ -2,7 +2,6 @@
 use Rattle.std.specs.Prelude.{◌≡◌, false, List, [], ◌∷◌, ◌++◌, map, ℕ, negsuc, replicate}
 use Rattle.quantity.specs.declared.Count.{Count}
 use Rattle.clock.specs.declared.Counter.{Counter}
-use Rattle.route.specs.declared.Net.{Net}
 use Rattle.net_table.specs.declared.NetTable.{NetTable}
 use Rattle.net_table.specs.Table.{table_of}
 use Rattle.table.specs.Forms.{up_from}
@@ -11,7 +10,6 @@ use Rattle.bench_file.specs.declared.Event.{Event}
 use Rattle.bench_file.specs.declared.Event.TheVariants.{Tick, Adjust, Set, Second, SelfReport, Send, Arrival}
 use Rattle.bench_file.specs.Header.{header_of, header_bad}
 use Rattle.bench_file.specs.Records.{event_at}
-use Rattle.bench.specs.declared.Ran.{Ran}
 use Rattle.bench.specs.declared.Answer.TheVariants.{Done}
 use Rattle.bench.specs.Bench.{Bench, fresh_host}
 use Rattle.bench.specs.Run.{after_set_up, after_run, ran}
