@@ -55,7 +55,7 @@ use Rattle.calls.specs.declared.Request.TheVariants.{Initialize, Tick, Adjust, S
 use Rattle.calls.specs.Effects.{initialize, tick, adjust, set_by, read, second, self_report, lookup, effect}
 use Rattle.calls.specs.Perform.{Call, ask, send, deliver, open_walk, Outcome, refused, work, perform}
 use Rattle.network_laws.proofs.Performs.{guard_of, performs}
-use Rattle.clock_laws.specs.Moves.{Move, reads, sets, dates, moved_by, line_dMoves, sweep_moves, update_moves, action_moves, box_moves, walk_moves, step_moves, work_moves, moves, ClockMoves}
+use Rattle.clock_laws.specs.Moves.{Move, reads, sets, dates, moved_by, line_d_moves, sweep_moves, update_moves, action_moves, box_moves, walk_moves, step_moves, work_moves, moves, ClockMoves}
 use Rattle.clock_laws.specs.Turns.{Turn, state_for, clock_after, clock_after_all, moves_of, moves_of_all}
 
 pub moved_on : (s : Settings) (ms ns : List Move) (c : Clock) → moved_by s (ms ++ ns) c ≡ moved_by s ns (moved_by s ms c)
@@ -66,7 +66,7 @@ moved_on s (m ∷ ms) ns c = moved_on s ms ns _
 
 module _ (s : Settings) (w : Updates) (same : w.hold_interval ≡ s.hold_interval) (packet : List ℕ) where
   line_d_moved : (host : Bool) (u : Update) (c : Clock) (x : Stage Entry)
-      → (settled host w.hold_interval w.count w.date u c x).clock ≡ moved_by s (line_dMoves host w u x) c
+      → (settled host w.hold_interval w.count w.date u c x).clock ≡ moved_by s (line_d_moves host w u x) c
   unfolding line_d
   line_d_moved true u c (on e) = rw same
   line_d_moved false u c (on e) = refl
@@ -78,7 +78,7 @@ module _ (s : Settings) (w : Updates) (same : w.hold_interval ≡ s.hold_interva
   sweep_moved i c [] = refl
   sweep_moved i c (e ∷ es) =
       let u : Update = update_at w (i - w.base) packet in
-      let m : List Move = line_dMoves (eqb (i - w.base) w.clock_host) w u (lines u e) in
+      let m : List Move = line_d_moves (eqb (i - w.base) w.clock_host) w u (lines u e) in
       sweep_moved (suc i) (updated_at w packet i c e).clock es
       ∙ ap (moved_by s (sweep_moves (suc i) w packet es)) (line_d_moved (eqb (i - w.base) w.clock_host) u c (lines u e))
       ∙ sym (moved_on s m (sweep_moves (suc i) w packet es) c)

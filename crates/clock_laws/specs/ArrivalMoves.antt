@@ -53,15 +53,15 @@ moved_by s (m ∷ ms) c = moved_by s ms (moved s m c)
 -- ---- the moves of an arrival
 
 -- BACK-2, UPDATE-d: line (d), for the clock host after (c)
-abbrev pub line_dMoves : (clock_host_of : Bool) → Updates → Update → Stage Entry → List Move
-line_dMoves clock_host_of w u (on e) = cond clock_host_of (dates w.date ∷ sets w.count (of_word u.offset) ∷ []) []
-line_dMoves clock_host_of w u (end e) = []
+abbrev pub line_d_moves : (clock_host_of : Bool) → Updates → Update → Stage Entry → List Move
+line_d_moves clock_host_of w u (on e) = cond clock_host_of (dates w.date ∷ sets w.count (of_word u.offset) ∷ []) []
+line_d_moves clock_host_of w u (end e) = []
 
 -- BACK-2: the updates of the ids from i on
 abbrev pub sweep_moves : (i : ℕ) → Updates → (packet : List ℕ) → List Entry → List Move
 sweep_moves i w packet [] = []
 sweep_moves i w packet (e ∷ es) =
-    line_dMoves (eqb (i - w.base) w.clock_host) w (update_at w (i - w.base) packet) (lines (update_at w (i - w.base) packet) e)
+    line_d_moves (eqb (i - w.base) w.clock_host) w (update_at w (i - w.base) packet) (lines (update_at w (i - w.base) packet) e)
     ++ sweep_moves (suc i) w packet es
 
 -- BACK-2: all updates of an arrival

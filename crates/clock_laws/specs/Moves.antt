@@ -22,7 +22,7 @@ use Rattle.calls.specs.declared.Request.{Request}
 use Rattle.calls.specs.declared.Request.TheVariants.{Initialize, Tick, Adjust, Set, Read, Second, SelfReport, Lookup, Step}
 use Rattle.calls.specs.Perform.{Call, ask, send, deliver, open_walk, scope_of_call, perform}
 pub use Rattle.clock_laws.specs.ArrivalMoves.{Move, reads, ticks, adjusts, sets, dates, second, initialized}
-unfoldable pub use Rattle.clock_laws.specs.ArrivalMoves.{moved, moved_by, line_dMoves, sweep_moves, update_moves, action_moves, delivery_moves}
+unfoldable pub use Rattle.clock_laws.specs.ArrivalMoves.{moved, moved_by, line_d_moves, sweep_moves, update_moves, action_moves, delivery_moves}
 
 -- ---- the moves of a box: the first reads, and line (d) sets, for the clock host
 
