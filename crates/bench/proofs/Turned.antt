@@ -48,7 +48,7 @@ module _ (file : List ℕ) (t : NetTable) where
   unfolding steps
   one_step b more = rw (lt-ltb b.done (header file t).events more)
 
--- ---- what there is after n turns
+-- ---- the state after n turns
 
 module _ (file : List ℕ) (t : NetTable) (hosts : List HostState) (copies : List ℕ) (entries : List Entry) (slots answers : List ℕ) (w : Turns) where
   abbrev start : Bench

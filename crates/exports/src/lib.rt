@@ -1,2 +1,2 @@
-// Empty. The laws of exports, calls by value and the bench stood here, for the older Rattle; today's proves that part of a function by itself.
+// Empty: for the older Rattle it had lemmas about functions over references. Today's Rattle makes that part of a proof by itself.
 #![tactic(auto)]

@@ -52,16 +52,16 @@ two_parts first a b l = rw (← drop-drop a first l) (take-add a b (drop first l
 
 -- ---- the entries of a word
 
+-- the first n ids have their marks and are in range
+abbrev pub passed : Scan → List Entry → (n : ℕ) → Bool
+passed w entries n = every_from 0 (λ (id : ℕ) (e : Entry). as_marked w.marks id e && entry_in_range e) (part w.first n entries)
+
 module _ (entries : List Entry) (w : Scan) (h : InEntries w.first w.end entries) where
   abbrev pub N : ℕ
   N = w.end - w.first
 
   abbrev test : ℕ → Entry → Bool
   test id e = as_marked w.marks id e && entry_in_range e
-
-  -- the first n ids
-  abbrev pub good : (n : ℕ) → Bool
-  good n = every_from 0 test (part w.first n entries)
 
   -- an id's mark is the bit of its word
   in_word : (k n : ℕ) (e : Entry) → n < 64 → as_in_word (word_of w.marks (64 * k)) n e ≡ test (64 * k + n) e
@@ -73,7 +73,7 @@ module _ (entries : List Entry) (w : Scan) (h : InEntries w.first w.end entries)
 
   -- the ids of one word more, up to m
   word_more : (k m : ℕ) → 64 * k ≤ m → m ≤ 64 * k + 64 → m ≤ N → (stretch_of k w).end ≡ w.first + m
-      → (good (64 * k) && all_as_in_word (stretch_of k w) entries) ≡ good m
+      → (passed w entries (64 * k) && all_as_in_word (stretch_of k w) entries) ≡ passed w entries m
   word_more k m from to inside ends =
       let first = w.first + 64 * k in
       let count : (stretch_of k w).end - first ≡ m - 64 * k = omega (arith, ends) in
@@ -84,21 +84,21 @@ module _ (entries : List Entry) (w : Scan) (h : InEntries w.first w.end entries)
       let all : 64 * k + (m - 64 * k) ≡ m = omega (arith, from) in
       let at : 64 * k + 0 ≡ 0 + length (part w.first (64 * k) entries) = omega (arith, before) in
       rw (count, here, at) (both_lists 0 test (part w.first (64 * k) entries) (part first (m - 64 * k) entries)
-      ∙ ap (every_from 0 test) (sym (two_parts w.first (64 * k) (m - 64 * k) entries)) ∙ ap good all)
+      ∙ ap (every_from 0 test) (sym (two_parts w.first (64 * k) (m - 64 * k) entries)) ∙ ap (passed w entries) all)
 
   -- a word that is full, and the last
-  pub full_word : (k : ℕ) → 64 * suc k ≤ N → (good (64 * k) && all_as_in_word (stretch_of k w) entries) ≡ good (64 * suc k)
+  pub full_word : (k : ℕ) → 64 * suc k ≤ N → (passed w entries (64 * k) && all_as_in_word (stretch_of k w) entries) ≡ passed w entries (64 * suc k)
   full_word k l =
       let many : 64 ≤ w.end - (w.first + 64 * k) = omega (arith, l) in
       word_more k (64 * suc k) (omega arith) (omega arith) l (rw (le-ltb _ _ many) (omega arith))
 
-  pub last_word : (k : ℕ) → 64 * k ≤ N → N < 64 * suc k → (good (64 * k) && all_as_in_word (stretch_of k w) entries) ≡ good N
+  pub last_word : (k : ℕ) → 64 * k ≤ N → N < 64 * suc k → (passed w entries (64 * k) && all_as_in_word (stretch_of k w) entries) ≡ passed w entries N
   last_word k l m =
       let few : w.end - (w.first + 64 * k) < 64 = omega (arith, m) in
       word_more k N l (omega (arith, m)) (omega arith) (rw (lt-ltb _ _ few) (omega (arith, h.rising)))
 
   -- and all
-  pub all_good : w.good ≡ true → good N ≡ all_in_range w entries
+  pub all_good : w.good ≡ true → passed w entries N ≡ all_in_range w entries
   unfolding all_in_range
   all_good so = rw (so) (sym (at_once 0 entry_in_range (as_marked w.marks) (part w.first N entries)))
 

@@ -1,4 +1,4 @@
--- A loop that tests entries and ends at the first that fails: what is left to test at each turn.
+-- A loop that tests entries ends at the first that fails. These lemmas split the test of all entries into those before a turn, the one of the turn, and the rest.
 use mathlib.Core.Path.{◌≡◌, refl, sym, ap, subst, ◌∙◌}
 use mathlib.Core.Bool.{Bool, true, false, cond, ◌&&◌}
 use mathlib.Core.List.{List, ◌∷◌}
@@ -9,7 +9,6 @@ use native.Mathlib.Omega.{arith}
 use lib.ListN.{length, get_or}
 use lib.Seq.{drop-cons}
 use Rattle.lists.specs.Lists.{part}
-use Rattle.lists.proofs.Parts.{part_length}
 use Rattle.table.specs.declared.Entry.{Entry}
 use Rattle.table.specs.declared.entries.Scan.{Scan}
 use Rattle.table.specs.declared.entries.Words.{Words}
@@ -17,8 +16,8 @@ use Rattle.table.specs.Forms.{every_from}
 use Rattle.table.specs.Entry.{as_marked, entry_in_range}
 use Rattle.table.specs.code.Loops.{InEntries, all_in_range}
 use Rattle.table.specs.code.Words.{by_words, InWord, WordsFit, WordFits, stretch_of, all_as_in_word}
-use Rattle.table.proofs.ByWords.{two_parts, full_word, last_word, all_good, none_good, started, word_inside}
-use Rattle.table.proofs.Loops.{both_lists}
+use Rattle.table.proofs.ByWords.{passed, full_word, last_word, all_good, none_good, started, word_inside}
+use Rattle.table.proofs.WordByFours.{two_tests}
 
 -- a part begins with its first element
 pub part_head : {A : Type 0} (i end : ℕ) (l : List A) (d : A) → i < end → end ≤ length l
@@ -33,24 +32,7 @@ pub test_head : {A : Type 0} (test : ℕ → A → Bool) (n i end : ℕ) (l : Li
     → every_from n test (part i (end - i) l) ≡ (test n (get_or l i d) && every_from (suc n) test (part (i + 1) (end - (i + 1)) l))
 test_head test n i end l d less inside = ap (every_from n test) (part_head i end l d less inside)
 
--- m elements, and those after them
-pub test_parts : {A : Type 0} (test : ℕ → A → Bool) (n i m k : ℕ) (l : List A) → i + m + k ≤ length l
-    → every_from n test (part i (m + k) l) ≡ (every_from n test (part i m l) && every_from (n + m) test (part (i + m) k l))
-test_parts test n i m k l inside =
-    let long : length (part i m l) ≡ m = part_length i m l (omega (arith, inside)) in
-    ap (every_from n test) (two_parts i m k l)
-    ∙ sym (both_lists n test (part i m l) (part (i + m) k l))
-    ∙ ap (λ (j : ℕ). every_from n test (part i m l) && every_from (n + j) test (part (i + m) k l)) long
-
--- no element passes every test
-pub test_none : {A : Type 0} (test : ℕ → A → Bool) (n i k : ℕ) (l : List A) → k ≡ 0 → every_from n test (part i k l) ≡ true
-test_none test n i k l is = ap (λ (j : ℕ). every_from n test (part i j l)) is
-
--- ---- the words of the marks
-
--- the first n ids have their marks and are in range
-abbrev pub passed : Scan → List Entry → (n : ℕ) → Bool
-passed w entries n = every_from 0 (λ (id : ℕ) (e : Entry). as_marked w.marks id e && entry_in_range e) (part w.first n entries)
+-- ---- entries tested word by word
 
 -- before word k nothing failed; after the last, the answer is known
 pub record Passed (entries : List Entry) (v : Words) (k : ℕ) (so_far : Bool) : Type 0 where
@@ -101,7 +83,7 @@ module _ (entries : List Entry) (w : Scan) (h : InEntries w.first w.end entries)
         full m =
             let sum : 64 * suc k + (w.end - w.first - 64 * suc k) ≡ w.end - w.first = omega (arith, m) in
             let test : ℕ → Entry → Bool = λ (id : ℕ) (e : Entry). as_marked w.marks id e && entry_in_range e in
-            let parts = test_parts test 0 w.first (64 * suc k) (w.end - w.first - 64 * suc k) entries (omega (arith, m, h.rising, h.inside)) in
+            let parts = sym (two_tests entries w.first (64 * suc k) (w.end - w.first - 64 * suc k) 0 test (omega (arith, m, h.rising, h.inside))) in
             let rest = every_from (0 + 64 * suc k) test (part (w.first + 64 * suc k) (w.end - w.first - 64 * suc k) entries) in
             f ∙ sym (sym (all_good entries w h yes) ∙ ap (passed w entries) (sym sum) ∙ parts ∙ ap (λ (b : Bool). b && rest) (in_full m ∙ f))
 

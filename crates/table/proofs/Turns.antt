@@ -1,4 +1,4 @@
--- What a loop over the places from `first` on has made of a list after n turns, where each turn puts another element in the place of its own.
+-- A list after n turns of a loop that replaces one element in each turn, from place `first` on.
 use mathlib.Core.List.{List}
 use Prim.Native.Nat.{ℕ, zero, suc, ◌+◌}
 use lib.ListN.{get_or, set}

@@ -1,4 +1,4 @@
--- The updates of an arrival, one place after the other: the entries and the clock after the update of a place more.
+-- The updates of an arrival, place by place: the entries and the clock after one more update.
 use mathlib.Core.Path.{◌≡◌, sym, ap, ◌∙◌}
 use mathlib.Core.List.{List}
 use Prim.Native.Nat.{ℕ, suc, ◌+◌, ◌-◌, ◌≤◌, ◌<◌}

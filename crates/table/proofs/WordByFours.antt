@@ -18,13 +18,12 @@ use Rattle.table.proofs.FourAtOnce.{bit_at}
 use Rattle.table.proofs.Loops.{both_lists}
 
 -- the entries of two parts, one after the other
-pub two_tests : (entries : List Entry) (first m n : ℕ) (test : ℕ → Entry → Bool) → first + m + n ≤ length entries
-    → (every_from 0 test (part first m entries) && every_from m test (part (first + m) n entries)) ≡ every_from 0 test (part first (m + n) entries)
-two_tests entries first m n test fits =
+pub two_tests : (entries : List Entry) (first m n k : ℕ) (test : ℕ → Entry → Bool) → first + m + n ≤ length entries
+    → (every_from k test (part first m entries) && every_from (k + m) test (part (first + m) n entries)) ≡ every_from k test (part first (m + n) entries)
+two_tests entries first m n k test fits =
     let long : length (part first m entries) ≡ m = part_length first m entries (omega (arith, fits)) in
-    let at : m ≡ 0 + length (part first m entries) = omega (arith, long) in
-    ap (λ (k : ℕ). every_from 0 test (part first m entries) && every_from k test (part (first + m) n entries)) at
-    ∙ both_lists 0 test (part first m entries) (part (first + m) n entries) ∙ ap (every_from 0 test) (sym (two_parts first m n entries))
+    ap (λ (j : ℕ). every_from k test (part first m entries) && every_from (k + j) test (part (first + m) n entries)) (sym long)
+    ∙ both_lists k test (part first m entries) (part (first + m) n entries) ∙ ap (every_from k test) (sym (two_parts first m n entries))
 
 module _ (entries : List Entry) (w : Stretch) (h : StretchFits w entries) (so : w.good ≡ true) (small : w.end - w.first ≤ 64) where
   abbrev N : ℕ
@@ -63,12 +62,14 @@ module _ (entries : List Entry) (w : Stretch) (h : StretchFits w entries) (so : 
       let rest : w.end - (w.first + n) ≡ N - n = omega arith in
       let sum : n + (N - n) ≡ N = omega arith in
       let none : n + 0 ≡ n = omega arith in
+      let zero : 0 + n ≡ n = omega arith in
       let after : every_from 0 (as_in_word (w.word / 2 ^ (n % 64))) (part (w.first + n) (w.end - (w.first + n)) entries) ≡ every_from n test (part (w.first + n) (N - n) entries) =
       alike (as_in_word (w.word / 2 ^ (n % 64))) test n 0 (part (w.first + n) (w.end - (w.first + n)) entries) in_rest ∙ ap (λ (k : ℕ). every_from k test (part (w.first + n) (w.end - (w.first + n)) entries)) none
       ∙ ap (λ (k : ℕ). every_from n test (part (w.first + n) k entries)) rest in
       ap (λ (b : Bool). b && every_from 0 test (part w.first N entries)) so
       ∙ ap (λ (k : ℕ). every_from 0 test (part w.first k entries)) (sym sum)
-      ∙ sym (two_tests entries w.first n (N - n) test (omega (arith, h.places.rising, h.places.inside)))
+      ∙ sym (two_tests entries w.first n (N - n) 0 test (omega (arith, h.places.rising, h.places.inside)))
+      ∙ ap (λ (k : ℕ). every_from 0 test (part w.first n entries) && every_from k test (part (w.first + n) (N - n) entries)) zero
       ∙ ap (λ (b : Bool). every_from 0 test (part w.first n entries) && b) (sym after)
 
   pub by_fours : (b : Bool) → b ≡ all_fours (fours_of w) entries → all_as_in_word (rest_of b w) entries ≡ all_as_in_word w entries

@@ -1,4 +1,4 @@
--- A header that is not bad is there, and so is the first seat's record.
+-- If the header is not bad, the file has it and the first host's record.
 use mathlib.Core.Path.{sym, ◌∙◌}
 use native.Mathlib.Omega.{arith}
 use Rattle.bench_file.proofs.Fits.{header_there}

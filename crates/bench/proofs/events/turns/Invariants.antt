@@ -1,4 +1,4 @@
--- After each turn the state is that of so many steps.
+-- After n turns the state is the one after n steps.
 use Prim.Native.Nat.{◌-◌, ◌≤◌}
 use Rattle.bench.specs.Bench.{bench}
 use Rattle.bench.specs.Run.{steps}

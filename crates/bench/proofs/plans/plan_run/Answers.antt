@@ -27,7 +27,7 @@ abbrev answered : (file : List ℕ) → NetTable → (done hosts copies entries 
 answered file t done hosts copies entries slots answers =
     tested (runnable (header_of file) slots done) t file (lengths hosts copies entries (length slots) answers)
 
--- what the tests leave
+-- what holds after the tests
 module _ (file : List ℕ) (t : NetTable) (done hosts copies entries : ℕ) (slots : List ℕ) (answers : ℕ) (e : passes (answered file t done hosts copies entries slots answers) ≡ true) where
   tests : Passed (runnable (header_of file) slots done) t file (lengths hosts copies entries (length slots) answers)
   tests = passed_all (runnable (header_of file) slots done) t file (lengths hosts copies entries (length slots) answers) e

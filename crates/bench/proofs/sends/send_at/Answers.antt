@@ -1,4 +1,4 @@
--- The host's state is read, the send is made with it into the slot's room, the state after it is stored, and the slot is labelled if it was sent.
+-- The host's state is read, its message is written into the slot, the state after the send is stored, and the slot gets a label if a message was sent.
 use mathlib.Core.Path.{◌≡◌, ap, ◌∙◌}
 use mathlib.Core.List.{List, append_assoc}
 use Prim.Native.Nat.{ℕ, ◌+◌, ◌-◌, ◌*◌, ◌≤◌, ◌<◌}
@@ -39,7 +39,7 @@ module _ (w : Sending) (t : NetTable) (hosts : List HostState) (copies : List �
       let n : longest * w.host + longest - longest * w.host ≡ longest = omega arith in
       rw (low-is, high_is, here-is, there-is, n, m, v-is)
 
-  -- what is returned in the room of the slot
+  -- what the send returns, if its buffer is the slot
   module _ (slot : w.slot < file.slots) (long : slot_length * file.slots ≤ length slots) (room : List ℕ) (room-is : room ≡ made.buffer) where
     full : length room ≡ longest
     full =

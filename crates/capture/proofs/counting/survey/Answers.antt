@@ -1,4 +1,4 @@
--- What was counted and listed and what is left make up the whole.
+-- What was counted and listed, with what remains, is all of the input.
 use mathlib.Core.Path.{refl}
 use Prim.Native.Nat.{◌<◌}
 use native.Mathlib.Omega.{arith}

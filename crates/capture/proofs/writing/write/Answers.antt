@@ -1,4 +1,4 @@
--- What was put and what is left to put make up both outputs.
+-- What was written, with what remains, is both outputs.
 use mathlib.Core.Path.{◌≡◌, refl, ap, ◌∙◌}
 use Prim.Native.Nat.{◌+◌, ◌-◌, ◌*◌, ◌<◌, ◌≤◌}
 use native.Mathlib.Omega.{arith}

@@ -1,4 +1,4 @@
--- The first loop leaves CLOCK near its day, as the second asks.
+-- After the first loop CLOCK is within a day of its range, as the second requires.
 use native.Mathlib.Omega.{arith}
 use Rattle.clock.specs.Midnight.{midnight}
 use Rattle.clock.proofs.Turns.{near_days_on, near_midnight}

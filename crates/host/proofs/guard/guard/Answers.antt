@@ -1,4 +1,4 @@
--- A scan of the entries between what is tested before it and what is judged behind it.
+-- The tests before the scan, the scan of the entries, and the tests after it are the guard's definition.
 use mathlib.Core.Path.{◌∙◌, ap}
 use Rattle.table.specs.declared.entries.Scan.{Scan}
 use Rattle.table.specs.code.Loops.{all_in_range}

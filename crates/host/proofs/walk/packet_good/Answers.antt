@@ -1,4 +1,4 @@
--- The inspection first, then what is held.
+-- The inspection, then the fields of the walk's packet.
 use mathlib.Core.Path.{◌∙◌, sym, subst}
 use Rattle.host.proofs.Inspected.{Fits, inspected_fits}
 use Rattle.host.proofs.walk.packet_good.Goals as goal

@@ -1,4 +1,4 @@
--- What is left to test passes with the next entry, or fails with it.
+-- If the next entry passes, the result is the test of the rest; if it fails, the result is false.
 use mathlib.Core.Path.{◌≡◌, sym, ap, ◌∙◌}
 use mathlib.Core.Bool.{Bool, true, ◌&&◌}
 use mathlib.Core.List.{List}

@@ -1,4 +1,4 @@
--- The tests of the words come to the test of all; the last word ends with the last entry.
+-- All entries pass if those of every word do. The last word ends at the last entry.
 use native.Mathlib.Omega.{arith}
 use Rattle.table.proofs.Reading.{starts_so, goes_on_so, ends_so}
 use Rattle.table.proofs.entries.good_in_all.Goals as goal

@@ -1,4 +1,4 @@
--- The fours are as they should be, and then what remains after them.
+-- The entries of a word pass if its groups of four do, and the entries after them.
 use mathlib.Core.Path.{refl, sym, ap, subst, ◌∙◌}
 use Rattle.table.specs.declared.entries.Stretch.{Stretch}
 use Rattle.table.specs.declared.fours.Fours.{Fours}

@@ -1,4 +1,4 @@
--- After n turns the reports of the first n entries stand in their places.
+-- After n turns the buffer has the reports of the first n entries.
 use mathlib.Core.Path.{◌≡◌, refl, sym, ap, ◌∙◌}
 use mathlib.Core.List.{List, map}
 use Prim.Native.Nat.{ℕ, suc, ◌+◌, ◌-◌, ◌≤◌, ◌<◌}

@@ -1,4 +1,4 @@
--- After n turns the first n entries are updated, each from the clock that the one before left.
+-- After n turns the first n entries are updated, each with the clock after the previous update.
 use mathlib.Core.Path.{◌≡◌, refl, sym}
 use Prim.Native.Nat.{◌-◌, ◌<◌}
 use native.Mathlib.Omega.{arith}

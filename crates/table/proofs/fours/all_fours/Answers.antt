@@ -1,4 +1,4 @@
--- What is left to test passes with the next four, or fails with it.
+-- If the next four entries pass, the result is the test of the rest; if one fails, the result is false.
 use mathlib.Core.Path.{◌≡◌, sym, ap, ◌∙◌}
 use mathlib.Core.Bool.{Bool, ◌&&◌}
 use mathlib.Core.List.{List}
@@ -11,7 +11,7 @@ use Rattle.table.specs.declared.fours.Fours.{Fours}
 use Rattle.table.specs.Forms.{every_from}
 use Rattle.table.specs.code.Words.{as_in_word}
 use Rattle.table.specs.code.Fours.{four_good, all_fours}
-use Rattle.table.proofs.Reading.{test_parts}
+use Rattle.table.proofs.WordByFours.{two_tests}
 use Rattle.table.proofs.fours.all_fours.Goals as goal
 
 abbrev rest : Fours → List Entry → ℕ → Bool
@@ -23,7 +23,7 @@ turn v es k g less inside is inv =
     let n : 4 * k + 4 ≡ 4 * (k + 1) = omega arith in
     let at : v.at + 4 * k + 4 ≡ v.at + 4 * (k + 1) = omega arith in
     inv ∙ ap (λ (m : ℕ). every_from (4 * k) (as_in_word v.word) (part (v.at + 4 * k) m es)) count
-    ∙ test_parts (as_in_word v.word) (4 * k) (v.at + 4 * k) 4 (4 * (v.end - (k + 1))) es (omega (arith, less, inside))
+    ∙ sym (two_tests es (v.at + 4 * k) 4 (4 * (v.end - (k + 1))) (4 * k) (as_in_word v.word) (omega (arith, less, inside)))
     ∙ ap (λ (b : Bool). b && every_from (4 * k + 4) (as_in_word v.word) (part (v.at + 4 * k + 4) (4 * (v.end - (k + 1))) es)) (sym is)
     ∙ ap (λ (m : ℕ). g && every_from m (as_in_word v.word) (part (v.at + 4 * k + 4) (4 * (v.end - (k + 1))) es)) n
     ∙ ap (λ (m : ℕ). g && every_from (4 * (k + 1)) (as_in_word v.word) (part m (4 * (v.end - (k + 1))) es)) at

@@ -1,4 +1,4 @@
--- What was passed stands ahead of the pieces of the rest.
+-- The pieces of the text are those before the place, then those of the rest.
 use native.Mathlib.Omega.{arith}
 use Rattle.text.proofs.Cuts.{passed_none, passed_more, passed_there, passed_all}
 use Rattle.text.proofs.scan.find.Goals as goal

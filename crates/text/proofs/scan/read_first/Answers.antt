@@ -1,4 +1,4 @@
--- `hello`, and the numbers behind it.
+-- `hello`, then the numbers.
 use mathlib.Core.Path.{refl, sym, ◌∙◌}
 use native.Mathlib.Omega.{arith}
 use Prim.Native.Nat.{◌+◌, ◌<◌}

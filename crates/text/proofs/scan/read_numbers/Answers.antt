@@ -1,4 +1,4 @@
--- The times, a field behind them, and a number behind that.
+-- The times, then a field, then a number.
 use borrow.Author.Tests.{not-true, not-false}
 use mathlib.Core.Path.{refl}
 use Prim.Native.Nat.{◌+◌}

@@ -1,4 +1,4 @@
--- A field, and a signed number behind it.
+-- A field, then a signed number.
 use borrow.Author.Tests.{not-false}
 use Rattle.text.specs.code.Scan.{OffsetRead}
 use Rattle.text.proofs.LineWords.{part_read, row_there}

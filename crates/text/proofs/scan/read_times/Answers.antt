@@ -1,4 +1,4 @@
--- Three fields, each behind the one before.
+-- Three fields, one after the other.
 use borrow.Author.Tests.{not-true, not-false}
 use mathlib.Core.Path.{refl}
 use Prim.Native.Nat.{◌+◌}

@@ -1,4 +1,4 @@
--- The digits are put from the last to the first: what is left to put, over what was put, makes the whole.
+-- The digits are written from the last to the first. Those that remain, with those written, are the number.
 use mathlib.Core.Path.{sym, ◌∙◌}
 use native.Mathlib.Omega.{arith}
 use lib.ListN.{length-set}

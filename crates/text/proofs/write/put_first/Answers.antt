@@ -1,4 +1,4 @@
--- Two fields and a newline behind the times.
+-- The times, then two fields and a newline.
 use Rattle.text.specs.Numbers.{numbers_of}
 use Rattle.text.proofs.Lines.{first_put}
 use Rattle.text.proofs.write.put_first.Goals as goal

@@ -1,4 +1,4 @@
--- What is left to put, over what was put, makes the whole.
+-- The rows that remain, with those written, are all rows.
 use native.Mathlib.Omega.{arith}
 use Rattle.text.proofs.Lines.{after_less, all_put}
 use Rattle.text.proofs.write.put_rows.Goals as goal

@@ -1,4 +1,4 @@
--- The first line, and the rows behind it.
+-- The first line, then the rows.
 use native.Mathlib.Omega.{arith}
 use Rattle.text.specs.Numbers.{numbers_of}
 use Rattle.text.specs.Text.{text_of}

@@ -1,4 +1,4 @@
--- Three fields behind `hello`.
+-- `hello`, then three fields.
 use Rattle.text.proofs.Lines.{times_put}
 use Rattle.text.proofs.write.put_times.Goals as goal
 

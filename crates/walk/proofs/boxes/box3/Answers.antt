@@ -1,4 +1,4 @@
--- What step 3 makes, held and stored.
+-- The result of step 3, in the walk and in the link.
 use Rattle.walk.specs.Boxes.{box3}
 use Rattle.walk.proofs.boxes.box3.Goals as goal
 
