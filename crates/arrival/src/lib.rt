@@ -32,10 +32,9 @@ use host::replies::plainly;
 use host::{Links, Reply, Settings, host_count, inspection};
 use net_table::NetTable;
 use quantity::{Count, Millis, Seconds, Word};
-use route::Found;
 use table::Update;
 use table::entries::Updates;
-use wire::{Packet, Parsed};
+use wire::Packet;
 
 pub mod steps;
 
@@ -177,15 +176,15 @@ fn no_table(
     n: Count,
     p: Packet,
     f: Flight,
-    found: Found,
+    found: Option<usize>,
 ) -> Arrived
     requires le_link { (1 ≤ link) × (link ≤ 8) }
     requires found_value { has_place found ≡ true }
     ensures { result ≡ no_table (host s c l) link n p f found }
 {
     match found {
-        Found::Nothing => ends(Answer::NoHost, s, c, l),
-        Found::Id(id) => updated(s, c, l, n, p, neighbor_update(link, f), id, 1, false),
+        None => ends(Answer::NoHost, s, c, l),
+        Some(id) => updated(s, c, l, n, p, neighbor_update(link, f), id, 1, false),
     }
 }
 
@@ -274,8 +273,8 @@ fn act(
     ensures { result ≡ act link k packet.now t (host s c l) }
 {
     match inspection::inspect(s, link, packet) {
-        Parsed::Bad(a) => ends(a, s, c, l),
-        Parsed::Good(p) => action(s, t, c, l, link, k, p),
+        Err(a) => ends(a, s, c, l),
+        Ok(p) => action(s, t, c, l, link, k, p),
     }
 }
 

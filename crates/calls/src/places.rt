@@ -14,37 +14,36 @@ use super::Request;
 use host::walk::Walk;
 use host::{Settings, first_place};
 use net_table::NetTable;
-use route::Found;
 use table::entries::{Changes, Reports, Seek, Updates};
 
 // The id whose entry is looked at.
-fn wanted(s: Settings, t: NetTable, w: Walk, q: Request) -> Found
+fn wanted(s: Settings, t: NetTable, w: Walk, q: Request) -> Option<usize>
     ensures { result ≡ wanted q t s w }
 {
     match q {
-        Request::Initialize => Found::Nothing,
-        Request::Tick(_) => Found::Nothing,
-        Request::Adjust(_) => Found::Nothing,
-        Request::Set(_, _) => Found::Nothing,
-        Request::Read(_) => Found::Nothing,
-        Request::Second => Found::Nothing,
-        Request::SelfReport(_) => Found::Nothing,
+        Request::Initialize => None,
+        Request::Tick(_) => None,
+        Request::Adjust(_) => None,
+        Request::Set(_, _) => None,
+        Request::Read(_) => None,
+        Request::Second => None,
+        Request::SelfReport(_) => None,
         Request::Lookup(a) => host::found_for(t, s, a),
         Request::Step(_) => walk::at_hand(w),
     }
 }
 
-pub(crate) fn seek_at(number: usize, found: Found) -> Seek
+pub(crate) fn seek_at(number: usize, found: Option<usize>) -> Seek
     requires { (number ≤ 15) × (has_place found ≡ true) }
     ensures { result ≡ seek_at number found }
 {
     match found {
-        Found::Nothing => Seek {
+        None => Seek {
             first: 0,
             end: 0,
             entry: table::fresh(),
         },
-        Found::Id(id) => {
+        Some(id) => {
             let first = first_place(number) + id;
             Seek {
                 first: first,

@@ -1,14 +1,13 @@
 // The inspection of an arrival: answers 3 to 7 by the octets, then 8 and 9 by the settings.
-ghost use Rattle.std.specs.Prelude.{◌≡◌, ◌≤◌};
-ghost use Rattle.wire.specs.declared.Parsed.TheVariants.{Good};
-ghost use Rattle.wire.specs.code.Ranges.{Four, TimeFits};
+ghost use Rattle.std.specs.Prelude.{◌≡◌, ◌≤◌, Ok, IfOk};
+ghost use Rattle.wire.specs.code.Ranges.{Four};
 ghost use Rattle.host.specs.Inspection.{other_layout, looped, inspected, inspect, tells};
 
 use super::link_state::broadcast;
 use super::replies::{plainly, returns_packet};
 use super::{Reply, Settings};
 use answer::Answer;
-use wire::{Packet, Parsed};
+use wire::Packet;
 
 // Is the packet's table of another layout of ids?
 fn other_layout(s: Settings, p: Packet) -> bool
@@ -37,37 +36,34 @@ fn looped(s: Settings, link: usize, p: Packet) -> bool
 }
 
 // A packet that could be read, by the settings.
-fn compared(s: Settings, link: usize, p: Packet) -> Parsed
+fn compared(s: Settings, link: usize, p: Packet) -> Result<Packet, Answer>
     requires le_link { (1 ≤ link) × (link ≤ 8) }
     requires four { Four p.time.0 }
-    ensures { (result ≡ inspected s link (Good p)) × TimeFits result }
+    ensures { (result ≡ inspected s link (Ok p)) × IfOk result (λ p. Four p.time.0) }
 {
     if other_layout(s, p) {
-        return Parsed::Bad(Answer::OtherLayout);
+        return Err(Answer::OtherLayout);
     }
     if looped(s, link, p) {
-        return Parsed::Bad(Answer::LoopedLine);
+        return Err(Answer::LoopedLine);
     }
-    Parsed::Good(p)
+    Ok(p)
 }
 
-pub fn inspect(s: Settings, link: usize, packet: &[u8]) -> Parsed
+pub fn inspect(s: Settings, link: usize, packet: &[u8]) -> Result<Packet, Answer>
     requires { (1 ≤ link) × (link ≤ 8) }
-    ensures { (result ≡ inspect s link packet.now) × TimeFits result }
+    ensures { (result ≡ inspect s link packet.now) × IfOk result (λ p. Four p.time.0) }
 {
-    match wire::parse(packet) {
-        Parsed::Bad(a) => Parsed::Bad(a),
-        Parsed::Good(p) => compared(s, link, p),
-    }
+    compared(s, link, wire::parse(packet)?)
 }
 
 // What an inspection returns.
-pub fn tells(q: Parsed) -> Reply
+pub fn tells(q: Result<Packet, Answer>) -> Reply
     ensures { result ≡ tells q }
 {
     match q {
-        Parsed::Bad(a) => plainly(a),
-        Parsed::Good(p) => {
+        Err(a) => plainly(a),
+        Ok(p) => {
             let source = p.source;
             let time = p.time;
             let tsp = p.tsp;

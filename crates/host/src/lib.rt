@@ -143,7 +143,7 @@ fn time_good(time: quantity::Millis) -> bool
 }
 
 // The id that LOCAL-ADDRESS gives, the host's own.
-pub fn own_id(s: Settings) -> route::Found
+pub fn own_id(s: Settings) -> Option<usize>
     ensures { result ≡ own_id s }
 {
     let layout = s.layout;
@@ -152,19 +152,19 @@ pub fn own_id(s: Settings) -> route::Found
 }
 
 // The id of an address, by the host's own net or the class's net table.
-pub fn found_for(t: NetTable, s: Settings, a: wire::Address) -> route::Found
+pub fn found_for(t: NetTable, s: Settings, a: wire::Address) -> Option<usize>
     ensures { result ≡ found_for t s a }
 {
     route::find(s.address, s.layout, t.net, a)
 }
 
 // Is there an id, and is it marked?
-fn found_marked(m: table::marks::Marks, found: route::Found) -> bool
+fn found_marked(m: table::marks::Marks, found: Option<usize>) -> bool
     ensures { result ≡ found_marked m found }
 {
     match found {
-        route::Found::Nothing => false,
-        route::Found::Id(id) => table::marks::mark(m, id) == 1,
+        None => false,
+        Some(id) => table::marks::mark(m, id) == 1,
     }
 }
 
@@ -207,7 +207,7 @@ fn marks_good(s: Settings) -> bool
 {
     let layout = s.layout;
     let own = own_id(s);
-    if !(route::is_found(own) & found_marked(s.marks, own)) {
+    if !(own.is_some() & found_marked(s.marks, own)) {
         return false;
     }
     table::marks::none_from(s.marks, layout.nhosts)

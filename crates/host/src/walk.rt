@@ -24,7 +24,7 @@ use super::{Settings, inspection, link_state};
 use quantity::{Count, Millis, Word};
 use table::Update;
 use table::entries::plus_report;
-use wire::{Packet, Parsed};
+use wire::Packet;
 
 #[repr(C)]
 #[derive(Clone, Copy)]
@@ -229,8 +229,8 @@ fn packet_good(s: Settings, w: Walk, packet: &[u8]) -> bool
     ensures { result ≡ packet_fits s w packet.now (inspect s w.link packet.now) }
 {
     match inspection::inspect(s, w.link as usize, packet) {
-        Parsed::Bad(_) => false,
-        Parsed::Good(p) => fields_good(s, w, p, packet),
+        Err(_) => false,
+        Ok(p) => fields_good(s, w, p, packet),
     }
 }
 

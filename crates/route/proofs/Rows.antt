@@ -1,4 +1,5 @@
 -- The rows of a net table from place i on: each turn of a loop over them takes the first off.
+use Rattle.std.specs.Prelude.{Some, None}
 use mathlib.Core.Path.{◌≡◌}
 use mathlib.Core.Bool.{true, false}
 use mathlib.Core.List.{List}
@@ -8,7 +9,6 @@ use lib.ListN.{length, get_or, take, drop}
 use Rattle.lists.proofs.Rest.{rest_cons, rest_none}
 use Rattle.route.specs.declared.Net.{Net}
 use Rattle.route.specs.declared.Row.{Row}
-use Rattle.route.specs.declared.Found.TheVariants.{Id, Nothing}
 use Rattle.route.specs.Find.{ends, search, ids_below}
 
 module _ (l : List Row) (n i : ℕ) (inside : n ≤ length l) where
@@ -18,11 +18,11 @@ module _ (l : List Row) (n i : ℕ) (inside : n ≤ length l) where
   unfolding search
   passed net d h e = rw (rest_cons l n i inside d h, e)
 
-  pub ended : (net : Net) (d : Row) → i < n → ends net (get_or l i d) ≡ true → search net (drop i (take n l)) ≡ Id (get_or l i d).host
+  pub ended : (net : Net) (d : Row) → i < n → ends net (get_or l i d) ≡ true → search net (drop i (take n l)) ≡ Some (get_or l i d).host
   unfolding search
   ended net d h e = rw (rest_cons l n i inside d h, e)
 
-  pub missed : (net : Net) → n ≤ i → search net (drop i (take n l)) ≡ Nothing
+  pub missed : (net : Net) → n ≤ i → search net (drop i (take n l)) ≡ None
   unfolding search
   missed net h = rw (rest_none l n i inside h)
 

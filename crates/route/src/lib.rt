@@ -14,7 +14,6 @@ ghost use Rattle.route.specs.Find.{
   search,
   rows_of,
   find,
-  is_found,
   ids_below,
 };
 
@@ -51,23 +50,6 @@ pub struct Row {
 pub struct NetRows {
     pub count: usize,
     pub rows: [Row; 32],
-}
-
-// The id that is found, or none.
-#[derive(Clone, Copy)]
-pub enum Found {
-    Id(usize),
-    Nothing,
-}
-
-// Was an id found?
-pub fn is_found(found: Found) -> bool
-    ensures { result ≡ is_found found }
-{
-    match found {
-        Found::Id(_) => true,
-        Found::Nothing => false,
-    }
 }
 
 // Class A: first octets 0 to 127.
@@ -111,19 +93,19 @@ fn host_octet(address: Address) -> u8
 }
 
 // The id of an address on our net.
-pub fn local_id(layout: Layout, address: Address) -> Found
+pub fn local_id(layout: Layout, address: Address) -> Option<usize>
     ensures { result ≡ local_id layout address }
 {
     let octet = host_octet(address);
     let offset = layout.address_offset;
     if octet < offset {
-        return Found::Nothing;
+        return None;
     }
     let id = (octet - offset) as usize;
     if id < layout.nhosts {
-        return Found::Id(id);
+        return Some(id);
     }
-    Found::Nothing
+    None
 }
 
 // The net that an address is looked up by.
@@ -195,7 +177,7 @@ fn row_count(table: NetRows) -> usize
 }
 
 // The id of the first row at which the search for a net ends.
-fn search(table: NetRows, net: Net) -> Found
+fn search(table: NetRows, net: Net) -> Option<usize>
     ensures { result ≡ search net (rows_of table) }
 {
     let count = row_count(table);
@@ -203,7 +185,7 @@ fn search(table: NetRows, net: Net) -> Found
     let mut i: usize = 0;
     let id = loop {
         if i >= count {
-            return Found::Nothing;
+            return None;
         }
         let row = rows[i];
         if ends(net, row) {
@@ -211,15 +193,15 @@ fn search(table: NetRows, net: Net) -> Found
         }
         i += 1;
     };
-    Found::Id(id)
+    Some(id)
 }
 
 // The host id of an address, as a host of the address ours finds it.
-pub fn find(ours: Address, layout: Layout, table: NetRows, address: Address) -> Found
+pub fn find(ours: Address, layout: Layout, table: NetRows, address: Address) -> Option<usize>
     ensures { result ≡ find ours layout table address }
 {
     if above_c(address) {
-        return Found::Nothing;
+        return None;
     }
     if same_net(ours, address) {
         return local_id(layout, address);

@@ -1,15 +1,17 @@
 // Packets: the IP header and the HELLO after it.
 #![tactic(auto)]
 
-ghost use Rattle.std.specs.Prelude.{◌≡◌, ◌+◌, ◌≤◌, length};
+ghost use Rattle.std.specs.Prelude.{◌≡◌, ◌+◌, ◌≤◌, length, IfOk};
 ghost use Rattle.lists.specs.Lists.{over};
 ghost use Rattle.wire.specs.Octets.{zero_address, same_address};
 ghost use Rattle.wire.specs.Ip.{header_length};
 ghost use Rattle.wire.specs.Hello.{report_length, report_place, report_at};
 ghost use Rattle.wire.specs.Packet.{packet_length, hello_of, fields, parse};
-ghost use Rattle.wire.specs.code.Ranges.{Two, Four, TimeFits};
+ghost use Rattle.wire.specs.code.Ranges.{Two, Four};
 ghost use Rattle.wire.specs.ReadBack.{ReadBack, ReportsBack};
 ghost use Rattle.wire.specs.code.Sealing.{with_report, sealed};
+
+use answer::Answer;
 
 pub mod addresses;
 mod hello;
@@ -41,13 +43,6 @@ pub struct Packet {
 pub struct Report {
     pub delay: quantity::Millis,
     pub offset: quantity::Word,
-}
-
-// What reading a packet yields: its fields, or the answer that refuses it.
-#[derive(Clone, Copy)]
-pub enum Parsed {
-    Good(Packet),
-    Bad(answer::Answer),
 }
 
 impl Address {
@@ -101,25 +96,25 @@ pub fn fields(packet: &[u8]) -> Packet
 }
 
 // A packet read: the tests of answers 3 to 7 in their order, and the fields of one that passes.
-pub fn parse(packet: &[u8]) -> Parsed
-    ensures { (result ≡ parse packet.now) × TimeFits result }
+pub fn parse(packet: &[u8]) -> Result<Packet, Answer>
+    ensures { (result ≡ parse packet.now) × IfOk result (λ p. Four p.time.0) }
 {
     if !ip::form(packet) {
-        return Parsed::Bad(answer::Answer::IpForm);
+        return Err(Answer::IpForm);
     }
     if !ip::checksum(packet) {
-        return Parsed::Bad(answer::Answer::IpChecksum);
+        return Err(Answer::IpChecksum);
     }
     if !ip::protocol(packet) {
-        return Parsed::Bad(answer::Answer::Protocol);
+        return Err(Answer::Protocol);
     }
     if !hello::form(&packet[ip::LENGTH..]) {
-        return Parsed::Bad(answer::Answer::HelloForm);
+        return Err(Answer::HelloForm);
     }
     if !hello::checksum(&packet[ip::LENGTH..]) {
-        return Parsed::Bad(answer::Answer::HelloChecksum);
+        return Err(Answer::HelloChecksum);
     }
-    Parsed::Good(fields(packet))
+    Ok(fields(packet))
 }
 
 // What a packet reports of host i.

@@ -1,8 +1,8 @@
 -- Two ways through `search`: in each, the branches taken decide the tests of the definition, with the contracts of `row_count`, `ends`, `id_of`. Bounds follow by linear arithmetic.
+use Rattle.std.specs.Prelude.{Some}
 use mathlib.Core.Path.{◌∙◌, sym, ap}
 use Prim.Native.Nat.{◌-◌}
 use native.Mathlib.Omega.{arith}
-use Rattle.route.specs.declared.Found.TheVariants.{Id}
 use Rattle.route.specs.Find.{search as searched}
 use Rattle.lists.proofs.Rest.{counted}
 use Rattle.route.proofs.Rows.{passed, ended, missed}
@@ -30,5 +30,5 @@ returns c =
     let l = c.loop-i in
     let same = counted t.rows t.count _ count.ensures in
     let hit = sym c.ends.ensures ∙ c.if-ends.true in
-    ap Id c.id_of-id.ensures
+    ap Some c.id_of-id.ensures
     ∙ sym (ap (searched _) (sym same) ∙ l.invariant.3 ∙ ended t.rows count.result l.i (omega arith) _ _ (omega arith) hit)
