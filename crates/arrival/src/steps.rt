@@ -83,6 +83,7 @@ fn new_neighbor(p: Packet, f: Flight) -> Flight
     }
 }
 
+#[tactic(auto, unfolding(crate::specs::Steps::step4))]
 pub fn step4(broadcast: bool, hold: Seconds, p: Packet, f: Flight) -> Step
     ensures { result ≡ step_of (step4 broadcast hold p f) }
 {
@@ -91,7 +92,7 @@ pub fn step4(broadcast: bool, hold: Seconds, p: Packet, f: Flight) -> Step
     }
     let source = p.source;
     let x = f.link;
-    if !source.same(x.neighbor) {
+    if source != x.neighbor {
         return Step::On(new_neighbor(p, f));
     }
     let tsp = p.tsp;

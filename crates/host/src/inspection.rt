@@ -24,6 +24,7 @@ fn other_layout(s: Settings, p: Packet) -> bool
 }
 
 // Has our own packet come back on a point-to-point link?
+#[tactic(auto, unfolding(crate::specs::Inspection::looped))]
 fn looped(s: Settings, link: usize, p: Packet) -> bool
     requires { (1 ≤ link) × (link ≤ 8) }
     ensures { result ≡ looped s link p }
@@ -31,8 +32,7 @@ fn looped(s: Settings, link: usize, p: Packet) -> bool
     if broadcast(s, link) {
         return false;
     }
-    let source = p.source;
-    source.same(s.address)
+    p.source == s.address
 }
 
 // A packet that could be read, by the settings.
