@@ -39,10 +39,6 @@ pub cut_past : (mark c : ℕ) (s : List ℕ) → (c ≡ mark → ⊥) → cut ma
 unfolding cut
 cut_past mark c s h = rw (ne_eqb c mark h)
 
-pub ahead_ahead : (xs ys : List ℕ) (ws : List (List ℕ)) → ahead xs (ahead ys ws) ≡ ahead (xs ++ ys) ws
-ahead_ahead xs ys [] = refl
-ahead_ahead xs ys (w ∷ ws) = ap (λ (z : List ℕ). z ∷ ws) (sym (append_assoc xs ys w))
-
 -- ---- the first mark
 
 pub cut_found : (mark : ℕ) (s : List ℕ) (e : ℕ) → e < length s → eqb (get_or s e 0) mark ≡ true → ((k : ℕ) → k < e → eqb (get_or s k 0) mark ≡ false)

@@ -8,13 +8,13 @@ use lib.ListN.{length, take, length-take}
 use lib.Seq.{take_at}
 use Rattle.wire.specs.Hello.{hello_form}
 use Rattle.std.specs.Prelude.{Result, Ok, Err}
+use Rattle.std.specs.Result.{result_unwrap_or}
 use Rattle.text.specs.declared.Refusal.{Refusal}
 use Rattle.text.specs.declared.Refusal.TheVariants.{HelloForm}
 use Rattle.text.specs.Numbers.{numbers_of}
 use Rattle.text.specs.Text.{text_of}
-use Rattle.text.specs.Answers.{into, to_text, from_text, Leaves}
+use Rattle.text.specs.Answers.{Made, answer, octets, returned, into, to_text, Leaves}
 use Rattle.text.specs.code.Put.{Put}
-use Rattle.text.specs.code.Reading.{ReadSays}
 
 -- what was put at the start
 pub put_taken : {b a xs : List ℕ} {n : ℕ} → Put b a 0 n xs → take n a ≡ xs
@@ -32,14 +32,12 @@ pub good_message : (m b a xs : List ℕ) (returned : Result ℕ Refusal) → hel
 unfolding to_text
 good_message m b a xs returned e q l = rw (e, ← q) l
 
--- ---- what was read
+-- ---- what a caller has of it
 
-pub read_inside : (text after : List ℕ) (n : ℕ) → ReadSays text after (Ok n) → n ≤ length after
-read_inside text after n s = omega (arith, s.0, length-take n after)
+pub answer_of : (m : Made) → answer (returned m) ≡ answer m
+answer_of (Ok xs) = refl
+answer_of (Err refusal) = refl
 
-pub good_text : (text after b a : List ℕ) (n : ℕ) (returned : Result ℕ Refusal) → ReadSays text after (Ok n) → Leaves (into (length b) (take n after)) returned b a
-    → Leaves (from_text text (length b)) returned b a
-good_text text after b a n returned s l = rw (s.1 (length b)) l
-
-pub bad_text : (text after b : List ℕ) (x : Refusal) → ReadSays text after (Err x) → Leaves (from_text text (length b)) (Err x) b b
-bad_text text after b x s = rw (s (length b)) (record { outcome = refl; buffer = refl })
+pub length_of : (m : Made) → result_unwrap_or (returned m) 0 ≡ length (octets m)
+length_of (Ok xs) = refl
+length_of (Err refusal) = refl

@@ -29,14 +29,7 @@ pub size_fits : (negative : Bool) (n : ℕ) → fits_signed (signed_of negative 
 size_fits true n e = leb-true n 32768 (sym (fits_negative n) ∙ e)
 size_fits false n e = omega (arith, leb-true n 32767 e)
 
-pub bits_negative : (n : ℕ) → n ≤ 32768 → (65536 - n) % 65536 ≡ bits16 (neg_ℤ (pos n))
-bits_negative zero h = refl
-bits_negative (suc m) h = omega arith
-
 -- ---- a row in its place
-
-pub row_not_put : (b : List ℕ) (fit : Bool) (i : ℕ) (row : Row) → (fit && (ltb i most_hosts && row_fits row)) ≡ false → RowPut b b fit i row false
-row_not_put b fit i row e = record { fits = sym e; put = λ t. absurd (false≢true t) }
 
 pub row_put : (b m a : List ℕ) (i o : ℕ) (row : Row) → length b ≡ 1032 → i < most_hosts → row_fits row ≡ true
     → m ≡ sets b (report_place i) (two row.delay) → o ≡ bits16 row.offset → a ≡ sets m (report_place i + 2) (two o)
@@ -70,9 +63,3 @@ first_fits_lem f rows e =
       base = leb-true _ _ p₃.1;
       count = leb-true _ _ p₄.1;
     }
-
-pub fixed_put : (b l₁ l₂ l₃ l₄ l₅ : List ℕ) (f : First) → length b ≡ 1032
-    → l₁ ≡ sets b 2 (two f.date) → l₂ ≡ sets l₁ 4 (four f.time) → l₃ ≡ sets l₂ 8 (two f.tsp)
-    → l₄ ≡ set l₃ 10 f.base → l₅ ≡ set l₄ 11 f.count
-    → l₅ ≡ over b 2 (fixed_octets (first_returned f []))
-fixed_put b l₁ l₂ l₃ l₄ l₅ f h e₁ e₂ e₃ e₄ e₅ = e₅ ∙ rw (e₄, e₃, e₂, e₁) (sets-eq (fixed_octets (first_returned f [])) b 2 (omega arith))

@@ -31,12 +31,6 @@ value_snoc (x ∷ xs) c =
 pub digit_good : (c : ℕ) → zero_sign ≤ c → c ≤ nine_sign → is_digit c ≡ true
 digit_good c h k = rw (le-leb zero_sign c h, le-leb c nine_sign k)
 
-pub digit_low : (c : ℕ) → c < zero_sign → is_digit c ≡ false
-digit_low c h = rw (lt-leb zero_sign c h)
-
-pub digit_high : (c : ℕ) → nine_sign < c → is_digit c ≡ false
-digit_high c h = rw (le-leb zero_sign c (omega arith), lt-leb c nine_sign h)
-
 module _ (s : List ℕ) (i : ℕ) (h : i < length s) where
   rest : drop i s ≡ get_or s i 0 ∷ drop (i + 1) s
   rest = rw (add-one, drop-cons s i 0 h)

@@ -26,9 +26,9 @@ refused refusal = Err refusal
 abbrev pub made : List ℕ → Made
 made octets = Ok octets
 
--- ANSWER-1: the number of the answer, 0 if it is done
-abbrev pub answer : Made → ℕ
-answer (Ok octets) = 0
+-- REPLY-5: the number of the answer, 0 if it is done
+abbrev pub answer : {A : Type 0} → Result A Refusal → ℕ
+answer (Ok x) = 0
 answer (Err refusal) = number refusal
 
 -- TEXT-6: what is written: nothing at a refusal

@@ -43,6 +43,7 @@ fn deliver(out: &mut [u8], octets: &[u8]) -> Result<usize, Refusal>
 }
 
 // Whether a message is as long as its NHOSTS says.
+#[tactic(auto, unfolding(wire::specs::Hello::hello_form))]
 fn is_message(message: &[u8]) -> bool
     ensures { result ≡ hello_form message.now }
 {

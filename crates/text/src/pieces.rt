@@ -234,6 +234,7 @@ fn after_octet(p: Progress, c: u8) -> Progress
 }
 
 // What is known after one more octet.
+#[tactic(auto, using(crate::proofs::Onward::steps_as, crate::proofs::Onward::steps_space, crate::proofs::Onward::steps_newline, crate::proofs::Onward::steps_within))]
 fn step(p: Progress, c: u8) -> Progress
     ensures { Steps p c result }
 {
@@ -254,6 +255,7 @@ fn is_finished(p: Progress) -> bool
 }
 
 // What is known before the first piece.
+#[tactic(auto, using(crate::proofs::LongText::nothing_known))]
 pub fn begin() -> Progress
     ensures { After [] result }
 {
@@ -272,6 +274,7 @@ pub fn proceed(p: Progress, piece: &[u8]) -> Progress
 }
 
 // Why a text that is longer than any that is read is refused, after its last piece.
+#[tactic(auto, using(crate::proofs::LongText::long_refused, crate::proofs::LongText::long_range))]
 pub fn long_answer(p: Progress) -> Refusal
     ensures { LongAnswer p result }
 {

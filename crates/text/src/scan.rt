@@ -109,6 +109,7 @@ fn read_offset(s: &[u8]) -> Option<Offset>
 }
 
 // The first word, which is followed by another, read as a number; and what follows it.
+#[tactic(auto, using(crate::proofs::Readings::field_none, crate::proofs::Readings::field_bad, crate::proofs::Readings::field_there))]
 fn read_field(s: &[u8]) -> Option<(u64, &[u8])>
     ensures { MatchOption result (NoField s.now) (λ p. Field s.now p.0 p.1.now) }
 {
@@ -127,6 +128,7 @@ pub fn read_row(line: &[u8]) -> Option<Row>
 }
 
 // Whether a word is `hello`.
+#[tactic(auto, using(crate::proofs::Values::same_pointwise))]
 fn is_hello(s: &[u8]) -> bool
     ensures { result ≡ same hello s.now }
 {
@@ -152,6 +154,7 @@ fn read_numbers(s: &[u8]) -> Option<First>
 }
 
 // The first line.
+#[tactic(auto, using(crate::proofs::LineWords::line_alone, crate::proofs::LineWords::line_other, crate::proofs::LineWords::line_read))]
 pub fn read_first(line: &[u8]) -> Option<First>
     ensures { LineRead (words line.now) result }
 {

@@ -13,6 +13,7 @@ use super::buffer::put_octet;
 use octets::{four_at, two_at};
 
 // How many digits a number has.
+#[tactic(auto, unfolding(crate::specs::Numerals::width))]
 fn width(n: u32) -> usize
     ensures { result ≡ width n }
 {
