@@ -7,14 +7,13 @@ fn main() {
     let mut octets = io::buffer();
     let n = io::read_full(0, &mut octets);
     let mut text = io::buffer();
-    let written = text::to_text(&octets[..n], &mut text);
-    let answer = written.answer;
-    let number = text::number(answer);
-    if number != 0 {
-        io::print_decimal(2, number as u64);
-        io::write_all(2, b"\n");
-        return;
+    match text::to_text(&octets[..n], &mut text) {
+        Ok(k) => {
+            io::write_all(1, &text[..k]);
+        }
+        Err(refusal) => {
+            io::print_decimal(2, u64::from(u8::from(refusal)));
+            io::write_all(2, b"\n");
+        }
     }
-    let k = written.length;
-    io::write_all(1, &text[..k]);
 }

@@ -1,20 +1,38 @@
 // Texts of several sorts: of each the reader's number and the writer's, asked for the message that was read, and the text that came back.
 #![tactic(auto)]
 
+ghost use Rattle.std.specs.Prelude.{◌≤◌, length, IfOk};
+
+use text::Refusal;
+
+// The number of an answer, 0 where it is done.
+fn number(outcome: Result<usize, Refusal>) -> u64 {
+    match outcome {
+        Ok(_) => 0,
+        Err(refusal) => u64::from(u8::from(refusal)),
+    }
+}
+
+// What was written: nothing at a refusal.
+fn written(buffer: &[u8], outcome: Result<usize, Refusal>) -> &[u8]
+    requires { IfOk outcome (λ n. n ≤ length buffer.now) }
+{
+    match outcome {
+        Ok(n) => &buffer[..n],
+        Err(_) => &buffer[..0],
+    }
+}
+
 fn run(text: &[u8]) {
     let mut message = io::buffer();
     let read = text::from_text(text, &mut message);
-    let answer = read.answer;
-    let n = read.length;
-    io::print_decimal(1, text::number(answer) as u64);
+    io::print_decimal(1, number(read));
     let mut back = io::buffer();
-    let written = text::to_text(&message[..n], &mut back);
-    let answer = written.answer;
-    let k = written.length;
+    let again = text::to_text(written(&message, read), &mut back);
     io::write_all(1, b" ");
-    io::print_decimal(1, text::number(answer) as u64);
+    io::print_decimal(1, number(again));
     io::write_all(1, b"\n");
-    io::write_all(1, &back[..k]);
+    io::write_all(1, written(&back, again));
 }
 
 fn main() {

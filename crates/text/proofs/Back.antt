@@ -1,6 +1,6 @@
 -- The three theorems, from what holds of texts and of messages.
 use mathlib.Core.Path.{◌≡◌, refl, sym, ap, ◌∙◌}
-use mathlib.Core.Bool.{Bool, true, false, cond, not}
+use mathlib.Core.Bool.{Bool, true, false, cond, not, false≢true}
 use mathlib.Core.List.{List}
 use Prim.Native.Nat.{ℕ, ◌≤◌}
 use native.Mathlib.Omega.{arith}
@@ -8,10 +8,11 @@ use borrow.Author.Tests.{le-ltb}
 use lib.Dec.{ltb}
 use lib.ListN.{length}
 use Rattle.wire.specs.Hello.{hello_form}
-use Rattle.text.specs.declared.Answer.TheVariants.{Done, ShortBuffer, HelloForm, TextForm, FieldRange}
+use Rattle.text.specs.declared.Refusal.TheVariants.{ShortBuffer, HelloForm, TextForm, FieldRange}
 use Rattle.text.specs.Numbers.{Numbers, numbers_of, message_of, numbers_fit}
 use Rattle.text.specs.Text.{text_of, form, numbers_in}
-use Rattle.text.specs.Answers.{number, Made, refused, made, into, to_text, from_text}
+use Rattle.std.specs.Prelude.{IsOk}
+use Rattle.text.specs.Answers.{Made, refused, made, answer, octets, into, to_text, from_text}
 use Rattle.text.specs.Back.{Octets, MessageBack, TextBack, NeverRefused}
 use Rattle.text.proofs.TextBack.{all_fit, text_formed, text_numbers, text_counts, text_back}
 use Rattle.text.proofs.MessageBack.{numbers_there, message_formed, message_there}
@@ -43,37 +44,37 @@ reads_written m room o e =
 record Delivered (room : ℕ) (xs : List ℕ) : Type 0 where
   is : into room xs ≡ made xs
 
-done_into : (room : ℕ) (xs : List ℕ) → (into room xs).answer ≡ Done → Delivered room xs
+done_into : (room : ℕ) (xs : List ℕ) → IsOk (into room xs) → Delivered room xs
 done_into room xs e = record { is = go (ltb room (length xs)) e }
   where
-    go : (b : Bool) → (cond b (refused ShortBuffer) (made xs)).answer ≡ Done → cond b (refused ShortBuffer) (made xs) ≡ made xs
-    go true q = absurd (omega (arith, ap number q))
+    go : (b : Bool) → IsOk (cond b (refused ShortBuffer) (made xs)) → cond b (refused ShortBuffer) (made xs) ≡ made xs
+    go true q = absurd (false≢true q)
     go false q = refl
 
-done_written : (m : List ℕ) (room : ℕ) → (to_text m room).answer ≡ Done → (hello_form m ≡ true) × (to_text m room ≡ made (text_of (numbers_of m)))
+done_written : (m : List ℕ) (room : ℕ) → IsOk (to_text m room) → (hello_form m ≡ true) × (to_text m room ≡ made (text_of (numbers_of m)))
 unfolding to_text
 done_written m room e = go (hello_form m) refl e
   where
-    go : (b : Bool) → hello_form m ≡ b → (cond (not b) (refused HelloForm) (into room (text_of (numbers_of m)))).answer ≡ Done
+    go : (b : Bool) → hello_form m ≡ b → IsOk (cond (not b) (refused HelloForm) (into room (text_of (numbers_of m))))
         → (b ≡ true) × (cond (not b) (refused HelloForm) (into room (text_of (numbers_of m))) ≡ made (text_of (numbers_of m)))
     go true h q = (refl, (done_into room (text_of (numbers_of m)) q).is)
-    go false h q = absurd (omega (arith, ap number q))
+    go false h q = absurd (false≢true q)
 
 record Read (t : List ℕ) (room : ℕ) : Type 0 where
   formed : form t ≡ true
   fits : numbers_fit (numbers_in t) ≡ true
   is : from_text t room ≡ made (message_of (numbers_in t))
 
-done_read : (t : List ℕ) (room : ℕ) → (from_text t room).answer ≡ Done → Read t room
+done_read : (t : List ℕ) (room : ℕ) → IsOk (from_text t room) → Read t room
 unfolding from_text
 done_read t room e = go (form t) refl (numbers_fit (numbers_in t)) refl e
   where
     go : (b : Bool) → form t ≡ b → (c : Bool) → numbers_fit (numbers_in t) ≡ c
-        → (cond (not b) (refused TextForm) (cond (not c) (refused FieldRange) (into room (message_of (numbers_in t))))).answer ≡ Done
+        → IsOk (cond (not b) (refused TextForm) (cond (not c) (refused FieldRange) (into room (message_of (numbers_in t)))))
         → Read t room
     go true h true k q = record { formed = h; fits = k; is = rw (h, k) (done_into room (message_of (numbers_in t)) q).is }
-    go true h false k q = absurd (omega (arith, ap number q))
-    go false h c k q = absurd (omega (arith, ap number q))
+    go true h false k q = absurd (false≢true q)
+    go false h c k q = absurd (false≢true q)
 
 -- ---- the theorems
 
@@ -81,7 +82,7 @@ pub message_back : MessageBack
 unfolding MessageBack
 message_back m room room₂ o e s h k =
     let t : to_text m room ≡ made (text_of (numbers_of m)) = writes m room e ∙ roomy room (text_of (numbers_of m)) h in
-    ap (λ (x : Made). from_text x.octets room₂) t
+    ap (λ (x : Made). from_text (octets x) room₂) t
     ∙ reads_written m room₂ o e
     ∙ ap (into room₂) ((message_there m o e).same s)
     ∙ roomy room₂ m k
@@ -92,7 +93,7 @@ text_back_again t room room₂ e h =
     let r = done_read t room e in
     let s = numbers_in t in
     let a = all_fit s r.fits in
-    ap (λ (x : Made). to_text x.octets room₂) r.is
+    ap (λ (x : Made). to_text (octets x) room₂) r.is
     ∙ writes (message_of s) room₂ (message_formed s a (text_counts t r.formed))
     ∙ ap (λ (x : Numbers). into room₂ (text_of x)) (numbers_there s a)
     ∙ ap (into room₂) (text_back t r.formed r.fits)
@@ -102,12 +103,12 @@ pub never_refused : NeverRefused
 unfolding NeverRefused
 never_refused m room room₂ o e =
     let w = done_written m room e in
-    let q : from_text (to_text m room).octets room₂ ≡ into room₂ (message_of (numbers_of m)) = ap (λ (x : Made). from_text x.octets room₂) w.1 ∙ reads_written m room₂ o w.0 in
-    ((λ t. other 14 (λ p. omega arith) (λ p. omega arith) (ap (λ (x : Made). number x.answer) (sym q) ∙ ap number t)), (λ t. other 15 (λ p. omega arith) (λ p. omega arith) (ap (λ (x : Made). number x.answer) (sym q) ∙ ap number t)))
+    let q : from_text (octets (to_text m room)) room₂ ≡ into room₂ (message_of (numbers_of m)) = ap (λ (x : Made). from_text (octets x) room₂) w.1 ∙ reads_written m room₂ o w.0 in
+    ((λ t. other 14 (λ p. omega arith) (λ p. omega arith) (ap answer (sym q ∙ t))), (λ t. other 15 (λ p. omega arith) (λ p. omega arith) (ap answer (sym q ∙ t))))
   where
-    other : (n : ℕ) → (0 ≡ n → ⊥) → (2 ≡ n → ⊥) → number (into room₂ (message_of (numbers_of m))).answer ≡ n → ⊥
+    other : (n : ℕ) → (0 ≡ n → ⊥) → (2 ≡ n → ⊥) → answer (into room₂ (message_of (numbers_of m))) ≡ n → ⊥
     other n f g p = go (ltb room₂ (length (message_of (numbers_of m)))) p
       where
-        go : (b : Bool) → number (cond b (refused ShortBuffer) (made (message_of (numbers_of m)))).answer ≡ n → ⊥
+        go : (b : Bool) → answer (cond b (refused ShortBuffer) (made (message_of (numbers_of m)))) ≡ n → ⊥
         go true q = g q
         go false q = f q

@@ -17,15 +17,6 @@ use Rattle.text.specs.code.Put.{Put, row, times_text}
 use Rattle.text.proofs.Puts.{put, put_then}
 use Rattle.text.proofs.Rows.{row_at, rows_more, rows_none}
 
--- an OFFSET from its bits
-pub not_negative : (bits : ℕ) → bits < 32768 → signed_numeral (signed16 bits) ≡ numeral bits
-not_negative bits h = rw (lt-ltb bits 32768 h)
-
-pub negative : (bits : ℕ) → 32768 ≤ bits → bits < 65536 → signed_numeral (signed16 bits) ≡ minus_sign ∷ numeral (65536 - bits)
-negative bits h k =
-    let e : suc (65536 - suc bits) ≡ 65536 - bits = omega arith in
-    rw (le-ltb bits 32768 h) (ap (λ (n : ℕ). minus_sign ∷ numeral n) e)
-
 -- the first line
 pub times_put : {b l₀ l₁ l₂ l₃ : List ℕ} {p₁ p₂ p₃ d t s : ℕ} (message : List ℕ) → Put b l₀ 0 5 hello
     → d ≡ two_at message 2 → Put l₀ l₁ 5 p₁ (space ∷ numeral d)

@@ -6,7 +6,7 @@ use Prim.Native.Nat.{ℕ, suc, ◌+◌, ◌*◌, ◌≤◌, ◌<◌}
 use native.Mathlib.Omega.{arith}
 use lib.ListN.{length, length-append}
 use lib.IntN.{ℤ, pos, negsuc}
-use Rattle.text.specs.declared.Answer.TheVariants.{TextForm, FieldRange}
+use Rattle.text.specs.declared.Refusal.TheVariants.{TextForm, FieldRange}
 use Rattle.text.specs.declared.pieces.Word.TheVariants as Word
 use Rattle.text.specs.declared.pieces.Rest.TheVariants as Rest
 use Rattle.text.specs.declared.pieces.Progress.{Progress}

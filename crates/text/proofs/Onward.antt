@@ -292,27 +292,5 @@ end_is p = ends_so p.word p.rest p.count
 
 -- ---- for the functions of the code
 
-pub spaced_on : (p : Progress) (b : Bool) (r : Progress) → b ≡ complete p.rest → b ≡ true → r ≡ next_word p.word p.count → r ≡ spaced p
-spaced_on p b r e t q = rw (sym e ∙ t) q
-
-pub spaced_off : (p : Progress) (b : Bool) → b ≡ complete p.rest → b ≡ false → refused_text ≡ spaced p
-spaced_off p b e t = rw (sym e ∙ t)
-
-pub ended_on : (p : Progress) (b : Bool) (r : Progress) → b ≡ complete p.rest → b ≡ true → r ≡ next_line p.word p.count → r ≡ ended p
-ended_on p b r e t q = rw (sym e ∙ t) q
-
-pub ended_off : (p : Progress) (b : Bool) → b ≡ complete p.rest → b ≡ false → refused_text ≡ ended p
-ended_off p b e t = rw (sym e ∙ t)
-
-pub inside_is : (p r : Progress) (c n : ℕ) (w : Word) (t : Rest) → w ≡ word_within p.word → t ≡ rest_within p.word p.rest c → CountWithin p.word p.count c n
-    → r ≡ at w t n → Inside p c r
-inside_is p r c n w t e f g q = rw q (record { word = e; rest = f; count = g })
-
 pub steps_as : (p r s : Progress) (c : ℕ) → r ≡ s → Steps p c s → Steps p c r
 steps_as p r s c e f = rw e f
-
-pub counted_on : (w : Word) (n c r : ℕ) (b : Bool) → b ≡ is_count w → b ≡ true → Counted n c r → CountWithin w n c r
-counted_on w n c r b e t q = record { counted = λ z. q; kept = λ z. absurd (true≢false (sym t ∙ e ∙ z)) }
-
-pub counted_off : (w : Word) (n c : ℕ) (b : Bool) → b ≡ is_count w → b ≡ false → CountWithin w n c n
-counted_off w n c b e t = record { counted = λ z. absurd (true≢false (sym z ∙ sym e ∙ t)); kept = λ z. refl }

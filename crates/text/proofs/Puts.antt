@@ -12,10 +12,6 @@ use Rattle.lists.proofs.Parts.{over_twice, over_nothing, over_length}
 use Rattle.text.specs.Numerals.{zero_sign, digits}
 use Rattle.text.specs.code.Put.{Put}
 
-pub octet_put : (b : List ℕ) (i n : ℕ) → i < length b → set b i n ≡ over b i (n ∷ [])
-octet_put b i n h =
-    rw (set_split b i n h, add-one) (sym (append_assoc (take i b) (n ∷ []) (drop (suc i) b)))
-
 module _ (b : List ℕ) (at c : ℕ) (ys : List ℕ) (h : at + length ys < length b) where
   abbrev place : ℕ
   place = at + length ys

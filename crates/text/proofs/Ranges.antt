@@ -1,5 +1,5 @@
 -- Which numbers fit, by the tests of the code; the bits of an OFFSET that fits; and the fields put one behind the other.
-use mathlib.Core.Path.{◌≡◌, refl, sym, ap, ◌∙◌}
+use mathlib.Core.Path.{◌≡◌, refl, sym, ◌∙◌}
 use mathlib.Core.Bool.{Bool, true, false, ◌&&◌, false≢true}
 use mathlib.Core.List.{List, []}
 use Prim.Native.Nat.{ℕ, zero, suc, ◌+◌, ◌-◌, ◌%◌, ◌≤◌, ◌<◌}
@@ -11,14 +11,13 @@ use lib.IntN.{pos, neg_ℤ}
 use lib.ListN.{length, set}
 use lib.Seq.{sets, sets-eq}
 use Rattle.lists.specs.Lists.{over}
-use Rattle.lists.proofs.Parts.{over_length}
 use Rattle.lists.proofs.Tests.{both}
 use Rattle.quantity.specs.Words.{bits16}
 use Rattle.wire.specs.Octets.{two, four}
 use Rattle.wire.specs.Hello.{report_place}
 use Rattle.text.specs.declared.scan.First.{First}
 use Rattle.text.specs.Numbers.{Row, fits_octet, fits_two, fits_four, fits_signed, row_fits, first_fits, fixed_octets}
-use Rattle.text.specs.code.Reading.{most_hosts, most_length, signed_of, row_octets, first_returned, RowPut}
+use Rattle.text.specs.code.Reading.{most_hosts, signed_of, row_octets, first_returned, RowPut}
 use Rattle.text.proofs.Readings.{and_true}
 
 pub fits_negative : (n : ℕ) → fits_signed (neg_ℤ (pos n)) ≡ leb n 32768
@@ -30,23 +29,15 @@ pub size_fits : (negative : Bool) (n : ℕ) → fits_signed (signed_of negative 
 size_fits true n e = leb-true n 32768 (sym (fits_negative n) ∙ e)
 size_fits false n e = omega (arith, leb-true n 32767 e)
 
-pub bits_negative : (n : ℕ) → n ≤ 32768 → (65536 - n) % 65536 ≡ bits16 (neg_ℤ (pos n))
-bits_negative zero h = refl
-bits_negative (suc m) h = omega arith
-
 -- ---- a row in its place
 
-pub row_not_put : (b : List ℕ) (fit : Bool) (i : ℕ) (row : Row) → (fit && (ltb i most_hosts && row_fits row)) ≡ false → RowPut b b fit i row false
-row_not_put b fit i row e = record { fits = sym e; same = refl; put = λ t. absurd (false≢true t) }
-
-pub row_put : (b m a : List ℕ) (i o : ℕ) (row : Row) → most_length ≤ length b → i < most_hosts → row_fits row ≡ true
+pub row_put : (b m a : List ℕ) (i o : ℕ) (row : Row) → length b ≡ 1032 → i < most_hosts → row_fits row ≡ true
     → m ≡ sets b (report_place i) (two row.delay) → o ≡ bits16 row.offset → a ≡ sets m (report_place i + 2) (two o)
     → RowPut b a true i row true
 row_put b m a i o row h k e e₁ e₂ e₃ =
     let q : a ≡ over b (report_place i) (row_octets row) = e₃ ∙ rw (e₂, e₁, add-two) (sets-eq (row_octets row) b (report_place i) (omega arith)) in
     record {
       fits = rw (lt-ltb i most_hosts k, e);
-      same = ap length q ∙ over_length (report_place i) b (row_octets row) (omega arith);
       put = λ t. q;
     }
 
@@ -72,9 +63,3 @@ first_fits_lem f rows e =
       base = leb-true _ _ p₃.1;
       count = leb-true _ _ p₄.1;
     }
-
-pub fixed_put : (b l₁ l₂ l₃ l₄ l₅ : List ℕ) (f : First) → most_length ≤ length b
-    → l₁ ≡ sets b 2 (two f.date) → l₂ ≡ sets l₁ 4 (four f.time) → l₃ ≡ sets l₂ 8 (two f.tsp)
-    → l₄ ≡ set l₃ 10 f.base → l₅ ≡ set l₄ 11 f.count
-    → l₅ ≡ over b 2 (fixed_octets (first_returned f []))
-fixed_put b l₁ l₂ l₃ l₄ l₅ f h e₁ e₂ e₃ e₄ e₅ = e₅ ∙ rw (e₄, e₃, e₂, e₁) (sets-eq (fixed_octets (first_returned f [])) b 2 (omega arith))

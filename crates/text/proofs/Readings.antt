@@ -1,27 +1,23 @@
--- What is told of words: of one that is no number, of a number behind a sign, of a field with more behind it, and of the words of a line in turn.
+-- What is told of words: of one that is no number, of a number behind a sign, and of a field with more behind it.
 use mathlib.Core.Path.{◌≡◌, refl, sym, ◌∙◌}
-use mathlib.Core.Bool.{Bool, true, false, not, ◌&&◌, false≢true}
+use mathlib.Core.Bool.{Bool, true, false, not, ◌&&◌}
 use mathlib.Core.List.{List, [], ◌∷◌}
-use Prim.Native.Nat.{ℕ, ◌+◌, ◌-◌, ◌<◌}
+use Prim.Native.Nat.{ℕ, ◌-◌, ◌<◌}
 use native.Mathlib.Omega.{arith}
 use borrow.Author.Tests.{eq-eqb, ne_eqb}
 use lib.Dec.{eqb}
 use lib.ListN.{length, get_or, take, drop, length-drop}
 use lib.Seq.{take_all}
-use Rattle.text.specs.declared.scan.Number.{Number}
-use Rattle.text.specs.declared.scan.Offset.{Offset}
-use Rattle.text.specs.declared.scan.Field.{Field}
+use Rattle.std.specs.Prelude.{Option, None, Some}
 use Rattle.text.specs.Numerals.{zero_sign, minus_sign, is_digit, all_digits, is_numeral, is_signed, value}
-use Rattle.text.specs.Words.{words, Test, pass}
-use Rattle.text.specs.code.Scan.{Stands, NumberRead, OffsetRead, FieldGood, FieldRead}
+use Rattle.text.specs.Words.{space, words, Test, pass}
+use Rattle.text.specs.code.Scan.{Stands, NumberRead, Signed, NoField, Field, CutAt}
 
 -- ---- a word that is no number, and one of which only the test is another
 
-pub no_number : (test : Test) (s : List ℕ) → test s ≡ false → NumberRead test s (record { form = false; value = 0 })
-no_number test s e = record { form = sym e; number = λ t. absurd (false≢true (sym e ∙ t)) }
-
-pub same_test : (t u : Test) (s : List ℕ) (r : Number) → t s ≡ u s → NumberRead t s r → NumberRead u s r
-same_test t u s r e n = record { form = n.form ∙ e; number = λ h. n.number (e ∙ h) }
+pub same_test : (t u : Test) (s : List ℕ) (r : Option ℕ) → t s ≡ u s → NumberRead t s r → NumberRead u s r
+same_test t u s None e n = sym e ∙ n
+same_test t u s (Some r) e n = (sym e ∙ n.0, n.1)
 
 pub nothing : (s : List ℕ) → length s ≡ 0 → is_numeral s ≡ false
 unfolding is_numeral
@@ -59,9 +55,6 @@ many_digits (c ∷ d ∷ s) h e = rw (ne_eqb c zero_sign e)
 pub from_on : (k : ℕ) (s : List ℕ) → take (length s - k) (drop k s) ≡ drop k s
 from_on k s = take_all (length s - k) (drop k s) (rw length-drop (omega arith))
 
-pub no_offset : (s : List ℕ) (r : Offset) → r.form ≡ false → is_signed s ≡ false → OffsetRead s r
-no_offset s r f e = record { form = f ∙ sym e; sign = λ t. absurd (false≢true (sym e ∙ t)); number = λ t. absurd (false≢true (sym e ∙ t)) }
-
 pub empty_offset : (s : List ℕ) → length s ≡ 0 → is_signed s ≡ false
 unfolding is_signed is_numeral
 empty_offset [] e = refl
@@ -78,54 +71,44 @@ zero_stands r n s e = omega arith
 not_zero_stands : (r n : ℕ) → Stands r n → (r ≡ 0 → ⊥) → n ≡ 0 → ⊥
 not_zero_stands r n s h e = h (omega arith)
 
-pub minus_zero : (s : List ℕ) (n : Number) → get_or s 0 0 ≡ minus_sign → n.value ≡ 0 → NumberRead is_numeral (drop 1 s) n → is_signed s ≡ false
-minus_zero s n e z r = signed_minus s e ∙ go (is_numeral (drop 1 s)) refl
-  where
-    go : (b : Bool) → is_numeral (drop 1 s) ≡ b → (b && not (eqb (value (drop 1 s)) 0)) ≡ false
-    go true t = rw (eq-eqb _ _ (zero_stands _ _ (r.number t) z))
-    go false t = refl
+-- a minus ahead of a word that is no number, of zero, or of another number
+pub minus_none : (s : List ℕ) → get_or s 0 0 ≡ minus_sign → is_numeral (drop 1 s) ≡ false → is_signed s ≡ false
+minus_none s e f = signed_minus s e ∙ rw f
 
-pub minus_offset : (s : List ℕ) (n : Number) → get_or s 0 0 ≡ minus_sign → (n.value ≡ 0 → ⊥) → NumberRead is_numeral (drop 1 s) n
-    → OffsetRead s (record { form = n.form; negative = true; size = n.value })
-minus_offset s n e z r =
-    let f : is_signed s ≡ is_numeral (drop 1 s) = signed_minus s e ∙ go (is_numeral (drop 1 s)) refl in
+pub minus_zero : (s : List ℕ) (n : ℕ) → get_or s 0 0 ≡ minus_sign → n ≡ 0 → Stands n (value (drop 1 s)) → is_signed s ≡ false
+minus_zero s n e z r = signed_minus s e ∙ rw (eq-eqb _ _ (zero_stands _ _ r z)) (and_false (is_numeral (drop 1 s)))
+
+pub minus_offset : (s : List ℕ) (n : ℕ) → get_or s 0 0 ≡ minus_sign → (n ≡ 0 → ⊥) → is_numeral (drop 1 s) ≡ true → Stands n (value (drop 1 s))
+    → Signed s (record { negative = true; size = n })
+minus_offset s n e z t r =
     let m = eq-eqb (get_or s 0 0) minus_sign e in
-    record { form = r.form ∙ sym f; sign = λ t. sym m; number = λ t. rw m (r.number (sym f ∙ t)) }
-  where
-    go : (b : Bool) → is_numeral (drop 1 s) ≡ b → (b && not (eqb (value (drop 1 s)) 0)) ≡ b
-    go true t = rw (ne_eqb _ _ (not_zero_stands _ _ (r.number t) z))
-    go false t = refl
+    record { signed = signed_minus s e ∙ rw (t, ne_eqb _ _ (not_zero_stands _ _ r z)); sign = sym m; number = rw m r }
 
-pub plain_offset : (s : List ℕ) (n : Number) → (get_or s 0 0 ≡ minus_sign → ⊥) → NumberRead is_numeral s n
-    → OffsetRead s (record { form = n.form; negative = false; size = n.value })
+pub plain_none : (s : List ℕ) → (get_or s 0 0 ≡ minus_sign → ⊥) → is_numeral s ≡ false → is_signed s ≡ false
 unfolding is_signed
-plain_offset s n h r =
+plain_none s h e = rw (ne_eqb (get_or s 0 0) minus_sign h, e)
+
+pub plain_offset : (s : List ℕ) (n : ℕ) → (get_or s 0 0 ≡ minus_sign → ⊥) → is_numeral s ≡ true → Stands n (value s)
+    → Signed s (record { negative = false; size = n })
+unfolding is_signed
+plain_offset s n h t r =
     let m = ne_eqb (get_or s 0 0) minus_sign h in
-    record { form = rw m r.form; sign = λ t. sym m; number = λ t. rw m (r.number (rw m at t)) }
+    record { signed = rw (m, t); sign = sym m; number = rw m r }
 
 -- ---- a field with more behind it
 
-pub field_none : (s : List ℕ) → words s ≡ s ∷ [] → FieldRead s (record { form = false; value = 0; next = 0 })
+pub field_none : (s : List ℕ) → words s ≡ s ∷ [] → NoField s
 unfolding pass
-field_none s e =
-    record {
-      inside = omega arith;
-      good = λ t. absurd (false≢true t);
-      bad = λ t u us. rw e (and_false (is_numeral s));
-    }
+field_none s e t ts = rw e (and_false (is_numeral s))
 
-pub field_there : (s : List ℕ) (end : ℕ) (n : Number) → end < length s → words s ≡ take end s ∷ words (drop (end + 1) s)
-    → NumberRead is_numeral (take end s) n
-    → FieldRead s (record { form = n.form; value = n.value; next = end + 1 })
+pub field_bad : {s word rest : List ℕ} → CutAt space s word rest → is_numeral word ≡ false → NoField s
 unfolding pass
-field_there s end n h e r =
-    record {
-      inside = omega arith;
-      good = λ t. record { word = take end s; split = e; numeral = sym r.form ∙ t; number = r.number (sym r.form ∙ t) };
-      bad = λ t u us. rw (e, sym r.form ∙ t);
-    }
+field_bad f e t ts = rw (f.split, e)
+
+pub field_there : {s word rest : List ℕ} (n : ℕ) → CutAt space s word rest → is_numeral word ≡ true → Stands n (value word) → Field s n rest
+field_there {s} {word} n f t r = record { word = word; split = f.split; numeral = t; number = r }
 
 -- a field that passes takes a test and a word off
-pub field_passes : (s : List ℕ) (r : Field) (ts : List Test) → FieldGood s r → pass (is_numeral ∷ ts) (words s) ≡ pass ts (words (drop r.next s))
+pub field_passes : {s rest : List ℕ} {n : ℕ} (ts : List Test) → Field s n rest → pass (is_numeral ∷ ts) (words s) ≡ pass ts (words rest)
 unfolding pass
-field_passes s r ts g = rw (g.split, g.numeral)
+field_passes ts g = rw (g.split, g.numeral)

@@ -1,28 +1,26 @@
 -- The lines behind the first, in turn: those read are rows, counted, and put in their places while all fit.
 use mathlib.Core.Path.{◌≡◌, refl, sym, ap, ◌∙◌}
-use mathlib.Core.Bool.{Bool, true, false, ◌&&◌, false≢true}
+use mathlib.Core.Bool.{Bool, true, false, ◌&&◌}
 use mathlib.Core.List.{List, [], ◌∷◌, ◌++◌, append-nil}
-use Prim.Native.Nat.{ℕ, ◌+◌, ◌-◌, ◌*◌, ◌≤◌, ◌<◌}
+use Prim.Native.Nat.{ℕ, ◌+◌, ◌*◌, ◌≤◌, ◌<◌}
 use native.Mathlib.Numerals.{add-one}
 use native.Mathlib.Omega.{arith}
 use borrow.Author.Tests.{le-leb, ltb-true}
 use lib.Dec.{leb, ltb}
-use lib.ListN.{length, take, drop, length-append, length-drop, drop_of_length-le}
-use lib.Seq.{append_snoc, drop-drop}
+use lib.ListN.{length, length-append}
+use lib.Seq.{append_snoc}
 use Rattle.lists.specs.Lists.{over}
 use Rattle.lists.proofs.Parts.{over_twice, over_nothing}
 use Rattle.lists.proofs.Tests.{both}
 use Rattle.wire.specs.Hello.{fixed_length, report_place}
 use Rattle.text.specs.declared.scan.Row as Scanned
-use Rattle.text.specs.declared.read.Rows.{Rows}
 use Rattle.text.specs.Words.{newline, cut, words, lines, pass}
 use Rattle.text.specs.Numbers.{Row, row_fits, rows_fit, rows_octets}
 use Rattle.text.specs.Text.{row_tests, rows_form, row_in, rows_in}
-use Rattle.text.specs.code.Scan.{Found, RowRead}
-use Rattle.text.specs.code.Reading.{most_hosts, most_length, row_returned, row_octets, RowPut, RowsRead}
+use Rattle.text.specs.code.Scan.{CutAt, RowGood}
+use Rattle.text.specs.code.Reading.{most_hosts, row_returned, row_octets, RowPut, RowsGood}
 use Rattle.text.proofs.Cuts.{cut_some}
 use Rattle.text.proofs.Readings.{and_true, and_false}
-use Rattle.text.proofs.LineWords.{part_read}
 use Rattle.text.proofs.Standing.{row_fits_as, row_is}
 
 -- ---- a line more
@@ -54,36 +52,18 @@ unfolding rows_octets
 octets_length [] = refl
 octets_length (x ∷ rs) = omega (arith, octets_length rs)
 
--- ---- a line found, from a place on
-
-module _ (text : List ℕ) (i e : ℕ) (f : Found (take (length text - i) (drop i text)) newline e) where
-  whole : Found (drop i text) newline e
-  whole = part_read (λ s. Found s newline e) text i f
-
-  pub found_inside : e ≤ length text - i
-  found_inside = omega (arith, whole.inside, length-drop i text)
-
-  pub line_found : e < length text - i → lines (drop i text) ≡ take (i + e - i) (drop i text) ∷ lines (drop (i + e + 1) text)
-  line_found h =
-      let n : i + e - i ≡ e = omega arith in
-      let m : i + (e + 1) ≡ i + e + 1 = omega arith in
-      whole.there (rw length-drop h) ∙ rw (n, drop-drop (e + 1) i text, m)
-
-  pub line_open : length text - i ≤ e → lines (drop i text) ≡ drop i text ∷ []
-  line_open h = whole.nowhere (rw length-drop h)
-
 -- ---- the loop
 
-pub record Reading (text b a : List ℕ) (i count : ℕ) (fit : Bool) : Type 0 where
+pub record Reading (text b a rest : List ℕ) (count : ℕ) (fit : Bool) : Type 0 where
   pub done : List Row
   pub number : length done ≡ count
-  pub form : rows_form (lines text) ≡ rows_form (lines (drop i text))
-  pub counted : length (lines text) ≡ count + length (lines (drop i text))
-  pub rows : rows_in (lines text) ≡ done ++ rows_in (lines (drop i text))
+  pub form : rows_form (lines text) ≡ rows_form (lines rest)
+  pub counted : length (lines text) ≡ count + length (lines rest)
+  pub rows : rows_in (lines text) ≡ done ++ rows_in (lines rest)
   pub fits : fit ≡ (leb count most_hosts && rows_fit done)
   pub put : fit ≡ true → a ≡ over b fixed_length (rows_octets done)
 
-pub reading_none : (text b : List ℕ) → Reading text b b 0 0 true
+pub reading_none : (text b : List ℕ) → Reading text b b text 0 true
 unfolding rows_fit rows_octets
 reading_none text b =
     record {
@@ -104,44 +84,40 @@ more_fit count f g = rw (add-one count) (go (ltb count most_hosts) refl)
     go true e = let h = ltb-true count most_hosts e in rw (le-leb count most_hosts (omega arith))
     go false e = and_false (leb count most_hosts && f)
 
-module _ (text b a a₂ : List ℕ) (i j count : ℕ) (fit fit₂ : Bool) (line : List ℕ) (r : Scanned.Row)
-    (room : most_length ≤ length b) (state : Reading text b a i count fit) (split : lines (drop i text) ≡ line ∷ lines (drop j text))
-    (read : RowRead (words line) r) (good : r.form ≡ true) (stored : RowPut a a₂ fit count (row_returned r) fit₂) where
+module _ {text b a a₂ rest line after : List ℕ} {count : ℕ} {fit fit₂ : Bool} {r : Scanned.Row}
+    (room : fixed_length ≤ length b) (state : Reading text b a rest count fit) (found : CutAt newline rest line after)
+    (read : RowGood (words line) r) (stored : RowPut a a₂ fit count (row_returned r) fit₂) where
   abbrev row : Row
   row = row_in (words line)
 
   fits_too : fit₂ ≡ (leb (count + 1) most_hosts && rows_fit (state.done ++ row ∷ []))
   fits_too =
       stored.fits
-      ∙ rw (state.fits, row_fits_as (words line) r (read.good good), fit_snoc state.done row) (more_fit count (rows_fit state.done) (row_fits row))
+      ∙ rw (state.fits, row_fits_as (words line) r read, fit_snoc state.done row) (more_fit count (rows_fit state.done) (row_fits row))
 
   put_too : fit₂ ≡ true → a₂ ≡ over b fixed_length (rows_octets (state.done ++ row ∷ []))
   put_too t =
       let p = both fit (ltb count most_hosts && row_fits (row_returned r)) (sym stored.fits ∙ t) in
       let q = both (ltb count most_hosts) (row_fits (row_returned r)) p.1 in
-      let e : row_returned r ≡ row = row_is (words line) r (read.good good) q.1 in
+      let e : row_returned r ≡ row = row_is (words line) r read q.1 in
       let n : report_place count ≡ fixed_length + length (rows_octets state.done) = omega (arith, octets_length state.done, state.number) in
-      let h : fixed_length ≤ length b = omega arith in
       stored.put t
       ∙ ap (λ (x : Row). over a (report_place count) (row_octets x)) e
-      ∙ rw (n, state.put p.0, octets_snoc state.done row) (over_twice fixed_length b (rows_octets state.done) h (row_octets row))
+      ∙ rw (n, state.put p.0, octets_snoc state.done row) (over_twice fixed_length b (rows_octets state.done) room (row_octets row))
 
-  pub reading_more : Reading text b a₂ j (count + 1) fit₂
+  pub reading_more : Reading text b a₂ after (count + 1) fit₂
   reading_more =
       record {
         done = state.done ++ row ∷ [];
         number = omega (arith, length-append state.done (row ∷ []), state.number);
-        form = state.form ∙ rw (split) (form_more line (drop j text) ∙ rw (sym read.form ∙ good));
-        counted = omega (arith, state.counted, ap length split);
-        rows = state.rows ∙ rw (split, in_more line (drop j text)) (sym (append_snoc state.done row (rows_in (lines (drop j text)))));
+        form = state.form ∙ rw (found.split) (form_more line after ∙ rw read.passes);
+        counted = omega (arith, state.counted, ap length found.split);
+        rows = state.rows ∙ rw (found.split, in_more line after) (sym (append_snoc state.done row (rows_in (lines after))));
         fits = fits_too;
         put = put_too;
       }
 
 -- ---- the ends
-
-pub rows_refused : (text b a : List ℕ) (r : Rows) → length a ≡ length b → r.form ≡ false → rows_form (lines text) ≡ false → RowsRead text b a r
-rows_refused text b a r s q e = record { same = s; form = q ∙ sym e; good = λ t. absurd (false≢true (sym q ∙ t)) }
 
 -- a last line without a newline
 open_line : (s : List ℕ) → 0 < length s → rows_form (s ∷ []) ≡ false
@@ -149,26 +125,18 @@ unfolding rows_form
 open_line [] h = absurd (omega arith)
 open_line (c ∷ s) h = refl
 
-pub form_open : (text : List ℕ) (i : ℕ) → i < length text → rows_form (lines text) ≡ rows_form (lines (drop i text)) → lines (drop i text) ≡ drop i text ∷ []
-    → rows_form (lines text) ≡ false
-form_open text i h f e = f ∙ ap rows_form e ∙ open_line (drop i text) (rw length-drop (omega arith))
+pub form_open : {text b a rest : List ℕ} {count : ℕ} {fit : Bool} → Reading text b a rest count fit → 0 < length rest → lines rest ≡ rest ∷ [] → rows_form (lines text) ≡ false
+form_open {rest} state h e = state.form ∙ ap rows_form e ∙ open_line rest h
 
-pub form_other : (text line : List ℕ) (i j : ℕ) (r : Scanned.Row) → rows_form (lines text) ≡ rows_form (lines (drop i text)) → lines (drop i text) ≡ line ∷ lines (drop j text)
-    → RowRead (words line) r
-    → r.form ≡ false
+pub form_other : {text b a rest line after : List ℕ} {count : ℕ} {fit : Bool} → Reading text b a rest count fit → CutAt newline rest line after
+    → pass row_tests (words line) ≡ false
     → rows_form (lines text) ≡ false
-form_other text line i j r f e q g = f ∙ rw e (form_more line (drop j text) ∙ rw (sym q.form ∙ g))
+form_other {line} {after} state f e = state.form ∙ rw f.split (form_more line after ∙ rw e)
 
-pub rows_read : (text b a : List ℕ) (i count : ℕ) (fit : Bool) → length text ≤ i → count ≤ length text → length a ≡ length b → Reading text b a i count fit
-    → RowsRead text b a (record { form = true; fit = fit; count = count })
+pub rows_read : {text b a rest : List ℕ} {count : ℕ} {fit : Bool} → length rest ≡ 0 → count ≤ length text → Reading text b a rest count fit
+    → RowsGood text b a (record { fit = fit; count = count })
 unfolding rows_form rows_in cut
-rows_read text b a i count fit h k s state =
-    let d : drop i text ≡ [] = drop_of_length-le text h in
-    let f : rows_form (lines text) ≡ true = rw d at state.form in
-    let n : length (lines text) ≡ count + 1 = rw d at state.counted in
-    let e : rows_in (lines text) ≡ state.done = (rw d at state.rows) ∙ append-nil state.done in
-    record {
-      same = s;
-      form = sym f;
-      good = λ t. record { counted = sym n; short = k; fits = rw e state.fits; put = λ u. rw e (state.put u) };
-    }
+rows_read {text} {rest = []} h k state =
+    let e : rows_in (lines text) ≡ state.done = state.rows ∙ append-nil state.done in
+    record { form = state.form; counted = sym state.counted; short = k; fits = rw e state.fits; put = λ u. rw e (state.put u) }
+rows_read {rest = c ∷ s} h k state = absurd (omega arith)

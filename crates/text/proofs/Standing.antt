@@ -57,22 +57,22 @@ module _ (ws : List (List ℕ)) (r : Scanned.Row) (g : RowGood ws r) where
   abbrev w : List ℕ
   w = word_at ws 1
 
-  offset_fits : fits_signed (signed_of r.negative r.size) ≡ fits_signed (signed_value w)
+  offset_fits : fits_signed (signed_of r.offset.negative r.offset.size) ≡ fits_signed (signed_value w)
   offset_fits =
-      fits_most r.negative r.size
-      ∙ stands_le r.size (size w) (most r.negative) (most_small r.negative) g.number
+      fits_most r.offset.negative r.offset.size
+      ∙ stands_le r.offset.size (size w) (most r.offset.negative) (most_small r.offset.negative) g.number
       ∙ ap (λ (b : Bool). leb (size w) (most b)) g.sign
       ∙ sym (fits_most (is_negative w) (size w))
       ∙ ap fits_signed (sym (signed_size w))
 
   pub row_fits_as : row_fits (row_returned r) ≡ row_fits (row_in ws)
   row_fits_as =
-      ap (λ (b : Bool). b && fits_signed (signed_of r.negative r.size)) (stands_le r.delay (value (word_at ws 0)) 65535 (omega arith) g.delay)
+      ap (λ (b : Bool). b && fits_signed (signed_of r.offset.negative r.offset.size)) (stands_le r.delay (value (word_at ws 0)) 65535 (omega arith) g.delay)
       ∙ ap (λ (b : Bool). fits_two (value (word_at ws 0)) && b) offset_fits
 
   pub row_is : row_fits (row_returned r) ≡ true → row_returned r ≡ row_in ws
   row_is e =
-      let p = both (fits_two r.delay) (fits_signed (signed_of r.negative r.size)) e in
+      let p = both (fits_two r.delay) (fits_signed (signed_of r.offset.negative r.offset.size)) e in
       let d = stands_is r.delay (value (word_at ws 0)) 65535 (omega arith) g.delay (leb-true _ _ p.0) in
-      let n = stands_is r.size (size w) 32768 (omega arith) g.number (size_fits r.negative r.size p.1) in
+      let n = stands_is r.offset.size (size w) 32768 (omega arith) g.number (size_fits r.offset.negative r.offset.size p.1) in
       rw (d, n, g.sign, signed_size w)

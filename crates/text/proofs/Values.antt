@@ -1,4 +1,4 @@
--- The number that digits stand for, digit by digit from the left; and the words that a numeral, a sign and `hello` are.
+-- The number that digits stand for, digit by digit from the left; and words of the same characters.
 use mathlib.Core.Path.{◌≡◌, refl, sym, ap, ◌∙◌}
 use mathlib.Core.Bool.{Bool, true, false, ◌&&◌, true≢false}
 use mathlib.Core.List.{List, [], ◌∷◌, ◌++◌}
@@ -8,12 +8,12 @@ use native.Mathlib.Numerals.{add-one}
 use native.Mathlib.Omega.{arith}
 use borrow.Author.Tests.{lt-leb, le-leb, eqb-true}
 use lib.Dec.{eqb}
+use lib.Pointwise.{pointwise}
 use lib.ListN.{length, get_or, take, drop, length-append, drop_of_length-le}
 use lib.Seq.{drop-cons, take-suc}
 use Rattle.lists.proofs.Tests.{both}
 use Rattle.text.specs.Numerals.{zero_sign, nine_sign, is_digit, all_digits, value}
 use Rattle.text.specs.Words.{same}
-use Rattle.text.specs.Text.{hello}
 
 pub value_snoc : (xs : List ℕ) (c : ℕ) → value (xs ++ c ∷ []) ≡ value xs * 10 + (c - zero_sign)
 unfolding value
@@ -30,12 +30,6 @@ value_snoc (x ∷ xs) c =
 
 pub digit_good : (c : ℕ) → zero_sign ≤ c → c ≤ nine_sign → is_digit c ≡ true
 digit_good c h k = rw (le-leb zero_sign c h, le-leb c nine_sign k)
-
-pub digit_low : (c : ℕ) → c < zero_sign → is_digit c ≡ false
-digit_low c h = rw (lt-leb zero_sign c h)
-
-pub digit_high : (c : ℕ) → nine_sign < c → is_digit c ≡ false
-digit_high c h = rw (le-leb zero_sign c (omega arith), lt-leb c nine_sign h)
 
 module _ (s : List ℕ) (i : ℕ) (h : i < length s) where
   rest : drop i s ≡ get_or s i 0 ∷ drop (i + 1) s
@@ -56,7 +50,7 @@ pub digits_end : (s : List ℕ) (i : ℕ) → length s ≤ i → all_digits (dro
 unfolding all_digits
 digits_end s i h = rw (drop_of_length-le s h)
 
--- ---- `hello`
+-- ---- the same characters
 
 pub so_not : (b : Bool) → (b ≡ true → ⊥) → b ≡ false
 so_not true h = absurd (h refl)
@@ -73,16 +67,9 @@ same_is (x ∷ xs) (y ∷ ys) e =
     let r = same_is xs ys p.1 in
     cc
 
-pub other_length : (s : List ℕ) → (length s ≡ 5 → ⊥) → same hello s ≡ false
-other_length s h = so_not (same hello s) (λ e. h (sym (ap length (same_is hello s e))))
-
-pub hello_signs : (s : List ℕ) → length s ≡ 5
-    → same hello s ≡ (eqb (get_or s 0 0) 104 && (eqb (get_or s 1 0) 101 && (eqb (get_or s 2 0) 108 && (eqb (get_or s 3 0) 108 && (eqb (get_or s 4 0) 111 && true)))))
+pub same_pointwise : (xs ys : List ℕ) → same xs ys ≡ pointwise eqb ys xs
 unfolding same
-hello_signs [] e = absurd (omega arith)
-hello_signs (a ∷ []) e = absurd (omega arith)
-hello_signs (a ∷ b ∷ []) e = absurd (omega arith)
-hello_signs (a ∷ b ∷ c ∷ []) e = absurd (omega arith)
-hello_signs (a ∷ b ∷ c ∷ d ∷ []) e = absurd (omega arith)
-hello_signs (a ∷ b ∷ c ∷ d ∷ f ∷ []) e = refl
-hello_signs (a ∷ b ∷ c ∷ d ∷ f ∷ g ∷ s) e = absurd (omega arith)
+same_pointwise [] [] = refl
+same_pointwise [] (y ∷ ys) = refl
+same_pointwise (x ∷ xs) [] = refl
+same_pointwise (x ∷ xs) (y ∷ ys) = ap (λ (b : Bool). eqb y x && b) (same_pointwise xs ys)

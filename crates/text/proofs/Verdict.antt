@@ -1,31 +1,30 @@
 -- The verdict on a text: by its first line and the lines behind it, the tests come in the definition's order; and the message of one that passes.
 use mathlib.Core.Path.{◌≡◌, refl, sym, ap, ◌∙◌}
-use mathlib.Core.Bool.{true, false, ◌&&◌}
+use mathlib.Core.Bool.{Bool, true, false, ◌&&◌}
 use mathlib.Core.List.{List, [], ◌∷◌, ◌++◌}
 use Prim.Native.Nat.{ℕ, zero, suc, ◌+◌, ◌-◌, ◌*◌, ◌≤◌, ◌<◌}
 use native.Mathlib.Omega.{arith}
 use borrow.Author.Tests.{eq-eqb, ne_eqb, le-leb}
 use lib.Dec.{eqb}
-use lib.ListN.{length, take, drop, length-drop}
+use lib.ListN.{length, take, drop}
 use lib.Seq.{get_or-drop, take-append-add, length-take-le}
 use Rattle.lists.specs.Lists.{over}
 use Rattle.lists.proofs.Parts.{over_there, over_length}
 use Rattle.checksum.specs.Checksum.{checksum_of}
 use Rattle.wire.specs.Octets.{two}
 use Rattle.wire.specs.Hello.{fixed_length}
-use Rattle.text.specs.declared.Answer.TheVariants.{TextForm, FieldRange}
+use Rattle.text.specs.declared.Refusal.TheVariants.{TextForm, FieldRange}
 use Rattle.text.specs.declared.scan.First.{First}
 use Rattle.text.specs.declared.read.Rows.{Rows}
-use Rattle.text.specs.declared.read.Read.TheVariants.{Good}
+use Rattle.std.specs.Prelude.{Ok}
 use Rattle.text.specs.Numerals.{value}
 use Rattle.text.specs.Words.{newline, words, lines, pass}
 use Rattle.text.specs.Numbers.{Row, Numbers, first_fits, rows_fit, numbers_fit, rows_octets, fixed_octets, octets_rest, message_of}
 use Rattle.text.specs.Text.{word_at, first_tests, rows_form, rows_in, form, numbers_in}
 use Rattle.text.specs.Answers.{refused, into, from_text}
-use Rattle.text.specs.code.Scan.{large, Stands, Found, FirstGood, LineRead}
-use Rattle.text.specs.code.Reading.{most_hosts, most_length, first_returned, RowsGood, RowsRead, ReadSays}
+use Rattle.text.specs.code.Scan.{large, Stands, CutAt, FirstGood}
+use Rattle.text.specs.code.Reading.{most_hosts, first_returned, RowsGood, FormGood, ReadSays}
 use Rattle.text.proofs.Readings.{and_false}
-use Rattle.text.proofs.LineWords.{part_read}
 use Rattle.text.proofs.Ranges.{first_fits_lem}
 use Rattle.text.proofs.Standing.{stands_le, stands_is, stands_other}
 use Rattle.text.proofs.RowsLoop.{octets_length}
@@ -160,80 +159,79 @@ pub read_good : (text after : List ℕ) (n : ℕ) → form text ≡ true → num
 unfolding from_text
 read_good text after n e h k q room = rw (e, h, q)
 
--- ---- the reader's steps, in turn
+-- ---- a first line cut off, and the others read
 
-module _ (text : List ℕ) (e : ℕ) (found : Found text newline e) (f : First) (first : LineRead (words (take e text)) f) (inside : e < length text) where
-  abbrev line : List ℕ
-  line = take e text
+pub nothing_read : (text : List ℕ) → lines text ≡ text ∷ [] → form text ≡ false
+nothing_read text e = no_rows text text [] e refl
 
-  abbrev rest : List ℕ
-  rest = drop (e + 1) text
+module _ {text line rest : List ℕ} (found : CutAt newline text line rest) where
+  pub first_refused : pass first_tests (words line) ≡ false → form text ≡ false
+  first_refused e = no_first text line (lines rest) found.split e
 
-  split : lines text ≡ line ∷ lines rest
-  split = found.there inside
+  module _ {f : First} (first : (pass first_tests (words line) ≡ true) × FirstGood (drop 1 (words line)) f) where
+    pub rows_refused : rows_form (lines rest) ≡ false → form text ≡ false
+    rows_refused e = other_rows text line (lines rest) found.split first.0 e
 
-  pub first_refused : f.form ≡ false → (room : ℕ) → from_text text room ≡ refused TextForm
-  first_refused q = bad_form text (no_first text line (lines rest) split (sym first.form ∙ q))
-
-  module _ (b a : List ℕ) (r : Rows) (read : RowsRead rest b a r) (first_Good : f.form ≡ true) where
-    pub rows_form_refused : r.form ≡ false → (room : ℕ) → from_text text room ≡ refused TextForm
-    rows_form_refused q = bad_form text (other_rows text line (lines rest) split (sym first.form ∙ first_Good) (sym read.form ∙ q))
-
-    module _ (short : length text < large) (rows-good : r.form ≡ true) where
-      abbrev good : RowsGood rest b a r
-      good = read.good rows-good
-
+    module _ {b a : List ℕ} {r : Rows} (good : RowsGood rest b a r) (short : length text < large) where
       small : r.count < large
-      small = omega (arith, good.short, length-drop (e + 1) text)
+      small = omega (arith, good.short, found.whole)
 
       stands : Stands f.count (value (word_at (words line) 5))
-      stands = count_stands (words line) f (first.good first_Good) []
+      stands = count_stands (words line) f first.1 []
 
-      pub count_refused : (r.count ≡ f.count → ⊥) → (room : ℕ) → from_text text room ≡ refused TextForm
-      count_refused q = bad_form text (other_count text line (lines rest) split r.count good.counted (stands_other f.count (value (word_at (words line) 5)) r.count small stands q))
+      pub count_refused : (r.count ≡ f.count → ⊥) → form text ≡ false
+      count_refused q = other_count text line (lines rest) found.split r.count good.counted (stands_other f.count (value (word_at (words line) 5)) r.count small stands q)
 
       module _ (counts : r.count ≡ f.count) where
         count_is : r.count ≡ value (word_at (words line) 5)
         count_is = counts ∙ stands_is f.count (value (word_at (words line) 5)) r.count small stands (omega arith)
 
-        formed : form text ≡ true
-        formed = good_form text line (lines rest) split (sym first.form ∙ first_Good) (sym read.form ∙ rows-good) r.count good.counted count_is
+        -- the rows are few if the first line fits
+        fit_both : (first_fits (first_returned f []) && rows_fit (rows_in (lines rest))) ≡ (first_fits (first_returned f []) && r.fit)
+        fit_both = go (first_fits (first_returned f [])) refl
+          where
+            go : (t : Bool) → first_fits (first_returned f []) ≡ t → (t && rows_fit (rows_in (lines rest))) ≡ (t && r.fit)
+            go true e = let few : r.count ≤ most_hosts = omega (arith, counts, (first_fits_lem f [] e).count) in sym (good.fits ∙ rw (le-leb r.count most_hosts few))
+            go false e = refl
 
         fits_is : numbers_fit (numbers_in text) ≡ (first_fits (first_returned f []) && rows_fit (rows_in (lines rest)))
         unfolding numbers_fit
-        fits_is = rw (numbers_are text line (lines rest) split, ← (first_fits_as (words line) f (first.good first_Good) []))
+        fits_is = rw (numbers_are text line (lines rest) found.split, ← (first_fits_as (words line) f first.1 []))
 
-        pub first_range : first_fits (first_returned f []) ≡ false → (room : ℕ) → from_text text room ≡ refused FieldRange
-        first_range q = bad_range text formed (fits_is ∙ rw q)
+        pub form_read : FormGood text b a f r
+        form_read =
+            record {
+              form = good_form text line (lines rest) found.split first.0 good.form r.count good.counted count_is;
+              count = counts;
+              fits = fits_is ∙ fit_both;
+              rows = rows_in (lines rest);
+              counted = rows_counted (lines rest) r.count good.counted;
+              put = good.put;
+              numbers = λ e. first_is (words line) f first.1 (rows_in (lines rest)) e ∙ sym (numbers_are text line (lines rest) found.split);
+            }
 
-        module _ (first-fit : first_fits (first_returned f []) ≡ true) where
-          pub few : r.count ≤ most_hosts
-          few = omega (arith, counts, (first_fits_lem f [] first-fit).count)
+-- ---- a text of the form
 
-          rows_fit_is : r.fit ≡ rows_fit (rows_in (lines rest))
-          rows_fit_is = good.fits ∙ rw (le-leb r.count most_hosts few)
+module _ {text b a : List ℕ} {f : First} {r : Rows} (g : FormGood text b a f r) where
+  pub first_range : first_fits (first_returned f []) ≡ false → (room : ℕ) → from_text text room ≡ refused FieldRange
+  first_range e = bad_range text g.form (g.fits ∙ rw e)
 
-          pub rows_range : r.fit ≡ false → (room : ℕ) → from_text text room ≡ refused FieldRange
-          rows_range q = bad_range text formed (fits_is ∙ rw (first-fit, sym rows_fit_is ∙ q))
+  pub rows_range : r.fit ≡ false → (room : ℕ) → from_text text room ≡ refused FieldRange
+  rows_range e = bad_range text g.form (g.fits ∙ rw e (and_false (first_fits (first_returned f []))))
 
-          abbrev n : ℕ
-          n = 12 + 4 * r.count
+  abbrev n : ℕ
+  n = 12 + 4 * r.count
 
-          pub text_read : (l₂ l₃ : List ℕ) → most_length ≤ length b → r.fit ≡ true
-              → l₂ ≡ over a 2 (fixed_octets (first_returned f []))
-              → l₃ ≡ over l₂ 0 (two (checksum_of (take (n - 2) (drop 2 l₂))))
-              → n ≤ length l₃
-              → ReadSays text l₃ (Good n)
-          text_read l₂ l₃ room q e₂ e₃ long =
-              let rows = rows_in (lines rest) in
-              let c : length rows ≡ r.count = rows_counted (lines rest) r.count good.counted in
-              let m : n ≡ fixed_length + length (rows_octets rows) = omega (arith, octets_length rows) in
-              let p : take n l₃ ≡ message_of (first_returned f rows) = message_put b a l₂ l₃ (first_returned f rows) n m (omega (arith, few)) (good.put q) e₂ e₃ in
-              let i : first_returned f rows ≡ numbers_in text = first_is (words line) f (first.good first_Good) rows first-fit ∙ sym (numbers_are text line (lines rest) split) in
-              (sym (length-take-le n l₃ long), read_good text l₃ n formed (fits_is ∙ rw (first-fit, sym rows_fit_is ∙ q)) long (p ∙ ap message_of i))
+  module _ (e : first_fits (first_returned f []) ≡ true) where
+    pub few : r.count ≤ most_hosts
+    few = omega (arith, g.count, (first_fits_lem f [] e).count)
 
-pub nothing_read : (text : List ℕ) (e : ℕ) → Found text newline e → length text ≤ e → (room : ℕ) → from_text text room ≡ refused TextForm
-nothing_read text e found h = bad_form text (no_rows text text [] (found.nowhere h) refl)
-
-pub part_rows : (text b a : List ℕ) (k : ℕ) (r : Rows) → RowsRead (take (length text - k) (drop k text)) b a r → RowsRead (drop k text) b a r
-part_rows text b a k r p = part_read (λ s. RowsRead s b a r) text k p
+    pub text_read : (l₂ l₃ : List ℕ) → length b ≡ 1032 → length l₃ ≡ 1032 → r.fit ≡ true
+        → l₂ ≡ over a 2 (fixed_octets (first_returned f []))
+        → l₃ ≡ over l₂ 0 (two (checksum_of (take (n - 2) (drop 2 l₂))))
+        → ReadSays text l₃ (Ok n)
+    text_read l₂ l₃ room long q e₂ e₃ =
+        let m : n ≡ fixed_length + length (rows_octets g.rows) = omega (arith, octets_length g.rows, g.counted) in
+        let h : n ≤ length l₃ = omega (arith, few) in
+        let p : take n l₃ ≡ message_of (first_returned f g.rows) = message_put b a l₂ l₃ (first_returned f g.rows) n m (omega (arith, few)) (g.put q) e₂ e₃ in
+        (sym (length-take-le n l₃ h), read_good text l₃ n g.form (g.fits ∙ rw (e, q)) h (p ∙ ap message_of (g.numbers e)))

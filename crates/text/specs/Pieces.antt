@@ -1,6 +1,6 @@
 -- TEXT-6: the answer to a text that is read in pieces and is longer than any that is accepted.
 use Rattle.std.specs.Prelude.{◌≡◌, List, ◌++◌, ℕ, ◌+◌, ◌^◌, ◌≤◌, ◌<◌, length}
-use Rattle.text.specs.declared.Answer.{Answer}
+use Rattle.text.specs.declared.Refusal.{Refusal}
 use Rattle.text.specs.declared.pieces.Progress.{Progress}
 use Rattle.text.specs.Text.{form}
 use Rattle.text.specs.Answers.{refused, from_text}
@@ -23,6 +23,6 @@ abbrev pub Proceeds : Progress → (piece : List ℕ) → Progress → Type 0
 Proceeds before piece known = (part : List ℕ) → After part before → After (part ++ piece) known
 
 -- TEXT-6: the answer is the reader's to the complete text, whatever the buffer
-abbrev pub LongAnswer : Progress → Answer → Type 0
-LongAnswer known answer =
-    (text : List ℕ) (room : ℕ) → After text known → long_length ≤ length text → length text < length_limit → from_text text room ≡ refused answer
+abbrev pub LongAnswer : Progress → Refusal → Type 0
+LongAnswer known refusal =
+    (text : List ℕ) (room : ℕ) → After text known → long_length ≤ length text → length text < length_limit → from_text text room ≡ refused refusal

@@ -1,7 +1,7 @@
 // Messages on paper: a HELLO as text, and back.
 #![tactic(auto)]
 
-ghost use Rattle.std.specs.Prelude.{◌≡◌, length};
+ghost use Rattle.std.specs.Prelude.{◌≡◌, ◌≤◌, length, IfOk};
 ghost use Rattle.wire.specs.Hello.{hello_form};
 ghost use Rattle.text.specs.Answers.{number, into, to_text, from_text, Leaves};
 ghost use Rattle.text.specs.Back.{MessageBack, TextBack, NeverRefused};
@@ -12,55 +12,38 @@ mod read;
 mod scan;
 mod write;
 
-// The answers of the writer and the reader.
-#[derive(Clone, Copy)]
-pub enum Answer {
-    Done,
-    ShortBuffer,
-    HelloForm,
-    TextForm,
-    FieldRange,
+// Why the writer or the reader refuses, with its number in the published table.
+#[derive(Clone, Copy, PartialEq, Eq)]
+pub enum Refusal {
+    ShortBuffer = 2,
+    HelloForm = 6,
+    TextForm = 14,
+    FieldRange = 15,
 }
 
-// What the writer and the reader return: the answer, and the length of what was written, zero at a refusal.
-#[derive(Clone, Copy)]
-pub struct Written {
-    pub answer: Answer,
-    pub length: usize,
-}
+impl From<Refusal> for u8 {
+    ghost from_gives = { λ refusal n. n ≡ number refusal };
 
-// The number of an answer in the published table.
-pub fn number(a: Answer) -> u8
-    ensures { result ≡ number a }
-{
-    match a {
-        Answer::Done => 0,
-        Answer::ShortBuffer => 2,
-        Answer::HelloForm => 6,
-        Answer::TextForm => 14,
-        Answer::FieldRange => 15,
+    fn from(refusal: Refusal) -> u8 {
+        refusal as u8
     }
 }
 
-// The octets put at the start of the buffer, if there is room: the last step of both.
-fn deliver(out: &mut [u8], octets: &[u8]) -> Written
-    ensures { Leaves (into (length out.old) octets.now) result out.old out.new }
+// The octets put at the start of the buffer, if there is room: the last step of both. Returns how many.
+fn deliver(out: &mut [u8], octets: &[u8]) -> Result<usize, Refusal>
+    ensures leaves { Leaves (into (length out.old) octets.now) result out.old out.new }
+    ensures inside { IfOk result (λ n. n ≤ length out.new) }
 {
     let length = octets.len();
     if out.len() < length {
-        return Written {
-            answer: Answer::ShortBuffer,
-            length: 0,
-        };
+        return Err(Refusal::ShortBuffer);
     }
-    wire::copy(&mut *out, 0, octets);
-    Written {
-        answer: Answer::Done,
-        length,
-    }
+    wire::copy(out, 0, octets);
+    Ok(length)
 }
 
 // Whether a message is as long as its NHOSTS says.
+#[tactic(auto, unfolding(wire::specs::Hello::hello_form))]
 fn is_message(message: &[u8]) -> bool
     ensures { result ≡ hello_form message.now }
 {
@@ -70,30 +53,27 @@ fn is_message(message: &[u8]) -> bool
     message.len() == 12 + 4 * message[11] as usize
 }
 
-// A message written as text.
-pub fn to_text(message: &[u8], out: &mut [u8]) -> Written
-    ensures { Leaves (to_text message.now (length out.old)) result out.old out.new }
+// A message written as text; returns its length.
+pub fn to_text(message: &[u8], out: &mut [u8]) -> Result<usize, Refusal>
+    ensures leaves { Leaves (to_text message.now (length out.old)) result out.old out.new }
+    ensures inside { IfOk result (λ n. n ≤ length out.new) }
 {
     if !is_message(message) {
-        return Written {
-            answer: Answer::HelloForm,
-            length: 0,
-        };
+        return Err(Refusal::HelloForm);
     }
     let mut text = [0u8; 6144];
     let n = write::put_text(&mut text, message);
     deliver(out, &text[..n])
 }
 
-// A text read as a message, with the checksum that a sender computes.
-pub fn from_text(text: &[u8], out: &mut [u8]) -> Written
-    ensures { Leaves (from_text text.now (length out.old)) result out.old out.new }
+// A text read as a message, with the checksum that a sender computes; returns its length.
+pub fn from_text(text: &[u8], out: &mut [u8]) -> Result<usize, Refusal>
+    ensures leaves { Leaves (from_text text.now (length out.old)) result out.old out.new }
+    ensures inside { IfOk result (λ n. n ≤ length out.new) }
 {
-    let mut message = [0u8; 1032];
-    match read::read_text(text, &mut message) {
-        read::Read::Good(n) => deliver(out, &message[..n]),
-        read::Read::Bad(answer) => Written { answer, length: 0 },
-    }
+    let mut message = [0u8; read::MOST_LENGTH];
+    let n = read::read_text(text, &mut message)?;
+    deliver(out, &message[..n])
 }
 
 // A message whose checksum is the sender's comes back from its text.

@@ -3,12 +3,13 @@ ghost use Rattle.std.specs.Prelude.{◌≡◌, not, [], ◌++◌, ◌≤◌};
 ghost use Rattle.text.specs.Pieces.{After, Proceeds, LongAnswer};
 ghost use Rattle.text.specs.code.Pieces.{Steps, finished};
 ghost use Rattle.text.specs.code.Turns.{complete, letter, number_start, signed_start, positive_start, digit, narrow};
-ghost use Rattle.text.specs.code.Turns.{next_word, one_fewer, next_line, spaced, ended, word_within, rest_within, is_count, Counted, CountWithin, Inside};
+ghost use Rattle.text.specs.code.Turns.{next_word, one_fewer, next_line, spaced, ended, word_within, rest_within, CountWithin, Inside};
 
-use super::Answer;
+use super::Refusal;
+use super::scan::more;
 
 // The words of the lines. `Line` is the start of a line after the first, or the end of the text.
-#[derive(Clone, Copy)]
+#[derive(Clone, Copy, PartialEq, Eq)]
 pub enum Word {
     Hello,
     Date,
@@ -22,7 +23,7 @@ pub enum Word {
 }
 
 // What the rest of the present word must be.
-#[derive(Clone, Copy)]
+#[derive(Clone, Copy, PartialEq, Eq)]
 pub enum Rest {
     Hello,
     Ello,
@@ -56,19 +57,7 @@ const REFUSED: Progress = Progress {
 fn is_complete(rest: Rest) -> bool
     ensures { result ≡ complete rest }
 {
-    match rest {
-        Rest::Hello => false,
-        Rest::Ello => false,
-        Rest::Llo => false,
-        Rest::Lo => false,
-        Rest::O => false,
-        Rest::Number => false,
-        Rest::Signed => false,
-        Rest::Positive => false,
-        Rest::Refused => false,
-        Rest::Digits => true,
-        Rest::Empty => true,
-    }
+    matches!(rest, Rest::Digits | Rest::Empty)
 }
 
 // What must follow a letter of `hello`.
@@ -85,16 +74,10 @@ fn after_letter(c: u8, expected: u8, next: Rest) -> Rest
 fn after_first_digit(c: u8) -> Rest
     ensures { result ≡ number_start c }
 {
-    if c < b'0' {
-        return Rest::Refused;
-    }
-    if c > b'9' {
-        return Rest::Refused;
-    }
     if c == b'0' {
         return Rest::Empty;
     }
-    Rest::Digits
+    after_digit(c)
 }
 
 // What must follow the first octet of a number with a sign.
@@ -121,13 +104,10 @@ fn after_positive_digit(c: u8) -> Rest
 fn after_digit(c: u8) -> Rest
     ensures { result ≡ digit c }
 {
-    if c < b'0' {
-        return Rest::Refused;
+    if c.is_ascii_digit() {
+        return Rest::Digits;
     }
-    if c > b'9' {
-        return Rest::Refused;
-    }
-    Rest::Digits
+    Rest::Refused
 }
 
 // What the rest of a word must be after one more octet of it.
@@ -167,9 +147,7 @@ fn next_word(word: Word, count: u64) -> Progress
         Word::Tsp => word_start(Word::Base, Rest::Number, 0),
         Word::Base => word_start(Word::Count, Rest::Number, 0),
         Word::Delay => word_start(Word::Offset, Rest::Signed, count),
-        Word::Count => REFUSED,
-        Word::Line => REFUSED,
-        Word::Offset => REFUSED,
+        Word::Count | Word::Line | Word::Offset => REFUSED,
     }
 }
 
@@ -190,13 +168,7 @@ fn next_line(word: Word, count: u64) -> Progress
     match word {
         Word::Count => word_start(Word::Line, Rest::Number, count),
         Word::Offset => one_fewer(count),
-        Word::Hello => REFUSED,
-        Word::Date => REFUSED,
-        Word::Time => REFUSED,
-        Word::Tsp => REFUSED,
-        Word::Base => REFUSED,
-        Word::Line => REFUSED,
-        Word::Delay => REFUSED,
+        _ => REFUSED,
     }
 }
 
@@ -204,10 +176,8 @@ fn next_line(word: Word, count: u64) -> Progress
 fn after_space(p: Progress) -> Progress
     ensures { result ≡ spaced p }
 {
-    let word = p.word;
-    let rest = p.rest;
-    if is_complete(rest) {
-        return next_word(word, p.count);
+    if is_complete(p.rest) {
+        return next_word(p.word, p.count);
     }
     REFUSED
 }
@@ -216,10 +186,8 @@ fn after_space(p: Progress) -> Progress
 fn after_newline(p: Progress) -> Progress
     ensures { result ≡ ended p }
 {
-    let word = p.word;
-    let rest = p.rest;
-    if is_complete(rest) {
-        return next_line(word, p.count);
+    if is_complete(p.rest) {
+        return next_line(p.word, p.count);
     }
     REFUSED
 }
@@ -230,14 +198,7 @@ fn word_within(word: Word) -> Word
 {
     match word {
         Word::Line => Word::Delay,
-        Word::Hello => Word::Hello,
-        Word::Date => Word::Date,
-        Word::Time => Word::Time,
-        Word::Tsp => Word::Tsp,
-        Word::Base => Word::Base,
-        Word::Count => Word::Count,
-        Word::Delay => Word::Delay,
-        Word::Offset => Word::Offset,
+        other => other,
     }
 }
 
@@ -247,44 +208,7 @@ fn rest_within(word: Word, rest: Rest, c: u8) -> Rest
 {
     match word {
         Word::Line => after_first_digit(c),
-        Word::Hello => narrowed(rest, c),
-        Word::Date => narrowed(rest, c),
-        Word::Time => narrowed(rest, c),
-        Word::Tsp => narrowed(rest, c),
-        Word::Base => narrowed(rest, c),
-        Word::Count => narrowed(rest, c),
-        Word::Delay => narrowed(rest, c),
-        Word::Offset => narrowed(rest, c),
-    }
-}
-
-// N with one more digit, or a large number.
-fn counted(count: u64, c: u8) -> u64
-    ensures { Counted count c result }
-{
-    if count > 1000000000000000000 {
-        return 18446744073709551615;
-    }
-    if c < b'0' {
-        return count * 10;
-    }
-    count * 10 + (c - b'0') as u64
-}
-
-// Whether a word is N.
-fn is_count(word: Word) -> bool
-    ensures { result ≡ is_count word }
-{
-    match word {
-        Word::Count => true,
-        Word::Hello => false,
-        Word::Date => false,
-        Word::Time => false,
-        Word::Tsp => false,
-        Word::Base => false,
-        Word::Line => false,
-        Word::Delay => false,
-        Word::Offset => false,
+        _ => narrowed(rest, c),
     }
 }
 
@@ -292,26 +216,25 @@ fn is_count(word: Word) -> bool
 fn count_within(word: Word, count: u64, c: u8) -> u64
     ensures { CountWithin word count c result }
 {
-    if is_count(word) {
-        return counted(count, c);
+    match word {
+        Word::Count => more(count, c),
+        _ => count,
     }
-    count
 }
 
 // What is known after an octet of a word.
 fn after_octet(p: Progress, c: u8) -> Progress
     ensures { Inside p c result }
 {
-    let word = p.word;
-    let rest = p.rest;
     word_start(
-        word_within(word),
-        rest_within(word, rest, c),
-        count_within(word, p.count, c),
+        word_within(p.word),
+        rest_within(p.word, p.rest, c),
+        count_within(p.word, p.count, c),
     )
 }
 
 // What is known after one more octet.
+#[tactic(auto, using(crate::proofs::Onward::steps_as, crate::proofs::Onward::steps_space, crate::proofs::Onward::steps_newline, crate::proofs::Onward::steps_within))]
 fn step(p: Progress, c: u8) -> Progress
     ensures { Steps p c result }
 {
@@ -328,21 +251,11 @@ fn step(p: Progress, c: u8) -> Progress
 fn is_finished(p: Progress) -> bool
     ensures { result ≡ finished p }
 {
-    let word = p.word;
-    match word {
-        Word::Line => p.count == 0,
-        Word::Hello => false,
-        Word::Date => false,
-        Word::Time => false,
-        Word::Tsp => false,
-        Word::Base => false,
-        Word::Count => false,
-        Word::Delay => false,
-        Word::Offset => false,
-    }
+    p.word == Word::Line && p.count == 0
 }
 
 // What is known before the first piece.
+#[tactic(auto, using(crate::proofs::LongText::nothing_known))]
 pub fn begin() -> Progress
     ensures { After [] result }
 {
@@ -354,20 +267,19 @@ pub fn proceed(p: Progress, piece: &[u8]) -> Progress
     ensures { Proceeds p piece.now result }
 {
     let mut known = p;
-    let mut i: usize = 0;
-    while i < piece.len() {
-        known = step(known, piece[i]);
-        i += 1;
+    for &c in piece {
+        known = step(known, c);
     }
     known
 }
 
-// The answer to a text that is longer than any that is read, after its last piece.
-pub fn long_answer(p: Progress) -> Answer
+// Why a text that is longer than any that is read is refused, after its last piece.
+#[tactic(auto, using(crate::proofs::LongText::long_refused, crate::proofs::LongText::long_range))]
+pub fn long_answer(p: Progress) -> Refusal
     ensures { LongAnswer p result }
 {
     if is_finished(p) {
-        return Answer::FieldRange;
+        return Refusal::FieldRange;
     }
-    Answer::TextForm
+    Refusal::TextForm
 }

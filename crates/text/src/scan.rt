@@ -1,46 +1,28 @@
-// The reader's eyes: marks, numerals, the words of a line.
-ghost use Rattle.std.specs.Prelude.{◌≡◌, true, false, ◌+◌, ◌*◌, ◌≤◌, length};
+// The reader's eyes: pieces up to a mark, numerals, the words of a line.
+// A number of any length is held as a u64: 2^63 or more represents any number as large. No field and no count of lines is.
+ghost use Rattle.std.specs.Prelude.{◌≡◌, ◌==◌, ◌∷◌, [], position, MatchOption};
 ghost use Rattle.text.specs.Numerals.{all_digits, is_numeral};
-ghost use Rattle.text.specs.Words.{words, same};
+ghost use Rattle.text.specs.Words.{cut, words, same};
 ghost use Rattle.text.specs.Text.{hello};
-ghost use Rattle.text.specs.code.Scan.{Found, More, NumberRead, OffsetRead, FieldRead, TimesRead, RowRead, FirstRead, LineRead};
+ghost use Rattle.text.specs.code.Scan.{CutAt, More, NumberRead, OffsetRead, NoField, Field, RowRead, FirstRead, LineRead};
 
-// What a word is, read as a number: whether it is a numeral, and the number, or a large one for any that is as large.
-#[derive(Clone, Copy)]
-pub struct Number {
-    pub form: bool,
-    pub value: u64,
-}
-
-// A word read as a number with a sign.
+// A number with a sign.
 #[derive(Clone, Copy)]
 pub struct Offset {
-    pub form: bool,
     pub negative: bool,
     pub size: u64,
 }
 
-// The first word of a part of a line that has more words, read as a number, and where the next word begins.
-#[derive(Clone, Copy)]
-pub struct Field {
-    pub form: bool,
-    pub value: u64,
-    pub next: usize,
-}
-
-// A line after the first.
+// The numbers of a line after the first.
 #[derive(Clone, Copy)]
 pub struct Row {
-    pub form: bool,
     pub delay: u64,
-    pub negative: bool,
-    pub size: u64,
+    pub offset: Offset,
 }
 
-// The first line.
+// The numbers of the first line.
 #[derive(Clone, Copy)]
 pub struct First {
-    pub form: bool,
     pub date: u64,
     pub time: u64,
     pub tsp: u64,
@@ -48,265 +30,137 @@ pub struct First {
     pub count: u64,
 }
 
-// The three times of the first line, and where the next word begins.
-#[derive(Clone, Copy)]
-pub struct Times {
-    pub form: bool,
-    pub date: u64,
-    pub time: u64,
-    pub tsp: u64,
-    pub next: usize,
+// The place of the first mark.
+fn find(s: &[u8], mark: u8) -> Option<usize>
+    ensures { result ≡ position (λ c. c == mark) s.now }
+{
+    s.iter().position(|&c| c == mark)
 }
 
-const NO_TIMES: Times = Times {
-    form: false,
-    date: 0,
-    time: 0,
-    tsp: 0,
-    next: 0,
-};
-
-const NO_FIRST: First = First {
-    form: false,
-    date: 0,
-    time: 0,
-    tsp: 0,
-    base: 0,
-    count: 0,
-};
-
-// The place of the first mark, or the length where there is none.
-pub fn find(s: &[u8], mark: u8) -> usize
-    ensures { Found s.now mark result }
+// What lies before the first mark, and what lies after it.
+pub fn cut_once(s: &[u8], mark: u8) -> Option<(&[u8], &[u8])>
+    ensures { MatchOption result (cut mark s.now ≡ s.now ∷ []) (λ p. CutAt mark s.now p.0.now p.1.now) }
 {
-    let mut i: usize = 0;
-    while i < s.len() {
-        if s[i] == mark {
-            return i;
-        }
-        i += 1;
-    }
-    i
+    let end = find(s, mark)?;
+    Some((&s[..end], &s[end + 1..]))
 }
 
-// A number with one more digit; where it gets too large it stays large.
-fn more(value: u64, digit: u8) -> u64
-    requires { digit ≤ 9 }
-    ensures { More value digit result }
+// A number with one more digit, given as an octet; where it gets too large it stays large.
+pub fn more(value: u64, c: u8) -> u64
+    ensures { More value c result }
 {
-    if value > 1844674407370955160 {
-        return 18446744073709551615;
-    }
-    value * 10 + digit as u64
+    value
+        .saturating_mul(10)
+        .saturating_add(u64::from(c.saturating_sub(b'0')))
 }
 
 // A word of digits.
-fn digits(s: &[u8]) -> Number
+fn digits(s: &[u8]) -> Option<u64>
     ensures { NumberRead all_digits s.now result }
 {
     let mut value: u64 = 0;
-    let mut i: usize = 0;
-    while i < s.len() {
-        let c = s[i];
-        if c < b'0' {
-            return Number {
-                form: false,
-                value: 0,
-            };
+    for &c in s {
+        if !c.is_ascii_digit() {
+            return None;
         }
-        if c > b'9' {
-            return Number {
-                form: false,
-                value: 0,
-            };
-        }
-        value = more(value, c - b'0');
-        i += 1;
+        value = more(value, c);
     }
-    Number { form: true, value }
+    Some(value)
 }
 
 // A word read as a number.
-fn read_number(s: &[u8]) -> Number
+fn read_number(s: &[u8]) -> Option<u64>
     ensures { NumberRead is_numeral s.now result }
 {
-    if s.len() == 0 {
-        return Number {
-            form: false,
-            value: 0,
-        };
+    if s.is_empty() {
+        return None;
     }
     if s.len() == 1 {
         return digits(s);
     }
     if s[0] == b'0' {
-        return Number {
-            form: false,
-            value: 0,
-        };
+        return None;
     }
     digits(s)
 }
 
 // A word read as a number with a sign.
-fn read_offset(s: &[u8]) -> Offset
+fn read_offset(s: &[u8]) -> Option<Offset>
     ensures { OffsetRead s.now result }
 {
-    if s.len() == 0 {
-        return Offset {
-            form: false,
+    if s.is_empty() {
+        return None;
+    }
+    if s[0] != b'-' {
+        let size = read_number(s)?;
+        return Some(Offset {
             negative: false,
-            size: 0,
-        };
+            size,
+        });
     }
-    if s[0] == b'-' {
-        let n = read_number(&s[1..]);
-        if n.value == 0 {
-            return Offset {
-                form: false,
-                negative: true,
-                size: 0,
-            };
-        }
-        return Offset {
-            form: n.form,
-            negative: true,
-            size: n.value,
-        };
+    let size = read_number(&s[1..])?;
+    if size == 0 {
+        return None;
     }
-    let n = read_number(s);
-    Offset {
-        form: n.form,
-        negative: false,
-        size: n.value,
-    }
+    Some(Offset {
+        negative: true,
+        size,
+    })
 }
 
-// The first word, which is followed by another, read as a number.
-fn read_field(s: &[u8]) -> Field
-    ensures { FieldRead s.now result }
+// The first word, which is followed by another, read as a number; and what follows it.
+#[tactic(auto, using(crate::proofs::Readings::field_none, crate::proofs::Readings::field_bad, crate::proofs::Readings::field_there))]
+fn read_field(s: &[u8]) -> Option<(u64, &[u8])>
+    ensures { MatchOption result (NoField s.now) (λ p. Field s.now p.0 p.1.now) }
 {
-    let end = find(s, b' ');
-    if end == s.len() {
-        return Field {
-            form: false,
-            value: 0,
-            next: 0,
-        };
-    }
-    let n = read_number(&s[..end]);
-    Field {
-        form: n.form,
-        value: n.value,
-        next: end + 1,
-    }
+    let (word, rest) = cut_once(s, b' ')?;
+    let n = read_number(word)?;
+    Some((n, rest))
 }
 
 // A line after the first.
-pub fn read_row(line: &[u8]) -> Row
+pub fn read_row(line: &[u8]) -> Option<Row>
     ensures { RowRead (words line.now) result }
 {
-    let delay = read_field(line);
-    if !delay.form {
-        return Row {
-            form: false,
-            delay: 0,
-            negative: false,
-            size: 0,
-        };
-    }
-    let next = delay.next;
-    let o = read_offset(&line[next..]);
-    Row {
-        form: o.form,
-        delay: delay.value,
-        negative: o.negative,
-        size: o.size,
-    }
-}
-
-// The three times of the first line.
-fn read_times(s: &[u8]) -> Times
-    ensures { TimesRead s.now result }
-{
-    let date = read_field(s);
-    if !date.form {
-        return NO_TIMES;
-    }
-    let second = date.next;
-    let time = read_field(&s[second..]);
-    if !time.form {
-        return NO_TIMES;
-    }
-    let third = second + time.next;
-    let tsp = read_field(&s[third..]);
-    Times {
-        form: tsp.form,
-        date: date.value,
-        time: time.value,
-        tsp: tsp.value,
-        next: third + tsp.next,
-    }
+    let (delay, rest) = read_field(line)?;
+    let offset = read_offset(rest)?;
+    Some(Row { delay, offset })
 }
 
 // Whether a word is `hello`.
+#[tactic(auto, using(crate::proofs::Values::same_pointwise))]
 fn is_hello(s: &[u8]) -> bool
     ensures { result ≡ same hello s.now }
 {
-    if s.len() != 5 {
-        return false;
-    }
-    if s[0] != b'h' {
-        return false;
-    }
-    if s[1] != b'e' {
-        return false;
-    }
-    if s[2] != b'l' {
-        return false;
-    }
-    if s[3] != b'l' {
-        return false;
-    }
-    s[4] == b'o'
+    s == b"hello".as_slice()
 }
 
 // The numbers of the first line, after its first word.
-fn read_numbers(s: &[u8]) -> First
+fn read_numbers(s: &[u8]) -> Option<First>
     ensures { FirstRead (words s.now) result }
 {
-    let t = read_times(s);
-    if !t.form {
-        return NO_FIRST;
-    }
-    let fourth = t.next;
-    let base = read_field(&s[fourth..]);
-    if !base.form {
-        return NO_FIRST;
-    }
-    let fifth = fourth + base.next;
-    let count = read_number(&s[fifth..]);
-    First {
-        form: count.form,
-        date: t.date,
-        time: t.time,
-        tsp: t.tsp,
-        base: base.value,
-        count: count.value,
-    }
+    let (date, after_date) = read_field(s)?;
+    let (time, after_time) = read_field(after_date)?;
+    let (tsp, after_tsp) = read_field(after_time)?;
+    let (base, after_base) = read_field(after_tsp)?;
+    let count = read_number(after_base)?;
+    Some(First {
+        date,
+        time,
+        tsp,
+        base,
+        count,
+    })
 }
 
 // The first line.
-pub fn read_first(line: &[u8]) -> First
+#[tactic(auto, using(crate::proofs::LineWords::line_alone, crate::proofs::LineWords::line_other, crate::proofs::LineWords::line_read))]
+pub fn read_first(line: &[u8]) -> Option<First>
     ensures { LineRead (words line.now) result }
 {
-    let end = find(line, b' ');
-    if end == line.len() {
-        return NO_FIRST;
+    let (word, rest) = cut_once(line, b' ')?;
+    if !is_hello(word) {
+        return None;
     }
-    if !is_hello(&line[..end]) {
-        return NO_FIRST;
-    }
-    let next = end + 1;
-    read_numbers(&line[next..])
+    read_numbers(rest)
 }

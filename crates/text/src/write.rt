@@ -13,6 +13,7 @@ use super::buffer::put_octet;
 use octets::{four_at, two_at};
 
 // How many digits a number has.
+#[tactic(auto, unfolding(crate::specs::Numerals::width))]
 fn width(n: u32) -> usize
     ensures { result ≡ width n }
 {
@@ -51,11 +52,9 @@ fn put_digits(text: &mut [u8], at: usize, k: usize, n: u32)
     requires { at + k ≤ length text.old }
     ensures { text.new ≡ over text.old at (digits k n) }
 {
-    let mut left = k;
     let mut rest = n;
-    while left > 0 {
-        left -= 1;
-        text[at + left] = 48 + (rest % 10) as u8;
+    for j in (0..k).rev() {
+        text[at + j] = b'0' + (rest % 10) as u8;
         rest /= 10;
     }
 }
@@ -67,7 +66,7 @@ fn put_number(text: &mut [u8], at: usize, n: u32) -> usize
     ensures upper_bound { result ≤ at + 10 }
 {
     let k = width(n);
-    put_digits(&mut *text, at, k, n);
+    put_digits(text, at, k, n);
     at + k
 }
 
@@ -77,8 +76,8 @@ fn put_field(text: &mut [u8], at: usize, n: u32) -> usize
     ensures put { Put text.old text.new at result (space ∷ numeral n) }
     ensures upper_bound { result ≤ at + 11 }
 {
-    put_octet(&mut *text, at, b' ');
-    put_number(&mut *text, at + 1, n)
+    put_octet(text, at, b' ');
+    put_number(text, at + 1, n)
 }
 
 // An OFFSET, from its 16 bits: a minus where it is negative, and the number.
@@ -88,10 +87,10 @@ fn put_offset(text: &mut [u8], at: usize, bits: u16) -> usize
     ensures upper_bound { result ≤ at + 11 }
 {
     if bits < 32768 {
-        return put_number(&mut *text, at, bits as u32);
+        return put_number(text, at, bits as u32);
     }
-    put_octet(&mut *text, at, b'-');
-    put_number(&mut *text, at + 1, 65536 - bits as u32)
+    put_octet(text, at, b'-');
+    put_number(text, at + 1, 65536 - bits as u32)
 }
 
 // The line of one host.
@@ -100,10 +99,10 @@ fn put_row(text: &mut [u8], at: usize, delay: u16, offset: u16) -> usize
     ensures put { Put text.old text.new at result (row delay offset) }
     ensures upper_bound { result ≤ at + row_room }
 {
-    let gap = put_number(&mut *text, at, delay as u32);
-    put_octet(&mut *text, gap, b' ');
-    let end = put_offset(&mut *text, gap + 1, offset);
-    put_octet(&mut *text, end, b'\n');
+    let gap = put_number(text, at, delay as u32);
+    put_octet(text, gap, b' ');
+    let end = put_offset(text, gap + 1, offset);
+    put_octet(text, end, b'\n');
     end + 1
 }
 
@@ -112,11 +111,7 @@ fn put_hello(text: &mut [u8])
     requires { 5 ≤ length text.old }
     ensures { Put text.old text.new 0 5 hello }
 {
-    text[0] = b'h';
-    text[1] = b'e';
-    text[2] = b'l';
-    text[3] = b'l';
-    text[4] = b'o';
+    text[..5].copy_from_slice(b"hello");
 }
 
 // The first line's front: `hello` and the three times.
@@ -126,10 +121,10 @@ fn put_times(text: &mut [u8], message: &[u8]) -> usize
     ensures put { Put text.old text.new 0 result (times_text (numbers_of message.now)) }
     ensures upper_bound { result ≤ 38 }
 {
-    put_hello(&mut *text);
-    let date = put_field(&mut *text, 5, two_at(message, 2) as u32);
-    let time = put_field(&mut *text, date, four_at(message, 4));
-    put_field(&mut *text, time, two_at(message, 8) as u32)
+    put_hello(text);
+    let date = put_field(text, 5, two_at(message, 2) as u32);
+    let time = put_field(text, date, four_at(message, 4));
+    put_field(text, time, two_at(message, 8) as u32)
 }
 
 // The first line.
@@ -139,10 +134,10 @@ fn put_first(text: &mut [u8], message: &[u8]) -> usize
     ensures put { Put text.old text.new 0 result (first_line (numbers_of message.now)) }
     ensures upper_bound { result ≤ line_room }
 {
-    let tsp = put_times(&mut *text, message);
-    let base = put_field(&mut *text, tsp, message[10] as u32);
-    let count = put_field(&mut *text, base, message[11] as u32);
-    put_octet(&mut *text, count, b'\n');
+    let tsp = put_times(text, message);
+    let base = put_field(text, tsp, message[10] as u32);
+    let count = put_field(text, base, message[11] as u32);
+    put_octet(text, count, b'\n');
     count + 1
 }
 
@@ -152,10 +147,9 @@ fn put_rows(text: &mut [u8], at: usize, message: &[u8]) -> usize
     ensures { Put text.old text.new at result (row_lines (rows_of (drop fixed_length message.now))) }
 {
     let mut end = at;
-    let mut i: usize = 12;
-    while i + 3 < message.len() {
-        end = put_row(&mut *text, end, two_at(message, i), two_at(message, i + 2));
-        i += 4;
+    for host in 0..(message.len() - 12) / 4 {
+        let i = 12 + 4 * host;
+        end = put_row(text, end, two_at(message, i), two_at(message, i + 2));
     }
     end
 }
@@ -165,6 +159,6 @@ pub fn put_text(text: &mut [u8], message: &[u8]) -> usize
     requires { (line_room * 4 + row_room * 1032 ≤ length text.old * 4) × (hello_form message.now ≡ true) }
     ensures { Put text.old text.new 0 result (text_of (numbers_of message.now)) }
 {
-    let at = put_first(&mut *text, message);
-    put_rows(&mut *text, at, message)
+    let at = put_first(text, message);
+    put_rows(text, at, message)
 }

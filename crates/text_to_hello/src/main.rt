@@ -3,41 +3,35 @@
 // An input that fills the buffer is longer than any text that is accepted: it is read in pieces, and only its answer is found.
 #![tactic(auto)]
 
-use text::pieces::Progress;
+use std::ops::ControlFlow;
+use text::Refusal;
+use text::pieces::{Progress, begin, long_answer, proceed};
 
-// What is known after a piece of the input, and whether it was the last.
-#[derive(Clone, Copy)]
-struct Turn {
-    known: Progress,
-    last: bool,
-}
-
-fn read_piece(known: Progress) -> Turn {
+// What is known after one more piece of the input; `Break` after the last.
+fn read_piece(known: Progress) -> ControlFlow<Progress, Progress> {
     let mut piece = io::large_buffer();
     let n = io::read_full(0, &mut piece);
-    Turn {
-        known: text::pieces::proceed(known, &piece[..n]),
-        last: n < 65536,
+    let known = proceed(known, &piece[..n]);
+    if n < 65536 {
+        return ControlFlow::Break(known);
     }
+    ControlFlow::Continue(known)
 }
 
-// The number of the answer to an input of which a part was read. It has fewer than 2^63 octets.
-fn read_rest(known: Progress) -> u8 {
+// Why an input of which a part was read is refused. It has fewer than 2^63 octets.
+fn read_rest(known: Progress) -> Refusal {
     let mut now = known;
-    let mut turns: u64 = 140737488355326;
-    while turns > 0 {
-        let turn = read_piece(now);
-        now = turn.known;
-        if turn.last {
-            return text::number(text::pieces::long_answer(now));
+    for _ in 0..140737488355326u64 {
+        match read_piece(now) {
+            ControlFlow::Continue(more) => now = more,
+            ControlFlow::Break(all) => return long_answer(all),
         }
-        turns -= 1;
     }
-    14
+    Refusal::TextForm
 }
 
-fn refuse(number: u8) {
-    io::print_decimal(2, number as u64);
+fn refuse(refusal: Refusal) {
+    io::print_decimal(2, u64::from(u8::from(refusal)));
     io::write_all(2, b"\n");
 }
 
@@ -45,17 +39,14 @@ fn main() {
     let mut text = io::large_buffer();
     let n = io::read_full(0, &mut text);
     if n == 65536 {
-        refuse(read_rest(text::pieces::proceed(text::pieces::begin(), &text)));
+        refuse(read_rest(proceed(begin(), &text)));
         return;
     }
     let mut message = io::buffer();
-    let written = text::from_text(&text[..n], &mut message);
-    let answer = written.answer;
-    let number = text::number(answer);
-    if number != 0 {
-        refuse(number);
-        return;
+    match text::from_text(&text[..n], &mut message) {
+        Ok(k) => {
+            io::write_all(1, &message[..k]);
+        }
+        Err(refusal) => refuse(refusal),
     }
-    let k = written.length;
-    io::write_all(1, &message[..k]);
 }

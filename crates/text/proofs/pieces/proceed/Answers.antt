@@ -12,7 +12,7 @@ use Rattle.text.proofs.pieces.proceed.Goals as goal
 pub returns : goal.returns
 returns c =
     let piece = c.args.piece.now in
-    let at = c.loop-i in
-    let h : length piece ≤ at.i = omega arith in
-    let d : drop at.i piece ≡ [] = drop_of_length-le piece h in
-    more_known _ _ piece (λ (text : List ℕ) (h : length piece + length text < large). at.invariant.1 text h ∙ ap (λ (z : List ℕ). form_from at.known (z ++ text)) d)
+    let at = c.loop-c in
+    let h : length piece ≤ at.c-index = omega arith in
+    let d : drop at.c-index piece ≡ [] = drop_of_length-le piece h in
+    more_known _ _ piece (λ (text : List ℕ) (h : length piece + length text < large). at.invariant text h ∙ ap (λ (z : List ℕ). form_from at.known (z ++ text)) d)

@@ -1,23 +1,23 @@
--- The times, then a field, then a number.
-use borrow.Author.Tests.{not-true, not-false}
-use mathlib.Core.Path.{refl}
-use Prim.Native.Nat.{◌+◌}
+-- Four fields, one after the other, then a number.
+use mathlib.Core.List.{[], ◌∷◌}
 use Rattle.text.specs.Numerals.{is_numeral}
-use Rattle.text.specs.code.Scan.{NumberRead, FieldRead}
-use Rattle.text.proofs.LineWords.{part_read, numbers_second, numbers_there}
+use Rattle.text.proofs.LineWords.{numbers_second, numbers_third, numbers_fourth, numbers_last, numbers_there}
 use Rattle.text.proofs.scan.read_numbers.Goals as goal
 
-pub returns-then-not-base : goal.returns-then-not-base
-returns-then-not-base c =
-    let s = c.args.s.now in
-    let t = c.read_times-t in
-    let b = c.read_field-base in
-    numbers_second s t.result b.result _ t.ensures (not-false _ c.if-not-t.false) (part_read (λ l. FieldRead l b.result) s t.result.next b.ensures) (not-true _ c.if-not-base.true) refl
+pub returns-in_err-date : goal.returns-in_err-date
+returns-in_err-date c = rw c.from_residual.ensures (c.in_err-date.ensures is_numeral (is_numeral ∷ is_numeral ∷ is_numeral ∷ []))
+
+pub returns-in_err-time : goal.returns-in_err-time
+returns-in_err-time c = rw c.from_residual-in_err-time.ensures (numbers_second c.in_ok-date.ensures c.in_err-time.ensures)
+
+pub returns-in_err-tsp : goal.returns-in_err-tsp
+returns-in_err-tsp c = rw c.from_residual-in_err-tsp.ensures (numbers_third c.in_ok-date.ensures c.in_ok-time.ensures c.in_err-tsp.ensures)
+
+pub returns-in_err-base : goal.returns-in_err-base
+returns-in_err-base c = rw c.from_residual-in_err-base.ensures (numbers_fourth c.in_ok-date.ensures c.in_ok-time.ensures c.in_ok-tsp.ensures c.in_err-base.ensures)
+
+pub returns-in_err-count : goal.returns-in_err-count
+returns-in_err-count c = rw c.from_residual-in_err-count.ensures (numbers_last c.in_ok-date.ensures c.in_ok-time.ensures c.in_ok-tsp.ensures c.in_ok-base.ensures c.in_err-count.ensures)
 
 pub returns : goal.returns
-returns c =
-    let s = c.args.s.now in
-    let t = c.read_times-t in
-    let b = c.read_field-base in
-    let n = c.read_number-count in
-    numbers_there s t.result b.result n.result t.ensures (not-false _ c.if-not-t.false) (part_read (λ l. FieldRead l b.result) s t.result.next b.ensures) (not-false _ c.if-not-base.false) (part_read (λ l. NumberRead is_numeral l n.result) s (t.result.next + b.result.next) n.ensures)
+returns c = numbers_there c.in_ok-date.ensures c.in_ok-time.ensures c.in_ok-tsp.ensures c.in_ok-base.ensures c.in_ok-count.count c.in_ok-count.ensures.0 c.in_ok-count.ensures.1

@@ -1,11 +1,14 @@
 -- A field, then a signed number.
-use borrow.Author.Tests.{not-false}
-use Rattle.text.specs.code.Scan.{OffsetRead}
-use Rattle.text.proofs.LineWords.{part_read, row_there}
+use mathlib.Core.List.{[]}
+use Rattle.text.specs.Numerals.{is_signed}
+use Rattle.text.proofs.LineWords.{row_bad, row_there}
 use Rattle.text.proofs.scan.read_row.Goals as goal
 
+pub returns-in_err-delay : goal.returns-in_err-delay
+returns-in_err-delay c = rw c.from_residual.ensures (c.in_err-delay.ensures is_signed [])
+
+pub returns-in_err-offset : goal.returns-in_err-offset
+returns-in_err-offset c = rw c.from_residual-in_err-offset.ensures (row_bad c.in_ok-delay.ensures c.in_err-offset.ensures)
+
 pub returns : goal.returns
-returns c =
-    let s = c.args.line.now in
-    let d = c.read_field-delay in
-    row_there s d.result c.read_offset-o.result d.ensures (not-false _ c.if-not-delay.false) (part_read (λ l. OffsetRead l c.read_offset-o.result) s d.result.next c.read_offset-o.ensures)
+returns c = row_there c.in_ok-offset.offset c.in_ok-delay.ensures c.in_ok-offset.ensures

@@ -5,11 +5,11 @@ use lib.ListN.{length-set}
 use Rattle.text.proofs.Puts.{digits_turn, digits_none}
 use Rattle.text.proofs.write.put_digits.Goals as goal
 
-pub loop-left-preserved : goal.loop-left-preserved
-loop-left-preserved c =
-    let l = c.loop-left in
+pub loop-j-preserved : goal.loop-j-preserved
+loop-j-preserved c =
+    let l = c.loop-j in
     let a = c.args in
-    (omega arith, simp length-set l.invariant.1, digits_turn l.text a.at l.left l.rest (omega arith) (omega arith) ∙ l.invariant.2)
+    (simp length-set l.invariant.0, digits_turn l.text a.at l.j l.rest (omega arith) (omega arith) ∙ l.invariant.1)
 
 pub returns : goal.returns
-returns c = let l = c.loop-left in let a = c.args in sym (digits_none l.text a.at l.left l.rest (omega arith)) ∙ l.invariant.2
+returns c = let l = c.loop-j in let a = c.args in sym (digits_none l.text a.at l.j l.rest (omega arith)) ∙ l.invariant.1
