@@ -5,7 +5,7 @@
 
 ghost use Rattle.std.specs.Prelude.{◌≡◌, length};
 
-use capture::{Recovered, Refusal};
+use capture::Refusal;
 
 // The octets of a number, and of a stretch in the list.
 const NUMBER: usize = 4;
@@ -52,16 +52,10 @@ fn main() {
     let mut stretches = [0u8; 16392];
     let n = io::read_full(0, &mut input);
     match capture::recover(&input[..n], &mut output, &mut stretches) {
-        Ok(
-            Recovered {
-                capture_length,
-                stretches_length,
-                places_true,
-            },
-        ) => {
-            io::write_all(STDOUT, &output[..capture_length]);
-            print_stretches(&stretches[..stretches_length]);
-            print_mark(places_true);
+        Ok(m) => {
+            io::write_all(STDOUT, &output[..m.capture_length]);
+            print_stretches(&stretches[..m.stretches_length]);
+            print_mark(m.places_true);
         }
         Err(refusal) => print_refusal(refusal),
     }
