@@ -2,6 +2,7 @@ pub mod Hits
 pub mod Steps
 pub mod HostAfter
 pub mod Listed
+pub mod Marks
 pub mod Order
 pub mod Over
 pub mod Outputs

@@ -1,26 +1,26 @@
 -- The list of starts: what is listed so far and what is left to list make it up, and from a start its hit is found again, because the hit's length is in its header.
 use mathlib.Core.Path.{◌≡◌, refl, sym, ap, ◌∙◌}
 use mathlib.Core.Bool.{Bool, true, false}
-use mathlib.Core.List.{List, [], ◌∷◌, ◌++◌}
-use Prim.Native.Nat.{ℕ, zero, suc, ◌+◌, ◌≤◌, ◌<◌}
+use mathlib.Core.List.{List, [], ◌∷◌}
+use Prim.Native.Nat.{ℕ, zero, suc, ◌+◌, ◌*◌, ◌≤◌, ◌<◌}
 use native.Mathlib.Numerals.{add-one}
 use native.Mathlib.Omega.{arith}
 use borrow.Author.Tests.{ltb-true, ltb-false}
 use lib.Dec.{ltb}
-use lib.ListN.{length, drop, get_or, set, length-append, length-drop, length-set}
-use lib.Seq.{drop-cons, drop_at, get_or-drop, sets-eq}
+use lib.ListN.{length, take, drop, get_or, set, drop_of_length-le, length-drop, length-set}
+use lib.Seq.{drop-cons, take_at, get_or-drop, sets-eq}
 use Rattle.lists.specs.Lists.{over}
 use Rattle.lists.proofs.Parts.{over_twice, over_nothing}
 use Rattle.wire.specs.Octets.{two_at}
-use Rattle.capture.specs.declared.Next.{Next}
+use Rattle.wire.specs.Packet.{packet_length}
+use Rattle.capture.specs.declared.Hit.{Hit}
 use Rattle.capture.specs.Search.{Span, span, hit, hits, hits_at}
-use Rattle.capture.specs.code.Next.{IsNext}
+use Rattle.capture.specs.code.Next.{IsFirst}
 use Rattle.capture.specs.Recover.{longest_input}
 use Rattle.capture.specs.code.Survey.{most_hits, starts_of}
 use Rattle.capture.proofs.Order.{hits_few}
 use Rattle.capture.proofs.Hits.{hit_size, hit_shows}
-use Rattle.capture.proofs.HostAfter.{next_more, next_last}
-use Rattle.capture.proofs.Steps.{end_none, at_miss, at_hit, next_none, next_found}
+use Rattle.capture.proofs.Steps.{end_none, at_miss, at_hit, next_found}
 
 -- ---- the first of the hits from a place on
 
@@ -55,6 +55,10 @@ module _ (input : List ℕ) (h : Span) (later : List Span) where
   first_hit zero at enough e = absurd (empty_not (hits_at at input) (end_none input at (omega arith)) e)
   first_hit (suc fuel) at enough e = inside at (ltb at (length input)) refl e (λ f. first_hit fuel (at + 1) (omega arith) f)
 
+starts_length : (hs : List Span) → length (starts_of hs) ≡ length hs
+starts_length [] = refl
+starts_length (h ∷ hs) = ap suc (starts_length hs)
+
 -- ---- the list while it is written
 
 pub record StartsAfter (input l₀ l : List ℕ) (at k : ℕ) : Type 0 where
@@ -65,51 +69,51 @@ pub starts_all : (input l : List ℕ) → StartsAfter input l l 0 0
 unfolding hits
 starts_all input l = record { same = refl; left = refl }
 
-module _ (input l₀ l : List ℕ) (at k : ℕ) (left : StartsAfter input l₀ l at k) (n : Next) (is : IsNext input at n) where
-  pub starts_more : 0 < n.size → k < length l → (x : ℕ) → x ≡ n.at → StartsAfter input l₀ (set l k x) (n.at + n.size) (k + 1)
-  starts_more h inside x e =
-      let one : set l k x ≡ over l k (n.at ∷ []) = rw e (sets-eq (n.at ∷ []) l k (omega arith)) in
+module _ (input l₀ l : List ℕ) (at k : ℕ) (left : StartsAfter input l₀ l at k) where
+  pub starts_more : (h : Hit) → IsFirst input at h → k < length l → StartsAfter input l₀ (set l k h.at) (h.at + h.size) (k + 1)
+  starts_more h is inside =
+      let one : set l k h.at ≡ over l k (h.at ∷ []) = sets-eq (h.at ∷ []) l k (omega arith) in
       record {
-        same = length-set l k x ∙ left.same;
-        left = ap (λ m. over m (k + 1) (starts_of (hits_at (n.at + n.size) input))) one
-            ∙ over_twice k l (n.at ∷ []) (omega arith) (starts_of (hits_at (n.at + n.size) input))
-            ∙ rw (next_more input at n is h) at left.left;
+        same = length-set l k h.at ∙ left.same;
+        left = ap (λ m. over m (k + 1) (starts_of (hits_at (h.at + h.size) input))) one
+            ∙ over_twice k l (h.at ∷ []) (omega arith) (starts_of (hits_at (h.at + h.size) input))
+            ∙ rw is.first at left.left;
       }
 
-  pub starts_last : n.size ≡ 0 → l ≡ over l₀ 0 (starts_of (hits input))
-  starts_last z = sym (over_nothing k l) ∙ rw (next_last input at n is z) at left.left
+  pub starts_last : hits_at at input ≡ [] → l ≡ over l₀ 0 (starts_of (hits input))
+  starts_last e = sym (over_nothing k l) ∙ rw e at left.left
 
 -- no packet has fewer than 32 octets, so the list has a place for each
-pub starts_fit : (input : List ℕ) (at k : ℕ) (n : Next) → IsNext input at n → 0 < n.size → k + length (hits_at at input) ≡ length (hits input) → length input ≤ longest_input → k < most_hits
-starts_fit input at k n is h c short =
+pub starts_fit : (input : List ℕ) (at k : ℕ) (h : Hit) → IsFirst input at h → k + length (hits_at at input) ≡ length (hits input) → length input ≤ longest_input → k < most_hits
+starts_fit input at k h is c short =
     let f = hits_few input in
-    omega (arith, ap length (next_more input at n is h), f.0, f.1)
+    omega (arith, ap length is.first, f.0, f.1)
+
+-- the list that was written begins with the starts
+pub listed_over : (hs : List Span) (before after : List ℕ) (n : ℕ) → n ≡ length hs → after ≡ over before 0 (starts_of hs) → take n after ≡ starts_of hs
+listed_over hs before after n c e =
+    ap (take n) e ∙ take_at (starts_of hs) (drop (0 + length (starts_of hs)) before) n (starts_length hs ∙ sym c)
 
 -- ---- the list while it is read
 
-pub record ListedFrom (input starts : List ℕ) (at k n : ℕ) : Type 0 where
+pub record ListedFrom (input starts : List ℕ) (at k : ℕ) : Type 0 where
   pub inside : at ≤ length input
-  pub count : k + length (hits_at at input) ≡ n
-  pub listed : drop k starts ≡ starts_of (hits_at at input) ++ drop n starts
+  pub listed : drop k starts ≡ starts_of (hits_at at input)
 
-pub listed_all : (input starts : List ℕ) (n : ℕ) → n ≡ length (hits input) → starts ≡ starts_of (hits input) ++ drop n starts → ListedFrom input starts 0 0 n
+pub listed_all : (input starts : List ℕ) → starts ≡ starts_of (hits input) → ListedFrom input starts 0 0
 unfolding hits
-listed_all input starts n c l = record { inside = omega arith; count = omega arith; listed = l }
+listed_all input starts l = record { inside = omega arith; listed = l }
 
-starts_length : (hs : List Span) → length (starts_of hs) ≡ length hs
-starts_length [] = refl
-starts_length (h ∷ hs) = ap suc (starts_length hs)
+pub listed_long : (input starts : List ℕ) → starts ≡ starts_of (hits input) → length starts ≡ length (hits input)
+listed_long input starts l = ap length l ∙ starts_length (hits input)
 
-pub listed_over : (hs : List Span) (before after : List ℕ) (n : ℕ) → n ≡ length hs → after ≡ over before 0 (starts_of hs) → after ≡ starts_of hs ++ drop n after
-listed_over hs before after n c e =
-    let rest = drop (0 + length (starts_of hs)) before in
-    e ∙ ap (λ l. starts_of hs ++ l) (sym (ap (drop n) e ∙ drop_at (starts_of hs) rest n (starts_length hs ∙ sym c)))
-
-pub listed_long : (input starts : List ℕ) (n : ℕ) → n ≡ length (hits input) → starts ≡ starts_of (hits input) ++ drop n starts → n ≤ length starts
-listed_long input starts n c l = omega (arith, ap length l, length-append (starts_of (hits input)) (drop n starts), starts_length (hits input))
+pub listed_few : (input starts : List ℕ) → starts ≡ starts_of (hits input) → packet_length 0 * length starts ≤ length input
+listed_few input starts l =
+    let f = hits_few input in
+    omega (arith, listed_long input starts l, f.0, f.1)
 
 -- the start and the length of the next hit
-abbrev pub listed_next : (input starts : List ℕ) (k : ℕ) → Next
+abbrev pub listed_next : (input starts : List ℕ) (k : ℕ) → Hit
 listed_next input starts k = record { at = get_or starts k 0; size = two_at input (get_or starts k 0 + 2) }
 
 -- hits from a place on that are not empty, and the first of them
@@ -119,21 +123,21 @@ record Head (input starts : List ℕ) (at k : ℕ) : Type 0 where
   is : hits_at at input ≡ head ∷ later
   start : get_or starts k 0 ≡ head.start
 
-split : (input starts rest : List ℕ) (at k : ℕ) (hs : List Span) → hits_at at input ≡ hs → 0 < length hs → get_or starts k 0 ∷ drop (suc k) starts ≡ starts_of hs ++ rest → Head input starts at k
-split input starts rest at k [] e h l = absurd (omega arith)
-split input starts rest at k (x ∷ later) e h l = record { head = x; later = later; is = e; start = cc }
+split : (input starts : List ℕ) (at k : ℕ) (hs : List Span) → hits_at at input ≡ hs → get_or starts k 0 ∷ drop (suc k) starts ≡ starts_of hs → Head input starts at k
+split input starts at k [] e l = absurd cc
+split input starts at k (x ∷ later) e l = record { head = x; later = later; is = e; start = cc }
 
-module _ (input starts : List ℕ) (at k n : ℕ) (left : ListedFrom input starts at k n) where
-  pub listed_end : n ≤ k → IsNext input at (record { at = length input; size = 0 })
-  listed_end h = none (hits_at at input) refl
-    where
-      none : (hs : List Span) → hits_at at input ≡ hs → IsNext input at (record { at = length input; size = 0 })
-      none [] e = next_none input at (length input) left.inside (e ∙ sym (end_none input (length input) (omega arith))) 0 refl refl
-      none (x ∷ hs) e = absurd (omega (arith, left.count, ap length e))
+no_starts : (hs : List Span) → [] ≡ starts_of hs → hs ≡ []
+no_starts [] e = refl
+no_starts (h ∷ hs) e = absurd cc
 
-  module _ (h : k < n) (long : n ≤ length starts) where
+module _ (input starts : List ℕ) (at k : ℕ) (left : ListedFrom input starts at k) where
+  pub listed_end : length starts ≤ k → hits_at at input ≡ []
+  listed_end h = no_starts (hits_at at input) (sym (drop_of_length-le starts h) ∙ left.listed)
+
+  module _ (h : k < length starts) where
     first : Head input starts at k
-    first = split input starts (drop n starts) at k (hits_at at input) refl (omega (arith, left.count)) (sym (drop-cons starts k 0 (omega arith)) ∙ left.listed)
+    first = split input starts at k (hits_at at input) refl (sym (drop-cons starts k 0 h) ∙ left.listed)
 
     abbrev start : ℕ
     start = get_or starts k 0
@@ -157,16 +161,15 @@ module _ (input starts : List ℕ) (at k n : ℕ) (left : ListedFrom input start
         let l = length-drop start input in
         (omega (arith, w.long, hit_size (drop start input) some, size), omega (arith, w.long, w.fits))
 
-    pub listed_next_lem : IsNext input at (listed_next input starts k)
-    listed_next_lem =
-        next_found input at start (rw first.start found.forward) (rw first.start found.reached) (two_at input (start + 2)) (omega (arith, listed_some.1)) (sym size) (omega (arith, listed_some.0))
+    next : IsFirst input at (listed_next input starts k)
+    next =
+        next_found input at start (two_at input (start + 2)) (rw first.start found.forward) (rw first.start found.reached) (sym size) (omega (arith, listed_some.0))
 
-    pub listed_more : ListedFrom input starts (start + two_at input (start + 2)) (k + 1) n
-    listed_more =
-        let e = next_more input at (listed_next input starts k) listed_next_lem (omega (arith, listed_some.0)) in
-        let l : start ∷ drop (suc k) starts ≡ starts_of (hits_at at input) ++ drop n starts = sym (drop-cons starts k 0 (omega arith)) ∙ left.listed in
-        record { inside = listed_next_lem.inside; count = omega (arith, left.count, ap length e); listed = rw (add-one k) (ap (drop 1) (rw e at l)) }
+    more : ListedFrom input starts (start + two_at input (start + 2)) (k + 1)
+    more =
+        let l : start ∷ drop (suc k) starts ≡ starts_of (hits_at at input) = sym (drop-cons starts k 0 h) ∙ left.listed in
+        record { inside = next.inside; listed = rw (add-one k) (ap (drop 1) (rw next.first at l)) }
 
     -- the next hit, by a size that was read
-    pub listed_as : (n₁ : ℕ) → n₁ ≡ two_at input (start + 2) → IsNext input at (record { at = start; size = n₁ }) × (32 ≤ n₁) × ListedFrom input starts (start + n₁) (k + 1) n
-    listed_as n₁ e = rw e (listed_next_lem, listed_some.0, listed_more)
+    pub listed_as : (n : ℕ) → n ≡ two_at input (start + 2) → IsFirst input at (record { at = start; size = n }) × ListedFrom input starts (start + n) (k + 1)
+    listed_as n e = rw e (next, more)

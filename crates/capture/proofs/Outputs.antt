@@ -9,12 +9,11 @@ use lib.ListN.{length, length-append, length-map}
 use Rattle.lists.specs.Lists.{part, over}
 use Rattle.lists.proofs.Parts.{part_length, over_twice, over_nothing, over_length}
 use Rattle.wire.specs.Octets.{four}
-use Rattle.capture.specs.declared.Next.{Next}
+use Rattle.capture.specs.declared.Hit.{Hit}
 use Rattle.capture.specs.Search.{Span, span, hits, gap, gaps, stretches, hits_at}
 use Rattle.capture.specs.Capture.{number_length, heading_length, places, capture_of, octets_of, packets_of, recovered_capture, span_octets, stretch_list}
-use Rattle.capture.specs.code.Next.{IsNext}
+use Rattle.capture.specs.code.Next.{IsFirst}
 use Rattle.capture.specs.code.Survey.{total_size}
-use Rattle.capture.proofs.HostAfter.{next_more, next_last}
 use Rattle.capture.proofs.Order.{Order, order_le, hits_order}
 use Rattle.capture.proofs.Over.{over_apart}
 
@@ -25,22 +24,6 @@ gap_some from to h = rw (lt-ltb from to h)
 
 pub gap_none : (from to : ℕ) → to ≤ from → gap from to ≡ []
 gap_none from to h = rw (le-ltb from to h)
-
-pub stretch_long : (from to : ℕ) → from < to → length (span_octets (gap from to)) ≡ 8
-stretch_long from to h = rw (gap_some from to h)
-
-pub stretch_put : (list l₁ l₂ : List ℕ) (place from to : ℕ) → from < to → place ≤ length list
-    → l₁ ≡ over list place (four from)
-    → l₂ ≡ over l₁ (place + 4) (four (to - from))
-    → l₂ ≡ over list place (span_octets (gap from to))
-stretch_put list l₁ l₂ place from to h k e₁ e₂ =
-    e₂ ∙ rw (e₁, gap_some from to h) (over_twice place list (four from) k (four (to - from)))
-
-pub stretch_none : (list : List ℕ) (place from to : ℕ) → to ≤ from
-    → (place ≡ place + length (span_octets (gap from to))) × (list ≡ over list place (span_octets (gap from to)))
-stretch_none list place from to h =
-    let e = gap_none from to h in
-    (rw e (omega arith), rw e (sym (over_nothing place list)))
 
 pub spans_append : (a b : List Span) → span_octets (a ++ b) ≡ span_octets a ++ span_octets b
 spans_append [] b = refl
@@ -57,37 +40,35 @@ pub stretches_all : (input l : List ℕ) → StretchesAfter input l l 0 0
 unfolding stretch_list stretches hits
 stretches_all input l = record { same = refl; fits = zero-add _; left = refl }
 
-module _ (input l₀ l : List ℕ) (at place : ℕ) (left : StretchesAfter input l₀ l at place) (room : length (stretch_list input) ≤ length l₀) (n : Next) (is : IsNext input at n) where
-  abbrev put : List ℕ
-  put = span_octets (gap at n.at)
+module _ (input l₀ l : List ℕ) (at place : ℕ) (left : StretchesAfter input l₀ l at place) (room : length (stretch_list input) ≤ length l₀) where
+  module _ (h : Hit) (is : IsFirst input at h) where
+    abbrev put : List ℕ
+    put = span_octets (gap at h.at)
 
-  abbrev behind : List ℕ
-  behind = span_octets (gaps (n.at + n.size) (length input) (hits_at (n.at + n.size) input))
+    abbrev behind : List ℕ
+    behind = span_octets (gaps (h.at + h.size) (length input) (hits_at (h.at + h.size) input))
 
-  some : 0 < n.size → span_octets (gaps at (length input) (hits_at at input)) ≡ put ++ behind
-  some h = rw (next_more input at n is h) (spans_append (gap at n.at) _)
+    some : span_octets (gaps at (length input) (hits_at at input)) ≡ put ++ behind
+    some = rw is.first (spans_append (gap at h.at) _)
 
-  none : n.size ≡ 0 → span_octets (gaps at (length input) (hits_at at input)) ≡ put
-  none z = rw (next_last input at n is z, is.last z)
+    pub stretch_fits : place + length put ≤ length l
+    stretch_fits = omega (arith, left.fits, ap length some, length-append put behind, left.same)
 
-  pub stretch_fits : place + length put ≤ length l
-  stretch_fits = elim_size n.size refl
-    where
-      elim_size : (m : ℕ) → n.size ≡ m → place + length put ≤ length l
-      elim_size zero z = omega (arith, left.fits, ap length (none z), left.same)
-      elim_size (suc m) z = omega (arith, left.fits, ap length (some (omega arith)), length-append put behind, left.same)
-
-  module _ (l₁ : List ℕ) (e : l₁ ≡ over l place put) where
-    pub stretches_more : 0 < n.size → StretchesAfter input l₀ l₁ (n.at + n.size) (place + length put)
-    stretches_more h =
+    pub stretches_more : (l₁ : List ℕ) → l₁ ≡ over l place put → StretchesAfter input l₀ l₁ (h.at + h.size) (place + length put)
+    stretches_more l₁ e =
         record {
           same = ap length e ∙ over_length place l put stretch_fits ∙ left.same;
-          fits = omega (arith, left.fits, ap length (some h), length-append put behind);
-          left = rw e (over_twice place l put (omega (arith, stretch_fits)) behind ∙ rw (some h) at left.left);
+          fits = omega (arith, left.fits, ap length some, length-append put behind);
+          left = rw e (over_twice place l put (omega (arith, stretch_fits)) behind ∙ rw some at left.left);
         }
 
-    pub stretches_last : n.size ≡ 0 → l₁ ≡ over l₀ 0 (stretch_list input)
-    stretches_last z = e ∙ rw (none z) at left.left
+  -- behind the last hit
+  module _ (e : hits_at at input ≡ []) where
+    pub last_fits : place + length (span_octets (gap at (length input))) ≤ length l
+    last_fits = omega (arith, rw e at left.fits, left.same)
+
+    pub stretches_last : (l₁ : List ℕ) → l₁ ≡ over l place (span_octets (gap at (length input))) → l₁ ≡ over l₀ 0 (stretch_list input)
+    stretches_last l₁ f = f ∙ rw e at left.left
 
 -- ---- the capture, of which the packets from a place on are left
 
@@ -132,34 +113,30 @@ capture_all input c h =
       left = refl;
     }
 
-module _ (input c₀ c : List ℕ) (at place to : ℕ) (left : CaptureAfter input c₀ c at place to) (n : Next) (is : IsNext input at n) where
-  pub capture_last : n.size ≡ 0 → c ≡ capture_after input (hits input) number_length (heading_length (length (hits input))) c₀
+module _ (input c₀ c : List ℕ) (at place to : ℕ) (left : CaptureAfter input c₀ c at place to) where
+  pub capture_last : hits_at at input ≡ [] → c ≡ capture_after input (hits input) number_length (heading_length (length (hits input))) c₀
   unfolding flatten
-  capture_last z =
-      let e = next_last input at n is z in
+  capture_last e =
       sym (over_nothing place c) ∙ sym (over_nothing to (over c place [])) ∙ rw e at left.left
 
-  module _ (h : 0 < n.size) where
+  module _ (h : Hit) (is : IsFirst input at h) where
     abbrev packet : List ℕ
-    packet = part n.at n.size input
+    packet = part h.at h.size input
 
-    packet_long : length packet ≡ n.size
-    packet_long = part_length n.at n.size input is.inside
-
-    more : hits_at at input ≡ span n.at n.size ∷ hits_at (n.at + n.size) input
-    more = next_more input at n is h
+    packet_long : length packet ≡ h.size
+    packet_long = part_length h.at h.size input is.inside
 
     abbrev later : List (List ℕ)
-    later = packets_of input (hits_at (n.at + n.size) input)
+    later = packets_of input (hits_at (h.at + h.size) input)
 
     abbrev later_places : List ℕ
-    later_places = places (to + n.size) later
+    later_places = places (to + h.size) later
 
-    pub capture_fits : (place + 4 ≤ to) × (to + n.size ≤ length c)
+    pub capture_fits : (place + 4 ≤ to) × (to + h.size ≤ length c)
     capture_fits =
         let f = left.fits in
-        let e = ap (λ hs. length hs) more in
-        let t = ap total_size more in
+        let e = ap length is.first in
+        let t = ap total_size is.first in
         (omega (arith, left.heading, left.after_heading, e), omega (arith, f, t, left.same))
 
     module _ (c₁ c₂ : List ℕ) (e₁ : c₁ ≡ over c place (four to)) (e₂ : c₂ ≡ over c₁ to packet) where
@@ -171,7 +148,7 @@ module _ (input c₀ c : List ℕ) (at place to : ℕ) (left : CaptureAfter inpu
 
       places_after : place + 4 + length later_places ≤ to
       places_after =
-          omega (arith, places_long (to + n.size) later, length-map (hits_at (n.at + n.size) input) (octets_of input), left.heading, left.after_heading, ap (λ hs. length hs) more)
+          omega (arith, places_long (to + h.size) later, length-map (hits_at (h.at + h.size) input) (octets_of input), left.heading, left.after_heading, ap length is.first)
 
       placed : over c₂ (place + 4) later_places ≡ over (over c place (four to ++ later_places)) to packet
       placed =
@@ -182,19 +159,19 @@ module _ (input c₀ c : List ℕ) (at place to : ℕ) (left : CaptureAfter inpu
 
       joined : capture_after input (hits_at at input) place to c ≡ over (over c place (four to ++ later_places)) to (packet ++ flatten later)
       unfolding flatten
-      joined = rw (more, packet_long)
+      joined = rw (is.first, packet_long)
 
-      pub capture_more : CaptureAfter input c₀ c₂ (n.at + n.size) (place + 4) (to + n.size)
+      pub capture_more : CaptureAfter input c₀ c₂ (h.at + h.size) (place + 4) (to + h.size)
       capture_more =
           let x = over c place (four to ++ later_places) in
           let long : length x ≡ length c = over_length place c (four to ++ later_places) (omega (arith, length-append (four to) later_places, places_after, capture_fits.1)) in
           record {
             same = long₂ ∙ left.same;
-            heading = omega (arith, left.heading, ap (λ hs. length hs) more);
+            heading = omega (arith, left.heading, ap length is.first);
             after_heading = omega (arith, left.after_heading);
-            fits = omega (arith, left.fits, ap total_size more);
+            fits = omega (arith, left.fits, ap total_size is.first);
             left =
-                ap (λ z. over z (to + n.size) (flatten later)) placed
+                ap (λ z. over z (to + h.size) (flatten later)) placed
                 ∙ ap (λ k. over (over x to packet) (to + k) (flatten later)) (sym packet_long)
                 ∙ over_twice to x packet (omega (arith, long, capture_fits.1)) (flatten later)
                 ∙ sym joined

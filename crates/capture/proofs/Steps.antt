@@ -7,13 +7,14 @@ use native.Mathlib.Omega.{arith}
 use native.Mathlib.Numerals.{add-one}
 use native.Mathlib.Nat.{add-zero}
 use borrow.Author.Tests.{ne_eqb}
+use Rattle.std.specs.Prelude.{Option, Some, None}
 use lib.Dec.{ltb, eqb}
 use lib.ListN.{length, get_or, drop, drop_of_length-le, length-drop}
 use lib.Seq.{drop-cons, drop-drop, get_or-drop}
 use Rattle.wire.specs.Octets.{octet_at}
 use Rattle.wire.specs.Ip.{version_place, version_and_length, protocol_place, hello_protocol}
 use Rattle.capture.specs.Search.{Span, span, hit, found, hits_from, hits, hits_at, Searches, gap}
-use Rattle.capture.specs.code.Next.{IsNext}
+use Rattle.capture.specs.code.Next.{length_found, IsFirst}
 use Rattle.capture.proofs.Hits.{hit_none, hit_size, hit_shows}
 
 pub found_some : (at n : ℕ) → 0 < n → found at n ≡ span at n ∷ []
@@ -94,24 +95,32 @@ searches input = (
 
 -- ---- the next hit, from what was found out at a place
 
-module _ (s : List ℕ) (from at : ℕ) (forward : from ≤ at) (left : hits_at from s ≡ hits_at at s) where
-  pub next_none : (n : ℕ) → n ≡ 0 → at ≡ length s → IsNext s from (record { at = at; size = n })
-  next_none n z e =
-      record {
-        forward = forward;
-        inside = omega arith;
-        last = λ _. e;
-        first = rw (z, add-zero at) left;
-      }
+pub found_nothing : {n : ℕ} → n ≡ 0 → None ≡ length_found n
+found_nothing e = sym (ap length_found e)
 
-  pub next_found : (n : ℕ) → at < length s → n ≡ hit (drop at s) → 0 < n → IsNext s from (record { at = at; size = n })
-  next_found zero h e p = absurd (omega arith)
-  next_found (suc n) h e p =
-      let w = hit_shows (drop at s) (rw e at p) in
-      let l = length-drop at s in
-      record {
-        forward = forward;
-        inside = omega (arith, w.fits, e ∙ hit_size (drop at s) (rw e at p));
-        last = λ q. absurd (omega arith);
-        first = left ∙ at_hit s at n (sym e) ∙ rw (found_some at (suc n) p);
-      }
+pub found_none : (n : ℕ) → length_found n ≡ None → n ≡ 0
+found_none zero e = refl
+found_none (suc n) e = absurd (some_none (length_found (suc n)) refl e)
+  where
+    some_none : (o : Option ℕ) → o ≡ Some (suc n) → o ≡ None → ⊥
+    some_none o a b = let z : Some (suc n) ≡ None = sym a ∙ b in cc
+
+pub found_size : (n size : ℕ) → length_found n ≡ Some size → (size ≡ n) × (0 < size)
+found_size zero size e = let z : None ≡ Some size = e in absurd cc
+found_size (suc n) size e = let z : suc n ≡ size = cc in (sym z, omega arith)
+
+pub as_found : (n size : ℕ) → 0 < size → size ≡ n → Some size ≡ length_found n
+as_found zero size h e = absurd (omega arith)
+as_found (suc n) size h e = ap Some e
+
+pub next_found : (s : List ℕ) (from at n : ℕ) → from ≤ at → hits_at from s ≡ hits_at at s → n ≡ hit (drop at s) → 0 < n → IsFirst s from (record { at = at; size = n })
+next_found s from at zero forward left e p = absurd (omega arith)
+next_found s from at (suc n) forward left e p =
+    let w = hit_shows (drop at s) (rw e at p) in
+    let l = length-drop at s in
+    record {
+      forward = forward;
+      inside = omega (arith, w.fits, e ∙ hit_size (drop at s) (rw e at p));
+      some = p;
+      first = left ∙ at_hit s at n (sym e);
+    }

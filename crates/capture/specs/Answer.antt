@@ -1,10 +1,9 @@
--- ANSWER-27: the answers of recovery.
+-- ANSWER-27: the refusals of recovery.
 use Rattle.std.specs.Prelude.{ℕ}
-use Rattle.capture.specs.declared.Answer.{Answer}
-use Rattle.capture.specs.declared.Answer.TheVariants.{Done, ShortBuffer, CaptureLength}
+use Rattle.capture.specs.declared.Refusal.{Refusal}
+use Rattle.capture.specs.declared.Refusal.TheVariants.{ShortBuffer, CaptureLength}
 
--- ANSWER-27, REPLY-5: the number of each answer
-abbrev pub number : Answer → ℕ
-number Done = 0  -- done
+-- ANSWER-27, REPLY-5: the number of each refusal
+abbrev pub number : Refusal → ℕ
 number ShortBuffer = 2  -- the outputs don't fit
 number CaptureLength = 27  -- an input over 65,536 octets

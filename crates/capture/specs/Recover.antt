@@ -1,8 +1,8 @@
 -- CAPTURE-7: recovery: from an input and two buffers to what it returns and the buffers afterwards.
-use Rattle.std.specs.Prelude.{◌≡◌, cond, false, ◌||◌, List, ℕ, ◌≤◌, ltb, length}
+use Rattle.std.specs.Prelude.{◌≡◌, cond, ◌||◌, List, ℕ, ◌≤◌, ltb, length, Result, Ok, Err}
 use Rattle.lists.specs.Lists.{over}
-use Rattle.capture.specs.declared.Answer.{Answer}
-use Rattle.capture.specs.declared.Answer.TheVariants.{Done, ShortBuffer, CaptureLength}
+use Rattle.capture.specs.declared.Refusal.{Refusal}
+use Rattle.capture.specs.declared.Refusal.TheVariants.{ShortBuffer, CaptureLength}
 use Rattle.capture.specs.declared.Recovered.{Recovered}
 use Rattle.capture.specs.Capture.{recovered_capture, stretch_list, places_true_of}
 
@@ -20,29 +20,24 @@ longest_stretches = 16392
 
 -- CAPTURE-7: what is returned, and the two buffers afterwards
 pub record Outcome : Type 0 where
-  pub recovered : Recovered
+  pub recovered : Result Recovered Refusal
   pub capture : List ℕ
   pub stretches : List ℕ
 
--- CAPTURE-7: a refusal returns zeros
-abbrev pub refusal : Answer → Recovered
-refusal a = record { answer = a; capture_length = 0; stretches_length = 0; places_true = false }
-
 -- CAPTURE-7: a refusal changes no buffer
-abbrev pub refused : Answer → (capture stretches : List ℕ) → Outcome
-refused a capture stretches =
-    record { recovered = refusal a; capture = capture; stretches = stretches }
+abbrev pub refused : Refusal → (capture stretches : List ℕ) → Outcome
+refused r capture stretches =
+    record { recovered = Err r; capture = capture; stretches = stretches }
 
 -- CAPTURE-4, CAPTURE-5: both outputs are written; the octets after them stay
 abbrev pub written : (input capture stretches : List ℕ) → Outcome
 written input capture stretches =
     record {
-      recovered = record {
-        answer = Done;
+      recovered = Ok (record {
         capture_length = length (recovered_capture input);
         stretches_length = length (stretch_list input);
         places_true = places_true_of input;
-      };
+      });
       capture = over capture 0 (recovered_capture input);
       stretches = over stretches 0 (stretch_list input);
     }
@@ -55,7 +50,7 @@ recover input capture stretches =
     (written input capture stretches))
 
 -- CAPTURE-7: an outcome as a caller sees it
-pub record Leaves (o : Outcome) (m : Recovered) (c s : List ℕ) : Type 0 where
+pub record Leaves (o : Outcome) (m : Result Recovered Refusal) (c s : List ℕ) : Type 0 where
   pub recovered : m ≡ o.recovered
   pub capture : c ≡ o.capture
   pub stretches : s ≡ o.stretches

@@ -1,49 +1,18 @@
 // The search's pass: where the hits start, how much there is to write, and whether the input's places are those of its hits.
-ghost use Rattle.std.specs.Prelude.{◌≡◌, ◌≤◌, length};
-ghost use Rattle.capture.specs.Search.{gap};
-ghost use Rattle.capture.specs.Capture.{heading_length};
+ghost use Rattle.std.specs.Prelude.{◌≡◌, ◌+◌, ◌≤◌, length};
+ghost use Rattle.capture.specs.Search.{hits, gap};
+ghost use Rattle.capture.specs.Capture.{places_true_of};
 ghost use Rattle.capture.specs.Recover.{longest_input};
-ghost use Rattle.capture.specs.code.Survey.{most_hits, Surveyed, stands_at, counted, marked};
+ghost use Rattle.capture.specs.code.Survey.{most_hits, starts_of, Surveyed};
 
-use super::numbers::four_at;
 use super::search::next;
-use super::{NUMBER, Next, Survey};
+use super::{NUMBER, Survey};
 
 // The number of stretches from one place to another: one, where there are octets.
 fn stretch_count(from: usize, to: usize) -> usize
     ensures { (result ≡ length (gap from to)) × (result ≤ 1) }
 {
-    if from < to {
-        return 1;
-    }
-    0
-}
-
-// Whether a number is at a place of the input, if all were so far.
-fn stands(input: &[u8], so_far: bool, place: usize, number: usize) -> bool
-    requires { place ≤ heading_length longest_input }
-    ensures { result ≡ stands_at input.now so_far place number }
-{
-    if !so_far {
-        return false;
-    }
-    if input.len() < place + NUMBER {
-        return false;
-    }
-    four_at(input, place) == number
-}
-
-// One hit more, and the stretch before it.
-fn counted(input: &[u8], s: Survey, from: usize, n: Next) -> Survey
-    requires { (s.hits ≤ longest_input) × (s.octets ≤ longest_input) × (s.stretches ≤ longest_input) × (n.size ≤ longest_input) }
-    ensures { result ≡ counted input.now s from n }
-{
-    Survey {
-        hits: s.hits + 1,
-        octets: s.octets + n.size,
-        stretches: s.stretches + stretch_count(from, n.at),
-        placed: stands(input, s.placed, NUMBER + NUMBER * s.hits, n.at),
-    }
+    usize::from(from < to)
 }
 
 // What there is to write of an input; writes the start of each hit to a list.
@@ -55,31 +24,38 @@ pub fn survey(input: &[u8], starts: &mut [u16]) -> Survey
         hits: 0,
         octets: 0,
         stretches: 0,
-        placed: true,
     };
     let mut at: usize = 0;
-    loop {
-        let n = next(input, at);
-        if n.size == 0 {
-            s.stretches = s.stretches + stretch_count(at, n.at);
-            return s;
-        }
-        let k = s.hits;
-        starts[k] = n.at as u16;
-        s = counted(input, s, at, n);
-        at = n.at + n.size;
+    while let Some(hit) = next(input, at) {
+        starts[s.hits] = hit.at as u16;
+        s = Survey {
+            hits: s.hits + 1,
+            octets: s.octets + hit.size,
+            stretches: s.stretches + stretch_count(at, hit.at),
+        };
+        at = hit.at + hit.size;
+    }
+    Survey {
+        stretches: s.stretches + stretch_count(at, input.len()),
+        ..s
     }
 }
 
-// CAPTURE-5: are number and places in the input those of the packets found?
-pub fn marked(input: &[u8], s: Survey) -> bool
-    ensures { result ≡ marked input.now s }
+// CAPTURE-5: are number and places in the input those of the packets found, by where these start?
+pub fn marked(input: &[u8], starts: &[u16]) -> bool
+    requires { starts.now ≡ starts_of (hits input.now) }
+    ensures { result ≡ places_true_of input.now }
 {
-    if input.len() < NUMBER {
+    if input.len() < NUMBER + NUMBER * starts.len() {
         return false;
     }
-    if four_at(input, 0) != s.hits {
+    if octets::four_at(input, 0) as usize != starts.len() {
         return false;
     }
-    s.placed
+    for (k, &start) in starts.iter().enumerate() {
+        if octets::four_at(input, NUMBER + NUMBER * k) != start as u32 {
+            return false;
+        }
+    }
+    true
 }

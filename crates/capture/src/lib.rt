@@ -8,10 +8,9 @@ ghost use Rattle.capture.specs.Cover.{Covers};
 ghost use Rattle.capture.specs.Damage.{Damage};
 ghost use Rattle.capture.specs.Straddle.{StraddledUndamaged, StraddledDamaged};
 ghost use Rattle.capture.specs.Again.{Again};
-ghost use Rattle.capture.specs.Recover.{refusal, recover, Leaves, Bounded};
+ghost use Rattle.capture.specs.Recover.{recover, Leaves, Bounded};
 
 mod counting;
-mod numbers;
 mod search;
 mod writing;
 
@@ -24,86 +23,70 @@ const MOST: usize = 2048;
 // The octets of a number.
 const NUMBER: usize = 4;
 
-#[derive(Clone, Copy)]
-pub enum Answer {
-    Done,
-    ShortBuffer,
-    CaptureLength,
+// Why recovery refuses, with the numbers of the published table.
+#[derive(Clone, Copy, PartialEq, Eq)]
+pub enum Refusal {
+    ShortBuffer = 2,
+    CaptureLength = 27,
+}
+
+impl From<Refusal> for u8 {
+    ghost from_gives = { λ r n. n ≡ number r };
+
+    fn from(r: Refusal) -> u8 {
+        r as u8
+    }
 }
 
 // CAPTURE-5: what recovery returns: how many octets it wrote to each output, and whether number and places in the input are those of the packets found.
-#[derive(Clone, Copy)]
+#[derive(Clone, Copy, PartialEq, Eq)]
 pub struct Recovered {
-    pub answer: Answer,
     pub capture_length: usize,
     pub stretches_length: usize,
     pub places_true: bool,
 }
 
-// The next hit from a place on; no octets at the end of the input where there is none.
+// A packet found: where it starts, and how many octets it has.
 #[derive(Clone, Copy)]
-pub struct Next {
+pub struct Hit {
     pub at: usize,
     pub size: usize,
 }
 
-// What the search finds: the hits, the octets of their packets, the stretches, and whether the places of the input are those of the hits.
+// What the search finds: the hits, the octets of their packets, and the stretches.
 #[derive(Clone, Copy)]
 pub struct Survey {
     pub hits: usize,
     pub octets: usize,
     pub stretches: usize,
-    pub placed: bool,
-}
-
-// The number of an answer in the published table.
-pub fn number(a: Answer) -> u8
-    ensures { result ≡ number a }
-{
-    match a {
-        Answer::Done => 0,
-        Answer::ShortBuffer => 2,
-        Answer::CaptureLength => 27,
-    }
-}
-
-// A refusal: zeros.
-fn refused(a: Answer) -> Recovered
-    ensures { result ≡ refusal a }
-{
-    Recovered {
-        answer: a,
-        capture_length: 0,
-        stretches_length: 0,
-        places_true: false,
-    }
 }
 
 // The mender: writes a capture of the packets that it finds in the input, and a list of the stretches that it passed over.
 // Octets beyond what is written stay; where it refuses, both outputs stay as they are.
-pub fn recover(input: &[u8], capture: &mut [u8], stretches: &mut [u8]) -> Recovered
+pub fn recover(input: &[u8], capture: &mut [u8], stretches: &mut [u8]) -> Result<Recovered, Refusal>
     ensures { Leaves (recover input.now capture.old stretches.old) result capture.new stretches.new }
 {
     if LONGEST < input.len() {
-        return refused(Answer::CaptureLength);
+        return Err(Refusal::CaptureLength);
     }
+    // The library has no heap, so the list of starts has a place for each packet that an input can have.
     let mut starts = [0u16; MOST];
     let s = counting::survey(input, &mut starts);
     let capture_length = NUMBER + NUMBER * s.hits + s.octets;
     if capture.len() < capture_length {
-        return refused(Answer::ShortBuffer);
+        return Err(Refusal::ShortBuffer);
     }
     let stretches_length = 2 * NUMBER * s.stretches;
     if stretches.len() < stretches_length {
-        return refused(Answer::ShortBuffer);
+        return Err(Refusal::ShortBuffer);
     }
-    writing::write(input, &mut *capture, &mut *stretches, &starts, s.hits);
-    Recovered {
-        answer: Answer::Done,
+    let starts = &starts[..s.hits];
+    writing::write(input, capture, stretches, starts);
+    Ok(Recovered {
         capture_length,
         stretches_length,
-        places_true: counting::marked(input, s),
-    }
+        places_true: counting::marked(input, starts),
+    })
 }
 
 // The search goes step by step as the paper has it.

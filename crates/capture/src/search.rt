@@ -1,13 +1,11 @@
 // The search for packets.
-ghost use Rattle.std.specs.Prelude.{◌≡◌, false, ◌+◌, ◌≤◌, ◌<◌, length, drop};
+ghost use Rattle.std.specs.Prelude.{◌≡◌, false, ◌+◌, ◌≤◌, ◌<◌, min, length, drop};
 ghost use Rattle.wire.specs.Octets.{octet_at};
 ghost use Rattle.wire.specs.Ip.{version_place, version_and_length};
 ghost use Rattle.capture.specs.Search.{hit};
-ghost use Rattle.capture.specs.Recover.{longest_input};
-ghost use Rattle.capture.specs.code.Next.{NoneBetween, IsNext};
+ghost use Rattle.capture.specs.code.Next.{length_found, NoneBetween, IsNext};
 
-use super::Next;
-use super::numbers::two_at;
+use super::Hit;
 
 // The octets of a packet without hosts: no packet is shorter.
 const SHORTEST: usize = 32;
@@ -32,43 +30,43 @@ const NHOSTS: usize = 31;
 // How many places are tested at a time.
 const LANES: usize = 32;
 
-// The length of the packet with which the octets begin; 0 if there is none. The tests that cost little come first.
-fn hit(octets: &[u8]) -> usize
+// The length of the packet with which the octets begin, if there is one. The tests that cost little come first.
+fn hit(octets: &[u8]) -> Option<usize>
     requires { octet_at octets.now version_place ≡ version_and_length }
-    ensures { result ≡ hit octets.now }
+    ensures { result ≡ length_found (hit octets.now) }
 {
     if octets.len() < SHORTEST {
-        return 0;
+        return None;
     }
     if octets[PROTOCOL] != HELLO {
-        return 0;
+        return None;
     }
-    if two_at(octets, FRAGMENT) % 0x4000 != 0 {
-        return 0;
+    if octets::two_at(octets, FRAGMENT) % 0x4000 != 0 {
+        return None;
     }
-    let total = two_at(octets, TOTAL);
+    let total = octets::two_at(octets, TOTAL) as usize;
     if octets.len() < total {
-        return 0;
+        return None;
     }
     if total != wire::length(octets[NHOSTS]) {
-        return 0;
+        return None;
     }
     if !checksum::good(&octets[..HEADER]) {
-        return 0;
+        return None;
     }
     if !checksum::good(&octets[HEADER..total]) {
-        return 0;
+        return None;
     }
-    total
+    Some(total)
 }
 
-// The length of the packet at a place; 0 if there is none.
-fn hit_at(input: &[u8], at: usize) -> usize
+// The length of the packet at a place, if there is one.
+fn hit_at(input: &[u8], at: usize) -> Option<usize>
     requires { at < length input.now }
-    ensures { result ≡ hit (drop at input.now) }
+    ensures { result ≡ length_found (hit (drop at input.now)) }
 {
     if input[at] != VERSION_AND_LENGTH {
-        return 0;
+        return None;
     }
     hit(&input[at..])
 }
@@ -79,17 +77,15 @@ fn any_may(input: &[u8], at: usize) -> bool
     ensures { result ≡ false → NoneBetween input.now at (at + 32) }
 {
     let mut any = false;
-    let mut i: usize = 0;
-    while i < LANES {
+    for i in 0..LANES {
         any = any | ((input[at + i] == VERSION_AND_LENGTH) & (input[at + i + PROTOCOL] == HELLO));
-        i += 1;
     }
     any
 }
 
-// Passes over places at which no packet begins, 32 at a time.
+// Passes over places at which no packet begins, 32 at a time. The place after the last step is what a caller needs, so the loop counts it.
 fn leap(input: &[u8], from: usize) -> usize
-    requires { (from ≤ length input.now) × (length input.now ≤ longest_input) }
+    requires { from ≤ length input.now }
     ensures { NoneBetween input.now from result }
 {
     let mut at = from;
@@ -104,8 +100,8 @@ fn leap(input: &[u8], from: usize) -> usize
 
 // The end of n places from a place on, or of the input.
 fn end_of(input: &[u8], at: usize, n: usize) -> usize
-    requires { (at ≤ length input.now) × (0 < n) }
-    ensures { (at ≤ result) × (result ≤ length input.now) × (at < length input.now → at < result) }
+    requires { at ≤ length input.now }
+    ensures { result ≡ min (at + n) (length input.now) }
 {
     if input.len() - at < n {
         return input.len();
@@ -113,27 +109,23 @@ fn end_of(input: &[u8], at: usize, n: usize) -> usize
     at + n
 }
 
-// The next hit from a place on. One packet often follows another, so this place is tested alone first. The search is nested, and exits by its label.
-pub fn next(input: &[u8], from: usize) -> Next
-    requires { (from ≤ length input.now) × (length input.now ≤ longest_input) }
+// The next hit from a place on, if there is one. One packet often follows another, so this place is tested alone first.
+pub fn next(input: &[u8], from: usize) -> Option<Hit>
+    requires { from ≤ length input.now }
     ensures { IsNext input.now from result }
 {
-    let mut at = from;
-    let mut size: usize = 0;
-    let mut end = end_of(input, at, 1);
-    'search: loop {
-        while at < end {
-            size = hit_at(input, at);
-            if 0 < size {
-                break 'search;
+    let mut start = from;
+    let mut end = end_of(input, from, 1);
+    loop {
+        for at in start..end {
+            if let Some(size) = hit_at(input, at) {
+                return Some(Hit { at, size });
             }
-            at += 1;
         }
-        if at >= input.len() {
-            break 'search;
+        if end == input.len() {
+            return None;
         }
-        at = leap(input, at);
-        end = end_of(input, at, LANES);
+        start = leap(input, end);
+        end = end_of(input, start, LANES);
     }
-    Next { at, size }
 }

@@ -1,14 +1,21 @@
 // The pass over the hits: the capture of the hits, and the list of stretches.
 ghost use Rattle.std.specs.Prelude.{◌≡◌, ◌+◌, ◌≤◌, length};
 ghost use Rattle.lists.specs.Lists.{over};
-ghost use Rattle.capture.specs.Search.{gap, hits};
+ghost use Rattle.octets.specs.Octets.{four};
+ghost use Rattle.capture.specs.Search.{gap};
 ghost use Rattle.capture.specs.Capture.{span_octets, recovered_capture, stretch_list};
-ghost use Rattle.capture.specs.Recover.{longest_input};
 ghost use Rattle.capture.specs.code.Writing.{Room};
 
 use super::NUMBER;
-use super::numbers::{put_four, two_at};
 use super::search::TOTAL;
+
+// Writes the last 32 bits of a number.
+fn put_four(s: &mut [u8], i: usize, n: usize)
+    requires { i + 4 ≤ length s.old }
+    ensures { s.new ≡ over s.old i (four n) }
+{
+    octets::put_four(s, i, (n % 0x1_0000_0000) as u32);
+}
 
 // Writes the stretch from one octet to another to a place of the list, if it has octets; returns the place after it.
 fn put_stretch(list: &mut [u8], place: usize, from: usize, to: usize) -> usize
@@ -16,33 +23,31 @@ fn put_stretch(list: &mut [u8], place: usize, from: usize, to: usize) -> usize
     ensures { (result ≡ place + length (span_octets (gap from to))) × (list.new ≡ over list.old place (span_octets (gap from to))) }
 {
     if from < to {
-        put_four(&mut *list, place, from);
-        put_four(&mut *list, place + NUMBER, to - from);
+        put_four(list, place, from);
+        put_four(list, place + NUMBER, to - from);
         return place + 2 * NUMBER;
     }
     place
 }
 
-// Both outputs, of an input with n hits, from where they start. A hit's length is in its header.
-pub fn write(input: &[u8], capture: &mut [u8], stretches: &mut [u8], starts: &[u16], hits: usize)
-    requires { Room input.now capture.old stretches.old starts.now hits }
+// Both outputs, of an input, from where its hits start. A hit's length is in its header.
+pub fn write(input: &[u8], capture: &mut [u8], stretches: &mut [u8], starts: &[u16])
+    requires { Room input.now capture.old stretches.old starts.now }
     ensures { (capture.new ≡ over capture.old 0 (recovered_capture input.now))
         × (stretches.new ≡ over stretches.old 0 (stretch_list input.now)) }
 {
-    put_four(&mut *capture, 0, hits);
-    let mut k: usize = 0;
+    put_four(capture, 0, starts.len());
     let mut at: usize = 0;
-    let mut to = NUMBER + NUMBER * hits;
+    let mut to = NUMBER + NUMBER * starts.len();
     let mut end: usize = 0;
-    while k < hits {
-        let start = starts[k] as usize;
-        let size = two_at(input, start + TOTAL);
-        end = put_stretch(&mut *stretches, end, at, start);
+    for (k, &first) in starts.iter().enumerate() {
+        let start = first as usize;
+        let size = octets::two_at(input, start + TOTAL) as usize;
+        end = put_stretch(stretches, end, at, start);
         at = start + size;
-        put_four(&mut *capture, NUMBER + NUMBER * k, to);
-        wire::copy(&mut *capture, to, &input[start..at]);
+        put_four(capture, NUMBER + NUMBER * k, to);
+        wire::copy(capture, to, &input[start..at]);
         to += size;
-        k += 1;
     }
-    put_stretch(&mut *stretches, end, at, input.len());
+    put_stretch(stretches, end, at, input.len());
 }

@@ -4,6 +4,7 @@ ghost use Rattle.capture.specs.Recover.{recover};
 ghost use Rattle.hello.specs.Recovered.{recovered_returned};
 
 // What the mender answers: the number of the answer, the octets written to both outputs, and the mark.
+// C programs read this struct (`hello_mended` of hello_capture.h), so the answer is a number beside its values.
 #[repr(C)]
 #[derive(Clone, Copy)]
 pub struct Recovered {
@@ -20,12 +21,18 @@ pub extern "C" fn hello_mend(input: &[u8], capture: &mut [u8], stretches: &mut [
         × (capture.new ≡ (recover input.now capture.old stretches.old).capture)
         × (stretches.new ≡ (recover input.now capture.old stretches.old).stretches) }
 {
-    let m = capture::recover(input, &mut *capture, &mut *stretches);
-    let a = m.answer;
-    Recovered {
-        answer: capture::number(a),
-        capture_length: m.capture_length,
-        stretches_length: m.stretches_length,
-        places_true: m.places_true,
+    match capture::recover(input, capture, stretches) {
+        Ok(m) => Recovered {
+            answer: 0,
+            capture_length: m.capture_length,
+            stretches_length: m.stretches_length,
+            places_true: m.places_true,
+        },
+        Err(refusal) => Recovered {
+            answer: refusal.into(),
+            capture_length: 0,
+            stretches_length: 0,
+            places_true: false,
+        },
     }
 }

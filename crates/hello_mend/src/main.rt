@@ -3,7 +3,9 @@
 // The input buffer holds one octet more than the mender takes: of a longer input it is full, and the answer is 27.
 #![tactic(auto)]
 
-ghost use Rattle.std.specs.Prelude.{◌+◌, ◌≤◌, length};
+ghost use Rattle.std.specs.Prelude.{◌≡◌, length};
+
+use capture::Refusal;
 
 // The octets of a number, and of a stretch in the list.
 const NUMBER: usize = 4;
@@ -14,30 +16,34 @@ const STDOUT: i32 = 1;
 
 const STDERR: i32 = 2;
 
-fn number(list: &[u8], i: usize) -> u64
-    requires { i + 4 ≤ length list.now }
+fn print_stretch(stretch: &[u8])
+    requires { length stretch.now ≡ 8 }
 {
-    octets::four_at(list, i) as u64
+    io::print_decimal(STDERR, octets::four_at(stretch, 0) as u64);
+    io::write_all(STDERR, b" ");
+    io::print_decimal(STDERR, octets::four_at(stretch, NUMBER) as u64);
+    io::write_all(STDERR, b"\n");
 }
 
 // A line for each stretch of the list.
 fn print_stretches(list: &[u8]) {
-    let mut i: usize = 0;
-    while STRETCH <= list.len() - i {
-        io::print_decimal(STDERR, number(list, i));
-        io::write_all(STDERR, b" ");
-        io::print_decimal(STDERR, number(list, i + NUMBER));
-        io::write_all(STDERR, b"\n");
-        i += STRETCH;
+    for stretch in list.chunks_exact(STRETCH) {
+        print_stretch(stretch);
     }
 }
 
 fn print_mark(places_true: bool) {
     if places_true {
         io::write_all(STDERR, b"number and places are right\n");
-        return;
+    } else {
+        io::write_all(STDERR, b"number and places are not right\n");
     }
-    io::write_all(STDERR, b"number and places are not right\n");
+}
+
+fn print_refusal(refusal: Refusal) {
+    io::write_all(STDERR, b"refused with ");
+    io::print_decimal(STDERR, u8::from(refusal) as u64);
+    io::write_all(STDERR, b"\n");
 }
 
 fn main() {
@@ -45,18 +51,12 @@ fn main() {
     let mut output = [0u8; 73732];
     let mut stretches = [0u8; 16392];
     let n = io::read_full(0, &mut input);
-    let m = capture::recover(&input[..n], &mut output, &mut stretches);
-    let a = m.answer;
-    let answer = capture::number(a);
-    if answer != 0 {
-        io::write_all(STDERR, b"refused with ");
-        io::print_decimal(STDERR, answer as u64);
-        io::write_all(STDERR, b"\n");
-        return;
+    match capture::recover(&input[..n], &mut output, &mut stretches) {
+        Ok(m) => {
+            io::write_all(STDOUT, &output[..m.capture_length]);
+            print_stretches(&stretches[..m.stretches_length]);
+            print_mark(m.places_true);
+        }
+        Err(refusal) => print_refusal(refusal),
     }
-    let capture_length = m.capture_length;
-    let stretches_length = m.stretches_length;
-    io::write_all(STDOUT, &output[..capture_length]);
-    print_stretches(&stretches[..stretches_length]);
-    print_mark(m.places_true);
 }

@@ -1,15 +1,16 @@
 -- The tests are those of the definition, by what the search found.
-use mathlib.Core.Path.{refl, ◌∙◌}
+use mathlib.Core.Path.{refl, sym}
 use native.Mathlib.Omega.{arith}
+use lib.Seq.{length-take-le}
 use Rattle.capture.specs.Search.{hits}
 use Rattle.capture.proofs.Listed.{listed_over}
-use Rattle.capture.proofs.Mending.{hits_returned, capture_returned, stretches_returned, mark_returned, returned_small, recover_long, recover_capture, recover_stretches, recover_written, leaves}
+use Rattle.capture.proofs.Mending.{hits_returned, capture_returned, stretches_returned, returned_small, returned_few, recover_long, recover_capture, recover_stretches, recover_written, leaves}
 use Rattle.capture.proofs.recover.Goals as goal
 
 pub returns-then-input-gt-LONGEST : goal.returns-then-input-gt-LONGEST
 returns-then-input-gt-LONGEST c =
     let a = c.args in
-    leaves _ _ _ _ _ (recover_long a.input.now a.capture.now a.stretches.now (omega arith)) c.refused.ensures refl refl
+    leaves _ _ _ _ _ (recover_long a.input.now a.capture.now a.stretches.now (omega arith)) refl refl refl
 
 pub overflow_mul-capture_length : goal.overflow_mul-capture_length
 overflow_mul-capture_length c = omega (arith, returned_small c.args.input.now _ c.survey-s.ensures.counts (omega arith))
@@ -24,7 +25,7 @@ pub returns-then-capture-capture_length : goal.returns-then-capture-capture_leng
 returns-then-capture-capture_length c =
     let a = c.args in
     let returned = capture_returned a.input.now _ c.survey-s.ensures.counts in
-    leaves _ _ _ _ _ (recover_capture a.input.now a.capture.now a.stretches.now (omega arith) (omega arith)) c.refused-then-capture-capture_length.ensures refl refl
+    leaves _ _ _ _ _ (recover_capture a.input.now a.capture.now a.stretches.now (omega arith) (omega arith)) refl refl refl
 
 pub overflow_mul-stretches_length-2 : goal.overflow_mul-stretches_length-2
 overflow_mul-stretches_length-2 c = omega (arith, returned_small c.args.input.now _ c.survey-s.ensures.counts (omega arith))
@@ -34,7 +35,13 @@ returns-then-stretches-stretches_length c =
     let a = c.args in
     let returned = capture_returned a.input.now _ c.survey-s.ensures.counts in
     let returned₂ = stretches_returned a.input.now _ c.survey-s.ensures.counts in
-    leaves _ _ _ _ _ (recover_stretches a.input.now a.capture.now a.stretches.now (omega arith) (omega arith) (omega arith)) c.refused-then-stretches-stretches_length.ensures refl refl
+    leaves _ _ _ _ _ (recover_stretches a.input.now a.capture.now a.stretches.now (omega arith) (omega arith) (omega arith)) refl refl refl
+
+pub slice_bounds-starts-end : goal.slice_bounds-starts-end
+slice_bounds-starts-end c = omega (arith, returned_few c.args.input.now _ c.survey-s.ensures.counts (omega arith))
+
+pub slice_bounds-starts-end-2 : goal.slice_bounds-starts-end-2
+slice_bounds-starts-end-2 c = sym (length-take-le _ _ (omega (arith, returned_few c.args.input.now _ c.survey-s.ensures.counts (omega arith))))
 
 pub write-requires : goal.write-requires
 write-requires c =
@@ -42,11 +49,15 @@ write-requires c =
     let e = c.survey-s.ensures.counts in
     record {
       short = omega arith;
-      count = hits_returned input _ e;
       listed = listed_over (hits input) _ _ _ (hits_returned input _ e) c.survey-s.ensures.listed;
       capture_fits = omega (arith, capture_returned input _ e);
       stretches_fit = omega (arith, stretches_returned input _ e);
     }
+
+pub marked-requires : goal.marked-requires
+marked-requires c =
+    let input = c.args.input.now in
+    listed_over (hits input) _ _ _ (hits_returned input _ c.survey-s.ensures.counts) c.survey-s.ensures.listed
 
 pub returns : goal.returns
 returns c =
@@ -56,6 +67,6 @@ returns c =
     let returned₂ = stretches_returned a.input.now _ e in
     leaves _ _ _ _ _
     (recover_written a.input.now a.capture.now a.stretches.now (omega arith) (omega arith) (omega arith))
-    (rw (returned, returned₂, c.marked.ensures ∙ mark_returned a.input.now _ e))
+    (rw (returned, returned₂, c.marked.ensures))
     c.write.ensures.0
     c.write.ensures.1

@@ -1,44 +1,46 @@
 -- What was counted and listed, with what remains, is all of the input.
-use mathlib.Core.Path.{refl}
 use Prim.Native.Nat.{◌<◌}
 use native.Mathlib.Omega.{arith}
+use lib.ListN.{length}
+use Rattle.capture.specs.code.Next.{IsFirst}
 use Rattle.capture.proofs.HostAfter.{all_left, after_more, after_last, counts_more}
 use Rattle.capture.proofs.Listed.{starts_all, starts_more, starts_last, starts_fit}
 use Rattle.capture.proofs.counting.survey.Goals as goal
 
-pub loop-n-init : goal.loop-n-init
-loop-n-init c = (omega arith, omega arith, omega arith, omega arith, all_left _, starts_all _ _)
+pub loop-hit-init : goal.loop-hit-init
+loop-hit-init c = record { inside = omega arith; few = (omega arith, omega arith, omega arith); counted = all_left _; listed = starts_all _ _ }
 
-pub returns-then-n-eq0 : goal.returns-then-n-eq0
-returns-then-n-eq0 c =
+pub bounds-starts-s : goal.bounds-starts-s
+bounds-starts-s c =
     let a = c.args in
-    let l = c.loop-n in
-    let n = c.next-n in
+    let l = c.loop-hit in
+    omega (arith, starts_fit a.input.now l.at l.s.hits c.in-Some.hit c.in-Some.ensures l.invariant.counted.hits_after c.requires.0, l.invariant.listed.same, c.requires.1)
+
+pub loop-hit-smaller : goal.loop-hit-smaller
+loop-hit-smaller c =
+    let h : IsFirst c.args.input.now c.loop-hit.at c.in-Some.hit = c.in-Some.ensures in
+    omega (arith, h.forward, h.inside, h.some)
+
+pub loop-hit-preserved : goal.loop-hit-preserved
+loop-hit-preserved c =
+    let a = c.args in
+    let l = c.loop-hit in
+    let h = c.in-Some.hit in
+    let is : IsFirst a.input.now l.at h = c.in-Some.ensures in
+    let fits = starts_fit a.input.now l.at l.s.hits h is l.invariant.counted.hits_after c.requires.0 in
+    let k : l.s.hits < length l.starts = omega (arith, fits, l.invariant.listed.same, c.requires.1) in
     record {
-      counts = after_last a.input.now l.at l.s l.invariant.4 n.result n.ensures c.if-n-eq0.true _ c.stretch_count.ensures.0;
-      listed = starts_last a.input.now _ l.starts l.at l.s.hits l.invariant.5 n.result n.ensures c.if-n-eq0.true;
+      inside = is.inside;
+      few = counts_more a.input.now l.at l.s l.invariant.counted h is c.stretch_count.result c.stretch_count.ensures.0 l.invariant.few;
+      counted = after_more a.input.now l.at l.s l.invariant.counted h is c.stretch_count.result c.stretch_count.ensures.0;
+      listed = starts_more a.input.now _ l.starts l.at l.s.hits l.invariant.listed h is k;
     }
 
-pub bounds-starts-k : goal.bounds-starts-k
-bounds-starts-k c =
+pub returns : goal.returns
+returns c =
     let a = c.args in
-    let l = c.loop-n in
-    let n = c.next-n in
-    omega (arith, starts_fit a.input.now l.at l.s.hits n.result n.ensures (omega arith) l.invariant.4.hits_after c.requires.0, l.invariant.5.same, c.requires.1)
-
-pub loop-n-preserved : goal.loop-n-preserved
-loop-n-preserved c =
-    let a = c.args in
-    let l = c.loop-n in
-    let n = c.next-n in
-    let more : 0 < n.result.size = omega arith in
-    let m = counts_more a.input.now l.at l.s l.invariant.4 n.result n.ensures more (l.invariant.1, l.invariant.2, l.invariant.3) in
-    let fits = starts_fit a.input.now l.at l.s.hits n.result n.ensures more l.invariant.4.hits_after c.requires.0 in
-    rw c.counted-s.ensures (
-      n.ensures.inside,
-      m.0,
-      m.1,
-      m.2,
-      after_more a.input.now l.at l.s l.invariant.4 n.result n.ensures more,
-      starts_more a.input.now _ l.starts l.at l.s.hits l.invariant.5 n.result n.ensures more (omega (arith, fits, l.invariant.5.same, c.requires.1)) n.result.at refl,
-    )
+    let l = c.loop-hit in
+    record {
+      counts = after_last a.input.now l.at l.s l.invariant.counted c.in_default.ensures _ c.stretch_count-2.ensures.0;
+      listed = starts_last a.input.now _ l.starts l.at l.s.hits l.invariant.listed c.in_default.ensures;
+    }

@@ -10,9 +10,7 @@ pub loop-i-preserved : goal.loop-i-preserved
 loop-i-preserved c =
     let l = c.loop-i in
     let a = c.args in
-    let e : a.at + (l.i + 1) ≡ a.at + l.i + 1 = omega arith in (
-      omega arith,
-      λ none.
-          let n = neither _ _ none in
-          rw e (l.invariant.1 n.0 ∙ at_neither a.input.now (a.at + l.i) (omega arith) n.1),
-    )
+    let e : a.at + (l.i + 1) ≡ a.at + l.i + 1 = omega arith in
+    λ none.
+    let n = neither _ _ none in
+    rw e (l.invariant n.0 ∙ at_neither a.input.now (a.at + l.i) (omega arith) n.1)

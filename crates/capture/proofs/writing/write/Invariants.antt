@@ -1,11 +1,12 @@
-use Prim.Native.Nat.{◌+◌, ◌-◌, ◌*◌}
+use Prim.Native.Nat.{◌+◌, ◌*◌}
 use Rattle.capture.proofs.Listed.{ListedFrom}
 use Rattle.capture.proofs.Outputs.{CaptureAfter, StretchesAfter}
 use Rattle.capture.proofs.writing.write.Given as goal
 
 abbrev pub invariant-loop-k : goal.invariant-loop-k
 invariant-loop-k l =
-    ListedFrom l.input l.starts l.at l.k l.hits × CaptureAfter l.input l.initial.capture l.capture l.at (4 + 4 * l.k) l.to × StretchesAfter l.input l.initial.stretches l.stretches l.at l.end
-
-abbrev pub decreases-loop-k : goal.decreases-loop-k
-decreases-loop-k l = l.hits - l.k
+    record {
+      listed : ListedFrom l.input l.starts l.at l.k;
+      packets : CaptureAfter l.input l.initial.capture l.capture l.at (4 + 4 * l.k) l.to;
+      passed : StretchesAfter l.input l.initial.stretches l.stretches l.at l.end;
+    }

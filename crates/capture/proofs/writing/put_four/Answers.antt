@@ -4,7 +4,7 @@ use native.Mathlib.Omega.{arith}
 use lib.Seq.{sets, sets-eq}
 use Rattle.octets.specs.Octets.{four}
 use Rattle.octets.proofs.Widths.{last_bits}
-use Rattle.capture.proofs.numbers.put_four.Goals as goal
+use Rattle.capture.proofs.writing.put_four.Goals as goal
 
 pub returns : goal.returns
 returns c =
