@@ -1,49 +1,21 @@
--- What the tests of a header say: a header is refused by the first test that fails, and one that passes all is read.
+-- What the tests of a header say of its fields, and the octets that the stores of a header make.
 use Rattle.std.proofs.Common.{◌≡◌, ℕ, ◌≤◌, true, false, List, length, set, replicate, ap, ◌∙◌, ap₂, eq-eqb, eqb-true, leb-true}
 use lib.Seq.{sets}
 use Rattle.lists.proofs.Tests.{both}
 use Rattle.octets.specs.Octets.{four, eight}
-use Rattle.ntp.specs.declared.Answer.TheVariants.{Done, NtpVersion, NtpMode}
 use Rattle.ntp.specs.declared.Header.{Header}
-use Rattle.ntp.specs.declared.Read.TheVariants.{Good, Bad}
-use Rattle.ntp.specs.Header.{header_length, version_good, mode_good, leap_good, first_octet_of, fields, read, octets_of, refused_octets, write}
+use Rattle.ntp.specs.Header.{header_length, version_good, mode_good, leap_good, first_octet_of, octets_of}
 use Rattle.ntp.specs.Octets.{signed_octet}
 use Rattle.ntp.specs.code.Passed.{HeaderPasses}
 
 pub mode_range : (mode : ℕ) → mode_good mode ≡ true → (1 ≤ mode) × (mode ≤ 5)
 mode_range mode e = let b = both _ _ e in (leb-true 1 mode b.0, leb-true mode 5 b.1)
 
-module _ (s : List ℕ) (h : Header) (long : length s ≡ header_length) (is : h ≡ fields s) where
-  pub bad_version : version_good h.version ≡ false → Bad NtpVersion ≡ read s
-  unfolding read
-  bad_version t = rw (eq-eqb _ _ long, rw is at t)
-
-  pub bad_mode : version_good h.version ≡ true → mode_good h.mode ≡ false → Bad NtpMode ≡ read s
-  unfolding read
-  bad_mode v t = rw (eq-eqb _ _ long, rw is at v, rw is at t)
-
-  pub good : version_good h.version ≡ true → mode_good h.mode ≡ true → Good h ≡ read s
-  unfolding read
-  good v t = rw (eq-eqb _ _ long, rw is at v, rw is at t) (ap Good is)
-
 -- ---- a header that is to be written
 
 -- leap, version and mode fit octet 0 if they pass the tests
 pub front_range : (h : Header) → HeaderPasses h → (h.leap ≤ 3) × (h.version ≡ 4) × (h.mode ≤ 5)
 front_range h p = (leb-true _ _ p.leap, eqb-true _ _ p.version, (mode_range h.mode p.mode).1)
-
-module _ (h : Header) (version : version_good h.version ≡ true) where
-  pub unwritten_mode : mode_good h.mode ≡ false → refused_octets NtpMode ≡ write h
-  unfolding write
-  unwritten_mode m = rw (version, m)
-
-  pub unwritten_leap : mode_good h.mode ≡ true → leap_good h.leap ≡ false → refused_octets NtpMode ≡ write h
-  unfolding write
-  unwritten_leap m l = rw (version, m, l)
-
-  pub written : mode_good h.mode ≡ true → leap_good h.leap ≡ true → record { answer = Done; octets = octets_of h } ≡ write h
-  unfolding write
-  written m l = rw (version, m, l)
 
 -- the stores one after the other
 pub stored : (h : Header) (p q : ℕ) (l₁ l₂ l₃ l₄ l₅ l₆ l₇ : List ℕ) → p ≡ signed_octet h.poll → q ≡ signed_octet h.precision
