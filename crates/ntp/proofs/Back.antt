@@ -1,5 +1,5 @@
 -- Each field is at its place, and its octets give back the number. Each octet is in one field, and the field gives back the octet.
-use Rattle.std.proofs.Common.{◌≡◌, ℕ, suc, ◌+◌, ◌-◌, ◌*◌, ◌/◌, ◌%◌, ◌<◌, ◌≤◌, Bool, true, false, cond, not, ◌&&◌, eqb, ltb, List, [], ◌∷◌, ◌++◌, length, take, ℤ, pos, negsuc, sym, refl, ap, ◌∙◌, ap₂, arith, take_all, take-suc, take-add, ltb-false, ltb-true, eqb-true, le-leb}
+use Rattle.std.proofs.Common.{◌≡◌, ℕ, suc, ◌+◌, ◌-◌, ◌*◌, ◌/◌, ◌%◌, ◌<◌, ◌≤◌, Bool, true, false, cond, not, ◌&&◌, eqb, ltb, List, [], ◌∷◌, ◌++◌, length, take, ℤ, pos, negsuc, sym, refl, ap, ◌∙◌, ap₂, arith, take_all, take-suc, take-add, ltb-false, ltb-true, eqb-true, leb-true, le-leb}
 use Rattle.std.specs.Prelude.{Result, Ok, Err}
 use Rattle.lists.specs.Lists.{part}
 use Rattle.lists.proofs.Tests.{both}
@@ -15,7 +15,6 @@ use Rattle.ntp.specs.Octets.{exponent, timestamp}
 use Rattle.ntp.specs.Header.{header_length, version_good, mode_good, leap_good, fields, read, octets_of, write}
 use Rattle.ntp.specs.code.Passed.{HeaderPasses}
 use Rattle.ntp.specs.Laws.{SignedOctet, HeaderFits, ReadBack, WrittenBack}
-use Rattle.ntp.proofs.Headers.{front_range}
 
 -- ---- numbers back from their octets
 
@@ -40,7 +39,9 @@ front_forth n h = omega arith
 fields_back : (h : Header) → HeaderFits h → HeaderPasses h → h ≡ fields (octets_of h)
 unfolding fields octets_of
 fields_back h f p =
-    let r = front_range h p in
+    let leap : h.leap ≤ 3 = leb-true _ _ p.leap in
+    let version : h.version ≡ 4 = eqb-true _ _ p.version in
+    let mode : h.mode ≤ 5 = leb-true h.mode 5 (both _ _ p.mode).1 in
     let leap-back : (h.leap * 64 + h.version * 8 + h.mode) / 64 ≡ h.leap = omega arith in
     let version-back : (h.leap * 64 + h.version * 8 + h.mode) / 8 % 8 ≡ h.version = omega arith in
     let mode-back : (h.leap * 64 + h.version * 8 + h.mode) % 8 ≡ h.mode = omega arith in

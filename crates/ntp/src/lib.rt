@@ -120,10 +120,12 @@ pub fn number(answer: Answer) -> u8
 }
 
 // What was written is read back, and what was read is written back.
+#[tactic(auto, using(crate::proofs::Back::read_back))]
 pub fn read_back()
     ensures { ReadBack }
 {}
 
+#[tactic(auto, using(crate::proofs::Back::written_back))]
 pub fn written_back()
     ensures { WrittenBack }
 {}

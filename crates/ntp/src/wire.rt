@@ -95,6 +95,7 @@ pub fn read(octets: &[u8]) -> Result<Header, Answer>
     Ok(h)
 }
 
+#[tactic(auto, unfolding(crate::specs::Header::octets_of))]
 // The octets of a header that passes the tests.
 fn octets_of(header: Header) -> [u8; LENGTH]
     requires { HeaderPasses header }
