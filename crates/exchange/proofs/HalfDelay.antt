@@ -4,13 +4,13 @@ use mathlib.Core.Bool.{Bool, true}
 use mathlib.Core.List.{List, [], ◌∷◌}
 use Prim.Native.Nat.{ℕ, ◌+◌, ◌*◌, ◌-◌, ◌^◌, ◌≤◌, ◌<◌}
 use native.Mathlib.Omega.{arith}
-use borrow.Author.Tests.{eqb-true}
-use lib.Dec.{lit<, T}
-use lib.IntN.{ℤ, pos, neg_ℤ, nat_abs, ◌+ℤ◌, ◌-ℤ◌}
+use borrow.Author.Tests.{eqb-true, le-leb}
+use lib.Dec.{lit<}
+use lib.IntN.{ℤ, pos, negsuc, neg_ℤ, nat_abs, ◌+ℤ◌, ◌-ℤ◌}
 use lib.Signed.{lt_z, le_z, shr_z}
 use Rattle.lists.proofs.Tests.{both, Hold}
 use Rattle.quantity.specs.Words.{wrap, signed_bits}
-use Rattle.quantity.proofs.Ints.{up, dn, same, one, sum, diff, neg, floor, abs, lt_yes, le_yes, to-≤ℤ}
+use Rattle.quantity.proofs.Ints.{up, dn, same, one, sum, diff, neg, floor, abs, lt_yes, le_yes}
 use Rattle.quantity.proofs.Wrap.{Same, wrap_same, wrap_is, wrap_fits}
 use Rattle.exchange.specs.Formulas.{tsp, packet_tsp, delay, offset, difference, ntp_delay, ntp_offset}
 use Rattle.exchange.specs.HalfDelay.{holds, exchange, all, Measured, HalfDelay}
@@ -58,11 +58,10 @@ conditions w θ d e T1 T2 T3 T4 h =
 -- ---- the law of both
 
 le_z_of : (a b : ℤ) → up a + dn b ≤ up b + dn a → le_z a b ≡ true
-le_z_of a b h = true_of (to-≤ℤ a b h).le
-  where
-    true_of : {t : Bool} → T t → t ≡ true
-    true_of {t = true} x = refl
-    true_of {t = mathlib.Core.Bool.false} x = elim x [ ]
+le_z_of (pos a) (pos b) h = le-leb a b (omega (arith, h))
+le_z_of (pos a) (negsuc b) h = absurd (omega (arith, h))
+le_z_of (negsuc a) (pos b) h = refl
+le_z_of (negsuc a) (negsuc b) h = le-leb b a (omega (arith, h))
 
 -- a delay that is the sum of the ways, and an offset that is the true difference plus half of the ways' difference
 pub measured : (θ d e z v : ℤ) → dn d ≤ 0 → dn e ≤ 0 → z ≡ d +ℤ e → v ≡ θ +ℤ shr_z (d -ℤ e) 2 → Measured θ d e z v

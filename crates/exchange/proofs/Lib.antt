@@ -1,3 +1,2 @@
 pub mod HalfDelay
-pub mod Needed
 pub mod Steps

@@ -1,11 +1,11 @@
 -- REPLY-5, NTP-7: what the exported NTP functions return; values are zero at a refusal.
-use Rattle.std.specs.Prelude.{pos}
+use Rattle.std.specs.Prelude.{ℕ, pos, List, replicate, Result, Ok, Err}
+use Rattle.ntp.specs.declared.Answer.{Answer}
 use Rattle.ntp.specs.declared.Header.{Header}
 use Rattle.ntp.specs.declared.Outcome.{Outcome}
-use Rattle.ntp.specs.declared.Read.{Read}
-use Rattle.ntp.specs.declared.Read.TheVariants.{Good, Bad}
-use Rattle.ntp.specs.declared.Written.{Written}
 use Rattle.ntp.specs.Answer.{number}
+use Rattle.ntp.specs.Dispatch.{action_number}
+use Rattle.ntp.specs.Header.{header_length}
 use Rattle.ntp.specs.Octets.{exponent, timestamp}
 use Rattle.hello.specs.declared.ntp_calls.NtpRead.{NtpRead}
 use Rattle.hello.specs.declared.ntp_calls.NtpWritten.{NtpWritten}
@@ -31,15 +31,16 @@ zero_header =
     }
 
 -- REPLY-5: what reading returns
-abbrev pub read_returned : Read → NtpRead
-read_returned (Good h) = record { answer = 0; header = h }
-read_returned (Bad a) = record { answer = number a; header = zero_header }
+abbrev pub read_returned : Result Header Answer → NtpRead
+read_returned (Ok h) = record { answer = 0; header = h }
+read_returned (Err a) = record { answer = number a; header = zero_header }
 
 -- REPLY-5: what writing returns
-abbrev pub written_returned : Written → NtpWritten
-written_returned w = record { answer = number w.answer; octets = w.octets }
+abbrev pub written_returned : Result (List ℕ) Answer → NtpWritten
+written_returned (Ok octets) = record { answer = 0; octets = octets }
+written_returned (Err a) = record { answer = number a; octets = replicate header_length 0 }
 
 -- REPLY-5: what receiving returns
 abbrev pub outcome_returned : Outcome → NtpOutcome
 outcome_returned o =
-    record { answer = number o.answer; action = o.action; offset = o.offset; delay = o.delay; association = o.association }
+    record { answer = number o.answer; action = action_number o.action; offset = o.offset; delay = o.delay; association = o.association }

@@ -25,7 +25,7 @@ pub struct NtpWritten {
 #[derive(Clone, Copy)]
 pub struct NtpOutcome {
     pub answer: u8,
-    pub action: ntp::Action,
+    pub action: i8,
     pub offset: ntp::Interval,
     pub delay: ntp::Interval,
     pub association: ntp::Association,
@@ -51,27 +51,18 @@ fn zero_header() -> ntp::Header
     }
 }
 
-fn read_returned(r: ntp::Read) -> NtpRead
-    ensures { result ≡ read_returned r }
-{
-    match r {
-        ntp::Read::Good(h) => NtpRead {
-            answer: 0,
-            header: h,
-        },
-        ntp::Read::Bad(a) => NtpRead {
-            answer: ntp::number(a),
-            header: zero_header(),
-        },
-    }
-}
-
 // The fields of an NTP header.
 #[unsafe(no_mangle)]
 pub extern "C" fn hello_ntp_read(octets: &[u8]) -> NtpRead
     ensures { result ≡ read_returned (read octets.now) }
 {
-    read_returned(ntp::wire::read(octets))
+    match ntp::wire::read(octets) {
+        Ok(header) => NtpRead { answer: 0, header },
+        Err(a) => NtpRead {
+            answer: ntp::number(a),
+            header: zero_header(),
+        },
+    }
 }
 
 // The octets of an NTP header.
@@ -79,12 +70,12 @@ pub extern "C" fn hello_ntp_read(octets: &[u8]) -> NtpRead
 pub extern "C" fn hello_ntp_write(header: ntp::Header) -> NtpWritten
     ensures { result ≡ written_returned (write header) }
 {
-    let w = ntp::wire::write(header);
-    let a = w.answer;
-    let octets = w.octets;
-    NtpWritten {
-        answer: ntp::number(a),
-        octets: octets,
+    match ntp::wire::write(header) {
+        Ok(octets) => NtpWritten { answer: 0, octets },
+        Err(a) => NtpWritten {
+            answer: ntp::number(a),
+            octets: [0; 48],
+        },
     }
 }
 
@@ -98,16 +89,11 @@ pub extern "C" fn hello_ntp_receive(
     ensures { result ≡ outcome_returned (receive association octets.now destination) }
 {
     let o = ntp::receive::receive(association, octets, destination);
-    let a = o.answer;
-    let action = o.action;
-    let offset = o.offset;
-    let delay = o.delay;
-    let left = o.association;
     NtpOutcome {
-        answer: ntp::number(a),
-        action: action,
-        offset: offset,
-        delay: delay,
-        association: left,
+        answer: ntp::number(o.answer),
+        action: ntp::action_number(o.action),
+        offset: o.offset,
+        delay: o.delay,
+        association: o.association,
     }
 }

@@ -1,38 +1,31 @@
 // Reads one packet from standard input, to its end, and looks at it for the host of the packet program: it prints the number of the answer and, where that is 0, the packet's source, time, TSP and host count below it.
-// The buffer holds one octet more than any IP packet has: of a longer input it is full, and the answer is 3.
 #![tactic(auto)]
 
 use host::Reply;
-use printing::{dotted, end, number, text};
-use wire::Address;
+use std::io;
+use std::io::Read;
+use std::net::Ipv4Addr;
 
-fn source(a: Address) {
-    text(b"source ");
-    dotted(a.first, a.second, a.third, a.fourth);
-    end();
-}
-
-// A line: a name and a number.
-fn line(name: &[u8], n: i64) {
-    number(name, n);
-    end();
-}
+// One octet more than any IP packet has: a longer input is read as far as that, and the answer is 3.
+const LIMIT: u64 = 65536;
 
 // What a packet that passes has in it.
-fn returned(r: Reply) {
-    source(r.source);
-    line(b"time ", r.time.0);
-    line(b"TSP ", r.tsp as i64);
-    line(b"hosts ", r.nhosts as i64);
+fn returned(rt: &impl Print, r: Reply) -> io::Result<()> {
+    let a = r.source;
+    let source = Ipv4Addr::new(a.first, a.second, a.third, a.fourth);
+    println!(rt; "source {source}")?;
+    println!(rt; "time {}", r.time.0)?;
+    println!(rt; "TSP {}", r.tsp)?;
+    println!(rt; "hosts {}", r.nhosts)
 }
 
-fn main() {
-    let mut octets = io::large_buffer();
-    let n = io::read_full(0, &mut octets);
-    let r = owned_host::inspection(&octets[..n]);
-    let a = r.answer;
-    line(b"", answer::number(a) as i64);
-    if answer::is_done(a) {
-        returned(r);
+fn main(rt: HostRuntime) -> io::Result<()> {
+    let mut octets = Vec::new(rt.alloc());
+    rt.reader().take(LIMIT).read_to_end(&mut octets)?;
+    let r = owned_host::inspection(&octets);
+    println!(rt; "{}", answer::number(r.answer))?;
+    if answer::is_done(r.answer) {
+        return returned(&rt, r);
     }
+    Ok(())
 }

@@ -1,16 +1,21 @@
 // Reads one packet from standard input, to its end, and walks it for the host of the packet program: it prints a line for each box, with what it changed, and the number of the answer below them. A packet that is refused has the number alone.
-// The buffer holds one octet more than any IP packet has: of a longer input it is full, and the answer is 3.
 #![tactic(auto)]
 
 use calls::Request;
 use clock::Counter;
 use owned_host::HostReply;
+use std::alloc::Global;
+use std::io;
+use std::io::Read;
 use table::Entry;
 
 mod show;
 
 // The most boxes of a walk: the five steps, and lines (a) to (d) of 255 ids.
 const BOXES: u32 = 1025;
+
+// One octet more than any IP packet has: a longer input is read as far as that, and the answer is 3.
+const LIMIT: u64 = 65536;
 
 // The entry of an id.
 fn entry_of(entries: [Entry; 255], id: u8) -> Entry {
@@ -21,23 +26,24 @@ fn entry_of(entries: [Entry; 255], id: u8) -> Entry {
 }
 
 // The line of a box: the host before it and after it.
-fn line(before: HostReply, after: HostReply) {
-    let w = before.walk;
-    let entries = before.entries;
-    let left = after.entries;
-    show::place(w);
-    let a = show::reading(w, after.walk);
-    let x = host::link_state::link_of(before.links, 1);
-    let b = show::link(a, x, host::link_state::link_of(after.links, 1));
-    let c = show::held(b, w, after.walk);
-    show::end(show::entry(c, entry_of(entries, w.id), entry_of(left, w.id)));
+fn line(rt: &impl Print, alloc: Global, before: HostReply, after: HostReply) -> io::Result<()> {
+    let id = before.walk.id;
+    let mut fields = String::new(alloc);
+    show::reading(&mut fields, before.walk, after.walk)?;
+    let link = host::link_state::link_of(before.links, 1);
+    show::link(&mut fields, link, host::link_state::link_of(after.links, 1))?;
+    show::held(&mut fields, before.walk, after.walk)?;
+    show::entry(&mut fields, entry_of(before.entries, id), entry_of(after.entries, id))?;
+    show::place(rt, before.walk)?;
+    if fields.is_empty() {
+        return println!(rt; " nothing");
+    }
+    println!(rt; "{fields}")
 }
 
 // The next box. The host's clock is a line clock.
 fn next(h: HostReply, copy: &[u8]) -> HostReply {
-    let entries = h.entries;
-    let q = Request::Step(Counter::zero());
-    let after = owned_host::call(
+    owned_host::call(
         owned_host::settings(),
         owned_host::net_table(),
         0,
@@ -45,30 +51,28 @@ fn next(h: HostReply, copy: &[u8]) -> HostReply {
         h.links,
         h.walk,
         copy,
-        entries,
-        q,
-    );
-    line(h, after);
-    after
+        h.entries,
+        Request::Step(Counter::zero()),
+    )
 }
 
-// The boxes from an opened walk on, to its end.
-fn boxes(start: HostReply, copy: &[u8]) -> HostReply {
+// The boxes from an opened walk on, to its end, a line each.
+fn boxes(rt: &impl Print, alloc: Global, start: HostReply, copy: &[u8]) -> io::Result<HostReply> {
     let mut h = start;
-    let mut i: u32 = 0;
-    while i < BOXES {
-        if host::walk::is_open(h.walk) {
-            h = next(h, copy);
+    for _ in 0..BOXES {
+        if !host::walk::is_open(h.walk) {
+            break;
         }
-        i += 1;
+        let after = next(h, copy);
+        line(rt, alloc, h, after)?;
+        h = after;
     }
-    h
+    Ok(h)
 }
 
 // The walk is opened, on link 1.
 fn opened(copy: &mut [u8], packet: &[u8]) -> HostReply {
     let h = owned_host::fresh_host(packet);
-    let entries = h.entries;
     owned_host::open_walk(
         owned_host::settings(),
         owned_host::net_table(),
@@ -77,20 +81,17 @@ fn opened(copy: &mut [u8], packet: &[u8]) -> HostReply {
         h.links,
         h.walk,
         copy,
-        entries,
+        h.entries,
         1,
         packet,
     )
 }
 
-fn main() {
-    let mut octets = io::large_buffer();
+fn main(rt: HostRuntime) -> io::Result<()> {
+    let mut octets = Vec::new(rt.alloc());
+    rt.reader().take(LIMIT).read_to_end(&mut octets)?;
     let mut copy = [0u8; 1052];
-    let n = io::read_full(0, &mut octets);
-    let h = opened(&mut copy, &octets[..n]);
-    let end = boxes(h, &copy);
-    let r = end.reply;
-    let a = r.answer;
-    io::print_decimal(1, answer::number(a) as u64);
-    printing::end();
+    let h = opened(&mut copy, &octets);
+    let end = boxes(&rt, rt.alloc(), h, &copy)?;
+    println!(rt; "{}", answer::number(end.reply.answer))
 }

@@ -1,125 +1,86 @@
 // The line of a box: its place, and each field that it changed, with the value before and after.
 use host::Link;
 use host::walk::{Place, Walk};
-use printing::{dotted, number, text};
 use quantity::{Millis, Word};
+use std::alloc::AllocError;
+use std::fmt::{Display, Write};
+use std::io;
+use std::net::Ipv4Addr;
 use table::Entry;
 use wire::Address;
 
-fn step(n: i64) {
-    number(b"step ", n);
-    text(b":");
-}
-
-// A line of a host id, by its letter.
-fn line(id: u8, letter: u8) {
-    number(b"host ", id as i64);
-    text(b", line ");
-    text(&[letter, b':']);
-}
-
 // The place of a walk.
-pub(crate) fn place(w: Walk) {
+pub(crate) fn place(rt: &impl Print, w: Walk) -> io::Result<()> {
     match host::walk::place_of(w) {
-        Place::Nowhere => text(b"nowhere:"),
-        Place::Step1 => step(1),
-        Place::Step2 => step(2),
-        Place::Step3 => step(3),
-        Place::Step4 => step(4),
-        Place::Step5 => step(5),
-        Place::LineA => line(w.id, b'a'),
-        Place::LineB => line(w.id, b'b'),
-        Place::LineC => line(w.id, b'c'),
-        Place::LineD => line(w.id, b'd'),
+        Place::Nowhere => print!(rt; "nowhere:"),
+        Place::Step1 => print!(rt; "step 1:"),
+        Place::Step2 => print!(rt; "step 2:"),
+        Place::Step3 => print!(rt; "step 3:"),
+        Place::Step4 => print!(rt; "step 4:"),
+        Place::Step5 => print!(rt; "step 5:"),
+        Place::LineA => print!(rt; "host {}, line a:", w.id),
+        Place::LineB => print!(rt; "host {}, line b:", w.id),
+        Place::LineC => print!(rt; "host {}, line c:", w.id),
+        Place::LineD => print!(rt; "host {}, line d:", w.id),
     }
 }
 
-// The name of a field, after what the line already has.
-fn field(empty: bool, name: &[u8]) {
-    if !empty {
-        text(b",");
-    }
-    text(b" ");
-    text(name);
-}
-
-// A number, if it changed. This and each of the rest answer whether the line has no field yet.
-fn change(empty: bool, name: &[u8], before: i64, after: i64) -> bool {
+// Adds a field to those of a line, if it changed.
+fn change<T: Display + PartialEq + Copy + Drop>(
+    fields: &mut String,
+    name: &str,
+    before: T,
+    after: T,
+) -> Result<(), AllocError> {
     if before == after {
-        return empty;
+        return Ok(());
     }
-    field(empty, name);
-    number(b" ", before);
-    number(b" -> ", after);
-    false
-}
-
-fn millis(empty: bool, name: &[u8], before: Millis, after: Millis) -> bool {
-    change(empty, name, before.0, after.0)
-}
-
-fn word(empty: bool, name: &[u8], before: Word, after: Word) -> bool {
-    millis(empty, name, Millis::of_word(before), Millis::of_word(after))
-}
-
-fn same(a: Address, b: Address) -> bool {
-    (a.first == b.first) & (a.second == b.second) & (a.third == b.third) & (a.fourth == b.fourth)
-}
-
-fn neighbor(empty: bool, before: Address, after: Address) -> bool {
-    if same(before, after) {
-        return empty;
+    if !fields.is_empty() {
+        fields.push(',')?;
     }
-    field(empty, b"NEIGHBOR-ADDRESS ");
-    dotted(before.first, before.second, before.third, before.fourth);
-    text(b" -> ");
-    dotted(after.first, after.second, after.third, after.fourth);
-    false
+    write!(fields, " {name} {before} -> {after}")
+}
+
+fn millis(fields: &mut String, name: &str, before: Millis, after: Millis) -> Result<(), AllocError> {
+    change(fields, name, before.0, after.0)
+}
+
+fn word(fields: &mut String, name: &str, before: Word, after: Word) -> Result<(), AllocError> {
+    change(fields, name, before.0, after.0)
+}
+
+fn dotted(a: Address) -> Ipv4Addr {
+    Ipv4Addr::new(a.first, a.second, a.third, a.fourth)
 }
 
 // Step 1 finds our reading.
-pub(crate) fn reading(before: Walk, after: Walk) -> bool {
+pub(crate) fn reading(fields: &mut String, before: Walk, after: Walk) -> Result<(), AllocError> {
     if before.step != 1 {
-        return true;
+        return Ok(());
     }
-    number(b" reading ", after.reading.0);
-    text(b" ms");
-    false
+    write!(fields, " reading {} ms", after.reading.0)
 }
 
-pub(crate) fn link(empty: bool, before: Link, after: Link) -> bool {
-    let a = change(
-        empty,
-        b"KEEP-ALIVE",
-        before.keep_alive as i64,
-        after.keep_alive as i64,
-    );
-    let b = neighbor(a, before.neighbor, after.neighbor);
-    word(b, b"TSP", before.tsp, after.tsp)
+pub(crate) fn link(fields: &mut String, before: Link, after: Link) -> Result<(), AllocError> {
+    change(fields, "KEEP-ALIVE", before.keep_alive, after.keep_alive)?;
+    change(fields, "NEIGHBOR-ADDRESS", dotted(before.neighbor), dotted(after.neighbor))?;
+    word(fields, "TSP", before.tsp, after.tsp)
 }
 
 // What a walk holds, unless the box ended it.
-pub(crate) fn held(empty: bool, before: Walk, after: Walk) -> bool {
+pub(crate) fn held(fields: &mut String, before: Walk, after: Walk) -> Result<(), AllocError> {
     if !host::walk::is_open(after) {
-        return empty;
+        return Ok(());
     }
-    let a = word(empty, b"DELAY", before.delay, after.delay);
-    word(a, b"OFFSET", before.offset, after.offset)
+    word(fields, "DELAY", before.delay, after.delay)?;
+    word(fields, "OFFSET", before.offset, after.offset)
 }
 
 // The entry of a host id.
-pub(crate) fn entry(empty: bool, before: Entry, after: Entry) -> bool {
-    let a = millis(empty, b"DELAY", before.delay, after.delay);
-    let b = word(a, b"OFFSET", before.offset, after.offset);
-    let c = change(b, b"TTL", before.ttl.0 as i64, after.ttl.0 as i64);
-    let d = change(c, b"PID", before.pid as i64, after.pid as i64);
-    millis(d, b"time", before.time, after.time)
-}
-
-// The line's end.
-pub(crate) fn end(empty: bool) {
-    if empty {
-        text(b" nothing");
-    }
-    printing::end();
+pub(crate) fn entry(fields: &mut String, before: Entry, after: Entry) -> Result<(), AllocError> {
+    millis(fields, "DELAY", before.delay, after.delay)?;
+    word(fields, "OFFSET", before.offset, after.offset)?;
+    change(fields, "TTL", before.ttl.0, after.ttl.0)?;
+    change(fields, "PID", before.pid, after.pid)?;
+    millis(fields, "time", before.time, after.time)
 }

@@ -1,21 +1,20 @@
 -- Each field is at its place, and its octets give back the number. Each octet is in one field, and the field gives back the octet.
-use Rattle.std.proofs.Common.{◌≡◌, ℕ, suc, ◌+◌, ◌-◌, ◌*◌, ◌/◌, ◌%◌, ◌<◌, ◌≤◌, Bool, true, false, cond, not, ◌&&◌, eqb, ltb, List, [], ◌∷◌, ◌++◌, length, take, ℤ, pos, negsuc, sym, refl, ap, ◌∙◌, ap₂, arith, take_all, take-suc, take-add, ltb-false, ltb-true, eqb-true, le-leb}
+use Rattle.std.proofs.Common.{◌≡◌, ℕ, suc, ◌+◌, ◌-◌, ◌*◌, ◌/◌, ◌%◌, ◌<◌, ◌≤◌, Bool, true, false, cond, not, ◌&&◌, eqb, ltb, List, [], ◌∷◌, ◌++◌, length, take, ℤ, pos, negsuc, sym, refl, ap, ◌∙◌, ap₂, arith, take_all, take-suc, take-add, ltb-false, ltb-true, eqb-true, leb-true, le-leb}
+use Rattle.std.specs.Prelude.{Result, Ok, Err}
 use Rattle.lists.specs.Lists.{part}
+use Rattle.lists.proofs.Tests.{both}
 use Rattle.octets.specs.Octets.{Octets, number_octets, octet_at, number_at}
 use Rattle.octets.specs.ReadBack.{WrittenBack as WidthsBack}
 use Rattle.octets.proofs.Each.{at_place}
 use Rattle.octets.proofs.Widths.{back, written_back as widths-back}
 use Rattle.quantity.specs.Words.{low_bits, signed_bits}
 use Rattle.quantity.proofs.Wrap.{wrap_fits}
-use Rattle.ntp.specs.declared.Answer.TheVariants.{Done, NtpLength, NtpVersion, NtpMode}
+use Rattle.ntp.specs.declared.Answer.{Answer}
 use Rattle.ntp.specs.declared.Header.{Header}
-use Rattle.ntp.specs.declared.Read.TheVariants.{Good, Bad}
-use Rattle.ntp.specs.declared.Written.{Written}
 use Rattle.ntp.specs.Octets.{exponent, timestamp}
-use Rattle.ntp.specs.Header.{header_length, version_good, mode_good, leap_good, fields, read, octets_of, refused_octets, write}
+use Rattle.ntp.specs.Header.{header_length, version_good, mode_good, leap_good, fields, read, octets_of, write}
 use Rattle.ntp.specs.code.Passed.{HeaderPasses}
 use Rattle.ntp.specs.Laws.{SignedOctet, HeaderFits, ReadBack, WrittenBack}
-use Rattle.ntp.proofs.Headers.{front_range, good, written}
 
 -- ---- numbers back from their octets
 
@@ -40,7 +39,9 @@ front_forth n h = omega arith
 fields_back : (h : Header) → HeaderFits h → HeaderPasses h → h ≡ fields (octets_of h)
 unfolding fields octets_of
 fields_back h f p =
-    let r = front_range h p in
+    let leap : h.leap ≤ 3 = leb-true _ _ p.leap in
+    let version : h.version ≡ 4 = eqb-true _ _ p.version in
+    let mode : h.mode ≤ 5 = leb-true h.mode 5 (both _ _ p.mode).1 in
     let leap-back : (h.leap * 64 + h.version * 8 + h.mode) / 64 ≡ h.leap = omega arith in
     let version-back : (h.leap * 64 + h.version * 8 + h.mode) / 8 % 8 ≡ h.version = omega arith in
     let mode-back : (h.leap * 64 + h.version * 8 + h.mode) % 8 ≡ h.mode = omega arith in
@@ -66,23 +67,23 @@ length_of : (h : Header) → length (octets_of h) ≡ header_length
 unfolding octets_of
 length_of h = refl
 
-abbrev done : List ℕ → Written
-done s = record { answer = Done; octets = s }
+-- an `Ok` says that the test before it passed
+passed : {A : Type 0} (t : Bool) (e : Answer) (r : Result A Answer) (x : A) → cond (not t) (Err e) r ≡ Ok x → (t ≡ true) × (r ≡ Ok x)
+passed true e r x is = (refl, is)
+passed false e r x is = let z : ◌≡◌ {A = ℕ} 0 1 = cc in absurd (omega arith)
 
--- what an answer of 0 says of the writer's tests
-took : (v m l : Bool) (h : Header) (s : List ℕ)
-    → cond (not v) (refused_octets NtpVersion) (cond (not (m && l)) (refused_octets NtpMode) (record { answer = Done; octets = octets_of h })) ≡ record { answer = Done; octets = s }
-    → (v ≡ true) × (m ≡ true) × (l ≡ true) × (octets_of h ≡ s)
-took true true true h s e = (refl, refl, refl, ap (λ (w : Written). w.octets) e)
-took false m l h s e = let d : NtpVersion ≡ Done = ap (λ (w : Written). w.answer) e in let z : ◌≡◌ {A = ℕ} 0 1 = cc in absurd (omega arith)
-took true false l h s e = let d : NtpMode ≡ Done = ap (λ (w : Written). w.answer) e in let z : ◌≡◌ {A = ℕ} 0 1 = cc in absurd (omega arith)
-took true true false h s e = let d : NtpMode ≡ Done = ap (λ (w : Written). w.answer) e in let z : ◌≡◌ {A = ℕ} 0 1 = cc in absurd (omega arith)
+same_value : {A : Type 0} (x y : A) → ◌≡◌ {A = Result A Answer} (Ok x) (Ok y) → x ≡ y
+same_value x y e = cc
 
 pub read_back : ReadBack
-unfolding ReadBack write
+unfolding ReadBack read write
 read_back h s f e =
-    let t = took (version_good h.version) (mode_good h.mode) (leap_good h.leap) h s e in
-    rw (sym t.3) (sym (good (octets_of h) h (length_of h) (fields_back h f (record { version = t.0; mode = t.1; leap = t.2 })) t.0 t.1))
+    let v = passed _ _ _ _ e in
+    let m = passed _ _ _ _ v.1 in
+    let b = both _ _ m.0 in
+    let back = fields_back h f record { version = v.0; mode = b.0; leap = b.1 } in
+    let is : octets_of h ≡ s = same_value _ _ m.1 in
+    rw (sym is, length_of h, ← back, v.0, b.0)
 
 -- ---- the octets of what was read: each number gives its part of them
 
@@ -125,19 +126,12 @@ module _ (s : List ℕ) (o : Octets s) (long : length s ≡ 48) where
   unfolding fields
   leap_is = le-leb (octet_at s 0 / 64) 3 (omega (arith, octet 0))
 
--- what a header that was read says of the tests
-gave : (t v m : Bool) (f h : Header)
-    → cond (not t) (Bad NtpLength) (cond (not v) (Bad NtpVersion) (cond (not m) (Bad NtpMode) (Good f))) ≡ Good h
-    → (t ≡ true) × (v ≡ true) × (m ≡ true) × (f ≡ h)
-gave true true true f h e = (refl, refl, refl, cc)
-gave false v m f h e = let z : ◌≡◌ {A = ℕ} 0 1 = cc in absurd (omega arith)
-gave true false m f h e = let z : ◌≡◌ {A = ℕ} 0 1 = cc in absurd (omega arith)
-gave true true false f h e = let z : ◌≡◌ {A = ℕ} 0 1 = cc in absurd (omega arith)
-
 pub written_back : WrittenBack
-unfolding WrittenBack read
+unfolding WrittenBack read write
 written_back s h o e =
-    let t = gave (eqb (length s) header_length) (version_good (fields s).version) (mode_good (fields s).mode) (fields s) h e in
-    let long : length s ≡ 48 = eqb-true _ _ t.0 in
-    let leap : leap_good (fields s).leap ≡ true = leap_is s o long in
-    rw (sym t.3) (sym (written (fields s) t.1 t.2 leap) ∙ ap done (octets_forth s o long))
+    let l = passed (eqb (length s) header_length) _ _ _ e in
+    let v = passed (version_good (fields s).version) _ _ _ l.1 in
+    let m = passed (mode_good (fields s).mode) _ _ _ v.1 in
+    let long : length s ≡ 48 = eqb-true _ _ l.0 in
+    let is : fields s ≡ h = same_value _ _ m.1 in
+    rw (sym is, v.0, m.0, leap_is s o long, octets_forth s o long)

@@ -1,4 +1,2 @@
 pub mod Words
-pub mod Headers
-pub mod Outcomes
 pub mod Back

@@ -1,12 +1,9 @@
 -- NTP-1: the header of RFC 5905, section 7.3: 48 octets, its fields and their places.
-use Rattle.std.specs.Prelude.{ℕ, ◌+◌, ◌*◌, ◌/◌, ◌%◌, Bool, cond, not, ◌&&◌, List, [], ◌∷◌, ◌++◌, length, replicate, ◌==◌, nat_le}
+use Rattle.std.specs.Prelude.{ℕ, ◌+◌, ◌*◌, ◌/◌, ◌%◌, Bool, cond, not, ◌&&◌, List, [], ◌∷◌, ◌++◌, length, ◌==◌, nat_le, Result, Ok, Err}
 use Rattle.octets.specs.Octets.{four, eight, octet_at, four_at}
 use Rattle.ntp.specs.declared.Answer.{Answer}
-use Rattle.ntp.specs.declared.Answer.TheVariants.{Done, NtpLength, NtpVersion, NtpMode}
+use Rattle.ntp.specs.declared.Answer.TheVariants.{NtpLength, NtpVersion, NtpMode}
 use Rattle.ntp.specs.declared.Header.{Header}
-use Rattle.ntp.specs.declared.Read.{Read}
-use Rattle.ntp.specs.declared.Read.TheVariants.{Good, Bad}
-use Rattle.ntp.specs.declared.Written.{Written}
 use Rattle.ntp.specs.Octets.{signed_octet, signed_at, time_at}
 
 -- NTP-1: the octets of the header
@@ -117,12 +114,12 @@ fields octets =
     }
 
 -- NTP-1, NTP-7: read: 23, 24, 25, or the fields
-unfoldable pub read : List ℕ → Read
+unfoldable pub read : List ℕ → Result Header Answer
 read octets =
-    cond (not (length octets == header_length)) (Bad NtpLength)
-    (cond (not (version_good (fields octets).version)) (Bad NtpVersion)
-    (cond (not (mode_good (fields octets).mode)) (Bad NtpMode)
-    (Good (fields octets))))
+    cond (not (length octets == header_length)) (Err NtpLength)
+    (cond (not (version_good (fields octets).version)) (Err NtpVersion)
+    (cond (not (mode_good (fields octets).mode)) (Err NtpMode)
+    (Ok (fields octets))))
 
 -- ---- written
 
@@ -133,13 +130,9 @@ octets_of h =
     ++ four h.root_delay ++ four h.root_dispersion ++ four h.reference_id
     ++ eight h.reference.0 ++ eight h.origin.0 ++ eight h.receive.0 ++ eight h.transmit.0
 
--- NTP-7: a refusal writes zeros
-abbrev pub refused_octets : Answer → Written
-refused_octets a = record { answer = a; octets = replicate header_length 0 }
-
 -- NTP-1, NTP-7: write: 24, 25, or the octets
-unfoldable pub write : Header → Written
+unfoldable pub write : Header → Result (List ℕ) Answer
 write h =
-    cond (not (version_good h.version)) (refused_octets NtpVersion)
-    (cond (not (mode_good h.mode && leap_good h.leap)) (refused_octets NtpMode)
-    (record { answer = Done; octets = octets_of h }))
+    cond (not (version_good h.version)) (Err NtpVersion)
+    (cond (not (mode_good h.mode && leap_good h.leap)) (Err NtpMode)
+    (Ok (octets_of h)))

@@ -1,9 +1,7 @@
 -- NTP-1: reading undoes writing, and writing undoes reading.
-use Rattle.std.specs.Prelude.{◌≡◌, ℕ, ◌^◌, ◌<◌, List, ℤ, pos, negsuc}
+use Rattle.std.specs.Prelude.{◌≡◌, ℕ, ◌^◌, ◌<◌, List, ℤ, pos, negsuc, Ok}
 use Rattle.octets.specs.Octets.{Octets}
-use Rattle.ntp.specs.declared.Answer.TheVariants.{Done}
 use Rattle.ntp.specs.declared.Header.{Header}
-use Rattle.ntp.specs.declared.Read.TheVariants.{Good}
 use Rattle.ntp.specs.Header.{read, write}
 
 -- NTP-1: a signed octet
@@ -25,8 +23,8 @@ pub record HeaderFits (h : Header) : Type 0 where
 
 -- NTP-1: for every header that is written: it is read back
 unfoldable pub ReadBack : Type 0
-ReadBack = (h : Header) (octets : List ℕ) → HeaderFits h → write h ≡ record { answer = Done; octets = octets } → read octets ≡ Good h
+ReadBack = (h : Header) (octets : List ℕ) → HeaderFits h → write h ≡ Ok octets → read octets ≡ Ok h
 
 -- NTP-1: for every 48 octets that are read: they are written again
 unfoldable pub WrittenBack : Type 0
-WrittenBack = (octets : List ℕ) (h : Header) → Octets octets → read octets ≡ Good h → write h ≡ record { answer = Done; octets = octets }
+WrittenBack = (octets : List ℕ) (h : Header) → Octets octets → read octets ≡ Ok h → write h ≡ Ok octets

@@ -3,6 +3,7 @@
 
 ghost use Rattle.std.specs.Prelude.{◌≡◌};
 ghost use Rattle.ntp.specs.Answer.{number};
+ghost use Rattle.ntp.specs.Dispatch.{action_number};
 ghost use Rattle.ntp.specs.HalfDelay.{NtpHalfDelay};
 ghost use Rattle.ntp.specs.Laws.{ReadBack, WrittenBack};
 ghost use Rattle.ntp.specs.Octets.{signed_octet};
@@ -15,7 +16,7 @@ pub mod wire;
 
 // A time of 64 bits: seconds in the high half, a fraction of a second in the low one.
 #[repr(C)]
-#[derive(Clone, Copy)]
+#[derive(Clone, Copy, PartialEq, Eq)]
 pub struct Timestamp(pub u64);
 
 // A signed difference of two times.
@@ -29,11 +30,25 @@ pub struct Interval(pub i64);
 pub struct Exponent(pub i8);
 
 // What is done with a packet, by the RFC's number.
-#[repr(C)]
-#[derive(Clone, Copy)]
-pub struct Action(pub i8);
+#[derive(Clone, Copy, PartialEq, Eq)]
+pub enum Action {
+    // ERR: a passive association ends.
+    Error = -1,
+    // DSCRD: the packet is discarded.
+    Discard = 0,
+    // PROC: the packet is processed.
+    Process = 1,
+    // FXMIT: a client's packet is answered at once.
+    Reply = 3,
+    // MANY: a manycast server answers, and a client association begins.
+    Manycast = 4,
+    // NEWPS: a passive association begins.
+    Passive = 5,
+    // NEWBC: a broadcast client association begins.
+    Broadcast = 6,
+}
 
-// The fields of a header.
+// The fields of a header. C programs fill in version, mode and leap, so each is a number that may be out of range, and is refused with an answer.
 #[repr(C)]
 #[derive(Clone, Copy)]
 pub struct Header {
@@ -52,30 +67,17 @@ pub struct Header {
     pub transmit: Timestamp,
 }
 
-#[derive(Clone, Copy)]
+// The answers, by their number in the table.
+#[derive(Clone, Copy, PartialEq, Eq)]
 pub enum Answer {
-    Done,
-    NtpLength,
-    NtpVersion,
-    NtpMode,
-    NtpTimestamp,
+    Done = 0,
+    NtpLength = 23,
+    NtpVersion = 24,
+    NtpMode = 25,
+    NtpTimestamp = 26,
 }
 
-// What reading a header yields: its fields, or the answer that refuses it.
-#[derive(Clone, Copy)]
-pub enum Read {
-    Good(Header),
-    Bad(Answer),
-}
-
-// What writing a header yields: the answer, and the octets, all zero if it refuses.
-#[derive(Clone, Copy)]
-pub struct Written {
-    pub answer: Answer,
-    pub octets: [u8; 48],
-}
-
-// One row of the dispatch table, the time that we last sent, and the transmit time that was last taken in.
+// One row of the dispatch table, the time that we last sent, and the transmit time that was last taken in. C programs fill in the row, so it is a number that may be out of range, and is refused with an answer.
 #[repr(C)]
 #[derive(Clone, Copy)]
 pub struct Association {
@@ -84,7 +86,7 @@ pub struct Association {
     pub saved: Timestamp,
 }
 
-// What receiving a packet yields, and the association afterwards.
+// What receiving a packet yields, and the association afterwards. A refusal has these fields too, so the answer is beside them.
 #[derive(Clone, Copy)]
 pub struct Outcome {
     pub answer: Answer,
@@ -99,28 +101,31 @@ impl Exponent {
     pub fn octet(self) -> u8
         ensures { result ≡ signed_octet self }
     {
-        values::signed_octet(self)
+        self.0.cast_unsigned()
     }
+}
+
+// The number of an action in the RFC's appendix A.5.
+pub fn action_number(action: Action) -> i8
+    ensures { result ≡ action_number action }
+{
+    action as i8
 }
 
 // The number of an answer in the table.
 pub fn number(answer: Answer) -> u8
     ensures { result ≡ number answer }
 {
-    match answer {
-        Answer::Done => 0,
-        Answer::NtpLength => 23,
-        Answer::NtpVersion => 24,
-        Answer::NtpMode => 25,
-        Answer::NtpTimestamp => 26,
-    }
+    answer as u8
 }
 
 // What was written is read back, and what was read is written back.
+#[tactic(auto, using(crate::proofs::Back::read_back))]
 pub fn read_back()
     ensures { ReadBack }
 {}
 
+#[tactic(auto, using(crate::proofs::Back::written_back))]
 pub fn written_back()
     ensures { WrittenBack }
 {}

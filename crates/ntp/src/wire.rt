@@ -1,10 +1,10 @@
 // The header: its tests, and its fields read and written.
-ghost use Rattle.std.specs.Prelude.{◌≡◌, ◌≤◌, length};
-ghost use Rattle.ntp.specs.Header.{header_length, version_good, mode_good, leap_good, fields, read, octets_of, refused_octets, write};
-ghost use Rattle.ntp.specs.code.Passed.{InTable, HeaderPasses};
+ghost use Rattle.std.specs.Prelude.{◌≡◌, ◌≤◌, true, length, IfOk};
+ghost use Rattle.ntp.specs.Header.{header_length, version_good, mode_good, leap_good, fields, read, octets_of, write};
+ghost use Rattle.ntp.specs.code.Passed.{HeaderPasses};
 
-use super::values::{put_time, signed_at, signed_octet, time_at};
-use super::{Answer, Header, Read, Written};
+use super::values::{put_time, signed_at, time_at};
+use super::{Answer, Header};
 use octets::{four_at, put_four};
 
 pub const LENGTH: usize = 48;
@@ -43,10 +43,7 @@ fn version_good(version: u8) -> bool
 fn mode_good(mode: u8) -> bool
     ensures { result ≡ mode_good mode }
 {
-    if mode < 1 {
-        return false;
-    }
-    mode <= 5
+    1 <= mode && mode <= 5
 }
 
 fn leap_good(leap: u8) -> bool
@@ -55,21 +52,20 @@ fn leap_good(leap: u8) -> bool
     leap <= 3
 }
 
+#[tactic(auto, unfolding(crate::specs::Header::fields))]
 // The fields of 48 octets.
 fn fields(octets: &[u8]) -> Header
     requires { header_length ≤ length octets.now }
     ensures { result ≡ fields octets.now }
 {
     let front = octets[FIRST_OCTET];
-    let poll = signed_at(octets, POLL);
-    let precision = signed_at(octets, PRECISION);
     Header {
         leap: front / 64,
         version: front / 8 % 8,
         mode: front % 8,
         stratum: octets[STRATUM],
-        poll: poll,
-        precision: precision,
+        poll: signed_at(octets, POLL),
+        precision: signed_at(octets, PRECISION),
         root_delay: four_at(octets, ROOT_DELAY),
         root_dispersion: four_at(octets, ROOT_DISPERSION),
         reference_id: four_at(octets, REFERENCE_ID),
@@ -80,33 +76,36 @@ fn fields(octets: &[u8]) -> Header
     }
 }
 
+#[tactic(auto, unfolding(crate::specs::Header::read))]
 // A header read: the tests of answers 23 to 25 in their order, and the fields of one that passes.
-pub fn read(octets: &[u8]) -> Read
-    ensures { (result ≡ read octets.now) × InTable result }
+pub fn read(octets: &[u8]) -> Result<Header, Answer>
+    ensures value { result ≡ read octets.now }
+    ensures in_table { IfOk result (λ h. mode_good h.mode ≡ true) }
 {
     if octets.len() != LENGTH {
-        return Read::Bad(Answer::NtpLength);
+        return Err(Answer::NtpLength);
     }
     let h = fields(octets);
     if !version_good(h.version) {
-        return Read::Bad(Answer::NtpVersion);
+        return Err(Answer::NtpVersion);
     }
     if !mode_good(h.mode) {
-        return Read::Bad(Answer::NtpMode);
+        return Err(Answer::NtpMode);
     }
-    Read::Good(h)
+    Ok(h)
 }
 
+#[tactic(auto, unfolding(crate::specs::Header::octets_of))]
 // The octets of a header that passes the tests.
-fn octets_of(header: Header) -> [u8; 48]
+fn octets_of(header: Header) -> [u8; LENGTH]
     requires { HeaderPasses header }
     ensures { result ≡ octets_of header }
 {
-    let mut octets = [0u8; 48];
+    let mut octets = [0; LENGTH];
     octets[FIRST_OCTET] = header.leap * 64 + header.version * 8 + header.mode;
     octets[STRATUM] = header.stratum;
-    octets[POLL] = signed_octet(header.poll);
-    octets[PRECISION] = signed_octet(header.precision);
+    octets[POLL] = header.poll.octet();
+    octets[PRECISION] = header.precision.octet();
     put_four(&mut octets, ROOT_DELAY, header.root_delay);
     put_four(&mut octets, ROOT_DISPERSION, header.root_dispersion);
     put_four(&mut octets, REFERENCE_ID, header.reference_id);
@@ -117,31 +116,19 @@ fn octets_of(header: Header) -> [u8; 48]
     octets
 }
 
+#[tactic(auto, unfolding(crate::specs::Header::write))]
 // A header written: the tests of answers 24 and 25 in their order, and the octets of one that passes.
-pub fn write(header: Header) -> Written
+pub fn write(header: Header) -> Result<[u8; LENGTH], Answer>
     ensures { result ≡ write header }
 {
     if !version_good(header.version) {
-        return refused(Answer::NtpVersion);
+        return Err(Answer::NtpVersion);
     }
     if !mode_good(header.mode) {
-        return refused(Answer::NtpMode);
+        return Err(Answer::NtpMode);
     }
     if !leap_good(header.leap) {
-        return refused(Answer::NtpMode);
+        return Err(Answer::NtpMode);
     }
-    let octets = octets_of(header);
-    Written {
-        answer: Answer::Done,
-        octets: octets,
-    }
-}
-
-fn refused(answer: Answer) -> Written
-    ensures { result ≡ refused_octets answer }
-{
-    Written {
-        answer: answer,
-        octets: [0u8; 48],
-    }
+    Ok(octets_of(header))
 }

@@ -1,57 +1,34 @@
 // Reads one NTP header from standard input, to its end, and prints its fields by name, a line each; or the number of the answer that refuses it.
-// The buffer holds one octet more than a header has: of a longer input it is full, and the answer is 23.
 #![tactic(auto)]
 
-use ntp::{Exponent, Header, Read, Timestamp};
+use ntp::Header;
+use std::io;
+use std::io::Read;
 
-fn field(name: &[u8], n: u64) {
-    io::write_all(1, name);
-    io::write_all(1, b" ");
-    io::print_decimal(1, n);
-    io::write_all(1, b"\n");
+// One octet more than a header has: a longer input is read as far as that, and the answer is 23.
+const LIMIT: u64 = 49;
+
+fn fields(rt: &impl Print, h: Header) -> io::Result<()> {
+    println!(rt; "leap {}", h.leap)?;
+    println!(rt; "version {}", h.version)?;
+    println!(rt; "mode {}", h.mode)?;
+    println!(rt; "stratum {}", h.stratum)?;
+    println!(rt; "poll {}", h.poll.0)?;
+    println!(rt; "precision {}", h.precision.0)?;
+    println!(rt; "root_delay {}", h.root_delay)?;
+    println!(rt; "root_dispersion {}", h.root_dispersion)?;
+    println!(rt; "reference_id {}", h.reference_id)?;
+    println!(rt; "reference {}", h.reference.0)?;
+    println!(rt; "origin {}", h.origin.0)?;
+    println!(rt; "receive {}", h.receive.0)?;
+    println!(rt; "transmit {}", h.transmit.0)
 }
 
-// A signed octet.
-fn signed(name: &[u8], x: Exponent) {
-    let n = x.octet() as u64;
-    if n < 128 {
-        field(name, n);
-        return;
-    }
-    io::write_all(1, name);
-    io::write_all(1, b" -");
-    io::print_decimal(1, 256 - n);
-    io::write_all(1, b"\n");
-}
-
-fn time(name: &[u8], t: Timestamp) {
-    field(name, t.0);
-}
-
-fn fields(h: Header) {
-    field(b"leap", h.leap as u64);
-    field(b"version", h.version as u64);
-    field(b"mode", h.mode as u64);
-    field(b"stratum", h.stratum as u64);
-    signed(b"poll", h.poll);
-    signed(b"precision", h.precision);
-    field(b"root_delay", h.root_delay as u64);
-    field(b"root_dispersion", h.root_dispersion as u64);
-    field(b"reference_id", h.reference_id as u64);
-    time(b"reference", h.reference);
-    time(b"origin", h.origin);
-    time(b"receive", h.receive);
-    time(b"transmit", h.transmit);
-}
-
-fn main() {
-    let mut octets = [0u8; 49];
-    let n = io::read_full(0, &mut octets);
-    match ntp::wire::read(&octets[..n]) {
-        Read::Good(h) => fields(h),
-        Read::Bad(answer) => {
-            io::print_decimal(1, ntp::number(answer) as u64);
-            io::write_all(1, b"\n");
-        }
+fn main(rt: HostRuntime) -> io::Result<()> {
+    let mut octets = Vec::new(rt.alloc());
+    rt.reader().take(LIMIT).read_to_end(&mut octets)?;
+    match ntp::wire::read(&octets) {
+        Ok(h) => fields(&rt, h),
+        Err(answer) => println!(rt; "{}", ntp::number(answer)),
     }
 }

@@ -1,42 +1,33 @@
 // The runs of a host's rules: arrivals that standard input has, then sends, seconds and lookups. Each line has a name and what was computed; the file stdout has what the papers say, or what follows from them by hand.
 #![tactic(auto)]
 
-ghost use Rattle.std.specs.Prelude.{◌≡◌, length};
-
 mod arrivals;
 mod requests;
 mod show;
 
-// Runs the records of standard input, one after the other; at most n of them.
+use std::io;
+use std::io::Read;
+
+// The most records of standard input that are run.
 const RECORDS: u32 = 100;
 
-fn record() -> [u8; 128]
-    ensures { 128 ≡ length result }
-{
-    [0; 128]
-}
-
-// The next record is run, if there is one.
-fn next() {
-    let mut r = record();
-    let n = io::read_full(0, &mut r);
-    if n == arrivals::RECORD {
-        arrivals::run(r);
+// Runs the records of standard input, one after the other, as far as they are complete.
+fn all_records(rt: &(impl Input + Print)) -> io::Result<()> {
+    let mut reader = rt.reader();
+    for _ in 0..RECORDS {
+        let mut r = [0; arrivals::RECORD];
+        if reader.read_exact(&mut r).is_err() {
+            break;
+        }
+        arrivals::run(rt, &r)?;
     }
+    Ok(())
 }
 
-fn all_records() {
-    let mut i: u32 = 0;
-    while i < RECORDS {
-        next();
-        i += 1;
-    }
-}
-
-fn main() {
-    all_records();
-    requests::tsp();
-    requests::split_horizon();
-    requests::ageing();
-    requests::lookups();
+fn main(rt: HostRuntime) -> io::Result<()> {
+    all_records(&rt)?;
+    requests::tsp(&rt)?;
+    requests::split_horizon(&rt)?;
+    requests::ageing(&rt)?;
+    requests::lookups(&rt)
 }

@@ -1,44 +1,27 @@
 // The result of a run, on a line: a name, then values.
 use answer::Answer;
 use host::Link;
-use printing::{dotted, number, text};
-use quantity::{Millis, Word};
+use std::io;
+use std::net::Ipv4Addr;
 use table::Entry;
 use wire::Report;
 
-// A name and a count.
-pub fn count(name: &[u8], n: usize) {
-    text(name);
-    io::print_decimal(1, n as u64);
+pub fn answer(rt: &impl Print, a: Answer) -> io::Result<()> {
+    print!(rt; " answer {}", answer::number(a))
 }
 
-// A name and a signed word.
-fn word(name: &[u8], w: Word) {
-    number(name, Millis::of_word(w).0);
-}
-
-pub fn answer(a: Answer) {
-    number(b" answer ", answer::number(a) as i64);
-}
-
-pub fn link(x: Link) {
+pub fn link(rt: &impl Print, x: Link) -> io::Result<()> {
     let a = x.neighbor;
-    number(b": KEEP-ALIVE ", x.keep_alive as i64);
-    word(b" TSP ", x.tsp);
-    text(b" neighbor ");
-    dotted(a.first, a.second, a.third, a.fourth);
+    let neighbor = Ipv4Addr::new(a.first, a.second, a.third, a.fourth);
+    print!(rt; ": KEEP-ALIVE {} TSP {} neighbor {neighbor}", x.keep_alive, x.tsp.0)
 }
 
 // An entry, except its time.
-pub fn entry(e: Entry) {
-    number(b": DELAY ", e.delay.0);
-    word(b" OFFSET ", e.offset);
-    number(b" TTL ", e.ttl.0 as i64);
-    number(b" PID ", e.pid as i64);
+pub fn entry(rt: &impl Print, e: Entry) -> io::Result<()> {
+    print!(rt; ": DELAY {} OFFSET {} TTL {} PID {}", e.delay.0, e.offset.0, e.ttl.0, e.pid)
 }
 
 // What is advertised of an entry.
-pub fn report(r: Report) {
-    number(b": DELAY ", r.delay.0);
-    word(b" OFFSET ", r.offset);
+pub fn report(rt: &impl Print, r: Report) -> io::Result<()> {
+    print!(rt; ": DELAY {} OFFSET {}", r.delay.0, r.offset.0)
 }

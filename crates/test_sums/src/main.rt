@@ -6,20 +6,22 @@ mod rfc1071;
 mod show;
 mod sums;
 
-fn main() {
-    clocks::midnight();
-    clocks::deltas();
-    clocks::below_zero();
-    clocks::far_sets();
-    clocks::slew_limits();
-    clocks::crystal_midnights();
-    clocks::crystal_overflow();
-    clocks::crystal_changes();
-    sums::checksums();
-    sums::dates();
-    sums::made_dates();
-    rfc1071::normal();
-    rfc1071::swapped_order();
-    rfc1071::reversed_order();
-    rfc1071::odd_boundary();
+use std::io;
+
+fn main(rt: HostRuntime) -> io::Result<()> {
+    clocks::midnight(&rt)?;
+    clocks::deltas(&rt)?;
+    clocks::below_zero(&rt)?;
+    clocks::far_sets(&rt)?;
+    clocks::slew_limits(&rt)?;
+    clocks::crystal_midnights(&rt)?;
+    clocks::crystal_overflow(&rt)?;
+    clocks::crystal_changes(&rt)?;
+    sums::checksums(&rt)?;
+    sums::dates(&rt)?;
+    sums::made_dates(&rt)?;
+    rfc1071::normal(&rt)?;
+    rfc1071::swapped_order(&rt)?;
+    rfc1071::reversed_order(&rt)?;
+    rfc1071::odd_boundary(&rt)
 }
