@@ -18,9 +18,8 @@ pub struct NetAdded {
 fn added_returned(a: Added) -> NetAdded
     ensures { result ≡ added_returned a }
 {
-    let answer = a.answer;
     NetAdded {
-        answer: net_table::number(answer),
+        answer: u8::from(a.answer),
         row: a.row,
     }
 }
@@ -30,8 +29,7 @@ fn added_returned(a: Added) -> NetAdded
 pub extern "C" fn hello_net_afresh(table: &mut NetTable, nhosts: usize) -> u8
     ensures { (table.new ≡ (initialize_table nhosts table.old).table) × (result ≡ number (initialize_table nhosts table.old).answer) }
 {
-    let a = net_table::initialize_table(table, nhosts);
-    net_table::number(a)
+    u8::from(net_table::initialize_table(table, nhosts))
 }
 
 // A row more, at the end.
@@ -39,8 +37,7 @@ pub extern "C" fn hello_net_afresh(table: &mut NetTable, nhosts: usize) -> u8
 pub extern "C" fn hello_net_add(table: &mut NetTable, net: Net, id: usize) -> NetAdded
     ensures { (table.new ≡ (add net id table.old).table) × (result ≡ added_returned (add net id table.old).added) }
 {
-    let a = net_table::add(table, net, id);
-    added_returned(a)
+    added_returned(net_table::add(table, net, id))
 }
 
 // One row less; the rows after it move up.
@@ -48,8 +45,7 @@ pub extern "C" fn hello_net_add(table: &mut NetTable, net: Net, id: usize) -> Ne
 pub extern "C" fn hello_net_remove(table: &mut NetTable, row: usize) -> u8
     ensures { (table.new ≡ (remove row table.old).table) × (result ≡ number (remove row table.old).answer) }
 {
-    let a = net_table::remove(table, row);
-    net_table::number(a)
+    u8::from(net_table::remove(table, row))
 }
 
 // A row leads to another host; its net stays.
@@ -57,6 +53,5 @@ pub extern "C" fn hello_net_remove(table: &mut NetTable, row: usize) -> u8
 pub extern "C" fn hello_net_change(table: &mut NetTable, row: usize, id: usize) -> u8
     ensures { (table.new ≡ (change row id table.old).table) × (result ≡ number (change row id table.old).answer) }
 {
-    let a = net_table::change(table, row, id);
-    net_table::number(a)
+    u8::from(net_table::change(table, row, id))
 }

@@ -15,11 +15,9 @@ use Rattle.route.specs.Find.{ids_below}
 use Rattle.net_table.specs.declared.NetTable.{NetTable}
 use Rattle.net_table.specs.declared.Answer.{Answer}
 use Rattle.net_table.specs.declared.Answer.TheVariants.{Done, Setting, OutOfRange, TableFull, NoRow}
-use Rattle.net_table.specs.declared.Outcome.{Outcome}
-use Rattle.net_table.specs.declared.Addition.{Addition}
 use Rattle.net_table.specs.Answer.{number}
 use Rattle.net_table.specs.Table.{standing, nhosts_bad, table_bad, zero_row, table_of}
-use Rattle.net_table.specs.Tutor.{leaves, addition, no_row, full, row_at, with_row, without_row, with_id, initialize_table, add, remove, change}
+use Rattle.net_table.specs.Tutor.{Outcome, Addition, leaves, addition, no_row, full, row_at, with_row, without_row, with_id, initialize_table, add, remove, change}
 use Rattle.net_table.specs.Laws.{RowsAfter, NeverBad, Refused, EveryRow}
 use Rattle.net_table.proofs.Tables.{Good, good}
 

@@ -1,4 +1,3 @@
 pub mod Laws
 pub mod Padded
-pub mod Rebuilt
 pub mod Tables

@@ -1,5 +1,5 @@
 -- What a table that is not bad has, and what the lists of rows have after a call.
-use mathlib.Core.Path.{◌≡◌}
+use mathlib.Core.Path.{◌≡◌, ◌∙◌, sym, ap}
 use mathlib.Core.Bool.{true, false, not, ◌||◌}
 use mathlib.Core.List.{List}
 use Prim.Native.Nat.{ℕ, ◌≤◌}
@@ -12,11 +12,7 @@ use Rattle.lists.proofs.Tests.{neither, is_so}
 use Rattle.route.specs.declared.Row.{Row}
 use Rattle.route.specs.Find.{ids_below}
 use Rattle.net_table.specs.declared.NetTable.{NetTable}
-use Rattle.net_table.specs.Table.{standing, nhosts_bad, table_bad}
-
--- the table with these parts
-abbrev pub table : (nhosts count : ℕ) → List Row → NetTable
-table n count rows = record { nhosts = n; net = record { count = count; rows = rows } }
+use Rattle.net_table.specs.Table.{standing, nhosts_bad, table_bad, padded, table_of}
 
 pub record Good (t : NetTable) : Type 0 where
   pub few : ltb 32 t.net.count ≡ false
@@ -32,14 +28,5 @@ good t e =
     let h = neither (ltb t.nhosts 1) (ltb 255 t.nhosts) b.1 in
     record { few = b.0; some = h.0; most = h.1; ids = is_so (ids_below t.nhosts (standing t)) a.1 }
 
--- in a borrowed table the count is that of its rows
-pub counted : (t : NetTable) → Good t → length t.net.rows ≡ 32 → length (standing t) ≡ t.net.count
-counted t g l =
-    let h : t.net.count ≤ 32 = ltb-false 32 t.net.count g.few in
-    length-take-le t.net.count t.net.rows (omega arith)
-
--- a number that a row has
-pub row_is : (k n : ℕ) → (eqb k 0 || ltb n k) ≡ false → (1 ≤ k) × (k ≤ n)
-row_is k n e =
-    let b = neither (eqb k 0) (ltb n k) e in
-    (omega (arith, eqb-false k 0 b.0), ltb-false n k b.1)
+pub most_hosts : (t : NetTable) → table_bad t ≡ false → t.nhosts ≤ 255
+most_hosts t e = ltb-false 255 t.nhosts (good t e).most

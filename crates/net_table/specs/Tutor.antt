@@ -5,9 +5,13 @@ use Rattle.route.specs.declared.Row.{Row}
 use Rattle.net_table.specs.declared.NetTable.{NetTable}
 use Rattle.net_table.specs.declared.Answer.{Answer}
 use Rattle.net_table.specs.declared.Answer.TheVariants.{Done, Setting, OutOfRange, TableFull, NoRow}
-use Rattle.net_table.specs.declared.Outcome.{Outcome}
-use Rattle.net_table.specs.declared.Addition.{Addition}
+use Rattle.net_table.specs.declared.Added.{Added}
 use Rattle.net_table.specs.Table.{most_rows, standing, nhosts_bad, table_bad, zero_row, table_of}
+
+-- NET-7: what a call results in: the table afterwards, and its answer
+pub record Outcome : Type 0 where
+  pub table : NetTable
+  pub answer : Answer
 
 -- NET-7: a table and an answer
 abbrev pub leaves : NetTable → Answer → Outcome
@@ -59,6 +63,11 @@ change k id t =
     (cond (no_row k (standing t)) (leaves t NoRow)
     (cond (not (ltb id t.nhosts)) (leaves t Setting)
     (leaves (table_of t.nhosts (with_id k id (standing t))) Done)))
+
+-- NET-3: what adding a row results in: the table afterwards, its answer and the row's number
+pub record Addition : Type 0 where
+  pub table : NetTable
+  pub added : Added
 
 -- NET-3: a table, an answer and a row's number
 abbrev pub addition : NetTable → Answer → (number : ℕ) → Addition

@@ -1,6 +1,5 @@
 // The rows of a table, rebuilt: zeros, and over them the rows in use.
-ghost use Rattle.std.specs.Prelude.{◌≡◌, ◌+◌, ◌≤◌, ◌<◌, take, replicate};
-ghost use Rattle.lists.specs.Lists.{part, over};
+ghost use Rattle.std.specs.Prelude.{◌≡◌, ◌≤◌, ◌<◌, length, replicate};
 ghost use Rattle.net_table.specs.Table.{zero_row, padded};
 ghost use Rattle.net_table.specs.Tutor.{with_row, without_row, with_id};
 
@@ -14,71 +13,52 @@ pub fn none() -> [Row; 32]
     ensures { result ≡ replicate 32 zero_row }
 {
     let row = Row {
-        net: Net {
-            first: 0,
-            second: 0,
-            third: 0,
-        },
+        net: Net::ZERO,
         host: 0,
     };
     [row; 32]
 }
 
-// Copies n rows from one place on over others from another place on.
-fn put(to: [Row; 32], at: usize, from: [Row; 32], first: usize, n: usize) -> [Row; 32]
-    requires n_bound { at + n ≤ 32 }
-    requires n_bound_2 { first + n ≤ 32 }
-    ensures { result ≡ over to at (part first n from) }
+// The rows, then zeros.
+fn padded(rows: &[Row]) -> [Row; 32]
+    requires { length rows.now ≤ 32 }
+    ensures { result ≡ padded rows.now }
 {
-    let mut all = to;
-    let mut i: usize = 0;
-    while i < n {
-        all[at + i] = from[first + i];
-        i += 1;
-    }
+    let mut all = none();
+    all[..rows.len()].copy_from_slice(rows);
     all
 }
 
-// The first n rows, then zeros.
-fn first(from: [Row; 32], n: usize) -> [Row; 32]
-    requires { n ≤ 32 }
-    ensures { result ≡ padded (take n from) }
+// The rows and one more.
+pub fn with_row(rows: &[Row], row: Row) -> [Row; 32]
+    requires { length rows.now < 32 }
+    ensures { result ≡ padded (with_row row rows.now) }
 {
-    let zeros = none();
-    put(zeros, 0, from, 0, n)
-}
-
-// The first n rows and one more.
-pub fn with_row(from: [Row; 32], n: usize, row: Row) -> [Row; 32]
-    requires { n < 32 }
-    ensures { result ≡ padded (with_row row (take n from)) }
-{
-    let mut all = first(from, n);
-    all[n] = row;
+    let mut all = padded(rows);
+    all[rows.len()] = row;
     all
 }
 
-// The first n rows except row k.
-pub fn without_row(from: [Row; 32], n: usize, k: usize) -> [Row; 32]
-    requires n_bound { n ≤ 32 }
+// The rows except row k.
+pub fn without_row(rows: &[Row], k: usize) -> [Row; 32]
+    requires rows_bound { length rows.now ≤ 32 }
     requires le_k { 1 ≤ k }
-    requires k_le_n { k ≤ n }
-    ensures { result ≡ padded (without_row k (take n from)) }
+    requires k_bound { k ≤ length rows.now }
+    ensures { result ≡ padded (without_row k rows.now) }
 {
-    let before = first(from, k - 1);
-    put(before, k - 1, from, k, n - k)
+    let mut all = padded(&rows[..k - 1]);
+    all[k - 1..rows.len() - 1].copy_from_slice(&rows[k..]);
+    all
 }
 
-// The first n rows, row k with another id.
-pub fn with_id(from: [Row; 32], n: usize, k: usize, id: u8) -> [Row; 32]
-    requires n_bound { n ≤ 32 }
+// The rows, row k with another id.
+pub fn with_id(rows: &[Row], k: usize, id: u8) -> [Row; 32]
+    requires rows_bound { length rows.now ≤ 32 }
     requires le_k { 1 ≤ k }
-    requires k_le_n { k ≤ n }
-    ensures { result ≡ padded (with_id k id (take n from)) }
+    requires k_bound { k ≤ length rows.now }
+    ensures { result ≡ padded (with_id k id rows.now) }
 {
-    let mut all = first(from, n);
-    let old = from[k - 1];
-    let net = old.net;
-    all[k - 1] = Row { net: net, host: id };
+    let mut all = padded(rows);
+    all[k - 1].host = id;
     all
 }

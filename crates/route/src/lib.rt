@@ -1,7 +1,7 @@
 // Finding the host id of an address.
 #![tactic(auto)]
 
-ghost use Rattle.std.specs.Prelude.{◌≡◌};
+ghost use Rattle.std.specs.Prelude.{◌≡◌, ◌≤◌, length};
 ghost use Rattle.route.specs.Find.{
   class_a,
   above_c,
@@ -62,8 +62,8 @@ impl Net {
 
 impl NetRows {
     // The rows in use, in order: no more than there are places.
-    fn in_use(&self) -> &[Row]
-        ensures { result.now ≡ rows_of self.now }
+    pub fn in_use(&self) -> &[Row]
+        ensures { (result.now ≡ rows_of self.now) × (length result.now ≤ 32) }
     {
         &self.rows[..self.count.min(32)]
     }

@@ -1,18 +1,19 @@
--- Row k set again with its own net is that row with another id.
+-- A row in use is that of the padded rows.
 use mathlib.Core.Path.{◌≡◌, ◌∙◌, ap}
-use mathlib.Core.List.{List}
-use Prim.Native.Nat.{◌-◌}
+use Prim.Native.Nat.{◌-◌, ◌<◌}
 use native.Mathlib.Omega.{arith}
-use borrow.Author.Rules.{rules}
-use lib.ListN.{length, set, get_or}
-use Rattle.lists.proofs.Rest.{mapped_long}
+use lib.ListN.{length, set, replicate, get_or-append}
 use Rattle.route.specs.declared.Row.{Row}
-use Rattle.net_table.proofs.Rebuilt.{changed}
+use Rattle.net_table.specs.Table.{zero_row, padded}
+use Rattle.net_table.specs.Tutor.{row_at}
+use Rattle.net_table.proofs.Padded.{in_place}
 use Rattle.net_table.proofs.rows.with_id.Goals as goal
 
 pub returns : goal.returns
 returns c =
-    let a = c.args in
-    let f : length a.from ≡ 32 = search (rules, mapped_long) in
-    ap (λ (l : List Row). set l (a.k - 1) record { net = (get_or a.from (a.k - 1) _).net; host = a.id }) c.first-all.ensures
-    ∙ changed a.from f a.n a.k a.id _ (omega arith) (omega arith) (omega arith)
+    let rows = c.args.rows.now in
+    let i = c.args.k - 1 in
+    let here : i < length rows = omega (arith, c.requires.le_k, c.requires.k_bound) in
+    rw c.padded-all.ensures
+    (ap (λ (r : Row). set (padded rows) i record { net = r.net; host = c.args.id }) (get_or-append rows (replicate (32 - length rows) zero_row) zero_row i here)
+    ∙ in_place zero_row 32 rows record { net = (row_at c.args.k rows).net; host = c.args.id } i here)
