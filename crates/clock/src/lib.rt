@@ -123,6 +123,7 @@ fn in_slew(delta: Units) -> bool
 }
 
 // Whether a CLOCK-TICK may be set.
+#[tactic(auto, unfolding(crate::specs::Clock::tick_in_range))]
 pub fn tick_in_range(clock_tick: Units) -> bool
     ensures { result ≡ tick_in_range clock_tick }
 {
@@ -161,6 +162,7 @@ impl Counter {
 
 impl Clock {
     // A clock at its starting time and date. A master's date is awaited.
+    #[tactic(auto, unfolding(crate::specs::Clock::fresh_clock))]
     pub fn fresh(time: Millis, date: Date) -> Clock
         requires pos_value { less_millis time (millis (pos 0)) ≡ false }
         requires day_millis_value { less_millis time day_millis ≡ true }
@@ -175,6 +177,7 @@ impl Clock {
     }
 
     // Whether CLOCK, DELTA, HOLD and DATE are in their ranges.
+    #[tactic(auto, unfolding(crate::specs::Clock::clock_in_range))]
     pub fn in_range(self) -> bool
         ensures { result ≡ clock_in_range self }
     {
@@ -249,6 +252,7 @@ impl Clock {
     }
 
     // The whole milliseconds of CLOCK plus the count, and the clock to carry on with.
+    #[tactic(auto, unfolding(crate::specs::Clock::reading))]
     pub fn reading(self, clock_tick: Units, hold_interval: Seconds, k: Counter) -> Reading
         requires self_value { clock_in_range self ≡ true }
         requires clock_tick_value { tick_in_range clock_tick ≡ true }
@@ -263,6 +267,7 @@ impl Clock {
     }
 
     // The clock a second later: HOLD falls.
+    #[tactic(auto, unfolding(crate::specs::Clock::hold_second))]
     pub fn second(self) -> Clock
         ensures { result ≡ hold_second self }
     {
@@ -294,6 +299,7 @@ impl NearClock {
     }
 
     // A day off CLOCK, DATE on a day, HOLD loaded.
+    #[tactic(auto, unfolding(crate::specs::Midnight::day_on))]
     fn day_on(self, hold_interval: Seconds) -> Clock
         ensures { result ≡ day_on hold_interval self.clock }
     {
@@ -306,6 +312,7 @@ impl NearClock {
     }
 
     // A day added to CLOCK, DATE back a day, HOLD loaded.
+    #[tactic(auto, unfolding(crate::specs::Midnight::day_back))]
     fn day_back(self, hold_interval: Seconds) -> Clock
         ensures { result ≡ day_back hold_interval self.clock }
     {
@@ -338,6 +345,7 @@ impl NearClock {
     }
 
     // The midnights that were passed.
+    #[tactic(auto, unfolding(crate::specs::Midnight::midnight))]
     fn past_midnight(self, hold_interval: Seconds, n: Count) -> NearClock
         ensures { result.clock ≡ midnight hold_interval n self.clock }
     {

@@ -31,8 +31,8 @@ fn main() {
     let n = io::read_full(0, &mut octets);
     let r = owned_host::inspection(&octets[..n]);
     let a = r.answer;
-    line(b"", answer::number(a) as i64);
-    if answer::is_done(a) {
+    line(b"", i64::from(u8::from(a)));
+    if a == answer::Answer::Done {
         returned(r);
     }
 }

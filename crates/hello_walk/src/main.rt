@@ -91,6 +91,6 @@ fn main() {
     let end = boxes(h, &copy);
     let r = end.reply;
     let a = r.answer;
-    io::print_decimal(1, answer::number(a) as u64);
+    io::print_decimal(1, u64::from(u8::from(a)));
     printing::end();
 }

@@ -59,7 +59,7 @@ fn millis(empty: bool, name: &[u8], before: Millis, after: Millis) -> bool {
 }
 
 fn word(empty: bool, name: &[u8], before: Word, after: Word) -> bool {
-    millis(empty, name, Millis::of_word(before), Millis::of_word(after))
+    millis(empty, name, Millis::from(before), Millis::from(after))
 }
 
 fn same(a: Address, b: Address) -> bool {

@@ -82,8 +82,7 @@ pub fn fresh() -> Entry
 pub fn up(e: Entry) -> bool
     ensures { result ≡ up e }
 {
-    let known = e.delay;
-    known.less(MAX_DELAY)
+    e.delay < MAX_DELAY
 }
 
 // Does the host live here?
@@ -175,10 +174,7 @@ pub fn advertised(pid: u8, e: Entry) -> Report
 pub fn up_to(most: Millis, m: Millis) -> bool
     ensures { result ≡ up_to most m }
 {
-    if m.less(Millis(0)) {
-        return false;
-    }
-    !most.less(m)
+    Millis(0) <= m && m <= most
 }
 
 // Is the entry within its ranges?
@@ -210,7 +206,7 @@ pub fn line_a(u: Update, e: Entry) -> Line
     }
     let known = e.delay;
     let delay = u.delay;
-    if known.less(delay.plus(MIN_DELAY)) {
+    if known < delay + MIN_DELAY {
         return Line::End(e);
     }
     Line::On(e)
@@ -221,7 +217,7 @@ pub fn line_b(u: Update, e: Entry) -> Line
     ensures { result ≡ line_of (line_b u e) }
 {
     let delay = u.delay;
-    let reached = delay.less(MAX_DELAY);
+    let reached = delay < MAX_DELAY;
     let was_up = up(e);
     if was_up {
         if reached {
@@ -300,7 +296,7 @@ pub fn line_d(hold_interval: Seconds, n: Count, date: Date, offset: Word, c: Clo
     requires { clock_in_range c ≡ true }
     ensures { result ≡ line_d hold_interval n date offset c }
 {
-    date_taken(date, c).set_by(hold_interval, n, Millis::of_word(offset))
+    date_taken(date, c).set_by(hold_interval, n, Millis::from(offset))
 }
 
 // One entry updated by an arrival, and the clock. Only the entry of the clock host can set the clock.

@@ -23,7 +23,7 @@ fn wide(x: u8) -> u32
 
 // A number of three octets, in milliseconds.
 fn millis(high: u8, middle: u8, low: u8) -> Millis {
-    Millis::of_unsigned(wide(high) * 65536 + wide(middle) * 256 + wide(low))
+    Millis::from(wide(high) * 65536 + wide(middle) * 256 + wide(low))
 }
 
 // The address of a host of 192.0.2; 0 means none.
@@ -42,10 +42,10 @@ fn address(octet: u8) -> Address {
 // The clock on 1 January 1972, which reads a time of that day.
 fn clock_at(time: Millis, hold: Seconds) -> Clock {
     let start = Clock::fresh(Millis(0), Date::FIRST);
-    if time.less(Millis(0)) {
+    if time < Millis(0) {
         return start;
     }
-    if time.less(clock::DAY) {
+    if time < clock::DAY {
         let mut c = Clock::fresh(time, Date::FIRST);
         c.hold = hold;
         return c;

@@ -14,11 +14,11 @@ pub fn count(name: &[u8], n: usize) {
 
 // A name and a signed word.
 fn word(name: &[u8], w: Word) {
-    number(name, Millis::of_word(w).0);
+    number(name, Millis::from(w).0);
 }
 
 pub fn answer(a: Answer) {
-    number(b" answer ", answer::number(a) as i64);
+    number(b" answer ", i64::from(u8::from(a)));
 }
 
 pub fn link(x: Link) {

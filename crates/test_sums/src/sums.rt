@@ -1,6 +1,6 @@
 // SUM-1, SUM-2: checksums and dates.
 use super::show;
-use calendar::{Date, MadeDate};
+use calendar::Date;
 
 // SUM-1: the two checksums of a HELLO without hosts.
 pub fn checksums() {
@@ -30,10 +30,9 @@ pub fn dates() {
 
 // A line of the word of a calendar day, if there is one.
 fn made(name: &[u8], year: u16, month: u16, day: u16) {
-    let d = Date::new(year, month, day);
-    match d {
-        MadeDate::Made(x) => show::date(name, x),
-        MadeDate::NoDate => show::no_date(name),
+    match Date::new(year, month, day) {
+        Some(d) => show::date(name, d),
+        None => show::no_date(name),
     }
 }
 
