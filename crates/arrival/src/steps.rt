@@ -83,6 +83,7 @@ fn new_neighbor(p: Packet, f: Flight) -> Flight
     }
 }
 
+#[tactic(auto, unfolding(crate::specs::Steps::step4))]
 pub fn step4(broadcast: bool, hold: Seconds, p: Packet, f: Flight) -> Step
     ensures { result ≡ step_of (step4 broadcast hold p f) }
 {

@@ -47,7 +47,7 @@ impl Date {
         if date.is_real() { Some(date) } else { None }
     }
 
-    // The word of a year less 1972, a month and a day, with bit 15 as given.
+    // The word of a year less 1972, a month and a day, with bit 15 as given: a field of the word as the others are, and a number as they are.
     fn of(flag: u16, year: u16, month: u16, day: u16) -> Date
         requires { (flag ≤ 1) × (year ≤ 31) × (month ≤ 12) × (day ≤ 31) }
         ensures { result ≡ date_of flag year month day }

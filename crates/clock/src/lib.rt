@@ -44,7 +44,7 @@ ghost use Rattle.clock.specs.code.Near.{Near};
 use calendar::Date;
 use quantity::{Count, Millis, Seconds, Units};
 
-// CLOCK-1: the clock of a host.
+// CLOCK-1: the clock of a host. C programs lay it out and may write its fields, as they do the settings with CLOCK-TICK: so the ranges of both are no invariants of the types. A call tests them once, and the functions below ask for them.
 #[repr(C)]
 #[derive(Clone, Copy)]
 pub struct Clock {
@@ -334,6 +334,7 @@ impl NearClock {
         c
     }
 
+    // As `days_on`, with another test and another turn. Each keeps CLOCK near for a reason of its own, so one function over two closures would need both as clauses.
     fn days_back(self, hold_interval: Seconds, n: Count) -> NearClock
         ensures { result.clock ≡ days_back hold_interval n self.clock }
     {

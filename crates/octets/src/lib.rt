@@ -15,6 +15,7 @@ pub fn octet_at(s: &[u8], i: usize) -> usize
     usize::from(s[i])
 }
 
+// A function for each width: the number's type and the length of its octets change together, and std has them for each type.
 pub fn two_at(s: &[u8], i: usize) -> u16
     requires { i + 2 ≤ length s.now }
     ensures { result ≡ two_at s.now i }

@@ -23,6 +23,8 @@ ghost use Rattle.quantity.specs.Words.{to_word, of_word, bits16, signed16, word}
 
 use std::ops::{Add, Sub};
 
+// Units and milliseconds are added and subtracted alike, each to its own: so each has operators of its own.
+
 // Clock units: 65,536 of them are a millisecond.
 #[repr(C)]
 #[derive(Clone, Copy, PartialEq, Eq, PartialOrd, Ord)]

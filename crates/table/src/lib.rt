@@ -197,6 +197,7 @@ pub fn in_range(e: Entry) -> bool
 }
 
 // Line (a): a route by another link ends here unless it is shorter by MINDELAY.
+#[tactic(auto, unfolding(crate::specs::Update::line_a))]
 pub fn line_a(u: Update, e: Entry) -> Line
     requires { delay_in_range u ≡ true }
     ensures { result ≡ line_of (line_a u e) }
@@ -213,6 +214,7 @@ pub fn line_a(u: Update, e: Entry) -> Line
 }
 
 // Line (b): a DELAY of 30,000 or more takes the host down; a host that is down comes up only with its TTL at 0.
+#[tactic(auto, unfolding(crate::specs::Update::line_b))]
 pub fn line_b(u: Update, e: Entry) -> Line
     ensures { result ≡ line_of (line_b u e) }
 {
