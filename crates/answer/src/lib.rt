@@ -1,56 +1,34 @@
-// The answers of the published table.
+// The answers of the published table, with their numbers.
 #![tactic(auto)]
 
-ghost use Rattle.std.specs.Prelude.{◌≡◌, eqb};
+ghost use Rattle.std.specs.Prelude.{◌≡◌};
 ghost use Rattle.answer.specs.Answer.{number};
 
-#[derive(Clone, Copy)]
+#[derive(Clone, Copy, PartialEq, Eq)]
 pub enum Answer {
-    Done,
-    Setting,
-    ShortBuffer,
-    IpForm,
-    IpChecksum,
-    Protocol,
-    HelloForm,
-    HelloChecksum,
-    OtherLayout,
-    LoopedLine,
-    DelayNotValid,
-    NoHost,
-    OutOfRange,
-    HostDown,
-    InWalk,
-    NoWalk,
+    Done = 0,
+    Setting = 1,
+    ShortBuffer = 2,
+    IpForm = 3,
+    IpChecksum = 4,
+    Protocol = 5,
+    HelloForm = 6,
+    HelloChecksum = 7,
+    OtherLayout = 8,
+    LoopedLine = 9,
+    DelayNotValid = 10,
+    NoHost = 11,
+    OutOfRange = 12,
+    HostDown = 13,
+    InWalk = 16,
+    NoWalk = 17,
 }
 
 // The number of an answer in the table.
-pub fn number(a: Answer) -> u8
-    ensures { result ≡ number a }
-{
-    match a {
-        Answer::Done => 0,
-        Answer::Setting => 1,
-        Answer::ShortBuffer => 2,
-        Answer::IpForm => 3,
-        Answer::IpChecksum => 4,
-        Answer::Protocol => 5,
-        Answer::HelloForm => 6,
-        Answer::HelloChecksum => 7,
-        Answer::OtherLayout => 8,
-        Answer::LoopedLine => 9,
-        Answer::DelayNotValid => 10,
-        Answer::NoHost => 11,
-        Answer::OutOfRange => 12,
-        Answer::HostDown => 13,
-        Answer::InWalk => 16,
-        Answer::NoWalk => 17,
-    }
-}
+impl From<Answer> for u8 {
+    ghost from_gives = { λ a n. n ≡ number a };
 
-// Is it answer 0?
-pub fn is_done(a: Answer) -> bool
-    ensures { result ≡ eqb (number a) 0 }
-{
-    number(a) == 0
+    fn from(a: Answer) -> u8 {
+        a as u8
+    }
 }

@@ -103,7 +103,7 @@ fn ends(a: Answer, s: Settings, c: Clock, l: Links) -> Arrived
 pub fn at_least_min(delay: Millis) -> Millis
     ensures { result ≡ at_least_min delay }
 {
-    if delay.less(table::MIN_DELAY) {
+    if delay < table::MIN_DELAY {
         return table::MIN_DELAY;
     }
     delay

@@ -19,7 +19,7 @@ pub fn tsp_of(time: Millis, reading: Millis) -> Word
     requires reading_value { up_to day_millis reading ≡ true }
     ensures { result ≡ tsp_of time reading }
 {
-    Word::of_millis(time.minus(reading))
+    Word::of_millis(time - reading)
 }
 
 // DELAY: none on a broadcast link.
@@ -30,14 +30,14 @@ pub fn delay_of(broadcast: bool, reading: Millis, tsp: Word) -> Millis
     if broadcast {
         return Millis(0);
     }
-    Millis::of_word(Word::of_millis(reading.minus(Millis::of_word(tsp))))
+    Millis::from(Word::of_millis(reading - Millis::from(tsp)))
 }
 
 pub fn offset_of(tsp: Word, delay: Millis) -> Word
     requires { SignedTwo delay.0 }
     ensures { result ≡ offset_of tsp delay }
 {
-    Word::of_millis(Millis::of_word(tsp).plus(delay.half()))
+    Word::of_millis(Millis::from(tsp) + delay.half())
 }
 
 // Steps 2 and 3.
@@ -98,7 +98,7 @@ pub fn step4(broadcast: bool, hold: Seconds, p: Packet, f: Flight) -> ControlFlo
         return ControlFlow::Continue(new_neighbor(p, f));
     }
     let tsp = p.tsp;
-    if tsp.is_zero() {
+    if tsp == Word(0) {
         return ControlFlow::Break(f);
     }
     if hold.0 != 0 {

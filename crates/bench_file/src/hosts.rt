@@ -140,7 +140,7 @@ fn settings_of(octets: &[u8]) -> Settings
         clock_host: octets[CLOCK_HOST],
         hold_interval: Seconds(two_at(octets, HOLD_INTERVAL)),
         clock_tick: tick_of(eight_at(octets, CLOCK_TICK)),
-        time: Millis::of_unsigned(four_at(octets, TIME)),
+        time: Millis::from(four_at(octets, TIME)),
         date: calendar::Date(two_at(octets, DATE)),
         link_count: octet_at(octets, LINK_COUNT),
         links: links_of(octets),

@@ -1,8 +1,6 @@
 -- DATE-1: the RT-11 date word, its fields, and the calendar of 1972 to 2003.
-use Rattle.std.specs.Prelude.{Bool, cond, ◌&&◌, ℕ, ◌+◌, ◌*◌, ◌-◌, ◌/◌, ◌%◌, ltb, leb, eqb}
+use Rattle.std.specs.Prelude.{Bool, cond, ◌&&◌, ℕ, ◌+◌, ◌*◌, ◌-◌, ◌/◌, ◌%◌, ltb, leb, eqb, Option, Some, None}
 use Rattle.calendar.specs.declared.Date.{Date}
-use Rattle.calendar.specs.declared.MadeDate.{MadeDate}
-use Rattle.calendar.specs.declared.MadeDate.TheVariants.{Made, NoDate}
 
 -- ---- the fields of the word
 
@@ -58,11 +56,11 @@ abbrev pub last_year : ℕ
 last_year = 2003
 
 -- DATE-5: the date of a year, month and day with bit 15 zero, if that is a real date
-unfoldable pub made : (year month day : ℕ) → MadeDate
+unfoldable pub made : (year month day : ℕ) → Option Date
 made y m d =
     cond (leb first_year y && leb y last_year && leb m 12 && leb d 31 && real (date_of 0 (y - first_year) m d))
-    (Made (date_of 0 (y - first_year) m d))
-    NoDate
+    (Some (date_of 0 (y - first_year) m d))
+    None
 
 -- ---- stepping
 

@@ -11,30 +11,22 @@ ghost use Rattle.calendar.specs.Steps.{Steps};
 #[derive(Clone, Copy)]
 pub struct Date(pub u16);
 
-// A date, or the answer that there is no such day.
-#[derive(Clone, Copy)]
-pub enum MadeDate {
-    Made(Date),
-    NoDate,
-}
-
 // The years of the word's two ends.
 const FIRST_YEAR: u16 = 1972;
 
 const LAST_YEAR: u16 = 2003;
 
 // A month's last day, in a year given as years after 1972. Except for February, 31 and 30 alternate, starting again in August.
+#[tactic(auto, unfolding(crate::specs::Date::last_day))]
 pub fn last_day(year: u16, month: u16) -> u16
     requires { month ≤ 12 }
     ensures { result ≡ last_day year month }
 {
-    if month == 2 {
-        if year % 4 == 0 {
-            return 29;
-        }
-        return 28;
+    match month {
+        2 if year % 4 == 0 => 29,
+        2 => 28,
+        _ => 30 + (month + month / 8) % 2,
     }
-    30 + (month + month / 8) % 2
 }
 
 impl Date {
@@ -44,29 +36,18 @@ impl Date {
     pub const LAST: Date = Date(13311);
 
     // The date of a calendar year, month and day, where it is a real one within the two ends. No master's date is awaited then.
-    pub fn new(year: u16, month: u16, day: u16) -> MadeDate
+    #[tactic(auto, unfolding(crate::specs::Date::made))]
+    pub fn new(year: u16, month: u16, day: u16) -> Option<Date>
         ensures { result ≡ made year month day }
     {
-        if year < FIRST_YEAR {
-            return MadeDate::NoDate;
-        }
-        if LAST_YEAR < year {
-            return MadeDate::NoDate;
-        }
-        if 12 < month {
-            return MadeDate::NoDate;
-        }
-        if 31 < day {
-            return MadeDate::NoDate;
+        if !(FIRST_YEAR..=LAST_YEAR).contains(&year) || 12 < month || 31 < day {
+            return None;
         }
         let date = Date::of(0, year - FIRST_YEAR, month, day);
-        if date.is_real() {
-            return MadeDate::Made(date);
-        }
-        MadeDate::NoDate
+        if date.is_real() { Some(date) } else { None }
     }
 
-    // The word of a year less 1972, a month and a day, with bit 15 as given.
+    // The word of a year less 1972, a month and a day, with bit 15 as given: a field of the word as the others are, and a number as they are.
     fn of(flag: u16, year: u16, month: u16, day: u16) -> Date
         requires { (flag ≤ 1) × (year ≤ 31) × (month ≤ 12) × (day ≤ 31) }
         ensures { result ≡ date_of flag year month day }
@@ -113,24 +94,16 @@ impl Date {
     }
 
     // Whether this is a day of the calendar. Bit 15 is not looked at.
+    #[tactic(auto, unfolding(crate::specs::Date::real))]
     pub fn is_real(self) -> bool
         ensures { result ≡ real self }
     {
         let month = self.month();
         let day = self.day();
-        if self.spare() != 0 {
+        if self.spare() != 0 || !(1..=12).contains(&month) {
             return false;
         }
-        if month < 1 {
-            return false;
-        }
-        if 12 < month {
-            return false;
-        }
-        if day < 1 {
-            return false;
-        }
-        day <= last_day(self.year(), month)
+        (1..=last_day(self.year(), month)).contains(&day)
     }
 
     // Whether a master's date is awaited.

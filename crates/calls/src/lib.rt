@@ -49,7 +49,7 @@ pub enum Request {
 fn refuses(g: Answer) -> bool
     ensures { result ≡ not (done g) }
 {
-    !answer::is_done(g)
+    g != Answer::Done
 }
 
 // A request: the calls that borrow no octets except the copy of a walk's packet.

@@ -55,7 +55,7 @@ pub(crate) fn set(s: Settings, c: Clock, ms: i32, n: Count) -> Timed
 {
     Timed {
         reply: plainly(Answer::Done),
-        clock: c.set_by(s.hold_interval, n, Millis::of_count(ms)),
+        clock: c.set_by(s.hold_interval, n, Millis::from(ms)),
     }
 }
 

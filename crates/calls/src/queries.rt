@@ -17,12 +17,12 @@ pub fn is_bad(t: NetTable) -> bool
 pub fn number(a: Answer) -> u8
     ensures { result ≡ number a }
 {
-    answer::number(a)
+    u8::from(a)
 }
 
 // Is it answer 0?
 pub fn is_done(a: Answer) -> bool
     ensures { result ≡ eqb (number a) 0 }
 {
-    answer::is_done(a)
+    a == Answer::Done
 }

@@ -15,11 +15,11 @@ use Rattle.calendar.specs.Date.{real, await}
 use Rattle.calendar.proofs.Days.{real_await}
 use Rattle.calendar.proofs.Stepping.{real_next, real_previous}
 use Rattle.clock.specs.declared.Clock.{Clock}
-use Rattle.clock.specs.Midnight.{day, plus_count, days_away, exceeds_day, day_on, below_zero, day_back, days_on, days_back, midnight}
+use Rattle.clock.specs.Midnight.{day, plus_count, days_away, exceeds_day, day_on, below_zero, day_back}
 use Rattle.clock.specs.code.Near.{Near}
 use Rattle.clock.proofs.Midnight.{day_on_nearer, day_back_nearer}
 use Rattle.clock.proofs.Bounds.{nearby}
-use Rattle.clock.proofs.While.{Loop, keeps}
+use Rattle.clock.proofs.While.{Loop}
 
 -- a CLOCK a day further than one that is near still fits its 64 bits
 pub a_day_further : (c : Clock) → Near c → (z : ℤ) → up z ≤ up c.clock.0 + up day.0 → dn z ≤ dn c.clock.0 + up day.0 → SFits w64 z
@@ -79,12 +79,3 @@ back h n =
       P = Turning n;
       kept = λ c e p. (p.0, near_back h n c e p.1);
     }
-
-module _ (h : Seconds) (n : Count) (small : n.0 < 2 ^ 16) (c : Clock) (near : Near c) where
-  pub near_days_on : Near (days_on h n c)
-  unfolding days_on
-  near_days_on = keeps Near (days_away n) (exceeds_day n) (day_on h) (λ d e k. near_on h n d small e k) c near
-
-  pub near_midnight : Near (midnight h n c)
-  unfolding midnight days_back
-  near_midnight = keeps Near (days_away n) (below_zero n) (day_back h) (near_back h n) (days_on h n c) near_days_on

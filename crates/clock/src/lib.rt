@@ -44,7 +44,7 @@ ghost use Rattle.clock.specs.code.Near.{Near};
 use calendar::Date;
 use quantity::{Count, Millis, Seconds, Units};
 
-// CLOCK-1: the clock of a host.
+// CLOCK-1: the clock of a host. C programs lay it out and may write its fields, as they do the settings with CLOCK-TICK: so the ranges of both are no invariants of the types. A call tests them once, and the functions below ask for them.
 #[repr(C)]
 #[derive(Clone, Copy)]
 pub struct Clock {
@@ -52,6 +52,13 @@ pub struct Clock {
     pub delta: Units,
     pub hold: Seconds,
     pub date: Date,
+}
+
+// A clock whose CLOCK is so near its day that no sum of the midnight rule overflows, and whose DATE is a day of the calendar.
+#[derive(Clone, Copy)]
+struct NearClock {
+    clock: Clock,
+    ghost near: { Near clock },
 }
 
 // What a reading is handed: the count of the crystal's counter, a mark (not 0) where the counter has overflowed since the last tick, and the count taken again after that. A line clock's are zero.
@@ -94,10 +101,7 @@ fn day() -> Units
 fn within(least: Units, most: Units, u: Units) -> bool
     ensures { result ≡ within least most u }
 {
-    if u.less(least) {
-        return false;
-    }
-    !most.less(u)
+    least <= u && u <= most
 }
 
 // Whether a CLOCK lies within its day, or as far below as a count may reach.
@@ -119,6 +123,7 @@ fn in_slew(delta: Units) -> bool
 }
 
 // Whether a CLOCK-TICK may be set.
+#[tactic(auto, unfolding(crate::specs::Clock::tick_in_range))]
 pub fn tick_in_range(clock_tick: Units) -> bool
     ensures { result ≡ tick_in_range clock_tick }
 {
@@ -129,10 +134,7 @@ pub fn tick_in_range(clock_tick: Units) -> bool
 fn slews(ms: Millis) -> bool
     ensures { result ≡ slews ms }
 {
-    if ms.less(SLEW_LEAST) {
-        return false;
-    }
-    !SLEW_MOST.less(ms)
+    SLEW_LEAST <= ms && ms <= SLEW_MOST
 }
 
 impl Counter {
@@ -160,39 +162,26 @@ impl Counter {
 
 impl Clock {
     // A clock at its starting time and date. A master's date is awaited.
+    #[tactic(auto, unfolding(crate::specs::Clock::fresh_clock))]
     pub fn fresh(time: Millis, date: Date) -> Clock
         requires pos_value { less_millis time (millis (pos 0)) ≡ false }
         requires day_millis_value { less_millis time day_millis ≡ true }
         ensures { result ≡ fresh_clock time date }
     {
-        let clock = Units::of_millis(time);
-        let awaiting = date.awaiting();
         Clock {
-            clock: clock,
+            clock: Units::of_millis(time),
             delta: Units(0),
             hold: Seconds(0),
-            date: awaiting,
+            date: date.awaiting(),
         }
     }
 
     // Whether CLOCK, DELTA, HOLD and DATE are in their ranges.
+    #[tactic(auto, unfolding(crate::specs::Clock::clock_in_range))]
     pub fn in_range(self) -> bool
         ensures { result ≡ clock_in_range self }
     {
-        let clock = self.clock;
-        let delta = self.delta;
-        let hold = self.hold;
-        let date = self.date;
-        if !in_day(clock) {
-            return false;
-        }
-        if !in_slew(delta) {
-            return false;
-        }
-        if 255 < hold.0 {
-            return false;
-        }
-        date.is_real()
+        in_day(self.clock) && in_slew(self.delta) && self.hold.0 <= 255 && self.date.is_real()
     }
 
     // The clock a tick later.
@@ -201,10 +190,11 @@ impl Clock {
         requires clock_tick_value { tick_in_range clock_tick ≡ true }
         ensures { result ≡ tick clock_tick hold_interval n self }
     {
-        let clock = self.clock;
-        let mut c = self;
-        c.clock = clock.plus(clock_tick);
-        c.midnight(hold_interval, n)
+        let moved = Clock {
+            clock: self.clock + clock_tick,
+            ..self
+        };
+        NearClock { clock: moved }.midnight(hold_interval, n).clock
     }
 
     // The clock with a share of DELTA moved into CLOCK.
@@ -212,13 +202,13 @@ impl Clock {
         requires { clock_in_range self ≡ true }
         ensures { result ≡ adjust hold_interval n self }
     {
-        let clock = self.clock;
-        let delta = self.delta;
-        let share = delta.share();
-        let mut c = self;
-        c.clock = clock.plus(share);
-        c.delta = delta.minus(share);
-        c.midnight(hold_interval, n)
+        let share = self.delta.share();
+        let moved = Clock {
+            clock: self.clock + share,
+            delta: self.delta - share,
+            ..self
+        };
+        NearClock { clock: moved }.midnight(hold_interval, n).clock
     }
 
     // The clock set by a count of milliseconds, by a slew or by a step.
@@ -228,35 +218,41 @@ impl Clock {
         ensures { result ≡ set_by hold_interval n ms self }
     {
         let moved = Units::of_millis(ms);
-        let mut c = self;
-        if slews(ms) {
-            c.delta = moved;
-            return c.midnight(hold_interval, n);
-        }
-        let clock = self.clock;
-        let spent = Units(0);
-        c.clock = clock.plus(moved);
-        c.delta = spent;
-        c.hold = hold_interval;
-        c.midnight(hold_interval, n)
+        let c = if slews(ms) {
+            Clock {
+                delta: moved,
+                ..self
+            }
+        } else {
+            Clock {
+                clock: self.clock + moved,
+                delta: Units(0),
+                hold: hold_interval,
+                ..self
+            }
+        };
+        NearClock { clock: c }.midnight(hold_interval, n).clock
     }
 
     // The clock with the tick of a counter that has overflowed.
-    fn overflowed(self, clock_tick: Units, k: Counter) -> Clock
+    fn overflowed(self, clock_tick: Units, k: Counter) -> NearClock
         requires self_value { clock_in_range self ≡ true }
         requires clock_tick_value { tick_in_range clock_tick ≡ true }
-        ensures { (result ≡ overflowed clock_tick k self) × Near result }
+        ensures { result.clock ≡ overflowed clock_tick k self }
     {
         if k.overflow == 0 {
-            return self;
+            return NearClock { clock: self };
         }
-        let clock = self.clock;
-        let mut c = self;
-        c.clock = clock.plus(clock_tick);
-        c
+        NearClock {
+            clock: Clock {
+                clock: self.clock + clock_tick,
+                ..self
+            },
+        }
     }
 
     // The whole milliseconds of CLOCK plus the count, and the clock to carry on with.
+    #[tactic(auto, unfolding(crate::specs::Clock::reading))]
     pub fn reading(self, clock_tick: Units, hold_interval: Seconds, k: Counter) -> Reading
         requires self_value { clock_in_range self ≡ true }
         requires clock_tick_value { tick_in_range clock_tick ≡ true }
@@ -265,129 +261,119 @@ impl Clock {
         let n = k.used();
         let c = self.overflowed(clock_tick, k).midnight(hold_interval, n);
         Reading {
-            clock: c,
+            clock: c.clock,
             time: Millis::whole(c.plus_count(n)),
         }
     }
 
     // The clock a second later: HOLD falls.
+    #[tactic(auto, unfolding(crate::specs::Clock::hold_second))]
     pub fn second(self) -> Clock
         ensures { result ≡ hold_second self }
     {
-        let hold = self.hold;
-        let mut c = self;
-        c.hold = hold.fall();
-        c
+        Clock {
+            hold: self.hold.fall(),
+            ..self
+        }
     }
+}
 
+impl NearClock {
     // CLOCK plus the count.
     fn plus_count(self, n: Count) -> Units
-        requires { Near self }
-        ensures { result ≡ plus_count n self }
+        ensures { result ≡ plus_count n self.clock }
     {
-        let clock = self.clock;
-        clock.plus(Units::of_millis(Millis::of_counter(n)))
+        self.clock.clock + Units::of_millis(Millis::from(n))
     }
 
     fn exceeds_day(self, n: Count) -> bool
-        requires { Near self }
-        ensures { result ≡ exceeds_day n self }
+        ensures { result ≡ exceeds_day n self.clock }
     {
-        day().less(self.plus_count(n))
+        day() < self.plus_count(n)
     }
 
     fn below_zero(self, n: Count) -> bool
-        requires { Near self }
-        ensures { result ≡ below_zero n self }
+        ensures { result ≡ below_zero n self.clock }
     {
-        let sum = self.plus_count(n);
-        sum.less(Units(0))
+        self.plus_count(n) < Units(0)
     }
 
     // A day off CLOCK, DATE on a day, HOLD loaded.
+    #[tactic(auto, unfolding(crate::specs::Midnight::day_on))]
     fn day_on(self, hold_interval: Seconds) -> Clock
-        requires { Near self }
-        ensures { result ≡ day_on hold_interval self }
+        ensures { result ≡ day_on hold_interval self.clock }
     {
-        let clock = self.clock.minus(day());
-        let date = self.date.next();
-        let delta = self.delta;
-        let awaiting = date.awaiting();
         Clock {
-            clock: clock,
-            delta: delta,
+            clock: self.clock.clock - day(),
             hold: hold_interval,
-            date: awaiting,
+            date: self.clock.date.next().awaiting(),
+            ..self.clock
         }
     }
 
     // A day added to CLOCK, DATE back a day, HOLD loaded.
+    #[tactic(auto, unfolding(crate::specs::Midnight::day_back))]
     fn day_back(self, hold_interval: Seconds) -> Clock
-        requires { Near self }
-        ensures { result ≡ day_back hold_interval self }
+        ensures { result ≡ day_back hold_interval self.clock }
     {
-        let clock = self.clock.plus(day());
-        let date = self.date.previous();
-        let delta = self.delta;
-        let awaiting = date.awaiting();
         Clock {
-            clock: clock,
-            delta: delta,
+            clock: self.clock.clock + day(),
             hold: hold_interval,
-            date: awaiting,
+            date: self.clock.date.previous().awaiting(),
+            ..self.clock
         }
     }
 
-    fn days_on(self, hold_interval: Seconds, n: Count) -> Clock
-        requires { Near self }
-        ensures { result ≡ days_on hold_interval n self }
+    fn days_on(self, hold_interval: Seconds, n: Count) -> NearClock
+        ensures { result.clock ≡ days_on hold_interval n self.clock }
     {
         let mut c = self;
         while c.exceeds_day(n) {
-            c = c.day_on(hold_interval);
+            c.clock = c.day_on(hold_interval);
         }
         c
     }
 
-    fn days_back(self, hold_interval: Seconds, n: Count) -> Clock
-        requires { Near self }
-        ensures { result ≡ days_back hold_interval n self }
+    // As `days_on`, with another test and another turn. Each keeps CLOCK near for a reason of its own, so one function over two closures would need both as clauses.
+    fn days_back(self, hold_interval: Seconds, n: Count) -> NearClock
+        ensures { result.clock ≡ days_back hold_interval n self.clock }
     {
         let mut c = self;
         while c.below_zero(n) {
-            c = c.day_back(hold_interval);
+            c.clock = c.day_back(hold_interval);
         }
         c
     }
 
     // The midnights that were passed.
-    fn past_midnight(self, hold_interval: Seconds, n: Count) -> Clock
-        requires { Near self }
-        ensures { (result ≡ midnight hold_interval n self) × Near result }
+    #[tactic(auto, unfolding(crate::specs::Midnight::midnight))]
+    fn past_midnight(self, hold_interval: Seconds, n: Count) -> NearClock
+        ensures { result.clock ≡ midnight hold_interval n self.clock }
     {
         self.days_on(hold_interval, n).days_back(hold_interval, n)
     }
 
     // The clock, made anew of its fields. What a call hands back lies in memory, where a clock of the usual case must then go too; one that is so made need not.
-    fn by_fields(self) -> Clock
-        ensures { result ≡ self }
+    fn by_fields(self) -> NearClock
+        ensures { result.clock ≡ self.clock }
     {
-        let clock = self.clock;
-        let delta = self.delta;
-        let hold = self.hold;
-        let date = self.date;
-        Clock {
-            clock: clock,
-            delta: delta,
-            hold: hold,
-            date: date,
+        let clock = self.clock.clock;
+        let delta = self.clock.delta;
+        let hold = self.clock.hold;
+        let date = self.clock.date;
+        NearClock {
+            clock: Clock {
+                clock,
+                delta,
+                hold,
+                date,
+            },
         }
     }
 
     // The clock so that CLOCK plus the count lies within its day: each midnight passed moves DATE and loads HOLD. The usual case, none, is quick: the two calls are apart, so that it alone is compiled into the callers.
-    fn midnight(self, hold_interval: Seconds, n: Count) -> Clock
-        requires { Near self }
-        ensures { (result ≡ midnight hold_interval n self) × Near result }
+    fn midnight(self, hold_interval: Seconds, n: Count) -> NearClock
+        ensures { result.clock ≡ midnight hold_interval n self.clock }
     {
         if self.exceeds_day(n) {
             let c = self;
@@ -409,9 +395,7 @@ pub fn tick(c: &mut Clock, clock_tick: Units, hold_interval: Seconds, n: Count)
     requires clock_tick_value { tick_in_range clock_tick ≡ true }
     ensures { c.new ≡ tick clock_tick hold_interval n c.old }
 {
-    let before = *c;
-    let after = before.ticked(clock_tick, hold_interval, n);
-    *c = after;
+    *c = c.ticked(clock_tick, hold_interval, n);
 }
 
 // A share of DELTA goes into CLOCK.
@@ -419,9 +403,7 @@ pub fn adjust(c: &mut Clock, hold_interval: Seconds, n: Count)
     requires { clock_in_range c.old ≡ true }
     ensures { c.new ≡ adjust hold_interval n c.old }
 {
-    let before = *c;
-    let after = before.adjusted(hold_interval, n);
-    *c = after;
+    *c = c.adjusted(hold_interval, n);
 }
 
 // The clock is set by a count of milliseconds.
@@ -430,9 +412,7 @@ pub fn set(c: &mut Clock, hold_interval: Seconds, n: Count, ms: Millis)
     requires sfits { SFits w32 ms.0 }
     ensures { c.new ≡ set_by hold_interval n ms c.old }
 {
-    let before = *c;
-    let after = before.set_by(hold_interval, n, ms);
-    *c = after;
+    *c = c.set_by(hold_interval, n, ms);
 }
 
 // The whole milliseconds of CLOCK plus the count. A reading may move the clock.
@@ -442,8 +422,7 @@ pub fn read(c: &mut Clock, clock_tick: Units, hold_interval: Seconds, k: Counter
     ensures { (c.new ≡ (reading clock_tick hold_interval k c.old).clock)
         × (result ≡ (reading clock_tick hold_interval k c.old).time) }
 {
-    let before = *c;
-    let r = before.reading(clock_tick, hold_interval, k);
+    let r = c.reading(clock_tick, hold_interval, k);
     *c = r.clock;
     r.time
 }

@@ -1,7 +1,6 @@
 -- REPLY-5: what the exported calls return, with the answer as its number.
-use Rattle.std.specs.Prelude.{◌≡◌, List, ℕ}
-use Rattle.calendar.specs.declared.MadeDate.{MadeDate}
-use Rattle.calendar.specs.declared.MadeDate.TheVariants.{Made, NoDate}
+use Rattle.std.specs.Prelude.{◌≡◌, List, ℕ, Option, Some, None}
+use Rattle.calendar.specs.declared.Date.{Date}
 use Rattle.answer.specs.Answer.{number}
 use Rattle.clock.specs.declared.Clock.{Clock}
 use Rattle.table.specs.declared.Entry.{Entry}
@@ -24,9 +23,9 @@ abbrev pub time_returned : Reply → Time
 time_returned r = record { answer = number r.answer; time = r.time; date = r.date }
 
 -- DATE-1, DATE-2: the word of a date that was made; 0 if there is no such day
-abbrev pub date_returned : MadeDate → ℕ
-date_returned (Made d) = d.0
-date_returned NoDate = 0
+abbrev pub date_returned : Option Date → ℕ
+date_returned (Some d) = d.0
+date_returned None = 0
 
 -- REPLY-5: a send: the length
 abbrev pub sent_returned : Reply → Sent

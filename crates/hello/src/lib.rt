@@ -98,7 +98,7 @@ fn numbered(t: Reply) -> u8
     ensures { result ≡ numbered t }
 {
     let a = t.answer;
-    answer::number(a)
+    u8::from(a)
 }
 
 fn time_returned(t: Reply) -> Time
@@ -108,7 +108,7 @@ fn time_returned(t: Reply) -> Time
     let time = t.time;
     let date = t.date;
     Time {
-        answer: answer::number(a),
+        answer: u8::from(a),
         time: time,
         date: date,
     }
@@ -119,7 +119,7 @@ fn sent_returned(t: Reply) -> Sent
 {
     let a = t.answer;
     Sent {
-        answer: answer::number(a),
+        answer: u8::from(a),
         length: t.length,
     }
 }
@@ -129,7 +129,7 @@ fn route_returned(t: Reply) -> Route
 {
     let a = t.answer;
     Route {
-        answer: answer::number(a),
+        answer: u8::from(a),
         id: t.id,
         pid: t.pid,
     }
@@ -142,7 +142,7 @@ fn inspected_returned(t: Reply) -> Inspected
     let source = t.source;
     let time = t.time;
     Inspected {
-        answer: answer::number(a),
+        answer: u8::from(a),
         source: source,
         time: time,
         tsp: t.tsp,
@@ -155,7 +155,7 @@ fn stepped_returned(t: Reply) -> Stepped
 {
     let a = t.answer;
     Stepped {
-        answer: answer::number(a),
+        answer: u8::from(a),
         step: t.step,
         line: t.line,
         id: t.id,

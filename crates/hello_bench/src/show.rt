@@ -74,7 +74,7 @@ fn call(e: Event) {
     match e {
         Event::Tick(node, _) => of_node(b"tick", node),
         Event::Adjust(node, _) => of_node(b"adjust", node),
-        Event::Set(node, ms, _) => set(node, Millis::of_count(ms)),
+        Event::Set(node, ms, _) => set(node, Millis::from(ms)),
         Event::Second(node) => of_node(b"second", node),
         Event::SelfReport(node, _) => of_node(b"self-report", node),
         Event::Send(cable, side, slot, _) => send(cable, side, slot),
@@ -139,7 +139,7 @@ pub fn entry(node: usize, id: usize, e: Entry) {
     io::print_decimal(1, node as u64);
     number(b"\t", id);
     column(e.delay.0);
-    column(Millis::of_word(e.offset).0);
+    column(Millis::from(e.offset).0);
     column(e.ttl.0 as i64);
     column(e.pid as i64);
     end();

@@ -1,6 +1,7 @@
 // Reads one packet from standard input, to its end, and looks at it for the host of the packet program: it prints the number of the answer and, where that is 0, the packet's source, time, TSP and host count below it.
 #![tactic(auto)]
 
+use answer::Answer;
 use host::Reply;
 use std::io;
 use std::io::Read;
@@ -23,8 +24,8 @@ fn main(rt: HostRuntime) -> io::Result<()> {
     let mut octets = Vec::new(rt.alloc());
     rt.reader().take(LIMIT).read_to_end(&mut octets)?;
     let r = owned_host::inspection(&octets);
-    println!(rt; "{}", answer::number(r.answer))?;
-    if answer::is_done(r.answer) {
+    println!(rt; "{}", u8::from(r.answer))?;
+    if r.answer == Answer::Done {
         return returned(&rt, r);
     }
     Ok(())

@@ -93,5 +93,5 @@ fn main(rt: HostRuntime) -> io::Result<()> {
     let mut copy = [0u8; 1052];
     let h = opened(&mut copy, &octets);
     let end = boxes(&rt, rt.alloc(), h, &copy)?;
-    println!(rt; "{}", answer::number(end.reply.answer))
+    println!(rt; "{}", u8::from(end.reply.answer))
 }

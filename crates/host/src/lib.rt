@@ -136,10 +136,7 @@ fn clock_host_good(clock_host: u8, nhosts: usize) -> bool
 fn time_good(time: quantity::Millis) -> bool
     ensures { result ≡ (not (less_millis time (millis (pos 0))) && less_millis time day_millis) }
 {
-    if time.less(quantity::Millis(0)) {
-        return false;
-    }
-    time.less(clock::DAY)
+    quantity::Millis(0) <= time && time < clock::DAY
 }
 
 // The id that LOCAL-ADDRESS gives, the host's own.

@@ -144,7 +144,7 @@ fn walk_update(w: Walk) -> Update
     let offset = w.offset;
     Update {
         pid: w.link,
-        delay: Millis::of_word(w.delay),
+        delay: Millis::from(w.delay),
         offset: offset,
         reading: reading,
     }
@@ -167,11 +167,7 @@ pub fn line_update(s: Settings, w: Walk, p: Packet, packet: &[u8]) -> Update
 fn storable(u: Update) -> bool
     ensures { result ≡ storable u }
 {
-    let delay = u.delay;
-    if delay.less(table::MIN_DELAY) {
-        return false;
-    }
-    delay.less(table::MAX_DELAY)
+    table::MIN_DELAY <= u.delay && u.delay < table::MAX_DELAY
 }
 
 // Is our reading within its day?

@@ -6,6 +6,7 @@ use native.Mathlib.Nat.{add-zero, zero-add, add-suc, mul_assoc, pow-suc, div-add
 use native.Mathlib.Omega.{arith}
 use lib.ListN.{length, length-append}
 use lib.Seq.{get_or_at}
+use Rattle.std.specs.Int.{byte_at, bytes_high_first}
 use Rattle.lists.proofs.Parts.{part_more}
 use Rattle.octets.specs.Octets.{Octets, number_octets, octet_at, number_at}
 use Rattle.octets.specs.ReadBack.{ReadBack, WrittenBack}
@@ -90,3 +91,21 @@ last_bits n number =
     sym (joined_octets 0 n quotient remainder (mod-lt number (power_positive n)))
     ∙ ap (λ (m : ℕ). number_octets m (quotient * 256 ^ n + remainder)) (zero-add n)
     ∙ ap (number_octets n) (div-add-mod' number (256 ^ n))
+
+-- ---- as std writes a number
+
+byte : (k number : ℕ) → byte_at k number ≡ number / 256 ^ k % 256
+byte zero number = omega arith
+byte (suc k) number = refl
+
+pub be_bytes : (k number : ℕ) → bytes_high_first k number ≡ number_octets k number
+be_bytes zero number = refl
+be_bytes (suc k) number =
+    let first = number / 256 ^ k in
+    let rest = number % 256 ^ k in
+    let width : 1 + k ≡ suc k = omega arith in
+    ap (λ (b : ℕ). b ∷ bytes_high_first k number) (byte k number)
+    ∙ ap (λ (l : List ℕ). first % 256 ∷ l) (be_bytes k number ∙ sym (last_bits k number))
+    ∙ sym (joined_octets 1 k first rest (mod-lt number (power_positive k)))
+    ∙ ap (λ (m : ℕ). number_octets m (first * 256 ^ k + rest)) width
+    ∙ ap (number_octets (suc k)) (div-add-mod' number (256 ^ k))

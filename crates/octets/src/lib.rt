@@ -8,43 +8,26 @@ ghost use Rattle.octets.specs.ReadBack.{ReadBack, WrittenBack};
 
 // ---- read
 
-fn two(a: u8, b: u8) -> u16
-    ensures { result ≡ a * 256 + b }
-{
-    a as u16 * 256 + b as u16
-}
-
-fn four(a: u8, b: u8, c: u8, d: u8) -> u32
-    ensures { result ≡ ((a * 256 + b) * 256 + c) * 256 + d }
-{
-    ((a as u32 * 256 + b as u32) * 256 + c as u32) * 256 + d as u32
-}
-
-fn index(octet: u8) -> usize
-    ensures { result ≡ octet }
-{
-    octet as usize
-}
-
 pub fn octet_at(s: &[u8], i: usize) -> usize
     requires { i < length s.now }
     ensures { result ≡ octet_at s.now i }
 {
-    index(s[i])
+    usize::from(s[i])
 }
 
+// A function for each width: the number's type and the length of its octets change together, and std has them for each type.
 pub fn two_at(s: &[u8], i: usize) -> u16
     requires { i + 2 ≤ length s.now }
     ensures { result ≡ two_at s.now i }
 {
-    two(s[i], s[i + 1])
+    u16::from_be_bytes([s[i], s[i + 1]])
 }
 
 pub fn four_at(s: &[u8], i: usize) -> u32
     requires { i + 4 ≤ length s.now }
     ensures { result ≡ four_at s.now i }
 {
-    four(s[i], s[i + 1], s[i + 2], s[i + 3])
+    u32::from_be_bytes([s[i], s[i + 1], s[i + 2], s[i + 3]])
 }
 
 pub fn eight_at(s: &[u8], i: usize) -> u64
@@ -53,10 +36,17 @@ pub fn eight_at(s: &[u8], i: usize) -> u64
 {
     let high = four_at(s, i);
     let low = four_at(s, i + 4);
-    high as u64 * 0x100000000 + low as u64
+    u64::from(high) * 0x100000000 + u64::from(low)
 }
 
 // ---- written
+
+fn put(s: &mut [u8], i: usize, octets: &[u8])
+    requires { i + length octets.now ≤ length s.old }
+    ensures { s.new ≡ sets s.old i octets.now }
+{
+    s[i..i + octets.len()].copy_from_slice(octets);
+}
 
 pub fn put_octet(s: &mut [u8], i: usize, n: u8)
     requires { i < length s.old }
@@ -69,26 +59,21 @@ pub fn put_two(s: &mut [u8], i: usize, n: u16)
     requires { i + 2 ≤ length s.old }
     ensures { s.new ≡ sets s.old i (two n) }
 {
-    s[i] = (n / 256 % 256) as u8;
-    s[i + 1] = (n % 256) as u8;
+    put(s, i, &u16::to_be_bytes(n));
 }
 
 pub fn put_four(s: &mut [u8], i: usize, n: u32)
     requires { i + 4 ≤ length s.old }
     ensures { s.new ≡ sets s.old i (four n) }
 {
-    s[i] = (n / 256 / 256 / 256 % 256) as u8;
-    s[i + 1] = (n / 256 / 256 % 256) as u8;
-    s[i + 2] = (n / 256 % 256) as u8;
-    s[i + 3] = (n % 256) as u8;
+    put(s, i, &u32::to_be_bytes(n));
 }
 
 pub fn put_eight(s: &mut [u8], i: usize, n: u64)
     requires { i + 8 ≤ length s.old }
     ensures { s.new ≡ sets s.old i (eight n) }
 {
-    put_four(&mut *s, i, (n / 0x100000000) as u32);
-    put_four(&mut *s, i + 4, (n % 0x100000000) as u32);
+    put(s, i, &u64::to_be_bytes(n));
 }
 
 // Two adjacent words as one number of four octets: the processor stores them at once, so a sum that reads four octets at a time does not stall.

@@ -164,7 +164,7 @@ pub fn take(
     );
     let r = looked.reply;
     let a = r.answer;
-    if !answer::is_done(a) {
+    if a != answer::Answer::Done {
         return looked;
     }
     let own_entries = looked.entries;
@@ -253,7 +253,7 @@ pub fn answer(packet: &[u8]) -> u8
     let taken = take(s, t, 0, h.clock, h.links, h.walk, packet, e, 1, k, packet);
     let r = taken.reply;
     let a = r.answer;
-    answer::number(a)
+    u8::from(a)
 }
 
 // What it returns for a packet on link 1 that it only inspects.

@@ -96,7 +96,7 @@ fn sent_tsp(x: Link, time: Millis) -> Word
     if x.keep_alive == 0 {
         return Word(0);
     }
-    Word::of_millis(Millis::of_word(x.tsp).plus(time))
+    Word::of_millis(Millis::from(x.tsp) + time)
 }
 
 // The link once a message is sent on it.

@@ -365,10 +365,10 @@ pub fn plus_report(u: Update, r: Report) -> Update
     let delay = u.delay;
     let offset = u.offset;
     let reading = u.reading;
-    let sum = Millis::of_word(offset).plus(Millis::of_word(r.offset));
+    let sum = Millis::from(offset) + Millis::from(r.offset);
     Update {
         pid: u.pid,
-        delay: delay.plus(r.delay),
+        delay: delay + r.delay,
         offset: Word::of_millis(sum),
         reading: reading,
     }

@@ -77,8 +77,7 @@ pub fn fresh() -> Entry
 pub fn up(e: Entry) -> bool
     ensures { result ≡ up e }
 {
-    let known = e.delay;
-    known.less(MAX_DELAY)
+    e.delay < MAX_DELAY
 }
 
 // Does the host live here?
@@ -170,10 +169,7 @@ pub fn advertised(pid: u8, e: Entry) -> Report
 pub fn up_to(most: Millis, m: Millis) -> bool
     ensures { result ≡ up_to most m }
 {
-    if m.less(Millis(0)) {
-        return false;
-    }
-    !most.less(m)
+    Millis(0) <= m && m <= most
 }
 
 // Is the entry within its ranges?
@@ -198,6 +194,7 @@ pub fn in_range(e: Entry) -> bool
 // A line of an update continues with the next line, or breaks off, with the entry as it is then.
 
 // Line (a): a route by another link ends here unless it is shorter by MINDELAY.
+#[tactic(auto, unfolding(crate::specs::Update::line_a))]
 pub fn line_a(u: Update, e: Entry) -> ControlFlow<Entry, Entry>
     requires { delay_in_range u ≡ true }
     ensures { result ≡ flow_of (line_a u e) }
@@ -207,18 +204,19 @@ pub fn line_a(u: Update, e: Entry) -> ControlFlow<Entry, Entry>
     }
     let known = e.delay;
     let delay = u.delay;
-    if known.less(delay.plus(MIN_DELAY)) {
+    if known < delay + MIN_DELAY {
         return ControlFlow::Break(e);
     }
     ControlFlow::Continue(e)
 }
 
 // Line (b): a DELAY of 30,000 or more takes the host down; a host that is down comes up only with its TTL at 0.
+#[tactic(auto, unfolding(crate::specs::Update::line_b))]
 pub fn line_b(u: Update, e: Entry) -> ControlFlow<Entry, Entry>
     ensures { result ≡ flow_of (line_b u e) }
 {
     let delay = u.delay;
-    let reached = delay.less(MAX_DELAY);
+    let reached = delay < MAX_DELAY;
     let was_up = up(e);
     if was_up {
         if reached {
@@ -291,7 +289,7 @@ pub fn line_d(hold_interval: Seconds, n: Count, date: Date, offset: Word, c: Clo
     requires { clock_in_range c ≡ true }
     ensures { result ≡ line_d hold_interval n date offset c }
 {
-    date_taken(date, c).set_by(hold_interval, n, Millis::of_word(offset))
+    date_taken(date, c).set_by(hold_interval, n, Millis::from(offset))
 }
 
 // One entry updated by an arrival, and the clock. Only the entry of the clock host can set the clock.

@@ -15,7 +15,7 @@ pub const RECORD: usize = 128;
 
 // A number of three octets, in milliseconds.
 fn millis(high: u8, middle: u8, low: u8) -> Millis {
-    Millis::of_unsigned(u32::from_be_bytes([0, high, middle, low]))
+    Millis::from(u32::from_be_bytes([0, high, middle, low]))
 }
 
 // The address of a host of 192.0.2; 0 means none.
@@ -34,7 +34,7 @@ fn address(octet: u8) -> Address {
 // The clock on 1 January 1972, which reads a time of that day.
 fn clock_at(time: Millis, hold: Seconds) -> Clock {
     let start = Clock::fresh(Millis(0), Date::FIRST);
-    if time.less(Millis(0)) || !time.less(clock::DAY) {
+    if time < Millis(0) || clock::DAY <= time {
         return start;
     }
     Clock {

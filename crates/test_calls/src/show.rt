@@ -7,7 +7,7 @@ use table::Entry;
 use wire::Report;
 
 pub fn answer(rt: &impl Print, a: Answer) -> io::Result<()> {
-    print!(rt; " answer {}", answer::number(a))
+    print!(rt; " answer {}", u8::from(a))
 }
 
 pub fn link(rt: &impl Print, x: Link) -> io::Result<()> {

@@ -39,7 +39,7 @@ fn adjusts(c: Clock, times: u32) -> Clock {
 // The clock set by a count of milliseconds.
 fn set(c: Clock, ms: i32, n: u16) -> Clock {
     if c.in_range() {
-        return c.set_by(HOLD_INTERVAL, Count(n), Millis::of_count(ms));
+        return c.set_by(HOLD_INTERVAL, Count(n), Millis::from(ms));
     }
     c
 }

@@ -1,6 +1,6 @@
 // SUM-1, SUM-2: checksums and dates.
 use super::show;
-use calendar::{Date, MadeDate};
+use calendar::Date;
 use std::io;
 
 // SUM-1: the two checksums of a HELLO without hosts.
@@ -35,8 +35,8 @@ pub fn dates(rt: &impl Print) -> io::Result<()> {
 // A line of the word of a calendar day, if there is one.
 fn made(rt: &impl Print, name: &str, year: u16, month: u16, day: u16) -> io::Result<()> {
     match Date::new(year, month, day) {
-        MadeDate::Made(x) => show::date(rt, name, x),
-        MadeDate::NoDate => show::no_date(rt, name),
+        Some(x) => show::date(rt, name, x),
+        None => show::no_date(rt, name),
     }
 }
 

@@ -111,7 +111,7 @@ fn raised(w: Walk) -> Walk
     ensures { result ≡ raised w }
 {
     let mut x = w;
-    let delay = Word::of_millis(arrival::at_least_min(Millis::of_word(w.delay)));
+    let delay = Word::of_millis(arrival::at_least_min(Millis::from(w.delay)));
     x.delay = delay;
     x
 }

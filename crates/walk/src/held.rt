@@ -23,7 +23,7 @@ pub fn in_flight(l: Links, w: Walk) -> Flight
     Flight {
         reading: reading,
         link: link_of(l, w.link as usize),
-        delay: Millis::of_word(w.delay),
+        delay: Millis::from(w.delay),
         offset: offset,
     }
 }

@@ -59,7 +59,7 @@ pub fn report(hello: &[u8], i: usize) -> Report
     let delay = two_at(hello, place);
     let offset = two_at(hello, place + 2);
     Report {
-        delay: quantity::Millis::of_unsigned(delay as u32),
+        delay: quantity::Millis::from(delay as u32),
         offset: quantity::Word::of_bits(offset),
     }
 }

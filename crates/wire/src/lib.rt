@@ -73,7 +73,7 @@ pub fn fields(packet: &[u8]) -> Packet
     Packet {
         source,
         date: calendar::Date(date),
-        time: quantity::Millis::of_unsigned(time),
+        time: quantity::Millis::from(time),
         tsp: quantity::Word::of_bits(tsp),
         address_offset: part[hello::ADDRESS_OFFSET],
         nhosts: part[hello::NHOSTS],

@@ -1,4 +1,4 @@
--- One way through `fields`: rewriting by the contracts of `address_at`, `two_at`, `four_at`, `of_unsigned` and others gives the definition.
+-- One way through `fields`: rewriting by the contracts of `address_at`, `two_at`, `four_at`, `from` and others gives the definition.
 use Rattle.wire.proofs.Parsing.{fields_read, four_octets}
 use lib.ListN.{length, take, drop}
 use Prim.Native.Nat.{◌-◌, ◌<◌, ◌^◌}
@@ -9,7 +9,7 @@ use Rattle.wire.proofs.fields.Goals as goal
 pub returns : goal.returns
 returns c =
     let s = c.args.packet.now in
-    let time = c.of_unsigned.ensures in
+    let time = c.from.ensures in
     let n = c.four_at-time.result in
     let small : n < 2 ^ 32 = search rules in (
       fields_read s (take (length s - 20) (drop 20 s)) _ _ _ _ _ _ (from_on 20 s)

@@ -4,4 +4,4 @@ use Rattle.bench_file.proofs.hosts.settings_of.Goals as goal
 
 pub returns : goal.returns
 unfolding settings_of
-returns c = rw (c.address_at.ensures, c.two_at.ensures, c.two_at-2.ensures, c.tick_of.ensures, c.eight_at.ensures, c.of_unsigned.ensures, c.four_at.ensures, c.two_at-3.ensures, c.octet_at.ensures, c.links_of.ensures, c.marks_of.ensures)
+returns c = rw (c.address_at.ensures, c.two_at.ensures, c.two_at-2.ensures, c.tick_of.ensures, c.eight_at.ensures, c.from.ensures, c.four_at.ensures, c.two_at-3.ensures, c.octet_at.ensures, c.links_of.ensures, c.marks_of.ensures)

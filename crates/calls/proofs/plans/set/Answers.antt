@@ -11,4 +11,4 @@ unfolding definition.set_by
 returns c t l w o e =
     let a = c.args in
     let f : SFits w32 a.ms = search rules in
-    rw (c.plainly.ensures, c.set_by.ensures, c.of_count.ensures, to_z-of_z w32 a.ms f)
+    rw (c.plainly.ensures, c.set_by.ensures, c.from.ensures, to_z-of_z w32 a.ms f)

@@ -3,8 +3,8 @@ use native.Mathlib.Omega.{arith}
 use lib.Dec.{lit<}
 use mathlib.Core.Path.{◌≡◌}
 use mathlib.Core.Bool.{true}
-use lib.IntN.{◌+ℤ◌, ◌-ℤ◌}
-use Rattle.quantity.proofs.Ints.{sum, diff, floor}
+use lib.IntN.{◌+ℤ◌}
+use Rattle.quantity.proofs.Ints.{sum, floor}
 use Rattle.clock.specs.Clock.{adjust, share, clock_in_range}
 use Rattle.clock.proofs.Bounds.{range_says, nearby, Off, off_fits}
 use Rattle.clock.specs.declared.Clock.{Clock}
@@ -18,21 +18,14 @@ module _ (c : Clock) (e : clock_in_range c ≡ true) where
       let s = sum c.clock.0 (share c).0 in
       omega arith
 
-  after-off : Off (c.delta.0 -ℤ (share c).0)
-  after-off =
-      let r = range_says c e in
-      let f = floor c.delta.0 128 (lit< tt) in
-      let s = diff c.delta.0 (share c).0 in
-      omega arith
+pub add-requires : goal.add-requires
+add-requires c = rw c.share-share.ensures (off_fits _ (sum-off c.args.self c.requires))
 
-pub plus-c-requires : goal.plus-c-requires
-plus-c-requires c = rw c.share-share.ensures (off_fits _ (sum-off c.args.self c.requires))
-
-pub midnight-requires : goal.midnight-requires
-midnight-requires c = rw (c.plus-c.ensures, c.share-share.ensures)
-    (nearby _ (sum-off c.args.self c.requires) (range_says c.args.self c.requires).rest.dated)
+pub invariant_of-midnight : goal.invariant_of-midnight
+invariant_of-midnight c =
+    let dated = (range_says c.args.self c.requires).rest.dated in
+    record { near = rw (c.add.ensures, c.share-share.ensures) (nearby _ (sum-off c.args.self c.requires) dated) }
 
 pub returns : goal.returns
 unfolding adjust
-returns c =
-    rw (c.plus-c.ensures, c.minus-c.ensures, c.share-share.ensures) at c.midnight.ensures.0
+returns c = rw (c.add.ensures, c.sub.ensures, c.share-share.ensures) at c.midnight.ensures

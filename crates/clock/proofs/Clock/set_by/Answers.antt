@@ -11,16 +11,11 @@ use Rattle.clock.specs.Clock.{set_by, clock_in_range}
 use Rattle.clock.proofs.Bounds.{range_says, nearby, Off, off_fits}
 use Rattle.quantity.specs.declared.Millis.{Millis}
 use Rattle.clock.specs.declared.Clock.{Clock}
+use Rattle.clock.specs.code.Near.{Near}
+use Rattle.clock.proofs.Clock.set_by.Goals.{then-slews, else-slews}
 use Rattle.clock.proofs.Clock.set_by.Goals as goal
 
 module _ (c : Clock) (m : Millis) (e : clock_in_range c ≡ true) (f : SFits w32 m.0) where
-  moved-off : Off (to_units m).0
-  moved-off =
-      let u = fits_up w32 m.0 f in
-      let d = fits_dn w32 m.0 f in
-      let t = times m.0 units_per_milli in
-      omega arith
-
   sum-off : Off (c.clock.0 +ℤ (to_units m).0)
   sum-off =
       let r = range_says c e in
@@ -30,24 +25,23 @@ module _ (c : Clock) (m : Millis) (e : clock_in_range c ≡ true) (f : SFits w32
       let s = sum c.clock.0 (to_units m).0 in
       omega arith
 
-pub midnight-requires : goal.midnight-requires
-midnight-requires c = let r = range_says c.args.self c.requires.self_value in
-    nearby _ (omega arith) r.rest.dated
+pub add-requires : goal.add-requires
+add-requires c = rw c.of_millis-moved.ensures (off_fits _ (sum-off c.args.self c.args.ms c.requires.self_value c.requires.sfits))
 
-pub returns-then-slews : goal.returns-then-slews
-unfolding set_by
-returns-then-slews c = rw (← c.slews.ensures, c.if-slews.true, ← c.of_millis-moved.ensures) c.midnight.ensures.0
-
-pub plus-c-requires : goal.plus-c-requires
-plus-c-requires c = rw c.of_millis-moved.ensures
-    (off_fits _ (sum-off c.args.self c.args.ms c.requires.self_value c.requires.sfits))
-
-pub midnight-requires-2 : goal.midnight-requires-2
-midnight-requires-2 c = rw (c.plus-c.ensures, c.of_millis-moved.ensures)
-    (nearby _ (sum-off c.args.self c.args.ms c.requires.self_value c.requires.sfits) (range_says c.args.self c.requires.self_value).rest.dated)
+pub invariant_of-midnight : goal.invariant_of-midnight
+invariant_of-midnight c =
+    let a = c.args in
+    let r = range_says a.self c.requires.self_value in
+    let o = sum-off a.self a.ms c.requires.self_value c.requires.sfits in
+    let near : Near c.if-slews.c = elim c.if-slews.branch [
+      then-slews w ↦ rw w.c-is (nearby _ (omega arith) r.rest.dated) |
+      else-slews w ↦ rw (w.c-is, w.add.ensures, c.of_millis-moved.ensures) (nearby _ o r.rest.dated)
+    ] in
+    record { near = near }
 
 pub returns : goal.returns
 unfolding set_by
-returns c =
-    rw (← c.slews.ensures, c.if-slews.false)
-    (rw (c.plus-c.ensures, c.of_millis-moved.ensures) at c.midnight-2.ensures.0)
+returns c = elim c.if-slews.branch [
+  then-slews w ↦ rw (← c.slews.ensures, w.if-slews.true) (rw (w.c-is, c.of_millis-moved.ensures) at c.midnight.ensures) |
+  else-slews w ↦ rw (← c.slews.ensures, w.if-slews.false) (rw (w.c-is, w.add.ensures, c.of_millis-moved.ensures) at c.midnight.ensures)
+]

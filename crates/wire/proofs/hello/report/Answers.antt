@@ -1,4 +1,4 @@
--- One way through `report`: rewriting by the contracts of `two_at`, `of_unsigned`, `of_bits` gives the definition. Bounds follow by linear arithmetic.
+-- One way through `report`: rewriting by the contracts of `two_at`, `from`, `of_bits` gives the definition. Bounds follow by linear arithmetic.
 -- a number of 16 bits is a delay that two octets hold
 use mathlib.Core.Path.{◌≡◌}
 use Prim.Native.Nat.{ℕ, ◌<◌, ◌^◌}
@@ -22,4 +22,4 @@ unfolding report_at
 returns c =
     let n = c.two_at-delay.result in
     let small : n < 2 ^ 16 = search rules in
-    (cc, delay-fits n _ c.of_unsigned.ensures small)
+    (cc, delay-fits n _ c.from.ensures small)
