@@ -1,17 +1,9 @@
 -- How the lines of an update come out one after the other: each outcome of the code says how the line came out in the definition.
 use mathlib.Core.Path.{◌≡◌}
-use mathlib.Core.Bool.{Bool, true, false}
 use native.Mathlib.Omega.{arith}
 use Prim.Native.Nat.{ℕ}
-use Rattle.quantity.specs.declared.Seconds.{Seconds}
-use Rattle.quantity.specs.declared.Count.{Count}
-use Rattle.calendar.specs.declared.Date.{Date}
-use Rattle.clock.specs.declared.Clock.{Clock}
-use Rattle.table.specs.declared.Entry.{Entry}
-use Rattle.table.specs.declared.Update.{Update}
 use Rattle.std.specs.declared.ops.ControlFlow.TheVariants.{Continue, Break}
 use Rattle.table.specs.Forms.{Stage, on, end, flow_of}
-use Rattle.table.specs.Update.{line_a, line_b, line_c, lines, line_d, update, left}
 
 pub goes_on : {A : Type 0} → (s : Stage A) (x : A) → Continue x ≡ flow_of s → s ≡ on x
 goes_on (on e) x q = cc

@@ -160,10 +160,7 @@ pub fn up_to(most: Millis, m: Millis) -> bool
 pub fn in_range(e: Entry) -> bool
     ensures { result ≡ entry_in_range e }
 {
-    up_to(MAX_DELAY, e.delay)
-        && e.ttl.0 <= HOLD_DOWN.0
-        && e.pid <= 8
-        && up_to(clock::DAY, e.time)
+    up_to(MAX_DELAY, e.delay) && e.ttl.0 <= HOLD_DOWN.0 && e.pid <= 8 && up_to(clock::DAY, e.time)
 }
 
 // A line of an update continues with the next line, or breaks off, with the entry as it is then.

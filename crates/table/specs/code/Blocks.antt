@@ -1,5 +1,5 @@
 -- A self-report four entries at a time. There is no rule here.
-use Rattle.std.specs.Prelude.{◌≡◌, Bool, true, false, not, ◌||◌, List, [], ◌∷◌, ℕ, ◌+◌, ◌-◌, ◌*◌, ◌/◌, ◌≤◌, eqb, length}
+use Rattle.std.specs.Prelude.{Bool, false, not, ◌||◌, List, [], ◌∷◌, ℕ, ◌+◌, ◌-◌, ◌*◌, ◌/◌, ◌≤◌, eqb, length}
 use Rattle.lists.specs.Lists.{part}
 use Rattle.table.specs.declared.Entry.{Entry}
 use Rattle.table.specs.declared.entries.Changes.{Changes}

@@ -1,5 +1,5 @@
 -- The preconditions of the loops over the host table, and the results of those that only read it. There is no rule here.
-use Rattle.std.specs.Prelude.{◌≡◌, Bool, true, false, ◌&&◌, List, [], ◌∷◌, map, ℕ, ◌+◌, ◌-◌, ◌≤◌, ◌<◌, ◌^◌, length}
+use Rattle.std.specs.Prelude.{◌≡◌, Bool, true, ◌&&◌, List, [], ◌∷◌, map, ℕ, ◌+◌, ◌-◌, ◌≤◌, ◌<◌, ◌^◌, length}
 use Rattle.lists.specs.Lists.{part}
 use Rattle.clock.specs.Clock.{clock_in_range}
 use Rattle.wire.specs.Ip.{header_length}

@@ -2,7 +2,6 @@
 use mathlib.Core.Path.{sym, ap, subst, ◌∙◌}
 use mathlib.Core.Bool.{Bool, ◌&&◌}
 use Rattle.table.specs.declared.entries.Stretch.{Stretch}
-use Rattle.table.specs.code.Loops.{InEntries}
 use Rattle.table.specs.code.Words.{stretch_of, StretchFits, all_as_in_word}
 use Rattle.table.specs.code.Fours.{rest_of, all_fours}
 use Rattle.table.proofs.ByWords.{stretch_fits}

@@ -1,6 +1,6 @@
 -- After k turns the first k fours are reported.
 use mathlib.Core.Path.{◌≡◌, sym, ap, ◌∙◌}
-use Prim.Native.Nat.{ℕ, ◌+◌, ◌-◌, ◌*◌, ◌/◌}
+use Prim.Native.Nat.{ℕ, ◌+◌, ◌*◌}
 use native.Mathlib.Omega.{arith}
 use Rattle.table.specs.Runs.{changes}
 use Rattle.table.specs.code.Blocks.{between, block_of}
