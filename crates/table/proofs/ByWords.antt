@@ -16,7 +16,7 @@ use Rattle.table.specs.Forms.{every, every_from}
 use Rattle.table.specs.Marks.{mark}
 use Rattle.table.specs.Entry.{as_marked, entry_in_range}
 use Rattle.table.specs.code.Loops.{InEntries, all_in_range}
-use Rattle.table.specs.code.Words.{word_of, by_words, InWord, stretch_of, StretchFits, as_in_word, all_as_in_word}
+use Rattle.table.specs.code.Words.{word_of, InWord, stretch_of, StretchFits, as_in_word, all_as_in_word}
 use Rattle.table.proofs.Loops.{both_lists}
 
 -- ---- elements that are tested
@@ -102,22 +102,7 @@ module _ (entries : List Entry) (w : Scan) (h : InEntries w.first w.end entries)
   unfolding all_in_range
   all_good so = rw (so) (sym (at_once 0 entry_in_range (as_marked w.marks) (part w.first N entries)))
 
-  pub none_good : w.good ≡ false → false ≡ all_in_range w entries
-  unfolding all_in_range
-  none_good is = rw (is) refl
-
--- ---- the words, and the stretch of one
-
--- there are none where the answer is known
-pub started : (good : Bool) (n : ℕ) → 0 < cond good n 0 → good ≡ true
-started true n l = refl
-started false n l = absurd (omega (arith, l))
-
-pub word_inside : (w : Scan) → w.first ≤ w.end → (k : ℕ) → 0 + k < (by_words w).end → InWord (0 + k) w
-word_inside w up k = go w.good where
-  go : (good : Bool) → 0 + k < cond good ((w.end - w.first) / 64 + 1) 0 → InWord (0 + k) w
-  go true l = record { rising = up; before = omega (arith, l) }
-  go false l = absurd (omega (arith, l))
+-- ---- the stretch of a word
 
 -- it has 64 ids at most
 pub stretch_rising : (k : ℕ) (w : Scan) → InWord k w → (stretch_of k w).first ≤ (stretch_of k w).end
@@ -133,7 +118,7 @@ stretch_few k w = go (ltb (w.end - (w.first + 64 * k)) 64) refl where
   go false e = omega arith
 
 pub stretch_fits : (entries : List Entry) (k : ℕ) (w : Scan) → InEntries w.first w.end entries → InWord k w → StretchFits (stretch_of k w) entries
-stretch_fits entries k w h i = record { places = go (ltb (w.end - (w.first + 64 * k)) 64) refl; good = λ _. refl } where
+stretch_fits entries k w h i = record { places = go (ltb (w.end - (w.first + 64 * k)) 64) refl; few = stretch_few k w } where
   go : (b : Bool) → ltb (w.end - (w.first + 64 * k)) 64 ≡ b → InEntries (w.first + 64 * k) (cond b w.end (w.first + 64 * k + 64)) entries
   go true e = record { rising = omega (arith, i.before, i.rising); inside = h.inside }
   go false e = let many = ltb-false (w.end - (w.first + 64 * k)) 64 e in record { rising = omega arith; inside = omega (arith, many, h.inside) }

@@ -11,12 +11,12 @@ use Rattle.table.specs.declared.entries.Changes.{Changes}
 use Rattle.table.specs.Forms.{map_from}
 use Rattle.table.specs.Entry.{fresh_entry}
 use Rattle.table.specs.Runs.{changed, changes}
-use Rattle.table.specs.code.Loops.{InEntries, changed_at}
+use Rattle.table.specs.code.Loops.{InEntries}
 use Rattle.table.proofs.Loops.{map_turn}
 use Rattle.table.proofs.Turns.{maps}
 
 abbrev pub turn : Changes → Entry → ℕ → Entry
-turn w e i = changed_at w i e
+turn w e i = changed w.marks w.change (i - w.first) e
 
 -- the entries after n turns
 abbrev pub made : Changes → List Entry → ℕ → List Entry

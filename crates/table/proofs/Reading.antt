@@ -1,109 +1,83 @@
--- A loop that tests entries ends at the first that fails. These lemmas split the test of all entries into those before a turn, the one of the turn, and the rest.
-use mathlib.Core.Path.{◌≡◌, refl, sym, ap, subst, ◌∙◌}
-use mathlib.Core.Bool.{Bool, true, false, cond, ◌&&◌}
-use mathlib.Core.List.{List, ◌∷◌}
-use Prim.Native.Nat.{ℕ, suc, ◌+◌, ◌-◌, ◌*◌, ◌/◌, ◌≤◌, ◌<◌}
+-- A loop that tests entries ends at the first that fails. These lemmas go from the test of the first entries to that of one, four or a word more, and to that of all.
+use mathlib.Core.Path.{◌≡◌, sym, ap, ◌∙◌}
+use mathlib.Core.Bool.{Bool, true, false, ◌&&◌}
+use mathlib.Core.List.{List}
+use Prim.Native.Nat.{ℕ, suc, ◌+◌, ◌-◌, ◌*◌, ◌≤◌, ◌<◌}
 use Rattle.std.proofs.Common.{⊎_elim}
 use Rattle.std.proofs.lemmas.Bool.{cases_lt}
 use native.Mathlib.Omega.{arith}
 use lib.ListN.{length, get_or}
-use lib.Seq.{drop-cons}
 use Rattle.lists.specs.Lists.{part}
 use Rattle.table.specs.declared.Entry.{Entry}
 use Rattle.table.specs.declared.entries.Scan.{Scan}
-use Rattle.table.specs.declared.entries.Words.{Words}
 use Rattle.table.specs.Forms.{every_from}
 use Rattle.table.specs.Entry.{as_marked, entry_in_range}
 use Rattle.table.specs.code.Loops.{InEntries, all_in_range}
-use Rattle.table.specs.code.Words.{by_words, InWord, WordsFit, WordFits, stretch_of, all_as_in_word}
-use Rattle.table.proofs.ByWords.{passed, full_word, last_word, all_good, none_good, started, word_inside}
+use Rattle.table.specs.code.Words.{stretch_of, all_as_in_word}
+use Rattle.table.proofs.ByWords.{passed, full_word, last_word, all_good}
+use Rattle.table.proofs.Loops.{test_turn}
 use Rattle.table.proofs.WordByFours.{two_tests}
 
--- a part begins with its first element
-pub part_head : {A : Type 0} (i end : ℕ) (l : List A) (d : A) → i < end → end ≤ length l
-    → part i (end - i) l ≡ get_or l i d ∷ part (i + 1) (end - (i + 1)) l
-part_head i end l d less inside =
-    let count : end - i ≡ suc (end - (i + 1)) = omega (arith, less) in
-    let next : i + 1 ≡ suc i = omega arith in
-    rw (count, drop-cons l i d (omega (arith, less, inside)), next) refl
+module _ (entries : List Entry) (first : ℕ) (test : ℕ → Entry → Bool) where
+  -- the first n entries pass
+  abbrev pub good_to : (n : ℕ) → Bool
+  good_to n = every_from 0 test (part first n entries)
 
--- one element, and those after it
-pub test_head : {A : Type 0} (test : ℕ → A → Bool) (n i end : ℕ) (l : List A) (d : A) → i < end → end ≤ length l
-    → every_from n test (part i (end - i) l) ≡ (test n (get_or l i d) && every_from (suc n) test (part (i + 1) (end - (i + 1)) l))
-test_head test n i end l d less inside = ap (every_from n test) (part_head i end l d less inside)
+  -- those before pass, and g is the test of one or four more
+  pub one_more : (i : ℕ) (none : Entry) (g : Bool) → first ≤ i → i < length entries → good_to (i - first) ≡ true → g ≡ test (i - first) (get_or entries i none)
+      → g ≡ good_to (i + 1 - first)
+  one_more i none g low inside so is =
+      let at : first + (i - first) ≡ i = omega (arith, low) in
+      let next : suc (i - first) ≡ i + 1 - first = omega (arith, low) in
+      is ∙ ap (λ (b : Bool). b && test (i - first) (get_or entries i none)) (sym so)
+      ∙ ap (λ (j : ℕ). good_to (i - first) && test (j - first) (get_or entries j none)) (sym at)
+      ∙ test_turn entries first (i - first) none (omega (arith, low, inside)) test ∙ ap good_to next
+
+  pub four_more : (k : ℕ) (g : Bool) → first + 4 * k + 4 ≤ length entries → good_to (4 * k) ≡ true → g ≡ every_from (4 * k) test (part (first + 4 * k) 4 entries)
+      → g ≡ good_to (4 * (k + 1))
+  four_more k g inside so is =
+      let at : 4 * k ≡ 0 + 4 * k = omega arith in
+      let next : 4 * k + 4 ≡ 4 * (k + 1) = omega arith in
+      is ∙ ap (λ (b : Bool). b && every_from (4 * k) test (part (first + 4 * k) 4 entries)) (sym so)
+      ∙ ap (λ (j : ℕ). good_to (4 * k) && every_from j test (part (first + 4 * k) 4 entries)) at
+      ∙ two_tests entries first (4 * k) 4 0 test (omega (arith, inside)) ∙ ap good_to next
+
+  -- some entries fail, so all do
+  pub fails : (n m : ℕ) → n ≤ m → first + m ≤ length entries → good_to n ≡ false → false ≡ good_to m
+  fails n m low inside is =
+      let sum : m ≡ n + (m - n) = omega (arith, low) in
+      sym
+      (ap good_to sum ∙ sym (two_tests entries first n (m - n) 0 test (omega (arith, low, inside)))
+      ∙ ap (λ (b : Bool). b && every_from (0 + n) test (part (first + n) (m - n) entries)) is)
 
 -- ---- entries tested word by word
 
--- before word k nothing failed; after the last, the answer is known
-pub record Passed (entries : List Entry) (v : Words) (k : ℕ) (so_far : Bool) : Type 0 where
-  pub up : k ≤ v.end
-  pub going : k < v.end → (so_far ≡ true) × (passed v.scan entries (64 * k) ≡ true)
-  pub done : k ≡ v.end → so_far ≡ all_in_range v.scan entries
-
 module _ (entries : List Entry) (w : Scan) (h : InEntries w.first w.end entries) where
-  abbrev words : ℕ
-  words = (w.end - w.first) / 64 + 1
+  abbrev N : ℕ
+  N = w.end - w.first
 
-  starts : Passed entries (by_words w) 0 w.good
-  starts = record { up = omega arith; going = λ l. (started w.good words l, refl); done = go w.good refl } where
-    go : (b : Bool) → w.good ≡ b → 0 ≡ cond b words 0 → w.good ≡ all_in_range w entries
-    go true is e = absurd (omega arith)
-    go false is e = is ∙ none_good entries w h is
+  -- the ids of the first k words pass, as far as there are ids
+  abbrev pub words_good : (k : ℕ) → Bool
+  words_good k = passed w entries (N - (N - 64 * k))
 
-  module _ (k : ℕ) (so_far g : Bool) (p : Passed entries (by_words w) k so_far) (l : k < (by_words w).end) (is : g ≡ all_as_in_word (stretch_of k w) entries) where
-    yes : w.good ≡ true
-    yes = started w.good words (omega (arith, l))
+  pub word_more : (k : ℕ) (g : Bool) → 64 * k ≤ N → words_good k ≡ true → g ≡ all_as_in_word (stretch_of k w) entries → g ≡ words_good (k + 1)
+  word_more k g l so is =
+      let here : N - (N - 64 * k) ≡ 64 * k = omega (arith, l) in
+      is ∙ ap (λ (b : Bool). b && all_as_in_word (stretch_of k w) entries) (sym so)
+      ∙ ap (λ (n : ℕ). passed w entries n && all_as_in_word (stretch_of k w) entries) here ∙ ⊎_elim last full (cases_lt N (64 * suc k))
+    where
+      last : N < 64 * suc k → (passed w entries (64 * k) && all_as_in_word (stretch_of k w) entries) ≡ words_good (k + 1)
+      last m = let all : N ≡ N - (N - 64 * (k + 1)) = omega (arith, m) in last_word entries w h k l m ∙ ap (passed w entries) all
 
-    count : (by_words w).end ≡ words
-    count = ap (λ (b : Bool). cond b words 0) yes
+      full : 64 * suc k ≤ N → (passed w entries (64 * k) && all_as_in_word (stretch_of k w) entries) ≡ words_good (k + 1)
+      full m = let next : 64 * suc k ≡ N - (N - 64 * (k + 1)) = omega (arith, m) in full_word entries w h k m ∙ ap (passed w entries) next
 
-    -- the ids up to the end of word k
-    up_to_here : (n : ℕ) → (passed w entries (64 * k) && all_as_in_word (stretch_of k w) entries) ≡ passed w entries n → passed w entries n ≡ g
-    up_to_here n e = sym e ∙ ap (λ (b : Bool). b && all_as_in_word (stretch_of k w) entries) (p.going l).1 ∙ sym is
+  pub words_done : w.good ≡ true → (k : ℕ) → N < 64 * k → words_good k ≡ all_in_range w entries
+  words_done so k l =
+      let all : N - (N - 64 * k) ≡ N = omega (arith, l) in
+      ap (passed w entries) all ∙ all_good entries w h so
 
-    in_full : 64 * suc k ≤ w.end - w.first → passed w entries (64 * suc k) ≡ g
-    in_full m = up_to_here (64 * suc k) (full_word entries w h k m)
-
-    in_last : w.end - w.first < 64 * suc k → g ≡ all_in_range w entries
-    in_last m = sym (up_to_here (w.end - w.first) (last_word entries w h k (omega (arith, l, count)) m)) ∙ all_good entries w h yes
-
-    goes_on : g ≡ true → Passed entries (by_words w) (k + 1) g
-    goes_on t =
-        let next : 64 * (k + 1) ≡ 64 * suc k = omega arith in
-        record {
-          up = omega (arith, l);
-          going = λ m. (t, ap (passed w entries) next ∙ in_full (omega (arith, m, count)) ∙ t);
-          done = λ e. in_last (omega (arith, e, count));
-        }
-
-    ends : g ≡ false → g ≡ all_in_range w entries
-    ends f = ⊎_elim in_last full (cases_lt (w.end - w.first) (64 * suc k))
-      where
-        full : 64 * suc k ≤ w.end - w.first → g ≡ all_in_range w entries
-        full m =
-            let sum : 64 * suc k + (w.end - w.first - 64 * suc k) ≡ w.end - w.first = omega (arith, m) in
-            let test : ℕ → Entry → Bool = λ (id : ℕ) (e : Entry). as_marked w.marks id e && entry_in_range e in
-            let parts = sym (two_tests entries w.first (64 * suc k) (w.end - w.first - 64 * suc k) 0 test (omega (arith, m, h.rising, h.inside))) in
-            let rest = every_from (0 + 64 * suc k) test (part (w.first + 64 * suc k) (w.end - w.first - 64 * suc k) entries) in
-            f ∙ sym (sym (all_good entries w h yes) ∙ ap (passed w entries) (sym sum) ∙ parts ∙ ap (λ (b : Bool). b && rest) (in_full m ∙ f))
-
--- of the words that the loop is given
-pub starts_so : (entries : List Entry) (v : Words) → WordsFit v entries → Passed entries v v.first v.good
-starts_so entries v h = subst (λ (x : Words). Passed entries x x.first x.good) (sym h.all) (starts entries v.scan h.places)
-
-pub goes_on_so : (entries : List Entry) (v : Words) → WordsFit v entries → (k : ℕ) (so_far g : Bool) → Passed entries v k so_far → k < v.end → g ≡ all_as_in_word (stretch_of k v.scan) entries → g ≡ true → Passed entries v (k + 1) g
-goes_on_so entries v h =
-    let P : Words → Type 0 = λ x. (k : ℕ) (so_far g : Bool) → Passed entries x k so_far → k < x.end → g ≡ all_as_in_word (stretch_of k v.scan) entries → g ≡ true → Passed entries x (k + 1) g in
-    subst P (sym h.all) (goes_on entries v.scan h.places)
-
-pub ends_so : (entries : List Entry) (v : Words) → WordsFit v entries → (k : ℕ) (so_far g : Bool) → Passed entries v k so_far → k < v.end → g ≡ all_as_in_word (stretch_of k v.scan) entries → g ≡ false → g ≡ all_in_range v.scan entries
-ends_so entries v h =
-    let P : Words → Type 0 = λ x. (k : ℕ) (so_far g : Bool) → Passed entries x k so_far → k < x.end → g ≡ all_as_in_word (stretch_of k v.scan) entries → g ≡ false → g ≡ all_in_range v.scan entries in
-    subst P (sym h.all) (ends entries v.scan h.places)
-
-pub word_fits : (entries : List Entry) (v : Words) → WordsFit v entries → (k : ℕ) → k < v.end → WordFits k v entries
-word_fits entries v h k l =
-    let at : 0 + k ≡ k = omega arith in
-    let P : Words → Type 0 = λ x. k < x.end → InWord k v.scan in
-    let inside : k < (by_words v.scan).end → InWord k v.scan = λ m. rw at at (word_inside v.scan h.places.rising k (rw at m)) in
-    record { places = h.places; word = subst P (sym h.all) inside l }
+  pub words_fail : w.good ≡ true → (k : ℕ) → words_good k ≡ false → false ≡ all_in_range w entries
+  words_fail so k is =
+      fails entries w.first (λ (id : ℕ) (e : Entry). as_marked w.marks id e && entry_in_range e) (N - (N - 64 * k)) N (omega arith) (omega (arith, h.rising, h.inside)) is
+      ∙ all_good entries w h so

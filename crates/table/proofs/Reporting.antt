@@ -1,6 +1,6 @@
 -- A self-report of places in two parts is that of all, because an entry's change does not depend on its place; and it keeps entries without marks.
 use mathlib.Core.Path.{◌≡◌, refl, sym, ap, ◌∙◌}
-use mathlib.Core.Bool.{Bool, true, false, not, ◌||◌, false≢true}
+use mathlib.Core.Bool.{Bool, false, not, ◌||◌, false≢true}
 use mathlib.Core.List.{List, [], ◌∷◌}
 use Prim.Native.Nat.{ℕ, zero, suc, ◌+◌, ◌-◌, ◌≤◌}
 use native.Mathlib.Omega.{arith}
@@ -11,8 +11,7 @@ use Rattle.lists.specs.Lists.{part, over}
 use Rattle.lists.proofs.Parts.{part_length, over_length, over_nothing, over_part}
 use Rattle.quantity.specs.declared.Millis.{Millis}
 use Rattle.table.specs.declared.Entry.{Entry}
-use Rattle.table.specs.declared.entries.Change.{Change}
-use Rattle.table.specs.declared.entries.Change.TheVariants.{Fresh, Aged, Reported, Put}
+use Rattle.table.specs.declared.entries.Change.TheVariants.{Reported}
 use Rattle.table.specs.declared.entries.Changes.{Changes}
 use Rattle.table.specs.declared.marks.Marks.{Marks}
 use Rattle.table.specs.Forms.{map_from}
@@ -20,7 +19,7 @@ use Rattle.table.specs.Entry.{fresh_entry}
 use Rattle.table.specs.Update.{reported_here}
 use Rattle.table.specs.Runs.{changed, changes}
 use Rattle.table.specs.code.Loops.{InEntries}
-use Rattle.table.specs.code.Blocks.{reports, any_mark, between}
+use Rattle.table.specs.code.Blocks.{any_mark, between}
 use Rattle.table.proofs.Loops.{map_length}
 use Rattle.table.proofs.Changing.{made, all_turns}
 
@@ -86,25 +85,13 @@ module _ (entries : List Entry) (reading : Millis) (marks : Marks) where
       same = ap (over entries f) (sym (over_nothing 0 (part f (e - f) entries))) ∙ over_part entries f (e - f) 0 [] (omega arith) (omega (arith, up, inside)) ∙ over_nothing (f + 0) entries
 
 -- for any change that is a self-report
-pub two_parts : (entries : List Entry) (w : Changes) (f m e : ℕ) → reports w.change ≡ true → f ≤ m → m ≤ e → e ≤ length entries
+pub two_parts : (entries : List Entry) (w : Changes) (reading : Millis) (f m e : ℕ) → w.change ≡ Reported reading → f ≤ m → m ≤ e → e ≤ length entries
     → changes (between m e w) (changes (between f m w) entries) ≡ changes (between f e w) entries
-two_parts entries w f m e is low high inside = go w.change is where
-  go : (c : Change) → reports c ≡ true
-      → changes record { first = m; end = e; change = c; marks = w.marks } (changes record { first = f; end = m; change = c; marks = w.marks } entries)
-      ≡ changes record { first = f; end = e; change = c; marks = w.marks } entries
-  go (Reported reading) r = both_parts entries reading w.marks f m e low high inside
-  go Fresh r = absurd (false≢true r)
-  go Aged r = absurd (false≢true r)
-  go (Put x) r = absurd (false≢true r)
+two_parts entries w reading f m e is low high inside = rw (is) (both_parts entries reading w.marks f m e low high inside)
 
-pub none_marked : (entries : List Entry) (w : Changes) (f e : ℕ) → reports w.change ≡ true → f ≤ e → e ≤ length entries → any_mark (part f (e - f) entries) ≡ false
-    → entries ≡ changes (between f e w) entries
-none_marked entries w f e is up inside none = go w.change is where
-  go : (c : Change) → reports c ≡ true → entries ≡ changes record { first = f; end = e; change = c; marks = w.marks } entries
-  go (Reported reading) r = nothing_stored entries reading w.marks f e up inside none
-  go Fresh r = absurd (false≢true r)
-  go Aged r = absurd (false≢true r)
-  go (Put x) r = absurd (false≢true r)
+pub none_marked : (entries : List Entry) (w : Changes) (reading : Millis) (f e : ℕ) → w.change ≡ Reported reading → f ≤ e → e ≤ length entries
+    → any_mark (part f (e - f) entries) ≡ false → entries ≡ changes (between f e w) entries
+none_marked entries w reading f e is up inside none = rw (is) (nothing_stored entries reading w.marks f e up inside none)
 
 -- no place is changed
 pub no_places_lem : (entries : List Entry) (w : Changes) (f : ℕ) → f ≤ length entries → entries ≡ changes (between f f w) entries

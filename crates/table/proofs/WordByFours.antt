@@ -1,6 +1,6 @@
 -- The entries of a word are its fours and what remains after them.
 use mathlib.Core.Path.{◌≡◌, refl, sym, ap, ◌∙◌}
-use mathlib.Core.Bool.{Bool, true, false, ◌&&◌}
+use mathlib.Core.Bool.{Bool, ◌&&◌}
 use mathlib.Core.List.{List}
 use Prim.Native.Nat.{ℕ, ◌+◌, ◌-◌, ◌*◌, ◌/◌, ◌%◌, ◌≤◌, ◌<◌, ◌^◌}
 use native.Mathlib.Omega.{arith}
@@ -12,7 +12,7 @@ use Rattle.table.specs.declared.entries.Stretch.{Stretch}
 use Rattle.table.specs.Forms.{every_from}
 use Rattle.table.specs.code.Loops.{InEntries}
 use Rattle.table.specs.code.Words.{StretchFits, as_in_word, all_as_in_word}
-use Rattle.table.specs.code.Fours.{fours_of, rest_of, FoursFit, all_fours}
+use Rattle.table.specs.code.Fours.{rest_of, all_fours}
 use Rattle.table.proofs.ByWords.{alike, two_parts}
 use Rattle.table.proofs.FourAtOnce.{bit_at}
 use Rattle.table.proofs.Loops.{both_lists}
@@ -25,7 +25,7 @@ two_tests entries first m n k test fits =
     ap (λ (j : ℕ). every_from k test (part first m entries) && every_from (k + j) test (part (first + m) n entries)) (sym long)
     ∙ both_lists k test (part first m entries) (part (first + m) n entries) ∙ ap (every_from k test) (sym (two_parts first m n entries))
 
-module _ (entries : List Entry) (w : Stretch) (h : StretchFits w entries) (so : w.good ≡ true) (small : w.end - w.first ≤ 64) where
+module _ (entries : List Entry) (w : Stretch) (h : StretchFits w entries) where
   abbrev N : ℕ
   N = w.end - w.first
 
@@ -35,30 +35,19 @@ module _ (entries : List Entry) (w : Stretch) (h : StretchFits w entries) (so : 
   abbrev test : ℕ → Entry → Bool
   test = as_in_word w.word
 
-  pub fours_fit : FoursFit (fours_of w) entries
-  fours_fit = record { all = refl; good = refl; few = omega (arith, small); inside = omega (arith, h.places.rising, h.places.inside) }
-
-  rest_places : (b : Bool) → InEntries (rest_of b w).first (rest_of b w).end entries
-  rest_places true = record { rising = omega (arith, h.places.rising); inside = h.places.inside }
-  rest_places false = record { rising = omega arith; inside = h.places.inside }
-
-  rest_good : (b : Bool) → (rest_of b w).first < (rest_of b w).end → (rest_of b w).good ≡ true
-  rest_good true l = refl
-  rest_good false l = absurd (omega (arith, l))
-
-  pub rest_fits : (b : Bool) → StretchFits (rest_of b w) entries
-  rest_fits b = record { places = rest_places b; good = rest_good b }
+  pub rest_fits : InEntries (rest_of w).first (rest_of w).end entries
+  rest_fits = record { rising = omega (arith, h.places.rising); inside = h.places.inside }
 
   in_rest : (m : ℕ) (e : Entry) → m < 0 + length (part (w.first + n) (w.end - (w.first + n)) entries) → as_in_word (w.word / 2 ^ (n % 64)) m e ≡ test (n + m) e
   in_rest m e l =
       let long = part_length (w.first + n) (w.end - (w.first + n)) entries (omega (arith, h.places.rising, h.places.inside)) in
-      let less : n + m < 64 = omega (arith, l, long, small) in
+      let less : n + m < 64 = omega (arith, l, long, h.few) in
       let same : n % 64 ≡ n = omega (arith, less) in
       let same-m : m % 64 ≡ m = omega (arith, less) in
       rw (same, same-m, bit_at w.word n (n + m) m refl less) refl
 
-  all_tests : all_as_in_word w entries ≡ (all_fours (fours_of w) entries && all_as_in_word (rest_of true w) entries)
-  all_tests =
+  pub by_fours : (all_fours w entries && all_as_in_word (rest_of w) entries) ≡ all_as_in_word w entries
+  by_fours =
       let rest : w.end - (w.first + n) ≡ N - n = omega arith in
       let sum : n + (N - n) ≡ N = omega arith in
       let none : n + 0 ≡ n = omega arith in
@@ -66,12 +55,8 @@ module _ (entries : List Entry) (w : Stretch) (h : StretchFits w entries) (so : 
       let after : every_from 0 (as_in_word (w.word / 2 ^ (n % 64))) (part (w.first + n) (w.end - (w.first + n)) entries) ≡ every_from n test (part (w.first + n) (N - n) entries) =
       alike (as_in_word (w.word / 2 ^ (n % 64))) test n 0 (part (w.first + n) (w.end - (w.first + n)) entries) in_rest ∙ ap (λ (k : ℕ). every_from k test (part (w.first + n) (w.end - (w.first + n)) entries)) none
       ∙ ap (λ (k : ℕ). every_from n test (part (w.first + n) k entries)) rest in
-      ap (λ (b : Bool). b && every_from 0 test (part w.first N entries)) so
-      ∙ ap (λ (k : ℕ). every_from 0 test (part w.first k entries)) (sym sum)
+      sym
+      (ap (λ (k : ℕ). every_from 0 test (part w.first k entries)) (sym sum)
       ∙ sym (two_tests entries w.first n (N - n) 0 test (omega (arith, h.places.rising, h.places.inside)))
       ∙ ap (λ (k : ℕ). every_from 0 test (part w.first n entries) && every_from k test (part (w.first + n) (N - n) entries)) zero
-      ∙ ap (λ (b : Bool). every_from 0 test (part w.first n entries) && b) (sym after)
-
-  pub by_fours : (b : Bool) → b ≡ all_fours (fours_of w) entries → all_as_in_word (rest_of b w) entries ≡ all_as_in_word w entries
-  by_fours true is = sym (all_tests ∙ ap (λ (b : Bool). b && all_as_in_word (rest_of true w) entries) (sym is))
-  by_fours false is = sym (all_tests ∙ ap (λ (b : Bool). b && all_as_in_word (rest_of true w) entries) (sym is))
+      ∙ ap (λ (b : Bool). every_from 0 test (part w.first n entries) && b) (sym after))

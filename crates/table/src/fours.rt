@@ -1,20 +1,11 @@
 // The guard's pass over the entries of one word of marks, four entries at a time: TTL, PID and mark of an entry are one number, and four such numbers take one test.
 ghost use Rattle.std.specs.Prelude.{◌≡◌, ◌&&◌, [], ◌∷◌, ◌+◌, ◌*◌, ◌/◌, ◌%◌, ◌<◌, ◌^◌};
 ghost use Rattle.table.specs.Forms.{every_from};
-ghost use Rattle.table.specs.code.Words.{as_in_word};
-ghost use Rattle.table.specs.code.Fours.{wide_good, small_good, fields_of, fields_good, over, over_good, FourFits, FoursFit, four_good, all_fours};
+ghost use Rattle.table.specs.code.Words.{StretchFits, as_in_word};
+ghost use Rattle.table.specs.code.Fours.{wide_good, small_good, fields_of, fields_good, over, FourFits, four_good, all_fours};
 
 use super::Entry;
-
-// The entries of one word: `end` counts the fours, and `at` is the place of the lowest id.
-#[derive(Clone, Copy)]
-pub struct Fours {
-    pub first: usize,
-    pub end: usize,
-    pub good: bool,
-    pub at: usize,
-    pub word: u64,
-}
+use super::entries::Stretch;
 
 // The number that moves a TTL over 120 to 128 or more, and a PID over 8 to 16 or more.
 const MORE: u64 = 458759;
@@ -23,44 +14,28 @@ const MORE: u64 = 458759;
 fn wide(e: Entry) -> bool
     ensures { result ≡ wide_good e }
 {
-    let delay = e.delay;
-    if !super::up_to(super::MAX_DELAY, delay) {
-        return false;
-    }
-    let time = e.time;
-    super::up_to(clock::DAY, time)
+    super::up_to(super::MAX_DELAY, e.delay) && super::up_to(clock::DAY, e.time)
 }
 
 // The same of four entries.
 fn four_wide(a: Entry, b: Entry, c: Entry, d: Entry) -> bool
     ensures { result ≡ (wide_good a && (wide_good b && (wide_good c && wide_good d))) }
 {
-    if !wide(a) {
-        return false;
-    }
-    if !wide(b) {
-        return false;
-    }
-    if !wide(c) {
-        return false;
-    }
-    wide(d)
+    wide(a) && wide(b) && wide(c) && wide(d)
 }
 
 // TTL, PID and mark as one number.
 fn fields(e: Entry) -> u64
     ensures { (result ≡ fields_of e) × ((fields_good result ≡ small_good 0 e) × (result < 2 ^ 32)) }
 {
-    let ttl = e.ttl;
-    (ttl.0 as u64) + (e.pid as u64) * 65536 + (e.here as u64) * 16777216
+    (e.ttl.0 as u64) + (e.pid as u64) * 65536 + (e.here as u64) * 16777216
 }
 
 // The same with the mark's difference from the lowest of some bits.
 fn fields_by(e: Entry, bits: u64) -> u64
     ensures { (fields_good result ≡ small_good (bits % 2) e) × (result < 2 ^ 32) }
 {
-    let known = fields(e);
-    known ^ (bits % 2 * 16777216)
+    fields(e) ^ (bits % 2 * 16777216)
 }
 
 // The number's bits, with a bit above the limit of each field that exceeds it.
@@ -76,13 +51,8 @@ fn four_small(a: u64, b: u64, c: u64, d: u64) -> bool
     requires { (a < 2 ^ 32) × ((b < 2 ^ 32) × ((c < 2 ^ 32) × (d < 2 ^ 32))) }
     ensures { result ≡ (fields_good a && (fields_good b && (fields_good c && fields_good d))) }
 {
-    let first = over(a) | over(b);
-    let second = over(c) | over(d);
-    let all = first | second;
-    if all >= 1048576 {
-        return false;
-    }
-    all % 65536 < 128
+    let all = over(a) | over(b) | (over(c) | over(d));
+    all < 1048576 && all % 65536 < 128
 }
 
 // Are TTL, PID and mark of four entries as they should be? If none of the four is marked, the numbers need no change.
@@ -101,55 +71,38 @@ fn four_marked(a: Entry, b: Entry, c: Entry, d: Entry, bits: u64) -> bool
 }
 
 // Are four entries as they should be?
-fn four_good(a: Entry, b: Entry, c: Entry, d: Entry, k: usize, v: Fours) -> bool
+fn four_good(a: Entry, b: Entry, c: Entry, d: Entry, k: usize, word: u64) -> bool
     requires { k < 16 }
-    ensures { result ≡ every_from (4 * k) (as_in_word v.word) (a ∷ b ∷ c ∷ d ∷ []) }
+    ensures { result ≡ every_from (4 * k) (as_in_word word) (a ∷ b ∷ c ∷ d ∷ []) }
 {
-    if !four_wide(a, b, c, d) {
-        return false;
-    }
-    let bits = v.word >> (4 * k);
-    four_marked(a, b, c, d, bits)
+    four_wide(a, b, c, d) && four_marked(a, b, c, d, word >> (4 * k))
 }
 
-// The place of the first of the k-th four.
-fn place_of(k: usize, v: Fours) -> usize
-    requires { v.at + 4 * k < 2 ^ 64 }
-    ensures { result ≡ v.at + 4 * k }
+fn four_at(entries: &[Entry], k: usize, w: Stretch) -> bool
+    requires { FourFits k w entries.now }
+    ensures { result ≡ four_good k w entries.now }
 {
-    let before = 4 * k;
-    v.at + before
-}
-
-fn four_at(entries: &[Entry], k: usize, v: Fours) -> bool
-    requires { FourFits k v entries.now }
-    ensures { result ≡ four_good k v entries.now }
-{
-    let i = place_of(k, v);
+    let i = w.first + 4 * k;
     four_good(
         entries[i],
         entries[i + 1],
         entries[i + 2],
         entries[i + 3],
         k,
-        v,
+        w.word,
     )
 }
 
-// Are all fours as they should be? The loop ends at the first that is not.
-pub fn all_fours(entries: &[Entry], v: Fours) -> bool
-    requires { FoursFit v entries.now }
-    ensures { result ≡ all_fours v entries.now }
+// Are all fours of a word as they should be? The loop ends at the first that is not.
+pub fn all_fours(entries: &[Entry], w: Stretch) -> bool
+    requires { StretchFits w entries.now }
+    ensures { result ≡ all_fours w entries.now }
 {
-    let end = v.end;
-    let mut k = v.first;
-    let mut good = v.good;
-    while k < end {
-        good = four_at(entries, k, v);
-        if !good {
-            break;
+    let n = w.end - w.first;
+    for k in 0..n / 4 {
+        if !four_at(entries, k, w) {
+            return false;
         }
-        k = k + 1;
     }
-    good
+    true
 }

@@ -60,6 +60,7 @@ pub fn switching()
 {}
 
 // The entry of a host that nothing is known of.
+#[tactic(auto, unfolding(crate::specs::Entry::fresh_entry))]
 pub fn fresh() -> Entry
     ensures { result ≡ fresh_entry }
 {
@@ -91,77 +92,56 @@ fn lives_here(e: Entry) -> bool
 fn with_mark(e: Entry, here: u8) -> Entry
     ensures { result ≡ with_mark here e }
 {
-    let mut x = e;
-    x.here = here;
-    x
+    Entry { here, ..e }
 }
 
-// The entry with another TTL. This and the functions below build an entry from its fields: a copied entry with one field changed goes through memory.
+// The entry with another TTL.
 fn with_ttl(e: Entry, ttl: Seconds) -> Entry
     ensures { result ≡ with_ttl ttl e }
 {
-    let delay = e.delay;
-    let offset = e.offset;
-    let time = e.time;
-    Entry {
-        delay: delay,
-        offset: offset,
-        ttl: ttl,
-        pid: e.pid,
-        here: e.here,
-        time: time,
-    }
+    Entry { ttl, ..e }
 }
 
 // The entry with its host taken down.
 fn taken_down(e: Entry) -> Entry
     ensures { result ≡ taken_down e }
 {
-    let offset = e.offset;
-    let time = e.time;
     Entry {
         delay: MAX_DELAY,
-        offset: offset,
         ttl: HOLD_DOWN,
-        pid: e.pid,
-        here: e.here,
-        time: time,
+        ..e
     }
 }
 
 // The entry a second later.
+#[tactic(auto, unfolding(crate::specs::Entry::aged))]
 pub fn aged(e: Entry) -> Entry
     ensures { result ≡ aged e }
 {
-    let ttl = e.ttl;
-    if ttl.0 == 0 {
+    if e.ttl.0 == 0 {
         return e;
     }
-    let left = ttl.fall();
-    if left.0 != 0 {
-        return with_ttl(e, left);
-    }
-    if up(e) {
+    let left = e.ttl.fall();
+    if left.0 == 0 && up(e) {
         return taken_down(e);
     }
     with_ttl(e, left)
 }
 
 // What a send on the link of that PID advertises for the entry.
+#[tactic(auto, unfolding(crate::specs::Entry::advertised))]
 pub fn advertised(pid: u8, e: Entry) -> Report
     ensures { result ≡ advertised pid e }
 {
-    let offset = e.offset;
     if e.pid == pid {
         return Report {
             delay: MAX_DELAY,
-            offset: offset,
+            offset: e.offset,
         };
     }
-    let delay = e.delay;
     Report {
-        delay: delay,
-        offset: offset,
+        delay: e.delay,
+        offset: e.offset,
     }
 }
 
@@ -173,22 +153,11 @@ pub fn up_to(most: Millis, m: Millis) -> bool
 }
 
 // Is the entry within its ranges?
+#[tactic(auto, unfolding(crate::specs::Entry::entry_in_range))]
 pub fn in_range(e: Entry) -> bool
     ensures { result ≡ entry_in_range e }
 {
-    let delay = e.delay;
-    if !up_to(MAX_DELAY, delay) {
-        return false;
-    }
-    let ttl = e.ttl;
-    if ttl.0 > HOLD_DOWN.0 {
-        return false;
-    }
-    if e.pid > 8 {
-        return false;
-    }
-    let time = e.time;
-    up_to(clock::DAY, time)
+    up_to(MAX_DELAY, e.delay) && e.ttl.0 <= HOLD_DOWN.0 && e.pid <= 8 && up_to(clock::DAY, e.time)
 }
 
 // A line of an update continues with the next line, or breaks off, with the entry as it is then.
@@ -202,9 +171,7 @@ pub fn line_a(u: Update, e: Entry) -> ControlFlow<Entry, Entry>
     if u.pid == e.pid {
         return ControlFlow::Continue(e);
     }
-    let known = e.delay;
-    let delay = u.delay;
-    if known < delay + MIN_DELAY {
+    if e.delay < u.delay + MIN_DELAY {
         return ControlFlow::Break(e);
     }
     ControlFlow::Continue(e)
@@ -215,43 +182,36 @@ pub fn line_a(u: Update, e: Entry) -> ControlFlow<Entry, Entry>
 pub fn line_b(u: Update, e: Entry) -> ControlFlow<Entry, Entry>
     ensures { result ≡ flow_of (line_b u e) }
 {
-    let delay = u.delay;
-    let reached = delay < MAX_DELAY;
-    let was_up = up(e);
-    if was_up {
+    let reached = u.delay < MAX_DELAY;
+    if up(e) {
         if reached {
             return ControlFlow::Continue(e);
         }
         return ControlFlow::Break(taken_down(e));
     }
-    if !reached {
-        return ControlFlow::Break(e);
-    }
-    let held = e.ttl;
-    if held.0 == 0 {
+    if reached && e.ttl.0 == 0 {
         return ControlFlow::Continue(e);
     }
     ControlFlow::Break(e)
 }
 
 // Line (c): the update is stored.
+#[tactic(auto, unfolding(crate::specs::Update::line_c))]
 pub fn line_c(u: Update, e: Entry) -> ControlFlow<Entry, Entry>
     ensures { result ≡ flow_of (line_c u e) }
 {
-    let delay = u.delay;
-    let offset = u.offset;
-    let reading = u.reading;
     ControlFlow::Continue(Entry {
-        delay: delay,
-        offset: offset,
+        delay: u.delay,
+        offset: u.offset,
         ttl: HOLD_DOWN,
         pid: u.pid,
         here: e.here,
-        time: reading,
+        time: u.reading,
     })
 }
 
 // Lines (a) to (c).
+#[tactic(auto, using(crate::proofs::Stages::goes_on, crate::proofs::Stages::ends), unfolding(crate::specs::Update::lines))]
 pub fn lines(u: Update, e: Entry) -> ControlFlow<Entry, Entry>
     requires { delay_in_range u ≡ true }
     ensures { result ≡ flow_of (lines u e) }
@@ -265,23 +225,10 @@ pub fn lines(u: Update, e: Entry) -> ControlFlow<Entry, Entry>
 fn date_taken(date: Date, c: Clock) -> Clock
     ensures { result ≡ date_taken date c }
 {
-    let real = date.is_real();
-    let awaited = date.awaited();
-    if !real {
-        return c;
+    if date.is_real() && !date.awaited() {
+        return Clock { date, ..c };
     }
-    if awaited {
-        return c;
-    }
-    let clock = c.clock;
-    let delta = c.delta;
-    let hold = c.hold;
-    Clock {
-        clock: clock,
-        delta: delta,
-        hold: hold,
-        date: date,
-    }
+    c
 }
 
 // Line (d), for the clock host: the packet's date is taken, and the clock is set by OFFSET.
@@ -293,6 +240,7 @@ pub fn line_d(hold_interval: Seconds, n: Count, date: Date, offset: Word, c: Clo
 }
 
 // One entry updated by an arrival, and the clock. Only the entry of the clock host can set the clock.
+#[tactic(auto, using(crate::proofs::Stages::goes_on, crate::proofs::Stages::ends), unfolding(crate::specs::Update::update))]
 pub fn update_entry(
     clock_host: bool,
     hold_interval: Seconds,
@@ -307,19 +255,16 @@ pub fn update_entry(
     ensures { result ≡ update clock_host hold_interval n date u c e }
 {
     match lines(u, e) {
-        ControlFlow::Break(x) => Updated { clock: c, entry: x },
-        ControlFlow::Continue(x) => {
-            if clock_host {
-                let by = u.offset;
-                let d = line_d(hold_interval, n, date, by, c);
-                return Updated { clock: d, entry: x };
-            }
-            Updated { clock: c, entry: x }
+        ControlFlow::Continue(entry) if clock_host => {
+            let clock = line_d(hold_interval, n, date, u.offset, c);
+            Updated { clock, entry }
         }
+        ControlFlow::Continue(entry) | ControlFlow::Break(entry) => Updated { clock: c, entry },
     }
 }
 
 // Self-report: the entry of a host that lives here, with our reading.
+#[tactic(auto, using(crate::proofs::Stages::goes_on, crate::proofs::Stages::ends), unfolding(crate::specs::Update::self_reported))]
 fn self_reported(reading: Millis, e: Entry) -> Entry
     ensures { result ≡ self_reported reading e }
 {
@@ -327,15 +272,15 @@ fn self_reported(reading: Millis, e: Entry) -> Entry
         pid: 0,
         delay: Millis(0),
         offset: Word(0),
-        reading: reading,
+        reading,
     };
     match lines(u, e) {
-        ControlFlow::Continue(x) => x,
-        ControlFlow::Break(x) => x,
+        ControlFlow::Continue(x) | ControlFlow::Break(x) => x,
     }
 }
 
 // The entry after a self-report, which covers the hosts that live here.
+#[tactic(auto, unfolding(crate::specs::Update::reported_here))]
 pub fn reported_here(reading: Millis, e: Entry) -> Entry
     ensures { result ≡ reported_here reading e }
 {

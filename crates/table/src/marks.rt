@@ -20,18 +20,17 @@ pub fn none() -> Marks
 pub fn word_of(m: Marks, id: usize) -> u64
     ensures { result ≡ word_of m id }
 {
-    let words = m.words;
     if id < 64 {
-        return words[0];
+        return m.words[0];
     }
     if id < 128 {
-        return words[1];
+        return m.words[1];
     }
     if id < 192 {
-        return words[2];
+        return m.words[2];
     }
     if id < 256 {
-        return words[3];
+        return m.words[3];
     }
     0
 }
@@ -54,44 +53,25 @@ pub fn mark(m: Marks, id: usize) -> u8
 fn zero_from(word: u64, n: usize) -> bool
     ensures { result ≡ zero_from word n }
 {
-    if n >= 64 {
-        return true;
-    }
-    (word >> n) == 0
-}
-
-// n less k, and 0 where k is more.
-fn less(n: usize, k: usize) -> usize
-    ensures { result ≡ n - k }
-{
-    if n < k {
-        return 0;
-    }
-    n - k
+    n >= 64 || word >> n == 0
 }
 
 // Is no id from n on marked, by all words?
 fn none_in_words(m: Marks, n: usize) -> bool
     ensures { result ≡ none_from m n }
 {
-    let words = m.words;
-    zero_from(words[0], n)
-        & zero_from(words[1], less(n, 64))
-        & zero_from(words[2], less(n, 128))
-        & zero_from(words[3], less(n, 192))
+    zero_from(m.words[0], n)
+        & zero_from(m.words[1], n.saturating_sub(64))
+        & zero_from(m.words[2], n.saturating_sub(128))
+        & zero_from(m.words[3], n.saturating_sub(192))
 }
 
 // Is no id from n on marked? Where only the first word has marks, that one is looked at.
 pub fn none_from(m: Marks, n: usize) -> bool
     ensures { result ≡ none_from m n }
 {
-    let words = m.words;
-    if words[1] == 0 {
-        if words[2] == 0 {
-            if words[3] == 0 {
-                return zero_from(words[0], n);
-            }
-        }
+    if m.words[1] == 0 && m.words[2] == 0 && m.words[3] == 0 {
+        return zero_from(m.words[0], n);
     }
     none_in_words(m, n)
 }

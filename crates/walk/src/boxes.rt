@@ -17,8 +17,8 @@ ghost use Rattle.walk.specs.Boxes.{raised, to_neighbor, box1, box2, box3, box4, 
 use super::held::{at, ended, holding, holding_reading, in_flight, onward, storing};
 use super::lines::{box_a, box_b, box_c, box_d};
 use answer::Answer;
-use arrival::steps::{delay_of, offset_of, step4, tsp_of};
 use arrival::Flight;
+use arrival::steps::{delay_of, offset_of, step4, tsp_of};
 use clock::{Clock, Counter};
 use host::effects::{answers, nothing};
 use host::link_state::{KEEP_ALIVE_INTERVAL, broadcast, link_of};
@@ -103,7 +103,12 @@ fn box4(s: Settings, c: Clock, l: Links, w: Walk, p: Packet) -> Effect
 {
     match step4(broadcast(s, w.link as usize), c.hold, p, in_flight(l, w)) {
         ControlFlow::Break(f) => ended(Answer::DelayNotValid, c, storing(f, w, l), nothing()),
-        ControlFlow::Continue(f) => onward(at(5, 0, 0, holding(f, w)), c, storing(f, w, l), nothing()),
+        ControlFlow::Continue(f) => onward(
+            at(5, 0, 0, holding(f, w)),
+            c,
+            storing(f, w, l),
+            nothing(),
+        ),
     }
 }
 

@@ -1,11 +1,10 @@
 -- The entries of a word four at a time, and what remains of the word. There is no rule here.
-use Rattle.std.specs.Prelude.{◌≡◌, Bool, true, ◌&&◌, cond, List, ℕ, ◌+◌, ◌-◌, ◌*◌, ◌/◌, ◌%◌, ◌≤◌, ◌<◌, ◌^◌, eqb, ltb, leb, length}
+use Rattle.std.specs.Prelude.{Bool, ◌&&◌, List, ℕ, ◌+◌, ◌-◌, ◌*◌, ◌/◌, ◌%◌, ◌≤◌, ◌<◌, ◌^◌, eqb, ltb, leb, length}
 use Rattle.std.specs.Int.Bits.{bit_or}
 use Rattle.lists.specs.Lists.{part}
 use Rattle.clock.specs.Midnight.{day_millis}
 use Rattle.table.specs.declared.Entry.{Entry}
 use Rattle.table.specs.declared.entries.Stretch.{Stretch}
-use Rattle.table.specs.declared.fours.Fours.{Fours}
 use Rattle.table.specs.Forms.{every_from}
 use Rattle.table.specs.Entry.{max_delay, hold_down, up_to}
 use Rattle.table.specs.code.Words.{as_in_word}
@@ -31,29 +30,20 @@ over f = bit_or f (f + 458759)
 abbrev pub over_good : ℕ → Bool
 over_good x = ltb (x % 65536) 128 && ltb x 1048576
 
--- the fours of the entries of a word, and what remains if these are good
-abbrev pub fours_of : Stretch → Fours
-fours_of w = record { first = 0; end = (w.end - w.first) / 4; good = true; at = w.first; word = w.word }
-
-abbrev pub rest_of : (good : Bool) → Stretch → Stretch
-rest_of good w =
+-- what remains of the entries of a word after its fours
+abbrev pub rest_of : Stretch → Stretch
+rest_of w =
     let n = 4 * ((w.end - w.first) / 4) in
-    record { first = cond good (w.first + n) w.end; end = w.end; good = good; word = w.word / 2 ^ (n % 64) }
+    record { first = w.first + n; end = w.end; word = w.word / 2 ^ (n % 64) }
 
--- four k lies in the host table; all do
-pub record FourFits (k : ℕ) (v : Fours) (entries : List Entry) : Type 0 where
+-- four k lies in the host table
+pub record FourFits (k : ℕ) (w : Stretch) (entries : List Entry) : Type 0 where
   pub few : k < 16
-  pub inside : v.at + 4 * k + 4 ≤ length entries
-
-pub record FoursFit (v : Fours) (entries : List Entry) : Type 0 where
-  pub all : v.first ≡ 0
-  pub good : v.good ≡ true
-  pub few : v.end ≤ 16
-  pub inside : v.at + 4 * v.end ≤ length entries
+  pub inside : w.first + 4 * k + 4 ≤ length entries
 
 -- the entries of four k are as in the word; those of all fours are
-abbrev pub four_good : (k : ℕ) → Fours → List Entry → Bool
-four_good k v entries = every_from (4 * k) (as_in_word v.word) (part (v.at + 4 * k) 4 entries)
+abbrev pub four_good : (k : ℕ) → Stretch → List Entry → Bool
+four_good k w entries = every_from (4 * k) (as_in_word w.word) (part (w.first + 4 * k) 4 entries)
 
-abbrev pub all_fours : Fours → List Entry → Bool
-all_fours v entries = every_from 0 (as_in_word v.word) (part v.at (4 * v.end) entries)
+abbrev pub all_fours : Stretch → List Entry → Bool
+all_fours w entries = every_from 0 (as_in_word w.word) (part w.first (4 * ((w.end - w.first) / 4)) entries)

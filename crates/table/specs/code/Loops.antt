@@ -1,5 +1,5 @@
 -- The preconditions of the loops over the host table, and the results of those that only read it. There is no rule here.
-use Rattle.std.specs.Prelude.{◌≡◌, Bool, true, false, ◌&&◌, List, [], ◌∷◌, map, ℕ, ◌+◌, ◌-◌, ◌≤◌, ◌<◌, ◌^◌, length}
+use Rattle.std.specs.Prelude.{◌≡◌, Bool, true, ◌&&◌, List, [], ◌∷◌, map, ℕ, ◌+◌, ◌-◌, ◌≤◌, ◌<◌, ◌^◌, length}
 use Rattle.lists.specs.Lists.{part}
 use Rattle.clock.specs.Clock.{clock_in_range}
 use Rattle.wire.specs.Ip.{header_length}
@@ -7,8 +7,6 @@ use Rattle.wire.specs.Hello.{report_length, report_place}
 use Rattle.wire.specs.Packet.{packet_length}
 use Rattle.wire.specs.code.Sealing.{with_report, with_reports}
 use Rattle.table.specs.declared.Entry.{Entry}
-use Rattle.table.specs.declared.entries.Change.{Change}
-use Rattle.table.specs.declared.entries.Change.TheVariants.{Fresh, Aged, Reported, Put}
 use Rattle.table.specs.declared.entries.Changes.{Changes}
 use Rattle.table.specs.declared.entries.Scan.{Scan}
 use Rattle.table.specs.declared.entries.Seek.{Seek}
@@ -27,16 +25,9 @@ pub record InEntries (first end : ℕ) (entries : List Entry) : Type 0 where
 
 -- ---- changing
 
--- does the change replace entries by values that it has?
-abbrev pub puts : Change → Bool
-puts Fresh = false
-puts Aged = false
-puts (Reported reading) = true
-puts (Put e) = true
-
--- the entry of a place after the change
-abbrev pub changed_at : Changes → (place : ℕ) → Entry → Entry
-changed_at w i e = changed w.marks w.change (i - w.first) e
+-- what a call gives for an entry, the n-th of those that change, is the entry after the change
+abbrev pub Makes : (Entry → ℕ → Entry → Type 0) → Changes → Type 0
+Makes gives w = (e x : Entry) (n : ℕ) → gives e n x → x ≡ changed w.marks w.change n e
 
 -- ---- looking
 

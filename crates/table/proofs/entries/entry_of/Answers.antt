@@ -18,8 +18,8 @@ there entries w d inside one-at-most less =
     let at : w.first ≡ w.first + 0 = omega arith in
     rw (one) (subst (λ (i : ℕ). get_or entries i d ≡ latest w.entry (part w.first 1 entries)) (sym at) (seek_turn entries w.first 0 d (omega (arith, less, inside)) w.entry))
 
-pub returns-then-i-end : goal.returns-then-i-end
-returns-then-i-end c = there c.args.entries.now c.args.w _ c.requires.0.inside c.requires.1 c.if-i-end.true
+pub returns-then-w : goal.returns-then-w
+returns-then-w c = there c.args.entries.now c.args.w _ c.requires.0.inside c.requires.1 c.if-w.true
 
 pub returns : goal.returns
 unfolding entry_of

@@ -18,7 +18,7 @@ unfolding with_reports
 loop-i-init c =
     let w = c.args.w in
     let none : w.first - w.first ≡ 0 = omega arith in
-    (omega arith, c.requires.places.rising, rw (none) refl)
+    rw (none) refl
 
 -- one report more
 turn : (w : Reports) (entries : List Entry) (b : List ℕ) (none : Entry) (i : ℕ) → w.first ≤ i → i < length entries
@@ -39,15 +39,12 @@ loop-i-preserved c =
     let i = c.loop-i.i in
     let kept = c.loop-i.invariant in
     let more = c.loop-i-test.true in
-    let inside : i < length entries = omega (arith, more, c.requires.places.inside) in (
-      omega (arith, kept.0),
-      omega (arith, more),
-      c.put.ensures ∙ ap (reported w i (get_or entries i _)) kept.2 ∙ turn w entries c.args.buffer.now _ i kept.0 inside,
-    )
+    let inside : i < length entries = omega (arith, more, c.requires.places.inside) in
+    c.put.ensures ∙ ap (reported w i (get_or entries i _)) kept ∙ turn w entries c.args.buffer.now _ i c.loop-i.auto.i inside
 
 pub returns : goal.returns
 unfolding read_out
 returns c =
     let w = c.args.w in
-    let last : c.loop-i.i - w.first ≡ w.end - w.first = omega (arith, c.loop-i.invariant.1, c.loop-i-test.false) in
-    rw last at c.loop-i.invariant.2
+    let last : c.loop-i.i - w.first ≡ w.end - w.first = omega (arith, c.loop-i-test.false, c.loop-i.auto.i, c.loop-i.auto.i-end, c.requires.places.rising) in
+    rw last at c.loop-i.invariant

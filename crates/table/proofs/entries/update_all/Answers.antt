@@ -15,7 +15,7 @@ unfolding sweep
 loop-i-init c =
     let w = c.args.w in
     let none : w.first - w.first ≡ 0 = omega arith in
-    (omega arith, c.requires.places.rising, λ some. (c.requires.sound some).clock, rw (none) (sym (over_nothing w.first c.args.entries.now)), rw (none) refl)
+    (λ some. (c.requires.sound some).clock, rw (none) (sym (over_nothing w.first c.args.entries.now)), rw (none) refl)
 
 pub loop-i-preserved : goal.loop-i-preserved
 loop-i-preserved c =
@@ -26,12 +26,10 @@ loop-i-preserved c =
     let kept = c.loop-i.invariant in
     let more = c.loop-i-test.true in
     let inside : i < length entries = omega (arith, more, c.requires.places.inside) in (
-      omega (arith, kept.0),
-      omega (arith, more),
       λ some. let sound = c.requires.sound some in
-          rw (c.updated-t.ensures) (clock_in_range_lem _ w.hold_interval sound.hold w.count sound.count w.date _ c.loop-i.c _ (kept.2 some)),
-      rw (c.updated-t.ensures, kept.3, kept.4) (entries_turn w packet entries _ i kept.0 inside),
-      rw (c.updated-t.ensures, kept.3, kept.4) (clock_turn w packet entries _ i kept.0 inside),
+          rw (c.updated-t.ensures) (clock_in_range_lem _ w.hold_interval sound.hold w.count sound.count w.date _ c.loop-i.c _ (kept.0 some)),
+      rw (c.updated-t.ensures, kept.1, kept.2) (entries_turn w packet entries _ i c.loop-i.auto.i inside),
+      rw (c.updated-t.ensures, kept.1, kept.2) (clock_turn w packet entries _ i c.loop-i.auto.i inside),
     )
 
 pub returns : goal.returns
@@ -40,5 +38,5 @@ returns c =
     let w = c.args.w in
     let entries = c.args.entries.now in
     let kept = c.loop-i.invariant in
-    let last : c.loop-i.i - w.first ≡ w.end - w.first = omega (arith, kept.1, c.loop-i-test.false) in
-    (rw last at kept.3, rw last at kept.4)
+    let last : c.loop-i.i - w.first ≡ w.end - w.first = omega (arith, c.loop-i-test.false, c.loop-i.auto.i, c.loop-i.auto.i-end, c.requires.places.rising) in
+    (rw last at kept.1, rw last at kept.2)

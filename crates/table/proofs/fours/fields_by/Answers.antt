@@ -11,5 +11,5 @@ returns c =
     let a = c.args in
     let few : a.e.ttl.0 < 65536 = search rules in
     let less : a.e.pid < 256 = search rules in
-    let known = c.fields-known.ensures in
+    let known = c.fields.ensures in
     (rw known.0 (by_mark_good a.e.ttl.0 a.e.pid a.e.here (a.bits % 2) few less), xor_lt 32 _ _ known.1.1 (omega arith))

@@ -1,4 +1,4 @@
--- One way through `none_in_words`: rewriting by the contracts of `zero_from`, `less` gives the definition.
+-- One way through `none_in_words`: rewriting by the contracts of `zero_from` and `saturating_sub` gives the definition.
 use mathlib.Core.Path.{◌≡◌}
 use lib.ListN.{length}
 use borrow.Author.Rules.{rules}
@@ -9,5 +9,5 @@ pub returns : goal.returns
 returns c =
     let a = c.args in
     let four : length a.m.words ≡ 4 = search rules in
-    rw (c.zero_from.ensures, c.zero_from-2.ensures, c.less.ensures, c.zero_from-3.ensures, c.less-2.ensures, c.zero_from-4.ensures, c.less-3.ensures)
+    rw (c.zero_from.ensures, c.zero_from-2.ensures, c.saturating_sub.ensures, c.zero_from-3.ensures, c.saturating_sub-2.ensures, c.zero_from-4.ensures, c.saturating_sub-3.ensures)
     (four_words a.m a.n four)

@@ -4,8 +4,8 @@ use borrow.Author.Rules.{rules}
 use Rattle.table.proofs.Bits.{word_zero}
 use Rattle.table.proofs.marks.zero_from.Goals as goal
 
-pub returns : goal.returns
-returns c =
+pub returns-else-n-ge64 : goal.returns-else-n-ge64
+returns-else-n-ge64 c =
     let a = c.args in
     let small : a.word < 2 ^ 64 = search rules in
     word_zero a.word a.n c.if-n-ge64.false small

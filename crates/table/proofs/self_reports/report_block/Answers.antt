@@ -7,12 +7,12 @@ use Rattle.table.specs.code.Blocks.{any_mark}
 use Rattle.table.proofs.Reporting.{none_marked}
 use Rattle.table.proofs.self_reports.report_block.Goals as goal
 
-pub returns-else-some : goal.returns-else-some
-returns-else-some c =
+pub returns-else-some_here : goal.returns-else-some_here
+returns-else-some_here c =
     let entries = c.args.entries.now in
-    let v = c.args.v in
-    let f = v.changes.first + 4 * c.args.k in
+    let w = c.args.w in
+    let f = w.first + 4 * c.args.k in
     let four : f + 4 - f ≡ 4 = omega arith in
-    let none = sym c.some_here-some.ensures ∙ c.if-some.false in
-    none_marked entries v.changes f (f + 4) c.requires.report (omega arith) (omega (arith, c.requires.fits, c.requires.inside))
+    let none = sym c.some_here.ensures ∙ c.if-some_here.false in
+    none_marked entries w c.args.reading f (f + 4) c.requires.1 (omega arith) (omega (arith, c.requires.0.fits, c.requires.0.inside))
     (ap (λ (n : ℕ). any_mark (part f n entries)) four ∙ none)
