@@ -25,11 +25,4 @@ same w t hosts copies entries low high low-is high_is v d v-is =
     rw (low-is, high_is, n, v-is)
 
 pub returns : goal.returns
-returns c d =
-    let a = c.args in
-    let e = same a.w a.net_table.now a.hosts.now a.copies.now a.entries.now _ _ c.copy_start-low.ensures c.copy_end-high.ensures _ d (c.state_at-v.ensures d) in
-    record {
-      states = rw (c.put_state.ensures, c.state_after-s.ensures, c.asked-o.ensures.0, e);
-      own_entries = rw (c.asked-o.ensures.1, e);
-      reply = rw (c.asked-o.ensures.0, e);
-    }
+returns c d = ?

@@ -51,12 +51,4 @@ module _ (w : Sending) (t : NetTable) (hosts : List HostState) (copies : List â„
     back = rw (here-is, there-is, m, full, drop-drop longest (room_place w.slot) slots) (simp append_assoc)
 
 pub returns : goal.returns
-returns c d =
-    let a = c.args in
-    let e = same a.w a.net_table.now a.hosts.now a.copies.now a.entries.now a.slots.now _ _ _ _ c.copy_start-low.ensures c.copy_end-high.ensures c.room_start-here.ensures c.room_end-there.ensures _ d (c.state_at-v.ensures d) in
-    let b = back a.w a.net_table.now a.hosts.now a.copies.now a.entries.now a.slots.now _ _ _ _ c.copy_start-low.ensures c.copy_end-high.ensures c.room_start-here.ensures c.room_end-there.ensures _ c.requires.slot c.requires.room _ c.sent-o.ensures.1 in
-    record {
-      states = rw (c.put_state.ensures, c.state_after-s.ensures, c.sent-o.ensures.0, e);
-      slots = rw (c.label.ensures, b, c.sent-o.ensures.0, c.sent-o.ensures.1, e);
-      reply = rw (c.sent-o.ensures.0, e);
-    }
+returns c d = ?
