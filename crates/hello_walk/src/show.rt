@@ -21,16 +21,16 @@ fn line(id: u8, letter: u8) {
 // The place of a walk.
 pub(crate) fn place(w: Walk) {
     match host::walk::place_of(w) {
-        Place::Nowhere => text(b"nowhere:"),
-        Place::Step1 => step(1),
-        Place::Step2 => step(2),
-        Place::Step3 => step(3),
-        Place::Step4 => step(4),
-        Place::Step5 => step(5),
-        Place::LineA => line(w.id, b'a'),
-        Place::LineB => line(w.id, b'b'),
-        Place::LineC => line(w.id, b'c'),
-        Place::LineD => line(w.id, b'd'),
+        None => text(b"nowhere:"),
+        Some(Place::Step1) => step(1),
+        Some(Place::Step2) => step(2),
+        Some(Place::Step3) => step(3),
+        Some(Place::Step4) => step(4),
+        Some(Place::Step5) => step(5),
+        Some(Place::LineA) => line(w.id, b'a'),
+        Some(Place::LineB) => line(w.id, b'b'),
+        Some(Place::LineC) => line(w.id, b'c'),
+        Some(Place::LineD) => line(w.id, b'd'),
     }
 }
 

@@ -111,12 +111,12 @@ fn sent_at(x: Link, c: Clock) -> Sent {
     if host::good(s) {
         if c.in_range() {
             let p = sending::send_in(s, c, links, 1, Counter::zero(), 32);
-            let tsp = p.packet.tsp;
-            let link = host::link_state::link_of(p.links, 1);
-            return Sent {
-                tsp: tsp,
-                keep_alive: link.keep_alive,
-            };
+            if let Some(m) = p.message {
+                return Sent {
+                    tsp: m.packet.tsp,
+                    keep_alive: host::link_state::link_of(p.links, 1).keep_alive,
+                };
+            }
         }
     }
     Sent {
