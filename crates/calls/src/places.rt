@@ -22,13 +22,13 @@ fn wanted(s: Settings, t: NetTable, w: Walk, q: Request) -> Found
     ensures { result ≡ wanted q t s w }
 {
     match q {
-        Request::Initialize => Found::Nothing,
-        Request::Tick(_) => Found::Nothing,
-        Request::Adjust(_) => Found::Nothing,
-        Request::Set(_, _) => Found::Nothing,
-        Request::Read(_) => Found::Nothing,
-        Request::Second => Found::Nothing,
-        Request::SelfReport(_) => Found::Nothing,
+        Request::Initialize
+        | Request::Tick(_)
+        | Request::Adjust(_)
+        | Request::Set(_, _)
+        | Request::Read(_)
+        | Request::Second
+        | Request::SelfReport(_) => Found::Nothing,
         Request::Lookup(a) => host::found_for(t, s, a),
         Request::Step(_) => walk::at_hand(w),
     }
@@ -69,10 +69,11 @@ pub(crate) fn placed(number: usize, w: Changes) -> Changes
     ensures { result ≡ placed number w }
 {
     let base = first_place(number);
-    let mut v = w;
-    v.first = base + w.first;
-    v.end = base + w.end;
-    v
+    Changes {
+        first: base + w.first,
+        end: base + w.end,
+        ..w
+    }
 }
 
 // The places of ids that are updated.
@@ -81,11 +82,12 @@ pub(crate) fn updates_at(number: usize, w: Updates) -> Updates
     ensures { result ≡ updates_at number w }
 {
     let base = first_place(number);
-    let mut v = w;
-    v.first = base + w.first;
-    v.end = base + w.end;
-    v.base = base + w.base;
-    v
+    Updates {
+        first: base + w.first,
+        end: base + w.end,
+        base: base + w.base,
+        ..w
+    }
 }
 
 // The places of ids that are reported.
@@ -94,8 +96,9 @@ pub(crate) fn reports_at(number: usize, w: Reports) -> Reports
     ensures { result ≡ reports_at number w }
 {
     let base = first_place(number);
-    let mut v = w;
-    v.first = base + w.first;
-    v.end = base + w.end;
-    v
+    Reports {
+        first: base + w.first,
+        end: base + w.end,
+        ..w
+    }
 }
