@@ -68,12 +68,6 @@ pub struct Arrived {
 pub fn no_updates(c: Clock) -> Updates
     ensures { result ≡ no_updates c }
 {
-    let update = Update {
-        pid: 0,
-        delay: Millis(0),
-        offset: Word(0),
-        reading: Millis(0),
-    };
     Updates {
         first: 0,
         end: 0,
@@ -83,7 +77,12 @@ pub fn no_updates(c: Clock) -> Updates
         hold_interval: Seconds(0),
         count: Count(0),
         date: Date(0),
-        update: update,
+        update: Update {
+            pid: 0,
+            delay: Millis(0),
+            offset: Word(0),
+            reading: Millis(0),
+        },
         table: false,
     }
 }
@@ -114,13 +113,11 @@ fn neighbor_update(link: usize, f: Flight) -> Update
     requires { (1 ≤ link) × (link ≤ 8) }
     ensures { result ≡ neighbor_update link f }
 {
-    let offset = f.offset;
-    let reading = f.reading;
     Update {
         pid: link as u8,
         delay: at_least_min(f.delay),
-        offset: offset,
-        reading: reading,
+        offset: f.offset,
+        reading: f.reading,
     }
 }
 
@@ -139,25 +136,21 @@ fn updated(
     requires { (id ≤ 255) × (ids ≤ 255) }
     ensures { result ≡ updated (host s c l) n p u id ids table }
 {
-    let hold_interval = s.hold_interval;
-    let date = p.date;
-    let end = id + ids;
-    let work = Updates {
-        first: id,
-        end: end,
-        clock: c,
-        base: 0,
-        clock_host: s.clock_host,
-        hold_interval: hold_interval,
-        count: n,
-        date: date,
-        update: u,
-        table: table,
-    };
     Arrived {
         reply: plainly(Answer::Done),
         links: l,
-        work: work,
+        work: Updates {
+            first: id,
+            end: id + ids,
+            clock: c,
+            base: 0,
+            clock_host: s.clock_host,
+            hold_interval: s.hold_interval,
+            count: n,
+            date: p.date,
+            update: u,
+            table,
+        },
     }
 }
 
@@ -197,9 +190,7 @@ fn step5(
     ensures { result ≡ step5 t (host s c l) link n p f }
 {
     if p.nhosts == 0 {
-        let x = f.link;
-        let neighbor = x.neighbor;
-        let found = host::found_for(t, s, neighbor);
+        let found = host::found_for(t, s, f.link.neighbor);
         return no_table(s, c, l, link, n, p, f, found);
     }
     updated(
@@ -276,9 +267,7 @@ pub fn on_link(d: Delivery) -> usize
     ensures { result ≡ on_link d }
 {
     match d {
-        Delivery::Inspect(i) => i,
-        Delivery::Act(i, _) => i,
-        Delivery::Receive(i, _) => i,
+        Delivery::Inspect(i) | Delivery::Act(i, _) | Delivery::Receive(i, _) => i,
     }
 }
 
@@ -289,7 +278,6 @@ pub fn deliver(s: Settings, t: NetTable, c: Clock, l: Links, d: Delivery, packet
 {
     match d {
         Delivery::Inspect(i) => look(s, c, l, i, packet),
-        Delivery::Act(i, k) => act(s, t, c, l, i, k, packet),
-        Delivery::Receive(i, k) => act(s, t, c, l, i, k, packet),
+        Delivery::Act(i, k) | Delivery::Receive(i, k) => act(s, t, c, l, i, k, packet),
     }
 }

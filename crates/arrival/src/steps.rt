@@ -46,18 +46,16 @@ fn measured(broadcast: bool, p: Packet, reading: Millis, x: Link) -> Flight
     requires reading_value { up_to day_millis reading ≡ true }
     ensures { result ≡ measured broadcast p reading x }
 {
-    let neighbor = x.neighbor;
     let tsp = tsp_of(p.time, reading);
     let delay = delay_of(broadcast, reading, p.tsp);
-    let link = Link {
-        neighbor: neighbor,
-        keep_alive: KEEP_ALIVE_INTERVAL,
-        tsp: tsp,
-    };
     Flight {
-        reading: reading,
-        link: link,
-        delay: delay,
+        reading,
+        link: Link {
+            keep_alive: KEEP_ALIVE_INTERVAL,
+            tsp,
+            ..x
+        },
+        delay,
         offset: offset_of(tsp, delay),
     }
 }
@@ -66,21 +64,13 @@ fn measured(broadcast: bool, p: Packet, reading: Millis, x: Link) -> Flight
 fn new_neighbor(p: Packet, f: Flight) -> Flight
     ensures { result ≡ new_neighbor p f }
 {
-    let x = f.link;
-    let source = p.source;
-    let tsp = x.tsp;
-    let reading = f.reading;
-    let offset = f.offset;
-    let link = Link {
-        neighbor: source,
-        keep_alive: x.keep_alive,
-        tsp: tsp,
-    };
     Flight {
-        reading: reading,
-        link: link,
+        link: Link {
+            neighbor: p.source,
+            ..f.link
+        },
         delay: table::MAX_DELAY,
-        offset: offset,
+        ..f
     }
 }
 

@@ -10,7 +10,7 @@ use Rattle.host.specs.Guard.{guard, done}
 use Rattle.host.specs.Reply.{plainly}
 use Rattle.calls.specs.Perform.{Call, Outcome, Leaves, scope_of_call, buffer_of, refused, work, perform}
 
-module _ (call : Call) (x : CallState) where
+module _ (call : Call) {x : CallState} where
   abbrev judged : Answer
   judged = guard (scope_of_call call) x
 

@@ -17,11 +17,11 @@ use Rattle.wire.proofs.Messages.{message_length}
 use Rattle.table.specs.Entry.{advertised}
 use Rattle.host.specs.declared.guard.Scope.TheVariants.{OnLink}
 use Rattle.host.specs.State.{host_count, link_of}
-use Rattle.host.specs.CallState.{CallState, entries_of}
+use Rattle.host.specs.CallState.{CallState, entries_of, our_reading}
 use Rattle.host.specs.Guard.{guard, done}
 use Rattle.host.proofs.Places.{Holds, entries_length}
 use Rattle.host.proofs.Guarded.{either, passed, holds}
-use Rattle.sending.specs.Message.{table_goes}
+use Rattle.sending.specs.Message.{table_goes, packet_sent}
 use Rattle.sending.specs.Send.{report_count, unsent, sends}
 use Rattle.calls.specs.Perform.{Outcome, send, sent_by, perform}
 use Rattle.calls.specs.Laws.{SendKeeps, EverySendKeeps}
@@ -49,7 +49,10 @@ module _ (x : CallState) (i : ℕ) (k : Counter) (buffer : List ℕ) where
       go false = refl
 
   abbrev sent_message : List ℕ
-  sent_message = message (sends i k x.host).destination (sends i k x.host).packet reports
+  sent_message =
+      let y = link_of x.host.links i in
+      let r = our_reading k x.host in
+      message y.neighbor (packet_sent x.host.settings y r.time r.clock.date n) reports
 
   fits : Fits (perform (send i k buffer) x)
   unfolding perform

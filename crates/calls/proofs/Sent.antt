@@ -1,12 +1,13 @@
 -- A send as the code goes: the reports fit the buffer, the message can be completed around them, and what is written and stored is what the call leaves.
-use mathlib.Core.Path.{◌≡◌, refl, sym, ap, ◌∙◌}
-use mathlib.Core.Bool.{Bool, true, false, false≢true, cond}
+use mathlib.Core.Path.{◌≡◌, refl, sym, ap, subst, ◌∙◌}
+use mathlib.Core.Bool.{Bool, true, false, cond}
 use mathlib.Core.List.{List, ◌++◌, map}
 use Prim.Native.Nat.{ℕ, ◌+◌, ◌-◌, ◌≤◌}
 use native.Mathlib.Omega.{arith}
 use borrow.Author.Tests.{ltb-false}
 use lib.Dec.{ltb}
 use lib.ListN.{length, drop, length-map}
+use Rattle.std.proofs.Common.{Some}
 use Rattle.lists.specs.Lists.{part}
 use Rattle.lists.proofs.Parts.{part_length, over_length}
 use Rattle.quantity.specs.declared.Millis.{Millis}
@@ -38,7 +39,8 @@ use Rattle.host.specs.Guard.{guard, done}
 use Rattle.host.proofs.Places.{Holds}
 use Rattle.host.proofs.Guarded.{passed, holds, number_state, clock_state, counted}
 use Rattle.sending.specs.declared.Sending.{Sending}
-use Rattle.sending.specs.Message.{table_goes}
+use Rattle.sending.specs.declared.Message.{Message}
+use Rattle.sending.specs.Message.{table_goes, packet_sent}
 use Rattle.sending.specs.Send.{report_count, unsent, sends, send_in}
 use Rattle.sending.specs.code.Finish.{Finishable, finished}
 use Rattle.calls.specs.Perform.{Outcome, Leaves, send, sent_by, perform}
@@ -121,26 +123,33 @@ module _ (x : CallState) (i : ℕ) (counter : Counter) (buffer : List ℕ) where
       record {
         ids = record { number = k-in; rising = omega arith; ids = omega arith };
         fits = record { places = record { rising = omega arith; inside = omega arith }; room = λ l. absurd (omega (arith, l)) };
-        ready = record { room = λ e. absurd (false≢true e); time = λ e. absurd (false≢true e) };
+        ready = record { room = λ m none. cc; time = λ m none. cc };
         left = record { reply = refl; clock = refl; links = refl; walk = refl; copy = refl; entries = refl };
         octets = rw z refl;
       }
+
+  abbrev the_sent : Message
+  the_sent =
+      let r = our_reading counter x.host in
+      record { destination = y.neighbor; packet = packet_sent s y r.time r.clock.date (report_count s y) }
+
+  the_message : (m : Message) → Some the_sent ≡ Some m → the_sent ≡ m
+  the_message m is = cc
 
   went : Holds k x.entries → k ≤ 15 → packet_length (report_count s y) ≤ length buffer
       → Sent x buffer (sends i counter x.host) (sent_by (sends i counter x.host) buffer x)
   went h k-in room =
       let n = report_count s y in
-      let p = sends i counter x.host in
       let z : report_count s y - 0 ≡ report_count s y = omega arith in
       record {
         ids = record { number = k-in; rising = omega arith; ids = omega (arith, few) };
         fits = fitting n few h room;
         ready = record {
-          room = λ _. rw (put n few h room, put_length n few h room) room;
-          time = λ _. four (our_reading counter x.host).time (reading_in s.clock_tick s.hold_interval counter x.host.clock);
+          room = λ m one. subst (λ (m : Message). packet_length m.packet.nhosts ≤ length (read_out (reports_at k (w n few h room)) x.entries buffer)) (the_message m one) (rw (put n few h room, put_length n few h room) room);
+          time = λ m one. subst (λ (m : Message). Four m.packet.time.0) (the_message m one) (four (our_reading counter x.host).time (reading_in s.clock_tick s.hold_interval counter x.host.clock));
         };
         left = record { reply = refl; clock = refl; links = refl; walk = refl; copy = refl; entries = refl };
-        octets = rw (put n few h room, z) (sealed_is n few h room y.neighbor p.packet refl);
+        octets = rw (put n few h room, z) (sealed_is n few h room y.neighbor the_sent.packet refl);
       }
 
   module _ (e : done (guard (OnLink i) x) ≡ true) where
@@ -154,7 +163,7 @@ module _ (x : CallState) (i : ℕ) (counter : Counter) (buffer : List ℕ) where
     pub sent : Sent x buffer (send_in i counter (length buffer) x.host) (perform (send i counter buffer) x)
     sent =
         let q = passed (OnLink i) x e in
-        rw (goes_on (send i counter buffer) x e)
+        rw (goes_on (send i counter buffer) e)
         (go (holds k x.entries q.places) (number_state k x.entries q.places) (ltb (length buffer) (packet_length (report_count s y))) refl)
       where
         go : Holds k x.entries → k ≤ 15 → (short : Bool) → ltb (length buffer) (packet_length (report_count s y)) ≡ short

@@ -33,14 +33,14 @@ pub(crate) fn scope_of(q: Request) -> Scope
 {
     match q {
         Request::Initialize => Scope::Places,
-        Request::Tick(_) => Scope::All,
-        Request::Adjust(_) => Scope::All,
-        Request::Set(_, _) => Scope::All,
-        Request::Read(_) => Scope::All,
-        Request::Second => Scope::All,
-        Request::SelfReport(_) => Scope::All,
-        Request::Lookup(_) => Scope::All,
         Request::Step(_) => Scope::Walking,
+        Request::Tick(_)
+        | Request::Adjust(_)
+        | Request::Set(_, _)
+        | Request::Read(_)
+        | Request::Second
+        | Request::SelfReport(_)
+        | Request::Lookup(_) => Scope::All,
     }
 }
 
@@ -61,24 +61,19 @@ pub(crate) fn initialize(s: Settings) -> Effect
 fn timed(p: Timed, l: Links, w: Walk) -> Effect
     ensures { result ≡ answers p.reply p.clock l w }
 {
-    let reply = p.reply;
-    let clock = p.clock;
-    answers(clock, l, w, reply)
+    answers(p.clock, l, w, p.reply)
 }
 
 // These, and the entries changed.
 fn aged(p: Aged, l: Links, w: Walk) -> Effect
     ensures { result ≡ record { reply = p.reply; clock = p.clock; links = l; walk = w; work = p.work } }
 {
-    let reply = p.reply;
-    let clock = p.clock;
-    let work = p.work;
     Effect {
-        reply: reply,
-        clock: clock,
+        reply: p.reply,
+        clock: p.clock,
         links: l,
         walk: w,
-        work: work,
+        work: p.work,
     }
 }
 
@@ -88,14 +83,12 @@ fn self_report(s: Settings, c: Clock, l: Links, w: Walk, k: Counter) -> Effect
     ensures { result ≡ self_report k (host s c l) w }
 {
     let r = host::our_reading(s, c, k);
-    let clock = r.clock;
-    let time = r.time;
     Effect {
         reply: plainly(Answer::Done),
-        clock: clock,
+        clock: r.clock,
         links: l,
         walk: w,
-        work: each(s, Change::Reported(time)),
+        work: each(s, Change::Reported(r.time)),
     }
 }
 

@@ -72,8 +72,7 @@ pub fn call(
     let g = guard(
         settings, net_table, number, clock, links, walk, copy, a, entries,
     );
-    let b = refuses(g);
-    if b {
+    if refuses(g) {
         return plainly(g);
     }
     let s = *settings;
@@ -107,27 +106,17 @@ pub fn initialize(
         (call_state settings.now net_table.now number clock.old links.old walk.old copy.now entries.old)
         result clock.new links.new walk.new copy.now entries.new }
 {
-    let s = *settings;
-    let t = *net_table;
-    let n = entries.len();
-    let g = guard_initialize(s, t, number, n);
-    let b = refuses(g);
-    if b {
+    let g = guard_initialize(*settings, *net_table, number, entries.len());
+    if refuses(g) {
         return plainly(g);
     }
-    let p = effects::initialize(s);
+    let p = effects::initialize(*settings);
     let w = places::placed(number, p.work);
     fresh_all(entries, w);
     *clock = p.clock;
     *links = p.links;
     *walk = p.walk;
     p.reply
-}
-
-fn all() -> Scope
-    ensures { result ≡ All }
-{
-    Scope::All
 }
 
 // CLOCK-TICK is added to the clock.
@@ -146,17 +135,13 @@ pub fn tick(
         (call_state settings.now net_table.now number clock.old links.now walk.now copy.now entries.now)
         result clock.new links.now walk.now copy.now entries.now }
 {
-    let a = all();
     let g = guard(
-        settings, net_table, number, clock, links, walk, copy, a, entries,
+        settings, net_table, number, clock, links, walk, copy, Scope::All, entries,
     );
-    let b = refuses(g);
-    if b {
+    if refuses(g) {
         return plainly(g);
     }
-    let s = *settings;
-    let c = *clock;
-    let p = plans::tick(s, c, count);
+    let p = plans::tick(*settings, *clock, count);
     *clock = p.clock;
     p.reply
 }
@@ -177,17 +162,13 @@ pub fn adjust(
         (call_state settings.now net_table.now number clock.old links.now walk.now copy.now entries.now)
         result clock.new links.now walk.now copy.now entries.now }
 {
-    let a = all();
     let g = guard(
-        settings, net_table, number, clock, links, walk, copy, a, entries,
+        settings, net_table, number, clock, links, walk, copy, Scope::All, entries,
     );
-    let b = refuses(g);
-    if b {
+    if refuses(g) {
         return plainly(g);
     }
-    let s = *settings;
-    let c = *clock;
-    let p = plans::adjust(s, c, count);
+    let p = plans::adjust(*settings, *clock, count);
     *clock = p.clock;
     p.reply
 }
@@ -209,17 +190,13 @@ pub fn set(
         (call_state settings.now net_table.now number clock.old links.now walk.now copy.now entries.now)
         result clock.new links.now walk.now copy.now entries.now }
 {
-    let a = all();
     let g = guard(
-        settings, net_table, number, clock, links, walk, copy, a, entries,
+        settings, net_table, number, clock, links, walk, copy, Scope::All, entries,
     );
-    let b = refuses(g);
-    if b {
+    if refuses(g) {
         return plainly(g);
     }
-    let s = *settings;
-    let c = *clock;
-    let p = plans::set(s, c, ms, count);
+    let p = plans::set(*settings, *clock, ms, count);
     *clock = p.clock;
     p.reply
 }
@@ -240,17 +217,13 @@ pub fn read(
         (call_state settings.now net_table.now number clock.old links.now walk.now copy.now entries.now)
         result clock.new links.now walk.now copy.now entries.now }
 {
-    let a = all();
     let g = guard(
-        settings, net_table, number, clock, links, walk, copy, a, entries,
+        settings, net_table, number, clock, links, walk, copy, Scope::All, entries,
     );
-    let b = refuses(g);
-    if b {
+    if refuses(g) {
         return plainly(g);
     }
-    let s = *settings;
-    let c = *clock;
-    let p = plans::read(s, c, counter);
+    let p = plans::read(*settings, *clock, counter);
     *clock = p.clock;
     p.reply
 }
@@ -270,17 +243,13 @@ pub fn second(
         (call_state settings.now net_table.now number clock.old links.now walk.now copy.now entries.old)
         result clock.new links.now walk.now copy.now entries.new }
 {
-    let a = all();
     let g = guard(
-        settings, net_table, number, clock, links, walk, copy, a, entries,
+        settings, net_table, number, clock, links, walk, copy, Scope::All, entries,
     );
-    let b = refuses(g);
-    if b {
+    if refuses(g) {
         return plainly(g);
     }
-    let s = *settings;
-    let c = *clock;
-    let p = plans::second(s, c);
+    let p = plans::second(*settings, *clock);
     let w = places::placed(number, p.work);
     change_all(entries, w);
     *clock = p.clock;
@@ -303,17 +272,13 @@ pub fn self_report(
         (call_state settings.now net_table.now number clock.old links.now walk.now copy.now entries.old)
         result clock.new links.now walk.now copy.now entries.new }
 {
-    let a = all();
     let g = guard(
-        settings, net_table, number, clock, links, walk, copy, a, entries,
+        settings, net_table, number, clock, links, walk, copy, Scope::All, entries,
     );
-    let b = refuses(g);
-    if b {
+    if refuses(g) {
         return plainly(g);
     }
-    let s = *settings;
-    let c = *clock;
-    let p = plans::self_report(s, c, counter);
+    let p = plans::self_report(*settings, *clock, counter);
     let w = places::placed(number, p.work);
     change_all(entries, w);
     *clock = p.clock;
@@ -336,26 +301,16 @@ pub fn lookup(
         (call_state settings.now net_table.now number clock.now links.now walk.now copy.now entries.now)
         result clock.now links.now walk.now copy.now entries.now }
 {
-    let a = all();
     let g = guard(
-        settings, net_table, number, clock, links, walk, copy, a, entries,
+        settings, net_table, number, clock, links, walk, copy, Scope::All, entries,
     );
-    let b = refuses(g);
-    if b {
+    if refuses(g) {
         return plainly(g);
     }
-    let s = *settings;
-    let t = *net_table;
-    let f = host::found_for(t, s, address);
+    let f = host::found_for(*net_table, *settings, address);
     let z = places::seek_at(number, f);
     let e = entry_of(entries, z);
     effects::looked(f, e)
-}
-
-fn opening(link: usize) -> Scope
-    ensures { result ≡ Opening link }
-{
-    Scope::Opening(link)
 }
 
 // A walk is opened for a packet on a link: the packet is copied, and the first box is next.
@@ -375,26 +330,16 @@ pub fn open_walk(
         (call_state settings.now net_table.now number clock.now links.now walk.old copy.old entries.now)
         result clock.now links.now walk.new copy.new entries.now }
 {
-    let a = opening(link);
     let g = guard(
-        settings, net_table, number, clock, links, walk, copy, a, entries,
+        settings, net_table, number, clock, links, walk, copy, Scope::Opening(link), entries,
     );
-    let b = refuses(g);
-    if b {
+    if refuses(g) {
         return plainly(g);
     }
-    let s = *settings;
-    let v = *walk;
-    let p = walk::opened_by(s, v, link, packet);
+    let p = walk::opened_by(*settings, *walk, link, packet);
     walk::keep(copy, packet, p.octets);
     *walk = p.walk;
     p.reply
-}
-
-fn on_link(link: usize) -> Scope
-    ensures { result ≡ OnLink link }
-{
-    Scope::OnLink(link)
 }
 
 // A message for the neighbor of a link, written to the front of the buffer.
@@ -415,19 +360,13 @@ pub fn send(
         (call_state settings.now net_table.now number clock.old links.old walk.now copy.now entries.now)
         result clock.new links.new walk.now copy.now entries.now buffer.new }
 {
-    let a = on_link(link);
     let g = guard(
-        settings, net_table, number, clock, links, walk, copy, a, entries,
+        settings, net_table, number, clock, links, walk, copy, Scope::OnLink(link), entries,
     );
-    let b = refuses(g);
-    if b {
+    if refuses(g) {
         return plainly(g);
     }
-    let s = *settings;
-    let c = *clock;
-    let l = *links;
-    let n = buffer.len();
-    let p = sending::send_in(s, c, l, link, counter, n);
+    let p = sending::send_in(*settings, *clock, *links, link, counter, buffer.len());
     let w = places::reports_at(number, p.work);
     read_out(buffer, entries, w);
     sending::finish(buffer, p);
@@ -458,22 +397,13 @@ pub fn inspect(
         (call_state settings.now net_table.now number clock.now links.now walk.now copy.now entries.now)
         result clock.now links.now walk.now copy.now entries.now }
 {
-    let a = on_link(link);
     let g = guard(
-        settings, net_table, number, clock, links, walk, copy, a, entries,
+        settings, net_table, number, clock, links, walk, copy, Scope::OnLink(link), entries,
     );
-    let b = refuses(g);
-    if b {
+    if refuses(g) {
         return plainly(g);
     }
-    let s = *settings;
-    plans::inspect(s, link, packet)
-}
-
-fn on_its_link(delivery: Delivery) -> Scope
-    ensures { result ≡ OnLink (on_link delivery) }
-{
-    Scope::OnLink(arrival::on_link(delivery))
+    plans::inspect(*settings, link, packet)
 }
 
 // A packet that arrives on a link: it is inspected, acted on, or received, which is both in turn.
@@ -493,22 +423,15 @@ pub fn deliver(
         (call_state settings.now net_table.now number clock.old links.old walk.now copy.now entries.old)
         result clock.new links.new walk.now copy.now entries.new }
 {
-    let a = on_its_link(delivery);
     let g = guard(
-        settings, net_table, number, clock, links, walk, copy, a, entries,
+        settings, net_table, number, clock, links, walk, copy, Scope::OnLink(arrival::on_link(delivery)), entries,
     );
-    let b = refuses(g);
-    if b {
+    if refuses(g) {
         return plainly(g);
     }
-    let s = *settings;
-    let t = *net_table;
-    let c = *clock;
-    let l = *links;
-    let p = arrival::deliver(s, t, c, l, delivery, packet);
+    let p = arrival::deliver(*settings, *net_table, *clock, *links, delivery, packet);
     let w = places::updates_at(number, p.work);
     *links = p.links;
-    let k = update_all(entries, w, packet);
-    *clock = k;
+    *clock = update_all(entries, w, packet);
     p.reply
 }

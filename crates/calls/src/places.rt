@@ -21,13 +21,13 @@ fn wanted(s: Settings, t: NetTable, w: Walk, q: Request) -> Option<usize>
     ensures { result ≡ wanted q t s w }
 {
     match q {
-        Request::Initialize => None,
-        Request::Tick(_) => None,
-        Request::Adjust(_) => None,
-        Request::Set(_, _) => None,
-        Request::Read(_) => None,
-        Request::Second => None,
-        Request::SelfReport(_) => None,
+        Request::Initialize
+        | Request::Tick(_)
+        | Request::Adjust(_)
+        | Request::Set(_, _)
+        | Request::Read(_)
+        | Request::Second
+        | Request::SelfReport(_) => None,
         Request::Lookup(a) => host::found_for(t, s, a),
         Request::Step(_) => walk::at_hand(w),
     }
@@ -68,10 +68,11 @@ pub(crate) fn placed(number: usize, w: Changes) -> Changes
     ensures { result ≡ placed number w }
 {
     let base = first_place(number);
-    let mut v = w;
-    v.first = base + w.first;
-    v.end = base + w.end;
-    v
+    Changes {
+        first: base + w.first,
+        end: base + w.end,
+        ..w
+    }
 }
 
 // The places of ids that are updated.
@@ -80,11 +81,12 @@ pub(crate) fn updates_at(number: usize, w: Updates) -> Updates
     ensures { result ≡ updates_at number w }
 {
     let base = first_place(number);
-    let mut v = w;
-    v.first = base + w.first;
-    v.end = base + w.end;
-    v.base = base + w.base;
-    v
+    Updates {
+        first: base + w.first,
+        end: base + w.end,
+        base: base + w.base,
+        ..w
+    }
 }
 
 // The places of ids that are reported.
@@ -93,8 +95,9 @@ pub(crate) fn reports_at(number: usize, w: Reports) -> Reports
     ensures { result ≡ reports_at number w }
 {
     let base = first_place(number);
-    let mut v = w;
-    v.first = base + w.first;
-    v.end = base + w.end;
-    v
+    Reports {
+        first: base + w.first,
+        end: base + w.end,
+        ..w
+    }
 }

@@ -64,11 +64,9 @@ pub(crate) fn read(s: Settings, c: Clock, k: Counter) -> Timed
     ensures { Timely result (Read k) s c }
 {
     let r = host::our_reading(s, c, k);
-    let clock = r.clock;
-    let date = clock.date;
     Timed {
-        reply: returns_time(r.time, date),
-        clock: clock,
+        reply: returns_time(r.time, r.clock.date),
+        clock: r.clock,
     }
 }
 
@@ -87,12 +85,10 @@ pub(crate) fn self_report(s: Settings, c: Clock, k: Counter) -> Aged
     ensures { Aging result (SelfReport k) s c }
 {
     let r = host::our_reading(s, c, k);
-    let clock = r.clock;
-    let time = r.time;
     Aged {
         reply: plainly(Answer::Done),
-        clock: clock,
-        work: each(s, Change::Reported(time)),
+        clock: r.clock,
+        work: each(s, Change::Reported(r.time)),
     }
 }
 

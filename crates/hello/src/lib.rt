@@ -14,7 +14,6 @@ ghost use Rattle.calls.specs.declared.Request.TheVariants.{
   Lookup,
   Step,
 };
-ghost use Rattle.arrival.specs.declared.Delivery.TheVariants.{Act, Receive};
 ghost use Rattle.host.specs.CallState.{call_state};
 ghost use Rattle.calls.specs.Perform.{ask, inspect, act, receive, open_walk};
 ghost use Rattle.owned_host.specs.Program.{program_answer};
@@ -97,29 +96,24 @@ pub struct Stepped {
 fn numbered(t: Reply) -> u8
     ensures { result ≡ numbered t }
 {
-    let a = t.answer;
-    u8::from(a)
+    u8::from(t.answer)
 }
 
 fn time_returned(t: Reply) -> Time
     ensures { result ≡ time_returned t }
 {
-    let a = t.answer;
-    let time = t.time;
-    let date = t.date;
     Time {
-        answer: u8::from(a),
-        time: time,
-        date: date,
+        answer: u8::from(t.answer),
+        time: t.time,
+        date: t.date,
     }
 }
 
 fn sent_returned(t: Reply) -> Sent
     ensures { result ≡ sent_returned t }
 {
-    let a = t.answer;
     Sent {
-        answer: u8::from(a),
+        answer: u8::from(t.answer),
         length: t.length,
     }
 }
@@ -127,9 +121,8 @@ fn sent_returned(t: Reply) -> Sent
 fn route_returned(t: Reply) -> Route
     ensures { result ≡ route_returned t }
 {
-    let a = t.answer;
     Route {
-        answer: u8::from(a),
+        answer: u8::from(t.answer),
         id: t.id,
         pid: t.pid,
     }
@@ -138,13 +131,10 @@ fn route_returned(t: Reply) -> Route
 fn inspected_returned(t: Reply) -> Inspected
     ensures { result ≡ inspected_returned t }
 {
-    let a = t.answer;
-    let source = t.source;
-    let time = t.time;
     Inspected {
-        answer: u8::from(a),
-        source: source,
-        time: time,
+        answer: u8::from(t.answer),
+        source: t.source,
+        time: t.time,
         tsp: t.tsp,
         nhosts: t.nhosts,
     }
@@ -153,33 +143,12 @@ fn inspected_returned(t: Reply) -> Inspected
 fn stepped_returned(t: Reply) -> Stepped
     ensures { result ≡ stepped_returned t }
 {
-    let a = t.answer;
     Stepped {
-        answer: u8::from(a),
+        answer: u8::from(t.answer),
         step: t.step,
         line: t.line,
         id: t.id,
     }
-}
-
-// ---- what is asked
-
-fn asks_step(counter: Counter) -> Request
-    ensures { result ≡ Step counter }
-{
-    Request::Step(counter)
-}
-
-fn acts(link: usize, counter: Counter) -> Delivery
-    ensures { result ≡ Act link counter }
-{
-    Delivery::Act(link, counter)
-}
-
-fn receives(link: usize, counter: Counter) -> Delivery
-    ensures { result ≡ Receive link counter }
-{
-    Delivery::Receive(link, counter)
 }
 
 // ---- the calls
@@ -428,7 +397,7 @@ pub extern "C" fn hello_act(
         (call_state settings.now net_table.now number clock.old links.old walk.now copy.now entries.old)
         result clock.new links.new walk.now copy.now entries.new }
 {
-    let d = acts(link, counter);
+    let d = Delivery::Act(link, counter);
     let a = calls::deliver(
         settings, net_table, number, clock, links, walk, copy, entries, d, packet,
     );
@@ -454,7 +423,7 @@ pub extern "C" fn hello_receive(
         (call_state settings.now net_table.now number clock.old links.old walk.now copy.now entries.old)
         result clock.new links.new walk.now copy.now entries.new }
 {
-    let d = receives(link, counter);
+    let d = Delivery::Receive(link, counter);
     let a = calls::deliver(
         settings, net_table, number, clock, links, walk, copy, entries, d, packet,
     );
@@ -525,9 +494,16 @@ pub extern "C" fn hello_step(
         (call_state settings.now net_table.now number clock.old links.old walk.old copy.now entries.old)
         result clock.new links.new walk.new copy.now entries.new }
 {
-    let q = asks_step(counter);
     let a = calls::call(
-        settings, net_table, number, clock, links, walk, copy, entries, q,
+        settings,
+        net_table,
+        number,
+        clock,
+        links,
+        walk,
+        copy,
+        entries,
+        Request::Step(counter),
     );
     stepped_returned(a)
 }

@@ -12,16 +12,16 @@ use wire::Address;
 // The place of a walk.
 pub(crate) fn place(rt: &impl Print, w: Walk) -> io::Result<()> {
     match host::walk::place_of(w) {
-        Place::Nowhere => print!(rt; "nowhere:"),
-        Place::Step1 => print!(rt; "step 1:"),
-        Place::Step2 => print!(rt; "step 2:"),
-        Place::Step3 => print!(rt; "step 3:"),
-        Place::Step4 => print!(rt; "step 4:"),
-        Place::Step5 => print!(rt; "step 5:"),
-        Place::LineA => print!(rt; "host {}, line a:", w.id),
-        Place::LineB => print!(rt; "host {}, line b:", w.id),
-        Place::LineC => print!(rt; "host {}, line c:", w.id),
-        Place::LineD => print!(rt; "host {}, line d:", w.id),
+        None => print!(rt; "nowhere:"),
+        Some(Place::Step1) => print!(rt; "step 1:"),
+        Some(Place::Step2) => print!(rt; "step 2:"),
+        Some(Place::Step3) => print!(rt; "step 3:"),
+        Some(Place::Step4) => print!(rt; "step 4:"),
+        Some(Place::Step5) => print!(rt; "step 5:"),
+        Some(Place::LineA) => print!(rt; "host {}, line a:", w.id),
+        Some(Place::LineB) => print!(rt; "host {}, line b:", w.id),
+        Some(Place::LineC) => print!(rt; "host {}, line c:", w.id),
+        Some(Place::LineD) => print!(rt; "host {}, line d:", w.id),
     }
 }
 

@@ -1,10 +1,9 @@
-pub mod Numbers
+pub mod Slices
 pub mod Rules
 pub mod Places
 pub mod Guarded
 pub mod Sound
 pub mod Fits
-pub mod Slots
 pub mod Found
 pub mod Judged
 pub mod Inspected

@@ -1,5 +1,5 @@
 -- WALK-2, WALK-9: a walk, its places, and when it is in range.
-use Rattle.std.specs.Prelude.{Bool, true, false, cond, not, ◌&&◌, ◌||◌, List, ℕ, ltb, leb, eqb, pos, length, take, Result, Ok, Err}
+use Rattle.std.specs.Prelude.{Bool, true, false, cond, not, ◌&&◌, ◌||◌, List, ℕ, ltb, leb, eqb, pos, length, take, Result, Ok, Err, Option, Some, None}
 use Rattle.answer.specs.declared.Answer.{Answer}
 use Rattle.quantity.specs.Quantity.{millis, counts, less_millis}
 use Rattle.quantity.specs.Words.{word, of_word}
@@ -13,7 +13,7 @@ use Rattle.table.specs.Update.{plus_report}
 use Rattle.host.specs.declared.Settings.{Settings}
 use Rattle.host.specs.declared.walk.Walk.{Walk}
 use Rattle.host.specs.declared.walk.Place.{Place}
-use Rattle.host.specs.declared.walk.Place.TheVariants.{Nowhere, Step1, Step2, Step3, Step4, Step5, LineA, LineB, LineC, LineD}
+use Rattle.host.specs.declared.walk.Place.TheVariants.{Step1, Step2, Step3, Step4, Step5, LineA, LineB, LineC, LineD}
 use Rattle.host.specs.State.{no_link}
 use Rattle.host.specs.Inspection.{inspect}
 
@@ -40,28 +40,28 @@ no_walk =
 -- ---- places: a step from 1 to 5, or in step 5 a line from 1 to 4, for (a) to (d)
 
 -- WALK-2: the place of a step from 1 to 5
-abbrev pub step_place : ℕ → Place
+abbrev pub step_place : ℕ → Option Place
 step_place n =
-    cond (eqb n 1) Step1
-    (cond (eqb n 2) Step2
-    (cond (eqb n 3) Step3
-    (cond (eqb n 4) Step4
-    (cond (eqb n 5) Step5 Nowhere))))
+    cond (eqb n 1) (Some Step1)
+    (cond (eqb n 2) (Some Step2)
+    (cond (eqb n 3) (Some Step3)
+    (cond (eqb n 4) (Some Step4)
+    (cond (eqb n 5) (Some Step5) None))))
 
 -- WALK-2: the place of a line from 1 to 4, for (a) to (d)
-abbrev pub line_place : ℕ → Place
+abbrev pub line_place : ℕ → Option Place
 line_place m =
-    cond (eqb m 1) LineA
-    (cond (eqb m 2) LineB
-    (cond (eqb m 3) LineC
-    (cond (eqb m 4) LineD Nowhere)))
+    cond (eqb m 1) (Some LineA)
+    (cond (eqb m 2) (Some LineB)
+    (cond (eqb m 3) (Some LineC)
+    (cond (eqb m 4) (Some LineD) None)))
 
 -- WALK-2: the place of a step and a line
-abbrev pub place_in : (step line : ℕ) → Place
-place_in n m = cond (eqb m 0) (step_place n) (cond (eqb n 5) (line_place m) Nowhere)
+abbrev pub place_in : (step line : ℕ) → Option Place
+place_in n m = cond (eqb m 0) (step_place n) (cond (eqb n 5) (line_place m) None)
 
 -- WALK-2: the next place of a walk
-unfoldable pub place_of : Walk → Place
+unfoldable pub place_of : Walk → Option Place
 place_of w = place_in w.step w.line
 
 -- ----
@@ -96,17 +96,17 @@ abbrev pub storable : Update → Bool
 storable u = not (less_millis u.delay min_delay) && less_millis u.delay max_delay
 
 -- WALK-9: is everything in range that the walk's place uses?
-abbrev pub walk_fields_at : Place → Settings → Walk → Packet → (packet : List ℕ) → Bool
-walk_fields_at Nowhere s w p octets = false
-walk_fields_at Step1 s w p octets = true
-walk_fields_at Step2 s w p octets = reading_in_range w
-walk_fields_at Step3 s w p octets = reading_in_range w
-walk_fields_at Step4 s w p octets = reading_in_range w
-walk_fields_at Step5 s w p octets = reading_in_range w
-walk_fields_at LineA s w p octets = reading_in_range w && id_in_range s w
-walk_fields_at LineB s w p octets = reading_in_range w && id_in_range s w
-walk_fields_at LineC s w p octets = reading_in_range w && id_in_range s w && storable (line_update w p octets)
-walk_fields_at LineD s w p octets = reading_in_range w && id_in_range s w
+abbrev pub walk_fields_at : Option Place → Settings → Walk → Packet → (packet : List ℕ) → Bool
+walk_fields_at None s w p octets = false
+walk_fields_at (Some Step1) s w p octets = true
+walk_fields_at (Some Step2) s w p octets = reading_in_range w
+walk_fields_at (Some Step3) s w p octets = reading_in_range w
+walk_fields_at (Some Step4) s w p octets = reading_in_range w
+walk_fields_at (Some Step5) s w p octets = reading_in_range w
+walk_fields_at (Some LineA) s w p octets = reading_in_range w && id_in_range s w
+walk_fields_at (Some LineB) s w p octets = reading_in_range w && id_in_range s w
+walk_fields_at (Some LineC) s w p octets = reading_in_range w && id_in_range s w && storable (line_update w p octets)
+walk_fields_at (Some LineD) s w p octets = reading_in_range w && id_in_range s w
 
 -- WALK-9: does the walk's packet pass the tests for 3 to 9, and is its place in range?
 abbrev pub packet_fits : Settings → Walk → (packet : List ℕ) → Result Packet Answer → Bool

@@ -21,12 +21,11 @@ pub fn nothing() -> Changes
 pub fn each(s: Settings, change: Change) -> Changes
     ensures { result ≡ each s change }
 {
-    let marks = s.marks;
     Changes {
         first: 0,
         end: host_count(s),
-        change: change,
-        marks: marks,
+        change,
+        marks: s.marks,
     }
 }
 
@@ -34,11 +33,10 @@ pub fn one(id: usize, change: Change) -> Changes
     requires { id ≤ 255 }
     ensures { result ≡ one id change }
 {
-    let end = id + 1;
     Changes {
         first: id,
-        end: end,
-        change: change,
+        end: id + 1,
+        change,
         marks: table::marks::none(),
     }
 }

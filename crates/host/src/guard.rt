@@ -32,10 +32,7 @@ pub enum Scope {
 fn places_missing(number: usize, n: usize) -> bool
     ensures { result ≡ places_missing number n }
 {
-    if number >= HOSTS {
-        return true;
-    }
-    n < first_place(number) + PLACES
+    number >= HOSTS || n < first_place(number) + PLACES
 }
 
 fn settled(good: bool) -> Scan
@@ -44,7 +41,7 @@ fn settled(good: bool) -> Scan
     Scan {
         first: 0,
         end: 0,
-        good: good,
+        good,
         marks: table::marks::none(),
     }
 }
@@ -74,10 +71,10 @@ fn full_scan(
     let first = first_place(number);
     let end = first + count;
     Scan {
-        first: first,
-        end: end,
+        first,
+        end,
         good: true,
-        marks: marks,
+        marks,
     }
 }
 
@@ -85,13 +82,7 @@ fn full_scan(
 fn initialized(scope: Scope) -> bool
     ensures { result ≡ initialized scope }
 {
-    match scope {
-        Scope::Places => true,
-        Scope::All => false,
-        Scope::OnLink(_) => false,
-        Scope::Opening(_) => false,
-        Scope::Walking => false,
-    }
+    matches!(scope, Scope::Places)
 }
 
 // Is the link that the scope names, if any, a link of a host with n links? If a walk is opened, does the copy have room for the packet?
@@ -99,11 +90,9 @@ fn names_link(links: usize, octets: usize, scope: Scope) -> bool
     ensures { result ≡ names_link links octets scope }
 {
     match scope {
-        Scope::Places => true,
-        Scope::All => true,
+        Scope::Places | Scope::All | Scope::Walking => true,
         Scope::OnLink(i) => super::link_state::is_link(links, i),
         Scope::Opening(i) => (octets >= LONGEST) & super::link_state::is_link(links, i),
-        Scope::Walking => true,
     }
 }
 
@@ -112,11 +101,8 @@ fn in_walk(w: Walk, scope: Scope) -> bool
     ensures { result ≡ in_walk scope w }
 {
     match scope {
-        Scope::Places => false,
-        Scope::All => is_open(w),
-        Scope::OnLink(_) => is_open(w),
-        Scope::Opening(_) => is_open(w),
-        Scope::Walking => false,
+        Scope::Places | Scope::Walking => false,
+        Scope::All | Scope::OnLink(_) | Scope::Opening(_) => is_open(w),
     }
 }
 
@@ -162,7 +148,6 @@ fn held(
 fn judged(s: Settings, t: NetTable, w: Walk, scope: Scope, good: bool) -> Answer
     ensures { result ≡ judged s t w scope good }
 {
-    let layout = s.layout;
     if !good {
         return Answer::OutOfRange;
     }
@@ -175,7 +160,7 @@ fn judged(s: Settings, t: NetTable, w: Walk, scope: Scope, good: bool) -> Answer
     if !super::marks_good(s) {
         return Answer::Setting;
     }
-    if layout.nhosts != t.nhosts {
+    if s.layout.nhosts != t.nhosts {
         return Answer::Setting;
     }
     Answer::Done
@@ -195,22 +180,25 @@ pub fn guard(
 ) -> Answer
     ensures { result ≡ guard scope (call_state settings.now net_table.now number clock.now links.now walk.now copy.now entries.now) }
 {
-    let s = *settings;
-    let t = *net_table;
-    let c = *clock;
-    let l = *links;
-    let v = *walk;
-    let n = entries.len();
-    let w = held(s, t, number, c, l, v, copy, scope, n);
+    let w = held(
+        *settings,
+        *net_table,
+        number,
+        *clock,
+        *links,
+        *walk,
+        copy,
+        scope,
+        entries.len(),
+    );
     let good = all_in_range(entries, w);
-    judged(s, t, v, scope, good)
+    judged(*settings, *net_table, *walk, scope, good)
 }
 
 // The same for initialization: clock, links, walk and entries may be anything; the host table has n places.
 pub fn guard_initialize(s: Settings, t: NetTable, number: usize, n: usize) -> Answer
     ensures { result ≡ judged_initialize s t number n }
 {
-    let layout = s.layout;
     let bad = net_table::is_bad(t);
     if bad {
         return Answer::OutOfRange;
@@ -225,7 +213,7 @@ pub fn guard_initialize(s: Settings, t: NetTable, number: usize, n: usize) -> An
     if !super::marks_good(s) {
         return Answer::Setting;
     }
-    if layout.nhosts != t.nhosts {
+    if s.layout.nhosts != t.nhosts {
         return Answer::Setting;
     }
     Answer::Done

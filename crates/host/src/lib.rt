@@ -116,20 +116,14 @@ const CLOCK_SETTING_OFF: u8 = 255;
 fn from_to(least: usize, most: usize, n: usize) -> bool
     ensures { result ≡ from_to least most n }
 {
-    if n < least {
-        return false;
-    }
-    n <= most
+    least <= n && n <= most
 }
 
 // Is the clock host's id off, or that of a host?
 fn clock_host_good(clock_host: u8, nhosts: usize) -> bool
     ensures { result ≡ (eqb clock_host clock_setting_off || ltb clock_host nhosts) }
 {
-    if clock_host == CLOCK_SETTING_OFF {
-        return true;
-    }
-    (clock_host as usize) < nhosts
+    clock_host == CLOCK_SETTING_OFF || (clock_host as usize) < nhosts
 }
 
 // Is a starting time within its day?
@@ -143,9 +137,7 @@ fn time_good(time: quantity::Millis) -> bool
 pub fn own_id(s: Settings) -> Option<usize>
     ensures { result ≡ own_id s }
 {
-    let layout = s.layout;
-    let address = s.address;
-    route::local_id(layout, address)
+    route::local_id(s.layout, s.address)
 }
 
 // The id of an address, by the host's own net or the class's net table.
@@ -177,18 +169,15 @@ pub fn our_reading(s: Settings, c: clock::Clock, k: clock::Counter) -> clock::Re
 fn numbers_good(s: Settings) -> bool
     ensures { result ≡ numbers_good s }
 {
-    let address = s.address;
-    let layout = s.layout;
-    let hold_interval = s.hold_interval;
-    let nhosts = layout.nhosts;
+    let nhosts = s.layout.nhosts;
     if !(from_to(1, MAX_LINKS, s.link_count) & link_state::switches_good(s)) {
         return false;
     }
-    if !(from_to(1, PLACES, nhosts) & from_to(1, LAST_OCTET, address.first as usize)) {
+    if !(from_to(1, PLACES, nhosts) & from_to(1, LAST_OCTET, s.address.first as usize)) {
         return false;
     }
     if !(clock_host_good(s.clock_host, nhosts)
-        & from_to(1, MAX_HOLD_INTERVAL, hold_interval.0 as usize))
+        & from_to(1, MAX_HOLD_INTERVAL, s.hold_interval.0 as usize))
     {
         return false;
     }
@@ -202,12 +191,11 @@ fn numbers_good(s: Settings) -> bool
 fn marks_good(s: Settings) -> bool
     ensures { result ≡ marks_good s }
 {
-    let layout = s.layout;
     let own = own_id(s);
     if !(own.is_some() & found_marked(s.marks, own)) {
         return false;
     }
-    table::marks::none_from(s.marks, layout.nhosts)
+    table::marks::none_from(s.marks, s.layout.nhosts)
 }
 
 // Are all settings within their rules?
@@ -221,11 +209,7 @@ pub fn good(s: Settings) -> bool
 pub fn fit(t: NetTable, s: Settings) -> bool
     ensures { result ≡ settings_fit t s }
 {
-    let layout = s.layout;
-    if !good(s) {
-        return false;
-    }
-    layout.nhosts == t.nhosts
+    good(s) && s.layout.nhosts == t.nhosts
 }
 
 // The hosts of one net, and the places of each in the host table, which is the most NHOSTS.
@@ -248,10 +232,5 @@ pub fn first_place(number: usize) -> usize
 pub fn host_count(s: Settings) -> usize
     ensures { result ≡ host_count s }
 {
-    let layout = s.layout;
-    let n = layout.nhosts;
-    if n < PLACES {
-        return n;
-    }
-    PLACES
+    s.layout.nhosts.min(PLACES)
 }

@@ -6,6 +6,8 @@ ghost use Rattle.host.specs.State.{is_broadcast, broadcast, fresh_link, fresh_li
 ghost use Rattle.host.specs.code.Held.{is_link};
 
 use super::{Link, LinkSetting, Links, Settings};
+use quantity::Word;
+use wire::Address;
 
 // The most links.
 pub const MAX_LINKS: usize = 8;
@@ -20,11 +22,7 @@ pub const KEEP_ALIVE_INTERVAL: u8 = 4;
 pub fn count(s: Settings) -> usize
     ensures { result ≡ link_count_of s }
 {
-    let n = s.link_count;
-    if n < MAX_LINKS {
-        return n;
-    }
-    MAX_LINKS
+    s.link_count.min(MAX_LINKS)
 }
 
 // Is this the number of a link of a host with n links?
@@ -49,9 +47,7 @@ pub fn broadcast(s: Settings, i: usize) -> bool
     requires { (1 ≤ i) × (i ≤ 8) }
     ensures { result ≡ broadcast s i }
 {
-    let links = s.links;
-    let link = links[i - 1];
-    is_broadcast(link)
+    is_broadcast(s.links[i - 1])
 }
 
 // The state of a link.
@@ -59,41 +55,31 @@ pub fn link_of(l: Links, i: usize) -> Link
     requires { (1 ≤ i) × (i ≤ 8) }
     ensures { result ≡ link_of l i }
 {
-    let all = l.all;
-    all[i - 1]
+    l.all[i - 1]
 }
 
 // The links with another state of one.
-pub fn with_link(l: Links, i: usize, x: Link) -> Links
+pub fn with_link(mut l: Links, i: usize, x: Link) -> Links
     requires { (1 ≤ i) × (i ≤ 8) }
     ensures { result ≡ with_link i x l }
 {
-    let mut all = l.all;
-    all[i - 1] = x;
-    Links { all: all }
+    l.all[i - 1] = x;
+    l
 }
 
 // A link that nothing has come by.
 fn fresh_link(x: LinkSetting) -> Link
     ensures { result ≡ fresh_link x }
 {
-    if is_broadcast(x) {
-        let neighbor = x.neighbor;
-        return Link {
-            neighbor: neighbor,
-            keep_alive: 0,
-            tsp: quantity::Word(0),
-        };
-    }
+    let neighbor = if is_broadcast(x) {
+        x.neighbor
+    } else {
+        Address::ZERO
+    };
     Link {
-        neighbor: wire::Address {
-            first: 0,
-            second: 0,
-            third: 0,
-            fourth: 0,
-        },
+        neighbor,
         keep_alive: 0,
-        tsp: quantity::Word(0),
+        tsp: Word(0),
     }
 }
 
@@ -101,14 +87,9 @@ fn fresh_link(x: LinkSetting) -> Link
 pub fn fresh(s: Settings) -> Links
     ensures { result ≡ fresh_links s }
 {
-    let links = s.links;
-    let mut all = [fresh_link(links[0]); 8];
-    let mut i: usize = 0;
-    while i < MAX_LINKS {
-        all[i] = fresh_link(links[i]);
-        i += 1;
+    Links {
+        all: s.links.map(fresh_link),
     }
-    Links { all: all }
 }
 
 // Is a link's state within its range?
@@ -123,15 +104,7 @@ pub fn in_range(count: usize, l: Links) -> bool
     requires { count ≤ 8 }
     ensures { result ≡ every link_in_range (take count l.all) }
 {
-    let all = l.all;
-    let mut i: usize = 0;
-    while i < count {
-        if !link_in_range(all[i]) {
-            return false;
-        }
-        i += 1;
-    }
-    true
+    l.all[..count].iter().all(|x| link_in_range(*x))
 }
 
 // Is a switch 0 or 1?
@@ -145,14 +118,5 @@ fn switch_good(x: LinkSetting) -> bool
 pub fn switches_good(s: Settings) -> bool
     ensures { result ≡ switches_good s }
 {
-    let count = count(s);
-    let links = s.links;
-    let mut i: usize = 0;
-    while i < count {
-        if !switch_good(links[i]) {
-            return false;
-        }
-        i += 1;
-    }
-    true
+    s.links[..count(s)].iter().all(|x| switch_good(*x))
 }

@@ -9,11 +9,11 @@ use quantity::Millis;
 use wire::Address;
 
 // An answer without values.
-pub fn plainly(a: Answer) -> Reply
-    ensures { result ≡ plainly a }
+pub fn plainly(answer: Answer) -> Reply
+    ensures { result ≡ plainly answer }
 {
     Reply {
-        answer: a,
+        answer,
         length: 0,
         id: 0,
         pid: 0,
@@ -32,17 +32,8 @@ pub fn returns_length(n: usize) -> Reply
     ensures { result ≡ returns_length n }
 {
     Reply {
-        answer: Answer::Done,
         length: n,
-        id: 0,
-        pid: 0,
-        time: Millis(0),
-        date: Date(0),
-        source: Address::ZERO,
-        tsp: 0,
-        nhosts: 0,
-        step: 0,
-        line: 0,
+        ..plainly(Answer::Done)
     }
 }
 
@@ -51,17 +42,9 @@ pub fn returns_route(id: usize, pid: u8) -> Reply
     ensures { result ≡ returns_route id pid }
 {
     Reply {
-        answer: Answer::Done,
-        length: 0,
-        id: id,
-        pid: pid,
-        time: Millis(0),
-        date: Date(0),
-        source: Address::ZERO,
-        tsp: 0,
-        nhosts: 0,
-        step: 0,
-        line: 0,
+        id,
+        pid,
+        ..plainly(Answer::Done)
     }
 }
 
@@ -70,17 +53,9 @@ pub fn returns_time(time: Millis, date: Date) -> Reply
     ensures { result ≡ returns_time time date }
 {
     Reply {
-        answer: Answer::Done,
-        length: 0,
-        id: 0,
-        pid: 0,
-        time: time,
-        date: date,
-        source: Address::ZERO,
-        tsp: 0,
-        nhosts: 0,
-        step: 0,
-        line: 0,
+        time,
+        date,
+        ..plainly(Answer::Done)
     }
 }
 
@@ -89,17 +64,11 @@ pub fn returns_packet(source: Address, time: Millis, tsp: u16, nhosts: u8) -> Re
     ensures { result ≡ returns_packet source time tsp nhosts }
 {
     Reply {
-        answer: Answer::Done,
-        length: 0,
-        id: 0,
-        pid: 0,
-        time: time,
-        date: Date(0),
-        source: source,
-        tsp: tsp,
-        nhosts: nhosts,
-        step: 0,
-        line: 0,
+        time,
+        source,
+        tsp,
+        nhosts,
+        ..plainly(Answer::Done)
     }
 }
 
@@ -108,16 +77,9 @@ pub fn returns_place(step: u8, line: u8, id: u8) -> Reply
     ensures { result ≡ returns_place step line id }
 {
     Reply {
-        answer: Answer::Done,
-        length: 0,
         id: id as usize,
-        pid: 0,
-        time: Millis(0),
-        date: Date(0),
-        source: Address::ZERO,
-        tsp: 0,
-        nhosts: 0,
-        step: step,
-        line: line,
+        step,
+        line,
+        ..plainly(Answer::Done)
     }
 }

@@ -1,5 +1,5 @@
 // A walk: an arrival in progress, as a place in section 3.3.3 with the values that its steps found. The copy of its packet is separate.
-ghost use Rattle.std.specs.Prelude.{◌≡◌, true, ◌&&◌, ◌≤◌};
+ghost use Rattle.std.specs.Prelude.{◌≡◌, true, ◌&&◌, ◌≤◌, Some};
 ghost use Rattle.table.specs.Update.{own_in_range, delay_in_range};
 ghost use Rattle.host.specs.Walk.{
   is_open,
@@ -46,10 +46,9 @@ pub struct Walk {
     pub offset: Word,
 }
 
-// The place of a walk; none if its numbers are no place.
+// The place of a walk.
 #[derive(Clone, Copy)]
 pub enum Place {
-    Nowhere,
     Step1,
     Step2,
     Step3,
@@ -84,69 +83,51 @@ pub fn is_open(w: Walk) -> bool
     w.opened != 0
 }
 
-fn step_place(n: u8) -> Place
+fn step_place(n: u8) -> Option<Place>
     ensures { result ≡ step_place n }
 {
-    if n == 1 {
-        return Place::Step1;
+    match n {
+        1 => Some(Place::Step1),
+        2 => Some(Place::Step2),
+        3 => Some(Place::Step3),
+        4 => Some(Place::Step4),
+        5 => Some(Place::Step5),
+        _ => None,
     }
-    if n == 2 {
-        return Place::Step2;
-    }
-    if n == 3 {
-        return Place::Step3;
-    }
-    if n == 4 {
-        return Place::Step4;
-    }
-    if n == 5 {
-        return Place::Step5;
-    }
-    Place::Nowhere
 }
 
-fn line_place(m: u8) -> Place
+fn line_place(m: u8) -> Option<Place>
     ensures { result ≡ line_place m }
 {
-    if m == 1 {
-        return Place::LineA;
+    match m {
+        1 => Some(Place::LineA),
+        2 => Some(Place::LineB),
+        3 => Some(Place::LineC),
+        4 => Some(Place::LineD),
+        _ => None,
     }
-    if m == 2 {
-        return Place::LineB;
-    }
-    if m == 3 {
-        return Place::LineC;
-    }
-    if m == 4 {
-        return Place::LineD;
-    }
-    Place::Nowhere
 }
 
-// The place of a walk.
-pub fn place_of(w: Walk) -> Place
+// The place of a walk; none if its numbers are no place.
+pub fn place_of(w: Walk) -> Option<Place>
     ensures { result ≡ place_of w }
 {
-    if w.line == 0 {
-        return step_place(w.step);
+    match (w.step, w.line) {
+        (n, 0) => step_place(n),
+        (5, m) => line_place(m),
+        _ => None,
     }
-    if w.step == 5 {
-        return line_place(w.line);
-    }
-    Place::Nowhere
 }
 
 // What a walk holds of an update: DELAY and OFFSET.
 fn walk_update(w: Walk) -> Update
     ensures { (result ≡ walk_update w) × (own_in_range result ≡ true) }
 {
-    let reading = w.reading;
-    let offset = w.offset;
     Update {
         pid: w.link,
         delay: Millis::from(w.delay),
-        offset: offset,
-        reading: reading,
+        offset: w.offset,
+        reading: w.reading,
     }
 }
 
@@ -174,30 +155,22 @@ fn storable(u: Update) -> bool
 fn reading_good(w: Walk) -> bool
     ensures { result ≡ reading_in_range w }
 {
-    let reading = w.reading;
-    table::up_to(clock::DAY, reading)
+    table::up_to(clock::DAY, w.reading)
 }
 
 // Are our reading and the id within their ranges?
 fn id_good(s: Settings, w: Walk) -> bool
     ensures { result ≡ (reading_in_range w && id_in_range s w) }
 {
-    let layout = s.layout;
-    if !reading_good(w) {
-        return false;
-    }
-    (w.id as usize) < layout.nhosts
+    reading_good(w) && (w.id as usize) < s.layout.nhosts
 }
 
 // Our reading, the id, and what line (c) would store.
 fn line_c_good(s: Settings, w: Walk, p: Packet, packet: &[u8]) -> bool
     requires { Reported s p packet.now }
-    ensures { result ≡ walk_fields_at LineC s w p packet.now }
+    ensures { result ≡ walk_fields_at (Some LineC) s w p packet.now }
 {
-    if !id_good(s, w) {
-        return false;
-    }
-    storable(line_update(s, w, p, packet))
+    id_good(s, w) && storable(line_update(s, w, p, packet))
 }
 
 // Are the values that a walk has at its place within their ranges?
@@ -206,16 +179,11 @@ fn fields_good(s: Settings, w: Walk, p: Packet, packet: &[u8]) -> bool
     ensures { result ≡ walk_fields_at (place_of w) s w p packet.now }
 {
     match place_of(w) {
-        Place::Nowhere => false,
-        Place::Step1 => true,
-        Place::Step2 => reading_good(w),
-        Place::Step3 => reading_good(w),
-        Place::Step4 => reading_good(w),
-        Place::Step5 => reading_good(w),
-        Place::LineA => id_good(s, w),
-        Place::LineB => id_good(s, w),
-        Place::LineC => line_c_good(s, w, p, packet),
-        Place::LineD => id_good(s, w),
+        None => false,
+        Some(Place::Step1) => true,
+        Some(Place::Step2 | Place::Step3 | Place::Step4 | Place::Step5) => reading_good(w),
+        Some(Place::LineA | Place::LineB | Place::LineD) => id_good(s, w),
+        Some(Place::LineC) => line_c_good(s, w, p, packet),
     }
 }
 

@@ -6,6 +6,7 @@ use mathlib.Core.List.{List, [], ◌∷◌, ◌++◌, map, map-append}
 use Prim.Native.Nat.{ℕ, zero, suc, ◌+◌, ◌-◌}
 use lib.Dec.{ltb, eqb}
 use lib.ListN.{length, get_or, take, drop, length-map}
+use Rattle.std.proofs.Common.{Option, Some, None}
 use Rattle.lists.specs.Lists.{part, over}
 use Rattle.quantity.specs.declared.Millis.{Millis}
 use Rattle.quantity.specs.declared.Seconds.{Seconds}
@@ -41,7 +42,7 @@ use Rattle.host.specs.declared.guard.Scope.{Scope}
 use Rattle.host.specs.declared.guard.Scope.TheVariants.{Places, All, OnLink, Opening, Walking}
 use Rattle.host.specs.declared.walk.Walk.{Walk}
 use Rattle.host.specs.declared.walk.Place.{Place}
-use Rattle.host.specs.declared.walk.Place.TheVariants.{Nowhere, Step1, Step2, Step3, Step4, Step5, LineA, LineB, LineC, LineD}
+use Rattle.host.specs.declared.walk.Place.TheVariants.{Step1, Step2, Step3, Step4, Step5, LineA, LineB, LineC, LineD}
 use Rattle.host.specs.Settings.{own_id, found_for}
 use Rattle.host.specs.State.{first_place, host_count, link_of, broadcast, own_entries, with_entries}
 use Rattle.host.specs.Effect.{nothing, one, answers}
@@ -55,7 +56,7 @@ use Rattle.arrival.specs.declared.Arrived.{Arrived}
 use Rattle.arrival.specs.Steps.{step4}
 use Rattle.arrival.specs.Arrival.{delivered}
 use Rattle.sending.specs.declared.Sending.{Sending}
-use Rattle.sending.specs.Send.{send_in, written}
+use Rattle.sending.specs.Send.{send_in, with_message, written}
 use Rattle.walk.specs.Boxes.{at_hand, in_flight, raised, fourth, to_neighbor, next_id, put, is_clock_host, clock_set, after_a, after_b, after_c, box1, box2, box3, box4, box5, box_a, box_b, box_c, box_d, box_at, box_of, step}
 use Rattle.calls.specs.declared.Request.TheVariants.{Initialize, Tick, Adjust, Set, Read, Second, SelfReport, Lookup, Step}
 use Rattle.calls.specs.Effects.{initialize, tick, adjust, set_by, read, second, looked, lookup}
@@ -276,18 +277,18 @@ module _ (k : Counter) (p : Packet) (octets : List ℕ) (t : NetTable) (h : Host
   at_5 None = twins tt
   at_5 (Some id) = twins tt
 
-  box_bare : (e : Entry) (q : Place) → Twins (box_at q k p octets t h w (bare e)) (box_at q k p octets t h w e)
+  box_bare : (e : Entry) (q : Option Place) → Twins (box_at q k p octets t h w (bare e)) (box_at q k p octets t h w e)
   unfolding box1 box2 box3 box4 box5 box_a box_b box_c box_d
-  box_bare e Nowhere = twins tt
-  box_bare e Step1 = twins tt
-  box_bare e Step2 = twins tt
-  box_bare e Step3 = twins tt
-  box_bare e Step4 = at_4 (step4 (broadcast h.settings w.link) h.clock.hold p (in_flight h.links w))
-  box_bare e Step5 = cond_bare (eqb p.nhosts 0) _ _ _ _ (at_5 (found_for t h.settings (link_of h.links w.link).neighbor)) (twins tt)
-  box_bare e LineA = rw (a_bare (line_update w p octets) e) (at_a (line_a (line_update w p octets) e))
-  box_bare e LineB = rw (b_bare (line_update w p octets) e) (at_b (line_b (line_update w p octets) e))
-  box_bare e LineC = rw (c_bare (line_update w p octets) e) (at_c (line_c (line_update w p octets) e))
-  box_bare e LineD = next_bare (host h.settings (clock_set p octets h w) h.links) nothing tt
+  box_bare e None = twins tt
+  box_bare e (Some Step1) = twins tt
+  box_bare e (Some Step2) = twins tt
+  box_bare e (Some Step3) = twins tt
+  box_bare e (Some Step4) = at_4 (step4 (broadcast h.settings w.link) h.clock.hold p (in_flight h.links w))
+  box_bare e (Some Step5) = cond_bare (eqb p.nhosts 0) _ _ _ _ (at_5 (found_for t h.settings (link_of h.links w.link).neighbor)) (twins tt)
+  box_bare e (Some LineA) = rw (a_bare (line_update w p octets) e) (at_a (line_a (line_update w p octets) e))
+  box_bare e (Some LineB) = rw (b_bare (line_update w p octets) e) (at_b (line_b (line_update w p octets) e))
+  box_bare e (Some LineC) = rw (c_bare (line_update w p octets) e) (at_c (line_c (line_update w p octets) e))
+  box_bare e (Some LineD) = next_bare (host h.settings (clock_set p octets h w) h.links) nothing tt
 
 step_bare : (k : Counter) (t : NetTable) (h : Host) (w : Walk) (copy : List ℕ) (e : Entry) → Twins (step k t h w copy (bare e)) (step k t h w copy e)
 unfolding step
@@ -302,7 +303,7 @@ step_bare k t h w copy e = cond_bare (not (is_open w)) _ _ _ _ (twins tt) (go (i
 written_bare : (s : Sending) (es : List Entry) (buffer : List ℕ) → written s (map bare es) buffer ≡ written s es buffer
 unfolding advertised
 written_bare s es buffer =
-    ap (λ (l : List Report). cond s.goes (message s.destination s.packet l ++ drop s.reply.length buffer) buffer)
+    ap (λ (l : List Report). with_message s.message l s.reply.length buffer)
     (ap (map (advertised s.work.pid)) (sym (map_part bare s.work.first (s.work.end - s.work.first) es))
     ∙ go (part s.work.first (s.work.end - s.work.first) es))
   where

@@ -10,6 +10,7 @@ use borrow.Author.Tests.{ltb-true, ltb-false, eqb-true}
 use lib.Dec.{ltb, eqb}
 use lib.ListN.{length, get_or, set}
 use lib.Seq.{get_or-set_other}
+use Rattle.std.proofs.Common.{Option, Some, None}
 use Rattle.lists.proofs.Tests.{either, is_so}
 use Rattle.quantity.specs.Quantity.{add_millis, less_millis}
 use Rattle.quantity.specs.Words.{zero_word}
@@ -31,7 +32,7 @@ use Rattle.host.specs.declared.Link.{Link}
 use Rattle.host.specs.declared.Effect.{Effect}
 use Rattle.host.specs.declared.walk.Walk.{Walk}
 use Rattle.host.specs.declared.walk.Place.{Place}
-use Rattle.host.specs.declared.walk.Place.TheVariants.{Nowhere, Step1, Step2, Step3, Step4, Step5, LineA, LineB, LineC, LineD}
+use Rattle.host.specs.declared.walk.Place.TheVariants.{Step1, Step2, Step3, Step4, Step5, LineA, LineB, LineC, LineD}
 use Rattle.host.specs.declared.guard.Scope.TheVariants.{Walking}
 use Rattle.host.specs.Settings.{found_for}
 use Rattle.host.specs.State.{first_place, host_count, broadcast, unset, fresh_link, link_of, with_link, no_link, own_entries, with_entries}
@@ -101,17 +102,17 @@ module _ (k : Counter) (x : CallState) where
 
   -- ---- a refusal
 
-  refusal : (o : Outcome) → done o.reply.answer ≡ false → SameClock x o → SameLinks x o → SameEntries x o → (q : Place) → Changes q k x o
-  refusal o bad c l r Nowhere = (c, l, r)
-  refusal o bad c l r Step1 = ((λ yes. absurd (false≢true (sym bad ∙ yes))), l, r)
-  refusal o bad c l r Step2 = (c, linked KeepAlive (λ y. (refl, refl)) o l, r)
-  refusal o bad c l r Step3 = (c, linked Tsp (λ y. (refl, refl)) o l, r)
-  refusal o bad c l r Step4 = (c, linked Neighbor (λ y. (refl, refl)) o l, r)
-  refusal o bad c l r Step5 = (c, l, r, λ _ yes. absurd (false≢true (sym bad ∙ yes)))
-  refusal o bad c l r LineA = (c, l, r)
-  refusal o bad c l r LineB = (c, l, λ i d not. ap (λ entries. get_or entries i d) r)
-  refusal o bad c l r LineC = (c, l, λ i d not. ap (λ entries. get_or entries i d) r)
-  refusal o bad c l r LineD = ((λ not. c), l, r)
+  refusal : (o : Outcome) → done o.reply.answer ≡ false → SameClock x o → SameLinks x o → SameEntries x o → (q : Option Place) → Changes q k x o
+  refusal o bad c l r None = (c, l, r)
+  refusal o bad c l r (Some Step1) = ((λ yes. absurd (false≢true (sym bad ∙ yes))), l, r)
+  refusal o bad c l r (Some Step2) = (c, linked KeepAlive (λ y. (refl, refl)) o l, r)
+  refusal o bad c l r (Some Step3) = (c, linked Tsp (λ y. (refl, refl)) o l, r)
+  refusal o bad c l r (Some Step4) = (c, linked Neighbor (λ y. (refl, refl)) o l, r)
+  refusal o bad c l r (Some Step5) = (c, l, r, λ _ yes. absurd (false≢true (sym bad ∙ yes)))
+  refusal o bad c l r (Some LineA) = (c, l, r)
+  refusal o bad c l r (Some LineB) = (c, l, λ i d not. ap (λ entries. get_or entries i d) r)
+  refusal o bad c l r (Some LineC) = (c, l, λ i d not. ap (λ entries. get_or entries i d) r)
+  refusal o bad c l r (Some LineD) = ((λ not. c), l, r)
 
   -- ---- the host table: as it was, or with one entry changed
 
@@ -158,7 +159,7 @@ module _ (k : Counter) (x : CallState) where
     p = fields octets
 
     module _ (has : no_link h.settings w.link ≡ false) (e : Entry) where
-      abbrev Is : Place → Effect → Type 0
+      abbrev Is : Option Place → Effect → Type 0
       Is q f = Changes q k x (carried_out f x)
 
       -- the next id, or the end, with this work
@@ -169,11 +170,11 @@ module _ (k : Counter) (x : CallState) where
       quiet : (r : Effect) → r.work ≡ nothing → SameEntries x (carried_out r x)
       quiet r z = ap after z ∙ same_run
 
-      second : Is Step2 (box2 h w)
+      second : Is (Some Step2) (box2 h w)
       unfolding box2 step2
       second = (refl, stored_in has _ KeepAlive (keeps has _ (λ (l : Link). l.neighbor) refl, keeps has _ (λ (l : Link). l.tsp) refl) _ refl, same_run)
 
-      third : Is Step3 (box3 p h w)
+      third : Is (Some Step3) (box3 p h w)
       unfolding box3 step3
       third = (refl, stored_in has _ Tsp (keeps has _ (λ (l : Link). l.neighbor) refl, keeps has _ (λ (l : Link). l.keep_alive) refl) _ refl, same_run)
 
@@ -184,7 +185,7 @@ module _ (k : Counter) (x : CallState) where
       abbrev f : Flight
       f = in_flight h.links w
 
-      fourth_box : Is Step4 (box4 p h w)
+      fourth_box : Is (Some Step4) (box4 p h w)
       unfolding box4 step4
       fourth_box =
           either Q (broadcast h.settings w.link) _ _ (λ _. goes_on)
@@ -192,66 +193,66 @@ module _ (k : Counter) (x : CallState) where
           (λ _. either Q (zero_word p.tsp || not (eqb h.clock.hold.0 0)) _ _ (λ _. (refl, neighbor _ refl refl _ refl, same_run)) (λ _. goes_on)))
         where
           Q : Stage Flight → Type 0
-          Q s = Is Step4 (fourth h w s)
+          Q s = Is (Some Step4) (fourth h w s)
 
           goes_on : Q (on f)
           goes_on = (refl, neighbor _ refl refl _ refl, same_run)
 
       -- the id by the net table of this box
-      found : (g : Option ℕ) → found_for x.nets h.settings (link_of h.links w.link).neighbor ≡ g → Is Step5 (to_neighbor h (raised w) g)
+      found : (g : Option ℕ) → found_for x.nets h.settings (link_of h.links w.link).neighbor ≡ g → Is (Some Step5) (to_neighbor h (raised w) g)
       found None is = (refl, refl, same_run, λ _ yes. absurd (false≢true yes))
       found (Some id) is = (refl, refl, same_run, λ _ _. is)
 
       abbrev u : Update
       u = line_update w p octets
 
-      line_a_lem : Is LineA (box_a p octets h w e)
+      line_a_lem : Is (Some LineA) (box_a p octets h w e)
       unfolding box_a line_a
       line_a_lem =
-          either (λ (s : Stage Entry). Is LineA (after_a p h w s)) (not (eqb u.pid e.pid) && less_millis e.delay (add_millis u.delay min_delay)) _ _
-          (λ _. next (Is LineA) h.clock nothing (λ r a b z. (a, b, quiet r z))) (λ _. (refl, refl, same_run))
+          either (λ (s : Stage Entry). Is (Some LineA) (after_a p h w s)) (not (eqb u.pid e.pid) && less_millis e.delay (add_millis u.delay min_delay)) _ _
+          (λ _. next (Is (Some LineA)) h.clock nothing (λ r a b z. (a, b, quiet r z))) (λ _. (refl, refl, same_run))
 
-      put_next : (q : Place) → ((r : Effect) → r.clock ≡ h.clock → r.links ≡ h.links → Puts r.work → Is q r) → (y : Entry) → Is q (next_id p h w (put w y))
+      put_next : (q : Option Place) → ((r : Effect) → r.clock ≡ h.clock → r.links ≡ h.links → Puts r.work → Is q r) → (y : Entry) → Is q (next_id p h w (put w y))
       put_next q g y = next (Is q) h.clock (put w y) (λ r a b z. g r a b (subst Puts (sym z) (puts y)))
 
-      line_b_lem : Is LineB (box_b p octets h w e)
+      line_b_lem : Is (Some LineB) (box_b p octets h w e)
       unfolding box_b line_b
       line_b_lem =
           either Q (up e) _ _
-          (λ _. either Q (less_millis u.delay max_delay) _ _ (λ _. goes_on) (λ _. put_next LineB (λ r a b z. (a, b, z)) (taken_down e)))
-          (λ _. either Q (less_millis u.delay max_delay && eqb e.ttl.0 0) _ _ (λ _. goes_on) (λ _. put_next LineB (λ r a b z. (a, b, z)) e))
+          (λ _. either Q (less_millis u.delay max_delay) _ _ (λ _. goes_on) (λ _. put_next (Some LineB) (λ r a b z. (a, b, z)) (taken_down e)))
+          (λ _. either Q (less_millis u.delay max_delay && eqb e.ttl.0 0) _ _ (λ _. goes_on) (λ _. put_next (Some LineB) (λ r a b z. (a, b, z)) e))
         where
           Q : Stage Entry → Type 0
-          Q s = Is LineB (after_b p h w s)
+          Q s = Is (Some LineB) (after_b p h w s)
 
           goes_on : Q (on e)
           goes_on = (refl, refl, puts_none)
 
-      line_c_lem : Is LineC (box_c p octets h w e)
+      line_c_lem : Is (Some LineC) (box_c p octets h w e)
       unfolding box_c line_c
-      line_c_lem = either (Is LineC) (is_clock_host h w) _ _ (λ _. (refl, refl, puts (stored u e))) (λ _. put_next LineC (λ r a b z. (a, b, z)) (stored u e))
+      line_c_lem = either (Is (Some LineC)) (is_clock_host h w) _ _ (λ _. (refl, refl, puts (stored u e))) (λ _. put_next (Some LineC) (λ r a b z. (a, b, z)) (stored u e))
 
-      line_d_lem : Is LineD (box_d p octets h w)
+      line_d_lem : Is (Some LineD) (box_d p octets h w)
       unfolding box_d
-      line_d_lem = next (Is LineD) (clock_set p octets h w) nothing (λ r a b z. ((λ not. a ∙ stays not), b, quiet r z))
+      line_d_lem = next (Is (Some LineD)) (clock_set p octets h w) nothing (λ r a b z. ((λ not. a ∙ stays not), b, quiet r z))
         where
           stays : (w.id ≡ h.settings.clock_host → ⊥) → clock_set p octets h w ≡ h.clock
           stays not = either (λ (c : Clock). c ≡ h.clock) (is_clock_host h w) _ _ (λ t. absurd (not (eqb-true _ _ t))) (λ _. refl)
 
-      boxed : (q : Place) → Is q (box_at q k p octets x.nets h w e)
+      boxed : (q : Option Place) → Is q (box_at q k p octets x.nets h w e)
       unfolding box1 box5
-      boxed Nowhere = (refl, refl, same_run)
-      boxed Step1 = ((λ _. refl), refl, same_run)
-      boxed Step2 = second
-      boxed Step3 = third
-      boxed Step4 = fourth_box
-      boxed Step5 =
-          either (Is Step5) (eqb p.nhosts 0) _ _ (λ _. found (found_for x.nets h.settings (link_of h.links w.link).neighbor) refl)
+      boxed None = (refl, refl, same_run)
+      boxed (Some Step1) = ((λ _. refl), refl, same_run)
+      boxed (Some Step2) = second
+      boxed (Some Step3) = third
+      boxed (Some Step4) = fourth_box
+      boxed (Some Step5) =
+          either (Is (Some Step5)) (eqb p.nhosts 0) _ _ (λ _. found (found_for x.nets h.settings (link_of h.links w.link).neighbor) refl)
           (λ no. (refl, refl, same_run, λ none _. absurd (false≢true (sym no ∙ none))))
-      boxed LineA = line_a_lem
-      boxed LineB = line_b_lem
-      boxed LineC = line_c_lem
-      boxed LineD = line_d_lem
+      boxed (Some LineA) = line_a_lem
+      boxed (Some LineB) = line_b_lem
+      boxed (Some LineC) = line_c_lem
+      boxed (Some LineD) = line_d_lem
 
     stepped : (e : Entry) → walk_in_range h.settings w x.copy ≡ true → Changes (place_of w) k x (carried_out (walk.step k x.nets h w x.copy e) x)
     unfolding walk.step

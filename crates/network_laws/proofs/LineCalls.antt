@@ -10,6 +10,7 @@ use lib.Dec.{ltb, eqb}
 use lib.IntN.{pos}
 use lib.ListN.{length}
 use lib.Signed.{◌≤ℤ◌}
+use Rattle.std.proofs.Common.{Option, Some, None}
 use Rattle.lists.specs.Lists.{part, over}
 use Rattle.lists.proofs.Tests.{either, both, is_not}
 use Rattle.quantity.specs.declared.Units.{Units}
@@ -43,7 +44,7 @@ use Rattle.table.proofs.Cases.{clock_keeps}
 use Rattle.host.specs.declared.Effect.{Effect}
 use Rattle.host.specs.declared.walk.Walk.{Walk}
 use Rattle.host.specs.declared.walk.Place.{Place}
-use Rattle.host.specs.declared.walk.Place.TheVariants.{Nowhere, Step1, Step2, Step3, Step4, Step5, LineA, LineB, LineC, LineD}
+use Rattle.host.specs.declared.walk.Place.TheVariants.{Step1, Step2, Step3, Step4, Step5, LineA, LineB, LineC, LineD}
 use Rattle.host.specs.declared.guard.Scope.TheVariants.{Places, Walking}
 use Rattle.host.specs.Walk.{is_open, place_of, packet_of, line_update}
 use Rattle.host.specs.State.{link_of, with_entries}
@@ -118,18 +119,18 @@ module _ (x : CallState) (t : LineTime x.host.clock) where
         (ap (λ (n : Count). clock.set_by h.settings.hold_interval n (of_word (line_update w p octets).offset) (date_taken p.date h.clock)) no_count_lem
         ∙ line_clock_holds.sets h.settings.hold_interval (of_word (line_update w p octets).offset) (date_taken p.date h.clock))
 
-    box_same : (q : Place) → box_at q no_counter p octets x.nets h w e ≡ line_box_at q no_counter p octets x.nets h w e
+    box_same : (q : Option Place) → box_at q no_counter p octets x.nets h w e ≡ line_box_at q no_counter p octets x.nets h w e
     unfolding box1 box_d
-    box_same Nowhere = refl
-    box_same Step1 = ap (λ (r : Reading). onward (at_step 2 (holding_reading no_count r.time w)) r.clock h.links nothing) reading_same
-    box_same Step2 = refl
-    box_same Step3 = refl
-    box_same Step4 = refl
-    box_same Step5 = refl
-    box_same LineA = refl
-    box_same LineB = refl
-    box_same LineC = refl
-    box_same LineD = ap (λ (c : Clock). next_id p (host h.settings c h.links) w nothing) clock_same
+    box_same None = refl
+    box_same (Some Step1) = ap (λ (r : Reading). onward (at_step 2 (holding_reading no_count r.time w)) r.clock h.links nothing) reading_same
+    box_same (Some Step2) = refl
+    box_same (Some Step3) = refl
+    box_same (Some Step4) = refl
+    box_same (Some Step5) = refl
+    box_same (Some LineA) = refl
+    box_same (Some LineB) = refl
+    box_same (Some LineC) = refl
+    box_same (Some LineD) = ap (λ (c : Clock). next_id p (host h.settings c h.links) w nothing) clock_same
 
   step_same : (k : Counter) (copy : List ℕ) (e : Entry) → k ≡ no_counter → w.count ≡ no_count → step k x.nets h w copy e ≡ line_step k x.nets h w copy e
   unfolding step

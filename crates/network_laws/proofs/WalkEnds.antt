@@ -10,6 +10,7 @@ use borrow.Author.Tests.{le-leb, lt-ltb, le-ltb, ltb-true, eq-eqb}
 use lib.Dec.{ltb, eqb}
 use lib.ListN.{length, get_or, take, drop, length-append}
 use lib.Seq.{take_at, drop_at, length-take-le}
+use Rattle.std.proofs.Common.{Option, Some, None}
 use Rattle.lists.specs.Lists.{over}
 use Rattle.lists.proofs.Tests.{either, both}
 use Rattle.lists.proofs.Parts.{over_nothing}
@@ -38,7 +39,7 @@ use Rattle.host.specs.declared.Effect.{Effect}
 use Rattle.host.specs.declared.Settings.{Settings}
 use Rattle.host.specs.declared.walk.Walk.{Walk}
 use Rattle.host.specs.declared.walk.Place.{Place}
-use Rattle.host.specs.declared.walk.Place.TheVariants.{Nowhere, Step5}
+use Rattle.host.specs.declared.walk.Place.TheVariants.{Step5}
 use Rattle.host.specs.declared.guard.Scope.TheVariants as scope
 use Rattle.host.specs.declared.guard.Scope.TheVariants.{Walking}
 use Rattle.host.specs.Settings.{settings_good, found_for}
@@ -175,9 +176,9 @@ module _ (p : Packet) (octets : List ℕ) where
       (λ _. either B (eqb n 2) _ _ (λ _. refl)
       (λ _. either B (eqb n 3) _ _ (λ _. refl)
       (λ _. either B (eqb n 4) _ _ (λ _. refl)
-      (λ _. either B (eqb n 5) Step5 Nowhere (λ _. refl) (λ _. refl)))))
+      (λ _. either B (eqb n 5) (Some Step5) None (λ _. refl) (λ _. refl)))))
     where
-      B : Place → Type 0
+      B : Option Place → Type 0
       B q = box_at q k p octets t y.host y.walk e ≡ box_at q k p octets t y.host y.walk f
 
   abbrev box : CallState → Box → Effect

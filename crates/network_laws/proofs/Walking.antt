@@ -5,6 +5,7 @@ use mathlib.Core.Bool.{Bool, true, false, false≢true, cond, not, ◌&&◌, ◌
 use mathlib.Core.List.{List}
 use Prim.Native.Nat.{ℕ, ◌+◌, ◌≤◌}
 use lib.Dec.{ltb, eqb}
+use Rattle.std.proofs.Common.{Option, Some, None}
 use Rattle.lists.proofs.Tests.{either, both, is_so}
 use Rattle.quantity.specs.declared.Word.{Word}
 use Rattle.quantity.specs.Quantity.{add_millis, less_millis}
@@ -36,7 +37,7 @@ use Rattle.host.specs.declared.Effect.{Effect}
 use Rattle.host.specs.declared.Reply.{Reply}
 use Rattle.host.specs.declared.walk.Walk.{Walk}
 use Rattle.host.specs.declared.walk.Place.{Place}
-use Rattle.host.specs.declared.walk.Place.TheVariants.{Nowhere, Step1, Step2, Step3, Step4, Step5, LineA, LineB, LineC, LineD}
+use Rattle.host.specs.declared.walk.Place.TheVariants.{Step1, Step2, Step3, Step4, Step5, LineA, LineB, LineC, LineD}
 use Rattle.host.specs.Settings.{found_for}
 use Rattle.host.specs.State.{host_count, broadcast, link_of, with_link, link_in_range, no_link}
 use Rattle.host.specs.CallState.{Host, host, our_reading}
@@ -97,17 +98,17 @@ makes_mark w e y (stores u fits read pid most reading) = refl
 
 -- ---- at a line the entry of the id is at hand
 
-abbrev is_line : Place → Bool
-is_line Nowhere = false
-is_line Step1 = false
-is_line Step2 = false
-is_line Step3 = false
-is_line Step4 = false
-is_line Step5 = false
-is_line LineA = true
-is_line LineB = true
-is_line LineC = true
-is_line LineD = true
+abbrev is_line : Option Place → Bool
+is_line None = false
+is_line (Some Step1) = false
+is_line (Some Step2) = false
+is_line (Some Step3) = false
+is_line (Some Step4) = false
+is_line (Some Step5) = false
+is_line (Some LineA) = true
+is_line (Some LineB) = true
+is_line (Some LineC) = true
+is_line (Some LineD) = true
 
 no_line : (n : ℕ) → is_line (step_place n) ≡ true → ⊥
 no_line n =
@@ -117,14 +118,14 @@ no_line n =
     (λ _. either Not (eqb n 4) _ _ (λ _. false≢true)
     (λ _. either Not (eqb n 5) _ _ (λ _. false≢true) (λ _. false≢true)))))
   where
-    Not : Place → Type 0
+    Not : Option Place → Type 0
     Not q = is_line q ≡ true → ⊥
 
 at_line_lem : (w : Walk) → is_open w ≡ true → is_line (place_of w) ≡ true → at_hand w ≡ Some w.id
 unfolding place_of
 at_line_lem w opened line = go (eqb w.line 0) line
   where
-    go : (b : Bool) → is_line (cond b (step_place w.step) (cond (eqb w.step 5) (line_place w.line) Nowhere)) ≡ true
+    go : (b : Bool) → is_line (cond b (step_place w.step) (cond (eqb w.step 5) (line_place w.line) None)) ≡ true
         → cond (is_open w && not b) (Some w.id) None ≡ Some w.id
     go true l = absurd (no_line w.step l)
     go false l = rw opened refl
@@ -219,22 +220,22 @@ module _ (k : Counter) (t : NetTable) (h : Host) (w : Walk) (copy : List ℕ) (e
         set : Timed h w (clock_set p octets h w)
         set = either (Timed h w) (is_clock_host h w) _ _ (λ _. set_by_lem p.date u.offset) (λ _. as_was)
 
-    box_ways : (q : Place) → place_of w ≡ q → walk_fields_at q h.settings w p octets ≡ true → P (box_at q k p octets t h w e)
+    box_ways : (q : Option Place) → place_of w ≡ q → walk_fields_at q h.settings w p octets ≡ true → P (box_at q k p octets t h w e)
     unfolding box1 box2 box3 box5 step2 step3
-    box_ways Nowhere is held = absurd (false≢true held)
-    box_ways Step1 is held = ways.reads _ refl
-    box_ways Step2 is held = storing (at_step 3 w) (λ z. z) _ (λ _. refl)
-    box_ways Step3 is held = storing _ (λ z. z) _ (λ z. z)
-    box_ways Step4 is held = fourth_ways
-    box_ways Step5 is held =
+    box_ways None is held = absurd (false≢true held)
+    box_ways (Some Step1) is held = ways.reads _ refl
+    box_ways (Some Step2) is held = storing (at_step 3 w) (λ z. z) _ (λ _. refl)
+    box_ways (Some Step3) is held = storing _ (λ z. z) _ (λ z. z)
+    box_ways (Some Step4) is held = fourth_ways
+    box_ways (Some Step5) is held =
         either P (eqb p.nhosts 0) _ _ (λ _. found (found_for t h.settings (link_of h.links w.link).neighbor))
         (λ _. on_with (at_line 1 0 (raised w)) (λ z. z) nothing no_work)
-    box_ways LineA is held = after_a_lem
-    box_ways LineB is held = after_b_lem (at_line_lem w opened (ap is_line is))
-    box_ways LineC is held =
+    box_ways (Some LineA) is held = after_a_lem
+    box_ways (Some LineB) is held = after_b_lem (at_line_lem w opened (ap is_line is))
+    box_ways (Some LineC) is held =
         let b = both (reading_in_range w && id_in_range h.settings w) _ held in
         after_c_lem (at_line_lem w opened (ap is_line is)) b.1 (both (reading_in_range w) _ b.0).0
-    box_ways LineD is held = after_d
+    box_ways (Some LineD) is held = after_d
 
   pub step_ways : Ways → walk_in_range h.settings w copy ≡ true → P (step k t h w copy e)
   unfolding step

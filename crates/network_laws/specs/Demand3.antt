@@ -1,5 +1,5 @@
 -- ROOM-4 to ROOM-10: demand 3, one claim about every list of the calls that it names; and the same claim for every call except initialize.
-use Rattle.std.specs.Prelude.{◌≡◌, Bool, true, ◌||◌, ℕ, ◌*◌, ◌≤◌, ◌<◌, T, eqb, ℤ, pos, ◌+ℤ◌, ◌-ℤ◌, ◌*ℤ◌, nat_abs, get_or, ◌≤ℤ◌, ◌<ℤ◌}
+use Rattle.std.specs.Prelude.{◌≡◌, Bool, true, ◌||◌, ℕ, ◌*◌, ◌≤◌, ◌<◌, T, eqb, ℤ, pos, ◌+ℤ◌, ◌-ℤ◌, ◌*ℤ◌, nat_abs, get_or, ◌≤ℤ◌, ◌<ℤ◌, Some}
 use mathlib.Core.List.{List, [], ◌∷◌, Memᴰ}
 use Rattle.answer.specs.declared.Answer.{Answer}
 use Rattle.answer.specs.declared.Answer.TheVariants.{Done}
@@ -68,7 +68,7 @@ Timely r w a o (clocks k) = Unit {0}
 Timely r w a o (looks d) = Unit {0}
 Timely r w a o (steps k t) =
     let v : Walk = (after_at r w a).walk in
-    is_open v ≡ true → place_of v ≡ Step1 → Delivered r w a v.link k (packet_of v (after_at r w a).copy) t o.reply.answer
+    is_open v ≡ true → place_of v ≡ Some Step1 → Delivered r w a v.link k (packet_of v (after_at r w a).copy) t o.reply.answer
 
 -- ROOM-5: a call that demand 3 allows
 pub record Allowed (r : Network) (w : World) (x : Step) : Type 0 where

@@ -1,10 +1,10 @@
 -- WALK-3: what each box of a walk changes, and that it changes nothing else.
-use Rattle.std.specs.Prelude.{◌≡◌, true, ℕ, ◌+◌, ◌≤◌, eqb, get_or, Some}
+use Rattle.std.specs.Prelude.{◌≡◌, true, ℕ, ◌+◌, ◌≤◌, eqb, get_or, Some, Option, None}
 use Rattle.clock.specs.declared.Counter.{Counter}
 use Rattle.table.specs.declared.Entry.{Entry}
 use Rattle.host.specs.declared.Link.{Link}
 use Rattle.host.specs.declared.walk.Place.{Place}
-use Rattle.host.specs.declared.walk.Place.TheVariants.{Nowhere, Step1, Step2, Step3, Step4, Step5, LineA, LineB, LineC, LineD}
+use Rattle.host.specs.declared.walk.Place.TheVariants.{Step1, Step2, Step3, Step4, Step5, LineA, LineB, LineC, LineD}
 use Rattle.host.specs.Settings.{found_for}
 use Rattle.host.specs.State.{first_place, link_of}
 use Rattle.host.specs.CallState.{CallState, our_reading}
@@ -69,17 +69,17 @@ LooksUp x o =
 -- ---- the boxes
 
 -- WALK-3: what each box changes
-abbrev pub Changes : Place → Counter → CallState → Outcome → Type 0
-Changes Nowhere k x o = SameClock x o × SameLinks x o × SameEntries x o
-Changes Step1 k x o = Reads k x o × SameLinks x o × SameEntries x o
-Changes Step2 k x o = SameClock x o × ChangesLink KeepAlive x o × SameEntries x o
-Changes Step3 k x o = SameClock x o × ChangesLink Tsp x o × SameEntries x o
-Changes Step4 k x o = SameClock x o × ChangesLink Neighbor x o × SameEntries x o
-Changes Step5 k x o = SameClock x o × SameLinks x o × SameEntries x o × LooksUp x o
-Changes LineA k x o = SameClock x o × SameLinks x o × SameEntries x o
-Changes LineB k x o = SameClock x o × SameLinks x o × ChangesEntry x o
-Changes LineC k x o = SameClock x o × SameLinks x o × ChangesEntry x o
-Changes LineD k x o = SetsClock x o × SameLinks x o × SameEntries x o
+abbrev pub Changes : Option Place → Counter → CallState → Outcome → Type 0
+Changes None k x o = SameClock x o × SameLinks x o × SameEntries x o
+Changes (Some Step1) k x o = Reads k x o × SameLinks x o × SameEntries x o
+Changes (Some Step2) k x o = SameClock x o × ChangesLink KeepAlive x o × SameEntries x o
+Changes (Some Step3) k x o = SameClock x o × ChangesLink Tsp x o × SameEntries x o
+Changes (Some Step4) k x o = SameClock x o × ChangesLink Neighbor x o × SameEntries x o
+Changes (Some Step5) k x o = SameClock x o × SameLinks x o × SameEntries x o × LooksUp x o
+Changes (Some LineA) k x o = SameClock x o × SameLinks x o × SameEntries x o
+Changes (Some LineB) k x o = SameClock x o × SameLinks x o × ChangesEntry x o
+Changes (Some LineC) k x o = SameClock x o × SameLinks x o × ChangesEntry x o
+Changes (Some LineD) k x o = SetsClock x o × SameLinks x o × SameEntries x o
 
 -- WALK-3: a box and the place of the walk; the copy of the packet stays
 pub record Box (k : Counter) (x : CallState) (o : Outcome) : Type 0 where

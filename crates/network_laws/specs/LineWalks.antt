@@ -1,5 +1,5 @@
 -- CRYSTAL-9: the boxes of a walk with a line clock.
-use Rattle.std.specs.Prelude.{cond, not, List, ℕ, Result, Ok, Err}
+use Rattle.std.specs.Prelude.{cond, not, List, ℕ, Result, Ok, Err, Option, Some, None}
 use Rattle.answer.specs.declared.Answer.{Answer}
 use Rattle.quantity.specs.Words.{of_word}
 use Rattle.answer.specs.declared.Answer.TheVariants.{OutOfRange, NoWalk}
@@ -14,7 +14,7 @@ use Rattle.table.specs.Update.{date_taken}
 use Rattle.host.specs.declared.Effect.{Effect}
 use Rattle.host.specs.declared.walk.Walk.{Walk}
 use Rattle.host.specs.declared.walk.Place.{Place}
-use Rattle.host.specs.declared.walk.Place.TheVariants.{Nowhere, Step1, Step2, Step3, Step4, Step5, LineA, LineB, LineC, LineD}
+use Rattle.host.specs.declared.walk.Place.TheVariants.{Step1, Step2, Step3, Step4, Step5, LineA, LineB, LineC, LineD}
 use Rattle.host.specs.CallState.{Host, host}
 use Rattle.host.specs.Walk.{is_open, place_of, packet_of, line_update}
 use Rattle.host.specs.Effect.{nothing, answers}
@@ -40,17 +40,17 @@ abbrev pub line_box_d : Packet → (packet : List ℕ) → Host → Walk → Eff
 line_box_d p octets h w = next_id p (host h.settings (line_clock_set p octets h w) h.links) w nothing
 
 -- CLOCK-14: the box of a place
-abbrev pub line_box_at : Place → Counter → Packet → (packet : List ℕ) → NetTable → Host → Walk → Entry → Effect
-line_box_at Nowhere k p octets t h w e = box_at Nowhere k p octets t h w e
-line_box_at Step1 k p octets t h w e = line_box1 h w
-line_box_at Step2 k p octets t h w e = box_at Step2 k p octets t h w e
-line_box_at Step3 k p octets t h w e = box_at Step3 k p octets t h w e
-line_box_at Step4 k p octets t h w e = box_at Step4 k p octets t h w e
-line_box_at Step5 k p octets t h w e = box_at Step5 k p octets t h w e
-line_box_at LineA k p octets t h w e = box_at LineA k p octets t h w e
-line_box_at LineB k p octets t h w e = box_at LineB k p octets t h w e
-line_box_at LineC k p octets t h w e = box_at LineC k p octets t h w e
-line_box_at LineD k p octets t h w e = line_box_d p octets h w
+abbrev pub line_box_at : Option Place → Counter → Packet → (packet : List ℕ) → NetTable → Host → Walk → Entry → Effect
+line_box_at None k p octets t h w e = box_at None k p octets t h w e
+line_box_at (Some Step1) k p octets t h w e = line_box1 h w
+line_box_at (Some Step2) k p octets t h w e = box_at (Some Step2) k p octets t h w e
+line_box_at (Some Step3) k p octets t h w e = box_at (Some Step3) k p octets t h w e
+line_box_at (Some Step4) k p octets t h w e = box_at (Some Step4) k p octets t h w e
+line_box_at (Some Step5) k p octets t h w e = box_at (Some Step5) k p octets t h w e
+line_box_at (Some LineA) k p octets t h w e = box_at (Some LineA) k p octets t h w e
+line_box_at (Some LineB) k p octets t h w e = box_at (Some LineB) k p octets t h w e
+line_box_at (Some LineC) k p octets t h w e = box_at (Some LineC) k p octets t h w e
+line_box_at (Some LineD) k p octets t h w e = line_box_d p octets h w
 
 -- CLOCK-14: the box of a packet
 abbrev pub line_box_of : Counter → (packet : List ℕ) → NetTable → Host → Walk → Entry → Result Packet Answer → Effect

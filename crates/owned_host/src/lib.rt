@@ -41,30 +41,32 @@ pub fn call(
     settings: host::Settings,
     net_table: NetTable,
     number: usize,
-    clock: Clock,
-    links: Links,
-    walk: Walk,
+    mut clock: Clock,
+    mut links: Links,
+    mut walk: Walk,
     copy: &[u8],
-    entries: [Entry; 255],
+    mut entries: [Entry; 255],
     request: Request,
 ) -> HostReply
     ensures { result ≡ host_reply_of (perform (ask request) (call_state settings net_table number clock links walk copy.now entries)) }
 {
-    let s = settings;
-    let t = net_table;
-    let mut c = clock;
-    let mut l = links;
-    let mut v = walk;
-    let mut e = entries;
-    let a = calls::call(
-        &s, &t, number, &mut c, &mut l, &mut v, copy, &mut e, request,
+    let reply = calls::call(
+        &settings,
+        &net_table,
+        number,
+        &mut clock,
+        &mut links,
+        &mut walk,
+        copy,
+        &mut entries,
+        request,
     );
     HostReply {
-        reply: a,
-        clock: c,
-        links: l,
-        walk: v,
-        entries: e,
+        reply,
+        clock,
+        links,
+        walk,
+        entries,
     }
 }
 
@@ -75,7 +77,7 @@ pub fn open_walk(
     number: usize,
     clock: Clock,
     links: Links,
-    walk: Walk,
+    mut walk: Walk,
     copy: &mut [u8],
     entries: [Entry; 255],
     link: usize,
@@ -84,19 +86,24 @@ pub fn open_walk(
     ensures { (result ≡ host_reply_of (perform (open_walk link packet.now) (call_state settings net_table number clock links walk copy.old entries)))
         × (copy.new ≡ (perform (open_walk link packet.now) (call_state settings net_table number clock links walk copy.old entries)).copy) }
 {
-    let s = settings;
-    let t = net_table;
-    let c = clock;
-    let l = links;
-    let mut v = walk;
-    let e = entries;
-    let a = calls::open_walk(&s, &t, number, &c, &l, &mut v, copy, &e, link, packet);
+    let reply = calls::open_walk(
+        &settings,
+        &net_table,
+        number,
+        &clock,
+        &links,
+        &mut walk,
+        copy,
+        &entries,
+        link,
+        packet,
+    );
     HostReply {
-        reply: a,
-        clock: c,
-        links: l,
-        walk: v,
-        entries: e,
+        reply,
+        clock,
+        links,
+        walk,
+        entries,
     }
 }
 
@@ -105,32 +112,35 @@ pub fn deliver(
     settings: host::Settings,
     net_table: NetTable,
     number: usize,
-    clock: Clock,
-    links: Links,
+    mut clock: Clock,
+    mut links: Links,
     walk: Walk,
     copy: &[u8],
-    entries: [Entry; 255],
+    mut entries: [Entry; 255],
     delivery: Delivery,
     packet: &[u8],
 ) -> HostReply
     ensures { result ≡ host_reply_of (perform (deliver delivery packet.now)
         (call_state settings net_table number clock links walk copy.now entries)) }
 {
-    let s = settings;
-    let t = net_table;
-    let mut c = clock;
-    let mut l = links;
-    let v = walk;
-    let mut e = entries;
-    let a = calls::deliver(
-        &s, &t, number, &mut c, &mut l, &v, copy, &mut e, delivery, packet,
+    let reply = calls::deliver(
+        &settings,
+        &net_table,
+        number,
+        &mut clock,
+        &mut links,
+        &walk,
+        copy,
+        &mut entries,
+        delivery,
+        packet,
     );
     HostReply {
-        reply: a,
-        clock: c,
-        links: l,
-        walk: v,
-        entries: e,
+        reply,
+        clock,
+        links,
+        walk,
+        entries,
     }
 }
 
@@ -162,12 +172,9 @@ pub fn take(
         Delivery::Inspect(link),
         packet,
     );
-    let r = looked.reply;
-    let a = r.answer;
-    if a != answer::Answer::Done {
+    if looked.reply.answer != answer::Answer::Done {
         return looked;
     }
-    let own_entries = looked.entries;
     deliver(
         settings,
         net_table,
@@ -176,7 +183,7 @@ pub fn take(
         looked.links,
         looked.walk,
         copy,
-        own_entries,
+        looked.entries,
         Delivery::Act(link, counter),
         packet,
     )
@@ -188,15 +195,8 @@ pub fn settings() -> host::Settings
 {
     let unset = LinkSetting {
         broadcast: 0,
-        neighbor: Address {
-            first: 0,
-            second: 0,
-            third: 0,
-            fourth: 0,
-        },
+        neighbor: Address::ZERO,
     };
-    let links = [unset; 8];
-    let words = [1, 0, 0, 0];
     host::Settings {
         address: Address {
             first: 192,
@@ -214,8 +214,10 @@ pub fn settings() -> host::Settings
         time: Millis(0),
         date: Date::FIRST,
         link_count: 1,
-        links: links,
-        marks: Marks { words: words },
+        links: [unset; 8],
+        marks: Marks {
+            words: [1, 0, 0, 0],
+        },
     }
 }
 
@@ -231,9 +233,7 @@ pub fn fresh_host(copy: &[u8]) -> HostReply
     ensures { result ≡ host_reply_of (program_host copy.now) }
 {
     let s = settings();
-    let time = s.time;
-    let date = s.date;
-    let c = Clock::fresh(time, date);
+    let c = Clock::fresh(s.time, s.date);
     let l = host::link_state::fresh(s);
     let v = host::walk::none();
     let e = table::fresh();
@@ -248,12 +248,11 @@ pub fn answer(packet: &[u8]) -> u8
     let s = settings();
     let t = net_table();
     let h = fresh_host(packet);
-    let e = h.entries;
     let k = Counter::zero();
-    let taken = take(s, t, 0, h.clock, h.links, h.walk, packet, e, 1, k, packet);
-    let r = taken.reply;
-    let a = r.answer;
-    u8::from(a)
+    let taken = take(
+        s, t, 0, h.clock, h.links, h.walk, packet, h.entries, 1, k, packet,
+    );
+    u8::from(taken.reply.answer)
 }
 
 // What it returns for a packet on link 1 that it only inspects.
@@ -263,10 +262,9 @@ pub fn inspection(packet: &[u8]) -> host::Reply
     let s = settings();
     let t = net_table();
     let h = fresh_host(packet);
-    let entries = h.entries;
     let d = Delivery::Inspect(1);
     let looked = deliver(
-        s, t, 0, h.clock, h.links, h.walk, packet, entries, d, packet,
+        s, t, 0, h.clock, h.links, h.walk, packet, h.entries, d, packet,
     );
     looked.reply
 }

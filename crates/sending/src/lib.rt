@@ -9,7 +9,7 @@ ghost use Rattle.host.specs.Settings.{settings_good};
 ghost use Rattle.host.specs.State.{link_of};
 ghost use Rattle.host.specs.CallState.{host};
 ghost use Rattle.sending.specs.Message.{table_goes, sent_tsp, link_sent, packet_sent};
-ghost use Rattle.sending.specs.Send.{no_packet, unsent, report_count, sends, send_in};
+ghost use Rattle.sending.specs.Send.{unsent, report_count, sends, send_in};
 ghost use Rattle.sending.specs.code.Finish.{Finishable, finished};
 
 use answer::Answer;
@@ -22,48 +22,37 @@ use quantity::{Millis, Word};
 use table::entries::Reports;
 use wire::{Address, Packet};
 
-// The result of a send: the reply, the clock and the links afterwards, the ids that are reported; and, if a message goes, where it goes and what it says.
+// A message: where it goes, and what it says beside its reports.
+#[derive(Clone, Copy)]
+pub struct Message {
+    pub destination: Address,
+    pub packet: Packet,
+}
+
+// The result of a send: the reply, the clock and the links afterwards, the ids that are reported, and the message, if one goes.
 #[derive(Clone, Copy)]
 pub struct Sending {
     pub reply: Reply,
     pub clock: Clock,
     pub links: Links,
     pub work: Reports,
-    pub goes: bool,
-    pub destination: Address,
-    pub packet: Packet,
-}
-
-fn no_packet() -> Packet
-    ensures { result ≡ no_packet }
-{
-    Packet {
-        source: Address::ZERO,
-        date: Date(0),
-        time: Millis(0),
-        tsp: Word(0),
-        address_offset: 0,
-        nhosts: 0,
-    }
+    pub message: Option<Message>,
 }
 
 // No message: nothing changes.
 fn unsent(a: Answer, s: Settings, c: Clock, l: Links) -> Sending
     ensures { result ≡ unsent a (host s c l) }
 {
-    let work = Reports {
-        first: 0,
-        end: 0,
-        pid: 0,
-    };
     Sending {
         reply: plainly(a),
         clock: c,
         links: l,
-        work: work,
-        goes: false,
-        destination: Address::ZERO,
-        packet: no_packet(),
+        work: Reports {
+            first: 0,
+            end: 0,
+            pid: 0,
+        },
+        message: None,
     }
 }
 
@@ -71,11 +60,7 @@ fn unsent(a: Answer, s: Settings, c: Clock, l: Links) -> Sending
 fn table_goes(s: Settings, x: Link) -> bool
     ensures { result ≡ table_goes s x }
 {
-    let neighbor = x.neighbor;
-    if neighbor.is_zero() {
-        return false;
-    }
-    route::same_net(s.address, neighbor)
+    !x.neighbor.is_zero() && route::same_net(s.address, x.neighbor)
 }
 
 // How many reports go out on the link.
@@ -103,26 +88,22 @@ fn sent_tsp(x: Link, time: Millis) -> Word
 fn link_sent(x: Link) -> Link
     ensures { result ≡ link_sent x }
 {
-    let mut y = x;
-    if x.keep_alive == 0 {
-        return y;
+    Link {
+        keep_alive: x.keep_alive.saturating_sub(1),
+        ..x
     }
-    y.keep_alive = x.keep_alive - 1;
-    y
 }
 
 fn packet_sent(s: Settings, x: Link, time: Millis, date: Date, count: u8) -> Packet
     requires { up_to day_millis time ≡ true }
     ensures { result ≡ packet_sent s x time date count }
 {
-    let layout = s.layout;
-    let source = s.address;
     Packet {
-        source: source,
-        date: date,
-        time: time,
+        source: s.address,
+        date,
+        time,
         tsp: sent_tsp(x, time),
-        address_offset: layout.address_offset,
+        address_offset: s.layout.address_offset,
         nhosts: count,
     }
 }
@@ -135,24 +116,19 @@ fn sends(s: Settings, c: Clock, l: Links, link: usize, k: Counter, x: Link, coun
     ensures { result ≡ sends link k (host s c l) }
 {
     let r = host::our_reading(s, c, k);
-    let end = count as usize;
-    let pid = link as u8;
-    let work = Reports {
-        first: 0,
-        end: end,
-        pid: pid,
-    };
-    let clock = r.clock;
-    let date = clock.date;
-    let neighbor = x.neighbor;
     Sending {
         reply: returns_length(wire::length(count)),
-        clock: clock,
+        clock: r.clock,
         links: with_link(l, link, link_sent(x)),
-        work: work,
-        goes: true,
-        destination: neighbor,
-        packet: packet_sent(s, x, r.time, date, count),
+        work: Reports {
+            first: 0,
+            end: count as usize,
+            pid: link as u8,
+        },
+        message: Some(Message {
+            destination: x.neighbor,
+            packet: packet_sent(s, x, r.time, r.clock.date, count),
+        }),
     }
 }
 
@@ -174,10 +150,7 @@ pub fn finish(buffer: &mut [u8], p: Sending)
     requires { Finishable p buffer.old }
     ensures { buffer.new ≡ finished p buffer.old }
 {
-    if !p.goes {
-        return;
+    if let Some(m) = p.message {
+        wire::seal(buffer, m.destination, m.packet);
     }
-    let destination = p.destination;
-    let packet = p.packet;
-    wire::seal(buffer, destination, packet);
 }

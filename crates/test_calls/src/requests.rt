@@ -102,10 +102,12 @@ fn sent_at(x: Link, c: Clock) -> Sent {
     let links = host::link_state::with_link(host::link_state::fresh(s), 1, x);
     if host::good(s) && c.in_range() {
         let p = sending::send_in(s, c, links, 1, Counter::zero(), 32);
-        return Sent {
-            tsp: p.packet.tsp,
-            keep_alive: host::link_state::link_of(p.links, 1).keep_alive,
-        };
+        if let Some(m) = p.message {
+            return Sent {
+                tsp: m.packet.tsp,
+                keep_alive: host::link_state::link_of(p.links, 1).keep_alive,
+            };
+        }
     }
     Sent {
         tsp: Word(0),

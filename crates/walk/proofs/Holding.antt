@@ -8,6 +8,7 @@ use native.Mathlib.Omega.{arith}
 use borrow.Author.Tests.{lt-ltb, ltb-true}
 use lib.Dec.{ltb, eqb}
 use lib.IntN.{pos, ◌+ℤ◌}
+use Rattle.std.proofs.Common.{Option, Some, None}
 use Rattle.lists.proofs.Tests.{either, both, neither, is_so}
 use Rattle.quantity.specs.declared.Millis.{Millis}
 use Rattle.quantity.specs.Quantity.{less_millis}
@@ -33,7 +34,7 @@ use Rattle.host.specs.declared.Effect.{Effect}
 use Rattle.host.specs.declared.Settings.{Settings}
 use Rattle.host.specs.declared.walk.Walk.{Walk}
 use Rattle.host.specs.declared.walk.Place.{Place}
-use Rattle.host.specs.declared.walk.Place.TheVariants.{Nowhere, Step1, Step2, Step3, Step4, Step5, LineA, LineB, LineC, LineD}
+use Rattle.host.specs.declared.walk.Place.TheVariants.{Step1, Step2, Step3, Step4, Step5, LineA, LineB, LineC, LineD}
 use Rattle.host.specs.Settings.{found_for}
 use Rattle.host.specs.State.{host_count, broadcast, link_of}
 use Rattle.host.specs.declared.Links.{Links}
@@ -52,17 +53,17 @@ module _ (s : Settings) (p : Packet) (octets : List ℕ) where
     pub id : id_in_range s w ≡ true
     pub delay : (dn w.delay.0 ≤ 0) × (100 ≤ above w.delay.0)
 
-  abbrev pub Holds : Place → Walk → Type 0
-  Holds Nowhere w = ⊥
-  Holds Step1 w = ◌≡◌ {A = ℕ} 0 0
-  Holds Step2 w = reading_in_range w ≡ true
-  Holds Step3 w = reading_in_range w ≡ true
-  Holds Step4 w = reading_in_range w ≡ true
-  Holds Step5 w = (reading_in_range w ≡ true) × Fits16 (of_word w.delay)
-  Holds LineA w = Lined w
-  Holds LineB w = Lined w
-  Holds LineC w = Lined w × (less_millis (line_update w p octets).delay max_delay ≡ true)
-  Holds LineD w = Lined w
+  abbrev pub Holds : Option Place → Walk → Type 0
+  Holds None w = ⊥
+  Holds (Some Step1) w = ◌≡◌ {A = ℕ} 0 0
+  Holds (Some Step2) w = reading_in_range w ≡ true
+  Holds (Some Step3) w = reading_in_range w ≡ true
+  Holds (Some Step4) w = reading_in_range w ≡ true
+  Holds (Some Step5) w = (reading_in_range w ≡ true) × Fits16 (of_word w.delay)
+  Holds (Some LineA) w = Lined w
+  Holds (Some LineB) w = Lined w
+  Holds (Some LineC) w = Lined w × (less_millis (line_update w p octets).delay max_delay ≡ true)
+  Holds (Some LineD) w = Lined w
 
   -- what a line stores is no less than what is held
   enough : (w : Walk) → Lined w → less_millis (line_update w p octets).delay min_delay ≡ false
@@ -74,17 +75,17 @@ module _ (s : Settings) (p : Packet) (octets : List ℕ) where
       (λ _. not_lt (w.delay.0 +ℤ R) (pos 100) (omega (arith, h.delay, sum w.delay.0 R)))
 
   -- so the guard's test of it is passed
-  pub passes : (q : Place) (w : Walk) → Holds q w → walk_fields_at q s w p octets ≡ true
-  passes Nowhere w h = absurd h
-  passes Step1 w h = refl
-  passes Step2 w h = h
-  passes Step3 w h = h
-  passes Step4 w h = h
-  passes Step5 w h = h.0
-  passes LineA w h = rw (h.reading, h.id) refl
-  passes LineB w h = rw (h.reading, h.id) refl
-  passes LineC w h = rw (h.0.reading, h.0.id, enough w h.0, h.1) refl
-  passes LineD w h = rw (h.reading, h.id) refl
+  pub passes : (q : Option Place) (w : Walk) → Holds q w → walk_fields_at q s w p octets ≡ true
+  passes None w h = absurd h
+  passes (Some Step1) w h = refl
+  passes (Some Step2) w h = h
+  passes (Some Step3) w h = h
+  passes (Some Step4) w h = h
+  passes (Some Step5) w h = h.0
+  passes (Some LineA) w h = rw (h.reading, h.id) refl
+  passes (Some LineB) w h = rw (h.reading, h.id) refl
+  passes (Some LineC) w h = rw (h.0.reading, h.0.id, enough w h.0, h.1) refl
+  passes (Some LineD) w h = rw (h.reading, h.id) refl
 
   -- a walk behind a box: closed, or holding what its place asks, of the same link and packet
   pub record Goes (k : Counter) (w₀ w : Walk) : Type 0 where
@@ -164,20 +165,20 @@ module _ (s : Settings) (p : Packet) (octets : List ℕ) where
         stores less = record { still = λ _. (at_id 3 w.id g g.id, less); link = λ _. refl; length = λ _. refl; few = λ _ held used. held }
 
     -- each box
-    pub box_goes : (t : NetTable) (e : Entry) (q : Place) → Holds q w → 1 ≤ s.layout.nhosts
+    pub box_goes : (t : NetTable) (e : Entry) (q : Option Place) → Holds q w → 1 ≤ s.layout.nhosts
         → ((a : Address) (id : ℕ) → found_for t s a ≡ Some id → ltb id s.layout.nhosts ≡ true) → Onward (box_at q k p octets t h w e).walk
     unfolding place_of box1 box2 box3 box4 box5 box_a box_b box_c box_d
-    box_goes t e Nowhere g some below = absurd g
-    box_goes t e Step1 g some below = record { still = λ _. reading_in s.clock_tick s.hold_interval k c; link = λ _. refl; length = λ _. refl; few = λ _ held used. used }
-    box_goes t e Step2 g some below = record { still = λ _. g; link = λ _. refl; length = λ _. refl; few = λ _ held used. held }
-    box_goes t e Step3 g some below = record { still = λ _. g; link = λ _. refl; length = λ _. refl; few = λ _ held used. held }
-    box_goes t e Step4 g some below = four (step4 (broadcast s w.link) c.hold p (in_flight l w)) g
-    box_goes t e Step5 g some below =
+    box_goes t e None g some below = absurd g
+    box_goes t e (Some Step1) g some below = record { still = λ _. reading_in s.clock_tick s.hold_interval k c; link = λ _. refl; length = λ _. refl; few = λ _ held used. used }
+    box_goes t e (Some Step2) g some below = record { still = λ _. g; link = λ _. refl; length = λ _. refl; few = λ _ held used. held }
+    box_goes t e (Some Step3) g some below = record { still = λ _. g; link = λ _. refl; length = λ _. refl; few = λ _ held used. held }
+    box_goes t e (Some Step4) g some below = four (step4 (broadcast s w.link) c.hold p (in_flight l w)) g
+    box_goes t e (Some Step5) g some below =
         either (λ (x : Effect). Onward x.walk) (eqb p.nhosts 0)
         (to_neighbor h (raised w) (found_for t s (link_of l w.link).neighbor)) (onward (at_line 1 0 (raised w)) c l nothing)
         (λ _. found (found_for t s (link_of l w.link).neighbor) (below (link_of l w.link).neighbor) g.0 g.1)
         (λ _. record { still = λ _. record { reading = g.0; id = lt-ltb 0 s.layout.nhosts some; delay = raised_held w g.1 }; link = λ _. refl; length = λ _. refl; few = λ _ held used. held })
-    box_goes t e LineA g some below = a_goes (line_a (line_update w p octets) e) g
-    box_goes t e LineB g some below = b_goes e g
-    box_goes t e LineC g some below = c_goes (line_c (line_update w p octets) e) g.0
-    box_goes t e LineD g some below = next (clock_set p octets h w) nothing g
+    box_goes t e (Some LineA) g some below = a_goes (line_a (line_update w p octets) e) g
+    box_goes t e (Some LineB) g some below = b_goes e g
+    box_goes t e (Some LineC) g some below = c_goes (line_c (line_update w p octets) e) g.0
+    box_goes t e (Some LineD) g some below = next (clock_set p octets h w) nothing g

@@ -8,6 +8,7 @@ use Prim.Native.Nat.{ℕ, ◌+◌, ◌<◌}
 use native.Mathlib.Omega.{arith}
 use borrow.Author.Tests.{ltb-true}
 use lib.Dec.{ltb, eqb}
+use Rattle.std.proofs.Common.{Option, Some, None}
 use Rattle.lists.proofs.Tests.{either, both, is_so}
 use Rattle.clock.specs.declared.Counter.{Counter}
 use Rattle.wire.specs.declared.Packet.{Packet}
@@ -20,7 +21,7 @@ use Rattle.host.specs.declared.Effect.{Effect}
 use Rattle.host.specs.declared.Settings.{Settings}
 use Rattle.host.specs.declared.walk.Walk.{Walk}
 use Rattle.host.specs.declared.walk.Place.{Place}
-use Rattle.host.specs.declared.walk.Place.TheVariants.{Nowhere, Step1, Step2, Step3, Step4, Step5, LineA, LineB, LineC, LineD}
+use Rattle.host.specs.declared.walk.Place.TheVariants.{Step1, Step2, Step3, Step4, Step5, LineA, LineB, LineC, LineD}
 use Rattle.host.specs.Settings.{settings_good, found_for}
 use Rattle.host.specs.State.{host_count, broadcast, link_of}
 use Rattle.host.specs.CallState.{Host, host}
@@ -62,26 +63,26 @@ module _ (P : Changes → Type 0) (k : Counter) (p : Packet) (octets : List ℕ)
     c (on x) = either Does (is_clock_host h w) _ _ (λ _. puts x) (λ _. next h (put w x) (puts x))
 
   -- an id that is held is one of the host's
-  pub box_work : (id_in_range h.settings w ≡ true → (x : Entry) → P (put w x)) → (q : Place) → walk_fields_at q h.settings w p octets ≡ true
+  pub box_work : (id_in_range h.settings w ≡ true → (x : Entry) → P (put w x)) → (q : Option Place) → walk_fields_at q h.settings w p octets ≡ true
       → Does (box_at q k p octets t h w e)
   unfolding box1 box2 box3 box4 box5 box_a box_b box_c box_d
-  box_work puts Nowhere held = none
-  box_work puts Step1 held = none
-  box_work puts Step2 held = none
-  box_work puts Step3 held = none
-  box_work puts Step4 held = four (step4 (broadcast h.settings w.link) h.clock.hold p (in_flight h.links w))
-  box_work puts Step5 held =
+  box_work puts None held = none
+  box_work puts (Some Step1) held = none
+  box_work puts (Some Step2) held = none
+  box_work puts (Some Step3) held = none
+  box_work puts (Some Step4) held = four (step4 (broadcast h.settings w.link) h.clock.hold p (in_flight h.links w))
+  box_work puts (Some Step5) held =
       either Does (eqb p.nhosts 0) _ _ (λ _. found (found_for t h.settings (link_of h.links w.link).neighbor)) (λ _. none)
-  box_work puts LineA held =
+  box_work puts (Some LineA) held =
       let id = (both (reading_in_range w) (id_in_range h.settings w) held).1 in
       a (puts id) (line_a (line_update w p octets) e)
-  box_work puts LineB held =
+  box_work puts (Some LineB) held =
       let id = (both (reading_in_range w) (id_in_range h.settings w) held).1 in
       b (puts id) (line_b (line_update w p octets) e)
-  box_work puts LineC held =
+  box_work puts (Some LineC) held =
       let id = (both (reading_in_range w) (id_in_range h.settings w) (both (reading_in_range w && id_in_range h.settings w) _ held).0).1 in
       c (puts id) (line_c (line_update w p octets) e)
-  box_work puts LineD held = next (host h.settings (clock_set p octets h w) h.links) nothing none
+  box_work puts (Some LineD) held = next (host h.settings (clock_set p octets h w) h.links) nothing none
 
 found_id : {i j : ℕ} → Some i ≡ Some j → i ≡ j
 found_id e = cc
@@ -105,10 +106,10 @@ module _ (s : Settings) (w : Walk) (copy : List ℕ) (in_range : walk_in_range s
 
   -- at a line an id is held
   module _ (p : Packet) (octets : List ℕ) where
-    abbrev Held : Place → Type 0
+    abbrev Held : Option Place → Type 0
     Held q = walk_fields_at q s w p octets ≡ true → id_in_range s w ≡ true
 
-    nowhere : Held Nowhere
+    nowhere : Held None
     nowhere f = absurd (false≢true f)
 
     line : (m : ℕ) → Held (line_place m)
@@ -116,11 +117,11 @@ module _ (s : Settings) (w : Walk) (copy : List ℕ) (in_range : walk_in_range s
         either Held (eqb m 1) _ _ (λ _ f. (both (reading_in_range w) (id_in_range s w) f).1)
         (λ _. either Held (eqb m 2) _ _ (λ _ f. (both (reading_in_range w) (id_in_range s w) f).1)
         (λ _. either Held (eqb m 3) _ _ (λ _ f. (both (reading_in_range w) (id_in_range s w) (both (reading_in_range w && id_in_range s w) _ f).0).1)
-        (λ _. either Held (eqb m 4) LineD Nowhere (λ _ f. (both (reading_in_range w) (id_in_range s w) f).1) (λ _. nowhere))))
+        (λ _. either Held (eqb m 4) (Some LineD) None (λ _ f. (both (reading_in_range w) (id_in_range s w) f).1) (λ _. nowhere))))
 
     at_line_lem : eqb w.line 0 ≡ false → Held (place_of w)
     unfolding place_of
-    at_line_lem some = rw some (either Held (eqb w.step 5) (line_place w.line) Nowhere (λ _. line w.line) (λ _. nowhere))
+    at_line_lem some = rw some (either Held (eqb w.step 5) (line_place w.line) None (λ _. line w.line) (λ _. nowhere))
 
   -- the id at hand
   pub at_hand_in : settings_good s ≡ true → (id : ℕ) → at_hand w ≡ Some id → id < host_count s

@@ -11,7 +11,7 @@ use Rattle.table.specs.Forms.{Stage, on, end}
 use Rattle.host.specs.declared.Effect.{Effect}
 use Rattle.host.specs.declared.walk.Walk.{Walk}
 use Rattle.host.specs.declared.walk.Place.{Place}
-use Rattle.host.specs.declared.walk.Place.TheVariants.{Nowhere, Step1, Step2, Step3, Step4, Step5, LineA, LineB, LineC, LineD}
+use Rattle.host.specs.declared.walk.Place.TheVariants.{Step1, Step2, Step3, Step4, Step5, LineA, LineB, LineC, LineD}
 use Rattle.net_table.specs.declared.NetTable.{NetTable}
 use Rattle.host.specs.Settings.{found_for}
 use Rattle.host.specs.State.{broadcast, link_of}
@@ -70,17 +70,17 @@ abbrev pub at_hand : Walk → Option ℕ
 at_hand w = cond (is_open w && not (eqb w.line 0)) (Some w.id) None
 
 -- WALK-3: the box of a place; a place that does not exist is 12 before
-abbrev pub box_at : Place → Counter → Packet → (packet : List ℕ) → NetTable → Host → Walk → Entry → Effect
-box_at Nowhere k p octets t h w e = answers (plainly OutOfRange) h.clock h.links w
-box_at Step1 k p octets t h w e = box1 k h w
-box_at Step2 k p octets t h w e = box2 h w
-box_at Step3 k p octets t h w e = box3 p h w
-box_at Step4 k p octets t h w e = box4 p h w
-box_at Step5 k p octets t h w e = box5 p t h w
-box_at LineA k p octets t h w e = box_a p octets h w e
-box_at LineB k p octets t h w e = box_b p octets h w e
-box_at LineC k p octets t h w e = box_c p octets h w e
-box_at LineD k p octets t h w e = box_d p octets h w
+abbrev pub box_at : Option Place → Counter → Packet → (packet : List ℕ) → NetTable → Host → Walk → Entry → Effect
+box_at None k p octets t h w e = answers (plainly OutOfRange) h.clock h.links w
+box_at (Some Step1) k p octets t h w e = box1 k h w
+box_at (Some Step2) k p octets t h w e = box2 h w
+box_at (Some Step3) k p octets t h w e = box3 p h w
+box_at (Some Step4) k p octets t h w e = box4 p h w
+box_at (Some Step5) k p octets t h w e = box5 p t h w
+box_at (Some LineA) k p octets t h w e = box_a p octets h w e
+box_at (Some LineB) k p octets t h w e = box_b p octets h w e
+box_at (Some LineC) k p octets t h w e = box_c p octets h w e
+box_at (Some LineD) k p octets t h w e = box_d p octets h w
 
 -- WALK-3: the box of a packet that passes; another is 12 before
 abbrev pub box_of : Counter → (packet : List ℕ) → NetTable → Host → Walk → Entry → Result Packet Answer → Effect

@@ -36,11 +36,9 @@ fn box1(s: Settings, c: Clock, l: Links, w: Walk, k: Counter) -> Effect
     ensures { result ≡ box1 k (host s c l) w }
 {
     let r = host::our_reading(s, c, k);
-    let n = k.used();
-    let clock = r.clock;
     onward(
-        at(2, 0, 0, holding_reading(n, r.time, w)),
-        clock,
+        at(2, 0, 0, holding_reading(k.used(), r.time, w)),
+        r.clock,
         l,
         nothing(),
     )
@@ -51,15 +49,7 @@ fn box2(s: Settings, c: Clock, l: Links, w: Walk) -> Effect
     ensures { result ≡ box2 (host s c l) w }
 {
     let mut f = in_flight(l, w);
-    let x = f.link;
-    let neighbor = x.neighbor;
-    let tsp = x.tsp;
-    let link = Link {
-        neighbor: neighbor,
-        keep_alive: KEEP_ALIVE_INTERVAL,
-        tsp: tsp,
-    };
-    f.link = link;
+    f.link.keep_alive = KEEP_ALIVE_INTERVAL;
     onward(at(3, 0, 0, w), c, storing(f, w, l), nothing())
 }
 
@@ -69,21 +59,13 @@ fn measured(broadcast: bool, p: Packet, f: Flight) -> Flight
     requires reading_value { up_to day_millis f.reading ≡ true }
     ensures { result ≡ step3 broadcast p f }
 {
-    let reading = f.reading;
-    let x = f.link;
-    let neighbor = x.neighbor;
-    let tsp = tsp_of(p.time, reading);
-    let delay = delay_of(broadcast, reading, p.tsp);
-    let link = Link {
-        neighbor: neighbor,
-        keep_alive: x.keep_alive,
-        tsp: tsp,
-    };
+    let tsp = tsp_of(p.time, f.reading);
+    let delay = delay_of(broadcast, f.reading, p.tsp);
     Flight {
-        reading: reading,
-        link: link,
-        delay: delay,
+        link: Link { tsp, ..f.link },
+        delay,
         offset: offset_of(tsp, delay),
+        ..f
     }
 }
 
@@ -115,10 +97,10 @@ fn box4(s: Settings, c: Clock, l: Links, w: Walk, p: Packet) -> Effect
 fn raised(w: Walk) -> Walk
     ensures { result ≡ raised w }
 {
-    let mut x = w;
-    let delay = Word::of_millis(arrival::at_least_min(Millis::from(w.delay)));
-    x.delay = delay;
-    x
+    Walk {
+        delay: Word::of_millis(arrival::at_least_min(Millis::from(w.delay))),
+        ..w
+    }
 }
 
 fn to_neighbor(s: Settings, c: Clock, l: Links, w: Walk, found: Option<usize>) -> Effect
@@ -137,8 +119,7 @@ fn box5(s: Settings, t: NetTable, c: Clock, l: Links, w: Walk, p: Packet) -> Eff
     ensures { result ≡ box5 p t (host s c l) w }
 {
     if p.nhosts == 0 {
-        let x = link_of(l, w.link as usize);
-        let found = host::found_for(t, s, x.neighbor);
+        let found = host::found_for(t, s, link_of(l, w.link as usize).neighbor);
         return to_neighbor(s, c, l, raised(w), found);
     }
     onward(at(5, 1, 0, raised(w)), c, l, nothing())
@@ -164,16 +145,16 @@ fn box_at(
     ensures { result ≡ box_at (place_of w) k p packet.now t (host s c l) w e }
 {
     match host::walk::place_of(w) {
-        Place::Nowhere => answers(c, l, w, plainly(Answer::OutOfRange)),
-        Place::Step1 => box1(s, c, l, w, k),
-        Place::Step2 => box2(s, c, l, w),
-        Place::Step3 => box3(s, c, l, w, p),
-        Place::Step4 => box4(s, c, l, w, p),
-        Place::Step5 => box5(s, t, c, l, w, p),
-        Place::LineA => box_a(s, c, l, w, p, packet, e),
-        Place::LineB => box_b(s, c, l, w, p, packet, e),
-        Place::LineC => box_c(s, c, l, w, p, packet, e),
-        Place::LineD => box_d(s, c, l, w, p, packet),
+        None => answers(c, l, w, plainly(Answer::OutOfRange)),
+        Some(Place::Step1) => box1(s, c, l, w, k),
+        Some(Place::Step2) => box2(s, c, l, w),
+        Some(Place::Step3) => box3(s, c, l, w, p),
+        Some(Place::Step4) => box4(s, c, l, w, p),
+        Some(Place::Step5) => box5(s, t, c, l, w, p),
+        Some(Place::LineA) => box_a(s, c, l, w, p, packet, e),
+        Some(Place::LineB) => box_b(s, c, l, w, p, packet, e),
+        Some(Place::LineC) => box_c(s, c, l, w, p, packet, e),
+        Some(Place::LineD) => box_d(s, c, l, w, p, packet),
     }
 }
 

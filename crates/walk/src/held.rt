@@ -18,13 +18,11 @@ pub fn in_flight(l: Links, w: Walk) -> Flight
     requires { (1 ≤ w.link) × (w.link ≤ 8) }
     ensures { result ≡ in_flight l w }
 {
-    let reading = w.reading;
-    let offset = w.offset;
     Flight {
-        reading: reading,
+        reading: w.reading,
         link: link_of(l, w.link as usize),
         delay: Millis::from(w.delay),
-        offset: offset,
+        offset: w.offset,
     }
 }
 
@@ -37,36 +35,37 @@ pub fn storing(f: Flight, w: Walk, l: Links) -> Links
 }
 
 // The count that was used, and our reading.
-pub fn holding_reading(n: Count, reading: Millis, w: Walk) -> Walk
-    ensures { result ≡ holding_reading n reading w }
+pub fn holding_reading(count: Count, reading: Millis, w: Walk) -> Walk
+    ensures { result ≡ holding_reading count reading w }
 {
-    let mut x = w;
-    x.count = n;
-    x.reading = reading;
-    x
+    Walk {
+        count,
+        reading,
+        ..w
+    }
 }
 
 // DELAY and OFFSET.
 pub fn holding(f: Flight, w: Walk) -> Walk
     ensures { result ≡ holding f w }
 {
-    let mut x = w;
-    let delay = Word::of_millis(f.delay);
-    let offset = f.offset;
-    x.delay = delay;
-    x.offset = offset;
-    x
+    Walk {
+        delay: Word::of_millis(f.delay),
+        offset: f.offset,
+        ..w
+    }
 }
 
 // At another place.
 pub fn at(step: u8, line: u8, id: u8, w: Walk) -> Walk
     ensures { result ≡ at step line id w }
 {
-    let mut x = w;
-    x.step = step;
-    x.line = line;
-    x.id = id;
-    x
+    Walk {
+        step,
+        line,
+        id,
+        ..w
+    }
 }
 
 // A box that goes on: its reply is the next place.
@@ -78,7 +77,7 @@ pub fn onward(w: Walk, c: Clock, l: Links, work: Changes) -> Effect
         clock: c,
         links: l,
         walk: w,
-        work: work,
+        work,
     }
 }
 
@@ -91,6 +90,6 @@ pub fn ended(a: Answer, c: Clock, l: Links, work: Changes) -> Effect
         clock: c,
         links: l,
         walk: host::walk::none(),
-        work: work,
+        work,
     }
 }

@@ -39,13 +39,8 @@ fn opened_on(link: usize, octets: usize) -> Walk
         opened: 1,
         link: link as u8,
         step: 1,
-        line: 0,
-        id: 0,
         length: octets as u16,
-        count: Count(0),
-        reading: Millis(0),
-        delay: Word(0),
-        offset: Word(0),
+        ..host::walk::none()
     }
 }
 
@@ -83,10 +78,7 @@ pub fn keep(copy: &mut [u8], packet: &[u8], octets: usize)
 pub fn at_hand(w: Walk) -> Option<usize>
     ensures { result ≡ at_hand w }
 {
-    if !host::walk::is_open(w) {
-        return None;
-    }
-    if w.line == 0 {
+    if !host::walk::is_open(w) || w.line == 0 {
         return None;
     }
     Some(w.id as usize)

@@ -22,10 +22,7 @@ use wire::Packet;
 fn next_id(s: Settings, c: Clock, l: Links, w: Walk, p: Packet, work: Changes) -> Effect
     ensures { result ≡ next_id p (host s c l) w work }
 {
-    if p.nhosts == 0 {
-        return ended(Answer::Done, c, l, work);
-    }
-    if w.id as usize + 1 >= host_count(s) {
+    if p.nhosts == 0 || w.id as usize + 1 >= host_count(s) {
         return ended(Answer::Done, c, l, work);
     }
     onward(at(5, 1, w.id + 1, w), c, l, work)

@@ -6,40 +6,29 @@ use Rattle.calls.specs.Perform.{ask}
 use Rattle.host.proofs.Guarded.{passed}
 use Rattle.calls.proofs.Performed.{worked}
 use Rattle.calls.proofs.Renewed.{guard_is, places_fresh}
-use Rattle.host.specs.CallState.{call_state}
 use Rattle.calls.proofs.Guarding.{passes, refuses}
 use Rattle.calls.proofs.initialize.Goals as goal
 
-pub returns-then-b : goal.returns-then-b
-returns-then-b c =
-    let a = c.args in
-    let x = call_state a.settings.now a.net_table.now a.number a.clock.now a.links.now a.walk.now a.copy.now a.entries.now in
-    refuses (ask Initialize) x refl (guard_is x _ c.guard_initialize-g.ensures) c.refuses-b.ensures c.if-b.true c.plainly.ensures
+pub returns-then-refuses : goal.returns-then-refuses
+returns-then-refuses c =
+    refuses (ask Initialize) refl (guard_is _ _ c.guard_initialize-g.ensures) c.refuses.ensures c.if-refuses.true c.plainly.ensures
 
 pub initialize-p-requires : goal.initialize-p-requires
 initialize-p-requires c =
-    let a = c.args in
-    let x = call_state a.settings.now a.net_table.now a.number a.clock.now a.links.now a.walk.now a.copy.now a.entries.now in
-    let on = passes (ask Initialize) x refl (guard_is x _ c.guard_initialize-g.ensures) c.refuses-b.ensures c.if-b.false in
-    (passed Places x on).settings
+    let on = passes (ask Initialize) refl (guard_is _ _ c.guard_initialize-g.ensures) c.refuses.ensures c.if-refuses.false in
+    (passed Places _ on).settings
 
 pub placed-w-requires : goal.placed-w-requires
 placed-w-requires c =
-    let a = c.args in
-    let x = call_state a.settings.now a.net_table.now a.number a.clock.now a.links.now a.walk.now a.copy.now a.entries.now in
-    let on = passes (ask Initialize) x refl (guard_is x _ c.guard_initialize-g.ensures) c.refuses-b.ensures c.if-b.false in
-    rw (c.initialize-p.ensures) (worked x Initialize on).ids
+    let on = passes (ask Initialize) refl (guard_is _ _ c.guard_initialize-g.ensures) c.refuses.ensures c.if-refuses.false in
+    rw (c.initialize-p.ensures) (worked _ Initialize on).ids
 
 pub fresh_all-requires : goal.fresh_all-requires
 fresh_all-requires c =
-    let a = c.args in
-    let x = call_state a.settings.now a.net_table.now a.number a.clock.now a.links.now a.walk.now a.copy.now a.entries.now in
-    let on = passes (ask Initialize) x refl (guard_is x _ c.guard_initialize-g.ensures) c.refuses-b.ensures c.if-b.false in
-    rw (c.placed-w.ensures, c.initialize-p.ensures) (places_fresh x on)
+    let on = passes (ask Initialize) refl (guard_is _ _ c.guard_initialize-g.ensures) c.refuses.ensures c.if-refuses.false in
+    rw (c.placed-w.ensures, c.initialize-p.ensures) (places_fresh _ on)
 
 pub returns : goal.returns
 returns c =
-    let a = c.args in
-    let x = call_state a.settings.now a.net_table.now a.number a.clock.now a.links.now a.walk.now a.copy.now a.entries.now in
-    let on = passes (ask Initialize) x refl (guard_is x _ c.guard_initialize-g.ensures) c.refuses-b.ensures c.if-b.false in
-    rw (c.fresh_all.ensures, c.placed-w.ensures, c.initialize-p.ensures) (worked x Initialize on).left
+    let on = passes (ask Initialize) refl (guard_is _ _ c.guard_initialize-g.ensures) c.refuses.ensures c.if-refuses.false in
+    rw (c.fresh_all.ensures, c.placed-w.ensures, c.initialize-p.ensures) (worked _ Initialize on).left

@@ -1,41 +1,31 @@
 -- The guard, then the plan by value, its ids placed, and the loop that changes the entries; the clock is stored.
+use mathlib.Core.Path.{refl}
 use Rattle.calls.specs.declared.Request.TheVariants.{SelfReport}
 use Rattle.calls.specs.Perform.{ask}
 use Rattle.calls.proofs.HostAfter.{clock_good, after_aged, self_report_still}
-use Rattle.host.specs.CallState.{call_state}
 use Rattle.calls.proofs.Guarding.{passes, refuses}
 use Rattle.calls.proofs.self_report.Goals as goal
 
-pub returns-then-b : goal.returns-then-b
-returns-then-b c =
-    let a = c.args in
-    let x = call_state a.settings.now a.net_table.now a.number a.clock.now a.links.now a.walk.now a.copy.now a.entries.now in
-    refuses (ask (SelfReport a.counter)) x c.all-a.ensures c.guard-g.ensures c.refuses-b.ensures c.if-b.true c.plainly.ensures
+pub returns-then-refuses : goal.returns-then-refuses
+returns-then-refuses c =
+    refuses (ask (SelfReport c.args.counter)) refl c.guard-g.ensures c.refuses.ensures c.if-refuses.true c.plainly.ensures
 
 pub self_report-p-requires : goal.self_report-p-requires
 self_report-p-requires c =
-    let a = c.args in
-    let x = call_state a.settings.now a.net_table.now a.number a.clock.now a.links.now a.walk.now a.copy.now a.entries.now in
-    let on = passes (ask (SelfReport a.counter)) x c.all-a.ensures c.guard-g.ensures c.refuses-b.ensures c.if-b.false in
-    clock_good x on
+    let on = passes (ask (SelfReport c.args.counter)) refl c.guard-g.ensures c.refuses.ensures c.if-refuses.false in
+    clock_good _ on
 
 pub placed-w-requires : goal.placed-w-requires
 placed-w-requires c =
-    let a = c.args in
-    let x = call_state a.settings.now a.net_table.now a.number a.clock.now a.links.now a.walk.now a.copy.now a.entries.now in
-    let on = passes (ask (SelfReport a.counter)) x c.all-a.ensures c.guard-g.ensures c.refuses-b.ensures c.if-b.false in
-    (after_aged x (SelfReport a.counter) on (self_report_still a.counter) _ c.self_report-p.ensures).ids
+    let on = passes (ask (SelfReport c.args.counter)) refl c.guard-g.ensures c.refuses.ensures c.if-refuses.false in
+    (after_aged _ (SelfReport c.args.counter) on (self_report_still c.args.counter) _ c.self_report-p.ensures).ids
 
 pub change_all-requires : goal.change_all-requires
 change_all-requires c =
-    let a = c.args in
-    let x = call_state a.settings.now a.net_table.now a.number a.clock.now a.links.now a.walk.now a.copy.now a.entries.now in
-    let on = passes (ask (SelfReport a.counter)) x c.all-a.ensures c.guard-g.ensures c.refuses-b.ensures c.if-b.false in
-    rw (c.placed-w.ensures) (after_aged x (SelfReport a.counter) on (self_report_still a.counter) _ c.self_report-p.ensures).places
+    let on = passes (ask (SelfReport c.args.counter)) refl c.guard-g.ensures c.refuses.ensures c.if-refuses.false in
+    rw (c.placed-w.ensures) (after_aged _ (SelfReport c.args.counter) on (self_report_still c.args.counter) _ c.self_report-p.ensures).places
 
 pub returns : goal.returns
 returns c =
-    let a = c.args in
-    let x = call_state a.settings.now a.net_table.now a.number a.clock.now a.links.now a.walk.now a.copy.now a.entries.now in
-    let on = passes (ask (SelfReport a.counter)) x c.all-a.ensures c.guard-g.ensures c.refuses-b.ensures c.if-b.false in
-    rw (c.change_all.ensures, c.placed-w.ensures) (after_aged x (SelfReport a.counter) on (self_report_still a.counter) _ c.self_report-p.ensures).left
+    let on = passes (ask (SelfReport c.args.counter)) refl c.guard-g.ensures c.refuses.ensures c.if-refuses.false in
+    rw (c.change_all.ensures, c.placed-w.ensures) (after_aged _ (SelfReport c.args.counter) on (self_report_still c.args.counter) _ c.self_report-p.ensures).left

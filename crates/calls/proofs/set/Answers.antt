@@ -1,5 +1,5 @@
 -- The guard, then the plan by value; the clock is stored.
-use mathlib.Core.Path.{subst}
+use mathlib.Core.Path.{refl, subst}
 use lib.IntN.{ℤ}
 use mir.ValLaws.{to_z-of_z}
 use mir.Syntax.{w32}
@@ -9,28 +9,21 @@ use Rattle.calls.specs.code.Planned.{Timely}
 use Rattle.calls.specs.declared.Request.TheVariants.{Set}
 use Rattle.calls.specs.Perform.{ask}
 use Rattle.calls.proofs.HostAfter.{clock_good, after_timed, set_quiet}
-use Rattle.host.specs.CallState.{call_state}
 use Rattle.calls.proofs.Guarding.{passes, refuses}
 use Rattle.calls.proofs.set.Goals as goal
 
-pub returns-then-b : goal.returns-then-b
-returns-then-b c =
-    let a = c.args in
-    let x = call_state a.settings.now a.net_table.now a.number a.clock.now a.links.now a.walk.now a.copy.now a.entries.now in
-    refuses (ask (Set a.ms a.count)) x c.all-a.ensures c.guard-g.ensures c.refuses-b.ensures c.if-b.true c.plainly.ensures
+pub returns-then-refuses : goal.returns-then-refuses
+returns-then-refuses c =
+    refuses (ask (Set c.args.ms c.args.count)) refl c.guard-g.ensures c.refuses.ensures c.if-refuses.true c.plainly.ensures
 
 pub set-p-requires : goal.set-p-requires
 set-p-requires c =
-    let a = c.args in
-    let x = call_state a.settings.now a.net_table.now a.number a.clock.now a.links.now a.walk.now a.copy.now a.entries.now in
-    let on = passes (ask (Set a.ms a.count)) x c.all-a.ensures c.guard-g.ensures c.refuses-b.ensures c.if-b.false in
-    clock_good x on
+    let on = passes (ask (Set c.args.ms c.args.count)) refl c.guard-g.ensures c.refuses.ensures c.if-refuses.false in
+    clock_good _ on
 
 pub returns : goal.returns
 returns c =
-    let a = c.args in
-    let x = call_state a.settings.now a.net_table.now a.number a.clock.now a.links.now a.walk.now a.copy.now a.entries.now in
-    let on = passes (ask (Set a.ms a.count)) x c.all-a.ensures c.guard-g.ensures c.refuses-b.ensures c.if-b.false in
-    let f : SFits w32 a.ms = search rules in
-    let is = subst (λ (z : ℤ). Timely c.set-p.result (Set z a.count) a.settings.now a.clock.now) (to_z-of_z w32 a.ms f) c.set-p.ensures in
-    after_timed x (Set a.ms a.count) on (set_quiet a.ms a.count) _ is
+    let on = passes (ask (Set c.args.ms c.args.count)) refl c.guard-g.ensures c.refuses.ensures c.if-refuses.false in
+    let f : SFits w32 c.args.ms = search rules in
+    let is = subst (λ (z : ℤ). Timely c.set-p.result (Set z c.args.count) c.args.settings.now c.args.clock.now) (to_z-of_z w32 c.args.ms f) c.set-p.ensures in
+    after_timed _ (Set c.args.ms c.args.count) on (set_quiet c.args.ms c.args.count) _ is

@@ -7,6 +7,7 @@ use Prim.Native.Nat.{ℕ, ◌+◌}
 use borrow.Author.Tests.{eqb-true}
 use lib.Dec.{ltb, eqb}
 use lib.ListN.{length}
+use Rattle.std.proofs.Common.{Option, Some, None}
 use Rattle.lists.proofs.Tests.{either}
 use Rattle.answer.specs.declared.Answer.{Answer}
 use Rattle.answer.specs.declared.Answer.TheVariants.{Done, Setting, ShortBuffer, IpForm, IpChecksum, Protocol, HelloForm, HelloChecksum, OtherLayout, LoopedLine, DelayNotValid, NoHost, OutOfRange, HostDown, InWalk, NoWalk}
@@ -28,7 +29,7 @@ use Rattle.table.specs.Update.{line_a, line_b, line_c}
 use Rattle.host.specs.declared.Effect.{Effect}
 use Rattle.host.specs.declared.walk.Walk.{Walk}
 use Rattle.host.specs.declared.walk.Place.{Place}
-use Rattle.host.specs.declared.walk.Place.TheVariants.{Nowhere, LineD}
+use Rattle.host.specs.declared.walk.Place.TheVariants.{LineD}
 use Rattle.host.specs.declared.guard.Scope.TheVariants.{Walking}
 use Rattle.host.specs.Settings.{settings_fit, found_for}
 use Rattle.host.specs.State.{broadcast, link_of, with_link, host_count}
@@ -193,7 +194,7 @@ module _ (k : Counter) (x : CallState) (e : Entry) where
   abbrev unknown : Bool
   unknown = eqb p.nhosts 0 && not (is_some (found_for t h.settings (link_of h.links w.link).neighbor))
 
-  abbrev Box : (four five : Bool) → Place → Type 0
+  abbrev Box : (four five : Bool) → Option Place → Type 0
   Box four five q =
       walk_fields_at q h.settings w p octets ≡ true
       → (box_at q k p octets t h w e).reply.answer ≡ cond (four && invalid) DelayNotValid (cond (five && unknown) NoHost Done)
@@ -250,12 +251,12 @@ module _ (k : Counter) (x : CallState) (e : Entry) where
       either (Box false false) (eqb m 1) _ _ (λ _ held. a-answer (line_a (line_update w p octets) e))
       (λ _. either (Box false false) (eqb m 2) _ _ (λ _ held. b-answer (line_b (line_update w p octets) e))
       (λ _. either (Box false false) (eqb m 3) _ _ (λ _ held. c-answer (line_c (line_update w p octets) e))
-      (λ _. either (Box false false) (eqb m 4) LineD Nowhere (λ _ held. next-answer (host h.settings (clock_set p octets h w) h.links) nothing) (λ _ held. absurd (false≢true held)))))
+      (λ _. either (Box false false) (eqb m 4) (Some LineD) None (λ _ held. next-answer (host h.settings (clock_set p octets h w) h.links) nothing) (λ _ held. absurd (false≢true held)))))
 
   placed : (b : Bool) → eqb w.line 0 ≡ b → Box (b && eqb w.step 4) (b && eqb w.step 5) (place_of w)
   unfolding place_of
   placed true is = rw is (step-n w.step)
-  placed false is = rw is (either (Box false false) (eqb w.step 5) (line_place w.line) Nowhere (λ _. line-m w.line) (λ _ held. absurd (false≢true held)))
+  placed false is = rw is (either (Box false false) (eqb w.step 5) (line_place w.line) None (λ _. line-m w.line) (λ _ held. absurd (false≢true held)))
 
   step-answer : own_walk_in_range x ≡ true → (step k t h w x.copy e).reply.answer ≡ first_of (request_tests (Step k) x)
   unfolding step

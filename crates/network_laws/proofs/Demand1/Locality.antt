@@ -8,6 +8,7 @@ use native.Mathlib.Omega.{arith}
 use lib.Dec.{ltb, leb, eqb}
 use lib.ListN.{length, get_or, set, take}
 use lib.Seq.{get_or-take, take-set-lt}
+use Rattle.std.proofs.Common.{Option, Some, None}
 use Rattle.answer.specs.declared.Answer.{Answer}
 use Rattle.answer.specs.declared.Answer.TheVariants.{Done, NoHost, ShortBuffer, NoWalk}
 use Rattle.quantity.specs.declared.Count.{Count}
@@ -32,7 +33,7 @@ use Rattle.host.specs.declared.Links.{Links}
 use Rattle.host.specs.declared.Reply.{Reply}
 use Rattle.host.specs.declared.walk.Walk.{Walk}
 use Rattle.host.specs.declared.walk.Place.{Place}
-use Rattle.host.specs.declared.walk.Place.TheVariants.{Nowhere, Step1, Step2, Step3, Step4, Step5, LineA, LineB, LineC, LineD}
+use Rattle.host.specs.declared.walk.Place.TheVariants.{Step1, Step2, Step3, Step4, Step5, LineA, LineB, LineC, LineD}
 use Rattle.host.specs.declared.guard.Scope.{Scope}
 use Rattle.host.specs.declared.guard.Scope.TheVariants.{Places, All, OnLink, Opening, Walking}
 use Rattle.host.specs.Settings.{link_count_of, found_for}
@@ -248,23 +249,23 @@ module _ (x : CallState) (l' : Links) (copy' : List ℕ) (entries' : List Entry)
             go true = kept (at_line 4 w.id w) packets c (put w z)
             go false = next c (put w z)
 
-        box_same : (q : Place) → SameEffect (box_at q k p octets x.nets x.host w e) (box_at q k p octets x.nets y.host w e)
+        box_same : (q : Option Place) → SameEffect (box_at q k p octets x.nets x.host w e) (box_at q k p octets x.nets y.host w e)
         unfolding box1 box2 box3 box4 box5 box_a box_b box_c box_d
-        box_same Nowhere = record { reply_same = refl; clock_same = refl; links_same = untouched; walk_same = refl; packet_same = packets; work_same = refl }
-        box_same Step1 = kept _ packets (our_reading k x.host).clock nothing
-        box_same Step2 = by_link _ (λ z. onward (at_step 3 w) c (with_link w.link (step2 (flight z)).link l') nothing) (moved (at_step 3 w) packets _)
-        box_same Step3 =
+        box_same None = record { reply_same = refl; clock_same = refl; links_same = untouched; walk_same = refl; packet_same = packets; work_same = refl }
+        box_same (Some Step1) = kept _ packets (our_reading k x.host).clock nothing
+        box_same (Some Step2) = by_link _ (λ z. onward (at_step 3 w) c (with_link w.link (step2 (flight z)).link l') nothing) (moved (at_step 3 w) packets _)
+        box_same (Some Step3) =
             by_link _
             (λ z. onward (at_step 4 (holding (step3 (broadcast s w.link) p (flight z)) w)) c (with_link w.link (step3 (broadcast s w.link) p (flight z)).link l') nothing)
             (moved _ packets _)
-        box_same Step4 = by_link _ (λ z. fourth y.host w (step4 (broadcast s w.link) c.hold p (flight z))) (four (step4 (broadcast s w.link) c.hold p (flight (link_of x.host.links w.link))))
-        box_same Step5 =
+        box_same (Some Step4) = by_link _ (λ z. fourth y.host w (step4 (broadcast s w.link) c.hold p (flight z))) (four (step4 (broadcast s w.link) c.hold p (flight (link_of x.host.links w.link))))
+        box_same (Some Step5) =
             by_link _ (λ z. cond (eqb p.nhosts 0) (to_neighbor y.host (raised w) (found_for x.nets s z.neighbor)) (onward (at_line 1 0 (raised w)) c l' nothing))
             (five (eqb p.nhosts 0) (found_for x.nets s (link_of x.host.links w.link).neighbor))
-        box_same LineA = at_a (line_a (line_update w p octets) e)
-        box_same LineB = at_b (line_b (line_update w p octets) e)
-        box_same LineC = at_c (line_c (line_update w p octets) e)
-        box_same LineD = next (clock_set p octets x.host w) nothing
+        box_same (Some LineA) = at_a (line_a (line_update w p octets) e)
+        box_same (Some LineB) = at_b (line_b (line_update w p octets) e)
+        box_same (Some LineC) = at_c (line_c (line_update w p octets) e)
+        box_same (Some LineD) = next (clock_set p octets x.host w) nothing
 
       boxed : no_link s w.link ≡ false → (octets : List ℕ) (q : Result Packet Answer) → SameEffect (box_of k octets x.nets x.host w e q) (box_of k octets x.nets y.host w e q)
       boxed has octets (Err a) = record { reply_same = refl; clock_same = refl; links_same = untouched; walk_same = refl; packet_same = packets; work_same = refl }

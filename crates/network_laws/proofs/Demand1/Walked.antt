@@ -10,6 +10,7 @@ use borrow.Author.Tests.{le-leb, lt-ltb, ltb-true}
 use lib.Dec.{ltb, leb, eqb}
 use lib.IntN.{pos}
 use lib.ListN.{length}
+use Rattle.std.proofs.Common.{Option, Some, None}
 use Rattle.lists.proofs.Tests.{either, both, neither, is_so}
 use Rattle.quantity.specs.declared.Millis.{Millis}
 use Rattle.quantity.specs.declared.Word.{Word}
@@ -36,7 +37,7 @@ use Rattle.host.specs.declared.Settings.{Settings}
 use Rattle.host.specs.declared.Effect.{Effect}
 use Rattle.host.specs.declared.walk.Walk.{Walk}
 use Rattle.host.specs.declared.walk.Place.{Place}
-use Rattle.host.specs.declared.walk.Place.TheVariants.{Nowhere, Step1, Step2, Step3, Step4, Step5, LineA, LineB, LineC, LineD}
+use Rattle.host.specs.declared.walk.Place.TheVariants.{Step1, Step2, Step3, Step4, Step5, LineA, LineB, LineC, LineD}
 use Rattle.host.specs.Settings.{settings_good, found_for}
 use Rattle.host.specs.State.{host_count, broadcast, link_of, no_link}
 use Rattle.host.specs.CallState.{Host, host, our_reading}
@@ -58,17 +59,17 @@ abbrev Raised : Word → Type 0
 Raised d = less_millis (of_word d) min_delay ≡ false
 
 -- what the place of the next box asks for beside 12's test of it
-abbrev pub FineAt : Walk → Place → Type 0
-FineAt w Nowhere = Unit {0}
-FineAt w Step1 = Unit {0}
-FineAt w Step2 = Unit {0}
-FineAt w Step3 = Unit {0}
-FineAt w Step4 = Short w.delay
-FineAt w Step5 = Short w.delay
-FineAt w LineA = Raised w.delay
-FineAt w LineB = Raised w.delay
-FineAt w LineC = Raised w.delay
-FineAt w LineD = Raised w.delay
+abbrev pub FineAt : Walk → Option Place → Type 0
+FineAt w None = Unit {0}
+FineAt w (Some Step1) = Unit {0}
+FineAt w (Some Step2) = Unit {0}
+FineAt w (Some Step3) = Unit {0}
+FineAt w (Some Step4) = Short w.delay
+FineAt w (Some Step5) = Short w.delay
+FineAt w (Some LineA) = Raised w.delay
+FineAt w (Some LineB) = Raised w.delay
+FineAt w (Some LineC) = Raised w.delay
+FineAt w (Some LineD) = Raised w.delay
 
 raised_enough : (d : Word) → Short d → Raised (to_word (at_least_min (of_word d)))
 raised_enough d short =
@@ -107,7 +108,7 @@ module _ (s : Settings) (good : settings_good s ≡ true) (copy : List ℕ) wher
     Keeps y = Fine y.walk
 
     module _ (has : no_link s w.link ≡ false) (long : leb w.length (length copy) ≡ true) (p : Packet) (is : inspect s w.link octets ≡ Ok p) where
-      abbrev Held : Place → Type 0
+      abbrev Held : Option Place → Type 0
       Held q = walk_fields_at q s w p octets ≡ true
 
       -- after an id
@@ -203,18 +204,18 @@ module _ (s : Settings) (good : settings_good s ≡ true) (copy : List ℕ) wher
       unfolding box_c line_c place_of
       line_c_lem read id low = either Keeps (is_clock_host h w) _ _ (λ _. line 4 (rw (read, id)) low) (λ _. next h ours _ read low)
 
-      box_fine : (q : Place) → Held q → FineAt w q → Keeps (box_at q k p octets t h w e)
+      box_fine : (q : Option Place) → Held q → FineAt w q → Keeps (box_at q k p octets t h w e)
       unfolding box4 box_a box_d
-      box_fine Nowhere held fine = absurd (false≢true held)
-      box_fine Step1 held fine = first
-      box_fine Step2 held fine = second held
-      box_fine Step3 held fine = third held
-      box_fine Step4 held fine = fourth_fine held (step4 (broadcast h.settings w.link) h.clock.hold p (in_flight h.links w))
-      box_fine Step5 held fine = fifth held fine
-      box_fine LineA held fine = let b = both (reading_in_range w) (id_in_range s w) held in at_a b.0 b.1 fine (line_a u e)
-      box_fine LineB held fine = let b = both (reading_in_range w) (id_in_range s w) held in line_b_lem b.0 b.1 fine
-      box_fine LineC held fine = let b = both (reading_in_range w) (id_in_range s w) (both (reading_in_range w && id_in_range s w) _ held).0 in line_c_lem b.0 b.1 fine
-      box_fine LineD held fine = next (host h.settings (clock_set p octets h w) h.links) ours _ (both (reading_in_range w) (id_in_range s w) held).0 fine
+      box_fine None held fine = absurd (false≢true held)
+      box_fine (Some Step1) held fine = first
+      box_fine (Some Step2) held fine = second held
+      box_fine (Some Step3) held fine = third held
+      box_fine (Some Step4) held fine = fourth_fine held (step4 (broadcast h.settings w.link) h.clock.hold p (in_flight h.links w))
+      box_fine (Some Step5) held fine = fifth held fine
+      box_fine (Some LineA) held fine = let b = both (reading_in_range w) (id_in_range s w) held in at_a b.0 b.1 fine (line_a u e)
+      box_fine (Some LineB) held fine = let b = both (reading_in_range w) (id_in_range s w) held in line_b_lem b.0 b.1 fine
+      box_fine (Some LineC) held fine = let b = both (reading_in_range w) (id_in_range s w) (both (reading_in_range w && id_in_range s w) _ held).0 in line_c_lem b.0 b.1 fine
+      box_fine (Some LineD) held fine = next (host h.settings (clock_set p octets h w) h.links) ours _ (both (reading_in_range w) (id_in_range s w) held).0 fine
 
     pub step_fine : Keeps (step k t h w copy e)
     unfolding step

@@ -11,6 +11,7 @@ use lib.Dec.{T, eqb}
 use lib.IntN.{ℤ, ◌+ℤ◌}
 use lib.ListN.{get_or, take}
 use lib.Seq.{get_or-take, take-nil}
+use Rattle.std.proofs.Common.{Some}
 use Rattle.lists.proofs.Tests.{either}
 use Rattle.answer.specs.declared.Answer.TheVariants.{Done}
 use Rattle.clock.specs.declared.Counter.{Counter}
@@ -130,7 +131,7 @@ module _ (r : Network) (proper : Proper r) (ways : r.longest ≤ longest_way) wh
     a_delivery d packet = record { not_initialize = λ e. unlike cc; not_opening = λ j p e. unlike cc; not_step = λ j e. unlike cc }
 
     -- box 1 is taken as an arrival
-    in_time : (k : Counter) (t : ℤ) (ok : Allowed r w (at_node (steps k t))) → T (timed (result r w (at_node (steps k t))).reply.answer) → is_open now.walk ≡ true → place_of now.walk ≡ Step1
+    in_time : (k : Counter) (t : ℤ) (ok : Allowed r w (at_node (steps k t))) → T (timed (result r w (at_node (steps k t))).reply.answer) → is_open now.walk ≡ true → place_of now.walk ≡ Some Step1
         → Taken r a now.walk.link (reading_at r a now.clock k).time (packet_of now.walk copy)
     in_time k t ok timed-answer opened first =
         let d = ok.timely opened first in

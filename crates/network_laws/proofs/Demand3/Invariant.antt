@@ -6,6 +6,7 @@ use Prim.Native.Nat.{ℕ, suc, ◌≤◌, ◌<◌}
 use lib.Dec.{eqb}
 use lib.IntN.{ℤ, pos, ◌+ℤ◌, ◌-ℤ◌}
 use lib.ListN.{length, take}
+use Rattle.std.proofs.Common.{Option, Some, None}
 use Rattle.quantity.specs.declared.Millis.{Millis}
 use Rattle.quantity.specs.declared.Word.{Word}
 use Rattle.quantity.specs.Quantity.{less_millis}
@@ -23,7 +24,7 @@ use Rattle.host.specs.declared.Link.{Link}
 use Rattle.host.specs.declared.Links.{Links}
 use Rattle.host.specs.declared.walk.Walk.{Walk}
 use Rattle.host.specs.declared.walk.Place.{Place}
-use Rattle.host.specs.declared.walk.Place.TheVariants.{Nowhere, Step1, Step2, Step3, Step4, Step5, LineA, LineB, LineC, LineD}
+use Rattle.host.specs.declared.walk.Place.TheVariants.{Step1, Step2, Step3, Step4, Step5, LineA, LineB, LineC, LineD}
 use Rattle.host.specs.State.{host_count, link_of}
 use Rattle.host.specs.Walk.{is_open, place_of, packet_of}
 use Rattle.arrival.specs.Steps.{tsp_of, delay_of, offset_of, at_least_min}
@@ -129,33 +130,33 @@ pub record Lined (r : Network) (b : ℕ) (w : Walk) (octets : List ℕ) : Type 0
   pub host_there : less_millis (of_word w.delay) max_delay ≡ true → eqb (fields octets).nhosts 0 ≡ true → HostAt r w.id taken.message.node
 
 -- by the place of the next box
-abbrev pub RightAt : (r : Network) (b : ℕ) → Walk → (packet : List ℕ) → Links → Place → Type 0
-RightAt r b w octets l Nowhere = Unit {0}
-RightAt r b w octets l Step1 = Unit {0}
-RightAt r b w octets l Step2 = Taken r b w.link w.reading octets
-RightAt r b w octets l Step3 = Taken r b w.link w.reading octets
-RightAt r b w octets l Step4 = Timed r b w octets
-RightAt r b w octets l Step5 = Aimed r b w octets l
-RightAt r b w octets l LineA = Lined r b w octets
-RightAt r b w octets l LineB = Lined r b w octets
-RightAt r b w octets l LineC = Lined r b w octets
-RightAt r b w octets l LineD = Lined r b w octets
+abbrev pub RightAt : (r : Network) (b : ℕ) → Walk → (packet : List ℕ) → Links → Option Place → Type 0
+RightAt r b w octets l None = Unit {0}
+RightAt r b w octets l (Some Step1) = Unit {0}
+RightAt r b w octets l (Some Step2) = Taken r b w.link w.reading octets
+RightAt r b w octets l (Some Step3) = Taken r b w.link w.reading octets
+RightAt r b w octets l (Some Step4) = Timed r b w octets
+RightAt r b w octets l (Some Step5) = Aimed r b w octets l
+RightAt r b w octets l (Some LineA) = Lined r b w octets
+RightAt r b w octets l (Some LineB) = Lined r b w octets
+RightAt r b w octets l (Some LineC) = Lined r b w octets
+RightAt r b w octets l (Some LineD) = Lined r b w octets
 
 abbrev pub RightWalk : (r : Network) (b : ℕ) → Walk → (copy : List ℕ) → Links → Type 0
 RightWalk r b w copy l = is_open w ≡ true → RightAt r b w (packet_of w copy) l (place_of w)
 
 -- after box 2 the link's KEEP-ALIVE is set, and its TSP is not yet
-abbrev pub at_third : Place → Bool
-at_third Nowhere = false
-at_third Step1 = false
-at_third Step2 = false
-at_third Step3 = true
-at_third Step4 = false
-at_third Step5 = false
-at_third LineA = false
-at_third LineB = false
-at_third LineC = false
-at_third LineD = false
+abbrev pub at_third : Option Place → Bool
+at_third None = false
+at_third (Some Step1) = false
+at_third (Some Step2) = false
+at_third (Some Step3) = true
+at_third (Some Step4) = false
+at_third (Some Step5) = false
+at_third (Some LineA) = false
+at_third (Some LineB) = false
+at_third (Some LineC) = false
+at_third (Some LineD) = false
 
 abbrev pub between : Walk → (link : ℕ) → Bool
 between w i = is_open w && at_third (place_of w) && eqb w.link i

@@ -8,6 +8,7 @@ use borrow.Author.Tests.{ltb-false, lt-ltb}
 use lib.Dec.{ltb, eqb}
 use lib.ListN.{length, get_or, take}
 use lib.Seq.{get_or-take}
+use Rattle.std.proofs.Common.{Option, Some, None}
 use Rattle.lists.proofs.Tests.{either, neither}
 use Rattle.answer.specs.declared.Answer.{Answer}
 use Rattle.clock.specs.declared.Clock.{Clock}
@@ -19,7 +20,7 @@ use Rattle.host.specs.declared.Link.{Link}
 use Rattle.host.specs.declared.Links.{Links}
 use Rattle.host.specs.declared.walk.Walk.{Walk}
 use Rattle.host.specs.declared.walk.Place.{Place}
-use Rattle.host.specs.declared.walk.Place.TheVariants.{Nowhere, Step1, Step2, Step3, Step4, Step5, LineA, LineB, LineC, LineD}
+use Rattle.host.specs.declared.walk.Place.TheVariants.{Step1, Step2, Step3, Step4, Step5, LineA, LineB, LineC, LineD}
 use Rattle.host.specs.Settings.{link_count_of}
 use Rattle.host.specs.Walk.{is_open, place_of, packet_of}
 use Rattle.host.specs.Guard.{in_walk}
@@ -102,19 +103,19 @@ module _ (r : Network) (a : ℕ) where
           ∙ ap (λ ys. get_or ys (i - 1) (fresh_link unset)) continues.own_links_lem
           ∙ get_or-take (link_count_of (r.settings a)) x.links.all (i - 1) (fresh_link unset) h
 
-      moved : (q : Place) → RightAt r a x.walk (packet_of x.walk x.copy) x.links q → RightAt r a x.walk (packet_of x.walk x.copy) l q
-      moved Nowhere h = h
-      moved Step1 h = h
-      moved Step2 h = h
-      moved Step3 h = h
-      moved Step4 h = h
-      moved Step5 h =
+      moved : (q : Option Place) → RightAt r a x.walk (packet_of x.walk x.copy) x.links q → RightAt r a x.walk (packet_of x.walk x.copy) l q
+      moved None h = h
+      moved (Some Step1) h = h
+      moved (Some Step2) h = h
+      moved (Some Step3) h = h
+      moved (Some Step4) h = h
+      moved (Some Step5) h =
           let has = (proper.cables a x.walk.link h.taken.message.node h.taken.message.link h.taken.cable).link_in in
           record { taken = h.taken; fits = h.fits; direct = h.direct; neighbor = λ low. ap (λ y. y.neighbor) (same_link x.walk.link has) ∙ h.neighbor low }
-      moved LineA h = h
-      moved LineB h = h
-      moved LineC h = h
-      moved LineD h = h
+      moved (Some LineA) h = h
+      moved (Some LineB) h = h
+      moved (Some LineC) h = h
+      moved (Some LineD) h = h
 
   pub after_right : (x : HostAfter) (entries : List Entry) (o : Outcome) → RightNode r a x → NodeAfter r a entries o
       → RightNode r a (after_outcome (r.number a) x.places o)

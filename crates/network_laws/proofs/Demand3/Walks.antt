@@ -9,6 +9,7 @@ use borrow.Author.Tests.{eq-eqb, ne_eqb, ltb-true}
 use lib.Dec.{T, ltb, eqb}
 use lib.IntN.{ℤ, pos}
 use lib.ListN.{length, get_or}
+use Rattle.std.proofs.Common.{Option, Some, None}
 use Rattle.lists.proofs.Tests.{either, both, neither, is_so, is_not}
 use Rattle.quantity.specs.declared.Millis.{Millis}
 use Rattle.quantity.specs.declared.Word.{Word}
@@ -45,7 +46,7 @@ use Rattle.host.specs.declared.Links.{Links}
 use Rattle.host.specs.declared.Effect.{Effect}
 use Rattle.host.specs.declared.walk.Walk.{Walk}
 use Rattle.host.specs.declared.walk.Place.{Place}
-use Rattle.host.specs.declared.walk.Place.TheVariants.{Nowhere, Step1, Step2, Step3, Step4, Step5, LineA, LineB, LineC, LineD}
+use Rattle.host.specs.declared.walk.Place.TheVariants.{Step1, Step2, Step3, Step4, Step5, LineA, LineB, LineC, LineD}
 use Rattle.host.specs.declared.guard.Scope.TheVariants.{Opening, Walking}
 use Rattle.host.specs.Settings.{found_for}
 use Rattle.host.specs.State.{unset, fresh_link, host_count, broadcast, link_of, with_link, no_link}
@@ -188,13 +189,13 @@ module _ (r : Network) (proper : Proper r) (ways : r.longest ≤ longest_way) (a
 
       -- ---- steps
 
-      first : place_of w ≡ Step1 → Taken r a w.link (our_reading k h).time octets → Good (box1 k h w)
+      first : place_of w ≡ Some Step1 → Taken r a w.link (our_reading k h).time octets → Good (box1 k h w)
       unfolding box1 place_of
       first is taken =
           let v : Walk = at_step 2 (holding_reading (count_used k) (our_reading k h).time w) in
           goes v (our_reading k h).clock l nothing (any_walk r a v l.all (all_right (ap at_third is))) (λ _. taken) none
 
-      second : place_of w ≡ Step2 → Taken r a w.link w.reading octets → Good (box2 h w)
+      second : place_of w ≡ (Some Step2) → Taken r a w.link w.reading octets → Good (box2 h w)
       unfolding box2 place_of
       second is taken =
           goes (at_step 3 w) c _ nothing
@@ -239,7 +240,7 @@ module _ (r : Network) (proper : Proper r) (ways : r.longest ≤ longest_way) (a
         unfolding box3 place_of
         third = goes walk4 c (with_link w.link after3.link l) nothing (any_walk r a walk4 (with_link w.link after3.link l).all links_now) (λ _. timed_now) none
 
-      module _ (is : place_of w ≡ Step4) (t : Timed r a w octets) where
+      module _ (is : place_of w ≡ (Some Step4)) (t : Timed r a w octets) where
         abbrev sent : Message
         sent = t.taken.message
 
@@ -324,7 +325,7 @@ module _ (r : Network) (proper : Proper r) (ways : r.longest ≤ longest_way) (a
             (λ y. either (λ (g : Stage Flight). Good (fourth h w g)) (zero_word p.tsp || not (eqb c.hold.0 0)) _ _ (λ _. stops)
             (λ u. known (is_so _ y) (neither (zero_word p.tsp) _ u).0)))
 
-      module _ (is : place_of w ≡ Step5) (t : Aimed r a w octets l) where
+      module _ (is : place_of w ≡ (Some Step5)) (t : Aimed r a w octets l) where
         abbrev from : ℕ
         from = t.taken.message.node
 
@@ -451,21 +452,21 @@ module _ (r : Network) (proper : Proper r) (ways : r.longest ≤ longest_way) (a
 
       -- ---- the box of a place
 
-      box_right : other_layout s p ≡ false → (s.layout.nhosts ≤ 255) → (q : Place) → place_of w ≡ q → (place_of w ≡ Step1 → Taken r a w.link (our_reading k h).time octets)
+      box_right : other_layout s p ≡ false → (s.layout.nhosts ≤ 255) → (q : Option Place) → place_of w ≡ q → (place_of w ≡ Some Step1 → Taken r a w.link (our_reading k h).time octets)
           → RightAt r a w octets l q → walk_fields_at q s w p octets ≡ true → Good (box_at q k p octets nets h w e)
       unfolding box_a box_d
-      box_right ours few Nowhere is time now held = absurd (false≢true held)
-      box_right ours few Step1 is time now held = first is (time is)
-      box_right ours few Step2 is time now held = second is now
-      box_right ours few Step3 is time now held = third now
-      box_right ours few Step4 is time now held = fourth_right is now
-      box_right ours few Step5 is time now held = fifth is now
-      box_right ours few LineA is time now held = at_a (ap at_third is) now (line_a (line_update w p octets) e)
-      box_right ours few LineB is time now held = line_b_lem (ap at_third is) now
-      box_right ours few LineC is time now held =
+      box_right ours few None is time now held = absurd (false≢true held)
+      box_right ours few (Some Step1) is time now held = first is (time is)
+      box_right ours few (Some Step2) is time now held = second is now
+      box_right ours few (Some Step3) is time now held = third now
+      box_right ours few (Some Step4) is time now held = fourth_right is now
+      box_right ours few (Some Step5) is time now held = fifth is now
+      box_right ours few (Some LineA) is time now held = at_a (ap at_third is) now (line_a (line_update w p octets) e)
+      box_right ours few (Some LineB) is time now held = line_b_lem (ap at_third is) now
+      box_right ours few (Some LineC) is time now held =
           let u = both (reading_in_range w && id_in_range s w) _ held in
           line_c_lem (ap at_third is) now ours (both (reading_in_range w) _ u.0).1 few u.1
-      box_right ours few LineD is time now held = next (ap at_third is) now (clock_set p octets h w) nothing none
+      box_right ours few (Some LineD) is time now held = next (ap at_third is) now (clock_set p octets h w) nothing none
 
   -- ---- the complete step
 
@@ -476,7 +477,7 @@ module _ (r : Network) (proper : Proper r) (ways : r.longest ≤ longest_way) (a
       (λ _. all_at (RightEntry r a) fresh_entry (fresh_right r a) (entries_of x) (call_state.table held) w.id) (λ _. fresh_right r a w.id)
 
   pub step_right : (k : Counter)
-      → (T (timed (perform (ask (request.Step k)) x).reply.answer) → is_open w ≡ true → place_of w ≡ Step1 → Taken r a w.link (reading_at r a c k).time octets)
+      → (T (timed (perform (ask (request.Step k)) x).reply.answer) → is_open w ≡ true → place_of w ≡ Some Step1 → Taken r a w.link (reading_at r a c k).time octets)
       → NodeAfter r a entries (perform (ask (request.Step k)) x)
   unfolding boxes.step Good box1
   step_right k =
@@ -492,7 +493,7 @@ module _ (r : Network) (proper : Proper r) (ways : r.longest ≤ longest_way) (a
       (λ b z. absurd (false≢true z)) (λ ours z time. box held (is_so _ f) o.link ours few z time) o.held))
     where
       Kept : Outcome → Type 0
-      Kept o = (T (timed o.reply.answer) → is_open w ≡ true → place_of w ≡ Step1 → Taken r a w.link (reading_at r a c k).time octets) → NodeAfter r a entries o
+      Kept o = (T (timed o.reply.answer) → is_open w ≡ true → place_of w ≡ Some Step1 → Taken r a w.link (reading_at r a c k).time octets) → NodeAfter r a entries o
 
       closed : Holds (r.number a) entries → is_open w ≡ false → NodeAfter r a entries (carried_out (answers (plainly NoWalk) c l w) x)
       closed held shut =
@@ -500,7 +501,7 @@ module _ (r : Network) (proper : Proper r) (ways : r.longest ≤ longest_way) (a
           record { links = call_state.links; walk = call_state.walk; table = call_state.table; same_length = refl }
 
       box : Holds (r.number a) entries → (opened : is_open w ≡ true) → no_link s w.link ≡ false → other_layout s p ≡ false → s.layout.nhosts ≤ 255 → walk_fields_at (place_of w) s w p octets ≡ true
-          → (T (timed (carried_out (box_at (place_of w) k p octets nets x.host w (entry_at (at_hand w) x)) x).reply.answer) → is_open w ≡ true → place_of w ≡ Step1 → Taken r a w.link (reading_at r a c k).time octets)
+          → (T (timed (carried_out (box_at (place_of w) k p octets nets x.host w (entry_at (at_hand w) x)) x).reply.answer) → is_open w ≡ true → place_of w ≡ Some Step1 → Taken r a w.link (reading_at r a c k).time octets)
           → NodeAfter r a entries (carried_out (box_at (place_of w) k p octets nets x.host w (entry_at (at_hand w) x)) x)
       box held opened has ours few z time =
           box_right k held opened has (entry_at (at_hand w) x) (hand_right held) ours few (place_of w) refl

@@ -17,4 +17,4 @@ pub returns : goal.returns
 returns c = let a = c.args in
     let numbers = sym c.numbers_good.ensures ∙ c.if-not-numbers_good.false in
     let marks = sym c.marks_good.ensures ∙ c.if-not-marks_good.false in
-    rw (sym c.is_bad-bad.ensures ∙ c.if-bad.false, sym c.places_missing-missing.ensures ∙ c.if-missing.false, fit_by_nhosts a.t a.s _ numbers marks (eq-eqb _ _ c.if-layout-t.false))
+    rw (sym c.is_bad-bad.ensures ∙ c.if-bad.false, sym c.places_missing-missing.ensures ∙ c.if-missing.false, fit_by_nhosts a.t a.s _ numbers marks (eq-eqb _ _ c.if-s-t.false))

@@ -9,7 +9,7 @@ to_neighbor-requires c = rw c.found_for-found.ensures (find_has_place c.args.t c
 
 pub returns-then-p-eq0 : goal.returns-then-p-eq0
 unfolding box5
-returns-then-p-eq0 c = rw (eq-eqb _ _ c.if-p-eq0.true, c.to_neighbor.ensures, c.raised.ensures, c.found_for-found.ensures, c.link_of-x.ensures)
+returns-then-p-eq0 c = rw (eq-eqb _ _ c.if-p-eq0.true, c.to_neighbor.ensures, c.raised.ensures, c.found_for-found.ensures, c.link_of.ensures)
 
 pub returns : goal.returns
 unfolding box5
