@@ -1,15 +1,13 @@
 -- The lines of a message's text, put together from what was put.
 use mathlib.Core.Path.{◌≡◌, sym, ap, ◌∙◌}
 use mathlib.Core.List.{List, [], ◌∷◌, ◌++◌}
-use Prim.Native.Nat.{ℕ, suc, ◌+◌, ◌-◌, ◌≤◌, ◌<◌}
+use Prim.Native.Nat.{ℕ, ◌+◌, ◌≤◌, ◌<◌}
 use native.Mathlib.Omega.{arith}
-use borrow.Author.Tests.{lt-ltb, le-ltb}
 use lib.ListN.{length, drop, length-append}
 use Rattle.lists.specs.Lists.{over}
 use Rattle.lists.proofs.Parts.{over_twice, over_nothing}
-use Rattle.quantity.specs.Words.{signed16}
 use Rattle.wire.specs.Octets.{two_at, four_at}
-use Rattle.text.specs.Numerals.{minus_sign, numeral, signed_numeral}
+use Rattle.text.specs.Numerals.{numeral}
 use Rattle.text.specs.Words.{space, newline}
 use Rattle.text.specs.Numbers.{rows_of, numbers_of}
 use Rattle.text.specs.Text.{hello, first_line, row_line, row_lines}

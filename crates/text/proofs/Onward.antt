@@ -1,6 +1,6 @@
 -- One octet more of a text: a space ends a word, a newline a line, and any other octet belongs to the present word.
 use mathlib.Core.Path.{◌≡◌, refl, sym, ap, ◌∙◌}
-use mathlib.Core.Bool.{Bool, true, false, cond, ◌&&◌, true≢false}
+use mathlib.Core.Bool.{Bool, true, false, cond, ◌&&◌}
 use mathlib.Core.List.{List, [], ◌∷◌}
 use Prim.Native.Nat.{ℕ, suc, ◌+◌, ◌-◌, ◌*◌, ◌^◌, ◌≤◌, ◌<◌}
 use native.Mathlib.Nat.{le-mul_of_pos_right, one-le-pow, pow-suc}
@@ -16,7 +16,7 @@ use Rattle.text.specs.Words.{space, newline, ahead, cut, words, lines, pass, Tes
 use Rattle.text.specs.Text.{word_at, rows_form}
 use Rattle.text.specs.code.Scan.{large, Stands}
 use Rattle.text.specs.code.Pieces.{rest_test, line, onward, form_from, ends, finished, Steps}
-use Rattle.text.specs.code.Turns.{complete, number_start, narrow, at, refused_text, next_word, next_line, one_fewer, spaced, ended, word_within, rest_within, is_count, Counted, CountWithin, Inside}
+use Rattle.text.specs.code.Turns.{complete, number_start, narrow, at, refused_text, next_word, next_line, one_fewer, spaced, ended, word_within, rest_within, Counted, CountWithin, Inside}
 use Rattle.text.proofs.Cuts.{cut_some, cut_here, cut_past}
 use Rattle.text.proofs.Readings.{and_true, and_false}
 use Rattle.text.proofs.Narrows.{may_end, after_octet, start_octet}

@@ -5,8 +5,8 @@ use Prim.Native.Nat.{ℕ, zero, suc, ◌+◌, ◌-◌, ◌/◌, ◌%◌, ◌≤�
 use native.Mathlib.Numerals.{add-one}
 use native.Mathlib.Nat.{lt-suc_self}
 use native.Mathlib.Omega.{arith}
-use lib.ListN.{length, take, drop, set, length-append, length-set}
-use lib.Seq.{set_split, take-set-le, drop-set-lt, drop-cons, get_or-set_same}
+use lib.ListN.{length, drop, set, length-append, length-set}
+use lib.Seq.{take-set-le, drop-set-lt, drop-cons, get_or-set_same}
 use Rattle.lists.specs.Lists.{over}
 use Rattle.lists.proofs.Parts.{over_twice, over_nothing, over_length}
 use Rattle.text.specs.Numerals.{zero_sign, digits}

@@ -1,22 +1,22 @@
 -- Which numbers fit, by the tests of the code; the bits of an OFFSET that fits; and the fields put one behind the other.
 use mathlib.Core.Path.{◌≡◌, refl, sym, ◌∙◌}
-use mathlib.Core.Bool.{Bool, true, false, ◌&&◌, false≢true}
-use mathlib.Core.List.{List, []}
-use Prim.Native.Nat.{ℕ, zero, suc, ◌+◌, ◌-◌, ◌%◌, ◌≤◌, ◌<◌}
+use mathlib.Core.Bool.{Bool, true, false, ◌&&◌}
+use mathlib.Core.List.{List}
+use Prim.Native.Nat.{ℕ, zero, suc, ◌+◌, ◌≤◌, ◌<◌}
 use native.Mathlib.Numerals.{add-two}
 use native.Mathlib.Omega.{arith}
 use borrow.Author.Tests.{leb-true, lt-ltb}
-use lib.Dec.{leb, ltb, leb-suc-suc}
+use lib.Dec.{leb, leb-suc-suc}
 use lib.IntN.{pos, neg_ℤ}
-use lib.ListN.{length, set}
+use lib.ListN.{length}
 use lib.Seq.{sets, sets-eq}
 use Rattle.lists.specs.Lists.{over}
 use Rattle.lists.proofs.Tests.{both}
 use Rattle.quantity.specs.Words.{bits16}
-use Rattle.wire.specs.Octets.{two, four}
+use Rattle.wire.specs.Octets.{two}
 use Rattle.wire.specs.Hello.{report_place}
 use Rattle.text.specs.declared.scan.First.{First}
-use Rattle.text.specs.Numbers.{Row, fits_octet, fits_two, fits_four, fits_signed, row_fits, first_fits, fixed_octets}
+use Rattle.text.specs.Numbers.{Row, fits_octet, fits_two, fits_four, fits_signed, row_fits, first_fits}
 use Rattle.text.specs.code.Reading.{most_hosts, signed_of, row_octets, first_returned, RowPut}
 use Rattle.text.proofs.Readings.{and_true}
 

@@ -1,4 +1,4 @@
-// Writes an octet into a borrowed buffer.
+// Writes an octet into a borrowed buffer: `octets::put_octet`, told as the writer's other steps are.
 ghost use Rattle.std.specs.Prelude.{◌∷◌, [], ◌+◌, ◌<◌, length};
 ghost use Rattle.text.specs.code.Put.{Put};
 

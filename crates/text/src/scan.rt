@@ -6,7 +6,7 @@ ghost use Rattle.text.specs.Words.{cut, words, same};
 ghost use Rattle.text.specs.Text.{hello};
 ghost use Rattle.text.specs.code.Scan.{CutAt, More, NumberRead, OffsetRead, NoField, Field, RowRead, FirstRead, LineRead};
 
-// A number with a sign.
+// A number with a sign. It is no i64: a size of 2^63 or more represents larger ones too.
 #[derive(Clone, Copy)]
 pub struct Offset {
     pub negative: bool,

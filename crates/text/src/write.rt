@@ -12,7 +12,7 @@ ghost use Rattle.text.specs.code.Put.{Put, line_room, row_room, row, times_text}
 use super::buffer::put_octet;
 use octets::{four_at, two_at};
 
-// How many digits a number has.
+// How many digits a number has: the tests of the definition, one by one. A loop over powers of ten would be no plainer.
 #[tactic(auto, unfolding(crate::specs::Numerals::width))]
 fn width(n: u32) -> usize
     ensures { result ≡ width n }
@@ -141,7 +141,7 @@ fn put_first(text: &mut [u8], message: &[u8]) -> usize
     count + 1
 }
 
-// The lines of all hosts, from a place on.
+// The lines of all hosts, from a place on. A host is read by its place in the message, as in the definition of its row.
 fn put_rows(text: &mut [u8], at: usize, message: &[u8]) -> usize
     requires { (fixed_length ≤ length message.now) × (at * 4 + row_room * length message.now ≤ length text.old * 4) }
     ensures { Put text.old text.new at result (row_lines (rows_of (drop fixed_length message.now))) }

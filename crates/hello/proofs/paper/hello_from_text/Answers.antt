@@ -1,6 +1,5 @@
 -- What is returned has the number and the length of what is made.
 use mathlib.Core.Path.{ap, ◌∙◌}
-use Rattle.std.specs.Prelude.{Result}
 use Rattle.std.specs.Result.{result_unwrap_or}
 use Rattle.text.specs.Answers.{answer}
 use Rattle.text.proofs.Delivered.{answer_of, length_of}
