@@ -164,7 +164,7 @@ pub fn take(
     );
     let r = looked.reply;
     let a = r.answer;
-    if a != answer::Answer::Done {
+    if !calls::queries::is_done(a) {
         return looked;
     }
     let own_entries = looked.entries;
