@@ -27,4 +27,4 @@ chain s t h w k octets r s-is t-is h-is k-is w-is r-is =
 pub returns : goal.returns
 returns c =
     chain _ _ _ _ _ c.args.packet.now _ c.settings-s.ensures c.net_table-t.ensures c.fresh_host-h.ensures c.zero-k.ensures
-    c.take-taken.ensures c.number.ensures
+    c.take-taken.ensures c.from.ensures

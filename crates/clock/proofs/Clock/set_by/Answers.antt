@@ -34,14 +34,14 @@ invariant_of-midnight c =
     let r = range_says a.self c.requires.self_value in
     let o = sum-off a.self a.ms c.requires.self_value c.requires.sfits in
     let near : Near c.if-slews.c = elim c.if-slews.branch [
-      then-slews w ↦ rw w.c-is (nearby _ (omega arith) r.rest.dated) |
-      else-slews w ↦ rw (w.c-is, w.add.ensures, c.of_millis-moved.ensures) (nearby _ o r.rest.dated)
+      | then-slews w ↦ rw w.c-is (nearby _ (omega arith) r.rest.dated)
+      | else-slews w ↦ rw (w.c-is, w.add.ensures, c.of_millis-moved.ensures) (nearby _ o r.rest.dated)
     ] in
     record { near = near }
 
 pub returns : goal.returns
 unfolding set_by
 returns c = elim c.if-slews.branch [
-  then-slews w ↦ rw (← c.slews.ensures, w.if-slews.true) (rw (w.c-is, c.of_millis-moved.ensures) at c.midnight.ensures) |
-  else-slews w ↦ rw (← c.slews.ensures, w.if-slews.false) (rw (w.c-is, w.add.ensures, c.of_millis-moved.ensures) at c.midnight.ensures)
+  | then-slews w ↦ rw (← c.slews.ensures, w.if-slews.true) (rw (w.c-is, c.of_millis-moved.ensures) at c.midnight.ensures)
+  | else-slews w ↦ rw (← c.slews.ensures, w.if-slews.false) (rw (w.c-is, w.add.ensures, c.of_millis-moved.ensures) at c.midnight.ensures)
 ]
