@@ -19,8 +19,8 @@ pub fn later(a: Timestamp, b: Timestamp) -> bool
     0 < since(a, b)
 }
 
-#[tactic(auto, using(crate::proofs::Words::mean_is))]
 // Half of the full sum of two numbers, rounded down: half of each, and the lowest bit that both have.
+#[tactic(auto, using(crate::proofs::Words::mean_is))]
 fn mean(a: i64, b: i64) -> i64
     ensures { result ≡ shr_z (a +ℤ b) 2 }
 {
