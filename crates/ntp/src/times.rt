@@ -27,7 +27,7 @@ fn mean(a: i64, b: i64) -> i64
     (a >> 1) + (b >> 1) + (a & b & 1)
 }
 
-// The offset of an exchange: ((T2 - T1) + (T3 - T4)) / 2.
+// The offset of an exchange: ((T2 - T1) + (T3 - T4)) / 2. The four times are apart, as in the formulas of crate exchange.
 pub fn offset(
     origin: Timestamp,
     receive: Timestamp,
