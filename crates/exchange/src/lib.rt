@@ -4,8 +4,8 @@
 ghost use Rattle.exchange.specs.HalfDelay.{HalfDelay};
 ghost use Rattle.exchange.specs.Needed.{Needed};
 
-#[tactic(auto, using(crate::proofs::HalfDelay::half_delay_lem))]
 // The half-delay law: twice the error of an exchange's offset is at most its delay plus one, by both formulas and at every width.
+#[tactic(auto, using(crate::proofs::HalfDelay::half_delay_lem))]
 pub fn half_delay()
     ensures { HalfDelay }
 {}

@@ -33,7 +33,11 @@ fn line(rt: &impl Print, alloc: Global, before: HostReply, after: HostReply) -> 
     let link = host::link_state::link_of(before.links, 1);
     show::link(&mut fields, link, host::link_state::link_of(after.links, 1))?;
     show::held(&mut fields, before.walk, after.walk)?;
-    show::entry(&mut fields, entry_of(before.entries, id), entry_of(after.entries, id))?;
+    show::entry(
+        &mut fields,
+        entry_of(before.entries, id),
+        entry_of(after.entries, id),
+    )?;
     show::place(rt, before.walk)?;
     if fields.is_empty() {
         return println!(rt; " nothing");

@@ -41,7 +41,12 @@ fn change<T: Display + PartialEq + Copy + Drop>(
     write!(fields, " {name} {before} -> {after}")
 }
 
-fn millis(fields: &mut String, name: &str, before: Millis, after: Millis) -> Result<(), AllocError> {
+fn millis(
+    fields: &mut String,
+    name: &str,
+    before: Millis,
+    after: Millis,
+) -> Result<(), AllocError> {
     change(fields, name, before.0, after.0)
 }
 
@@ -63,7 +68,12 @@ pub(crate) fn reading(fields: &mut String, before: Walk, after: Walk) -> Result<
 
 pub(crate) fn link(fields: &mut String, before: Link, after: Link) -> Result<(), AllocError> {
     change(fields, "KEEP-ALIVE", before.keep_alive, after.keep_alive)?;
-    change(fields, "NEIGHBOR-ADDRESS", dotted(before.neighbor), dotted(after.neighbor))?;
+    change(
+        fields,
+        "NEIGHBOR-ADDRESS",
+        dotted(before.neighbor),
+        dotted(after.neighbor),
+    )?;
     word(fields, "TSP", before.tsp, after.tsp)
 }
 

@@ -1,5 +1,5 @@
 -- Each field is at its place, and its octets give back the number. Each octet is in one field, and the field gives back the octet.
-use Rattle.std.proofs.Common.{◌≡◌, ℕ, suc, ◌+◌, ◌-◌, ◌*◌, ◌/◌, ◌%◌, ◌<◌, ◌≤◌, Bool, true, false, cond, not, ◌&&◌, eqb, ltb, List, [], ◌∷◌, ◌++◌, length, take, ℤ, pos, negsuc, sym, refl, ap, ◌∙◌, ap₂, arith, take_all, take-suc, take-add, ltb-false, ltb-true, eqb-true, leb-true, le-leb}
+use Rattle.std.proofs.Common.{◌≡◌, ℕ, suc, ◌+◌, ◌-◌, ◌*◌, ◌/◌, ◌%◌, ◌<◌, ◌≤◌, Bool, true, false, cond, not, eqb, ltb, List, [], ◌∷◌, ◌++◌, length, take, ℤ, pos, negsuc, sym, refl, ap, ◌∙◌, ap₂, arith, take_all, take-suc, take-add, ltb-false, ltb-true, eqb-true, leb-true, le-leb}
 use Rattle.std.specs.Prelude.{Result, Ok, Err}
 use Rattle.lists.specs.Lists.{part}
 use Rattle.lists.proofs.Tests.{both}
@@ -36,12 +36,15 @@ front_forth n h = omega arith
 
 -- ---- the fields of what was written
 
+mode_most : (mode : ℕ) → mode_good mode ≡ true → mode ≤ 5
+mode_most mode e = let b = both _ _ e in leb-true mode 5 b.1
+
 fields_back : (h : Header) → HeaderFits h → HeaderPasses h → h ≡ fields (octets_of h)
 unfolding fields octets_of
 fields_back h f p =
     let leap : h.leap ≤ 3 = leb-true _ _ p.leap in
     let version : h.version ≡ 4 = eqb-true _ _ p.version in
-    let mode : h.mode ≤ 5 = leb-true h.mode 5 (both _ _ p.mode).1 in
+    let mode : h.mode ≤ 5 = mode_most h.mode p.mode in
     let leap-back : (h.leap * 64 + h.version * 8 + h.mode) / 64 ≡ h.leap = omega arith in
     let version-back : (h.leap * 64 + h.version * 8 + h.mode) / 8 % 8 ≡ h.version = omega arith in
     let mode-back : (h.leap * 64 + h.version * 8 + h.mode) % 8 ≡ h.mode = omega arith in

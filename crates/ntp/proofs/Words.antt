@@ -39,7 +39,7 @@ mean_is a b fa fb =
     let fx : SFits w64 x = fits w64 x (omega arith, omega arith) in
     let fy : SFits w64 y = fits w64 y (omega arith, omega arith) in
     let eq : (x +ℤ y) +ℤ pos c ≡ shr_z (a +ℤ b) 2 =
-        same _ _ (omega (arith, parity a fa, parity b fb, sum a b, floor (a +ℤ b) 2 (lit< tt), halves, all)) in
+    same _ _ (omega (arith, parity a fa, parity b fb, sum a b, floor (a +ℤ b) 2 (lit< tt), halves, all)) in
     let fh : SFits w64 (x +ℤ y) = fits w64 (x +ℤ y) (omega (arith, one x, one y, one (x +ℤ y), one a, one b), omega (arith, one x, one y, one (x +ℤ y), one a, one b)) in
     let z = shr_z (a +ℤ b) 2 in
     let fz : SFits w64 z = fits w64 z (omega (arith, sum a b, floor (a +ℤ b) 2 (lit< tt), one z, one a, one b), omega (arith, sum a b, floor (a +ℤ b) 2 (lit< tt), one z, one a, one b)) in

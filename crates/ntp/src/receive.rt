@@ -77,8 +77,8 @@ fn dispatched(association: Association, header: Header, destination: Timestamp) 
     processed(association, header, destination)
 }
 
-#[tactic(auto, unfolding(crate::specs::Receive::receive))]
 // A packet that arrives at its destination time: the answer, the action, the offset and delay, and the association afterwards.
+#[tactic(auto, unfolding(crate::specs::Receive::receive))]
 pub fn receive(association: Association, octets: &[u8], destination: Timestamp) -> Outcome
     ensures { result ≡ receive association octets.now destination }
 {

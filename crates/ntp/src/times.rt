@@ -19,15 +19,15 @@ pub fn later(a: Timestamp, b: Timestamp) -> bool
     0 < since(a, b)
 }
 
-#[tactic(auto, using(crate::proofs::Words::mean_is))]
 // Half of the full sum of two numbers, rounded down: half of each, and the lowest bit that both have.
+#[tactic(auto, using(crate::proofs::Words::mean_is))]
 fn mean(a: i64, b: i64) -> i64
     ensures { result ≡ shr_z (a +ℤ b) 2 }
 {
     (a >> 1) + (b >> 1) + (a & b & 1)
 }
 
-// The offset of an exchange: ((T2 - T1) + (T3 - T4)) / 2.
+// The offset of an exchange: ((T2 - T1) + (T3 - T4)) / 2. The four times are apart, as in the formulas of crate exchange.
 pub fn offset(
     origin: Timestamp,
     receive: Timestamp,

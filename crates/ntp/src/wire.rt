@@ -52,8 +52,8 @@ fn leap_good(leap: u8) -> bool
     leap <= 3
 }
 
-#[tactic(auto, unfolding(crate::specs::Header::fields))]
 // The fields of 48 octets.
+#[tactic(auto, unfolding(crate::specs::Header::fields))]
 fn fields(octets: &[u8]) -> Header
     requires { header_length ≤ length octets.now }
     ensures { result ≡ fields octets.now }
@@ -76,8 +76,8 @@ fn fields(octets: &[u8]) -> Header
     }
 }
 
-#[tactic(auto, unfolding(crate::specs::Header::read))]
 // A header read: the tests of answers 23 to 25 in their order, and the fields of one that passes.
+#[tactic(auto, unfolding(crate::specs::Header::read))]
 pub fn read(octets: &[u8]) -> Result<Header, Answer>
     ensures value { result ≡ read octets.now }
     ensures in_table { IfOk result (λ h. mode_good h.mode ≡ true) }
@@ -95,8 +95,8 @@ pub fn read(octets: &[u8]) -> Result<Header, Answer>
     Ok(h)
 }
 
-#[tactic(auto, unfolding(crate::specs::Header::octets_of))]
 // The octets of a header that passes the tests.
+#[tactic(auto, unfolding(crate::specs::Header::octets_of))]
 fn octets_of(header: Header) -> [u8; LENGTH]
     requires { HeaderPasses header }
     ensures { result ≡ octets_of header }
@@ -116,8 +116,8 @@ fn octets_of(header: Header) -> [u8; LENGTH]
     octets
 }
 
-#[tactic(auto, unfolding(crate::specs::Header::write))]
 // A header written: the tests of answers 24 and 25 in their order, and the octets of one that passes.
+#[tactic(auto, unfolding(crate::specs::Header::write))]
 pub fn write(header: Header) -> Result<[u8; LENGTH], Answer>
     ensures { result ≡ write header }
 {

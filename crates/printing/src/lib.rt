@@ -7,12 +7,10 @@ pub fn text(s: &[u8]) {
 
 // A signed number.
 pub fn signed(n: i64) {
-    if n >= 0 {
-        io::print_decimal(1, n as u64);
-        return;
+    if n < 0 {
+        text(b"-");
     }
-    text(b"-");
-    io::print_decimal(1, std::num::wrapping_add_u64((!n) as u64, 1));
+    io::print_decimal(1, n.unsigned_abs());
 }
 
 // A name and a number.

@@ -138,6 +138,12 @@ pub fn run(rt: &impl Print, r: &[u8; RECORD]) -> io::Result<()> {
         return Ok(());
     }
     let packet = &r[80..80 + length];
-    let w = arrival(address(r[64]), address(r[65]), clock_before(r), entry_before(r), packet);
+    let w = arrival(
+        address(r[64]),
+        address(r[65]),
+        clock_before(r),
+        entry_before(r),
+        packet,
+    );
     returned(rt, w, r[74])
 }

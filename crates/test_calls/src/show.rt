@@ -13,12 +13,18 @@ pub fn answer(rt: &impl Print, a: Answer) -> io::Result<()> {
 pub fn link(rt: &impl Print, x: Link) -> io::Result<()> {
     let a = x.neighbor;
     let neighbor = Ipv4Addr::new(a.first, a.second, a.third, a.fourth);
-    print!(rt; ": KEEP-ALIVE {} TSP {} neighbor {neighbor}", x.keep_alive, x.tsp.0)
+    print!(rt;
+        ": KEEP-ALIVE {} TSP {} neighbor {neighbor}",
+        x.keep_alive, x.tsp.0
+    )
 }
 
 // An entry, except its time.
 pub fn entry(rt: &impl Print, e: Entry) -> io::Result<()> {
-    print!(rt; ": DELAY {} OFFSET {} TTL {} PID {}", e.delay.0, e.offset.0, e.ttl.0, e.pid)
+    print!(rt;
+        ": DELAY {} OFFSET {} TTL {} PID {}",
+        e.delay.0, e.offset.0, e.ttl.0, e.pid
+    )
 }
 
 // What is advertised of an entry.

@@ -63,8 +63,18 @@ fn clock_of(clock: Units, delta: Units) -> Clock {
 }
 
 // A line about a clock after n adjusts.
-fn after_adjusts(rt: &impl Print, name: &str, clock: i64, delta: i64, times: u32) -> io::Result<()> {
-    show::clock(rt, name, adjusts(clock_of(Units(clock), Units(delta)), times))
+fn after_adjusts(
+    rt: &impl Print,
+    name: &str,
+    clock: i64,
+    delta: i64,
+    times: u32,
+) -> io::Result<()> {
+    show::clock(
+        rt,
+        name,
+        adjusts(clock_of(Units(clock), Units(delta)), times),
+    )
 }
 
 // CLOCK-3: a DELTA of -1 to -128 units loses one unit at each adjust until it is 0; one of +1 to +127 never changes.
@@ -141,7 +151,13 @@ pub fn crystal_midnights(rt: &impl Print) -> io::Result<()> {
     reading(rt, "86,399,000 ms and 1,000", late, tick, counting(1_000))?;
     reading(rt, "86,399,000 ms and 1,001", late, tick, counting(1_001))?;
     let first = clock_of(Units::of_millis(Millis(86_334_466)), Units(0));
-    reading(rt, "86,334,466 ms and 65,535", first, tick, counting(65_535))?;
+    reading(
+        rt,
+        "86,334,466 ms and 65,535",
+        first,
+        tick,
+        counting(65_535),
+    )?;
     let below = clock_of(Units::of_millis(Millis(-65_535)), Units(0));
     reading(
         rt,
@@ -164,7 +180,13 @@ pub fn crystal_overflow(rt: &impl Print) -> io::Result<()> {
     let most = Units::of_millis(Millis(65_536));
     let start = clock_of(Units(0), Units(0));
     reading(rt, "0 ms and 65,535", start, most, counting(65_535))?;
-    reading(rt, "0 ms, a mark, and 3 again", start, most, marked(65_535, 3))?;
+    reading(
+        rt,
+        "0 ms, a mark, and 3 again",
+        start,
+        most,
+        marked(65_535, 3),
+    )?;
     let late = clock_of(Units::of_millis(Millis(86_400_000)), Units(0));
     reading(
         rt,

@@ -20,5 +20,8 @@ pub fn no_date(rt: &impl Print, name: &str) -> io::Result<()> {
 
 // A line of a clock: CLOCK and DELTA in units.
 pub fn clock(rt: &impl Print, name: &str, c: Clock) -> io::Result<()> {
-    println!(rt; "{name}: CLOCK {} DELTA {} HOLD {} DATE {}", c.clock.0, c.delta.0, c.hold.0, c.date.0)
+    println!(rt;
+        "{name}: CLOCK {} DELTA {} HOLD {} DATE {}",
+        c.clock.0, c.delta.0, c.hold.0, c.date.0
+    )
 }
