@@ -17,7 +17,7 @@ pub mod addresses;
 mod hello;
 mod ip;
 
-// An Internet address: its four octets, the highest first.
+// An Internet address: its four octets, the highest first. C programs lay them out by name, so it is no array.
 #[repr(C)]
 #[derive(Clone, Copy, PartialEq, Eq)]
 pub struct Address {
