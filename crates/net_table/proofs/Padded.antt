@@ -23,11 +23,11 @@ module _ {A : Type 0} (z : A) (m : ℕ) where
       set-append_left xs (replicate (m - length xs) z) i a h
       ∙ ap (λ (j : ℕ). set xs i a ++ replicate (m - j) z) (sym (length-set xs i a))
 
-  -- a second list put behind the first
-  pub behind : (xs ys : List A)
+  -- a second list put after the first
+  pub appended : (xs ys : List A)
       → take (length xs) (xs ++ replicate (m - length xs) z) ++ (ys ++ drop (length xs + length ys) (xs ++ replicate (m - length xs) z))
       ≡ xs ++ ys ++ replicate (m - length (xs ++ ys)) z
-  behind xs ys =
+  appended xs ys =
       let zs : List A = replicate (m - length xs) z in
       let left : m - length xs - length ys ≡ m - length (xs ++ ys) = omega (arith, length-append xs ys) in
       ap (λ (l : List A). l ++ (ys ++ drop (length xs + length ys) (xs ++ zs))) (take_at xs zs (length xs) refl)

@@ -1,18 +1,13 @@
 -- What a table that is not bad has, and what the lists of rows have after a call.
-use mathlib.Core.Path.{◌≡◌, ◌∙◌, sym, ap}
+use mathlib.Core.Path.{◌≡◌}
 use mathlib.Core.Bool.{true, false, not, ◌||◌}
-use mathlib.Core.List.{List}
-use Prim.Native.Nat.{ℕ, ◌≤◌}
-use native.Mathlib.Omega.{arith}
-use borrow.Author.Tests.{ltb-false, eqb-false}
-use lib.Dec.{ltb, eqb}
-use lib.ListN.{length}
-use lib.Seq.{length-take-le}
+use Prim.Native.Nat.{◌≤◌}
+use borrow.Author.Tests.{ltb-false}
+use lib.Dec.{ltb}
 use Rattle.lists.proofs.Tests.{neither, is_so}
-use Rattle.route.specs.declared.Row.{Row}
 use Rattle.route.specs.Find.{ids_below}
 use Rattle.net_table.specs.declared.NetTable.{NetTable}
-use Rattle.net_table.specs.Table.{standing, nhosts_bad, table_bad, padded, table_of}
+use Rattle.net_table.specs.Table.{standing, nhosts_bad, table_bad}
 
 pub record Good (t : NetTable) : Type 0 where
   pub few : ltb 32 t.net.count ≡ false

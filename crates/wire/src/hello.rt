@@ -65,6 +65,7 @@ pub fn report(hello: &[u8], i: usize) -> Report
 }
 
 // The report of host i put in its place.
+#[tactic(auto, using(crate::proofs::Stores::hello_report_put))]
 pub fn put_report(hello: &mut [u8], i: usize, r: Report)
     requires { report_place i + report_length ≤ length hello.old }
     ensures { hello.new ≡ hello_with_report i r hello.old }

@@ -17,7 +17,7 @@ pub mod addresses;
 mod hello;
 mod ip;
 
-// An Internet address: its four octets, the highest first.
+// An Internet address: its four octets, the highest first. C programs lay them out by name, so it is no array.
 #[repr(C)]
 #[derive(Clone, Copy, PartialEq, Eq)]
 pub struct Address {
@@ -81,6 +81,7 @@ pub fn fields(packet: &[u8]) -> Packet
 }
 
 // A packet read: the tests of answers 3 to 7 in their order, and the fields of one that passes.
+#[tactic(auto, using(crate::proofs::Parsing::ip_long, crate::proofs::Parsing::hello_long, crate::proofs::Parts::from_on), unfolding(crate::specs::Packet::parse))]
 pub fn parse(packet: &[u8]) -> Result<Packet, Answer>
     ensures { (result ≡ parse packet.now) × IfOk result (λ p. Four p.time.0) }
 {
@@ -93,10 +94,11 @@ pub fn parse(packet: &[u8]) -> Result<Packet, Answer>
     if !ip::protocol(packet) {
         return Err(Answer::Protocol);
     }
-    if !hello::form(&packet[ip::LENGTH..]) {
+    let part = &packet[ip::LENGTH..];
+    if !hello::form(part) {
         return Err(Answer::HelloForm);
     }
-    if !hello::checksum(&packet[ip::LENGTH..]) {
+    if !hello::checksum(part) {
         return Err(Answer::HelloChecksum);
     }
     Ok(fields(packet))
@@ -118,6 +120,7 @@ pub fn length(nhosts: u8) -> usize
 }
 
 // The report of host i put in its place in a packet.
+#[tactic(auto, using(crate::proofs::Stores::report_put))]
 pub fn put_report(buffer: &mut [u8], i: usize, r: Report)
     requires { header_length + report_place i + report_length ≤ length buffer.old }
     ensures { buffer.new ≡ with_report i r buffer.old }

@@ -1,10 +1,7 @@
 -- What `find` gives over the rows in use is what the definition searches for.
-use Rattle.std.proofs.Common.{rules, tests, arith, ◌≡◌, sym, ap, ◌∙◌, Option, None}
-use Rattle.std.specs.List.{find}
-use Rattle.std.specs.Option.{option_map}
+use Rattle.std.proofs.Common.{rules, tests, arith, ◌≡◌, sym, ap, ◌∙◌, None}
 use Rattle.std.proofs.lemmas.Iterator.{YieldsList-from_slice}
 use Rattle.std.proofs.lemmas.Iterator.Search.{find_from_yields_List}
-use Rattle.route.specs.declared.Row.{Row}
 use Rattle.route.specs.Find.{ends, rows_of}
 use Rattle.route.proofs.Rows.{host_of, first_found}
 use Rattle.route.proofs.search.Goals as goal

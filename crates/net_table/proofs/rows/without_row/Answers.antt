@@ -1,4 +1,4 @@
--- The rows before k, and those after it put behind them, are the rows without it.
+-- The rows before k, and then those after it, are the rows without it.
 use mathlib.Core.Path.{◌≡◌, ◌∙◌, sym, ap, refl}
 use mathlib.Core.List.{List, ◌++◌}
 use Prim.Native.Nat.{ℕ, ◌+◌, ◌-◌}
@@ -9,7 +9,7 @@ use Rattle.std.proofs.lemmas.Slice.{put_mid-paste}
 use Rattle.std.proofs.lemmas.List.Edits.{paste_all}
 use Rattle.route.specs.declared.Row.{Row}
 use Rattle.net_table.specs.Table.{zero_row, padded}
-use Rattle.net_table.proofs.Padded.{behind}
+use Rattle.net_table.proofs.Padded.{appended}
 use Rattle.net_table.proofs.rows.without_row.Goals as goal
 
 pub returns : goal.returns
@@ -26,4 +26,4 @@ returns c =
     ∙ paste_all c.padded-all.result (k - 1) after (length after) refl
     ∙ ap (λ (l : List Row). take (k - 1) l ++ (after ++ drop (k - 1 + length after) l)) c.padded-all.ensures
     ∙ ap (λ (m : ℕ). take m (padded before) ++ (after ++ drop (m + length after) (padded before))) (sym long)
-    ∙ behind zero_row 32 before after
+    ∙ appended zero_row 32 before after
