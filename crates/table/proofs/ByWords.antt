@@ -104,13 +104,6 @@ module _ (entries : List Entry) (w : Scan) (h : InEntries w.first w.end entries)
 
 -- ---- the stretch of a word
 
--- it has 64 ids at most
-pub stretch_rising : (k : ℕ) (w : Scan) → InWord k w → (stretch_of k w).first ≤ (stretch_of k w).end
-stretch_rising k w i = go (ltb (w.end - (w.first + 64 * k)) 64) where
-  go : (b : Bool) → w.first + 64 * k ≤ cond b w.end (w.first + 64 * k + 64)
-  go true = omega (arith, i.rising, i.before)
-  go false = omega arith
-
 pub stretch_few : (k : ℕ) (w : Scan) → (stretch_of k w).end - (stretch_of k w).first ≤ 64
 stretch_few k w = go (ltb (w.end - (w.first + 64 * k)) 64) refl where
   go : (b : Bool) → ltb (w.end - (w.first + 64 * k)) 64 ≡ b → cond b w.end (w.first + 64 * k + 64) - (w.first + 64 * k) ≤ 64

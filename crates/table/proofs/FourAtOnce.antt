@@ -48,9 +48,6 @@ in_turn_lem w x y z p q r s =
     paired w (x && (y && z)) p (q && (r && s))
     ∙ ap (λ (b : Bool). w && p && b) (paired x (y && z) q (r && s) ∙ ap (λ (b : Bool). x && q && b) (paired y z r s ∙ ap (λ (b : Bool). y && r && b) (sym (and-true (z && s)))))
 
-pub all_four : (p q r s p' q' r' s' : Bool) → p ≡ p' → q ≡ q' → r ≡ r' → s ≡ s' → (p && (q && (r && s))) ≡ (p' && (q' && (r' && s')))
-all_four p q r s p' q' r' s' a b c d = rw (a, b, c, d) refl
-
 -- ---- joined bits
 
 left_in_or : (a b : ℕ) → a ≤ bit_or a b

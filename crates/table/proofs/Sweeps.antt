@@ -4,10 +4,8 @@ use mathlib.Core.List.{List, [], ◌∷◌, ◌++◌}
 use Prim.Native.Nat.{ℕ, zero, suc, ◌+◌, ◌<◌}
 use native.Mathlib.Omega.{arith}
 use borrow.Author.Tests.{eq-eqb, ne_eqb}
-use lib.Dec.{eqb}
 use lib.ListN.{length, get_or}
 use Rattle.lists.specs.Lists.{over}
-use Rattle.lists.proofs.Tests.{either}
 use Rattle.clock.specs.declared.Clock.{Clock}
 use Rattle.table.specs.declared.Entry.{Entry}
 use Rattle.table.specs.declared.Updated.{Updated}
@@ -26,12 +24,6 @@ pub sweep_clock : (Fine : Clock → Type 0) (update : ℕ → Clock → Entry �
 unfolding sweep
 sweep_clock Fine update keeps i c [] f = f
 sweep_clock Fine update keeps i c (e ∷ es) f = sweep_clock Fine update keeps (suc i) (update i c e).clock es (keeps i c e f)
-
--- an update of one id alone updates an entry or leaves it
-pub only_either : (P : Updated → Type 0) (id : ℕ) (update : Clock → Entry → Updated) (i : ℕ) (c : Clock) (e : Entry)
-    → P (update c e) → P record { clock = c; entry = e } → P (only id update i c e)
-only_either P id update i c e here other =
-    either P (eqb i id) (update c e) record { clock = c; entry = e } (λ _. here) (λ _. other)
 
 -- a sweep over one entry more ends with the update of that entry
 pub sweep_more : (i : ℕ) (update : ℕ → Clock → Entry → Updated) (c : Clock) (es : List Entry) (e : Entry)

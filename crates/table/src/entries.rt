@@ -53,6 +53,7 @@ pub enum Change {
 }
 
 // Entries that are initialized get these marks; `first` is then the place of id 0.
+// This plan and the two below are made before the host table is borrowed, so they name places and have no slice.
 #[derive(Clone, Copy)]
 pub struct Changes {
     pub first: usize,

@@ -26,7 +26,7 @@ pub const MIN_DELAY: Millis = Millis(100);
 
 pub const HOLD_DOWN: Seconds = Seconds(120);
 
-// TABLE-1: an entry of the host table. The mark `here` is 1 if its host lives here, else 0; `time` is that of its last update.
+// TABLE-1: an entry of the host table. The mark `here` is 1 if its host lives here, else 0; `time` is that of its last update. C programs lay out the mark as an octet.
 #[repr(C)]
 #[derive(Clone, Copy)]
 pub struct Entry {
@@ -55,6 +55,7 @@ pub struct Updated {
 }
 
 // A route moves to another link only where that is shorter by 100 ms or more.
+#[tactic(auto, using(crate::proofs::LineA::switching_holds))]
 pub fn switching()
     ensures { Switching }
 {}

@@ -43,6 +43,7 @@ pub fn mark_in(word: u64, id: usize) -> u8
 }
 
 // The mark of an id, 1 or 0.
+#[tactic(auto, unfolding(crate::specs::Marks::mark))]
 pub fn mark(m: Marks, id: usize) -> u8
     ensures { result ≡ mark m id }
 {
@@ -50,6 +51,7 @@ pub fn mark(m: Marks, id: usize) -> u8
 }
 
 // Are the bits of a word from the n-th on zero?
+#[tactic(auto, using(crate::proofs::Bits::word_zero))]
 fn zero_from(word: u64, n: usize) -> bool
     ensures { result ≡ zero_from word n }
 {
