@@ -1,3 +1,2 @@
 pub mod Flights
-pub mod Stages
 pub mod Pair

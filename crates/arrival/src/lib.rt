@@ -33,6 +33,7 @@ use host::{Links, Reply, Settings, host_count, inspection};
 use net_table::NetTable;
 use quantity::{Count, Millis, Seconds, Word};
 use route::Found;
+use std::ops::ControlFlow;
 use table::Update;
 use table::entries::Updates;
 use wire::{Packet, Parsed};
@@ -46,13 +47,6 @@ pub struct Flight {
     pub link: host::Link,
     pub delay: quantity::Millis,
     pub offset: quantity::Word,
-}
-
-// How steps 2 to 4 come out: on to step 5, or the end.
-#[derive(Clone, Copy)]
-pub enum Step {
-    On(Flight),
-    End(Flight),
 }
 
 // What is done with a packet that arrives on a link: it is looked at, it is acted on, or both in turn, the arrival in one piece.
@@ -232,8 +226,8 @@ fn action(
     let n = k.used();
     let clock = r.clock;
     match steps::two_to_four(broadcast(s, link), clock.hold, p, r.time, link_of(l, link)) {
-        Step::End(f) => ends(Answer::DelayNotValid, s, clock, with_link(l, link, f.link)),
-        Step::On(f) => step5(s, t, clock, with_link(l, link, f.link), link, n, p, f),
+        ControlFlow::Break(f) => ends(Answer::DelayNotValid, s, clock, with_link(l, link, f.link)),
+        ControlFlow::Continue(f) => step5(s, t, clock, with_link(l, link, f.link), link, n, p, f),
     }
 }
 

@@ -4,13 +4,14 @@ ghost use Rattle.quantity.specs.Quantity.{millis};
 ghost use Rattle.clock.specs.Midnight.{day_millis};
 ghost use Rattle.wire.specs.code.Ranges.{SignedTwo, Four};
 ghost use Rattle.table.specs.Entry.{up_to};
+ghost use Rattle.table.specs.Forms.{flow_of};
 ghost use Rattle.arrival.specs.Steps.{tsp_of, delay_of, offset_of, new_neighbor, step4, measured, steps2to4};
-ghost use Rattle.arrival.specs.code.Plan.{step_of};
 
-use super::{Flight, Step};
+use super::Flight;
 use host::Link;
 use host::link_state::KEEP_ALIVE_INTERVAL;
 use quantity::{Millis, Seconds, Word};
+use std::ops::ControlFlow;
 use wire::Packet;
 
 pub fn tsp_of(time: Millis, reading: Millis) -> Word
@@ -73,31 +74,32 @@ fn new_neighbor(p: Packet, f: Flight) -> Flight
     }
 }
 
-pub fn step4(broadcast: bool, hold: Seconds, p: Packet, f: Flight) -> Step
-    ensures { result ≡ step_of (step4 broadcast hold p f) }
+// Step 4 continues with step 5, or breaks off.
+pub fn step4(broadcast: bool, hold: Seconds, p: Packet, f: Flight) -> ControlFlow<Flight, Flight>
+    ensures { result ≡ flow_of (step4 broadcast hold p f) }
 {
     if broadcast {
-        return Step::On(f);
+        return ControlFlow::Continue(f);
     }
     let source = p.source;
     let x = f.link;
     if !source.same(x.neighbor) {
-        return Step::On(new_neighbor(p, f));
+        return ControlFlow::Continue(new_neighbor(p, f));
     }
     let tsp = p.tsp;
     if tsp.is_zero() {
-        return Step::End(f);
+        return ControlFlow::Break(f);
     }
     if hold.0 != 0 {
-        return Step::End(f);
+        return ControlFlow::Break(f);
     }
-    Step::On(f)
+    ControlFlow::Continue(f)
 }
 
-pub fn two_to_four(broadcast: bool, hold: Seconds, p: Packet, reading: Millis, x: Link) -> Step
+pub fn two_to_four(broadcast: bool, hold: Seconds, p: Packet, reading: Millis, x: Link) -> ControlFlow<Flight, Flight>
     requires four { Four p.time.0 }
     requires reading_value { up_to day_millis reading ≡ true }
-    ensures { result ≡ step_of (steps2to4 broadcast hold p reading x) }
+    ensures { result ≡ flow_of (steps2to4 broadcast hold p reading x) }
 {
     step4(broadcast, hold, p, measured(broadcast, p, reading, x))
 }

@@ -1,5 +1,7 @@
 -- UPDATE-a: forms that the rules use: lines that may end an update, a test of every element, numbered elements.
 use Rattle.std.specs.Prelude.{Bool, true, ◌&&◌, List, [], ◌∷◌, ℕ, zero, suc}
+use Rattle.std.specs.declared.ops.ControlFlow.{ControlFlow}
+use Rattle.std.specs.declared.ops.ControlFlow.TheVariants.{Continue, Break}
 
 -- UPDATE-a: a line continues with a value, or ends with it
 pub data Stage (A : Type 0) : Type 0 where
@@ -11,6 +13,11 @@ infixl 60 ◌then◌
 abbrev pub ◌then◌ : {A : Type 0} → Stage A → (A → Stage A) → Stage A
 on a then next = next a
 end a then next = end a
+
+-- UPDATE-a: how a line or a step comes out, as the code has it
+abbrev pub flow_of : {A : Type 0} → Stage A → ControlFlow A A
+flow_of (on a) = Continue a
+flow_of (end a) = Break a
 
 -- HOST-6: does every element pass a test?
 abbrev pub every : {A : Type 0} → (A → Bool) → List A → Bool

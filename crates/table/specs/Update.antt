@@ -14,15 +14,8 @@ use Rattle.wire.specs.declared.Report.{Report}
 use Rattle.table.specs.declared.Entry.{Entry}
 use Rattle.table.specs.declared.Update.{Update}
 use Rattle.table.specs.declared.Updated.{Updated}
-use Rattle.table.specs.declared.Line.{Line}
-use Rattle.table.specs.declared.Line.TheVariants.{On, End}
 use Rattle.table.specs.Forms.{Stage, on, end, ◌then◌}
 use Rattle.table.specs.Entry.{max_delay, min_delay, hold_down, lives_here, up, taken_down}
-
--- UPDATE-a: the result of a line, as the code has it
-abbrev pub line_of : Stage Entry → Line
-line_of (on e) = On e
-line_of (end e) = End e
 
 -- UPDATE-1, SLIP-1: an update with a report added: DELAY without wrapping, OFFSET as a 16-bit word
 abbrev pub plus_report : Update → Report → Update

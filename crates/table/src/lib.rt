@@ -4,12 +4,14 @@
 ghost use Rattle.std.specs.Prelude.{◌≡◌, true};
 ghost use Rattle.clock.specs.Clock.{clock_in_range};
 ghost use Rattle.table.specs.Entry.{fresh_entry, up, with_mark, with_ttl, taken_down, aged, advertised, up_to, entry_in_range, lives_here};
-ghost use Rattle.table.specs.Update.{line_of, delay_in_range, line_a, line_b, line_c, lines, date_taken, line_d, update, self_reported, reported_here};
+ghost use Rattle.table.specs.Forms.{flow_of};
+ghost use Rattle.table.specs.Update.{delay_in_range, line_a, line_b, line_c, lines, date_taken, line_d, update, self_reported, reported_here};
 ghost use Rattle.table.specs.Switching.{Switching};
 
 use calendar::Date;
 use clock::Clock;
 use quantity::{Count, Millis, Seconds, Word};
+use std::ops::ControlFlow;
 use wire::Report;
 
 pub mod entries;
@@ -50,13 +52,6 @@ pub struct Update {
 pub struct Updated {
     pub clock: Clock,
     pub entry: Entry,
-}
-
-// How a line of an update comes out: on to the next line, or the end, with the entry as it is then.
-#[derive(Clone, Copy)]
-pub enum Line {
-    On(Entry),
-    End(Entry),
 }
 
 // A route moves to another link only where that is shorter by 100 ms or more.
@@ -200,53 +195,55 @@ pub fn in_range(e: Entry) -> bool
     up_to(clock::DAY, time)
 }
 
+// A line of an update continues with the next line, or breaks off, with the entry as it is then.
+
 // Line (a): a route by another link ends here unless it is shorter by MINDELAY.
-pub fn line_a(u: Update, e: Entry) -> Line
+pub fn line_a(u: Update, e: Entry) -> ControlFlow<Entry, Entry>
     requires { delay_in_range u ≡ true }
-    ensures { result ≡ line_of (line_a u e) }
+    ensures { result ≡ flow_of (line_a u e) }
 {
     if u.pid == e.pid {
-        return Line::On(e);
+        return ControlFlow::Continue(e);
     }
     let known = e.delay;
     let delay = u.delay;
     if known.less(delay.plus(MIN_DELAY)) {
-        return Line::End(e);
+        return ControlFlow::Break(e);
     }
-    Line::On(e)
+    ControlFlow::Continue(e)
 }
 
 // Line (b): a DELAY of 30,000 or more takes the host down; a host that is down comes up only with its TTL at 0.
-pub fn line_b(u: Update, e: Entry) -> Line
-    ensures { result ≡ line_of (line_b u e) }
+pub fn line_b(u: Update, e: Entry) -> ControlFlow<Entry, Entry>
+    ensures { result ≡ flow_of (line_b u e) }
 {
     let delay = u.delay;
     let reached = delay.less(MAX_DELAY);
     let was_up = up(e);
     if was_up {
         if reached {
-            return Line::On(e);
+            return ControlFlow::Continue(e);
         }
-        return Line::End(taken_down(e));
+        return ControlFlow::Break(taken_down(e));
     }
     if !reached {
-        return Line::End(e);
+        return ControlFlow::Break(e);
     }
     let held = e.ttl;
     if held.0 == 0 {
-        return Line::On(e);
+        return ControlFlow::Continue(e);
     }
-    Line::End(e)
+    ControlFlow::Break(e)
 }
 
 // Line (c): the update is stored.
-pub fn line_c(u: Update, e: Entry) -> Line
-    ensures { result ≡ line_of (line_c u e) }
+pub fn line_c(u: Update, e: Entry) -> ControlFlow<Entry, Entry>
+    ensures { result ≡ flow_of (line_c u e) }
 {
     let delay = u.delay;
     let offset = u.offset;
     let reading = u.reading;
-    Line::On(Entry {
+    ControlFlow::Continue(Entry {
         delay: delay,
         offset: offset,
         ttl: HOLD_DOWN,
@@ -257,18 +254,12 @@ pub fn line_c(u: Update, e: Entry) -> Line
 }
 
 // Lines (a) to (c).
-pub fn lines(u: Update, e: Entry) -> Line
+pub fn lines(u: Update, e: Entry) -> ControlFlow<Entry, Entry>
     requires { delay_in_range u ≡ true }
-    ensures { result ≡ line_of (lines u e) }
+    ensures { result ≡ flow_of (lines u e) }
 {
-    let a = line_a(u, e);
-    let Line::On(x) = a else {
-        return a;
-    };
-    let b = line_b(u, x);
-    let Line::On(y) = b else {
-        return b;
-    };
+    let x = line_a(u, e)?;
+    let y = line_b(u, x)?;
     line_c(u, y)
 }
 
@@ -318,8 +309,8 @@ pub fn update_entry(
     ensures { result ≡ update clock_host hold_interval n date u c e }
 {
     match lines(u, e) {
-        Line::End(x) => Updated { clock: c, entry: x },
-        Line::On(x) => {
+        ControlFlow::Break(x) => Updated { clock: c, entry: x },
+        ControlFlow::Continue(x) => {
             if clock_host {
                 let by = u.offset;
                 let d = line_d(hold_interval, n, date, by, c);
@@ -341,8 +332,8 @@ fn self_reported(reading: Millis, e: Entry) -> Entry
         reading: reading,
     };
     match lines(u, e) {
-        Line::On(x) => x,
-        Line::End(x) => x,
+        ControlFlow::Continue(x) => x,
+        ControlFlow::Break(x) => x,
     }
 }
 

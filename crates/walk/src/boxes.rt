@@ -18,7 +18,7 @@ use super::held::{at, ended, holding, holding_reading, in_flight, onward, storin
 use super::lines::{box_a, box_b, box_c, box_d};
 use answer::Answer;
 use arrival::steps::{delay_of, offset_of, step4, tsp_of};
-use arrival::{Flight, Step};
+use arrival::Flight;
 use clock::{Clock, Counter};
 use host::effects::{answers, nothing};
 use host::link_state::{KEEP_ALIVE_INTERVAL, broadcast, link_of};
@@ -28,6 +28,7 @@ use host::{Effect, Link, Links, Settings};
 use net_table::NetTable;
 use quantity::{Millis, Word};
 use route::Found;
+use std::ops::ControlFlow;
 use table::Entry;
 use wire::Packet;
 
@@ -84,8 +85,8 @@ fn box4(s: Settings, c: Clock, l: Links, w: Walk, p: Packet) -> Effect
     ensures { result ≡ box4 p (host s c l) w }
 {
     match step4(broadcast(s, w.link as usize), c.hold, p, in_flight(l, w)) {
-        Step::End(f) => ended(Answer::DelayNotValid, c, storing(f, w, l), nothing()),
-        Step::On(f) => onward(at(5, 0, 0, holding(f, w)), c, storing(f, w, l), nothing()),
+        ControlFlow::Break(f) => ended(Answer::DelayNotValid, c, storing(f, w, l), nothing()),
+        ControlFlow::Continue(f) => onward(at(5, 0, 0, holding(f, w)), c, storing(f, w, l), nothing()),
     }
 }
 

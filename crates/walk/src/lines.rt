@@ -13,8 +13,9 @@ use clock::Clock;
 use host::effects::{nothing, one};
 use host::walk::{Walk, line_update};
 use host::{Effect, Links, Settings, host_count};
+use std::ops::ControlFlow;
 use table::entries::{Change, Changes};
-use table::{Entry, Line};
+use table::Entry;
 use wire::Packet;
 
 // The next id, or the end.
@@ -45,8 +46,8 @@ pub fn box_a(s: Settings, c: Clock, l: Links, w: Walk, p: Packet, packet: &[u8],
     ensures { result ≡ box_a p packet.now (host s c l) w e }
 {
     match table::line_a(line_update(s, w, p, packet), e) {
-        Line::End(_) => next_id(s, c, l, w, p, nothing()),
-        Line::On(_) => onward(at(5, 2, w.id, w), c, l, nothing()),
+        ControlFlow::Break(_) => next_id(s, c, l, w, p, nothing()),
+        ControlFlow::Continue(_) => onward(at(5, 2, w.id, w), c, l, nothing()),
     }
 }
 
@@ -56,8 +57,8 @@ pub fn box_b(s: Settings, c: Clock, l: Links, w: Walk, p: Packet, packet: &[u8],
     ensures { result ≡ box_b p packet.now (host s c l) w e }
 {
     match table::line_b(line_update(s, w, p, packet), e) {
-        Line::End(x) => next_id(s, c, l, w, p, put(w, x)),
-        Line::On(_) => onward(at(5, 3, w.id, w), c, l, nothing()),
+        ControlFlow::Break(x) => next_id(s, c, l, w, p, put(w, x)),
+        ControlFlow::Continue(_) => onward(at(5, 3, w.id, w), c, l, nothing()),
     }
 }
 
@@ -77,8 +78,8 @@ pub fn box_c(s: Settings, c: Clock, l: Links, w: Walk, p: Packet, packet: &[u8],
     ensures { result ≡ box_c p packet.now (host s c l) w e }
 {
     match table::line_c(line_update(s, w, p, packet), e) {
-        Line::End(x) => next_id(s, c, l, w, p, put(w, x)),
-        Line::On(x) => after_c(s, c, l, w, p, x),
+        ControlFlow::Break(x) => next_id(s, c, l, w, p, put(w, x)),
+        ControlFlow::Continue(x) => after_c(s, c, l, w, p, x),
     }
 }
 

@@ -1,7 +1,7 @@
 -- Five ways through `line_b`: in each, the branches taken decide the tests of the definition, with the contracts of `less`, `up`, `taken_down`.
 use mathlib.Core.Path.{◌∙◌, sym, ap}
 use borrow.Author.Tests.{eq-eqb, ne_eqb}
-use Rattle.table.specs.declared.Line.TheVariants.{End}
+use Rattle.std.specs.declared.ops.ControlFlow.TheVariants.{Break}
 use Rattle.table.specs.Update.{line_b}
 use Rattle.table.proofs.line_b.Goals as goal
 
@@ -14,7 +14,7 @@ pub returns-then-was_up : goal.returns-then-was_up
 unfolding line_b
 returns-then-was_up c =
     let is_up = sym c.up-was_up.ensures ∙ c.if-was_up.true in
-    rw (is_up, sym c.less-reached.ensures ∙ c.if-reached.false) (ap End c.taken_down.ensures)
+    rw (is_up, sym c.less-reached.ensures ∙ c.if-reached.false) (ap Break c.taken_down.ensures)
 
 pub returns-then-not-reached : goal.returns-then-not-reached
 unfolding line_b

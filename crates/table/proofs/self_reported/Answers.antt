@@ -5,14 +5,14 @@ use Rattle.table.proofs.Stages.{after_on, after_end}
 use Rattle.table.specs.Update.{self_reported}
 use Rattle.table.proofs.self_reported.Goals as goal
 
-pub returns-in-On : goal.returns-in-On
+pub returns-in-Continue : goal.returns-in-Continue
 unfolding self_reported
-returns-in-On c =
+returns-in-Continue c =
     let a = c.args in
-    after_on (lines (own_update a.reading) a.e) _ (sym c.in-On.is ∙ c.lines.ensures)
+    after_on (lines (own_update a.reading) a.e) _ (sym c.in-Continue.is ∙ c.lines.ensures)
 
-pub returns-in-End : goal.returns-in-End
+pub returns-in-Break : goal.returns-in-Break
 unfolding self_reported
-returns-in-End c =
+returns-in-Break c =
     let a = c.args in
-    after_end (lines (own_update a.reading) a.e) _ (sym c.in-End.is ∙ c.lines.ensures)
+    after_end (lines (own_update a.reading) a.e) _ (sym c.in-Break.is ∙ c.lines.ensures)

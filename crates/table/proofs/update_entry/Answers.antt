@@ -5,13 +5,13 @@ use Rattle.table.proofs.update_entry.Goals as goal
 
 pub returns-then-clock_host : goal.returns-then-clock_host
 returns-then-clock_host c =
-    let came = sym c.in-On.is ∙ c.lines.ensures in
+    let came = sym c.in-Continue.is ∙ c.lines.ensures in
     stored_set _ _ _ _ _ _ _ _ _ c.if-clock_host.true c.line_d-d.ensures came
 
-pub returns-in-End : goal.returns-in-End
-returns-in-End c = ended _ _ _ _ _ _ _ _ (sym c.in-End.is ∙ c.lines.ensures)
+pub returns-in-Break : goal.returns-in-Break
+returns-in-Break c = ended _ _ _ _ _ _ _ _ (sym c.in-Break.is ∙ c.lines.ensures)
 
 pub returns-else-clock_host : goal.returns-else-clock_host
 returns-else-clock_host c =
-    let came = sym c.in-On.is ∙ c.lines.ensures in
+    let came = sym c.in-Continue.is ∙ c.lines.ensures in
     stored_unset _ _ _ _ _ _ _ _ c.if-clock_host.false came

@@ -1,7 +1,7 @@
 -- Five ways through `step4`: in each, the branches taken decide the tests of the definition, with the contracts of `same`, `new_neighbor`, `is_zero`.
 use mathlib.Core.Path.{◌∙◌, sym, ap}
 use borrow.Author.Tests.{eq-eqb, ne_eqb}
-use Rattle.arrival.specs.declared.Step.TheVariants.{On}
+use Rattle.std.specs.declared.ops.ControlFlow.TheVariants.{Continue}
 use Rattle.arrival.specs.Steps.{step4}
 use Rattle.arrival.proofs.steps.step4.Goals as goal
 
@@ -11,7 +11,7 @@ returns-then-broadcast c = rw c.if-broadcast.true
 
 pub returns-then-not-same : goal.returns-then-not-same
 unfolding step4
-returns-then-not-same c = rw (c.if-broadcast.false, sym c.same.ensures ∙ c.if-not-same.true) (ap On c.new_neighbor.ensures)
+returns-then-not-same c = rw (c.if-broadcast.false, sym c.same.ensures ∙ c.if-not-same.true) (ap Continue c.new_neighbor.ensures)
 
 pub returns-then-is_zero : goal.returns-then-is_zero
 unfolding step4

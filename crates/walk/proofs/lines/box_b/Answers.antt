@@ -1,12 +1,13 @@
 -- By how line (b) comes out.
 use mathlib.Core.Path.{◌∙◌, sym, ap}
 use Rattle.table.specs.declared.Update.{Update}
-use Rattle.table.specs.Update.{line_of, line_b}
+use Rattle.table.specs.Forms.{flow_of}
+use Rattle.table.specs.Update.{line_b}
 use Rattle.walk.proofs.Outcomes.{b_ends, b_goes_on}
 use Rattle.walk.proofs.lines.box_b.Goals as goal
 
-pub returns-in-End : goal.returns-in-End
-returns-in-End c = rw (c.next_id.ensures, c.put.ensures) (b_ends _ _ _ _ _ _ (sym c.in-End.is ∙ c.line_b.ensures ∙ ap (λ (u : Update). line_of (line_b u c.args.e)) c.line_update.ensures.0))
+pub returns-in-Break : goal.returns-in-Break
+returns-in-Break c = rw (c.next_id.ensures, c.put.ensures) (b_ends _ _ _ _ _ _ (sym c.in-Break.is ∙ c.line_b.ensures ∙ ap (λ (u : Update). flow_of (line_b u c.args.e)) c.line_update.ensures.0))
 
-pub returns-in-On : goal.returns-in-On
-returns-in-On c = rw (c.onward.ensures, c.nothing.ensures, c.at.ensures) (b_goes_on _ _ _ _ _ _ (sym c.in-On.is ∙ c.line_b.ensures ∙ ap (λ (u : Update). line_of (line_b u c.args.e)) c.line_update.ensures.0))
+pub returns-in-Continue : goal.returns-in-Continue
+returns-in-Continue c = rw (c.onward.ensures, c.nothing.ensures, c.at.ensures) (b_goes_on _ _ _ _ _ _ (sym c.in-Continue.is ∙ c.line_b.ensures ∙ ap (λ (u : Update). flow_of (line_b u c.args.e)) c.line_update.ensures.0))
