@@ -96,7 +96,13 @@ pub fn step4(broadcast: bool, hold: Seconds, p: Packet, f: Flight) -> ControlFlo
     ControlFlow::Continue(f)
 }
 
-pub fn two_to_four(broadcast: bool, hold: Seconds, p: Packet, reading: Millis, x: Link) -> ControlFlow<Flight, Flight>
+pub fn two_to_four(
+    broadcast: bool,
+    hold: Seconds,
+    p: Packet,
+    reading: Millis,
+    x: Link,
+) -> ControlFlow<Flight, Flight>
     requires four { Four p.time.0 }
     requires reading_value { up_to day_millis reading ≡ true }
     ensures { result ≡ flow_of (steps2to4 broadcast hold p reading x) }

@@ -15,6 +15,7 @@ use answer::Answer;
 use arrival::Delivery;
 use clock::{Clock, Counter};
 use host::guard::{Scope, guard, guard_initialize};
+use host::link_number::LinkNumber;
 use host::replies::plainly;
 use host::walk::Walk;
 use host::{Links, Reply, Settings};
@@ -136,7 +137,15 @@ pub fn tick(
         result clock.new links.now walk.now copy.now entries.now }
 {
     let g = guard(
-        settings, net_table, number, clock, links, walk, copy, Scope::All, entries,
+        settings,
+        net_table,
+        number,
+        clock,
+        links,
+        walk,
+        copy,
+        Scope::All,
+        entries,
     );
     if refuses(g) {
         return plainly(g);
@@ -163,7 +172,15 @@ pub fn adjust(
         result clock.new links.now walk.now copy.now entries.now }
 {
     let g = guard(
-        settings, net_table, number, clock, links, walk, copy, Scope::All, entries,
+        settings,
+        net_table,
+        number,
+        clock,
+        links,
+        walk,
+        copy,
+        Scope::All,
+        entries,
     );
     if refuses(g) {
         return plainly(g);
@@ -191,7 +208,15 @@ pub fn set(
         result clock.new links.now walk.now copy.now entries.now }
 {
     let g = guard(
-        settings, net_table, number, clock, links, walk, copy, Scope::All, entries,
+        settings,
+        net_table,
+        number,
+        clock,
+        links,
+        walk,
+        copy,
+        Scope::All,
+        entries,
     );
     if refuses(g) {
         return plainly(g);
@@ -218,7 +243,15 @@ pub fn read(
         result clock.new links.now walk.now copy.now entries.now }
 {
     let g = guard(
-        settings, net_table, number, clock, links, walk, copy, Scope::All, entries,
+        settings,
+        net_table,
+        number,
+        clock,
+        links,
+        walk,
+        copy,
+        Scope::All,
+        entries,
     );
     if refuses(g) {
         return plainly(g);
@@ -244,7 +277,15 @@ pub fn second(
         result clock.new links.now walk.now copy.now entries.new }
 {
     let g = guard(
-        settings, net_table, number, clock, links, walk, copy, Scope::All, entries,
+        settings,
+        net_table,
+        number,
+        clock,
+        links,
+        walk,
+        copy,
+        Scope::All,
+        entries,
     );
     if refuses(g) {
         return plainly(g);
@@ -273,7 +314,15 @@ pub fn self_report(
         result clock.new links.now walk.now copy.now entries.new }
 {
     let g = guard(
-        settings, net_table, number, clock, links, walk, copy, Scope::All, entries,
+        settings,
+        net_table,
+        number,
+        clock,
+        links,
+        walk,
+        copy,
+        Scope::All,
+        entries,
     );
     if refuses(g) {
         return plainly(g);
@@ -302,7 +351,15 @@ pub fn lookup(
         result clock.now links.now walk.now copy.now entries.now }
 {
     let g = guard(
-        settings, net_table, number, clock, links, walk, copy, Scope::All, entries,
+        settings,
+        net_table,
+        number,
+        clock,
+        links,
+        walk,
+        copy,
+        Scope::All,
+        entries,
     );
     if refuses(g) {
         return plainly(g);
@@ -331,12 +388,21 @@ pub fn open_walk(
         result clock.now links.now walk.new copy.new entries.now }
 {
     let g = guard(
-        settings, net_table, number, clock, links, walk, copy, Scope::Opening(link), entries,
+        settings,
+        net_table,
+        number,
+        clock,
+        links,
+        walk,
+        copy,
+        Scope::Opening(link),
+        entries,
     );
     if refuses(g) {
         return plainly(g);
     }
-    let p = walk::opened_by(*settings, *walk, link, packet);
+    let i = LinkNumber { number: link };
+    let p = walk::opened_by(*settings, *walk, i, packet);
     walk::keep(copy, packet, p.octets);
     *walk = p.walk;
     p.reply
@@ -361,12 +427,21 @@ pub fn send(
         result clock.new links.new walk.now copy.now entries.now buffer.new }
 {
     let g = guard(
-        settings, net_table, number, clock, links, walk, copy, Scope::OnLink(link), entries,
+        settings,
+        net_table,
+        number,
+        clock,
+        links,
+        walk,
+        copy,
+        Scope::OnLink(link),
+        entries,
     );
     if refuses(g) {
         return plainly(g);
     }
-    let p = sending::send_in(*settings, *clock, *links, link, counter, buffer.len());
+    let i = LinkNumber { number: link };
+    let p = sending::send_in(*settings, *clock, *links, i, counter, buffer.len());
     let w = places::reports_at(number, p.work);
     read_out(buffer, entries, w);
     sending::finish(buffer, p);
@@ -398,12 +473,21 @@ pub fn inspect(
         result clock.now links.now walk.now copy.now entries.now }
 {
     let g = guard(
-        settings, net_table, number, clock, links, walk, copy, Scope::OnLink(link), entries,
+        settings,
+        net_table,
+        number,
+        clock,
+        links,
+        walk,
+        copy,
+        Scope::OnLink(link),
+        entries,
     );
     if refuses(g) {
         return plainly(g);
     }
-    plans::inspect(*settings, link, packet)
+    let i = LinkNumber { number: link };
+    plans::inspect(*settings, i, packet)
 }
 
 // A packet that arrives on a link: it is inspected, acted on, or received, which is both in turn.
@@ -424,7 +508,15 @@ pub fn deliver(
         result clock.new links.new walk.now copy.now entries.new }
 {
     let g = guard(
-        settings, net_table, number, clock, links, walk, copy, Scope::OnLink(arrival::on_link(delivery)), entries,
+        settings,
+        net_table,
+        number,
+        clock,
+        links,
+        walk,
+        copy,
+        Scope::OnLink(arrival::on_link(delivery)),
+        entries,
     );
     if refuses(g) {
         return plainly(g);

@@ -1,5 +1,5 @@
 // The results of the calls that change neither links nor walk, by value.
-ghost use Rattle.std.specs.Prelude.{◌≡◌, true, ◌≤◌};
+ghost use Rattle.std.specs.Prelude.{◌≡◌, true};
 ghost use Rattle.clock.specs.Clock.{clock_in_range};
 ghost use Rattle.host.specs.Settings.{settings_good};
 ghost use Rattle.host.specs.Inspection.{inspect, tells};
@@ -9,6 +9,7 @@ ghost use Rattle.calls.specs.code.Planned.{Timely, Aging};
 use answer::Answer;
 use clock::{Clock, Counter};
 use host::effects::each;
+use host::link_number::LinkNumber;
 use host::replies::{plainly, returns_time};
 use host::{Reply, Settings, inspection};
 use quantity::{Count, Millis};
@@ -92,9 +93,8 @@ pub(crate) fn self_report(s: Settings, c: Clock, k: Counter) -> Aged
     }
 }
 
-pub(crate) fn inspect(s: Settings, link: usize, packet: &[u8]) -> Reply
-    requires { (1 ≤ link) × (link ≤ 8) }
-    ensures { result ≡ tells (inspect s link packet.now) }
+pub(crate) fn inspect(s: Settings, link: LinkNumber, packet: &[u8]) -> Reply
+    ensures { result ≡ tells (inspect s link.number packet.now) }
 {
     inspection::tells(inspection::inspect(s, link, packet))
 }

@@ -4,6 +4,7 @@
 
 use calls::Request;
 use clock::Counter;
+use host::link_number::LinkNumber;
 use owned_host::HostReply;
 use table::Entry;
 
@@ -27,8 +28,9 @@ fn line(before: HostReply, after: HostReply) {
     let left = after.entries;
     show::place(w);
     let a = show::reading(w, after.walk);
-    let x = host::link_state::link_of(before.links, 1);
-    let b = show::link(a, x, host::link_state::link_of(after.links, 1));
+    let one = LinkNumber { number: 1 };
+    let x = host::link_state::link_of(before.links, one);
+    let b = show::link(a, x, host::link_state::link_of(after.links, one));
     let c = show::held(b, w, after.walk);
     show::end(show::entry(c, entry_of(entries, w.id), entry_of(left, w.id)));
 }

@@ -1,9 +1,10 @@
 // The inspection of an arrival: answers 3 to 7 by the octets, then 8 and 9 by the settings.
-ghost use Rattle.std.specs.Prelude.{◌≡◌, ◌≤◌};
+ghost use Rattle.std.specs.Prelude.{◌≡◌};
 ghost use Rattle.wire.specs.declared.Parsed.TheVariants.{Good};
 ghost use Rattle.wire.specs.code.Ranges.{Four, TimeFits};
 ghost use Rattle.host.specs.Inspection.{other_layout, looped, inspected, inspect, tells};
 
+use super::link_number::LinkNumber;
 use super::link_state::broadcast;
 use super::replies::{plainly, returns_packet};
 use super::{Reply, Settings};
@@ -25,9 +26,8 @@ fn other_layout(s: Settings, p: Packet) -> bool
 }
 
 // Has our own packet come back on a point-to-point link?
-fn looped(s: Settings, link: usize, p: Packet) -> bool
-    requires { (1 ≤ link) × (link ≤ 8) }
-    ensures { result ≡ looped s link p }
+fn looped(s: Settings, link: LinkNumber, p: Packet) -> bool
+    ensures { result ≡ looped s link.number p }
 {
     if broadcast(s, link) {
         return false;
@@ -37,10 +37,9 @@ fn looped(s: Settings, link: usize, p: Packet) -> bool
 }
 
 // A packet that could be read, by the settings.
-fn compared(s: Settings, link: usize, p: Packet) -> Parsed
-    requires le_link { (1 ≤ link) × (link ≤ 8) }
-    requires four { Four p.time.0 }
-    ensures { (result ≡ inspected s link (Good p)) × TimeFits result }
+fn compared(s: Settings, link: LinkNumber, p: Packet) -> Parsed
+    requires { Four p.time.0 }
+    ensures { (result ≡ inspected s link.number (Good p)) × TimeFits result }
 {
     if other_layout(s, p) {
         return Parsed::Bad(Answer::OtherLayout);
@@ -51,9 +50,8 @@ fn compared(s: Settings, link: usize, p: Packet) -> Parsed
     Parsed::Good(p)
 }
 
-pub fn inspect(s: Settings, link: usize, packet: &[u8]) -> Parsed
-    requires { (1 ≤ link) × (link ≤ 8) }
-    ensures { (result ≡ inspect s link packet.now) × TimeFits result }
+pub fn inspect(s: Settings, link: LinkNumber, packet: &[u8]) -> Parsed
+    ensures { (result ≡ inspect s link.number packet.now) × TimeFits result }
 {
     match wire::parse(packet) {
         Parsed::Bad(a) => Parsed::Bad(a),

@@ -25,6 +25,7 @@ use net_table::NetTable;
 pub mod effects;
 pub mod guard;
 pub mod inspection;
+pub mod link_number;
 pub mod link_state;
 pub mod replies;
 pub mod walk;

@@ -20,6 +20,7 @@ ghost use Rattle.host.specs.declared.walk.Place.TheVariants.{LineC};
 ghost use Rattle.host.specs.Inspection.{inspect};
 ghost use Rattle.host.specs.code.Walks.{Reported};
 
+use super::link_number::LinkNumber;
 use super::{Settings, inspection, link_state};
 use quantity::{Count, Millis, Word};
 use table::Update;
@@ -196,7 +197,13 @@ fn packet_good(s: Settings, w: Walk, packet: &[u8]) -> bool
     requires { (1 ≤ w.link) × (w.link ≤ 8) }
     ensures { result ≡ packet_fits s w packet.now (inspect s w.link packet.now) }
 {
-    match inspection::inspect(s, w.link as usize, packet) {
+    match inspection::inspect(
+        s,
+        LinkNumber {
+            number: w.link as usize,
+        },
+        packet,
+    ) {
         Parsed::Bad(_) => false,
         Parsed::Good(p) => fields_good(s, w, p, packet),
     }

@@ -5,6 +5,7 @@ use super::show;
 use calendar::Date;
 use clock::{Clock, Counter};
 use host::Link;
+use host::link_number::LinkNumber;
 use owned_host::HostReply;
 use printing::{end, number, text};
 use quantity::{Millis, Seconds, Word};
@@ -91,7 +92,11 @@ fn arrival(host: Address, neighbor: Address, c: Clock, e: Entry, octets: &[u8]) 
         keep_alive: 0,
         tsp: Word(0),
     };
-    let links = host::link_state::with_link(host::link_state::fresh(s), 1, link);
+    let links = host::link_state::with_link(
+        host::link_state::fresh(s),
+        LinkNumber { number: 1 },
+        link,
+    );
     let v = host::walk::none();
     let k = Counter::zero();
     owned_host::take(
@@ -123,7 +128,7 @@ fn returned(w: HostReply, id: u8) {
     let a = r.answer;
     let entries = w.entries;
     show::answer(a);
-    show::link(host::link_state::link_of(w.links, 1));
+    show::link(host::link_state::link_of(w.links, LinkNumber { number: 1 }));
     number(b"; id ", id as i64);
     show::entry(entry_of(entries, id));
     end();

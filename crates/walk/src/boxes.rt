@@ -17,10 +17,11 @@ ghost use Rattle.walk.specs.Boxes.{raised, to_neighbor, box1, box2, box3, box4, 
 use super::held::{at, ended, holding, holding_reading, in_flight, onward, storing};
 use super::lines::{box_a, box_b, box_c, box_d};
 use answer::Answer;
-use arrival::steps::{delay_of, offset_of, step4, tsp_of};
 use arrival::Flight;
+use arrival::steps::{delay_of, offset_of, step4, tsp_of};
 use clock::{Clock, Counter};
 use host::effects::{answers, nothing};
+use host::link_number::LinkNumber;
 use host::link_state::{KEEP_ALIVE_INTERVAL, broadcast, link_of};
 use host::replies::plainly;
 use host::walk::{Place, Walk};
@@ -76,7 +77,16 @@ fn box3(s: Settings, c: Clock, l: Links, w: Walk, p: Packet) -> Effect
     requires w_value { reading_in_range w ≡ true }
     ensures { result ≡ box3 p (host s c l) w }
 {
-    let f = measured(broadcast(s, w.link as usize), p, in_flight(l, w));
+    let f = measured(
+        broadcast(
+            s,
+            LinkNumber {
+                number: w.link as usize,
+            },
+        ),
+        p,
+        in_flight(l, w),
+    );
     onward(at(4, 0, 0, holding(f, w)), c, storing(f, w, l), nothing())
 }
 
@@ -84,9 +94,24 @@ fn box4(s: Settings, c: Clock, l: Links, w: Walk, p: Packet) -> Effect
     requires { (1 ≤ w.link) × (w.link ≤ 8) }
     ensures { result ≡ box4 p (host s c l) w }
 {
-    match step4(broadcast(s, w.link as usize), c.hold, p, in_flight(l, w)) {
+    match step4(
+        broadcast(
+            s,
+            LinkNumber {
+                number: w.link as usize,
+            },
+        ),
+        c.hold,
+        p,
+        in_flight(l, w),
+    ) {
         ControlFlow::Break(f) => ended(Answer::DelayNotValid, c, storing(f, w, l), nothing()),
-        ControlFlow::Continue(f) => onward(at(5, 0, 0, holding(f, w)), c, storing(f, w, l), nothing()),
+        ControlFlow::Continue(f) => onward(
+            at(5, 0, 0, holding(f, w)),
+            c,
+            storing(f, w, l),
+            nothing(),
+        ),
     }
 }
 
@@ -115,7 +140,17 @@ fn box5(s: Settings, t: NetTable, c: Clock, l: Links, w: Walk, p: Packet) -> Eff
     ensures { result ≡ box5 p t (host s c l) w }
 {
     if p.nhosts == 0 {
-        let found = host::found_for(t, s, link_of(l, w.link as usize).neighbor);
+        let found = host::found_for(
+            t,
+            s,
+            link_of(
+                l,
+                LinkNumber {
+                    number: w.link as usize,
+                },
+            )
+            .neighbor,
+        );
         return to_neighbor(s, c, l, raised(w), found);
     }
     onward(at(5, 1, 0, raised(w)), c, l, nothing())

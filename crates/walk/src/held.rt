@@ -6,6 +6,7 @@ ghost use Rattle.walk.specs.Boxes.{in_flight, storing, holding_reading, holding,
 use answer::Answer;
 use arrival::Flight;
 use clock::Clock;
+use host::link_number::LinkNumber;
 use host::link_state::{link_of, with_link};
 use host::replies::{plainly, returns_place};
 use host::walk::Walk;
@@ -20,7 +21,12 @@ pub fn in_flight(l: Links, w: Walk) -> Flight
 {
     Flight {
         reading: w.reading,
-        link: link_of(l, w.link as usize),
+        link: link_of(
+            l,
+            LinkNumber {
+                number: w.link as usize,
+            },
+        ),
         delay: Millis::of_word(w.delay),
         offset: w.offset,
     }
@@ -31,7 +37,13 @@ pub fn storing(f: Flight, w: Walk, l: Links) -> Links
     requires { (1 ≤ w.link) × (w.link ≤ 8) }
     ensures { result ≡ storing f w l }
 {
-    with_link(l, w.link as usize, f.link)
+    with_link(
+        l,
+        LinkNumber {
+            number: w.link as usize,
+        },
+        f.link,
+    )
 }
 
 // The count that was used, and our reading.

@@ -11,6 +11,7 @@ ghost use Rattle.walk.specs.code.Plan.{Steady};
 use answer::Answer;
 use clock::{Clock, Counter};
 use host::effects::answers;
+use host::link_number::LinkNumber;
 use host::replies::{plainly, returns_place};
 use host::walk::Walk;
 use host::{Effect, Links, Reply, Settings, inspection};
@@ -33,13 +34,13 @@ pub struct Opening {
 }
 
 // A walk at its first box.
-fn opened_on(link: usize, octets: usize) -> Walk
-    requires { (link ≤ 8) × (octets ≤ 1052) }
-    ensures { result ≡ opened_on link octets }
+fn opened_on(link: LinkNumber, octets: usize) -> Walk
+    requires { octets ≤ 1052 }
+    ensures { result ≡ opened_on link.number octets }
 {
     Walk {
         opened: 1,
-        link: link as u8,
+        link: link.number as u8,
         step: 1,
         length: octets as u16,
         ..host::walk::none()
@@ -47,9 +48,8 @@ fn opened_on(link: usize, octets: usize) -> Walk
 }
 
 // The tests of 3 to 9, and the walk at its first box.
-pub fn opened_by(s: Settings, w: Walk, link: usize, packet: &[u8]) -> Opening
-    requires { (1 ≤ link) × (link ≤ 8) }
-    ensures { (result ≡ opening link packet.now s w) × (result.octets ≤ longest) }
+pub fn opened_by(s: Settings, w: Walk, link: LinkNumber, packet: &[u8]) -> Opening
+    ensures { (result ≡ opening link.number packet.now s w) × (result.octets ≤ longest) }
 {
     match inspection::inspect(s, link, packet) {
         Parsed::Bad(a) => Opening {

@@ -14,8 +14,8 @@ use host::effects::{nothing, one};
 use host::walk::{Walk, line_update};
 use host::{Effect, Links, Settings, host_count};
 use std::ops::ControlFlow;
-use table::entries::{Change, Changes};
 use table::Entry;
+use table::entries::{Change, Changes};
 use wire::Packet;
 
 // The next id, or the end.

@@ -9,10 +9,11 @@ pub returns-then-refuses : goal.returns-then-refuses
 returns-then-refuses c =
     refuses (definition.inspect c.args.link c.args.packet.now) refl c.guard-g.ensures c.refuses.ensures c.if-refuses.true c.plainly.ensures
 
-pub inspect-requires : goal.inspect-requires
-inspect-requires c =
+pub invariant_of-i : goal.invariant_of-i
+invariant_of-i c =
     let on = passes (definition.inspect c.args.link c.args.packet.now) refl c.guard-g.ensures c.refuses.ensures c.if-refuses.false in
-    on_a_link _ c.args.link c.args.packet.now on
+    let z = on_a_link _ c.args.link c.args.packet.now on in
+    record { from_one = z.0; to_eight = z.1 }
 
 pub returns : goal.returns
 returns c =

@@ -9,10 +9,11 @@ pub returns-then-refuses : goal.returns-then-refuses
 returns-then-refuses c =
     refuses (open_walk c.args.link c.args.packet.now) refl c.guard-g.ensures c.refuses.ensures c.if-refuses.true c.plainly.ensures
 
-pub opened_by-p-requires : goal.opened_by-p-requires
-opened_by-p-requires c =
+pub invariant_of-i : goal.invariant_of-i
+invariant_of-i c =
     let on = passes (open_walk c.args.link c.args.packet.now) refl c.guard-g.ensures c.refuses.ensures c.if-refuses.false in
-    openable _ c.args.link c.args.packet.now on
+    let z = openable _ c.args.link c.args.packet.now on in
+    record { from_one = z.0; to_eight = z.1 }
 
 pub keep-requires : goal.keep-requires
 keep-requires c =
