@@ -1,11 +1,12 @@
 -- The arrival in one piece is the action alone, since the action inspects too: where the inspection refuses, both end with its answer.
+use Rattle.std.specs.Prelude.{Result, Ok, Err}
+use Rattle.answer.specs.declared.Answer.{Answer}
+use Rattle.wire.specs.declared.Packet.{Packet}
 use mathlib.Core.Path.{◌≡◌, refl}
 use mathlib.Core.Bool.{Bool, true, false, cond}
 use mathlib.Core.List.{List}
 use Prim.Native.Nat.{ℕ}
 use Rattle.clock.specs.declared.Counter.{Counter}
-use Rattle.wire.specs.declared.Parsed.{Parsed}
-use Rattle.wire.specs.declared.Parsed.TheVariants.{Good, Bad}
 use Rattle.net_table.specs.declared.NetTable.{NetTable}
 use Rattle.host.specs.CallState.{Host}
 use Rattle.host.specs.Guard.{done}
@@ -20,7 +21,7 @@ one_piece i k octets t h = go (inspect h.settings i octets)
     same true a = refl
     same false a = refl
 
-    go : (q : Parsed)
+    go : (q : Result Packet Answer)
         → cond (done (tells q).answer) (inspected k t h i q) (quiet (tells q) h) ≡ inspected k t h i q
-    go (Good p) = refl
-    go (Bad a) = same (done a) (ends a h)
+    go (Ok p) = refl
+    go (Err a) = same (done a) (ends a h)

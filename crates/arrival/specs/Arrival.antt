@@ -1,5 +1,5 @@
 -- INSPECT-1, INSPECT-3: what a packet that arrives results in: the reply, the links, and the updates of which ids.
-use Rattle.std.specs.Prelude.{Bool, true, false, cond, List, ℕ, ◌+◌, eqb, pos}
+use Rattle.std.specs.Prelude.{Bool, true, false, cond, List, ℕ, ◌+◌, eqb, pos, Option, Some, None, Result, Ok, Err}
 use Rattle.quantity.specs.declared.Count.{Count}
 use Rattle.quantity.specs.Quantity.{millis, counts, seconds}
 use Rattle.quantity.specs.Words.{word}
@@ -10,10 +10,6 @@ use Rattle.clock.specs.declared.Counter.{Counter}
 use Rattle.clock.specs.declared.Reading.{Reading}
 use Rattle.clock.specs.Clock.{count_used}
 use Rattle.wire.specs.declared.Packet.{Packet}
-use Rattle.wire.specs.declared.Parsed.{Parsed}
-use Rattle.wire.specs.declared.Parsed.TheVariants.{Good, Bad}
-use Rattle.route.specs.declared.Found.{Found}
-use Rattle.route.specs.declared.Found.TheVariants.{Id, Nothing}
 use Rattle.table.specs.declared.Update.{Update}
 use Rattle.table.specs.declared.entries.Updates.{Updates}
 use Rattle.table.specs.Forms.{Stage, on, end}
@@ -76,9 +72,9 @@ updated h n p u id ids table =
     }
 
 -- ARRIVE-5, ANSWER-11: a packet without a table: the id of NEIGHBOR-ADDRESS, or 11
-abbrev pub no_table : Host → (link : ℕ) → Count → Packet → Flight → Found → Arrived
-no_table h i n p f Nothing = ends NoHost h
-no_table h i n p f (Id id) = updated h n p (neighbor_update i f) id 1 false
+abbrev pub no_table : Host → (link : ℕ) → Count → Packet → Flight → Option ℕ → Arrived
+no_table h i n p f None = ends NoHost h
+no_table h i n p f (Some id) = updated h n p (neighbor_update i f) id 1 false
 
 -- ARRIVE-5, UPDATE-2: a packet with a table: every id
 abbrev pub with_table : Host → (link : ℕ) → Count → Packet → Flight → Arrived
@@ -110,9 +106,9 @@ abbrev pub inspection : (link : ℕ) (packet : List ℕ) → Host → Arrived
 inspection i octets h = quiet (tells (inspect h.settings i octets)) h
 
 -- INSPECT-3, CLOCK-16: a packet that passes is acted on; a refused one is not, and no clock is read
-abbrev pub inspected : Counter → NetTable → Host → (link : ℕ) → Parsed → Arrived
-inspected k t h i (Bad a) = ends a h
-inspected k t h i (Good p) = action k t h i p
+abbrev pub inspected : Counter → NetTable → Host → (link : ℕ) → Result Packet Answer → Arrived
+inspected k t h i (Err a) = ends a h
+inspected k t h i (Ok p) = action k t h i p
 
 -- INSPECT-3, INSPECT-5: the action: it inspects again
 abbrev pub act : (link : ℕ) → Counter → (packet : List ℕ) → NetTable → Host → Arrived

@@ -33,11 +33,10 @@ use host::replies::plainly;
 use host::{Links, Reply, Settings, host_count, inspection};
 use net_table::NetTable;
 use quantity::{Count, Millis, Seconds, Word};
-use route::Found;
 use std::ops::ControlFlow;
 use table::Update;
 use table::entries::Updates;
-use wire::{Packet, Parsed};
+use wire::Packet;
 
 pub mod steps;
 
@@ -164,14 +163,14 @@ fn no_table(
     n: Count,
     p: Packet,
     f: Flight,
-    found: Found,
+    found: Option<usize>,
 ) -> Arrived
     requires found_value { has_place found ≡ true }
     ensures { result ≡ no_table (host s c l) link.number n p f found }
 {
     match found {
-        Found::Nothing => ends(Answer::NoHost, s, c, l),
-        Found::Id(id) => updated(s, c, l, n, p, neighbor_update(link, f), id, 1, false),
+        None => ends(Answer::NoHost, s, c, l),
+        Some(id) => updated(s, c, l, n, p, neighbor_update(link, f), id, 1, false),
     }
 }
 
@@ -254,8 +253,8 @@ fn act(
     ensures { result ≡ act link.number k packet.now t (host s c l) }
 {
     match inspection::inspect(s, link, packet) {
-        Parsed::Bad(a) => ends(a, s, c, l),
-        Parsed::Good(p) => action(s, t, c, l, link, k, p),
+        Err(a) => ends(a, s, c, l),
+        Ok(p) => action(s, t, c, l, link, k, p),
     }
 }
 

@@ -75,6 +75,7 @@ fn new_neighbor(p: Packet, f: Flight) -> Flight
 }
 
 // Step 4 continues with step 5, or breaks off.
+#[tactic(auto, unfolding(crate::specs::Steps::step4))]
 pub fn step4(broadcast: bool, hold: Seconds, p: Packet, f: Flight) -> ControlFlow<Flight, Flight>
     ensures { result ≡ flow_of (step4 broadcast hold p f) }
 {
@@ -83,7 +84,7 @@ pub fn step4(broadcast: bool, hold: Seconds, p: Packet, f: Flight) -> ControlFlo
     }
     let source = p.source;
     let x = f.link;
-    if !source.same(x.neighbor) {
+    if source != x.neighbor {
         return ControlFlow::Continue(new_neighbor(p, f));
     }
     let tsp = p.tsp;

@@ -1,4 +1,5 @@
 -- A packet that arrives, as the code goes: what each update asks is there, and what is planned, placed and updated is what the call leaves.
+use Rattle.std.specs.Prelude.{Option, Some, None, Result, Ok, Err}
 use mathlib.Core.Path.{◌≡◌, refl}
 use mathlib.Core.Bool.{Bool, true, false, false≢true, cond}
 use mathlib.Core.List.{List}
@@ -15,11 +16,7 @@ use Rattle.clock.specs.declared.Reading.{Reading}
 use Rattle.clock.specs.Clock.{count_used, clock_in_range}
 use Rattle.clock.proofs.Range.{reading_in_range_lem}
 use Rattle.wire.specs.declared.Packet.{Packet}
-use Rattle.wire.specs.declared.Parsed.{Parsed}
-use Rattle.wire.specs.declared.Parsed.TheVariants.{Good, Bad}
 use Rattle.wire.specs.Packet.{packet_length}
-use Rattle.route.specs.declared.Found.{Found}
-use Rattle.route.specs.declared.Found.TheVariants.{Id, Nothing}
 use Rattle.route.proofs.Ids.{found_below}
 use Rattle.table.specs.declared.Entry.{Entry}
 use Rattle.table.specs.declared.entries.Updates.{Updates}
@@ -108,9 +105,9 @@ module _ (s : Settings) (good : Sound s) (t : NetTable) (rows : RowsBelow t s) (
       → (eqb p.nhosts 0 ≡ false → p.nhosts ≡ s.layout.nhosts) → Fine (step5 t (host s c l) i n p f)
   fifth c l n ok p f short long ours = go (eqb p.nhosts 0) refl
     where
-      neighbor : (x : Found) → ((id : ℕ) → x ≡ Id id → id < host_count s) → Fine (no_table (host s c l) i n p f x)
-      neighbor Nothing below few = ended NoHost (host s c l) few
-      neighbor (Id id) below few =
+      neighbor : (x : Option ℕ) → ((id : ℕ) → x ≡ Some id → id < host_count s) → Fine (no_table (host s c l) i n p f x)
+      neighbor None below few = ended NoHost (host s c l) few
+      neighbor (Some id) below few =
           let b = below id refl in
           record { rising = omega arith; below = omega arith; base = refl; clock = λ _. ok few; hold = λ _. good.hold_to; count = λ _. few; delay = λ _. short; reports = λ _ e. absurd (false≢true e) }
 
@@ -129,12 +126,12 @@ module _ (s : Settings) (good : Sound s) (t : NetTable) (rows : RowsBelow t s) (
     still_ok : (count_used k).0 < 2 ^ 16 → clock_in_range r.clock ≡ true
     still_ok = reading_in_range_lem s.hold_interval good.hold_to c ok s.clock_tick k
 
-    fifth_step : (p : Packet) → Fits s octets (Good p) → (f : Flight) → Short f → Fine (step5 t (host s r.clock (with_link i f.link l)) i (count_used k) p f)
+    fifth_step : (p : Packet) → Fits s octets (Ok p) → (f : Flight) → Short f → Fine (step5 t (host s r.clock (with_link i f.link l)) i (count_used k) p f)
     fifth_step p fits f short = fifth r.clock (with_link i f.link l) (count_used k) still_ok p f short (omega (arith, fits.whole)) fits.ours
 
-    fine : (q : Parsed) → Fits s octets q → Fine (inspected k t (host s c l) i q)
-    fine (Bad a) fits = ended a (host s c l)
-    fine (Good p) fits =
+    fine : (q : Result Packet Answer) → Fits s octets q → Fine (inspected k t (host s c l) i q)
+    fine (Err a) fits = ended a (host s c l)
+    fine (Ok p) fits =
         steps_cases (λ g. Fine (concluded t (host s r.clock l) i (count_used k) p g))
         (broadcast s i) r.clock.hold p r.time (link_of l i)
         (λ b. fifth_step p fits (measured (broadcast s i) p r.time (link_of l i)) (measured_short (broadcast s i) p r.time (link_of l i)))

@@ -1,12 +1,13 @@
 -- A walk that is opened as the code goes: the guard, the plan, and the packet copied.
+use Rattle.std.specs.Prelude.{Result, Ok, Err}
+use Rattle.answer.specs.declared.Answer.{Answer}
+use Rattle.wire.specs.declared.Packet.{Packet}
 use mathlib.Core.Path.{◌≡◌, refl}
 use mathlib.Core.Bool.{true, false}
 use mathlib.Core.List.{List}
 use Prim.Native.Nat.{ℕ, ◌≤◌}
 use native.Mathlib.Omega.{arith}
 use lib.ListN.{length}
-use Rattle.wire.specs.declared.Parsed.{Parsed}
-use Rattle.wire.specs.declared.Parsed.TheVariants.{Good, Bad}
 use Rattle.host.specs.declared.guard.Scope.TheVariants as scope
 use Rattle.host.specs.CallState.{CallState}
 use Rattle.host.specs.Inspection.{inspect}
@@ -30,9 +31,9 @@ module _ (x : CallState) (i : ℕ) (packet : List ℕ) (d : done (guard (scope.O
     pub room : (p.octets ≤ length packet) × (p.octets ≤ length x.copy)
     pub left : Leaves (perform (open_walk i packet) x) p.reply x.host.clock x.host.links p.walk (copied p.octets packet x.copy) x.entries
 
-  fits : (q : Parsed) → Fits x.host.settings packet q → (opened_by i packet x.walk q).octets ≤ length packet
-  fits (Bad a) f = omega arith
-  fits (Good p) f = omega arith
+  fits : (q : Result Packet Answer) → Fits x.host.settings packet q → (opened_by i packet x.walk q).octets ≤ length packet
+  fits (Err a) f = omega arith
+  fits (Ok p) f = omega arith
 
   pub opened : (p : Opening) → (p ≡ opening i packet x.host.settings x.walk) × (p.octets ≤ longest) → Opened p
   unfolding opening

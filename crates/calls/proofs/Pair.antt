@@ -1,4 +1,6 @@
 -- An inspection changes nothing, and the action behind it goes one way with it until the packet passes. So the two in turn are the arrival in one piece.
+use Rattle.std.specs.Prelude.{Result, Ok, Err}
+use Rattle.answer.specs.declared.Answer.{Answer}
 use mathlib.Core.Path.{◌≡◌, refl, sym, ap, ◌∙◌}
 use mathlib.Core.Bool.{Bool, true, false, cond, not}
 use mathlib.Core.List.{List, []}
@@ -6,8 +8,6 @@ use Prim.Native.Nat.{ℕ}
 use Rattle.lists.proofs.Parts.{over_nothing}
 use Rattle.clock.specs.declared.Counter.{Counter}
 use Rattle.wire.specs.declared.Packet.{Packet}
-use Rattle.wire.specs.declared.Parsed.{Parsed}
-use Rattle.wire.specs.declared.Parsed.TheVariants.{Good, Bad}
 use Rattle.table.specs.declared.Entry.{Entry}
 use Rattle.table.specs.Sweep.{sweep}
 use Rattle.table.specs.Runs.{updates}
@@ -60,10 +60,10 @@ module _ (i : ℕ) (k : Counter) (octets : List ℕ) (x : CallState) where
   -- ---- the inspection and the action, side by side
 
   module _ (P : Outcome → Outcome → Type 0) (alike : (o : Outcome) → P o o)
-      (passes : (p : Packet) → P (updated_by (quiet (tells (Good p)) h) octets x) (updated_by (action k x.nets h i p) octets x)) where
-    by_packet : (q : Parsed) → P (updated_by (quiet (tells q) h) octets x) (updated_by (inspected k x.nets h i q) octets x)
-    by_packet (Bad a) = alike _
-    by_packet (Good p) = passes p
+      (passes : (p : Packet) → P (updated_by (quiet (tells (Ok p)) h) octets x) (updated_by (action k x.nets h i p) octets x)) where
+    by_packet : (q : Result Packet Answer) → P (updated_by (quiet (tells q) h) octets x) (updated_by (inspected k x.nets h i q) octets x)
+    by_packet (Err a) = alike _
+    by_packet (Ok p) = passes p
 
     pub pair_ways : P (perform (inspect i octets) x) (perform (act i k octets) x)
     unfolding perform

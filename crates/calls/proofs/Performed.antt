@@ -1,12 +1,11 @@
 -- A request as the code goes: the guard, the entry that is looked at, the plan, and its work at the places of its ids.
+use Rattle.std.specs.Prelude.{Option, Some, None}
 use mathlib.Core.Path.{◌≡◌, refl, ◌∙◌}
 use mathlib.Core.Bool.{true, false}
 use mathlib.Core.List.{List}
 use Prim.Native.Nat.{ℕ, ◌+◌, ◌-◌, ◌≤◌, ◌<◌}
 use native.Mathlib.Omega.{arith}
 use borrow.Author.Tests.{ltb-true}
-use Rattle.route.specs.declared.Found.{Found}
-use Rattle.route.specs.declared.Found.TheVariants.{Id, Nothing}
 use Rattle.table.specs.declared.Entry.{Entry}
 use Rattle.table.specs.Runs.{changes}
 use Rattle.table.specs.code.Loops.{InEntries, entry_of}
@@ -92,14 +91,14 @@ module _ (x : CallState) (q : Request) (d : done (guard (scope_of q) x) ≡ true
   pub seekable : (k ≤ 15) × (has_place (wanted q t s v) ≡ true)
   seekable = (number_in, wanted_has_place t s v o has_passed.settings rows q walk_in_range_lem)
 
-  pub record Sought (f : Found) : Type 0 where
+  pub record Sought (f : Option ℕ) : Type 0 where
     pub there : InEntries (seek_at k f).first (seek_at k f).end entries × ((seek_at k f).end ≤ (seek_at k f).first + 1)
     pub is : entry_of (seek_at k f) entries ≡ entry_at f x
 
-  sought_at : (f : Found) → ((id : ℕ) → f ≡ Id id → id < host_count s) → Holds k entries → Sought f
+  sought_at : (f : Option ℕ) → ((id : ℕ) → f ≡ Some id → id < host_count s) → Holds k entries → Sought f
   unfolding entry_of
-  sought_at Nothing below h = record { there = (record { rising = omega arith; inside = omega arith }, omega arith); is = refl }
-  sought_at (Id id) below h =
+  sought_at None below h = record { there = (record { rising = omega arith; inside = omega arith }, omega arith); is = refl }
+  sought_at (Some id) below h =
       let i = below id refl in
       let one : first_place k + id + 1 - (first_place k + id) ≡ 1 = omega arith in
       record { there = (record { rising = omega arith; inside = omega arith }, omega arith); is = rw (one, one_part s k entries h id i) refl }

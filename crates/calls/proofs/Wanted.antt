@@ -1,12 +1,11 @@
 -- An id whose entry is looked at has a place, and is below the count of hosts.
+use Rattle.std.specs.Prelude.{Option, Some, None}
 use mathlib.Core.Path.{◌≡◌, refl}
 use mathlib.Core.Bool.{true, false}
 use mathlib.Core.List.{List}
 use Prim.Native.Nat.{ℕ, ◌<◌}
 use native.Mathlib.Omega.{arith}
 use borrow.Author.Tests.{lt-ltb}
-use Rattle.route.specs.declared.Found.{Found}
-use Rattle.route.specs.declared.Found.TheVariants.{Id, Nothing}
 use Rattle.route.proofs.Ids.{found_below}
 use Rattle.net_table.specs.declared.NetTable.{NetTable}
 use Rattle.host.specs.declared.Settings.{Settings}
@@ -28,7 +27,7 @@ module _ (t : NetTable) (s : Settings) (w : Walk) (copy : List ℕ) (good : sett
   abbrev InRange : Request → Type 0
   InRange q = initialized (scope_of q) ≡ false → walk_in_range s w copy ≡ true
 
-  pub wanted_below : (q : Request) → InRange q → (id : ℕ) → wanted q t s w ≡ Id id → id < host_count s
+  pub wanted_below : (q : Request) → InRange q → (id : ℕ) → wanted q t s w ≡ Some id → id < host_count s
   wanted_below Initialize r id e = none cc
   wanted_below (Tick n) r id e = none cc
   wanted_below (Adjust n) r id e = none cc
@@ -44,6 +43,6 @@ module _ (t : NetTable) (s : Settings) (w : Walk) (copy : List ℕ) (good : sett
   pub wanted_has_place : (q : Request) → InRange q → has_place (wanted q t s w) ≡ true
   wanted_has_place q r = go (wanted q t s w) (wanted_below q r)
     where
-      go : (f : Found) → ((id : ℕ) → f ≡ Id id → id < host_count s) → has_place f ≡ true
-      go Nothing below = refl
-      go (Id id) below = lt-ltb id places_per_host (omega (arith, below id refl))
+      go : (f : Option ℕ) → ((id : ℕ) → f ≡ Some id → id < host_count s) → has_place f ≡ true
+      go None below = refl
+      go (Some id) below = lt-ltb id places_per_host (omega (arith, below id refl))

@@ -1,5 +1,5 @@
 -- CALL-1: what each call results in.
-use Rattle.std.specs.Prelude.{cond, not, List, ℕ}
+use Rattle.std.specs.Prelude.{cond, not, List, ℕ, Option, Some, None}
 use Rattle.quantity.specs.declared.Millis.{Millis}
 use Rattle.quantity.specs.declared.Count.{Count}
 use Rattle.quantity.specs.Quantity.{millis}
@@ -9,8 +9,6 @@ use Rattle.clock.specs.declared.Reading.{Reading}
 use Rattle.clock.specs.Clock.{fresh_clock, hold_second}
 use Rattle.clock.specs.Clock as clock
 use Rattle.wire.specs.declared.Address.{Address}
-use Rattle.route.specs.declared.Found.{Found}
-use Rattle.route.specs.declared.Found.TheVariants.{Id, Nothing}
 use Rattle.table.specs.declared.Entry.{Entry}
 use Rattle.table.specs.declared.entries.Change.TheVariants.{Fresh, Aged, Reported}
 use Rattle.table.specs.Entry.{up}
@@ -68,9 +66,9 @@ self_report k h w =
     record { reply = plainly Done; clock = r.clock; links = h.links; walk = w; work = each h.settings (Reported r.time) }
 
 -- CALL-3, ANSWER-11, ANSWER-13: 11 without an id, 13 if its entry is down; else id and PID
-abbrev pub looked : Found → Entry → Reply
-looked Nothing e = plainly NoHost
-looked (Id id) e = cond (not (up e)) (plainly HostDown) (returns_route id e.pid)
+abbrev pub looked : Option ℕ → Entry → Reply
+looked None e = plainly NoHost
+looked (Some id) e = cond (not (up e)) (plainly HostDown) (returns_route id e.pid)
 
 -- CALL-3: lookup; nothing changes
 unfoldable pub lookup : Address → NetTable → Host → Walk → Entry → Effect
@@ -103,13 +101,13 @@ scope_of (Lookup a) = All
 scope_of (Step k) = Walking
 
 -- CALL-3, WALK-3: the id whose entry a request uses
-abbrev pub wanted : Request → NetTable → Settings → Walk → Found
-wanted Initialize t s w = Nothing
-wanted (Tick n) t s w = Nothing
-wanted (Adjust n) t s w = Nothing
-wanted (Set ms n) t s w = Nothing
-wanted (Read k) t s w = Nothing
-wanted Second t s w = Nothing
-wanted (SelfReport k) t s w = Nothing
+abbrev pub wanted : Request → NetTable → Settings → Walk → Option ℕ
+wanted Initialize t s w = None
+wanted (Tick n) t s w = None
+wanted (Adjust n) t s w = None
+wanted (Set ms n) t s w = None
+wanted (Read k) t s w = None
+wanted Second t s w = None
+wanted (SelfReport k) t s w = None
 wanted (Lookup a) t s w = found_for t s a
 wanted (Step k) t s w = at_hand w

@@ -1,10 +1,8 @@
 -- CALL-4: a call is its guard, then its work. Everything afterwards is defined, refusals included.
-use Rattle.std.specs.Prelude.{◌≡◌, cond, not, List, [], ℕ, length, get_or}
+use Rattle.std.specs.Prelude.{◌≡◌, cond, not, List, [], ℕ, length, get_or, Option, Some, None}
 use Rattle.answer.specs.declared.Answer.{Answer}
 use Rattle.clock.specs.declared.Clock.{Clock}
 use Rattle.clock.specs.declared.Counter.{Counter}
-use Rattle.route.specs.declared.Found.{Found}
-use Rattle.route.specs.declared.Found.TheVariants.{Id, Nothing}
 use Rattle.table.specs.declared.Entry.{Entry}
 use Rattle.table.specs.Entry.{fresh_entry}
 use Rattle.table.specs.Sweep.{Swept}
@@ -53,9 +51,9 @@ refused a call x =
 -- ---- the work
 
 -- CALL-3: the entry of a found id
-abbrev pub entry_at : Found → CallState → Entry
-entry_at Nothing x = fresh_entry
-entry_at (Id id) x = get_or (entries_of x) id fresh_entry
+abbrev pub entry_at : Option ℕ → CallState → Entry
+entry_at None x = fresh_entry
+entry_at (Some id) x = get_or (entries_of x) id fresh_entry
 
 -- CALL-4: the changes of a request
 abbrev pub carried_out : Effect → CallState → Outcome

@@ -24,7 +24,6 @@ use host::replies::{plainly, returns_route};
 use host::walk::Walk;
 use host::{Effect, Links, Reply, Settings};
 use net_table::NetTable;
-use route::Found;
 use table::Entry;
 use table::entries::Change;
 
@@ -93,12 +92,12 @@ fn self_report(s: Settings, c: Clock, l: Links, w: Walk, k: Counter) -> Effect
     }
 }
 
-pub(crate) fn looked(found: Found, e: Entry) -> Reply
+pub(crate) fn looked(found: Option<usize>, e: Entry) -> Reply
     ensures { result ≡ looked found e }
 {
     match found {
-        Found::Nothing => plainly(Answer::NoHost),
-        Found::Id(id) => {
+        None => plainly(Answer::NoHost),
+        Some(id) => {
             if !table::up(e) {
                 return plainly(Answer::HostDown);
             }

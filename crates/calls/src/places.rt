@@ -14,11 +14,10 @@ use super::Request;
 use host::walk::Walk;
 use host::{Settings, first_place};
 use net_table::NetTable;
-use route::Found;
 use table::entries::{Changes, Reports, Seek, Updates};
 
 // The id whose entry is looked at.
-fn wanted(s: Settings, t: NetTable, w: Walk, q: Request) -> Found
+fn wanted(s: Settings, t: NetTable, w: Walk, q: Request) -> Option<usize>
     ensures { result ≡ wanted q t s w }
 {
     match q {
@@ -28,23 +27,23 @@ fn wanted(s: Settings, t: NetTable, w: Walk, q: Request) -> Found
         | Request::Set(_, _)
         | Request::Read(_)
         | Request::Second
-        | Request::SelfReport(_) => Found::Nothing,
+        | Request::SelfReport(_) => None,
         Request::Lookup(a) => host::found_for(t, s, a),
         Request::Step(_) => walk::at_hand(w),
     }
 }
 
-pub(crate) fn seek_at(number: usize, found: Found) -> Seek
+pub(crate) fn seek_at(number: usize, found: Option<usize>) -> Seek
     requires { (number ≤ 15) × (has_place found ≡ true) }
     ensures { result ≡ seek_at number found }
 {
     match found {
-        Found::Nothing => Seek {
+        None => Seek {
             first: 0,
             end: 0,
             entry: table::fresh(),
         },
-        Found::Id(id) => {
+        Some(id) => {
             let first = first_place(number) + id;
             Seek {
                 first: first,

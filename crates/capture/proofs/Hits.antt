@@ -1,4 +1,5 @@
 -- What a hit shows in its first octets, because a packet that passes answers 3 to 7 passes each of their tests.
+use Rattle.std.specs.Prelude.{Ok, Err}
 use mathlib.Core.Path.{◌≡◌, refl, sym, ap, ◌∙◌}
 use mathlib.Core.Bool.{Bool, true, false, cond, not, ◌&&◌, false≢true}
 use mathlib.Core.List.{List}
@@ -13,7 +14,6 @@ use Rattle.answer.specs.declared.Answer.TheVariants.{IpForm, IpChecksum, Protoco
 use Rattle.lists.proofs.Tests.{both}
 use Rattle.checksum.specs.Checksum.{checksum_good}
 use Rattle.wire.specs.declared.Packet.{Packet}
-use Rattle.wire.specs.declared.Parsed.TheVariants.{Good, Bad}
 use Rattle.wire.specs.Octets.{octet_at, two_at}
 use Rattle.wire.specs.Ip.{header_length, version_and_length, version_place, fragment_place, protocol_place, hello_protocol, ip_form, ip_checksum, protocol}
 use Rattle.wire.specs.Hello.{fixed_length, nhosts_place, hello_length, hello_form, hello_checksum}
@@ -23,7 +23,7 @@ use Rattle.capture.specs.Search.{is_good, passes, total_length, hit}
 -- ---- the tests that a packet passed
 
 all_passed : (a₃ a₄ a₅ a₆ a₇ : Answer) (p : Packet) (t₃ t₄ t₅ t₆ t₇ : Bool)
-    → is_good (cond (not t₃) (Bad a₃) (cond (not t₄) (Bad a₄) (cond (not t₅) (Bad a₅) (cond (not t₆) (Bad a₆) (cond (not t₇) (Bad a₇) (Good p)))))) ≡ true
+    → is_good (cond (not t₃) (Err a₃) (cond (not t₄) (Err a₄) (cond (not t₅) (Err a₅) (cond (not t₆) (Err a₆) (cond (not t₇) (Err a₇) (Ok p)))))) ≡ true
     → (t₃ ≡ true) × (t₄ ≡ true) × (t₅ ≡ true) × (t₆ ≡ true) × (t₇ ≡ true)
 all_passed a₃ a₄ a₅ a₆ a₇ p false t₄ t₅ t₆ t₇ e = absurd (false≢true e)
 all_passed a₃ a₄ a₅ a₆ a₇ p true false t₅ t₆ t₇ e = absurd (false≢true e)

@@ -1,7 +1,7 @@
 -- CAPTURE-2, CAPTURE-3: the search for packets.
-use Rattle.std.specs.Prelude.{◌≡◌, Bool, true, false, cond, ◌&&◌, List, [], ◌∷◌, ◌++◌, ℕ, zero, suc, ◌+◌, ◌-◌, ◌≤◌, ◌<◌, leb, ltb, eqb, length, take, drop}
-use Rattle.wire.specs.declared.Parsed.{Parsed}
-use Rattle.wire.specs.declared.Parsed.TheVariants.{Good, Bad}
+use Rattle.std.specs.Prelude.{◌≡◌, Bool, true, false, cond, ◌&&◌, List, [], ◌∷◌, ◌++◌, ℕ, zero, suc, ◌+◌, ◌-◌, ◌≤◌, ◌<◌, leb, ltb, eqb, length, take, drop, Result, Ok, Err}
+use Rattle.answer.specs.declared.Answer.{Answer}
+use Rattle.wire.specs.declared.Packet.{Packet}
 use Rattle.wire.specs.Octets.{two_at}
 use Rattle.wire.specs.Ip.{total_place}
 use Rattle.wire.specs.Packet.{parse}
@@ -18,9 +18,9 @@ span s n = record { start = s; size = n }
 -- ---- a hit
 
 -- CAPTURE-2: is a packet good?
-abbrev pub is_good : Parsed → Bool
-is_good (Good p) = true
-is_good (Bad a) = false
+abbrev pub is_good : Result Packet Answer → Bool
+is_good (Ok p) = true
+is_good (Err a) = false
 
 -- CAPTURE-2: does a packet pass the tests for 3 to 7?
 unfoldable pub passes : List ℕ → Bool

@@ -1,4 +1,6 @@
 -- Each work alters the clock by the clock's own procedures alone, and line (d) does so for the clock host; so the clock afterwards is that of the moves in turn.
+use Rattle.std.specs.Prelude.{Option, Some, None, Result, Ok, Err}
+use Rattle.answer.specs.declared.Answer.{Answer}
 use mathlib.Core.Path.{◌≡◌, refl, sym, ap, ◌∙◌}
 use mathlib.Core.Bool.{Bool, true, false, cond, not, true≢false, ◌||◌}
 use mathlib.Core.List.{List, [], ◌∷◌, ◌++◌}
@@ -14,11 +16,7 @@ use Rattle.clock.specs.declared.Counter.{Counter}
 use Rattle.clock.specs.Clock.{count_used}
 use Rattle.quantity.specs.declared.Count.{Count}
 use Rattle.wire.specs.declared.Packet.{Packet}
-use Rattle.wire.specs.declared.Parsed.{Parsed}
-use Rattle.wire.specs.declared.Parsed.TheVariants.{Good, Bad}
 use Rattle.wire.specs.Packet.{packet_length}
-use Rattle.route.specs.declared.Found.{Found}
-use Rattle.route.specs.declared.Found.TheVariants.{Id, Nothing}
 use Rattle.net_table.specs.declared.NetTable.{NetTable}
 use Rattle.table.specs.declared.Entry.{Entry}
 use Rattle.table.specs.declared.Update.{Update}
@@ -94,11 +92,11 @@ module _ (s : Settings) (packet : List ℕ) (es : List Entry) (c : Clock) where
       let w : Updates = a.work in
       sweep_moved s w same packet w.first w.clock (part w.first (w.end - w.first) es) ∙ ap (moved_by s (update_moves w packet es)) from
 
-  fifth : (l : Links) (i : ℕ) (n : Count) (p : Packet) (f : Flight) (b : Bool) (x : Found)
+  fifth : (l : Links) (i : ℕ) (n : Count) (p : Packet) (f : Flight) (b : Bool) (x : Option ℕ)
       → Ends (cond b (no_table (host s c l) i n p f x) (with_table (host s c l) i n p f))
   unfolding updates sweep
-  fifth l i n p f true Nothing = refl
-  fifth l i n p f true (Id id) = swept (no_table (host s c l) i n p f (Id id)) refl refl
+  fifth l i n p f true None = refl
+  fifth l i n p f true (Some id) = swept (no_table (host s c l) i n p f (Some id)) refl refl
   fifth l i n p f false x = swept (with_table (host s c l) i n p f) refl refl
 
   ended : (t : NetTable) (l : Links) (i : ℕ) (n : Count) (p : Packet) (g : Stage Flight) → Ends (concluded t (host s c l) i n p g)
@@ -128,9 +126,9 @@ module _ (x : CallState) where
     four (end f) = refl
     four (on f) = refl
 
-    found : (f : Found) → At x.host.clock (to_neighbor x.host (raised w) f)
-    found Nothing = refl
-    found (Id id) = refl
+    found : (f : Option ℕ) → At x.host.clock (to_neighbor x.host (raised w) f)
+    found None = refl
+    found (Some id) = refl
 
     a_moved : (q : Stage Entry) → At x.host.clock (after_a p x.host w q)
     a_moved (end y) = next x.host.clock nothing
@@ -169,12 +167,12 @@ module _ (x : CallState) where
   unfolding step
   stepped k e = go (not (is_open x.walk)) (inspect s x.walk.link (packet_of x.walk x.copy))
     where
-      go : (b : Bool) (q : Parsed)
+      go : (b : Bool) (q : Result Packet Answer)
           → (cond b (answers (plainly NoWalk) x.host.clock x.host.links x.walk) (box_of k (packet_of x.walk x.copy) x.nets x.host x.walk e q)).clock
           ≡ moved_by s (cond b [] (walk_moves k x q)) x.host.clock
       go true q = refl
-      go false (Bad a) = refl
-      go false (Good p) = box_moved k e p (packet_of x.walk x.copy) (place_of x.walk)
+      go false (Err a) = refl
+      go false (Ok p) = box_moved k e p (packet_of x.walk x.copy) (place_of x.walk)
 
   requested : (q : Request) (e : Entry) → (effect q x.nets x.host x.walk x.copy e).clock ≡ moved_by s (work_moves (ask q) x) x.host.clock
   unfolding initialize tick adjust set_by read second self_report lookup
@@ -188,11 +186,11 @@ module _ (x : CallState) where
   requested (Lookup a) e = refl
   requested (Step k) e = stepped k e
 
-  acted : (i : ℕ) (k : Counter) (packet : List ℕ) (q : Parsed)
+  acted : (i : ℕ) (k : Counter) (packet : List ℕ) (q : Result Packet Answer)
       → (updates (inspected k x.nets x.host i q).work packet (entries_of x)).clock ≡ moved_by s (action_moves i k packet x q) x.host.clock
   unfolding updates sweep
-  acted i k packet (Bad a) = refl
-  acted i k packet (Good p) =
+  acted i k packet (Err a) = refl
+  acted i k packet (Ok p) =
       ended s packet (entries_of x) (our_reading k x.host).clock x.nets x.host.links i (count_used k) p
       (steps2to4 (broadcast s i) (our_reading k x.host).clock.hold p (our_reading k x.host).time (link_of x.host.links i))
 

@@ -1,5 +1,7 @@
 -- BACK-1: the moves of a clock, and those of an arrival.
-use Rattle.std.specs.Prelude.{Bool, cond, List, [], ◌∷◌, ◌++◌, ℕ, suc, ◌-◌, eqb}
+use Rattle.std.specs.Prelude.{Bool, cond, List, [], ◌∷◌, ◌++◌, ℕ, suc, ◌-◌, eqb, Result, Ok, Err}
+use Rattle.answer.specs.declared.Answer.{Answer}
+use Rattle.wire.specs.declared.Packet.{Packet}
 use Rattle.lists.specs.Lists.{part}
 use Rattle.quantity.specs.declared.Millis.{Millis}
 use Rattle.quantity.specs.declared.Count.{Count}
@@ -8,8 +10,6 @@ use Rattle.calendar.specs.declared.Date.{Date}
 use Rattle.clock.specs.declared.Clock.{Clock}
 use Rattle.clock.specs.declared.Counter.{Counter}
 use Rattle.clock.specs.Clock.{fresh_clock, tick, adjust, set_by, reading, hold_second}
-use Rattle.wire.specs.declared.Parsed.{Parsed}
-use Rattle.wire.specs.declared.Parsed.TheVariants.{Good, Bad}
 use Rattle.table.specs.declared.Entry.{Entry}
 use Rattle.table.specs.declared.Update.{Update}
 use Rattle.table.specs.declared.entries.Updates.{Updates}
@@ -69,9 +69,9 @@ abbrev pub update_moves : Updates → (packet : List ℕ) → List Entry → Lis
 update_moves w packet es = sweep_moves w.first w packet (part w.first (w.end - w.first) es)
 
 -- BACK-2, CLOCK-16: an action; a packet refused with 3 to 9 reads no clock
-abbrev pub action_moves : (link : ℕ) → Counter → (packet : List ℕ) → CallState → Parsed → List Move
-action_moves i k packet x (Bad a) = []
-action_moves i k packet x (Good p) = reads k ∷ update_moves (action k x.nets x.host i p).work packet (entries_of x)
+abbrev pub action_moves : (link : ℕ) → Counter → (packet : List ℕ) → CallState → Result Packet Answer → List Move
+action_moves i k packet x (Err a) = []
+action_moves i k packet x (Ok p) = reads k ∷ update_moves (action k x.nets x.host i p).work packet (entries_of x)
 
 -- BACK-2: one of the three calls
 abbrev pub delivery_moves : Delivery → (packet : List ℕ) → CallState → List Move

@@ -1,12 +1,11 @@
 -- BACK-2: what a call does to the clock, as a list of moves, each one of the clock's own procedures.
-use Rattle.std.specs.Prelude.{◌≡◌, cond, not, List, [], ◌∷◌, ℕ, ltb, length}
+use Rattle.std.specs.Prelude.{◌≡◌, cond, not, List, [], ◌∷◌, ℕ, ltb, length, Result, Ok, Err}
+use Rattle.answer.specs.declared.Answer.{Answer}
 use Rattle.quantity.specs.Quantity.{millis}
 use Rattle.quantity.specs.Words.{of_word}
 use Rattle.answer.specs.declared.Answer.TheVariants.{Done}
 use Rattle.clock.specs.declared.Counter.{Counter}
 use Rattle.wire.specs.declared.Packet.{Packet}
-use Rattle.wire.specs.declared.Parsed.{Parsed}
-use Rattle.wire.specs.declared.Parsed.TheVariants.{Good, Bad}
 use Rattle.wire.specs.Packet.{packet_length}
 use Rattle.host.specs.declared.walk.Walk.{Walk}
 use Rattle.host.specs.declared.walk.Place.{Place}
@@ -41,9 +40,9 @@ box_moves LineD k p packet h w =
     cond (is_clock_host h w) (dates p.date ∷ sets w.count (of_word (line_update w p packet).offset) ∷ []) []
 
 -- BACK-2: the walk's next box
-abbrev pub walk_moves : Counter → CallState → Parsed → List Move
-walk_moves k x (Bad a) = []
-walk_moves k x (Good p) = box_moves (place_of x.walk) k p (packet_of x.walk x.copy) x.host x.walk
+abbrev pub walk_moves : Counter → CallState → Result Packet Answer → List Move
+walk_moves k x (Err a) = []
+walk_moves k x (Ok p) = box_moves (place_of x.walk) k p (packet_of x.walk x.copy) x.host x.walk
 
 -- BACK-2: a step
 abbrev pub step_moves : Counter → CallState → List Move

@@ -1,4 +1,6 @@
 -- A packet that passes the inspection is as long as its NHOSTS says, and a table of it has our layout; one that does not is answered with 9 at most.
+use Rattle.std.specs.Prelude.{Result, Ok, Err}
+use Rattle.answer.specs.declared.Answer.{Answer}
 use mathlib.Core.Path.{◌≡◌}
 use mathlib.Core.Bool.{true, false, not}
 use mathlib.Core.List.{List}
@@ -10,8 +12,6 @@ use lib.ListN.{length, length-drop}
 use Rattle.lists.proofs.Tests.{either, both, neither, is_so}
 use Rattle.answer.specs.Answer.{number}
 use Rattle.wire.specs.declared.Packet.{Packet}
-use Rattle.wire.specs.declared.Parsed.{Parsed}
-use Rattle.wire.specs.declared.Parsed.TheVariants.{Good, Bad}
 use Rattle.wire.specs.Octets.{octet_at}
 use Rattle.wire.specs.Ip.{header_length, ip_form, ip_checksum, protocol}
 use Rattle.wire.specs.Hello.{fixed_length, hello_length, nhosts_place, hello_form, hello_checksum}
@@ -21,9 +21,9 @@ use Rattle.host.specs.declared.Settings.{Settings}
 use Rattle.host.specs.Inspection.{other_layout, looped, inspected, inspect}
 use Rattle.host.specs.code.Walks.{Reported}
 
-abbrev Long : List ℕ → Parsed → Type 0
-Long octets (Good p) = packet_length p.nhosts ≡ length octets
-Long octets (Bad a) = number a ≤ 9
+abbrev Long : List ℕ → Result Packet Answer → Type 0
+Long octets (Ok p) = packet_length p.nhosts ≡ length octets
+Long octets (Err a) = number a ≤ 9
 
 -- as long as NHOSTS says
 long : (octets : List ℕ) → header_length ≤ length octets → hello_form (hello_of octets) ≡ true → packet_length (fields octets).nhosts ≡ length octets
@@ -43,9 +43,9 @@ parsed_long octets =
     (λ _. long octets (ip_long octets (is_so _ form)) (is_so _ hello))))))
 
 -- what the action may count on
-abbrev pub Fits : Settings → List ℕ → Parsed → Type 0
-Fits s octets (Good p) = Reported s p octets
-Fits s octets (Bad a) = number a ≤ 9
+abbrev pub Fits : Settings → List ℕ → Result Packet Answer → Type 0
+Fits s octets (Ok p) = Reported s p octets
+Fits s octets (Err a) = number a ≤ 9
 
 pub inspected_fits : (s : Settings) (i : ℕ) (octets : List ℕ) → Fits s octets (inspect s i octets)
 unfolding inspect other_layout
@@ -56,8 +56,8 @@ inspected_fits s i octets = go (parse octets) (parsed_long octets)
         let n = neither (not (eqb p.nhosts s.layout.nhosts)) _ (rw some at e) in
         eqb-true _ _ (is_so _ n.0)
 
-    go : (q : Parsed) → Long octets q → Fits s octets (inspected s i q)
-    go (Bad a) l = l
-    go (Good p) l =
+    go : (q : Result Packet Answer) → Long octets q → Fits s octets (inspected s i q)
+    go (Err a) l = l
+    go (Ok p) l =
         either (Fits s octets) (other_layout s p) _ _ (λ _. omega arith)
         (λ ours. either (Fits s octets) (looped s i p) _ _ (λ _. omega arith) (λ _. record { whole = l; ours = same p ours }))

@@ -1,4 +1,5 @@
 -- A host's places in the run: what is written there is read there and no other place is changed, since both cut the run at the same two points.
+use Rattle.std.specs.Prelude.{Option, Some}
 use mathlib.Core.Path.{◌≡◌, ap, ◌∙◌}
 use mathlib.Core.Bool.{true}
 use mathlib.Core.List.{List, ◌++◌, append_assoc}
@@ -7,8 +8,6 @@ use native.Mathlib.Omega.{arith}
 use borrow.Author.Tests.{ltb-true}
 use lib.ListN.{length, get_or, take, drop, length-append, length-take, length-drop, get_or-append}
 use lib.Seq.{length-take-le, take_at, drop_at, get_or-take, get_or-drop, get_or-append-add}
-use Rattle.route.specs.declared.Found.{Found}
-use Rattle.route.specs.declared.Found.TheVariants.{Id}
 use Rattle.table.specs.declared.Entry.{Entry}
 use Rattle.host.specs.declared.Settings.{Settings}
 use Rattle.host.specs.State.{places_per_host, first_place, host_count, has_place, own_entries, with_entries}
@@ -61,5 +60,5 @@ module _ (k : ℕ) (es entries : List Entry) (fits : first_place k + length es �
       ∙ take_at es (drop (first_place k + length es) entries) (host_count s) e
 
 -- an id that was found to have a place
-pub placed : (f : Found) (id : ℕ) → f ≡ Id id → has_place f ≡ true → id < places_per_host
+pub placed : (f : Option ℕ) (id : ℕ) → f ≡ Some id → has_place f ≡ true → id < places_per_host
 placed f id e h = ltb-true id places_per_host (rw e at h)

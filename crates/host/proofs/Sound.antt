@@ -1,4 +1,5 @@
 -- What good settings have, in numbers: each test of `settings_good` by itself.
+use Rattle.std.specs.Prelude.{is_some}
 use mathlib.Core.Path.{◌≡◌}
 use mathlib.Core.Bool.{true, ◌||◌, ◌&&◌, not}
 use mathlib.Core.List.{[], ◌∷◌}
@@ -11,7 +12,6 @@ use Rattle.quantity.specs.Quantity.{millis, less_millis}
 use Rattle.calendar.specs.Date.{real}
 use Rattle.clock.specs.Midnight.{day_millis}
 use Rattle.clock.specs.Clock.{tick_in_range}
-use Rattle.route.specs.Find.{is_found}
 use Rattle.table.specs.Marks.{none_from}
 use Rattle.host.specs.declared.Settings.{Settings}
 use Rattle.host.specs.Settings.{from_to, clock_setting_off, own_id, found_marked, switches_good, numbers_good, marks_good, settings_good}
@@ -30,7 +30,7 @@ pub record Sound (s : Settings) : Type 0 where
   pub tick : tick_in_range s.clock_tick ≡ true
   pub time : (not (less_millis s.time (millis (pos 0))) && less_millis s.time day_millis) ≡ true
   pub date : real s.date ≡ true
-  pub own_id_lem : is_found (own_id s) ≡ true
+  pub own_id_lem : is_some (own_id s) ≡ true
   pub own_marked : found_marked s.marks (own_id s) ≡ true
   pub marks_below : none_from s.marks s.layout.nhosts ≡ true
 
@@ -49,7 +49,7 @@ sound s e =
     ∷ (not (less_millis s.time (millis (pos 0))) && less_millis s.time day_millis)
     ∷ real s.date
     ∷ []) parts.0 in
-    let marks = each (is_found (own_id s)) (found_marked s.marks (own_id s) ∷ none_from s.marks s.layout.nhosts ∷ []) parts.1 in
+    let marks = each (is_some (own_id s)) (found_marked s.marks (own_id s) ∷ none_from s.marks s.layout.nhosts ∷ []) parts.1 in
     let links = both (leb 1 s.link_count) (leb s.link_count 8) t.0 in
     let hosts = both (leb 1 s.layout.nhosts) (leb s.layout.nhosts 255) t.1.1.0 in
     let class = both (leb 1 s.address.first) (leb s.address.first 223) t.1.1.1.0 in

@@ -1,5 +1,5 @@
 -- HOST-1, ANSWER-1: the settings and their ranges.
-use Rattle.std.specs.Prelude.{Bool, false, not, ◌&&◌, ◌||◌, ℕ, min, ltb, leb, eqb, pos, take}
+use Rattle.std.specs.Prelude.{Bool, false, not, ◌&&◌, ◌||◌, ℕ, min, ltb, leb, eqb, pos, take, Option, Some, None, is_some}
 use Rattle.quantity.specs.Quantity.{millis, less_millis}
 use Rattle.calendar.specs.Date.{real}
 use Rattle.clock.specs.Midnight.{day_millis}
@@ -8,9 +8,7 @@ use Rattle.table.specs.declared.marks.Marks.{Marks}
 use Rattle.table.specs.Forms.{every}
 use Rattle.table.specs.Marks.{marked, none_from}
 use Rattle.wire.specs.declared.Address.{Address}
-use Rattle.route.specs.declared.Found.{Found}
-use Rattle.route.specs.declared.Found.TheVariants.{Id, Nothing}
-use Rattle.route.specs.Find.{is_found, local_id, find}
+use Rattle.route.specs.Find.{local_id, find}
 use Rattle.net_table.specs.declared.NetTable.{NetTable}
 use Rattle.host.specs.declared.LinkSetting.{LinkSetting}
 use Rattle.host.specs.declared.Settings.{Settings}
@@ -24,11 +22,11 @@ abbrev pub clock_setting_off : ℕ
 clock_setting_off = 255
 
 -- HOST-5: the id that LOCAL-ADDRESS gives
-abbrev pub own_id : Settings → Found
+abbrev pub own_id : Settings → Option ℕ
 own_id s = local_id s.layout s.address
 
 -- ROUTE-6, NET-1: the id of an address, by our net or by the class's net table
-abbrev pub found_for : NetTable → Settings → Address → Found
+abbrev pub found_for : NetTable → Settings → Address → Option ℕ
 found_for t s a = find s.address s.layout t.net a
 
 -- HOST-2: how many links the host has, 8 at most
@@ -44,9 +42,9 @@ abbrev pub switches_good : Settings → Bool
 switches_good s = every switch_good (take (link_count_of s) s.links)
 
 -- MARK-2: was an id found that is marked?
-abbrev pub found_marked : Marks → Found → Bool
-found_marked m Nothing = false
-found_marked m (Id id) = marked m id
+abbrev pub found_marked : Marks → Option ℕ → Bool
+found_marked m None = false
+found_marked m (Some id) = marked m id
 
 -- HOST-1: are links, numbers, time and date in range?
 abbrev pub numbers_good : Settings → Bool
@@ -63,7 +61,7 @@ numbers_good s =
 
 -- MARK-2, HOST-5: is there an own id that is marked, and no mark from NHOSTS on?
 abbrev pub marks_good : Settings → Bool
-marks_good s = is_found (own_id s) && found_marked s.marks (own_id s) && none_from s.marks s.layout.nhosts
+marks_good s = is_some (own_id s) && found_marked s.marks (own_id s) && none_from s.marks s.layout.nhosts
 
 -- HOST-1, ANSWER-1: are the settings good?
 unfoldable pub settings_good : Settings → Bool

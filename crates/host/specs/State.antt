@@ -1,10 +1,8 @@
 -- HOST-2, TABLE-8: a host's links by number, and its places in the host table.
-use Rattle.std.specs.Prelude.{Bool, true, cond, ◌||◌, List, map, ℕ, ◌-◌, ◌*◌, min, ltb, leb, eqb, pos, get_or, set}
+use Rattle.std.specs.Prelude.{Bool, true, cond, ◌||◌, List, map, ℕ, ◌-◌, ◌*◌, min, ltb, leb, eqb, pos, get_or, set, Option, Some, None}
 use Rattle.lists.specs.Lists.{part, over}
 use Rattle.quantity.specs.Words.{word}
 use Rattle.wire.specs.Octets.{zero_address}
-use Rattle.route.specs.declared.Found.{Found}
-use Rattle.route.specs.declared.Found.TheVariants.{Id, Nothing}
 use Rattle.table.specs.declared.Entry.{Entry}
 use Rattle.host.specs.declared.Settings.{Settings}
 use Rattle.host.specs.declared.LinkSetting.{LinkSetting}
@@ -69,9 +67,9 @@ abbrev pub host_count : Settings → ℕ
 host_count s = min s.layout.nhosts places_per_host
 
 -- helper: has a found id a place?
-abbrev pub has_place : Found → Bool
-has_place Nothing = true
-has_place (Id id) = ltb id places_per_host
+abbrev pub has_place : Option ℕ → Bool
+has_place None = true
+has_place (Some id) = ltb id places_per_host
 
 -- TABLE-8: the host's entries
 unfoldable pub own_entries : Settings → (number : ℕ) → List Entry → List Entry

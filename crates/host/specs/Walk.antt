@@ -1,11 +1,10 @@
 -- WALK-2, WALK-9: a walk, its places, and when it is in range.
-use Rattle.std.specs.Prelude.{Bool, true, false, cond, not, ◌&&◌, ◌||◌, List, ℕ, ltb, leb, eqb, pos, length, take, Option, Some, None}
+use Rattle.std.specs.Prelude.{Bool, true, false, cond, not, ◌&&◌, ◌||◌, List, ℕ, ltb, leb, eqb, pos, length, take, Option, Some, None, Result, Ok, Err}
+use Rattle.answer.specs.declared.Answer.{Answer}
 use Rattle.quantity.specs.Quantity.{millis, counts, less_millis}
 use Rattle.quantity.specs.Words.{word, of_word}
 use Rattle.clock.specs.Midnight.{day_millis}
 use Rattle.wire.specs.declared.Packet.{Packet}
-use Rattle.wire.specs.declared.Parsed.{Parsed}
-use Rattle.wire.specs.declared.Parsed.TheVariants.{Good, Bad}
 use Rattle.wire.specs.Hello.{report_at}
 use Rattle.wire.specs.Packet.{hello_of}
 use Rattle.table.specs.declared.Update.{Update}
@@ -110,9 +109,9 @@ walk_fields_at (Some LineC) s w p octets = reading_in_range w && id_in_range s w
 walk_fields_at (Some LineD) s w p octets = reading_in_range w && id_in_range s w
 
 -- WALK-9: does the walk's packet pass the tests for 3 to 9, and is its place in range?
-abbrev pub packet_fits : Settings → Walk → (packet : List ℕ) → Parsed → Bool
-packet_fits s w octets (Bad a) = false
-packet_fits s w octets (Good p) = walk_fields_at (place_of w) s w p octets
+abbrev pub packet_fits : Settings → Walk → (packet : List ℕ) → Result Packet Answer → Bool
+packet_fits s w octets (Err a) = false
+packet_fits s w octets (Ok p) = walk_fields_at (place_of w) s w p octets
 
 -- WALK-9: is a walk closed, or in range with the settings of the call?
 unfoldable pub walk_in_range : Settings → Walk → (copy : List ℕ) → Bool

@@ -1,7 +1,6 @@
 // The inspection of an arrival: answers 3 to 7 by the octets, then 8 and 9 by the settings.
-ghost use Rattle.std.specs.Prelude.{◌≡◌};
-ghost use Rattle.wire.specs.declared.Parsed.TheVariants.{Good};
-ghost use Rattle.wire.specs.code.Ranges.{Four, TimeFits};
+ghost use Rattle.std.specs.Prelude.{◌≡◌, Ok, IfOk};
+ghost use Rattle.wire.specs.code.Ranges.{Four};
 ghost use Rattle.host.specs.Inspection.{other_layout, looped, inspected, inspect, tells};
 
 use super::link_number::LinkNumber;
@@ -9,63 +8,55 @@ use super::link_state::broadcast;
 use super::replies::{plainly, returns_packet};
 use super::{Reply, Settings};
 use answer::Answer;
-use wire::{Packet, Parsed};
+use wire::Packet;
 
 // Is the packet's table of another layout of ids?
+#[tactic(auto, unfolding(crate::specs::Inspection::other_layout))]
 fn other_layout(s: Settings, p: Packet) -> bool
     ensures { result ≡ other_layout s p }
 {
-    let layout = s.layout;
-    if p.nhosts == 0 {
-        return false;
-    }
-    if p.nhosts as usize != layout.nhosts {
-        return true;
-    }
-    p.address_offset != layout.address_offset
+    p.nhosts != 0
+        && (p.nhosts as usize != s.layout.nhosts || p.address_offset != s.layout.address_offset)
 }
 
 // Has our own packet come back on a point-to-point link?
+#[tactic(auto, unfolding(crate::specs::Inspection::looped))]
 fn looped(s: Settings, link: LinkNumber, p: Packet) -> bool
     ensures { result ≡ looped s link.number p }
 {
     if broadcast(s, link) {
         return false;
     }
-    let source = p.source;
-    source.same(s.address)
+    p.source == s.address
 }
 
 // A packet that could be read, by the settings.
-fn compared(s: Settings, link: LinkNumber, p: Packet) -> Parsed
+fn compared(s: Settings, link: LinkNumber, p: Packet) -> Result<Packet, Answer>
     requires { Four p.time.0 }
-    ensures { (result ≡ inspected s link.number (Good p)) × TimeFits result }
+    ensures { (result ≡ inspected s link.number (Ok p)) × IfOk result (λ p. Four p.time.0) }
 {
     if other_layout(s, p) {
-        return Parsed::Bad(Answer::OtherLayout);
+        return Err(Answer::OtherLayout);
     }
     if looped(s, link, p) {
-        return Parsed::Bad(Answer::LoopedLine);
+        return Err(Answer::LoopedLine);
     }
-    Parsed::Good(p)
+    Ok(p)
 }
 
-pub fn inspect(s: Settings, link: LinkNumber, packet: &[u8]) -> Parsed
-    ensures { (result ≡ inspect s link.number packet.now) × TimeFits result }
+pub fn inspect(s: Settings, link: LinkNumber, packet: &[u8]) -> Result<Packet, Answer>
+    ensures { (result ≡ inspect s link.number packet.now) × IfOk result (λ p. Four p.time.0) }
 {
-    match wire::parse(packet) {
-        Parsed::Bad(a) => Parsed::Bad(a),
-        Parsed::Good(p) => compared(s, link, p),
-    }
+    compared(s, link, wire::parse(packet)?)
 }
 
 // What an inspection returns.
-pub fn tells(q: Parsed) -> Reply
+pub fn tells(q: Result<Packet, Answer>) -> Reply
     ensures { result ≡ tells q }
 {
     match q {
-        Parsed::Bad(a) => plainly(a),
-        Parsed::Good(p) => {
+        Err(a) => plainly(a),
+        Ok(p) => {
             let source = p.source;
             let time = p.time;
             let tsp = p.tsp;

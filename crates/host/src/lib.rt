@@ -79,6 +79,7 @@ pub struct Links {
 }
 
 // The answer of a call and its values: a send returns the length of its message, a lookup the host id and PID of the route, a read the time and DATE, an inspection the packet's source, time, TSP and NHOSTS, a step the next place of its walk (step, line and host id).
+// It stays flat: REPLY-2 and the theorems over `reply.answer` speak of a refusal as its answer beside zeros.
 #[derive(Clone, Copy)]
 pub struct Reply {
     pub answer: answer::Answer,
@@ -138,26 +139,26 @@ fn time_good(time: quantity::Millis) -> bool
 }
 
 // The id that LOCAL-ADDRESS gives, the host's own.
-pub fn own_id(s: Settings) -> route::Found
+pub fn own_id(s: Settings) -> Option<usize>
     ensures { result ≡ own_id s }
 {
     route::local_id(s.layout, s.address)
 }
 
 // The id of an address, by the host's own net or the class's net table.
-pub fn found_for(t: NetTable, s: Settings, a: wire::Address) -> route::Found
+pub fn found_for(t: NetTable, s: Settings, a: wire::Address) -> Option<usize>
     ensures { result ≡ found_for t s a }
 {
     route::find(s.address, s.layout, t.net, a)
 }
 
 // Is there an id, and is it marked?
-fn found_marked(m: table::marks::Marks, found: route::Found) -> bool
+fn found_marked(m: table::marks::Marks, found: Option<usize>) -> bool
     ensures { result ≡ found_marked m found }
 {
     match found {
-        route::Found::Nothing => false,
-        route::Found::Id(id) => table::marks::mark(m, id) == 1,
+        None => false,
+        Some(id) => table::marks::mark(m, id) == 1,
     }
 }
 
@@ -196,7 +197,7 @@ fn marks_good(s: Settings) -> bool
     ensures { result ≡ marks_good s }
 {
     let own = own_id(s);
-    if !(route::is_found(own) & found_marked(s.marks, own)) {
+    if !(own.is_some() & found_marked(s.marks, own)) {
         return false;
     }
     table::marks::none_from(s.marks, s.layout.nhosts)

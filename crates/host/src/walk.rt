@@ -25,8 +25,9 @@ use super::{Settings, inspection, link_state};
 use quantity::{Count, Millis, Word};
 use table::Update;
 use table::entries::plus_report;
-use wire::{Packet, Parsed};
+use wire::Packet;
 
+// C programs lay out a walk, so its mark, link and place are numbers, which `in_range` tests.
 #[repr(C)]
 #[derive(Clone, Copy)]
 pub struct Walk {
@@ -204,8 +205,8 @@ fn packet_good(s: Settings, w: Walk, packet: &[u8]) -> bool
         },
         packet,
     ) {
-        Parsed::Bad(_) => false,
-        Parsed::Good(p) => fields_good(s, w, p, packet),
+        Err(_) => false,
+        Ok(p) => fields_good(s, w, p, packet),
     }
 }
 

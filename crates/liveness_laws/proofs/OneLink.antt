@@ -1,4 +1,5 @@
 -- Steps 2 to 4 of an arrival go one of three ways, a send writes its own link, and lines (a) to (c) of an update go one of five ways.
+use Rattle.std.specs.Prelude.{Option, Some, None, Result, Ok, Err}
 use mathlib.Core.Path.{◌≡◌, refl, sym, ap, subst, ◌∙◌}
 use mathlib.Core.Bool.{Bool, true, false, true≢false, false≢true, cond, not, ◌||◌}
 use mathlib.Core.List.{List}
@@ -18,14 +19,10 @@ use Rattle.clock.specs.declared.Counter.{Counter}
 use Rattle.clock.specs.Clock.{count_used}
 use Rattle.wire.specs.declared.Address.{Address}
 use Rattle.wire.specs.declared.Packet.{Packet}
-use Rattle.wire.specs.declared.Parsed.{Parsed}
-use Rattle.wire.specs.declared.Parsed.TheVariants.{Good, Bad}
 use Rattle.wire.specs.Octets.{same_address}
 use Rattle.wire.specs.Ip.{ip_form, ip_checksum, protocol}
 use Rattle.wire.specs.Hello.{hello_form, hello_checksum}
 use Rattle.wire.specs.Packet.{packet_length, hello_of, fields, parse}
-use Rattle.route.specs.declared.Found.{Found}
-use Rattle.route.specs.declared.Found.TheVariants.{Id, Nothing}
 use Rattle.table.specs.Forms.{Stage, on, end}
 use Rattle.host.specs.declared.Settings.{Settings}
 use Rattle.host.specs.declared.Link.{Link}
@@ -64,7 +61,7 @@ use Rattle.quantity.proofs.Wrap.{wrap_range}
 use Rattle.liveness_laws.specs.Handshake.{Hears, Speaks, Believes, accepts, storing, Learns, Handshake}
 
 -- no answer of the inspection, and none of the guard but 0, has a time
-parse_untimed : (P : Parsed → Type 0) (octets : List ℕ) → ((x : Answer) → timed x ≡ false → P (Bad x)) → P (Good (fields octets)) → P (parse octets)
+parse_untimed : (P : Result Packet Answer → Type 0) (octets : List ℕ) → ((x : Answer) → timed x ≡ false → P (Err x)) → P (Ok (fields octets)) → P (parse octets)
 unfolding parse
 parse_untimed P octets bad good =
     either P (not (ip_form octets)) _ _ (λ _. bad _ refl)
@@ -76,10 +73,10 @@ parse_untimed P octets bad good =
     either P (not (hello_form (hello_of octets))) _ _ (λ _. bad _ refl)
     (λ _. either P (not (hello_checksum (hello_of octets))) _ _ (λ _. bad _ refl) (λ _. good)))))
 
-inspect_untimed : (P : Parsed → Type 0) (s : Settings) (i : ℕ) (octets : List ℕ) → ((x : Answer) → timed x ≡ false → P (Bad x)) → P (Good (fields octets)) → P (inspect s i octets)
+inspect_untimed : (P : Result Packet Answer → Type 0) (s : Settings) (i : ℕ) (octets : List ℕ) → ((x : Answer) → timed x ≡ false → P (Err x)) → P (Ok (fields octets)) → P (inspect s i octets)
 unfolding inspect
 inspect_untimed P s i octets bad good =
-    parse_untimed (λ (x : Parsed). P (inspection.inspected s i x)) octets bad
+    parse_untimed (λ (x : Result Packet Answer). P (inspection.inspected s i x)) octets bad
     (either P (other_layout s (fields octets)) _ _ (λ _. bad _ refl) (λ ours. either P (looped s i (fields octets)) _ _ (λ _. bad _ refl) (λ _. good)))
 
 guard_untimed : (a : Scope) (x : CallState) → done (guard a x) ≡ false → timed (guard a x) ≡ false
@@ -115,7 +112,7 @@ module _ (i : ℕ) (k : Counter) (packet : List ℕ) (x : CallState) (point : br
         (performs (act i k packet) x (λ (o : Outcome). T (timed o.reply.answer) → P o)
         (λ no t. absurd (subst T (guard_untimed (OnLink i) x no) t))
         (λ d.
-        inspect_untimed (λ (q : Parsed). T (timed (inspected k x.nets x.host i q).reply.answer) → P (updated_by (inspected k x.nets x.host i q) packet x)) x.host.settings i packet
+        inspect_untimed (λ (q : Result Packet Answer). T (timed (inspected k x.nets x.host i q).reply.answer) → P (updated_by (inspected k x.nets x.host i q) packet x)) x.host.settings i packet
         (λ z no t. absurd (subst T no t)) (λ _. goes ((passed (OnLink i) x d).link i refl))))
 
   -- H1
@@ -145,9 +142,9 @@ module _ (i : ℕ) (k : Counter) (packet : List ℕ) (x : CallState) (point : br
       fifth_links : (g : Host) (f : Flight) → (step5 x.nets g i (count_used k) p f).links ≡ g.links
       fifth_links g f = either (λ (e : Arrived). e.links ≡ g.links) (eqb p.nhosts 0) _ _ (λ _. found (found_for x.nets g.settings f.link.neighbor)) (λ _. refl)
         where
-          found : (q : Found) → (no_table g i (count_used k) p f q).links ≡ g.links
-          found Nothing = refl
-          found (Id id) = refl
+          found : (q : Option ℕ) → (no_table g i (count_used k) p f q).links ≡ g.links
+          found None = refl
+          found (Some id) = refl
 
       stored_on : no_link x.host.settings i ≡ false → (f : Flight) → f.link ≡ learnt → Kept (on f)
       stored_on linked f is = ap (λ ls. link_of ls i) (fifth_links (host x.host.settings clock (with_link i f.link x.host.links)) f) ∙ stored linked f.link ∙ is

@@ -1,4 +1,5 @@
 -- The cases of an arrival: the inspection refuses it, or was all that was asked; step 4 ends it; or it passes step 4, with a table or without one.
+use Rattle.std.specs.Prelude.{Option, Some, None, Result, Ok, Err}
 use mathlib.Core.Path.{◌≡◌, refl}
 use mathlib.Core.Bool.{Bool, true, false, cond}
 use mathlib.Core.List.{List, [], ◌∷◌}
@@ -19,11 +20,7 @@ use Rattle.clock.specs.Clock.{count_used}
 use Rattle.clock.specs.LineClock.{no_count}
 use Rattle.wire.specs.declared.Address.{Address}
 use Rattle.wire.specs.declared.Packet.{Packet}
-use Rattle.wire.specs.declared.Parsed.{Parsed}
-use Rattle.wire.specs.declared.Parsed.TheVariants.{Good, Bad}
 use Rattle.wire.specs.Octets.{same_address}
-use Rattle.route.specs.declared.Found.{Found}
-use Rattle.route.specs.declared.Found.TheVariants.{Id, Nothing}
 use Rattle.net_table.specs.declared.NetTable.{NetTable}
 use Rattle.host.specs.declared.Link.{Link}
 use Rattle.host.specs.Settings.{found_for}
@@ -79,7 +76,7 @@ module _ (i : ℕ) (r : Reading) (n : Count) (h : Host) where
     -- the ways that a packet which passed the guard can go
     pub record Ways : Type 0 where
       pub refuses : (a : Answer) → number a ≤ 9 → P (ends a h)
-      pub looks : (p : Packet) → P (quiet (tells (Good p)) h)
+      pub looks : (p : Packet) → P (quiet (tells (Ok p)) h)
       pub ended : (f : Flight) → Flown r.time f → f.link.neighbor ≡ (link_of h.links i).neighbor → P (ends DelayNotValid (storing f))
       pub unknown : (f : Flight) → Flown r.time f → P (ends NoHost (storing f))
       pub one : (p : Packet) (f : Flight) (id : ℕ) → Flown r.time f → P (updated (storing f) n p (neighbor_update i f) id 1 false)
@@ -90,9 +87,9 @@ module _ (i : ℕ) (r : Reading) (n : Count) (h : Host) where
       fifth : (t : NetTable) (p : Packet) (f : Flight) → Flown r.time f → P (step5 t (storing f) i n p f)
       fifth t p f g = go (eqb p.nhosts 0) (found_for t h.settings f.link.neighbor)
         where
-          go : (b : Bool) (x : Found) → P (cond b (no_table (storing f) i n p f x) (with_table (storing f) i n p f))
-          go true Nothing = ways.unknown f g
-          go true (Id id) = ways.one p f id g
+          go : (b : Bool) (x : Option ℕ) → P (cond b (no_table (storing f) i n p f x) (with_table (storing f) i n p f))
+          go true None = ways.unknown f g
+          go true (Some id) = ways.one p f id g
           go false x = ways.all p f g
 
       acted : (t : NetTable) (p : Packet) → P (action_at r n t h i p)
@@ -105,16 +102,16 @@ module _ (i : ℕ) (r : Reading) (n : Count) (h : Host) where
           (λ b m z. ways.ended _ (flown (broadcast h.settings i) p r.time (link_of h.links i)) refl)
           (λ b m z. fifth t p _ (flown (broadcast h.settings i) p r.time (link_of h.links i)))
 
-      looked : (octets : List ℕ) (q : Parsed) → Fits h.settings octets q → P (quiet (tells q) h)
-      looked octets (Bad a) fits = ways.refuses a fits
-      looked octets (Good p) fits = ways.looks p
+      looked : (octets : List ℕ) (q : Result Packet Answer) → Fits h.settings octets q → P (quiet (tells q) h)
+      looked octets (Err a) fits = ways.refuses a fits
+      looked octets (Ok p) fits = ways.looks p
 
 act_ways : (i : ℕ) (k : Counter) (t : NetTable) (h : Host) (P : Arrived → Type 0) → Ways i (our_reading k h) (count_used k) h P → (octets : List ℕ) → P (act i k octets t h)
 act_ways i k t h P ways octets = go (inspect h.settings i octets) (inspected_fits h.settings i octets)
   where
-    go : (q : Parsed) → Fits h.settings octets q → P (inspected k t h i q)
-    go (Bad a) fits = ways.refuses a fits
-    go (Good p) fits = acted i (our_reading k h) (count_used k) h P ways t p
+    go : (q : Result Packet Answer) → Fits h.settings octets q → P (inspected k t h i q)
+    go (Err a) fits = ways.refuses a fits
+    go (Ok p) fits = acted i (our_reading k h) (count_used k) h P ways t p
 
 -- the delivery's reading; an inspection has none
 abbrev pub read_by : Delivery → Host → Reading

@@ -1,11 +1,11 @@
 -- Entries without marks. No line of an update, no second, no box of a walk and no send uses a mark. So each makes of bare entries what it makes of marked ones, except the marks.
+use Rattle.std.specs.Prelude.{Option, Some, None, Result, Ok, Err}
 use mathlib.Core.Path.{◌≡◌, refl, sym, ap, ◌∙◌}
 use mathlib.Core.Bool.{Bool, true, false, cond, not, ◌&&◌, ◌||◌}
 use mathlib.Core.List.{List, [], ◌∷◌, ◌++◌, map, map-append}
 use Prim.Native.Nat.{ℕ, zero, suc, ◌+◌, ◌-◌}
 use lib.Dec.{ltb, eqb}
 use lib.ListN.{length, get_or, take, drop, length-map}
-use Rattle.std.proofs.Common.{Option, Some, None}
 use Rattle.lists.specs.Lists.{part, over}
 use Rattle.quantity.specs.declared.Millis.{Millis}
 use Rattle.quantity.specs.declared.Seconds.{Seconds}
@@ -19,10 +19,6 @@ use Rattle.clock.specs.declared.Counter.{Counter}
 use Rattle.clock.specs.declared.Reading.{Reading}
 use Rattle.wire.specs.declared.Packet.{Packet}
 use Rattle.wire.specs.declared.Report.{Report}
-use Rattle.wire.specs.declared.Parsed.{Parsed}
-use Rattle.wire.specs.declared.Parsed.TheVariants.{Good, Bad}
-use Rattle.route.specs.declared.Found.{Found}
-use Rattle.route.specs.declared.Found.TheVariants.{Id, Nothing}
 use Rattle.net_table.specs.declared.NetTable.{NetTable}
 use Rattle.table.specs.declared.Entry.{Entry}
 use Rattle.table.specs.declared.Update.{Update}
@@ -275,9 +271,9 @@ module _ (k : Counter) (p : Packet) (octets : List ℕ) (t : NetTable) (h : Host
   at_4 (end f) = twins tt
   at_4 (on f) = twins tt
 
-  at_5 : (f : Found) → Twins (to_neighbor h (raised w) f) (to_neighbor h (raised w) f)
-  at_5 Nothing = twins tt
-  at_5 (Id id) = twins tt
+  at_5 : (f : Option ℕ) → Twins (to_neighbor h (raised w) f) (to_neighbor h (raised w) f)
+  at_5 None = twins tt
+  at_5 (Some id) = twins tt
 
   box_bare : (e : Entry) (q : Option Place) → Twins (box_at q k p octets t h w (bare e)) (box_at q k p octets t h w e)
   unfolding box1 box2 box3 box4 box5 box_a box_b box_c box_d
@@ -296,9 +292,9 @@ step_bare : (k : Counter) (t : NetTable) (h : Host) (w : Walk) (copy : List ℕ)
 unfolding step
 step_bare k t h w copy e = cond_bare (not (is_open w)) _ _ _ _ (twins tt) (go (inspect h.settings w.link (packet_of w copy)))
   where
-    go : (q : Parsed) → Twins (box_of k (packet_of w copy) t h w (bare e) q) (box_of k (packet_of w copy) t h w e q)
-    go (Bad a) = twins tt
-    go (Good p) = box_bare k p (packet_of w copy) t h w e (place_of w)
+    go : (q : Result Packet Answer) → Twins (box_of k (packet_of w copy) t h w (bare e) q) (box_of k (packet_of w copy) t h w e q)
+    go (Err a) = twins tt
+    go (Ok p) = box_bare k p (packet_of w copy) t h w e (place_of w)
 
 -- ---- a send
 
@@ -330,9 +326,9 @@ module _ (x : CallState) where
   unfolding own_entries
   entries_bare = sym (map_part bare (first_place x.number) (host_count s) x.entries)
 
-  found_bare : (f : Found) → entry_at f (bare_state x) ≡ bare (entry_at f x)
-  found_bare Nothing = sym bare_fresh
-  found_bare (Id id) = rw entries_bare (get_bare (entries_of x) id)
+  found_bare : (f : Option ℕ) → entry_at f (bare_state x) ≡ bare (entry_at f x)
+  found_bare None = sym bare_fresh
+  found_bare (Some id) = rw entries_bare (get_bare (entries_of x) id)
 
   run_bare : (l : List Entry) → map bare (with_entries x.number l x.entries) ≡ map bare (with_entries x.number (map bare l) (map bare x.entries))
   unfolding with_entries
@@ -369,17 +365,17 @@ module _ (x : CallState) where
       ∙ run_again (changes (bare_task y.work) (map bare es))
       ∙ ap (λ (l : List Entry). map bare (with_entries x.number (changes (bare_task y.work) l) (map bare x.entries))) (sym entries_bare))
 
-  own_bare : (t : Millis) (f : Found) → bare_task (own_work t f x) ≡ own_work t f (bare_state x)
-  own_bare t Nothing = refl
-  own_bare t (Id id) = ap (λ (e : Entry). one id (Put e)) (sym (ap (self_reported t) (found_bare (Id id)) ∙ self_bare t (entry_at (Id id) x)))
+  own_bare : (t : Millis) (f : Option ℕ) → bare_task (own_work t f x) ≡ own_work t f (bare_state x)
+  own_bare t None = refl
+  own_bare t (Some id) = ap (λ (e : Entry). one id (Put e)) (sym (ap (self_reported t) (found_bare (Some id)) ∙ self_bare t (entry_at (Some id) x)))
 
-  own_plain : (t : Millis) (f : Found) → NoReport (own_work t f x).change
-  own_plain t Nothing = tt
-  own_plain t (Id id) = tt
+  own_plain : (t : Millis) (f : Option ℕ) → NoReport (own_work t f x).change
+  own_plain t None = tt
+  own_plain t (Some id) = tt
 
-  looked_bare : (f : Found) (e : Entry) → looked f e ≡ looked f (bare e)
-  looked_bare Nothing e = refl
-  looked_bare (Id id) e = refl
+  looked_bare : (f : Option ℕ) (e : Entry) → looked f e ≡ looked f (bare e)
+  looked_bare None e = refl
+  looked_bare (Some id) e = refl
 
   arrived_bare : (a : Arrived) (octets : List ℕ) → bare_outcome (updated_by a octets x) ≡ bare_outcome (updated_by a octets (bare_state x))
   arrived_bare a octets =

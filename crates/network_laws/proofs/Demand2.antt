@@ -1,4 +1,5 @@
 -- What a send writes is read back, and has the layout of its writer.
+use Rattle.std.specs.Prelude.{Result, Ok, Err}
 use mathlib.Core.Path.{◌≡◌, refl, sym, ap, ◌∙◌}
 use mathlib.Core.Bool.{Bool, true, false, true≢false, false≢true, cond, not, ◌&&◌, ◌||◌}
 use mathlib.Core.List.{List, [], ◌∷◌, map}
@@ -19,8 +20,6 @@ use Rattle.clock.specs.Midnight.{day_millis}
 use Rattle.clock.specs.declared.Counter.{Counter}
 use Rattle.wire.specs.declared.Packet.{Packet}
 use Rattle.wire.specs.declared.Report.{Report}
-use Rattle.wire.specs.declared.Parsed.{Parsed}
-use Rattle.wire.specs.declared.Parsed.TheVariants.{Good, Bad}
 use Rattle.wire.specs.Packet.{packet_length, parse}
 use Rattle.wire.specs.code.Ranges.{SignedTwo, Four, ReportFits, ReportsFit}
 use Rattle.wire.specs.ReadBack.{MessageFits, ReadBack}
@@ -132,28 +131,28 @@ module _ (i : ℕ) (k : Counter) (buffer : List ℕ) (x : CallState) (typed : Ty
 
   -- what can still refuse it
   left : (t : Settings) → t.layout ≡ s.layout → (j : ℕ) (a : Answer)
-      → inspect t j (message_of (sent_by (sends i k x.host) buffer x)) ≡ Bad a → a ≡ LoopedLine
+      → inspect t j (message_of (sent_by (sends i k x.host) buffer x)) ≡ Err a → a ≡ LoopedLine
   unfolding inspect ReadBack
   left t same j a e = go (looped t j p) (sym read ∙ e)
     where
-      read : inspect t j (message_of (sent_by (sends i k x.host) buffer x)) ≡ cond (looped t j p) (Bad LoopedLine) (Good p)
+      read : inspect t j (message_of (sent_by (sends i k x.host) buffer x)) ≡ cond (looped t j p) (Err LoopedLine) (Ok p)
       read =
           ap (λ (o : List ℕ). inspected t j (parse o)) (sent_message_lem x there i k buffer)
           ∙ ap (inspected t j) (message_is_back l.neighbor p rs fits)
-          ∙ ap (λ (b : Bool). cond b (Bad OtherLayout) (cond (looped t j p) (Bad LoopedLine) (Good p))) (ours t same)
+          ∙ ap (λ (b : Bool). cond b (Err OtherLayout) (cond (looped t j p) (Err LoopedLine) (Ok p))) (ours t same)
 
-      answer : Parsed → Answer
-      answer (Bad b) = b
-      answer (Good q) = LoopedLine
+      answer : Result Packet Answer → Answer
+      answer (Err b) = b
+      answer (Ok q) = LoopedLine
 
-      go : (b : Bool) → cond b (Bad LoopedLine) (Good p) ≡ Bad a → a ≡ LoopedLine
+      go : (b : Bool) → cond b (Err LoopedLine) (Ok p) ≡ Err a → a ≡ LoopedLine
       go true d = ap answer (sym d)
       go false d = ap answer (sym d)
 
 -- what is claimed of a send with this state afterwards
 abbrev Claim : CallState → Outcome → Type 0
 Claim x o =
-    o.reply.answer ≡ Done → (t : Settings) → t.layout ≡ x.host.settings.layout → (j : ℕ) (a : Answer) → inspect t j (message_of o) ≡ Bad a → a ≡ LoopedLine
+    o.reply.answer ≡ Done → (t : Settings) → t.layout ≡ x.host.settings.layout → (j : ℕ) (a : Answer) → inspect t j (message_of o) ≡ Err a → a ≡ LoopedLine
 
 pub heard_holds : Heard
 unfolding Heard

@@ -1,4 +1,6 @@
 -- A box's effect by its place: a clock, links and work. Each is unchanged, or made from one link, one entry or the clock.
+use Rattle.std.specs.Prelude.{Option, Some, None, Result}
+use Rattle.answer.specs.declared.Answer.{Answer}
 use mathlib.Core.Path.{◌≡◌, refl, ap, sym, subst, ◌∙◌}
 use mathlib.Core.Bool.{Bool, true, false, false≢true, not, ◌&&◌, ◌||◌}
 use mathlib.Core.List.{List, [], ◌∷◌}
@@ -8,7 +10,6 @@ use borrow.Author.Tests.{ltb-true, ltb-false, eqb-true}
 use lib.Dec.{ltb, eqb}
 use lib.ListN.{length, get_or, set}
 use lib.Seq.{get_or-set_other}
-use Rattle.std.proofs.Common.{Option, Some, None}
 use Rattle.lists.proofs.Tests.{either, is_so}
 use Rattle.quantity.specs.Quantity.{add_millis, less_millis}
 use Rattle.quantity.specs.Words.{zero_word}
@@ -16,11 +17,8 @@ use Rattle.answer.specs.declared.Answer.TheVariants.{Done}
 use Rattle.clock.specs.declared.Clock.{Clock}
 use Rattle.clock.specs.declared.Counter.{Counter}
 use Rattle.wire.specs.declared.Packet.{Packet}
-use Rattle.wire.specs.declared.Parsed.{Parsed}
 use Rattle.wire.specs.Octets.{same_address}
 use Rattle.wire.specs.Packet.{fields}
-use Rattle.route.specs.declared.Found.{Found}
-use Rattle.route.specs.declared.Found.TheVariants.{Id, Nothing}
 use Rattle.table.specs.declared.Entry.{Entry}
 use Rattle.table.specs.declared.Update.{Update}
 use Rattle.table.specs.declared.entries.Changes as entries
@@ -200,9 +198,9 @@ module _ (k : Counter) (x : CallState) where
           goes_on = (refl, neighbor _ refl refl _ refl, same_run)
 
       -- the id by the net table of this box
-      found : (g : Found) → found_for x.nets h.settings (link_of h.links w.link).neighbor ≡ g → Is (Some Step5) (to_neighbor h (raised w) g)
-      found Nothing is = (refl, refl, same_run, λ _ yes. absurd (false≢true yes))
-      found (Id id) is = (refl, refl, same_run, λ _ _. is)
+      found : (g : Option ℕ) → found_for x.nets h.settings (link_of h.links w.link).neighbor ≡ g → Is (Some Step5) (to_neighbor h (raised w) g)
+      found None is = (refl, refl, same_run, λ _ yes. absurd (false≢true yes))
+      found (Some id) is = (refl, refl, same_run, λ _ _. is)
 
       abbrev u : Update
       u = line_update w p octets
@@ -260,7 +258,7 @@ module _ (k : Counter) (x : CallState) where
     stepped e in_range =
         either (λ (f : Effect). Changes (place_of w) k x (carried_out f x)) (not (is_open w)) _ _ (λ _. refusal _ refl refl refl same_run (place_of w))
         (λ f.
-        inspect_cases (λ (q : Parsed). Changes (place_of w) k x (carried_out (box_of k octets x.nets h w e q) x)) h.settings w.link octets
+        inspect_cases (λ (q : Result Packet Answer). Changes (place_of w) k x (carried_out (box_of k octets x.nets h w e q) x)) h.settings w.link octets
         (λ a. refusal _ refl refl refl same_run (place_of w))
         (boxed (opened_says h.settings w x.copy in_range (is_so _ f)).link e (place_of w)))
 

@@ -1,4 +1,6 @@
 -- Each rule reads and alters CLOCK by the clock's own procedures, and those without a count are the line clock's; so is line (d)'s Set.
+use Rattle.std.specs.Prelude.{Result, Ok, Err}
+use Rattle.answer.specs.declared.Answer.{Answer}
 use mathlib.Core.Path.{◌≡◌, refl, ap, subst, fun_ext, sym, ◌∙◌}
 use mathlib.Core.Bool.{Bool, true, cond, not}
 use mathlib.Core.List.{List, []}
@@ -28,8 +30,6 @@ use Rattle.clock.specs.LineClock.{no_count, no_counter, line_reading}
 use Rattle.clock.proofs.Readings.{plus_none, line_clock_holds}
 use Rattle.clock.proofs.Range.{midnight_within}
 use Rattle.wire.specs.declared.Packet.{Packet}
-use Rattle.wire.specs.declared.Parsed.{Parsed}
-use Rattle.wire.specs.declared.Parsed.TheVariants.{Good, Bad}
 use Rattle.wire.specs.Packet.{packet_length}
 use Rattle.table.specs.declared.entries.Change.TheVariants.{Reported}
 use Rattle.table.specs.declared.Entry.{Entry}
@@ -136,9 +136,9 @@ module _ (x : CallState) (t : LineTime x.host.clock) where
   unfolding step
   step_same k copy e is held = subst (λ (m : Counter). step m x.nets h w copy e ≡ line_step m x.nets h w copy e) (sym is) here
     where
-      go : (q : Parsed) → box_of no_counter (packet_of w copy) x.nets h w e q ≡ line_box_of no_counter (packet_of w copy) x.nets h w e q
-      go (Bad a) = refl
-      go (Good p) = box_same p (packet_of w copy) e held (place_of w)
+      go : (q : Result Packet Answer) → box_of no_counter (packet_of w copy) x.nets h w e q ≡ line_box_of no_counter (packet_of w copy) x.nets h w e q
+      go (Err a) = refl
+      go (Ok p) = box_same p (packet_of w copy) e held (place_of w)
 
       here : step no_counter x.nets h w copy e ≡ line_step no_counter x.nets h w copy e
       here = ap (λ (y : Effect). cond (not (is_open w)) (answers (plainly NoWalk) h.clock h.links w) y) (go (inspect h.settings w.link (packet_of w copy)))
@@ -175,9 +175,9 @@ module _ (x : CallState) (t : LineTime x.host.clock) where
   act_same : (i : ℕ) (k : Counter) (octets : List ℕ) → k ≡ no_counter → act i k octets x.nets h ≡ line_inspected x.nets h i (inspect h.settings i octets)
   act_same i k octets is = ap (λ (m : Counter). act i m octets x.nets h) is ∙ go (inspect h.settings i octets)
     where
-      go : (q : Parsed) → inspected no_counter x.nets h i q ≡ line_inspected x.nets h i q
-      go (Bad a) = refl
-      go (Good p) = ap (λ (r : Reading). action_at r no_count x.nets h i p) reading_same
+      go : (q : Result Packet Answer) → inspected no_counter x.nets h i q ≡ line_inspected x.nets h i q
+      go (Err a) = refl
+      go (Ok p) = ap (λ (r : Reading). action_at r no_count x.nets h i p) reading_same
 
   delivered_same : (d : Delivery) (octets : List ℕ) → NoCount (deliver d octets) x.walk → delivered d octets x.nets h ≡ line_delivered d octets x.nets h
   delivered_same (Inspect i) octets is = refl

@@ -1,4 +1,5 @@
 -- Initialize writes the settings' marks, and every other change of an entry keeps its mark. So entries that are marked as set stay so.
+use Rattle.std.specs.Prelude.{Option}
 use mathlib.Core.Path.{◌≡◌, refl, sym, ap, ◌∙◌}
 use mathlib.Core.Bool.{true}
 use mathlib.Core.List.{List}
@@ -7,7 +8,6 @@ use native.Mathlib.Omega.{arith}
 use lib.Dec.{eqb}
 use lib.ListN.{length, get_or}
 use Rattle.clock.specs.declared.Counter.{Counter}
-use Rattle.route.specs.declared.Found.{Found}
 use Rattle.table.specs.declared.Entry.{Entry}
 use Rattle.table.specs.declared.marks.Marks.{Marks}
 use Rattle.table.specs.declared.entries.Change.TheVariants.{Aged, Reported}
@@ -79,7 +79,7 @@ module _ (x : CallState) (marks : marks_as_set x ≡ true) where
         (λ id e low high is h.
         let same : x.walk.id ≡ id = omega arith in
         let at : entry_at (at_hand x.walk) x ≡ e =
-        ap (λ (f : Found). entry_at f x) here ∙ ap (λ (i : ℕ). get_or (entries_of x) i fresh_entry) same ∙ sym is in
+        ap (λ (f : Option ℕ). entry_at f x) here ∙ ap (λ (i : ℕ). get_or (entries_of x) i fresh_entry) same ∙ sym is in
         same_mark id e y (makes_mark x.walk (entry_at (at_hand x.walk) x) y made ∙ ap (λ (z : Entry). z.here) at) h)
 
     stepped : (k : Counter) → own_walk_in_range x ≡ true → Stays (work (ask (Step k)) x)

@@ -1,4 +1,5 @@
 -- Opening a walk: the inspection refuses it, or the complete packet is copied, and fits.
+use Rattle.std.specs.Prelude.{Result, Ok, Err}
 use mathlib.Core.Path.{◌≡◌, refl, ap, ◌∙◌}
 use mathlib.Core.Bool.{Bool, true, false}
 use mathlib.Core.List.{List, ◌++◌}
@@ -12,8 +13,6 @@ use Rattle.lists.proofs.Parts.{over_nothing}
 use Rattle.answer.specs.declared.Answer.{Answer}
 use Rattle.answer.specs.Answer.{number}
 use Rattle.wire.specs.declared.Packet.{Packet}
-use Rattle.wire.specs.declared.Parsed.{Parsed}
-use Rattle.wire.specs.declared.Parsed.TheVariants.{Good, Bad}
 use Rattle.host.specs.declared.Settings.{Settings}
 use Rattle.host.specs.declared.walk.Walk.{Walk}
 use Rattle.host.specs.Settings.{settings_good}
@@ -28,14 +27,14 @@ use Rattle.walk.specs.Opening.{opened_on, opened_by, opening, copied}
 
 module _ (i : ℕ) (octets : List ℕ) (s : Settings) (w : Walk) (P : Opening → Type 0) where
   pub opening_ways : ((a : Answer) → number a ≤ 9 → P record { reply = plainly a; walk = w; octets = 0 })
-      → ((p : Packet) → inspect s i octets ≡ Good p → Reported s p octets → P record { reply = returns_place 1 0 0; walk = opened_on i (length octets); octets = length octets })
+      → ((p : Packet) → inspect s i octets ≡ Ok p → Reported s p octets → P record { reply = returns_place 1 0 0; walk = opened_on i (length octets); octets = length octets })
       → P (opening i octets s w)
   unfolding opening
   opening_ways refuses opens = go (inspect s i octets) refl (inspected_fits s i octets)
     where
-      go : (q : Parsed) → inspect s i octets ≡ q → Fits s octets q → P (opened_by i octets w q)
-      go (Bad a) e fits = refuses a fits
-      go (Good p) e fits = opens p e fits
+      go : (q : Result Packet Answer) → inspect s i octets ≡ q → Fits s octets q → P (opened_by i octets w q)
+      go (Err a) e fits = refuses a fits
+      go (Ok p) e fits = opens p e fits
 
 -- a packet that passes is no longer than the longest
 pub packet_short : (s : Settings) (p : Packet) (octets : List ℕ) → settings_good s ≡ true → Reported s p octets → length octets ≤ longest

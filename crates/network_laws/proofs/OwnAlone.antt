@@ -1,4 +1,5 @@
 -- Where the own id alone is marked, and entries have the settings' marks, the mark tests pass and the one entry with a mark is the own.
+use Rattle.std.specs.Prelude.{Option, Some, None, is_some}
 use mathlib.Core.Path.{◌≡◌, refl, sym, ap, ◌∙◌}
 use mathlib.Core.Bool.{Bool, true, false, false≢true, cond, not, ◌&&◌, and-true}
 use mathlib.Core.List.{List, [], ◌∷◌}
@@ -16,9 +17,6 @@ use Rattle.quantity.specs.declared.Millis.{Millis}
 use Rattle.answer.specs.declared.Answer.{Answer}
 use Rattle.answer.specs.declared.Answer.TheVariants.{Done}
 use Rattle.clock.specs.declared.Counter.{Counter}
-use Rattle.route.specs.declared.Found.{Found}
-use Rattle.route.specs.declared.Found.TheVariants.{Id, Nothing}
-use Rattle.route.specs.Find.{is_found}
 use Rattle.route.proofs.Ids.{local_id_below}
 use Rattle.table.specs.declared.Entry.{Entry}
 use Rattle.table.specs.declared.entries.Change.TheVariants.{Reported}
@@ -59,11 +57,11 @@ all_pass test first zero pass = refl
 all_pass test first (suc n) pass = rw (pass first (omega arith), all_pass test (suc first) n (λ id l. pass id (omega (arith, l)))) refl
 
 module _ (s : Settings) (own : MarksOwn s) where
-  marks_pass : (f : Found) → own_id s ≡ f → (is_found f && found_marked s.marks f && none_from s.marks s.layout.nhosts) ≡ is_found f
+  marks_pass : (f : Option ℕ) → own_id s ≡ f → (is_some f && found_marked s.marks f && none_from s.marks s.layout.nhosts) ≡ is_some f
   unfolding none_from
-  marks_pass Nothing is = refl
-  marks_pass (Id i) is =
-      let alone : (id : ℕ) → marked s.marks id ≡ eqb id i = λ id. own id ∙ ap (λ (f : Found). is_own f id) is in
+  marks_pass None is = refl
+  marks_pass (Some i) is =
+      let alone : (id : ℕ) → marked s.marks id ≡ eqb id i = λ id. own id ∙ ap (λ (f : Option ℕ). is_own f id) is in
       let below = local_id_below s.layout s.address i is in
       let here : marked s.marks i ≡ true = alone i ∙ eq-eqb i i refl in
       let none = all_pass (λ (id : ℕ). not (marked s.marks id)) s.layout.nhosts (256 - s.layout.nhosts)
@@ -147,16 +145,16 @@ module _ (x : CallState) (k : Counter) (own : MarksOwn x.host.settings) (set : m
       let e = all_there (λ (j : ℕ) (y : Entry). as_marked s.marks j y ≡ true) fresh_entry es (each_all (as_marked s.marks) es set) i h in
       ap (λ (n : ℕ). eqb n 1) (eqb-true _ (mark s.marks i) e) ∙ own i
 
-  work_same : (f : Found) → own_id s ≡ f → changes (each s (Reported t)) es ≡ changes (own_work t f x) es
+  work_same : (f : Option ℕ) → own_id s ≡ f → changes (each s (Reported t)) es ≡ changes (own_work t f x) es
   unfolding changes
-  work_same Nothing is = absurd (false≢true (ap is_found (sym is) ∙ (sound s (passed All x passes).settings).own_id_lem))
-  work_same (Id i) is =
+  work_same None is = absurd (false≢true (ap is_some (sym is) ∙ (sound s (passed All x passes).settings).own_id_lem))
+  work_same (Some i) is =
       let below = local_id_below s.layout s.address i is in
       let most = (sound s (passed All x passes).settings).hosts_to in
       let inside : i < length es = omega (arith, size, below, most) in
       let n : i + 1 - i ≡ 1 = omega arith in
       changes_each (host_count s) (Reported t) s.marks es (omega (arith, size))
-      ∙ one_reported t i es inside (λ j h. here_is j h ∙ ap (λ (f : Found). is_own f j) is)
+      ∙ one_reported t i es inside (λ j h. here_is j h ∙ ap (λ (f : Option ℕ). is_own f j) is)
       ∙ sym (over_one es i _ inside)
       ∙ rw (n, part_more i 0 es fresh_entry (omega (arith, inside))) refl
 

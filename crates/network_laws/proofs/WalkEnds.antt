@@ -1,4 +1,5 @@
 -- An opened walk passes the guard at each box whose table suits it, and stays if another table is passed. So its end is that of its boxes, which is the action with the table of box 5.
+use Rattle.std.specs.Prelude.{Option, Some, None, Result, Ok, Err}
 use mathlib.Core.Path.{◌≡◌, refl, sym, ap, ◌∙◌, subst}
 use mathlib.Core.Bool.{Bool, true, false, false≢true, cond, not, ◌||◌}
 use mathlib.Core.List.{List, [], ◌∷◌, ◌++◌, append_assoc}
@@ -9,7 +10,6 @@ use borrow.Author.Tests.{le-leb, lt-ltb, le-ltb, ltb-true, eq-eqb}
 use lib.Dec.{ltb, eqb}
 use lib.ListN.{length, get_or, take, drop, length-append}
 use lib.Seq.{take_at, drop_at, length-take-le}
-use Rattle.std.proofs.Common.{Option, Some, None}
 use Rattle.lists.specs.Lists.{over}
 use Rattle.lists.proofs.Tests.{either, both}
 use Rattle.lists.proofs.Parts.{over_nothing}
@@ -23,13 +23,9 @@ use Rattle.clock.specs.Clock.{count_used}
 use Rattle.clock.specs.LineClock.{no_counter}
 use Rattle.wire.specs.declared.Address.{Address}
 use Rattle.wire.specs.declared.Packet.{Packet}
-use Rattle.wire.specs.declared.Parsed.{Parsed}
-use Rattle.wire.specs.declared.Parsed.TheVariants.{Good, Bad}
 use Rattle.wire.specs.Ip.{ip_form, ip_checksum, protocol}
 use Rattle.wire.specs.Hello.{hello_form, hello_checksum}
 use Rattle.wire.specs.Packet.{hello_of, parse}
-use Rattle.route.specs.declared.Found.{Found}
-use Rattle.route.specs.declared.Found.TheVariants.{Id, Nothing}
 use Rattle.route.proofs.Ids.{found_below}
 use Rattle.net_table.specs.declared.NetTable.{NetTable}
 use Rattle.net_table.specs.Table.{table_bad}
@@ -116,7 +112,7 @@ pub record Going (p : Packet) (octets : List ℕ) (y : CallState) : Type 0 where
   pub link : no_link (s y) y.walk.link ≡ false
   pub long : y.walk.length ≤ length y.copy
   pub packet : packet_of y.walk y.copy ≡ octets
-  pub parsed : inspect (s y) y.walk.link octets ≡ Good p
+  pub parsed : inspect (s y) y.walk.link octets ≡ Ok p
   pub holds : Holds (s y) p octets (place_of y.walk) y.walk
 
 -- ---- boxes
@@ -155,7 +151,7 @@ module _ (s₁ : Settings) (t : NetTable) where
       go false false e = absurd (false≢true e)
 
   -- an id that it leads to is one of the host's
-  below : settings_good s₁ ≡ true → done (by_table s₁ t) ≡ true → (a : Address) (id : ℕ) → found_for t s₁ a ≡ Id id → id < s₁.layout.nhosts
+  below : settings_good s₁ ≡ true → done (by_table s₁ t) ≡ true → (a : Address) (id : ℕ) → found_for t s₁ a ≡ Some id → id < s₁.layout.nhosts
   below good e a id is =
       let f = fair e in
       found_below s₁.address s₁.layout t.net a id (rows_below t s₁ f.0 (rw (good, f.1) refl)) is
@@ -217,7 +213,7 @@ module _ (p : Packet) (octets : List ℕ) where
   no_box_lem y g b not = rw (guard_is y g b.nets, not) refl
 
   walk_in_range_lem : (s₁ : Settings) (w : Walk) (copy : List ℕ) → is_open w ≡ true → no_link s₁ w.link ≡ false → w.length ≤ length copy
-      → packet_of w copy ≡ octets → inspect s₁ w.link octets ≡ Good p → Holds s₁ p octets (place_of w) w → walk_in_range s₁ w copy ≡ true
+      → packet_of w copy ≡ octets → inspect s₁ w.link octets ≡ Ok p → Holds s₁ p octets (place_of w) w → walk_in_range s₁ w copy ≡ true
   unfolding walk_in_range
   walk_in_range_lem s₁ w copy o link long packet parsed holds =
       rw (o, link, le-leb w.length (length copy) long, packet, parsed, passes s₁ p octets (place_of w) w holds) refl
@@ -363,9 +359,9 @@ no_step : {A : Type 0} → ◌≡◌ {A = ℕ} 0 1 → A
 no_step z = absurd (omega arith)
 
 -- what the inspection refuses has a number
-abbrev NotDone : Parsed → Type 0
-NotDone (Good p) = ◌≡◌ {A = ℕ} 0 0
-NotDone (Bad a) = 3 ≤ number a
+abbrev NotDone : Result Packet Answer → Type 0
+NotDone (Ok p) = ◌≡◌ {A = ℕ} 0 0
+NotDone (Err a) = 3 ≤ number a
 
 refuses : (s₁ : Settings) (i : ℕ) (octets : List ℕ) → NotDone (inspect s₁ i octets)
 unfolding inspect parse
@@ -379,9 +375,9 @@ refuses s₁ i octets = go (parse octets) parsed
         (λ _. either NotDone (not (hello_form (hello_of octets))) _ _ (λ _. omega arith)
         (λ _. either NotDone (not (hello_checksum (hello_of octets))) _ _ (λ _. omega arith) (λ _. refl)))))
 
-    go : (q : Parsed) → NotDone q → NotDone (inspected s₁ i q)
-    go (Bad a) h = h
-    go (Good p) h = either NotDone (other_layout s₁ p) _ _ (λ _. omega arith) (λ _. either NotDone (looped s₁ i p) _ _ (λ _. omega arith) (λ _. refl))
+    go : (q : Result Packet Answer) → NotDone q → NotDone (inspected s₁ i q)
+    go (Err a) h = h
+    go (Ok p) h = either NotDone (other_layout s₁ p) _ _ (λ _. omega arith) (λ _. either NotDone (looped s₁ i p) _ _ (λ _. omega arith) (λ _. refl))
 
 module _ (i : ℕ) (packet : List ℕ) (x : CallState) where
   abbrev opens : Outcome
@@ -397,7 +393,7 @@ module _ (i : ℕ) (packet : List ℕ) (x : CallState) where
   record Begun : Type 0 where
     p : Packet
     passing : Passed (scope.Opening i) x
-    parsed : inspect (s x) i packet ≡ Good p
+    parsed : inspect (s x) i packet ≡ Ok p
     is : opens ≡ opened
 
   works : done (guard (scope.Opening i) x) ≡ true → opens ≡ opened_by (opening i packet (s x) x.walk) packet x
@@ -408,11 +404,11 @@ module _ (i : ℕ) (packet : List ℕ) (x : CallState) where
   unfolding perform
   refused_so d = rw d refl
 
-  opening_good : (p : Packet) → inspect (s x) i packet ≡ Good p → opened_by (opening i packet (s x) x.walk) packet x ≡ opened
+  opening_good : (p : Packet) → inspect (s x) i packet ≡ Ok p → opened_by (opening i packet (s x) x.walk) packet x ≡ opened
   unfolding opening
   opening_good p parsed = rw parsed refl
 
-  opening_bad : (a : Answer) → inspect (s x) i packet ≡ Bad a
+  opening_bad : (a : Answer) → inspect (s x) i packet ≡ Err a
       → opened_by (opening i packet (s x) x.walk) packet x ≡ opened_by record { reply = plainly a; walk = x.walk; octets = 0 } packet x
   unfolding opening
   opening_bad a parsed = rw parsed refl
@@ -420,9 +416,9 @@ module _ (i : ℕ) (packet : List ℕ) (x : CallState) where
   begun : opens.reply.answer ≡ Done → Begun
   begun e = go (done (guard (scope.Opening i) x)) refl
     where
-      inspected_so : Passed (scope.Opening i) x → opens ≡ opened_by (opening i packet (s x) x.walk) packet x → (q : Parsed) → inspect (s x) i packet ≡ q → NotDone q → Begun
-      inspected_so passing is (Good p) parsed h = record { p = p; passing = passing; parsed = parsed; is = is ∙ opening_good p parsed }
-      inspected_so passing is (Bad a) parsed h =
+      inspected_so : Passed (scope.Opening i) x → opens ≡ opened_by (opening i packet (s x) x.walk) packet x → (q : Result Packet Answer) → inspect (s x) i packet ≡ q → NotDone q → Begun
+      inspected_so passing is (Ok p) parsed h = record { p = p; passing = passing; parsed = parsed; is = is ∙ opening_good p parsed }
+      inspected_so passing is (Err a) parsed h =
           let answer : a ≡ Done = sym (ap (λ (o : Outcome). o.reply.answer) (is ∙ opening_bad a parsed)) ∙ e in
           absurd (omega (arith, h, ap number answer))
 
@@ -490,9 +486,9 @@ module _ (i : ℕ) (packet : List ℕ) (x : CallState) where
           r : Reading
           r = our_reading k x.host
 
-          one : (h : Host) (f : Flight) (g : Found) → (no_table h i (count_used k) b.p f g).reply ≡ plainly InWalk → ⊥
-          one h f Nothing w = omega (arith, ap (λ (y₁ : Reply). number y₁.answer) w)
-          one h f (Id id) w = omega (arith, ap (λ (y₁ : Reply). number y₁.answer) w)
+          one : (h : Host) (f : Flight) (g : Option ℕ) → (no_table h i (count_used k) b.p f g).reply ≡ plainly InWalk → ⊥
+          one h f None w = omega (arith, ap (λ (y₁ : Reply). number y₁.answer) w)
+          one h f (Some id) w = omega (arith, ap (λ (y₁ : Reply). number y₁.answer) w)
 
           go : (q : Stage Flight) → (concluded t (host (s x) r.clock x.host.links) i (count_used k) b.p q).reply ≡ plainly InWalk → ⊥
           go (end f) w = omega (arith, ap (λ (y₁ : Reply). number y₁.answer) w)
@@ -534,18 +530,18 @@ module _ (i : ℕ) (packet : List ℕ) (x : CallState) where
 
   -- a refusal by the guard or by the inspection
   cases : (P : Outcome → Type 0) → (done (guard (scope.Opening i) x) ≡ false → P (refused (guard (scope.Opening i) x) (open_walk i packet) x))
-      → (done (guard (scope.Opening i) x) ≡ true → (a : Answer) → inspect (s x) i packet ≡ Bad a → P (bad a))
+      → (done (guard (scope.Opening i) x) ≡ true → (a : Answer) → inspect (s x) i packet ≡ Err a → P (bad a))
       → done (perform (open_walk i packet) x).reply.answer ≡ false → P (perform (open_walk i packet) x)
   unfolding perform opening
   cases P by_guard by_inspection e = go (done (guard (scope.Opening i) x)) refl (inspect (s x) i packet) refl e
     where
-      outcome : Bool → Parsed → Outcome
+      outcome : Bool → Result Packet Answer → Outcome
       outcome b q = cond (not b) (refused (guard (scope.Opening i) x) (open_walk i packet) x) (opened_by (as-inspected i packet x.walk q) packet x)
 
-      go : (b : Bool) → done (guard (scope.Opening i) x) ≡ b → (q : Parsed) → inspect (s x) i packet ≡ q → done (outcome b q).reply.answer ≡ false → P (outcome b q)
+      go : (b : Bool) → done (guard (scope.Opening i) x) ≡ b → (q : Result Packet Answer) → inspect (s x) i packet ≡ q → done (outcome b q).reply.answer ≡ false → P (outcome b q)
       go false d q is f = by_guard d
-      go true d (Bad a) is f = by_inspection d a is
-      go true d (Good p) is f = absurd (false≢true (sym f))
+      go true d (Err a) is f = by_inspection d a is
+      go true d (Ok p) is f = absurd (false≢true (sym f))
 
   module _ (k : Counter) (room : longest ≤ length x.copy) where
     same_guard : guard (scope.OnLink i) x ≡ guard (scope.Opening i) x
@@ -556,7 +552,7 @@ module _ (i : ℕ) (packet : List ℕ) (x : CallState) where
     unfolding perform
     by_guard d = rw (same_guard, d) refl
 
-    by_inspection : done (guard (scope.Opening i) x) ≡ true → (a : Answer) → inspect (s x) i packet ≡ Bad a → bad a ≡ perform (receive i k packet) x
+    by_inspection : done (guard (scope.Opening i) x) ≡ true → (a : Answer) → inspect (s x) i packet ≡ Err a → bad a ≡ perform (receive i k packet) x
     unfolding perform
     by_inspection d a is =
         let there = holds x.number x.entries (passed (scope.Opening i) x d).places in

@@ -1,10 +1,10 @@
 -- The cases of a step: no walk is open; the clock is read; 10 or 11 ends the walk; it goes on; or it ends after the last id. Clock, links and entry are those of its box.
+use Rattle.std.specs.Prelude.{Option, Some, None, Result, Ok, Err}
 use mathlib.Core.Path.{◌≡◌, refl, ap}
 use mathlib.Core.Bool.{Bool, true, false, false≢true, cond, not, ◌&&◌, ◌||◌}
 use mathlib.Core.List.{List}
 use Prim.Native.Nat.{ℕ, ◌+◌, ◌≤◌}
 use lib.Dec.{ltb, eqb}
-use Rattle.std.proofs.Common.{Option, Some, None}
 use Rattle.lists.proofs.Tests.{either, both, is_so}
 use Rattle.quantity.specs.declared.Word.{Word}
 use Rattle.quantity.specs.Quantity.{add_millis, less_millis}
@@ -17,14 +17,10 @@ use Rattle.clock.specs.declared.Counter.{Counter}
 use Rattle.clock.specs.Clock.{count_used}
 use Rattle.clock.specs.LineClock.{no_count}
 use Rattle.wire.specs.declared.Packet.{Packet}
-use Rattle.wire.specs.declared.Parsed.{Parsed}
-use Rattle.wire.specs.declared.Parsed.TheVariants.{Good, Bad}
 use Rattle.wire.specs.Octets.{same_address}
 use Rattle.wire.specs.Ip.{ip_form, ip_checksum, protocol}
 use Rattle.wire.specs.Hello.{hello_form, hello_checksum, report_at}
 use Rattle.wire.specs.Packet.{hello_of, fields, parse}
-use Rattle.route.specs.declared.Found.{Found}
-use Rattle.route.specs.declared.Found.TheVariants.{Id, Nothing}
 use Rattle.table.specs.declared.Entry.{Entry}
 use Rattle.table.specs.declared.Update.{Update}
 use Rattle.table.specs.declared.entries.Changes.{Changes}
@@ -56,7 +52,7 @@ use Rattle.walk.specs.Boxes.{in_flight, holding, raised, at_step, at_line, onwar
 
 -- ---- inspection: a refusal, or the fields of the octets
 
-pub inspect_cases : (P : Parsed → Type 0) (s : Settings) (i : ℕ) (octets : List ℕ) → ((a : Answer) → P (Bad a)) → P (Good (fields octets)) → P (inspect s i octets)
+pub inspect_cases : (P : Result Packet Answer → Type 0) (s : Settings) (i : ℕ) (octets : List ℕ) → ((a : Answer) → P (Err a)) → P (Ok (fields octets)) → P (inspect s i octets)
 unfolding inspect parse
 inspect_cases P s i octets bad good =
     either Q (not (ip_form octets)) _ _ (λ _. bad _)
@@ -67,7 +63,7 @@ inspect_cases P s i octets bad good =
     (λ _. either P (other_layout s (fields octets)) _ _ (λ _. bad _)
     (λ _. either P (looped s i (fields octets)) _ _ (λ _. bad _) (λ _. good)))))))
   where
-    Q : Parsed → Type 0
+    Q : Result Packet Answer → Type 0
     Q q = P (inspected s i q)
 
 -- ---- what a box makes of clock, links and entry
@@ -91,7 +87,7 @@ pub data Makes (w : Walk) (e : Entry) : Entry → Type 0 where
 
 pub data Works (w : Walk) (e : Entry) : Changes → Type 0 where
   no_work : Works w e nothing
-  puts : (y : Entry) → Makes w e y → at_hand w ≡ Id w.id → Works w e (put w y)
+  puts : (y : Entry) → Makes w e y → at_hand w ≡ Some w.id → Works w e (put w y)
 
 -- the mark stays
 pub makes_mark : (w : Walk) (e y : Entry) → Makes w e y → y.here ≡ e.here
@@ -124,12 +120,12 @@ no_line n =
     Not : Option Place → Type 0
     Not q = is_line q ≡ true → ⊥
 
-at_line_lem : (w : Walk) → is_open w ≡ true → is_line (place_of w) ≡ true → at_hand w ≡ Id w.id
+at_line_lem : (w : Walk) → is_open w ≡ true → is_line (place_of w) ≡ true → at_hand w ≡ Some w.id
 unfolding place_of
 at_line_lem w opened line = go (eqb w.line 0) line
   where
     go : (b : Bool) → is_line (cond b (step_place w.step) (cond (eqb w.step 5) (line_place w.line) None)) ≡ true
-        → cond (is_open w && not b) (Id w.id) Nothing ≡ Id w.id
+        → cond (is_open w && not b) (Some w.id) None ≡ Some w.id
     go true l = absurd (no_line w.step l)
     go false l = rw opened refl
 
@@ -178,9 +174,9 @@ module _ (k : Counter) (t : NetTable) (h : Host) (w : Walk) (copy : List ℕ) (e
         goes_on : P (fourth h w (on f))
         goes_on = storing (at_step 5 (holding f w)) (λ z. z) _ (λ z. z)
 
-    found : (f : Found) → P (to_neighbor h (raised w) f)
-    found Nothing = ways.unknown
-    found (Id id) = on_with (at_line 1 id (raised w)) (λ z. z) nothing no_work
+    found : (f : Option ℕ) → P (to_neighbor h (raised w) f)
+    found None = ways.unknown
+    found (Some id) = on_with (at_line 1 id (raised w)) (λ z. z) nothing no_work
 
     abbrev u : Update
     u = line_update w p octets
@@ -191,7 +187,7 @@ module _ (k : Counter) (t : NetTable) (h : Host) (w : Walk) (copy : List ℕ) (e
         either (λ (s : Stage Entry). P (after_a p h w s)) (not (eqb u.pid e.pid) && less_millis e.delay (add_millis u.delay min_delay)) _ _
         (λ _. next h.clock as_was nothing no_work) (λ _. on_with (at_line 2 w.id w) (λ z. z) nothing no_work)
 
-    after_b_lem : at_hand w ≡ Id w.id → P (box_b p octets h w e)
+    after_b_lem : at_hand w ≡ Some w.id → P (box_b p octets h w e)
     unfolding box_b line_b
     after_b_lem here =
         either Q (up e) _ _
@@ -210,7 +206,7 @@ module _ (k : Counter) (t : NetTable) (h : Host) (w : Walk) (copy : List ℕ) (e
     same_reading : u.reading ≡ w.reading
     same_reading = either (λ (v : Update). v.reading ≡ w.reading) (eqb p.nhosts 0) (walk_update w) (plus_report (walk_update w) (report_at (hello_of octets) w.id)) (λ _. refl) (λ _. refl)
 
-    after_c_lem : at_hand w ≡ Id w.id → storable u ≡ true → reading_in_range w ≡ true → P (box_c p octets h w e)
+    after_c_lem : at_hand w ≡ Some w.id → storable u ≡ true → reading_in_range w ≡ true → P (box_c p octets h w e)
     unfolding box_c line_c
     after_c_lem here good read =
         let d : Works w e (put w (stored u e)) = puts (stored u e) (stores u good read same_pid (counted h.settings w.link has).to_eight same_reading) here in
@@ -248,6 +244,6 @@ module _ (k : Counter) (t : NetTable) (h : Host) (w : Walk) (copy : List ℕ) (e
       (let o = opened_says h.settings w copy in_range (is_so _ f) in
       go (is_so _ f) o.link (inspect h.settings w.link (packet_of w copy)) o.held))
     where
-      go : is_open w ≡ true → no_link h.settings w.link ≡ false → (q : Parsed) → packet_fits h.settings w (packet_of w copy) q ≡ true → P (box_of k (packet_of w copy) t h w e q)
-      go opened has (Bad a) held = absurd (false≢true held)
-      go opened has (Good p) held = box_ways ways opened has p (packet_of w copy) (place_of w) refl held
+      go : is_open w ≡ true → no_link h.settings w.link ≡ false → (q : Result Packet Answer) → packet_fits h.settings w (packet_of w copy) q ≡ true → P (box_of k (packet_of w copy) t h w e q)
+      go opened has (Err a) held = absurd (false≢true held)
+      go opened has (Ok p) held = box_ways ways opened has p (packet_of w copy) (place_of w) refl held

@@ -1,5 +1,5 @@
 -- REPLY-1: the conditions of the refusals.
-use Rattle.std.specs.Prelude.{Bool, false, cond, not, ◌&&◌, ◌||◌, List, [], ◌∷◌, ℕ, eqb, get_or}
+use Rattle.std.specs.Prelude.{Bool, false, cond, not, ◌&&◌, ◌||◌, List, [], ◌∷◌, ℕ, eqb, get_or, Option, Some, None, is_some}
 use Rattle.quantity.specs.declared.Seconds.{Seconds}
 use Rattle.quantity.specs.Words.{zero_word}
 use Rattle.answer.specs.declared.Answer.{Answer}
@@ -9,9 +9,6 @@ use Rattle.wire.specs.declared.Address.{Address}
 use Rattle.wire.specs.declared.Packet.{Packet}
 use Rattle.wire.specs.Octets.{same_address}
 use Rattle.wire.specs.Packet.{fields}
-use Rattle.route.specs.declared.Found.{Found}
-use Rattle.route.specs.declared.Found.TheVariants.{Id, Nothing}
-use Rattle.route.specs.Find.{is_found}
 use Rattle.net_table.specs.declared.NetTable.{NetTable}
 use Rattle.table.specs.declared.Entry.{Entry}
 use Rattle.table.specs.Entry.{fresh_entry, up}
@@ -52,7 +49,7 @@ neighbor_now h i p = cond (broadcast h.settings i) (link_of h.links i).neighbor 
 
 -- ANSWER-11, ARRIVE-5: 11 at an arrival: no table, and no id for the neighbour
 abbrev pub neighbor_unknown : NetTable → Host → (link : ℕ) → Packet → Bool
-neighbor_unknown t h i p = eqb p.nhosts 0 && not (is_found (found_for t h.settings (neighbor_now h i p)))
+neighbor_unknown t h i p = eqb p.nhosts 0 && not (is_some (found_for t h.settings (neighbor_now h i p)))
 
 -- WALK-2: is a walk open before this step?
 abbrev pub before_step : ℕ → Walk → Bool
@@ -70,9 +67,9 @@ walk_delay_invalid x = before_step 4 x.walk && delay_invalid_in x.host.clock.hol
 abbrev pub walk_neighbor_unknown : CallState → Bool
 walk_neighbor_unknown x =
     before_step 5 x.walk
-    && (eqb (held x).nhosts 0 && not (is_found (found_for x.nets x.host.settings (link_of x.host.links x.walk.link).neighbor)))
+    && (eqb (held x).nhosts 0 && not (is_some (found_for x.nets x.host.settings (link_of x.host.links x.walk.link).neighbor)))
 
 -- ANSWER-13: 13: an id is found, and its entry is down
-abbrev pub host_down : List Entry → Found → Bool
-host_down es Nothing = false
-host_down es (Id id) = not (up (get_or es id fresh_entry))
+abbrev pub host_down : List Entry → Option ℕ → Bool
+host_down es None = false
+host_down es (Some id) = not (up (get_or es id fresh_entry))

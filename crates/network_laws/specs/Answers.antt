@@ -1,11 +1,10 @@
 -- REPLY-1, ISOLATION-1: for each call, its answers with their conditions in order. The call gives the first whose condition is true, or 0.
-use Rattle.std.specs.Prelude.{◌≡◌, not, List, [], ◌∷◌, ◌++◌, ℕ, ltb, length}
+use Rattle.std.specs.Prelude.{◌≡◌, not, List, [], ◌∷◌, ◌++◌, ℕ, ltb, length, is_some}
 use Rattle.answer.specs.declared.Answer.TheVariants.{Setting, ShortBuffer, IpForm, IpChecksum, Protocol, HelloForm, HelloChecksum, OtherLayout, LoopedLine, DelayNotValid, NoHost, OutOfRange, HostDown, InWalk, NoWalk}
 use Rattle.clock.specs.declared.Counter.{Counter}
 use Rattle.wire.specs.Ip.{ip_form, ip_checksum, protocol}
 use Rattle.wire.specs.Hello.{hello_form, hello_checksum}
 use Rattle.wire.specs.Packet.{hello_of, fields, packet_length}
-use Rattle.route.specs.Find.{is_found}
 use Rattle.net_table.specs.declared.NetTable.{NetTable}
 use Rattle.host.specs.Settings.{settings_fit, found_for}
 use Rattle.host.specs.State.{link_of}
@@ -34,7 +33,7 @@ request_tests (Read k) x = []
 request_tests Second x = []
 request_tests (SelfReport k) x = []
 request_tests (Lookup a) x =
-    on NoHost (not (is_found (found_for x.nets x.host.settings a)))
+    on NoHost (not (is_some (found_for x.nets x.host.settings a)))
     ∷ on HostDown (host_down (entries_of x) (found_for x.nets x.host.settings a))
     ∷ []
 request_tests (Step k) x =

@@ -1,7 +1,6 @@
 -- WALK-3: what each box of a walk changes, and that it changes nothing else.
 use Rattle.std.specs.Prelude.{◌≡◌, true, ℕ, ◌+◌, ◌≤◌, eqb, get_or, Option, Some, None}
 use Rattle.clock.specs.declared.Counter.{Counter}
-use Rattle.route.specs.declared.Found.TheVariants.{Id}
 use Rattle.table.specs.declared.Entry.{Entry}
 use Rattle.host.specs.declared.Link.{Link}
 use Rattle.host.specs.declared.walk.Place.{Place}
@@ -65,7 +64,7 @@ ChangesEntry x o = (i : ℕ) (d : Entry) → (i ≡ first_place x.number + x.wal
 abbrev pub LooksUp : CallState → Outcome → Type 0
 LooksUp x o =
     eqb (held x).nhosts 0 ≡ true → done o.reply.answer ≡ true
-    → found_for x.nets x.host.settings (link_of x.host.links x.walk.link).neighbor ≡ Id o.walk.id
+    → found_for x.nets x.host.settings (link_of x.host.links x.walk.link).neighbor ≡ Some o.walk.id
 
 -- ---- the boxes
 

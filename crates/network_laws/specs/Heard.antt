@@ -1,9 +1,8 @@
 -- PACKET-9: a host of the same layout never refuses a message of a send with 3 to 8; only 9 remains.
-use Rattle.std.specs.Prelude.{◌≡◌, List, ℕ, ◌<◌, ◌^◌, get_or}
+use Rattle.std.specs.Prelude.{◌≡◌, List, ℕ, ◌<◌, ◌^◌, get_or, Err}
 use Rattle.answer.specs.declared.Answer.{Answer}
 use Rattle.answer.specs.declared.Answer.TheVariants.{Done, LoopedLine}
 use Rattle.clock.specs.declared.Counter.{Counter}
-use Rattle.wire.specs.declared.Parsed.TheVariants.{Bad}
 use Rattle.wire.specs.code.Ranges.{SignedTwo, AddressFits}
 use Rattle.table.specs.Entry.{fresh_entry}
 use Rattle.host.specs.declared.Settings.{Settings}
@@ -26,4 +25,4 @@ unfoldable pub Heard : Type 0
 Heard =
     (i : ℕ) (k : Counter) (buffer : List ℕ) (x : CallState) → Typed x i k → (perform (send i k buffer) x).reply.answer ≡ Done
     → (t : Settings) → t.layout ≡ x.host.settings.layout → (j : ℕ) (a : Answer)
-    → inspect t j (message_of (perform (send i k buffer) x)) ≡ Bad a → a ≡ LoopedLine
+    → inspect t j (message_of (perform (send i k buffer) x)) ≡ Err a → a ≡ LoopedLine

@@ -1,13 +1,13 @@
 -- CRYSTAL-9: arrivals with a line clock.
-use Rattle.std.specs.Prelude.{Bool, cond, List, ℕ, ◌-◌, eqb}
+use Rattle.std.specs.Prelude.{Bool, cond, List, ℕ, ◌-◌, eqb, Result, Ok, Err}
+use Rattle.answer.specs.declared.Answer.{Answer}
+use Rattle.wire.specs.declared.Packet.{Packet}
 use Rattle.lists.specs.Lists.{part, over}
 use Rattle.quantity.specs.declared.Seconds.{Seconds}
 use Rattle.quantity.specs.Words.{of_word}
 use Rattle.calendar.specs.declared.Date.{Date}
 use Rattle.clock.specs.declared.Clock.{Clock}
 use Rattle.clock.specs.LineClock.{no_count, line_set, line_reading}
-use Rattle.wire.specs.declared.Parsed.{Parsed}
-use Rattle.wire.specs.declared.Parsed.TheVariants.{Good, Bad}
 use Rattle.net_table.specs.declared.NetTable.{NetTable}
 use Rattle.table.specs.declared.Entry.{Entry}
 use Rattle.table.specs.declared.Update.{Update}
@@ -27,9 +27,9 @@ use Rattle.arrival.specs.Arrival.{ends, action_at, inspection}
 -- ---- arrivals
 
 -- CLOCK-14: an action
-abbrev pub line_inspected : NetTable → Host → (link : ℕ) → Parsed → Arrived
-line_inspected t h i (Bad a) = ends a h
-line_inspected t h i (Good p) = action_at (line_reading h.clock) no_count t h i p
+abbrev pub line_inspected : NetTable → Host → (link : ℕ) → Result Packet Answer → Arrived
+line_inspected t h i (Err a) = ends a h
+line_inspected t h i (Ok p) = action_at (line_reading h.clock) no_count t h i p
 
 -- CLOCK-14: one of the three calls
 abbrev pub line_delivered : Delivery → (packet : List ℕ) → NetTable → Host → Arrived

@@ -1,5 +1,6 @@
 -- CRYSTAL-9: the boxes of a walk with a line clock.
-use Rattle.std.specs.Prelude.{cond, not, List, ℕ, Option, Some, None}
+use Rattle.std.specs.Prelude.{cond, not, List, ℕ, Option, Some, None, Result, Ok, Err}
+use Rattle.answer.specs.declared.Answer.{Answer}
 use Rattle.quantity.specs.Words.{of_word}
 use Rattle.answer.specs.declared.Answer.TheVariants.{OutOfRange, NoWalk}
 use Rattle.clock.specs.declared.Clock.{Clock}
@@ -7,8 +8,6 @@ use Rattle.clock.specs.declared.Counter.{Counter}
 use Rattle.clock.specs.declared.Reading.{Reading}
 use Rattle.clock.specs.LineClock.{no_count, line_set, line_reading}
 use Rattle.wire.specs.declared.Packet.{Packet}
-use Rattle.wire.specs.declared.Parsed.{Parsed}
-use Rattle.wire.specs.declared.Parsed.TheVariants.{Good, Bad}
 use Rattle.net_table.specs.declared.NetTable.{NetTable}
 use Rattle.table.specs.declared.Entry.{Entry}
 use Rattle.table.specs.Update.{date_taken}
@@ -54,9 +53,9 @@ line_box_at (Some LineC) k p octets t h w e = box_at (Some LineC) k p octets t h
 line_box_at (Some LineD) k p octets t h w e = line_box_d p octets h w
 
 -- CLOCK-14: the box of a packet
-abbrev pub line_box_of : Counter → (packet : List ℕ) → NetTable → Host → Walk → Entry → Parsed → Effect
-line_box_of k octets t h w e (Bad a) = answers (plainly OutOfRange) h.clock h.links w
-line_box_of k octets t h w e (Good p) = line_box_at (place_of w) k p octets t h w e
+abbrev pub line_box_of : Counter → (packet : List ℕ) → NetTable → Host → Walk → Entry → Result Packet Answer → Effect
+line_box_of k octets t h w e (Err a) = answers (plainly OutOfRange) h.clock h.links w
+line_box_of k octets t h w e (Ok p) = line_box_at (place_of w) k p octets t h w e
 
 -- CLOCK-14: one box
 abbrev pub line_step : Counter → NetTable → Host → Walk → (copy : List ℕ) → Entry → Effect

@@ -1,13 +1,10 @@
 -- MARK-6: if only the own id is marked, the calls are those without marks.
-use Rattle.std.specs.Prelude.{◌≡◌, Bool, true, false, cond, not, ◌&&◌, ◌||◌, map, ℕ, ◌<◌, ltb, eqb, length}
+use Rattle.std.specs.Prelude.{◌≡◌, Bool, true, false, cond, not, ◌&&◌, ◌||◌, map, ℕ, ◌<◌, ltb, eqb, length, Option, Some, None, is_some}
 use Rattle.quantity.specs.declared.Millis.{Millis}
 use Rattle.answer.specs.declared.Answer.{Answer}
 use Rattle.answer.specs.declared.Answer.TheVariants.{Done, Setting, OutOfRange, InWalk}
 use Rattle.clock.specs.declared.Counter.{Counter}
 use Rattle.clock.specs.declared.Reading.{Reading}
-use Rattle.route.specs.declared.Found.{Found}
-use Rattle.route.specs.declared.Found.TheVariants.{Id, Nothing}
-use Rattle.route.specs.Find.{is_found}
 use Rattle.net_table.specs.Table.{table_bad}
 use Rattle.table.specs.declared.Entry.{Entry}
 use Rattle.table.specs.declared.entries.Change.TheVariants.{Put}
@@ -31,9 +28,9 @@ use Rattle.calls.specs.declared.Request.TheVariants.{Initialize, Tick, Adjust, S
 use Rattle.calls.specs.Perform.{Call, ask, send, deliver, open_walk, Outcome, scope_of_call, refused, entry_at, carried_out, work, perform, left}
 
 -- MARK-6: is it the own id?
-abbrev pub is_own : Found → (id : ℕ) → Bool
-is_own Nothing id = false
-is_own (Id own) id = eqb id own
+abbrev pub is_own : Option ℕ → (id : ℕ) → Bool
+is_own None id = false
+is_own (Some own) id = eqb id own
 
 -- MARK-6: only the own id is marked
 abbrev pub MarksOwn : Settings → Type 0
@@ -43,7 +40,7 @@ MarksOwn s = (id : ℕ) → marked s.marks id ≡ is_own (own_id s) id
 
 -- MARK-6: the test of the settings without marks
 abbrev pub settings_unmarked : Settings → Bool
-settings_unmarked s = numbers_good s && is_found (own_id s)
+settings_unmarked s = numbers_good s && is_some (own_id s)
 
 -- MARK-6: the test of the caller's state without marks
 abbrev pub state_unmarked : CallState → Bool
@@ -73,9 +70,9 @@ guard_unmarked a x =
 -- ----
 
 -- MARK-6, SELF-1: the update of the own id alone
-abbrev pub own_work : Millis → Found → CallState → Changes
-own_work time Nothing x = nothing
-own_work time (Id id) x = one id (Put (self_reported time (entry_at (Id id) x)))
+abbrev pub own_work : Millis → Option ℕ → CallState → Changes
+own_work time None x = nothing
+own_work time (Some id) x = one id (Put (self_reported time (entry_at (Some id) x)))
 
 -- MARK-6, SELF-1: a self-report of the own id alone
 abbrev pub own_report : Counter → CallState → Effect

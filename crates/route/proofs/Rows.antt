@@ -1,38 +1,29 @@
--- The rows of a net table from place i on: each turn of a loop over them takes the first off.
-use mathlib.Core.Path.{◌≡◌}
-use mathlib.Core.Bool.{true, false}
-use mathlib.Core.List.{List}
-use Prim.Native.Nat.{ℕ, ◌+◌, ◌≤◌, ◌<◌}
-use borrow.Author.Tests.{lt-ltb, le-ltb}
-use lib.ListN.{length, get_or, take, drop}
-use Rattle.lists.proofs.Rest.{rest_cons, rest_none}
+-- The search and the test of the ids, over the library's functions of lists.
+use Rattle.std.specs.Prelude.{Option, Some}
+use Rattle.std.specs.List.{find, list_all}
+use Rattle.std.specs.Option.{option_map}
+use mathlib.Core.Path.{◌≡◌, refl, ap}
+use mathlib.Core.Bool.{Bool, true, false, cond, ◌&&◌}
+use mathlib.Core.List.{List, [], ◌∷◌}
+use Prim.Native.Nat.{ℕ}
+use lib.Dec.{ltb}
 use Rattle.route.specs.declared.Net.{Net}
 use Rattle.route.specs.declared.Row.{Row}
-use Rattle.route.specs.declared.Found.TheVariants.{Id, Nothing}
 use Rattle.route.specs.Find.{ends, search, ids_below}
 
-module _ (l : List Row) (n i : ℕ) (inside : n ≤ length l) where
-  -- ---- the search: past a row that does not end it, at one that does, after the last
+-- the id of a row that was found
+abbrev pub host_of : Option Row → Option ℕ
+host_of = option_map (λ (r : Row). r.host)
 
-  pub passed : (net : Net) (d : Row) → i < n → ends net (get_or l i d) ≡ false → search net (drop i (take n l)) ≡ search net (drop (i + 1) (take n l))
-  unfolding search
-  passed net d h e = rw (rest_cons l n i inside d h, e)
+one_row : (b : Bool) (r : Row) (s : Option ℕ) (o : Option Row) → s ≡ host_of o → cond b (Some r.host) s ≡ host_of (cond b (Some r) o)
+one_row true r s o e = refl
+one_row false r s o e = e
 
-  pub ended : (net : Net) (d : Row) → i < n → ends net (get_or l i d) ≡ true → search net (drop i (take n l)) ≡ Id (get_or l i d).host
-  unfolding search
-  ended net d h e = rw (rest_cons l n i inside d h, e)
+pub first_found : (net : Net) (rows : List Row) → search net rows ≡ host_of (find (ends net) rows)
+unfolding search
+first_found net [] = refl
+first_found net (r ∷ rows) = one_row (ends net r) r (search net rows) (find (ends net) rows) (first_found net rows)
 
-  pub missed : (net : Net) → n ≤ i → search net (drop i (take n l)) ≡ Nothing
-  unfolding search
-  missed net h = rw (rest_none l n i inside h)
-
-  -- ---- the test of the ids, likewise
-
-  pub id_below : (most id : ℕ) (d : Row) → i < n → id ≡ (get_or l i d).host → id < most → ids_below most (drop i (take n l)) ≡ ids_below most (drop (i + 1) (take n l))
-  id_below most id d h e k = rw (rest_cons l n i inside d h, ← e, lt-ltb id most k)
-
-  pub id_over : (most id : ℕ) (d : Row) → i < n → id ≡ (get_or l i d).host → most ≤ id → ids_below most (drop i (take n l)) ≡ false
-  id_over most id d h e k = rw (rest_cons l n i inside d h, ← e, le-ltb id most k)
-
-  pub all_below : (most : ℕ) → n ≤ i → ids_below most (drop i (take n l)) ≡ true
-  all_below most h = rw (rest_none l n i inside h)
+pub all_below : (n : ℕ) (rows : List Row) → list_all (λ (r : Row). ltb r.host n) rows ≡ ids_below n rows
+all_below n [] = refl
+all_below n (r ∷ rows) = ap (λ (b : Bool). ltb r.host n && b) (all_below n rows)

@@ -1,17 +1,10 @@
 -- ROUTE-1 to ROUTE-6: the RFC's ROUTE procedure.
-use Rattle.std.specs.Prelude.{Bool, true, false, cond, not, ◌&&◌, ◌||◌, List, [], ◌∷◌, ℕ, ◌-◌, ltb, leb, eqb, take}
+use Rattle.std.specs.Prelude.{Bool, true, false, cond, not, ◌&&◌, ◌||◌, List, [], ◌∷◌, ℕ, ◌-◌, ltb, leb, eqb, take, Option, Some, None}
 use Rattle.wire.specs.declared.Address.{Address}
 use Rattle.route.specs.declared.Layout.{Layout}
 use Rattle.route.specs.declared.Net.{Net}
 use Rattle.route.specs.declared.Row.{Row}
 use Rattle.route.specs.declared.NetRows.{NetRows}
-use Rattle.route.specs.declared.Found.{Found}
-use Rattle.route.specs.declared.Found.TheVariants.{Id, Nothing}
-
--- ROUTE-5: was an id found?
-abbrev pub is_found : Found → Bool
-is_found (Id i) = true
-is_found Nothing = false
 
 -- ---- classes: first octets 0 to 127 are class A, 224 and more above C
 
@@ -36,10 +29,10 @@ abbrev pub host_octet : Address → ℕ
 host_octet a = cond (class_a a) a.third a.fourth
 
 -- ROUTE-3: that octet minus ADDRESS-OFFSET, if it is below NHOSTS
-unfoldable pub local_id : Layout → Address → Found
+unfoldable pub local_id : Layout → Address → Option ℕ
 local_id y a =
     cond (leb y.address_offset (host_octet a) && ltb (host_octet a - y.address_offset) y.nhosts)
-    (Id (host_octet a - y.address_offset)) Nothing
+    (Some (host_octet a - y.address_offset)) None
 
 -- ---- other nets
 
@@ -62,9 +55,9 @@ abbrev pub ends : Net → Row → Bool
 ends n r = same_octets r.net n || same_octets r.net zero_net
 
 -- ROUTE-5: the id of the first row that ends the search
-unfoldable pub search : Net → List Row → Found
-search n [] = Nothing
-search n (r ∷ rows) = cond (ends n r) (Id r.host) (search n rows)
+unfoldable pub search : Net → List Row → Option ℕ
+search n [] = None
+search n (r ∷ rows) = cond (ends n r) (Some r.host) (search n rows)
 
 -- ROUTE-5, NET-6: the rows of a table, in order
 abbrev pub rows_of : NetRows → List Row
@@ -73,9 +66,9 @@ rows_of t = take t.count t.rows
 -- ---- the id of an address
 
 -- ROUTE-6, ROUTE-1: the id of an address: by our net or by the net table
-unfoldable pub find : (ours : Address) → Layout → NetRows → Address → Found
+unfoldable pub find : (ours : Address) → Layout → NetRows → Address → Option ℕ
 find ours y t a =
-    cond (above_c a) Nothing (cond (same_net ours a) (local_id y a) (search (net_of a) (rows_of t)))
+    cond (above_c a) None (cond (same_net ours a) (local_id y a) (search (net_of a) (rows_of t)))
 
 -- NET-8: is the id of every row below n?
 abbrev pub ids_below : (n : ℕ) → List Row → Bool

@@ -1,7 +1,7 @@
 // Finding the host id of an address.
 #![tactic(auto)]
 
-ghost use Rattle.std.specs.Prelude.{◌≡◌, length};
+ghost use Rattle.std.specs.Prelude.{◌≡◌};
 ghost use Rattle.route.specs.Find.{
   class_a,
   above_c,
@@ -9,12 +9,10 @@ ghost use Rattle.route.specs.Find.{
   host_octet,
   local_id,
   net_of,
-  same_octets,
   ends,
   search,
   rows_of,
   find,
-  is_found,
   ids_below,
 };
 
@@ -30,7 +28,7 @@ pub struct Layout {
 
 // The three octets of a net.
 #[repr(C)]
-#[derive(Clone, Copy)]
+#[derive(Clone, Copy, PartialEq, Eq)]
 pub struct Net {
     pub first: u8,
     pub second: u8,
@@ -45,7 +43,7 @@ pub struct Row {
     pub host: u8,
 }
 
-// The net table: its first `count` rows.
+// The net table: its first `count` rows. C programs lay out the count beside the rows.
 #[repr(C)]
 #[derive(Clone, Copy)]
 pub struct NetRows {
@@ -53,20 +51,21 @@ pub struct NetRows {
     pub rows: [Row; 32],
 }
 
-// The id that is found, or none.
-#[derive(Clone, Copy)]
-pub enum Found {
-    Id(usize),
-    Nothing,
+impl Net {
+    // A row of this net matches all.
+    pub const ZERO: Net = Net {
+        first: 0,
+        second: 0,
+        third: 0,
+    };
 }
 
-// Was an id found?
-pub fn is_found(found: Found) -> bool
-    ensures { result ≡ is_found found }
-{
-    match found {
-        Found::Id(_) => true,
-        Found::Nothing => false,
+impl NetRows {
+    // The rows in use, in order: no more than there are places.
+    fn in_use(&self) -> &[Row]
+        ensures { result.now ≡ rows_of self.now }
+    {
+        &self.rows[..self.count.min(32)]
     }
 }
 
@@ -81,17 +80,15 @@ fn class_a(address: Address) -> bool
 fn above_c(address: Address) -> bool
     ensures { result ≡ above_c address }
 {
-    !(address.first < 224)
+    address.first >= 224
 }
 
 // Is the address on the net of ours?
+#[tactic(auto, unfolding(crate::specs::Find::same_net))]
 pub fn same_net(ours: Address, address: Address) -> bool
     ensures { result ≡ same_net ours address }
 {
-    if ours.first != address.first {
-        return false;
-    }
-    if ours.second != address.second {
+    if ours.first != address.first || ours.second != address.second {
         return false;
     }
     if class_a(address) {
@@ -111,19 +108,16 @@ fn host_octet(address: Address) -> u8
 }
 
 // The id of an address on our net.
-pub fn local_id(layout: Layout, address: Address) -> Found
+#[tactic(auto, unfolding(crate::specs::Find::local_id))]
+pub fn local_id(layout: Layout, address: Address) -> Option<usize>
     ensures { result ≡ local_id layout address }
 {
     let octet = host_octet(address);
-    let offset = layout.address_offset;
-    if octet < offset {
-        return Found::Nothing;
+    if octet < layout.address_offset {
+        return None;
     }
-    let id = (octet - offset) as usize;
-    if id < layout.nhosts {
-        return Found::Id(id);
-    }
-    Found::Nothing
+    let id = (octet - layout.address_offset) as usize;
+    (id < layout.nhosts).then_some(id)
 }
 
 // The net that an address is looked up by.
@@ -133,8 +127,7 @@ fn net_of(address: Address) -> Net
     if class_a(address) {
         return Net {
             first: address.first,
-            second: 0,
-            third: 0,
+            ..Net::ZERO
         };
     }
     Net {
@@ -144,112 +137,38 @@ fn net_of(address: Address) -> Net
     }
 }
 
-fn same_octets(one: Net, other: Net) -> bool
-    ensures { result ≡ same_octets one other }
-{
-    if one.first != other.first {
-        return false;
-    }
-    if one.second != other.second {
-        return false;
-    }
-    one.third == other.third
-}
-
-impl Net {
-    // A row of this net matches all.
-    pub const ZERO: Net = Net {
-        first: 0,
-        second: 0,
-        third: 0,
-    };
-}
-
 // Does the search for a net end at the row?
 fn ends(asked: Net, row: Row) -> bool
     ensures { result ≡ ends asked row }
 {
-    let net = row.net;
-    if same_octets(net, asked) {
-        return true;
-    }
-    same_octets(net, Net::ZERO)
-}
-
-// The id of a row's host.
-fn id_of(row: Row) -> usize
-    ensures { result ≡ row.host }
-{
-    row.host as usize
-}
-
-// How many rows the table has: no more than there are places.
-fn row_count(table: NetRows) -> usize
-    ensures { result ≡ length (rows_of table) }
-{
-    let n = table.count;
-    if n < 32 {
-        return n;
-    }
-    32
+    row.net == asked || row.net == Net::ZERO
 }
 
 // The id of the first row at which the search for a net ends.
-fn search(table: NetRows, net: Net) -> Found
-    ensures { result ≡ search net (rows_of table) }
+fn search(table: &NetRows, net: Net) -> Option<usize>
+    ensures { result ≡ search net (rows_of table.now) }
 {
-    let count = row_count(table);
-    let rows = table.rows;
-    let mut i: usize = 0;
-    let id = loop {
-        if i >= count {
-            return Found::Nothing;
-        }
-        let row = rows[i];
-        if ends(net, row) {
-            break id_of(row);
-        }
-        i += 1;
-    };
-    Found::Id(id)
+    let row = table.in_use().iter().find(|row| ends(net, **row))?;
+    Some(row.host as usize)
 }
 
 // The host id of an address, as a host of the address ours finds it.
-pub fn find(ours: Address, layout: Layout, table: NetRows, address: Address) -> Found
+#[tactic(auto, unfolding(crate::specs::Find::find))]
+pub fn find(ours: Address, layout: Layout, table: NetRows, address: Address) -> Option<usize>
     ensures { result ≡ find ours layout table address }
 {
     if above_c(address) {
-        return Found::Nothing;
+        return None;
     }
     if same_net(ours, address) {
         return local_id(layout, address);
     }
-    search(table, net_of(address))
+    search(&table, net_of(address))
 }
 
 // Is the id of every row below n?
 pub fn ids_below(table: NetRows, n: usize) -> bool
     ensures { result ≡ ids_below n (rows_of table) }
 {
-    if table.count == 0 {
-        return true;
-    }
-    rows_below(table, n)
-}
-
-fn rows_below(table: NetRows, n: usize) -> bool
-    ensures { result ≡ ids_below n (rows_of table) }
-{
-    let count = row_count(table);
-    let rows = table.rows;
-    let mut i: usize = 0;
-    while i < count {
-        let row = rows[i];
-        let id = id_of(row);
-        if id >= n {
-            return false;
-        }
-        i += 1;
-    }
-    true
+    table.in_use().iter().all(|row| (row.host as usize) < n)
 }

@@ -1,4 +1,5 @@
 -- A walk that was opened holds, at each box, what the guard asks of it there: no box before its end is refused with 12.
+use Rattle.std.specs.Prelude.{Option, Some, None}
 use mathlib.Core.Path.{◌≡◌, refl, ap}
 use mathlib.Core.Bool.{true, false, false≢true, not, ◌&&◌, ◌||◌}
 use mathlib.Core.List.{List}
@@ -7,7 +8,6 @@ use native.Mathlib.Omega.{arith}
 use borrow.Author.Tests.{lt-ltb, ltb-true}
 use lib.Dec.{ltb, eqb}
 use lib.IntN.{pos, ◌+ℤ◌}
-use Rattle.std.proofs.Common.{Option, Some, None}
 use Rattle.lists.proofs.Tests.{either, both, neither, is_so}
 use Rattle.quantity.specs.declared.Millis.{Millis}
 use Rattle.quantity.specs.Quantity.{less_millis}
@@ -21,8 +21,6 @@ use Rattle.wire.specs.declared.Address.{Address}
 use Rattle.wire.specs.declared.Packet.{Packet}
 use Rattle.wire.specs.Hello.{report_at}
 use Rattle.wire.specs.Packet.{hello_of}
-use Rattle.route.specs.declared.Found.{Found}
-use Rattle.route.specs.declared.Found.TheVariants.{Id, Nothing}
 use Rattle.net_table.specs.declared.NetTable.{NetTable}
 use Rattle.table.specs.declared.Entry.{Entry}
 use Rattle.table.specs.declared.Update.{Update}
@@ -133,11 +131,11 @@ module _ (s : Settings) (p : Packet) (octets : List ℕ) where
     four (end f) g = closed k w
     four (on f) g = record { still = λ _. (g, word_fits f.delay); link = λ _. refl; length = λ _. refl; few = λ _ held used. held }
 
-    found : (f : Found) → ((id : ℕ) → f ≡ Id id → ltb id s.layout.nhosts ≡ true) → reading_in_range w ≡ true → Fits16 (of_word w.delay)
+    found : (f : Option ℕ) → ((id : ℕ) → f ≡ Some id → ltb id s.layout.nhosts ≡ true) → reading_in_range w ≡ true → Fits16 (of_word w.delay)
         → Onward (to_neighbor h (raised w) f).walk
     unfolding place_of
-    found Nothing below g fits = closed k w
-    found (Id id) below g fits = record { still = λ _. record { reading = g; id = below id refl; delay = raised_held w fits }; link = λ _. refl; length = λ _. refl; few = λ _ held used. held }
+    found None below g fits = closed k w
+    found (Some id) below g fits = record { still = λ _. record { reading = g; id = below id refl; delay = raised_held w fits }; link = λ _. refl; length = λ _. refl; few = λ _ held used. held }
 
     a_goes : (q : Stage Entry) → Lined w → Onward (after_a p h w q).walk
     unfolding place_of
@@ -167,7 +165,7 @@ module _ (s : Settings) (p : Packet) (octets : List ℕ) where
 
     -- each box
     pub box_goes : (t : NetTable) (e : Entry) (q : Option Place) → Holds q w → 1 ≤ s.layout.nhosts
-        → ((a : Address) (id : ℕ) → found_for t s a ≡ Id id → ltb id s.layout.nhosts ≡ true) → Onward (box_at q k p octets t h w e).walk
+        → ((a : Address) (id : ℕ) → found_for t s a ≡ Some id → ltb id s.layout.nhosts ≡ true) → Onward (box_at q k p octets t h w e).walk
     unfolding place_of box1 box2 box3 box4 box5 box_a box_b box_c box_d
     box_goes t e None g some below = absurd g
     box_goes t e (Some Step1) g some below = record { still = λ _. reading_in s.clock_tick s.hold_interval k c; link = λ _. refl; length = λ _. refl; few = λ _ held used. used }

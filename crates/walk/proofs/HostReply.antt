@@ -1,4 +1,5 @@
 -- A walk that is run to its end leaves what the action leaves: the five steps, then the lines.
+use Rattle.std.specs.Prelude.{Option, Some, None}
 use mathlib.Core.Path.{◌≡◌, refl, sym, ap, ◌∙◌}
 use mathlib.Core.Bool.{Bool, true, false, cond, not}
 use mathlib.Core.List.{List, [], ◌∷◌, ◌++◌, append_assoc, append-nil}
@@ -26,8 +27,6 @@ use Rattle.wire.specs.declared.Address.{Address}
 use Rattle.wire.specs.declared.Report.{Report}
 use Rattle.wire.specs.Hello.{report_at}
 use Rattle.wire.specs.Packet.{hello_of}
-use Rattle.route.specs.declared.Found.{Found}
-use Rattle.route.specs.declared.Found.TheVariants.{Id, Nothing}
 use Rattle.net_table.specs.declared.NetTable.{NetTable}
 use Rattle.table.specs.declared.Entry.{Entry}
 use Rattle.table.specs.declared.Update.{Update}
@@ -209,7 +208,7 @@ module _ (s : Settings) (i : ℕ) (p : Packet) (octets : List ℕ) (m : ℕ) (c 
 
     -- what the updates of one id leave
     one_updated : (id : ℕ) → id < length es → eqb p.nhosts 0 ≡ true
-        → leaves (no_table (H f) i (count_used k) p f (Id id))
+        → leaves (no_table (H f) i (count_used k) p f (Some id))
         ≡ final (plainly Done) (lines.updated s p octets w₅ refl l₄ id r.clock (get_or es id fresh_entry)).clock l₄
         (take id es ++ (lines.updated s p octets w₅ refl l₄ id r.clock (get_or es id fresh_entry)).entry ∷ drop (suc id) es)
     unfolding updates sweep
@@ -225,16 +224,16 @@ module _ (s : Settings) (i : ℕ) (p : Packet) (octets : List ℕ) (m : ℕ) (c 
     ends_there W t d m₁ id work₁ es₀ es₁ is₁ = rw (t, is₁) refl
 
     -- no table: the one id
-    neighbor : (n : ℕ) (ks : ℕ → Handed) → 4 ≤ n → eqb p.nhosts 0 ≡ true → (g : Found) → ((id : ℕ) → g ≡ Id id → id < host_count s)
+    neighbor : (n : ℕ) (ks : ℕ → Handed) → 4 ≤ n → eqb p.nhosts 0 ≡ true → (g : Option ℕ) → ((id : ℕ) → g ≡ Some id → id < host_count s)
         → go_on s p octets (walks n ks) (to_neighbor (host s r.clock l₄) w₅ g) es ≡ leaves (no_table (H f) i (count_used k) p f g)
-    neighbor n ks room t Nothing below = rw (nothing_changes es) (sym (no_updates_lem (ends NoHost (H f)) refl refl))
-    neighbor n ks room t (Id id) below =
+    neighbor n ks room t None below = rw (nothing_changes es) (sym (no_updates_lem (ends NoHost (H f)) refl refl))
+    neighbor n ks room t (Some id) below =
         let h : id < length es = omega (arith, below id refl, whole) in
         let four : n ≡ suc (suc (suc (suc (n - 4)))) = omega arith in
         rw (nothing_changes es)
         (ap (λ (x : List Entry). walks n ks (node r.clock l₄ (at_line 1 id w₅) x)) (split_at es id fresh_entry h)
         ∙ rw four
-        (lines.id_boxes s p octets w₅ refl l₄ id (λ (y : Final). y ≡ leaves (no_table (H f) i (count_used k) p f (Id id))) (n - 4) r.clock (take id es) (get_or es id fresh_entry) (drop (suc id) es)
+        (lines.id_boxes s p octets w₅ refl l₄ id (λ (y : Final). y ≡ leaves (no_table (H f) i (count_used k) p f (Some id))) (n - 4) r.clock (take id es) (get_or es id fresh_entry) (drop (suc id) es)
         (length-take-le id es (omega arith)) ks (λ n₁ _ ks₁ m₁ work₁ es₀ is₁. ends_there (walks n₁ ks₁) t _ m₁ id work₁ es₀ _ is₁ ∙ sym (one_updated id h t))))
 
     -- what the updates of all ids leave
@@ -262,7 +261,7 @@ module _ (s : Settings) (i : ℕ) (p : Packet) (octets : List ℕ) (m : ℕ) (c 
         ∙ lines.ids_boxes s p octets w₅ refl l₄ t (drop 1 es) [] (get_or es 0 fresh_entry) 0 r.clock n ks refl long (omega (arith, room, long))
         ∙ sym (all_updated t (get_or es 0 fresh_entry ∷ drop 1 es) split)
 
-    fifth : (n : ℕ) (ks : ℕ → Handed) → (ks 0).nets ≡ nets → 1 + 4 * host_count s ≤ n → 1 ≤ host_count s → ((id : ℕ) → found_for nets s f.link.neighbor ≡ Id id → id < host_count s)
+    fifth : (n : ℕ) (ks : ℕ → Handed) → (ks 0).nets ≡ nets → 1 + 4 * host_count s ≤ n → 1 ≤ host_count s → ((id : ℕ) → found_for nets s f.link.neighbor ≡ Some id → id < host_count s)
         → walks n ks (node r.clock l₄ w₄ es) ≡ leaves (step5 nets (H f) i (count_used k) p f)
     unfolding place_of box5
     fifth n ks table_is room some below =
@@ -280,7 +279,7 @@ module _ (s : Settings) (i : ℕ) (p : Packet) (octets : List ℕ) (m : ℕ) (c 
         go true t = neighbor (n - 1) later (omega arith) t (found_for nets s f.link.neighbor) below
         go false t = rw (nothing_changes es) (table (n - 1) later (omega arith) some t)
 
-    goes_on : (n : ℕ) (ks : ℕ → Handed) → (ks 0).nets ≡ nets → 1 + 4 * host_count s ≤ n → 1 ≤ host_count s → ((id : ℕ) → found_for nets s f.link.neighbor ≡ Id id → id < host_count s)
+    goes_on : (n : ℕ) (ks : ℕ → Handed) → (ks 0).nets ≡ nets → 1 + 4 * host_count s ≤ n → 1 ≤ host_count s → ((id : ℕ) → found_for nets s f.link.neighbor ≡ Some id → id < host_count s)
         → go_on s p octets (walks n ks) (fourth (host s r.clock l₃) w₃ (on f)) es ≡ leaves (step5 nets (H f) i (count_used k) p f)
     goes_on n ks table_is room some below = rw (link_twice i l slot flight.link f.link, nothing_changes es) (fifth n ks table_is room some below)
 
@@ -289,7 +288,7 @@ module _ (s : Settings) (i : ℕ) (p : Packet) (octets : List ℕ) (m : ℕ) (c 
   same_reading = refl
 
   pub to_the_end : (n : ℕ) (ks : ℕ → Handed) → (ks 0).counter ≡ k → (ks 4).nets ≡ nets → 5 + 4 * host_count s ≤ n → length es ≡ host_count s → 1 ≤ host_count s
-      → ((a : Address) (id : ℕ) → found_for nets s a ≡ Id id → id < host_count s)
+      → ((a : Address) (id : ℕ) → found_for nets s a ≡ Some id → id < host_count s)
       → walks n ks (node c l (opened_on i m) es) ≡ leaves (action k nets (host s c l) i p)
   to_the_end n ks is table_is room whole some below =
       let four_more : n ≡ suc (suc (suc (suc (n - 4)))) = omega arith in

@@ -1,4 +1,6 @@
 -- What a box does to the entries: nothing, or it puts one in the place of its id, which is one of the host's.
+use Rattle.std.specs.Prelude.{Option, Some, None, Result, Ok, Err}
+use Rattle.answer.specs.declared.Answer.{Answer}
 use mathlib.Core.Path.{◌≡◌, refl}
 use mathlib.Core.Bool.{Bool, true, false, false≢true, not, ◌&&◌, ◌||◌}
 use mathlib.Core.List.{List}
@@ -6,14 +8,9 @@ use Prim.Native.Nat.{ℕ, ◌+◌, ◌<◌}
 use native.Mathlib.Omega.{arith}
 use borrow.Author.Tests.{ltb-true}
 use lib.Dec.{ltb, eqb}
-use Rattle.std.proofs.Common.{Option, Some, None}
 use Rattle.lists.proofs.Tests.{either, both, is_so}
 use Rattle.clock.specs.declared.Counter.{Counter}
 use Rattle.wire.specs.declared.Packet.{Packet}
-use Rattle.wire.specs.declared.Parsed.{Parsed}
-use Rattle.wire.specs.declared.Parsed.TheVariants.{Good, Bad}
-use Rattle.route.specs.declared.Found.{Found}
-use Rattle.route.specs.declared.Found.TheVariants.{Id, Nothing}
 use Rattle.net_table.specs.declared.NetTable.{NetTable}
 use Rattle.table.specs.declared.Entry.{Entry}
 use Rattle.table.specs.declared.entries.Changes.{Changes}
@@ -44,9 +41,9 @@ module _ (P : Changes → Type 0) (k : Counter) (p : Packet) (octets : List ℕ)
   four (end f) = none
   four (on f) = none
 
-  found : (f : Found) → Does (to_neighbor h (raised w) f)
-  found Nothing = none
-  found (Id id) = none
+  found : (f : Option ℕ) → Does (to_neighbor h (raised w) f)
+  found None = none
+  found (Some id) = none
 
   next : (g : Host) (work : Changes) → P work → Does (next_id p g w work)
   next g work done = either Does (eqb p.nhosts 0 || not (ltb (w.id + 1) (host_count g.settings))) _ _ (λ _. done) (λ _. done)
@@ -86,10 +83,10 @@ module _ (P : Changes → Type 0) (k : Counter) (p : Packet) (octets : List ℕ)
       c (puts id) (line_c (line_update w p octets) e)
   box_work puts (Some LineD) held = next (host h.settings (clock_set p octets h w) h.links) nothing none
 
-found_id : {i j : ℕ} → Id i ≡ Id j → i ≡ j
+found_id : {i j : ℕ} → Some i ≡ Some j → i ≡ j
 found_id e = cc
 
-nothing_is_no_id : {A : Type 0} {i : ℕ} → Nothing ≡ Id i → A
+nothing_is_no_id : {A : Type 0} {i : ℕ} → None ≡ Some i → A
 nothing_is_no_id e = let z : ◌≡◌ {A = ℕ} 0 1 = cc in absurd (omega arith)
 
 module _ (s : Settings) (w : Walk) (copy : List ℕ) (in_range : walk_in_range s w copy ≡ true) where
@@ -102,9 +99,9 @@ module _ (s : Settings) (w : Walk) (copy : List ℕ) (in_range : walk_in_range s
       (λ f. (let o = opened_says s w copy in_range (is_so _ f) in
       go (inspect h.settings w.link (packet_of w copy)) (rw same o.held)))
     where
-      go : (q : Parsed) → packet_fits h.settings w (packet_of w copy) q ≡ true → P (box_of k (packet_of w copy) t h w e q).work
-      go (Bad a) held = absurd (false≢true held)
-      go (Good p) held = box_work P k p (packet_of w copy) t h w e none (λ i. puts (rw (← same) i)) (place_of w) held
+      go : (q : Result Packet Answer) → packet_fits h.settings w (packet_of w copy) q ≡ true → P (box_of k (packet_of w copy) t h w e q).work
+      go (Err a) held = absurd (false≢true held)
+      go (Ok p) held = box_work P k p (packet_of w copy) t h w e none (λ i. puts (rw (← same) i)) (place_of w) held
 
   -- at a line an id is held
   module _ (p : Packet) (octets : List ℕ) where
@@ -126,12 +123,12 @@ module _ (s : Settings) (w : Walk) (copy : List ℕ) (in_range : walk_in_range s
     at_line_lem some = rw some (either Held (eqb w.step 5) (line_place w.line) None (λ _. line w.line) (λ _. nowhere))
 
   -- the id at hand
-  pub at_hand_in : settings_good s ≡ true → (id : ℕ) → at_hand w ≡ Id id → id < host_count s
+  pub at_hand_in : settings_good s ≡ true → (id : ℕ) → at_hand w ≡ Some id → id < host_count s
   at_hand_in good id e = go (is_open w) (eqb w.line 0) refl refl
     where
-      held : (q : Parsed) → packet_fits s w (packet_of w copy) q ≡ true → eqb w.line 0 ≡ false → id_in_range s w ≡ true
-      held (Bad a) f some = absurd (false≢true f)
-      held (Good p) f some = at_line_lem p (packet_of w copy) some f
+      held : (q : Result Packet Answer) → packet_fits s w (packet_of w copy) q ≡ true → eqb w.line 0 ≡ false → id_in_range s w ≡ true
+      held (Err a) f some = absurd (false≢true f)
+      held (Ok p) f some = at_line_lem p (packet_of w copy) some f
 
       go : (a b : Bool) → is_open w ≡ a → eqb w.line 0 ≡ b → id < host_count s
       go true false f g =

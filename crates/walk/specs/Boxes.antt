@@ -1,14 +1,11 @@
 -- WALK-3: the boxes of a walk. Each makes the changes of its step or line, and no others.
-use Rattle.std.specs.Prelude.{cond, not, ◌&&◌, List, ℕ, eqb, Option, Some, None}
+use Rattle.std.specs.Prelude.{cond, not, ◌&&◌, List, ℕ, eqb, Option, Some, None, Result, Ok, Err}
+use Rattle.answer.specs.declared.Answer.{Answer}
 use Rattle.answer.specs.declared.Answer.TheVariants.{DelayNotValid, NoHost, OutOfRange, NoWalk}
 use Rattle.clock.specs.declared.Counter.{Counter}
 use Rattle.clock.specs.declared.Reading.{Reading}
 use Rattle.clock.specs.Clock.{count_used}
 use Rattle.wire.specs.declared.Packet.{Packet}
-use Rattle.wire.specs.declared.Parsed.{Parsed}
-use Rattle.wire.specs.declared.Parsed.TheVariants.{Good, Bad}
-use Rattle.route.specs.declared.Found.{Found}
-use Rattle.route.specs.declared.Found.TheVariants.{Id, Nothing}
 use Rattle.table.specs.declared.Entry.{Entry}
 use Rattle.table.specs.Forms.{Stage, on, end}
 use Rattle.host.specs.declared.Effect.{Effect}
@@ -56,9 +53,9 @@ unfoldable pub box4 : Packet → Host → Walk → Effect
 box4 p h w = fourth h w (step4 (broadcast h.settings w.link) h.clock.hold p (in_flight h.links w))
 
 -- WALK-7: 11 ends the walk; if not, line (a) of the id is next
-abbrev pub to_neighbor : Host → Walk → Found → Effect
-to_neighbor h w Nothing = ended NoHost h.clock h.links nothing
-to_neighbor h w (Id id) = onward (at_line 1 id w) h.clock h.links nothing
+abbrev pub to_neighbor : Host → Walk → Option ℕ → Effect
+to_neighbor h w None = ended NoHost h.clock h.links nothing
+to_neighbor h w (Some id) = onward (at_line 1 id w) h.clock h.links nothing
 
 -- WALK-3, WALK-7, NET-11: step 5: DELAY at least 100; without a table the id is looked up in the table of this box
 unfoldable pub box5 : Packet → NetTable → Host → Walk → Effect
@@ -69,8 +66,8 @@ box5 p t h w =
 -- ---- a step
 
 -- WALK-3: the id whose entry a line uses
-abbrev pub at_hand : Walk → Found
-at_hand w = cond (is_open w && not (eqb w.line 0)) (Id w.id) Nothing
+abbrev pub at_hand : Walk → Option ℕ
+at_hand w = cond (is_open w && not (eqb w.line 0)) (Some w.id) None
 
 -- WALK-3: the box of a place; a place that does not exist is 12 before
 abbrev pub box_at : Option Place → Counter → Packet → (packet : List ℕ) → NetTable → Host → Walk → Entry → Effect
@@ -86,9 +83,9 @@ box_at (Some LineC) k p octets t h w e = box_c p octets h w e
 box_at (Some LineD) k p octets t h w e = box_d p octets h w
 
 -- WALK-3: the box of a packet that passes; another is 12 before
-abbrev pub box_of : Counter → (packet : List ℕ) → NetTable → Host → Walk → Entry → Parsed → Effect
-box_of k octets t h w e (Bad a) = answers (plainly OutOfRange) h.clock h.links w
-box_of k octets t h w e (Good p) = box_at (place_of w) k p octets t h w e
+abbrev pub box_of : Counter → (packet : List ℕ) → NetTable → Host → Walk → Entry → Result Packet Answer → Effect
+box_of k octets t h w e (Err a) = answers (plainly OutOfRange) h.clock h.links w
+box_of k octets t h w e (Ok p) = box_at (place_of w) k p octets t h w e
 
 -- WALK-3, WALK-8, ANSWER-17: one box; 17 without an open walk
 unfoldable pub step : Counter → NetTable → Host → Walk → (copy : List ℕ) → Entry → Effect

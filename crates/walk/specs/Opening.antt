@@ -1,10 +1,10 @@
 -- WALK-1: opening a walk.
-use Rattle.std.specs.Prelude.{List, ℕ, pos, length, take}
+use Rattle.std.specs.Prelude.{List, ℕ, pos, length, take, Result, Ok, Err}
+use Rattle.answer.specs.declared.Answer.{Answer}
+use Rattle.wire.specs.declared.Packet.{Packet}
 use Rattle.lists.specs.Lists.{over}
 use Rattle.quantity.specs.Quantity.{millis, counts}
 use Rattle.quantity.specs.Words.{word}
-use Rattle.wire.specs.declared.Parsed.{Parsed}
-use Rattle.wire.specs.declared.Parsed.TheVariants.{Good, Bad}
 use Rattle.host.specs.declared.Settings.{Settings}
 use Rattle.host.specs.declared.walk.Walk.{Walk}
 use Rattle.host.specs.Reply.{plainly, returns_place}
@@ -28,9 +28,9 @@ opened_on i n =
     }
 
 -- WALK-1: the reply, the walk, and how many octets are copied
-abbrev pub opened_by : (link : ℕ) → (packet : List ℕ) → Walk → Parsed → Opening
-opened_by i octets w (Bad a) = record { reply = plainly a; walk = w; octets = 0 }
-opened_by i octets w (Good p) = record { reply = returns_place 1 0 0; walk = opened_on i (length octets); octets = length octets }
+abbrev pub opened_by : (link : ℕ) → (packet : List ℕ) → Walk → Result Packet Answer → Opening
+opened_by i octets w (Err a) = record { reply = plainly a; walk = w; octets = 0 }
+opened_by i octets w (Ok p) = record { reply = returns_place 1 0 0; walk = opened_on i (length octets); octets = length octets }
 
 -- WALK-1: opening, with the tests for 3 to 9
 unfoldable pub opening : (link : ℕ) → (packet : List ℕ) → Settings → Walk → Opening

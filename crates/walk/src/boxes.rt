@@ -28,7 +28,6 @@ use host::walk::{Place, Walk};
 use host::{Effect, Link, Links, Settings};
 use net_table::NetTable;
 use quantity::{Millis, Word};
-use route::Found;
 use std::ops::ControlFlow;
 use table::Entry;
 use wire::Packet;
@@ -124,13 +123,13 @@ fn raised(w: Walk) -> Walk
     }
 }
 
-fn to_neighbor(s: Settings, c: Clock, l: Links, w: Walk, found: Found) -> Effect
+fn to_neighbor(s: Settings, c: Clock, l: Links, w: Walk, found: Option<usize>) -> Effect
     requires { has_place found ≡ true }
     ensures { result ≡ to_neighbor (host s c l) w found }
 {
     match found {
-        Found::Nothing => ended(Answer::NoHost, c, l, nothing()),
-        Found::Id(id) => onward(at(5, 1, id as u8, w), c, l, nothing()),
+        None => ended(Answer::NoHost, c, l, nothing()),
+        Some(id) => onward(at(5, 1, id as u8, w), c, l, nothing()),
     }
 }
 

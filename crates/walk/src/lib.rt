@@ -17,9 +17,7 @@ use host::walk::Walk;
 use host::{Effect, Links, Reply, Settings, inspection};
 use net_table::NetTable;
 use quantity::{Count, Millis, Word};
-use route::Found;
 use table::Entry;
-use wire::Parsed;
 
 pub mod boxes;
 mod held;
@@ -52,12 +50,12 @@ pub fn opened_by(s: Settings, w: Walk, link: LinkNumber, packet: &[u8]) -> Openi
     ensures { (result ≡ opening link.number packet.now s w) × (result.octets ≤ longest) }
 {
     match inspection::inspect(s, link, packet) {
-        Parsed::Bad(a) => Opening {
+        Err(a) => Opening {
             reply: plainly(a),
             walk: w,
             octets: 0,
         },
-        Parsed::Good(p) => {
+        Ok(p) => {
             let n = wire::length(p.nhosts);
             Opening {
                 reply: returns_place(1, 0, 0),
@@ -77,13 +75,13 @@ pub fn keep(copy: &mut [u8], packet: &[u8], octets: usize)
 }
 
 // The id whose entry is at hand, at a line.
-pub fn at_hand(w: Walk) -> Found
+pub fn at_hand(w: Walk) -> Option<usize>
     ensures { result ≡ at_hand w }
 {
     if !host::walk::is_open(w) || w.line == 0 {
-        return Found::Nothing;
+        return None;
     }
-    Found::Id(w.id as usize)
+    Some(w.id as usize)
 }
 
 // The box of a walk's place; 17 where no walk is open.

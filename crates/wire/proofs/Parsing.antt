@@ -1,4 +1,5 @@
 -- What the tests of form say of lengths, and that a packet that passes all tests is good.
+use Rattle.std.specs.Prelude.{Ok}
 use mathlib.Core.Path.{◌≡◌}
 use mathlib.Core.Bool.{true}
 use mathlib.Core.List.{List}
@@ -14,7 +15,6 @@ use Rattle.quantity.specs.Words.{word, signed16}
 use Rattle.quantity.proofs.Ints.{to-≤ℤ, to-<ℤ}
 use Rattle.lists.proofs.Tests.{both}
 use Rattle.wire.specs.declared.Address.{Address}
-use Rattle.wire.specs.declared.Parsed.TheVariants.{Good}
 use Rattle.octets.specs.Octets.{octet_at, two_at, four_at}
 use Rattle.wire.specs.Octets.{address_at}
 use Rattle.wire.specs.Ip.{header_length, version_and_length, version_place, total_place, fragment_place, source_place, ip_form, ip_checksum, protocol}
@@ -48,7 +48,7 @@ pub record HelloPasses (s : List ℕ) : Type 0 where
   pub form : hello_form s ≡ true
   pub checksum : hello_checksum s ≡ true
 
-pub passes : (s : List ℕ) → HeaderPasses s → HelloPasses (hello_of s) → parse s ≡ Good (fields s)
+pub passes : (s : List ℕ) → HeaderPasses s → HelloPasses (hello_of s) → parse s ≡ Ok (fields s)
 unfolding parse
 passes s h g = rw (h.form, h.checksum, h.kind, g.form, g.checksum)
 

@@ -1,4 +1,5 @@
 -- Each field of a message stands in its place, and its octets give back the number that was put into them.
+use Rattle.std.specs.Prelude.{Ok}
 use mathlib.Core.Path.{◌≡◌, refl, sym, ap, ◌∙◌}
 use mathlib.Core.Bool.{true}
 use mathlib.Core.List.{List, [], ◌∷◌, ◌++◌}
@@ -17,7 +18,6 @@ use Rattle.checksum.proofs.Folding.{checksum_good_lem}
 use Rattle.wire.specs.declared.Address.{Address}
 use Rattle.wire.specs.declared.Packet.{Packet}
 use Rattle.wire.specs.declared.Report.{Report}
-use Rattle.wire.specs.declared.Parsed.TheVariants.{Good}
 use Rattle.octets.specs.Octets.{two}
 use Rattle.wire.specs.Ip.{ip_checksum, protocol, header_start, header_back, header}
 use Rattle.wire.specs.Hello.{report_at, report_place, hello_length, hello_checksum, reports_octets, hello_rest, hello}
@@ -179,4 +179,4 @@ pub message_is_back : ReadBack
 unfolding ReadBack
 message_is_back destination p rs f =
     passes (message destination p rs) (header_passes destination p rs f) (hello_passes destination p rs f)
-    ∙ ap Good (fields_back destination p rs f.packet_fits_lem)
+    ∙ ap Ok (fields_back destination p rs f.packet_fits_lem)

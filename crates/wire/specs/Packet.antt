@@ -1,13 +1,12 @@
 -- PACKET-8: a packet is the IP header and the HELLO after it. Reading it tests for 3 to 7 in this order.
-use Rattle.std.specs.Prelude.{cond, not, List, ◌++◌, ℕ, ◌+◌, pos, drop}
+use Rattle.std.specs.Prelude.{cond, not, List, ◌++◌, ℕ, ◌+◌, pos, drop, Result, Ok, Err}
+use Rattle.answer.specs.declared.Answer.{Answer}
 use Rattle.quantity.specs.Quantity.{millis}
 use Rattle.quantity.specs.Words.{word, signed16}
 use Rattle.answer.specs.declared.Answer.TheVariants.{IpForm, IpChecksum, Protocol, HelloForm, HelloChecksum}
 use Rattle.wire.specs.declared.Address.{Address}
 use Rattle.wire.specs.declared.Packet.{Packet}
 use Rattle.wire.specs.declared.Report.{Report}
-use Rattle.wire.specs.declared.Parsed.{Parsed}
-use Rattle.wire.specs.declared.Parsed.TheVariants.{Good, Bad}
 use Rattle.octets.specs.Octets.{octet_at, two_at, four_at}
 use Rattle.wire.specs.Octets.{address_at}
 use Rattle.wire.specs.Ip.{header_length, source_place, ip_form, ip_checksum, protocol, header}
@@ -32,14 +31,14 @@ fields octets =
     }
 
 -- PACKET-8: the first test that fails, or the fields
-unfoldable pub parse : List ℕ → Parsed
+unfoldable pub parse : List ℕ → Result Packet Answer
 parse octets =
-    cond (not (ip_form octets)) (Bad IpForm)
-    (cond (not (ip_checksum octets)) (Bad IpChecksum)
-    (cond (not (protocol octets)) (Bad Protocol)
-    (cond (not (hello_form (hello_of octets))) (Bad HelloForm)
-    (cond (not (hello_checksum (hello_of octets))) (Bad HelloChecksum)
-    (Good (fields octets))))))
+    cond (not (ip_form octets)) (Err IpForm)
+    (cond (not (ip_checksum octets)) (Err IpChecksum)
+    (cond (not (protocol octets)) (Err Protocol)
+    (cond (not (hello_form (hello_of octets))) (Err HelloForm)
+    (cond (not (hello_checksum (hello_of octets))) (Err HelloChecksum)
+    (Ok (fields octets))))))
 
 -- ---- written
 

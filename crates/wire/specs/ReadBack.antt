@@ -1,9 +1,8 @@
 -- PACKET-9: reading what was written gives what was written. So a message is never refused with 3 to 7.
-use Rattle.std.specs.Prelude.{◌≡◌, List, ℕ, ◌<◌, length, get_or}
+use Rattle.std.specs.Prelude.{◌≡◌, List, ℕ, ◌<◌, length, get_or, Ok}
 use Rattle.wire.specs.declared.Address.{Address}
 use Rattle.wire.specs.declared.Packet.{Packet}
 use Rattle.wire.specs.declared.Report.{Report}
-use Rattle.wire.specs.declared.Parsed.TheVariants.{Good}
 use Rattle.wire.specs.Hello.{report_at}
 use Rattle.wire.specs.Packet.{hello_of, parse, message}
 use Rattle.wire.specs.code.Ranges.{AddressFits, PacketFits, ReportsFit}
@@ -22,7 +21,7 @@ pub record MessageFits (destination : Address) (p : Packet) (rs : List Report) :
 unfoldable pub ReadBack : Type 0
 ReadBack =
     (destination : Address) (p : Packet) (rs : List Report) → MessageFits destination p rs
-    → parse (message destination p rs) ≡ Good p
+    → parse (message destination p rs) ≡ Ok p
 
 -- PACKET-9: for every report i of such a message: it is read back
 unfoldable pub ReportsBack : Type 0

@@ -35,16 +35,15 @@ pub fn length(nhosts: u8) -> usize
 }
 
 // Whether the length is that of a HELLO of as many hosts as it says.
+#[tactic(auto, unfolding(crate::specs::Hello::hello_form))]
 pub fn form(hello: &[u8]) -> bool
     ensures { result ≡ hello_form hello.now }
 {
-    if hello.len() < FIXED {
-        return false;
-    }
-    hello.len() == length(hello[NHOSTS])
+    hello.len() >= FIXED && hello.len() == length(hello[NHOSTS])
 }
 
 // Whether the HELLO's checksum is good.
+#[tactic(auto, unfolding(crate::specs::Hello::hello_checksum))]
 pub fn checksum(hello: &[u8]) -> bool
     ensures { result ≡ hello_checksum hello.now }
 {
@@ -71,9 +70,7 @@ pub fn put_report(hello: &mut [u8], i: usize, r: Report)
     ensures { hello.new ≡ hello_with_report i r hello.old }
 {
     let place = FIXED + REPORT * i;
-    let delay = r.delay;
-    let offset = r.offset;
-    put_words(&mut *hello, place, delay.bits(), offset.bits());
+    put_words(hello, place, r.delay.bits(), r.offset.bits());
 }
 
 // The fixed part, with a checksum of zero.
@@ -82,15 +79,12 @@ fn put_fixed(hello: &mut [u8], p: Packet)
     requires four { Four p.time.0 }
     ensures { hello.new ≡ two 0 ++ hello_rest p [] ++ drop fixed_length hello.old }
 {
-    let date = p.date;
-    let time = p.time;
-    let tsp = p.tsp;
-    put_words(&mut *hello, CHECKSUM, 0, date.0);
-    put_four(&mut *hello, TIME, time.unsigned());
+    put_words(hello, CHECKSUM, 0, p.date.0);
+    put_four(hello, TIME, p.time.unsigned());
     put_words(
-        &mut *hello,
+        hello,
         TSP,
-        tsp.bits(),
+        p.tsp.bits(),
         p.address_offset as u16 * 256 + p.nhosts as u16,
     );
 }
@@ -102,7 +96,7 @@ pub fn seal(hello: &mut [u8], p: Packet)
     ensures { hello.new ≡ sealed_hello p hello.old }
 {
     let n = length(p.nhosts);
-    put_fixed(&mut *hello, p);
+    put_fixed(hello, p);
     let sum = checksum::complement(&hello[..n]);
-    put_two(&mut *hello, CHECKSUM, sum);
+    put_two(hello, CHECKSUM, sum);
 }

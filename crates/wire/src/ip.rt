@@ -42,22 +42,18 @@ pub const SOURCE: usize = 12;
 const DESTINATION: usize = 16;
 
 // Whether the header has the form of answer 3.
+#[tactic(auto, unfolding(crate::specs::Ip::ip_form))]
 pub fn form(packet: &[u8]) -> bool
     ensures { result ≡ ip_form packet.now }
 {
-    if packet.len() < LENGTH {
-        return false;
-    }
-    if packet[VERSION] != VERSION_AND_LENGTH {
-        return false;
-    }
-    if two_at(packet, TOTAL) as usize != packet.len() {
-        return false;
-    }
-    two_at(packet, FRAGMENT) % 0x4000 == 0
+    packet.len() >= LENGTH
+        && packet[VERSION] == VERSION_AND_LENGTH
+        && two_at(packet, TOTAL) as usize == packet.len()
+        && two_at(packet, FRAGMENT) % 0x4000 == 0
 }
 
 // Whether the header's checksum is good.
+#[tactic(auto, unfolding(crate::specs::Ip::ip_checksum))]
 pub fn checksum(packet: &[u8]) -> bool
     requires { header_length ≤ length packet.now }
     ensures { result ≡ ip_checksum packet.now }
@@ -66,6 +62,7 @@ pub fn checksum(packet: &[u8]) -> bool
 }
 
 // Whether the protocol is HELLO's.
+#[tactic(auto, unfolding(crate::specs::Ip::protocol))]
 pub fn protocol(packet: &[u8]) -> bool
     requires { header_length ≤ length packet.now }
     ensures { result ≡ protocol packet.now }
@@ -78,11 +75,11 @@ pub fn put_fields(packet: &mut [u8], total: u16, source: Address, destination: A
     requires { header_length ≤ length packet.old }
     ensures { packet.new ≡ header_start total ++ two 0 ++ header_back source destination ++ drop header_length packet.old }
 {
-    put_words(&mut *packet, VERSION, VERSION_LENGTH_SERVICE, total);
-    put_words(&mut *packet, IDENTIFICATION, 0, 0);
-    put_words(&mut *packet, TIME_TO_LIVE, LIFE_AND_PROTOCOL, 0);
-    put_address(&mut *packet, SOURCE, source);
-    put_address(&mut *packet, DESTINATION, destination);
+    put_words(packet, VERSION, VERSION_LENGTH_SERVICE, total);
+    put_words(packet, IDENTIFICATION, 0, 0);
+    put_words(packet, TIME_TO_LIVE, LIFE_AND_PROTOCOL, 0);
+    put_address(packet, SOURCE, source);
+    put_address(packet, DESTINATION, destination);
 }
 
 // The checksum of a header whose other fields are written: that of its octets as they are.
@@ -91,5 +88,5 @@ pub fn seal(packet: &mut [u8])
     ensures { packet.new ≡ sets packet.old checksum_place (two (checksum_of (take header_length packet.old))) }
 {
     let checksum = checksum::complement(&packet[..LENGTH]);
-    put_two(&mut *packet, CHECKSUM, checksum);
+    put_two(packet, CHECKSUM, checksum);
 }

@@ -1,15 +1,17 @@
 // Packets: the IP header and the HELLO after it.
 #![tactic(auto)]
 
-ghost use Rattle.std.specs.Prelude.{◌≡◌, ◌+◌, ◌≤◌, length};
+ghost use Rattle.std.specs.Prelude.{◌≡◌, ◌+◌, ◌≤◌, length, IfOk};
 ghost use Rattle.lists.specs.Lists.{over};
 ghost use Rattle.wire.specs.Octets.{zero_address, same_address};
 ghost use Rattle.wire.specs.Ip.{header_length};
 ghost use Rattle.wire.specs.Hello.{report_length, report_place, report_at};
 ghost use Rattle.wire.specs.Packet.{packet_length, hello_of, fields, parse};
-ghost use Rattle.wire.specs.code.Ranges.{Two, Four, TimeFits};
+ghost use Rattle.wire.specs.code.Ranges.{Two, Four};
 ghost use Rattle.wire.specs.ReadBack.{ReadBack, ReportsBack};
 ghost use Rattle.wire.specs.code.Sealing.{with_report, sealed};
+
+use answer::Answer;
 
 pub mod addresses;
 mod hello;
@@ -17,7 +19,7 @@ mod ip;
 
 // An Internet address: its four octets, the highest first.
 #[repr(C)]
-#[derive(Clone, Copy)]
+#[derive(Clone, Copy, PartialEq, Eq)]
 pub struct Address {
     pub first: u8,
     pub second: u8,
@@ -25,7 +27,7 @@ pub struct Address {
     pub fourth: u8,
 }
 
-// What a packet says, except the reports of its table: its source, and the fixed part of its HELLO.
+// What a packet says, except the reports of its table: its source, and the fixed part of its HELLO. That its time fits four octets is said in contracts: the definition `fields` makes a packet of any list, so the type cannot ask it.
 #[derive(Clone, Copy)]
 pub struct Packet {
     pub source: Address,
@@ -43,13 +45,6 @@ pub struct Report {
     pub offset: quantity::Word,
 }
 
-// What reading a packet yields: its fields, or the answer that refuses it.
-#[derive(Clone, Copy)]
-pub enum Parsed {
-    Good(Packet),
-    Bad(answer::Answer),
-}
-
 impl Address {
     pub const ZERO: Address = Address {
         first: 0,
@@ -58,25 +53,10 @@ impl Address {
         fourth: 0,
     };
 
-    pub fn same(self, other: Address) -> bool
-        ensures { result ≡ same_address self other }
-    {
-        if self.first != other.first {
-            return false;
-        }
-        if self.second != other.second {
-            return false;
-        }
-        if self.third != other.third {
-            return false;
-        }
-        self.fourth == other.fourth
-    }
-
     pub fn is_zero(self) -> bool
         ensures { result ≡ same_address self zero_address }
     {
-        self.same(Address::ZERO)
+        self == Address::ZERO
     }
 }
 
@@ -101,25 +81,25 @@ pub fn fields(packet: &[u8]) -> Packet
 }
 
 // A packet read: the tests of answers 3 to 7 in their order, and the fields of one that passes.
-pub fn parse(packet: &[u8]) -> Parsed
-    ensures { (result ≡ parse packet.now) × TimeFits result }
+pub fn parse(packet: &[u8]) -> Result<Packet, Answer>
+    ensures { (result ≡ parse packet.now) × IfOk result (λ p. Four p.time.0) }
 {
     if !ip::form(packet) {
-        return Parsed::Bad(answer::Answer::IpForm);
+        return Err(Answer::IpForm);
     }
     if !ip::checksum(packet) {
-        return Parsed::Bad(answer::Answer::IpChecksum);
+        return Err(Answer::IpChecksum);
     }
     if !ip::protocol(packet) {
-        return Parsed::Bad(answer::Answer::Protocol);
+        return Err(Answer::Protocol);
     }
     if !hello::form(&packet[ip::LENGTH..]) {
-        return Parsed::Bad(answer::Answer::HelloForm);
+        return Err(Answer::HelloForm);
     }
     if !hello::checksum(&packet[ip::LENGTH..]) {
-        return Parsed::Bad(answer::Answer::HelloChecksum);
+        return Err(Answer::HelloChecksum);
     }
-    Parsed::Good(fields(packet))
+    Ok(fields(packet))
 }
 
 // What a packet reports of host i.
@@ -151,18 +131,19 @@ pub fn seal(buffer: &mut [u8], destination: Address, p: Packet)
     requires four { Four p.time.0 }
     ensures { buffer.new ≡ sealed destination p buffer.old }
 {
-    let source = p.source;
     let total = length(p.nhosts);
-    ip::put_fields(&mut *buffer, total as u16, source, destination);
+    ip::put_fields(buffer, total as u16, p.source, destination);
     hello::seal(&mut buffer[ip::LENGTH..], p);
-    ip::seal(&mut *buffer);
+    ip::seal(buffer);
 }
 
 // What was written is read back: a message is never refused, and its fields and reports are those that were written.
+#[tactic(auto, using(crate::proofs::ReadBack::message_is_back))]
 pub fn read_back()
     ensures { ReadBack }
 {}
 
+#[tactic(auto, using(crate::proofs::ReadBack::reports_are_back))]
 pub fn reports_back()
     ensures { ReportsBack }
 {}
@@ -172,9 +153,5 @@ pub fn copy(to: &mut [u8], place: usize, from: &[u8])
     requires { place + length from.now ≤ length to.old }
     ensures { to.new ≡ over to.old place from.now }
 {
-    let mut i: usize = 0;
-    while i < from.len() {
-        to[place + i] = from[i];
-        i += 1;
-    }
+    to[place..place + from.len()].copy_from_slice(from);
 }

@@ -1,7 +1,5 @@
 -- The places of a host's ids in the host table.
-use Rattle.std.specs.Prelude.{ℕ, ◌+◌, ◌≤◌}
-use Rattle.route.specs.declared.Found.{Found}
-use Rattle.route.specs.declared.Found.TheVariants.{Id, Nothing}
+use Rattle.std.specs.Prelude.{ℕ, ◌+◌, ◌≤◌, Option, Some, None}
 use Rattle.table.specs.declared.entries.Seek.{Seek}
 use Rattle.table.specs.declared.entries.Changes.{Changes}
 use Rattle.table.specs.declared.entries.Updates.{Updates}
@@ -16,9 +14,9 @@ pub record Placeable (k first end : ℕ) : Type 0 where
   pub ids : end ≤ 255
 
 -- the entry that is looked at
-abbrev pub seek_at : (number : ℕ) → Found → Seek
-seek_at k Nothing = record { first = 0; end = 0; entry = fresh_entry }
-seek_at k (Id id) = record { first = first_place k + id; end = first_place k + id + 1; entry = fresh_entry }
+abbrev pub seek_at : (number : ℕ) → Option ℕ → Seek
+seek_at k None = record { first = 0; end = 0; entry = fresh_entry }
+seek_at k (Some id) = record { first = first_place k + id; end = first_place k + id + 1; entry = fresh_entry }
 
 -- ---- the entries that are changed, updated, or reported
 

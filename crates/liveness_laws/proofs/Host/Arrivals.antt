@@ -1,4 +1,5 @@
 -- An arrival keeps the invariant: a link without a neighbour believes nothing, and any other stores the sender's report plus exactly 100 ms.
+use Rattle.std.specs.Prelude.{Option, Some, None, Result, Ok, Err}
 use mathlib.Core.Path.{◌≡◌, refl, sym, ap, subst, ◌∙◌}
 use mathlib.Core.Bool.{Bool, true, false, true≢false, false≢true, cond, not, ◌||◌}
 use mathlib.Core.List.{List}
@@ -21,12 +22,9 @@ use Rattle.clock.specs.declared.Clock.{Clock}
 use Rattle.clock.specs.declared.Counter.{Counter}
 use Rattle.clock.specs.Clock.{count_used}
 use Rattle.wire.specs.declared.Packet.{Packet}
-use Rattle.wire.specs.declared.Parsed.{Parsed}
 use Rattle.wire.specs.Octets.{same_address}
 use Rattle.wire.specs.Hello.{report_at, hello_form, hello_checksum}
 use Rattle.wire.specs.Packet.{hello_of, fields, parse}
-use Rattle.route.specs.declared.Found.{Found}
-use Rattle.route.specs.declared.Found.TheVariants.{Id, Nothing}
 use Rattle.table.specs.declared.Entry.{Entry}
 use Rattle.table.specs.declared.Update.{Update}
 use Rattle.table.specs.Entry.{max_delay}
@@ -59,7 +57,6 @@ use Rattle.network_laws.proofs.Swept.{updates_length, updates_keep}
 use Rattle.network_laws.proofs.Written.{written_back, written_kept}
 use Rattle.network_laws.proofs.Demand3.Invariant.{RightMessage}
 use Rattle.network_laws.proofs.Demand3.Arrival.{Came, action_timed}
-use Rattle.wire.specs.declared.Parsed.TheVariants as parsed
 use Rattle.wire.specs.Ip.{ip_form, ip_checksum, protocol}
 use Rattle.host.specs.Inspection.{other_layout, looped, inspect}
 use Rattle.host.specs.Inspection as inspection
@@ -77,7 +74,7 @@ use Rattle.liveness_laws.proofs.Host.State.{Believes, Good, Before, After, uncha
 
 -- ---- of one octet string
 
-parse_answers : (P : Parsed → Type 0) (octets : List ℕ) → ((x : Answer) → done x ≡ false → P (parsed.Bad x)) → P (parsed.Good (fields octets)) → P (parse octets)
+parse_answers : (P : Result Packet Answer → Type 0) (octets : List ℕ) → ((x : Answer) → done x ≡ false → P (Err x)) → P (Ok (fields octets)) → P (parse octets)
 unfolding parse
 parse_answers P octets bad good =
     either P (not (ip_form octets)) _ _ (λ _. bad _ refl)
@@ -89,10 +86,10 @@ parse_answers P octets bad good =
     either P (not (hello_form (hello_of octets))) _ _ (λ _. bad _ refl)
     (λ _. either P (not (hello_checksum (hello_of octets))) _ _ (λ _. bad _ refl) (λ _. good)))))
 
-pub inspect_answers : (P : Parsed → Type 0) (s : Settings) (i : ℕ) (octets : List ℕ) → ((x : Answer) → done x ≡ false → P (parsed.Bad x)) → P (parsed.Good (fields octets)) → P (inspect s i octets)
+pub inspect_answers : (P : Result Packet Answer → Type 0) (s : Settings) (i : ℕ) (octets : List ℕ) → ((x : Answer) → done x ≡ false → P (Err x)) → P (Ok (fields octets)) → P (inspect s i octets)
 unfolding inspect
 inspect_answers P s i octets bad good =
-    parse_answers (λ (x : Parsed). P (inspection.inspected s i x)) octets bad
+    parse_answers (λ (x : Result Packet Answer). P (inspection.inspected s i x)) octets bad
     (either P (other_layout s (fields octets)) _ _ (λ _. bad _ refl) (λ ours. either P (looped s i (fields octets)) _ _ (λ _. bad _ refl) (λ _. good)))
 
 -- a source that the link does not know, from the cable's other end: in the first round, and no entry came by this link
@@ -277,9 +274,9 @@ module _ (r : Network) (proper : Proper r) (quick : r.longest ≤ quick_way) (c 
           room = same_room r proper k b false l was.room j has z
 
           module _ (first : k ≡ 0) (other : entry.up e ≡ true → e.pid ≡ j → ⊥) (f : Flight) (far : f.delay ≡ max_delay) where
-            no_table_lem : (found : Found) → By (no_table g j (count_used κ) p f found)
-            no_table_lem Nothing = quiet_kept heard NoHost g room (stayed shut z known)
-            no_table_lem (Id id) = far_kept other g (deaf shut z known first other) room (no_table g j (count_used κ) p f (Id id)) refl (λ _. refl) (λ _. rw far refl)
+            no_table_lem : (found : Option ℕ) → By (no_table g j (count_used κ) p f found)
+            no_table_lem None = quiet_kept heard NoHost g room (stayed shut z known)
+            no_table_lem (Some id) = far_kept other g (deaf shut z known first other) room (no_table g j (count_used κ) p f (Some id)) refl (λ _. refl) (λ _. rw far refl)
 
             a_table : By (with_table g j (count_used κ) p f)
             unfolding report_at
@@ -325,7 +322,7 @@ module _ (r : Network) (proper : Proper r) (quick : r.longest ≤ quick_way) (c 
       (λ d.
       let ok = passed (OnLink j) x d in
       let held = holds (r.number b) entries ok.places in
-      inspect_answers (λ (q : Parsed). Good-out (updated_by (inspected κ nets x.host j q) letter.octets x)) (r.settings b) j letter.octets
+      inspect_answers (λ (q : Result Packet Answer). Good-out (updated_by (inspected κ nets x.host j q) letter.octets x)) (r.settings b) j letter.octets
       (λ z no _. rw no (quiet_kept held heard z x.host was.room was.good))
       (λ time. action_good held ok.closed κ (time (action_timed κ nets x.host j p)) (proper.cables b j a letter.link cable).point_to_point))
     where

@@ -1,4 +1,5 @@
 -- Each box of a walk keeps the invariant, because an open walk blocks every other call: what a line finds is what the line before it left.
+use Rattle.std.specs.Prelude.{Option, Some, None, Result}
 use mathlib.Core.Path.{◌≡◌, refl, sym, ap, subst, ◌∙◌}
 use mathlib.Core.Bool.{Bool, true, false, true≢false, false≢true, cond, not, and-false, ◌&&◌, ◌||◌}
 use mathlib.Core.List.{List}
@@ -22,12 +23,9 @@ use Rattle.clock.specs.declared.Clock.{Clock}
 use Rattle.clock.specs.declared.Counter.{Counter}
 use Rattle.clock.specs.Clock.{count_used}
 use Rattle.wire.specs.declared.Packet.{Packet}
-use Rattle.wire.specs.declared.Parsed.{Parsed}
 use Rattle.wire.specs.Octets.{same_address}
 use Rattle.wire.specs.Hello.{report_at}
 use Rattle.wire.specs.Packet.{hello_of, fields}
-use Rattle.route.specs.declared.Found.{Found}
-use Rattle.route.specs.declared.Found.TheVariants.{Id, Nothing}
 use Rattle.table.specs.declared.Entry.{Entry}
 use Rattle.table.specs.declared.Update.{Update}
 use Rattle.table.specs.declared.entries.Changes.{Changes}
@@ -360,9 +358,9 @@ module _ (r : Network) (proper : Proper r) (quick : r.longest ≤ quick_way) (c 
           goes (at_line 1 id (raised w)) cl l nothing e opened was.room none was.good.mine was.good.rest (links_5 (at_line 1 id (raised w)))
           record { node = aim.node; port = aim.port; cable = aim.cable; known = aim.known; course = course_5 id zero-if }
 
-      found : eqb p.nhosts 0 ≡ true → (y : Found) → Fine (to_neighbor h (raised w) y)
-      found empty Nothing = stops NoHost cl l nothing heard e refl was.room none was.good.mine was.good.rest (links_5 no_walk)
-      found empty (Id id) = to_line id (λ no. absurd (true≢false (sym empty ∙ no)))
+      found : eqb p.nhosts 0 ≡ true → (y : Option ℕ) → Fine (to_neighbor h (raised w) y)
+      found empty None = stops NoHost cl l nothing heard e refl was.room none was.good.mine was.good.rest (links_5 no_walk)
+      found empty (Some id) = to_line id (λ no. absurd (true≢false (sym empty ∙ no)))
 
       fifth : Fine (box5 p nets h w)
       unfolding box5
@@ -582,7 +580,7 @@ module _ (r : Network) (proper : Proper r) (quick : r.longest ≤ quick_way) (c 
       (λ f.
       let opened = is_so _ f in
       let o = opened_says set w copy (walk_state x (ok.call_state refl)) opened in
-      inspect_cases (λ (q : Parsed). packet_fits set w octets q ≡ true → Kept (carried_out (box_of κ octets nets x.host w (entry_at (at_hand w) x) q) x)) set w.link octets
+      inspect_cases (λ (q : Result Packet Answer). packet_fits set w octets q ≡ true → Kept (carried_out (box_of κ octets nets x.host w (entry_at (at_hand w) x) q) x)) set w.link octets
       (λ a z. absurd (false≢true z))
       (λ _ z. box_good κ held opened o.link (entry_at (at_hand w) x) (λ some same. at_hand_lem held same opened some) (place_of w) refl (takes opened) (was.good.walk opened) (right opened) z) o.held))
     where

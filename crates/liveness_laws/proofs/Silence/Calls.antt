@@ -1,4 +1,5 @@
 -- Every call except a box of a walk keeps it: an entry stays, ages, goes down, or is stored with a DELAY of at least 100 more than a report.
+use Rattle.std.specs.Prelude.{Option, Some, None, Result}
 use mathlib.Core.Path.{◌≡◌, refl, sym, ap, subst, subst₂, ◌∙◌}
 use mathlib.Core.Bool.{true, false, true≢false, cond, not, ◌||◌}
 use mathlib.Core.List.{List}
@@ -23,12 +24,9 @@ use Rattle.clock.specs.declared.Counter.{Counter}
 use Rattle.clock.specs.Clock.{count_used}
 use Rattle.wire.specs.declared.Address.{Address}
 use Rattle.wire.specs.declared.Packet.{Packet}
-use Rattle.wire.specs.declared.Parsed.{Parsed}
 use Rattle.wire.specs.Octets.{same_address}
 use Rattle.wire.specs.Hello.{report_at}
 use Rattle.wire.specs.Packet.{hello_of, fields}
-use Rattle.route.specs.declared.Found.{Found}
-use Rattle.route.specs.declared.Found.TheVariants.{Id, Nothing}
 use Rattle.table.specs.declared.Entry.{Entry}
 use Rattle.table.specs.declared.entries.Change.TheVariants.{Aged}
 use Rattle.table.specs.Marks.{mark}
@@ -203,9 +201,9 @@ module _ (r : Network) (i n b s : ℕ)
       quiet_keeps z g = updated_table held (ends z g) octets (λ id y low high small. absurd (omega arith))
 
       -- without a table the DELAY is 30,000
-      no_table_lem : (f : Flight) (found : Found) → less_millis (at_least_min f.delay) max_delay ≡ false → Keeps (no_table h link k p f found)
-      no_table_lem f Nothing far = quiet_keeps NoHost h
-      no_table_lem f (Id own) far = updated_table held (updated h k p (neighbor_update link f) own 1 false) octets (λ id y low high small. absurd (true≢false (sym small ∙ far)))
+      no_table_lem : (f : Flight) (found : Option ℕ) → less_millis (at_least_min f.delay) max_delay ≡ false → Keeps (no_table h link k p f found)
+      no_table_lem f None far = quiet_keeps NoHost h
+      no_table_lem f (Some own) far = updated_table held (updated h k p (neighbor_update link f) own 1 false) octets (λ id y low high small. absurd (true≢false (sym small ∙ far)))
 
       with_table_lem : (f : Flight) → eqb p.nhosts 0 ≡ false → Keeps (with_table h link k p f)
       with_table_lem f some =
@@ -251,5 +249,5 @@ module _ (r : Network) (i n b s : ℕ)
     act_fades k else =
         plain (act link k octets) else
         (λ held d.
-        inspect_cases (λ (q : Parsed). Table s (updated_by (inspected k nets x.host link q) octets x).entries) (r.settings b) link octets
+        inspect_cases (λ (q : Result Packet Answer). Table s (updated_by (inspected k nets x.host link q) octets x).entries) (r.settings b) link octets
         (λ z. quiet_keeps held x.host refl (count_used k) z x.host) (λ _. concluded_table held k))

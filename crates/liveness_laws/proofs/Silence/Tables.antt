@@ -1,4 +1,5 @@
 -- A message without a table has TSP 0, because a link whose KEEP-ALIVE is not 0 knows its neighbour. So its DELAY is 30,000 or not valid, and nothing is stored from it.
+use Rattle.std.specs.Prelude.{Option, Some, None, Result}
 use mathlib.Core.Path.{◌≡◌, refl, sym, ap, subst, ◌∙◌}
 use mathlib.Core.Bool.{Bool, true, false, true≢false, false≢true, cond, and-false, not, ◌&&◌, ◌||◌}
 use mathlib.Core.List.{List, [], ◌∷◌}
@@ -20,12 +21,9 @@ use Rattle.clock.specs.declared.Clock.{Clock}
 use Rattle.clock.specs.declared.Counter.{Counter}
 use Rattle.clock.specs.Clock.{count_used}
 use Rattle.wire.specs.declared.Packet.{Packet}
-use Rattle.wire.specs.declared.Parsed.{Parsed}
 use Rattle.wire.specs.Octets.{same_address}
 use Rattle.wire.specs.Packet.{packet_length, fields}
 use Rattle.wire.proofs.ReadBack.{nhosts_back, tsp_back, source_back}
-use Rattle.route.specs.declared.Found.{Found}
-use Rattle.route.specs.declared.Found.TheVariants.{Id, Nothing}
 use Rattle.table.specs.declared.Entry.{Entry}
 use Rattle.table.specs.declared.entries.Changes.{Changes}
 use Rattle.table.specs.Forms.{Stage, on, end}
@@ -223,7 +221,7 @@ module _ (r : Network) (proper : Proper r) (b : ℕ) (inside : b < r.nodes) (few
     act_tabled k =
         performs (act i k m.octets) x (λ (o : Outcome). TabledHost s w copy o.links) (λ _. call_state)
         (λ d.
-        inspect_cases (λ (q : Parsed). Kept (inspected k nets x.host i q)) s i m.octets (λ _. call_state)
+        inspect_cases (λ (q : Result Packet Answer). Kept (inspected k nets x.host i q)) s i m.octets (λ _. call_state)
         (λ _.
         rw (proper.cables b i m.node m.link cable).point_to_point
         (either Stays (not (same_address came.source (link_of l i).neighbor)) _ _
@@ -252,9 +250,9 @@ module _ (r : Network) (proper : Proper r) (b : ℕ) (inside : b < r.nodes) (few
             let so = learnt d f.link is in
             either Kept (eqb came.nhosts 0) _ _ (λ _. found so (found_for nets s f.link.neighbor)) (λ _. so)
           where
-            found : TabledHost s w copy (with_link i f.link l) → (q : Found) → Kept (no_table (host s (our_reading k x.host).clock (with_link i f.link l)) i (count_used k) came f q)
-            found so Nothing = so
-            found so (Id id) = so
+            found : TabledHost s w copy (with_link i f.link l) → (q : Option ℕ) → Kept (no_table (host s (our_reading k x.host).clock (with_link i f.link l)) i (count_used k) came f q)
+            found so None = so
+            found so (Some id) = so
 
   -- ---- opening a walk
 
@@ -375,10 +373,10 @@ module _ (r : Network) (proper : Proper r) (b : ℕ) (inside : b < r.nodes) (few
       raised_far : Far (raised w) octets
       raised_far none = rw (far none) refl
 
-      at_5 : (f : Found) → Good (to_neighbor h (raised w) f)
+      at_5 : (f : Option ℕ) → Good (to_neighbor h (raised w) f)
       unfolding place_of
-      at_5 Nothing = stops off NoHost cl nothing
-      at_5 (Id id) = stays off (at_line 1 id (raised w)) cl nothing (λ _. raised_far) refl
+      at_5 None = stops off NoHost cl nothing
+      at_5 (Some id) = stays off (at_line 1 id (raised w)) cl nothing (λ _. raised_far) refl
 
       fifth : Good (box5 p nets h w)
       unfolding box5 place_of
@@ -429,7 +427,7 @@ module _ (r : Network) (proper : Proper r) (b : ℕ) (inside : b < r.nodes) (few
       (λ f.
       let opened = is_so _ f in
       let o = opened_says s w copy (walk_state x ((passed Walking x e).call_state refl)) opened in
-      inspect_cases (λ (q : Parsed). packet_fits s w octets q ≡ true → Kept (carried_out (box_of k octets nets h w (entry_at (at_hand w) x) q) x)) s w.link octets
+      inspect_cases (λ (q : Result Packet Answer). packet_fits s w octets q ≡ true → Kept (carried_out (box_of k octets nets h w (entry_at (at_hand w) x) q) x)) s w.link octets
       (λ a z. absurd (false≢true z))
       (λ _ z. box_tabled opened o.link k (entry_at (at_hand w) x) (place_of w) refl (time opened) (right opened) (call_state.walk opened) z) o.held))
     where

@@ -1,4 +1,5 @@
 -- Opening a walk and each of its boxes keep it, because an open walk blocks every other call: a message of the last epoch is stored before the host's first second of this one.
+use Rattle.std.specs.Prelude.{Option, Some, None, Result}
 use mathlib.Core.Path.{◌≡◌, refl, sym, ap, subst, ◌∙◌}
 use mathlib.Core.Bool.{Bool, true, false, true≢false, false≢true, cond, not, ◌&&◌, ◌||◌}
 use mathlib.Core.List.{List}
@@ -17,12 +18,9 @@ use Rattle.answer.specs.declared.Answer.TheVariants.{Done, DelayNotValid, NoHost
 use Rattle.clock.specs.declared.Clock.{Clock}
 use Rattle.clock.specs.declared.Counter.{Counter}
 use Rattle.wire.specs.declared.Packet.{Packet}
-use Rattle.wire.specs.declared.Parsed.{Parsed}
 use Rattle.wire.specs.declared.Report.{Report}
 use Rattle.wire.specs.Hello.{report_at}
 use Rattle.wire.specs.Packet.{hello_of, fields}
-use Rattle.route.specs.declared.Found.{Found}
-use Rattle.route.specs.declared.Found.TheVariants.{Id, Nothing}
 use Rattle.table.specs.declared.Entry.{Entry}
 use Rattle.table.specs.declared.Update.{Update}
 use Rattle.table.specs.declared.entries.Changes.{Changes}
@@ -152,9 +150,9 @@ module _ (r : Network) (i n b s : ℕ)
         at_4 (end f) = stops DelayNotValid cl _ nothing none
         at_4 (on f) = goes _ cl _ nothing (λ _ _. now) none
 
-        at_5 : (f : Found) → Good (to_neighbor h (raised w) f)
-        at_5 Nothing = stops NoHost cl l nothing none
-        at_5 (Id id) = goes _ cl l nothing (λ _ _. now) none
+        at_5 : (f : Option ℕ) → Good (to_neighbor h (raised w) f)
+        at_5 None = stops NoHost cl l nothing none
+        at_5 (Some id) = goes _ cl l nothing (λ _ _. now) none
 
         fifth : Good (box5 p nets h w)
         unfolding box5
@@ -230,7 +228,7 @@ module _ (r : Network) (i n b s : ℕ)
 
   hand_ours : Holds (r.number b) entries → Ours r i n s w.id (entry_at (at_hand w) x)
   hand_ours held =
-      either (λ (f : Found). Ours r i n s w.id (entry_at f x)) (is_open w && not (eqb w.line 0)) (Id w.id) Nothing
+      either (λ (f : Option ℕ). Ours r i n s w.id (entry_at f x)) (is_open w && not (eqb w.line 0)) (Some w.id) None
       (λ _. all_at (Ours r i n s) fresh_entry (λ j _. fresh_fades n s) (entries_of x) (call_state.table held) w.id) (λ _ _. fresh_fades n s)
 
   -- of a host that is right; box 1 takes a message
@@ -246,7 +244,7 @@ module _ (r : Network) (i n b s : ℕ)
       either (λ (y : Effect). Kept (carried_out y x)) (not (is_open w)) _ _ (λ shut. closed held)
       (λ f.
       let o = opened_says set w copy (walk_state x (ok.call_state refl)) (is_so _ f) in
-      inspect_cases (λ (q : Parsed). packet_fits set w octets q ≡ true → Kept (carried_out (box_of k octets nets x.host w (entry_at (at_hand w) x) q) x)) set w.link octets
+      inspect_cases (λ (q : Result Packet Answer). packet_fits set w octets q ≡ true → Kept (carried_out (box_of k octets nets x.host w (entry_at (at_hand w) x) q) x)) set w.link octets
       (λ a z. absurd (false≢true z))
       (λ _ z. box_fades k held (is_so _ f) (entry_at (at_hand w) x) (hand_ours held) (place_of w) refl (λ is. time (is_so _ f) is) (right.walk (is_so _ f)) (tabled.walk (is_so _ f)) z) o.held))
     where

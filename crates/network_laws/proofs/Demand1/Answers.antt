@@ -1,4 +1,5 @@
 -- The tests of each call are in its definition in their order: those of the guard, and then those of its work.
+use Rattle.std.specs.Prelude.{Option, Some, None, Result, Ok, Err, is_some}
 use mathlib.Core.Path.{◌≡◌, refl, ap, ◌∙◌}
 use mathlib.Core.Bool.{Bool, true, false, false≢true, cond, not, ◌&&◌, ◌||◌}
 use mathlib.Core.List.{List}
@@ -6,7 +7,6 @@ use Prim.Native.Nat.{ℕ, ◌+◌}
 use borrow.Author.Tests.{eqb-true}
 use lib.Dec.{ltb, eqb}
 use lib.ListN.{length}
-use Rattle.std.proofs.Common.{Option, Some, None}
 use Rattle.lists.proofs.Tests.{either}
 use Rattle.answer.specs.declared.Answer.{Answer}
 use Rattle.answer.specs.declared.Answer.TheVariants.{Done, Setting, ShortBuffer, IpForm, IpChecksum, Protocol, HelloForm, HelloChecksum, OtherLayout, LoopedLine, DelayNotValid, NoHost, OutOfRange, HostDown, InWalk, NoWalk}
@@ -15,15 +15,10 @@ use Rattle.quantity.specs.Words.{zero_word}
 use Rattle.clock.specs.declared.Counter.{Counter}
 use Rattle.clock.specs.Clock.{count_used}
 use Rattle.wire.specs.declared.Packet.{Packet}
-use Rattle.wire.specs.declared.Parsed.{Parsed}
-use Rattle.wire.specs.declared.Parsed.TheVariants.{Good, Bad}
 use Rattle.wire.specs.Octets.{same_address}
 use Rattle.wire.specs.Ip.{ip_form, ip_checksum, protocol}
 use Rattle.wire.specs.Hello.{hello_form, hello_checksum}
 use Rattle.wire.specs.Packet.{hello_of, fields, parse, packet_length}
-use Rattle.route.specs.declared.Found.{Found}
-use Rattle.route.specs.declared.Found.TheVariants.{Id, Nothing}
-use Rattle.route.specs.Find.{is_found}
 use Rattle.net_table.specs.declared.NetTable.{NetTable}
 use Rattle.table.specs.declared.Entry.{Entry}
 use Rattle.table.specs.declared.entries.Changes.{Changes}
@@ -80,11 +75,11 @@ guarded false false false e = e refl
 
 -- ---- lookup
 
-looked-answer : (x : CallState) (f : Found) → (looked f (entry_at f x)).answer ≡ cond (not (is_found f)) NoHost (cond (host_down (entries_of x) f) HostDown Done)
-looked-answer x Nothing = refl
-looked-answer x (Id id) = go (up (entry_at (Id id) x))
+looked-answer : (x : CallState) (f : Option ℕ) → (looked f (entry_at f x)).answer ≡ cond (not (is_some f)) NoHost (cond (host_down (entries_of x) f) HostDown Done)
+looked-answer x None = refl
+looked-answer x (Some id) = go (up (entry_at (Some id) x))
   where
-    go : (b : Bool) → (cond (not b) (plainly HostDown) (returns_route id (entry_at (Id id) x).pid)).answer ≡ cond (not b) HostDown Done
+    go : (b : Bool) → (cond (not b) (plainly HostDown) (returns_route id (entry_at (Some id) x).pid)).answer ≡ cond (not b) HostDown Done
     go true = refl
     go false = refl
 
@@ -99,12 +94,12 @@ module _ (h : Host) (i : ℕ) where
 
   -- step 5 gives 11 where the packet has no table and its neighbour has no id
   step5-answer : (n : Count) (t : NetTable) (g : Host) (p : Packet) (f : Flight)
-      → (step5 t g i n p f).reply.answer ≡ cond (eqb p.nhosts 0 && not (is_found (found_for t g.settings f.link.neighbor))) NoHost Done
+      → (step5 t g i n p f).reply.answer ≡ cond (eqb p.nhosts 0 && not (is_some (found_for t g.settings f.link.neighbor))) NoHost Done
   step5-answer n t g p f = go (eqb p.nhosts 0) (found_for t g.settings f.link.neighbor)
     where
-      go : (b : Bool) (x : Found) → (cond b (no_table g i n p f x) (with_table g i n p f)).reply.answer ≡ cond (b && not (is_found x)) NoHost Done
-      go true Nothing = refl
-      go true (Id id) = refl
+      go : (b : Bool) (x : Option ℕ) → (cond b (no_table g i n p f x) (with_table g i n p f)).reply.answer ≡ cond (b && not (is_some x)) NoHost Done
+      go true None = refl
+      go true (Some id) = refl
       go false x = refl
 
   -- the answer of steps 2 to 5
@@ -125,9 +120,9 @@ module _ (h : Host) (i : ℕ) where
       (λ b n z. step5-answer (count_used k) t (after f) p f ∙ rw (b, n, z, same_address_lem p.source (link_of h.links i).neighbor n))
 
   -- 3 to 9 in turn, and then what comes of a packet that passes
-  module _ (answers : Parsed → Answer) (refuses : (a : Answer) → answers (Bad a) ≡ a) (p : Packet) where
+  module _ (answers : Result Packet Answer → Answer) (refuses : (a : Answer) → answers (Err a) ≡ a) (p : Packet) where
     ours_answer : (y z : Bool)
-        → answers (cond y (Bad OtherLayout) (cond z (Bad LoopedLine) (Good p))) ≡ cond y OtherLayout (cond z LoopedLine (answers (Good p)))
+        → answers (cond y (Err OtherLayout) (cond z (Err LoopedLine) (Ok p))) ≡ cond y OtherLayout (cond z LoopedLine (answers (Ok p)))
     ours_answer true z = refuses OtherLayout
     ours_answer false true = refuses LoopedLine
     ours_answer false false = refl
@@ -135,13 +130,13 @@ module _ (h : Host) (i : ℕ) where
     inspected-answer : (t u v w x : Bool)
         → answers
         (inspecting.inspected h.settings i
-        (cond t (Bad IpForm)
-        (cond u (Bad IpChecksum) (cond v (Bad Protocol) (cond w (Bad HelloForm) (cond x (Bad HelloChecksum) (Good p)))))))
+        (cond t (Err IpForm)
+        (cond u (Err IpChecksum) (cond v (Err Protocol) (cond w (Err HelloForm) (cond x (Err HelloChecksum) (Ok p)))))))
         ≡ cond t IpForm
         (cond u IpChecksum
         (cond v Protocol
         (cond w HelloForm
-        (cond x HelloChecksum (cond (other_layout h.settings p) OtherLayout (cond (looped h.settings i p) LoopedLine (answers (Good p))))))))
+        (cond x HelloChecksum (cond (other_layout h.settings p) OtherLayout (cond (looped h.settings i p) LoopedLine (answers (Ok p))))))))
     inspected-answer true u v w x = refuses IpForm
     inspected-answer false true v w x = refuses IpChecksum
     inspected-answer false false true w x = refuses Protocol
@@ -150,14 +145,14 @@ module _ (h : Host) (i : ℕ) where
     inspected-answer false false false false false = ours_answer (other_layout h.settings p) (looped h.settings i p)
 
   module _ (octets : List ℕ) where
-    answered : (answers : Parsed → Answer) → ((a : Answer) → answers (Bad a) ≡ a) → answers (inspect h.settings i octets)
+    answered : (answers : Result Packet Answer → Answer) → ((a : Answer) → answers (Err a) ≡ a) → answers (inspect h.settings i octets)
         ≡ cond (not (ip_form octets)) IpForm
         (cond (not (ip_checksum octets)) IpChecksum
         (cond (not (protocol octets)) Protocol
         (cond (not (hello_form (hello_of octets))) HelloForm
         (cond (not (hello_checksum (hello_of octets))) HelloChecksum
         (cond (other_layout h.settings (fields octets)) OtherLayout
-        (cond (looped h.settings i (fields octets)) LoopedLine (answers (Good (fields octets)))))))))
+        (cond (looped h.settings i (fields octets)) LoopedLine (answers (Ok (fields octets)))))))))
     unfolding inspect parse
     answered answers refuses =
         inspected-answer answers refuses (fields octets) (not (ip_form octets)) (not (ip_checksum octets)) (not (protocol octets))
@@ -196,7 +191,7 @@ module _ (k : Counter) (x : CallState) (e : Entry) where
   invalid = delay_invalid_in h.clock.hold h w.link p
 
   abbrev unknown : Bool
-  unknown = eqb p.nhosts 0 && not (is_found (found_for t h.settings (link_of h.links w.link).neighbor))
+  unknown = eqb p.nhosts 0 && not (is_some (found_for t h.settings (link_of h.links w.link).neighbor))
 
   abbrev Box : (four five : Bool) → Option Place → Type 0
   Box four five q =
@@ -220,9 +215,9 @@ module _ (k : Counter) (x : CallState) (e : Entry) where
   unfolding box5
   fifth-answer = go (eqb p.nhosts 0) (found_for t h.settings (link_of h.links w.link).neighbor)
     where
-      go : (b : Bool) (f : Found) → (cond b (to_neighbor h (raised w) f) (onward (at_line 1 0 (raised w)) h.clock h.links nothing)).reply.answer ≡ cond (b && not (is_found f)) NoHost Done
-      go true Nothing = refl
-      go true (Id id) = refl
+      go : (b : Bool) (f : Option ℕ) → (cond b (to_neighbor h (raised w) f) (onward (at_line 1 0 (raised w)) h.clock h.links nothing)).reply.answer ≡ cond (b && not (is_some f)) NoHost Done
+      go true None = refl
+      go true (Some id) = refl
       go false f = refl
 
   step-n : (n : ℕ) → Box (eqb n 4) (eqb n 5) (step_place n)
@@ -273,7 +268,7 @@ module _ (k : Counter) (x : CallState) (e : Entry) where
       go false f = refl
       go true f =
           inspect_cases
-          (λ (q : Parsed). packet_fits h.settings w octets q ≡ true → (box_of k octets t h w e q).reply.answer
+          (λ (q : Result Packet Answer). packet_fits h.settings w octets q ≡ true → (box_of k octets t h w e q).reply.answer
           ≡ cond (eqb w.line 0 && eqb w.step 4 && invalid) DelayNotValid (cond (eqb w.line 0 && eqb w.step 5 && unknown) NoHost Done))
           h.settings w.link octets (λ a held. absurd (false≢true held)) (placed (eqb w.line 0) refl)
           (opened_says h.settings w x.copy in-range f).held

@@ -1,4 +1,5 @@
 -- A call uses the host table's length and the host's entries, the links up to the count, the copy's length and packet, and the buffer's length. The entries that it writes depend on these.
+use Rattle.std.specs.Prelude.{Option, Some, None, Result, Ok, Err}
 use mathlib.Core.Path.{◌≡◌, refl, sym, ap, subst, subst₃, ◌∙◌}
 use mathlib.Core.Bool.{Bool, true, false, cond, not, ◌&&◌, ◌||◌}
 use mathlib.Core.List.{List, [], map}
@@ -7,7 +8,6 @@ use native.Mathlib.Omega.{arith}
 use lib.Dec.{ltb, leb, eqb}
 use lib.ListN.{length, get_or, set, take}
 use lib.Seq.{get_or-take, take-set-lt}
-use Rattle.std.proofs.Common.{Option, Some, None}
 use Rattle.answer.specs.declared.Answer.{Answer}
 use Rattle.answer.specs.declared.Answer.TheVariants.{Done, NoHost, ShortBuffer, NoWalk}
 use Rattle.quantity.specs.declared.Count.{Count}
@@ -17,11 +17,7 @@ use Rattle.clock.specs.declared.Counter.{Counter}
 use Rattle.clock.specs.declared.Reading.{Reading}
 use Rattle.clock.specs.Clock.{count_used}
 use Rattle.wire.specs.declared.Packet.{Packet}
-use Rattle.wire.specs.declared.Parsed.{Parsed}
-use Rattle.wire.specs.declared.Parsed.TheVariants.{Good, Bad}
 use Rattle.wire.specs.Packet.{packet_length, message}
-use Rattle.route.specs.declared.Found.{Found}
-use Rattle.route.specs.declared.Found.TheVariants.{Id, Nothing}
 use Rattle.net_table.specs.declared.NetTable.{NetTable}
 use Rattle.table.specs.declared.Entry.{Entry}
 use Rattle.table.specs.declared.entries.Changes.{Changes}
@@ -184,9 +180,9 @@ module _ (x : CallState) (l' : Links) (copy' : List ℕ) (entries' : List Entry)
       pub packet_same : walk_packet e.walk x.copy ≡ walk_packet e'.walk copy'
       pub work_same : e.work ≡ e'.work
 
-    found_same : (f : Found) → entry_at f x ≡ entry_at f y
-    found_same Nothing = refl
-    found_same (Id id) = rw same_entries
+    found_same : (f : Option ℕ) → entry_at f x ≡ entry_at f y
+    found_same None = refl
+    found_same (Some id) = rw same_entries
 
     -- ---- a step
 
@@ -228,11 +224,11 @@ module _ (x : CallState) (l' : Links) (copy' : List ℕ) (entries' : List Entry)
         four (end f) = record { reply_same = refl; clock_same = refl; links_same = stored w.link has f.link; walk_same = refl; packet_same = refl; work_same = refl }
         four (on f) = moved (at_step 5 (holding f w)) packets f.link
 
-        five : (b : Bool) (f : Found)
+        five : (b : Bool) (f : Option ℕ)
             → SameEffect (cond b (to_neighbor x.host (raised w) f) (onward (at_line 1 0 (raised w)) c x.host.links nothing))
             (cond b (to_neighbor y.host (raised w) f) (onward (at_line 1 0 (raised w)) c l' nothing))
-        five true Nothing = closes NoHost c nothing
-        five true (Id id) = kept (at_line 1 id (raised w)) packets c nothing
+        five true None = closes NoHost c nothing
+        five true (Some id) = kept (at_line 1 id (raised w)) packets c nothing
         five false f = kept (at_line 1 0 (raised w)) packets c nothing
 
         at_a : (g : Stage Entry) → SameEffect (after_a p x.host w g) (after_a p y.host w g)
@@ -270,9 +266,9 @@ module _ (x : CallState) (l' : Links) (copy' : List ℕ) (entries' : List Entry)
         box_same (Some LineC) = at_c (line_c (line_update w p octets) e)
         box_same (Some LineD) = next (clock_set p octets x.host w) nothing
 
-      boxed : no_link s w.link ≡ false → (octets : List ℕ) (q : Parsed) → SameEffect (box_of k octets x.nets x.host w e q) (box_of k octets x.nets y.host w e q)
-      boxed has octets (Bad a) = record { reply_same = refl; clock_same = refl; links_same = untouched; walk_same = refl; packet_same = packets; work_same = refl }
-      boxed has octets (Good p) = box_same has p octets (place_of w)
+      boxed : no_link s w.link ≡ false → (octets : List ℕ) (q : Result Packet Answer) → SameEffect (box_of k octets x.nets x.host w e q) (box_of k octets x.nets y.host w e q)
+      boxed has octets (Err a) = record { reply_same = refl; clock_same = refl; links_same = untouched; walk_same = refl; packet_same = packets; work_same = refl }
+      boxed has octets (Ok p) = box_same has p octets (place_of w)
 
       step_same : own_walk_in_range x ≡ true → SameEffect (step k x.nets x.host w x.copy e) (step k x.nets y.host w copy' e)
       unfolding step
@@ -392,9 +388,9 @@ module _ (x : CallState) (l' : Links) (copy' : List ℕ) (entries' : List Entry)
           (concluded x.nets (host x.host.settings r.clock l') i n p (on f))
       fifth p f = go (eqb p.nhosts 0) (found_for x.nets s f.link.neighbor)
         where
-          go : (b : Bool) (g : Found) → SameArrived (cond b (no_table (hx f) i n p f g) (with_table (hx f) i n p f)) (cond b (no_table (hy f) i n p f g) (with_table (hy f) i n p f))
-          go true Nothing = record { reply_same = refl; links_same = stored i has f.link; work_same = refl }
-          go true (Id id) = record { reply_same = refl; links_same = stored i has f.link; work_same = refl }
+          go : (b : Bool) (g : Option ℕ) → SameArrived (cond b (no_table (hx f) i n p f g) (with_table (hx f) i n p f)) (cond b (no_table (hy f) i n p f g) (with_table (hy f) i n p f))
+          go true None = record { reply_same = refl; links_same = stored i has f.link; work_same = refl }
+          go true (Some id) = record { reply_same = refl; links_same = stored i has f.link; work_same = refl }
           go false g = record { reply_same = refl; links_same = stored i has f.link; work_same = refl }
 
       concludes : (p : Packet) (g : Stage Flight)
@@ -403,12 +399,12 @@ module _ (x : CallState) (l' : Links) (copy' : List ℕ) (entries' : List Entry)
       concludes p (end f) = record { reply_same = refl; links_same = stored i has f.link; work_same = refl }
       concludes p (on f) = fifth p f
 
-      arrived_same : (q : Parsed) → SameArrived (inspected k x.nets x.host i q) (inspected k x.nets y.host i q)
-      arrived_same (Bad a) = record { reply_same = refl; links_same = untouched; work_same = refl }
-      arrived_same (Good p) =
+      arrived_same : (q : Result Packet Answer) → SameArrived (inspected k x.nets x.host i q) (inspected k x.nets y.host i q)
+      arrived_same (Err a) = record { reply_same = refl; links_same = untouched; work_same = refl }
+      arrived_same (Ok p) =
           subst
           (λ z.
-          SameArrived (inspected k x.nets x.host i (Good p))
+          SameArrived (inspected k x.nets x.host i (Ok p))
           (concluded x.nets (host x.host.settings r.clock l') i n p (steps2to4 (broadcast s i) r.clock.hold p r.time z)))
           (sym (link_same i has))
           (concludes p (steps2to4 (broadcast s i) r.clock.hold p r.time (link_of x.host.links i)))

@@ -1,4 +1,5 @@
 -- After each call, clock, links and entries are in range: fresh ones are, and each rule keeps them so. Each call except a step keeps a walk in range, too.
+use Rattle.std.specs.Prelude.{Option, Some, None, Ok}
 use mathlib.Core.Path.{◌≡◌, refl, sym, ap, ◌∙◌}
 use mathlib.Core.Bool.{Bool, true, false, false≢true, cond, not, ◌&&◌}
 use mathlib.Core.List.{List}
@@ -22,10 +23,7 @@ use Rattle.clock.specs.Midnight.{day_millis}
 use Rattle.clock.specs.Clock.{count_used, clock_in_range}
 use Rattle.clock.proofs.Range.{reading_in_range_lem, tick_in_range_lem, adjust_in_range, set_in_range, second_in_range, fresh_in_range}
 use Rattle.wire.specs.declared.Packet.{Packet}
-use Rattle.wire.specs.declared.Parsed.TheVariants.{Good}
 use Rattle.wire.specs.Packet.{hello_of, packet_length}
-use Rattle.route.specs.declared.Found.{Found}
-use Rattle.route.specs.declared.Found.TheVariants.{Id, Nothing}
 use Rattle.table.specs.declared.Entry.{Entry}
 use Rattle.table.specs.declared.marks.Marks.{Marks}
 use Rattle.table.specs.declared.entries.Change.TheVariants.{Fresh}
@@ -316,7 +314,7 @@ module _ (x : CallState) where
             delivery_ways d x.nets x.host (λ a. InRange (left x (updated_by a octets x)))
             record {
               refuses = λ a few. swept (ends a x.host) r.clock_in r.links_in_lem (omega arith) (omega arith) (λ id c e low high h. absurd (omega arith));
-              looks = λ p. swept (quiet (tells (Good p)) x.host) r.clock_in r.links_in_lem (omega arith) (omega arith) (λ id c e low high h. absurd (omega arith));
+              looks = λ p. swept (quiet (tells (Ok p)) x.host) r.clock_in r.links_in_lem (omega arith) (omega arith) (λ id c e low high h. absurd (omega arith));
               ended = λ f g n. swept (ends DelayNotValid (storing i now (count_by d) x.host f)) now_in (touched f g) (omega arith) (omega arith) (λ id c e low high h. absurd (omega arith));
               unknown = λ f g. swept (ends NoHost (storing i now (count_by d) x.host f)) now_in (touched f g) (omega arith) (omega arith) (λ id c e low high h. absurd (omega arith));
               one = λ p f id g.
@@ -346,7 +344,7 @@ module _ (x : CallState) where
         behind : (w : Walk) (copy : List ℕ) → walk_in_range s w copy ≡ true → InRange (call_state s x.nets x.number x.host.clock x.host.links w copy x.entries)
         behind w copy e = record { table_in = r.table_in; places_there = r.places_there; clock_in = r.clock_in; links_in_lem = r.links_in_lem; walk_in = e; entries_in = r.entries_in; marks_in = r.marks_in }
 
-        first : (p : Packet) → inspect s i packet ≡ Good p → length packet ≤ longest → walk_in_range s (opened_on i (length packet)) (copied (length packet) packet x.copy) ≡ true
+        first : (p : Packet) → inspect s i packet ≡ Ok p → length packet ≤ longest → walk_in_range s (opened_on i (length packet)) (copied (length packet) packet x.copy) ≡ true
         first p is short =
             let room = ok.opening i refl in
             let whole : length packet ≤ length x.copy = omega (arith, room.1) in
@@ -394,7 +392,7 @@ module _ (x : CallState) where
         works_in work no_work = none
         works_in work (puts y made here) = λ id z low high is h.
             let same : w.id ≡ id = omega arith in
-            let at : e ≡ z = e-is ∙ ap (λ (f : Found). entry_at f x) here ∙ ap (λ (i : ℕ). get_or (entries_of x) i fresh_entry) same ∙ sym is in
+            let at : e ≡ z = e-is ∙ ap (λ (f : Option ℕ). entry_at f x) here ∙ ap (λ (i : ℕ). get_or (entries_of x) i fresh_entry) same ∙ sym is in
             (makes_in y made, same_mark m id z y (makes_mark w e y made ∙ ap (λ (z : Entry). z.here) at) h.1)
 
         stepped : InRange (closed (left x (carried_out (step k x.nets x.host w x.copy e) x)))
@@ -409,9 +407,9 @@ module _ (x : CallState) where
             }
             r.walk_in
 
-    found_in : (f : Found) → entry_in_range (entry_at f x) ≡ true
-    found_in Nothing = kept.fresh_in_range
-    found_in (Id id) =
+    found_in : (f : Option ℕ) → entry_in_range (entry_at f x) ≡ true
+    found_in None = kept.fresh_in_range
+    found_in (Some id) =
         all_at (λ _ e. entry_in_range e ≡ true) fresh_entry (λ _. kept.fresh_in_range) (entries_of x) (every_all entry_in_range (entries_of x) r.entries_in) id
 
     -- ---- every call

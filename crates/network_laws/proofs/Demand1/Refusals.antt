@@ -1,4 +1,5 @@
 -- A refusal changes nothing: by the guard, a lookup, a send into too short a buffer, the inspection of a packet. Steps 2 to 4 of an arrival change its link, after the reading.
+use Rattle.std.specs.Prelude.{Option, Some, None}
 use mathlib.Core.Path.{◌≡◌, refl, ap, ◌∙◌}
 use mathlib.Core.Bool.{true, not}
 use mathlib.Core.List.{List, []}
@@ -13,8 +14,6 @@ use Rattle.answer.specs.Answer.{number}
 use Rattle.clock.specs.declared.Counter.{Counter}
 use Rattle.wire.specs.declared.Address.{Address}
 use Rattle.wire.specs.Packet.{packet_length}
-use Rattle.route.specs.declared.Found.{Found}
-use Rattle.route.specs.declared.Found.TheVariants.{Id, Nothing}
 use Rattle.table.specs.declared.Entry.{Entry}
 use Rattle.table.specs.Entry.{up}
 use Rattle.host.specs.declared.Link.{Link}
@@ -61,10 +60,10 @@ module _ (x : CallState) where
   abbrev Unchanged : Call → Outcome → Type 0
   Unchanged c o = Refuses c o.reply.answer → o ≡ refused o.reply.answer c x
 
-  looks : (a : Address) → Holds x.number x.entries → (f : Found) (e : Entry)
+  looks : (a : Address) → Holds x.number x.entries → (f : Option ℕ) (e : Entry)
       → Unchanged (ask (Lookup a)) (carried_out (answers (looked f e) x.host.clock x.host.links x.walk) x)
-  looks a h Nothing e = λ w. answered x h (plainly NoHost) x.host.clock x.host.links x.walk
-  looks a h (Id id) e =
+  looks a h None e = λ w. answered x h (plainly NoHost) x.host.clock x.host.links x.walk
+  looks a h (Some id) e =
       either (λ (r : Reply). Unchanged (ask (Lookup a)) (carried_out (answers r x.host.clock x.host.links x.walk) x)) (not (up e)) _ _
       (λ _ _. answered x h (plainly HostDown) x.host.clock x.host.links x.walk) (λ _ w. absurd (w.not_done refl))
 

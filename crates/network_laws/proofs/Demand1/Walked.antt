@@ -1,4 +1,6 @@
 -- A walk that was opened holds at each box what 12 asks for there: our reading lies within the day, an id is one of the host's, and DELAY is 100 at least once it is raised, and under 30,000 once line (b) let it pass.
+use Rattle.std.specs.Prelude.{Option, Some, None, Result, Ok, Err}
+use Rattle.answer.specs.declared.Answer.{Answer}
 use mathlib.Core.Path.{◌≡◌, refl, sym, ap, subst}
 use mathlib.Core.Bool.{Bool, true, false, false≢true, not, ◌&&◌, ◌||◌}
 use mathlib.Core.List.{List}
@@ -8,7 +10,6 @@ use borrow.Author.Tests.{le-leb, lt-ltb, ltb-true}
 use lib.Dec.{ltb, leb, eqb}
 use lib.IntN.{pos}
 use lib.ListN.{length}
-use Rattle.std.proofs.Common.{Option, Some, None}
 use Rattle.lists.proofs.Tests.{either, both, neither, is_so}
 use Rattle.quantity.specs.declared.Millis.{Millis}
 use Rattle.quantity.specs.declared.Word.{Word}
@@ -19,12 +20,8 @@ use Rattle.quantity.proofs.Wrap.{wrap_range, wrap_fits}
 use Rattle.clock.specs.declared.Counter.{Counter}
 use Rattle.clock.specs.Clock.{count_used}
 use Rattle.wire.specs.declared.Packet.{Packet}
-use Rattle.wire.specs.declared.Parsed.{Parsed}
-use Rattle.wire.specs.declared.Parsed.TheVariants.{Good, Bad}
 use Rattle.wire.specs.Hello.{report_at}
 use Rattle.wire.specs.Packet.{hello_of}
-use Rattle.route.specs.declared.Found.{Found}
-use Rattle.route.specs.declared.Found.TheVariants.{Id, Nothing}
 use Rattle.route.proofs.Ids.{found_below}
 use Rattle.table.specs.declared.Entry.{Entry}
 use Rattle.table.specs.declared.Update.{Update}
@@ -92,7 +89,7 @@ module _ (s : Settings) (good : settings_good s ≡ true) (copy : List ℕ) wher
   none_fine = record { in_range = refl; few = omega arith; fine = λ e. absurd (false≢true e) }
 
   -- a walk in range, by its parts
-  pub fits : (w : Walk) (p : Packet) → no_link s w.link ≡ false → leb w.length (length copy) ≡ true → inspect s w.link (packet_of w copy) ≡ Good p
+  pub fits : (w : Walk) (p : Packet) → no_link s w.link ≡ false → leb w.length (length copy) ≡ true → inspect s w.link (packet_of w copy) ≡ Ok p
       → walk_fields_at (place_of w) s w p (packet_of w copy) ≡ true → walk_in_range s w copy ≡ true
   unfolding walk_in_range
   fits w p has long is held = go (not (is_open w)) (rw (has, long, is, held))
@@ -109,7 +106,7 @@ module _ (s : Settings) (good : settings_good s ≡ true) (copy : List ℕ) wher
     abbrev Keeps : Effect → Type 0
     Keeps y = Fine y.walk
 
-    module _ (has : no_link s w.link ≡ false) (long : leb w.length (length copy) ≡ true) (p : Packet) (is : inspect s w.link octets ≡ Good p) where
+    module _ (has : no_link s w.link ≡ false) (long : leb w.length (length copy) ≡ true) (p : Packet) (is : inspect s w.link octets ≡ Ok p) where
       abbrev Held : Option Place → Type 0
       Held q = walk_fields_at q s w p octets ≡ true
 
@@ -163,9 +160,9 @@ module _ (s : Settings) (good : settings_good s ≡ true) (copy : List ℕ) wher
             fine = λ _. raised_enough w.delay short;
           }
 
-      found : reading_in_range w ≡ true → Short w.delay → (f : Found) → found_for t s (link_of h.links w.link).neighbor ≡ f → Keeps (to_neighbor h (raised w) f)
-      found read short Nothing same = none_fine
-      found read short (Id id) same =
+      found : reading_in_range w ≡ true → Short w.delay → (f : Option ℕ) → found_for t s (link_of h.links w.link).neighbor ≡ f → Keeps (to_neighbor h (raised w) f)
+      found read short None same = none_fine
+      found read short (Some id) same =
           to_line id (found_below s.address s.layout t.net (link_of h.links w.link).neighbor id rows same) read short
 
       fifth : reading_in_range w ≡ true → Short w.delay → Keeps (box5 p t h w)
@@ -228,7 +225,7 @@ module _ (s : Settings) (good : settings_good s ≡ true) (copy : List ℕ) wher
         let o = opened_says s w copy now.in_range opened in
         subst (λ (z : Settings). Keeps (box_of k octets t h w e (inspect z w.link octets))) (sym ours) (go opened o.link (le-leb _ _ o.length) (inspect s w.link octets) refl o.held))
       where
-        go : is_open w ≡ true → no_link s w.link ≡ false → leb w.length (length copy) ≡ true → (q : Parsed) → inspect s w.link octets ≡ q → packet_fits s w octets q ≡ true
+        go : is_open w ≡ true → no_link s w.link ≡ false → leb w.length (length copy) ≡ true → (q : Result Packet Answer) → inspect s w.link octets ≡ q → packet_fits s w octets q ≡ true
             → Keeps (box_of k octets t h w e q)
-        go opened has long (Bad b) is held = absurd (false≢true held)
-        go opened has long (Good p) is held = box_fine has long p is (place_of w) held (now.fine opened)
+        go opened has long (Err b) is held = absurd (false≢true held)
+        go opened has long (Ok p) is held = box_fine has long p is (place_of w) held (now.fine opened)

@@ -1,4 +1,5 @@
 -- An arrival keeps a node right. What is stored has passed steps 2 to 4: then DELAY is the sum of the two ways, OFFSET is near, and what a report adds keeps it near.
+use Rattle.std.specs.Prelude.{Option, Some, None, Result, Ok, Err}
 use mathlib.Core.Path.{◌≡◌, refl, sym, ap, ◌∙◌}
 use mathlib.Core.Bool.{true, false, not, ◌||◌}
 use mathlib.Core.List.{List}
@@ -21,16 +22,12 @@ use Rattle.clock.specs.declared.Counter.{Counter}
 use Rattle.clock.specs.Clock.{count_used}
 use Rattle.wire.specs.declared.Address.{Address}
 use Rattle.wire.specs.declared.Packet.{Packet}
-use Rattle.wire.specs.declared.Parsed.{Parsed}
-use Rattle.wire.specs.declared.Parsed.TheVariants.{Good, Bad}
 use Rattle.wire.specs.declared.Report.{Report}
 use Rattle.wire.specs.Octets.{same_address}
 use Rattle.wire.specs.Ip.{ip_form, ip_checksum, protocol}
 use Rattle.wire.specs.Hello.{hello_form, hello_checksum, report_at}
 use Rattle.wire.specs.Packet.{hello_of, fields, parse}
 use Rattle.route.specs.declared.Layout.{Layout}
-use Rattle.route.specs.declared.Found.{Found}
-use Rattle.route.specs.declared.Found.TheVariants.{Id, Nothing}
 use Rattle.route.specs.Find.{local_id}
 use Rattle.table.specs.declared.Entry.{Entry}
 use Rattle.table.specs.declared.entries.Updates.{Updates}
@@ -72,7 +69,7 @@ use Rattle.network_laws.proofs.Demand3.Sending.{link_from_1}
 
 -- ---- inspection: a refusal, or the fields of the octets in our layout
 
-parse_cases : (P : Parsed → Type 0) (octets : List ℕ) → ((x : Answer) → P (Bad x)) → P (Good (fields octets)) → P (parse octets)
+parse_cases : (P : Result Packet Answer → Type 0) (octets : List ℕ) → ((x : Answer) → P (Err x)) → P (Ok (fields octets)) → P (parse octets)
 unfolding parse
 parse_cases P octets bad good =
     either P (not (ip_form octets)) _ _ (λ _. bad _)
@@ -84,11 +81,11 @@ parse_cases P octets bad good =
     either P (not (hello_form (hello_of octets))) _ _ (λ _. bad _)
     (λ _. either P (not (hello_checksum (hello_of octets))) _ _ (λ _. bad _) (λ _. good)))))
 
-pub inspect_cases : (P : Parsed → Type 0) (s : Settings) (i : ℕ) (octets : List ℕ) → ((x : Answer) → P (Bad x))
-    → (other_layout s (fields octets) ≡ false → P (Good (fields octets))) → P (inspect s i octets)
+pub inspect_cases : (P : Result Packet Answer → Type 0) (s : Settings) (i : ℕ) (octets : List ℕ) → ((x : Answer) → P (Err x))
+    → (other_layout s (fields octets) ≡ false → P (Ok (fields octets))) → P (inspect s i octets)
 unfolding inspect
 inspect_cases P s i octets bad good =
-    parse_cases (λ (x : Parsed). P (inspection.inspected s i x)) octets bad
+    parse_cases (λ (x : Result Packet Answer). P (inspection.inspected s i x)) octets bad
     (either P (other_layout s (fields octets)) _ _ (λ _. bad _)
     (λ ours. either P (looped s i (fields octets)) _ _ (λ _. bad _) (λ _. good ours)))
 
@@ -140,9 +137,9 @@ module _ (r : Network) (proper : Proper r) (b a : ℕ) (hb : b < r.nodes) (ha : 
     abbrev Right : Arrived → Type 0
     Right e = RightOutcome r b entries (updated_by e octets (state_at r b nets c l walk copy entries))
 
-    no_table_right : (x : Found) → found_for nets (r.settings b) (r.settings a).address ≡ x → Right (no_table h i n p f x)
-    no_table_right Nothing e = updated_right r b nets c l walk copy entries call_state there (ends NoHost h) octets links (λ id d y low high inside right. absurd (omega arith))
-    no_table_right (Id own) e =
+    no_table_right : (x : Option ℕ) → found_for nets (r.settings b) (r.settings a).address ≡ x → Right (no_table h i n p f x)
+    no_table_right None e = updated_right r b nets c l walk copy entries call_state there (ends NoHost h) octets links (λ id d y low high inside right. absurd (omega arith))
+    no_table_right (Some own) e =
         let is = ap (λ (y : Layout). local_id y (r.settings a).address) (proper.one_layout a b ha hb) ∙ found_own (r.settings b).address (r.settings a).address (r.settings b) nets own (proper.one_net b a hb ha) e in
         let host : HostAt r own a = own_host r a proper ha own is in
         let w = updated h n p (neighbor_update i f) own 1 false in
@@ -243,9 +240,9 @@ module _ (r : Network) (proper : Proper r) (ways : r.longest ≤ longest_way) (b
 pub action_timed : (k : Counter) (nets : NetTable) (h : Host) (i : ℕ) (p : Packet) → T (timed (action k nets h i p).reply.answer)
 action_timed k nets h i p = go (steps2to4 (broadcast h.settings i) (our_reading k h).clock.hold p (our_reading k h).time (link_of h.links i))
   where
-    found : (g : Host) (f : Flight) (x : Found) → T (timed (no_table g i (count_used k) p f x).reply.answer)
-    found g f Nothing = tt
-    found g f (Id id) = tt
+    found : (g : Host) (f : Flight) (x : Option ℕ) → T (timed (no_table g i (count_used k) p f x).reply.answer)
+    found g f None = tt
+    found g f (Some id) = tt
 
     fifth : (g : Host) (f : Flight) → T (timed (step5 nets g i (count_used k) p f).reply.answer)
     fifth g f = either (λ (e : Arrived). T (timed e.reply.answer)) (eqb p.nhosts 0) _ _ (λ _. found g f (found_for nets g.settings f.link.neighbor)) (λ _. tt)
@@ -269,7 +266,7 @@ act_right r proper ways b i hb m cable right nets c l walk copy entries call_sta
     (λ d.
     let ok = passed (OnLink i) x d in
     let there = holds (r.number b) entries ok.places in
-    inspect_cases (λ (q : Parsed). Kept (updated_by (inspected k nets x.host i q) m.octets x)) (r.settings b) i m.octets
+    inspect_cases (λ (q : Result Packet Answer). Kept (updated_by (inspected k nets x.host i q) m.octets x)) (r.settings b) i m.octets
     (λ a _. updated_right r b nets c l walk copy entries call_state there (ends a x.host) m.octets call_state.links (λ id e y low high inside h. absurd (omega arith)))
     (λ ours time.
     let came = time (action_timed k nets x.host i (fields m.octets)) in

@@ -1,10 +1,8 @@
 -- A node marks its own id, by answer 1; and a live entry's id is marked at some node, by demand 3. No other node marks either.
+use Rattle.std.specs.Prelude.{Option, Some, None, is_some}
 use mathlib.Core.Path.{◌≡◌, refl, sym, ap, subst, ◌∙◌}
 use mathlib.Core.Bool.{false≢true}
 use Prim.Native.Nat.{ℕ, ◌<◌}
-use Rattle.route.specs.declared.Found.{Found}
-use Rattle.route.specs.declared.Found.TheVariants.{Id, Nothing}
-use Rattle.route.specs.Find.{is_found}
 use Rattle.host.specs.Settings.{own_id}
 use Rattle.host.proofs.Sound.{sound}
 use Rattle.network_laws.specs.Network.{Network, Proper}
@@ -16,9 +14,9 @@ use Rattle.network_laws.proofs.Demand3.Histories.{all_calls}
 own_ids : (r : Network) → Proper r → (a b : ℕ) → a < r.nodes → b < r.nodes → own_id (r.settings a) ≡ own_id (r.settings b) → a ≡ b
 own_ids r proper a b ha hb same = go (own_id (r.settings a)) refl
   where
-    go : (f : Found) → own_id (r.settings a) ≡ f → a ≡ b
-    go (Id i) is = proper.marked_once a b i ha hb (own_host r a proper ha i is) (own_host r b proper hb i (sym same ∙ is))
-    go Nothing is = absurd (false≢true (ap is_found (sym is) ∙ (sound (r.settings a) (set_good r a (proper.was_initialized a ha))).own_id_lem))
+    go : (f : Option ℕ) → own_id (r.settings a) ≡ f → a ≡ b
+    go (Some i) is = proper.marked_once a b i ha hb (own_host r a proper ha i is) (own_host r b proper hb i (sym same ∙ is))
+    go None is = absurd (false≢true (ap is_some (sym is) ∙ (sound (r.settings a) (set_good r a (proper.was_initialized a ha))).own_id_lem))
 
 pub marked_once_holds : MarkedOnce
 unfolding AllCallsWithin Claim

@@ -1,4 +1,5 @@
 -- What is known of a message that arrived at node b on link i a known time after it was sent, by our reading: its fields, and the result of steps 2 to 4.
+use Rattle.std.specs.Prelude.{Some, None}
 use mathlib.Core.Path.{◌≡◌, refl, sym, ap, subst₂, ◌∙◌}
 use mathlib.Core.Bool.{Bool, true, false, true≢false, false≢true, not, cond, ◌&&◌, ◌||◌}
 use mathlib.Core.List.{List}
@@ -22,7 +23,6 @@ use Rattle.wire.specs.declared.Report.{Report}
 use Rattle.wire.specs.Hello.{report_at}
 use Rattle.wire.specs.Packet.{hello_of, fields}
 use Rattle.wire.proofs.ReadBack.{source_back, nhosts_back, time_back, tsp_back, delay_back, offset_back}
-use Rattle.route.specs.declared.Found.TheVariants.{Id, Nothing}
 use Rattle.route.specs.Find.{above_c, same_net, local_id, find, net_of, search, rows_of}
 use Rattle.table.specs.Entry.{max_delay, min_delay}
 use Rattle.net_table.specs.declared.NetTable.{NetTable}
@@ -49,11 +49,11 @@ same_count s p n e =
     go false false c n t e = absurd (true≢false e)
 
 -- an id that is found for an address of our net is the one that the address gives, whatever the table
-pub found_own : (ours a : Address) (s : Settings) (t : NetTable) (id : ℕ) → same_net ours a ≡ true → find ours s.layout t.net a ≡ Id id → local_id s.layout a ≡ Id id
+pub found_own : (ours a : Address) (s : Settings) (t : NetTable) (id : ℕ) → same_net ours a ≡ true → find ours s.layout t.net a ≡ Some id → local_id s.layout a ≡ Some id
 unfolding find
 found_own ours a s t id net e = go (above_c a) (same_net ours a) net e
   where
-    go : (x n : Bool) → n ≡ true → cond x Nothing (cond n (local_id s.layout a) (search (net_of a) (rows_of t.net))) ≡ Id id → local_id s.layout a ≡ Id id
+    go : (x n : Bool) → n ≡ true → cond x None (cond n (local_id s.layout a) (search (net_of a) (rows_of t.net))) ≡ Some id → local_id s.layout a ≡ Some id
     go true n t e = cc
     go false true t e = e
     go false false t e = absurd (false≢true t)

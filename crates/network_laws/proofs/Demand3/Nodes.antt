@@ -1,4 +1,5 @@
 -- Initialize, a tick, a second and a self-report keep a node right: entries are fresh, unchanged, older, or of hosts that live at the node.
+use Rattle.std.specs.Prelude.{Some}
 use mathlib.Core.Path.{◌≡◌, refl, sym, ◌∙◌, ap}
 use mathlib.Core.Bool.{true, false≢true, true≢false}
 use mathlib.Core.List.{List}
@@ -14,7 +15,6 @@ use Rattle.answer.specs.declared.Answer.TheVariants.{Done}
 use Rattle.quantity.specs.declared.Count.{Count}
 use Rattle.clock.specs.declared.Clock.{Clock}
 use Rattle.clock.specs.declared.Counter.{Counter}
-use Rattle.route.specs.declared.Found.TheVariants.{Id}
 use Rattle.table.specs.declared.Entry.{Entry}
 use Rattle.table.specs.declared.entries.Change.TheVariants.{Fresh}
 use Rattle.table.specs.declared.marks.Marks.{Marks}
@@ -78,7 +78,7 @@ module _ (r : Network) (a : ℕ) where
       (λ no is. absurd (false≢true (sym no ∙ ap done is))) (λ yes _. (passed Places (state_at r a (r.nets a) (r.clock a) (r.links a) (r.walk a) (r.copy a) (r.entries a)) yes).settings)
 
   -- the host of a node's own id is there
-  pub own_host : Proper r → a < r.nodes → (i : ℕ) → own_id (r.settings a) ≡ Id i → HostAt r i a
+  pub own_host : Proper r → a < r.nodes → (i : ℕ) → own_id (r.settings a) ≡ Some i → HostAt r i a
   own_host proper inside i is =
       ap (found_marked (r.settings a).marks) (sym is) ∙ (sound (r.settings a) (set_good (proper.was_initialized a inside))).own_marked
 

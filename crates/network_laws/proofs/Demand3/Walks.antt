@@ -1,4 +1,5 @@
 -- Opening a walk and each box of it keep a node right: the walk has what the arrival has after the same step, and the lines store what it stores.
+use Rattle.std.specs.Prelude.{Option, Some, None, Result}
 use mathlib.Core.Path.{◌≡◌, refl, sym, ap, subst, subst₂, ◌∙◌}
 use mathlib.Core.Bool.{Bool, true, false, true≢false, false≢true, cond, not, and-false, ◌&&◌, ◌||◌}
 use mathlib.Core.List.{List}
@@ -8,7 +9,6 @@ use borrow.Author.Tests.{eq-eqb, ne_eqb, ltb-true}
 use lib.Dec.{T, ltb, eqb}
 use lib.IntN.{ℤ, pos}
 use lib.ListN.{length, get_or}
-use Rattle.std.proofs.Common.{Option, Some, None}
 use Rattle.lists.proofs.Tests.{either, both, neither, is_so, is_not}
 use Rattle.quantity.specs.declared.Millis.{Millis}
 use Rattle.quantity.specs.declared.Word.{Word}
@@ -23,14 +23,11 @@ use Rattle.clock.specs.declared.Counter.{Counter}
 use Rattle.clock.specs.Clock.{count_used}
 use Rattle.wire.specs.declared.Address.{Address}
 use Rattle.wire.specs.declared.Packet.{Packet}
-use Rattle.wire.specs.declared.Parsed.{Parsed}
 use Rattle.wire.specs.declared.Report.{Report}
 use Rattle.wire.specs.Octets.{same_address}
 use Rattle.wire.specs.Hello.{report_at}
 use Rattle.wire.specs.Packet.{hello_of, fields}
 use Rattle.route.specs.declared.Layout.{Layout}
-use Rattle.route.specs.declared.Found.{Found}
-use Rattle.route.specs.declared.Found.TheVariants.{Id, Nothing}
 use Rattle.route.specs.Find.{local_id}
 use Rattle.table.specs.declared.Entry.{Entry}
 use Rattle.table.specs.declared.Update.{Update}
@@ -354,10 +351,10 @@ module _ (r : Network) (proper : Proper r) (ways : r.longest ≤ longest_way) (a
               host_there = λ low. host (subst (λ (d : Millis). less_millis d max_delay ≡ true) raised_is low);
             }
 
-        found : (f : Found) → found_for nets s (link_of l w.link).neighbor ≡ f → Good (to_neighbor h (raised w) f)
+        found : (f : Option ℕ) → found_for nets s (link_of l w.link).neighbor ≡ f → Good (to_neighbor h (raised w) f)
         unfolding place_of
-        found Nothing same = ends NoHost c l nothing (any_walk r a no_walk l.all fine) none
-        found (Id id) same =
+        found None same = ends NoHost c l nothing (any_walk r a no_walk l.all fine) none
+        found (Some id) same =
             let there = t.taken.right.node_in in
             let host : less_millis (at_least_min (of_word w.delay)) max_delay ≡ true → HostAt r id from =
             λ low.
@@ -475,7 +472,7 @@ module _ (r : Network) (proper : Proper r) (ways : r.longest ≤ longest_way) (a
   -- the entry at hand
   hand_right : Holds (r.number a) entries → RightEntry r a w.id (entry_at (at_hand w) x)
   hand_right held =
-      either (λ (f : Found). RightEntry r a w.id (entry_at f x)) (is_open w && not (eqb w.line 0)) (Id w.id) Nothing
+      either (λ (f : Option ℕ). RightEntry r a w.id (entry_at f x)) (is_open w && not (eqb w.line 0)) (Some w.id) None
       (λ _. all_at (RightEntry r a) fresh_entry (fresh_right r a) (entries_of x) (call_state.table held) w.id) (λ _. fresh_right r a w.id)
 
   pub step_right : (k : Counter)
@@ -491,7 +488,7 @@ module _ (r : Network) (proper : Proper r) (ways : r.longest ≤ longest_way) (a
       either (λ (y : Effect). Kept (carried_out y x)) (not (is_open w)) _ _ (λ shut _. closed held (is_not _ shut))
       (λ f.
       let o = opened_says s w copy (walk_state x (ok.call_state refl)) (is_so _ f) in
-      inspect_cases (λ (q : Parsed). packet_fits s w octets q ≡ true → Kept (carried_out (box_of k octets nets x.host w (entry_at (at_hand w) x) q) x)) s w.link octets
+      inspect_cases (λ (q : Result Packet Answer). packet_fits s w octets q ≡ true → Kept (carried_out (box_of k octets nets x.host w (entry_at (at_hand w) x) q) x)) s w.link octets
       (λ b z. absurd (false≢true z)) (λ ours z time. box held (is_so _ f) o.link ours few z time) o.held))
     where
       Kept : Outcome → Type 0

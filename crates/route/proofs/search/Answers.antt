@@ -1,34 +1,25 @@
--- Two ways through `search`: in each, the branches taken decide the tests of the definition, with the contracts of `row_count`, `ends`, `id_of`. Bounds follow by linear arithmetic.
-use mathlib.Core.Path.{◌∙◌, sym, ap}
-use Prim.Native.Nat.{◌-◌}
-use native.Mathlib.Omega.{arith}
-use Rattle.route.specs.declared.Found.TheVariants.{Id}
-use Rattle.route.specs.Find.{search as searched}
-use Rattle.lists.proofs.Rest.{counted}
-use Rattle.route.proofs.Rows.{passed, ended, missed}
+-- What `find` gives over the rows in use is what the definition searches for.
+use Rattle.std.proofs.Common.{rules, tests, arith, ◌≡◌, sym, ap, ◌∙◌, Option, None}
+use Rattle.std.specs.List.{find}
+use Rattle.std.specs.Option.{option_map}
+use Rattle.std.proofs.lemmas.Iterator.{YieldsList-from_slice}
+use Rattle.std.proofs.lemmas.Iterator.Search.{find_from_yields_List}
+use Rattle.route.specs.declared.Row.{Row}
+use Rattle.route.specs.Find.{ends, rows_of}
+use Rattle.route.proofs.Rows.{host_of, first_found}
 use Rattle.route.proofs.search.Goals as goal
 
-pub returns-then-i-count : goal.returns-then-i-count
-returns-then-i-count c =
-    let t = c.args.table in
-    let same = counted t.rows t.count _ c.row_count-count.ensures in
-    sym (ap (searched _) (sym same) ∙ c.loop-i.invariant.3 ∙ missed t.rows _ _ (omega arith) _ c.if-i-count.true)
-
-pub loop-i-preserved : goal.loop-i-preserved
-loop-i-preserved c =
-    let t = c.args.table in
-    let count = c.row_count-count.result in
-    let l = c.loop-i in
-    let v = l.invariant in
-    let goes_on = sym c.ends.ensures ∙ c.if-ends.false in
-    (omega arith, v.1, v.2, v.3 ∙ passed t.rows count l.i (omega arith) _ _ (omega arith) goes_on)
+pub returns-in_err-row : goal.returns-in_err-row
+returns-in_err-row c =
+    let rows = rows_of c.args.table.now in
+    let found = find_from_yields_List (ends c.args.net) _ _ c.find.result c.find.ensures.ran (YieldsList-from_slice rows cc) (λ x b q k. search (rules, tests)) in
+    let gone : c.from_residual.result ≡ None = grind arith in
+    let none = rw (c.in_err-row.was) at found in
+    gone ∙ ap host_of none ∙ sym (first_found c.args.net rows)
 
 pub returns : goal.returns
 returns c =
-    let t = c.args.table in
-    let count = c.row_count-count in
-    let l = c.loop-i in
-    let same = counted t.rows t.count _ count.ensures in
-    let hit = sym c.ends.ensures ∙ c.if-ends.true in
-    ap Id c.id_of-id.ensures
-    ∙ sym (ap (searched _) (sym same) ∙ l.invariant.3 ∙ ended t.rows count.result l.i (omega arith) _ _ (omega arith) hit)
+    let rows = rows_of c.args.table.now in
+    let found = find_from_yields_List (ends c.args.net) _ _ c.find.result c.find.ensures.ran (YieldsList-from_slice rows cc) (λ x b q k. search (rules, tests)) in
+    let some = rw (c.in_ok-row.was) at found in
+    ap host_of some ∙ sym (first_found c.args.net rows)

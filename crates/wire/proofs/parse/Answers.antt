@@ -1,11 +1,11 @@
 -- Six paths through `parse`: in each, the tests that passed or failed decide the tests of the definition.
+use Rattle.std.specs.Prelude.{Ok}
 use mathlib.Core.Path.{◌≡◌, sym, ap, ◌∙◌}
 use mathlib.Core.Bool.{Bool, true}
 use mathlib.Core.List.{List}
 use Prim.Native.Nat.{ℕ, ◌-◌}
 use native.Mathlib.Omega.{arith}
 use lib.ListN.{length, take, drop, length-drop}
-use Rattle.wire.specs.declared.Parsed.TheVariants.{Good}
 use Rattle.wire.specs.Ip.{ip_form, ip_checksum, protocol}
 use Rattle.wire.specs.Hello.{hello_form, hello_checksum}
 use Rattle.wire.specs.Packet.{hello_of, parse}
@@ -76,4 +76,4 @@ returns c =
     let h = header s c.form.ensures c.if-not-form.false c.checksum.ensures c.if-not-checksum.false c.protocol.ensures c.if-not-protocol.false in
     let form = hello-test hello_form s c.form-2.ensures c.if-not-form-2.false in
     let checksum = hello-test hello_checksum s c.checksum-2.ensures c.if-not-checksum-2.false in
-    (ap Good c.fields.ensures.0 ∙ sym (passes s h record { form = form; checksum = checksum }), c.fields.ensures.1)
+    (ap Ok c.fields.ensures.0 ∙ sym (passes s h record { form = form; checksum = checksum }), c.fields.ensures.1)

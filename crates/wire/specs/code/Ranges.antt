@@ -3,8 +3,6 @@ use Rattle.std.specs.Prelude.{◌<◌, ◌^◌, List, [], ◌∷◌, ℤ, pos, n
 use Rattle.wire.specs.declared.Address.{Address}
 use Rattle.wire.specs.declared.Packet.{Packet}
 use Rattle.wire.specs.declared.Report.{Report}
-use Rattle.wire.specs.declared.Parsed.{Parsed}
-use Rattle.wire.specs.declared.Parsed.TheVariants.{Good, Bad}
 
 -- a number from one on, and below another
 pub record Between (low high z : ℤ) : Type 0 where
@@ -40,8 +38,3 @@ pub record ReportFits (r : Report) : Type 0 where
 abbrev pub ReportsFit : List Report → Type 0
 ReportsFit [] = Unit {0}
 ReportsFit (r ∷ rs) = ReportFits r × ReportsFit rs
-
--- the time of a packet that was read, from its four octets
-abbrev pub TimeFits : Parsed → Type 0
-TimeFits (Good p) = Four p.time.0
-TimeFits (Bad a) = Unit {0}

@@ -1,12 +1,15 @@
--- Two ways through `inspect`: in each, the branches taken decide the tests of the definition, with the contracts of `parse`, `compared`.
+-- Two ways through `inspect`: a packet that cannot be read is refused as `parse` refuses it, and the others by the settings.
 use mathlib.Core.Path.{◌∙◌, sym}
+use Rattle.std.proofs.lemmas.Result.{err_from_is_err_and}
 use Rattle.host.specs.Inspection.{inspect}
 use Rattle.host.proofs.inspection.inspect.Goals as goal
 
-pub returns-in-Bad : goal.returns-in-Bad
+pub returns-in_err-parse : goal.returns-in_err-parse
 unfolding inspect
-returns-in-Bad c = (rw (sym c.parse.ensures.0 ∙ c.in-Bad.is), tt)
+returns-in_err-parse c =
+    let p = err_from_is_err_and c.from_residual.result c.from_residual.ensures.1 in
+    rw (p.1, p.2) (rw (sym c.parse.ensures.0 ∙ c.in_err-parse.was), tt)
 
-pub returns-in-Good : goal.returns-in-Good
+pub returns : goal.returns
 unfolding inspect
-returns-in-Good c = (rw (sym c.parse.ensures.0 ∙ c.in-Good.is) c.compared.ensures.0, c.compared.ensures.1)
+returns c = (rw (sym c.parse.ensures.0 ∙ c.in_ok-parse.was) c.compared.ensures.0, c.compared.ensures.1)

@@ -6,4 +6,4 @@ use Rattle.host.proofs.walk.packet_good.Goals as goal
 pub fields_good-requires : goal.fields_good-requires
 fields_good-requires c =
     let a = c.args in
-    subst (Fits a.s a.packet.now) (sym c.inspect.ensures.0 ∙ c.in-Good.is) (inspected_fits a.s a.w.link a.packet.now)
+    subst (Fits a.s a.packet.now) (sym c.inspect.ensures.0 ∙ c.in-Ok.is) (inspected_fits a.s a.w.link a.packet.now)
