@@ -106,6 +106,7 @@ pub(crate) fn looked(found: Option<usize>, e: Entry) -> Reply
     }
 }
 
+// A match, since each request has input of its own.
 pub(crate) fn effect(
     s: Settings,
     t: NetTable,

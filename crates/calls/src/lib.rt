@@ -1,4 +1,6 @@
 // The calls of a HELLO host. Each borrows the host's clock, links, walk with its copy of a packet, the host table, and the net table, which no call changes. The guard comes first: 12, 16 or 1 for bad settings, number or borrowed state.
+// C lends each part by a pointer of its own, and each call borrows mutably only what it changes, so the parts stay apart.
+// A frame of the guard with a closure for the work would take the request too, for its contract alone, so the guard stands in each call.
 #![tactic(auto)]
 
 ghost use Rattle.std.specs.Prelude.{◌≡◌, not};

@@ -198,13 +198,8 @@ fn packet_good(s: Settings, w: Walk, packet: &[u8]) -> bool
     requires { (1 ≤ w.link) × (w.link ≤ 8) }
     ensures { result ≡ packet_fits s w packet.now (inspect s w.link packet.now) }
 {
-    match inspection::inspect(
-        s,
-        LinkNumber {
-            number: w.link as usize,
-        },
-        packet,
-    ) {
+    let number = w.link as usize;
+    match inspection::inspect(s, LinkNumber { number }, packet) {
         Err(_) => false,
         Ok(p) => fields_good(s, w, p, packet),
     }

@@ -76,16 +76,8 @@ fn box3(s: Settings, c: Clock, l: Links, w: Walk, p: Packet) -> Effect
     requires w_value { reading_in_range w ≡ true }
     ensures { result ≡ box3 p (host s c l) w }
 {
-    let f = measured(
-        broadcast(
-            s,
-            LinkNumber {
-                number: w.link as usize,
-            },
-        ),
-        p,
-        in_flight(l, w),
-    );
+    let number = w.link as usize;
+    let f = measured(broadcast(s, LinkNumber { number }), p, in_flight(l, w));
     onward(at(4, 0, 0, holding(f, w)), c, storing(f, w, l), nothing())
 }
 
@@ -93,13 +85,9 @@ fn box4(s: Settings, c: Clock, l: Links, w: Walk, p: Packet) -> Effect
     requires { (1 ≤ w.link) × (w.link ≤ 8) }
     ensures { result ≡ box4 p (host s c l) w }
 {
+    let number = w.link as usize;
     match step4(
-        broadcast(
-            s,
-            LinkNumber {
-                number: w.link as usize,
-            },
-        ),
+        broadcast(s, LinkNumber { number }),
         c.hold,
         p,
         in_flight(l, w),
@@ -138,24 +126,15 @@ fn box5(s: Settings, t: NetTable, c: Clock, l: Links, w: Walk, p: Packet) -> Eff
     requires s_value { (settings_good s ≡ true) × RowsBelow t s }
     ensures { result ≡ box5 p t (host s c l) w }
 {
+    let number = w.link as usize;
     if p.nhosts == 0 {
-        let found = host::found_for(
-            t,
-            s,
-            link_of(
-                l,
-                LinkNumber {
-                    number: w.link as usize,
-                },
-            )
-            .neighbor,
-        );
+        let found = host::found_for(t, s, link_of(l, LinkNumber { number }).neighbor);
         return to_neighbor(s, c, l, raised(w), found);
     }
     onward(at(5, 1, 0, raised(w)), c, l, nothing())
 }
 
-// The box of a place.
+// The box of a place: a match, since each box takes other parts of the walk.
 fn box_at(
     s: Settings,
     t: NetTable,

@@ -14,19 +14,17 @@ use host::{Effect, Links};
 use quantity::{Count, Millis, Word};
 use table::entries::Changes;
 
+// C programs lay out a walk, so the functions of a walk ask for the range of its link.
+
 // The arrival in flight.
 pub fn in_flight(l: Links, w: Walk) -> Flight
     requires { (1 ≤ w.link) × (w.link ≤ 8) }
     ensures { result ≡ in_flight l w }
 {
+    let number = w.link as usize;
     Flight {
         reading: w.reading,
-        link: link_of(
-            l,
-            LinkNumber {
-                number: w.link as usize,
-            },
-        ),
+        link: link_of(l, LinkNumber { number }),
         delay: Millis::of_word(w.delay),
         offset: w.offset,
     }
@@ -37,13 +35,8 @@ pub fn storing(f: Flight, w: Walk, l: Links) -> Links
     requires { (1 ≤ w.link) × (w.link ≤ 8) }
     ensures { result ≡ storing f w l }
 {
-    with_link(
-        l,
-        LinkNumber {
-            number: w.link as usize,
-        },
-        f.link,
-    )
+    let number = w.link as usize;
+    with_link(l, LinkNumber { number }, f.link)
 }
 
 // The count that was used, and our reading.

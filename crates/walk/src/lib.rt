@@ -23,7 +23,7 @@ pub mod boxes;
 mod held;
 mod lines;
 
-// The result of opening a walk: the reply, the walk, and how many octets of the packet are copied.
+// The result of opening a walk: the reply, the walk, and how many octets of the packet are copied. WALK-1 speaks of all three at a refusal too: the walk as it was, and no octets.
 #[derive(Clone, Copy)]
 pub struct Opening {
     pub reply: Reply,
