@@ -165,7 +165,7 @@ fn no_table(
     f: Flight,
     found: Option<usize>,
 ) -> Arrived
-    requires found_value { has_place found ≡ true }
+    requires { has_place found ≡ true }
     ensures { result ≡ no_table (host s c l) link.number n p f found }
 {
     match found {
@@ -184,7 +184,7 @@ fn step5(
     p: Packet,
     f: Flight,
 ) -> Arrived
-    requires s_value { (settings_good s ≡ true) × RowsBelow t s }
+    requires { (settings_good s ≡ true) × RowsBelow t s }
     ensures { result ≡ step5 t (host s c l) link.number n p f }
 {
     if p.nhosts == 0 {
@@ -249,7 +249,7 @@ fn act(
     k: Counter,
     packet: &[u8],
 ) -> Arrived
-    requires s_value { (settings_good s ≡ true) × RowsBelow t s × (clock_in_range c ≡ true) }
+    requires { (settings_good s ≡ true) × RowsBelow t s × (clock_in_range c ≡ true) }
     ensures { result ≡ act link.number k packet.now t (host s c l) }
 {
     match inspection::inspect(s, link, packet) {
