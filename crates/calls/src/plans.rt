@@ -30,6 +30,7 @@ pub struct Aged {
     pub work: Changes,
 }
 
+#[tactic(auto, unfolding(crate::specs::Effects::tick))]
 pub(crate) fn tick(s: Settings, c: Clock, n: Count) -> Timed
     requires { (settings_good s ≡ true) × (clock_in_range c ≡ true) }
     ensures { Timely result (Tick n) s c }
@@ -40,6 +41,7 @@ pub(crate) fn tick(s: Settings, c: Clock, n: Count) -> Timed
     }
 }
 
+#[tactic(auto, unfolding(crate::specs::Effects::adjust))]
 pub(crate) fn adjust(s: Settings, c: Clock, n: Count) -> Timed
     requires { (settings_good s ≡ true) × (clock_in_range c ≡ true) }
     ensures { Timely result (Adjust n) s c }
@@ -60,6 +62,7 @@ pub(crate) fn set(s: Settings, c: Clock, ms: i32, n: Count) -> Timed
     }
 }
 
+#[tactic(auto, unfolding(crate::specs::Effects::read))]
 pub(crate) fn read(s: Settings, c: Clock, k: Counter) -> Timed
     requires { (settings_good s ≡ true) × (clock_in_range c ≡ true) }
     ensures { Timely result (Read k) s c }
@@ -71,6 +74,7 @@ pub(crate) fn read(s: Settings, c: Clock, k: Counter) -> Timed
     }
 }
 
+#[tactic(auto, unfolding(crate::specs::Effects::second))]
 pub(crate) fn second(s: Settings, c: Clock) -> Aged
     ensures { Aging result Second s c }
 {
@@ -81,6 +85,7 @@ pub(crate) fn second(s: Settings, c: Clock) -> Aged
     }
 }
 
+#[tactic(auto, unfolding(crate::specs::Effects::self_report))]
 pub(crate) fn self_report(s: Settings, c: Clock, k: Counter) -> Aged
     requires { (settings_good s ≡ true) × (clock_in_range c ≡ true) }
     ensures { Aging result (SelfReport k) s c }

@@ -111,6 +111,7 @@ fn line_place(m: u8) -> Option<Place>
 }
 
 // The place of a walk; none if its numbers are no place.
+#[tactic(auto, unfolding(crate::specs::Walk::place_of))]
 pub fn place_of(w: Walk) -> Option<Place>
     ensures { result ≡ place_of w }
 {
@@ -206,6 +207,7 @@ fn packet_good(s: Settings, w: Walk, packet: &[u8]) -> bool
 }
 
 // Is a walk, if one is open, within its ranges?
+#[tactic(auto, unfolding(crate::specs::Walk::walk_in_range, crate::specs::State::no_link))]
 pub fn in_range(s: Settings, w: Walk, copy: &[u8]) -> bool
     ensures { result ≡ walk_in_range s w copy.now }
 {

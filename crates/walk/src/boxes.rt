@@ -32,6 +32,7 @@ use std::ops::ControlFlow;
 use table::Entry;
 use wire::Packet;
 
+#[tactic(auto, unfolding(crate::specs::Boxes::box1))]
 fn box1(s: Settings, c: Clock, l: Links, w: Walk, k: Counter) -> Effect
     requires { (settings_good s ≡ true) × (clock_in_range c ≡ true) }
     ensures { result ≡ box1 k (host s c l) w }
@@ -45,6 +46,7 @@ fn box1(s: Settings, c: Clock, l: Links, w: Walk, k: Counter) -> Effect
     )
 }
 
+#[tactic(auto, unfolding(crate::specs::Boxes::box2, arrival::specs::Steps::step2))]
 fn box2(s: Settings, c: Clock, l: Links, w: Walk) -> Effect
     requires { (1 ≤ w.link) × (w.link ≤ 8) }
     ensures { result ≡ box2 (host s c l) w }
@@ -55,6 +57,7 @@ fn box2(s: Settings, c: Clock, l: Links, w: Walk) -> Effect
 }
 
 // TSP, DELAY and OFFSET.
+#[tactic(auto, unfolding(arrival::specs::Steps::step3))]
 fn measured(broadcast: bool, p: Packet, f: Flight) -> Flight
     requires four { Four p.time.0 }
     requires reading_value { up_to day_millis f.reading ≡ true }
@@ -70,6 +73,7 @@ fn measured(broadcast: bool, p: Packet, f: Flight) -> Flight
     }
 }
 
+#[tactic(auto, unfolding(crate::specs::Boxes::box3))]
 fn box3(s: Settings, c: Clock, l: Links, w: Walk, p: Packet) -> Effect
     requires le_link { (1 ≤ w.link) × (w.link ≤ 8) }
     requires four { Four p.time.0 }
@@ -121,6 +125,7 @@ fn to_neighbor(s: Settings, c: Clock, l: Links, w: Walk, found: Option<usize>) -
     }
 }
 
+#[tactic(auto, unfolding(crate::specs::Boxes::box5))]
 fn box5(s: Settings, t: NetTable, c: Clock, l: Links, w: Walk, p: Packet) -> Effect
     requires le_link { (1 ≤ w.link) × (w.link ≤ 8) }
     requires s_value { (settings_good s ≡ true) × RowsBelow t s }

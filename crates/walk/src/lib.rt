@@ -46,6 +46,7 @@ fn opened_on(link: LinkNumber, octets: usize) -> Walk
 }
 
 // The tests of 3 to 9, and the walk at its first box.
+#[tactic(auto, unfolding(crate::specs::Opening::opening))]
 pub fn opened_by(s: Settings, w: Walk, link: LinkNumber, packet: &[u8]) -> Opening
     ensures { (result ≡ opening link.number packet.now s w) × (result.octets ≤ longest) }
 {
@@ -67,6 +68,7 @@ pub fn opened_by(s: Settings, w: Walk, link: LinkNumber, packet: &[u8]) -> Openi
 }
 
 // Copies the packet's first n octets.
+#[tactic(auto, unfolding(crate::specs::Opening::copied))]
 pub fn keep(copy: &mut [u8], packet: &[u8], octets: usize)
     requires { (octets ≤ length packet.now) × (octets ≤ length copy.old) }
     ensures { copy.new ≡ copied octets packet.now copy.old }
@@ -85,6 +87,7 @@ pub fn at_hand(w: Walk) -> Option<usize>
 }
 
 // The box of a walk's place; 17 where no walk is open.
+#[tactic(auto, unfolding(crate::specs::Boxes::step))]
 pub fn step(
     s: Settings,
     t: NetTable,

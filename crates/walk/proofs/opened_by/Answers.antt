@@ -6,10 +6,6 @@ use Rattle.host.proofs.Inspected.{Fits, inspected_fits}
 use Rattle.walk.specs.Opening.{opening}
 use Rattle.walk.proofs.opened_by.Goals as goal
 
-pub returns-in-Err : goal.returns-in-Err
-unfolding opening
-returns-in-Err c = (rw (sym c.inspect.ensures.0 ∙ c.in-Err.is, c.plainly.ensures), omega arith)
-
 pub returns-in-Ok : goal.returns-in-Ok
 unfolding opening
 returns-in-Ok c =
