@@ -16,8 +16,7 @@ judged call x = guard (scope_of_call call) x
 abbrev outcome : Call → CallState → Bool → Outcome
 outcome call x b = cond b (refused (judged call x) call x) (work call x)
 
--- the state is found from what the guard ensures
-module _ (call : Call) {x : CallState} where
+module _ (call : Call) (x : CallState) where
   pub goes_on : done (judged call x) ≡ true → perform call x ≡ work call x
   unfolding perform
   goes_on d = subst (λ (b : Bool). outcome call x (not b) ≡ work call x) (sym d) refl

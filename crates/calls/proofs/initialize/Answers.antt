@@ -11,24 +11,24 @@ use Rattle.calls.proofs.initialize.Goals as goal
 
 pub returns-then-refuses : goal.returns-then-refuses
 returns-then-refuses c =
-    refuses (ask Initialize) refl (guard_is _ _ c.guard_initialize-g.ensures) c.refuses.ensures c.if-refuses.true c.plainly.ensures
+    refuses (ask Initialize) _ refl (guard_is _ _ c.guard_initialize-g.ensures) c.refuses.ensures c.if-refuses.true c.plainly.ensures
 
 pub initialize-p-requires : goal.initialize-p-requires
 initialize-p-requires c =
-    let on = passes (ask Initialize) refl (guard_is _ _ c.guard_initialize-g.ensures) c.refuses.ensures c.if-refuses.false in
+    let on = passes (ask Initialize) _ refl (guard_is _ _ c.guard_initialize-g.ensures) c.refuses.ensures c.if-refuses.false in
     (passed Places _ on).settings
 
 pub placed-w-requires : goal.placed-w-requires
 placed-w-requires c =
-    let on = passes (ask Initialize) refl (guard_is _ _ c.guard_initialize-g.ensures) c.refuses.ensures c.if-refuses.false in
+    let on = passes (ask Initialize) _ refl (guard_is _ _ c.guard_initialize-g.ensures) c.refuses.ensures c.if-refuses.false in
     rw (c.initialize-p.ensures) (worked _ Initialize on).ids
 
 pub fresh_all-requires : goal.fresh_all-requires
 fresh_all-requires c =
-    let on = passes (ask Initialize) refl (guard_is _ _ c.guard_initialize-g.ensures) c.refuses.ensures c.if-refuses.false in
+    let on = passes (ask Initialize) _ refl (guard_is _ _ c.guard_initialize-g.ensures) c.refuses.ensures c.if-refuses.false in
     rw (c.placed-w.ensures, c.initialize-p.ensures) (places_fresh _ on)
 
 pub returns : goal.returns
 returns c =
-    let on = passes (ask Initialize) refl (guard_is _ _ c.guard_initialize-g.ensures) c.refuses.ensures c.if-refuses.false in
+    let on = passes (ask Initialize) _ refl (guard_is _ _ c.guard_initialize-g.ensures) c.refuses.ensures c.if-refuses.false in
     rw (c.fresh_all.ensures, c.placed-w.ensures, c.initialize-p.ensures) (worked _ Initialize on).left
