@@ -1,7 +1,6 @@
 -- 17, or the box.
 use mathlib.Core.Path.{◌∙◌, sym}
 use lib.Seq.{length-take-le}
-use Rattle.walk.specs.Boxes.{step}
 use Rattle.host.proofs.Walks.{opened_says}
 use Rattle.host.proofs.Guarded.{counted}
 use Rattle.walk.proofs.step.Goals as goal

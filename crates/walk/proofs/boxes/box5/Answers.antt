@@ -1,6 +1,4 @@
 -- An id that is found, or id 0.
-use borrow.Author.Tests.{eq-eqb, ne_eqb}
-use Rattle.walk.specs.Boxes.{box5}
 use Rattle.host.proofs.Found.{find_has_place}
 use Rattle.walk.proofs.boxes.box5.Goals as goal
 
