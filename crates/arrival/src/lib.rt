@@ -27,6 +27,7 @@ ghost use Rattle.arrival.specs.Arrival.{
 use answer::Answer;
 use calendar::Date;
 use clock::{Clock, Counter};
+use host::link_number::LinkNumber;
 use host::link_state::{broadcast, link_of, with_link};
 use host::replies::plainly;
 use host::{Links, Reply, Settings, host_count, inspection};
@@ -109,12 +110,11 @@ pub fn at_least_min(delay: Millis) -> Millis
 }
 
 // What step 5 updates the neighbor's entry with.
-fn neighbor_update(link: usize, f: Flight) -> Update
-    requires { (1 ≤ link) × (link ≤ 8) }
-    ensures { result ≡ neighbor_update link f }
+fn neighbor_update(link: LinkNumber, f: Flight) -> Update
+    ensures { result ≡ neighbor_update link.number f }
 {
     Update {
-        pid: link as u8,
+        pid: link.number as u8,
         delay: at_least_min(f.delay),
         offset: f.offset,
         reading: f.reading,
@@ -159,15 +159,14 @@ fn no_table(
     s: Settings,
     c: Clock,
     l: Links,
-    link: usize,
+    link: LinkNumber,
     n: Count,
     p: Packet,
     f: Flight,
     found: Option<usize>,
 ) -> Arrived
-    requires le_link { (1 ≤ link) × (link ≤ 8) }
-    requires found_value { has_place found ≡ true }
-    ensures { result ≡ no_table (host s c l) link n p f found }
+    requires { has_place found ≡ true }
+    ensures { result ≡ no_table (host s c l) link.number n p f found }
 {
     match found {
         None => ends(Answer::NoHost, s, c, l),
@@ -180,14 +179,13 @@ fn step5(
     t: NetTable,
     c: Clock,
     l: Links,
-    link: usize,
+    link: LinkNumber,
     n: Count,
     p: Packet,
     f: Flight,
 ) -> Arrived
-    requires le_link { (1 ≤ link) × (link ≤ 8) }
-    requires s_value { (settings_good s ≡ true) × RowsBelow t s }
-    ensures { result ≡ step5 t (host s c l) link n p f }
+    requires { (settings_good s ≡ true) × RowsBelow t s }
+    ensures { result ≡ step5 t (host s c l) link.number n p f }
 {
     if p.nhosts == 0 {
         let found = host::found_for(t, s, f.link.neighbor);
@@ -212,14 +210,13 @@ fn action(
     t: NetTable,
     c: Clock,
     l: Links,
-    link: usize,
+    link: LinkNumber,
     k: Counter,
     p: Packet,
 ) -> Arrived
-    requires le_link { (1 ≤ link) × (link ≤ 8) }
     requires s_value { (settings_good s ≡ true) × RowsBelow t s × (clock_in_range c ≡ true) }
     requires four { Four p.time.0 }
-    ensures { result ≡ action k t (host s c l) link p }
+    ensures { result ≡ action k t (host s c l) link.number p }
 {
     let r = host::our_reading(s, c, k);
     let n = k.used();
@@ -231,9 +228,8 @@ fn action(
 }
 
 // The inspection: answers 3 to 9, and what a packet that passes has in it. Nothing changes.
-fn look(s: Settings, c: Clock, l: Links, link: usize, packet: &[u8]) -> Arrived
-    requires { (1 ≤ link) × (link ≤ 8) }
-    ensures { result ≡ inspection link packet.now (host s c l) }
+fn look(s: Settings, c: Clock, l: Links, link: LinkNumber, packet: &[u8]) -> Arrived
+    ensures { result ≡ inspection link.number packet.now (host s c l) }
 {
     let p = inspection::inspect(s, link, packet);
     Arrived {
@@ -249,13 +245,12 @@ fn act(
     t: NetTable,
     c: Clock,
     l: Links,
-    link: usize,
+    link: LinkNumber,
     k: Counter,
     packet: &[u8],
 ) -> Arrived
-    requires le_link { (1 ≤ link) × (link ≤ 8) }
-    requires s_value { (settings_good s ≡ true) × RowsBelow t s × (clock_in_range c ≡ true) }
-    ensures { result ≡ act link k packet.now t (host s c l) }
+    requires { (settings_good s ≡ true) × RowsBelow t s × (clock_in_range c ≡ true) }
+    ensures { result ≡ act link.number k packet.now t (host s c l) }
 {
     match inspection::inspect(s, link, packet) {
         Err(a) => ends(a, s, c, l),
@@ -277,7 +272,9 @@ pub fn deliver(s: Settings, t: NetTable, c: Clock, l: Links, d: Delivery, packet
     ensures { (result ≡ delivered d packet.now t (host s c l)) × (result.work.count.0 < 2 ^ 16) }
 {
     match d {
-        Delivery::Inspect(i) => look(s, c, l, i, packet),
-        Delivery::Act(i, k) | Delivery::Receive(i, k) => act(s, t, c, l, i, k, packet),
+        Delivery::Inspect(number) => look(s, c, l, LinkNumber { number }, packet),
+        Delivery::Act(number, k) | Delivery::Receive(number, k) => {
+            act(s, t, c, l, LinkNumber { number }, k, packet)
+        }
     }
 }

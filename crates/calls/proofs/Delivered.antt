@@ -181,6 +181,6 @@ module _ (x : CallState) (d : Delivery) (octets : List ℕ) (e : done (guard (On
         ids = (record { number = k-in; rising = a.rising; ids = omega (arith, a.below) }, omega (arith, a.base));
         there = fits s x.number x.entries h octets (definition.delivered d octets x.nets x.host).work a;
         left =
-            rw (goes_on (deliver d octets) e, by-places.carried s x.number x.entries h (definition.delivered d octets x.nets x.host).work a.rising a.below octets)
+            rw (goes_on (deliver d octets) x e, by-places.carried s x.number x.entries h (definition.delivered d octets x.nets x.host).work a.rising a.below octets)
             record { reply = refl; clock = refl; links = refl; walk = refl; copy = refl; entries = refl };
       }

@@ -141,5 +141,5 @@ module _ (x : CallState) (i : ℕ) (octets : List ℕ) (d : done (guard (OnLink 
 
   pub after_inspected : Leaves (perform (inspect i octets) x) (inspection.tells (inspection.inspect x.host.settings i octets)) x.host.clock x.host.links x.walk x.copy x.entries
   after_inspected =
-      rw (goes_on (inspect i octets) d ∙ quieted x (holds x.number x.entries (passed (OnLink i) x d).places) (inspection.tells (inspection.inspect x.host.settings i octets)) x.host octets)
+      rw (goes_on (inspect i octets) x d ∙ quieted x (holds x.number x.entries (passed (OnLink i) x d).places) (inspection.tells (inspection.inspect x.host.settings i octets)) x.host octets)
       record { reply = refl; clock = refl; links = refl; walk = refl; copy = refl; entries = refl }

@@ -40,5 +40,5 @@ module _ (x : CallState) (i : ℕ) (packet : List ℕ) (d : done (guard (scope.O
   opened p is =
       record {
         room = (rw is.0 (fits (inspect x.host.settings i packet) (inspected_fits x.host.settings i packet)), omega (arith, is.1, opens.1));
-        left = rw (goes_on (open_walk i packet) d, is.0) record { reply = refl; clock = refl; links = refl; walk = refl; copy = refl; entries = refl };
+        left = rw (goes_on (open_walk i packet) x d, is.0) record { reply = refl; clock = refl; links = refl; walk = refl; copy = refl; entries = refl };
       }

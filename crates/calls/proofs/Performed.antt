@@ -121,7 +121,7 @@ module _ (x : CallState) (q : Request) (d : done (guard (scope_of q) x) ≡ true
       record {
         ids = record { number = number_in; rising = i.rising; ids = omega (arith, i.below) };
         places = placed_in s k entries there w i;
-        left = rw (goes_on (ask q) d) record { reply = refl; clock = refl; links = refl; walk = refl; copy = refl; entries = carried s k entries there w i };
+        left = rw (goes_on (ask q) x d) record { reply = refl; clock = refl; links = refl; walk = refl; copy = refl; entries = carried s k entries there w i };
       }
 
   -- the same of the entry that the code looks at

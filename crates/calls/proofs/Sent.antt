@@ -163,7 +163,7 @@ module _ (x : CallState) (i : ℕ) (counter : Counter) (buffer : List ℕ) where
     pub sent : Sent x buffer (send_in i counter (length buffer) x.host) (perform (send i counter buffer) x)
     sent =
         let q = passed (OnLink i) x e in
-        rw (goes_on (send i counter buffer) e)
+        rw (goes_on (send i counter buffer) x e)
         (go (holds k x.entries q.places) (number_state k x.entries q.places) (ltb (length buffer) (packet_length (report_count s y))) refl)
       where
         go : Holds k x.entries → k ≤ 15 → (short : Bool) → ltb (length buffer) (packet_length (report_count s y)) ≡ short

@@ -44,6 +44,7 @@ pub(crate) fn scope_of(q: Request) -> Scope
     }
 }
 
+#[tactic(auto, unfolding(crate::specs::Effects::initialize))]
 pub(crate) fn initialize(s: Settings) -> Effect
     requires { settings_good s ≡ true }
     ensures { result ≡ initialize s }
@@ -78,6 +79,7 @@ fn aged(p: Aged, l: Links, w: Walk) -> Effect
 }
 
 // A self-report. The call of its own has another function for it (`plans::self_report`), which is then called once and compiled into it.
+#[tactic(auto, unfolding(crate::specs::Effects::self_report))]
 fn self_report(s: Settings, c: Clock, l: Links, w: Walk, k: Counter) -> Effect
     requires { (settings_good s ≡ true) × (clock_in_range c ≡ true) }
     ensures { result ≡ self_report k (host s c l) w }
@@ -106,6 +108,7 @@ pub(crate) fn looked(found: Option<usize>, e: Entry) -> Reply
     }
 }
 
+// A match, since each request has input of its own.
 pub(crate) fn effect(
     s: Settings,
     t: NetTable,

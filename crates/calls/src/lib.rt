@@ -1,4 +1,6 @@
 // The calls of a HELLO host. Each borrows the host's clock, links, walk with its copy of a packet, the host table, and the net table, which no call changes. The guard comes first: 12, 16 or 1 for bad settings, number or borrowed state.
+// C lends each part by a pointer of its own, and each call borrows mutably only what it changes, so the parts stay apart.
+// A frame of the guard with a closure for the work would take the request too, for its contract alone, so the guard stands in each call.
 #![tactic(auto)]
 
 ghost use Rattle.std.specs.Prelude.{◌≡◌, not};
@@ -15,6 +17,7 @@ use answer::Answer;
 use arrival::Delivery;
 use clock::{Clock, Counter};
 use host::guard::{Scope, guard, guard_initialize};
+use host::link_number::LinkNumber;
 use host::replies::plainly;
 use host::walk::Walk;
 use host::{Links, Reply, Settings};
@@ -136,7 +139,15 @@ pub fn tick(
         result clock.new links.now walk.now copy.now entries.now }
 {
     let g = guard(
-        settings, net_table, number, clock, links, walk, copy, Scope::All, entries,
+        settings,
+        net_table,
+        number,
+        clock,
+        links,
+        walk,
+        copy,
+        Scope::All,
+        entries,
     );
     if refuses(g) {
         return plainly(g);
@@ -163,7 +174,15 @@ pub fn adjust(
         result clock.new links.now walk.now copy.now entries.now }
 {
     let g = guard(
-        settings, net_table, number, clock, links, walk, copy, Scope::All, entries,
+        settings,
+        net_table,
+        number,
+        clock,
+        links,
+        walk,
+        copy,
+        Scope::All,
+        entries,
     );
     if refuses(g) {
         return plainly(g);
@@ -191,7 +210,15 @@ pub fn set(
         result clock.new links.now walk.now copy.now entries.now }
 {
     let g = guard(
-        settings, net_table, number, clock, links, walk, copy, Scope::All, entries,
+        settings,
+        net_table,
+        number,
+        clock,
+        links,
+        walk,
+        copy,
+        Scope::All,
+        entries,
     );
     if refuses(g) {
         return plainly(g);
@@ -218,7 +245,15 @@ pub fn read(
         result clock.new links.now walk.now copy.now entries.now }
 {
     let g = guard(
-        settings, net_table, number, clock, links, walk, copy, Scope::All, entries,
+        settings,
+        net_table,
+        number,
+        clock,
+        links,
+        walk,
+        copy,
+        Scope::All,
+        entries,
     );
     if refuses(g) {
         return plainly(g);
@@ -244,7 +279,15 @@ pub fn second(
         result clock.new links.now walk.now copy.now entries.new }
 {
     let g = guard(
-        settings, net_table, number, clock, links, walk, copy, Scope::All, entries,
+        settings,
+        net_table,
+        number,
+        clock,
+        links,
+        walk,
+        copy,
+        Scope::All,
+        entries,
     );
     if refuses(g) {
         return plainly(g);
@@ -273,7 +316,15 @@ pub fn self_report(
         result clock.new links.now walk.now copy.now entries.new }
 {
     let g = guard(
-        settings, net_table, number, clock, links, walk, copy, Scope::All, entries,
+        settings,
+        net_table,
+        number,
+        clock,
+        links,
+        walk,
+        copy,
+        Scope::All,
+        entries,
     );
     if refuses(g) {
         return plainly(g);
@@ -302,7 +353,15 @@ pub fn lookup(
         result clock.now links.now walk.now copy.now entries.now }
 {
     let g = guard(
-        settings, net_table, number, clock, links, walk, copy, Scope::All, entries,
+        settings,
+        net_table,
+        number,
+        clock,
+        links,
+        walk,
+        copy,
+        Scope::All,
+        entries,
     );
     if refuses(g) {
         return plainly(g);
@@ -331,12 +390,21 @@ pub fn open_walk(
         result clock.now links.now walk.new copy.new entries.now }
 {
     let g = guard(
-        settings, net_table, number, clock, links, walk, copy, Scope::Opening(link), entries,
+        settings,
+        net_table,
+        number,
+        clock,
+        links,
+        walk,
+        copy,
+        Scope::Opening(link),
+        entries,
     );
     if refuses(g) {
         return plainly(g);
     }
-    let p = walk::opened_by(*settings, *walk, link, packet);
+    let i = LinkNumber { number: link };
+    let p = walk::opened_by(*settings, *walk, i, packet);
     walk::keep(copy, packet, p.octets);
     *walk = p.walk;
     p.reply
@@ -361,12 +429,21 @@ pub fn send(
         result clock.new links.new walk.now copy.now entries.now buffer.new }
 {
     let g = guard(
-        settings, net_table, number, clock, links, walk, copy, Scope::OnLink(link), entries,
+        settings,
+        net_table,
+        number,
+        clock,
+        links,
+        walk,
+        copy,
+        Scope::OnLink(link),
+        entries,
     );
     if refuses(g) {
         return plainly(g);
     }
-    let p = sending::send_in(*settings, *clock, *links, link, counter, buffer.len());
+    let i = LinkNumber { number: link };
+    let p = sending::send_in(*settings, *clock, *links, i, counter, buffer.len());
     let w = places::reports_at(number, p.work);
     read_out(buffer, entries, w);
     sending::finish(buffer, p);
@@ -398,12 +475,21 @@ pub fn inspect(
         result clock.now links.now walk.now copy.now entries.now }
 {
     let g = guard(
-        settings, net_table, number, clock, links, walk, copy, Scope::OnLink(link), entries,
+        settings,
+        net_table,
+        number,
+        clock,
+        links,
+        walk,
+        copy,
+        Scope::OnLink(link),
+        entries,
     );
     if refuses(g) {
         return plainly(g);
     }
-    plans::inspect(*settings, link, packet)
+    let i = LinkNumber { number: link };
+    plans::inspect(*settings, i, packet)
 }
 
 // A packet that arrives on a link: it is inspected, acted on, or received, which is both in turn.
@@ -424,7 +510,15 @@ pub fn deliver(
         result clock.new links.new walk.now copy.now entries.new }
 {
     let g = guard(
-        settings, net_table, number, clock, links, walk, copy, Scope::OnLink(arrival::on_link(delivery)), entries,
+        settings,
+        net_table,
+        number,
+        clock,
+        links,
+        walk,
+        copy,
+        Scope::OnLink(arrival::on_link(delivery)),
+        entries,
     );
     if refuses(g) {
         return plainly(g);

@@ -1,5 +1,5 @@
 // The results of the calls that change neither links nor walk, by value.
-ghost use Rattle.std.specs.Prelude.{◌≡◌, true, ◌≤◌};
+ghost use Rattle.std.specs.Prelude.{◌≡◌, true};
 ghost use Rattle.clock.specs.Clock.{clock_in_range};
 ghost use Rattle.host.specs.Settings.{settings_good};
 ghost use Rattle.host.specs.Inspection.{inspect, tells};
@@ -9,6 +9,7 @@ ghost use Rattle.calls.specs.code.Planned.{Timely, Aging};
 use answer::Answer;
 use clock::{Clock, Counter};
 use host::effects::each;
+use host::link_number::LinkNumber;
 use host::replies::{plainly, returns_time};
 use host::{Reply, Settings, inspection};
 use quantity::{Count, Millis};
@@ -29,6 +30,7 @@ pub struct Aged {
     pub work: Changes,
 }
 
+#[tactic(auto, unfolding(crate::specs::Effects::tick))]
 pub(crate) fn tick(s: Settings, c: Clock, n: Count) -> Timed
     requires { (settings_good s ≡ true) × (clock_in_range c ≡ true) }
     ensures { Timely result (Tick n) s c }
@@ -39,6 +41,7 @@ pub(crate) fn tick(s: Settings, c: Clock, n: Count) -> Timed
     }
 }
 
+#[tactic(auto, unfolding(crate::specs::Effects::adjust))]
 pub(crate) fn adjust(s: Settings, c: Clock, n: Count) -> Timed
     requires { (settings_good s ≡ true) × (clock_in_range c ≡ true) }
     ensures { Timely result (Adjust n) s c }
@@ -59,6 +62,7 @@ pub(crate) fn set(s: Settings, c: Clock, ms: i32, n: Count) -> Timed
     }
 }
 
+#[tactic(auto, unfolding(crate::specs::Effects::read))]
 pub(crate) fn read(s: Settings, c: Clock, k: Counter) -> Timed
     requires { (settings_good s ≡ true) × (clock_in_range c ≡ true) }
     ensures { Timely result (Read k) s c }
@@ -70,6 +74,7 @@ pub(crate) fn read(s: Settings, c: Clock, k: Counter) -> Timed
     }
 }
 
+#[tactic(auto, unfolding(crate::specs::Effects::second))]
 pub(crate) fn second(s: Settings, c: Clock) -> Aged
     ensures { Aging result Second s c }
 {
@@ -80,6 +85,7 @@ pub(crate) fn second(s: Settings, c: Clock) -> Aged
     }
 }
 
+#[tactic(auto, unfolding(crate::specs::Effects::self_report))]
 pub(crate) fn self_report(s: Settings, c: Clock, k: Counter) -> Aged
     requires { (settings_good s ≡ true) × (clock_in_range c ≡ true) }
     ensures { Aging result (SelfReport k) s c }
@@ -92,9 +98,8 @@ pub(crate) fn self_report(s: Settings, c: Clock, k: Counter) -> Aged
     }
 }
 
-pub(crate) fn inspect(s: Settings, link: usize, packet: &[u8]) -> Reply
-    requires { (1 ≤ link) × (link ≤ 8) }
-    ensures { result ≡ tells (inspect s link packet.now) }
+pub(crate) fn inspect(s: Settings, link: LinkNumber, packet: &[u8]) -> Reply
+    ensures { result ≡ tells (inspect s link.number packet.now) }
 {
     inspection::tells(inspection::inspect(s, link, packet))
 }

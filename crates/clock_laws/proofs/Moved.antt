@@ -30,7 +30,7 @@ use Rattle.host.specs.declared.Settings.{Settings}
 use Rattle.host.specs.declared.Links.{Links}
 use Rattle.host.specs.declared.walk.Walk.{Walk}
 use Rattle.host.specs.declared.walk.Place.{Place}
-use Rattle.host.specs.declared.walk.Place.TheVariants.{Nowhere, Step1, Step2, Step3, Step4, Step5, LineA, LineB, LineC, LineD}
+use Rattle.host.specs.declared.walk.Place.TheVariants.{Step1, Step2, Step3, Step4, Step5, LineA, LineB, LineC, LineD}
 use Rattle.host.specs.declared.Effect.{Effect}
 use Rattle.host.specs.Settings.{found_for}
 use Rattle.host.specs.State.{host_count, broadcast, link_of, with_link}
@@ -142,20 +142,20 @@ module _ (x : CallState) where
     c_moved (end y) = next x.host.clock (put w y)
     c_moved (on y) = either (At x.host.clock) (is_clock_host x.host w) _ _ (λ _. refl) (λ _. next x.host.clock (put w y))
 
-    box_moved : (q : Place) → (box_at q k p packet x.nets x.host w e).clock ≡ moved_by s (box_moves q k p packet x.host w) x.host.clock
+    box_moved : (q : Option Place) → (box_at q k p packet x.nets x.host w e).clock ≡ moved_by s (box_moves q k p packet x.host w) x.host.clock
     unfolding box1 box2 box3 box4 box5 box_a box_b box_c box_d line_d
-    box_moved Nowhere = refl
-    box_moved Step1 = refl
-    box_moved Step2 = refl
-    box_moved Step3 = refl
-    box_moved Step4 = four (step4 (broadcast s w.link) x.host.clock.hold p (in_flight x.host.links w))
-    box_moved Step5 =
+    box_moved None = refl
+    box_moved (Some Step1) = refl
+    box_moved (Some Step2) = refl
+    box_moved (Some Step3) = refl
+    box_moved (Some Step4) = four (step4 (broadcast s w.link) x.host.clock.hold p (in_flight x.host.links w))
+    box_moved (Some Step5) =
         either (At x.host.clock) (eqb p.nhosts 0) (to_neighbor x.host (raised w) (found_for x.nets s (link_of x.host.links w.link).neighbor)) (onward (at_line 1 0 (raised w)) x.host.clock x.host.links nothing)
         (λ _. found (found_for x.nets s (link_of x.host.links w.link).neighbor)) (λ _. refl)
-    box_moved LineA = a_moved (line_a (line_update w p packet) e)
-    box_moved LineB = b_moved (line_b (line_update w p packet) e)
-    box_moved LineC = c_moved (line_c (line_update w p packet) e)
-    box_moved LineD = next (clock_set p packet x.host w) nothing ∙ go (is_clock_host x.host w)
+    box_moved (Some LineA) = a_moved (line_a (line_update w p packet) e)
+    box_moved (Some LineB) = b_moved (line_b (line_update w p packet) e)
+    box_moved (Some LineC) = c_moved (line_c (line_update w p packet) e)
+    box_moved (Some LineD) = next (clock_set p packet x.host w) nothing ∙ go (is_clock_host x.host w)
       where
         go : (b : Bool)
             → cond b (line_d s.hold_interval w.count p.date (line_update w p packet).offset x.host.clock) x.host.clock

@@ -1,5 +1,5 @@
 -- BACK-2: what a call does to the clock, as a list of moves, each one of the clock's own procedures.
-use Rattle.std.specs.Prelude.{◌≡◌, cond, not, List, [], ◌∷◌, ℕ, ltb, length, Result, Ok, Err}
+use Rattle.std.specs.Prelude.{◌≡◌, cond, not, List, [], ◌∷◌, ℕ, ltb, length, Result, Ok, Err, Option, Some, None}
 use Rattle.answer.specs.declared.Answer.{Answer}
 use Rattle.quantity.specs.Quantity.{millis}
 use Rattle.quantity.specs.Words.{of_word}
@@ -9,7 +9,7 @@ use Rattle.wire.specs.declared.Packet.{Packet}
 use Rattle.wire.specs.Packet.{packet_length}
 use Rattle.host.specs.declared.walk.Walk.{Walk}
 use Rattle.host.specs.declared.walk.Place.{Place}
-use Rattle.host.specs.declared.walk.Place.TheVariants.{Nowhere, Step1, Step2, Step3, Step4, Step5, LineA, LineB, LineC, LineD}
+use Rattle.host.specs.declared.walk.Place.TheVariants.{Step1, Step2, Step3, Step4, Step5, LineA, LineB, LineC, LineD}
 use Rattle.host.specs.State.{link_of}
 use Rattle.host.specs.Walk.{is_open, place_of, packet_of, line_update}
 use Rattle.host.specs.CallState.{Host, CallState, our_reading}
@@ -26,17 +26,17 @@ unfoldable pub use Rattle.clock_laws.specs.ArrivalMoves.{moved, moved_by, line_d
 -- ---- the moves of a box: the first reads, and line (d) sets, for the clock host
 
 -- BACK-2, WALK-6: a box: the first reads, and line (d) sets
-abbrev pub box_moves : Place → Counter → Packet → (packet : List ℕ) → Host → Walk → List Move
-box_moves Nowhere k p packet h w = []
-box_moves Step1 k p packet h w = reads k ∷ []
-box_moves Step2 k p packet h w = []
-box_moves Step3 k p packet h w = []
-box_moves Step4 k p packet h w = []
-box_moves Step5 k p packet h w = []
-box_moves LineA k p packet h w = []
-box_moves LineB k p packet h w = []
-box_moves LineC k p packet h w = []
-box_moves LineD k p packet h w =
+abbrev pub box_moves : Option Place → Counter → Packet → (packet : List ℕ) → Host → Walk → List Move
+box_moves None k p packet h w = []
+box_moves (Some Step1) k p packet h w = reads k ∷ []
+box_moves (Some Step2) k p packet h w = []
+box_moves (Some Step3) k p packet h w = []
+box_moves (Some Step4) k p packet h w = []
+box_moves (Some Step5) k p packet h w = []
+box_moves (Some LineA) k p packet h w = []
+box_moves (Some LineB) k p packet h w = []
+box_moves (Some LineC) k p packet h w = []
+box_moves (Some LineD) k p packet h w =
     cond (is_clock_host h w) (dates p.date ∷ sets w.count (of_word (line_update w p packet).offset) ∷ []) []
 
 -- BACK-2: the walk's next box

@@ -3,6 +3,7 @@
 
 use calls::Request;
 use clock::Counter;
+use host::link_number::LinkNumber;
 use owned_host::HostReply;
 use std::alloc::Global;
 use std::io;
@@ -30,8 +31,9 @@ fn line(rt: &impl Print, alloc: Global, before: HostReply, after: HostReply) -> 
     let id = before.walk.id;
     let mut fields = String::new(alloc);
     show::reading(&mut fields, before.walk, after.walk)?;
-    let link = host::link_state::link_of(before.links, 1);
-    show::link(&mut fields, link, host::link_state::link_of(after.links, 1))?;
+    let one = LinkNumber { number: 1 };
+    let link = host::link_state::link_of(before.links, one);
+    show::link(&mut fields, link, host::link_state::link_of(after.links, one))?;
     show::held(&mut fields, before.walk, after.walk)?;
     show::entry(
         &mut fields,

@@ -1,5 +1,5 @@
 -- What `all` over a slice and `map` over an array come to.
-use Rattle.std.proofs.Common.{◌≡◌, refl, sym, ap, ◌∙◌, ℕ, ◌<◌, Bool, ◌&&◌, List, [], ◌∷◌, length, get_or, map, arith}
+use Rattle.std.proofs.Common.{◌≡◌, refl, sym, ap, ◌∙◌, ℕ, Bool, ◌&&◌, List, [], ◌∷◌, length, map, arith}
 use Rattle.std.specs.List.{list_all}
 use Rattle.std.specs.Fn.{Called}
 use Rattle.std.specs.Array.{IsMapOf}

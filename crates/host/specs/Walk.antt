@@ -1,5 +1,5 @@
 -- WALK-2, WALK-9: a walk, its places, and when it is in range.
-use Rattle.std.specs.Prelude.{Bool, true, false, cond, not, ◌&&◌, ◌||◌, List, ℕ, ltb, leb, eqb, pos, length, take, Result, Ok, Err, Option, Some, None}
+use Rattle.std.specs.Prelude.{Bool, true, false, cond, not, ◌&&◌, ◌||◌, List, ℕ, ltb, leb, eqb, pos, length, take, Option, Some, None, Result, Ok, Err}
 use Rattle.answer.specs.declared.Answer.{Answer}
 use Rattle.quantity.specs.Quantity.{millis, counts, less_millis}
 use Rattle.quantity.specs.Words.{word, of_word}

@@ -1,8 +1,9 @@
 // The inspection of an arrival: answers 3 to 7 by the octets, then 8 and 9 by the settings.
-ghost use Rattle.std.specs.Prelude.{◌≡◌, ◌≤◌, Ok, IfOk};
+ghost use Rattle.std.specs.Prelude.{◌≡◌, Ok, IfOk};
 ghost use Rattle.wire.specs.code.Ranges.{Four};
 ghost use Rattle.host.specs.Inspection.{other_layout, looped, inspected, inspect, tells};
 
+use super::link_number::LinkNumber;
 use super::link_state::broadcast;
 use super::replies::{plainly, returns_packet};
 use super::{Reply, Settings};
@@ -10,24 +11,18 @@ use answer::Answer;
 use wire::Packet;
 
 // Is the packet's table of another layout of ids?
+#[tactic(auto, unfolding(crate::specs::Inspection::other_layout))]
 fn other_layout(s: Settings, p: Packet) -> bool
     ensures { result ≡ other_layout s p }
 {
-    let layout = s.layout;
-    if p.nhosts == 0 {
-        return false;
-    }
-    if p.nhosts as usize != layout.nhosts {
-        return true;
-    }
-    p.address_offset != layout.address_offset
+    p.nhosts != 0
+        && (p.nhosts as usize != s.layout.nhosts || p.address_offset != s.layout.address_offset)
 }
 
 // Has our own packet come back on a point-to-point link?
 #[tactic(auto, unfolding(crate::specs::Inspection::looped))]
-fn looped(s: Settings, link: usize, p: Packet) -> bool
-    requires { (1 ≤ link) × (link ≤ 8) }
-    ensures { result ≡ looped s link p }
+fn looped(s: Settings, link: LinkNumber, p: Packet) -> bool
+    ensures { result ≡ looped s link.number p }
 {
     if broadcast(s, link) {
         return false;
@@ -36,10 +31,9 @@ fn looped(s: Settings, link: usize, p: Packet) -> bool
 }
 
 // A packet that could be read, by the settings.
-fn compared(s: Settings, link: usize, p: Packet) -> Result<Packet, Answer>
-    requires le_link { (1 ≤ link) × (link ≤ 8) }
-    requires four { Four p.time.0 }
-    ensures { (result ≡ inspected s link (Ok p)) × IfOk result (λ p. Four p.time.0) }
+fn compared(s: Settings, link: LinkNumber, p: Packet) -> Result<Packet, Answer>
+    requires { Four p.time.0 }
+    ensures { (result ≡ inspected s link.number (Ok p)) × IfOk result (λ p. Four p.time.0) }
 {
     if other_layout(s, p) {
         return Err(Answer::OtherLayout);
@@ -50,9 +44,8 @@ fn compared(s: Settings, link: usize, p: Packet) -> Result<Packet, Answer>
     Ok(p)
 }
 
-pub fn inspect(s: Settings, link: usize, packet: &[u8]) -> Result<Packet, Answer>
-    requires { (1 ≤ link) × (link ≤ 8) }
-    ensures { (result ≡ inspect s link packet.now) × IfOk result (λ p. Four p.time.0) }
+pub fn inspect(s: Settings, link: LinkNumber, packet: &[u8]) -> Result<Packet, Answer>
+    ensures { (result ≡ inspect s link.number packet.now) × IfOk result (λ p. Four p.time.0) }
 {
     compared(s, link, wire::parse(packet)?)
 }

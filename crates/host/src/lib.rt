@@ -25,6 +25,7 @@ use net_table::NetTable;
 pub mod effects;
 pub mod guard;
 pub mod inspection;
+pub mod link_number;
 pub mod link_state;
 pub mod replies;
 pub mod walk;
@@ -78,6 +79,7 @@ pub struct Links {
 }
 
 // The answer of a call and its values: a send returns the length of its message, a lookup the host id and PID of the route, a read the time and DATE, an inspection the packet's source, time, TSP and NHOSTS, a step the next place of its walk (step, line and host id).
+// It stays flat: REPLY-2 and the theorems over `reply.answer` speak of a refusal as its answer beside zeros.
 #[derive(Clone, Copy)]
 pub struct Reply {
     pub answer: answer::Answer,

@@ -5,6 +5,7 @@ ghost use Rattle.host.specs.Settings.{link_count_of, switch_good, switches_good}
 ghost use Rattle.host.specs.State.{is_broadcast, broadcast, fresh_link, fresh_links, link_of, with_link, link_in_range};
 ghost use Rattle.host.specs.code.Held.{is_link};
 
+use super::link_number::LinkNumber;
 use super::{Link, LinkSetting, Links, Settings};
 use quantity::Word;
 use wire::Address;
@@ -43,27 +44,24 @@ fn is_broadcast(x: LinkSetting) -> bool
 }
 
 // Is the link a broadcast link?
-pub fn broadcast(s: Settings, i: usize) -> bool
-    requires { (1 ≤ i) × (i ≤ 8) }
-    ensures { result ≡ broadcast s i }
+pub fn broadcast(s: Settings, link: LinkNumber) -> bool
+    ensures { result ≡ broadcast s link.number }
 {
-    is_broadcast(s.links[i - 1])
+    is_broadcast(s.links[link.number - 1])
 }
 
 // The state of a link.
-pub fn link_of(l: Links, i: usize) -> Link
-    requires { (1 ≤ i) × (i ≤ 8) }
-    ensures { result ≡ link_of l i }
+pub fn link_of(l: Links, link: LinkNumber) -> Link
+    ensures { result ≡ link_of l link.number }
 {
-    l.all[i - 1]
+    l.all[link.number - 1]
 }
 
 // The links with another state of one.
-pub fn with_link(mut l: Links, i: usize, x: Link) -> Links
-    requires { (1 ≤ i) × (i ≤ 8) }
-    ensures { result ≡ with_link i x l }
+pub fn with_link(mut l: Links, link: LinkNumber, x: Link) -> Links
+    ensures { result ≡ with_link link.number x l }
 {
-    l.all[i - 1] = x;
+    l.all[link.number - 1] = x;
     l
 }
 

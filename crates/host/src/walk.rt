@@ -20,12 +20,14 @@ ghost use Rattle.host.specs.declared.walk.Place.TheVariants.{LineC};
 ghost use Rattle.host.specs.Inspection.{inspect};
 ghost use Rattle.host.specs.code.Walks.{Reported};
 
+use super::link_number::LinkNumber;
 use super::{Settings, inspection, link_state};
 use quantity::{Count, Millis, Word};
 use table::Update;
 use table::entries::plus_report;
 use wire::Packet;
 
+// C programs lay out a walk, so its mark, link and place are numbers, which `in_range` tests.
 #[repr(C)]
 #[derive(Clone, Copy)]
 pub struct Walk {
@@ -109,6 +111,7 @@ fn line_place(m: u8) -> Option<Place>
 }
 
 // The place of a walk; none if its numbers are no place.
+#[tactic(auto, unfolding(crate::specs::Walk::place_of))]
 pub fn place_of(w: Walk) -> Option<Place>
     ensures { result ≡ place_of w }
 {
@@ -192,13 +195,15 @@ fn packet_good(s: Settings, w: Walk, packet: &[u8]) -> bool
     requires { (1 ≤ w.link) × (w.link ≤ 8) }
     ensures { result ≡ packet_fits s w packet.now (inspect s w.link packet.now) }
 {
-    match inspection::inspect(s, w.link as usize, packet) {
+    let number = w.link as usize;
+    match inspection::inspect(s, LinkNumber { number }, packet) {
         Err(_) => false,
         Ok(p) => fields_good(s, w, p, packet),
     }
 }
 
 // Is a walk, if one is open, within its ranges?
+#[tactic(auto, unfolding(crate::specs::Walk::walk_in_range, crate::specs::State::no_link))]
 pub fn in_range(s: Settings, w: Walk, copy: &[u8]) -> bool
     ensures { result ≡ walk_in_range s w copy.now }
 {

@@ -8,13 +8,14 @@ use borrow.Author.Tests.{eqb-true, eqb-false, ne_eqb}
 use lib.Dec.{eqb}
 use lib.ListN.{length, get_or, length-set}
 use lib.Seq.{get_or-set_same, get_or-set_other}
+use Rattle.std.proofs.Common.{Option, Some, None}
 use Rattle.table.specs.declared.Entry.{Entry}
 use Rattle.table.specs.Entry as entry
 use Rattle.host.specs.declared.Link.{Link}
 use Rattle.host.specs.declared.Links.{Links}
 use Rattle.host.specs.declared.walk.Walk.{Walk}
 use Rattle.host.specs.declared.walk.Place.{Place}
-use Rattle.host.specs.declared.walk.Place.TheVariants.{Nowhere, Step1, Step2, Step3, Step4, Step5, LineA, LineB, LineC, LineD}
+use Rattle.host.specs.declared.walk.Place.TheVariants.{Step1, Step2, Step3, Step4, Step5, LineA, LineB, LineC, LineD}
 use Rattle.host.specs.Settings.{link_count_of}
 use Rattle.host.specs.State.{link_of, with_link, fresh_link, unset, no_link}
 use Rattle.host.specs.Walk.{is_open, place_of}
@@ -34,17 +35,17 @@ abbrev pub LinksOk : (r : Network) (k : ℕ) (speaking : Bool) (learning heard :
 LinksOk r k speaking learning heard b e l = (j a n : ℕ) → r.cable b j ≡ at a n → LinkOk r k speaking (learning j) (heard j) j a e (link_of l j)
 
 -- box 2 sets KEEP-ALIVE, and box 4 learns the neighbour
-abbrev pub learns_at : Place → Bool
-learns_at Nowhere = false
-learns_at Step1 = false
-learns_at Step2 = false
-learns_at Step3 = true
-learns_at Step4 = true
-learns_at Step5 = false
-learns_at LineA = false
-learns_at LineB = false
-learns_at LineC = false
-learns_at LineD = false
+abbrev pub learns_at : Option Place → Bool
+learns_at None = false
+learns_at (Some Step1) = false
+learns_at (Some Step2) = false
+learns_at (Some Step3) = true
+learns_at (Some Step4) = true
+learns_at (Some Step5) = false
+learns_at (Some LineA) = false
+learns_at (Some LineB) = false
+learns_at (Some LineC) = false
+learns_at (Some LineD) = false
 
 -- the link of a walk between these boxes
 abbrev pub learns : Walk → ℕ → Bool

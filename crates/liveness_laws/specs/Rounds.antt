@@ -1,5 +1,5 @@
 -- LIVE-2: a round in which every host reports itself, all hosts send, and then each host hears every cable; an arrival may be a walk.
-use Rattle.std.specs.Prelude.{◌≡◌, true, false, List, [], ◌∷◌, ◌⊎◌, ℕ, suc, ◌+◌, ◌≤◌, ◌<◌}
+use Rattle.std.specs.Prelude.{◌≡◌, true, false, List, [], ◌∷◌, ◌⊎◌, ℕ, suc, ◌+◌, ◌≤◌, ◌<◌, Some}
 use Rattle.answer.specs.declared.Answer.TheVariants.{Done}
 use Rattle.host.specs.declared.walk.Place.TheVariants.{Step1}
 use Rattle.host.specs.Walk.{is_open, place_of}
@@ -12,7 +12,7 @@ use Rattle.liveness_laws.specs.Seconds.{emptied, seconds_at}
 
 -- LIVE-2, LIVE-3: a step of host b is not box 1 of a walk: it takes no message
 abbrev pub NotBox1 : Network → World → (b : ℕ) → Type 0
-NotBox1 r w b = is_open (after_at r w b).walk ≡ true → place_of (after_at r w b).walk ≡ Step1 → ⊥
+NotBox1 r w b = is_open (after_at r w b).walk ≡ true → place_of (after_at r w b).walk ≡ Some Step1 → ⊥
 
 -- LIVE-2, LIVE-3: no host has an open walk
 abbrev pub NoWalks : Network → World → Type 0

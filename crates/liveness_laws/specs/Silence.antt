@@ -1,5 +1,5 @@
 -- LIVE-4: silence. If nothing of host c is heard, its ids fade from every other table. Their DELAY there rises by 100 ms in every 120 seconds, until they are down.
-use Rattle.std.specs.Prelude.{◌≡◌, true, false, List, [], ◌∷◌, ℕ, suc, ◌*◌, ◌≤◌, ◌<◌, pos, ◌≤ℤ◌}
+use Rattle.std.specs.Prelude.{◌≡◌, true, false, List, [], ◌∷◌, ℕ, suc, ◌*◌, ◌≤◌, ◌<◌, pos, ◌≤ℤ◌, Some}
 use Rattle.table.specs.Entry.{up}
 use Rattle.host.specs.declared.walk.Place.TheVariants.{Step1}
 use Rattle.host.specs.Walk.{is_open, place_of}
@@ -24,7 +24,7 @@ Unheard r w c b (arrives i k packet t) = NotFrom r c b i
 Unheard r w c b (acts i k packet t) = NotFrom r c b i
 Unheard r w c b (inspects i packet) = Unit {0}
 Unheard r w c b (opens i packet) = Unit {0}
-Unheard r w c b (steps k t) = is_open (after_at r w b).walk ≡ true → place_of (after_at r w b).walk ≡ Step1 → NotFrom r c b (after_at r w b).walk.link
+Unheard r w c b (steps k t) = is_open (after_at r w b).walk ≡ true → place_of (after_at r w b).walk ≡ Some Step1 → NotFrom r c b (after_at r w b).walk.link
 Unheard r w c b (adjusts n) = Unit {0}
 Unheard r w c b (sets ms n) = Unit {0}
 Unheard r w c b (clocks κ) = Unit {0}

@@ -10,7 +10,6 @@ use borrow.Author.Tests.{ltb-true, ltb-false, eqb-true}
 use lib.Dec.{ltb, eqb}
 use lib.ListN.{length, get_or, set}
 use lib.Seq.{get_or-set_other}
-use Rattle.std.proofs.Common.{Option, Some, None}
 use Rattle.lists.proofs.Tests.{either, is_so}
 use Rattle.quantity.specs.Quantity.{add_millis, less_millis}
 use Rattle.quantity.specs.Words.{zero_word}

@@ -309,10 +309,10 @@ module _ (x : CallState) (t : LineTime x.host.clock) where
 -- ---- a walk holds no count
 
 module _ (x : CallState) (held : x.walk.count ≡ no_count) where
-  abbrev None : Walk → Type 0
-  None v = v.count ≡ no_count
+  abbrev HoldsNone : Walk → Type 0
+  HoldsNone v = v.count ≡ no_count
 
-  counts : (q : Request) (e : Entry) → NoCount (ask q) x.walk → done (guard_of (ask q) x) ≡ true → None (effect q x.nets x.host x.walk x.copy e).walk
+  counts : (q : Request) (e : Entry) → NoCount (ask q) x.walk → done (guard_of (ask q) x) ≡ true → HoldsNone (effect q x.nets x.host x.walk x.copy e).walk
   unfolding initialize tick adjust set_by read second self_report lookup
   counts Initialize e is ok = refl
   counts (Tick n) e is ok = held
@@ -323,7 +323,7 @@ module _ (x : CallState) (held : x.walk.count ≡ no_count) where
   counts (SelfReport k) e is ok = held
   counts (Lookup a) e is ok = held
   counts (Step k) e is ok =
-      step_ways k x.nets x.host x.walk x.copy e (λ (y : Effect). None y.walk)
+      step_ways k x.nets x.host x.walk x.copy e (λ (y : Effect). HoldsNone y.walk)
       record {
         none = held;
         reads = λ v c. c ∙ ap count_used is.0;
@@ -333,12 +333,12 @@ module _ (x : CallState) (held : x.walk.count ≡ no_count) where
       }
       (walk_state x ((passed Walking x ok).call_state refl))
 
-  holds_none : (c : Call) → NoCount c x.walk → done (guard_of c x) ≡ true → None (work c x).walk
+  holds_none : (c : Call) → NoCount c x.walk → done (guard_of c x) ≡ true → HoldsNone (work c x).walk
   holds_none (ask q) is ok = counts q (entry_at (wanted q x.nets x.host.settings x.walk) x) is ok
   holds_none (send i k buffer) is ok = held
   holds_none (deliver d octets) is ok = held
   holds_none (open_walk i packet) is ok =
-      opening_ways i packet x.host.settings x.walk (λ (o : Opening). None (opened_by o packet x).walk) (λ a few. held) (λ p is fits. refl)
+      opening_ways i packet x.host.settings x.walk (λ (o : Opening). HoldsNone (opened_by o packet x).walk) (λ a few. held) (λ p is fits. refl)
 
 pub line_calls_hold : LineCalls
 line_calls_hold =

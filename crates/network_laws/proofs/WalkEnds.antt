@@ -10,7 +10,6 @@ use borrow.Author.Tests.{le-leb, lt-ltb, le-ltb, ltb-true, eq-eqb}
 use lib.Dec.{ltb, eqb}
 use lib.ListN.{length, get_or, take, drop, length-append}
 use lib.Seq.{take_at, drop_at, length-take-le}
-use Rattle.std.proofs.Common.{Option, Some, None}
 use Rattle.lists.specs.Lists.{over}
 use Rattle.lists.proofs.Tests.{either, both}
 use Rattle.lists.proofs.Parts.{over_nothing}

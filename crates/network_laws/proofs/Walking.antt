@@ -5,7 +5,6 @@ use mathlib.Core.Bool.{Bool, true, false, false≢true, cond, not, ◌&&◌, ◌
 use mathlib.Core.List.{List}
 use Prim.Native.Nat.{ℕ, ◌+◌, ◌≤◌}
 use lib.Dec.{ltb, eqb}
-use Rattle.std.proofs.Common.{Option, Some, None}
 use Rattle.lists.proofs.Tests.{either, both, is_so}
 use Rattle.quantity.specs.declared.Word.{Word}
 use Rattle.quantity.specs.Quantity.{add_millis, less_millis}

@@ -1,5 +1,5 @@
 -- WALK-3: what each box of a walk changes, and that it changes nothing else.
-use Rattle.std.specs.Prelude.{◌≡◌, true, ℕ, ◌+◌, ◌≤◌, eqb, get_or, Some, Option, None}
+use Rattle.std.specs.Prelude.{◌≡◌, true, ℕ, ◌+◌, ◌≤◌, eqb, get_or, Option, Some, None}
 use Rattle.clock.specs.declared.Counter.{Counter}
 use Rattle.table.specs.declared.Entry.{Entry}
 use Rattle.host.specs.declared.Link.{Link}

@@ -1,5 +1,5 @@
 -- CRYSTAL-9: the boxes of a walk with a line clock.
-use Rattle.std.specs.Prelude.{cond, not, List, ℕ, Result, Ok, Err, Option, Some, None}
+use Rattle.std.specs.Prelude.{cond, not, List, ℕ, Option, Some, None, Result, Ok, Err}
 use Rattle.answer.specs.declared.Answer.{Answer}
 use Rattle.quantity.specs.Words.{of_word}
 use Rattle.answer.specs.declared.Answer.TheVariants.{OutOfRange, NoWalk}

@@ -87,16 +87,7 @@ pub fn open_walk(
         × (copy.new ≡ (perform (open_walk link packet.now) (call_state settings net_table number clock links walk copy.old entries)).copy) }
 {
     let reply = calls::open_walk(
-        &settings,
-        &net_table,
-        number,
-        &clock,
-        &links,
-        &mut walk,
-        copy,
-        &entries,
-        link,
-        packet,
+        &settings, &net_table, number, &clock, &links, &mut walk, copy, &entries, link, packet,
     );
     HostReply {
         reply,

@@ -1,7 +1,7 @@
 // A send by value: its result, and how the message is completed.
 #![tactic(auto)]
 
-ghost use Rattle.std.specs.Prelude.{◌≡◌, true, ◌≤◌};
+ghost use Rattle.std.specs.Prelude.{◌≡◌, true};
 ghost use Rattle.clock.specs.Midnight.{day_millis};
 ghost use Rattle.table.specs.Entry.{up_to};
 ghost use Rattle.clock.specs.Clock.{clock_in_range};
@@ -15,6 +15,7 @@ ghost use Rattle.sending.specs.code.Finish.{Finishable, finished};
 use answer::Answer;
 use calendar::Date;
 use clock::{Clock, Counter};
+use host::link_number::LinkNumber;
 use host::link_state::{link_of, with_link};
 use host::replies::{plainly, returns_length};
 use host::{Link, Links, Reply, Settings, host_count};
@@ -109,11 +110,18 @@ fn packet_sent(s: Settings, x: Link, time: Millis, date: Date, count: u8) -> Pac
 }
 
 // A send of n reports on a link in this state.
-fn sends(s: Settings, c: Clock, l: Links, link: usize, k: Counter, x: Link, count: u8) -> Sending
-    requires le_link { (1 ≤ link) × (link ≤ 8) }
+fn sends(
+    s: Settings,
+    c: Clock,
+    l: Links,
+    link: LinkNumber,
+    k: Counter,
+    x: Link,
+    count: u8,
+) -> Sending
     requires s_value { (settings_good s ≡ true) × (clock_in_range c ≡ true) }
-    requires x_value { (x ≡ link_of l link) × (count ≡ report_count s x) }
-    ensures { result ≡ sends link k (host s c l) }
+    requires x_value { (x ≡ link_of l link.number) × (count ≡ report_count s x) }
+    ensures { result ≡ sends link.number k (host s c l) }
 {
     let r = host::our_reading(s, c, k);
     Sending {
@@ -123,7 +131,7 @@ fn sends(s: Settings, c: Clock, l: Links, link: usize, k: Counter, x: Link, coun
         work: Reports {
             first: 0,
             end: count as usize,
-            pid: link as u8,
+            pid: link.number as u8,
         },
         message: Some(Message {
             destination: x.neighbor,
@@ -133,9 +141,16 @@ fn sends(s: Settings, c: Clock, l: Links, link: usize, k: Counter, x: Link, coun
 }
 
 // A send into a buffer of n octets.
-pub fn send_in(s: Settings, c: Clock, l: Links, link: usize, k: Counter, room: usize) -> Sending
-    requires { (1 ≤ link) × (link ≤ 8) × (settings_good s ≡ true) × (clock_in_range c ≡ true) }
-    ensures { result ≡ send_in link k room (host s c l) }
+pub fn send_in(
+    s: Settings,
+    c: Clock,
+    l: Links,
+    link: LinkNumber,
+    k: Counter,
+    room: usize,
+) -> Sending
+    requires { (settings_good s ≡ true) × (clock_in_range c ≡ true) }
+    ensures { result ≡ send_in link.number k room (host s c l) }
 {
     let x = link_of(l, link);
     let count = report_count(s, x);

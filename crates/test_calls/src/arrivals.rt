@@ -2,6 +2,7 @@
 use super::show;
 use calendar::Date;
 use clock::{Clock, Counter};
+use host::link_number::LinkNumber;
 use host::{Link, Settings};
 use owned_host::HostReply;
 use quantity::{Millis, Seconds, Word};
@@ -80,7 +81,11 @@ fn arrival(host: Address, neighbor: Address, c: Clock, e: Entry, octets: &[u8]) 
         keep_alive: 0,
         tsp: Word(0),
     };
-    let links = host::link_state::with_link(host::link_state::fresh(s), 1, link);
+    let links = host::link_state::with_link(
+        host::link_state::fresh(s),
+        LinkNumber { number: 1 },
+        link,
+    );
     owned_host::take(
         s,
         owned_host::net_table(),
@@ -107,7 +112,7 @@ fn entry_of(entries: [Entry; 255], id: u8) -> Entry {
 // A line's end: the answer, link 1, and the entry of an id.
 fn returned(rt: &impl Print, w: HostReply, id: u8) -> io::Result<()> {
     show::answer(rt, w.reply.answer)?;
-    show::link(rt, host::link_state::link_of(w.links, 1))?;
+    show::link(rt, host::link_state::link_of(w.links, LinkNumber { number: 1 }))?;
     print!(rt; "; id {id}")?;
     show::entry(rt, entry_of(w.entries, id))?;
     println!(rt)

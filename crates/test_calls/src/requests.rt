@@ -5,6 +5,7 @@ use calendar::Date;
 use calls::Request;
 use clock::{Clock, Counter};
 use host::Link;
+use host::link_number::LinkNumber;
 use owned_host::HostReply;
 use quantity::{Millis, Seconds, Word};
 use std::io;
@@ -99,13 +100,14 @@ struct Sent {
 
 fn sent_at(x: Link, c: Clock) -> Sent {
     let s = owned_host::settings();
-    let links = host::link_state::with_link(host::link_state::fresh(s), 1, x);
+    let one = LinkNumber { number: 1 };
+    let links = host::link_state::with_link(host::link_state::fresh(s), one, x);
     if host::good(s) && c.in_range() {
-        let p = sending::send_in(s, c, links, 1, Counter::zero(), 32);
+        let p = sending::send_in(s, c, links, one, Counter::zero(), 32);
         if let Some(m) = p.message {
             return Sent {
                 tsp: m.packet.tsp,
-                keep_alive: host::link_state::link_of(p.links, 1).keep_alive,
+                keep_alive: host::link_state::link_of(p.links, one).keep_alive,
             };
         }
     }

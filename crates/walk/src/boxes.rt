@@ -21,6 +21,7 @@ use arrival::Flight;
 use arrival::steps::{delay_of, offset_of, step4, tsp_of};
 use clock::{Clock, Counter};
 use host::effects::{answers, nothing};
+use host::link_number::LinkNumber;
 use host::link_state::{KEEP_ALIVE_INTERVAL, broadcast, link_of};
 use host::replies::plainly;
 use host::walk::{Place, Walk};
@@ -31,6 +32,7 @@ use std::ops::ControlFlow;
 use table::Entry;
 use wire::Packet;
 
+#[tactic(auto, unfolding(crate::specs::Boxes::box1))]
 fn box1(s: Settings, c: Clock, l: Links, w: Walk, k: Counter) -> Effect
     requires { (settings_good s ≡ true) × (clock_in_range c ≡ true) }
     ensures { result ≡ box1 k (host s c l) w }
@@ -44,6 +46,7 @@ fn box1(s: Settings, c: Clock, l: Links, w: Walk, k: Counter) -> Effect
     )
 }
 
+#[tactic(auto, unfolding(crate::specs::Boxes::box2, arrival::specs::Steps::step2))]
 fn box2(s: Settings, c: Clock, l: Links, w: Walk) -> Effect
     requires { (1 ≤ w.link) × (w.link ≤ 8) }
     ensures { result ≡ box2 (host s c l) w }
@@ -54,6 +57,7 @@ fn box2(s: Settings, c: Clock, l: Links, w: Walk) -> Effect
 }
 
 // TSP, DELAY and OFFSET.
+#[tactic(auto, unfolding(arrival::specs::Steps::step3))]
 fn measured(broadcast: bool, p: Packet, f: Flight) -> Flight
     requires four { Four p.time.0 }
     requires reading_value { up_to day_millis f.reading ≡ true }
@@ -69,13 +73,15 @@ fn measured(broadcast: bool, p: Packet, f: Flight) -> Flight
     }
 }
 
+#[tactic(auto, unfolding(crate::specs::Boxes::box3))]
 fn box3(s: Settings, c: Clock, l: Links, w: Walk, p: Packet) -> Effect
     requires le_link { (1 ≤ w.link) × (w.link ≤ 8) }
     requires four { Four p.time.0 }
     requires w_value { reading_in_range w ≡ true }
     ensures { result ≡ box3 p (host s c l) w }
 {
-    let f = measured(broadcast(s, w.link as usize), p, in_flight(l, w));
+    let number = w.link as usize;
+    let f = measured(broadcast(s, LinkNumber { number }), p, in_flight(l, w));
     onward(at(4, 0, 0, holding(f, w)), c, storing(f, w, l), nothing())
 }
 
@@ -83,7 +89,13 @@ fn box4(s: Settings, c: Clock, l: Links, w: Walk, p: Packet) -> Effect
     requires { (1 ≤ w.link) × (w.link ≤ 8) }
     ensures { result ≡ box4 p (host s c l) w }
 {
-    match step4(broadcast(s, w.link as usize), c.hold, p, in_flight(l, w)) {
+    let number = w.link as usize;
+    match step4(
+        broadcast(s, LinkNumber { number }),
+        c.hold,
+        p,
+        in_flight(l, w),
+    ) {
         ControlFlow::Break(f) => ended(Answer::DelayNotValid, c, storing(f, w, l), nothing()),
         ControlFlow::Continue(f) => onward(
             at(5, 0, 0, holding(f, w)),
@@ -113,19 +125,21 @@ fn to_neighbor(s: Settings, c: Clock, l: Links, w: Walk, found: Option<usize>) -
     }
 }
 
+#[tactic(auto, unfolding(crate::specs::Boxes::box5))]
 fn box5(s: Settings, t: NetTable, c: Clock, l: Links, w: Walk, p: Packet) -> Effect
     requires le_link { (1 ≤ w.link) × (w.link ≤ 8) }
     requires s_value { (settings_good s ≡ true) × RowsBelow t s }
     ensures { result ≡ box5 p t (host s c l) w }
 {
+    let number = w.link as usize;
     if p.nhosts == 0 {
-        let found = host::found_for(t, s, link_of(l, w.link as usize).neighbor);
+        let found = host::found_for(t, s, link_of(l, LinkNumber { number }).neighbor);
         return to_neighbor(s, c, l, raised(w), found);
     }
     onward(at(5, 1, 0, raised(w)), c, l, nothing())
 }
 
-// The box of a place.
+// The box of a place: a match, since each box takes other parts of the walk.
 fn box_at(
     s: Settings,
     t: NetTable,

@@ -6,6 +6,7 @@ ghost use Rattle.walk.specs.Boxes.{in_flight, storing, holding_reading, holding,
 use answer::Answer;
 use arrival::Flight;
 use clock::Clock;
+use host::link_number::LinkNumber;
 use host::link_state::{link_of, with_link};
 use host::replies::{plainly, returns_place};
 use host::walk::Walk;
@@ -13,14 +14,17 @@ use host::{Effect, Links};
 use quantity::{Count, Millis, Word};
 use table::entries::Changes;
 
+// C programs lay out a walk, so the functions of a walk ask for the range of its link.
+
 // The arrival in flight.
 pub fn in_flight(l: Links, w: Walk) -> Flight
     requires { (1 ≤ w.link) × (w.link ≤ 8) }
     ensures { result ≡ in_flight l w }
 {
+    let number = w.link as usize;
     Flight {
         reading: w.reading,
-        link: link_of(l, w.link as usize),
+        link: link_of(l, LinkNumber { number }),
         delay: Millis::from(w.delay),
         offset: w.offset,
     }
@@ -31,7 +35,8 @@ pub fn storing(f: Flight, w: Walk, l: Links) -> Links
     requires { (1 ≤ w.link) × (w.link ≤ 8) }
     ensures { result ≡ storing f w l }
 {
-    with_link(l, w.link as usize, f.link)
+    let number = w.link as usize;
+    with_link(l, LinkNumber { number }, f.link)
 }
 
 // The count that was used, and our reading.

@@ -11,6 +11,7 @@ ghost use Rattle.walk.specs.code.Plan.{Steady};
 use answer::Answer;
 use clock::{Clock, Counter};
 use host::effects::answers;
+use host::link_number::LinkNumber;
 use host::replies::{plainly, returns_place};
 use host::walk::Walk;
 use host::{Effect, Links, Reply, Settings, inspection};
@@ -22,7 +23,7 @@ pub mod boxes;
 mod held;
 mod lines;
 
-// The result of opening a walk: the reply, the walk, and how many octets of the packet are copied.
+// The result of opening a walk: the reply, the walk, and how many octets of the packet are copied. WALK-1 speaks of all three at a refusal too: the walk as it was, and no octets.
 #[derive(Clone, Copy)]
 pub struct Opening {
     pub reply: Reply,
@@ -31,13 +32,13 @@ pub struct Opening {
 }
 
 // A walk at its first box.
-fn opened_on(link: usize, octets: usize) -> Walk
-    requires { (link ≤ 8) × (octets ≤ 1052) }
-    ensures { result ≡ opened_on link octets }
+fn opened_on(link: LinkNumber, octets: usize) -> Walk
+    requires { octets ≤ 1052 }
+    ensures { result ≡ opened_on link.number octets }
 {
     Walk {
         opened: 1,
-        link: link as u8,
+        link: link.number as u8,
         step: 1,
         length: octets as u16,
         ..host::walk::none()
@@ -45,9 +46,9 @@ fn opened_on(link: usize, octets: usize) -> Walk
 }
 
 // The tests of 3 to 9, and the walk at its first box.
-pub fn opened_by(s: Settings, w: Walk, link: usize, packet: &[u8]) -> Opening
-    requires { (1 ≤ link) × (link ≤ 8) }
-    ensures { (result ≡ opening link packet.now s w) × (result.octets ≤ longest) }
+#[tactic(auto, unfolding(crate::specs::Opening::opening))]
+pub fn opened_by(s: Settings, w: Walk, link: LinkNumber, packet: &[u8]) -> Opening
+    ensures { (result ≡ opening link.number packet.now s w) × (result.octets ≤ longest) }
 {
     match inspection::inspect(s, link, packet) {
         Err(a) => Opening {
@@ -67,6 +68,7 @@ pub fn opened_by(s: Settings, w: Walk, link: usize, packet: &[u8]) -> Opening
 }
 
 // Copies the packet's first n octets.
+#[tactic(auto, unfolding(crate::specs::Opening::copied))]
 pub fn keep(copy: &mut [u8], packet: &[u8], octets: usize)
     requires { (octets ≤ length packet.now) × (octets ≤ length copy.old) }
     ensures { copy.new ≡ copied octets packet.now copy.old }
@@ -85,6 +87,7 @@ pub fn at_hand(w: Walk) -> Option<usize>
 }
 
 // The box of a walk's place; 17 where no walk is open.
+#[tactic(auto, unfolding(crate::specs::Boxes::step))]
 pub fn step(
     s: Settings,
     t: NetTable,

@@ -83,6 +83,7 @@ pub fn box_c(s: Settings, c: Clock, l: Links, w: Walk, p: Packet, packet: &[u8],
     }
 }
 
+#[tactic(auto, unfolding(crate::specs::LineBoxes::box_d))]
 pub fn box_d(s: Settings, c: Clock, l: Links, w: Walk, p: Packet, packet: &[u8]) -> Effect
     requires reported { Reported s p packet.now }
     requires w_value { id_in_range s w ≡ true }

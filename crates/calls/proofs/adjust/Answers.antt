@@ -8,14 +8,14 @@ use Rattle.calls.proofs.adjust.Goals as goal
 
 pub returns-then-refuses : goal.returns-then-refuses
 returns-then-refuses c =
-    refuses (ask (Adjust c.args.count)) refl c.guard-g.ensures c.refuses.ensures c.if-refuses.true c.plainly.ensures
+    refuses (ask (Adjust c.args.count)) _ refl c.guard-g.ensures c.refuses.ensures c.if-refuses.true c.plainly.ensures
 
 pub adjust-p-requires : goal.adjust-p-requires
 adjust-p-requires c =
-    let on = passes (ask (Adjust c.args.count)) refl c.guard-g.ensures c.refuses.ensures c.if-refuses.false in
+    let on = passes (ask (Adjust c.args.count)) _ refl c.guard-g.ensures c.refuses.ensures c.if-refuses.false in
     clock_good _ on
 
 pub returns : goal.returns
 returns c =
-    let on = passes (ask (Adjust c.args.count)) refl c.guard-g.ensures c.refuses.ensures c.if-refuses.false in
+    let on = passes (ask (Adjust c.args.count)) _ refl c.guard-g.ensures c.refuses.ensures c.if-refuses.false in
     after_timed _ (Adjust c.args.count) on (adjust_quiet c.args.count) _ c.adjust-p.ensures

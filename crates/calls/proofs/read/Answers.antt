@@ -8,14 +8,14 @@ use Rattle.calls.proofs.read.Goals as goal
 
 pub returns-then-refuses : goal.returns-then-refuses
 returns-then-refuses c =
-    refuses (ask (Read c.args.counter)) refl c.guard-g.ensures c.refuses.ensures c.if-refuses.true c.plainly.ensures
+    refuses (ask (Read c.args.counter)) _ refl c.guard-g.ensures c.refuses.ensures c.if-refuses.true c.plainly.ensures
 
 pub read-p-requires : goal.read-p-requires
 read-p-requires c =
-    let on = passes (ask (Read c.args.counter)) refl c.guard-g.ensures c.refuses.ensures c.if-refuses.false in
+    let on = passes (ask (Read c.args.counter)) _ refl c.guard-g.ensures c.refuses.ensures c.if-refuses.false in
     clock_good _ on
 
 pub returns : goal.returns
 returns c =
-    let on = passes (ask (Read c.args.counter)) refl c.guard-g.ensures c.refuses.ensures c.if-refuses.false in
+    let on = passes (ask (Read c.args.counter)) _ refl c.guard-g.ensures c.refuses.ensures c.if-refuses.false in
     after_timed _ (Read c.args.counter) on (read_quiet c.args.counter) _ c.read-p.ensures

@@ -8,19 +8,19 @@ use Rattle.calls.proofs.second.Goals as goal
 
 pub returns-then-refuses : goal.returns-then-refuses
 returns-then-refuses c =
-    refuses (ask Second) refl c.guard-g.ensures c.refuses.ensures c.if-refuses.true c.plainly.ensures
+    refuses (ask Second) _ refl c.guard-g.ensures c.refuses.ensures c.if-refuses.true c.plainly.ensures
 
 pub placed-w-requires : goal.placed-w-requires
 placed-w-requires c =
-    let on = passes (ask Second) refl c.guard-g.ensures c.refuses.ensures c.if-refuses.false in
+    let on = passes (ask Second) _ refl c.guard-g.ensures c.refuses.ensures c.if-refuses.false in
     (after_aged _ Second on second_still _ c.second-p.ensures).ids
 
 pub change_all-requires : goal.change_all-requires
 change_all-requires c =
-    let on = passes (ask Second) refl c.guard-g.ensures c.refuses.ensures c.if-refuses.false in
+    let on = passes (ask Second) _ refl c.guard-g.ensures c.refuses.ensures c.if-refuses.false in
     rw (c.placed-w.ensures) (after_aged _ Second on second_still _ c.second-p.ensures).places
 
 pub returns : goal.returns
 returns c =
-    let on = passes (ask Second) refl c.guard-g.ensures c.refuses.ensures c.if-refuses.false in
+    let on = passes (ask Second) _ refl c.guard-g.ensures c.refuses.ensures c.if-refuses.false in
     rw (c.change_all.ensures, c.placed-w.ensures) (after_aged _ Second on second_still _ c.second-p.ensures).left

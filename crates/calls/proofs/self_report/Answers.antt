@@ -8,24 +8,24 @@ use Rattle.calls.proofs.self_report.Goals as goal
 
 pub returns-then-refuses : goal.returns-then-refuses
 returns-then-refuses c =
-    refuses (ask (SelfReport c.args.counter)) refl c.guard-g.ensures c.refuses.ensures c.if-refuses.true c.plainly.ensures
+    refuses (ask (SelfReport c.args.counter)) _ refl c.guard-g.ensures c.refuses.ensures c.if-refuses.true c.plainly.ensures
 
 pub self_report-p-requires : goal.self_report-p-requires
 self_report-p-requires c =
-    let on = passes (ask (SelfReport c.args.counter)) refl c.guard-g.ensures c.refuses.ensures c.if-refuses.false in
+    let on = passes (ask (SelfReport c.args.counter)) _ refl c.guard-g.ensures c.refuses.ensures c.if-refuses.false in
     clock_good _ on
 
 pub placed-w-requires : goal.placed-w-requires
 placed-w-requires c =
-    let on = passes (ask (SelfReport c.args.counter)) refl c.guard-g.ensures c.refuses.ensures c.if-refuses.false in
+    let on = passes (ask (SelfReport c.args.counter)) _ refl c.guard-g.ensures c.refuses.ensures c.if-refuses.false in
     (after_aged _ (SelfReport c.args.counter) on (self_report_still c.args.counter) _ c.self_report-p.ensures).ids
 
 pub change_all-requires : goal.change_all-requires
 change_all-requires c =
-    let on = passes (ask (SelfReport c.args.counter)) refl c.guard-g.ensures c.refuses.ensures c.if-refuses.false in
+    let on = passes (ask (SelfReport c.args.counter)) _ refl c.guard-g.ensures c.refuses.ensures c.if-refuses.false in
     rw (c.placed-w.ensures) (after_aged _ (SelfReport c.args.counter) on (self_report_still c.args.counter) _ c.self_report-p.ensures).places
 
 pub returns : goal.returns
 returns c =
-    let on = passes (ask (SelfReport c.args.counter)) refl c.guard-g.ensures c.refuses.ensures c.if-refuses.false in
+    let on = passes (ask (SelfReport c.args.counter)) _ refl c.guard-g.ensures c.refuses.ensures c.if-refuses.false in
     rw (c.change_all.ensures, c.placed-w.ensures) (after_aged _ (SelfReport c.args.counter) on (self_report_still c.args.counter) _ c.self_report-p.ensures).left

@@ -14,16 +14,16 @@ use Rattle.calls.proofs.set.Goals as goal
 
 pub returns-then-refuses : goal.returns-then-refuses
 returns-then-refuses c =
-    refuses (ask (Set c.args.ms c.args.count)) refl c.guard-g.ensures c.refuses.ensures c.if-refuses.true c.plainly.ensures
+    refuses (ask (Set c.args.ms c.args.count)) _ refl c.guard-g.ensures c.refuses.ensures c.if-refuses.true c.plainly.ensures
 
 pub set-p-requires : goal.set-p-requires
 set-p-requires c =
-    let on = passes (ask (Set c.args.ms c.args.count)) refl c.guard-g.ensures c.refuses.ensures c.if-refuses.false in
+    let on = passes (ask (Set c.args.ms c.args.count)) _ refl c.guard-g.ensures c.refuses.ensures c.if-refuses.false in
     clock_good _ on
 
 pub returns : goal.returns
 returns c =
-    let on = passes (ask (Set c.args.ms c.args.count)) refl c.guard-g.ensures c.refuses.ensures c.if-refuses.false in
+    let on = passes (ask (Set c.args.ms c.args.count)) _ refl c.guard-g.ensures c.refuses.ensures c.if-refuses.false in
     let f : SFits w32 c.args.ms = search rules in
     let is = subst (λ (z : ℤ). Timely c.set-p.result (Set z c.args.count) c.args.settings.now c.args.clock.now) (to_z-of_z w32 c.args.ms f) c.set-p.ensures in
     after_timed _ (Set c.args.ms c.args.count) on (set_quiet c.args.ms c.args.count) _ is

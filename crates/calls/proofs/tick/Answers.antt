@@ -8,14 +8,14 @@ use Rattle.calls.proofs.tick.Goals as goal
 
 pub returns-then-refuses : goal.returns-then-refuses
 returns-then-refuses c =
-    refuses (ask (Tick c.args.count)) refl c.guard-g.ensures c.refuses.ensures c.if-refuses.true c.plainly.ensures
+    refuses (ask (Tick c.args.count)) _ refl c.guard-g.ensures c.refuses.ensures c.if-refuses.true c.plainly.ensures
 
 pub tick-p-requires : goal.tick-p-requires
 tick-p-requires c =
-    let on = passes (ask (Tick c.args.count)) refl c.guard-g.ensures c.refuses.ensures c.if-refuses.false in
+    let on = passes (ask (Tick c.args.count)) _ refl c.guard-g.ensures c.refuses.ensures c.if-refuses.false in
     clock_good _ on
 
 pub returns : goal.returns
 returns c =
-    let on = passes (ask (Tick c.args.count)) refl c.guard-g.ensures c.refuses.ensures c.if-refuses.false in
+    let on = passes (ask (Tick c.args.count)) _ refl c.guard-g.ensures c.refuses.ensures c.if-refuses.false in
     after_timed _ (Tick c.args.count) on (tick_quiet c.args.count) _ c.tick-p.ensures

@@ -7,6 +7,7 @@ use Prim.Native.Nat.{ℕ, suc, ◌+◌, ◌≤◌, ◌<◌}
 use borrow.Author.Tests.{eqb-true}
 use lib.Dec.{eqb}
 use native.Mathlib.Omega.{arith}
+use Rattle.std.proofs.Common.{Some}
 use Rattle.lists.proofs.Tests.{either, is_so}
 use lib.IntN.{ℤ}
 use Rattle.quantity.specs.declared.Count.{Count}
@@ -105,7 +106,7 @@ module _ (r : Network) (proper : Proper r) (c i k m b : ℕ) (speaking : Bool) (
       (λ a few. record { after = closed shut (λ opened. absurd (true≢false (sym opened ∙ shut))) (λ opened. absurd (true≢false (sym opened ∙ shut))) })
       (λ q is fits. record { after = closed shut (λ _. refl) (λ _. tt) }))
     where
-      closed : is_open walk ≡ false → {v : Walk} {copied : List ℕ} → (is_open v ≡ true → place_of v ≡ Step1) → WalkOk r c i k m b s heard Sent e v copied l
+      closed : is_open walk ≡ false → {v : Walk} {copied : List ℕ} → (is_open v ≡ true → place_of v ≡ Some Step1) → WalkOk r c i k m b s heard Sent e v copied l
           → After r c i k m b speaking Sent Rest s heard entries v copied l entries
       closed shut {v} {copied} first now =
           let o = was.good in

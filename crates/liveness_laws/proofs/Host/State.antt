@@ -6,6 +6,7 @@ use Prim.Native.Nat.{ℕ, suc, ◌+◌, ◌≤◌, ◌<◌}
 use lib.Dec.{eqb}
 use lib.IntN.{pos}
 use lib.ListN.{length}
+use Rattle.std.proofs.Common.{Option, Some, None}
 use Rattle.quantity.specs.declared.Millis.{Millis}
 use Rattle.quantity.specs.Quantity.{millis}
 use Rattle.quantity.specs.Words.{of_word}
@@ -20,7 +21,7 @@ use Rattle.host.specs.declared.Link.{Link}
 use Rattle.host.specs.declared.Links.{Links}
 use Rattle.host.specs.declared.walk.Walk.{Walk}
 use Rattle.host.specs.declared.walk.Place.{Place}
-use Rattle.host.specs.declared.walk.Place.TheVariants.{Nowhere, Step1, Step2, Step3, Step4, Step5, LineA, LineB, LineC, LineD}
+use Rattle.host.specs.declared.walk.Place.TheVariants.{Step1, Step2, Step3, Step4, Step5, LineA, LineB, LineC, LineD}
 use Rattle.host.specs.Settings.{link_count_of}
 use Rattle.host.specs.State.{own_entries, link_of}
 use Rattle.host.specs.Walk.{is_open, place_of, packet_of, line_update}
@@ -55,17 +56,17 @@ module _ (r : Network) (c i k m b s : ℕ) (heard : ℕ → Bool) (Sent : Entry 
   update_of w octets = line_update w (fields octets) octets
 
   -- by the place of the next box; at lines (b) and (c) the lines before went on
-  abbrev pub WalkAt : Entry → Walk → (octets : List ℕ) → Links → Place → Type 0
-  WalkAt e w octets l Nowhere = Unit {0}
-  WalkAt e w octets l Step1 = Unit {0}
-  WalkAt e w octets l Step2 = Sent e w.link octets
-  WalkAt e w octets l Step3 = Sent e w.link octets
-  WalkAt e w octets l Step4 = Sent e w.link octets
-  WalkAt e w octets l Step5 = Aim e w.link octets l (at_least_min (of_word w.delay)) 0
-  WalkAt e w octets l LineA = Aim e w.link octets l (of_word w.delay) w.id
-  WalkAt e w octets l LineB = Aim e w.link octets l (of_word w.delay) w.id × (w.id ≡ i → left (line_b (update_of w octets) e then line_c (update_of w octets)) ≡ left (lines (update_of w octets) e))
-  WalkAt e w octets l LineC = Aim e w.link octets l (of_word w.delay) w.id × (w.id ≡ i → left (line_c (update_of w octets) e) ≡ left (lines (update_of w octets) e))
-  WalkAt e w octets l LineD = Aim e w.link octets l (of_word w.delay) (suc w.id)
+  abbrev pub WalkAt : Entry → Walk → (octets : List ℕ) → Links → Option Place → Type 0
+  WalkAt e w octets l None = Unit {0}
+  WalkAt e w octets l (Some Step1) = Unit {0}
+  WalkAt e w octets l (Some Step2) = Sent e w.link octets
+  WalkAt e w octets l (Some Step3) = Sent e w.link octets
+  WalkAt e w octets l (Some Step4) = Sent e w.link octets
+  WalkAt e w octets l (Some Step5) = Aim e w.link octets l (at_least_min (of_word w.delay)) 0
+  WalkAt e w octets l (Some LineA) = Aim e w.link octets l (of_word w.delay) w.id
+  WalkAt e w octets l (Some LineB) = Aim e w.link octets l (of_word w.delay) w.id × (w.id ≡ i → left (line_b (update_of w octets) e then line_c (update_of w octets)) ≡ left (lines (update_of w octets) e))
+  WalkAt e w octets l (Some LineC) = Aim e w.link octets l (of_word w.delay) w.id × (w.id ≡ i → left (line_c (update_of w octets) e) ≡ left (lines (update_of w octets) e))
+  WalkAt e w octets l (Some LineD) = Aim e w.link octets l (of_word w.delay) (suc w.id)
 
   abbrev pub WalkOk : Entry → Walk → (copy : List ℕ) → Links → Type 0
   WalkOk e w copy l = is_open w ≡ true → WalkAt e w (packet_of w copy) l (place_of w)
@@ -88,17 +89,17 @@ module _ (r : Network) (c i k m b s : ℕ) (heard : ℕ → Bool) (Sent Sent' : 
         course = course_moves delay n aim.course;
       }
 
-  pub walk_moves_lem : (q : Place) → WalkAt r c i k m b s heard Sent e w octets l q → WalkAt r c i k m b s heard Sent' e w octets l' q
-  walk_moves_lem Nowhere now = now
-  walk_moves_lem Step1 now = now
-  walk_moves_lem Step2 now = more now
-  walk_moves_lem Step3 now = more now
-  walk_moves_lem Step4 now = more now
-  walk_moves_lem Step5 now = aim_moves _ _ now
-  walk_moves_lem LineA now = aim_moves _ _ now
-  walk_moves_lem LineB now = (aim_moves _ _ now.0, now.1)
-  walk_moves_lem LineC now = (aim_moves _ _ now.0, now.1)
-  walk_moves_lem LineD now = aim_moves _ _ now
+  pub walk_moves_lem : (q : Option Place) → WalkAt r c i k m b s heard Sent e w octets l q → WalkAt r c i k m b s heard Sent' e w octets l' q
+  walk_moves_lem None now = now
+  walk_moves_lem (Some Step1) now = now
+  walk_moves_lem (Some Step2) now = more now
+  walk_moves_lem (Some Step3) now = more now
+  walk_moves_lem (Some Step4) now = more now
+  walk_moves_lem (Some Step5) now = aim_moves _ _ now
+  walk_moves_lem (Some LineA) now = aim_moves _ _ now
+  walk_moves_lem (Some LineB) now = (aim_moves _ _ now.0, now.1)
+  walk_moves_lem (Some LineC) now = (aim_moves _ _ now.0, now.1)
+  walk_moves_lem (Some LineD) now = aim_moves _ _ now
 
 -- what a law shows of an update by such a message, if the message can be believed
 abbrev pub Believes : (r : Network) (c i k m b s : ℕ) (heard : ℕ → Bool) (Sent : Entry → (link : ℕ) → (octets : List ℕ) → Type 0) (Rest : Entry → Type 0) → Entry → Type 0
@@ -115,7 +116,7 @@ module _ (r : Network) (c i k m b : ℕ) (speaking : Bool) (Sent : Entry → (li
     pub rest : Rest f
     pub links : LinksOk r k speaking (learns w) heard b f l
     -- no message arrives before all have sent
-    pub waits : speaking ≡ true → is_open w ≡ true → place_of w ≡ Step1
+    pub waits : speaking ≡ true → is_open w ≡ true → place_of w ≡ Some Step1
     pub walk : WalkOk r c i k m b s heard Sent f w copy l
 
   pub record Before (s : ℕ) (heard : ℕ → Bool) (w : Walk) (copy : List ℕ) (l : Links) (entries : List Entry) (e : Entry) : Type 0 where

@@ -9,6 +9,7 @@ use lib.Dec.{ltb}
 use lib.IntN.{ℤ}
 use lib.ListN.{length, get_or, take, length-take}
 use lib.Seq.{get_or-take}
+use Rattle.std.proofs.Common.{Some}
 use Rattle.lists.proofs.Tests.{either}
 use Rattle.quantity.specs.declared.Millis.{Millis}
 use Rattle.clock.specs.declared.Counter.{Counter}
@@ -49,7 +50,7 @@ module _ (r : Network) (c i k m b : ℕ) (speaking : Bool) where
     pub long : host_count (r.settings b) ≤ length x.places
     pub mine : Mine r c b k m s heard (get_or x.places i fresh_entry)
     pub links : LinksOk r k speaking (learns x.walk) heard b (get_or x.places i fresh_entry) x.links
-    pub waits : speaking ≡ true → is_open x.walk ≡ true → place_of x.walk ≡ Step1
+    pub waits : speaking ≡ true → is_open x.walk ≡ true → place_of x.walk ≡ Some Step1
     pub walk : WalkOk r c i k m b s heard Sent (get_or x.places i fresh_entry) x.walk x.copy x.links
 
   -- more is known of messages

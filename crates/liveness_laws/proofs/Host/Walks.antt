@@ -42,7 +42,7 @@ use Rattle.host.specs.declared.Links.{Links}
 use Rattle.host.specs.declared.Effect.{Effect}
 use Rattle.host.specs.declared.walk.Walk.{Walk}
 use Rattle.host.specs.declared.walk.Place.{Place}
-use Rattle.host.specs.declared.walk.Place.TheVariants.{Nowhere, Step1, Step2, Step3, Step4, Step5, LineA, LineB, LineC, LineD}
+use Rattle.host.specs.declared.walk.Place.TheVariants.{Step1, Step2, Step3, Step4, Step5, LineA, LineB, LineC, LineD}
 use Rattle.host.specs.declared.guard.Scope.TheVariants.{Walking}
 use Rattle.host.specs.Guard.{done}
 use Rattle.host.specs.Settings.{found_for, link_count_of}
@@ -81,17 +81,17 @@ use Rattle.liveness_laws.proofs.Host.State.{Course, is_new, is_over, is_ahead, A
 use Rattle.liveness_laws.proofs.Host.Arrivals.{stranger}
 
 -- a line's number is not 0
-abbrev is_line : Place → Bool
-is_line Nowhere = false
-is_line Step1 = false
-is_line Step2 = false
-is_line Step3 = false
-is_line Step4 = false
-is_line Step5 = false
-is_line LineA = true
-is_line LineB = true
-is_line LineC = true
-is_line LineD = true
+abbrev is_line : Option Place → Bool
+is_line None = false
+is_line (Some Step1) = false
+is_line (Some Step2) = false
+is_line (Some Step3) = false
+is_line (Some Step4) = false
+is_line (Some Step5) = false
+is_line (Some LineA) = true
+is_line (Some LineB) = true
+is_line (Some LineC) = true
+is_line (Some LineD) = true
 
 on_line : (w : Walk) → is_line (place_of w) ≡ true → eqb w.line 0 ≡ false
 unfolding place_of
@@ -102,7 +102,7 @@ on_line w is = go (eqb w.line 0) refl
         either Q (eqb n 1) _ _ (λ _. refl)
         (λ _. either Q (eqb n 2) _ _ (λ _. refl) (λ _. either Q (eqb n 3) _ _ (λ _. refl) (λ _. either Q (eqb n 4) _ _ (λ _. refl) (λ _. either Q (eqb n 5) _ _ (λ _. refl) (λ _. refl)))))
       where
-        Q : Place → Type 0
+        Q : Option Place → Type 0
         Q q = is_line q ≡ false
 
     go : (t : Bool) → eqb w.line 0 ≡ t → t ≡ false
@@ -251,7 +251,7 @@ module _ (r : Network) (proper : Proper r) (quick : r.longest ≤ quick_way) (c 
     abbrev walk2 : Walk
     walk2 = at_step 2 (holding_reading (count_used κ) (our_reading κ h).time w)
 
-    first : place_of w ≡ Step1 → Sent e j octets → Fine (box1 κ h w)
+    first : place_of w ≡ Some Step1 → Sent e j octets → Fine (box1 κ h w)
     unfolding box1 place_of
     first is sent = goes walk2 (our_reading κ h).clock l nothing e opened was.room none was.good.mine was.good.rest (as_they_are (ap learns_at is) walk2) sent
 
@@ -336,7 +336,7 @@ module _ (r : Network) (proper : Proper r) (quick : r.longest ≤ quick_way) (c 
 
     -- ---- step 5
 
-    module _ (is : place_of w ≡ Step5) (aim : Aim r c i k m b s heard Sent e j octets l (at_least_min (of_word w.delay)) 0) where
+    module _ (is : place_of w ≡ (Some Step5)) (aim : Aim r c i k m b s heard Sent e j octets l (at_least_min (of_word w.delay)) 0) where
       links_5 : (v : Walk) → LinksOk r k false (learns v) heard b e l
       links_5 = as_they_are (ap learns_at is)
 
@@ -546,18 +546,18 @@ module _ (r : Network) (proper : Proper r) (quick : r.longest ≤ quick_way) (c 
 
       -- ---- the box of a place
 
-      box_good : (eqb w.line 0 ≡ false → w.id ≡ i → z ≡ e) → (q : Place) → place_of w ≡ q → (place_of w ≡ Step1 → Sent e j octets) → WalkAt r c i k m b s heard Sent e w octets l q → RightAt r b w octets l q → walk_fields_at q set w p octets ≡ true
+      box_good : (eqb w.line 0 ≡ false → w.id ≡ i → z ≡ e) → (q : Option Place) → place_of w ≡ q → (place_of w ≡ Some Step1 → Sent e j octets) → WalkAt r c i k m b s heard Sent e w octets l q → RightAt r b w octets l q → walk_fields_at q set w p octets ≡ true
           → Fine (box_at q κ p octets nets h w z)
-      box_good hand Nowhere is takes now right fits = absurd (false≢true fits)
-      box_good hand Step1 is takes now right fits = first is (takes is)
-      box_good hand Step2 is takes now right fits = second now
-      box_good hand Step3 is takes now right fits = third now
-      box_good hand Step4 is takes now right fits = fourth_good now right
-      box_good hand Step5 is takes now right fits = fifth is now
-      box_good hand LineA is takes now right fits = line_a_lem (ap learns_at is) (hand (on_line w (ap is_line is))) now
-      box_good hand LineB is takes now right fits = line_b_lem (ap learns_at is) (hand (on_line w (ap is_line is))) now.0 now.1
-      box_good hand LineC is takes now right fits = line_c_lem (ap learns_at is) (hand (on_line w (ap is_line is))) now.0 now.1
-      box_good hand LineD is takes now right fits = line_d_lem (ap learns_at is) now
+      box_good hand None is takes now right fits = absurd (false≢true fits)
+      box_good hand (Some Step1) is takes now right fits = first is (takes is)
+      box_good hand (Some Step2) is takes now right fits = second now
+      box_good hand (Some Step3) is takes now right fits = third now
+      box_good hand (Some Step4) is takes now right fits = fourth_good now right
+      box_good hand (Some Step5) is takes now right fits = fifth is now
+      box_good hand (Some LineA) is takes now right fits = line_a_lem (ap learns_at is) (hand (on_line w (ap is_line is))) now
+      box_good hand (Some LineB) is takes now right fits = line_b_lem (ap learns_at is) (hand (on_line w (ap is_line is))) now.0 now.1
+      box_good hand (Some LineC) is takes now right fits = line_c_lem (ap learns_at is) (hand (on_line w (ap is_line is))) now.0 now.1
+      box_good hand (Some LineD) is takes now right fits = line_d_lem (ap learns_at is) now
 
   -- ---- the call
 
@@ -567,7 +567,7 @@ module _ (r : Network) (proper : Proper r) (quick : r.longest ≤ quick_way) (c 
       let size = entries_length set (r.number b) entries held in
       rw (opened, some) (all_there (λ (id : ℕ) (z : Entry). id ≡ i → z ≡ e) fresh_entry (entries_of x) (was.table held) w.id (omega (arith, size, same, few)) same)
 
-  pub step_good : RightWalk r b w copy l → (κ : Counter) → (is_open w ≡ true → place_of w ≡ Step1 → Sent e j octets)
+  pub step_good : RightWalk r b w copy l → (κ : Counter) → (is_open w ≡ true → place_of w ≡ Some Step1 → Sent e j octets)
       → After r c i k m b false Sent Rest s (heard_by (perform (ask (request.Step κ)) x).reply.answer (perform (ask (request.Step κ)) x).walk) entries
       (perform (ask (request.Step κ)) x).walk (perform (ask (request.Step κ)) x).copy (perform (ask (request.Step κ)) x).links (perform (ask (request.Step κ)) x).entries
   unfolding boxes.step

@@ -9,6 +9,7 @@ use borrow.Author.Tests.{eqb-true, eqb-false, eq-eqb, ne_eqb}
 use lib.Dec.{T, eqb}
 use lib.IntN.{ℤ, ◌+ℤ◌}
 use lib.ListN.{get_or}
+use Rattle.std.proofs.Common.{Some}
 use Rattle.lists.proofs.Tests.{either, both}
 use Rattle.quantity.specs.declared.Millis.{Millis}
 use Rattle.quantity.proofs.Ints.{up}
@@ -245,7 +246,7 @@ module _ (r : Network) (proper : Proper r) (ways : r.longest ≤ longest_way) (q
     -- ---- a box of a walk
 
     box_turn : (κ : Counter) (t : ℤ) (ok : Allowed r w (at_node (steps κ t))) (last' : ℕ → ℕ → ℕ) (grows : (p q : ℕ) → last p q ≤ last' p q)
-        → (is_open now.walk ≡ true → place_of now.walk ≡ Step1 → SentBy last' (E b) now.walk.link (packet_of now.walk now.copy)) → Turn (steps κ t) last'
+        → (is_open now.walk ≡ true → place_of now.walk ≡ Some Step1 → SentBy last' (E b) now.walk.link (packet_of now.walk now.copy)) → Turn (steps κ t) last'
     box_turn κ t ok last' grows takes =
         record {
           grows = grows;

@@ -6,6 +6,7 @@ use Prim.Native.Nat.{ℕ, ◌+◌, ◌≤◌, ◌<◌}
 use native.Mathlib.Omega.{arith}
 use lib.Dec.{eqb}
 use lib.ListN.{length, take}
+use Rattle.std.proofs.Common.{Option, Some, None}
 use Rattle.quantity.specs.Quantity.{less_millis}
 use Rattle.quantity.proofs.Ints.{up, dn}
 use Rattle.wire.specs.Hello.{report_at}
@@ -16,7 +17,7 @@ use Rattle.table.proofs.Cases.{stored}
 use Rattle.table.specs.Entry.{max_delay}
 use Rattle.host.specs.declared.walk.Walk.{Walk}
 use Rattle.host.specs.declared.walk.Place.{Place}
-use Rattle.host.specs.declared.walk.Place.TheVariants.{Nowhere, Step1, Step2, Step3, Step4, Step5, LineA, LineB, LineC, LineD}
+use Rattle.host.specs.declared.walk.Place.TheVariants.{Step1, Step2, Step3, Step4, Step5, LineA, LineB, LineC, LineD}
 use Rattle.host.specs.State.{host_count, own_entries}
 use Rattle.host.specs.Walk.{is_open, place_of, packet_of}
 use Rattle.host.proofs.Places.{Holds}
@@ -29,17 +30,17 @@ use Rattle.liveness_laws.specs.Numbers.{rise}
 use Rattle.liveness_laws.proofs.Silence.Entry.{Fading, stored_fades, stored_early}
 
 -- a walk that has read its clock: its packet has arrived
-abbrev pub begun : Place → Bool
-begun Nowhere = false
-begun Step1 = false
-begun Step2 = true
-begun Step3 = true
-begun Step4 = true
-begun Step5 = true
-begun LineA = true
-begun LineB = true
-begun LineC = true
-begun LineD = true
+abbrev pub begun : Option Place → Bool
+begun None = false
+begun (Some Step1) = false
+begun (Some Step2) = true
+begun (Some Step3) = true
+begun (Some Step4) = true
+begun (Some Step5) = true
+begun (Some LineA) = true
+begun (Some LineB) = true
+begun (Some LineC) = true
+begun (Some LineD) = true
 
 -- if the packet reports id i as up, its report plus m is at least n
 abbrev pub Reports : (i n m : ℕ) → List ℕ → Type 0

@@ -36,7 +36,7 @@ use Rattle.host.specs.declared.Links.{Links}
 use Rattle.host.specs.declared.Effect.{Effect}
 use Rattle.host.specs.declared.walk.Walk.{Walk}
 use Rattle.host.specs.declared.walk.Place.{Place}
-use Rattle.host.specs.declared.walk.Place.TheVariants.{Nowhere, Step1, Step2, Step3, Step4, Step5, LineA, LineB, LineC, LineD}
+use Rattle.host.specs.declared.walk.Place.TheVariants.{Step1, Step2, Step3, Step4, Step5, LineA, LineB, LineC, LineD}
 use Rattle.host.specs.declared.guard.Scope.TheVariants.{OnLink, Opening, Walking}
 use Rattle.host.specs.Settings.{found_for}
 use Rattle.host.specs.State.{host_count, unset, fresh_link, link_of, with_link, no_link}
@@ -81,17 +81,17 @@ abbrev pub Ready : Settings → Link → Type 0
 Ready s x = eqb x.keep_alive 0 ≡ false → table_goes s x ≡ true
 
 -- box 2 has set KEEP-ALIVE, and box 4 has not stored the neighbour
-abbrev pub learning : Place → Bool
-learning Nowhere = false
-learning Step1 = false
-learning Step2 = false
-learning Step3 = true
-learning Step4 = true
-learning Step5 = false
-learning LineA = false
-learning LineB = false
-learning LineC = false
-learning LineD = false
+abbrev pub learning : Option Place → Bool
+learning None = false
+learning (Some Step1) = false
+learning (Some Step2) = false
+learning (Some Step3) = true
+learning (Some Step4) = true
+learning (Some Step5) = false
+learning (Some LineA) = false
+learning (Some LineB) = false
+learning (Some LineC) = false
+learning (Some LineD) = false
 
 abbrev pub midway : Walk → (link : ℕ) → Bool
 midway w j = is_open w && learning (place_of w) && eqb w.link j
@@ -100,17 +100,17 @@ midway w j = is_open w && learning (place_of w) && eqb w.link j
 abbrev pub Far : Walk → List ℕ → Type 0
 Far w octets = eqb (fields octets).nhosts 0 ≡ true → w.delay ≡ to_word max_delay
 
-abbrev pub TabledAt : Walk → List ℕ → Place → Type 0
-TabledAt w octets Nowhere = Unit {0}
-TabledAt w octets Step1 = Unit {0}
-TabledAt w octets Step2 = Tabled octets
-TabledAt w octets Step3 = Tabled octets
-TabledAt w octets Step4 = Tabled octets
-TabledAt w octets Step5 = Far w octets
-TabledAt w octets LineA = Far w octets
-TabledAt w octets LineB = Far w octets
-TabledAt w octets LineC = Far w octets
-TabledAt w octets LineD = Far w octets
+abbrev pub TabledAt : Walk → List ℕ → Option Place → Type 0
+TabledAt w octets None = Unit {0}
+TabledAt w octets (Some Step1) = Unit {0}
+TabledAt w octets (Some Step2) = Tabled octets
+TabledAt w octets (Some Step3) = Tabled octets
+TabledAt w octets (Some Step4) = Tabled octets
+TabledAt w octets (Some Step5) = Far w octets
+TabledAt w octets (Some LineA) = Far w octets
+TabledAt w octets (Some LineB) = Far w octets
+TabledAt w octets (Some LineC) = Far w octets
+TabledAt w octets (Some LineD) = Far w octets
 
 -- the links and the walk of a host
 pub record TabledHost (s : Settings) (w : Walk) (copy : List ℕ) (l : Links) : Type 0 where
@@ -298,7 +298,7 @@ module _ (r : Network) (proper : Proper r) (b : ℕ) (inside : b < r.nodes) (few
     unfolding Good
     stops off a d now = record { links = λ j hj _. all_ready off j hj; walk = λ o. absurd (false≢true o) }
 
-    first : place_of w ≡ Step1 → (k : Counter) → Tabled octets → Good (box1 k h w)
+    first : place_of w ≡ Some Step1 → (k : Counter) → Tabled octets → Good (box1 k h w)
     unfolding box1 place_of
     first is k tabled = stays (ap learning is) _ _ nothing (λ _. tabled) refl
 
@@ -402,22 +402,22 @@ module _ (r : Network) (proper : Proper r) (b : ℕ) (inside : b < r.nodes) (few
       unfolding box_c line_c place_of
       line_c_lem e = either Good (is_clock_host h w) _ _ (λ _. stays off (at_line 4 w.id w) cl _ (λ _. far) refl) (λ _. next cl _)
 
-    box_tabled : (k : Counter) (e : Entry) (q : Place) → place_of w ≡ q → (place_of w ≡ Step1 → Tabled octets) → RightAt r b w octets l q → TabledAt w octets q → walk_fields_at q s w p octets ≡ true
+    box_tabled : (k : Counter) (e : Entry) (q : Option Place) → place_of w ≡ q → (place_of w ≡ Some Step1 → Tabled octets) → RightAt r b w octets l q → TabledAt w octets q → walk_fields_at q s w p octets ≡ true
         → Good (box_at q k p octets nets h w e)
     unfolding box_a box_b box_d
-    box_tabled k e Nowhere is time right at-now fits = absurd (false≢true fits)
-    box_tabled k e Step1 is time right at-now fits = first is k (time is)
-    box_tabled k e Step2 is time right at-now fits = second at-now
-    box_tabled k e Step3 is time right at-now fits = third at-now
-    box_tabled k e Step4 is time right at-now fits = fourth_tabled right.taken at-now
-    box_tabled k e Step5 is time right at-now fits = fifth (ap learning is) at-now
-    box_tabled k e LineA is time right at-now fits = at_a (ap learning is) at-now (line_a (line_update w p octets) e)
-    box_tabled k e LineB is time right at-now fits = at_b (ap learning is) at-now (line_b (line_update w p octets) e)
-    box_tabled k e LineC is time right at-now fits = line_c_lem (ap learning is) at-now e
-    box_tabled k e LineD is time right at-now fits = next (ap learning is) at-now (clock_set p octets h w) nothing
+    box_tabled k e None is time right at-now fits = absurd (false≢true fits)
+    box_tabled k e (Some Step1) is time right at-now fits = first is k (time is)
+    box_tabled k e (Some Step2) is time right at-now fits = second at-now
+    box_tabled k e (Some Step3) is time right at-now fits = third at-now
+    box_tabled k e (Some Step4) is time right at-now fits = fourth_tabled right.taken at-now
+    box_tabled k e (Some Step5) is time right at-now fits = fifth (ap learning is) at-now
+    box_tabled k e (Some LineA) is time right at-now fits = at_a (ap learning is) at-now (line_a (line_update w p octets) e)
+    box_tabled k e (Some LineB) is time right at-now fits = at_b (ap learning is) at-now (line_b (line_update w p octets) e)
+    box_tabled k e (Some LineC) is time right at-now fits = line_c_lem (ap learning is) at-now e
+    box_tabled k e (Some LineD) is time right at-now fits = next (ap learning is) at-now (clock_set p octets h w) nothing
 
   -- of a host that is right; box 1 takes a message
-  pub step_tabled : RightWalk r b w copy l → (k : Counter) → (is_open w ≡ true → place_of w ≡ Step1 → Tabled octets)
+  pub step_tabled : RightWalk r b w copy l → (k : Counter) → (is_open w ≡ true → place_of w ≡ Some Step1 → Tabled octets)
       → TabledHost s (perform (ask (request.Step k)) x).walk (perform (ask (request.Step k)) x).copy (perform (ask (request.Step k)) x).links
   unfolding boxes.step Good
   step_tabled right k time =

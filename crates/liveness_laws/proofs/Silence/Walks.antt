@@ -36,7 +36,7 @@ use Rattle.host.specs.declared.Links.{Links}
 use Rattle.host.specs.declared.Effect.{Effect}
 use Rattle.host.specs.declared.walk.Walk.{Walk}
 use Rattle.host.specs.declared.walk.Place.{Place}
-use Rattle.host.specs.declared.walk.Place.TheVariants.{Nowhere, Step1, Step2, Step3, Step4, Step5, LineA, LineB, LineC, LineD}
+use Rattle.host.specs.declared.walk.Place.TheVariants.{Step1, Step2, Step3, Step4, Step5, LineA, LineB, LineC, LineD}
 use Rattle.host.specs.declared.guard.Scope.TheVariants.{Opening, Walking}
 use Rattle.host.specs.Settings.{found_for}
 use Rattle.host.specs.State.{host_count, broadcast, link_of}
@@ -210,19 +210,19 @@ module _ (r : Network) (i n b s : ℕ)
               let u : Update = line_update w p octets in
               either Good (is_clock_host h w) _ _ (λ _. goes _ cl l (put w (stored u e)) (λ _ _. now) (puts (stored u e) stores)) (λ _. next cl (put w (stored u e)) (puts (stored u e) stores))
 
-      box_fades : (q : Place) → place_of w ≡ q → (place_of w ≡ Step1 → Arriving i n s octets) → RightAt r b w octets l q → TabledAt w octets q → walk_fields_at q set w p octets ≡ true
+      box_fades : (q : Option Place) → place_of w ≡ q → (place_of w ≡ Some Step1 → Arriving i n s octets) → RightAt r b w octets l q → TabledAt w octets q → walk_fields_at q set w p octets ≡ true
           → Good (box_at q k p octets nets h w e)
       unfolding box4 box_a box_d
-      box_fades Nowhere is time right tabled fits = absurd (false≢true fits)
-      box_fades Step1 is time right tabled fits = first (time is)
-      box_fades Step2 is time right tabled fits = second (call_state.walk opened (ap begun is))
-      box_fades Step3 is time right tabled fits = third (call_state.walk opened (ap begun is))
-      box_fades Step4 is time right tabled fits = at_4 (call_state.walk opened (ap begun is)) (step4 (broadcast set w.link) cl.hold p (in_flight l w))
-      box_fades Step5 is time right tabled fits = fifth (call_state.walk opened (ap begun is))
-      box_fades LineA is time right tabled fits = at_a (call_state.walk opened (ap begun is)) (line_a (line_update w p octets) e)
-      box_fades LineB is time right tabled fits = line_b_lem (call_state.walk opened (ap begun is))
-      box_fades LineC is time right tabled fits = line_c_lem (call_state.walk opened (ap begun is)) right tabled (both (reading_in_range w && id_in_range set w) _ fits).1
-      box_fades LineD is time right tabled fits = next (call_state.walk opened (ap begun is)) (clock_set p octets h w) nothing none
+      box_fades None is time right tabled fits = absurd (false≢true fits)
+      box_fades (Some Step1) is time right tabled fits = first (time is)
+      box_fades (Some Step2) is time right tabled fits = second (call_state.walk opened (ap begun is))
+      box_fades (Some Step3) is time right tabled fits = third (call_state.walk opened (ap begun is))
+      box_fades (Some Step4) is time right tabled fits = at_4 (call_state.walk opened (ap begun is)) (step4 (broadcast set w.link) cl.hold p (in_flight l w))
+      box_fades (Some Step5) is time right tabled fits = fifth (call_state.walk opened (ap begun is))
+      box_fades (Some LineA) is time right tabled fits = at_a (call_state.walk opened (ap begun is)) (line_a (line_update w p octets) e)
+      box_fades (Some LineB) is time right tabled fits = line_b_lem (call_state.walk opened (ap begun is))
+      box_fades (Some LineC) is time right tabled fits = line_c_lem (call_state.walk opened (ap begun is)) right tabled (both (reading_in_range w && id_in_range set w) _ fits).1
+      box_fades (Some LineD) is time right tabled fits = next (call_state.walk opened (ap begun is)) (clock_set p octets h w) nothing none
 
   -- ---- the step
 
@@ -233,7 +233,7 @@ module _ (r : Network) (i n b s : ℕ)
 
   -- of a host that is right; box 1 takes a message
   pub step_fades : NodeState r b w copy l entries → TabledHost set w copy l → (k : Counter)
-      → (is_open w ≡ true → place_of w ≡ Step1 → Arriving i n s octets)
+      → (is_open w ≡ true → place_of w ≡ Some Step1 → Arriving i n s octets)
       → FadeAfter r i n b s entries (perform (ask (request.Step k)) x)
   unfolding boxes.step Good
   step_fades right tabled k time =

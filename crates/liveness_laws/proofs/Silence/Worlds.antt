@@ -10,6 +10,7 @@ use borrow.Author.Tests.{eqb-true, eqb-false, eq-eqb, ne_eqb, ltb-false}
 use lib.Dec.{ltb, eqb}
 use lib.IntN.{ℤ}
 use lib.ListN.{length, take}
+use Rattle.std.proofs.Common.{Some}
 use Rattle.lists.proofs.Tests.{either}
 use Rattle.clock.specs.declared.Counter.{Counter}
 use Rattle.table.specs.declared.Entry.{Entry}
@@ -107,7 +108,7 @@ module _ (r : Network) (proper : Proper r) (ways : r.longest ≤ longest_way) (o
             (acted link k packet t record { node_in = ok.node_in; continues = ok.continues; timely = subst (λ (o : Outcome). Delivered r w b link k packet t o.reply.answer) same ok.timely } away)
 
         -- box 1 takes a message
-        taken : (k : Counter) (t : ℤ) (ok : Allowed r w (at_node (steps k t))) → Silent s (Unheard r w out b (steps k t)) → is_open now.walk ≡ true → place_of now.walk ≡ Step1
+        taken : (k : Counter) (t : ℤ) (ok : Allowed r w (at_node (steps k t))) → Silent s (Unheard r w out b (steps k t)) → is_open now.walk ≡ true → place_of now.walk ≡ Some Step1
             → Arriving i n s (packet_of now.walk copy)
         taken k t ok away opened first =
             let d = ok.timely opened first in

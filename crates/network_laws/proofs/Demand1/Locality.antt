@@ -8,7 +8,6 @@ use native.Mathlib.Omega.{arith}
 use lib.Dec.{ltb, leb, eqb}
 use lib.ListN.{length, get_or, set, take}
 use lib.Seq.{get_or-take, take-set-lt}
-use Rattle.std.proofs.Common.{Option, Some, None}
 use Rattle.answer.specs.declared.Answer.{Answer}
 use Rattle.answer.specs.declared.Answer.TheVariants.{Done, NoHost, ShortBuffer, NoWalk}
 use Rattle.quantity.specs.declared.Count.{Count}

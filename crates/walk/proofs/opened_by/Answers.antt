@@ -6,13 +6,9 @@ use Rattle.host.proofs.Inspected.{Fits, inspected_fits}
 use Rattle.walk.specs.Opening.{opening}
 use Rattle.walk.proofs.opened_by.Goals as goal
 
-pub returns-in-Err : goal.returns-in-Err
-unfolding opening
-returns-in-Err c = (rw (sym c.inspect.ensures.0 ∙ c.in-Err.is, c.plainly.ensures), omega arith)
-
 pub returns-in-Ok : goal.returns-in-Ok
 unfolding opening
 returns-in-Ok c =
     let a = c.args in
-    let fits : Fits a.s a.packet.now (Ok c.in-Ok.p) = subst (Fits a.s a.packet.now) (sym c.inspect.ensures.0 ∙ c.in-Ok.is) (inspected_fits a.s a.link a.packet.now) in
+    let fits : Fits a.s a.packet.now (Ok c.in-Ok.p) = subst (Fits a.s a.packet.now) (sym c.inspect.ensures.0 ∙ c.in-Ok.is) (inspected_fits a.s a.link.number a.packet.now) in
     (rw (sym c.inspect.ensures.0 ∙ c.in-Ok.is, c.returns_place.ensures, c.opened_on.ensures, c.length-n.ensures ∙ fits.whole), omega (arith, c.length-n.ensures))

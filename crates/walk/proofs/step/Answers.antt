@@ -1,23 +1,14 @@
 -- 17, or the box.
 use mathlib.Core.Path.{◌∙◌, sym}
 use lib.Seq.{length-take-le}
-use Rattle.walk.specs.Boxes.{step}
 use Rattle.host.proofs.Walks.{opened_says}
 use Rattle.host.proofs.Guarded.{counted}
 use Rattle.walk.proofs.step.Goals as goal
-
-pub returns-then-not-is_open : goal.returns-then-not-is_open
-unfolding step
-returns-then-not-is_open c = rw (c.answers.ensures, c.plainly.ensures, sym c.is_open.ensures ∙ c.if-not-is_open.true)
 
 pub slice_bounds-box_of-end : goal.slice_bounds-box_of-end
 slice_bounds-box_of-end c =
     let a = c.args in
     sym (length-take-le _ a.copy.now (opened_says a.s a.w a.copy.now c.requires.walk (sym c.is_open.ensures ∙ c.if-not-is_open.false)).length)
-
-pub returns : goal.returns
-unfolding step
-returns c = rw (sym c.is_open.ensures ∙ c.if-not-is_open.false) c.box_of.ensures
 
 pub box_of-requires-clause-le_link : goal.box_of-requires-clause-le_link
 box_of-requires-clause-le_link c =

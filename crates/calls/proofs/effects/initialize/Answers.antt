@@ -4,10 +4,6 @@ use Rattle.host.proofs.Sound.{sound}
 use Rattle.calls.specs.Effects as definition
 use Rattle.calls.proofs.effects.initialize.Goals as goal
 
-pub returns : goal.returns
-unfolding definition.initialize
-returns c = rw (c.plainly.ensures, c.fresh.ensures, c.fresh-2.ensures, c.none.ensures, c.each.ensures)
-
 pub fresh-requires-clause-pos_value : goal.fresh-requires-clause-pos_value
 fresh-requires-clause-pos_value c = is_not _ (both _ _ (sound _ c.requires).time).0
 

@@ -3,9 +3,5 @@ use Rattle.host.proofs.Sound.{sound}
 use Rattle.calls.specs.Effects as definition
 use Rattle.calls.proofs.plans.tick.Goals as goal
 
-pub returns : goal.returns
-unfolding definition.tick
-returns c t l w o e = rw (c.plainly.ensures, c.ticked.ensures)
-
 pub ticked-requires-clause-clock_tick_value : goal.ticked-requires-clause-clock_tick_value
 ticked-requires-clause-clock_tick_value c = (sound _ c.requires.0).tick
