@@ -1,5 +1,5 @@
 -- A sum of words with the low octet first is 256 times less, and 256 times a word is the word with its octets changed over, because a word in the high half of a total counts as in the low one.
-use Rattle.std.proofs.Common.{◌≡◌, ℕ, zero, suc, ◌+◌, ◌-◌, ◌*◌, ◌/◌, ◌%◌, ◌^◌, ◌<◌, ◌≤◌, List, [], ◌∷◌, length, get_or, take, drop, sym, refl, ap, ◌∙◌, add-zero, mul-zero, zero-add, mul-suc, arith, length-drop, take-append-drop, length-take-le, take_all}
+use Rattle.std.proofs.Common.{◌≡◌, ℕ, zero, suc, ◌+◌, ◌-◌, ◌*◌, ◌/◌, ◌%◌, ◌^◌, ◌<◌, ◌≤◌, List, [], ◌∷◌, length, get_or, take, drop, sym, refl, ap, ◌∙◌, add-zero, mul-zero, zero-add, mul-suc, arith, take-append-drop, length-take-le, take_all}
 use Rattle.checksum.specs.Checksum.{all_ones}
 use Rattle.checksum.specs.code.EndAround.{end_around, word_sum, low_sum, low_four}
 use Rattle.checksum.proofs.Folding.{end_word, end_high, end_again, end_plus, sum_append, one_more}
@@ -41,28 +41,24 @@ four_more s i h =
 
 -- ---- numbers congruent to the sum of the words
 
--- the sum so far is congruent to that of the words before place i
-abbrev pub Stands : List ℕ → (i sum : ℕ) → Type 0
-Stands s i sum = end_around (sum + low_sum (drop i s)) ≡ end_around (low_sum s)
+-- the sum so far is congruent to the sum of all words less those left
+abbrev pub Stands : (s left : List ℕ) → (sum : ℕ) → Type 0
+Stands s left sum = end_around (sum + low_sum left) ≡ end_around (low_sum s)
 
 -- a turn: the two words are the halves of what is added
-pub one_four : (s : List ℕ) (i sum n : ℕ) → i + 3 < length s → n ≡ low_four s i → Stands s i sum → Stands s (i + 4) (sum + n)
-one_four s i sum n h e inv =
-    let a = get_or s i 0 in
-    let b = get_or s (i + 1) 0 in
-    let c = get_or s (i + 2) 0 in
-    let d = get_or s (i + 3) 0 in
-    let t = a + b * 256 + (low_sum (drop (i + 4) s) + sum) in
-    let e₁ : sum + n + low_sum (drop (i + 4) s) ≡ (c + d * 256) * 256 * 256 + t = omega arith in
-    let e₂ : c + d * 256 + t ≡ sum + low_sum (drop i s) = omega (arith, four_more s i h) in
-    rw e₁ (end_high (c + d * 256) t ∙ rw e₂ inv)
-
--- the octets after the loop, as the part of a slice from place i on
-pub rest_sum : (s : List ℕ) (i : ℕ) → low_sum (take (length s - i) (drop i s)) ≡ low_sum (drop i s)
-rest_sum s i = let l : length (drop i s) ≤ length s - i = rw length-drop (omega arith) in ap low_sum (take_all (length s - i) (drop i s) l)
-
-pub all_stand : (s : List ℕ) (i sum t : ℕ) → t ≡ low_sum (take (length s - i) (drop i s)) → Stands s i sum → end_around (sum + t) ≡ end_around (low_sum s)
-all_stand s i sum t e inv = rw (e, rest_sum s i) inv
+pub one_four : (s left : List ℕ) (sum n : ℕ) → 4 ≤ length left → n ≡ low_four (get_or left 0 0) (get_or left 1 0) (get_or left 2 0) (get_or left 3 0)
+    → Stands s left sum
+    → Stands s (take (length left - 4) (drop 4 left)) (sum + n)
+one_four s [] sum n h e inv = absurd (omega arith)
+one_four s (a ∷ []) sum n h e inv = absurd (omega arith)
+one_four s (a ∷ b ∷ []) sum n h e inv = absurd (omega arith)
+one_four s (a ∷ b ∷ c ∷ []) sum n h e inv = absurd (omega arith)
+one_four s (a ∷ b ∷ c ∷ d ∷ rest) sum n h e inv =
+    let t = a + b * 256 + (low_sum rest + sum) in
+    let all : take (length (a ∷ b ∷ c ∷ d ∷ rest) - 4) rest ≡ rest = take_all _ rest (omega arith) in
+    let e₁ : sum + n + low_sum rest ≡ (c + d * 256) * 256 * 256 + t = omega arith in
+    let e₂ : c + d * 256 + t ≡ sum + low_sum (a ∷ b ∷ c ∷ d ∷ rest) = omega arith in
+    ap (λ l. end_around (sum + n + low_sum l)) all ∙ ap end_around e₁ ∙ end_high (c + d * 256) t ∙ ap end_around e₂ ∙ inv
 
 -- ---- the halves of numbers
 
@@ -77,7 +73,7 @@ pub no_halves : (s : List ℕ) → Halves s 0 0 0
 no_halves s = record { low = 0; small = omega arith; cut = omega arith; all = zero-add (low_sum s) }
 
 -- a turn
-pub two_halves : (s : List ℕ) (k high sum n m : ℕ) → 4 * k + 3 < length s → n < 2 ^ 32 → n ≡ low_four s (4 * k) → m ≡ (sum + n) % 2 ^ 32
+pub two_halves : (s : List ℕ) (k high sum n m : ℕ) → 4 * k + 3 < length s → n < 2 ^ 32 → n ≡ low_four (get_or s (4 * k) 0) (get_or s (4 * k + 1) 0) (get_or s (4 * k + 2) 0) (get_or s (4 * k + 3) 0) → m ≡ (sum + n) % 2 ^ 32
     → get_or s (4 * k) 0 < 256 → get_or s (4 * k + 1) 0 < 256
     → Halves s k high sum
     → Halves s (k + 1) (high + n / 0x10000) m
@@ -90,37 +86,13 @@ two_halves s k high sum n m h b e f x y inv =
       all = rw p (omega (arith, inv.all, four_more s (4 * k) h));
     }
 
--- ---- less than four octets
-
-pub none : (s : List ℕ) → length s ≡ 0 → 0 ≡ low_sum s
-none [] l = refl
-none (x ∷ s) l = absurd (omega arith)
-
-pub one : (s : List ℕ) → length s ≡ 1 → get_or s 0 0 ≡ low_sum s
-one [] l = absurd (omega arith)
-one (x ∷ []) l = omega arith
-one (x ∷ y ∷ s) l = absurd (omega arith)
-
-pub two : (s : List ℕ) → length s ≡ 2 → get_or s 0 0 + get_or s 1 0 * 256 ≡ low_sum s
-two [] l = absurd (omega arith)
-two (x ∷ []) l = absurd (omega arith)
-two (x ∷ y ∷ []) l = omega arith
-two (x ∷ y ∷ z ∷ s) l = absurd (omega arith)
-
-pub three : (s : List ℕ) → length s ≡ 3 → get_or s 0 0 + get_or s 1 0 * 256 + get_or s 2 0 ≡ low_sum s
-three [] l = absurd (omega arith)
-three (x ∷ []) l = absurd (omega arith)
-three (x ∷ y ∷ []) l = absurd (omega arith)
-three (x ∷ y ∷ z ∷ []) l = omega arith
-three (x ∷ y ∷ z ∷ u ∷ s) l = absurd (omega arith)
-
 -- ---- two halves of the octets, the first an even number of them
 
 pub halved : (s : List ℕ) (h a b : ℕ) → h ≤ length s → h % 2 ≡ 0
-    → a ≡ end_around (low_sum (take h s)) → b ≡ end_around (low_sum (take (length s - h) (drop h s)))
+    → a ≡ end_around (low_sum (take h s)) → b ≡ end_around (low_sum (drop h s))
     → end_around (a + b) ≡ end_around (low_sum s)
 halved s h a b l e p q =
     let m : low_sum s ≡ low_sum (take h s) + low_sum (drop h s) =
     ap low_sum (sym (take-append-drop h s)) ∙ sum_append (λ x y. x + y * 256) (take h s) (drop h s) (rw (length-take-le h s l) e) in
-    rw (p, q, rest_sum s h, m)
+    rw (p, q, m)
     (end_plus (end_around (low_sum (take h s))) (low_sum (take h s)) (end_around (low_sum (drop h s))) (low_sum (drop h s)) (end_again (low_sum (take h s))) (end_again (low_sum (drop h s))))

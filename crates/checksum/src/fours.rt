@@ -1,5 +1,5 @@
 // The second way: four octets at a time, two words with the low octet first; the octets of the sum change places at the end.
-ghost use Rattle.std.specs.Prelude.{◌≡◌, ℕ, ◌+◌, ◌*◌, ◌%◌, ◌^◌, ◌<◌, ◌≤◌, length};
+ghost use Rattle.std.specs.Prelude.{◌≡◌, ℕ, ◌+◌, ◌*◌, ◌%◌, ◌^◌, ◌<◌, ◌≤◌, length, slice_index};
 ghost use Rattle.checksum.specs.code.EndAround.{end_around, low_sum, low_four, short_length, block_length};
 
 use crate::ALL_ONES;
@@ -10,19 +10,19 @@ const SHORT: usize = 64;
 // This many octets are summed within 32 bits.
 const BLOCK: usize = 0x40000;
 
-fn wide(x: u8) -> u32
-    ensures value { result ≡ x }
-    ensures upper_bound { result < 256 }
+// The number of four octets, the low one first: two words, the first in the low half.
+fn four(a: u8, b: u8, c: u8, d: u8) -> u32
+    ensures { result ≡ low_four a b c d }
 {
-    x as u32
+    u32::from_le_bytes([a, b, c, d])
 }
 
-// The number in four octets from a place on, the low one first: two words, the first in the low half.
-fn four(s: &[u8], i: usize) -> u32
+// The number in four octets from a place on.
+fn four_at(s: &[u8], i: usize) -> u32
     requires { i + 3 < length s.now }
-    ensures { result ≡ low_four s.now i }
+    ensures { result ≡ low_four (slice_index s.now i) (slice_index s.now (i + 1)) (slice_index s.now (i + 2)) (slice_index s.now (i + 3)) }
 {
-    wide(s[i]) + wide(s[i + 1]) * 0x100 + wide(s[i + 2]) * 0x10000 + wide(s[i + 3]) * 0x1000000
+    four(s[i], s[i + 1], s[i + 2], s[i + 3])
 }
 
 // A word of which the low octet comes first.
@@ -39,35 +39,26 @@ fn last(s: &[u8]) -> u64
     ensures value { result ≡ low_sum s.now }
     ensures upper_bound { result < 0x20000 }
 {
-    if s.len() == 0 {
-        return 0;
+    match s {
+        [] => 0,
+        [a] => word(*a, 0),
+        [a, b] => word(*a, *b),
+        [a, b, c, ..] => word(*a, *b) + word(*c, 0),
     }
-    if s.len() == 1 {
-        return word(s[0], 0);
-    }
-    let first = word(s[0], s[1]);
-    if s.len() == 2 {
-        return first;
-    }
-    first + word(s[2], 0)
 }
 
-// A number congruent to the sum of a few octets' words: eight octets at a time, then four, then the rest.
+// A number congruent to the sum of a few octets' words.
 fn short(s: &[u8]) -> u64
     requires { length s.now < short_length }
     ensures { end_around result ≡ end_around (low_sum s.now) }
 {
     let mut sum: u64 = 0;
-    let mut i: usize = 0;
-    while 8 <= s.len() - i {
-        sum += four(s, i) as u64 + four(s, i + 4) as u64;
-        i += 8;
+    let mut left = s;
+    while let [a, b, c, d, rest @ ..] = left {
+        sum += four(*a, *b, *c, *d) as u64;
+        left = rest;
     }
-    if 4 <= s.len() - i {
-        sum += four(s, i) as u64;
-        i += 4;
-    }
-    sum + last(&s[i..])
+    sum + last(left)
 }
 
 // The sum of numbers' high and low halves, from the sum of the high ones and that of the numbers, cut to 32 bits.
@@ -75,11 +66,11 @@ fn halves(high: u32, sum: u32) -> u64
     ensures by_index { (low : ℕ) → low < 2 ^ 32 → sum ≡ (high * 0x10000 + low) % 2 ^ 32 → result ≡ high + low }
     ensures upper_bound { result < 2 ^ 33 }
 {
-    let low = std::num::wrapping_sub_u32(sum, high % 0x10000 * 0x10000);
+    let low = sum.wrapping_sub(high % 0x10000 * 0x10000);
     high as u64 + low as u64
 }
 
-// The sum of a block's words.
+// The sum of a block's words. The places are counted: over `chunks_exact`, or by a pattern, the loop is no vector code and takes seven times as long.
 fn total(s: &[u8]) -> u64
     requires { length s.now ≤ block_length }
     ensures { result ≡ low_sum s.now }
@@ -87,12 +78,10 @@ fn total(s: &[u8]) -> u64
     let fours = s.len() / 4;
     let mut sum: u32 = 0;
     let mut high: u32 = 0;
-    let mut k: usize = 0;
-    while k < fours {
-        let number = four(s, 4 * k);
-        sum = std::num::wrapping_add_u32(sum, number);
+    for k in 0..fours {
+        let number = four_at(s, 4 * k);
+        sum = sum.wrapping_add(number);
         high += number / 0x10000;
-        k += 1;
     }
     halves(high, sum) + last(&s[4 * fours..])
 }
@@ -114,9 +103,8 @@ fn long(s: &[u8]) -> u16
     if s.len() <= BLOCK {
         return end_around(total(s));
     }
-    let half = s.len() / 4 * 2;
-    let end = s.len();
-    end_around(long(&s[..half]) as u64 + long(&s[half..end]) as u64)
+    let (first, second) = s.split_at(s.len() / 4 * 2);
+    end_around(long(first) as u64 + long(second) as u64)
 }
 
 // The folded sum of the words, the low octet first.

@@ -1,4 +1,5 @@
 // The plain way: two octets at a time, each word added in one's complement, as the definition says it.
+// It has its own `folded` and `complement`: the library exports both ways.
 ghost use Rattle.std.specs.Prelude.{◌≡◌, ◌+◌, ◌*◌};
 ghost use Rattle.checksum.specs.Checksum.{fold, folded, checksum_of};
 
@@ -11,12 +12,12 @@ fn word(high: u8, low: u8) -> u16
     high as u16 * 256 + low as u16
 }
 
-// Two words added in one's complement: a sum that is less than a word of it has lost its carry, which is added in.
+// Two words added in one's complement: the carry, if there is one, is added in.
 fn added(a: u16, b: u16) -> u16
     ensures { result ≡ fold a b }
 {
-    let sum = std::num::wrapping_add_u16(a, b);
-    if sum < b {
+    let (sum, carried) = a.overflowing_add(b);
+    if carried {
         return sum + 1;
     }
     sum
@@ -27,15 +28,15 @@ pub fn folded(s: &[u8]) -> u16
     ensures { result ≡ folded s.now }
 {
     let mut sum: u16 = 0;
-    let mut i: usize = 0;
-    while 1 < s.len() - i {
-        sum = added(sum, word(s[i], s[i + 1]));
-        i += 2;
+    let mut left = s;
+    while let [high, low, rest @ ..] = left {
+        sum = added(sum, word(*high, *low));
+        left = rest;
     }
-    if i < s.len() {
-        return added(sum, word(s[i], 0));
+    match left {
+        [] => sum,
+        [high, ..] => added(sum, word(*high, 0)),
     }
-    sum
 }
 
 // The checksum to send with the octets.

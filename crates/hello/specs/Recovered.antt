@@ -1,5 +1,5 @@
 -- REPLY-5, CAPTURE-5, CAPTURE-7: what the exported recovery returns.
-use Rattle.std.specs.Prelude.{ℕ, false, Result, Ok, Err}
+use Rattle.std.specs.Prelude.{false, Result, Ok, Err}
 use Rattle.capture.specs.declared.Refusal.{Refusal}
 use Rattle.capture.specs.declared.Recovered.{Recovered as Written}
 use Rattle.capture.specs.Answer.{number}

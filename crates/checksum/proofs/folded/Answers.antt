@@ -9,4 +9,4 @@ pub returns : goal.returns
 returns c =
     let s = c.args.s.now in
     changed_over s _ _ c.low_first.ensures c.swapped.ensures
-    ∙ sym (folded_sum s (of_places s (λ i. (c.shared_slice_known-1.given i).fits)))
+    ∙ sym (folded_sum s (of_places s (λ i. (c.type_inv.s i).fits)))

@@ -1,5 +1,5 @@
 -- How the second way computes the folded sum: full words, low octet first, are summed, and the carries are added at the end.
-use Rattle.std.specs.Prelude.{ℕ, zero, suc, ◌+◌, ◌*◌, ◌%◌, List, [], ◌∷◌, slice_index}
+use Rattle.std.specs.Prelude.{ℕ, zero, suc, ◌+◌, ◌*◌, ◌%◌, List, [], ◌∷◌}
 use Rattle.checksum.specs.Checksum.{all_ones}
 
 -- a total with its carries added in
@@ -21,10 +21,9 @@ word_sum = summed (λ x y. x * 256 + y)
 abbrev pub low_sum : List ℕ → ℕ
 low_sum = summed (λ x y. x + y * 256)
 
--- the number in four octets from place i on, the low one first
-abbrev pub low_four : List ℕ → ℕ → ℕ
-low_four octets i =
-    slice_index octets i + slice_index octets (i + 1) * 0x100 + slice_index octets (i + 2) * 0x10000 + slice_index octets (i + 3) * 0x1000000
+-- the number of four octets, the low one first
+abbrev pub low_four : (a b c d : ℕ) → ℕ
+low_four a b c d = a + b * 0x100 + c * 0x10000 + d * 0x1000000
 
 -- fewer octets than this are summed by a loop with little setup
 abbrev pub short_length : ℕ

@@ -1,9 +1,6 @@
-use Rattle.std.proofs.Common.{◌-◌, ◌*◌, ◌≤◌}
+use Rattle.std.proofs.Common.{◌*◌, ◌≤◌}
 use Rattle.checksum.proofs.LowFirst.{Halves}
 use Rattle.checksum.proofs.fours.total.Given as goal
 
 abbrev pub invariant-loop-k : goal.invariant-loop-k
-invariant-loop-k l = (l.k ≤ l.fours) × (l.high ≤ 0xffff * l.k) × Halves l.s l.k l.high l.sum
-
-abbrev pub decreases-loop-k : goal.decreases-loop-k
-decreases-loop-k l = l.fours - l.k
+invariant-loop-k l = (l.high ≤ 0xffff * l.k) × Halves l.s l.k l.high l.sum
