@@ -1,9 +1,11 @@
--- A test of each number from 0 on, one turn of a loop at a time: those that are still to be tested.
+-- Tests of all elements: by std, and one turn of a loop at a time.
 use mathlib.Core.Path.{◌≡◌, refl}
 use mathlib.Core.Bool.{Bool, true, false}
 use Prim.Native.Nat.{ℕ, suc, ◌+◌, ◌-◌, ◌≤◌, ◌<◌}
 use native.Mathlib.Numerals.{add-one}
 use native.Mathlib.Omega.{arith}
+use mathlib.Core.List.{List, [], ◌∷◌}
+use Rattle.std.specs.List.{list_all}
 use Rattle.table.specs.Forms.{every, up_from}
 
 module _ (test : ℕ → Bool) (n i : ℕ) where
@@ -15,3 +17,8 @@ module _ (test : ℕ → Bool) (n i : ℕ) where
 
   pub each_done : n ≤ i → every test (up_from i (n - i)) ≡ true
   each_done h = let s : n - i ≡ 0 = omega arith in rw s refl
+
+-- std's test of all elements is the one of the definitions
+pub every_is : {A : Type 0} → (test : A → Bool) (l : List A) → list_all test l ≡ every test l
+every_is test [] = refl
+every_is test (x ∷ l) = rw (every_is test l)

@@ -1,4 +1,3 @@
-pub mod Complement
 pub mod Each
 pub mod Marks
 pub mod Fits

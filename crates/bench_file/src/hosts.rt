@@ -54,10 +54,7 @@ const OVER: u64 = 4294967297;
 fn tick_of(n: u64) -> Units
     ensures { result ≡ tick_of n }
 {
-    if n < OVER {
-        return Units(n as i64);
-    }
-    Units(OVER as i64)
+    Units(n.min(OVER) as i64)
 }
 
 // The link of a slot, 0 to 7.
@@ -72,26 +69,14 @@ fn link_at(octets: &[u8], slot: usize) -> LinkSetting
     }
 }
 
-// The mark of an octet.
-fn mark(octet: u8) -> u64
-    ensures { (result ≡ min octet 1) × (result ≤ 1) }
-{
-    if octet == 0 {
-        return 0;
-    }
-    1
-}
-
 // 64 marks as a word, the first its lowest bit.
 fn word_at(octets: &[u8], at: usize) -> u64
     requires { at + 64 ≤ length octets.now }
     ensures { result ≡ word_of (part at 64 octets.now) }
 {
     let mut word: u64 = 0;
-    let mut i: usize = 64;
-    while 0 < i {
-        i -= 1;
-        word = word * 2 + mark(octets[at + i]);
+    for i in (0..64).rev() {
+        word = word * 2 + u64::from(octets[at + i].min(1));
     }
     word
 }
@@ -114,6 +99,7 @@ fn links_of(octets: &[u8]) -> [LinkSetting; 8]
     requires { host_length ≤ length octets.now }
     ensures { result ≡ (settings_of octets.now).links }
 {
+    // With `array::from_fn`, the proof that the closure returns the link of its slot doesn't close.
     [
         link_at(octets, 0),
         link_at(octets, 1),
@@ -161,14 +147,7 @@ fn marks_good(octets: &[u8]) -> bool
     requires { host_length ≤ length octets.now }
     ensures { result ≡ marks_good octets.now }
 {
-    let mut i: usize = 0;
-    while i < 256 {
-        if 1 < octet_at(octets, MARKS + i) {
-            return false;
-        }
-        i += 1;
-    }
-    true
+    octets[MARKS..MARKS + 256].iter().all(|mark| *mark <= 1)
 }
 
 // May a host of the class be set so?
@@ -194,13 +173,10 @@ pub fn hosts_good(table: NetTable, file: &[u8], header: Header) -> bool
     requires { Sections header (length file.now) }
     ensures { result ≡ hosts_good table file.now header }
 {
-    let n = header.hosts;
-    let mut i: usize = 0;
-    while i < n {
+    for i in 0..header.hosts {
         if !good_at(table, file, header, i) {
             return false;
         }
-        i += 1;
     }
     true
 }

@@ -48,11 +48,7 @@ pub enum Event {
 fn signed(n: u32) -> i32
     ensures { result ≡ signed_bits 32 n }
 {
-    if n < 2147483648 {
-        n as i32
-    } else {
-        !((4294967295 - n) as i32)
-    }
+    n.cast_signed()
 }
 
 // The octets of the header, and of each record.
@@ -157,35 +153,21 @@ pub fn event_of(part: &[u8]) -> Event
     requires { event_length ≤ length part.now }
     ensures { result ≡ event_of part.now }
 {
-    let kind = octet_at(part, 0);
-    if kind == 1 {
-        return Event::Tick(octet_at(part, 1), count_of(part));
-    }
-    if kind == 2 {
-        return Event::Adjust(octet_at(part, 1), count_of(part));
-    }
-    if kind == 3 {
-        let amount = signed(four_at(part, 10));
-        return Event::Set(octet_at(part, 1), amount, count_of(part));
-    }
-    if kind == 4 {
-        return Event::Second(octet_at(part, 1));
-    }
-    if kind == 5 {
-        return Event::SelfReport(octet_at(part, 1), counter_of(part));
-    }
-    if kind == 6 {
-        return Event::Send(
+    match part[0] {
+        1 => Event::Tick(octet_at(part, 1), count_of(part)),
+        2 => Event::Adjust(octet_at(part, 1), count_of(part)),
+        3 => Event::Set(octet_at(part, 1), signed(four_at(part, 10)), count_of(part)),
+        4 => Event::Second(octet_at(part, 1)),
+        5 => Event::SelfReport(octet_at(part, 1), counter_of(part)),
+        6 => Event::Send(
             octet_at(part, 2),
             octet_at(part, 3),
             octet_at(part, 4),
             counter_of(part),
-        );
+        ),
+        7 => Event::Arrival(octet_at(part, 4), counter_of(part)),
+        _ => Event::Unknown,
     }
-    if kind == 7 {
-        return Event::Arrival(octet_at(part, 4), counter_of(part));
-    }
-    Event::Unknown
 }
 
 pub fn event_at(file: &[u8], header: Header, event: usize) -> Event
@@ -231,10 +213,10 @@ fn event_good(header: Header, event: Event) -> bool
     ensures { result ≡ event_good header event }
 {
     match event {
-        Event::Tick(host, _) => host < header.hosts,
-        Event::Adjust(host, _) => host < header.hosts,
-        Event::Set(host, _, _) => host < header.hosts,
-        Event::Second(host) => host < header.hosts,
+        Event::Tick(host, _)
+        | Event::Adjust(host, _)
+        | Event::Set(host, _, _)
+        | Event::Second(host) => { host < header.hosts }
         Event::SelfReport(host, k) => (host < header.hosts) & mark_good(k),
         Event::Send(cable, end, slot, k) => (cable < header.cables)
             & ((end <= 1) & ((slot < SLOTS) & mark_good(k))),
@@ -247,13 +229,10 @@ pub fn cables_good(file: &[u8], header: Header) -> bool
     requires { Sections header (length file.now) }
     ensures { result ≡ cables_good file.now header }
 {
-    let n = header.cables;
-    let mut i: usize = 0;
-    while i < n {
+    for i in 0..header.cables {
         if !cable_good(file, header, i) {
             return false;
         }
-        i += 1;
     }
     true
 }
@@ -262,13 +241,10 @@ pub fn events_good(file: &[u8], header: Header) -> bool
     requires { Sections header (length file.now) }
     ensures { result ≡ events_good file.now header }
 {
-    let n = header.events;
-    let mut i: usize = 0;
-    while i < n {
+    for i in 0..header.events {
         if !event_good(header, event_at(file, header, i)) {
             return false;
         }
-        i += 1;
     }
     true
 }

@@ -11,17 +11,17 @@ unfolding cables_good
 returns-then-not-cable_good c =
     let a = c.args in
     let w = c.loop-i in
-    sym (w.invariant.1 ∙ each_bad (test a.file.now a.header) a.header.cables w.i (omega arith) (sym c.cable_good.ensures ∙ c.if-not-cable_good.true))
+    sym (w.invariant ∙ each_bad (test a.file.now a.header) a.header.cables w.i (omega arith) (sym c.cable_good.ensures ∙ c.if-not-cable_good.true))
 
 pub loop-i-preserved : goal.loop-i-preserved
 loop-i-preserved c =
     let a = c.args in
     let w = c.loop-i in
-    (omega arith, w.invariant.1 ∙ each_good (test a.file.now a.header) a.header.cables w.i (omega arith) (sym c.cable_good.ensures ∙ c.if-not-cable_good.false))
+    w.invariant ∙ each_good (test a.file.now a.header) a.header.cables w.i (omega arith) (sym c.cable_good.ensures ∙ c.if-not-cable_good.false)
 
 pub returns : goal.returns
 unfolding cables_good
 returns c =
     let a = c.args in
     let w = c.loop-i in
-    sym (w.invariant.1 ∙ each_done (test a.file.now a.header) a.header.cables w.i (omega arith))
+    sym (w.invariant ∙ each_done (test a.file.now a.header) a.header.cables w.i (omega arith))

@@ -1,68 +1,47 @@
--- Eight ways through `event_of`: in each, the branches taken decide the tests of the definition, with the contracts of `octet_at`, `count_of`, `four_at`, `signed` and others. Bounds follow by linear arithmetic.
-use borrow.Author.Rules.{rules}
+-- Eight kinds of record: the kind decides the tests of the definition, and the contracts of the readers give the fields.
 use native.Mathlib.Omega.{arith}
-use borrow.Author.Tests.{eq-eqb, ne_eqb}
+use borrow.Author.Tests.{ne_eqb}
+use borrow.Author.Rules.{rules}
 use Rattle.octets.specs.Octets.{octet_at}
 use Rattle.bench_file.specs.Records.{event_of}
-use mathlib.Core.Path.{◌∙◌}
+use mathlib.Core.Path.{◌≡◌, ◌∙◌}
 use mir.Syntax.{w32}
 use mir.Val.{SFits}
 use mir.ValLaws.{to_z-of_z}
 use Rattle.bench_file.proofs.event_of.Goals as goal
 
-pub returns-then-kind-eq1 : goal.returns-then-kind-eq1
+pub returns-in-1 : goal.returns-in-1
 unfolding event_of
-returns-then-kind-eq1 c =
-    let a = c.args in
-    let kind = c.octet_at-kind.ensures in
-    rw (eq-eqb (octet_at a.part.now 0) 1 (omega arith), c.octet_at.ensures, c.count_of.ensures)
+returns-in-1 c = rw (c.in-1.is, c.octet_at.ensures, c.count_of.ensures)
 
-pub returns-then-kind-eq2 : goal.returns-then-kind-eq2
+pub returns-in-2 : goal.returns-in-2
 unfolding event_of
-returns-then-kind-eq2 c =
-    let a = c.args in
-    let kind = c.octet_at-kind.ensures in
-    rw (ne_eqb (octet_at a.part.now 0) 1 (omega arith), eq-eqb (octet_at a.part.now 0) 2 (omega arith), c.octet_at-then-kind-eq2.ensures, c.count_of-then-kind-eq2.ensures)
+returns-in-2 c = rw (c.in-2.is, c.octet_at-in-2.ensures, c.count_of-in-2.ensures)
 
-pub returns-then-kind-eq3 : goal.returns-then-kind-eq3
+pub returns-in-3 : goal.returns-in-3
 unfolding event_of
-returns-then-kind-eq3 c =
-    let a = c.args in
-    let kind = c.octet_at-kind.ensures in
-    let f : SFits w32 c.signed-amount.result = search rules in
-    rw (ne_eqb (octet_at a.part.now 0) 1 (omega arith), ne_eqb (octet_at a.part.now 0) 2 (omega arith), eq-eqb (octet_at a.part.now 0) 3 (omega arith), c.octet_at-then-kind-eq3.ensures, to_z-of_z w32 c.signed-amount.result f, c.signed-amount.ensures, c.four_at.ensures, c.count_of-then-kind-eq3.ensures)
+returns-in-3 c =
+    let f : SFits w32 c.signed.result = search rules in
+    rw (c.in-3.is, c.octet_at-in-3.ensures, to_z-of_z w32 c.signed.result f, c.signed.ensures, c.four_at.ensures, c.count_of-in-3.ensures)
 
-pub returns-then-kind-eq4 : goal.returns-then-kind-eq4
+pub returns-in-4 : goal.returns-in-4
 unfolding event_of
-returns-then-kind-eq4 c =
-    let a = c.args in
-    let kind = c.octet_at-kind.ensures in
-    rw (ne_eqb (octet_at a.part.now 0) 1 (omega arith), ne_eqb (octet_at a.part.now 0) 2 (omega arith), ne_eqb (octet_at a.part.now 0) 3 (omega arith), eq-eqb (octet_at a.part.now 0) 4 (omega arith), c.octet_at-then-kind-eq4.ensures)
+returns-in-4 c = rw (c.in-4.is, c.octet_at-in-4.ensures)
 
-pub returns-then-kind-eq5 : goal.returns-then-kind-eq5
+pub returns-in-5 : goal.returns-in-5
 unfolding event_of
-returns-then-kind-eq5 c =
-    let a = c.args in
-    let kind = c.octet_at-kind.ensures in
-    rw (ne_eqb (octet_at a.part.now 0) 1 (omega arith), ne_eqb (octet_at a.part.now 0) 2 (omega arith), ne_eqb (octet_at a.part.now 0) 3 (omega arith), ne_eqb (octet_at a.part.now 0) 4 (omega arith), eq-eqb (octet_at a.part.now 0) 5 (omega arith), c.octet_at-then-kind-eq5.ensures, c.counter_of.ensures)
+returns-in-5 c = rw (c.in-5.is, c.octet_at-in-5.ensures, c.counter_of.ensures)
 
-pub returns-then-kind-eq6 : goal.returns-then-kind-eq6
+pub returns-in-6 : goal.returns-in-6
 unfolding event_of
-returns-then-kind-eq6 c =
-    let a = c.args in
-    let kind = c.octet_at-kind.ensures in
-    rw (ne_eqb (octet_at a.part.now 0) 1 (omega arith), ne_eqb (octet_at a.part.now 0) 2 (omega arith), ne_eqb (octet_at a.part.now 0) 3 (omega arith), ne_eqb (octet_at a.part.now 0) 4 (omega arith), ne_eqb (octet_at a.part.now 0) 5 (omega arith), eq-eqb (octet_at a.part.now 0) 6 (omega arith), c.octet_at-then-kind-eq6.ensures, c.octet_at-then-kind-eq6-2.ensures, c.octet_at-then-kind-eq6-3.ensures, c.counter_of-then-kind-eq6.ensures)
+returns-in-6 c = rw (c.in-6.is, c.octet_at-in-6.ensures, c.octet_at-in-6-2.ensures, c.octet_at-in-6-3.ensures, c.counter_of-in-6.ensures)
 
-pub returns-then-kind-eq7 : goal.returns-then-kind-eq7
+pub returns-in-7 : goal.returns-in-7
 unfolding event_of
-returns-then-kind-eq7 c =
-    let a = c.args in
-    let kind = c.octet_at-kind.ensures in
-    rw (ne_eqb (octet_at a.part.now 0) 1 (omega arith), ne_eqb (octet_at a.part.now 0) 2 (omega arith), ne_eqb (octet_at a.part.now 0) 3 (omega arith), ne_eqb (octet_at a.part.now 0) 4 (omega arith), ne_eqb (octet_at a.part.now 0) 5 (omega arith), ne_eqb (octet_at a.part.now 0) 6 (omega arith), eq-eqb (octet_at a.part.now 0) 7 (omega arith), c.octet_at-then-kind-eq7.ensures, c.counter_of-then-kind-eq7.ensures)
+returns-in-7 c = rw (c.in-7.is, c.octet_at-in-7.ensures, c.counter_of-in-7.ensures)
 
-pub returns : goal.returns
+pub returns-in_default : goal.returns-in_default
 unfolding event_of
-returns c =
-    let a = c.args in
-    let kind = c.octet_at-kind.ensures in
-    rw (ne_eqb (octet_at a.part.now 0) 1 (λ e. c.if-kind-eq1.false (kind ∙ e)), ne_eqb (octet_at a.part.now 0) 2 (λ e. c.if-kind-eq2.false (kind ∙ e)), ne_eqb (octet_at a.part.now 0) 3 (λ e. c.if-kind-eq3.false (kind ∙ e)), ne_eqb (octet_at a.part.now 0) 4 (λ e. c.if-kind-eq4.false (kind ∙ e)), ne_eqb (octet_at a.part.now 0) 5 (λ e. c.if-kind-eq5.false (kind ∙ e)), ne_eqb (octet_at a.part.now 0) 6 (λ e. c.if-kind-eq6.false (kind ∙ e)), ne_eqb (octet_at a.part.now 0) 7 (λ e. c.if-kind-eq7.false (kind ∙ e)))
+returns-in_default c =
+    let k = octet_at c.args.part.now 0 in
+    rw (ne_eqb k 1 (omega arith), ne_eqb k 2 (omega arith), ne_eqb k 3 (omega arith), ne_eqb k 4 (omega arith), ne_eqb k 5 (omega arith), ne_eqb k 6 (omega arith), ne_eqb k 7 (omega arith))

@@ -10,7 +10,4 @@ abbrev pub test : List ℕ → Header → ℕ → Bool
 test file h = λ (k : ℕ). event_good h (event_at file h k)
 
 abbrev pub invariant-loop-i : goal.invariant-loop-i
-invariant-loop-i l = (l.i ≤ l.n) × (every (test l.file l.header) (up_from 0 l.n) ≡ every (test l.file l.header) (up_from l.i (l.n - l.i)))
-
-abbrev pub decreases-loop-i : goal.decreases-loop-i
-decreases-loop-i l = l.n - l.i
+invariant-loop-i l = (every (test l.file l.header) (up_from 0 l.i-end) ≡ every (test l.file l.header) (up_from l.i (l.i-end - l.i)))

@@ -11,17 +11,17 @@ unfolding hosts_good
 returns-then-not-good_at c =
     let a = c.args in
     let w = c.loop-i in
-    sym (w.invariant.1 ∙ each_bad (test a.table a.file.now) a.header.hosts w.i (omega arith) (sym c.good_at.ensures ∙ c.if-not-good_at.true))
+    sym (w.invariant ∙ each_bad (test a.table a.file.now) a.header.hosts w.i (omega arith) (sym c.good_at.ensures ∙ c.if-not-good_at.true))
 
 pub loop-i-preserved : goal.loop-i-preserved
 loop-i-preserved c =
     let a = c.args in
     let w = c.loop-i in
-    (omega arith, w.invariant.1 ∙ each_good (test a.table a.file.now) a.header.hosts w.i (omega arith) (sym c.good_at.ensures ∙ c.if-not-good_at.false))
+    w.invariant ∙ each_good (test a.table a.file.now) a.header.hosts w.i (omega arith) (sym c.good_at.ensures ∙ c.if-not-good_at.false)
 
 pub returns : goal.returns
 unfolding hosts_good
 returns c =
     let a = c.args in
     let w = c.loop-i in
-    sym (w.invariant.1 ∙ each_done (test a.table a.file.now) a.header.hosts w.i (omega arith))
+    sym (w.invariant ∙ each_done (test a.table a.file.now) a.header.hosts w.i (omega arith))

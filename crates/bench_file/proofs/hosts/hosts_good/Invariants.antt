@@ -9,7 +9,4 @@ abbrev pub test : NetTable → List ℕ → ℕ → Bool
 test t file k = host_good t (host_record file k)
 
 abbrev pub invariant-loop-i : goal.invariant-loop-i
-invariant-loop-i l = (l.i ≤ l.n) × (every (test l.table l.file) (up_from 0 l.n) ≡ every (test l.table l.file) (up_from l.i (l.n - l.i)))
-
-abbrev pub decreases-loop-i : goal.decreases-loop-i
-decreases-loop-i l = l.n - l.i
+invariant-loop-i l = every (test l.table l.file) (up_from 0 l.i-end) ≡ every (test l.table l.file) (up_from l.i (l.i-end - l.i))

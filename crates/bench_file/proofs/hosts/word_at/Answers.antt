@@ -1,7 +1,7 @@
 -- After each turn the word has the marks from a place on.
 use native.Mathlib.Omega.{arith}
-use mathlib.Core.Path.{◌≡◌}
-use Prim.Native.Nat.{◌-◌, ◌+◌}
+use mathlib.Core.Path.{◌≡◌, ◌∙◌}
+use Prim.Native.Nat.{◌-◌, ◌+◌, ◌≤◌}
 use Rattle.bench_file.proofs.Marks.{word_on, word_none, one_bit}
 use Rattle.bench_file.proofs.hosts.word_at.Goals as goal
 
@@ -13,4 +13,6 @@ loop-i-preserved c =
     let a = c.args in
     let w = c.loop-i in
     let e : w.i - 1 + 1 ≡ w.i = omega arith in
-    (omega arith, word_on a.octets.now a.at (omega arith) (w.i - 1) w.word c.mark.result (omega arith) (rw e w.invariant.1) c.mark.ensures.0, one_bit w.word (w.i - 1) c.mark.result (omega arith) (rw e w.invariant.2) c.mark.ensures.1)
+    let mark = c.from.ensures ∙ c.min.ensures in
+    let one : c.from.result ≤ 1 = omega (arith, mark) in
+    (omega arith, word_on a.octets.now a.at (omega arith) (w.i - 1) w.word c.from.result (omega arith) (rw e w.invariant.1) mark, one_bit w.word (w.i - 1) c.from.result (omega arith) (rw e w.invariant.2) one)

@@ -7,6 +7,3 @@ use Rattle.bench_file.proofs.hosts.word_at.Given as goal
 
 abbrev pub invariant-loop-i : goal.invariant-loop-i
 invariant-loop-i l = (l.i ≤ 64) × (l.word ≡ word_of (drop l.i (part l.at 64 l.octets))) × (l.word < 2 ^ (64 - l.i))
-
-abbrev pub decreases-loop-i : goal.decreases-loop-i
-decreases-loop-i l = l.i
