@@ -5,8 +5,6 @@ use Prim.Native.Nat.{ℕ, zero, suc, ◌<◌}
 use native.Mathlib.Omega.{arith}
 use lib.ListN.{length, get_or}
 use lib.IntN.{pos}
-use Rattle.quantity.specs.Quantity.{millis}
-use Rattle.clock.specs.Clock.{fresh_clock}
 use Rattle.host.specs.Walk.{no_walk}
 use Rattle.bench.specs.declared.HostState.{HostState}
 
@@ -16,5 +14,5 @@ any_default (x ∷ l) zero d e h = refl
 any_default (x ∷ l) (suc i) d e h = any_default l i d e (omega arith)
 
 -- a state of no host
-pub nobody : HostState
-nobody = record { clock = fresh_clock (millis (pos 0)) record { 0 = 0 }; links = record { all = [] }; walk = no_walk }
+abbrev pub nobody : HostState
+nobody = record { clock = record { clock = record { 0 = pos 0 }; delta = record { 0 = pos 0 }; hold = record { 0 = 0 }; date = record { 0 = 0 } }; links = record { all = [] }; walk = no_walk }

@@ -1,6 +1,4 @@
 -- What only the code needs.
-pub mod HostAfter
-pub mod States
 pub mod Asks
 pub mod Sends
 pub mod Takes

@@ -62,12 +62,9 @@ pub fn turns(
     ensures { TurnsLeave file.now net_table.now hosts.old copies.now entries.old slots.old answers.old w
         hosts.new entries.new slots.new answers.new }
 {
-    let end = w.end;
-    let mut i = w.first;
-    while i < end {
+    for i in w.first..w.end {
         event_at(
             file, net_table, hosts, copies, entries, slots, answers, i, w,
         );
-        i = i + 1;
     }
 }

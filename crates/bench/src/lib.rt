@@ -17,7 +17,6 @@ use sets::sets;
 use slots::clear;
 use table::Entry;
 
-mod at_host;
 mod events;
 mod guard;
 mod places;
@@ -27,7 +26,6 @@ mod returned;
 mod sends;
 mod sets;
 mod slots;
-mod states;
 mod takes;
 
 // A host of the bench: its clock, its links and its walk.
@@ -56,12 +54,13 @@ pub struct Lengths {
     pub answers: usize,
 }
 
-#[derive(Clone, Copy)]
+// The answers of set-up and run, with their numbers in the published table.
+#[derive(Clone, Copy, PartialEq, Eq)]
 pub enum Answer {
-    Done,
-    OutOfRange,
-    Header,
-    Absent,
+    Done = 0,
+    OutOfRange = 12,
+    Header = 18,
+    Absent = 19,
 }
 
 // What a run answers: its answer, and how many events it carried out.
@@ -71,15 +70,11 @@ pub struct Ran {
     pub count: usize,
 }
 
-// The number of an answer in the published table.
-pub fn number(a: Answer) -> u8
-    ensures { result ≡ number a }
-{
-    match a {
-        Answer::Done => 0,
-        Answer::OutOfRange => 12,
-        Answer::Header => 18,
-        Answer::Absent => 19,
+impl From<Answer> for u8 {
+    ghost from_gives = { λ a n. n ≡ number a };
+
+    fn from(a: Answer) -> u8 {
+        a as u8
     }
 }
 
@@ -87,7 +82,7 @@ pub fn number(a: Answer) -> u8
 fn passes(a: Answer) -> bool
     ensures { result ≡ passes a }
 {
-    number(a) == 0
+    a == Answer::Done
 }
 
 // All hosts are initialized from the file, slots and answers are cleared, and no event is done.

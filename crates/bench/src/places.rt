@@ -1,5 +1,6 @@
 // The place of a host's copy of a packet among the copies, and of an event's answer among the answers.
 ghost use Rattle.std.specs.Prelude.{◌≡◌, ◌+◌, ◌*◌, ◌≤◌, ◌<◌, length, set};
+ghost use Rattle.lists.specs.Lists.{part};
 ghost use Rattle.answer.specs.declared.Answer.TheVariants.{IpForm};
 ghost use Rattle.answer.specs.Answer.{number};
 ghost use Rattle.host.specs.Guard.{longest};
@@ -7,19 +8,12 @@ ghost use Rattle.host.specs.Guard.{longest};
 use answer::Answer;
 use host::{LONGEST, Reply};
 
-// Where the host's copy of a packet begins.
-pub fn copy_start(host: usize) -> usize
-    requires { host ≤ 15 }
-    ensures { result ≡ longest * host }
+// The host's copy of a packet.
+pub fn copy_of(copies: &[u8], host: usize) -> &[u8]
+    requires { (host ≤ 15) × (longest * host + longest ≤ length copies.now) }
+    ensures { result.now ≡ part (longest * host) longest copies.now }
 {
-    LONGEST * host
-}
-
-pub fn copy_end(host: usize) -> usize
-    requires { host ≤ 15 }
-    ensures { result ≡ longest * host + longest }
-{
-    LONGEST * host + LONGEST
+    &copies[LONGEST * host..LONGEST * host + LONGEST]
 }
 
 // The answer of an event is stored.

@@ -2,9 +2,7 @@
 ghost use Rattle.bench.specs.code.Asks.{AskFits, DoesAsk};
 
 use super::HostState;
-use super::at_host::asked;
-use super::places::{copy_end, copy_start};
-use super::states::{put_state, state_after, state_at};
+use super::places::copy_of;
 use calls::Request;
 use host::{Reply, Settings};
 use net_table::NetTable;
@@ -28,21 +26,16 @@ pub fn ask_at(
     requires { AskFits w hosts.old copies.now }
     ensures { DoesAsk w net_table.now hosts.old copies.now entries.old result hosts.new entries.new }
 {
-    let low = copy_start(w.host);
-    let high = copy_end(w.host);
-    let v = state_at(hosts, w.host);
-    let o = asked(
-        w.settings,
+    let v = &mut hosts[w.host];
+    calls::call(
+        &w.settings,
         net_table,
         w.host,
-        v.clock,
-        v.links,
-        v.walk,
-        &copies[low..high],
+        &mut v.clock,
+        &mut v.links,
+        &mut v.walk,
+        copy_of(copies, w.host),
         entries,
         w.request,
-    );
-    let s = state_after(o);
-    put_state(hosts, w.host, s);
-    o.reply
+    )
 }

@@ -6,10 +6,8 @@ ghost use Rattle.bench.specs.Slots.{slot_length};
 ghost use Rattle.bench.specs.code.Sends.{SendFits, DoesSend, labelled};
 
 use super::HostState;
-use super::at_host::sent;
-use super::places::{copy_end, copy_start};
+use super::places::copy_of;
 use super::slots::{put_label, room_end, room_start};
-use super::states::{put_state, state_after, state_at};
 use clock::Counter;
 use host::{Reply, Settings};
 use net_table::NetTable;
@@ -50,26 +48,20 @@ pub fn send_at(
     requires { SendFits w hosts.old copies.now slots.old }
     ensures { DoesSend w net_table.now hosts.old copies.now entries.now slots.old result hosts.new slots.new }
 {
-    let low = copy_start(w.host);
-    let high = copy_end(w.host);
-    let here = room_start(w.slot);
-    let there = room_end(w.slot);
-    let v = state_at(hosts, w.host);
-    let o = sent(
-        w.settings,
+    let v = &mut hosts[w.host];
+    let reply = calls::send(
+        &w.settings,
         net_table,
         w.host,
-        v.clock,
-        v.links,
-        v.walk,
-        &copies[low..high],
+        &mut v.clock,
+        &mut v.links,
+        &v.walk,
+        copy_of(copies, w.host),
         entries,
         w.link,
         w.counter,
-        &mut slots[here..there],
+        &mut slots[room_start(w.slot)..room_end(w.slot)],
     );
-    let s = state_after(o);
-    put_state(hosts, w.host, s);
-    label(slots, w, o.reply);
-    o.reply
+    label(slots, w, reply);
+    reply
 }

@@ -61,10 +61,7 @@ pub fn sets(
     requires { SetsFit file.now w hosts.old copies.now }
     ensures { SetsHosts file.now w net_table.now hosts.old copies.now entries.old hosts.new entries.new }
 {
-    let end = w.end;
-    let mut i = w.first;
-    while i < end {
+    for i in w.first..w.end {
         set_at(file, net_table, hosts, copies, entries, i, w);
-        i = i + 1;
     }
 }

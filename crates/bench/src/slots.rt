@@ -77,12 +77,10 @@ pub fn slots_good(h: Header, octets: &[u8]) -> bool
     requires { slot_length * slots ≤ length octets.now }
     ensures { result ≡ slots_good h octets.now }
 {
-    let mut i: usize = 0;
-    while i < SLOTS {
+    for i in 0..SLOTS {
         if !label_good(h, label_at(octets, i)) {
             return false;
         }
-        i += 1;
     }
     true
 }
@@ -104,9 +102,5 @@ pub fn clear(octets: &mut [u8], n: usize)
     requires { n ≤ length octets.old }
     ensures { octets.new ≡ zeros n octets.old }
 {
-    let mut i: usize = 0;
-    while i < n {
-        octets[i] = 0;
-        i += 1;
-    }
+    octets[..n].fill(0);
 }

@@ -7,10 +7,8 @@ ghost use Rattle.bench.specs.Slots.{room_place};
 ghost use Rattle.bench.specs.code.Takes.{TakeFits, DoesLook, DoesAct, DoesTake};
 
 use super::HostState;
-use super::at_host::{HostAfter, inspected, taken};
-use super::places::{copy_end, copy_start};
+use super::places::copy_of;
 use super::slots::room_start;
-use super::states::{put_state, state_after, state_at};
 use arrival::Delivery;
 use clock::Counter;
 use host::{Reply, Settings};
@@ -56,26 +54,22 @@ fn look_at(
     entries: &[Entry],
     slots: &[u8],
     w: Taking,
-) -> HostAfter
+) -> Reply
     requires { TakeFits w hosts.now copies.now slots.now }
     ensures { DoesLook w net_table.now hosts.now copies.now entries.now slots.now result }
 {
-    let low = copy_start(w.host);
-    let high = copy_end(w.host);
-    let here = room_start(w.slot);
-    let there = packet_end(w.slot, w.size);
-    let v = state_at(hosts, w.host);
-    inspected(
-        w.settings,
+    let v = &hosts[w.host];
+    calls::inspect(
+        &w.settings,
         net_table,
         w.host,
-        v.clock,
-        v.links,
-        v.walk,
-        &copies[low..high],
+        &v.clock,
+        &v.links,
+        &v.walk,
+        copy_of(copies, w.host),
         entries,
         w.link,
-        &slots[here..there],
+        &slots[room_start(w.slot)..packet_end(w.slot, w.size)],
     )
 }
 
@@ -90,27 +84,19 @@ fn act_at(
     requires { TakeFits w hosts.old copies.now slots.now }
     ensures { DoesAct w net_table.now hosts.old copies.now entries.old slots.now result hosts.new entries.new }
 {
-    let low = copy_start(w.host);
-    let high = copy_end(w.host);
-    let here = room_start(w.slot);
-    let there = packet_end(w.slot, w.size);
-    let d = acts(w.link, w.counter);
-    let v = state_at(hosts, w.host);
-    let o = taken(
-        w.settings,
+    let v = &mut hosts[w.host];
+    calls::deliver(
+        &w.settings,
         net_table,
         w.host,
-        v.clock,
-        v.links,
-        v.walk,
-        &copies[low..high],
+        &mut v.clock,
+        &mut v.links,
+        &v.walk,
+        copy_of(copies, w.host),
         entries,
-        d,
-        &slots[here..there],
-    );
-    let s = state_after(o);
-    put_state(hosts, w.host, s);
-    o.reply
+        acts(w.link, w.counter),
+        &slots[room_start(w.slot)..packet_end(w.slot, w.size)],
+    )
 }
 
 pub fn take_at(
@@ -124,10 +110,9 @@ pub fn take_at(
     requires { TakeFits w hosts.old copies.now slots.now }
     ensures { DoesTake w net_table.now hosts.old copies.now entries.old slots.now result hosts.new entries.new }
 {
-    let o = look_at(net_table, hosts, copies, entries, slots, w);
-    let b = passes(o.reply);
-    if b {
-        return act_at(net_table, hosts, copies, entries, slots, w);
+    let reply = look_at(net_table, hosts, copies, entries, slots, w);
+    if !passes(reply) {
+        return reply;
     }
-    o.reply
+    act_at(net_table, hosts, copies, entries, slots, w)
 }

@@ -23,9 +23,8 @@ pub struct BenchRan {
 fn ran_returned(o: Ran) -> BenchRan
     ensures { result ≡ ran_returned o }
 {
-    let a = o.answer;
     BenchRan {
-        answer: bench::number(a),
+        answer: o.answer.into(),
         count: o.count,
     }
 }
@@ -51,7 +50,7 @@ pub extern "C" fn hello_bench_set_up(
     let a = bench::set_up(
         file, net_table, hosts, copies, entries, slots, answers, progress,
     );
-    bench::number(a)
+    a.into()
 }
 
 // The next events of the file in order, as many as are allowed.

@@ -11,8 +11,6 @@ use Rattle.bench_file.specs.Absent as file
 use Rattle.bench.specs.declared.HostState.{HostState}
 use Rattle.bench.specs.declared.takes.Taking.{Taking}
 use Rattle.bench.specs.Slots.{slot_length, room_place}
-use Rattle.bench.specs.declared.at_host.HostAfter.{HostAfter}
-use Rattle.bench.specs.code.HostAfter.{after_of}
 
 pub record TakeFits (w : Taking) (hosts : List HostState) (copies slots : List ℕ) : Type 0 where
   pub host : w.host ≤ 15
@@ -45,9 +43,9 @@ module _ (w : Taking) (o : Outcome) (hosts hosts' : List HostState) (entries' : 
 
 -- ---- for every default state of an absent host
 
-abbrev pub LookLeaves : Taking → NetTable → List HostState → (copies : List ℕ) → List Entry → (slots : List ℕ) → HostAfter → Type 0
+abbrev pub LookLeaves : Taking → NetTable → List HostState → (copies : List ℕ) → List Entry → (slots : List ℕ) → Reply → Type 0
 LookLeaves w t hosts copies entries slots r =
-    (d : HostState) → r ≡ after_of (perform (inspect w.link (packet w t hosts copies entries slots d)) (host_of w t hosts copies entries slots d))
+    (d : HostState) → r ≡ (perform (inspect w.link (packet w t hosts copies entries slots d)) (host_of w t hosts copies entries slots d)).reply
 
 abbrev pub ActLeaves : Taking → NetTable → List HostState → (copies : List ℕ) → List Entry → (slots : List ℕ) → List HostState → List Entry → Reply → Type 0
 ActLeaves w t hosts copies entries slots hosts' entries' r =
@@ -61,7 +59,7 @@ TakeLeaves w t hosts copies entries slots hosts' entries' r =
 -- ---- the contracts, over the parameters
 
 module _ (w : Taking) (nets : NetTable) (hosts : List HostState) (copies : List ℕ) (entries : List Entry) (slots : List ℕ) where
-  abbrev pub DoesLook : HostAfter → Type 0
+  abbrev pub DoesLook : Reply → Type 0
   DoesLook r = LookLeaves w nets hosts copies entries slots r
 
   abbrev pub DoesAct : Reply → List HostState → List Entry → Type 0

@@ -13,7 +13,6 @@ loop-i-init c =
     let a = c.args in
     let none : a.w.first - a.w.first ≡ 0 = omega arith in (
       omega arith,
-      c.requires.first,
       subst⁻¹ (λ (n : ℕ). HostAfter (steps a.file.now a.net_table.now n (bench a.hosts.now a.copies.now a.entries.now a.slots.now a.answers.now a.w.first)) a.hosts.now a.entries.now a.slots.now a.answers.now) none
           (no_turn a.file.now a.net_table.now a.hosts.now a.copies.now a.entries.now a.slots.now a.answers.now a.w),
     )
@@ -25,7 +24,7 @@ event_at-requires c =
     let first = l.invariant.0 in
     let here : a.w.first + (l.i - a.w.first) ≡ l.i = omega arith in
     may a.file.now a.net_table.now a.hosts.now a.copies.now a.entries.now a.slots.now a.answers.now a.w c.requires (l.i - a.w.first) l.i here c.loop-i-test.true
-    l.hosts l.entries l.slots l.answers l.invariant.2 l.auto.hosts l.auto.entries l.auto.slots l.auto.answers
+    l.hosts l.entries l.slots l.answers l.invariant.1 l.auto.hosts l.auto.entries l.auto.slots l.auto.answers
 
 pub loop-i-preserved : goal.loop-i-preserved
 loop-i-preserved c =
@@ -35,8 +34,7 @@ loop-i-preserved c =
     let here : a.w.first + (l.i - a.w.first) ≡ l.i = omega arith in
     let more : l.i + 1 - a.w.first ≡ suc (l.i - a.w.first) = omega arith in (
       omega arith,
-      omega arith,
       subst⁻¹ (λ (n : ℕ). HostAfter (steps a.file.now a.net_table.now n (bench a.hosts.now a.copies.now a.entries.now a.slots.now a.answers.now a.w.first)) c.event_at.new.hosts c.event_at.new.entries c.event_at.new.slots c.event_at.new.answers) more
           (one_turn a.file.now a.net_table.now a.hosts.now a.copies.now a.entries.now a.slots.now a.answers.now a.w c.requires (l.i - a.w.first) l.i here c.loop-i-test.true
-          l.hosts l.entries l.slots l.answers l.invariant.2 _ _ _ _ c.event_at.ensures),
+          l.hosts l.entries l.slots l.answers l.invariant.1 _ _ _ _ c.event_at.ensures),
     )

@@ -7,8 +7,5 @@ use Rattle.bench.proofs.events.turns.Given as goal
 
 abbrev pub invariant-loop-i : goal.invariant-loop-i
 invariant-loop-i l =
-    (l.w.first ≤ l.i) × (l.i ≤ l.end)
+    (l.w.first ≤ l.i)
     × HostAfter (steps l.file l.net_table (l.i - l.w.first) (bench l.initial.hosts l.copies l.initial.entries l.initial.slots l.initial.answers l.w.first)) l.hosts l.entries l.slots l.answers
-
-abbrev pub decreases-loop-i : goal.decreases-loop-i
-decreases-loop-i l = l.end - l.i

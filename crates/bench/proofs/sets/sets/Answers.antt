@@ -45,7 +45,6 @@ loop-i-init c =
     let a = c.args in
     let none : a.w.first - a.w.first ≡ 0 = omega arith in (
       omega arith,
-      c.requires.first,
       λ slots answers m. subst⁻¹ (λ (n : ℕ). HostsAfter (set_to a.file.now a.net_table.now a.hosts.now a.copies.now a.entries.now a.w.first slots answers m n) a.hosts.now a.entries.now) none
           (none_yet a.file.now a.net_table.now a.hosts.now a.copies.now a.entries.now a.w.first slots answers m),
     )
@@ -58,7 +57,6 @@ loop-i-preserved c =
     let here : a.w.first + (c.loop-i.i - a.w.first) ≡ c.loop-i.i = omega arith in
     let more : c.loop-i.i + 1 - a.w.first ≡ suc (c.loop-i.i - a.w.first) = omega arith in (
       omega arith,
-      omega arith,
       λ slots answers m. subst⁻¹ (λ (n : ℕ). HostsAfter (set_to a.file.now a.net_table.now a.hosts.now a.copies.now a.entries.now a.w.first slots answers m n) c.set_at.new.hosts c.set_at.new.entries) more
-          (one_more a.file.now a.net_table.now a.hosts.now a.copies.now a.entries.now a.w.first slots answers m (c.loop-i.i - a.w.first) c.loop-i.i here c.loop-i.hosts _ c.loop-i.entries _ (l.2 slots answers m) c.set_at.ensures),
+          (one_more a.file.now a.net_table.now a.hosts.now a.copies.now a.entries.now a.w.first slots answers m (c.loop-i.i - a.w.first) c.loop-i.i here c.loop-i.hosts _ c.loop-i.entries _ (l.1 slots answers m) c.set_at.ensures),
     )

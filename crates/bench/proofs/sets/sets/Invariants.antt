@@ -8,8 +8,5 @@ use Rattle.bench.proofs.sets.sets.Given as goal
 
 abbrev pub invariant-loop-i : goal.invariant-loop-i
 invariant-loop-i l =
-    (l.w.first ≤ l.i) × (l.i ≤ l.end)
+    (l.w.first ≤ l.i)
     × ((slots answers : List ℕ) (n : ℕ) → HostsAfter (all_set l.file l.net_table l.w.first (l.i - l.w.first) (bench l.initial.hosts l.copies l.initial.entries slots answers n)) l.hosts l.entries)
-
-abbrev pub decreases-loop-i : goal.decreases-loop-i
-decreases-loop-i l = l.end - l.i

@@ -1,10 +1,13 @@
--- After each turn one octet more is zero.
-use native.Mathlib.Omega.{arith}
-use lib.ListN.{length-set}
-use Rattle.bench.proofs.Zeros.{zeros_more}
+-- `fill` writes a zero for each of the first n octets.
+use mathlib.Core.Path.{ap, ◌∙◌}
+use mathlib.Core.List.{List, ◌++◌}
+use Prim.Native.Nat.{ℕ}
+use lib.ListN.{take, drop}
+use Rattle.std.proofs.Common.{rules}
+use Rattle.bench.proofs.Zeros.{zero_each}
 use Rattle.bench.proofs.slots.clear.Goals as goal
 
-pub loop-i-preserved : goal.loop-i-preserved
-loop-i-preserved c =
-    let w = c.loop-i in
-    (omega arith, simp length-set w.invariant.1, rw w.invariant.2 (zeros_more c.args.octets.now w.i (omega arith)))
+pub returns : goal.returns
+returns c =
+    let a = c.args in
+    ap (λ (l : List ℕ). l ++ drop a.n a.octets.now) (c.fill.ensures.after (λ y e. search rules) ∙ zero_each (take a.n a.octets.now))

@@ -10,17 +10,17 @@ unfolding slots_good
 returns-then-not-label_good c =
     let a = c.args in
     let w = c.loop-i in
-    sym (w.invariant.1 ∙ each_bad (slot_good a.h a.octets.now) 32 w.i (omega arith) (ap (label_good a.h) (sym c.label_at.ensures) ∙ sym c.label_good.ensures ∙ c.if-not-label_good.true))
+    sym (w.invariant ∙ each_bad (slot_good a.h a.octets.now) 32 w.i (omega arith) (ap (label_good a.h) (sym c.label_at.ensures) ∙ sym c.label_good.ensures ∙ c.if-not-label_good.true))
 
 pub loop-i-preserved : goal.loop-i-preserved
 loop-i-preserved c =
     let a = c.args in
     let w = c.loop-i in
-    (omega arith, w.invariant.1 ∙ each_good (slot_good a.h a.octets.now) 32 w.i (omega arith) (ap (label_good a.h) (sym c.label_at.ensures) ∙ sym c.label_good.ensures ∙ c.if-not-label_good.false))
+    w.invariant ∙ each_good (slot_good a.h a.octets.now) 32 w.i (omega arith) (ap (label_good a.h) (sym c.label_at.ensures) ∙ sym c.label_good.ensures ∙ c.if-not-label_good.false)
 
 pub returns : goal.returns
 unfolding slots_good
 returns c =
     let a = c.args in
     let w = c.loop-i in
-    sym (w.invariant.1 ∙ each_done (slot_good a.h a.octets.now) 32 w.i (omega arith))
+    sym (w.invariant ∙ each_done (slot_good a.h a.octets.now) 32 w.i (omega arith))

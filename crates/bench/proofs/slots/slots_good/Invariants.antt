@@ -5,7 +5,4 @@ use Rattle.bench.specs.Slots.{slot_good}
 use Rattle.bench.proofs.slots.slots_good.Given as goal
 
 abbrev pub invariant-loop-i : goal.invariant-loop-i
-invariant-loop-i l = (l.i ≤ 32) × (every (slot_good l.h l.octets) (up_from 0 32) ≡ every (slot_good l.h l.octets) (up_from l.i (32 - l.i)))
-
-abbrev pub decreases-loop-i : goal.decreases-loop-i
-decreases-loop-i l = 32 - l.i
+invariant-loop-i l = every (slot_good l.h l.octets) (up_from 0 32) ≡ every (slot_good l.h l.octets) (up_from l.i (32 - l.i))

@@ -14,7 +14,6 @@ use Rattle.host.specs.CallState.{CallState}
 use Rattle.calls.specs.Perform.{Outcome, inspect, act, perform, in_turn}
 use Rattle.calls.proofs.Pair.{leaves, looks as keeps}
 use Rattle.bench.specs.declared.HostState.{HostState}
-use Rattle.bench.specs.declared.at_host.HostAfter.{HostAfter}
 use Rattle.bench.specs.declared.takes.Taking.{Taking}
 use Rattle.bench.specs.code.Takes.{TakeDone, LookLeaves, ActLeaves, TakeLeaves, host_of, packet}
 use Rattle.bench.proofs.takes.take_at.Goals as goal
@@ -26,31 +25,31 @@ module _ (i : ℕ) (k : Counter) (octets : List ℕ) (x : CallState) where
   refusing : done (perform (inspect i octets) x).reply.answer ≡ false → perform (inspect i octets) x ≡ in_turn i k octets x
   refusing e = rw e refl
 
-module _ (t : NetTable) (hosts : List HostState) (copies : List ℕ) (entries : List Entry) (octets : List ℕ) (w : Taking) (o : HostAfter) (o_is : LookLeaves w t hosts copies entries octets o)
-    (b : Bool) (b-is : b ≡ done o.reply.answer) where
+module _ (t : NetTable) (hosts : List HostState) (copies : List ℕ) (entries : List Entry) (octets : List ℕ) (w : Taking) (o : Reply) (o_is : LookLeaves w t hosts copies entries octets o)
+    (b : Bool) (b-is : b ≡ done o.answer) where
   passes : b ≡ true → (hosts' : List HostState) (entries' : List Entry) (r : Reply) → ActLeaves w t hosts copies entries octets hosts' entries' r → TakeLeaves w t hosts copies entries octets hosts' entries' r
   passes e hosts' entries' r did d =
       subst (λ (z : Outcome). TakeDone w z hosts hosts' entries' r)
-      (passing w.link w.counter (packet w t hosts copies entries octets d) (host_of w t hosts copies entries octets d) (ap (λ (l : HostAfter). done l.reply.answer) (sym (o_is d)) ∙ sym b-is ∙ e)) (did d)
+      (passing w.link w.counter (packet w t hosts copies entries octets d) (host_of w t hosts copies entries octets d) (ap (λ (r : Reply). done r.answer) (sym (o_is d)) ∙ sym b-is ∙ e)) (did d)
 
-  refuses : b ≡ false → TakeLeaves w t hosts copies entries octets hosts entries o.reply
+  refuses : b ≡ false → TakeLeaves w t hosts copies entries octets hosts entries o
   refuses e d =
       let x : CallState = host_of w t hosts copies entries octets d in
       let p : List ℕ = packet w t hosts copies entries octets d in
-      subst (λ (z : Outcome). TakeDone w z hosts hosts entries o.reply)
-      (refusing w.link w.counter p x (ap (λ (l : HostAfter). done l.reply.answer) (sym (o_is d)) ∙ sym b-is ∙ e))
+      subst (λ (z : Outcome). TakeDone w z hosts hosts entries o)
+      (refusing w.link w.counter p x (ap (λ (r : Reply). done r.answer) (sym (o_is d)) ∙ sym b-is ∙ e))
       record {
         states = sym (set-get_or hosts w.host d) ∙ ap (λ (z : Outcome). set hosts w.host record { clock = z.clock; links = z.links; walk = z.walk }) (sym (leaves w.link p x));
         own_entries = ap (λ (z : Outcome). z.entries) (sym (leaves w.link p x));
-        reply = ap (λ (l : HostAfter). l.reply) (o_is d);
+        reply = o_is d;
       }
-
-pub returns-then-b : goal.returns-then-b
-returns-then-b c =
-    let a = c.args in
-    passes a.net_table.now a.hosts.now a.copies.now a.entries.now a.slots.now a.w c.look_at-o.result c.look_at-o.ensures c.passes-b.result c.passes-b.ensures c.if-b.true _ _ _ c.act_at.ensures
 
 pub returns : goal.returns
 returns c =
     let a = c.args in
-    refuses a.net_table.now a.hosts.now a.copies.now a.entries.now a.slots.now a.w c.look_at-o.result c.look_at-o.ensures c.passes-b.result c.passes-b.ensures c.if-b.false
+    passes a.net_table.now a.hosts.now a.copies.now a.entries.now a.slots.now a.w c.look_at-reply.result c.look_at-reply.ensures c.passes.result c.passes.ensures c.if-not-passes.false _ _ _ c.act_at.ensures
+
+pub returns-then-not-passes : goal.returns-then-not-passes
+returns-then-not-passes c =
+    let a = c.args in
+    refuses a.net_table.now a.hosts.now a.copies.now a.entries.now a.slots.now a.w c.look_at-reply.result c.look_at-reply.ensures c.passes.result c.passes.ensures c.if-not-passes.true
