@@ -1,9 +1,0 @@
--- The count rises to its end.
-use Prim.Native.Nat.{◌≤◌, ◌-◌}
-use Rattle.hello_bench.proofs.own_entries.Given as goal
-
-abbrev pub invariant-loop-k : goal.invariant-loop-k
-invariant-loop-k l = l.k ≤ l.n
-
-abbrev pub decreases-loop-k : goal.decreases-loop-k
-decreases-loop-k l = l.n - l.k
