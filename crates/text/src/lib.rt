@@ -42,7 +42,7 @@ fn deliver(out: &mut [u8], octets: &[u8]) -> Result<usize, Refusal>
     Ok(length)
 }
 
-// Whether a message is as long as its NHOSTS says.
+// Whether a message is as long as its NHOSTS says. The test of this in `wire` is private to it.
 #[tactic(auto, unfolding(wire::specs::Hello::hello_form))]
 fn is_message(message: &[u8]) -> bool
     ensures { result ≡ hello_form message.now }

@@ -22,7 +22,7 @@ pub enum Word {
     Offset,
 }
 
-// What the rest of the present word must be.
+// What the rest of the present word must be. `Refused` is one of these, since the definition of what may follow goes by cases over them.
 #[derive(Clone, Copy, PartialEq, Eq)]
 pub enum Rest {
     Hello,
