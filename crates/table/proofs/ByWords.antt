@@ -98,9 +98,9 @@ module _ (entries : List Entry) (w : Scan) (h : InEntries w.first w.end entries)
       word_more k N l (omega (arith, m)) (omega arith) (rw (lt-ltb _ _ few) (omega (arith, h.rising)))
 
   -- and all
-  pub all_good : w.good ≡ true → passed w entries N ≡ all_in_range w entries
+  pub all_good : passed w entries N ≡ all_in_range w entries
   unfolding all_in_range
-  all_good so = rw (so) (sym (at_once 0 entry_in_range (as_marked w.marks) (part w.first N entries)))
+  all_good = sym (at_once 0 entry_in_range (as_marked w.marks) (part w.first N entries))
 
 -- ---- the stretch of a word
 

@@ -1,5 +1,5 @@
 // The host table that all hosts share, as a borrowed slice: one loop for each use. A loop goes over the places from `first` up to `end`, and touches no other.
-ghost use Rattle.std.specs.Prelude.{◌≡◌, true, ◌+◌, ◌-◌, ◌*◌, ◌≤◌};
+ghost use Rattle.std.specs.Prelude.{◌≡◌, true, ℕ, ◌-◌, ◌≤◌, ◌<◌, IfSome, length};
 ghost use Rattle.clock.specs.Clock.{clock_in_range};
 ghost use Rattle.wire.specs.code.Ranges.{Two};
 ghost use Rattle.table.specs.declared.entries.Change.TheVariants.{Fresh};
@@ -18,12 +18,11 @@ use clock::Clock;
 use quantity::{Count, Millis, Seconds, Word};
 use wire::Report;
 
-// Are the entries within their ranges, and marked as they should be? `first` is the place of id 0, and `good` the answer where there are none.
+// Are the entries within their ranges, and marked as they should be? `first` is the place of id 0.
 #[derive(Clone, Copy)]
 pub struct Scan {
     pub first: usize,
     pub end: usize,
-    pub good: bool,
     pub marks: Marks,
 }
 
@@ -33,14 +32,6 @@ pub struct Stretch {
     pub first: usize,
     pub end: usize,
     pub word: u64,
-}
-
-// The entry of a place, or `entry` where there is no place.
-#[derive(Clone, Copy)]
-pub struct Seek {
-    pub first: usize,
-    pub end: usize,
-    pub entry: Entry,
 }
 
 // A change of an entry: it is initialized, it ages by a second, its host reports itself at a reading if it lives here, or another entry replaces it.
@@ -151,9 +142,6 @@ pub fn all_in_range(entries: &[Entry], w: Scan) -> bool
     requires { InEntries w.first w.end entries.now }
     ensures { result ≡ all_in_range w entries.now }
 {
-    if !w.good {
-        return false;
-    }
     let ids = w.end - w.first;
     let words = ids / 64 + 1;
     for k in 0..words {
@@ -164,18 +152,20 @@ pub fn all_in_range(entries: &[Entry], w: Scan) -> bool
     true
 }
 
-pub fn entry_of(entries: &[Entry], w: Seek) -> Entry
-    requires { InEntries w.first w.end entries.now × (w.end ≤ w.first + 1) }
-    ensures { result ≡ entry_of w entries.now }
+// The entry of a place, or a fresh one where there is no place.
+#[tactic(auto, unfolding(crate::specs::code::Loops::entry_of))]
+pub fn entry_of(entries: &[Entry], place: Option<usize>) -> Entry
+    requires { IfSome place (λ (i : ℕ). i < length entries.now) }
+    ensures { result ≡ entry_of place entries.now }
 {
-    if w.first < w.end {
-        return entries[w.first];
+    match place {
+        Some(i) => entries[i],
+        None => super::fresh(),
     }
-    w.entry
 }
 
 // Changes each entry to what `change` makes of it, the n-th of them. Each change has a loop of its own, so that no loop tests which change it makes.
-pub fn change_each<F: Fn(Entry, usize) -> Entry>(entries: &mut [Entry], w: Changes, change: F)
+pub(crate) fn change_each<F: Fn(Entry, usize) -> Entry>(entries: &mut [Entry], w: Changes, change: F)
     requires places { InEntries w.first w.end entries.old }
     requires callable { F.IsAlwaysCallable change }
     requires makes { Makes (F.post change) w }

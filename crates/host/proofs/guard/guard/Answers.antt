@@ -1,16 +1,18 @@
--- The tests before the scan, the scan of the entries, and the tests after it are the guard's definition.
-use mathlib.Core.Path.{◌∙◌, ap}
-use Rattle.table.specs.declared.entries.Scan.{Scan}
-use Rattle.table.specs.code.Loops.{all_in_range}
-use Rattle.host.specs.CallState.{call_state}
-use Rattle.host.specs.code.Held.{judged}
-use Rattle.host.proofs.Judged.{guarded}
+use Rattle.std.proofs.Common.{rules, ◌≡◌, ◌≤◌, ℕ, ◌+◌, ◌-◌, ◌*◌, ◌<◌, length, ◌/◌, ◌%◌, Bool, true, false, nat_eq, nat_lt, List, [], ◌∷◌, ◌++◌, slice_index_or, slice_set, bit_and, bit_or, Fits, w8, w32, w64, Bor, MutBor}
+use Rattle.host.specs.CallState.{host, call_state}
+use Rattle.host.specs.Guard.{in_walk, guard}
+use Rattle.host.specs.code.Returned.{initialized}
+use Rattle.host.specs.code.Held.{places_missing, nowhere, full_scan, names_link, held, judged, judged_initialize}
 use Rattle.host.proofs.guard.guard.Goals as goal
 
+-- src/guard.rt:180:9
+pub returns-in_default : goal.returns-in_default
+returns-in_default c = ?
+
+-- src/guard.rt:183:9
+pub returns-then-not-all_in_range : goal.returns-then-not-all_in_range
+returns-then-not-all_in_range c = ?
+
+-- src/guard.rt:156:1
 pub returns : goal.returns
-returns c =
-    let a = c.args in
-    let x = call_state a.settings.now a.net_table.now a.number a.clock.now a.links.now a.walk.now a.copy.now a.entries.now in
-    c.judged.ensures
-    ∙ ap (judged a.settings.now a.net_table.now a.walk.now a.scope) (c.all_in_range-good.ensures ∙ ap (λ (w : Scan). all_in_range w a.entries.now) c.held-w.ensures)
-    ∙ guarded x a.scope
+returns c = ?
