@@ -134,19 +134,14 @@ fn held(
 }
 
 // All is within its range: 16 during a walk, then 1. The settings are tested in parts, here and in `guard_initialize`: each part is small enough to be inlined into both, and one test of all, `fit`, is not.
+#[tactic(auto, unfolding(crate::specs::Settings::settings_good))]
 fn judged(s: Settings, t: NetTable, w: Walk, scope: Scope) -> Answer
     ensures { result ≡ judged s t w scope }
 {
     if in_walk(w, scope) {
         return Answer::InWalk;
     }
-    if !super::numbers_good(s) {
-        return Answer::Setting;
-    }
-    if !super::marks_good(s) {
-        return Answer::Setting;
-    }
-    if s.layout.nhosts != t.nhosts {
+    if !(super::numbers_good(s) && super::marks_good(s) && s.layout.nhosts == t.nhosts) {
         return Answer::Setting;
     }
     Answer::Done
@@ -186,19 +181,14 @@ pub fn guard(
 }
 
 // The same for initialization: clock, links, walk and entries may be anything; the host table has n places.
+#[tactic(auto, unfolding(crate::specs::Settings::settings_good))]
 pub fn guard_initialize(s: Settings, t: NetTable, number: usize, n: usize) -> Answer
     ensures { result ≡ judged_initialize s t number n }
 {
     if net_table::is_bad(t) || places_missing(number, n) {
         return Answer::OutOfRange;
     }
-    if !super::numbers_good(s) {
-        return Answer::Setting;
-    }
-    if !super::marks_good(s) {
-        return Answer::Setting;
-    }
-    if s.layout.nhosts != t.nhosts {
+    if !(super::numbers_good(s) && super::marks_good(s) && s.layout.nhosts == t.nhosts) {
         return Answer::Setting;
     }
     Answer::Done

@@ -1,5 +1,5 @@
 -- The guard in the code: what is tested before the entries, which places are then scanned, and what is judged after that.
-use Rattle.std.specs.Prelude.{Bool, true, false, cond, not, ◌&&◌, ◌||◌, List, ℕ, ◌+◌, ltb, leb, eqb, length, take, Option, Some, None}
+use Rattle.std.specs.Prelude.{Bool, true, cond, not, ◌&&◌, ◌||◌, List, ℕ, ◌+◌, ltb, leb, eqb, length, take, Option, Some, None}
 use Rattle.answer.specs.declared.Answer.{Answer}
 use Rattle.answer.specs.declared.Answer.TheVariants.{Done, Setting, OutOfRange, InWalk}
 use Rattle.clock.specs.declared.Clock.{Clock}
