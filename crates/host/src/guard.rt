@@ -180,12 +180,12 @@ pub fn guard(
     judged(*settings, *net_table, *walk, scope)
 }
 
-// The same for initialization: clock, links, walk and entries may be anything; the host table has n places.
+// The same for initialization: clock, links, walk and entries may be anything; the host table has that many places.
 #[tactic(auto, unfolding(crate::specs::Settings::settings_good))]
-pub fn guard_initialize(s: Settings, t: NetTable, number: usize, n: usize) -> Answer
-    ensures { result ≡ judged_initialize s t number n }
+pub fn guard_initialize(s: Settings, t: NetTable, number: usize, places: usize) -> Answer
+    ensures { result ≡ judged_initialize s t number places }
 {
-    if net_table::is_bad(t) || places_missing(number, n) {
+    if net_table::is_bad(t) || places_missing(number, places) {
         return Answer::OutOfRange;
     }
     if !(super::numbers_good(s) && super::marks_good(s) && s.layout.nhosts == t.nhosts) {
