@@ -1,6 +1,7 @@
 -- Each field of the effect is fresh, as the definition says.
 use Rattle.lists.proofs.Tests.{both, is_not}
 use Rattle.host.proofs.Sound.{sound}
+use Rattle.calls.specs.Effects as definition
 use Rattle.calls.proofs.effects.initialize.Goals as goal
 
 pub fresh-requires-clause-pos_value : goal.fresh-requires-clause-pos_value
