@@ -70,14 +70,14 @@ module _ (x : CallState) where
       either There (clock_in_range h.clock && every link_in_range (take n h.links.all) && own_walk_in_range x) (Some all) None
       (λ _. record { rising = omega arith; inside = omega arith }) (λ _. tt)
 
-  there : (a : Scope) → There (scanned a)
-  there a =
+  places_there : (a : Scope) → There (scanned a)
+  places_there a =
       either There (table_bad t || places_missing k (length entries)) None _ (λ _. tt)
       (λ good. either There (initialized a) (Some nowhere) _ (λ _. record { rising = omega arith; inside = omega arith })
       (λ _. either There (not (names_link n m a)) None rest (λ _. tt) (λ _. whole_in (neither (table_bad t) _ good).1)))
 
   pub held_in : (a : Scope) (w : Scan) → scanned a ≡ Some w → InEntries w.first w.end entries
-  held_in a w is = subst There is (there a)
+  held_in a w is = subst There is (places_there a)
 
   -- ---- 12 where a place is missing or something lent is out of range
 

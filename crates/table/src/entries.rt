@@ -165,7 +165,11 @@ pub fn entry_of(entries: &[Entry], place: Option<usize>) -> Entry
 }
 
 // Changes each entry to what `change` makes of it, the n-th of them. Each change has a loop of its own, so that no loop tests which change it makes.
-pub(crate) fn change_each<F: Fn(Entry, usize) -> Entry>(entries: &mut [Entry], w: Changes, change: F)
+pub(crate) fn change_each<F: Fn(Entry, usize) -> Entry>(
+    entries: &mut [Entry],
+    w: Changes,
+    change: F,
+)
     requires places { InEntries w.first w.end entries.old }
     requires callable { F.IsAlwaysCallable change }
     requires makes { Makes (F.post change) w }
@@ -240,6 +244,7 @@ fn updated(c: Clock, e: Entry, i: usize, w: Updates, packet: &[u8]) -> Updated
     )
 }
 
+#[tactic(auto, unfolding(crate::specs::Sweep::sweep, crate::specs::Runs::updates), using(crate::proofs::Kept::clock_in_range_lem, crate::proofs::Updating::clock_turn, crate::proofs::Updating::entries_turn))]
 pub fn update_all(entries: &mut [Entry], w: Updates, packet: &[u8]) -> Clock
     requires { UpdatesFit w entries.old packet.now }
     ensures { (entries.new ≡ (updates w packet.now entries.old).own_entries)
