@@ -26,7 +26,8 @@ pub struct Scan {
     pub marks: Marks,
 }
 
-// The entries of the ids that have their marks in one word; `first` is the place of the lowest.
+// The entries of the ids that have their marks in one word, and that word; `first` is the place of the lowest.
+// Two places and no subslice: what is left after the fours is the same with a later place and the word moved along.
 #[derive(Clone, Copy)]
 pub struct Stretch {
     pub first: usize,
@@ -53,7 +54,8 @@ pub struct Changes {
     pub marks: Marks,
 }
 
-// An arrival's updates, from the clock on: `base` is the place of id 0, `count` that of the reading, and `update` what the neighbor itself is updated with, to which a packet's table adds its reports.
+// An arrival's updates, from the clock on: `base` is the place of id 0, `count` that of the reading, and `update` what the neighbor itself is updated with, to which a packet's table, if there is one, adds its reports.
+// `table` only tells that the packet has one: the packet itself is lent to `update_all`, so that the plan borrows nothing.
 #[derive(Clone, Copy)]
 pub struct Updates {
     pub first: usize,
@@ -83,16 +85,11 @@ fn stretch_of(k: usize, w: Scan) -> Stretch
 {
     let id = 64 * k;
     let first = w.first + id;
-    let word = word_of(w.marks, id);
-    if w.end - first < 64 {
-        return Stretch {
-            first,
-            end: w.end,
-            word,
-        };
+    Stretch {
+        first,
+        end: first + (w.end - first).min(64),
+        word: word_of(w.marks, id),
     }
-    let end = first + 64;
-    Stretch { first, end, word }
 }
 
 // Has the entry of the n-th id its mark in the word, and is it within its ranges?
