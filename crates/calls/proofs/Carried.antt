@@ -1,12 +1,12 @@
 -- Ids and places: a change to some ids of a host, made at their places in the run, is the same change made to the host's entries.
 use mathlib.Core.Path.{◌≡◌, refl, sym, ap, ◌∙◌}
-use mathlib.Core.List.{List, [], ◌∷◌}
+use mathlib.Core.List.{List, []}
 use Prim.Native.Nat.{ℕ, ◌+◌, ◌-◌, ◌≤◌, ◌<◌}
 use native.Mathlib.Omega.{arith}
 use lib.ListN.{length, get_or, take, drop}
 use lib.Seq.{take-add, take-take, drop_at, drop-drop, get_or-take, get_or-drop}
 use Rattle.lists.specs.Lists.{part, over}
-use Rattle.lists.proofs.Parts.{part_length, part_more, over_nothing, over_part}
+use Rattle.lists.proofs.Parts.{part_length, over_nothing, over_part}
 use Rattle.table.specs.declared.Entry.{Entry}
 use Rattle.table.specs.declared.entries.Changes.{Changes}
 use Rattle.table.specs.Forms.{map_from}
@@ -84,10 +84,8 @@ entries_put s k entries h =
     ∙ over_nothing (first_place k + 0) entries
 
 -- the entry of one id
-pub one_part : (s : Settings) (k : ℕ) (entries : List Entry) → Holds k entries → (id : ℕ) → id < host_count s
-    → part (first_place k + id) 1 entries ≡ get_or (own_entries s k entries) id fresh_entry ∷ []
+pub entry_of_id : (s : Settings) (k : ℕ) (entries : List Entry) (id : ℕ) → id < host_count s
+    → get_or entries (first_place k + id) fresh_entry ≡ get_or (own_entries s k entries) id fresh_entry
 unfolding own_entries
-one_part s k entries holds id h =
-    let z : first_place k + id + 0 ≡ first_place k + id = omega arith in
-    let e = get_or-take (host_count s) (drop (first_place k) entries) id fresh_entry h ∙ get_or-drop (first_place k) entries id fresh_entry in
-    part_more (first_place k + id) 0 entries fresh_entry (omega arith) ∙ rw (e, z) refl
+entry_of_id s k entries id h =
+    sym (get_or-take (host_count s) (drop (first_place k) entries) id fresh_entry h ∙ get_or-drop (first_place k) entries id fresh_entry)

@@ -1,9 +1,9 @@
 -- A request as the code goes: the guard, the entry that is looked at, the plan, and its work at the places of its ids.
-use Rattle.std.specs.Prelude.{Option, Some, None}
+use Rattle.std.specs.Prelude.{Option, Some, None, IfSome, length}
 use mathlib.Core.Path.{◌≡◌, refl, ◌∙◌}
 use mathlib.Core.Bool.{true, false}
 use mathlib.Core.List.{List}
-use Prim.Native.Nat.{ℕ, ◌+◌, ◌-◌, ◌≤◌, ◌<◌}
+use Prim.Native.Nat.{ℕ, ◌≤◌, ◌<◌}
 use native.Mathlib.Omega.{arith}
 use borrow.Author.Tests.{ltb-true}
 use Rattle.table.specs.declared.Entry.{Entry}
@@ -14,7 +14,7 @@ use Rattle.host.specs.declared.Settings.{Settings}
 use Rattle.host.specs.declared.Effect.{Effect}
 use Rattle.host.specs.declared.walk.Walk.{Walk}
 use Rattle.host.specs.Settings.{settings_good}
-use Rattle.host.specs.State.{first_place, host_count, has_place}
+use Rattle.host.specs.State.{host_count, has_place}
 use Rattle.host.specs.CallState.{Host, CallState}
 use Rattle.host.specs.Guard.{guard, done}
 use Rattle.host.specs.Walk.{walk_in_range}
@@ -31,7 +31,7 @@ use Rattle.calls.specs.Perform.{Leaves, ask, entry_at, perform}
 use Rattle.calls.specs.code.Places.{Placeable, seek_at, placed}
 use Rattle.calls.proofs.Guarding.{goes_on}
 use Rattle.calls.proofs.Wanted.{wanted_below, wanted_has_place}
-use Rattle.calls.proofs.Carried.{Ids, one_part, placed_in, carried}
+use Rattle.calls.proofs.Carried.{Ids, entry_of_id, placed_in, carried}
 
 -- ---- the ids that each effect changes
 
@@ -92,16 +92,15 @@ module _ (x : CallState) (q : Request) (d : done (guard (scope_of q) x) ≡ true
   seekable = (number_in, wanted_has_place t s v o has_passed.settings rows q walk_in_range_lem)
 
   pub record Sought (f : Option ℕ) : Type 0 where
-    pub there : InEntries (seek_at k f).first (seek_at k f).end entries × ((seek_at k f).end ≤ (seek_at k f).first + 1)
+    pub there : IfSome (seek_at k f) (λ (i : ℕ). i < length entries)
     pub is : entry_of (seek_at k f) entries ≡ entry_at f x
 
   sought_at : (f : Option ℕ) → ((id : ℕ) → f ≡ Some id → id < host_count s) → Holds k entries → Sought f
   unfolding entry_of
-  sought_at None below h = record { there = (record { rising = omega arith; inside = omega arith }, omega arith); is = refl }
+  sought_at None below h = record { there = tt; is = refl }
   sought_at (Some id) below h =
       let i = below id refl in
-      let one : first_place k + id + 1 - (first_place k + id) ≡ 1 = omega arith in
-      record { there = (record { rising = omega arith; inside = omega arith }, omega arith); is = rw (one, one_part s k entries h id i) refl }
+      record { there = omega (arith, h, i); is = entry_of_id s k entries id i }
 
   pub sought : Sought (wanted q t s v)
   sought = sought_at (wanted q t s v) (wanted_below t s v o has_passed.settings rows q walk_in_range_lem) there

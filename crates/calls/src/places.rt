@@ -14,7 +14,7 @@ use super::Request;
 use host::walk::Walk;
 use host::{Settings, first_place};
 use net_table::NetTable;
-use table::entries::{Changes, Reports, Seek, Updates};
+use table::entries::{Changes, Reports, Updates};
 
 // The id whose entry is looked at.
 fn wanted(s: Settings, t: NetTable, w: Walk, q: Request) -> Option<usize>
@@ -33,29 +33,17 @@ fn wanted(s: Settings, t: NetTable, w: Walk, q: Request) -> Option<usize>
     }
 }
 
-pub(crate) fn seek_at(number: usize, found: Option<usize>) -> Seek
+// The place of that id.
+pub(crate) fn seek_at(number: usize, found: Option<usize>) -> Option<usize>
     requires { (number ≤ 15) × (has_place found ≡ true) }
     ensures { result ≡ seek_at number found }
 {
-    match found {
-        None => Seek {
-            first: 0,
-            end: 0,
-            entry: table::fresh(),
-        },
-        Some(id) => {
-            let first = first_place(number) + id;
-            Seek {
-                first: first,
-                end: first + 1,
-                entry: table::fresh(),
-            }
-        }
-    }
+    let id = found?;
+    Some(first_place(number) + id)
 }
 
-// The entry that is looked at.
-pub(crate) fn sought(s: Settings, t: NetTable, w: Walk, number: usize, q: Request) -> Seek
+// The place of the entry that is looked at.
+pub(crate) fn sought(s: Settings, t: NetTable, w: Walk, number: usize, q: Request) -> Option<usize>
     requires { (number ≤ 15) × (has_place (wanted q t s w) ≡ true) }
     ensures { result ≡ seek_at number (wanted q t s w) }
 {

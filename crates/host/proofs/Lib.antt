@@ -1,5 +1,4 @@
 pub mod Slices
-pub mod Rules
 pub mod Places
 pub mod Guarded
 pub mod Sound

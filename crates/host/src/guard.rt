@@ -3,7 +3,7 @@ ghost use Rattle.std.specs.Prelude.{◌≡◌, ◌≤◌};
 ghost use Rattle.host.specs.CallState.{host, call_state};
 ghost use Rattle.host.specs.Guard.{in_walk, guard};
 ghost use Rattle.host.specs.code.Returned.{initialized};
-ghost use Rattle.host.specs.code.Held.{places_missing, settled, full_scan, names_link, held, judged, judged_initialize};
+ghost use Rattle.host.specs.code.Held.{places_missing, nowhere, full_scan, names_link, held, judged, judged_initialize};
 
 use super::walk::{Walk, is_open};
 use super::{HOSTS, LONGEST, Links, PLACES, Settings, first_place, host_count};
@@ -35,13 +35,13 @@ fn places_missing(number: usize, n: usize) -> bool
     number >= HOSTS || n < first_place(number) + PLACES
 }
 
-fn settled(good: bool) -> Scan
-    ensures { result ≡ settled good }
+// No entry.
+fn nowhere() -> Scan
+    ensures { result ≡ nowhere }
 {
     Scan {
         first: 0,
         end: 0,
-        good,
         marks: table::marks::none(),
     }
 }
@@ -55,27 +55,19 @@ fn full_scan(
     links: usize,
     walk: bool,
     marks: Marks,
-) -> Scan
+) -> Option<Scan>
     requires { (number ≤ 15) × (count ≤ 255) × (links ≤ 8) }
     ensures { result ≡ full_scan number count c l links walk marks }
 {
-    if !c.in_range() {
-        return settled(false);
-    }
-    if !super::link_state::in_range(links, l) {
-        return settled(false);
-    }
-    if !walk {
-        return settled(false);
+    if !(c.in_range() && super::link_state::in_range(links, l) && walk) {
+        return None;
     }
     let first = first_place(number);
-    let end = first + count;
-    Scan {
+    Some(Scan {
         first,
-        end,
-        good: true,
+        end: first + count,
         marks,
-    }
+    })
 }
 
 // Does the scope name no more than numbers and places?
@@ -106,7 +98,7 @@ fn in_walk(w: Walk, scope: Scope) -> bool
     }
 }
 
-// What is known before the entries are looked at, and which of them to look at.
+// Which entries to look at, if all that is tested before them is good.
 fn held(
     s: Settings,
     t: NetTable,
@@ -117,21 +109,18 @@ fn held(
     copy: &[u8],
     scope: Scope,
     n: usize,
-) -> Scan
+) -> Option<Scan>
     ensures { result ≡ held scope t number (host s c l) w copy.now n }
 {
-    if net_table::is_bad(t) {
-        return settled(false);
-    }
-    if places_missing(number, n) {
-        return settled(false);
+    if net_table::is_bad(t) || places_missing(number, n) {
+        return None;
     }
     if initialized(scope) {
-        return settled(true);
+        return Some(nowhere());
     }
     let links = super::link_state::count(s);
     if !names_link(links, copy.len(), scope) {
-        return settled(false);
+        return None;
     }
     full_scan(
         number,
@@ -144,23 +133,15 @@ fn held(
     )
 }
 
-// 12 if a borrowed value is out of range, 16 during a walk, then 1. The settings are tested in parts, here and in `guard_initialize`: each part is small enough to be inlined into both, and one test of all, `fit`, is not.
-fn judged(s: Settings, t: NetTable, w: Walk, scope: Scope, good: bool) -> Answer
-    ensures { result ≡ judged s t w scope good }
+// All is within its range: 16 during a walk, then 1. The settings are tested in parts, here and in `guard_initialize`: each part is small enough to be inlined into both, and one test of all, `fit`, is not.
+#[tactic(auto, unfolding(crate::specs::Settings::settings_good))]
+fn judged(s: Settings, t: NetTable, w: Walk, scope: Scope) -> Answer
+    ensures { result ≡ judged s t w scope }
 {
-    if !good {
-        return Answer::OutOfRange;
-    }
     if in_walk(w, scope) {
         return Answer::InWalk;
     }
-    if !super::numbers_good(s) {
-        return Answer::Setting;
-    }
-    if !super::marks_good(s) {
-        return Answer::Setting;
-    }
-    if s.layout.nhosts != t.nhosts {
+    if !(super::numbers_good(s) && super::marks_good(s) && s.layout.nhosts == t.nhosts) {
         return Answer::Setting;
     }
     Answer::Done
@@ -180,7 +161,7 @@ pub fn guard(
 ) -> Answer
     ensures { result ≡ guard scope (call_state settings.now net_table.now number clock.now links.now walk.now copy.now entries.now) }
 {
-    let w = held(
+    let Some(scan) = held(
         *settings,
         *net_table,
         number,
@@ -190,30 +171,24 @@ pub fn guard(
         copy,
         scope,
         entries.len(),
-    );
-    let good = all_in_range(entries, w);
-    judged(*settings, *net_table, *walk, scope, good)
+    ) else {
+        return Answer::OutOfRange;
+    };
+    if !all_in_range(entries, scan) {
+        return Answer::OutOfRange;
+    }
+    judged(*settings, *net_table, *walk, scope)
 }
 
-// The same for initialization: clock, links, walk and entries may be anything; the host table has n places.
-pub fn guard_initialize(s: Settings, t: NetTable, number: usize, n: usize) -> Answer
-    ensures { result ≡ judged_initialize s t number n }
+// The same for initialization: clock, links, walk and entries may be anything; the host table has that many places.
+#[tactic(auto, unfolding(crate::specs::Settings::settings_good))]
+pub fn guard_initialize(s: Settings, t: NetTable, number: usize, places: usize) -> Answer
+    ensures { result ≡ judged_initialize s t number places }
 {
-    let bad = net_table::is_bad(t);
-    if bad {
+    if net_table::is_bad(t) || places_missing(number, places) {
         return Answer::OutOfRange;
     }
-    let missing = places_missing(number, n);
-    if missing {
-        return Answer::OutOfRange;
-    }
-    if !super::numbers_good(s) {
-        return Answer::Setting;
-    }
-    if !super::marks_good(s) {
-        return Answer::Setting;
-    }
-    if s.layout.nhosts != t.nhosts {
+    if !(super::numbers_good(s) && super::marks_good(s) && s.layout.nhosts == t.nhosts) {
         return Answer::Setting;
     }
     Answer::Done

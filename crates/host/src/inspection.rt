@@ -44,6 +44,7 @@ fn compared(s: Settings, link: LinkNumber, p: Packet) -> Result<Packet, Answer>
     Ok(p)
 }
 
+#[tactic(auto, unfolding(crate::specs::Inspection::inspect))]
 pub fn inspect(s: Settings, link: LinkNumber, packet: &[u8]) -> Result<Packet, Answer>
     ensures { (result ≡ inspect s link.number packet.now) × IfOk result (λ p. Four p.time.0) }
 {

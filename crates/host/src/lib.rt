@@ -201,6 +201,7 @@ fn marks_good(s: Settings) -> bool
 }
 
 // Are all settings within their rules?
+#[tactic(auto, unfolding(crate::specs::Settings::settings_good))]
 pub fn good(s: Settings) -> bool
     ensures { result ≡ settings_good s }
 {

@@ -191,6 +191,7 @@ fn fields_good(s: Settings, w: Walk, p: Packet, packet: &[u8]) -> bool
 }
 
 // Does the inspection pass the packet, and are the walk's other values within their ranges?
+#[tactic(auto, using(crate::proofs::Inspected::inspected_fits))]
 fn packet_good(s: Settings, w: Walk, packet: &[u8]) -> bool
     requires { (1 ≤ w.link) × (w.link ≤ 8) }
     ensures { result ≡ packet_fits s w packet.now (inspect s w.link packet.now) }

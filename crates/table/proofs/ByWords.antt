@@ -1,11 +1,9 @@
 -- Entries that are tested word by word: the tests of the words come to the test of all.
 use mathlib.Core.Path.{◌≡◌, refl, sym, ap, ◌∙◌}
-use mathlib.Core.Bool.{Bool, true, false, cond, ◌&&◌}
+use mathlib.Core.Bool.{Bool, true, false, ◌&&◌}
 use mathlib.Core.List.{List, [], ◌∷◌, ◌++◌}
 use Prim.Native.Nat.{ℕ, suc, ◌+◌, ◌-◌, ◌*◌, ◌/◌, ◌%◌, ◌≤◌, ◌<◌}
 use native.Mathlib.Omega.{arith}
-use borrow.Author.Tests.{lt-ltb, le-ltb, ltb-true, ltb-false}
-use lib.Dec.{ltb}
 use lib.ListN.{length, drop}
 use lib.Seq.{take-add, drop-drop}
 use Rattle.lists.specs.Lists.{part}
@@ -88,30 +86,21 @@ module _ (entries : List Entry) (w : Scan) (h : InEntries w.first w.end entries)
 
   -- a word that is full, and the last
   pub full_word : (k : ℕ) → 64 * suc k ≤ N → (passed w entries (64 * k) && all_as_in_word (stretch_of k w) entries) ≡ passed w entries (64 * suc k)
-  full_word k l =
-      let many : 64 ≤ w.end - (w.first + 64 * k) = omega (arith, l) in
-      word_more k (64 * suc k) (omega arith) (omega arith) l (rw (le-ltb _ _ many) (omega arith))
+  full_word k l = word_more k (64 * suc k) (omega arith) (omega arith) l (omega (arith, l))
 
   pub last_word : (k : ℕ) → 64 * k ≤ N → N < 64 * suc k → (passed w entries (64 * k) && all_as_in_word (stretch_of k w) entries) ≡ passed w entries N
-  last_word k l m =
-      let few : w.end - (w.first + 64 * k) < 64 = omega (arith, m) in
-      word_more k N l (omega (arith, m)) (omega arith) (rw (lt-ltb _ _ few) (omega (arith, h.rising)))
+  last_word k l m = word_more k N l (omega (arith, m)) (omega arith) (omega (arith, m, h.rising))
 
   -- and all
-  pub all_good : w.good ≡ true → passed w entries N ≡ all_in_range w entries
+  pub all_good : passed w entries N ≡ all_in_range w entries
   unfolding all_in_range
-  all_good so = rw (so) (sym (at_once 0 entry_in_range (as_marked w.marks) (part w.first N entries)))
+  all_good = sym (at_once 0 entry_in_range (as_marked w.marks) (part w.first N entries))
 
 -- ---- the stretch of a word
 
 pub stretch_few : (k : ℕ) (w : Scan) → (stretch_of k w).end - (stretch_of k w).first ≤ 64
-stretch_few k w = go (ltb (w.end - (w.first + 64 * k)) 64) refl where
-  go : (b : Bool) → ltb (w.end - (w.first + 64 * k)) 64 ≡ b → cond b w.end (w.first + 64 * k + 64) - (w.first + 64 * k) ≤ 64
-  go true e = let few = ltb-true (w.end - (w.first + 64 * k)) 64 e in omega (arith, few)
-  go false e = omega arith
+stretch_few k w = omega arith
 
 pub stretch_fits : (entries : List Entry) (k : ℕ) (w : Scan) → InEntries w.first w.end entries → InWord k w → StretchFits (stretch_of k w) entries
-stretch_fits entries k w h i = record { places = go (ltb (w.end - (w.first + 64 * k)) 64) refl; few = stretch_few k w } where
-  go : (b : Bool) → ltb (w.end - (w.first + 64 * k)) 64 ≡ b → InEntries (w.first + 64 * k) (cond b w.end (w.first + 64 * k + 64)) entries
-  go true e = record { rising = omega (arith, i.before, i.rising); inside = h.inside }
-  go false e = let many = ltb-false (w.end - (w.first + 64 * k)) 64 e in record { rising = omega arith; inside = omega (arith, many, h.inside) }
+stretch_fits entries k w h i =
+    record { places = record { rising = omega (arith, i.before, i.rising); inside = omega (arith, h.inside) }; few = stretch_few k w }

@@ -15,7 +15,6 @@ use Rattle.table.specs.declared.Entry.{Entry}
 use Rattle.table.specs.declared.Updated.{Updated}
 use Rattle.table.specs.Forms.{every_from, map_from}
 use Rattle.table.specs.Sweep.{Swept, sweep}
-use Rattle.table.specs.code.Loops.{latest}
 use Rattle.table.proofs.Sweeps.{sweep_length, sweep_more}
 
 -- ---- one element more, and of a test as many as there are
@@ -38,10 +37,6 @@ map_more i f [] a = rw (add-zero i) refl
 map_more i f (x ∷ xs) a =
     let s : i + suc (length xs) ≡ suc i + length xs = omega arith in
     rw (s, map_more (suc i) f xs a) refl
-
-latest_more : (known : Entry) (xs : List Entry) (e : Entry) → latest known (xs ++ (e ∷ [])) ≡ e
-latest_more known [] e = refl
-latest_more known (x ∷ xs) e = latest_more x xs e
 
 reports_more : (i : ℕ) (rs : List Report) (r : Report) (b : List ℕ) → with_reports i (rs ++ (r ∷ [])) b ≡ with_report (i + length rs) r (with_reports i rs b)
 unfolding with_reports
@@ -75,9 +70,6 @@ module _ (entries : List Entry) (first n : ℕ) (none : Entry) (inside : first +
       let at : first + n - first ≡ 0 + length done = omega (arith, done_length) in
       rw (part_more first n entries none inside, at)
       (ap (λ (b : Bool). every_from 0 test done && b) (sym (and-true (test (0 + length done) e))) ∙ both_lists 0 test done (e ∷ []))
-
-  pub seek_turn : (known : Entry) → e ≡ latest known (part first (suc n) entries)
-  seek_turn known = rw (part_more first n entries none inside) (sym (latest_more known done e))
 
   -- an entry put in its place behind those that were made
   pub put_turn : (es : List Entry) → length es ≡ n → (f : Entry → Entry)

@@ -72,12 +72,12 @@ module _ (entries : List Entry) (w : Scan) (h : InEntries w.first w.end entries)
       full : 64 * suc k ≤ N → (passed w entries (64 * k) && all_as_in_word (stretch_of k w) entries) ≡ words_good (k + 1)
       full m = let next : 64 * suc k ≡ N - (N - 64 * (k + 1)) = omega (arith, m) in full_word entries w h k m ∙ ap (passed w entries) next
 
-  pub words_done : w.good ≡ true → (k : ℕ) → N < 64 * k → words_good k ≡ all_in_range w entries
-  words_done so k l =
+  pub words_done : (k : ℕ) → N < 64 * k → words_good k ≡ all_in_range w entries
+  words_done k l =
       let all : N - (N - 64 * k) ≡ N = omega (arith, l) in
-      ap (passed w entries) all ∙ all_good entries w h so
+      ap (passed w entries) all ∙ all_good entries w h
 
-  pub words_fail : w.good ≡ true → (k : ℕ) → words_good k ≡ false → false ≡ all_in_range w entries
-  words_fail so k is =
+  pub words_fail : (k : ℕ) → words_good k ≡ false → false ≡ all_in_range w entries
+  words_fail k is =
       fails entries w.first (λ (id : ℕ) (e : Entry). as_marked w.marks id e && entry_in_range e) (N - (N - 64 * k)) N (omega arith) (omega (arith, h.rising, h.inside)) is
-      ∙ all_good entries w h so
+      ∙ all_good entries w h

@@ -1,5 +1,5 @@
 // The host table that all hosts share, as a borrowed slice: one loop for each use. A loop goes over the places from `first` up to `end`, and touches no other.
-ghost use Rattle.std.specs.Prelude.{◌≡◌, true, ◌+◌, ◌-◌, ◌*◌, ◌≤◌};
+ghost use Rattle.std.specs.Prelude.{◌≡◌, true, ℕ, ◌-◌, ◌≤◌, ◌<◌, IfSome, length};
 ghost use Rattle.clock.specs.Clock.{clock_in_range};
 ghost use Rattle.wire.specs.code.Ranges.{Two};
 ghost use Rattle.table.specs.declared.entries.Change.TheVariants.{Fresh};
@@ -18,29 +18,21 @@ use clock::Clock;
 use quantity::{Count, Millis, Seconds, Word};
 use wire::Report;
 
-// Are the entries within their ranges, and marked as they should be? `first` is the place of id 0, and `good` the answer where there are none.
+// Are the entries within their ranges, and marked as they should be? `first` is the place of id 0.
 #[derive(Clone, Copy)]
 pub struct Scan {
     pub first: usize,
     pub end: usize,
-    pub good: bool,
     pub marks: Marks,
 }
 
-// The entries of the ids that have their marks in one word; `first` is the place of the lowest.
+// The entries of the ids that have their marks in one word, and that word; `first` is the place of the lowest.
+// Two places and no subslice: what is left after the fours is the same with a later place and the word moved along.
 #[derive(Clone, Copy)]
 pub struct Stretch {
     pub first: usize,
     pub end: usize,
     pub word: u64,
-}
-
-// The entry of a place, or `entry` where there is no place.
-#[derive(Clone, Copy)]
-pub struct Seek {
-    pub first: usize,
-    pub end: usize,
-    pub entry: Entry,
 }
 
 // A change of an entry: it is initialized, it ages by a second, its host reports itself at a reading if it lives here, or another entry replaces it.
@@ -62,7 +54,8 @@ pub struct Changes {
     pub marks: Marks,
 }
 
-// An arrival's updates, from the clock on: `base` is the place of id 0, `count` that of the reading, and `update` what the neighbor itself is updated with, to which a packet's table adds its reports.
+// An arrival's updates, from the clock on: `base` is the place of id 0, `count` that of the reading, and `update` what the neighbor itself is updated with, to which a packet's table, if there is one, adds its reports.
+// `table` only tells that the packet has one: the packet itself is lent to `update_all`, so that the plan borrows nothing.
 #[derive(Clone, Copy)]
 pub struct Updates {
     pub first: usize,
@@ -92,16 +85,11 @@ fn stretch_of(k: usize, w: Scan) -> Stretch
 {
     let id = 64 * k;
     let first = w.first + id;
-    let word = word_of(w.marks, id);
-    if w.end - first < 64 {
-        return Stretch {
-            first,
-            end: w.end,
-            word,
-        };
+    Stretch {
+        first,
+        end: first + (w.end - first).min(64),
+        word: word_of(w.marks, id),
     }
-    let end = first + 64;
-    Stretch { first, end, word }
 }
 
 // Has the entry of the n-th id its mark in the word, and is it within its ranges?
@@ -151,9 +139,6 @@ pub fn all_in_range(entries: &[Entry], w: Scan) -> bool
     requires { InEntries w.first w.end entries.now }
     ensures { result ≡ all_in_range w entries.now }
 {
-    if !w.good {
-        return false;
-    }
     let ids = w.end - w.first;
     let words = ids / 64 + 1;
     for k in 0..words {
@@ -164,18 +149,24 @@ pub fn all_in_range(entries: &[Entry], w: Scan) -> bool
     true
 }
 
-pub fn entry_of(entries: &[Entry], w: Seek) -> Entry
-    requires { InEntries w.first w.end entries.now × (w.end ≤ w.first + 1) }
-    ensures { result ≡ entry_of w entries.now }
+// The entry of a place, or a fresh one where there is no place.
+#[tactic(auto, unfolding(crate::specs::code::Loops::entry_of))]
+pub fn entry_of(entries: &[Entry], place: Option<usize>) -> Entry
+    requires { IfSome place (λ (i : ℕ). i < length entries.now) }
+    ensures { result ≡ entry_of place entries.now }
 {
-    if w.first < w.end {
-        return entries[w.first];
+    match place {
+        Some(i) => entries[i],
+        None => super::fresh(),
     }
-    w.entry
 }
 
 // Changes each entry to what `change` makes of it, the n-th of them. Each change has a loop of its own, so that no loop tests which change it makes.
-pub fn change_each<F: Fn(Entry, usize) -> Entry>(entries: &mut [Entry], w: Changes, change: F)
+pub(crate) fn change_each<F: Fn(Entry, usize) -> Entry>(
+    entries: &mut [Entry],
+    w: Changes,
+    change: F,
+)
     requires places { InEntries w.first w.end entries.old }
     requires callable { F.IsAlwaysCallable change }
     requires makes { Makes (F.post change) w }
@@ -250,6 +241,7 @@ fn updated(c: Clock, e: Entry, i: usize, w: Updates, packet: &[u8]) -> Updated
     )
 }
 
+#[tactic(auto, unfolding(crate::specs::Sweep::sweep, crate::specs::Runs::updates), using(crate::proofs::Kept::clock_in_range_lem, crate::proofs::Updating::clock_turn, crate::proofs::Updating::entries_turn))]
 pub fn update_all(entries: &mut [Entry], w: Updates, packet: &[u8]) -> Clock
     requires { UpdatesFit w entries.old packet.now }
     ensures { (entries.new ≡ (updates w packet.now entries.old).own_entries)

@@ -233,6 +233,7 @@ fn date_taken(date: Date, c: Clock) -> Clock
 }
 
 // Line (d), for the clock host: the packet's date is taken, and the clock is set by OFFSET.
+#[tactic(auto, unfolding(crate::specs::Update::line_d), using(crate::proofs::Kept::date_in_range))]
 pub fn line_d(hold_interval: Seconds, n: Count, date: Date, offset: Word, c: Clock) -> Clock
     requires { clock_in_range c ≡ true }
     ensures { result ≡ line_d hold_interval n date offset c }

@@ -20,19 +20,13 @@ pub fn none() -> Marks
 pub fn word_of(m: Marks, id: usize) -> u64
     ensures { result ≡ word_of m id }
 {
-    if id < 64 {
-        return m.words[0];
+    match id / 64 {
+        0 => m.words[0],
+        1 => m.words[1],
+        2 => m.words[2],
+        3 => m.words[3],
+        _ => 0,
     }
-    if id < 128 {
-        return m.words[1];
-    }
-    if id < 192 {
-        return m.words[2];
-    }
-    if id < 256 {
-        return m.words[3];
-    }
-    0
 }
 
 // The mark of an id in its word, 1 or 0.
@@ -59,6 +53,7 @@ fn zero_from(word: u64, n: usize) -> bool
 }
 
 // Is no id from n on marked, by all words?
+#[tactic(auto, using(crate::proofs::Bits::four_words))]
 fn none_in_words(m: Marks, n: usize) -> bool
     ensures { result ≡ none_from m n }
 {
@@ -69,6 +64,7 @@ fn none_in_words(m: Marks, n: usize) -> bool
 }
 
 // Is no id from n on marked? Where only the first word has marks, that one is looked at.
+#[tactic(auto, using(crate::proofs::Bits::first_word_alone))]
 pub fn none_from(m: Marks, n: usize) -> bool
     ensures { result ≡ none_from m n }
 {

@@ -73,7 +73,7 @@ fn report_blocks(entries: &mut [Entry], w: Changes, reading: Millis)
 }
 
 // Reports the hosts that live here: the full fours, and the entries after them.
-pub fn report_all(entries: &mut [Entry], w: Changes, reading: Millis)
+pub(crate) fn report_all(entries: &mut [Entry], w: Changes, reading: Millis)
     requires { InEntries w.first w.end entries.old × (w.change ≡ Reported reading) }
     ensures { entries.new ≡ changes w entries.old }
 {

@@ -1,10 +1,8 @@
 -- The places of a host's ids in the host table.
 use Rattle.std.specs.Prelude.{ℕ, ◌+◌, ◌≤◌, Option, Some, None}
-use Rattle.table.specs.declared.entries.Seek.{Seek}
 use Rattle.table.specs.declared.entries.Changes.{Changes}
 use Rattle.table.specs.declared.entries.Updates.{Updates}
 use Rattle.table.specs.declared.entries.Reports.{Reports}
-use Rattle.table.specs.Entry.{fresh_entry}
 use Rattle.host.specs.State.{first_place}
 
 -- ids up to 255 of a number up to 15
@@ -13,10 +11,10 @@ pub record Placeable (k first end : ℕ) : Type 0 where
   pub rising : first ≤ end
   pub ids : end ≤ 255
 
--- the entry that is looked at
-abbrev pub seek_at : (number : ℕ) → Option ℕ → Seek
-seek_at k None = record { first = 0; end = 0; entry = fresh_entry }
-seek_at k (Some id) = record { first = first_place k + id; end = first_place k + id + 1; entry = fresh_entry }
+-- the place of the id whose entry is looked at, if any
+abbrev pub seek_at : (number : ℕ) → Option ℕ → Option ℕ
+seek_at k None = None
+seek_at k (Some id) = Some (first_place k + id)
 
 -- ---- the entries that are changed, updated, or reported
 

@@ -1,5 +1,5 @@
 -- The guard in the code: what is tested before the entries, which places are then scanned, and what is judged after that.
-use Rattle.std.specs.Prelude.{Bool, true, false, cond, not, ◌&&◌, ◌||◌, List, ℕ, ◌+◌, ltb, leb, eqb, length, take}
+use Rattle.std.specs.Prelude.{Bool, true, cond, not, ◌&&◌, ◌||◌, List, ℕ, ◌+◌, ltb, leb, eqb, length, take, Option, Some, None}
 use Rattle.answer.specs.declared.Answer.{Answer}
 use Rattle.answer.specs.declared.Answer.TheVariants.{Done, Setting, OutOfRange, InWalk}
 use Rattle.clock.specs.declared.Clock.{Clock}
@@ -26,9 +26,9 @@ use Rattle.host.specs.code.Returned.{initialized}
 abbrev pub places_missing : (number n : ℕ) → Bool
 places_missing k n = ltb 15 k || ltb n (first_place k + places_per_host)
 
--- no place to look at: the answer is known
-abbrev pub settled : (good : Bool) → Scan
-settled good = record { first = 0; end = 0; good = good; marks = no_marks }
+-- no place to look at
+abbrev pub nowhere : Scan
+nowhere = record { first = 0; end = 0; marks = no_marks }
 
 -- a link of a host with n links
 abbrev pub is_link : (count link : ℕ) → Bool
@@ -43,25 +43,25 @@ names_link n m (Opening i) = leb longest m && is_link n i
 names_link n m Walking = true
 
 -- the first n entries and their marks, if the clock, the host's links and the walk are within their ranges
-abbrev pub full_scan : (number own_entries : ℕ) → Clock → Links → (links : ℕ) → (walk : Bool) → Marks → Scan
+abbrev pub full_scan : (number own_entries : ℕ) → Clock → Links → (links : ℕ) → (walk : Bool) → Marks → Option Scan
 full_scan k m c l n walk marks =
-    cond (not (clock_in_range c)) (settled false)
-    (cond (not (every link_in_range (take n l.all))) (settled false)
-    (cond (not walk) (settled false)
-    record { first = first_place k; end = first_place k + m; good = true; marks = marks }))
+    cond (clock_in_range c && every link_in_range (take n l.all) && walk)
+    (Some record { first = first_place k; end = first_place k + m; marks = marks })
+    None
 
-abbrev pub held : Scope → NetTable → (number : ℕ) → Host → Walk → (copy : List ℕ) → (n : ℕ) → Scan
+-- the places to look at, if all that is tested before them is good
+abbrev pub held : Scope → NetTable → (number : ℕ) → Host → Walk → (copy : List ℕ) → (n : ℕ) → Option Scan
 held a t k h w copy n =
-    cond (table_bad t) (settled false)
-    (cond (places_missing k n) (settled false)
-    (cond (initialized a) (settled true)
-    (cond (not (names_link (link_count_of h.settings) (length copy) a)) (settled false)
-    (full_scan k (host_count h.settings) h.clock h.links (link_count_of h.settings) (walk_in_range h.settings w copy) h.settings.marks))))
+    cond (table_bad t || places_missing k n) None
+    (cond (initialized a) (Some nowhere)
+    (cond (not (names_link (link_count_of h.settings) (length copy) a)) None
+    (full_scan k (host_count h.settings) h.clock h.links (link_count_of h.settings) (walk_in_range h.settings w copy) h.settings.marks)))
 
-abbrev pub judged : Settings → NetTable → Walk → Scope → (good : Bool) → Answer
-judged s t w a good = cond (not good) OutOfRange (cond (in_walk a w) InWalk (cond (not (settings_fit t s)) Setting Done))
+-- after them
+abbrev pub judged : Settings → NetTable → Walk → Scope → Answer
+judged s t w a = cond (in_walk a w) InWalk (cond (not (settings_fit t s)) Setting Done)
 
 -- where no more than the table, numbers and places are looked at
 abbrev pub judged_initialize : Settings → NetTable → (number n : ℕ) → Answer
 judged_initialize s t k n =
-    cond (table_bad t) OutOfRange (cond (places_missing k n) OutOfRange (cond (not (settings_fit t s)) Setting Done))
+    cond (table_bad t || places_missing k n) OutOfRange (cond (not (settings_fit t s)) Setting Done)

@@ -1,5 +1,5 @@
 -- The preconditions of the loops over the host table, and the results of those that only read it. There is no rule here.
-use Rattle.std.specs.Prelude.{◌≡◌, Bool, true, ◌&&◌, List, [], ◌∷◌, map, ℕ, ◌+◌, ◌-◌, ◌≤◌, ◌<◌, ◌^◌, length}
+use Rattle.std.specs.Prelude.{◌≡◌, Bool, true, ◌&&◌, List, map, ℕ, ◌+◌, ◌-◌, ◌≤◌, ◌<◌, ◌^◌, length, get_or, Option, Some, None}
 use Rattle.lists.specs.Lists.{part}
 use Rattle.clock.specs.Clock.{clock_in_range}
 use Rattle.wire.specs.Ip.{header_length}
@@ -9,11 +9,10 @@ use Rattle.wire.specs.code.Sealing.{with_report, with_reports}
 use Rattle.table.specs.declared.Entry.{Entry}
 use Rattle.table.specs.declared.entries.Changes.{Changes}
 use Rattle.table.specs.declared.entries.Scan.{Scan}
-use Rattle.table.specs.declared.entries.Seek.{Seek}
 use Rattle.table.specs.declared.entries.Updates.{Updates}
 use Rattle.table.specs.declared.entries.Reports.{Reports}
 use Rattle.table.specs.Forms.{every, every_from}
-use Rattle.table.specs.Entry.{as_marked, advertised, up_to, entry_in_range}
+use Rattle.table.specs.Entry.{fresh_entry, as_marked, advertised, up_to, entry_in_range}
 use Rattle.table.specs.Update.{own_most}
 use Rattle.table.specs.Runs.{changed}
 
@@ -34,16 +33,13 @@ Makes gives w = (e x : Entry) (n : ℕ) → gives e n x → x ≡ changed w.mark
 -- the entries are in range, and marked as the ids from 0 on
 unfoldable pub all_in_range : Scan → List Entry → Bool
 all_in_range w entries =
-    w.good && every entry_in_range (part w.first (w.end - w.first) entries)
+    every entry_in_range (part w.first (w.end - w.first) entries)
     && every_from 0 (as_marked w.marks) (part w.first (w.end - w.first) entries)
 
--- the last of some entries
-abbrev pub latest : Entry → List Entry → Entry
-latest known [] = known
-latest known (e ∷ es) = latest e es
-
-unfoldable pub entry_of : Seek → List Entry → Entry
-entry_of w entries = latest w.entry (part w.first (w.end - w.first) entries)
+-- the entry of a place; a fresh one where there is none
+unfoldable pub entry_of : (place : Option ℕ) → List Entry → Entry
+entry_of None entries = fresh_entry
+entry_of (Some i) entries = get_or entries i fresh_entry
 
 -- ---- the updates of an arrival
 

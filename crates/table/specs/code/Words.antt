@@ -1,5 +1,5 @@
 -- The marks of one word, and the entries of its ids.
-use Rattle.std.specs.Prelude.{Bool, ◌&&◌, cond, List, ℕ, ◌+◌, ◌-◌, ◌*◌, ◌/◌, ◌%◌, ◌≤◌, eqb, ltb, get_or}
+use Rattle.std.specs.Prelude.{Bool, ◌&&◌, List, ℕ, ◌+◌, ◌-◌, ◌*◌, ◌/◌, ◌%◌, ◌≤◌, eqb, get_or, min}
 use Rattle.lists.specs.Lists.{part}
 use Rattle.table.specs.declared.Entry.{Entry}
 use Rattle.table.specs.declared.marks.Marks.{Marks}
@@ -27,7 +27,7 @@ pub record InWord (k : ℕ) (w : Scan) : Type 0 where
 abbrev pub stretch_of : (k : ℕ) → Scan → Stretch
 stretch_of k w =
     let first = w.first + 64 * k in
-    record { first = first; end = cond (ltb (w.end - first) 64) w.end (first + 64); word = word_of w.marks (64 * k) }
+    record { first = first; end = first + min (w.end - first) 64; word = word_of w.marks (64 * k) }
 
 -- word k lies in the host table; and a stretch does
 pub record WordFits (k : ℕ) (w : Scan) (entries : List Entry) : Type 0 where

@@ -1,18 +1,9 @@
 -- After k turns the entries of the first k words pass. The last word ends at the last entry.
-use mathlib.Core.Path.{◌≡◌, sym, ◌∙◌}
-use mathlib.Core.Bool.{true, false}
+use mathlib.Core.Path.{sym, ◌∙◌}
 use Prim.Native.Nat.{◌+◌}
 use native.Mathlib.Omega.{arith}
-use borrow.Author.Rules.{rules}
-use Rattle.table.specs.code.Loops.{all_in_range}
 use Rattle.table.proofs.Reading.{word_more, words_done, words_fail}
 use Rattle.table.proofs.entries.all_in_range.Goals as goal
-
-pub returns-then-not-w : goal.returns-then-not-w
-unfolding all_in_range
-returns-then-not-w c =
-    let no : c.args.w.good ≡ false = search rules in
-    rw (no)
 
 pub loop-k-preserved : goal.loop-k-preserved
 loop-k-preserved c =
@@ -25,13 +16,11 @@ returns-then-not-good_in_word c =
     let entries = c.args.entries.now in
     let k = c.loop-k.k in
     let more = c.loop-k-test.true in
-    let so : w.good ≡ true = search rules in
-    words_fail entries w c.requires so (k + 1)
+    words_fail entries w c.requires (k + 1)
     (sym (word_more entries w c.requires k _ (omega (arith, more)) c.loop-k.invariant c.good_in_word.ensures) ∙ c.if-not-good_in_word.true)
 
 pub returns : goal.returns
 returns c =
     let w = c.args.w in
-    let so : w.good ≡ true = search rules in
     let past = c.loop-k-test.false in
-    sym c.loop-k.invariant ∙ words_done c.args.entries.now w c.requires so c.loop-k.k (omega (arith, past))
+    sym c.loop-k.invariant ∙ words_done c.args.entries.now w c.requires c.loop-k.k (omega (arith, past))
