@@ -1,27 +1,17 @@
--- Each turn takes one record off those that are still to be tested.
-use mathlib.Core.Path.{sym, ◌∙◌}
+-- `all` answers as `list_all` of std over the cables' numbers, which is the test of the definition.
+use mathlib.Core.Path.{refl, ◌∙◌}
 use native.Mathlib.Omega.{arith}
-use Rattle.bench_file.specs.Absent.{cables_good}
-use Rattle.bench_file.proofs.Each.{each_good, each_bad, each_done}
-use Rattle.bench_file.proofs.cables_good.Invariants.{test}
+use Rattle.std.proofs.Common.{rules, tests}
+use Rattle.std.proofs.lemmas.Iterator.{YieldsList-from_range}
+use Rattle.std.proofs.lemmas.Iterator.Search.{all_from_yields_List}
+use Rattle.bench_file.specs.Absent.{cable_good, cables_good}
+use Rattle.bench_file.proofs.Each.{every_up}
 use Rattle.bench_file.proofs.cables_good.Goals as goal
-
-pub returns-then-not-cable_good : goal.returns-then-not-cable_good
-unfolding cables_good
-returns-then-not-cable_good c =
-    let a = c.args in
-    let w = c.loop-i in
-    sym (w.invariant ∙ each_bad (test a.file.now a.header) a.header.cables w.i (omega arith) (sym c.cable_good.ensures ∙ c.if-not-cable_good.true))
-
-pub loop-i-preserved : goal.loop-i-preserved
-loop-i-preserved c =
-    let a = c.args in
-    let w = c.loop-i in
-    w.invariant ∙ each_good (test a.file.now a.header) a.header.cables w.i (omega arith) (sym c.cable_good.ensures ∙ c.if-not-cable_good.false)
 
 pub returns : goal.returns
 unfolding cables_good
 returns c =
     let a = c.args in
-    let w = c.loop-i in
-    sym (w.invariant ∙ each_done (test a.file.now a.header) a.header.cables w.i (omega arith))
+    let n = a.header.cables in
+    all_from_yields_List (cable_good a.file.now a.header) _ _ c.all.result c.all.ensures.ran (YieldsList-from_range 0 n n refl (omega arith)) (λ x b q k. search (rules, tests))
+    ∙ every_up (cable_good a.file.now a.header) 0 n

@@ -1,27 +1,21 @@
--- Each turn takes one record off those that are still to be tested.
-use mathlib.Core.Path.{sym, ap, ◌∙◌}
+-- `all` answers as `list_all` of std over the events' numbers, which is the test of the definition.
+use mathlib.Core.Path.{refl, ◌∙◌}
 use native.Mathlib.Omega.{arith}
+use mathlib.Core.Bool.{Bool}
+use Prim.Native.Nat.{ℕ}
+use Rattle.std.proofs.Common.{rules, tests}
+use Rattle.std.proofs.lemmas.Iterator.{YieldsList-from_range}
+use Rattle.std.proofs.lemmas.Iterator.Search.{all_from_yields_List}
+use Rattle.bench_file.specs.Records.{event_at}
 use Rattle.bench_file.specs.Absent.{event_good, events_good}
-use Rattle.bench_file.proofs.Each.{each_good, each_bad, each_done}
-use Rattle.bench_file.proofs.events_good.Invariants.{test}
+use Rattle.bench_file.proofs.Each.{every_up}
 use Rattle.bench_file.proofs.events_good.Goals as goal
-
-pub returns-then-not-event_good : goal.returns-then-not-event_good
-unfolding events_good
-returns-then-not-event_good c =
-    let a = c.args in
-    let w = c.loop-i in
-    sym (w.invariant ∙ each_bad (test a.file.now a.header) a.header.events w.i (omega arith) (ap (event_good a.header) (sym c.event_at.ensures) ∙ sym c.event_good.ensures ∙ c.if-not-event_good.true))
-
-pub loop-i-preserved : goal.loop-i-preserved
-loop-i-preserved c =
-    let a = c.args in
-    let w = c.loop-i in
-    w.invariant ∙ each_good (test a.file.now a.header) a.header.events w.i (omega arith) (ap (event_good a.header) (sym c.event_at.ensures) ∙ sym c.event_good.ensures ∙ c.if-not-event_good.false)
 
 pub returns : goal.returns
 unfolding events_good
 returns c =
     let a = c.args in
-    let w = c.loop-i in
-    sym (w.invariant ∙ each_done (test a.file.now a.header) a.header.events w.i (omega arith))
+    let n = a.header.events in
+    let test : ℕ → Bool = λ k. event_good a.header (event_at a.file.now a.header k) in
+    all_from_yields_List test _ _ c.all.result c.all.ensures.ran (YieldsList-from_range 0 n n refl (omega arith)) (λ x b q k. search (rules, tests))
+    ∙ every_up test 0 n

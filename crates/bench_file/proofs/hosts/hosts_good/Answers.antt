@@ -1,27 +1,20 @@
--- Each turn takes one record off those that are still to be tested.
-use mathlib.Core.Path.{sym, ◌∙◌}
+-- `all` answers as `list_all` of std over the hosts' numbers, which is the test of the definition.
+use mathlib.Core.Path.{refl, ◌∙◌}
 use native.Mathlib.Omega.{arith}
-use Rattle.bench_file.specs.Settings.{hosts_good}
-use Rattle.bench_file.proofs.Each.{each_good, each_bad, each_done}
-use Rattle.bench_file.proofs.hosts.hosts_good.Invariants.{test}
+use mathlib.Core.Bool.{Bool}
+use Prim.Native.Nat.{ℕ}
+use Rattle.std.proofs.Common.{rules, tests}
+use Rattle.std.proofs.lemmas.Iterator.{YieldsList-from_range}
+use Rattle.std.proofs.lemmas.Iterator.Search.{all_from_yields_List}
+use Rattle.bench_file.specs.Settings.{host_record, host_good, hosts_good}
+use Rattle.bench_file.proofs.Each.{every_up}
 use Rattle.bench_file.proofs.hosts.hosts_good.Goals as goal
-
-pub returns-then-not-good_at : goal.returns-then-not-good_at
-unfolding hosts_good
-returns-then-not-good_at c =
-    let a = c.args in
-    let w = c.loop-i in
-    sym (w.invariant ∙ each_bad (test a.table a.file.now) a.header.hosts w.i (omega arith) (sym c.good_at.ensures ∙ c.if-not-good_at.true))
-
-pub loop-i-preserved : goal.loop-i-preserved
-loop-i-preserved c =
-    let a = c.args in
-    let w = c.loop-i in
-    w.invariant ∙ each_good (test a.table a.file.now) a.header.hosts w.i (omega arith) (sym c.good_at.ensures ∙ c.if-not-good_at.false)
 
 pub returns : goal.returns
 unfolding hosts_good
 returns c =
     let a = c.args in
-    let w = c.loop-i in
-    sym (w.invariant ∙ each_done (test a.table a.file.now) a.header.hosts w.i (omega arith))
+    let n = a.header.hosts in
+    let test : ℕ → Bool = λ k. host_good a.table (host_record a.file.now k) in
+    all_from_yields_List test _ _ c.all.result c.all.ensures.ran (YieldsList-from_range 0 n n refl (omega arith)) (λ x b q k. search (rules, tests))
+    ∙ every_up test 0 n
