@@ -49,16 +49,14 @@ module _ (file : List ℕ) (t : NetTable) (hosts : List HostState) (copies : Lis
     pub turns_fit : TurnsFit file record { first = done; end = done + count; header = h } t b
     turns_fit = record {
       first = omega arith;
-      fits = λ l. (
-        record {
-          header = refl;
-          sections = there.1;
-          records = tests.records;
-          call_state = tests.call_state;
-          slots = (both (slots_good h slots) (leb done h.events) tests.more).0;
-        },
-        omega (arith, some_after),
-      );
+      fits = record {
+        header = refl;
+        sections = there.1;
+        records = tests.records;
+        call_state = tests.call_state;
+        slots = (both (slots_good h slots) (leb done h.events) tests.more).0;
+      };
+      there = omega (arith, some_after);
     }
 
     -- ---- what they leave

@@ -37,8 +37,13 @@ fn set_at(
     requires { SetFits file.now header hosts.old copies.now i }
     ensures { SetsHost file.now net_table.now hosts.old copies.now entries.old i hosts.new entries.new }
 {
-    let a = initializes(file, i, header);
-    let r = ask_at(net_table, hosts, copies, entries, a);
+    ask_at(
+        net_table,
+        hosts,
+        copies,
+        entries,
+        initializes(file, i, header),
+    );
 }
 
 // All hosts of the file, in rising order.

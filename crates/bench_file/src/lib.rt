@@ -32,6 +32,7 @@ pub struct End {
 }
 
 // A call that an event makes. A send names a cable, one of its ends and a slot; an arrival names a slot only.
+// A record of no kind is an event too: `carried` gives it its answer, 3, as it does the others.
 #[derive(Clone, Copy)]
 pub enum Event {
     Tick(usize, Count),
