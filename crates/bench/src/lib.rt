@@ -55,7 +55,7 @@ pub struct Lengths {
     pub answers: usize,
 }
 
-// The answers of set-up and run, with their numbers in the published table.
+// The answers of set-up and run, with their numbers in the published table. Done is one of them, as in `number` of specs/Answer.antt.
 #[derive(Clone, Copy, PartialEq, Eq)]
 pub enum Answer {
     Done = 0,
@@ -64,7 +64,7 @@ pub enum Answer {
     Absent = 19,
 }
 
-// What a run answers: its answer, and how many events it carried out.
+// What a run answers: its answer, and how many events it carried out. `ran` of specs/Run.antt defines both, at a refusal too.
 #[derive(Clone, Copy)]
 pub struct Ran {
     pub answer: Answer,

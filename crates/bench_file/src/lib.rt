@@ -15,6 +15,7 @@ use quantity::Count;
 pub mod hosts;
 
 // BENCH-2: how many hosts, cables and events, and the octets at which cables and events begin.
+// Octets and header are passed apart, since the definitions that state what they must be (`Sections`, `bench/code/Turns: Fits`) take them so, beside other facts of the same octets.
 #[derive(Clone, Copy)]
 pub struct Header {
     pub hosts: usize,

@@ -1,20 +1,11 @@
--- `all` answers as `list_all` of std over the hosts' numbers, which is the test of the definition.
-use mathlib.Core.Path.{refl, ◌∙◌}
-use native.Mathlib.Omega.{arith}
-use mathlib.Core.Bool.{Bool}
-use Prim.Native.Nat.{ℕ}
-use Rattle.std.proofs.Common.{rules, tests}
-use Rattle.std.proofs.lemmas.Iterator.{YieldsList-from_range}
-use Rattle.std.proofs.lemmas.Iterator.Search.{all_from_yields_List}
+-- `all` tests the hosts' numbers as the definition does.
+use Rattle.std.proofs.Common.{rules, tests, ℕ}
 use Rattle.bench_file.specs.Settings.{host_record, host_good, hosts_good}
-use Rattle.bench_file.proofs.Each.{every_up}
+use Rattle.bench_file.proofs.Each.{all_below}
 use Rattle.bench_file.proofs.hosts.hosts_good.Goals as goal
 
 pub returns : goal.returns
 unfolding hosts_good
 returns c =
     let a = c.args in
-    let n = a.header.hosts in
-    let test : ℕ → Bool = λ k. host_good a.table (host_record a.file.now k) in
-    all_from_yields_List test _ _ c.all.result c.all.ensures.ran (YieldsList-from_range 0 n n refl (omega arith)) (λ x b q k. search (rules, tests))
-    ∙ every_up test 0 n
+    all_below (λ (k : ℕ). host_good a.table (host_record a.file.now k)) a.header.hosts c.all.ensures.ran (λ x b q k. search (rules, tests))
