@@ -93,6 +93,7 @@ fn marks_of(octets: &[u8; HOST]) -> Marks
     }
 }
 
+#[tactic(auto, unfolding(crate::specs::Settings::settings_of))]
 fn links_of(octets: &[u8; HOST]) -> [LinkSetting; 8]
     ensures { result ≡ (settings_of octets.now).links }
 {
@@ -110,6 +111,7 @@ fn links_of(octets: &[u8; HOST]) -> [LinkSetting; 8]
 }
 
 // What a host's record says.
+#[tactic(auto, unfolding(crate::specs::Settings::settings_of))]
 fn settings_of(octets: &[u8; HOST]) -> Settings
     ensures { result ≡ settings_of octets.now }
 {

@@ -137,6 +137,7 @@ fn counter_of(part: &[u8; EVENT]) -> Counter
 }
 
 // What an event's record says.
+#[tactic(auto, unfolding(crate::specs::Records::event_of))]
 pub fn event_of(part: &[u8; EVENT]) -> Event
     ensures { result ≡ event_of part.now }
 {
