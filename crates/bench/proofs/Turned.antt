@@ -67,8 +67,7 @@ module _ (file : List ℕ) (t : NetTable) (hosts : List HostState) (copies : Lis
 
     more : i < (header file t).events
     more =
-        let f = a.fits (omega arith) in
-        subst (λ (g : Header). i < g.events) f.0.header (omega (arith, f.1))
+        subst (λ (g : Header). i < g.events) a.fits.header (omega (arith, a.there))
 
     here : afterwards ≡ steps file t n start
     here =
@@ -92,18 +91,18 @@ module _ (file : List ℕ) (t : NetTable) (hosts : List HostState) (copies : Lis
     pub may : length hosts' ≡ length hosts → length entries' ≡ length entries → length slots' ≡ length slots → length answers' ≡ length answers
         → Fits file w.header t afterwards × (i < w.header.events)
     may hosts_long entries_long slots_long answers_long =
-        let f = a.fits (omega arith) in
+        let f = a.fits in
         let same : lengths_of afterwards ≡ lengths_of start =
         λ j. record { entries = entries_long j; hosts = hosts_long j; copies = length copies; slots = slots_long j; answers = answers_long j } in
-        let records : records_good t file (header file t) ≡ true = subst (λ (g : Header). records_good t file g ≡ true) f.0.header f.0.records in
-        let good : slots_good (header file t) slots ≡ true = subst (λ (g : Header). slots_good g slots ≡ true) f.0.header f.0.slots in
-        let labels : Labelled file t (steps file t n start) = labelled file t records n start ((long_of w.header (lengths_of start) f.0.call_state).slots, good) in (
+        let records : records_good t file (header file t) ≡ true = subst (λ (g : Header). records_good t file g ≡ true) f.header f.records in
+        let good : slots_good (header file t) slots ≡ true = subst (λ (g : Header). slots_good g slots ≡ true) f.header f.slots in
+        let labels : Labelled file t (steps file t n start) = labelled file t records n start ((long_of w.header (lengths_of start) f.call_state).slots, good) in (
           record {
-            header = f.0.header;
-            sections = f.0.sections;
-            records = f.0.records;
-            call_state = subst⁻¹ (λ (m : Lengths). lengths_fit w.header m ≡ true) same f.0.call_state;
-            slots = subst⁻¹ (λ (g : Header). slots_good g slots' ≡ true) f.0.header (ap (λ (b : Bench). slots_good (header file t) b.slots) here ∙ labels.1);
+            header = f.header;
+            sections = f.sections;
+            records = f.records;
+            call_state = subst⁻¹ (λ (m : Lengths). lengths_fit w.header m ≡ true) same f.call_state;
+            slots = subst⁻¹ (λ (g : Header). slots_good g slots' ≡ true) f.header (ap (λ (b : Bench). slots_good (header file t) b.slots) here ∙ labels.1);
           },
-          omega (arith, f.1),
+          omega (arith, a.there),
         )

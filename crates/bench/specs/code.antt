@@ -5,4 +5,3 @@ pub mod Takes
 pub mod Returned
 pub mod Turns
 pub mod Sets
-pub mod Plans

@@ -14,37 +14,27 @@ use bench_file::Header;
 use host::{LONGEST, PLACES};
 use net_table::NetTable;
 
+#[tactic(auto, unfolding(crate::specs::Guard::records_good))]
 fn records_good(t: NetTable, file: &[u8], h: Header) -> bool
     requires { Sections h (length file.now) }
     ensures { result ≡ records_good t file.now h }
 {
-    if !bench_file::hosts::hosts_good(t, file, h) {
-        return false;
-    }
-    if !bench_file::cables_good(file, h) {
-        return false;
-    }
-    bench_file::events_good(file, h)
+    bench_file::hosts::hosts_good(t, file, h)
+        && bench_file::cables_good(file, h)
+        && bench_file::events_good(file, h)
 }
 
 // Are all borrowed slices as long as the file needs?
+#[tactic(auto, unfolding(crate::specs::Guard::lengths_fit))]
 fn lengths_fit(h: Header, n: Lengths, file: usize) -> bool
     requires { Sections h file }
     ensures { result ≡ lengths_fit h n }
 {
-    if n.entries < PLACES * h.hosts {
-        return false;
-    }
-    if n.hosts < h.hosts {
-        return false;
-    }
-    if n.copies < LONGEST * h.hosts {
-        return false;
-    }
-    if n.slots < SLOTS_LENGTH {
-        return false;
-    }
-    h.events <= n.answers
+    PLACES * h.hosts <= n.entries
+        && h.hosts <= n.hosts
+        && LONGEST * h.hosts <= n.copies
+        && SLOTS_LENGTH <= n.slots
+        && h.events <= n.answers
 }
 
 // 18 and 19, or none.
@@ -65,16 +55,11 @@ fn rest_tested(t: NetTable, h: Header, n: Lengths, file: usize, besides: bool) -
     requires { Sections h file }
     ensures { result ≡ cond (lengths_fit h n && (besides && not (table_bad t))) Done OutOfRange }
 {
-    if !lengths_fit(h, n, file) {
-        return Answer::OutOfRange;
+    if lengths_fit(h, n, file) && besides && !calls::queries::is_bad(t) {
+        Answer::Done
+    } else {
+        Answer::OutOfRange
     }
-    if !besides {
-        return Answer::OutOfRange;
-    }
-    if calls::queries::is_bad(t) {
-        return Answer::OutOfRange;
-    }
-    Answer::Done
 }
 
 pub fn set_up_tested(t: NetTable, file: &[u8], n: Lengths) -> Answer
@@ -92,10 +77,7 @@ fn can_run(h: Header, octets: &[u8], done: usize) -> bool
     requires { slot_length * slots ≤ length octets.now }
     ensures { result ≡ runnable h octets.now done }
 {
-    if !slots_good(h, octets) {
-        return false;
-    }
-    done <= h.events
+    slots_good(h, octets) && done <= h.events
 }
 
 pub fn run_tested(t: NetTable, file: &[u8], n: Lengths, octets: &[u8], done: usize) -> Answer

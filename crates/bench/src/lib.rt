@@ -7,20 +7,21 @@ ghost use Rattle.bench.specs.Guard.{set_up_guard};
 ghost use Rattle.bench.specs.Run.{after_set_up, after_run, ran};
 ghost use Rattle.bench.specs.Bench.{bench};
 
+use bench_file::read_header;
 use clock::Clock;
 use events::turns;
+use guard::{run_tested, set_up_tested};
 use host::Links;
 use host::walk::Walk;
 use net_table::NetTable;
-use plans::{plan_run, plan_set_up};
+use returned::Turns;
 use sets::sets;
-use slots::clear;
+use slots::{SLOTS_LENGTH, clear};
 use table::Entry;
 
 mod events;
 mod guard;
 mod places;
-mod plans;
 mod requests;
 mod returned;
 mod sends;
@@ -54,7 +55,7 @@ pub struct Lengths {
     pub answers: usize,
 }
 
-// The answers of set-up and run, with their numbers in the published table.
+// The answers of set-up and run, with their numbers in the published table. Done is one of them, as in `number` of specs/Answer.antt.
 #[derive(Clone, Copy, PartialEq, Eq)]
 pub enum Answer {
     Done = 0,
@@ -63,7 +64,7 @@ pub enum Answer {
     Absent = 19,
 }
 
-// What a run answers: its answer, and how many events it carried out.
+// What a run answers: its answer, and how many events it carried out. `ran` of specs/Run.antt defines both, at a refusal too.
 #[derive(Clone, Copy)]
 pub struct Ran {
     pub answer: Answer,
@@ -102,19 +103,23 @@ pub fn set_up(
         ≡ after_set_up file.now net_table.now
         (bench hosts.old copies.now entries.old slots.old answers.old progress.old.done)) }
 {
-    let t = *net_table;
-    let d = *progress;
-    let a = hosts.len();
-    let b = copies.len();
-    let c = entries.len();
-    let e = slots.len();
-    let f = answers.len();
-    let p = plan_set_up(file, t, d, a, b, c, e, f);
-    sets(file, net_table, hosts, copies, entries, p.sets);
-    clear(slots, p.slots);
-    clear(answers, p.answers);
-    *progress = p.progress;
-    p.answer
+    let lengths = Lengths {
+        entries: entries.len(),
+        hosts: hosts.len(),
+        copies: copies.len(),
+        slots: slots.len(),
+        answers: answers.len(),
+    };
+    let answer = set_up_tested(*net_table, file, lengths);
+    if !passes(answer) {
+        return answer;
+    }
+    let header = read_header(file);
+    sets(file, net_table, hosts, copies, entries, header);
+    clear(slots, SLOTS_LENGTH);
+    clear(answers, header.events);
+    progress.done = 0;
+    answer
 }
 
 // BENCH-6: does the next events, each by its call, and stores their answers, until the budget or the file ends.
@@ -135,16 +140,31 @@ pub fn run(
         ≡ after_run file.now net_table.now allowance
         (bench hosts.old copies.now entries.old slots.old answers.old progress.old.done)) }
 {
-    let t = *net_table;
-    let d = *progress;
-    let a = hosts.len();
-    let b = copies.len();
-    let c = entries.len();
-    let e = answers.len();
-    let p = plan_run(file, t, d, a, b, c, slots, e, allowance);
+    let lengths = Lengths {
+        entries: entries.len(),
+        hosts: hosts.len(),
+        copies: copies.len(),
+        slots: slots.len(),
+        answers: answers.len(),
+    };
+    let first = progress.done;
+    let answer = run_tested(*net_table, file, lengths, slots, first);
+    if !passes(answer) {
+        return Ran { answer, count: 0 };
+    }
+    let header = read_header(file);
+    let count = allowance.min(header.events - first);
+    let end = first + count;
     turns(
-        file, net_table, hosts, copies, entries, slots, answers, p.turns,
+        file,
+        net_table,
+        hosts,
+        copies,
+        entries,
+        slots,
+        answers,
+        Turns { first, end, header },
     );
-    *progress = p.progress;
-    p.ran
+    progress.done = end;
+    Ran { answer, count }
 }

@@ -21,8 +21,7 @@ pub fn keep_answer(answers: &mut [u8], event: usize, r: Reply)
     requires { event < length answers.old }
     ensures { answers.new ≡ set answers.old event (number r.answer) }
 {
-    let a = r.answer;
-    answers[event] = calls::queries::number(a);
+    answers[event] = calls::queries::number(r.answer);
 }
 
 // The answer of an event that asks no host is 3.

@@ -73,13 +73,10 @@ pub fn ask_of(file: &[u8], w: Turns, x: Asking) -> Ask
     requires { Sections w.header (length file.now) × (x.host < w.header.hosts) }
     ensures { result ≡ ask_of file.now x.host x.request }
 {
-    let h = w.header;
-    let q = x.request;
-    let s = bench_file::hosts::settings_at(file, h, x.host);
     Ask {
         host: x.host,
-        settings: s,
-        request: q,
+        settings: bench_file::hosts::settings_at(file, w.header, x.host),
+        request: x.request,
     }
 }
 
@@ -88,16 +85,13 @@ pub fn send_of(file: &[u8], w: Turns, x: Going) -> Sending
     requires { SendNames file.now w.header x.cable x.side }
     ensures { result ≡ send_of file.now w.header x.cable x.side x.slot x.counter }
 {
-    let h = w.header;
-    let k = x.counter;
-    let e = bench_file::end_at(file, h, x.cable, x.side);
-    let s = bench_file::hosts::settings_at(file, h, e.host);
+    let e = bench_file::end_at(file, w.header, x.cable, x.side);
     Sending {
         host: e.host,
         slot: x.slot,
-        settings: s,
+        settings: bench_file::hosts::settings_at(file, w.header, e.host),
         link: e.link,
-        counter: k,
+        counter: x.counter,
         cable: x.cable,
         side: x.side,
     }
@@ -128,20 +122,17 @@ pub fn take_of(file: &[u8], octets: &[u8], w: Turns, x: Coming) -> Taking
 fn ask(host: usize, request: Request) -> Returned
     ensures { OnlyAsk host request result }
 {
-    Returned::Ask(Asking {
-        host: host,
-        request: request,
-    })
+    Returned::Ask(Asking { host, request })
 }
 
 fn send(cable: usize, side: usize, slot: usize, counter: Counter) -> Returned
     ensures { OnlySend cable side slot counter result }
 {
     Returned::Send(Going {
-        cable: cable,
-        side: side,
-        slot: slot,
-        counter: counter,
+        cable,
+        side,
+        slot,
+        counter,
     })
 }
 
@@ -161,10 +152,7 @@ fn take(octets: &[u8], h: Header, slot: usize, counter: Counter) -> Returned
     if l.length == 0 {
         return only_note();
     }
-    Returned::Take(Coming {
-        slot: slot,
-        counter: counter,
-    })
+    Returned::Take(Coming { slot, counter })
 }
 
 // What event i asks.
@@ -172,16 +160,14 @@ pub fn tell(file: &[u8], octets: &[u8], i: usize, w: Turns) -> Returned
     requires { EventFits file.now octets.now i w.header }
     ensures { Tells octets.now (event_at file.now w.header i) result }
 {
-    let h = w.header;
-    let e = bench_file::event_at(file, h, i);
-    match e {
+    match bench_file::event_at(file, w.header, i) {
         Event::Tick(host, n) => ask(host, Request::Tick(n)),
         Event::Adjust(host, n) => ask(host, Request::Adjust(n)),
         Event::Set(host, by, n) => ask(host, Request::Set(by, n)),
         Event::Second(host) => ask(host, Request::Second),
         Event::SelfReport(host, k) => ask(host, Request::SelfReport(k)),
         Event::Send(cable, side, slot, k) => send(cable, side, slot, k),
-        Event::Arrival(slot, k) => take(octets, h, slot, k),
+        Event::Arrival(slot, k) => take(octets, w.header, slot, k),
         Event::Unknown => only_note(),
     }
 }

@@ -30,11 +30,9 @@ fn label(octets: &mut [u8], w: Sending, r: Reply)
     requires { (slot_length * slots ≤ length octets.old) × (w.slot < slots) × (w.cable < most_cables) × (w.side ≤ 1) }
     ensures { octets.new ≡ labelled w r octets.old }
 {
-    let a = r.answer;
-    if !calls::queries::is_done(a) {
-        return;
+    if calls::queries::is_done(r.answer) {
+        put_label(octets, w.slot, r.length, w.cable as u8, w.side as u8);
     }
-    put_label(octets, w.slot, r.length, w.cable as u8, w.side as u8);
 }
 
 pub fn send_at(

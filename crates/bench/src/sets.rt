@@ -3,7 +3,7 @@ ghost use Rattle.std.specs.Prelude.{◌≡◌, ◌<◌, length};
 ghost use Rattle.calls.specs.declared.Request.TheVariants.{Initialize};
 ghost use Rattle.bench_file.specs.code.Sections.{Sections};
 ghost use Rattle.bench.specs.code.Returned.{ask_of};
-ghost use Rattle.bench.specs.code.Sets.{SetFits, SetsHost, SetsFit, SetsHosts};
+ghost use Rattle.bench.specs.code.Sets.{HostsFit, SetFits, SetsHost, SetsHosts};
 
 use super::HostState;
 use super::requests::{Ask, ask_at};
@@ -13,22 +13,14 @@ use calls::Request;
 use net_table::NetTable;
 use table::Entry;
 
-// The hosts from first to end, of a file with this header.
-#[derive(Clone, Copy)]
-pub struct Setting {
-    pub first: usize,
-    pub end: usize,
-    pub header: Header,
-}
-
 // The request to initialize, with the settings of the host's record.
-fn initializes(file: &[u8], host: usize, w: Setting) -> Ask
-    requires { Sections w.header (length file.now) × (host < w.header.hosts) }
+fn initializes(file: &[u8], host: usize, header: Header) -> Ask
+    requires { Sections header (length file.now) × (host < header.hosts) }
     ensures { result ≡ ask_of file.now host Initialize }
 {
     Ask {
-        host: host,
-        settings: settings_at(file, w.header, host),
+        host,
+        settings: settings_at(file, header, host),
         request: Request::Initialize,
     }
 }
@@ -40,28 +32,33 @@ fn set_at(
     copies: &[u8],
     entries: &mut [Entry],
     i: usize,
-    w: Setting,
+    header: Header,
 )
-    requires { SetFits file.now w hosts.old copies.now i }
+    requires { SetFits file.now header hosts.old copies.now i }
     ensures { SetsHost file.now net_table.now hosts.old copies.now entries.old i hosts.new entries.new }
 {
-    let a = initializes(file, i, w);
-    let r = ask_at(net_table, hosts, copies, entries, a);
+    ask_at(
+        net_table,
+        hosts,
+        copies,
+        entries,
+        initializes(file, i, header),
+    );
 }
 
-// In rising order.
+// All hosts of the file, in rising order.
 pub fn sets(
     file: &[u8],
     net_table: &NetTable,
     hosts: &mut [HostState],
     copies: &[u8],
     entries: &mut [Entry],
-    w: Setting,
+    header: Header,
 )
-    requires { SetsFit file.now w hosts.old copies.now }
-    ensures { SetsHosts file.now w net_table.now hosts.old copies.now entries.old hosts.new entries.new }
+    requires { HostsFit file.now header hosts.old copies.now }
+    ensures { SetsHosts file.now header net_table.now hosts.old copies.now entries.old hosts.new entries.new }
 {
-    for i in w.first..w.end {
-        set_at(file, net_table, hosts, copies, entries, i, w);
+    for i in 0..header.hosts {
+        set_at(file, net_table, hosts, copies, entries, i, header);
     }
 }

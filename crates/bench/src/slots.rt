@@ -61,28 +61,14 @@ pub fn label_at(octets: &[u8], slot: usize) -> Label
 fn label_good(h: Header, l: Label) -> bool
     ensures { result ≡ label_good h l }
 {
-    if l.length == 0 {
-        return true;
-    }
-    if LONGEST < l.length {
-        return false;
-    }
-    if l.cable >= h.cables {
-        return false;
-    }
-    l.end <= 1
+    l.length == 0 || l.length <= LONGEST && l.cable < h.cables && l.end <= 1
 }
 
 pub fn slots_good(h: Header, octets: &[u8]) -> bool
     requires { slot_length * slots ≤ length octets.now }
     ensures { result ≡ slots_good h octets.now }
 {
-    for i in 0..SLOTS {
-        if !label_good(h, label_at(octets, i)) {
-            return false;
-        }
-    }
-    true
+    (0..SLOTS).all(|i| label_good(h, label_at(octets, i)))
 }
 
 // A packet of n octets, sent from an end of a cable.
@@ -91,10 +77,8 @@ pub fn put_label(octets: &mut [u8], slot: usize, size: usize, cable: u8, end: u8
     ensures { octets.new ≡ with_label slot size cable end octets.old }
 {
     let at = SLOT * slot;
-    octets[at] = (size / 256 % 256) as u8;
-    octets[at + 1] = (size % 256) as u8;
-    octets[at + 2] = cable;
-    octets[at + 3] = end;
+    let label = [(size / 256 % 256) as u8, (size % 256) as u8, cable, end];
+    octets[at..at + LABEL].copy_from_slice(&label);
 }
 
 // n zero octets.

@@ -43,8 +43,7 @@ fn acts(link: usize, counter: Counter) -> Delivery
 fn passes(r: Reply) -> bool
     ensures { result ≡ done r.answer }
 {
-    let a = r.answer;
-    calls::queries::is_done(a)
+    calls::queries::is_done(r.answer)
 }
 
 fn look_at(

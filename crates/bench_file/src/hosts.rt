@@ -1,7 +1,6 @@
 // The records of hosts: the settings of each, and whether they are valid.
 ghost use Rattle.std.specs.Prelude.{◌≡◌, ◌+◌, ◌≤◌, ◌<◌, min, length};
 ghost use Rattle.lists.specs.Lists.{part};
-ghost use Rattle.bench_file.specs.Header.{host_length};
 ghost use Rattle.bench_file.specs.Settings.{
   tick_of,
   link_at,
@@ -58,8 +57,8 @@ fn tick_of(n: u64) -> Units
 }
 
 // The link of a slot, 0 to 7.
-fn link_at(octets: &[u8], slot: usize) -> LinkSetting
-    requires { (host_length ≤ length octets.now) × (slot < 8) }
+fn link_at(octets: &[u8; HOST], slot: usize) -> LinkSetting
+    requires { slot < 8 }
     ensures { result ≡ link_at octets.now slot }
 {
     let at = LINKS + LINK * slot;
@@ -81,8 +80,7 @@ fn word_at(octets: &[u8], at: usize) -> u64
     word
 }
 
-fn marks_of(octets: &[u8]) -> Marks
-    requires { host_length ≤ length octets.now }
+fn marks_of(octets: &[u8; HOST]) -> Marks
     ensures { result ≡ marks_of octets.now }
 {
     Marks {
@@ -95,8 +93,8 @@ fn marks_of(octets: &[u8]) -> Marks
     }
 }
 
-fn links_of(octets: &[u8]) -> [LinkSetting; 8]
-    requires { host_length ≤ length octets.now }
+#[tactic(auto, unfolding(crate::specs::Settings::settings_of))]
+fn links_of(octets: &[u8; HOST]) -> [LinkSetting; 8]
     ensures { result ≡ (settings_of octets.now).links }
 {
     // With `array::from_fn`, the proof that the closure returns the link of its slot doesn't close.
@@ -113,8 +111,8 @@ fn links_of(octets: &[u8]) -> [LinkSetting; 8]
 }
 
 // What a host's record says.
-fn settings_of(octets: &[u8]) -> Settings
-    requires { host_length ≤ length octets.now }
+#[tactic(auto, unfolding(crate::specs::Settings::settings_of))]
+fn settings_of(octets: &[u8; HOST]) -> Settings
     ensures { result ≡ settings_of octets.now }
 {
     Settings {
@@ -134,49 +132,39 @@ fn settings_of(octets: &[u8]) -> Settings
     }
 }
 
+// The record of a host of the file.
+fn record_at(file: &[u8], header: Header, host: usize) -> &[u8; HOST]
+    requires { Sections header (length file.now) × (host < header.hosts) }
+    ensures { result.now ≡ host_record file.now host }
+{
+    let at = HEADER + HOST * host;
+    file[at..at + HOST].as_array().unwrap()
+}
+
 // The settings of a host of the file.
 pub fn settings_at(file: &[u8], header: Header, host: usize) -> Settings
     requires { Sections header (length file.now) × (host < header.hosts) }
     ensures { result ≡ settings_at file.now host }
 {
-    let at = HEADER + HOST * host;
-    settings_of(&file[at..at + HOST])
+    settings_of(record_at(file, header, host))
 }
 
-fn marks_good(octets: &[u8]) -> bool
-    requires { host_length ≤ length octets.now }
+fn marks_good(octets: &[u8; HOST]) -> bool
     ensures { result ≡ marks_good octets.now }
 {
     octets[MARKS..MARKS + 256].iter().all(|mark| *mark <= 1)
 }
 
 // May a host of the class be set so?
-fn host_good(table: NetTable, octets: &[u8]) -> bool
-    requires { host_length ≤ length octets.now }
+fn host_good(table: NetTable, octets: &[u8; HOST]) -> bool
     ensures { result ≡ host_good table octets.now }
 {
-    if !marks_good(octets) {
-        return false;
-    }
-    host::fit(table, settings_of(octets))
-}
-
-fn good_at(table: NetTable, file: &[u8], header: Header, host: usize) -> bool
-    requires { Sections header (length file.now) × (host < header.hosts) }
-    ensures { result ≡ host_good table (host_record file.now host) }
-{
-    let at = HEADER + HOST * host;
-    host_good(table, &file[at..at + HOST])
+    marks_good(octets) && host::fit(table, settings_of(octets))
 }
 
 pub fn hosts_good(table: NetTable, file: &[u8], header: Header) -> bool
     requires { Sections header (length file.now) }
     ensures { result ≡ hosts_good table file.now header }
 {
-    for i in 0..header.hosts {
-        if !good_at(table, file, header, i) {
-            return false;
-        }
-    }
-    true
+    (0..header.hosts).all(|i| host_good(table, record_at(file, header, i)))
 }

@@ -3,7 +3,7 @@
 
 ghost use Rattle.std.specs.Prelude.{◌≡◌, true, ◌≤◌, ◌<◌, length};
 ghost use Rattle.quantity.specs.Words.{signed_bits};
-ghost use Rattle.bench_file.specs.Header.{header_length, event_length, header_of, header_fits, header_bad};
+ghost use Rattle.bench_file.specs.Header.{header_length, header_of, header_fits, header_bad};
 ghost use Rattle.bench_file.specs.Records.{link_count_at, end_at, count_of, counter_of, event_of, event_at};
 ghost use Rattle.bench_file.specs.Absent.{end_good, cable_good, event_good, mark_good, cables_good, events_good};
 ghost use Rattle.bench_file.specs.code.Sections.{Sections};
@@ -15,6 +15,7 @@ use quantity::Count;
 pub mod hosts;
 
 // BENCH-2: how many hosts, cables and events, and the octets at which cables and events begin.
+// Octets and header are passed apart, since the definitions that state what they must be (`Sections`, `bench/code/Turns: Fits`) take them so, beside other facts of the same octets.
 #[derive(Clone, Copy)]
 pub struct Header {
     pub hosts: usize,
@@ -32,6 +33,7 @@ pub struct End {
 }
 
 // A call that an event makes. A send names a cable, one of its ends and a slot; an arrival names a slot only.
+// A record of no kind is an event too: `carried` gives it its answer, 3, as it does the others.
 #[derive(Clone, Copy)]
 pub enum Event {
     Tick(usize, Count),
@@ -79,35 +81,23 @@ pub fn read_header(file: &[u8]) -> Header
 }
 
 // Are the counts those of a file, and do the sections touch and end with it?
+#[tactic(auto, unfolding(crate::specs::Header::header_fits))]
 pub fn header_fits(header: Header, n: usize) -> bool
     ensures { result ≡ header_fits header n }
 {
-    if 16 < header.hosts {
-        return false;
-    }
-    if 32 < header.cables {
-        return false;
-    }
-    if 2048 < header.events {
-        return false;
-    }
-    if header.cables_start != HEADER + HOST * header.hosts {
-        return false;
-    }
-    if header.events_start != header.cables_start + CABLE * header.cables {
-        return false;
-    }
-    n == header.events_start + EVENT * header.events
+    header.hosts <= 16
+        && header.cables <= 32
+        && header.events <= 2048
+        && header.cables_start == HEADER + HOST * header.hosts
+        && header.events_start == header.cables_start + CABLE * header.cables
+        && n == header.events_start + EVENT * header.events
 }
 
 // Is there no header that fits the file?
 pub fn header_bad(file: &[u8]) -> bool
     ensures { result ≡ header_bad file.now }
 {
-    if file.len() < HEADER {
-        return true;
-    }
-    !header_fits(read_header(file), file.len())
+    file.len() < HEADER || !header_fits(read_header(file), file.len())
 }
 
 // How many links a host's record says that it has.
@@ -130,15 +120,13 @@ pub fn end_at(file: &[u8], header: Header, cable: usize, end: usize) -> End
     }
 }
 
-fn count_of(part: &[u8]) -> Count
-    requires { event_length ≤ length part.now }
+fn count_of(part: &[u8; EVENT]) -> Count
     ensures { result ≡ count_of part.now }
 {
     Count(two_at(part, 6))
 }
 
-fn counter_of(part: &[u8]) -> Counter
-    requires { event_length ≤ length part.now }
+fn counter_of(part: &[u8; EVENT]) -> Counter
     ensures { result ≡ counter_of part.now }
 {
     Counter {
@@ -149,8 +137,8 @@ fn counter_of(part: &[u8]) -> Counter
 }
 
 // What an event's record says.
-pub fn event_of(part: &[u8]) -> Event
-    requires { event_length ≤ length part.now }
+#[tactic(auto, unfolding(crate::specs::Records::event_of))]
+pub fn event_of(part: &[u8; EVENT]) -> Event
     ensures { result ≡ event_of part.now }
 {
     match part[0] {
@@ -175,31 +163,25 @@ pub fn event_at(file: &[u8], header: Header, event: usize) -> Event
     ensures { result ≡ event_at file.now header event }
 {
     let at = header.events_start + EVENT * event;
-    event_of(&file[at..at + EVENT])
+    event_of(file[at..at + EVENT].as_array().unwrap())
 }
 
 // Is an end a link of a host of the file?
+#[tactic(auto, unfolding(crate::specs::Absent::end_good))]
 fn end_good(file: &[u8], header: Header, end: End) -> bool
     requires { Sections header (length file.now) }
     ensures { result ≡ end_good file.now header end }
 {
-    if end.host >= header.hosts {
-        return false;
-    }
-    if end.link < 1 {
-        return false;
-    }
-    end.link <= link_count(file, header, end.host)
+    end.host < header.hosts && 1 <= end.link && end.link <= link_count(file, header, end.host)
 }
 
+#[tactic(auto, unfolding(crate::specs::Absent::cable_good))]
 fn cable_good(file: &[u8], header: Header, cable: usize) -> bool
     requires { Sections header (length file.now) × (cable < header.cables) }
     ensures { result ≡ cable_good file.now header cable }
 {
-    if !end_good(file, header, end_at(file, header, cable, 0)) {
-        return false;
-    }
-    end_good(file, header, end_at(file, header, cable, 1))
+    end_good(file, header, end_at(file, header, cable, 0))
+        && end_good(file, header, end_at(file, header, cable, 1))
 }
 
 fn mark_good(counter: Counter) -> bool
@@ -217,10 +199,11 @@ fn event_good(header: Header, event: Event) -> bool
         | Event::Adjust(host, _)
         | Event::Set(host, _, _)
         | Event::Second(host) => { host < header.hosts }
-        Event::SelfReport(host, k) => (host < header.hosts) & mark_good(k),
-        Event::Send(cable, end, slot, k) => (cable < header.cables)
-            & ((end <= 1) & ((slot < SLOTS) & mark_good(k))),
-        Event::Arrival(slot, k) => (slot < SLOTS) & mark_good(k),
+        Event::SelfReport(host, k) => host < header.hosts && mark_good(k),
+        Event::Send(cable, end, slot, k) => {
+            cable < header.cables && end <= 1 && slot < SLOTS && mark_good(k)
+        }
+        Event::Arrival(slot, k) => slot < SLOTS && mark_good(k),
         Event::Unknown => false,
     }
 }
@@ -229,22 +212,12 @@ pub fn cables_good(file: &[u8], header: Header) -> bool
     requires { Sections header (length file.now) }
     ensures { result ≡ cables_good file.now header }
 {
-    for i in 0..header.cables {
-        if !cable_good(file, header, i) {
-            return false;
-        }
-    }
-    true
+    (0..header.cables).all(|i| cable_good(file, header, i))
 }
 
 pub fn events_good(file: &[u8], header: Header) -> bool
     requires { Sections header (length file.now) }
     ensures { result ≡ events_good file.now header }
 {
-    for i in 0..header.events {
-        if !event_good(header, event_at(file, header, i)) {
-            return false;
-        }
-    }
-    true
+    (0..header.events).all(|i| event_good(header, event_at(file, header, i)))
 }

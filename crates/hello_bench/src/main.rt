@@ -65,7 +65,9 @@ fn no_link() -> Link {
 fn nobody() -> HostState {
     HostState {
         clock: Clock::fresh(Millis(0), Date(0)),
-        links: Links { all: [no_link(); 8] },
+        links: Links {
+            all: [no_link(); 8],
+        },
         walk: host::walk::none(),
     }
 }

@@ -40,7 +40,9 @@ fn call(rt: &impl Print, e: Event) -> io::Result<()> {
         Event::Set(host, ms, _) => print!(rt; "set seat {host} by {ms} ms"),
         Event::Second(host) => print!(rt; "second seat {host}"),
         Event::SelfReport(host, _) => print!(rt; "self-report seat {host}"),
-        Event::Send(cable, side, slot, _) => print!(rt; "send cable {cable} end {side} tray {slot}"),
+        Event::Send(cable, side, slot, _) => print!(rt;
+            "send cable {cable} end {side} tray {slot}"
+        ),
         Event::Arrival(slot, _) => print!(rt; "arrival tray {slot}"),
         Event::Unknown => print!(rt; "none"),
     }
@@ -68,5 +70,8 @@ pub(crate) fn entry(rt: &impl Print, host: usize, id: usize, e: Entry) -> io::Re
         return Ok(());
     }
     let offset = Millis::from(e.offset).0;
-    println!(rt; "{host}\t{id}\t{}\t{offset}\t{}\t{}", e.delay.0, e.ttl.0, e.pid)
+    println!(rt;
+        "{host}\t{id}\t{}\t{offset}\t{}\t{}",
+        e.delay.0, e.ttl.0, e.pid
+    )
 }

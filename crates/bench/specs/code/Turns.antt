@@ -20,10 +20,11 @@ pub record Fits (file : List ℕ) (h : Header) (t : NetTable) (b : Bench) : Type
   pub call_state : lengths_fit h (lengths_of b) ≡ true
   pub slots : slots_good h b.slots ≡ true
 
--- no events, or some
+-- the events of a file that passes, from one up to another
 pub record TurnsFit (file : List ℕ) (w : Turns) (t : NetTable) (b : Bench) : Type 0 where
   pub first : w.first ≤ w.end
-  pub fits : w.first < w.end → Fits file w.header t b × (w.end ≤ w.header.events)
+  pub fits : Fits file w.header t b
+  pub there : w.end ≤ w.header.events
 
 -- a bench is as another, except for the copies, which no event changes, and the number of events done
 pub record HostAfter (b : Bench) (hosts' : List HostState) (entries' : List Entry) (slots' answers' : List ℕ) : Type 0 where

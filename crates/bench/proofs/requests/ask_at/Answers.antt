@@ -1,8 +1,7 @@
 -- The call borrows the host's state in its place.
 use mathlib.Core.Path.{◌≡◌, ap, ◌∙◌}
 use mathlib.Core.List.{List}
-use Prim.Native.Nat.{ℕ, ◌+◌, ◌-◌, ◌*◌}
-use native.Mathlib.Omega.{arith}
+use Prim.Native.Nat.{ℕ, ◌*◌}
 use lib.ListN.{get_or, set}
 use Rattle.lists.specs.Lists.{part}
 use Rattle.net_table.specs.declared.NetTable.{NetTable}
