@@ -30,7 +30,8 @@ use Rattle.host.specs.declared.Links.{Links}
 use Rattle.host.specs.State.{first_place, host_count, broadcast, link_of, with_link}
 use Rattle.host.specs.declared.guard.Scope.TheVariants.{OnLink}
 use Rattle.host.specs.Settings.{found_for, settings_good}
-use Rattle.host.specs.CallState.{Host, host, CallState, our_reading}
+use Rattle.host.specs.declared.Host.{Host}
+use Rattle.host.specs.CallState.{host, CallState, our_reading}
 use Rattle.host.specs.Guard.{guard, done}
 use Rattle.host.specs.code.Returned.{RowsBelow}
 use Rattle.host.proofs.Places.{Holds}

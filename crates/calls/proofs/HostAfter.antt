@@ -18,7 +18,8 @@ use Rattle.host.specs.declared.guard.Scope.TheVariants.{All, OnLink}
 use Rattle.host.specs.Effect.{answers}
 use Rattle.host.specs.Settings.{found_for, settings_good}
 use Rattle.host.specs.Guard.{guard, done}
-use Rattle.host.specs.CallState.{Host, CallState}
+use Rattle.host.specs.declared.Host.{Host}
+use Rattle.host.specs.CallState.{CallState}
 use Rattle.host.specs.Inspection as inspection
 use Rattle.host.proofs.Guarded.{passed, counted, holds, ready}
 use Rattle.calls.specs.declared.Request.{Request}
