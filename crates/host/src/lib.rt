@@ -89,7 +89,7 @@ pub struct Host {
 
 // A host that the guard let pass: its settings are good, and its clock is in range.
 #[derive(Clone, Copy)]
-pub struct Ready {
+pub struct GoodHost {
     pub host: Host,
     pub ghost good: { settings_good host.settings ≡ true },
     pub ghost in_range: { clock_in_range host.clock ≡ true },
@@ -177,7 +177,7 @@ fn found_marked(m: table::marks::Marks, found: Option<usize>) -> bool
 }
 
 // Our reading of the clock, and the clock to carry on with.
-pub fn our_reading(h: Ready, k: clock::Counter) -> clock::Reading
+pub fn our_reading(h: GoodHost, k: clock::Counter) -> clock::Reading
     ensures { result ≡ our_reading k h.host }
 {
     let s = h.host.settings;

@@ -15,7 +15,7 @@ use clock::{Clock, Counter};
 use host::link_number::LinkNumber;
 use host::link_state::{link_of, with_link};
 use host::replies::{plainly, returns_length};
-use host::{Host, Link, Links, Ready, Reply, Settings, host_count};
+use host::{Host, Link, Links, GoodHost, Reply, Settings, host_count};
 use quantity::{Millis, Word};
 use table::entries::Reports;
 use wire::{Address, Packet};
@@ -107,7 +107,7 @@ fn packet_sent(s: Settings, x: Link, time: Millis, date: Date, count: u8) -> Pac
 }
 
 // A send of n reports on a link in this state.
-fn sends(h: Ready, link: LinkNumber, k: Counter, x: Link, count: u8) -> Sending
+fn sends(h: GoodHost, link: LinkNumber, k: Counter, x: Link, count: u8) -> Sending
     requires { (x ≡ link_of h.host.links link.number) × (count ≡ report_count h.host.settings x) }
     ensures { result ≡ sends link.number k h.host }
 {
@@ -129,7 +129,7 @@ fn sends(h: Ready, link: LinkNumber, k: Counter, x: Link, count: u8) -> Sending
 }
 
 // A send into a buffer of n octets.
-pub fn send_in(h: Ready, link: LinkNumber, k: Counter, room: usize) -> Sending
+pub fn send_in(h: GoodHost, link: LinkNumber, k: Counter, room: usize) -> Sending
     ensures { result ≡ send_in link.number k room h.host }
 {
     let x = link_of(h.host.links, link);
