@@ -54,6 +54,7 @@ pub(crate) fn adjust(h: GoodHost, n: Count) -> Timed
     }
 }
 
+#[inline]
 pub(crate) fn set(h: GoodHost, ms: i32, n: Count) -> Timed
     ensures { Timely result (Set ms n) h.host }
 {
