@@ -6,7 +6,8 @@ ghost use Rattle.clock.specs.Midnight.{day_millis};
 ghost use Rattle.wire.specs.code.Ranges.{Four};
 ghost use Rattle.table.specs.Entry.{up_to};
 ghost use Rattle.host.specs.Settings.{settings_good};
-ghost use Rattle.host.specs.State.{has_place};
+ghost use Rattle.host.specs.State.{has_place, with_link};
+ghost use Rattle.host.specs.CallState.{host};
 ghost use Rattle.host.specs.code.Returned.{RowsBelow};
 ghost use Rattle.arrival.specs.Steps.{at_least_min, neighbor_update};
 ghost use Rattle.arrival.specs.Arrival.{
@@ -28,7 +29,7 @@ use clock::{Clock, Counter};
 use host::link_number::LinkNumber;
 use host::link_state::{broadcast, link_of, with_link};
 use host::replies::plainly;
-use host::{GoodHost, Host, Links, Reply, host_count, inspection};
+use host::{GoodHost, Host, Link, Links, Reply, host_count, inspection};
 use net_table::NetTable;
 use quantity::{Count, Millis, Seconds, Word};
 use std::ops::ControlFlow;
@@ -180,37 +181,34 @@ fn step5(h: Host, t: NetTable, link: LinkNumber, n: Count, p: Packet, f: Flight)
     updated(h, n, p, neighbor_update(link, f), 0, ids, true)
 }
 
+// The host once its clock is read and a link is stored.
+fn stored(h: Host, clock: Clock, link: LinkNumber, x: Link) -> Host
+    ensures { result ≡ host h.settings clock (with_link link.number x h.links) }
+{
+    Host {
+        clock,
+        links: with_link(h.links, link, x),
+        ..h
+    }
+}
+
 // Steps 2 to 5, with one reading.
 fn action(h: GoodHost, t: NetTable, link: LinkNumber, k: Counter, p: Packet) -> Arrived
     requires rows { RowsBelow t h.host.settings }
     requires four { Four p.time.0 }
     ensures { result ≡ action k t h.host link.number p }
 {
-    let Host {
-        settings, links, ..
-    } = h.host;
+    let s = h.host.settings;
     let r = host::our_reading(h, k);
     let clock = r.clock;
-    let x = link_of(links, link);
-    match steps::two_to_four(broadcast(settings, link), clock.hold, p, r.time, x) {
-        ControlFlow::Break(f) => {
-            let links = with_link(links, link, f.link);
-            ends(
-                Answer::DelayNotValid,
-                Host {
-                    settings,
-                    clock,
-                    links,
-                },
-            )
-        }
+    let x = link_of(h.host.links, link);
+    match steps::two_to_four(broadcast(s, link), clock.hold, p, r.time, x) {
+        ControlFlow::Break(f) => ends(
+            Answer::DelayNotValid,
+            stored(h.host, clock, link, f.link),
+        ),
         ControlFlow::Continue(f) => {
-            let links = with_link(links, link, f.link);
-            let after = Host {
-                settings,
-                clock,
-                links,
-            };
+            let after = stored(h.host, clock, link, f.link);
             step5(after, t, link, k.used(), p, f)
         }
     }
