@@ -121,15 +121,7 @@ fn neighbor_update(link: LinkNumber, f: Flight) -> Update
 }
 
 // n ids from one on are updated.
-fn updated(
-    h: Host,
-    n: Count,
-    p: Packet,
-    u: Update,
-    id: usize,
-    ids: usize,
-    table: bool,
-) -> Arrived
+fn updated(h: Host, n: Count, p: Packet, u: Update, id: usize, ids: usize, table: bool) -> Arrived
     requires { (id ≤ 255) × (ids ≤ 255) }
     ensures { result ≡ updated h n p u id ids table }
 {
@@ -203,10 +195,7 @@ fn action(h: GoodHost, t: NetTable, link: LinkNumber, k: Counter, p: Packet) -> 
     let clock = r.clock;
     let x = link_of(h.host.links, link);
     match steps::two_to_four(broadcast(s, link), clock.hold, p, r.time, x) {
-        ControlFlow::Break(f) => ends(
-            Answer::DelayNotValid,
-            stored(h.host, clock, link, f.link),
-        ),
+        ControlFlow::Break(f) => ends(Answer::DelayNotValid, stored(h.host, clock, link, f.link)),
         ControlFlow::Continue(f) => {
             let after = stored(h.host, clock, link, f.link);
             step5(after, t, link, k.used(), p, f)

@@ -106,14 +106,7 @@ pub(crate) fn looked(found: Option<usize>, e: Entry) -> Reply
 }
 
 // A match, since each request has input of its own.
-pub(crate) fn effect(
-    host: Host,
-    t: NetTable,
-    w: Walk,
-    copy: &[u8],
-    e: Entry,
-    q: Request,
-) -> Effect
+pub(crate) fn effect(host: Host, t: NetTable, w: Walk, copy: &[u8], e: Entry, q: Request) -> Effect
     requires { Ready (scope_of q) host.settings host.clock × RowsBelow t host.settings × (initialized (scope_of q) ≡ false → walk_in_range host.settings w copy.now ≡ true) }
     ensures { result ≡ effect q t host w copy.now e }
 {

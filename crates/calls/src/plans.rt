@@ -33,7 +33,9 @@ pub(crate) fn tick(h: GoodHost, n: Count) -> Timed
     ensures { Timely result (Tick n) h.host }
 {
     let Host {
-        settings, clock, ..
+        settings,
+        clock,
+        ..
     } = h.host;
     Timed {
         reply: plainly(Answer::Done),
@@ -46,7 +48,9 @@ pub(crate) fn adjust(h: GoodHost, n: Count) -> Timed
     ensures { Timely result (Adjust n) h.host }
 {
     let Host {
-        settings, clock, ..
+        settings,
+        clock,
+        ..
     } = h.host;
     Timed {
         reply: plainly(Answer::Done),
@@ -59,7 +63,9 @@ pub(crate) fn set(h: GoodHost, ms: i32, n: Count) -> Timed
     ensures { Timely result (Set ms n) h.host }
 {
     let Host {
-        settings, clock, ..
+        settings,
+        clock,
+        ..
     } = h.host;
     Timed {
         reply: plainly(Answer::Done),

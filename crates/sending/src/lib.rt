@@ -15,7 +15,7 @@ use clock::{Clock, Counter};
 use host::link_number::LinkNumber;
 use host::link_state::{link_of, with_link};
 use host::replies::{plainly, returns_length};
-use host::{Host, Link, Links, GoodHost, Reply, Settings, host_count};
+use host::{GoodHost, Host, Link, Links, Reply, Settings, host_count};
 use quantity::{Millis, Word};
 use table::entries::Reports;
 use wire::{Address, Packet};

@@ -1,5 +1,5 @@
 // Steps 1 to 5, a box each, and the box of a place.
-ghost use Rattle.std.specs.Prelude.{◌≡◌, true, ◌≤◌};
+ghost use Rattle.std.specs.Prelude.{◌≡◌, true};
 ghost use Rattle.clock.specs.Midnight.{day_millis};
 ghost use Rattle.table.specs.Entry.{up_to};
 ghost use Rattle.arrival.specs.Steps.{step3};
@@ -11,14 +11,13 @@ ghost use Rattle.host.specs.code.Returned.{RowsBelow};
 ghost use Rattle.host.specs.code.Walks.{Reported};
 ghost use Rattle.walk.specs.Boxes.{raised, to_neighbor, box1, box2, box3, box4, box5, box_at, box_of};
 
-use super::held::{at, ended, holding, holding_reading, in_flight, onward, storing};
+use super::held::{OnLink, at, ended, holding, holding_reading, in_flight, onward, storing};
 use super::lines::{box_a, box_b, box_c, box_d};
 use answer::Answer;
 use arrival::Flight;
 use arrival::steps::{delay_of, offset_of, step4, tsp_of};
 use clock::Counter;
 use host::effects::{answers, nothing};
-use host::link_number::LinkNumber;
 use host::link_state::{KEEP_ALIVE_INTERVAL, broadcast, link_of};
 use host::replies::plainly;
 use host::walk::{Place, Walk};
@@ -43,13 +42,17 @@ fn box1(h: GoodHost, w: Walk, k: Counter) -> Effect
 }
 
 #[tactic(auto, unfolding(crate::specs::Boxes::box2, arrival::specs::Steps::step2))]
-fn box2(h: Host, w: Walk) -> Effect
-    requires { (1 ≤ w.link) × (w.link ≤ 8) }
-    ensures { result ≡ box2 h w }
+fn box2(h: Host, w: OnLink) -> Effect
+    ensures { result ≡ box2 h w.walk }
 {
     let mut f = in_flight(h.links, w);
     f.link.keep_alive = KEEP_ALIVE_INTERVAL;
-    onward(at(3, 0, 0, w), h.clock, storing(f, w, h.links), nothing())
+    onward(
+        at(3, 0, 0, w.walk),
+        h.clock,
+        storing(f, w, h.links),
+        nothing(),
+    )
 }
 
 // TSP, DELAY and OFFSET.
@@ -70,31 +73,37 @@ fn measured(broadcast: bool, p: Packet, f: Flight) -> Flight
 }
 
 #[tactic(auto, unfolding(crate::specs::Boxes::box3))]
-fn box3(h: Host, w: Walk, p: Packet) -> Effect
-    requires le_link { (1 ≤ w.link) × (w.link ≤ 8) }
+fn box3(h: Host, w: OnLink, p: Packet) -> Effect
     requires four { Four p.time.0 }
-    requires w_value { reading_in_range w ≡ true }
-    ensures { result ≡ box3 p h w }
+    requires w_value { reading_in_range w.walk ≡ true }
+    ensures { result ≡ box3 p h w.walk }
 {
-    let number = w.link as usize;
-    let f = measured(broadcast(h.settings, LinkNumber { number }), p, in_flight(h.links, w));
-    onward(at(4, 0, 0, holding(f, w)), h.clock, storing(f, w, h.links), nothing())
+    let f = measured(broadcast(h.settings, w.link()), p, in_flight(h.links, w));
+    onward(
+        at(4, 0, 0, holding(f, w.walk)),
+        h.clock,
+        storing(f, w, h.links),
+        nothing(),
+    )
 }
 
-fn box4(h: Host, w: Walk, p: Packet) -> Effect
-    requires { (1 ≤ w.link) × (w.link ≤ 8) }
-    ensures { result ≡ box4 p h w }
+fn box4(h: Host, w: OnLink, p: Packet) -> Effect
+    ensures { result ≡ box4 p h w.walk }
 {
-    let number = w.link as usize;
     match step4(
-        broadcast(h.settings, LinkNumber { number }),
+        broadcast(h.settings, w.link()),
         h.clock.hold,
         p,
         in_flight(h.links, w),
     ) {
-        ControlFlow::Break(f) => ended(Answer::DelayNotValid, h.clock, storing(f, w, h.links), nothing()),
+        ControlFlow::Break(f) => ended(
+            Answer::DelayNotValid,
+            h.clock,
+            storing(f, w, h.links),
+            nothing(),
+        ),
         ControlFlow::Continue(f) => onward(
-            at(5, 0, 0, holding(f, w)),
+            at(5, 0, 0, holding(f, w.walk)),
             h.clock,
             storing(f, w, h.links),
             nothing(),
@@ -122,62 +131,58 @@ fn to_neighbor(h: Host, w: Walk, found: Option<usize>) -> Effect
 }
 
 #[tactic(auto, unfolding(crate::specs::Boxes::box5))]
-fn box5(h: GoodHost, t: NetTable, w: Walk, p: Packet) -> Effect
-    requires le_link { (1 ≤ w.link) × (w.link ≤ 8) }
+fn box5(h: GoodHost, t: NetTable, w: OnLink, p: Packet) -> Effect
     requires rows { RowsBelow t h.host.settings }
-    ensures { result ≡ box5 p t h.host w }
+    ensures { result ≡ box5 p t h.host w.walk }
 {
     let Host {
         settings,
         clock,
         links,
     } = h.host;
-    let number = w.link as usize;
     if p.nhosts == 0 {
-        let found = host::found_for(t, settings, link_of(links, LinkNumber { number }).neighbor);
-        return to_neighbor(h.host, raised(w), found);
+        let found = host::found_for(t, settings, link_of(links, w.link()).neighbor);
+        return to_neighbor(h.host, raised(w.walk), found);
     }
-    onward(at(5, 1, 0, raised(w)), clock, links, nothing())
+    onward(at(5, 1, 0, raised(w.walk)), clock, links, nothing())
 }
 
 // The box of a place: a match, since each box takes other parts of the walk.
 fn box_at(
     h: GoodHost,
     t: NetTable,
-    w: Walk,
+    w: OnLink,
     p: Packet,
     packet: &[u8],
     e: Entry,
     k: Counter,
 ) -> Effect
-    requires le_link { (1 ≤ w.link) × (w.link ≤ 8) }
     requires rows { RowsBelow t h.host.settings }
     requires four { Four p.time.0 }
     requires reported { Reported h.host.settings p packet.now }
-    requires packet_value { walk_fields_at (place_of w) h.host.settings w p packet.now ≡ true }
-    ensures { result ≡ box_at (place_of w) k p packet.now t h.host w e }
+    requires packet_value { walk_fields_at (place_of w.walk) h.host.settings w.walk p packet.now ≡ true }
+    ensures { result ≡ box_at (place_of w.walk) k p packet.now t h.host w.walk e }
 {
     let host = h.host;
-    match host::walk::place_of(w) {
-        None => answers(host.clock, host.links, w, plainly(Answer::OutOfRange)),
-        Some(Place::Step1) => box1(h, w, k),
+    match host::walk::place_of(w.walk) {
+        None => answers(host.clock, host.links, w.walk, plainly(Answer::OutOfRange)),
+        Some(Place::Step1) => box1(h, w.walk, k),
         Some(Place::Step2) => box2(host, w),
         Some(Place::Step3) => box3(host, w, p),
         Some(Place::Step4) => box4(host, w, p),
         Some(Place::Step5) => box5(h, t, w, p),
-        Some(Place::LineA) => box_a(host, w, p, packet, e),
-        Some(Place::LineB) => box_b(host, w, p, packet, e),
-        Some(Place::LineC) => box_c(host, w, p, packet, e),
-        Some(Place::LineD) => box_d(host, w, p, packet),
+        Some(Place::LineA) => box_a(host, w.walk, p, packet, e),
+        Some(Place::LineB) => box_b(host, w.walk, p, packet, e),
+        Some(Place::LineC) => box_c(host, w.walk, p, packet, e),
+        Some(Place::LineD) => box_d(host, w.walk, p, packet),
     }
 }
 
 // The box of the walk's place. The guard tested the packet, so its fields are read without a test.
-pub fn box_of(h: GoodHost, t: NetTable, w: Walk, packet: &[u8], e: Entry, k: Counter) -> Effect
-    requires le_link { (1 ≤ w.link) × (w.link ≤ 8) }
+pub fn box_of(h: GoodHost, t: NetTable, w: OnLink, packet: &[u8], e: Entry, k: Counter) -> Effect
     requires rows { RowsBelow t h.host.settings }
-    requires packet_value { packet_fits h.host.settings w packet.now (inspect h.host.settings w.link packet.now) ≡ true }
-    ensures { result ≡ box_of k packet.now t h.host w e (inspect h.host.settings w.link packet.now) }
+    requires packet_value { packet_fits h.host.settings w.walk packet.now (inspect h.host.settings w.walk.link packet.now) ≡ true }
+    ensures { result ≡ box_of k packet.now t h.host w.walk e (inspect h.host.settings w.walk.link packet.now) }
 {
     let p = wire::fields(packet);
     box_at(h, t, w, p, packet, e, k)

@@ -10,6 +10,7 @@ ghost use Rattle.walk.specs.Opening.{opened_on, opening, copied};
 
 use answer::Answer;
 use clock::Counter;
+use held::OnLink;
 use host::effects::answers;
 use host::link_number::LinkNumber;
 use host::replies::{plainly, returns_place};
@@ -97,5 +98,5 @@ pub fn step(h: GoodHost, t: NetTable, w: Walk, copy: &[u8], e: Entry, k: Counter
         return answers(h.host.clock, h.host.links, w, plainly(Answer::NoWalk));
     }
     let n = w.length as usize;
-    boxes::box_of(h, t, w, &copy[..n], e, k)
+    boxes::box_of(h, t, OnLink { walk: w }, &copy[..n], e, k)
 }

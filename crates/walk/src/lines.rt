@@ -93,13 +93,5 @@ pub fn box_d(h: Host, w: Walk, p: Packet, packet: &[u8]) -> Effect
     }
     let u = line_update(h.settings, w, p, packet);
     let clock = table::line_d(h.settings.hold_interval, w.count, p.date, u.offset, h.clock);
-    next_id(
-        Host {
-            clock,
-            ..h
-        },
-        w,
-        p,
-        nothing(),
-    )
+    next_id(Host { clock, ..h }, w, p, nothing())
 }

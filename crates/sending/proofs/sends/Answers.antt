@@ -4,6 +4,6 @@ use Rattle.host.specs.declared.Settings.{Settings}
 use Rattle.sending.proofs.sends.Goals as goal
 
 pub packet_sent-requires : goal.packet_sent-requires
-packet_sent-requires c = 
+packet_sent-requires c =
     let s : Settings = c.args.h.host.settings in
     rw c.our_reading-r.ensures (reading_in s.clock_tick s.hold_interval c.args.k c.args.h.host.clock)
